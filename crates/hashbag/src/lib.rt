@@ -1,0 +1,7 @@
+//! A counted hash multiset: how often each of several values occurs, and how many occurrences there are in all.
+#![tactic(auto)]
+
+pub mod bag;
+pub mod script;
+
+pub use bag::{BagError, FixedState, HashBag};

@@ -1,0 +1,142 @@
+//! `Table`: a finite map from each distinct value to its stored instance and its count.
+ghost use Rattle.std.specs.Prelude.{◌≡◌, ◌+◌, ◌<◌, ◌^◌, [], length, None, IfOk, OnOk, OnErr, IsSome, option_map};
+ghost use Rattle.std.specs.List.Sorted.{IsPermutation};
+ghost use Rattle.hashbag_table.specs.Entries.{entry_of, count_of, without, with_count, with_fewer, IsCounted};
+
+use std::alloc::{AllocError, Global};
+use std::collections::HashMap;
+use std::hash::{BuildHasher, Hash};
+use std::marker::Model;
+
+/// Distinct values, each stored once with its count, a `usize` of at least 1. Values that `==` calls equal are one value.
+///
+/// Contracts see a table as the list of its entries, in an order that means nothing, and the state that hashes its
+/// values. The calls, their answers and their refusals are this project's own.
+#[derive(Drop)]
+pub struct Table<T: Eq + Hash + Drop, S: BuildHasher + Drop> {
+    map: HashMap<T, usize, S>,
+    // What the table grows on. Its copies are made on it too.
+    alloc: Global,
+}
+
+impl<T: Eq + Hash + Drop, S: BuildHasher + Drop> Model for Table<T, S> {
+    ghost use Rattle.std.specs.HashMap.{hasher_of};
+    ghost use Rattle.hashbag_table.specs.Table.{Table as Entries, table_code};
+    ghost use Rattle.hashbag_table.specs.Entries.{IsCounted};
+
+    ghost Value = { Entries T S };
+
+    ghost coded = { table_code T.code S.code };
+
+    ghost view = { λ a. record { entries = a.map.entries; hasher = hasher_of a.map } };
+
+    ghost invariant = { λ a. IsCounted T.eq a.map.entries };
+}
+
+impl<T: Eq + Hash + Drop, S: BuildHasher + Drop> Table<T, S> {
+    /// An empty table, whose values `hasher` hashes. It takes no memory.
+    pub fn new(alloc: Global, hasher: S) -> Table<T, S>
+        ensures empty { result.entries ≡ [] }
+        ensures hasher { result.hasher ≡ hasher }
+    {
+        Table {
+            map: HashMap::with_hasher(alloc, hasher),
+            alloc,
+        }
+    }
+
+    /// The number of distinct values.
+    pub fn set_len(&self) -> usize
+        ensures len { result ≡ length self.now.entries }
+        ensures counted { IsCounted T.eq self.now.entries }
+    {
+        self.map.len()
+    }
+
+    /// The state that hashes the values.
+    pub fn hasher(&self) -> &S
+        ensures { result.now ≡ self.now.hasher }
+    {
+        self.map.hasher()
+    }
+
+    /// The stored instance of a value and its count, or `None` where it is absent. The value is hashed once.
+    pub fn get(&self, value: &T) -> Option<(&T, usize)>
+        ensures found { option_map (λ e. (e.0.now, e.1)) result ≡ entry_of T.eq value.now self.now.entries }
+        ensures counted { IsCounted T.eq self.now.entries }
+    {
+        match self.map.get_key_value(value) {
+            Some((instance, count)) => Some((instance, *count)),
+            None => None,
+        }
+    }
+
+    /// Adds `n` to the count of a value, and answers what the count was, 0 where the value was absent.
+    ///
+    /// A stored instance stays, and the value handed in is dropped. A value that is present takes no memory and is hashed
+    /// once. One that is absent may be refused for memory: the table is then unchanged, and the value is dropped.
+    pub fn add(&mut self, value: T, n: usize) -> Result<usize, AllocError>
+        requires some { 0 < n }
+        requires fits { count_of T.eq value self.old.entries + n < 2 ^ 64 }
+        ensures before { IfOk result (λ before. before ≡ count_of T.eq value self.old.entries) }
+        ensures added { OnOk result (IsPermutation (with_count T.eq value (count_of T.eq value self.old.entries + n) self.old.entries) self.new.entries) }
+        ensures hasher { self.new.hasher ≡ self.old.hasher }
+        ensures counted { IsCounted T.eq self.new.entries }
+
+        // Only a value that is absent asks for memory.
+        ensures absent { OnErr result (entry_of T.eq value self.old.entries ≡ None) }
+        ensures err { OnErr result (self.new ≡ self.old) }
+    {
+        if let Some(count) = self.map.get_mut(&value) {
+            let before = *count;
+            *count = before + n;
+            return Ok(before);
+        }
+        self.map.insert(value, n)?;
+        Ok(0)
+    }
+
+    /// Gives a value that is present another count. It takes no memory, and hashes the value once.
+    pub fn set_count(&mut self, value: &T, n: usize)
+        requires present { IsSome (entry_of T.eq value.now self.old.entries) }
+        requires some { 0 < n }
+        ensures set { IsPermutation (with_count T.eq value.now n self.old.entries) self.new.entries }
+        ensures hasher { self.new.hasher ≡ self.old.hasher }
+        ensures counted { IsCounted T.eq self.new.entries }
+    {
+        if let Some(count) = self.map.get_mut(value) {
+            *count = n;
+        }
+    }
+
+    /// Takes `n` from the count of a value, and answers what the count was, 0 where the value was absent. Where no more
+    /// than `n` are there, the value goes, and its stored instance is dropped.
+    ///
+    /// It takes no memory. A value that stays is hashed once.
+    pub fn take(&mut self, value: &T, n: usize) -> usize
+        ensures before { result ≡ count_of T.eq value.now self.old.entries }
+        ensures taken { IsPermutation (with_fewer T.eq value.now n self.old.entries) self.new.entries }
+        ensures hasher { self.new.hasher ≡ self.old.hasher }
+        ensures counted { IsCounted T.eq self.new.entries }
+    {
+        if let Some(count) = self.map.get_mut(value) {
+            let before = *count;
+            if n < before {
+                *count = before - n;
+                return before;
+            }
+        }
+        self.map.remove(value).unwrap_or(0)
+    }
+
+    /// Takes a value out, and answers its stored instance and its count, or `None` where it was absent. It takes no
+    /// memory.
+    pub fn remove(&mut self, value: &T) -> Option<(T, usize)>
+        ensures taken { result ≡ entry_of T.eq value.now self.old.entries }
+        ensures left { IsPermutation (without T.eq value.now self.old.entries) self.new.entries }
+        ensures hasher { self.new.hasher ≡ self.old.hasher }
+        ensures counted { IsCounted T.eq self.new.entries }
+    {
+        self.map.remove_entry(value)
+    }
+}
