@@ -1,5 +1,5 @@
 -- Lists of occurrences up to their order, and the occurrences of a finite map.
-use Rattle.std.proofs.Common.{◌≡◌, ℕ, zero, suc, ◌<◌, ◌≤◌, ◌+◌, ◌-◌, ◌^◌, ltb, Bool, true, false, cond, not, List, [], ◌∷◌, ◌++◌, length, replicate, drop, slice_get, All, Option, Some, None, option_map, unwrap_or, IfSome, refl, sym, ◌∙◌, ap, subst, append_assoc, arith, slice_index_or, IsSome, min}
+use Rattle.std.proofs.Common.{◌≡◌, ℕ, zero, suc, ◌<◌, ◌≤◌, ◌+◌, ◌-◌, ltb, Bool, true, false, cond, not, List, [], ◌∷◌, ◌++◌, length, replicate, drop, slice_get, All, Option, Some, None, option_map, unwrap_or, IfSome, refl, sym, ◌∙◌, ap, subst, append_assoc, arith, slice_index_or, IsSome, min}
 use borrow.Author.Tests.{ltb-true, ltb-false}
 use Rattle.std.specs.Cmp.{IsEquivalence}
 use Rattle.std.specs.List.{IsDistinct, AllByRecursion}

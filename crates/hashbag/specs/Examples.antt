@@ -1,11 +1,11 @@
 -- The definitions compute. An item here is a key with a tag, and two items are equal where their keys are: so `(1, 10)` and
 -- `(1, 20)` are two instances of one value.
-use Rattle.std.specs.Prelude.{◌≡◌, ℕ, ◌+◌, ◌==◌, Bool, List, [], ◌∷◌, Some, None, replicate, length, refl}
+use Rattle.std.specs.Prelude.{◌≡◌, ℕ, ◌==◌, Bool, List, [], ◌∷◌, Some, None, refl}
 use Rattle.std.proofs.Common.{lit<}
 use Rattle.std.specs.List.Sorted.{IsPermutation}
 use Rattle.hashbag.specs.declared.script.Step.TheVariants.{Insert, Remove, Count as CountStep}
 use Rattle.hashbag.specs.declared.script.Reply.TheVariants.{Count, Left, Taken, Absent, Done, TooMany}
-use Rattle.hashbag.specs.Bag.{Means, occurrences}
+use Rattle.hashbag.specs.Bag.{occurrences}
 use Rattle.hashbag.specs.Occurrences.{greatest_total, alike, others, count, instance, instance_or_itself, stored, add, less, put, distinct_count, SameCounts}
 use Rattle.hashbag.specs.Rows.{insert_row, replace_row, remove_row, remove_up_to_row, try_take_row, take_all_row, entry_set_row, entry_or_row, quota, retained, retain_row, clear_row, count_row, reserve_row, shrink_to_fit_row}
 use Rattle.hashbag.specs.Script.{step, run, peak, arrivals, has_newcomer}

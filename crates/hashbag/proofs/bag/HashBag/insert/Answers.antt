@@ -1,6 +1,6 @@
 use Rattle.std.proofs.Common.{◌≡◌, ◌+◌, ◌≤◌, length, arith, sym, ◌∙◌}
 use Rattle.hashbag_table.proofs.EntryLemmas.{OnErr-from}
-use Rattle.hashbag.specs.Bag.{occurrences, IsTallied}
+use Rattle.hashbag.specs.Bag.{occurrences}
 use Rattle.hashbag.specs.Occurrences.{greatest_total, count}
 use Rattle.hashbag.proofs.OccurrenceLemmas.{add_occurrences, bag_from_tally, tally_added, count_occurrences, count_of_entry, count_in_tally}
 use Rattle.hashbag.proofs.bag.HashBag.insert.Goals as goal

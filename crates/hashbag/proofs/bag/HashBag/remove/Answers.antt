@@ -1,4 +1,4 @@
-use Rattle.std.proofs.Common.{◌≤◌, arith, sym, ◌∙◌}
+use Rattle.std.proofs.Common.{arith, sym, ◌∙◌}
 use Rattle.hashbag.proofs.OccurrenceLemmas.{bag_from_tally, tally_less, count_in_tally, count_occurrences, fewer_occurrences}
 use Rattle.hashbag.proofs.bag.HashBag.remove.Goals as goal
 

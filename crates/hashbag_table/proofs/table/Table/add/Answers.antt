@@ -1,4 +1,4 @@
-use Rattle.std.proofs.Common.{◌≡◌, ◌+◌, ◌<◌, ℕ, List, None, Some, subst, arith, ap, sym, ◌∙◌, unwrap_or}
+use Rattle.std.proofs.Common.{◌≡◌, ◌+◌, ◌<◌, None, Some, subst, arith, ap, sym, ◌∙◌, unwrap_or}
 use Rattle.std.specs.Option.{option_copied_mut}
 use Rattle.std.proofs.Common.{All}
 use Rattle.std.specs.List.Sorted.{IsPermutation}
@@ -36,9 +36,9 @@ pub invariant_of-self-2 : goal.invariant_of-self-2
 invariant_of-self-2 g c =
     let same_positive = subst (λ m. All (λ n. 0 < n) (values_of m.entries)) (sym c.get_mut.follows.holds-at-none) c.self.invariant.positive in
     record {
-  distinct = c.insert.ensures.unique;
-  positive = All-values-PutsEntry {S = g.row.S.Denot} g.T.PartialEq.eq (λ n. 0 < n) c.get_mut.follows.lender-at-none c.insert.new.self _ _ _ c.in_ok-insert.ensures.entries same_positive c.requires.some;
-}
+      distinct = c.insert.ensures.unique;
+      positive = All-values-PutsEntry {S = g.row.S.Denot} g.T.PartialEq.eq (λ n. 0 < n) c.get_mut.follows.lender-at-none c.insert.new.self _ _ _ c.in_ok-insert.ensures.entries same_positive c.requires.some;
+    }
 
 pub returns-clause-added : goal.returns-clause-added
 returns-clause-added g c =
@@ -49,7 +49,7 @@ returns-clause-added g c =
     let before : count_of eq v es ≡ 0 = ap (λ o. unwrap_or o 0) absent in
     let total : count_of eq v es + c.args.n ≡ c.args.n = omega arith in
     rw (← c.self.view_is, total) (subst (λ m. IsPermutation (with_count eq v c.args.n m.entries) c.insert.new.self.entries) c.get_mut.follows.holds-at-none
-      (with_count_put {S = g.row.S.Denot} eq v c.args.n c.get_mut.follows.lender-at-none c.insert.new.self _ c.in_ok-insert.ensures.old c.in_ok-insert.ensures.entries))
+    (with_count_put {S = g.row.S.Denot} eq v c.args.n c.get_mut.follows.lender-at-none c.insert.new.self _ c.in_ok-insert.ensures.old c.in_ok-insert.ensures.entries))
 
 pub returns-clause-counted : goal.returns-clause-counted
 returns-clause-counted g c = invariant_of-self-2 g c

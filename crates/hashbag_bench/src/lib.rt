@@ -1,0 +1,14 @@
+//! What the counted multiset is tested against: a plain, slow bag with the same contracts, values that show which instance
+//! is stored, and hash states under which values collide.
+#![tactic(auto)]
+
+pub mod plain;
+pub mod states;
+pub mod tagged;
+
+pub use plain::PlainBag;
+pub use states::{IdentityState, OneState, ParityState};
+pub use tagged::Tagged;
+
+#[cfg(test)]
+mod tests;

@@ -1,0 +1,142 @@
+//! `PlainBag`: the plain, slow program that a bag is compared with.
+ghost use Rattle.std.specs.Prelude.{◌≡◌, ◌↔◌, [], length, IsTrue, IfOk, OnOk, OnErr};
+ghost use Rattle.hashbag.specs.Occurrences.{count, add, less, instance};
+ghost use Rattle.hashbag.specs.Rows.{insert_row, remove_row, count_row};
+ghost use Rattle.hashbag.specs.Script.{step as step_of};
+
+use hashbag::script::{Reply, Step};
+use std::alloc::{AllocError, Global};
+use std::marker::Model;
+
+/// A bag of values as the plain list of its occurrences, in an order that means nothing.
+///
+/// It needs no hash and no order of the values, and is slow: most calls look at each occurrence. Contracts see a plain bag
+/// as that list.
+#[derive(Drop)]
+pub struct PlainBag<T: Eq + Copy> {
+    items: Vec<T>,
+    // What a list that is made anew lies on.
+    alloc: Global,
+}
+
+impl<T: Eq + Copy> Model for PlainBag<T> {
+    ghost use Rattle.std.specs.Prelude.{List};
+
+    ghost Value = { List T };
+
+    ghost view = { λ a. a.items.items };
+}
+
+impl<T: Eq + Copy> PlainBag<T> {
+    /// An empty bag. It takes no memory.
+    pub fn new(alloc: Global) -> PlainBag<T>
+        ensures { result ≡ [] }
+    {
+        PlainBag {
+            items: Vec::new(alloc),
+            alloc,
+        }
+    }
+
+    /// The occurrences, each with its instance, in the list's order.
+    pub fn items(&self) -> &[T]
+        ensures { result.now ≡ self.now }
+    {
+        &self.items
+    }
+
+    /// The number of occurrences: the sum of all counts.
+    pub fn len(&self) -> usize
+        ensures { result ≡ length self.now }
+    {
+        self.items.len()
+    }
+
+    /// Whether there are no occurrences.
+    pub fn is_empty(&self) -> bool
+        ensures { IsTrue result ↔ (self.now ≡ []) }
+    {
+        self.items.is_empty()
+    }
+
+    /// How often a value occurs, 0 where it is absent. It looks at each occurrence.
+    pub fn count(&self, value: &T) -> usize
+        ensures { result ≡ count T.eq value.now self.now }
+    {
+        self.items.iter().filter(|item| *value == **item).count()
+    }
+
+    // The instance that is there of a value, or `None` where the value is absent.
+    fn instance(&self, value: &T) -> Option<T>
+        ensures { result ≡ instance T.eq value.now self.now }
+    {
+        self.items.iter().copied().find(|item| *value == *item)
+    }
+
+    /// Adds `n` occurrences of a value at the end of the list: of the instance that is there, or else of the value handed
+    /// in. Where memory is refused, nothing changes.
+    pub fn add(&mut self, value: T, n: usize) -> Result<(), AllocError>
+        ensures added { OnOk result (self.new ≡ add T.eq value n self.old) }
+        ensures err { OnErr result (self.new ≡ self.old) }
+    {
+        let instance = self.instance(&value).unwrap_or(value);
+        self.items.reserve(n)?;
+        self.items.resize(self.items.len() + n, instance)
+    }
+
+    /// Takes `n` occurrences of a value out, or all of them where they are fewer. What is left of the value moves to the
+    /// end of the list.
+    ///
+    /// The list is made anew. Where memory for it is refused, nothing changes.
+    pub fn less(&mut self, value: &T, n: usize) -> Result<(), AllocError>
+        ensures taken { OnOk result (self.new ≡ less T.eq value.now n self.old) }
+        ensures err { OnErr result (self.new ≡ self.old) }
+    {
+        let others = self.items.iter().filter(|item| *value != **item);
+        let alike = self.items.iter().filter(|item| *value == **item);
+        self.items = others.chain(alike.skip(n)).copied().collect(self.alloc)?;
+        Ok(())
+    }
+
+    // What `insert` and `insert_many` do.
+    fn insert_row(&mut self, value: T, n: usize) -> Result<Reply<T>, AllocError>
+        ensures done { IfOk result (λ reply. (self.new, reply) ≡ insert_row T.eq value n self.old) }
+        ensures err { OnErr result (self.new ≡ self.old) }
+    {
+        if n > usize::MAX - self.len() {
+            return Ok(Reply::TooMany);
+        }
+        let before = self.count(&value);
+        self.add(value, n)?;
+        Ok(Reply::Count(before))
+    }
+
+    // What `remove` does.
+    fn remove_row(&mut self, value: &T) -> Result<Reply<T>, AllocError>
+        ensures done { IfOk result (λ reply. (self.new, reply) ≡ remove_row T.eq value.now self.old) }
+        ensures err { OnErr result (self.new ≡ self.old) }
+    {
+        let before = self.count(value);
+        self.less(value, 1)?;
+        Ok(Reply::Count(before))
+    }
+
+    // What `contains` does.
+    fn count_row(&self, value: &T) -> Reply<T>
+        ensures { (self.now, result) ≡ count_row T.eq value.now self.now }
+    {
+        Reply::Count(self.count(value))
+    }
+
+    /// Does one step, and answers it. Where memory is refused, which [`Step::Count`] doesn't ask for, nothing changes.
+    pub fn apply(&mut self, step: Step<T>) -> Result<Reply<T>, AllocError>
+        ensures done { IfOk result (λ reply. (self.new, reply) ≡ step_of T.eq self.old step) }
+        ensures err { OnErr result (self.new ≡ self.old) }
+    {
+        match step {
+            Step::Insert(value) => self.insert_row(value, 1),
+            Step::Remove(value) => self.remove_row(&value),
+            Step::Count(value) => Ok(self.count_row(&value)),
+        }
+    }
+}

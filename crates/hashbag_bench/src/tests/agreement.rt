@@ -1,0 +1,161 @@
+//! Whole runs of steps on the bag, against the plain bag.
+use crate::{IdentityState, OneState, ParityState, PlainBag, Tagged};
+use hashbag::script::{Reply, Step, run};
+use hashbag::{FixedState, HashBag};
+use std::alloc::{AllocError, Global};
+use std::fmt::Debug;
+use std::hash::{BuildHasher, Hash};
+use std::process::Abort;
+use std::test::Fail;
+
+// The steps are on values of this many keys.
+const KEYS: u64 = 8;
+
+// How many steps a run has.
+const STEPS: u64 = 120;
+
+// Values that the steps are on.
+trait Sample: Eq + Hash + Copy + Debug {
+    // A value with this key. Which instance it is, is up to the number of the step.
+    fn sample(key: u64, step: u64) -> Self;
+
+    // Whether two equal values are the same instance.
+    fn is_same(&self, other: &Self) -> bool;
+}
+
+impl Sample for u64 {
+    fn sample(key: u64, _step: u64) -> u64 {
+        key
+    }
+
+    fn is_same(&self, other: &u64) -> bool {
+        self == other
+    }
+}
+
+impl Sample for Tagged {
+    fn sample(key: u64, step: u64) -> Tagged {
+        Tagged { key, tag: step }
+    }
+
+    fn is_same(&self, other: &Tagged) -> bool {
+        self.key == other.key && self.tag == other.tag
+    }
+}
+
+// The number after this one in a sequence whose high bits look random.
+fn next_number(number: u64) -> u64 {
+    number
+        .wrapping_mul(6364136223846793005)
+        .wrapping_add(1442695040888963407)
+}
+
+// A step on the value: of five, two insert, two remove and one counts.
+fn step_on<T>(choice: u64, value: T) -> Step<T> {
+    match choice % 5 {
+        0 | 1 => Step::Remove(value),
+        2 => Step::Count(value),
+        _ => Step::Insert(value),
+    }
+}
+
+// The steps of a run, the same ones at each call.
+fn steps_of<T: Sample>(alloc: Global) -> Result<Vec<Step<T>>, AllocError> {
+    let mut steps = Vec::new(alloc);
+    let mut number = 1;
+    for step in 0..STEPS {
+        number = next_number(number);
+        let value = T::sample((number >> 40) % KEYS, step);
+        steps.push(step_on(number >> 50, value))?;
+    }
+    Ok(steps)
+}
+
+// What the plain bag replies to the steps.
+fn plain_replies<T: Sample>(
+    alloc: Global,
+    plain: &mut PlainBag<T>,
+    steps: Vec<Step<T>>,
+) -> Result<Vec<Reply<T>>, AllocError> {
+    let mut replies = Vec::new(alloc);
+    for step in steps {
+        replies.push(plain.apply(step)?)?;
+    }
+    Ok(replies)
+}
+
+// Whether two replies are equal, down to the instance.
+fn same_reply<T: Sample>(a: &Reply<T>, b: &Reply<T>) -> bool {
+    match (a, b) {
+        (Reply::Taken(x, n), Reply::Taken(y, m)) => x.is_same(y) && n == m,
+        _ => a == b,
+    }
+}
+
+fn compare_replies<T: Sample>(
+    rt: &impl Abort,
+    state: &str,
+    replies: &[Reply<T>],
+    wanted: &[Reply<T>],
+) {
+    assert_eq!(rt; replies.len(), wanted.len());
+    for (reply, want) in replies.iter().zip(wanted) {
+        assert!(rt;
+            same_reply(reply, want),
+            "{reply:?}, not {want:?}, under {state}"
+        );
+    }
+}
+
+fn compare_bags<T: Sample + Drop, S: BuildHasher + Drop>(
+    rt: &impl Abort,
+    state: &str,
+    bag: &HashBag<T, S>,
+    plain: &PlainBag<T>,
+) {
+    assert_eq!(rt; bag.len(), plain.len(), "under {state}");
+    assert_eq!(rt; bag.is_empty(), plain.is_empty(), "under {state}");
+    for key in 0..KEYS {
+        let value = T::sample(key, STEPS);
+        assert_eq!(rt;
+            bag.contains(&value),
+            plain.count(&value),
+            "{value:?} under {state}"
+        );
+    }
+}
+
+// Does the same steps on a bag and on the plain bag.
+fn compare_runs<T: Sample + Drop, S: BuildHasher + Drop>(
+    rt: &impl Abort,
+    alloc: Global,
+    state_name: &str,
+    state: S,
+) -> Result<(), Fail> {
+    let mut plain = PlainBag::new(alloc);
+    let wanted = plain_replies(alloc, &mut plain, steps_of::<T>(alloc)?)?;
+    let mut bag = HashBag::with_hasher(alloc, state);
+    let mut replies = Vec::new(alloc);
+    let done = run(&mut bag, steps_of::<T>(alloc)?, &mut replies);
+    assert_eq!(rt; done, Ok(()), "under {state_name}");
+    compare_replies(rt, state_name, &replies, &wanted);
+    compare_bags(rt, state_name, &bag, &plain);
+    Ok(())
+}
+
+fn compare_under_each_state<T: Sample + Drop>(rt: &impl Abort, alloc: Global) -> Result<(), Fail> {
+    compare_runs::<T, _>(rt, alloc, "FixedState", FixedState::new())?;
+    compare_runs::<T, _>(rt, alloc, "OneState", OneState)?;
+    compare_runs::<T, _>(rt, alloc, "ParityState", ParityState)?;
+    compare_runs::<T, _>(rt, alloc, "IdentityState", IdentityState)
+}
+
+#[test]
+fn numbers_as_in_the_plain_bag(rt: HostRuntime) -> Result<(), Fail> {
+    compare_under_each_state::<u64>(&rt, rt.alloc())
+}
+
+#[test]
+fn tagged_as_in_the_plain_bag(rt: HostRuntime) -> Result<(), Fail> {
+    compare_under_each_state::<Tagged>(&rt, rt.alloc())
+}

@@ -1,0 +1,47 @@
+//! Calls on the plain bag, with the answers found by hand.
+use crate::{PlainBag, Tagged};
+use hashbag::script::{Reply, Step};
+use std::process::Abort;
+use std::test::Fail;
+
+// 1 twice and 2 once, as instances 10 and 7.
+fn two_ones_and_a_two(rt: &HostRuntime) -> Result<PlainBag<Tagged>, Fail> {
+    let mut bag = PlainBag::new(rt.alloc());
+    bag.add(Tagged { key: 1, tag: 10 }, 1)?;
+    bag.add(Tagged { key: 2, tag: 7 }, 1)?;
+    bag.add(Tagged { key: 1, tag: 20 }, 1)?;
+    Ok(bag)
+}
+
+fn compare_tags(rt: &impl Abort, bag: &PlainBag<Tagged>, tags: &[u64]) {
+    assert_eq!(rt; bag.len(), tags.len());
+    for (item, tag) in bag.items().iter().zip(tags) {
+        assert_eq!(rt; item.tag, *tag);
+    }
+}
+
+#[test]
+fn keeps_the_first_instance(rt: HostRuntime) -> Result<(), Fail> {
+    let mut bag = two_ones_and_a_two(&rt)?;
+    let one = Tagged { key: 1, tag: 99 };
+    compare_tags(&rt, &bag, &[10, 7, 10]);
+    assert_eq!(rt; bag.count(&one), 2);
+    bag.less(&one, 1)?;
+    compare_tags(&rt, &bag, &[7, 10]);
+    bag.less(&one, 5)?;
+    compare_tags(&rt, &bag, &[7]);
+    assert!(rt; !bag.is_empty());
+    Ok(())
+}
+
+#[test]
+fn replies_to_steps(rt: HostRuntime) -> Result<(), Fail> {
+    let mut bag = two_ones_and_a_two(&rt)?;
+    let one = Tagged { key: 1, tag: 99 };
+    assert_eq!(rt; bag.apply(Step::Insert(one))?, Reply::Count(2));
+    compare_tags(&rt, &bag, &[10, 7, 10, 10]);
+    assert_eq!(rt; bag.apply(Step::Remove(one))?, Reply::Count(3));
+    compare_tags(&rt, &bag, &[7, 10, 10]);
+    assert_eq!(rt; bag.apply(Step::Count(one))?, Reply::Count(2));
+    Ok(())
+}

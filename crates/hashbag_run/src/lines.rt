@@ -1,0 +1,66 @@
+//! The program's input: a step on a bag in each line.
+use hashbag::script::Step;
+use std::alloc::{AllocError, Global};
+use std::str;
+
+/// Why an input was refused.
+pub enum LinesError {
+    /// The line of this number is no step. Lines are counted from 1.
+    BadLine(u64),
+    /// Memory was refused.
+    Memory,
+}
+
+impl From<AllocError> for LinesError {
+    fn from(_e: AllocError) -> LinesError {
+        LinesError::Memory
+    }
+}
+
+// The most digits that a number may have, leading zeros among them.
+const DIGITS: usize = 20;
+
+// A number of 1 to 20 decimal digits that fits a `u64`.
+fn number(word: &str) -> Option<u64> {
+    let digits = word.as_bytes();
+    if digits.len() > DIGITS || !digits.iter().all(|digit| digit.is_ascii_digit()) {
+        return None;
+    }
+    word.parse().ok()
+}
+
+// The step of a line: the name of the bag, a verb and its number, with one space between each two.
+fn step(line: &[u8]) -> Option<Step<u64>> {
+    let mut words = str::from_utf8(line).ok()?.split(' ');
+    if words.next()? != "a" {
+        return None;
+    }
+    let verb = words.next()?;
+    let value = number(words.next()?)?;
+    if words.next().is_some() {
+        return None;
+    }
+    match verb {
+        "insert" => Some(Step::Insert(value)),
+        "remove" => Some(Step::Remove(value)),
+        "count" => Some(Step::Count(value)),
+        _ => None,
+    }
+}
+
+/// The steps of an input, or the first line that is none. Empty lines are counted and skipped.
+pub fn steps(alloc: Global, text: &[u8]) -> Result<Vec<Step<u64>>, LinesError> {
+    let mut steps = Vec::new(alloc);
+    let mut number = 0u64;
+    for line in text.split(|byte| *byte == b'\n') {
+        number = number.saturating_add(1);
+        if line.is_empty() {
+            continue;
+        }
+        let Some(step) = step(line) else {
+            return Err(LinesError::BadLine(number));
+        };
+        steps.push(step).map_err(AllocError::from)?;
+    }
+    Ok(steps)
+}

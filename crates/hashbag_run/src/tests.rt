@@ -1,0 +1,200 @@
+//! Whole runs of the program over readers and writers in memory.
+use crate::execute::execute;
+use std::alloc::Global;
+use std::io;
+use std::io::{ErrorKind, Read, Write};
+use std::process::Abort;
+use std::test::Fail;
+
+// Two insertions of a value, a removal and a count.
+const STEPS: &str = "a insert 5\na insert 5\na remove 5\na count 5\n";
+
+const REPLIES: &str = "a count 0\na count 1\na count 2\na count 1\n";
+
+// Gives its text in pieces of seven bytes. The read of the number `fails_at`, from 1, fails.
+#[derive(Drop)]
+struct Pieces<'a> {
+    left: &'a [u8],
+    reads: usize,
+    fails_at: usize,
+}
+
+impl<'a> Pieces<'a> {
+    fn new(text: &'a [u8], fails_at: usize) -> Pieces<'a> {
+        Pieces {
+            left: text,
+            reads: 0,
+            fails_at,
+        }
+    }
+}
+
+impl Read for Pieces<'_> {
+    fn read(&mut self, buffer: &mut [u8]) -> io::Result<usize> {
+        self.reads = self.reads.saturating_add(1);
+        if self.reads == self.fails_at {
+            return Err(io::Error::from(ErrorKind::Interrupted));
+        }
+        let n = buffer.len().min(self.left.len()).min(7);
+        buffer[..n].copy_from_slice(&self.left[..n]);
+        self.left = &self.left[n..];
+        Ok(n)
+    }
+}
+
+// Takes at most seven bytes at a write and keeps them. The write of the number `fails_at`, from 1, fails, or takes no byte.
+#[derive(Drop)]
+struct Sink {
+    taken: Vec<u8>,
+    writes: usize,
+    fails_at: usize,
+    takes_none: bool,
+}
+
+impl Sink {
+    fn new(alloc: Global, fails_at: usize, takes_none: bool) -> Sink {
+        Sink {
+            taken: Vec::new(alloc),
+            writes: 0,
+            fails_at,
+            takes_none,
+        }
+    }
+}
+
+impl Write for Sink {
+    fn write(&mut self, bytes: &[u8]) -> io::Result<usize> {
+        self.writes = self.writes.saturating_add(1);
+        if self.writes == self.fails_at {
+            return if self.takes_none {
+                Ok(0)
+            } else {
+                Err(io::Error::from(ErrorKind::Interrupted))
+            };
+        }
+        let n = bytes.len().min(7);
+        self.taken.extend_from_slice(&bytes[..n])?;
+        Ok(n)
+    }
+
+    fn flush(&mut self) -> io::Result<()> {
+        Ok(())
+    }
+}
+
+// Runs the program on an input, and compares its status and all that it writes.
+fn answers(alloc: Global, rt: &impl Abort, input: &[u8], status: u8, wanted: &str) {
+    let mut output = Sink::new(alloc, 0, false);
+    let got = execute(alloc, &mut Pieces::new(input, 0), &mut output);
+    assert_eq!(rt; got, status, "at {input:?}");
+    assert_eq!(rt; output.taken.as_slice(), wanted.as_bytes(), "at {input:?}");
+}
+
+#[test]
+fn replies_to_steps(rt: HostRuntime) {
+    let rows = [
+        (STEPS, REPLIES),
+        ("", ""),
+        ("\n\n", ""),
+        ("a count 7", "a count 0\n"),
+        ("a insert 005\n\na count 5\n", "a count 0\na count 1\n"),
+        ("a remove 1\n", "a count 0\n"),
+        (
+            "a insert 18446744073709551615\na remove 18446744073709551615\n",
+            "a count 0\na count 1\n",
+        ),
+        (
+            "a insert 00000000000000000007\na count 7\n",
+            "a count 0\na count 1\n",
+        ),
+    ];
+    for (input, wanted) in rows {
+        answers(rt.alloc(), &rt, input.as_bytes(), 0, wanted);
+    }
+}
+
+#[test]
+fn counts_lines_to_the_bad_one(rt: HostRuntime) {
+    let rows = [
+        ("b insert 5\n", "bad line 1\n"),
+        ("a insert 1\nc insert 2\na insert\n", "bad line 2\n"),
+        ("a insert 1\n\na insert", "bad line 3\n"),
+        ("a insert 18446744073709551616\n", "bad line 1\n"),
+        ("a insert 000000000000000000001\n", "bad line 1\n"),
+    ];
+    for (input, wanted) in rows {
+        answers(rt.alloc(), &rt, input.as_bytes(), 2, wanted);
+    }
+}
+
+#[test]
+fn refuses_hostile_lines(rt: HostRuntime) {
+    let rows: [&[u8]; 20] = [
+        b"a  insert 5",
+        b" a insert 5",
+        b"A insert 5",
+        b"a insert 5 ",
+        b"a insert 5\r",
+        b"a insert",
+        b"a insert ",
+        b"a insert -5",
+        b"a insert +5",
+        b"a insert 5 5",
+        b"a insert 1.0",
+        b"a insert five",
+        b"a insert \xff",
+        b"a \xc3\xa4 5",
+        b"a\tinsert 5",
+        b"a Insert 5",
+        b"a many 5 1",
+        b"insert 5",
+        b"a",
+        b" ",
+    ];
+    for line in rows {
+        answers(rt.alloc(), &rt, line, 2, "bad line 1\n");
+    }
+}
+
+#[test]
+fn writes_nothing_after_a_failed_read(rt: HostRuntime) {
+    for fails_at in 1..4 {
+        let mut output = Sink::new(rt.alloc(), 0, false);
+        let status = execute(
+            rt.alloc(),
+            &mut Pieces::new(STEPS.as_bytes(), fails_at),
+            &mut output,
+        );
+        assert_eq!(rt; status, 4, "at read {fails_at}");
+        assert!(rt; output.taken.is_empty(), "at read {fails_at}");
+    }
+}
+
+// Runs the program on a writer that fails. What was written is a beginning of the whole, of as many pieces as were taken.
+fn fails_at_write(
+    alloc: Global,
+    rt: &impl Abort,
+    input: &str,
+    whole: &str,
+    fails_at: usize,
+    takes_none: bool,
+) {
+    let mut output = Sink::new(alloc, fails_at, takes_none);
+    let status = execute(alloc, &mut Pieces::new(input.as_bytes(), 0), &mut output);
+    assert_eq!(rt; status, 4, "at write {fails_at}");
+    let taken = output.taken.as_slice();
+    assert_eq!(rt; taken.len(), fails_at.saturating_sub(1).saturating_mul(7));
+    assert!(rt; whole.as_bytes().starts_with(taken), "at write {fails_at}");
+}
+
+#[test]
+fn fails_at_each_write(rt: HostRuntime) {
+    // The replies have 40 bytes and take six writes, and what is said of a bad line has 11 and takes two.
+    for fails_at in 1..7 {
+        fails_at_write(rt.alloc(), &rt, STEPS, REPLIES, fails_at, false);
+        fails_at_write(rt.alloc(), &rt, STEPS, REPLIES, fails_at, true);
+    }
+    for fails_at in 1..3 {
+        fails_at_write(rt.alloc(), &rt, "x\n", "bad line 1\n", fails_at, false);
+    }
+}
