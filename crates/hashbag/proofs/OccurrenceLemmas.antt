@@ -18,13 +18,17 @@ use Rattle.hashbag_table.specs.Entries.{count_of, stored_or_itself, without, wit
 use Rattle.hashbag_table.proofs.EntryLemmas.{entry_none_from_lookup, without_absent, lookup-entry, lookup_key-entry, with_fewer-some, with_fewer-all}
 use Rattle.hashbag.specs.Occurrences.{greatest_total, alike, others, count, instance, add, less, put, IsBag}
 use Rattle.hashbag.specs.Bag.{occurrences, IsTallied}
-use Rattle.hashbag.proofs.ListLemmas.{IsPermutation-same, IsPermutation-flat_map, IsPermutation-filter, find-filter, filter-replicate, all_same_rearranged}
+use Rattle.hashbag_table.proofs.ListLemmas.{IsPermutation-same, IsPermutation-flat_map, IsPermutation-filter, find-filter, filter-replicate, all_same_rearranged}
+
+-- the occurrences of a map whatever the order of its entries
+pub occurrences_rearranged : {T : Type 0} (es fs : List (T × ℕ)) → IsPermutation es fs → IsPermutation (occurrences es) (occurrences fs)
+occurrences_rearranged {T} es fs h = IsPermutation-flat_map (λ (e : T × ℕ). replicate e.1 e.0) es fs h
 
 module _ {T : Type 0} {eq : T → T → Bool} (laws : IsEquivalence eq) where
   -- ---- lists up to their order
 
   -- the items of a bag that are equal to v are all the same
-  alike_same_instance : (v : T) (X : List T) → IsBag eq X → All (λ x. All (λ y. x ≡ y) (alike eq v X)) (alike eq v X)
+  pub alike_same_instance : (v : T) (X : List T) → IsBag eq X → All (λ x. All (λ y. x ≡ y) (alike eq v X)) (alike eq v X)
   alike_same_instance v X bag = λ k d at.
       let x = slice_index_or (alike eq v X) k d in
       let passes : eq v x ≡ true = filter_passes (eq v) X k d at in
@@ -230,6 +234,15 @@ module _ {T : Type 0} {eq : T → T → Bool} (laws : IsEquivalence eq) where
       let same : less eq v n X ≡ others eq v X = ap (λ (l : List T). others eq v X ++ drop n l) empty ∙ ap (λ (l : List T). others eq v X ++ l) (drop_all n [] (omega arith)) ∙ append-nil _ in
       subst (λ (l : List T). IsPermutation l X) (sym same) (IsPermutation-sym _ _ left)
 
+  -- what is absent is put as it is added
+  pub put_absent : (v : T) (n : ℕ) (X : List T) → count eq v X ≡ 0 → IsPermutation (put eq v n X) (add eq v n X)
+  put_absent v n X none =
+      let empty : alike eq v X ≡ [] = nil_from_length (alike eq v X) (length-filter (eq v) X ∙ none) in
+      let split = IsPermutation-filter_both (eq v) (λ x. not (eq v x)) (λ x. refl) X in
+      let left : IsPermutation X (others eq v X) = subst (λ (l : List T). IsPermutation X (l ++ others eq v X)) empty split in
+      let itself : instance eq v X ≡ None = find-filter (eq v) X ∙ ap (λ (l : List T). slice_get l 0) empty in
+      subst (λ (o : Option T). IsPermutation (put eq v n X) (X ++ replicate n (unwrap_or o v))) (sym itself) (IsPermutation-append_left _ _ _ (IsPermutation-sym _ _ left))
+
   pub bag_from_tally : (es : List (T × ℕ)) (total : ℕ) → IsTallied eq es total → IsBag eq (occurrences es)
   bag_from_tally es total tally = bag_occurrences es tally.counted (let same = tally.sum in let fits = tally.fits in omega arith)
 
@@ -249,6 +262,30 @@ module _ {T : Type 0} {eq : T → T → Bool} (laws : IsEquivalence eq) where
       let was = tally.sum in
       let fits = tally.fits in
       record { sum = omega arith; fits = omega arith; counted = counted }
+
+  -- n of v in the place of all that are equal to it, in the map and in the total
+  pub tally_put : (v : T) (n : ℕ) (es fs : List (T × ℕ)) (total : ℕ) → IsTallied eq es total → IsCounted eq fs → total - count_of eq v es + n ≤ greatest_total → IsPermutation (put eq v n (occurrences es)) (occurrences fs) → IsTallied eq fs (total - count_of eq v es + n)
+  tally_put v n es fs total tally counted fits h =
+      let same = count_occurrences v es tally.counted.distinct in
+      let whole = length_split v (occurrences es) in
+      let alike_count = length-filter (eq v) (occurrences es) in
+      let copies = length-replicate n v in
+      let parts : length (occurrences fs) ≡ length (others eq v (occurrences es)) + length (replicate n v) = length_permutation _ _ h ∙ length-append (others eq v (occurrences es)) (replicate n v) in
+      let was = tally.sum in
+      record { sum = omega arith; fits = fits; counted = counted }
+
+  -- the same entries in another order
+  pub tally_rearranged : (es fs : List (T × ℕ)) (total : ℕ) → IsTallied eq es total → IsCounted eq fs → IsPermutation es fs → IsTallied eq fs total
+  tally_rearranged es fs total tally counted h = record {
+    sum = tally.sum ∙ sym (length_permutation _ _ (occurrences_rearranged es fs h));
+    fits = tally.fits;
+    counted = counted;
+  }
+
+  -- no entries
+  pub tally_none : IsTallied eq [] 0
+  unfolding IsDistinct
+  tally_none = record { sum = refl; fits = omega arith; counted = record { distinct = tt; positive = All-nil _ } }
 
   -- a count is at most the total
   pub count_in_tally : (v : T) (es : List (T × ℕ)) (total : ℕ) → IsTallied eq es total → count_of eq v es ≤ total

@@ -1,6 +1,7 @@
 //! `HashBag`: how often each of several values occurs.
-ghost use Rattle.std.specs.Prelude.{◌≡◌, ◌+◌, ◌≤◌, ◌↔◌, [], length, IsTrue, IfOk, OnOk, OnErr};
-ghost use Rattle.hashbag.specs.Occurrences.{greatest_total, count, add, less, IsBag};
+ghost use Rattle.std.specs.Prelude.{◌≡◌, ◌≢◌, ◌+◌, ◌-◌, ◌<◌, ◌≤◌, ◌↔◌, [], length, option_map, IsTrue, IsOk, IfOk, IfErr, OnOk, OnErr};
+ghost use Rattle.hashbag.specs.Occurrences.{greatest_total, count, stored, add, less, put, distinct_count, IsBag};
+ghost use Rattle.hashbag_table.specs.declared.table.TheConstants.{MOST_VALUES};
 ghost use Rattle.hashbag.specs.declared.bag.BagError.TheVariants.{Memory};
 
 use hashbag_table::Table;
@@ -78,6 +79,20 @@ impl<T: Eq + Hash + Drop> HashBag<T, FixedState> {
     {
         HashBag::with_hasher(alloc, FixedState::new())
     }
+
+    /// An empty bag with room for `n` distinct values, which are hashed with fixed keys.
+    ///
+    /// It answers `Memory` where memory is refused, and for more than 3 * 2^57 distinct values before memory is asked for.
+    /// With `n` 0 it takes no memory and succeeds.
+    pub fn with_capacity(alloc: Global, n: usize) -> Result<HashBag<T, FixedState>, BagError>
+        ensures empty { IfOk result (λ bag. bag.items ≡ []) }
+        ensures hasher { IfOk result (λ bag. ⟦<FixedState as Default>⟧.is_default bag.hasher) }
+        ensures none { n ≡ 0 → IsOk result }
+        ensures beyond { MOST_VALUES < n → result ≡ Err BagError.Memory }
+        ensures memory { OnErr result (result ≡ Err BagError.Memory) }
+    {
+        HashBag::with_capacity_and_hasher(alloc, n, FixedState::new())
+    }
 }
 
 impl<T: Eq + Hash + Drop, S: BuildHasher + Drop> HashBag<T, S> {
@@ -94,12 +109,45 @@ impl<T: Eq + Hash + Drop, S: BuildHasher + Drop> HashBag<T, S> {
         }
     }
 
+    /// An empty bag with room for `n` distinct values, which `hasher` hashes.
+    ///
+    /// It answers `Memory` where memory is refused, and for more than 3 * 2^57 distinct values before memory is asked for.
+    /// With `n` 0 it takes no memory and succeeds.
+    pub fn with_capacity_and_hasher(
+        alloc: Global,
+        n: usize,
+        hasher: S,
+    ) -> Result<HashBag<T, S>, BagError>
+        ensures empty { IfOk result (λ bag. bag.items ≡ []) }
+        ensures hasher { IfOk result (λ bag. bag.hasher ≡ hasher) }
+        ensures none { n ≡ 0 → IsOk result }
+        ensures beyond { MOST_VALUES < n → result ≡ Err BagError.Memory }
+        ensures memory { OnErr result (result ≡ Err BagError.Memory) }
+    {
+        let table = Table::with_room(alloc, hasher, n)?;
+        Ok(HashBag { table, len: 0 })
+    }
+
+    /// How many distinct values the bag can have before it grows. It is at least the number of those that are there.
+    pub fn capacity(&self) -> usize
+        ensures { distinct_count T.eq self.now.items ≤ result }
+    {
+        self.table.capacity()
+    }
+
     /// The number of occurrences: the sum of all counts.
     pub fn len(&self) -> usize
         ensures len { result ≡ length self.now.items }
         ensures bag { IsBag T.eq self.now.items }
     {
         self.len
+    }
+
+    /// The number of distinct values.
+    pub fn set_len(&self) -> usize
+        ensures { result ≡ distinct_count T.eq self.now.items }
+    {
+        self.table.set_len()
     }
 
     /// Whether there are no occurrences.
@@ -109,9 +157,17 @@ impl<T: Eq + Hash + Drop, S: BuildHasher + Drop> HashBag<T, S> {
         self.len == 0
     }
 
+    /// The state that hashes the values.
+    pub fn hasher(&self) -> &S
+        ensures { result.now ≡ self.now.hasher }
+    {
+        self.table.hasher()
+    }
+
     /// How often a value occurs, 0 where it is absent. The value is hashed once.
     pub fn contains(&self, value: &T) -> usize
-        ensures { result ≡ count T.eq value.now self.now.items }
+        ensures count { result ≡ count T.eq value.now self.now.items }
+        ensures bag { IsBag T.eq self.now.items }
     {
         match self.table.get(value) {
             Some((_, count)) => count,
@@ -119,11 +175,15 @@ impl<T: Eq + Hash + Drop, S: BuildHasher + Drop> HashBag<T, S> {
         }
     }
 
-    /// Adds one occurrence of a value, and answers how many there were.
-    ///
-    /// The caller sees to it that the total fits. A stored instance stays, and the value handed in is dropped. A value that
-    /// is there is hashed once, takes no memory and is never refused. One that is absent may be refused for memory: the bag
-    /// is then unchanged, and the value is dropped.
+    /// The stored instance of a value and how often it occurs, or `None` where it is absent. The value is hashed once.
+    pub fn get(&self, value: &T) -> Option<(&T, usize)>
+        ensures found { option_map (λ e. (e.0.now, e.1)) result ≡ stored T.eq value.now self.now.items }
+        ensures bag { IsBag T.eq self.now.items }
+    {
+        self.table.get(value)
+    }
+
+    /// Adds one occurrence of a value, and answers how many there were: [`HashBag::insert_many`] with 1.
     pub fn insert(&mut self, value: T) -> Result<usize, BagError>
         requires { length self.old.items + 1 ≤ greatest_total }
         ensures before { IfOk result (λ before. before ≡ count T.eq value self.old.items) }
@@ -134,8 +194,52 @@ impl<T: Eq + Hash + Drop, S: BuildHasher + Drop> HashBag<T, S> {
         ensures absent { OnErr result (count T.eq value self.old.items ≡ 0) }
         ensures err { OnErr result (self.new ≡ self.old) }
     {
-        let before = self.table.add(value, 1)?;
-        self.len += 1;
+        self.insert_many(value, 1)
+    }
+
+    /// Adds `n` occurrences of a value, and answers how many there were.
+    ///
+    /// The caller sees to it that the total fits. A stored instance stays, and the value handed in is dropped. A value that
+    /// is there is hashed once, takes no memory and is never refused, and neither is an insertion of 0, which changes
+    /// nothing. A value that is absent may be refused for memory: the bag is then unchanged, and the value is dropped.
+    pub fn insert_many(&mut self, value: T, n: usize) -> Result<usize, BagError>
+        requires { length self.old.items + n ≤ greatest_total }
+        ensures before { IfOk result (λ before. before ≡ count T.eq value self.old.items) }
+        ensures added { OnOk result (IsBagOf T.eq self.old (add T.eq value n self.old.items) self.new) }
+        ensures none { n ≡ 0 → self.new ≡ self.old }
+
+        // Only memory can be refused, and only to some occurrences of a value that is absent.
+        ensures memory { OnErr result (result ≡ Err BagError.Memory) }
+        ensures absent { OnErr result (count T.eq value self.old.items ≡ 0) }
+        ensures some { OnErr result (0 < n) }
+        ensures err { OnErr result (self.new ≡ self.old) }
+    {
+        if n == 0 {
+            return Ok(self.contains(&value));
+        }
+        let before = self.table.add(value, n)?;
+        self.len += n;
+        Ok(before)
+    }
+
+    /// Stores a value with the count 1 in the place of all occurrences that equal it, and answers how many there were. The
+    /// instance that was stored is dropped.
+    ///
+    /// The caller sees to it that the total fits. Memory may be refused, to a value that is there too: the bag is then
+    /// unchanged, and the value handed in is dropped.
+    pub fn replace(&mut self, value: T) -> Result<usize, BagError>
+        requires { length self.old.items - count T.eq value self.old.items + 1 ≤ greatest_total }
+        ensures before { IfOk result (λ before. before ≡ count T.eq value self.old.items) }
+        ensures put { OnOk result (IsBagOf T.eq self.old (put T.eq value 1 self.old.items) self.new) }
+        ensures memory { OnErr result (result ≡ Err BagError.Memory) }
+        ensures err { OnErr result (self.new ≡ self.old) }
+    {
+        let before = self.contains(&value);
+        if before == 0 {
+            return self.insert(value);
+        }
+        self.table.put_instance(value)?;
+        self.len = self.len - before + 1;
         Ok(before)
     }
 
@@ -147,8 +251,109 @@ impl<T: Eq + Hash + Drop, S: BuildHasher + Drop> HashBag<T, S> {
         ensures before { result ≡ count T.eq value.now self.old.items }
         ensures removed { IsBagOf T.eq self.old (less T.eq value.now 1 self.old.items) self.new }
     {
-        let before = self.table.take(value, 1);
-        self.len -= before.min(1);
+        self.take_up_to(value, 1)
+    }
+
+    /// Takes `quantity` occurrences of a value, or all where they are fewer, and answers how many are left. With the last
+    /// occurrence the stored instance is dropped.
+    ///
+    /// It takes no memory. A value that stays is hashed once.
+    pub fn remove_up_to(&mut self, value: &T, quantity: usize) -> usize
+        ensures after { result ≡ count T.eq value.now self.old.items - quantity }
+        ensures removed { IsBagOf T.eq self.old (less T.eq value.now quantity self.old.items) self.new }
+    {
+        self.take_up_to(value, quantity).saturating_sub(quantity)
+    }
+
+    // Takes `quantity` occurrences of a value, or all where they are fewer, and answers how many there were.
+    fn take_up_to(&mut self, value: &T, quantity: usize) -> usize
+        ensures before { result ≡ count T.eq value.now self.old.items }
+        ensures removed { IsBagOf T.eq self.old (less T.eq value.now quantity self.old.items) self.new }
+    {
+        let before = self.table.take(value, quantity);
+        self.len -= before.min(quantity);
         before
+    }
+
+    /// Takes one occurrence of a value: the last one itself, or else one of several, and then it answers the stored instance,
+    /// which stays, with how many there were. `Err(None)` where the value is absent.
+    ///
+    /// It lowers the count in place and takes no memory.
+    pub fn try_take(&mut self, value: &T) -> Result<T, Option<(&T, usize)>>
+        ensures last { IfOk result (λ instance. stored T.eq value.now self.old.items ≡ Some (instance, 1)) }
+        ensures others { IfErr result (λ found. (option_map (λ e. (e.0.now, e.1)) found ≡ stored T.eq value.now self.old.items) × (count T.eq value.now self.old.items ≢ 1)) }
+    {
+        match self.take_one(value) {
+            Ok(instance) => Ok(instance),
+            Err(0) => Err(None),
+            Err(before) => match self.get(value) {
+                Some((instance, _)) => Err(Some((instance, before))),
+                None => Err(None),
+            },
+        }
+    }
+
+    // Takes one occurrence of a value: the last one itself, or else one of as many as it answers, 0 where there is none.
+    pub(crate) fn take_one(&mut self, value: &T) -> Result<T, usize>
+        ensures taken { IsBagOf T.eq self.old (less T.eq value.now 1 self.old.items) self.new }
+        ensures last { IfOk result (λ instance. stored T.eq value.now self.old.items ≡ Some (instance, 1)) }
+        ensures others { IfErr result (λ before. (before ≡ count T.eq value.now self.old.items) × (before ≢ 1)) }
+        ensures bag { IsBag T.eq self.old.items }
+    {
+        let before = self.contains(value);
+        if before != 1 {
+            return Err(self.remove(value));
+        }
+        match self.take_all(value) {
+            Some((instance, _)) => Ok(instance),
+            None => Err(0),
+        }
+    }
+
+    /// Takes a value out, and answers its stored instance and its whole count, or `None` where it is absent. It takes no
+    /// memory.
+    pub fn take_all(&mut self, value: &T) -> Option<(T, usize)>
+        ensures taken { result ≡ stored T.eq value.now self.old.items }
+        ensures left { IsBagOf T.eq self.old (less T.eq value.now (count T.eq value.now self.old.items) self.old.items) self.new }
+    {
+        let (instance, count) = self.table.remove(value)?;
+        self.len -= count;
+        Some((instance, count))
+    }
+
+    /// Takes all occurrences out. It takes no memory, and keeps the room that the bag has.
+    pub fn clear(&mut self)
+        ensures empty { self.new.items ≡ [] }
+        ensures hasher { self.new.hasher ≡ self.old.hasher }
+    {
+        self.table.clear();
+        self.len = 0;
+    }
+
+    /// Makes room for `n` more distinct values. What occurs stays.
+    ///
+    /// It answers `Memory` where memory is refused, and before memory is asked for where there would be more than 3 * 2^57
+    /// distinct values: the bag is then unchanged. With `n` 0 it takes no memory and succeeds.
+    pub fn reserve(&mut self, n: usize) -> Result<(), BagError>
+        ensures kept { IsBagOf T.eq self.old self.old.items self.new }
+        ensures none { n ≡ 0 → IsOk result }
+        ensures beyond { 0 < n → MOST_VALUES < distinct_count T.eq self.old.items + n → result ≡ Err BagError.Memory }
+        ensures memory { OnErr result (result ≡ Err BagError.Memory) }
+        ensures err { OnErr result (self.new ≡ self.old) }
+    {
+        self.table.reserve(n)?;
+        Ok(())
+    }
+
+    /// Gives memory back that the bag doesn't need. What occurs stays.
+    ///
+    /// It answers `Memory` where memory is refused: the bag is then unchanged.
+    pub fn shrink_to_fit(&mut self) -> Result<(), BagError>
+        ensures kept { IsBagOf T.eq self.old self.old.items self.new }
+        ensures memory { OnErr result (result ≡ Err BagError.Memory) }
+        ensures err { OnErr result (self.new ≡ self.old) }
+    {
+        self.table.shrink_to_fit()?;
+        Ok(())
     }
 }

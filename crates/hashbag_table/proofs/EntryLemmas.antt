@@ -1,5 +1,5 @@
 -- How the entries of a map follow from what its calls say.
-use Rattle.std.proofs.Common.{◌≡◌, ℕ, ◌<◌, ◌≤◌, ◌-◌, ltb, arith, Bool, true, false, cond, List, [], ◌∷◌, Option, Some, None, refl, sym, ◌∙◌, ap, subst, option_map, unwrap_or, IsSome, Result, Ok, Err, OnErr}
+use Rattle.std.proofs.Common.{◌≡◌, ℕ, ◌<◌, ◌≤◌, ◌-◌, ltb, arith, Bool, true, false, cond, List, [], ◌∷◌, Option, Some, None, refl, sym, ◌∙◌, ap, subst, option_map, unwrap_or, IsSome, Result, Ok, Err, OnOk, OnErr}
 use borrow.Author.Tests.{ltb-true, lt-ltb}
 use Rattle.std.proofs.lemmas.Bool.{false≢true}
 use Rattle.std.specs.Map.{lookup, lookup_entry, lookup_key, remove_entry, set_value}
@@ -20,6 +20,10 @@ none_if f (Some x) p = cc
 pub OnErr-from : {X Y P : Type 0} (r : Result X Y) → P → OnErr r P
 OnErr-from (Ok x) p = tt
 OnErr-from (Err y) p = p
+
+pub OnOk-map : {X Y : Type 0} (r : Result X Y) (P Q : Type 0) → (P → Q) → OnOk r P → OnOk r Q
+OnOk-map (Ok x) P Q f p = f p
+OnOk-map (Err y) P Q f p = tt
 
 module _ {T : Type 0} where
   pair_ext : (p q : T × ℕ) → p.0 ≡ q.0 → p.1 ≡ q.1 → p ≡ q
@@ -93,6 +97,12 @@ module _ {T : Type 0} where
   pub stored-absent : (eq : T → T → Bool) (v : T) (es : List (T × ℕ)) → lookup_entry (eq v) es ≡ None → stored_or_itself eq v es ≡ v
   stored-absent eq v es p = ap (λ o. unwrap_or o v) (lookup_key-entry (eq v) es ∙ ap (option_map (λ (x : T × ℕ). x.0)) p)
 
+  -- a value that is absent comes as itself, beside all entries
+  pub with_count-absent : (eq : T → T → Bool) (v : T) (w : ℕ) (es : List (T × ℕ)) → lookup (eq v) es ≡ None → with_count eq v w es ≡ (v, w) ∷ es
+  with_count-absent eq v w es p =
+      let absent : lookup_entry (eq v) es ≡ None = entry_none_from_lookup (eq v) es p in
+      ap (λ (k : T). (k, w) ∷ without eq v es) (stored-absent eq v es absent) ∙ ap (λ (l : List (T × ℕ)). (v, w) ∷ l) (without_absent (eq v) es absent)
+
   -- a value that is written where it stands
   pub with_count_set : (eq : T → T → Bool) (v : T) (w : ℕ) (es : List (T × ℕ)) → IsSome (entry_of eq v es) → IsPermutation (with_count eq v w es) (set_value (eq v) es w)
   with_count_set eq v w es some =
@@ -105,8 +115,7 @@ module _ {T : Type 0} where
   -- what `insert` of a hash map leaves
   pub with_count_put : {S : Type 0} (eq : T → T → Bool) (v : T) (w : ℕ) (m n : HashMap T ℕ S) (old : Option ℕ) → old ≡ hash.get eq m v → hash.PutsEntry eq m n v w old → IsPermutation (with_count eq v w m.entries) n.entries
   with_count_put eq v w m n None p puts =
-      let absent : lookup_entry (eq v) m.entries ≡ None = entry_none_from_lookup (eq v) m.entries (sym p) in
-      subst (λ (es : List (T × ℕ)). IsPermutation es n.entries) (ap (λ (k : T). (k, w) ∷ m.entries) (sym (stored-absent eq v m.entries absent)) ∙ ap (λ (es : List (T × ℕ)). (stored_or_itself eq v m.entries, w) ∷ es) (sym (without_absent (eq v) m.entries absent))) puts
+      subst (λ (es : List (T × ℕ)). IsPermutation es n.entries) (sym (with_count-absent eq v w m.entries (sym p))) puts
   with_count_put eq v w m n (Some c) p puts =
       put_cases (lookup_entry (eq v) m.entries) refl
     where

@@ -29,6 +29,10 @@ module _ {T : Type 0} (eq : T → T → Bool) where
   abbrev pub with_fewer : T → ℕ → List (T × ℕ) → List (T × ℕ)
   with_fewer v n es = if nat_lt n (count_of v es) then with_count v (count_of v es - n) es else without v es
 
+  -- the map in which v itself is stored, with this count
+  abbrev pub with_instance : T → ℕ → List (T × ℕ) → List (T × ℕ)
+  with_instance v n es = (v, n) ∷ without v es
+
   -- no two values are equal, and each count is at least 1
   pub record IsCounted (es : List (T × ℕ)) : Type 0 where
     pub distinct : IsDistinct eq (keys_of es)

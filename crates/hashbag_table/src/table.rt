@@ -1,12 +1,15 @@
 //! `Table`: a finite map from each distinct value to its stored instance and its count.
-ghost use Rattle.std.specs.Prelude.{◌≡◌, ◌+◌, ◌<◌, ◌^◌, [], length, None, IfOk, OnOk, OnErr, IsSome, option_map};
+ghost use Rattle.std.specs.Prelude.{◌≡◌, ◌+◌, ◌<◌, ◌≤◌, ◌^◌, [], ◌∷◌, length, None, IfOk, OnOk, OnErr, IsOk, IsErr, IsSome, option_map};
 ghost use Rattle.std.specs.List.Sorted.{IsPermutation};
-ghost use Rattle.hashbag_table.specs.Entries.{entry_of, count_of, without, with_count, with_fewer, IsCounted};
+ghost use Rattle.hashbag_table.specs.Entries.{entry_of, count_of, without, with_count, with_fewer, with_instance, IsCounted};
 
 use std::alloc::{AllocError, Global};
 use std::collections::HashMap;
 use std::hash::{BuildHasher, Hash};
 use std::marker::Model;
+
+/// The most distinct values that a table makes room for when it is asked to, 3 * 2^57.
+pub const MOST_VALUES: usize = 3 << 57;
 
 /// Distinct values, each stored once with its count, a `usize` of at least 1. Values that `==` calls equal are one value.
 ///
@@ -45,6 +48,21 @@ impl<T: Eq + Hash + Drop, S: BuildHasher + Drop> Table<T, S> {
         }
     }
 
+    /// An empty table with room for `n` distinct values, which `hasher` hashes. With `n` 0 it takes no memory and succeeds; a
+    /// request for more than [`MOST_VALUES`] is refused before memory is asked for.
+    pub fn with_room(alloc: Global, hasher: S, n: usize) -> Result<Table<T, S>, AllocError>
+        ensures empty { IfOk result (λ table. table.entries ≡ []) }
+        ensures hasher { IfOk result (λ table. table.hasher ≡ hasher) }
+        ensures none { n ≡ 0 → IsOk result }
+        ensures beyond { MOST_VALUES < n → IsErr result }
+    {
+        let mut table = Table::new(alloc, hasher);
+        match table.reserve(n) {
+            Ok(()) => Ok(table),
+            Err(e) => Err(e),
+        }
+    }
+
     /// The number of distinct values.
     pub fn set_len(&self) -> usize
         ensures len { result ≡ length self.now.entries }
@@ -58,6 +76,13 @@ impl<T: Eq + Hash + Drop, S: BuildHasher + Drop> Table<T, S> {
         ensures { result.now ≡ self.now.hasher }
     {
         self.map.hasher()
+    }
+
+    /// How many distinct values the table can have before it grows. It is at least the number of those that are there.
+    pub fn capacity(&self) -> usize
+        ensures { length self.now.entries ≤ result }
+    {
+        self.map.capacity()
     }
 
     /// The stored instance of a value and its count, or `None` where it is absent. The value is hashed once.
@@ -138,5 +163,59 @@ impl<T: Eq + Hash + Drop, S: BuildHasher + Drop> Table<T, S> {
         ensures counted { IsCounted T.eq self.new.entries }
     {
         self.map.remove_entry(value)
+    }
+
+    /// Stores another instance of a value that is present, with the count 1, and drops the former instance.
+    ///
+    /// It makes room before it takes the former instance out, so that a refusal leaves the table unchanged. The value handed
+    /// in is then dropped.
+    pub fn put_instance(&mut self, value: T) -> Result<(), AllocError>
+        requires present { IsSome (entry_of T.eq value self.old.entries) }
+        ensures put { OnOk result (IsPermutation (with_instance T.eq value 1 self.old.entries) self.new.entries) }
+        ensures hasher { self.new.hasher ≡ self.old.hasher }
+        ensures counted { IsCounted T.eq self.new.entries }
+        ensures err { OnErr result (self.new ≡ self.old) }
+    {
+        self.map.reserve(1)?;
+        let _ = self.map.remove(&value);
+        self.map.insert(value, 1)?;
+        Ok(())
+    }
+
+    /// Takes all values out. It takes no memory.
+    pub fn clear(&mut self)
+        ensures empty { self.new.entries ≡ [] }
+        ensures hasher { self.new.hasher ≡ self.old.hasher }
+    {
+        self.map.clear();
+    }
+
+    /// Makes room for `n` more distinct values. The entries stay, and so does the table where memory is refused.
+    ///
+    /// With `n` 0 it takes no memory and succeeds. A request with which there would be more than [`MOST_VALUES`] is refused
+    /// before memory is asked for.
+    pub fn reserve(&mut self, n: usize) -> Result<(), AllocError>
+        ensures entries { IsPermutation self.old.entries self.new.entries }
+        ensures hasher { self.new.hasher ≡ self.old.hasher }
+        ensures counted { IsCounted T.eq self.new.entries }
+        ensures none { n ≡ 0 → IsOk result }
+        ensures beyond { 0 < n → MOST_VALUES < length self.old.entries + n → IsErr result }
+        ensures err { OnErr result (self.new ≡ self.old) }
+    {
+        if n > MOST_VALUES.saturating_sub(self.set_len()) {
+            return Err(AllocError);
+        }
+        self.map.reserve(n)
+    }
+
+    /// Gives memory back that the entries don't need. The entries stay, and so does the table where memory is refused.
+    pub fn shrink_to_fit(&mut self) -> Result<(), AllocError>
+        ensures entries { IsPermutation self.old.entries self.new.entries }
+        ensures hasher { self.new.hasher ≡ self.old.hasher }
+        ensures counted { IsCounted T.eq self.new.entries }
+        ensures err { OnErr result (self.new ≡ self.old) }
+    {
+        self.map.shrink_to_fit();
+        Ok(())
     }
 }
