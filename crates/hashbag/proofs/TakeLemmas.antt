@@ -1,16 +1,16 @@
 -- What is left of a value of which some were taken.
-use Rattle.std.proofs.Common.{◌≡◌, ℕ, suc, ◌<◌, ◌+◌, Bool, true, false, cond, not, List, [], ◌∷◌, ◌++◌, length, drop, filter, slice_get, All, Option, Some, None, option_map, unwrap_or, refl, sym, ◌∙◌, ap, arith}
+use Rattle.std.proofs.Common.{◌≡◌, ℕ, zero, suc, ◌<◌, Bool, true, false, cond, not, List, [], ◌∷◌, ◌++◌, length, drop, filter, slice_get, All, Option, Some, None, option_map, unwrap_or, refl, sym, ◌∙◌, ap, arith}
 use Rattle.std.specs.Cmp.{IsEquivalence}
 use Rattle.std.specs.List.Sorted.{IsPermutation}
-use Rattle.std.specs.Map.{lookup, lookup_entry, lookup_key}
+use Rattle.std.specs.Map.{lookup_entry}
 use Rattle.std.proofs.lemmas.List.Sums.{length-filter}
 use Rattle.std.proofs.lemmas.List.{nil_from_length}
 use Rattle.std.proofs.lemmas.List.Elements.{filter-append, filter_passes, All-drop}
 use Rattle.std.proofs.lemmas.List.Sorted.{IsPermutation-sym}
 use Rattle.hashbag_table.specs.Entries.{entry_of, count_of, IsCounted}
-use Rattle.hashbag_table.proofs.EntryLemmas.{lookup-entry, lookup_key-entry}
+use Rattle.hashbag_table.proofs.EntryLemmas.{lookup_key-entry}
 use Rattle.hashbag.specs.Bag.{occurrences}
-use Rattle.hashbag.specs.Occurrences.{alike, others, count, instance, stored, less, IsBag}
+use Rattle.hashbag.specs.Occurrences.{alike, others, count, instance, instance_or_itself, stored, less, IsBag}
 use Rattle.hashbag_table.proofs.ListLemmas.{find-filter}
 use Rattle.hashbag.proofs.OccurrenceLemmas.{alike_same_instance, instance_rearranged, instance_occurrences, count_occurrences, count_of_entry}
 
@@ -98,3 +98,18 @@ module _ {T : Type 0} {eq : T → T → Bool} (laws : IsEquivalence eq) where
   -- what is stored has its count
   pub stored_count : (v : T) (X : List T) (i : T) (m : ℕ) → Some (i, m) ≡ stored eq v X → m ≡ count eq v X
   stored_count v X i m e = ap (λ (o : Option (T × ℕ)). unwrap_or (option_map (λ (e : T × ℕ). e.1) o) (count eq v X)) e ∙ count_kept (count eq v X) (instance eq v X)
+
+  instance_kept : (v : T) (n : ℕ) (o : Option T) (i : T) (m : ℕ) → Some (i, m) ≡ option_map {U = T × ℕ} (λ (j : T). (j, n)) o → i ≡ unwrap_or o v
+  instance_kept v n None i m e = absurd (cc)
+  instance_kept v n (Some j) i m e = ap (λ (o : Option (T × ℕ)). (unwrap_or o (i, m)).0) e
+
+  pub stored_instance : (v : T) (X : List T) (i : T) (m : ℕ) → Some (i, m) ≡ stored eq v X → i ≡ instance_or_itself eq v X
+  stored_instance v X i m e = instance_kept v (count eq v X) (instance eq v X) i m e
+
+  -- what is stored occurs
+  pub stored_some : (v : T) (X : List T) (p : T × ℕ) → Some p ≡ stored eq v X → 0 < count eq v X
+  stored_some v X p e = by_count (count eq v X) refl
+    where
+      by_count : (k : ℕ) → count eq v X ≡ k → 0 < k
+      by_count zero h = let none : None ≡ stored eq v X = stored_absent v X h in let wrong : Some p ≡ None = e ∙ sym none in absurd (cc)
+      by_count (suc k) h = omega arith

@@ -1,19 +1,27 @@
 -- What whole runs of steps reply and leave, on the plain list of a bag's occurrences.
-use Rattle.std.specs.Prelude.{◌≡◌, ℕ, ◌+◌, ◌≤◌, ◌==◌, max, if◌then◌else◌, Bool, List, [], ◌∷◌, ◌++◌, length}
+use Rattle.std.specs.Prelude.{◌≡◌, ℕ, ◌+◌, ◌-◌, ◌<◌, ◌≤◌, ◌==◌, max, if◌then◌else◌, Bool, List, [], ◌∷◌, ◌++◌, length}
 use Rattle.std.specs.List.{list_any}
 use Rattle.hashbag.specs.declared.script.Step.{Step}
-use Rattle.hashbag.specs.declared.script.Step.TheVariants.{Insert, Remove, Count}
+use Rattle.hashbag.specs.declared.script.Step.TheVariants.{Insert, InsertMany, Replace, Remove, RemoveUpTo, TryTake, TakeAll, Clear, Count, Reserve, ShrinkToFit}
 use Rattle.hashbag.specs.declared.script.Reply.{Reply}
 use Rattle.hashbag.specs.Bag.{Bag, Means}
 use Rattle.hashbag.specs.Occurrences.{greatest_total, count, distinct_count}
-use Rattle.hashbag.specs.Rows.{insert_row, remove_row, count_row}
+use Rattle.hashbag.specs.Rows.{insert_row, replace_row, remove_row, remove_up_to_row, try_take_row, take_all_row, clear_row, count_row, reserve_row, shrink_to_fit_row}
 
 module _ {T : Type 0} (eq : T → T → Bool) where
   -- the list that a step leaves of X, and its reply
   abbrev pub step : List T → Step T → List T × Reply T
   step X (Insert v) = insert_row eq v 1 X
+  step X (InsertMany v n) = insert_row eq v n X
+  step X (Replace v) = replace_row eq v X
   step X (Remove v) = remove_row eq v X
+  step X (RemoveUpTo v q) = remove_up_to_row eq v q X
+  step X (TryTake v) = try_take_row eq v X
+  step X (TakeAll v) = take_all_row eq v X
+  step X Clear = clear_row eq X
   step X (Count v) = count_row eq v X
+  step X (Reserve n) = reserve_row eq n X
+  step X ShrinkToFit = shrink_to_fit_row eq X
 
   -- the list that the steps leave, applied in order to X, and their replies
   unfoldable pub run : List T → List (Step T) → List T × List (Reply T)
@@ -39,11 +47,25 @@ module _ {T : Type 0} (eq : T → T → Bool) where
       let Y = (step X s).0 in
       (if has_newcomer X Y then 1 else 0) + arrivals Y steps
 
-  -- a step that may be refused for memory: the insertion of a value that is absent, with a total that fits
+  -- some occurrences of a value that is absent, with a total that fits
+  pub record IsRefusedInsertion (v : T) (n : ℕ) (X : List T) : Type 0 where
+    pub absent : count eq v X ≡ 0
+    pub some : 0 < n
+    pub fits : length X + n ≤ greatest_total
+
+  -- a step that may be refused for memory: such an insertion, a replacement with a total that fits, and what asks for room
   abbrev pub AsksForMemory : List T → Step T → Type 0
-  AsksForMemory X (Insert v) = (count eq v X ≡ 0) × (length X + 1 ≤ greatest_total)
+  AsksForMemory X (Insert v) = IsRefusedInsertion v 1 X
+  AsksForMemory X (InsertMany v n) = IsRefusedInsertion v n X
+  AsksForMemory X (Replace v) = length X - count eq v X + 1 ≤ greatest_total
   AsksForMemory X (Remove v) = ⊥
+  AsksForMemory X (RemoveUpTo v q) = ⊥
+  AsksForMemory X (TryTake v) = ⊥
+  AsksForMemory X (TakeAll v) = ⊥
+  AsksForMemory X Clear = ⊥
   AsksForMemory X (Count v) = ⊥
+  AsksForMemory X (Reserve n) = Unit {0}
+  AsksForMemory X ShrinkToFit = Unit {0}
 
   -- a run that memory stopped: the steps that have replies are the run, the bag means what they left, and the next step
   -- asked for memory

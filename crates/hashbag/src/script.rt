@@ -1,7 +1,9 @@
 //! Whole runs of steps on a bag.
-ghost use Rattle.std.specs.Prelude.{◌≡◌, ◌+◌, ◌<◌, ◌++◌, ◌⊎◌, List, vec_len, vec_capacity, IfOk, OnOk, OnErr};
-ghost use Rattle.hashbag.specs.Bag.{Means};
-ghost use Rattle.hashbag.specs.Script.{step as step_of, run as run_of, AsksForMemory, IsStopped};
+ghost use Rattle.std.specs.Prelude.{◌≡◌, ◌+◌, ◌-◌, ◌<◌, ◌≤◌, ◌++◌, ◌⊎◌, List, length, vec_len, vec_capacity, IfOk, OnOk, OnErr};
+ghost use Rattle.hashbag.specs.Bag.{Means, IsBagOf};
+ghost use Rattle.hashbag.specs.Occurrences.{greatest_total, count, IsBag};
+ghost use Rattle.hashbag.specs.Rows.{insert_row, replace_row, try_take_row, take_all_row};
+ghost use Rattle.hashbag.specs.Script.{step as step_of, run as run_of, IsRefusedInsertion, AsksForMemory, IsStopped};
 
 use crate::bag::{BagError, HashBag};
 use std::hash::{BuildHasher, Hash};
@@ -11,10 +13,26 @@ use std::hash::{BuildHasher, Hash};
 pub enum Step<T> {
     /// [`HashBag::insert`], or `TooMany` where the total would pass `usize::MAX`.
     Insert(T),
+    /// [`HashBag::insert_many`], or `TooMany` where the total would pass `usize::MAX`.
+    InsertMany(T, usize),
+    /// [`HashBag::replace`], or `TooMany` where the total would pass `usize::MAX`.
+    Replace(T),
     /// [`HashBag::remove`].
     Remove(T),
+    /// [`HashBag::remove_up_to`].
+    RemoveUpTo(T, usize),
+    /// [`HashBag::try_take`]: `Taken` with 1 for the last occurrence, `Left` with the count before where more were there.
+    TryTake(T),
+    /// [`HashBag::take_all`].
+    TakeAll(T),
+    /// [`HashBag::clear`].
+    Clear,
     /// [`HashBag::contains`].
     Count(T),
+    /// [`HashBag::reserve`].
+    Reserve(usize),
+    /// [`HashBag::shrink_to_fit`].
+    ShrinkToFit,
 }
 
 /// What a step answers.
@@ -34,39 +52,115 @@ pub enum Reply<T> {
     TooMany,
 }
 
+// Adds occurrences if the total can have them.
+fn insert_within<T: Eq + Hash + Drop, S: BuildHasher + Drop>(
+    bag: &mut HashBag<T, S>,
+    value: T,
+    n: usize,
+) -> Result<Reply<T>, BagError>
+    ensures reply { IfOk result (λ reply. reply ≡ (insert_row T.eq value n bag.old.items).1) }
+    ensures left { OnOk result (IsBagOf T.eq bag.old (insert_row T.eq value n bag.old.items).0 bag.new) }
+    ensures memory { OnErr result (result ≡ Err BagError.Memory) }
+    ensures refused { OnErr result (IsRefusedInsertion T.eq value n bag.old.items) }
+    ensures err { OnErr result (bag.new ≡ bag.old) }
+{
+    if n > usize::MAX - bag.len() {
+        return Ok(Reply::TooMany);
+    }
+    Ok(Reply::Count(bag.insert_many(value, n)?))
+}
+
+// Replaces a value if the total can have it.
+fn replace_within<T: Eq + Hash + Drop, S: BuildHasher + Drop>(
+    bag: &mut HashBag<T, S>,
+    value: T,
+) -> Result<Reply<T>, BagError>
+    ensures reply { IfOk result (λ reply. reply ≡ (replace_row T.eq value bag.old.items).1) }
+    ensures left { OnOk result (IsBagOf T.eq bag.old (replace_row T.eq value bag.old.items).0 bag.new) }
+    ensures memory { OnErr result (result ≡ Err BagError.Memory) }
+    ensures refused { OnErr result (length bag.old.items - count T.eq value bag.old.items + 1 ≤ greatest_total) }
+    ensures err { OnErr result (bag.new ≡ bag.old) }
+{
+    if bag.len() == usize::MAX && bag.contains(&value) == 0 {
+        return Ok(Reply::TooMany);
+    }
+    Ok(Reply::Count(bag.replace(value)?))
+}
+
+// Takes one occurrence, and answers it where it was the last.
+fn try_take<T: Eq + Hash + Drop, S: BuildHasher + Drop>(
+    bag: &mut HashBag<T, S>,
+    value: &T,
+) -> Reply<T>
+    ensures reply { result ≡ (try_take_row T.eq value.now bag.old.items).1 }
+    ensures left { IsBagOf T.eq bag.old (try_take_row T.eq value.now bag.old.items).0 bag.new }
+{
+    match bag.take_one(value) {
+        Ok(instance) => Reply::Taken(instance, 1),
+        Err(0) => Reply::Absent,
+        Err(before) => Reply::Left(before),
+    }
+}
+
+// Takes all occurrences, and answers them.
+fn take_all<T: Eq + Hash + Drop, S: BuildHasher + Drop>(
+    bag: &mut HashBag<T, S>,
+    value: &T,
+) -> Reply<T>
+    ensures reply { result ≡ (take_all_row T.eq value.now bag.old.items).1 }
+    ensures left { IsBagOf T.eq bag.old (take_all_row T.eq value.now bag.old.items).0 bag.new }
+{
+    match bag.take_all(value) {
+        Some((instance, count)) => Reply::Taken(instance, count),
+        None => Reply::Absent,
+    }
+}
+
 // Does one step, and answers it.
 fn apply<T: Eq + Hash + Drop, S: BuildHasher + Drop>(
     bag: &mut HashBag<T, S>,
     step: Step<T>,
 ) -> Result<Reply<T>, BagError>
-    ensures reply { IfOk result (λ reply. (X : List T) → Means bag.old X → reply ≡ (step_of T.eq X step).1) }
-    ensures means { OnOk result ((X : List T) → Means bag.old X → Means bag.new (step_of T.eq X step).0) }
-    ensures hasher { bag.new.hasher ≡ bag.old.hasher }
+    ensures reply { IfOk result (λ reply. reply ≡ (step_of T.eq bag.old.items step).1) }
+    ensures left { OnOk result (IsBagOf T.eq bag.old (step_of T.eq bag.old.items step).0 bag.new) }
+    ensures bag { IsBag T.eq bag.old.items }
 
-    // Only memory can be refused, and only to a new value.
+    // Only memory can be refused, and only to a step that asks for it.
     ensures memory { OnErr result (result ≡ Err BagError.Memory) }
-    ensures refused { OnErr result ((X : List T) → Means bag.old X → AsksForMemory T.eq X step) }
+    ensures refused { OnErr result (AsksForMemory T.eq bag.old.items step) }
     ensures err { OnErr result (bag.new ≡ bag.old) }
 {
-    let len = bag.len();
+    let _len = bag.len();
     match step {
-        Step::Insert(value) => {
-            if len == usize::MAX {
-                return Ok(Reply::TooMany);
-            }
-            Ok(Reply::Count(bag.insert(value)?))
-        }
+        Step::Insert(value) => insert_within(bag, value, 1),
+        Step::InsertMany(value, n) => insert_within(bag, value, n),
+        Step::Replace(value) => replace_within(bag, value),
         Step::Remove(value) => Ok(Reply::Count(bag.remove(&value))),
+        Step::RemoveUpTo(value, quantity) => Ok(Reply::Count(bag.remove_up_to(&value, quantity))),
+        Step::TryTake(value) => Ok(try_take(bag, &value)),
+        Step::TakeAll(value) => Ok(take_all(bag, &value)),
+        Step::Clear => {
+            bag.clear();
+            Ok(Reply::Done)
+        }
         Step::Count(value) => Ok(Reply::Count(bag.contains(&value))),
+        Step::Reserve(n) => {
+            bag.reserve(n)?;
+            Ok(Reply::Done)
+        }
+        Step::ShrinkToFit => {
+            bag.shrink_to_fit()?;
+            Ok(Reply::Done)
+        }
     }
 }
 
 /// Does the steps in turn, and appends a reply for each.
 ///
-/// Room for all replies is taken first: where it is refused, nothing changes. Then only the insertion of a value that is
-/// absent can be refused for memory. The run stops there with `Memory`: the steps before it have their replies and are
-/// done, that step left the bag as it was, and the rest of the steps is dropped. A total that would pass its end is the
-/// reply `TooMany`, and no error. No value is copied.
+/// Room for all replies is taken first: where it is refused, nothing changes. Then only an insertion of a value that is
+/// absent, a replacement, `Reserve` and `ShrinkToFit` can be refused for memory. The run stops there with `Memory`: the
+/// steps before it have their replies and are done, that step left the bag as it was, and the rest of the steps is
+/// dropped. A total that would pass its end is the reply `TooMany`, and no error. No value is copied.
 pub fn run<T: Eq + Hash + Drop, S: BuildHasher + Drop>(
     bag: &mut HashBag<T, S>,
     steps: Vec<Step<T>>,

@@ -1,9 +1,12 @@
 use Rattle.std.proofs.Common.{◌≡◌, ◌<◌, ◌+◌, ◌≤◌, ◌++◌, ◌∷◌, [], ◌⊎◌, inr, List, length, vec_len, vec_capacity, refl, sym, ◌∙◌, ap, append_assoc, arith, rules}
 use Rattle.std.specs.Vec.Iter.{into_iter_items, into_iter_len}
 use Rattle.std.proofs.lemmas.List.{append-nil}
+use Rattle.std.proofs.lemmas.List.Sorted.{IsPermutation-sym, IsPermutation-trans}
 use Rattle.hashbag_table.proofs.EntryLemmas.{OnErr-from}
 use Rattle.hashbag.specs.Bag.{Means}
-use Rattle.hashbag.specs.Script.{run as run_of, IsStopped}
+use Rattle.hashbag.specs.Script.{step as step_of, run as run_of, IsStopped}
+use Rattle.hashbag.proofs.OccurrenceLemmas.{bag_rearranged}
+use Rattle.hashbag.proofs.RowLemmas.{IsSameRow, step_rearranged, asks_rearranged}
 use Rattle.hashbag.proofs.ScriptLemmas.{run_none, run_more}
 use Rattle.hashbag.proofs.script.run.Goals as goal
 
@@ -29,17 +32,20 @@ loop-step-preserved g c =
     let room : vec_len at.replies + into_iter_len at.step-iterator ≤ vec_capacity at.replies = at.invariant.room in
     let longer = c.push_reserved.ensures.len in
     let capacity = c.push_reserved.ensures.capacity in
+    let same : (X : List g.row.T.Denot) → Means c.args.bag.now X → IsSameRow (step_of eq (run_of eq X at.yielded).0 x) (step_of eq at.bag.items x) = λ X means.
+    let before = at.invariant.means X means in
+    step_rearranged g.met.T.Eq.laws (run_of eq X at.yielded).0 at.bag.items before (bag_rearranged g.met.T.Eq.laws _ _ (IsPermutation-sym _ _ before) c.apply.ensures.bag) x in
     record {
       taken = append_assoc at.yielded (x ∷ []) _ ∙ rw steps at at.invariant.taken;
       long = omega arith;
       room = omega arith;
       replies = λ X means.
-          let reply = c.in_ok-reply.ensures.reply (run_of eq X at.yielded).0 (at.invariant.means X means) in
+          let reply = c.in_ok-reply.ensures.reply ∙ sym (same X means).reply in
           let before = at.invariant.replies X means in
           let more = (run_more eq X at.yielded x).1 in
           c.push_reserved.ensures.items ∙ rw (before, reply, more) (append_assoc _ (run_of eq X at.yielded).1 _);
-      means = λ X means. rw (run_more eq X at.yielded x).0 (c.in_ok-reply.ensures.means (run_of eq X at.yielded).0 (at.invariant.means X means));
-      hasher = c.apply.ensures.hasher ∙ at.invariant.hasher;
+      means = λ X means. rw (run_more eq X at.yielded x).0 (IsPermutation-trans _ _ _ (same X means).left c.in_ok-reply.ensures.left.means);
+      hasher = c.in_ok-reply.ensures.left.hasher ∙ at.invariant.hasher;
     }
 
 pub returns-in_err-reply-clause-stopped : goal.returns-in_err-reply-clause-stopped
@@ -55,7 +61,9 @@ returns-in_err-reply-clause-stopped g c =
       parts = sym whole;
       replies = rw (← c.in_ok-reserve.ensures.items) (at.invariant.replies X means);
       means = rw c.in_err-reply.ensures.err (at.invariant.means X means);
-      refused = c.in_err-reply.ensures.refused _ (at.invariant.means X means);
+      refused =
+          let before = at.invariant.means X means in
+          asks_rearranged g.met.T.Eq.laws (run_of eq X at.yielded).0 at.bag.items before (bag_rearranged g.met.T.Eq.laws _ _ (IsPermutation-sym _ _ before) c.apply.ensures.bag) c.in-Some.step c.in_err-reply.ensures.refused;
     } in
     let or_unchanged : ((vec_capacity c.args.replies.now < vec_len c.args.replies.now + vec_len c.args.steps) × (c.apply.new.bag ≡ c.args.bag.now) × (at.replies.items ≡ c.args.replies.now.items)) ⊎ ((X : List g.row.T.Denot) → Means c.args.bag.now X → IsStopped eq X c.args.steps.items c.args.replies.now.items at.replies.items c.apply.new.bag) = inr stopped in
     OnErr-from _ or_unchanged

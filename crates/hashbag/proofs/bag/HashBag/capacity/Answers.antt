@@ -1,4 +1,3 @@
-use Rattle.std.proofs.Common.{◌≤◌}
 use Rattle.hashbag.proofs.DistinctLemmas.{distinct_count-occurrences}
 use Rattle.hashbag.proofs.bag.HashBag.capacity.Goals as goal
 

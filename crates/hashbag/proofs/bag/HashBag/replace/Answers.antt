@@ -1,5 +1,4 @@
-use Rattle.std.proofs.Common.{◌≡◌, ◌≢◌, ◌+◌, ◌-◌, ◌<◌, ◌≤◌, length, arith, sym, ◌∙◌, subst, ℕ}
-use Rattle.std.specs.Result.{OnOk}
+use Rattle.std.proofs.Common.{◌≡◌, ◌+◌, ◌-◌, ◌<◌, ◌≤◌, length, arith, sym, ◌∙◌, subst, ℕ}
 use Rattle.std.proofs.lemmas.List.Sorted.{IsPermutation-trans}
 use Rattle.hashbag_table.specs.Entries.{count_of}
 use Rattle.hashbag_table.proofs.EntryLemmas.{OnOk-map}
@@ -14,7 +13,7 @@ returns-then-before-eq0-clause-put g c =
     let X = c.args.self.now.items in
     let none : count eq c.args.value X ≡ 0 = sym c.contains-before.ensures.count ∙ c.if-before-eq0.true in
     OnOk-map c.insert.result (IsBagOf eq c.args.self.now (add eq c.args.value 1 X) c.insert.new.self) (IsBagOf eq c.args.self.now (put eq c.args.value 1 X) c.insert.new.self)
-      (λ b. record { means = IsPermutation-trans _ _ _ (put_absent g.met.T.Eq.laws c.args.value 1 X none) b.means; hasher = b.hasher; bag = b.bag }) c.insert.ensures.added
+    (λ b. record { means = IsPermutation-trans _ _ _ (put_absent g.met.T.Eq.laws c.args.value 1 X none) b.means; hasher = b.hasher; bag = b.bag }) c.insert.ensures.added
 
 -- the count is that of the entry
 found : (g : _) (c : goal.After-put_instance-arg-1 g) → c.contains-before.result ≡ count_of g.T.PartialEq.eq c.args.value c.self.inside.table.entries
@@ -37,8 +36,8 @@ invariant_of-self-2 g c =
     let sum = c.self.invariant.sum in
     let fits : length (occurrences es) - count eq v (occurrences es) + 1 ≤ greatest_total = rw (← c.self.view_is) at c.requires in
     subst (λ (k : ℕ). IsTallied eq c.put_instance.new.self.entries (c.self.inside.len - k + 1)) (sym before)
-      (tally_put g.met.T.Eq.laws v 1 es c.put_instance.new.self.entries c.self.inside.len c.self.invariant c.put_instance.ensures.counted (omega arith)
-      (put_occurrences g.met.T.Eq.laws v 1 es c.put_instance.new.self.entries c.self.invariant.counted c.in_ok-put_instance.ensures.put))
+    (tally_put g.met.T.Eq.laws v 1 es c.put_instance.new.self.entries c.self.inside.len c.self.invariant c.put_instance.ensures.counted (omega arith)
+    (put_occurrences g.met.T.Eq.laws v 1 es c.put_instance.new.self.entries c.self.invariant.counted c.in_ok-put_instance.ensures.put))
 
 pub returns-clause-put : goal.returns-clause-put
 returns-clause-put g c = rw (← c.self.view_is) (record {

@@ -1,4 +1,4 @@
-use Rattle.std.proofs.Common.{◌≡◌, ◌<◌, arith}
+use Rattle.std.proofs.Common.{arith}
 use Rattle.hashbag.proofs.TakeLemmas.{stored_there}
 use Rattle.hashbag.proofs.bag.HashBag.take_one.Goals as goal
 

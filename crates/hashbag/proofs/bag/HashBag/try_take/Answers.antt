@@ -1,5 +1,4 @@
-use Rattle.std.proofs.Common.{◌≡◌, ◌≢◌, ◌<◌, ℕ, Some, arith, sym, ◌∙◌, ap}
-use Rattle.hashbag.specs.Occurrences.{count}
+use Rattle.std.proofs.Common.{◌≢◌, ℕ, Some, arith, ◌∙◌, ap}
 use Rattle.hashbag.proofs.TakeLemmas.{stored_absent, taken_of}
 use Rattle.hashbag.proofs.bag.HashBag.try_take.Goals as goal
 

@@ -1,4 +1,3 @@
-use Rattle.std.proofs.Common.{◌≡◌, [], length, ◌∙◌, refl}
 use Rattle.std.proofs.lemmas.List.{nil_from_length}
 use Rattle.std.proofs.lemmas.List.Sorted.{length_permutation}
 use Rattle.hashbag_table.proofs.table.Table.with_room.Goals as goal

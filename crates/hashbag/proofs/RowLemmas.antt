@@ -1,0 +1,159 @@
+-- The table of steps up to the order of the list, and how a row goes on where its test is known.
+use Rattle.std.proofs.Common.{◌≡◌, ℕ, ◌+◌, ◌-◌, ◌<◌, ◌≤◌, ◌==◌, zero, suc, min, nat_lt, ltb, Some, None, Bool, true, false, cond, List, [], length, unwrap_or, refl, sym, ◌∙◌, ap, subst, arith}
+use borrow.Author.Tests.{ltb-true, lt-ltb}
+use Rattle.std.specs.Cmp.{IsEquivalence}
+use Rattle.std.proofs.lemmas.Bool.Decides.{nat_tests}
+use Rattle.std.specs.List.Sorted.{IsPermutation}
+use Rattle.std.proofs.lemmas.List.Sorted.{IsPermutation-refl, IsPermutation-sym, IsPermutation-trans, length_permutation}
+use Rattle.hashbag.specs.declared.script.Step.{Step}
+use Rattle.hashbag.specs.declared.script.Step.TheVariants.{Insert, InsertMany, Replace, Remove, RemoveUpTo, TryTake, TakeAll, Clear, Count as CountStep, Reserve, ShrinkToFit}
+use Rattle.hashbag.specs.declared.script.Reply.{Reply}
+use Rattle.hashbag.specs.declared.script.Reply.TheVariants.{Count, Left, Taken, Absent, TooMany}
+use Rattle.hashbag.specs.Bag.{Bag, IsBagOf}
+use Rattle.hashbag.specs.Occurrences.{greatest_total, count, instance_or_itself, stored, add, less, put, IsBag}
+use Rattle.hashbag.specs.Rows.{insert_row, replace_row, try_take_row, take_all_row}
+use Rattle.hashbag.specs.Script.{step, AsksForMemory, IsRefusedInsertion}
+use Rattle.hashbag.proofs.OccurrenceLemmas.{count_rearranged, instance_rearranged, add_rearranged, less_rearranged, put_rearranged, less_absent}
+use Rattle.hashbag.proofs.TakeLemmas.{stored_there, stored_count, stored_instance, stored_some}
+
+-- a test that a number is above another
+pub above : (a b : ℕ) → a < b → nat_lt a b ≡ true
+above a b h = lt-ltb a b h
+
+pub not_above : (a b : ℕ) → b ≤ a → nat_lt a b ≡ false
+not_above a b h = by_test (ltb a b) refl
+  where
+    by_test : (t : Bool) → ltb a b ≡ t → t ≡ false
+    by_test true e = let over = ltb-true a b e in absurd (omega arith)
+    by_test false e = refl
+
+-- the same replies, and the same lists but for their order
+pub record IsSameRow {T : Type 0} (p q : List T × Reply T) : Type 0 where
+  pub left : IsPermutation p.0 q.0
+  pub reply : p.1 ≡ q.1
+
+same_choice : {T : Type 0} (b c : Bool) (p q r s : List T × Reply T) → b ≡ c → IsSameRow p q → IsSameRow r s → IsSameRow (cond b p r) (cond c q s)
+same_choice {T} b c p q r s e x y = subst (λ (t : Bool). IsSameRow (cond b p r) (cond t q s)) e (chosen b)
+  where
+    chosen : (t : Bool) → IsSameRow (cond t p r) (cond t q s)
+    chosen true = x
+    chosen false = y
+
+module _ {T : Type 0} {eq : T → T → Bool} (laws : IsEquivalence eq) (X Y : List T) (h : IsPermutation X Y) (bag : IsBag eq X) where
+  long : length X ≡ length Y
+  long = sym (length_permutation X Y h)
+
+  often : (v : T) → count eq v X ≡ count eq v Y
+  often v = count_rearranged laws v X Y h
+
+  stored_same : (v : T) → instance_or_itself eq v X ≡ instance_or_itself eq v Y
+  stored_same v = ap (λ o. unwrap_or o v) (instance_rearranged laws v X Y bag h)
+
+  unchanged : (r s : Reply T) → r ≡ s → IsSameRow (X, r) (Y, s)
+  unchanged r s e = record { left = h; reply = e }
+
+  insert_rearranged : (v : T) (n : ℕ) → IsSameRow (insert_row eq v n X) (insert_row eq v n Y)
+  insert_rearranged v n =
+      same_choice (nat_lt greatest_total (length X + n)) (nat_lt greatest_total (length Y + n)) (X, TooMany) (Y, TooMany) (add eq v n X, Count (count eq v X)) (add eq v n Y, Count (count eq v Y))
+      (ap (λ (k : ℕ). nat_lt greatest_total (k + n)) long) (unchanged TooMany TooMany refl)
+      (record { left = add_rearranged laws v n X Y bag h; reply = ap (λ k. Count k) (often v) })
+
+  replace_rearranged : (v : T) → IsSameRow (replace_row eq v X) (replace_row eq v Y)
+  replace_rearranged v =
+      same_choice (nat_lt greatest_total (length X - count eq v X + 1)) (nat_lt greatest_total (length Y - count eq v Y + 1)) (X, TooMany) (Y, TooMany) (put eq v 1 X, Count (count eq v X)) (put eq v 1 Y, Count (count eq v Y))
+      (ap (λ (k : ℕ). nat_lt greatest_total (k - count eq v X + 1)) long ∙ ap (λ (k : ℕ). nat_lt greatest_total (length Y - k + 1)) (often v)) (unchanged TooMany TooMany refl)
+      (record { left = put_rearranged laws v 1 X Y h; reply = ap (λ k. Count k) (often v) })
+
+  taken_rearranged : (v : T) (n : ℕ) (r s : Reply T) → r ≡ s → IsSameRow (less eq v n X, r) (less eq v n Y, s)
+  taken_rearranged v n r s e = record { left = less_rearranged laws v n X Y bag h; reply = e }
+
+  try_take_rearranged : (v : T) → IsSameRow (try_take_row eq v X) (try_take_row eq v Y)
+  try_take_rearranged v =
+      same_choice (count eq v X == 0) (count eq v Y == 0) (X, Absent) (Y, Absent) (some X) (some Y) (ap (λ (k : ℕ). k == 0) (often v)) (unchanged Absent Absent refl)
+      (same_choice (count eq v X == 1) (count eq v Y == 1) (less eq v 1 X, Taken (instance_or_itself eq v X) 1) (less eq v 1 Y, Taken (instance_or_itself eq v Y) 1) (less eq v 1 X, Left (count eq v X)) (less eq v 1 Y, Left (count eq v Y))
+      (ap (λ (k : ℕ). k == 1) (often v))
+      (taken_rearranged v 1 _ _ (ap (λ i. Taken i 1) (stored_same v)))
+      (taken_rearranged v 1 _ _ (ap (λ k. Left k) (often v))))
+    where
+      some : List T → List T × Reply T
+      some Z = cond (count eq v Z == 1) (less eq v 1 Z, Taken (instance_or_itself eq v Z) 1) (less eq v 1 Z, Left (count eq v Z))
+
+  take_all_rearranged : (v : T) → IsSameRow (take_all_row eq v X) (take_all_row eq v Y)
+  take_all_rearranged v =
+      same_choice (count eq v X == 0) (count eq v Y == 0) (X, Absent) (Y, Absent) (less eq v (count eq v X) X, Taken (instance_or_itself eq v X) (count eq v X)) (less eq v (count eq v Y) Y, Taken (instance_or_itself eq v Y) (count eq v Y))
+      (ap (λ (k : ℕ). k == 0) (often v)) (unchanged Absent Absent refl)
+      (subst (λ (k : ℕ). IsSameRow (less eq v (count eq v X) X, Taken (instance_or_itself eq v X) (count eq v X)) (less eq v k Y, Taken (instance_or_itself eq v Y) k)) (often v)
+      (taken_rearranged v (count eq v X) _ _ (ap (λ i. Taken i (count eq v X)) (stored_same v))))
+
+  -- a step replies alike, and leaves the same list but for its order
+  pub step_rearranged : (s : Step T) → IsSameRow (step eq X s) (step eq Y s)
+  step_rearranged (Insert v) = insert_rearranged v 1
+  step_rearranged (InsertMany v n) = insert_rearranged v n
+  step_rearranged (Replace v) = replace_rearranged v
+  step_rearranged (Remove v) = taken_rearranged v 1 _ _ (ap (λ k. Count k) (often v))
+  step_rearranged (RemoveUpTo v q) = taken_rearranged v q _ _ (ap (λ (k : ℕ). Count (k - min q k)) (often v))
+  step_rearranged (TryTake v) = try_take_rearranged v
+  step_rearranged (TakeAll v) = take_all_rearranged v
+  step_rearranged Clear = record { left = IsPermutation-refl []; reply = refl }
+  step_rearranged (CountStep v) = unchanged _ _ (ap (λ k. Count k) (often v))
+  step_rearranged (Reserve n) = unchanged _ _ refl
+  step_rearranged ShrinkToFit = unchanged _ _ refl
+
+  refused_rearranged : (v : T) (n : ℕ) → IsRefusedInsertion eq v n Y → IsRefusedInsertion eq v n X
+  refused_rearranged v n refused =
+      let same = often v in
+      let as_long = long in
+      let absent = refused.absent in
+      let fits = refused.fits in
+      record { absent = omega arith; some = refused.some; fits = omega arith }
+
+  -- what asks for memory does so whatever the order of the list
+  pub asks_rearranged : (s : Step T) → AsksForMemory eq Y s → AsksForMemory eq X s
+  asks_rearranged (Insert v) asks = refused_rearranged v 1 asks
+  asks_rearranged (InsertMany v n) asks = refused_rearranged v n asks
+  asks_rearranged (Replace v) asks = let same = often v in let as_long = long in omega arith
+  asks_rearranged (Remove v) asks = asks
+  asks_rearranged (RemoveUpTo v q) asks = asks
+  asks_rearranged (TryTake v) asks = asks
+  asks_rearranged (TakeAll v) asks = asks
+  asks_rearranged Clear asks = asks
+  asks_rearranged (CountStep v) asks = asks
+  asks_rearranged (Reserve n) asks = asks
+  asks_rearranged ShrinkToFit asks = asks
+
+module _ {T : Type 0} {eq : T → T → Bool} (laws : IsEquivalence eq) where
+  -- nothing is taken from what is absent
+  pub bag_of_absent : {S : Type 0} (v : T) (n : ℕ) (before after : Bag T S) → count eq v before.items ≡ 0 → IsBagOf eq before (less eq v n before.items) after → IsBagOf eq before before.items after
+  bag_of_absent v n before after none left = record {
+    means = IsPermutation-trans _ _ _ (IsPermutation-sym _ _ (less_absent laws v n before.items none)) left.means;
+    hasher = left.hasher;
+    bag = left.bag;
+  }
+
+  none_counts : (k : ℕ) → k ≡ 0 → (k == 0) ≡ true
+  none_counts k e = ap (λ (n : ℕ). n == 0) e
+
+  some_count : (k : ℕ) → 0 < k → (k == 0) ≡ false
+  some_count k h = grind (arith, nat_tests)
+
+  pub try_take_row-absent : (v : T) (X : List T) → count eq v X ≡ 0 → try_take_row eq v X ≡ (X, Absent)
+  try_take_row-absent v X none =
+      ap (λ (b : Bool). cond b (X, Absent) (cond (count eq v X == 1) (less eq v 1 X, Taken (instance_or_itself eq v X) 1) (less eq v 1 X, Left (count eq v X)))) (none_counts _ none)
+
+  pub take_all_row-absent : (v : T) (X : List T) → count eq v X ≡ 0 → take_all_row eq v X ≡ (X, Absent)
+  take_all_row-absent v X none =
+      ap (λ (b : Bool). cond b (X, Absent) (less eq v (count eq v X) X, Taken (instance_or_itself eq v X) (count eq v X))) (none_counts _ none)
+
+  pub take_all_row-some : (v : T) (X : List T) (i : T) (n : ℕ) → Some (i, n) ≡ stored eq v X → take_all_row eq v X ≡ (less eq v (count eq v X) X, Taken i n)
+  take_all_row-some v X i n e =
+      ap (λ (b : Bool). cond b (X, Absent) (less eq v (count eq v X) X, Taken (instance_or_itself eq v X) (count eq v X))) (some_count _ (stored_some laws v X (i, n) e))
+      ∙ ap (λ (x : T). (less eq v (count eq v X) X, Taken x (count eq v X))) (sym (stored_instance laws v X i n e))
+      ∙ ap (λ (k : ℕ). (less eq v (count eq v X) X, Taken i k)) (sym (stored_count laws v X i n e))
+
+  -- what is not stored has the count 0
+  pub none_from_stored : (v : T) (X : List T) → None ≡ stored eq v X → count eq v X ≡ 0
+  none_from_stored v X e = by_count (count eq v X) refl
+    where
+      by_count : (k : ℕ) → count eq v X ≡ k → k ≡ 0
+      by_count zero h = refl
+      by_count (suc k) h = absurd (stored_there laws v X (omega arith) e)
