@@ -1,7 +1,7 @@
 //! `PlainBag`: the plain, slow program that a bag is compared with.
 ghost use Rattle.std.specs.Prelude.{◌≡◌, ◌↔◌, [], length, IsTrue, IfOk, OnOk, OnErr};
-ghost use Rattle.hashbag.specs.Occurrences.{count, add, less, instance};
-ghost use Rattle.hashbag.specs.Rows.{insert_row, remove_row, count_row};
+ghost use Rattle.hashbag.specs.Occurrences.{others, count, add, less, put, instance};
+ghost use Rattle.hashbag.specs.Rows.{insert_row, replace_row, remove_row, remove_up_to_row, try_take_row, take_all_row, clear_row, count_row};
 ghost use Rattle.hashbag.specs.Script.{step as step_of};
 
 use hashbag::script::{Reply, Step};
@@ -73,6 +73,14 @@ impl<T: Eq + Copy> PlainBag<T> {
         self.items.iter().copied().find(|item| *value == *item)
     }
 
+    // The occurrences of all other values, in a list of their own.
+    fn others(&self, value: &T) -> Result<Vec<T>, AllocError>
+        ensures { IfOk result (λ items. items.items ≡ others T.eq value.now self.now) }
+    {
+        let others = self.items.iter().filter(|item| *value != **item);
+        others.copied().collect(self.alloc)
+    }
+
     /// Adds `n` occurrences of a value at the end of the list: of the instance that is there, or else of the value handed
     /// in. Where memory is refused, nothing changes.
     pub fn add(&mut self, value: T, n: usize) -> Result<(), AllocError>
@@ -98,6 +106,27 @@ impl<T: Eq + Copy> PlainBag<T> {
         Ok(())
     }
 
+    /// Puts a value, `n` times, at the end of the list, in the place of all occurrences that equal it.
+    ///
+    /// The list is made anew. Where memory for it is refused, nothing changes.
+    pub fn put(&mut self, value: T, n: usize) -> Result<(), AllocError>
+        ensures put { OnOk result (self.new ≡ put T.eq value n self.old) }
+        ensures err { OnErr result (self.new ≡ self.old) }
+    {
+        let mut items = self.others(&value)?;
+        items.reserve(n)?;
+        items.resize(items.len() + n, value)?;
+        self.items = items;
+        Ok(())
+    }
+
+    /// Takes all occurrences out. It takes no memory.
+    pub fn clear(&mut self)
+        ensures { self.new ≡ [] }
+    {
+        self.items.clear();
+    }
+
     // What `insert` and `insert_many` do.
     fn insert_row(&mut self, value: T, n: usize) -> Result<Reply<T>, AllocError>
         ensures done { IfOk result (λ reply. (self.new, reply) ≡ insert_row T.eq value n self.old) }
@@ -111,6 +140,19 @@ impl<T: Eq + Copy> PlainBag<T> {
         Ok(Reply::Count(before))
     }
 
+    // What `replace` does.
+    fn replace_row(&mut self, value: T) -> Result<Reply<T>, AllocError>
+        ensures done { IfOk result (λ reply. (self.new, reply) ≡ replace_row T.eq value self.old) }
+        ensures err { OnErr result (self.new ≡ self.old) }
+    {
+        let before = self.count(&value);
+        if self.len().saturating_sub(before) == usize::MAX {
+            return Ok(Reply::TooMany);
+        }
+        self.put(value, 1)?;
+        Ok(Reply::Count(before))
+    }
+
     // What `remove` does.
     fn remove_row(&mut self, value: &T) -> Result<Reply<T>, AllocError>
         ensures done { IfOk result (λ reply. (self.new, reply) ≡ remove_row T.eq value.now self.old) }
@@ -121,6 +163,49 @@ impl<T: Eq + Copy> PlainBag<T> {
         Ok(Reply::Count(before))
     }
 
+    // What `remove_up_to` does.
+    fn remove_up_to_row(&mut self, value: &T, quantity: usize) -> Result<Reply<T>, AllocError>
+        ensures done { IfOk result (λ reply. (self.new, reply) ≡ remove_up_to_row T.eq value.now quantity self.old) }
+        ensures err { OnErr result (self.new ≡ self.old) }
+    {
+        let before = self.count(value);
+        self.less(value, quantity)?;
+        Ok(Reply::Count(before - quantity.min(before)))
+    }
+
+    // What `try_take` does.
+    fn try_take_row(&mut self, value: &T) -> Result<Reply<T>, AllocError>
+        ensures done { IfOk result (λ reply. (self.new, reply) ≡ try_take_row T.eq value.now self.old) }
+        ensures err { OnErr result (self.new ≡ self.old) }
+    {
+        let instance = self.instance(value).unwrap_or(*value);
+        match self.count(value) {
+            0 => Ok(Reply::Absent),
+            1 => {
+                self.less(value, 1)?;
+                Ok(Reply::Taken(instance, 1))
+            }
+            before => {
+                self.less(value, 1)?;
+                Ok(Reply::Left(before))
+            }
+        }
+    }
+
+    // What `take_all` does.
+    fn take_all_row(&mut self, value: &T) -> Result<Reply<T>, AllocError>
+        ensures done { IfOk result (λ reply. (self.new, reply) ≡ take_all_row T.eq value.now self.old) }
+        ensures err { OnErr result (self.new ≡ self.old) }
+    {
+        let instance = self.instance(value).unwrap_or(*value);
+        let before = self.count(value);
+        if before == 0 {
+            return Ok(Reply::Absent);
+        }
+        self.less(value, before)?;
+        Ok(Reply::Taken(instance, before))
+    }
+
     // What `contains` does.
     fn count_row(&self, value: &T) -> Reply<T>
         ensures { (self.now, result) ≡ count_row T.eq value.now self.now }
@@ -128,15 +213,26 @@ impl<T: Eq + Copy> PlainBag<T> {
         Reply::Count(self.count(value))
     }
 
-    /// Does one step, and answers it. Where memory is refused, which [`Step::Count`] doesn't ask for, nothing changes.
+    /// Does one step, and answers it. Where memory is refused, nothing changes. The steps that make or give room change
+    /// nothing here.
     pub fn apply(&mut self, step: Step<T>) -> Result<Reply<T>, AllocError>
         ensures done { IfOk result (λ reply. (self.new, reply) ≡ step_of T.eq self.old step) }
         ensures err { OnErr result (self.new ≡ self.old) }
     {
         match step {
             Step::Insert(value) => self.insert_row(value, 1),
+            Step::InsertMany(value, n) => self.insert_row(value, n),
+            Step::Replace(value) => self.replace_row(value),
             Step::Remove(value) => self.remove_row(&value),
+            Step::RemoveUpTo(value, quantity) => self.remove_up_to_row(&value, quantity),
+            Step::TryTake(value) => self.try_take_row(&value),
+            Step::TakeAll(value) => self.take_all_row(&value),
+            Step::Clear => {
+                self.clear();
+                Ok(Reply::Done)
+            }
             Step::Count(value) => Ok(self.count_row(&value)),
+            Step::Reserve(_) | Step::ShrinkToFit => Ok(Reply::Done),
         }
     }
 }

@@ -29,23 +29,45 @@ fn number(word: &str) -> Option<u64> {
     word.parse().ok()
 }
 
-// The step of a line: the name of the bag, a verb and its number, with one space between each two.
+// The number of a word, if there is a word. `None` where it is no number.
+fn optional_number(word: Option<&str>) -> Option<Option<u64>> {
+    match word {
+        Some(word) => Some(Some(number(word)?)),
+        None => Some(None),
+    }
+}
+
+// The step of a verb and its numbers.
+fn step_of(verb: &str, first: Option<u64>, second: Option<u64>) -> Option<Step<u64>> {
+    match (verb, first, second) {
+        ("insert", Some(value), None) => Some(Step::Insert(value)),
+        ("many", Some(value), Some(n)) => Some(Step::InsertMany(value, n as usize)),
+        ("replace", Some(value), None) => Some(Step::Replace(value)),
+        ("remove", Some(value), None) => Some(Step::Remove(value)),
+        ("upto", Some(value), Some(quantity)) => Some(Step::RemoveUpTo(value, quantity as usize)),
+        ("try", Some(value), None) => Some(Step::TryTake(value)),
+        ("all", Some(value), None) => Some(Step::TakeAll(value)),
+        ("clear", None, None) => Some(Step::Clear),
+        ("count", Some(value), None) => Some(Step::Count(value)),
+        ("reserve", Some(n), None) => Some(Step::Reserve(n as usize)),
+        ("shrink", None, None) => Some(Step::ShrinkToFit),
+        _ => None,
+    }
+}
+
+// The step of a line: the name of the bag, a verb and its numbers, with one space between each two.
 fn step(line: &[u8]) -> Option<Step<u64>> {
     let mut words = str::from_utf8(line).ok()?.split(' ');
     if words.next()? != "a" {
         return None;
     }
     let verb = words.next()?;
-    let value = number(words.next()?)?;
+    let first = optional_number(words.next())?;
+    let second = optional_number(words.next())?;
     if words.next().is_some() {
         return None;
     }
-    match verb {
-        "insert" => Some(Step::Insert(value)),
-        "remove" => Some(Step::Remove(value)),
-        "count" => Some(Step::Count(value)),
-        _ => None,
-    }
+    step_of(verb, first, second)
 }
 
 /// The steps of an input, or the first line that is none. Empty lines are counted and skipped.

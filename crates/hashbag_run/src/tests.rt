@@ -113,6 +113,27 @@ fn replies_to_steps(rt: HostRuntime) {
     }
 }
 
+// Each verb, with the reply that its line has.
+#[test]
+fn replies_to_each_verb(rt: HostRuntime) {
+    let script = "a many 5 3\na insert 5\na upto 5 3\na replace 5\na try 5\na try 5\n\
+        a many 6 2\na try 6\na insert 7\na all 6\na all 6\na reserve 10\na shrink\n\
+        a remove 7\na count 7\na insert 8\na clear\na count 8\na many 8 0\na upto 8 2\n";
+    let replies = "a count 0\na count 3\na count 1\na count 1\na taken 5 1\na absent\n\
+        a count 0\na left 2\na count 0\na taken 6 1\na absent\na done\na done\n\
+        a count 1\na count 0\na count 0\na done\na count 0\na count 0\na count 0\n";
+    answers(rt.alloc(), &rt, script.as_bytes(), 0, replies);
+}
+
+#[test]
+fn totals_stop_at_their_end(rt: HostRuntime) {
+    let script = "a many 7 18446744073709551615\na insert 8\na many 7 1\na many 8 0\n\
+        a replace 8\na replace 7\na replace 8\na upto 7 0\n";
+    let replies = "a count 0\na too many\na too many\na count 0\n\
+        a too many\na count 18446744073709551615\na count 0\na count 1\n";
+    answers(rt.alloc(), &rt, script.as_bytes(), 0, replies);
+}
+
 #[test]
 fn counts_lines_to_the_bad_one(rt: HostRuntime) {
     let rows = [
@@ -129,7 +150,7 @@ fn counts_lines_to_the_bad_one(rt: HostRuntime) {
 
 #[test]
 fn refuses_hostile_lines(rt: HostRuntime) {
-    let rows: [&[u8]; 20] = [
+    let rows: [&[u8]; 26] = [
         b"a  insert 5",
         b" a insert 5",
         b"A insert 5",
@@ -146,7 +167,13 @@ fn refuses_hostile_lines(rt: HostRuntime) {
         b"a \xc3\xa4 5",
         b"a\tinsert 5",
         b"a Insert 5",
-        b"a many 5 1",
+        b"a many 5",
+        b"a many 5 1 1",
+        b"a clear 5",
+        b"a reserve",
+        b"a upto 5 -1",
+        b"a retain",
+        b"a set 5 1",
         b"insert 5",
         b"a",
         b" ",

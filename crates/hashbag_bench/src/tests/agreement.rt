@@ -12,7 +12,7 @@ use std::test::Fail;
 const KEYS: u64 = 8;
 
 // How many steps a run has.
-const STEPS: u64 = 120;
+const STEPS: u64 = 500;
 
 // Values that the steps are on.
 trait Sample: Eq + Hash + Copy + Debug {
@@ -50,23 +50,32 @@ fn next_number(number: u64) -> u64 {
         .wrapping_add(1442695040888963407)
 }
 
-// A step on the value: of five, two insert, two remove and one counts.
-fn step_on<T>(choice: u64, value: T) -> Step<T> {
-    match choice % 5 {
-        0 | 1 => Step::Remove(value),
-        2 => Step::Count(value),
-        _ => Step::Insert(value),
+// A step on the value, or on all values. `amount` is at most 3.
+fn step_on<T: Drop>(choice: u64, value: T, amount: usize) -> Step<T> {
+    match choice % 24 {
+        0..=4 => Step::Insert(value),
+        5..=8 => Step::InsertMany(value, amount),
+        9 => Step::Replace(value),
+        10..=12 => Step::Remove(value),
+        13 | 14 => Step::RemoveUpTo(value, amount),
+        15..=17 => Step::TryTake(value),
+        18 => Step::TakeAll(value),
+        19 => Step::Reserve(amount),
+        20 => Step::ShrinkToFit,
+        21 if amount == 0 => Step::Clear,
+        _ => Step::Count(value),
     }
 }
 
 // The steps of a run, the same ones at each call.
-fn steps_of<T: Sample>(alloc: Global) -> Result<Vec<Step<T>>, AllocError> {
+fn steps_of<T: Sample + Drop>(alloc: Global) -> Result<Vec<Step<T>>, AllocError> {
     let mut steps = Vec::new(alloc);
     let mut number = 1;
     for step in 0..STEPS {
         number = next_number(number);
         let value = T::sample((number >> 40) % KEYS, step);
-        steps.push(step_on(number >> 50, value))?;
+        let amount = ((number >> 30) % 4) as usize;
+        steps.push(step_on(number >> 50, value, amount))?;
     }
     Ok(steps)
 }
@@ -107,6 +116,32 @@ fn compare_replies<T: Sample>(
     }
 }
 
+// The count and the instance of a value in both bags.
+fn compare_value<T: Sample + Drop, S: BuildHasher + Drop>(
+    rt: &impl Abort,
+    state: &str,
+    bag: &HashBag<T, S>,
+    plain: &PlainBag<T>,
+    value: &T,
+) {
+    let count = plain.count(value);
+    assert_eq!(rt; bag.contains(value), count, "{value:?} under {state}");
+    match (
+        bag.get(value),
+        plain.items().iter().find(|item| *item == value),
+    ) {
+        (Some((instance, number)), Some(item)) => {
+            assert!(rt;
+                instance.is_same(item),
+                "{instance:?}, not {item:?}, under {state}"
+            );
+            assert_eq!(rt; number, count, "{value:?} under {state}");
+        }
+        (None, None) => {}
+        _ => assert!(rt; false, "{value:?} is in one bag alone under {state}"),
+    }
+}
+
 fn compare_bags<T: Sample + Drop, S: BuildHasher + Drop>(
     rt: &impl Abort,
     state: &str,
@@ -115,14 +150,15 @@ fn compare_bags<T: Sample + Drop, S: BuildHasher + Drop>(
 ) {
     assert_eq!(rt; bag.len(), plain.len(), "under {state}");
     assert_eq!(rt; bag.is_empty(), plain.is_empty(), "under {state}");
+    let mut distinct = 0usize;
     for key in 0..KEYS {
         let value = T::sample(key, STEPS);
-        assert_eq!(rt;
-            bag.contains(&value),
-            plain.count(&value),
-            "{value:?} under {state}"
-        );
+        compare_value(rt, state, bag, plain, &value);
+        if plain.count(&value) > 0 {
+            distinct = distinct.saturating_add(1);
+        }
     }
+    assert_eq!(rt; bag.set_len(), distinct, "under {state}");
 }
 
 // Does the same steps on a bag and on the plain bag.

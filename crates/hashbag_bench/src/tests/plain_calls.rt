@@ -45,3 +45,19 @@ fn replies_to_steps(rt: HostRuntime) -> Result<(), Fail> {
     assert_eq!(rt; bag.apply(Step::Count(one))?, Reply::Count(2));
     Ok(())
 }
+
+// The instance that is taken out is the one that was there.
+#[test]
+fn takes_instances_out(rt: HostRuntime) -> Result<(), Fail> {
+    let mut bag = two_ones_and_a_two(&rt)?;
+    let one = Tagged { key: 1, tag: 99 };
+    assert_eq!(rt; bag.apply(Step::TryTake(one))?, Reply::Left(2));
+    match bag.apply(Step::TryTake(one))? {
+        Reply::Taken(instance, count) => assert_eq!(rt; (instance.tag, count), (10, 1)),
+        other => assert!(rt; false, "{other:?}"),
+    }
+    assert_eq!(rt; bag.apply(Step::TryTake(one))?, Reply::Absent);
+    assert_eq!(rt; bag.apply(Step::Replace(one))?, Reply::Count(0));
+    compare_tags(&rt, &bag, &[7, 99]);
+    Ok(())
+}
