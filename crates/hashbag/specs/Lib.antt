@@ -1,5 +1,7 @@
 pub mod Bag
+pub mod EntryCalls
 pub mod Examples
+pub mod Lending
 pub mod Occurrences
 pub mod Rows
 pub mod Script

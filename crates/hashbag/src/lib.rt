@@ -2,6 +2,8 @@
 #![tactic(auto)]
 
 pub mod bag;
+pub mod entry;
 pub mod script;
 
 pub use bag::{BagError, FixedState, HashBag};
+pub use entry::Entry;

@@ -121,6 +121,21 @@ impl<T: Eq + Hash + Drop, S: BuildHasher + Drop> Table<T, S> {
         Ok(0)
     }
 
+    /// Puts in a value that is absent, with a count. It hashes the value once.
+    ///
+    /// Where memory is refused the table is unchanged, and the value is dropped.
+    pub fn insert_new(&mut self, value: T, count: usize) -> Result<(), AllocError>
+        requires absent { entry_of T.eq value self.old.entries ≡ None }
+        requires some { 0 < count }
+        ensures inserted { OnOk result (IsPermutation (with_instance T.eq value count self.old.entries) self.new.entries) }
+        ensures hasher { self.new.hasher ≡ self.old.hasher }
+        ensures counted { IsCounted T.eq self.new.entries }
+        ensures err { OnErr result (self.new ≡ self.old) }
+    {
+        self.map.insert(value, count)?;
+        Ok(())
+    }
+
     /// Gives a value that is present another count. It takes no memory, and hashes the value once.
     pub fn set_count(&mut self, value: &T, n: usize)
         requires present { IsSome (entry_of T.eq value.now self.old.entries) }
