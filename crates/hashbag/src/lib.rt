@@ -2,6 +2,8 @@
 #![tactic(auto)]
 
 pub mod bag;
+pub mod iters;
 pub mod script;
 
 pub use bag::{BagError, FixedState, HashBag};
+pub use iters::{Drain, IntoIter, Iter, SetIter};

@@ -1,0 +1,24 @@
+-- What the walks over a bag give in all, by the plain list X of its occurrences. The order of X means nothing, and so does
+-- the order in which a walk comes to the values.
+use Rattle.std.specs.Prelude.{◌≡◌, ℕ, Bool, List, map, flat_map, replicate, All}
+use Rattle.std.specs.List.{IsDistinct, Contains}
+use Rattle.hashbag.specs.Occurrences.{count}
+
+module _ {T : Type 0} (eq : T → T → Bool) where
+  -- ys names the values of X: no value twice, each by the very instance that occurs in X, and none that doesn't occur
+  pub record IsEach (X ys : List T) : Type 0 where
+    pub once : IsDistinct eq ys
+    pub all : All (λ x. Contains ys x) X
+    pub only : All (λ y. Contains X y) ys
+
+  -- W names the values of X, each beside its count
+  pub record IsSetWalk (X : List T) (W : List (T × ℕ)) : Type 0 where
+    pub values : List T
+    pub each : IsEach X values
+    pub counts : W ≡ map (λ v. (v, count eq v X)) values
+
+  -- W goes through the values of X and repeats each as often as it occurs, before it goes on to the next
+  pub record IsWalk (X W : List T) : Type 0 where
+    pub values : List T
+    pub each : IsEach X values
+    pub pieces : W ≡ flat_map (λ v. replicate (count eq v X) v) values
