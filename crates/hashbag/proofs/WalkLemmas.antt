@@ -14,13 +14,13 @@ use Rattle.std.proofs.lemmas.Map.Entries.{lookup_from_place}
 use Rattle.std.proofs.lemmas.Option.{slice_get-get_or}
 use Rattle.hashbag_table.specs.Entries.{IsCounted}
 use Rattle.hashbag_table.proofs.EntryLemmas.{counted_rearranged}
-use Rattle.hashbag.specs.Bag.{occurrences}
+use Rattle.hashbag.specs.Bag.{occurrences, IsTallied}
 use Rattle.hashbag.specs.Iter.{occurrences_left, IsPending}
 use Rattle.hashbag.specs.Occurrences.{count}
-use Rattle.hashbag.specs.Walks.{IsEach, IsSetWalk, IsWalk}
+use Rattle.hashbag.specs.Walks.{IsEach, IsSetWalk, IsSetWalkOf, IsWalk, IsWalkOf}
 use Rattle.hashbag.proofs.ListLemmas.{IsPermutation-flat_map}
 use Rattle.hashbag.proofs.MemberLemmas.{Contains-head, map_ext, map-map}
-use Rattle.hashbag.proofs.OccurrenceLemmas.{count_rearranged, count_occurrences, all_occurrences}
+use Rattle.hashbag.proofs.OccurrenceLemmas.{count_rearranged, count_occurrences, all_occurrences, bag_from_tally}
 
 -- the occurrences of entries are as many as their counts together
 pub length_occurrences : {T : Type 0} (es : List (T × ℕ)) → length (occurrences es) ≡ sum_by (λ e. e.1) es
@@ -103,19 +103,34 @@ module _ {T : Type 0} {eq : T → T → Bool} (laws : IsEquivalence eq) where
       of_values [] = refl
       of_values (v ∷ vs) = ap (λ (l : List T). replicate (count eq v X) v ++ l) (of_values vs)
 
-  -- ---- what a walk of the table is to a list that its occurrences mean
+  -- ---- from the entries of a bag's table, in whatever order they come
 
-  pub set_walk_of_table : (es W : List (T × ℕ)) (X : List T) → IsCounted eq es → IsPermutation es W → IsPermutation X (occurrences es) → IsSetWalk eq X W
+  set_walk_of_table : (es W : List (T × ℕ)) (X : List T) → IsCounted eq es → IsPermutation es W → IsPermutation X (occurrences es) → IsSetWalk eq X W
   set_walk_of_table es W X counted p means =
       set_walk_rearranged (occurrences W) X W
       (IsPermutation-sym _ _ (IsPermutation-trans _ _ _ means (occurrences_rearranged es W p)))
       (set_walk_occurrences W (counted_rearranged laws es W p counted))
 
-  pub walk_of_table : (es W : List (T × ℕ)) (X : List T) → IsCounted eq es → IsPermutation es W → IsPermutation X (occurrences es) → IsWalk eq X (occurrences W)
-  walk_of_table es W X counted p means = walk_from_set_walk X W (set_walk_of_table es W X counted p means)
+  pub set_walk_of_bag : {S : Type 0} (hasher : S) (es W : List (T × ℕ)) (total : ℕ) → IsTallied eq es total → IsPermutation es W → IsSetWalkOf eq (record { items = occurrences es; hasher = hasher }) W
+  set_walk_of_bag hasher es W total tally p = record {
+    walk = λ X means. set_walk_of_table es W X tally.counted p means;
+    total = sym (length_occurrences W) ∙ length_permutation _ _ (occurrences_rearranged es W p);
+    fits = (bag_from_tally laws es total tally).fits;
+  }
 
-  pub total_of_table : (es W : List (T × ℕ)) → IsPermutation es W → sum_by (λ e. e.1) W ≡ length (occurrences es)
-  total_of_table es W p = sym (length_occurrences W) ∙ length_permutation (occurrences es) (occurrences W) (occurrences_rearranged es W p)
+  pub walk_of_bag : {S : Type 0} (hasher : S) (es W : List (T × ℕ)) (total : ℕ) → IsTallied eq es total → IsPermutation es W → IsWalkOf eq (record { items = occurrences es; hasher = hasher }) (occurrences W)
+  walk_of_bag hasher es W total tally p = record {
+    walk = λ X means. walk_from_set_walk X W (set_walk_of_table es W X tally.counted p means);
+    len = length_permutation _ _ (occurrences_rearranged es W p);
+    fits = (bag_from_tally laws es total tally).fits;
+  }
+
+  -- an `Iter` that begins has all of the bag's occurrences to come
+  pub pending_from_tally : (es W : List (T × ℕ)) (total : ℕ) → IsTallied eq es total → IsPermutation es W → IsPending None W total
+  pending_from_tally es W total tally p = record {
+    sum = tally.sum ∙ sym (length_permutation _ _ (occurrences_rearranged es W p));
+    positive = (counted_rearranged laws es W p tally.counted).positive;
+  }
 
 -- ---- one step of an `Iter`
 

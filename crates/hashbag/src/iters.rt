@@ -2,14 +2,12 @@
 //!
 //! The order in which a walk comes to the values is open. Every walk knows how many items are still to come, and gives
 //! `None` for good after the last. It hashes nothing and takes no memory.
-ghost use Rattle.std.specs.Prelude.{◌≡◌, ◌≤◌, List, length, sum_by, Some, IfSome, ⊤};
+ghost use Rattle.std.specs.Prelude.{◌≡◌, length, Some, IfSome, ⊤};
 ghost use Rattle.std.specs.Borrow.{sem};
 ghost use Rattle.std.specs.Iterator.{YieldsFirst, YieldsFirstBy, YieldsFirstRef, item_count, at_most, UpTo};
 ghost use Rattle.std.specs.Iterator.SizeHint.{IsWithinCount};
-ghost use Rattle.hashbag.specs.Bag.{Means};
 ghost use Rattle.hashbag.specs.Drain.{drain_rest, drain_name, follows_drain};
-ghost use Rattle.hashbag.specs.Occurrences.{IsBag};
-ghost use Rattle.hashbag.specs.Walks.{IsSetWalk, IsWalk};
+ghost use Rattle.hashbag.specs.Walks.{IsSetWalkOf, IsWalkOf};
 
 use crate::bag::HashBag;
 use hashbag_table::walk::{DrainWalk, IntoWalk, Walk};
@@ -260,9 +258,7 @@ impl<T: Eq + Hash + Drop, S: BuildHasher + Drop> HashBag<T, S> {
     ///
     /// It takes no memory and hashes nothing, here and at each step.
     pub fn iter(&self) -> Iter<'_, T>
-        ensures walk { (X : List T) → Means self.now X → IsWalk T.eq X result }
-        ensures len { length result ≡ length self.now.items }
-        ensures bag { IsBag T.eq self.now.items }
+        ensures { IsWalkOf T.eq self.now result }
     {
         Iter {
             walk: self.table.walk(),
@@ -275,9 +271,7 @@ impl<T: Eq + Hash + Drop, S: BuildHasher + Drop> HashBag<T, S> {
     ///
     /// It takes no memory and hashes nothing, here and at each step.
     pub fn set_iter(&self) -> SetIter<'_, T>
-        ensures walk { (X : List T) → Means self.now X → IsSetWalk T.eq X result }
-        ensures total { sum_by (λ e. e.1) result ≡ length self.now.items }
-        ensures bag { IsBag T.eq self.now.items }
+        ensures { IsSetWalkOf T.eq self.now result }
     {
         SetIter {
             walk: self.table.walk(),
@@ -290,9 +284,7 @@ impl<T: Eq + Hash + Drop, S: BuildHasher + Drop> HashBag<T, S> {
     /// takes no memory and hashes nothing, here and at each step.
     pub fn drain(&mut self) -> Drain<'_, T>
         ensures* writes_back { sem 𝓛 (follows_drain T.row S.row S.Hasher.row T.Hash S.BuildHasher S.Hasher.Hasher self.entry (drain_name result)) }
-        ensures walk { (X : List T) → Means self.old X → IsSetWalk T.eq X (drain_rest result) }
-        ensures total { sum_by (λ e. e.1) (drain_rest result) ≡ length self.old.items }
-        ensures bag { IsBag T.eq self.old.items }
+        ensures walk { IsSetWalkOf T.eq self.old (drain_rest result) }
     {
         self.len = 0;
         Drain {
@@ -306,7 +298,7 @@ impl<'a, T: Eq + Hash + Drop, S: BuildHasher + Drop> IntoIterator for &'a HashBa
 
     type IntoIter = Iter<'a, T>;
 
-    ghost into_iter_gives = { λ b r. (X : List T) → Means b.now X → IsWalk T.eq X r };
+    ghost into_iter_gives = { λ bag r. IsWalkOf T.eq bag.now r };
 
     /// Walks over the occurrences, as [`HashBag::iter`] does.
     fn into_iter(self) -> Iter<'a, T> {
@@ -319,7 +311,7 @@ impl<T: Eq + Hash + Drop, S: BuildHasher + Drop> IntoIterator for HashBag<T, S> 
 
     type IntoIter = IntoIter<T>;
 
-    ghost into_iter_gives = { λ b r. (X : List T) → Means b X → IsSetWalk T.eq X r };
+    ghost into_iter_gives = { λ bag r. IsSetWalkOf T.eq bag r };
 
     /// Makes a walk of the bag over its distinct values: each stored instance once, by value, with its count.
     ///

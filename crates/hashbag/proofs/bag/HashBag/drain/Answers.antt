@@ -2,8 +2,7 @@ use Rattle.std.proofs.Common.{◌<◌, ◌≤◌, refl, ap, arith}
 use Rattle.std.specs.List.{IsDistinct}
 use Rattle.std.proofs.lemmas.List.Elements.{All-nil}
 use Rattle.hashbag.specs.Drain.{emptied}
-use Rattle.hashbag.proofs.OccurrenceLemmas.{bag_from_tally}
-use Rattle.hashbag.proofs.WalkLemmas.{set_walk_of_table, total_of_table}
+use Rattle.hashbag.proofs.WalkLemmas.{set_walk_of_bag}
 use Rattle.hashbag.proofs.bag.HashBag.drain.Goals as goal
 
 -- an empty table and a total of 0
@@ -20,8 +19,6 @@ returns g c = (
   (refl, λ w. ap emptied c.self.view_is),
   record {
     writes_back = tt;
-    walk = λ X means. set_walk_of_table g.met.T.Eq.laws _ _ X c.drain.ensures.counted c.drain.ensures.entries (rw (← c.self.view_is) at means);
-    total = rw (← c.self.view_is) (total_of_table g.met.T.Eq.laws _ _ c.drain.ensures.entries);
-    bag = rw (← c.self.view_is) (bag_from_tally g.met.T.Eq.laws _ _ c.self.invariant);
+    walk = rw (← c.self.view_is) (set_walk_of_bag g.met.T.Eq.laws _ _ _ _ c.self.invariant c.drain.ensures.entries);
   },
 )
