@@ -8,6 +8,7 @@ use Rattle.std.specs.Map.{keys_of, values_of}
 use Rattle.std.proofs.lemmas.Bool.{false≢true}
 use Rattle.std.proofs.lemmas.List.{map-id, length-replicate}
 use Rattle.std.proofs.lemmas.List.Concat.{length-flat_map}
+use Rattle.std.proofs.lemmas.List.Sums.{sum_by-cons}
 use Rattle.std.proofs.lemmas.List.Elements.{All-nil, All-cons, All-head, All-tail, All-weaker, All-contains, All-contains_itself, Contains-append_left, Contains-append_right, recursion_from_All}
 use Rattle.std.proofs.lemmas.List.Sorted.{All-permutation, Contains-permutation, length_permutation, IsPermutation-sym, IsPermutation-trans}
 use Rattle.std.proofs.lemmas.Map.Entries.{lookup_from_place}
@@ -25,6 +26,15 @@ use Rattle.hashbag.proofs.OccurrenceLemmas.{count_rearranged, count_occurrences,
 -- the occurrences of entries are as many as their counts together
 pub length_occurrences : {T : Type 0} (es : List (T × ℕ)) → length (occurrences es) ≡ sum_by (λ e. e.1) es
 length_occurrences es = length-flat_map (λ e. replicate e.1 e.0) es ∙ λ i. sum_by (λ e. length-replicate e.1 e.0 i) es
+
+-- and no fewer than the entries, where each has one
+pub length-le-total : {T : Type 0} (es : List (T × ℕ)) → All (λ n. 0 < n) (values_of es) → length es ≤ sum_by (λ e. e.1) es
+length-le-total {T} [] h = omega arith
+length-le-total {T} (e ∷ es) h =
+    let some : 0 < e.1 = All-head (λ n. 0 < n) e.1 (values_of es) h in
+    let more = length-le-total es (All-tail (λ n. 0 < n) e.1 (values_of es) h) in
+    let sum = sum_by-cons (λ (e : T × ℕ). e.1) e es in
+    omega arith
 
 -- they are a rearrangement where the entries are
 pub occurrences_rearranged : {T : Type 0} (es fs : List (T × ℕ)) → IsPermutation es fs → IsPermutation (occurrences es) (occurrences fs)
@@ -112,11 +122,15 @@ module _ {T : Type 0} {eq : T → T → Bool} (laws : IsEquivalence eq) where
       (set_walk_occurrences W (counted_rearranged laws es W p counted))
 
   pub set_walk_of_bag : {S : Type 0} (hasher : S) (es W : List (T × ℕ)) (total : ℕ) → IsTallied eq es total → IsPermutation es W → IsSetWalkOf eq (record { items = occurrences es; hasher = hasher }) W
-  set_walk_of_bag hasher es W total tally p = record {
-    walk = λ X means. set_walk_of_table es W X tally.counted p means;
-    total = sym (length_occurrences W) ∙ length_permutation _ _ (occurrences_rearranged es W p);
-    fits = (bag_from_tally laws es total tally).fits;
-  }
+  set_walk_of_bag hasher es W total tally p =
+      let sum : sum_by (λ e. e.1) W ≡ length (occurrences es) = sym (length_occurrences W) ∙ length_permutation _ _ (occurrences_rearranged es W p) in
+      let few = length-le-total W (counted_rearranged laws es W p tally.counted).positive in
+      record {
+        walk = λ X means. set_walk_of_table es W X tally.counted p means;
+        total = sum;
+        few = omega arith;
+        fits = (bag_from_tally laws es total tally).fits;
+      }
 
   pub walk_of_bag : {S : Type 0} (hasher : S) (es W : List (T × ℕ)) (total : ℕ) → IsTallied eq es total → IsPermutation es W → IsWalkOf eq (record { items = occurrences es; hasher = hasher }) (occurrences W)
   walk_of_bag hasher es W total tally p = record {

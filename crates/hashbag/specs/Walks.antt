@@ -30,8 +30,10 @@ module _ {T : Type 0} (eq : T → T → Bool) where
     pub len : length W ≡ length bag.items
     pub fits : length bag.items ≤ greatest_total
 
-  -- W is a set walk of each list that the bag means. Its counts add up to the length of the bag, and can be added
+  -- W is a set walk of each list that the bag means. Its counts add up to the length of the bag, and both they and the values
+  -- can be counted
   pub record IsSetWalkOf {S : Type 0} (bag : Bag T S) (W : List (T × ℕ)) : Type 0 where
     pub walk : (X : List T) → Means bag X → IsSetWalk X W
     pub total : sum_by (λ e. e.1) W ≡ length bag.items
+    pub few : length W ≤ length bag.items
     pub fits : length bag.items ≤ greatest_total

@@ -284,7 +284,7 @@ impl<T: Eq + Hash + Drop, S: BuildHasher + Drop> HashBag<T, S> {
     /// takes no memory and hashes nothing, here and at each step.
     pub fn drain(&mut self) -> Drain<'_, T>
         ensures* writes_back { sem 𝓛 (follows_drain T.row S.row S.Hasher.row T.Hash S.BuildHasher S.Hasher.Hasher self.entry (drain_name result)) }
-        ensures walk { IsSetWalkOf T.eq self.old (drain_rest result) }
+        ensures set_walk { IsSetWalkOf T.eq self.old (drain_rest result) }
     {
         self.len = 0;
         Drain {

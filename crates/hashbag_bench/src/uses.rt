@@ -1,5 +1,5 @@
-//! Callers to copy: what the contracts of the walks are good for.
-ghost use Rattle.std.specs.Prelude.{◌≡◌, List, [], length, sum_by, IfOk};
+//! Callers to copy: what the contracts of the walks are good for. Each has its clause from those contracts alone.
+ghost use Rattle.std.specs.Prelude.{◌≡◌, List, [], length, IfOk};
 ghost use Rattle.hashbag.specs.Bag.{Means};
 ghost use Rattle.hashbag.specs.Walks.{IsSetWalk};
 
@@ -7,29 +7,51 @@ use hashbag::HashBag;
 use std::alloc::{AllocError, Global};
 use std::hash::{BuildHasher, Hash};
 
-/// The sum of all counts, by a chain over the distinct values.
-pub fn total<T: Eq + Hash + Drop, S: BuildHasher + Drop>(bag: &HashBag<T, S>) -> usize
+/// The sum of all counts, by a chain over the distinct values: it is the number of occurrences.
+pub fn sum_of_counts<T: Eq + Hash + Drop, S: BuildHasher + Drop>(bag: &HashBag<T, S>) -> usize
     ensures { result ≡ length bag.now.items }
 {
     bag.set_iter().map(|entry| entry.1).sum()
 }
 
 /// The sum of all counts, by a loop over the distinct values.
-pub fn total_by_loop<T: Eq + Hash + Drop, S: BuildHasher + Drop>(bag: &HashBag<T, S>) -> usize
+pub fn sum_by_loop<T: Eq + Hash + Drop, S: BuildHasher + Drop>(bag: &HashBag<T, S>) -> usize
     ensures { result ≡ length bag.now.items }
 {
-    let mut total = 0;
+    let mut sum = 0;
     for (_, count) in bag.set_iter() {
-        total += count;
+        sum += count;
     }
-    total
+    sum
 }
 
-/// The number of occurrences, counted one by one.
-pub fn occurrences<T: Eq + Hash + Drop, S: BuildHasher + Drop>(bag: &HashBag<T, S>) -> usize
+/// The sum of all counts of a bag that is used up, by a loop over its distinct values.
+pub fn sum_used_up<T: Eq + Hash + Drop, S: BuildHasher + Drop>(bag: HashBag<T, S>) -> usize
+    ensures { result ≡ length bag.items }
+{
+    let mut sum = 0;
+    for (_, count) in bag {
+        sum += count;
+    }
+    sum
+}
+
+/// The number of occurrences, by a chain that takes them one by one.
+pub fn number_of_items<T: Eq + Hash + Drop, S: BuildHasher + Drop>(bag: &HashBag<T, S>) -> usize
     ensures { result ≡ length bag.now.items }
 {
     bag.iter().count()
+}
+
+/// The number of occurrences, by a loop over them.
+pub fn number_by_loop<T: Eq + Hash + Drop, S: BuildHasher + Drop>(bag: &HashBag<T, S>) -> usize
+    ensures { result ≡ length bag.now.items }
+{
+    let mut number = 0;
+    for _ in bag {
+        number += 1;
+    }
+    number
 }
 
 /// Moves everything out of a bag into a list of the distinct values with their counts. Where memory is refused, the bag is
@@ -45,8 +67,9 @@ pub fn moved_out<T: Eq + Hash + Drop, S: BuildHasher + Drop>(
     bag.drain().collect(alloc)
 }
 
-/// Takes some value out of a bag with its count, and drops everything else. Answers `None` where the bag was empty.
-pub fn first_taken<T: Eq + Hash + Drop, S: BuildHasher + Drop>(
+/// Takes one value with its count out of a bag, whichever comes first, and drops all others. It is `None` where the bag was
+/// empty.
+pub fn first_moved_out<T: Eq + Hash + Drop, S: BuildHasher + Drop>(
     bag: &mut HashBag<T, S>,
 ) -> Option<(T, usize)>
     ensures empty { bag.new.items ≡ [] }

@@ -2,7 +2,7 @@ use Rattle.std.proofs.Common.{◌<◌, ◌^◌, ◌≡◌, sum_by, arith, refl, 
 use borrow.Author.Tests.{tests}
 use Rattle.std.proofs.lemmas.Iterator.{YieldsList-from_map}
 use Rattle.std.proofs.lemmas.Iterator.Consumers.{YieldsList-from_first, YieldsList-at, fits_by_from_yields_list}
-use Rattle.hashbag_bench.proofs.uses.total.Goals as goal
+use Rattle.hashbag_bench.proofs.uses.sum_of_counts.Goals as goal
 
 pub sum-requires-clause-fits : goal.sum-requires-clause-fits
 sum-requires-clause-fits g c =
