@@ -1,4 +1,4 @@
--- Walks: whatever the order of the list, from the entries of a map, and what their definitions come to.
+-- Walks: whatever the order of the list, from the entries of a map, and step by step.
 use Rattle.std.proofs.Common.{◌≡◌, ℕ, zero, suc, ◌<◌, ◌≤◌, Bool, true, false, not, List, [], ◌∷◌, ◌++◌, ◌-◌, length, replicate, get_or, map, filter, flat_map, All, Option, Some, None, unwrap_or, sum_by, refl, sym, ap, subst, ◌∙◌, arith}
 use Rattle.std.specs.Borrow.{Bor}
 use Rattle.std.specs.Cmp.{IsEquivalence}
@@ -19,6 +19,7 @@ use Rattle.hashbag.specs.Bag.{occurrences, IsTallied}
 use Rattle.hashbag.specs.Iter.{occurrences_left, IsPending}
 use Rattle.hashbag.specs.Occurrences.{count}
 use Rattle.hashbag.specs.Walks.{IsEach, IsSetWalk, IsSetWalkOf, IsWalk, IsWalkOf}
+use Rattle.hashbag.proofs.DistinctLemmas.{distinct_count-occurrences}
 use Rattle.hashbag.proofs.ListLemmas.{IsPermutation-flat_map}
 use Rattle.hashbag.proofs.MemberLemmas.{Contains-head, map_ext, map-map}
 use Rattle.hashbag.proofs.OccurrenceLemmas.{count_rearranged, count_occurrences, all_occurrences, bag_from_tally}
@@ -28,11 +29,11 @@ pub length_occurrences : {T : Type 0} (es : List (T × ℕ)) → length (occurre
 length_occurrences es = length-flat_map (λ e. replicate e.1 e.0) es ∙ λ i. sum_by (λ e. length-replicate e.1 e.0 i) es
 
 -- and no fewer than the entries, where each has one
-pub length-le-total : {T : Type 0} (es : List (T × ℕ)) → All (λ n. 0 < n) (values_of es) → length es ≤ sum_by (λ e. e.1) es
-length-le-total {T} [] h = omega arith
-length-le-total {T} (e ∷ es) h =
+pub length_le_total : {T : Type 0} (es : List (T × ℕ)) → All (λ n. 0 < n) (values_of es) → length es ≤ sum_by (λ e. e.1) es
+length_le_total {T} [] h = omega arith
+length_le_total {T} (e ∷ es) h =
     let some : 0 < e.1 = All-head (λ n. 0 < n) e.1 (values_of es) h in
-    let more = length-le-total es (All-tail (λ n. 0 < n) e.1 (values_of es) h) in
+    let more = length_le_total es (All-tail (λ n. 0 < n) e.1 (values_of es) h) in
     let sum = sum_by-cons (λ (e : T × ℕ). e.1) e es in
     omega arith
 
@@ -124,10 +125,12 @@ module _ {T : Type 0} {eq : T → T → Bool} (laws : IsEquivalence eq) where
   pub set_walk_of_bag : {S : Type 0} (hasher : S) (es W : List (T × ℕ)) (total : ℕ) → IsTallied eq es total → IsPermutation es W → IsSetWalkOf eq (record { items = occurrences es; hasher = hasher }) W
   set_walk_of_bag hasher es W total tally p =
       let sum : sum_by (λ e. e.1) W ≡ length (occurrences es) = sym (length_occurrences W) ∙ length_permutation _ _ (occurrences_rearranged es W p) in
-      let few = length-le-total W (counted_rearranged laws es W p tally.counted).positive in
+      let few = length_le_total W (counted_rearranged laws es W p tally.counted).positive in
       record {
         walk = λ X means. set_walk_of_table es W X tally.counted p means;
+        means = IsPermutation-sym _ _ (occurrences_rearranged es W p);
         total = sum;
+        distinct = length_permutation es W p ∙ sym (distinct_count-occurrences laws es tally.counted);
         few = omega arith;
         fits = (bag_from_tally laws es total tally).fits;
       }
@@ -135,6 +138,7 @@ module _ {T : Type 0} {eq : T → T → Bool} (laws : IsEquivalence eq) where
   pub walk_of_bag : {S : Type 0} (hasher : S) (es W : List (T × ℕ)) (total : ℕ) → IsTallied eq es total → IsPermutation es W → IsWalkOf eq (record { items = occurrences es; hasher = hasher }) (occurrences W)
   walk_of_bag hasher es W total tally p = record {
     walk = λ X means. walk_from_set_walk X W (set_walk_of_table es W X tally.counted p means);
+    means = IsPermutation-sym _ _ (occurrences_rearranged es W p);
     len = length_permutation _ _ (occurrences_rearranged es W p);
     fits = (bag_from_tally laws es total tally).fits;
   }

@@ -11,11 +11,11 @@ use Rattle.hashbag.specs.Bag.{Bag}
 module _ {T : Type 0} where
   -- the values with their counts that are still to come
   abbrev pub drain_rest : Drain T → List (T × ℕ)
-  drain_rest s = table.drain_rest s.walk
+  drain_rest s = table.drain_rest s.drained
 
   -- the name of its loan of the bag
   abbrev pub drain_name : Drain T → GName
-  drain_name s = table.drain_name s.walk
+  drain_name s = table.drain_name s.drained
 
 -- the bag with no occurrences, under the same state
 abbrev pub emptied : {T S : Type 0} → Bag T S → Bag T S

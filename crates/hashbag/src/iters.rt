@@ -167,13 +167,13 @@ impl<'a, T: Debug> Debug for SetIter<'a, T> {
 ///
 /// Contracts see the list of the values with their counts that are still to come as `drain_rest`.
 pub struct Drain<'a, T> {
-    pub(crate) walk: DrainWalk<'a, T>,
+    drained: DrainWalk<'a, T>,
 }
 
 impl<'a, T: Drop> Drop for Drain<'a, T> {
     fn drop(self) {
-        let Drain { walk } = self;
-        drop(walk);
+        let Drain { drained } = self;
+        drop(drained);
     }
 }
 
@@ -185,7 +185,7 @@ impl<'a, T: Drop> Iterator for Drain<'a, T> {
     ghost remaining = { item_count drain_rest };
 
     fn next(&mut self) -> Option<(T, usize)> {
-        self.walk.next()
+        self.drained.next()
     }
 
     fn size_hint(&self) -> (usize, Option<usize>)
@@ -193,13 +193,13 @@ impl<'a, T: Drop> Iterator for Drain<'a, T> {
         ensures upper { IfSome result.1 (UpTo (at_most (length (drain_rest self.now)))) }
         ensures exact { result ≡ (length (drain_rest self.now), Some (length (drain_rest self.now))) }
     {
-        self.walk.size_hint()
+        self.drained.size_hint()
     }
 }
 
 impl<'a, T: Drop> ExactSizeIterator for Drain<'a, T> {
     fn len(&self) -> usize {
-        self.walk.len()
+        self.drained.len()
     }
 }
 
@@ -208,7 +208,7 @@ impl<'a, T: Drop> ExactSizeIterator for Drain<'a, T> {
 ///
 /// Contracts see it as the list of the values with their counts that are still to come.
 pub struct IntoIter<T> {
-    walk: IntoWalk<T>,
+    owned: IntoWalk<T>,
 }
 
 impl<T> Model for IntoIter<T> {
@@ -216,13 +216,13 @@ impl<T> Model for IntoIter<T> {
 
     ghost Value = { List (T × ℕ) };
 
-    ghost view = { λ a. a.walk };
+    ghost view = { λ a. a.owned };
 }
 
 impl<T: Drop> Drop for IntoIter<T> {
     fn drop(self) {
-        let IntoIter { walk } = self;
-        drop(walk);
+        let IntoIter { owned } = self;
+        drop(owned);
     }
 }
 
@@ -234,7 +234,7 @@ impl<T: Drop> Iterator for IntoIter<T> {
     ghost remaining = { item_count (λ s. s) };
 
     fn next(&mut self) -> Option<(T, usize)> {
-        self.walk.next()
+        self.owned.next()
     }
 
     fn size_hint(&self) -> (usize, Option<usize>)
@@ -242,13 +242,13 @@ impl<T: Drop> Iterator for IntoIter<T> {
         ensures upper { IfSome result.1 (UpTo (at_most (length self.now))) }
         ensures exact { result ≡ (length self.now, Some (length self.now)) }
     {
-        self.walk.size_hint()
+        self.owned.size_hint()
     }
 }
 
 impl<T: Drop> ExactSizeIterator for IntoIter<T> {
     fn len(&self) -> usize {
-        self.walk.len()
+        self.owned.len()
     }
 }
 
@@ -288,7 +288,7 @@ impl<T: Eq + Hash + Drop, S: BuildHasher + Drop> HashBag<T, S> {
     {
         self.len = 0;
         Drain {
-            walk: self.table.drain(),
+            drained: self.table.drain(),
         }
     }
 }
@@ -319,7 +319,7 @@ impl<T: Eq + Hash + Drop, S: BuildHasher + Drop> IntoIterator for HashBag<T, S> 
     fn into_iter(self) -> IntoIter<T> {
         let HashBag { table, len: _ } = self;
         IntoIter {
-            walk: table.into_walk(),
+            owned: table.into_walk(),
         }
     }
 }

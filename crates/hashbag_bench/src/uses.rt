@@ -1,6 +1,7 @@
 //! Callers to copy: what the contracts of the walks are good for. Each has its clause from those contracts alone.
 ghost use Rattle.std.specs.Prelude.{◌≡◌, List, [], length, IfOk};
 ghost use Rattle.hashbag.specs.Bag.{Means};
+ghost use Rattle.hashbag.specs.Occurrences.{distinct_count};
 ghost use Rattle.hashbag.specs.Walks.{IsSetWalk};
 
 use hashbag::HashBag;
@@ -61,6 +62,7 @@ pub fn moved_out<T: Eq + Hash + Drop, S: BuildHasher + Drop>(
     bag: &mut HashBag<T, S>,
 ) -> Result<Vec<(T, usize)>, AllocError>
     ensures list { IfOk result (λ list. (X : List T) → Means bag.old X → IsSetWalk T.eq X list.items) }
+    ensures distinct { IfOk result (λ list. length list.items ≡ distinct_count T.eq bag.old.items) }
     ensures empty { bag.new.items ≡ [] }
     ensures hasher { bag.new.hasher ≡ bag.old.hasher }
 {

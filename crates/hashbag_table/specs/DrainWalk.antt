@@ -11,11 +11,11 @@ use Rattle.hashbag_table.specs.Table.{Table}
 module _ {T : Type 0} where
   -- the entries that are still to come
   abbrev pub drain_rest : DrainWalk T → List (T × ℕ)
-  drain_rest s = map.drain_rest s.entries
+  drain_rest s = map.drain_rest s.drained
 
   -- the name of its loan of the table
   abbrev pub drain_name : DrainWalk T → GName
-  drain_name s = map.drain_name s.entries
+  drain_name s = map.drain_name s.drained
 
 -- the table with no entries, under the same state
 abbrev pub emptied : {T S : Type 0} → Table T S → Table T S

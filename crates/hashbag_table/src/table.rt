@@ -167,7 +167,7 @@ impl<T: Eq + Hash + Drop, S: BuildHasher + Drop> Table<T, S> {
         ensures fits { length (drain_rest result) < 2 ^ 63 }
     {
         DrainWalk {
-            entries: self.map.drain(),
+            drained: self.map.drain(),
         }
     }
 
@@ -181,7 +181,7 @@ impl<T: Eq + Hash + Drop, S: BuildHasher + Drop> Table<T, S> {
     {
         let Table { map, alloc: _ } = self;
         IntoWalk {
-            entries: map.into_iter(),
+            owned: map.into_iter(),
         }
     }
 }

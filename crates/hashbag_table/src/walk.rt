@@ -76,13 +76,13 @@ impl<'a, T> ExactSizeIterator for Walk<'a, T> {
 ///
 /// Contracts see the list of the entries that are still to come as `drain_rest`.
 pub struct DrainWalk<'a, T> {
-    pub(crate) entries: hash_map::Drain<'a, T, usize>,
+    pub(crate) drained: hash_map::Drain<'a, T, usize>,
 }
 
 impl<'a, T: Drop> Drop for DrainWalk<'a, T> {
     fn drop(self) {
-        let DrainWalk { entries } = self;
-        drop(entries);
+        let DrainWalk { drained } = self;
+        drop(drained);
     }
 }
 
@@ -94,7 +94,7 @@ impl<'a, T: Drop> Iterator for DrainWalk<'a, T> {
     ghost remaining = { item_count drain_rest };
 
     fn next(&mut self) -> Option<(T, usize)> {
-        self.entries.next()
+        self.drained.next()
     }
 
     fn size_hint(&self) -> (usize, Option<usize>)
@@ -109,7 +109,7 @@ impl<'a, T: Drop> Iterator for DrainWalk<'a, T> {
 
 impl<'a, T: Drop> ExactSizeIterator for DrainWalk<'a, T> {
     fn len(&self) -> usize {
-        self.entries.len()
+        self.drained.len()
     }
 }
 
@@ -117,7 +117,7 @@ impl<'a, T: Drop> ExactSizeIterator for DrainWalk<'a, T> {
 ///
 /// Contracts see a walk as the list of the entries that are still to come.
 pub struct IntoWalk<T> {
-    pub(crate) entries: hash_map::IntoIter<T, usize>,
+    pub(crate) owned: hash_map::IntoIter<T, usize>,
 }
 
 impl<T> Model for IntoWalk<T> {
@@ -125,13 +125,13 @@ impl<T> Model for IntoWalk<T> {
 
     ghost Value = { List (T × ℕ) };
 
-    ghost view = { λ a. a.entries };
+    ghost view = { λ a. a.owned };
 }
 
 impl<T: Drop> Drop for IntoWalk<T> {
     fn drop(self) {
-        let IntoWalk { entries } = self;
-        drop(entries);
+        let IntoWalk { owned } = self;
+        drop(owned);
     }
 }
 
@@ -143,7 +143,7 @@ impl<T: Drop> Iterator for IntoWalk<T> {
     ghost remaining = { item_count (λ s. s) };
 
     fn next(&mut self) -> Option<(T, usize)> {
-        self.entries.next()
+        self.owned.next()
     }
 
     fn size_hint(&self) -> (usize, Option<usize>)
@@ -158,6 +158,6 @@ impl<T: Drop> Iterator for IntoWalk<T> {
 
 impl<T: Drop> ExactSizeIterator for IntoWalk<T> {
     fn len(&self) -> usize {
-        self.entries.len()
+        self.owned.len()
     }
 }
