@@ -1,4 +1,4 @@
-use Rattle.std.proofs.Common.{◌<◌, ◌≤◌, refl, ap, arith}
+use Rattle.std.proofs.Common.{◌<◌, refl, ap, arith}
 use Rattle.std.specs.List.{IsDistinct}
 use Rattle.std.proofs.lemmas.List.Elements.{All-nil}
 use Rattle.hashbag.specs.Drain.{emptied}
