@@ -280,8 +280,8 @@ impl<T: Eq + Hash + Drop, S: BuildHasher + Drop> HashBag<T, S> {
 
     /// Takes everything out, and walks over the distinct values: each stored instance once, by value, with its count.
     ///
-    /// The bag is empty at once and keeps its state, however many values are taken. The others are dropped with the walk. It
-    /// takes no memory and hashes nothing, here and at each step.
+    /// The bag is empty at once and keeps its state, however many values are taken. The others are dropped with the walk.
+    /// Whether the bag keeps its room for values is open. It takes no memory and hashes nothing, here and at each step.
     pub fn drain(&mut self) -> Drain<'_, T>
         ensures* writes_back { sem 𝓛 (follows_drain T.row S.row S.Hasher.row T.Hash S.BuildHasher S.Hasher.Hasher self.entry (drain_name result)) }
         ensures set_walk { IsSetWalkOf T.eq self.old (drain_rest result) }

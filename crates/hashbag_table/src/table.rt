@@ -159,7 +159,7 @@ impl<T: Eq + Hash + Drop, S: BuildHasher + Drop> Table<T, S> {
     /// Takes all entries out, and walks over them, in an open order: each value once, with its count.
     ///
     /// The table is empty at once and keeps its state, however many entries are taken. The others are dropped with the walk.
-    /// It takes no memory and hashes nothing, here and at each step.
+    /// Whether it keeps its room is open. It takes no memory and hashes nothing, here and at each step.
     pub fn drain(&mut self) -> DrainWalk<'_, T>
         ensures* writes_back { sem 𝓛 (follows_drain T.row S.row S.Hasher.row T.Hash S.BuildHasher S.Hasher.Hasher self.entry (drain_name result)) }
         ensures entries { IsPermutation self.old.entries (drain_rest result) }
