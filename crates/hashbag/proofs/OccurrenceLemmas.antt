@@ -172,7 +172,7 @@ module _ {T : Type 0} {eq : T → T → Bool} (laws : IsEquivalence eq) where
       (IsPermutation-trans _ _ _ (IsPermutation-append_comm (occurrences (without eq v es)) (replicate n v))
       (IsPermutation-flat_map (λ (e : T × ℕ). replicate e.1 e.0) _ _ h))
 
-  all_occurrences : (P : T → Type 0) (es : List (T × ℕ)) → AllByRecursion P (keys_of es) → All P (occurrences es)
+  pub all_occurrences : (P : T → Type 0) (es : List (T × ℕ)) → AllByRecursion P (keys_of es) → All P (occurrences es)
   all_occurrences P [] h = All-nil P
   all_occurrences P (e ∷ es) h = All-append P (replicate e.1 e.0) (occurrences es) (All-replicate P e.1 e.0 h.0) (all_occurrences P es h.1)
 

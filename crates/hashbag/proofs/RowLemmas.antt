@@ -89,9 +89,9 @@ module _ {T : Type 0} {eq : T → T → Bool} (laws : IsEquivalence eq) (X Y : L
   entry_set_rearranged v n =
       same_choice (count eq v X == 0) (count eq v Y == 0) (X, Absent) (Y, Absent) (some X) (some Y) (ap (λ (k : ℕ). k == 0) (often v)) (unchanged Absent Absent refl)
       (same_choice (nat_lt greatest_total (length X - count eq v X + n)) (nat_lt greatest_total (length Y - count eq v Y + n)) (X, TooMany) (Y, TooMany) (put eq (instance_or_itself eq v X) n X, Done) (put eq (instance_or_itself eq v Y) n Y, Done)
-        (ap (λ (k : ℕ). nat_lt greatest_total (k - count eq v X + n)) long ∙ ap (λ (k : ℕ). nat_lt greatest_total (length Y - k + n)) (often v)) (unchanged TooMany TooMany refl)
-        (subst (λ (i : T). IsSameRow (put eq (instance_or_itself eq v X) n X, Done) (put eq i n Y, Done)) (stored_same v)
-          (record { left = put_rearranged laws (instance_or_itself eq v X) n X Y h; reply = refl })))
+      (ap (λ (k : ℕ). nat_lt greatest_total (k - count eq v X + n)) long ∙ ap (λ (k : ℕ). nat_lt greatest_total (length Y - k + n)) (often v)) (unchanged TooMany TooMany refl)
+      (subst (λ (i : T). IsSameRow (put eq (instance_or_itself eq v X) n X, Done) (put eq i n Y, Done)) (stored_same v)
+      (record { left = put_rearranged laws (instance_or_itself eq v X) n X Y h; reply = refl })))
     where
       some : List T → List T × Reply T
       some Z = cond (nat_lt greatest_total (length Z - count eq v Z + n)) (Z, TooMany) (put eq (instance_or_itself eq v Z) n Z, Done)
@@ -100,8 +100,8 @@ module _ {T : Type 0} {eq : T → T → Bool} (laws : IsEquivalence eq) (X Y : L
   entry_or_rearranged v q =
       same_choice (nat_lt 0 (count eq v X)) (nat_lt 0 (count eq v Y)) (X, Count (count eq v X)) (Y, Count (count eq v Y)) (none X) (none Y) (ap (λ (k : ℕ). nat_lt 0 k) (often v)) (unchanged _ _ (ap (λ k. Count k) (often v)))
       (same_choice (nat_lt greatest_total (length X + q)) (nat_lt greatest_total (length Y + q)) (X, TooMany) (Y, TooMany) (add eq v q X, Count q) (add eq v q Y, Count q)
-        (ap (λ (k : ℕ). nat_lt greatest_total (k + q)) long) (unchanged TooMany TooMany refl)
-        (record { left = add_rearranged laws v q X Y bag h; reply = refl }))
+      (ap (λ (k : ℕ). nat_lt greatest_total (k + q)) long) (unchanged TooMany TooMany refl)
+      (record { left = add_rearranged laws v q X Y bag h; reply = refl }))
     where
       none : List T → List T × Reply T
       none Z = cond (nat_lt greatest_total (length Z + q)) (Z, TooMany) (add eq v q Z, Count q)
@@ -210,11 +210,11 @@ module _ {T : Type 0} {eq : T → T → Bool} (laws : IsEquivalence eq) where
           let long = length_added laws v q before.items after.items left.means in
           let within = left.bag.fits in
           subst (λ (row : List T × Reply T). IsDoneRow row before (Count n) after) (sym (entry_or_row-vacant v q before.items e (omega arith)))
-            (record { reply_is = ap (λ k. Count k) (vacant e).0; left = left })
+          (record { reply_is = ap (λ k. Count k) (vacant e).0; left = left })
       by_count (suc k) e =
           let some : 0 < count eq v before.items = omega arith in
           subst (λ (row : List T × Reply T). IsDoneRow row before (Count n) after) (sym (entry_or_row-occupied v q before.items some))
-            (record {
-              reply_is = ap (λ k. Count k) (occupied some).0;
-              left = subst (λ (b : Bag T S). IsBagOf eq before before.items b) (sym (occupied some).1) (record { means = IsPermutation-refl _; hasher = refl; bag = bag });
-            })
+          (record {
+            reply_is = ap (λ k. Count k) (occupied some).0;
+            left = subst (λ (b : Bag T S). IsBagOf eq before before.items b) (sym (occupied some).1) (record { means = IsPermutation-refl _; hasher = refl; bag = bag });
+          })

@@ -58,8 +58,8 @@ pub type FixedState = BuildHasherDefault<FoldHasher>;
 /// its values.
 #[derive(Drop)]
 pub struct HashBag<T: Eq + Hash + Drop, S: BuildHasher + Drop = FixedState> {
-    table: Table<T, S>,
-    len: usize,
+    pub(crate) table: Table<T, S>,
+    pub(crate) len: usize,
 }
 
 impl<T: Eq + Hash + Drop, S: BuildHasher + Drop> Model for HashBag<T, S> {

@@ -5,6 +5,7 @@ ghost use Rattle.hashbag.specs.Bag.{IsBagOf};
 ghost use Rattle.hashbag.specs.Occurrences.{greatest_total, count, instance_or_itself, add};
 
 use crate::bag::{BagError, FixedState, HashBag};
+use std::fmt::{self, Debug, Formatter, Write};
 use std::hash::{BuildHasher, Hash};
 
 /// The place of a value in a bag: a borrow of the bag, and the value that was handed in.
@@ -116,5 +117,14 @@ impl<'a, T: Eq + Hash + Drop, S: BuildHasher + Drop> Entry<'a, T, S> {
         }
         bag.insert_new(value, quantity)?;
         Ok(quantity)
+    }
+}
+
+impl<'a, T: Eq + Hash + Drop + Debug, S: BuildHasher + Drop> Debug for Entry<'a, T, S> {
+    /// Writes the value that the entry gives and how often it occurs, as `Entry(5, 3)`.
+    fn fmt<W: Write>(&self, f: &mut Formatter<W>) -> fmt::Result {
+        let value = self.value();
+        let count = self.bag.contains(&self.value);
+        write!(f, "Entry({value:?}, {count})")
     }
 }

@@ -6,3 +6,4 @@ mod entries;
 mod hashes;
 mod plain_calls;
 mod refusals;
+mod walks;

@@ -17,7 +17,7 @@ invariant_of-self-2 g c =
     let sum = c.self.invariant.sum in
     let none : count g.T.PartialEq.eq c.args.value (occurrences c.self.inside.table.entries) ≡ 0 = rw (← c.self.view_is) at c.requires.absent in
     tally_added g.met.T.Eq.laws c.args.value c.args.quantity c.self.inside.table.entries c.insert_new.new.self.entries c.self.inside.len c.self.invariant c.insert_new.ensures.counted (omega arith)
-      (new_occurrences g.met.T.Eq.laws c.args.value c.args.quantity c.self.inside.table.entries c.insert_new.new.self.entries c.self.invariant.counted none c.in_ok-insert_new.ensures.inserted)
+    (new_occurrences g.met.T.Eq.laws c.args.value c.args.quantity c.self.inside.table.entries c.insert_new.new.self.entries c.self.invariant.counted none c.in_ok-insert_new.ensures.inserted)
 
 pub returns-clause-added : goal.returns-clause-added
 returns-clause-added g c =

@@ -20,7 +20,7 @@ invariant_of-self g c =
     let sum = c.self.invariant.sum in
     let fits : length (occurrences es) - c.args.before + c.args.n ≤ greatest_total = rw (← c.self.view_is) at c.requires.fits in
     subst (λ (k : ℕ). IsTallied g.T.PartialEq.eq c.set_or_remove.new.table.entries (c.self.inside.len - k + c.args.n)) (sym before)
-      (tally_set g.met.T.Eq.laws v c.args.n es c.set_or_remove.new.table.entries c.self.inside.len c.self.invariant c.set_or_remove.ensures.counted (omega arith) (omega arith) c.set_or_remove.ensures.set)
+    (tally_set g.met.T.Eq.laws v c.args.n es c.set_or_remove.new.table.entries c.self.inside.len c.self.invariant c.set_or_remove.ensures.counted (omega arith) (omega arith) c.set_or_remove.ensures.set)
 
 pub returns : goal.returns
 returns g c = rw (← c.self.view_is) (record {

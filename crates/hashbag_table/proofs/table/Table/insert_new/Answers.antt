@@ -19,7 +19,7 @@ returns-clause-inserted g c =
     let es = c.self.inside.map.entries in
     let absent : entry_of eq v es ≡ None = rw (← c.self.view_is) at c.requires.absent in
     rw (← c.self.view_is) (subst (λ (k : g.row.T.Denot). IsPermutation ((k, c.args.count) ∷ remove_entry (eq v) es) c.insert.new.self.entries) (stored-absent eq v es absent)
-      (with_count_put {S = g.row.S.Denot} eq v c.args.count c.self.inside.map c.insert.new.self _ c.in_ok-insert.ensures.old c.in_ok-insert.ensures.entries))
+    (with_count_put {S = g.row.S.Denot} eq v c.args.count c.self.inside.map c.insert.new.self _ c.in_ok-insert.ensures.old c.in_ok-insert.ensures.entries))
 
 pub returns-clause-counted : goal.returns-clause-counted
 returns-clause-counted g c = invariant_of-self-2 g c
