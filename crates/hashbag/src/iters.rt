@@ -17,8 +17,8 @@ use std::hash::{BuildHasher, Hash};
 use std::iter::ExactSizeIterator;
 use std::marker::Model;
 
-/// The occurrences of a bag that is lent: each stored instance as often as its count, the occurrences of one value one
-/// after the other.
+/// The occurrences of a bag that is lent. A value comes once for each of its occurrences, as the stored instance, before
+/// the next value does.
 ///
 /// Contracts see it as the list of the occurrences that are still to come.
 #[derive(Drop)]
@@ -253,8 +253,8 @@ impl<T: Drop> ExactSizeIterator for IntoIter<T> {
 }
 
 impl<T: Eq + Hash + Drop, S: BuildHasher + Drop> HashBag<T, S> {
-    /// Walks over the occurrences: each stored instance as often as its count, the occurrences of one value one after the
-    /// other. There are `len()` items.
+    /// Walks over the occurrences, of which there are `len()`. A value comes once for each of its occurrences, as the stored
+    /// instance, before the next value does.
     ///
     /// It takes no memory and hashes nothing, here and at each step.
     pub fn iter(&self) -> Iter<'_, T>
