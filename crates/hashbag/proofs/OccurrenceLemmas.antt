@@ -7,16 +7,17 @@ use Rattle.std.specs.List.Sorted.{IsPermutation}
 use Rattle.std.specs.Map.{keys_of, lookup, lookup_entry, lookup_key}
 use Rattle.std.proofs.lemmas.List.{append-nil, nil_from_length, drop_all, length-replicate, length-append, length-drop, drop-replicate, replicate-append-replicate}
 use Rattle.std.proofs.lemmas.List.Sums.{length-filter, count_by-le-length}
-use Rattle.std.proofs.lemmas.List.Elements.{filter-append, All-filter, filter_passes, All-append, All-replicate, All-nil, All-weaker}
+use Rattle.std.proofs.lemmas.List.Elements.{filter_agree, filter-append, All-filter, filter_passes, All-append, All-replicate, All-nil, All-weaker}
 use Rattle.std.proofs.lemmas.List.Sorted.{IsPermutation-sym, IsPermutation-trans, IsPermutation-append_left, IsPermutation-append_comm, All-permutation, length_permutation, sum_by-IsPermutation, IsPermutation-filter_both}
 use Rattle.std.proofs.lemmas.Map.{lookup-none}
+use Rattle.std.proofs.lemmas.Map.Made.{lookup_key_passes}
 use Rattle.std.proofs.lemmas.Map.Entries.{none_past_head}
 use Rattle.std.proofs.lemmas.Map.Views.{IfSome-lookup_from_All}
 use Rattle.std.proofs.lemmas.Bool.{false≢true}
 use Rattle.std.proofs.lemmas.Map.Keys.{IsDistinct-head, IsDistinct-tail}
 use Rattle.hashbag_table.specs.Entries.{count_of, stored_or_itself, without, with_count, with_fewer, IsCounted}
 use Rattle.hashbag_table.proofs.EntryLemmas.{entry_none_from_lookup, without_absent, lookup-entry, lookup_key-entry, with_fewer-some, with_fewer-all}
-use Rattle.hashbag.specs.Occurrences.{greatest_total, alike, others, count, instance, add, less, put, IsBag}
+use Rattle.hashbag.specs.Occurrences.{greatest_total, alike, others, count, instance, instance_or_itself, add, less, put, IsBag}
 use Rattle.hashbag.specs.Bag.{occurrences, IsTallied}
 use Rattle.hashbag_table.proofs.ListLemmas.{IsPermutation-same, IsPermutation-flat_map, IsPermutation-filter, find-filter, filter-replicate, all_same_rearranged}
 
@@ -171,7 +172,7 @@ module _ {T : Type 0} {eq : T → T → Bool} (laws : IsEquivalence eq) where
       (IsPermutation-trans _ _ _ (IsPermutation-append_comm (occurrences (without eq v es)) (replicate n v))
       (IsPermutation-flat_map (λ (e : T × ℕ). replicate e.1 e.0) _ _ h))
 
-  all_occurrences : (P : T → Type 0) (es : List (T × ℕ)) → AllByRecursion P (keys_of es) → All P (occurrences es)
+  pub all_occurrences : (P : T → Type 0) (es : List (T × ℕ)) → AllByRecursion P (keys_of es) → All P (occurrences es)
   all_occurrences P [] h = All-nil P
   all_occurrences P (e ∷ es) h = All-append P (replicate e.1 e.0) (occurrences es) (All-replicate P e.1 e.0 h.0) (all_occurrences P es h.1)
 
@@ -225,15 +226,6 @@ module _ {T : Type 0} {eq : T → T → Bool} (laws : IsEquivalence eq) where
       there None p = let none = count_of_entry v es None (sym p) in absurd (omega arith)
       there (Some e) p = refl
 
-  -- what is absent can't be taken
-  pub less_absent : (v : T) (n : ℕ) (X : List T) → count eq v X ≡ 0 → IsPermutation (less eq v n X) X
-  less_absent v n X none =
-      let empty : alike eq v X ≡ [] = nil_from_length (alike eq v X) (length-filter (eq v) X ∙ none) in
-      let split = IsPermutation-filter_both (eq v) (λ x. not (eq v x)) (λ x. refl) X in
-      let left : IsPermutation X (others eq v X) = subst (λ (l : List T). IsPermutation X (l ++ others eq v X)) empty split in
-      let same : less eq v n X ≡ others eq v X = ap (λ (l : List T). others eq v X ++ drop n l) empty ∙ ap (λ (l : List T). others eq v X ++ l) (drop_all n [] (omega arith)) ∙ append-nil _ in
-      subst (λ (l : List T). IsPermutation l X) (sym same) (IsPermutation-sym _ _ left)
-
   -- what is absent is put as it is added
   pub put_absent : (v : T) (n : ℕ) (X : List T) → count eq v X ≡ 0 → IsPermutation (put eq v n X) (add eq v n X)
   put_absent v n X none =
@@ -242,6 +234,32 @@ module _ {T : Type 0} {eq : T → T → Bool} (laws : IsEquivalence eq) where
       let left : IsPermutation X (others eq v X) = subst (λ (l : List T). IsPermutation X (l ++ others eq v X)) empty split in
       let itself : instance eq v X ≡ None = find-filter (eq v) X ∙ ap (λ (l : List T). slice_get l 0) empty in
       subst (λ (o : Option T). IsPermutation (put eq v n X) (X ++ replicate n (unwrap_or o v))) (sym itself) (IsPermutation-append_left _ _ _ (IsPermutation-sym _ _ left))
+
+  -- what has no count is absent
+  pub absent_from_count : (v : T) (es : List (T × ℕ)) → IsCounted eq es → count_of eq v es ≡ 0 → lookup_entry (eq v) es ≡ None
+  absent_from_count v es counted none = by_entry (lookup_entry (eq v) es) refl
+    where
+      by_entry : (o : Option (T × ℕ)) → lookup_entry (eq v) es ≡ o → o ≡ None
+      by_entry None p = refl
+      by_entry (Some e) p =
+          let found : lookup (eq v) es ≡ Some e.1 = lookup-entry (eq v) es ∙ ap (option_map (λ (e : T × ℕ). e.1)) p in
+          let some : 0 < e.1 = subst (λ (o : Option ℕ). IfSome o (λ n. 0 < n)) found (IfSome-lookup_from_All (λ n. 0 < n) (eq v) es counted.positive) in
+          let number : count_of eq v es ≡ e.1 = ap (λ (o : Option ℕ). unwrap_or o 0) found in
+          absurd (omega arith)
+
+  -- n of a value that was absent
+  pub new_occurrences : (v : T) (n : ℕ) (es fs : List (T × ℕ)) → IsCounted eq es → count eq v (occurrences es) ≡ 0 → IsPermutation ((v, n) ∷ without eq v es) fs → IsPermutation (add eq v n (occurrences es)) (occurrences fs)
+  new_occurrences v n es fs counted none h =
+      IsPermutation-trans _ _ _ (IsPermutation-sym _ _ (put_absent v n (occurrences es) none)) (put_occurrences v n es fs counted h)
+
+  -- what is absent can't be taken
+  pub less_absent : (v : T) (n : ℕ) (X : List T) → count eq v X ≡ 0 → IsPermutation (less eq v n X) X
+  less_absent v n X none =
+      let empty : alike eq v X ≡ [] = nil_from_length (alike eq v X) (length-filter (eq v) X ∙ none) in
+      let split = IsPermutation-filter_both (eq v) (λ x. not (eq v x)) (λ x. refl) X in
+      let left : IsPermutation X (others eq v X) = subst (λ (l : List T). IsPermutation X (l ++ others eq v X)) empty split in
+      let same : less eq v n X ≡ others eq v X = ap (λ (l : List T). others eq v X ++ drop n l) empty ∙ ap (λ (l : List T). others eq v X ++ l) (drop_all n [] (omega arith)) ∙ append-nil _ in
+      subst (λ (l : List T). IsPermutation l X) (sym same) (IsPermutation-sym _ _ left)
 
   pub bag_from_tally : (es : List (T × ℕ)) (total : ℕ) → IsTallied eq es total → IsBag eq (occurrences es)
   bag_from_tally es total tally = bag_occurrences es tally.counted (let same = tally.sum in let fits = tally.fits in omega arith)
@@ -262,6 +280,51 @@ module _ {T : Type 0} {eq : T → T → Bool} (laws : IsEquivalence eq) where
       let was = tally.sum in
       let fits = tally.fits in
       record { sum = omega arith; fits = omega arith; counted = counted }
+
+  -- what is equal to an item of a value's own is equal to the value
+  others_alike : (v w : T) (X : List T) → eq v w ≡ true → others eq w X ≡ others eq v X
+  others_alike v w X same = filter_agree (λ x. not (eq w x)) (λ x. not (eq v x)) (λ x. ap not (sym (laws.congr v w x same))) X
+
+  -- the stored instance is equal to the value
+  stored_alike : (v : T) (es : List (T × ℕ)) → 0 < count_of eq v es → eq v (stored_or_itself eq v es) ≡ true
+  stored_alike v es some = there (lookup_entry (eq v) es) refl
+    where
+      there : (o : Option (T × ℕ)) → lookup_entry (eq v) es ≡ o → eq v (stored_or_itself eq v es) ≡ true
+      there None p = let none = count_of_entry v es None (sym p) in absurd (omega arith)
+      there (Some e) p =
+          let key : lookup_key (eq v) es ≡ Some e.0 = lookup_key-entry (eq v) es ∙ ap (option_map (λ (x : T × ℕ). x.0)) p in
+          subst (λ (k : T). eq v k ≡ true) (sym (ap (λ (o : Option T). unwrap_or o v) key)) (lookup_key_passes (eq v) es e.0 key)
+
+  -- the list but for v, with n of the stored instance, where v is there
+  set_is : (v : T) (n : ℕ) (es : List (T × ℕ)) → IsCounted eq es → 0 < count_of eq v es → put eq (instance_or_itself eq v (occurrences es)) n (occurrences es) ≡ occurrences (without eq v es) ++ replicate n (stored_or_itself eq v es)
+  set_is v n es counted some =
+      ap (λ (o : Option T). put eq (unwrap_or o v) n (occurrences es)) (instance_occurrences v es counted)
+      ∙ ap (λ (l : List T). l ++ replicate n (stored_or_itself eq v es)) (others_alike v (stored_or_itself eq v es) (occurrences es) (stored_alike v es some) ∙ others_occurrences v es counted.distinct)
+
+  pub set_occurrences : (v : T) (n : ℕ) (es fs : List (T × ℕ)) → IsCounted eq es → 0 < count_of eq v es → IsPermutation (with_count eq v n es) fs → IsPermutation (put eq (instance_or_itself eq v (occurrences es)) n (occurrences es)) (occurrences fs)
+  set_occurrences v n es fs counted some h =
+      IsPermutation-trans _ _ _ (IsPermutation-same _ _ (set_is v n es counted some))
+      (IsPermutation-trans _ _ _ (IsPermutation-append_comm (occurrences (without eq v es)) (replicate n (stored_or_itself eq v es)))
+      (occurrences_rearranged _ _ h))
+
+  pub set_none_occurrences : (v : T) (n : ℕ) (es fs : List (T × ℕ)) → IsCounted eq es → 0 < count_of eq v es → n ≡ 0 → IsPermutation (without eq v es) fs → IsPermutation (put eq (instance_or_itself eq v (occurrences es)) n (occurrences es)) (occurrences fs)
+  set_none_occurrences v n es fs counted some none h =
+      IsPermutation-trans _ _ _ (IsPermutation-same _ _ (set_is v n es counted some ∙ ap (λ (k : ℕ). occurrences (without eq v es) ++ replicate k (stored_or_itself eq v es)) none ∙ append-nil _))
+      (occurrences_rearranged _ _ h)
+
+  -- n of the stored instance, in the map and in the total
+  pub tally_set : (v : T) (n : ℕ) (es fs : List (T × ℕ)) (total : ℕ) → IsTallied eq es total → IsCounted eq fs → 0 < count_of eq v es → total - count_of eq v es + n ≤ greatest_total → IsPermutation (put eq (instance_or_itself eq v (occurrences es)) n (occurrences es)) (occurrences fs) → IsTallied eq fs (total - count_of eq v es + n)
+  tally_set v n es fs total tally counted some fits h =
+      let i = stored_or_itself eq v es in
+      let same = count_occurrences v es tally.counted.distinct in
+      let whole = length_split v (occurrences es) in
+      let alike_count = length-filter (eq v) (occurrences es) in
+      let rest : length (others eq v (occurrences es)) ≡ length (occurrences (without eq v es)) = ap (λ (l : List T). length l) (others_occurrences v es tally.counted.distinct) in
+      let copies = length-replicate n i in
+      let parts : length (occurrences fs) ≡ length (occurrences (without eq v es)) + length (replicate n i) =
+      length_permutation _ _ h ∙ ap (λ (l : List T). length l) (set_is v n es tally.counted some) ∙ length-append (occurrences (without eq v es)) (replicate n i) in
+      let was = tally.sum in
+      record { sum = omega arith; fits = fits; counted = counted }
 
   -- n of v in the place of all that are equal to it, in the map and in the total
   pub tally_put : (v : T) (n : ℕ) (es fs : List (T × ℕ)) (total : ℕ) → IsTallied eq es total → IsCounted eq fs → total - count_of eq v es + n ≤ greatest_total → IsPermutation (put eq v n (occurrences es)) (occurrences fs) → IsTallied eq fs (total - count_of eq v es + n)

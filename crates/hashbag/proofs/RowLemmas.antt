@@ -6,14 +6,14 @@ use Rattle.std.proofs.lemmas.Bool.Decides.{nat_tests}
 use Rattle.std.specs.List.Sorted.{IsPermutation}
 use Rattle.std.proofs.lemmas.List.Sorted.{IsPermutation-refl, IsPermutation-sym, IsPermutation-trans, length_permutation}
 use Rattle.hashbag.specs.declared.script.Step.{Step}
-use Rattle.hashbag.specs.declared.script.Step.TheVariants.{Insert, InsertMany, Replace, Remove, RemoveUpTo, TryTake, TakeAll, Clear, Count as CountStep, Reserve, ShrinkToFit}
+use Rattle.hashbag.specs.declared.script.Step.TheVariants.{Insert, InsertMany, Replace, Remove, RemoveUpTo, TryTake, TakeAll, EntrySet, EntryOr, Clear, Count as CountStep, Reserve, ShrinkToFit}
 use Rattle.hashbag.specs.declared.script.Reply.{Reply}
-use Rattle.hashbag.specs.declared.script.Reply.TheVariants.{Count, Left, Taken, Absent, TooMany}
+use Rattle.hashbag.specs.declared.script.Reply.TheVariants.{Count, Left, Taken, Absent, Done, TooMany}
 use Rattle.hashbag.specs.Bag.{Bag, IsBagOf}
 use Rattle.hashbag.specs.Occurrences.{greatest_total, count, instance_or_itself, stored, add, less, put, IsBag}
-use Rattle.hashbag.specs.Rows.{insert_row, replace_row, try_take_row, take_all_row}
+use Rattle.hashbag.specs.Rows.{insert_row, replace_row, try_take_row, take_all_row, entry_set_row, entry_or_row}
 use Rattle.hashbag.specs.Script.{step, AsksForMemory, IsRefusedInsertion}
-use Rattle.hashbag.proofs.OccurrenceLemmas.{count_rearranged, instance_rearranged, add_rearranged, less_rearranged, put_rearranged, less_absent}
+use Rattle.hashbag.proofs.OccurrenceLemmas.{count_rearranged, instance_rearranged, add_rearranged, less_rearranged, put_rearranged, less_absent, length_added}
 use Rattle.hashbag.proofs.TakeLemmas.{stored_there, stored_count, stored_instance, stored_some}
 
 -- a test that a number is above another
@@ -85,6 +85,27 @@ module _ {T : Type 0} {eq : T → T → Bool} (laws : IsEquivalence eq) (X Y : L
       (subst (λ (k : ℕ). IsSameRow (less eq v (count eq v X) X, Taken (instance_or_itself eq v X) (count eq v X)) (less eq v k Y, Taken (instance_or_itself eq v Y) k)) (often v)
       (taken_rearranged v (count eq v X) _ _ (ap (λ i. Taken i (count eq v X)) (stored_same v))))
 
+  entry_set_rearranged : (v : T) (n : ℕ) → IsSameRow (entry_set_row eq v n X) (entry_set_row eq v n Y)
+  entry_set_rearranged v n =
+      same_choice (count eq v X == 0) (count eq v Y == 0) (X, Absent) (Y, Absent) (some X) (some Y) (ap (λ (k : ℕ). k == 0) (often v)) (unchanged Absent Absent refl)
+      (same_choice (nat_lt greatest_total (length X - count eq v X + n)) (nat_lt greatest_total (length Y - count eq v Y + n)) (X, TooMany) (Y, TooMany) (put eq (instance_or_itself eq v X) n X, Done) (put eq (instance_or_itself eq v Y) n Y, Done)
+      (ap (λ (k : ℕ). nat_lt greatest_total (k - count eq v X + n)) long ∙ ap (λ (k : ℕ). nat_lt greatest_total (length Y - k + n)) (often v)) (unchanged TooMany TooMany refl)
+      (subst (λ (i : T). IsSameRow (put eq (instance_or_itself eq v X) n X, Done) (put eq i n Y, Done)) (stored_same v)
+      (record { left = put_rearranged laws (instance_or_itself eq v X) n X Y h; reply = refl })))
+    where
+      some : List T → List T × Reply T
+      some Z = cond (nat_lt greatest_total (length Z - count eq v Z + n)) (Z, TooMany) (put eq (instance_or_itself eq v Z) n Z, Done)
+
+  entry_or_rearranged : (v : T) (q : ℕ) → IsSameRow (entry_or_row eq v q X) (entry_or_row eq v q Y)
+  entry_or_rearranged v q =
+      same_choice (nat_lt 0 (count eq v X)) (nat_lt 0 (count eq v Y)) (X, Count (count eq v X)) (Y, Count (count eq v Y)) (none X) (none Y) (ap (λ (k : ℕ). nat_lt 0 k) (often v)) (unchanged _ _ (ap (λ k. Count k) (often v)))
+      (same_choice (nat_lt greatest_total (length X + q)) (nat_lt greatest_total (length Y + q)) (X, TooMany) (Y, TooMany) (add eq v q X, Count q) (add eq v q Y, Count q)
+      (ap (λ (k : ℕ). nat_lt greatest_total (k + q)) long) (unchanged TooMany TooMany refl)
+      (record { left = add_rearranged laws v q X Y bag h; reply = refl }))
+    where
+      none : List T → List T × Reply T
+      none Z = cond (nat_lt greatest_total (length Z + q)) (Z, TooMany) (add eq v q Z, Count q)
+
   -- a step replies alike, and leaves the same list but for its order
   pub step_rearranged : (s : Step T) → IsSameRow (step eq X s) (step eq Y s)
   step_rearranged (Insert v) = insert_rearranged v 1
@@ -94,6 +115,8 @@ module _ {T : Type 0} {eq : T → T → Bool} (laws : IsEquivalence eq) (X Y : L
   step_rearranged (RemoveUpTo v q) = taken_rearranged v q _ _ (ap (λ (k : ℕ). Count (k - min q k)) (often v))
   step_rearranged (TryTake v) = try_take_rearranged v
   step_rearranged (TakeAll v) = take_all_rearranged v
+  step_rearranged (EntrySet v n) = entry_set_rearranged v n
+  step_rearranged (EntryOr v q) = entry_or_rearranged v q
   step_rearranged Clear = record { left = IsPermutation-refl []; reply = refl }
   step_rearranged (CountStep v) = unchanged _ _ (ap (λ k. Count k) (often v))
   step_rearranged (Reserve n) = unchanged _ _ refl
@@ -116,6 +139,8 @@ module _ {T : Type 0} {eq : T → T → Bool} (laws : IsEquivalence eq) (X Y : L
   asks_rearranged (RemoveUpTo v q) asks = asks
   asks_rearranged (TryTake v) asks = asks
   asks_rearranged (TakeAll v) asks = asks
+  asks_rearranged (EntrySet v n) asks = asks
+  asks_rearranged (EntryOr v q) asks = refused_rearranged v q asks
   asks_rearranged Clear asks = asks
   asks_rearranged (CountStep v) asks = asks
   asks_rearranged (Reserve n) asks = asks
@@ -157,3 +182,39 @@ module _ {T : Type 0} {eq : T → T → Bool} (laws : IsEquivalence eq) where
       by_count : (k : ℕ) → count eq v X ≡ k → k ≡ 0
       by_count zero h = refl
       by_count (suc k) h = absurd (stored_there laws v X (omega arith) e)
+
+  entry_or_row-occupied : (v : T) (q : ℕ) (X : List T) → 0 < count eq v X → entry_or_row eq v q X ≡ (X, Count (count eq v X))
+  entry_or_row-occupied v q X some =
+      ap (λ (b : Bool). cond b (X, Count (count eq v X)) (cond (nat_lt greatest_total (length X + q)) (X, TooMany) (add eq v q X, Count q))) (above 0 (count eq v X) some)
+
+  entry_or_row-vacant : (v : T) (q : ℕ) (X : List T) → count eq v X ≡ 0 → length X + q ≤ greatest_total → entry_or_row eq v q X ≡ (add eq v q X, Count q)
+  entry_or_row-vacant v q X none fits =
+      ap (λ (b : Bool). cond b (X, Count (count eq v X)) (cond (nat_lt greatest_total (length X + q)) (X, TooMany) (add eq v q X, Count q))) (not_above 0 (count eq v X) (omega arith))
+      ∙ ap (λ (b : Bool). cond b (X, TooMany) (add eq v q X, Count q)) (not_above greatest_total (length X + q) fits)
+
+  -- a row that was done: its reply, and the bag that it left
+  pub record IsDoneRow {S : Type 0} (row : List T × Reply T) (before : Bag T S) (reply : Reply T) (after : Bag T S) : Type 0 where
+    pub reply_is : reply ≡ row.1
+    pub left : IsBagOf eq before row.0 after
+
+  -- what `or_insert_many` says of a count that it answers is the row of the step
+  pub entry_or_done : {S : Type 0} (v : T) (q n : ℕ) (before after : Bag T S) → IsBag eq before.items
+      → (0 < count eq v before.items → (n ≡ count eq v before.items) × (after ≡ before))
+      → (count eq v before.items ≡ 0 → (n ≡ q) × IsBagOf eq before (add eq v q before.items) after)
+      → IsDoneRow (entry_or_row eq v q before.items) before (Count n) after
+  entry_or_done {S} v q n before after bag occupied vacant = by_count (count eq v before.items) refl
+    where
+      by_count : (k : ℕ) → count eq v before.items ≡ k → IsDoneRow (entry_or_row eq v q before.items) before (Count n) after
+      by_count zero e =
+          let left = (vacant e).1 in
+          let long = length_added laws v q before.items after.items left.means in
+          let within = left.bag.fits in
+          subst (λ (row : List T × Reply T). IsDoneRow row before (Count n) after) (sym (entry_or_row-vacant v q before.items e (omega arith)))
+          (record { reply_is = ap (λ k. Count k) (vacant e).0; left = left })
+      by_count (suc k) e =
+          let some : 0 < count eq v before.items = omega arith in
+          subst (λ (row : List T × Reply T). IsDoneRow row before (Count n) after) (sym (entry_or_row-occupied v q before.items some))
+          (record {
+            reply_is = ap (λ k. Count k) (occupied some).0;
+            left = subst (λ (b : Bag T S). IsBagOf eq before before.items b) (sym (occupied some).1) (record { means = IsPermutation-refl _; hasher = refl; bag = bag });
+          })

@@ -1,7 +1,10 @@
 -- The definitions compute. An item here is a key with a tag, and two items are equal where their keys are: so `(1, 10)` and
 -- `(1, 20)` are two instances of one value.
 use Rattle.std.specs.Prelude.{◌≡◌, ℕ, ◌==◌, Bool, List, [], ◌∷◌, Some, None, refl}
-use Rattle.std.proofs.Common.{lit<}
+use Rattle.std.proofs.Common.{lit<, sym}
+use Rattle.std.proofs.lemmas.Bool.{false≢true}
+use Rattle.std.proofs.lemmas.List.Elements.{All-from_recursion}
+use Rattle.std.specs.List.{IsDistinct, Contains}
 use Rattle.std.specs.List.Sorted.{IsPermutation}
 use Rattle.hashbag.specs.declared.script.Step.TheVariants.{Insert, Remove, Count as CountStep}
 use Rattle.hashbag.specs.declared.script.Reply.TheVariants.{Count, Left, Taken, Absent, Done, TooMany}
@@ -9,6 +12,7 @@ use Rattle.hashbag.specs.Bag.{occurrences}
 use Rattle.hashbag.specs.Occurrences.{greatest_total, alike, others, count, instance, instance_or_itself, stored, add, less, put, distinct_count, SameCounts}
 use Rattle.hashbag.specs.Rows.{insert_row, replace_row, remove_row, remove_up_to_row, try_take_row, take_all_row, entry_set_row, entry_or_row, quota, retained, retain_row, clear_row, count_row, reserve_row, shrink_to_fit_row}
 use Rattle.hashbag.specs.Script.{step, run, peak, arrivals, has_newcomer}
+use Rattle.hashbag.specs.Walks.{IsEach, IsSetWalk, IsWalk}
 
 abbrev Tagged : Type 0
 Tagged = ℕ × ℕ
@@ -81,6 +85,32 @@ rearranged = record { moves = (0, 1) ∷ []; below = (lit< tt, lit< tt, tt); is 
 
 entries_as_occurrences : occurrences {T = Tagged} (((1, 10), 2) ∷ ((2, 7), 1) ∷ []) ≡ (1, 10) ∷ (1, 10) ∷ (2, 7) ∷ []
 entries_as_occurrences = refl
+
+-- ---- walks
+
+-- 2 stands at place 0 of the values and at place 1 of the bag, 1 at place 1 and at place 0
+each_value : IsEach same_key bag ((2, 7) ∷ (1, 10) ∷ [])
+unfolding IsDistinct
+each_value =
+    let in_values = Contains ((2, 7) ∷ (1, 10) ∷ []) in
+    let two : in_values (2, 7) = (0, lit< tt, refl) in
+    let one : in_values (1, 10) = (1, lit< tt, refl) in
+    record {
+      once = ((refl, tt), (tt, tt));
+      all = All-from_recursion in_values bag (one, (two, (one, tt)));
+      only = All-from_recursion (Contains bag) ((2, 7) ∷ (1, 10) ∷ []) ((1, lit< tt, refl), ((0, lit< tt, refl), tt));
+    }
+
+-- no value stands twice
+no_each : IsEach same_key bag ((1, 10) ∷ (2, 7) ∷ (1, 10) ∷ []) → ⊥
+unfolding IsDistinct
+no_each h = false≢true (sym h.once.0.1.0)
+
+set_walk : IsSetWalk same_key bag (((2, 7), 1) ∷ ((1, 10), 2) ∷ [])
+set_walk = record { values = (2, 7) ∷ (1, 10) ∷ []; each = each_value; counts = refl }
+
+walk : IsWalk same_key bag ((2, 7) ∷ (1, 10) ∷ (1, 10) ∷ [])
+walk = record { values = (2, 7) ∷ (1, 10) ∷ []; each = each_value; pieces = refl }
 
 -- ---- the table of steps
 

@@ -1,7 +1,13 @@
 pub mod Bag
+pub mod Drain
+pub mod EntryCalls
 pub mod Examples
+pub mod Iter
+pub mod Lending
 pub mod Occurrences
 pub mod Rows
 pub mod Script
+pub mod Walks
+pub use Rattle.hashbag_table.specs.DrainWalk
 pub use Rattle.hashbag_table.specs.Entries
 pub use Rattle.hashbag_table.specs.Table

@@ -1,6 +1,9 @@
 //! `HashBag`: how often each of several values occurs.
 ghost use Rattle.std.specs.Prelude.{◌≡◌, ◌≢◌, ◌+◌, ◌-◌, ◌<◌, ◌≤◌, ◌↔◌, [], length, option_map, IsTrue, IsOk, IfOk, IfErr, OnOk, OnErr};
-ghost use Rattle.hashbag.specs.Occurrences.{greatest_total, count, stored, add, less, put, distinct_count, IsBag};
+ghost use Rattle.std.specs.List.Sorted.{IsPermutation};
+ghost use Rattle.hashbag_table.specs.Entries.{count_of, IsCounted};
+ghost use Rattle.hashbag.specs.Bag.{occurrences};
+ghost use Rattle.hashbag.specs.Occurrences.{greatest_total, count, stored, add, less, put, instance_or_itself, distinct_count, IsBag};
 ghost use Rattle.hashbag_table.specs.declared.table.TheConstants.{MOST_VALUES};
 ghost use Rattle.hashbag.specs.declared.bag.BagError.TheVariants.{Memory};
 
@@ -55,8 +58,8 @@ pub type FixedState = BuildHasherDefault<FoldHasher>;
 /// its values.
 #[derive(Drop)]
 pub struct HashBag<T: Eq + Hash + Drop, S: BuildHasher + Drop = FixedState> {
-    table: Table<T, S>,
-    len: usize,
+    pub(crate) table: Table<T, S>,
+    pub(crate) len: usize,
 }
 
 impl<T: Eq + Hash + Drop, S: BuildHasher + Drop> Model for HashBag<T, S> {
@@ -69,6 +72,25 @@ impl<T: Eq + Hash + Drop, S: BuildHasher + Drop> Model for HashBag<T, S> {
     ghost view = { λ a. record { items = occurrences a.table.entries; hasher = a.table.hasher } };
 
     ghost invariant = { λ a. IsTallied T.eq a.table.entries a.len };
+}
+
+// Gives a value that is there another count, and takes it out where that is 0.
+fn set_or_remove<T: Eq + Hash + Drop, S: BuildHasher + Drop>(
+    table: &mut Table<T, S>,
+    value: &T,
+    n: usize,
+)
+    requires counted { IsCounted T.eq table.old.entries }
+    requires present { 0 < count_of T.eq value.now table.old.entries }
+    ensures set { IsPermutation (put T.eq (instance_or_itself T.eq value.now (occurrences table.old.entries)) n (occurrences table.old.entries)) (occurrences table.new.entries) }
+    ensures hasher { table.new.hasher ≡ table.old.hasher }
+    ensures counted { IsCounted T.eq table.new.entries }
+{
+    if n == 0 {
+        let _ = table.remove(value);
+    } else {
+        table.set_count(value, n);
+    }
 }
 
 impl<T: Eq + Hash + Drop> HashBag<T, FixedState> {
@@ -236,7 +258,8 @@ impl<T: Eq + Hash + Drop, S: BuildHasher + Drop> HashBag<T, S> {
     {
         let before = self.contains(&value);
         if before == 0 {
-            return self.insert(value);
+            self.insert_new(value, 1)?;
+            return Ok(0);
         }
         self.table.put_instance(value)?;
         self.len = self.len - before + 1;
@@ -355,5 +378,30 @@ impl<T: Eq + Hash + Drop, S: BuildHasher + Drop> HashBag<T, S> {
     {
         self.table.shrink_to_fit()?;
         Ok(())
+    }
+
+    // Puts in some occurrences of a value that is absent.
+    pub(crate) fn insert_new(&mut self, value: T, quantity: usize) -> Result<(), BagError>
+        requires absent { count T.eq value self.old.items ≡ 0 }
+        requires some { 0 < quantity }
+        requires fits { length self.old.items + quantity ≤ greatest_total }
+        ensures added { OnOk result (IsBagOf T.eq self.old (add T.eq value quantity self.old.items) self.new) }
+        ensures memory { OnErr result (result ≡ Err BagError.Memory) }
+        ensures err { OnErr result (self.new ≡ self.old) }
+    {
+        self.table.insert_new(value, quantity)?;
+        self.len += quantity;
+        Ok(())
+    }
+
+    // Gives a value that is there, as often as `before`, another count, and takes it out where that is 0.
+    pub(crate) fn set_count(&mut self, value: &T, before: usize, n: usize)
+        requires before { before ≡ count T.eq value.now self.old.items }
+        requires present { 0 < before }
+        requires fits { length self.old.items - before + n ≤ greatest_total }
+        ensures { IsBagOf T.eq self.old (put T.eq (instance_or_itself T.eq value.now self.old.items) n self.old.items) self.new }
+    {
+        set_or_remove(&mut self.table, value, n);
+        self.len = self.len - before + n;
     }
 }

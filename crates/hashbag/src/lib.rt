@@ -2,6 +2,10 @@
 #![tactic(auto)]
 
 pub mod bag;
+pub mod entry;
+pub mod iters;
 pub mod script;
 
 pub use bag::{BagError, FixedState, HashBag};
+pub use entry::Entry;
+pub use iters::{Drain, IntoIter, Iter, SetIter};

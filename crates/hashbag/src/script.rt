@@ -2,7 +2,7 @@
 ghost use Rattle.std.specs.Prelude.{◌≡◌, ◌+◌, ◌-◌, ◌<◌, ◌≤◌, ◌++◌, ◌⊎◌, List, length, vec_len, vec_capacity, IfOk, OnOk, OnErr};
 ghost use Rattle.hashbag.specs.Bag.{Means, IsBagOf};
 ghost use Rattle.hashbag.specs.Occurrences.{greatest_total, count, IsBag};
-ghost use Rattle.hashbag.specs.Rows.{insert_row, replace_row, try_take_row, take_all_row};
+ghost use Rattle.hashbag.specs.Rows.{insert_row, replace_row, try_take_row, take_all_row, entry_set_row, entry_or_row};
 ghost use Rattle.hashbag.specs.Script.{step as step_of, run as run_of, IsRefusedInsertion, AsksForMemory, IsStopped};
 
 use crate::bag::{BagError, HashBag};
@@ -25,6 +25,11 @@ pub enum Step<T> {
     TryTake(T),
     /// [`HashBag::take_all`].
     TakeAll(T),
+    /// [`HashBag::entry`] with `and_modify` that sets the count: `Absent` where the value isn't there, `TooMany` where the total
+    /// would pass `usize::MAX`.
+    EntrySet(T, usize),
+    /// [`HashBag::entry`] with `or_insert_many`, or `TooMany` where the total would pass `usize::MAX`.
+    EntryOr(T, usize),
     /// [`HashBag::clear`].
     Clear,
     /// [`HashBag::contains`].
@@ -116,6 +121,52 @@ fn take_all<T: Eq + Hash + Drop, S: BuildHasher + Drop>(
     }
 }
 
+// Sets the count of a value that is there, if the total can have it.
+fn entry_set<T: Eq + Hash + Drop, S: BuildHasher + Drop>(
+    bag: &mut HashBag<T, S>,
+    value: T,
+    n: usize,
+) -> Reply<T>
+    ensures reply { result ≡ (entry_set_row T.eq value n bag.old.items).1 }
+    ensures left { IsBagOf T.eq bag.old (entry_set_row T.eq value n bag.old.items).0 bag.new }
+{
+    if bag.contains(&value) == 0 {
+        return Reply::Absent;
+    }
+    let set = |count: &mut usize|
+        ensures { count.new ≡ n }
+    {
+        *count = n;
+    };
+    match bag.entry(value).and_modify(set) {
+        Ok(entry) => {
+            drop(entry);
+            Reply::Done
+        }
+        Err(_) => Reply::TooMany,
+    }
+}
+
+// Puts in occurrences of a value that isn't there, if the total can have them.
+fn entry_or<T: Eq + Hash + Drop, S: BuildHasher + Drop>(
+    bag: &mut HashBag<T, S>,
+    value: T,
+    quantity: usize,
+) -> Result<Reply<T>, BagError>
+    ensures reply { IfOk result (λ reply. reply ≡ (entry_or_row T.eq value quantity bag.old.items).1) }
+    ensures left { OnOk result (IsBagOf T.eq bag.old (entry_or_row T.eq value quantity bag.old.items).0 bag.new) }
+    ensures memory { OnErr result (result ≡ Err BagError.Memory) }
+    ensures refused { OnErr result (IsRefusedInsertion T.eq value quantity bag.old.items) }
+    ensures err { OnErr result (bag.new ≡ bag.old) }
+{
+    let _len = bag.len();
+    match bag.entry(value).or_insert_many(quantity) {
+        Ok(count) => Ok(Reply::Count(count)),
+        Err(BagError::TooMany) => Ok(Reply::TooMany),
+        Err(BagError::Memory) => Err(BagError::Memory),
+    }
+}
+
 // Does one step, and answers it.
 fn apply<T: Eq + Hash + Drop, S: BuildHasher + Drop>(
     bag: &mut HashBag<T, S>,
@@ -139,6 +190,8 @@ fn apply<T: Eq + Hash + Drop, S: BuildHasher + Drop>(
         Step::RemoveUpTo(value, quantity) => Ok(Reply::Count(bag.remove_up_to(&value, quantity))),
         Step::TryTake(value) => Ok(try_take(bag, &value)),
         Step::TakeAll(value) => Ok(take_all(bag, &value)),
+        Step::EntrySet(value, n) => Ok(entry_set(bag, value, n)),
+        Step::EntryOr(value, quantity) => entry_or(bag, value, quantity),
         Step::Clear => {
             bag.clear();
             Ok(Reply::Done)
@@ -158,7 +211,7 @@ fn apply<T: Eq + Hash + Drop, S: BuildHasher + Drop>(
 /// Does the steps in turn, and appends a reply for each.
 ///
 /// Room for all replies is taken first: where it is refused, nothing changes. Then only an insertion of a value that is
-/// absent, a replacement, `Reserve` and `ShrinkToFit` can be refused for memory. The run stops there with `Memory`: the
+/// absent (`EntryOr` too), a replacement, `Reserve` and `ShrinkToFit` can be refused for memory. The run stops there with `Memory`: the
 /// steps before it have their replies and are done, that step left the bag as it was, and the rest of the steps is
 /// dropped. A total that would pass its end is the reply `TooMany`, and no error. No value is copied.
 pub fn run<T: Eq + Hash + Drop, S: BuildHasher + Drop>(

@@ -5,6 +5,7 @@
 pub mod plain;
 pub mod states;
 pub mod tagged;
+pub mod uses;
 
 pub use plain::PlainBag;
 pub use states::{IdentityState, OneState, ParityState};

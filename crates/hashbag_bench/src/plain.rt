@@ -1,7 +1,7 @@
 //! `PlainBag`: the plain, slow program that a bag is compared with.
 ghost use Rattle.std.specs.Prelude.{◌≡◌, ◌↔◌, [], length, IsTrue, IfOk, OnOk, OnErr};
 ghost use Rattle.hashbag.specs.Occurrences.{others, count, add, less, put, instance};
-ghost use Rattle.hashbag.specs.Rows.{insert_row, replace_row, remove_row, remove_up_to_row, try_take_row, take_all_row, clear_row, count_row};
+ghost use Rattle.hashbag.specs.Rows.{insert_row, replace_row, remove_row, remove_up_to_row, try_take_row, take_all_row, entry_set_row, entry_or_row, clear_row, count_row};
 ghost use Rattle.hashbag.specs.Script.{step as step_of};
 
 use hashbag::script::{Reply, Step};
@@ -206,6 +206,39 @@ impl<T: Eq + Copy> PlainBag<T> {
         Ok(Reply::Taken(instance, before))
     }
 
+    // What an entry's `and_modify` does where it sets the count.
+    fn entry_set_row(&mut self, value: &T, n: usize) -> Result<Reply<T>, AllocError>
+        ensures done { IfOk result (λ reply. (self.new, reply) ≡ entry_set_row T.eq value.now n self.old) }
+        ensures err { OnErr result (self.new ≡ self.old) }
+    {
+        let instance = self.instance(value).unwrap_or(*value);
+        let before = self.count(value);
+        if before == 0 {
+            return Ok(Reply::Absent);
+        }
+        if n > usize::MAX - self.len().saturating_sub(before) {
+            return Ok(Reply::TooMany);
+        }
+        self.put(instance, n)?;
+        Ok(Reply::Done)
+    }
+
+    // What an entry's `or_insert_many` does.
+    fn entry_or_row(&mut self, value: T, quantity: usize) -> Result<Reply<T>, AllocError>
+        ensures done { IfOk result (λ reply. (self.new, reply) ≡ entry_or_row T.eq value quantity self.old) }
+        ensures err { OnErr result (self.new ≡ self.old) }
+    {
+        let before = self.count(&value);
+        if before > 0 {
+            return Ok(Reply::Count(before));
+        }
+        if quantity > usize::MAX - self.len() {
+            return Ok(Reply::TooMany);
+        }
+        self.add(value, quantity)?;
+        Ok(Reply::Count(quantity))
+    }
+
     // What `contains` does.
     fn count_row(&self, value: &T) -> Reply<T>
         ensures { (self.now, result) ≡ count_row T.eq value.now self.now }
@@ -227,6 +260,8 @@ impl<T: Eq + Copy> PlainBag<T> {
             Step::RemoveUpTo(value, quantity) => self.remove_up_to_row(&value, quantity),
             Step::TryTake(value) => self.try_take_row(&value),
             Step::TakeAll(value) => self.take_all_row(&value),
+            Step::EntrySet(value, n) => self.entry_set_row(&value, n),
+            Step::EntryOr(value, quantity) => self.entry_or_row(value, quantity),
             Step::Clear => {
                 self.clear();
                 Ok(Reply::Done)

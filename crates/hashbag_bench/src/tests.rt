@@ -2,6 +2,8 @@
 //! hand, under each hash state.
 mod agreement;
 mod calls;
+mod entries;
 mod hashes;
 mod plain_calls;
 mod refusals;
+mod walks;

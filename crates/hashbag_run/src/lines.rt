@@ -47,6 +47,8 @@ fn step_of(verb: &str, first: Option<u64>, second: Option<u64>) -> Option<Step<u
         ("upto", Some(value), Some(quantity)) => Some(Step::RemoveUpTo(value, quantity as usize)),
         ("try", Some(value), None) => Some(Step::TryTake(value)),
         ("all", Some(value), None) => Some(Step::TakeAll(value)),
+        ("set", Some(value), Some(n)) => Some(Step::EntrySet(value, n as usize)),
+        ("or", Some(value), Some(quantity)) => Some(Step::EntryOr(value, quantity as usize)),
         ("clear", None, None) => Some(Step::Clear),
         ("count", Some(value), None) => Some(Step::Count(value)),
         ("reserve", Some(n), None) => Some(Step::Reserve(n as usize)),

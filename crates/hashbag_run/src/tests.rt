@@ -126,6 +126,17 @@ fn replies_to_each_verb(rt: HostRuntime) {
 }
 
 #[test]
+fn replies_to_entries(rt: HostRuntime) {
+    let script = "a or 4 3\na or 4 9\na set 4 0\na set 4 1\na or 6 0\na count 6\n\
+        a many 7 18446744073709551615\na or 8 1\na or 8 0\na set 7 2\na set 7 18446744073709551615\n\
+        a set 7 1\na or 8 2\na set 8 18446744073709551615\na count 8\n";
+    let replies = "a count 3\na count 3\na done\na absent\na count 0\na count 0\n\
+        a count 0\na too many\na count 0\na done\na done\n\
+        a done\na count 2\na too many\na count 2\n";
+    answers(rt.alloc(), &rt, script.as_bytes(), 0, replies);
+}
+
+#[test]
 fn totals_stop_at_their_end(rt: HostRuntime) {
     let script = "a many 7 18446744073709551615\na insert 8\na many 7 1\na many 8 0\n\
         a replace 8\na replace 7\na replace 8\na upto 7 0\n";
@@ -150,7 +161,7 @@ fn counts_lines_to_the_bad_one(rt: HostRuntime) {
 
 #[test]
 fn refuses_hostile_lines(rt: HostRuntime) {
-    let rows: [&[u8]; 26] = [
+    let rows: [&[u8]; 27] = [
         b"a  insert 5",
         b" a insert 5",
         b"A insert 5",
@@ -173,7 +184,8 @@ fn refuses_hostile_lines(rt: HostRuntime) {
         b"a reserve",
         b"a upto 5 -1",
         b"a retain",
-        b"a set 5 1",
+        b"a set 5",
+        b"a or",
         b"insert 5",
         b"a",
         b" ",

@@ -5,9 +5,12 @@ use Rattle.std.proofs.lemmas.Bool.{false≢true}
 use Rattle.std.specs.Map.{lookup, lookup_entry, lookup_key, remove_entry, set_value}
 use Rattle.std.specs.HashMap as hash
 use Rattle.std.specs.HashMap.{HashMap}
+use Rattle.std.specs.Cmp.{IsEquivalence}
 use Rattle.std.specs.List.Sorted.{IsPermutation}
-use Rattle.std.proofs.lemmas.List.Sorted.{IsPermutation-refl, IsPermutation-cons, IsPermutation-trans, IsPermutation-middle}
-use Rattle.hashbag_table.specs.Entries.{with_count, with_fewer, without, stored_or_itself, entry_of, count_of}
+use Rattle.std.proofs.lemmas.List.Sorted.{IsPermutation-refl, IsPermutation-cons, IsPermutation-trans, IsPermutation-middle, IsPermutation-map}
+use Rattle.std.proofs.lemmas.Map.Keys.{IsDistinct-IsPermutation}
+use Rattle.std.proofs.lemmas.Map.Views.{All-map-IsPermutation}
+use Rattle.hashbag_table.specs.Entries.{with_count, with_fewer, without, stored_or_itself, entry_of, count_of, IsCounted}
 
 some_is : {X : Type 0} (x y : X) → Some x ≡ Some y → x ≡ y
 some_is x y e = cc
@@ -147,3 +150,10 @@ module _ {T : Type 0} where
   absurd_entry test es some p =
       let none : lookup_entry test es ≡ None = entry_none_from_lookup test es (sym p) in
       false≢true (subst (λ (o : Option (T × ℕ)). IsSome o) none some)
+
+  -- a map of counts is one in any order
+  pub counted_rearranged : {eq : T → T → Bool} → IsEquivalence eq → (es fs : List (T × ℕ)) → IsPermutation es fs → IsCounted eq es → IsCounted eq fs
+  counted_rearranged {eq} laws es fs h counted = record {
+    distinct = IsDistinct-IsPermutation eq laws.symm _ _ (IsPermutation-map (λ (e : T × ℕ). e.0) es fs h) counted.distinct;
+    positive = All-map-IsPermutation (λ (e : T × ℕ). e.1) (λ n. 0 < n) es fs h counted.positive;
+  }

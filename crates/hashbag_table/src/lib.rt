@@ -4,5 +4,7 @@
 #![tactic(auto)]
 
 pub mod table;
+pub mod walk;
 
 pub use table::Table;
+pub use walk::{DrainWalk, IntoWalk, Walk};

@@ -1,8 +1,10 @@
 //! `Table`: a finite map from each distinct value to its stored instance and its count.
 ghost use Rattle.std.specs.Prelude.{◌≡◌, ◌+◌, ◌<◌, ◌≤◌, ◌^◌, [], ◌∷◌, length, None, IfOk, OnOk, OnErr, IsOk, IsErr, IsSome, option_map};
+ghost use Rattle.std.specs.Borrow.{sem};
 ghost use Rattle.std.specs.List.Sorted.{IsPermutation};
 ghost use Rattle.hashbag_table.specs.Entries.{entry_of, count_of, without, with_count, with_fewer, with_instance, IsCounted};
 
+use crate::walk::{DrainWalk, IntoWalk, Walk};
 use std::alloc::{AllocError, Global};
 use std::collections::HashMap;
 use std::hash::{BuildHasher, Hash};
@@ -37,6 +39,8 @@ impl<T: Eq + Hash + Drop, S: BuildHasher + Drop> Model for Table<T, S> {
 }
 
 impl<T: Eq + Hash + Drop, S: BuildHasher + Drop> Table<T, S> {
+    ghost use Rattle.hashbag_table.specs.DrainWalk.{drain_rest, drain_name, follows_drain};
+
     /// An empty table, whose values `hasher` hashes. It takes no memory.
     pub fn new(alloc: Global, hasher: S) -> Table<T, S>
         ensures empty { result.entries ≡ [] }
@@ -119,6 +123,21 @@ impl<T: Eq + Hash + Drop, S: BuildHasher + Drop> Table<T, S> {
         }
         self.map.insert(value, n)?;
         Ok(0)
+    }
+
+    /// Puts in a value that is absent, with a count. It hashes the value once.
+    ///
+    /// Where memory is refused the table is unchanged, and the value is dropped.
+    pub fn insert_new(&mut self, value: T, count: usize) -> Result<(), AllocError>
+        requires absent { entry_of T.eq value self.old.entries ≡ None }
+        requires some { 0 < count }
+        ensures inserted { OnOk result (IsPermutation (with_instance T.eq value count self.old.entries) self.new.entries) }
+        ensures hasher { self.new.hasher ≡ self.old.hasher }
+        ensures counted { IsCounted T.eq self.new.entries }
+        ensures err { OnErr result (self.new ≡ self.old) }
+    {
+        self.map.insert(value, count)?;
+        Ok(())
     }
 
     /// Gives a value that is present another count. It takes no memory, and hashes the value once.
@@ -217,5 +236,47 @@ impl<T: Eq + Hash + Drop, S: BuildHasher + Drop> Table<T, S> {
     {
         self.map.shrink_to_fit();
         Ok(())
+    }
+
+    /// Walks over the entries, in an open order: each value once, with its count.
+    ///
+    /// It takes no memory and hashes nothing, here and at each step.
+    pub fn walk(&self) -> Walk<'_, T>
+        ensures entries { IsPermutation self.now.entries result }
+        ensures counted { IsCounted T.eq self.now.entries }
+        ensures fits { length result < 2 ^ 63 }
+    {
+        Walk {
+            entries: self.map.iter(),
+        }
+    }
+
+    /// Takes all entries out, and walks over them, in an open order: each value once, with its count.
+    ///
+    /// The table is empty at once and keeps its state, however many entries are taken. The others are dropped with the walk.
+    /// Whether it keeps its room is open. It takes no memory and hashes nothing, here and at each step.
+    pub fn drain(&mut self) -> DrainWalk<'_, T>
+        ensures* writes_back { sem 𝓛 (follows_drain T.row S.row S.Hasher.row T.Hash S.BuildHasher S.Hasher.Hasher self.entry (drain_name result)) }
+        ensures entries { IsPermutation self.old.entries (drain_rest result) }
+        ensures counted { IsCounted T.eq self.old.entries }
+        ensures fits { length (drain_rest result) < 2 ^ 63 }
+    {
+        DrainWalk {
+            drained: self.map.drain(),
+        }
+    }
+
+    /// Makes a walk of the table, in an open order: each value once, with its count.
+    ///
+    /// Entries that are not taken are dropped with the walk. It takes no memory and hashes nothing, here and at each step.
+    pub fn into_walk(self) -> IntoWalk<T>
+        ensures entries { IsPermutation self.entries result }
+        ensures counted { IsCounted T.eq self.entries }
+        ensures fits { length result < 2 ^ 63 }
+    {
+        let Table { map, alloc: _ } = self;
+        IntoWalk {
+            owned: map.into_iter(),
+        }
     }
 }

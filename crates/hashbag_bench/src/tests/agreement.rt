@@ -52,7 +52,7 @@ fn next_number(number: u64) -> u64 {
 
 // A step on the value, or on all values. `amount` is at most 3.
 fn step_on<T: Drop>(choice: u64, value: T, amount: usize) -> Step<T> {
-    match choice % 24 {
+    match choice % 28 {
         0..=4 => Step::Insert(value),
         5..=8 => Step::InsertMany(value, amount),
         9 => Step::Replace(value),
@@ -63,6 +63,8 @@ fn step_on<T: Drop>(choice: u64, value: T, amount: usize) -> Step<T> {
         19 => Step::Reserve(amount),
         20 => Step::ShrinkToFit,
         21 if amount == 0 => Step::Clear,
+        22 | 23 => Step::EntrySet(value, amount),
+        24..=26 => Step::EntryOr(value, amount),
         _ => Step::Count(value),
     }
 }

@@ -12,8 +12,8 @@ returns-then-before-eq0-clause-put g c =
     let eq = g.T.PartialEq.eq in
     let X = c.args.self.now.items in
     let none : count eq c.args.value X ≡ 0 = sym c.contains-before.ensures.count ∙ c.if-before-eq0.true in
-    OnOk-map c.insert.result (IsBagOf eq c.args.self.now (add eq c.args.value 1 X) c.insert.new.self) (IsBagOf eq c.args.self.now (put eq c.args.value 1 X) c.insert.new.self)
-    (λ b. record { means = IsPermutation-trans _ _ _ (put_absent g.met.T.Eq.laws c.args.value 1 X none) b.means; hasher = b.hasher; bag = b.bag }) c.insert.ensures.added
+    let b = c.in_ok-insert_new.ensures.added in
+    record { means = IsPermutation-trans _ _ _ (put_absent g.met.T.Eq.laws c.args.value 1 X none) b.means; hasher = b.hasher; bag = b.bag }
 
 -- the count is that of the entry
 found : (g : _) (c : goal.After-put_instance-arg-1 g) → c.contains-before.result ≡ count_of g.T.PartialEq.eq c.args.value c.self.inside.table.entries

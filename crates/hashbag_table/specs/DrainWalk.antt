@@ -1,0 +1,26 @@
+-- What a `DrainWalk` still gives, and what becomes of the table that it empties.
+use Rattle.std.specs.Prelude.{ℕ, List, [], Bool}
+use Rattle.std.specs.Borrow.{Fml, GName, RattleType, MutBor, Array, usize, follows}
+use Rattle.std.specs.declared.hash.Hasher as hasher
+use Rattle.std.specs.declared.hash.BuildHasher as builder
+use Rattle.std.specs.HashMap.IterMut as map
+use Rattle.hashbag_table.specs.declared.walk.DrainWalk.{DrainWalk}
+use Rattle.hashbag_table.specs.contracts.table.Table.{the_row}
+use Rattle.hashbag_table.specs.Table.{Table}
+
+module _ {T : Type 0} where
+  -- the entries that are still to come
+  abbrev pub drain_rest : DrainWalk T → List (T × ℕ)
+  drain_rest s = map.drain_rest s.drained
+
+  -- the name of its loan of the table
+  abbrev pub drain_name : DrainWalk T → GName
+  drain_name s = map.drain_name s.drained
+
+-- the table with no entries, under the same state
+abbrev pub emptied : {T S : Type 0} → Table T S → Table T S
+emptied t = record { entries = []; hasher = t.hasher }
+
+-- once the loan named r has ended, the table behind t is empty
+abbrev pub follows_drain : (T S H : RattleType) (g : record { eq : T.Denot → T.Denot → Bool; hash_input : T.Denot → List (List ℕ) }) (b : builder.Ghosts S.Denot H.Denot) (w : hasher.Ghosts H.Denot) → MutBor (Table T.Denot S.Denot) → GName → Fml
+follows_drain T S H g b w t r = follows (the_row T S H (record { eq = g.eq }) (record { hash_input = g.hash_input }) b w) (Array usize 0) t.ghost_name r (λ _. emptied t.now)
