@@ -35,6 +35,10 @@ module _ {T : Type 0} (eq : T → T → Bool) where
   abbrev pub stored : T → List T → Option (T × ℕ)
   stored v X = option_map (λ i. (i, count v X)) (instance v X)
 
+  -- the instance of v with the count n, none where v is absent
+  abbrev pub counted : T → ℕ → List T → Option (T × ℕ)
+  counted v n X = option_map (λ i. (i, n)) (instance v X)
+
   -- X followed by n items, each of them the instance of v, or v itself where there is none
   abbrev pub add : T → ℕ → List T → List T
   add v n X = X ++ replicate n (instance_or_itself v X)

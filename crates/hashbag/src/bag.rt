@@ -1,9 +1,10 @@
 //! `HashBag`: how often each of several values occurs.
-ghost use Rattle.std.specs.Prelude.{◌≡◌, ◌≢◌, ◌+◌, ◌-◌, ◌<◌, ◌≤◌, ◌↔◌, [], length, option_map, IsTrue, IsOk, IfOk, IfErr, OnOk, OnErr};
+ghost use Rattle.std.specs.Borrow.{sem};
+ghost use Rattle.std.specs.Prelude.{◌≡◌, ◌≢◌, ◌+◌, ◌-◌, ◌<◌, ◌≤◌, ◌↔◌, [], length, option_map, IsTrue, IsOk, IfOk, IfErr, IsErrAnd, OnOk, OnErr};
 ghost use Rattle.std.specs.List.Sorted.{IsPermutation};
 ghost use Rattle.hashbag_table.specs.Entries.{count_of, IsCounted};
 ghost use Rattle.hashbag.specs.Bag.{occurrences};
-ghost use Rattle.hashbag.specs.Occurrences.{greatest_total, count, stored, add, less, put, instance_or_itself, distinct_count, IsBag};
+ghost use Rattle.hashbag.specs.Occurrences.{greatest_total, count, counted, stored, add, less, put, instance_or_itself, distinct_count, IsBag};
 ghost use Rattle.hashbag_table.specs.declared.table.TheConstants.{MOST_VALUES};
 ghost use Rattle.hashbag.specs.declared.bag.BagError.TheVariants.{Memory};
 
@@ -119,6 +120,7 @@ impl<T: Eq + Hash + Drop> HashBag<T, FixedState> {
 
 impl<T: Eq + Hash + Drop, S: BuildHasher + Drop> HashBag<T, S> {
     ghost use Rattle.hashbag.specs.Bag.{IsBagOf};
+    ghost use Rattle.hashbag.specs.Lending.{ends_meaning};
 
     /// An empty bag, whose values `hasher` hashes. It takes no memory.
     pub fn with_hasher(alloc: Global, hasher: S) -> HashBag<T, S>
@@ -303,13 +305,28 @@ impl<T: Eq + Hash + Drop, S: BuildHasher + Drop> HashBag<T, S> {
     ///
     /// It lowers the count in place and takes no memory.
     pub fn try_take(&mut self, value: &T) -> Result<T, Option<(&T, usize)>>
+        // Once the loan is over.
+        ensures* left { sem 𝓛 (ends_meaning T.row S.row S.Hasher.row T.Hash S.BuildHasher S.Hasher.Hasher self.entry (less T.eq value.now 1 self.old.items)) }
         ensures last { IfOk result (λ instance. stored T.eq value.now self.old.items ≡ Some (instance, 1)) }
         ensures others { IfErr result (λ found. (option_map (λ e. (e.0.now, e.1)) found ≡ stored T.eq value.now self.old.items) × (count T.eq value.now self.old.items ≢ 1)) }
     {
-        match self.take_one(value) {
+        HashBag::with_rest(self.take_one(value), self, value)
+    }
+
+    // What was taken, or else the stored instance, of which some are left, with how many there were.
+    fn with_rest<'a>(
+        taken: Result<T, usize>,
+        bag: &'a HashBag<T, S>,
+        value: &T,
+    ) -> Result<T, Option<(&'a T, usize)>>
+        ensures last { IfOk taken (λ instance. result ≡ Ok instance) }
+        ensures absent { IfErr taken (λ before. before ≡ 0 → result ≡ Err None) }
+        ensures others { IfErr taken (λ before. before ≢ 0 → IsErrAnd result (λ found. option_map (λ e. (e.0.now, e.1)) found ≡ counted T.eq value.now before bag.now.items)) }
+    {
+        match taken {
             Ok(instance) => Ok(instance),
             Err(0) => Err(None),
-            Err(before) => match self.get(value) {
+            Err(before) => match bag.get(value) {
                 Some((instance, _)) => Err(Some((instance, before))),
                 None => Err(None),
             },

@@ -27,54 +27,74 @@ fn sample_bag<S: BuildHasher + Drop>(
     Ok(bag)
 }
 
-fn insert_name(rt: &impl Abort, bag: &mut HashBag<String>, name: String) -> Result<(), Fail> {
+fn insert_name<S: BuildHasher + Drop>(
+    rt: &impl Abort,
+    bag: &mut HashBag<String, S>,
+    name: String,
+) -> Result<(), Fail> {
     assert!(rt; bag.len() < 3);
     bag.insert(name)?;
     Ok(())
 }
 
 // Einar twice and Harald once.
-fn three_names(rt: &impl Abort, alloc: Global) -> Result<HashBag<String>, Fail> {
-    let mut bag = HashBag::new(alloc);
+fn three_names<S: BuildHasher + Drop>(
+    rt: &impl Abort,
+    alloc: Global,
+    state: S,
+) -> Result<HashBag<String, S>, Fail> {
+    let mut bag = HashBag::with_hasher(alloc, state);
     insert_name(rt, &mut bag, String::from_str(alloc, "Einar")?)?;
     insert_name(rt, &mut bag, String::from_str(alloc, "Harald")?)?;
     insert_name(rt, &mut bag, String::from_str(alloc, "Einar")?)?;
     Ok(bag)
 }
 
-#[test]
-fn names_one_by_one(rt: HostRuntime) -> Result<(), Fail> {
-    let bag = three_names(&rt, rt.alloc())?;
+fn names_one_by_one<S: BuildHasher + Drop>(rt: &impl Abort, bag: &HashBag<String, S>) {
     assert_eq!(rt; bag.iter().size_hint(), (3, Some(3)));
     assert_eq!(rt; bag.iter().count(), 3);
     let einars = bag.iter().filter(|name| name.as_str() == "Einar").count();
     assert_eq!(rt; einars, 2);
-    Ok(())
 }
 
-#[test]
-fn names_with_counts(rt: HostRuntime) -> Result<(), Fail> {
-    let bag = three_names(&rt, rt.alloc())?;
+fn names_with_counts<S: BuildHasher + Drop>(rt: &impl Abort, bag: &HashBag<String, S>) {
     assert_eq!(rt; bag.set_iter().size_hint(), (2, Some(2)));
     assert_eq!(rt; bag.set_iter().count(), 2);
     for (name, count) in bag.set_iter() {
         let want = if name.as_str() == "Einar" { 2 } else { 1 };
         assert_eq!(rt; count, want, "of {name}");
     }
-    Ok(())
 }
 
-#[test]
-fn names_taken_out(rt: HostRuntime) -> Result<(), Fail> {
-    let mut bag = three_names(&rt, rt.alloc())?;
+fn one_name_taken_out<S: BuildHasher + Drop>(rt: &impl Abort, bag: &mut HashBag<String, S>) {
     let mut drain = bag.drain();
     assert_eq!(rt; drain.size_hint(), (2, Some(2)));
     assert!(rt; drain.next().is_some());
     assert_eq!(rt; drain.size_hint(), (1, Some(1)));
     drop(drain);
     assert_eq!(rt; bag.len(), 0);
-    assert!(rt; bag.set_iter().next().is_none());
+    assert_eq!(rt; bag.set_len(), 0);
+}
+
+fn walks_over_names<S: BuildHasher + Drop>(
+    rt: &impl Abort,
+    alloc: Global,
+    state: S,
+) -> Result<(), Fail> {
+    let mut bag = three_names(rt, alloc, state)?;
+    names_one_by_one(rt, &bag);
+    names_with_counts(rt, &bag);
+    one_name_taken_out(rt, &mut bag);
     Ok(())
+}
+
+#[test]
+fn walks_over_three_names(rt: HostRuntime) -> Result<(), Fail> {
+    let alloc = rt.alloc();
+    walks_over_names(&rt, alloc, FixedState::new())?;
+    walks_over_names(&rt, alloc, OneState)?;
+    walks_over_names(&rt, alloc, ParityState)?;
+    walks_over_names(&rt, alloc, IdentityState)
 }
 
 // What the sample bag answers after a walk that borrowed it.
@@ -299,8 +319,12 @@ fn moved_out_whole_and_in_part(rt: HostRuntime) -> Result<(), Fail> {
     Ok(())
 }
 
-fn five_three_times(rt: &impl Abort, alloc: Global) -> Result<HashBag<u64>, Fail> {
-    let mut bag = HashBag::new(alloc);
+fn five_three_times<S: BuildHasher + Drop>(
+    rt: &impl Abort,
+    alloc: Global,
+    state: S,
+) -> Result<HashBag<u64, S>, Fail> {
+    let mut bag = HashBag::with_hasher(alloc, state);
     for _ in 0..3 {
         assert!(rt; bag.len() < 3);
         bag.insert(5)?;
@@ -308,10 +332,12 @@ fn five_three_times(rt: &impl Abort, alloc: Global) -> Result<HashBag<u64>, Fail
     Ok(bag)
 }
 
-#[test]
-fn texts_of_debug(rt: HostRuntime) -> Result<(), Fail> {
-    let alloc = rt.alloc();
-    let bag = five_three_times(&rt, alloc)?;
+fn texts_of_five<S: BuildHasher + Drop>(
+    rt: &impl Abort,
+    alloc: Global,
+    state: S,
+) -> Result<(), Fail> {
+    let mut bag = five_three_times(rt, alloc, state)?;
     assert_eq!(rt; format!(in alloc; "{bag:?}")?.as_str(), "{5, 5, 5}");
     let mut walk = bag.iter();
     assert_eq!(rt; format!(in alloc; "{walk:?}")?.as_str(), "{5, 5, 5}");
@@ -319,17 +345,39 @@ fn texts_of_debug(rt: HostRuntime) -> Result<(), Fail> {
     assert_eq!(rt; format!(in alloc; "{walk:?}")?.as_str(), "{5, 5}");
     let set_walk = bag.set_iter();
     assert_eq!(rt; format!(in alloc; "{set_walk:?}")?.as_str(), "{(5, 3)}");
+    let entry = bag.entry(5);
+    assert_eq!(rt; format!(in alloc; "{entry:?}")?.as_str(), "Entry(5, 3)");
     Ok(())
 }
 
-#[test]
-fn texts_of_an_empty_bag(rt: HostRuntime) -> Result<(), Fail> {
-    let alloc = rt.alloc();
-    let bag: HashBag<u64, OneState> = HashBag::with_hasher(alloc, OneState);
+fn texts_of_nothing<S: BuildHasher + Drop>(
+    rt: &impl Abort,
+    alloc: Global,
+    state: S,
+) -> Result<(), Fail> {
+    let bag: HashBag<u64, S> = HashBag::with_hasher(alloc, state);
     assert_eq!(rt; format!(in alloc; "{bag:?}")?.as_str(), "{}");
     let walk = bag.iter();
     assert_eq!(rt; format!(in alloc; "{walk:?}")?.as_str(), "{}");
     let set_walk = bag.set_iter();
     assert_eq!(rt; format!(in alloc; "{set_walk:?}")?.as_str(), "{}");
     Ok(())
+}
+
+#[test]
+fn texts_of_debug(rt: HostRuntime) -> Result<(), Fail> {
+    let alloc = rt.alloc();
+    texts_of_five(&rt, alloc, FixedState::new())?;
+    texts_of_five(&rt, alloc, OneState)?;
+    texts_of_five(&rt, alloc, ParityState)?;
+    texts_of_five(&rt, alloc, IdentityState)
+}
+
+#[test]
+fn texts_of_an_empty_bag(rt: HostRuntime) -> Result<(), Fail> {
+    let alloc = rt.alloc();
+    texts_of_nothing(&rt, alloc, FixedState::new())?;
+    texts_of_nothing(&rt, alloc, OneState)?;
+    texts_of_nothing(&rt, alloc, ParityState)?;
+    texts_of_nothing(&rt, alloc, IdentityState)
 }
