@@ -1,8 +1,9 @@
 //! `Table`: a finite map from each distinct value to its stored instance and its count.
-ghost use Rattle.std.specs.Prelude.{◌≡◌, ◌+◌, ◌<◌, ◌≤◌, ◌^◌, [], ◌∷◌, length, None, IfOk, OnOk, OnErr, IsOk, IsErr, IsSome, option_map};
+ghost use Rattle.std.specs.Prelude.{◌≡◌, ◌+◌, ◌<◌, ◌≤◌, ◌^◌, ℕ, min, nat_lt, [], ◌∷◌, All, length, true, None, IfOk, OnOk, OnErr, IsOk, IsErr, IsSome, option_map};
 ghost use Rattle.std.specs.Borrow.{sem};
 ghost use Rattle.std.specs.List.Sorted.{IsPermutation};
-ghost use Rattle.hashbag_table.specs.Entries.{entry_of, count_of, without, with_count, with_fewer, with_instance, IsCounted};
+ghost use Rattle.hashbag_table.specs.Asked.{MayAskInTurn, Retains};
+ghost use Rattle.hashbag_table.specs.Entries.{entry_of, count_of, without, with_count, with_fewer, with_instance, total, IsCounted, HasClones};
 
 use crate::walk::{DrainWalk, IntoWalk, Walk};
 use std::alloc::{AllocError, Global};
@@ -209,6 +210,43 @@ impl<T: Eq + Hash + Drop, S: BuildHasher + Drop> Table<T, S> {
         self.map.clear();
     }
 
+    /// Asks `f` once for each value, with its count, in an open order. The value keeps the lesser of its count and the answer,
+    /// and goes where that is 0. It answers the total of the counts that are left.
+    ///
+    /// It takes no memory and hashes nothing. The caller sees to it that the total fits.
+    pub fn retain<F: FnMut(&T, usize) -> usize + Drop>(&mut self, mut f: F) -> usize
+        requires asks { (walk : _) → IsPermutation self.old.entries walk → MayAskInTurn F.FnMut f walk }
+        requires fits { total self.old.entries < 2 ^ 64 }
+        ensures kept { Retains F.FnMut f self.old.entries self.new.entries }
+        ensures total { result ≡ total self.new.entries }
+        ensures hasher { self.new.hasher ≡ self.old.hasher }
+        ensures counted { IsCounted T.eq self.new.entries }
+    {
+        self.map.retain(
+            |value: &T, count: &mut usize| -> bool
+                requires { F.pre f value count.old }
+                ensures { (a : ℕ) × F.step f.entry value.entry count.old a f.exit × (count.new ≡ min a count.old) × (result ≡ nat_lt 0 (min a count.old)) }
+            {
+                let left = f(value, *count).min(*count);
+                *count = left;
+                left > 0
+            },
+        );
+        self.total()
+    }
+
+    // The total of all counts.
+    fn total(&self) -> usize
+        requires fits { total self.now.entries < 2 ^ 64 }
+        ensures { result ≡ total self.now.entries }
+    {
+        let mut sum = 0;
+        for (_, count) in self.walk() {
+            sum += count;
+        }
+        sum
+    }
+
     /// Makes room for `n` more distinct values. The entries stay, and so does the table where memory is refused.
     ///
     /// With `n` 0 it takes no memory and succeeds. A request with which there would be more than [`MOST_VALUES`] is refused
@@ -278,5 +316,26 @@ impl<T: Eq + Hash + Drop, S: BuildHasher + Drop> Table<T, S> {
         IntoWalk {
             owned: map.into_iter(),
         }
+    }
+
+    /// A table with clones of all entries, under a clone of the state. This table stays as it is.
+    ///
+    /// The caller sees to it that clones of the values equal them. It makes room for all entries at once, and hashes each clone
+    /// once. Where memory is refused, to a clone of a value or of the state too, there is no new table.
+    pub fn clone_in(&self) -> Result<Table<T, S>, AllocError>
+    where
+        T: Clone,
+        S: Clone,
+        requires equal { All (λ e. (x : _) → T.is_clone e.0 x → T.eq e.0 x ≡ true) self.now.entries }
+        ensures clones { IfOk result (λ table. HasClones (λ e c. T.is_clone e.0 c.0 × (c.1 ≡ e.1)) self.now.entries table.entries) }
+        ensures hasher { IfOk result (λ table. S.is_clone self.now.hasher table.hasher) }
+    {
+        let hasher = self.hasher().clone()?;
+        let mut table = Table::with_room(self.alloc, hasher, self.set_len())?;
+        for (value, count) in self.walk() {
+            let clone = value.clone()?;
+            table.insert_new(clone, count)?;
+        }
+        Ok(table)
     }
 }

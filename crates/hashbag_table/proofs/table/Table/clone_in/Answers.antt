@@ -1,0 +1,44 @@
+use Rattle.std.proofs.Common.{◌++◌, ◌∷◌, [], List, ℕ, ap, subst, append_assoc, ◌∙◌, sym}
+use Rattle.std.specs.List.Sorted.{IsPermutation}
+use Rattle.std.proofs.lemmas.List.{append-nil}
+use Rattle.hashbag_table.proofs.CloneLemmas.{IsCopy, next_is_new, next_is_some, copied, clones_reordered}
+use Rattle.hashbag_table.proofs.table.Table.clone_in.Goals as goal
+
+pub insert_new-requires-clause-absent : goal.insert_new-requires-clause-absent
+insert_new-requires-clause-absent g c =
+    let so_far = c.loop-value.invariant.0 in
+    let order = subst (λ (l : List (g.row.T.Denot × ℕ)). IsPermutation c.args.self.now.entries (so_far.0 ++ l)) c.in-Some.ensures.steps so_far.1 in
+    next_is_new g.met.T.Eq.laws g.T.Clone.is_clone c.args.self.now.entries so_far.0 c.next.new.self c.loop-value.table.entries (c.in-Some.value.now, c.in-Some.count) c.in_ok-clone.clone
+    c.requires.equal c.walk-value-items.ensures.counted.distinct order so_far.2 c.in_ok-clone.ensures.cases
+
+pub insert_new-requires-clause-some : goal.insert_new-requires-clause-some
+insert_new-requires-clause-some g c =
+    let so_far = c.loop-value.invariant.0 in
+    let order = subst (λ (l : List (g.row.T.Denot × ℕ)). IsPermutation c.args.self.now.entries (so_far.0 ++ l)) c.in-Some.ensures.steps so_far.1 in
+    next_is_some c.args.self.now.entries so_far.0 c.next.new.self (c.in-Some.value.now, c.in-Some.count) c.walk-value-items.ensures.counted.positive order
+
+pub loop-value-preserved : goal.loop-value-preserved
+loop-value-preserved g c =
+    let so_far = c.loop-value.invariant.0 in
+    let entry : g.row.T.Denot × ℕ = (c.in-Some.value.now, c.in-Some.count) in
+    let order = subst (λ (l : List (g.row.T.Denot × ℕ)). IsPermutation c.args.self.now.entries (so_far.0 ++ l)) c.in-Some.ensures.steps so_far.1 in
+    let absent = next_is_new g.met.T.Eq.laws g.T.Clone.is_clone c.args.self.now.entries so_far.0 c.next.new.self c.loop-value.table.entries entry c.in_ok-clone.clone
+    c.requires.equal c.walk-value-items.ensures.counted.distinct order so_far.2 c.in_ok-clone.ensures.cases in (
+      (
+        so_far.0 ++ entry ∷ [],
+        rw (append_assoc so_far.0 (entry ∷ []) c.next.new.self) order,
+        copied g.met.T.Eq.laws g.T.Clone.is_clone so_far.0 c.loop-value.table.entries c.insert_new.new.self.entries entry c.in_ok-clone.clone so_far.2 c.in_ok-clone.ensures.cases absent c.in_ok-insert_new.ensures.inserted,
+      ),
+      c.insert_new.ensures.hasher ∙ c.loop-value.invariant.1,
+    )
+
+pub returns-clause-clones : goal.returns-clause-clones
+returns-clause-clones g c =
+    let so_far = c.loop-value.invariant.0 in
+    let order = subst (λ (l : List (g.row.T.Denot × ℕ)). IsPermutation c.args.self.now.entries l) (ap (λ (l : List (g.row.T.Denot × ℕ)). so_far.0 ++ l) c.in-None.ensures.steps.0 ∙ append-nil so_far.0) so_far.1 in
+    clones_reordered (IsCopy g.met.T.Eq.laws g.T.Clone.is_clone) c.args.self.now.entries so_far.0 c.loop-value.table.entries order so_far.2
+
+pub returns-clause-hasher : goal.returns-clause-hasher
+returns-clause-hasher g c =
+    let cloned = subst (λ (h : g.row.S.Denot). g.S.Clone.is_clone h c.in_ok-hasher.hasher) c.hasher.ensures c.in_ok-hasher.ensures.cases in
+    subst (λ (h : g.row.S.Denot). g.S.Clone.is_clone c.args.self.now.hasher h) (sym (c.loop-value.invariant.1 ∙ c.in_ok-table.ensures.hasher)) cloned
