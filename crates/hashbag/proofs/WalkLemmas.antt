@@ -79,7 +79,8 @@ module _ {T : Type 0} {eq : T → T → Bool} (laws : IsEquivalence eq) where
       (Contains-append_left copies rest e.0 (copies_have e.1 e.0 (All-head (λ n. 0 < n) e.1 (values_of es) h)))
       (All-weaker (λ y. Contains rest y) (λ y. Contains (copies ++ rest) y) (λ y. Contains-append_right copies rest y) (keys_of es) (only_occurrences es (All-tail (λ n. 0 < n) e.1 (values_of es) h)))
 
-  counts_at_places : (es : List (T × ℕ)) → IsDistinct eq (keys_of es) → All (λ e. (e.0, count eq e.0 (occurrences es)) ≡ e) es
+  -- each entry has the count of its value among the occurrences
+  pub counts_at_places : (es : List (T × ℕ)) → IsDistinct eq (keys_of es) → All (λ e. (e.0, count eq e.0 (occurrences es)) ≡ e) es
   counts_at_places es distinct = λ k d below.
       let e = get_or es k d in
       let found = lookup_from_place laws es k e.0 e.1 distinct (slice_get-get_or es k d below) in

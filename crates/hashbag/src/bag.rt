@@ -1,12 +1,19 @@
 //! `HashBag`: how often each of several values occurs.
 ghost use Rattle.std.specs.Borrow.{sem};
-ghost use Rattle.std.specs.Prelude.{◌≡◌, ◌≢◌, ◌+◌, ◌-◌, ◌<◌, ◌≤◌, ◌↔◌, [], length, option_map, IsTrue, IsOk, IfOk, IfErr, IsErrAnd, OnOk, OnErr};
+ghost use Rattle.std.specs.Prelude.{◌≡◌, ◌≢◌, ◌+◌, ◌-◌, ◌<◌, ◌≤◌, ◌↔◌, [], All, true, length, option_map, IsTrue, IsOk, IfOk, IfErr, IsErrAnd, OnOk, OnErr};
 ghost use Rattle.std.specs.List.Sorted.{IsPermutation};
-ghost use Rattle.hashbag_table.specs.Entries.{count_of, IsCounted};
+ghost use Rattle.hashbag_table.specs.Asked.{MayAskInTurn};
+ghost use Rattle.hashbag_table.specs.Entries.{count_of, IsCounted, HasClones};
 ghost use Rattle.hashbag.specs.Bag.{occurrences};
-ghost use Rattle.hashbag.specs.Occurrences.{greatest_total, count, counted, stored, add, less, put, instance_or_itself, distinct_count, IsBag};
+ghost use Rattle.hashbag.specs.Occurrences.{greatest_total, count, counted, stored, add, less, put, instance_or_itself, distinct_count, IsBag, SameCounts};
+ghost use Rattle.hashbag.specs.Extends.{Refuses};
+ghost use Rattle.hashbag.specs.Retain.{IsRetained};
+ghost use Rattle.hashbag.specs.Walks.{IsSetWalk};
 ghost use Rattle.hashbag_table.specs.declared.table.TheConstants.{MOST_VALUES};
 ghost use Rattle.hashbag.specs.declared.bag.BagError.TheVariants.{Memory};
+
+mod equality;
+mod extends;
 
 use hashbag_table::Table;
 use std::alloc::{AllocError, Global};
@@ -370,6 +377,17 @@ impl<T: Eq + Hash + Drop, S: BuildHasher + Drop> HashBag<T, S> {
         self.len = 0;
     }
 
+    /// Asks `f` once for each distinct value, with its count, in an open order, how many of it are to stay. The value keeps the
+    /// lesser of its count and the answer, and goes with its stored instance where that is 0.
+    ///
+    /// It takes no memory and hashes nothing.
+    pub fn retain<F: FnMut(&T, usize) -> usize + Drop>(&mut self, f: F)
+        requires asks { (walk : _) → IsSetWalk T.eq self.old.items walk → MayAskInTurn F.FnMut f walk }
+        ensures { IsRetained T.eq F.FnMut f self.old self.new }
+    {
+        self.len = self.table.retain(f);
+    }
+
     /// Makes room for `n` more distinct values. What occurs stays.
     ///
     /// It answers `Memory` where memory is refused, and before memory is asked for where there would be more than 3 * 2^57
@@ -395,6 +413,42 @@ impl<T: Eq + Hash + Drop, S: BuildHasher + Drop> HashBag<T, S> {
     {
         self.table.shrink_to_fit()?;
         Ok(())
+    }
+
+    /// A bag with clones of all stored instances, each as often as here, under a clone of the state. This bag stays as it is.
+    ///
+    /// The caller sees to it that clones of the values equal them. It answers `Memory` where memory is refused, to a clone of a
+    /// value or of the state too: there is then no new bag. It makes room for all values at once, and hashes each clone once.
+    pub fn clone(&self) -> Result<HashBag<T, S>, BagError>
+    where
+        T: Clone,
+        S: Clone,
+        requires equal { All (λ x. (y : _) → T.is_clone x y → T.eq x y ≡ true) self.now.items }
+        ensures clones { IfOk result (λ bag. HasClones T.is_clone self.now.items bag.items) }
+        ensures counts { IfOk result (λ bag. SameCounts T.eq self.now.items bag.items) }
+        ensures hasher { IfOk result (λ bag. S.is_clone self.now.hasher bag.hasher) }
+        ensures memory { OnErr result (result ≡ Err BagError.Memory) }
+    {
+        let table = self.table.clone_in()?;
+        Ok(HashBag {
+            table,
+            len: self.len,
+        })
+    }
+
+    // Adds occurrences of a value if the total can have them.
+    fn insert_within(&mut self, value: T, n: usize) -> Result<(), BagError>
+        ensures added { OnOk result (IsBagOf T.eq self.old (add T.eq value n self.old.items) self.new) }
+        ensures refused { IfErr result (Refuses T.eq self.old.items value n) }
+        ensures err { OnErr result (self.new ≡ self.old) }
+    {
+        if n > usize::MAX - self.len() {
+            return Err(BagError::TooMany);
+        }
+        match self.insert_many(value, n) {
+            Ok(_) => Ok(()),
+            Err(_) => Err(BagError::Memory),
+        }
     }
 
     // Puts in some occurrences of a value that is absent.
