@@ -19,9 +19,8 @@ use Rattle.hashbag.specs.Iter.{occurrences_left, IsPending}
 use Rattle.hashbag.specs.Occurrences.{count}
 use Rattle.hashbag.specs.Walks.{IsEach, IsSetWalk, IsSetWalkOf, IsWalk, IsWalkOf}
 use Rattle.hashbag.proofs.DistinctLemmas.{distinct_count-occurrences}
-use Rattle.hashbag_table.proofs.ListLemmas.{IsPermutation-flat_map}
 use Rattle.hashbag.proofs.MemberLemmas.{Contains-head, map_ext, map-map}
-use Rattle.hashbag.proofs.OccurrenceLemmas.{count_rearranged, count_occurrences, all_occurrences, bag_from_tally}
+use Rattle.hashbag.proofs.OccurrenceLemmas.{count_rearranged, count_occurrences, all_occurrences, bag_from_tally, occurrences_rearranged}
 
 -- the occurrences of entries are as many as their counts together
 pub length_occurrences : {T : Type 0} (es : List (T × ℕ)) → length (occurrences es) ≡ sum_by (λ e. e.1) es
@@ -35,10 +34,6 @@ length_le_total {T} (e ∷ es) h =
     let more = length_le_total es (All-tail (λ n. 0 < n) e.1 (values_of es) h) in
     let sum = sum_by-cons (λ (e : T × ℕ). e.1) e es in
     omega arith
-
--- they are a rearrangement where the entries are
-pub occurrences_rearranged : {T : Type 0} (es fs : List (T × ℕ)) → IsPermutation es fs → IsPermutation (occurrences es) (occurrences fs)
-occurrences_rearranged es fs h = IsPermutation-flat_map (λ e. replicate e.1 e.0) es fs h
 
 module _ {T : Type 0} {eq : T → T → Bool} (laws : IsEquivalence eq) where
   -- ---- whatever the order of the list
@@ -116,7 +111,7 @@ module _ {T : Type 0} {eq : T → T → Bool} (laws : IsEquivalence eq) where
 
   -- ---- from the entries of a bag's table, in whatever order they come
 
-  set_walk_of_table : (es W : List (T × ℕ)) (X : List T) → IsCounted eq es → IsPermutation es W → IsPermutation X (occurrences es) → IsSetWalk eq X W
+  pub set_walk_of_table : (es W : List (T × ℕ)) (X : List T) → IsCounted eq es → IsPermutation es W → IsPermutation X (occurrences es) → IsSetWalk eq X W
   set_walk_of_table es W X counted p means =
       set_walk_rearranged (occurrences W) X W
       (IsPermutation-sym _ _ (IsPermutation-trans _ _ _ means (occurrences_rearranged es W p)))

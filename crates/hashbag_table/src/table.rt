@@ -329,6 +329,7 @@ impl<T: Eq + Hash + Drop, S: BuildHasher + Drop> Table<T, S> {
         requires equal { All (λ e. (x : _) → T.is_clone e.0 x → T.eq e.0 x ≡ true) self.now.entries }
         ensures clones { IfOk result (λ table. HasClones (λ e c. T.is_clone e.0 c.0 × (c.1 ≡ e.1)) self.now.entries table.entries) }
         ensures hasher { IfOk result (λ table. S.is_clone self.now.hasher table.hasher) }
+        ensures counted { IfOk result (λ table. IsCounted T.eq table.entries) }
     {
         let hasher = self.hasher().clone()?;
         let mut table = Table::with_room(self.alloc, hasher, self.set_len())?;

@@ -30,6 +30,7 @@ loop-value-preserved g c =
         copied g.met.T.Eq.laws g.T.Clone.is_clone so_far.0 c.loop-value.table.entries c.insert_new.new.self.entries entry c.in_ok-clone.clone so_far.2 c.in_ok-clone.ensures.cases absent c.in_ok-insert_new.ensures.inserted,
       ),
       c.insert_new.ensures.hasher ∙ c.loop-value.invariant.1,
+      c.insert_new.ensures.counted,
     )
 
 pub returns-clause-clones : goal.returns-clause-clones

@@ -1,6 +1,6 @@
 use Rattle.std.proofs.Common.{◌≡◌, ℕ, List, ◌++◌}
 use Rattle.std.specs.List.Sorted.{IsPermutation}
-use Rattle.hashbag_table.specs.Entries.{HasClones}
+use Rattle.hashbag_table.specs.Entries.{HasClones, IsCounted}
 use Rattle.hashbag_table.proofs.CloneLemmas.{IsCopy}
 use Rattle.hashbag_table.proofs.table.Table.clone_in.Given as goal
 
@@ -9,3 +9,4 @@ abbrev pub invariant-loop-value : goal.invariant-loop-value
 invariant-loop-value g l =
     ((done : List (g.row.T.Denot × ℕ)) × IsPermutation l.self.entries (done ++ l.value-iterator) × HasClones (IsCopy {eq = g.T.PartialEq.eq} g.met.T.Eq.laws g.T.Clone.is_clone) done l.table.entries)
     × (l.table.hasher ≡ l.initial.table.hasher)
+    × IsCounted g.T.PartialEq.eq l.table.entries
