@@ -83,6 +83,7 @@ first_copy P e X some h = by_count e.1 some h
     rest : (n : ℕ) → AllByRecursion P (replicate n e.0 ++ X) → AllByRecursion P X
     rest zero h = h
     rest (suc n) h = rest n h.1
+
     by_count : (n : ℕ) → 0 < n → AllByRecursion P (replicate n e.0 ++ X) → P e.0 × AllByRecursion P X
     by_count zero some h = absurd (omega arith)
     by_count (suc n) some h = (h.0, rest n h.1)

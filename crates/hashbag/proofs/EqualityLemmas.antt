@@ -63,6 +63,7 @@ module _ {T : Type 0} {eq : T → T → Bool} (laws : IsEquivalence eq) where
       apart : (y : T) → p y ≡ true → (b : Bool) → eq e.0 y ≡ b → not b ≡ true
       apart y passes true same = absurd (false≢true (sym none.0 ∙ respects e.0 y same passes))
       apart y passes false same = refl
+
       still : (fs : List (T × ℕ)) → AllByRecursion (λ y. eq e.0 y ≡ false) (keys_of fs) → AllByRecursion (λ f. count eq f.0 Y ≡ f.1) fs → AllByRecursion (λ f. count eq f.0 (others eq e.0 Y) ≡ f.1) fs
       still [] apart_all h = tt
       still (f ∷ fs) apart_all h = (count_in_others e.0 f.0 Y apart_all.0 ∙ h.0, still fs apart_all.1 h.1)
@@ -145,8 +146,8 @@ module _ {T : Type 0} {eq : T → T → Bool} (laws : IsEquivalence eq) where
   pub unequal_counts : (es W rest : List (T × ℕ)) (e : T × ℕ) (Y : List T) → IsCounted eq es → IsPermutation es W → (count eq e.0 Y ≡ e.1 → ⊥)
       → list_all (agrees_in Y) (e ∷ rest) ≡ list_all (agrees_in Y) W → false ≡ same_counts eq (occurrences es) Y
   unequal_counts es W rest e Y counted order differ so_far = answers_no _ _ (λ same.
-    let here = disagrees (count eq e.0 Y) e.1 differ (agrees_in Y e) refl in
-    false≢true (sym (ap (λ (b : Bool). b && list_all (agrees_in Y) rest) here) ∙ so_far ∙ all_agree es W Y counted order same))
+      let here = disagrees (count eq e.0 Y) e.1 differ (agrees_in Y e) refl in
+      false≢true (sym (ap (λ (b : Bool). b && list_all (agrees_in Y) rest) here) ∙ so_far ∙ all_agree es W Y counted order same))
 
   pub equal_counts : (es W : List (T × ℕ)) (Y : List T) → IsCounted eq es → IsPermutation es W → list_all (agrees_in Y) W ≡ true → length (occurrences es) ≡ length Y → true ≡ same_counts eq (occurrences es) Y
   equal_counts es W Y counted order agree long =

@@ -6,14 +6,15 @@ use Rattle.std.proofs.lemmas.Bool.Decides.{nat_tests}
 use Rattle.std.specs.List.Sorted.{IsPermutation}
 use Rattle.std.proofs.lemmas.List.Sorted.{IsPermutation-refl, IsPermutation-sym, IsPermutation-trans, length_permutation}
 use Rattle.hashbag.specs.declared.script.Step.{Step}
-use Rattle.hashbag.specs.declared.script.Step.TheVariants.{Insert, InsertMany, Replace, Remove, RemoveUpTo, TryTake, TakeAll, EntrySet, EntryOr, Clear, Count as CountStep, Reserve, ShrinkToFit}
+use Rattle.hashbag.specs.declared.script.Step.TheVariants.{Insert, InsertMany, Replace, Remove, RemoveUpTo, TryTake, TakeAll, EntrySet, EntryOr, Retain, Clear, Count as CountStep, Reserve, ShrinkToFit}
 use Rattle.hashbag.specs.declared.script.Reply.{Reply}
 use Rattle.hashbag.specs.declared.script.Reply.TheVariants.{Count, Left, Taken, Absent, Done, TooMany}
 use Rattle.hashbag.specs.Bag.{Bag, IsBagOf}
 use Rattle.hashbag.specs.Occurrences.{greatest_total, count, instance_or_itself, stored, add, less, put, IsBag}
-use Rattle.hashbag.specs.Rows.{insert_row, replace_row, try_take_row, take_all_row, entry_set_row, entry_or_row}
+use Rattle.hashbag.specs.Rows.{insert_row, replace_row, try_take_row, take_all_row, entry_set_row, entry_or_row, quota}
 use Rattle.hashbag.specs.Script.{step, AsksForMemory, IsRefusedInsertion}
 use Rattle.hashbag.proofs.OccurrenceLemmas.{count_rearranged, instance_rearranged, add_rearranged, less_rearranged, put_rearranged, less_absent, length_added}
+use Rattle.hashbag.proofs.QuotaLemmas.{quota_congr, retained_rearranged}
 use Rattle.hashbag.proofs.TakeLemmas.{stored_there, stored_count, stored_instance, stored_some}
 
 -- a test that a number is above another
@@ -117,6 +118,7 @@ module _ {T : Type 0} {eq : T → T → Bool} (laws : IsEquivalence eq) (X Y : L
   step_rearranged (TakeAll v) = take_all_rearranged v
   step_rearranged (EntrySet v n) = entry_set_rearranged v n
   step_rearranged (EntryOr v q) = entry_or_rearranged v q
+  step_rearranged (Retain list) = record { left = retained_rearranged laws (quota eq list.items) (quota_congr laws list.items) X Y h bag.one_instance; reply = refl }
   step_rearranged Clear = record { left = IsPermutation-refl []; reply = refl }
   step_rearranged (CountStep v) = unchanged _ _ (ap (λ k. Count k) (often v))
   step_rearranged (Reserve n) = unchanged _ _ refl
@@ -141,6 +143,7 @@ module _ {T : Type 0} {eq : T → T → Bool} (laws : IsEquivalence eq) (X Y : L
   asks_rearranged (TakeAll v) asks = asks
   asks_rearranged (EntrySet v n) asks = asks
   asks_rearranged (EntryOr v q) asks = refused_rearranged v q asks
+  asks_rearranged (Retain list) asks = asks
   asks_rearranged Clear asks = asks
   asks_rearranged (CountStep v) asks = asks
   asks_rearranged (Reserve n) asks = asks

@@ -111,7 +111,7 @@ module _ {T : Type 0} {eq : T → T → Bool} (laws : IsEquivalence eq) where
 
   -- ---- from the entries of a bag's table, in whatever order they come
 
-  pub set_walk_of_table : (es W : List (T × ℕ)) (X : List T) → IsCounted eq es → IsPermutation es W → IsPermutation X (occurrences es) → IsSetWalk eq X W
+  set_walk_of_table : (es W : List (T × ℕ)) (X : List T) → IsCounted eq es → IsPermutation es W → IsPermutation X (occurrences es) → IsSetWalk eq X W
   set_walk_of_table es W X counted p means =
       set_walk_rearranged (occurrences W) X W
       (IsPermutation-sym _ _ (IsPermutation-trans _ _ _ means (occurrences_rearranged es W p)))

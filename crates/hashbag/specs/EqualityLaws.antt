@@ -52,8 +52,8 @@ module _ {T : Type 0} {eq : T → T → Bool} (laws : IsEquivalence eq) where
   unfolding same_counts
   same_counts-Decides X Y = (
     λ h v. some_or_none X Y (count eq v X) (count eq v Y) (λ some.
-      let all = AllPass-from_list_all (agrees X Y) (X ++ Y) h in
-      found X Y v (X ++ Y) (all_to_recursion (λ x. agrees X Y x ≡ true) (X ++ Y) all) (λ e. some (sym (count_append v X Y) ∙ sym (length-filter (eq v) (X ++ Y)) ∙ e))),
+        let all = AllPass-from_list_all (agrees X Y) (X ++ Y) h in
+        found X Y v (X ++ Y) (all_to_recursion (λ x. agrees X Y x ≡ true) (X ++ Y) all) (λ e. some (sym (count_append v X Y) ∙ sym (length-filter (eq v) (X ++ Y)) ∙ e))),
     λ h. list_all-from_AllPass (agrees X Y) (X ++ Y) (λ k d below. (Decides-eqb _ _).1 (h _)),
   )
 

@@ -2,11 +2,11 @@
 use Rattle.std.specs.Prelude.{◌≡◌, ℕ, ◌+◌, ◌-◌, ◌<◌, ◌≤◌, ◌==◌, max, if◌then◌else◌, Bool, List, [], ◌∷◌, ◌++◌, length}
 use Rattle.std.specs.List.{list_any}
 use Rattle.hashbag.specs.declared.script.Step.{Step}
-use Rattle.hashbag.specs.declared.script.Step.TheVariants.{Insert, InsertMany, Replace, Remove, RemoveUpTo, TryTake, TakeAll, EntrySet, EntryOr, Clear, Count, Reserve, ShrinkToFit}
+use Rattle.hashbag.specs.declared.script.Step.TheVariants.{Insert, InsertMany, Replace, Remove, RemoveUpTo, TryTake, TakeAll, EntrySet, EntryOr, Retain, Clear, Count, Reserve, ShrinkToFit}
 use Rattle.hashbag.specs.declared.script.Reply.{Reply}
 use Rattle.hashbag.specs.Bag.{Bag, Means}
 use Rattle.hashbag.specs.Occurrences.{greatest_total, count, distinct_count}
-use Rattle.hashbag.specs.Rows.{insert_row, replace_row, remove_row, remove_up_to_row, try_take_row, take_all_row, entry_set_row, entry_or_row, clear_row, count_row, reserve_row, shrink_to_fit_row}
+use Rattle.hashbag.specs.Rows.{insert_row, replace_row, remove_row, remove_up_to_row, try_take_row, take_all_row, entry_set_row, entry_or_row, retain_row, clear_row, count_row, reserve_row, shrink_to_fit_row}
 
 module _ {T : Type 0} (eq : T → T → Bool) where
   -- the list that a step leaves of X, and its reply
@@ -20,6 +20,7 @@ module _ {T : Type 0} (eq : T → T → Bool) where
   step X (TakeAll v) = take_all_row eq v X
   step X (EntrySet v n) = entry_set_row eq v n X
   step X (EntryOr v q) = entry_or_row eq v q X
+  step X (Retain list) = retain_row eq list.items X
   step X Clear = clear_row eq X
   step X (Count v) = count_row eq v X
   step X (Reserve n) = reserve_row eq n X
@@ -66,6 +67,7 @@ module _ {T : Type 0} (eq : T → T → Bool) where
   AsksForMemory X (TakeAll v) = ⊥
   AsksForMemory X (EntrySet v n) = ⊥
   AsksForMemory X (EntryOr v q) = IsRefusedInsertion v q X
+  AsksForMemory X (Retain list) = ⊥
   AsksForMemory X Clear = ⊥
   AsksForMemory X (Count v) = ⊥
   AsksForMemory X (Reserve n) = Unit {0}

@@ -8,7 +8,7 @@ ghost use Rattle.hashbag.specs.Bag.{occurrences};
 ghost use Rattle.hashbag.specs.Occurrences.{greatest_total, count, counted, stored, add, less, put, instance_or_itself, distinct_count, IsBag, SameCounts};
 ghost use Rattle.hashbag.specs.Extends.{Refuses};
 ghost use Rattle.hashbag.specs.Retain.{IsRetained};
-ghost use Rattle.hashbag.specs.Walks.{IsSetWalk};
+ghost use Rattle.hashbag.specs.Walks.{IsSetWalkOf};
 ghost use Rattle.hashbag_table.specs.declared.table.TheConstants.{MOST_VALUES};
 ghost use Rattle.hashbag.specs.declared.bag.BagError.TheVariants.{Memory};
 
@@ -382,7 +382,7 @@ impl<T: Eq + Hash + Drop, S: BuildHasher + Drop> HashBag<T, S> {
     ///
     /// It takes no memory and hashes nothing.
     pub fn retain<F: FnMut(&T, usize) -> usize + Drop>(&mut self, f: F)
-        requires asks { (walk : _) → IsSetWalk T.eq self.old.items walk → MayAskInTurn F.FnMut f walk }
+        requires asks { (walk : _) → IsSetWalkOf T.eq self.old walk → MayAskInTurn F.FnMut f walk }
         ensures { IsRetained T.eq F.FnMut f self.old self.new }
     {
         self.len = self.table.retain(f);

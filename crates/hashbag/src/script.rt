@@ -2,7 +2,7 @@
 ghost use Rattle.std.specs.Prelude.{◌≡◌, ◌+◌, ◌-◌, ◌<◌, ◌≤◌, ◌++◌, ◌⊎◌, List, length, vec_len, vec_capacity, IfOk, OnOk, OnErr};
 ghost use Rattle.hashbag.specs.Bag.{Means, IsBagOf};
 ghost use Rattle.hashbag.specs.Occurrences.{greatest_total, count, IsBag};
-ghost use Rattle.hashbag.specs.Rows.{insert_row, replace_row, try_take_row, take_all_row, entry_set_row, entry_or_row};
+ghost use Rattle.hashbag.specs.Rows.{insert_row, replace_row, try_take_row, take_all_row, entry_set_row, entry_or_row, retain_row, quota as quota_of};
 ghost use Rattle.hashbag.specs.Script.{step as step_of, run as run_of, IsRefusedInsertion, AsksForMemory, IsStopped};
 
 use crate::bag::{BagError, HashBag};
@@ -30,6 +30,9 @@ pub enum Step<T> {
     EntrySet(T, usize),
     /// [`HashBag::entry`] with `or_insert_many`, or `TooMany` where the total would pass `usize::MAX`.
     EntryOr(T, usize),
+    /// [`HashBag::retain`]: a value keeps at most as many as the number beside the first value of the list that is equal to it, and
+    /// goes where there is none.
+    Retain(Vec<(T, usize)>),
     /// [`HashBag::clear`].
     Clear,
     /// [`HashBag::contains`].
@@ -167,6 +170,29 @@ fn entry_or<T: Eq + Hash + Drop, S: BuildHasher + Drop>(
     }
 }
 
+// The number beside the first value of the list that is equal to this one, 0 where there is none.
+fn quota<T: Eq>(list: &[(T, usize)], value: &T) -> usize
+    ensures { result ≡ quota_of T.eq list.now value.now }
+{
+    match list.iter().find(|entry| *value == entry.0) {
+        Some(entry) => entry.1,
+        None => 0,
+    }
+}
+
+// Leaves of each value at most as many as the list says.
+fn retain<T: Eq + Hash + Drop, S: BuildHasher + Drop>(bag: &mut HashBag<T, S>, list: &[(T, usize)])
+    ensures left { IsBagOf T.eq bag.old (retain_row T.eq list.now bag.old.items).0 bag.new }
+{
+    let _len = bag.len();
+    bag.retain(
+        |value: &T, _count: usize| -> usize
+            ensures quota { result ≡ quota_of T.eq list.entry.now value.entry.now }
+            ensures same { list.exit.now ≡ list.entry.now }
+        { quota(list, value) },
+    );
+}
+
 // Does one step, and answers it.
 fn apply<T: Eq + Hash + Drop, S: BuildHasher + Drop>(
     bag: &mut HashBag<T, S>,
@@ -192,6 +218,10 @@ fn apply<T: Eq + Hash + Drop, S: BuildHasher + Drop>(
         Step::TakeAll(value) => Ok(take_all(bag, &value)),
         Step::EntrySet(value, n) => Ok(entry_set(bag, value, n)),
         Step::EntryOr(value, quantity) => entry_or(bag, value, quantity),
+        Step::Retain(list) => {
+            retain(bag, &list);
+            Ok(Reply::Done)
+        }
         Step::Clear => {
             bag.clear();
             Ok(Reply::Done)

@@ -5,8 +5,8 @@ use Rattle.hashbag.proofs.bag.HashBag.clone.Goals as goal
 pub clone_in-requires : goal.clone_in-requires
 clone_in-requires g c = record {
   equal =
-    entries_from_items (λ x. (y : g.row.T.Denot) → g.T.Clone.is_clone x y → g.T.PartialEq.eq x y ≡ true) c.self.inside.table.entries c.self.invariant.counted.positive
-    (rw (← c.self.view_is) at c.requires.equal);
+      entries_from_items (λ x. (y : g.row.T.Denot) → g.T.Clone.is_clone x y → g.T.PartialEq.eq x y ≡ true) c.self.inside.table.entries c.self.invariant.counted.positive
+      (rw (← c.self.view_is) at c.requires.equal);
 }
 
 pub invariant_of-result : goal.invariant_of-result

@@ -1,13 +1,11 @@
-use Rattle.std.proofs.lemmas.List.Sorted.{IsPermutation-refl}
-use Rattle.hashbag.specs.Bag.{occurrences}
 use Rattle.hashbag.proofs.RetainLemmas.{total_fits, tally_retained, is_retained}
-use Rattle.hashbag.proofs.WalkLemmas.{set_walk_of_table}
+use Rattle.hashbag.proofs.WalkLemmas.{set_walk_of_bag}
 use Rattle.hashbag.proofs.bag.HashBag.retain.Goals as goal
 
 pub retain-self-inside-requires-clause-asks : goal.retain-self-inside-requires-clause-asks
 retain-self-inside-requires-clause-asks g c = λ walk order.
     let asks = rw (← c.self.view_is) at c.requires.asks in
-    asks walk (set_walk_of_table g.met.T.Eq.laws c.self.inside.table.entries walk (occurrences c.self.inside.table.entries) c.self.invariant.counted order (IsPermutation-refl _))
+    asks walk (set_walk_of_bag g.met.T.Eq.laws c.self.inside.table.hasher c.self.inside.table.entries walk c.self.inside.len c.self.invariant order)
 
 pub retain-self-inside-requires-clause-fits : goal.retain-self-inside-requires-clause-fits
 retain-self-inside-requires-clause-fits g c = total_fits g.met.T.Eq.laws g.F.FnMut c.args.f c.self.inside.table.entries c.self.inside.table.entries c.self.inside.len c.self.invariant
