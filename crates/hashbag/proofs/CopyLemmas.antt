@@ -1,15 +1,15 @@
 -- Clones of a bag's items.
-use Rattle.std.proofs.Common.{◌≡◌, ℕ, zero, suc, ◌<◌, ◌≤◌, Bool, true, false, cond, List, [], ◌∷◌, ◌++◌, length, replicate, filter, All, refl, sym, ◌∙◌, ap, subst, arith}
+use Rattle.std.proofs.Common.{◌≡◌, ℕ, zero, suc, ◌<◌, Bool, true, false, cond, List, [], ◌∷◌, ◌++◌, length, replicate, filter, All, refl, sym, ◌∙◌, ap, subst, arith}
 use Rattle.std.specs.Cmp.{IsEquivalence}
 use Rattle.std.specs.List.{AllByRecursion, AllZip}
-use Rattle.std.specs.Map.{keys_of, values_of}
+use Rattle.std.specs.Map.{values_of}
 use Rattle.std.proofs.lemmas.List.Elements.{All-nil, All-cons, All-head, All-tail}
 use Rattle.std.proofs.lemmas.List.Sorted.{length_permutation}
 use Rattle.std.proofs.lemmas.List.Sums.{length-filter}
 use Rattle.hashbag_table.specs.Entries.{HasClones, IsCounted}
 use Rattle.hashbag_table.proofs.CloneLemmas.{IsCopy, all_to_recursion}
 use Rattle.hashbag.specs.Bag.{occurrences, IsTallied}
-use Rattle.hashbag.specs.Occurrences.{count, SameCounts}
+use Rattle.hashbag.specs.Occurrences.{SameCounts}
 use Rattle.hashbag.proofs.OccurrenceLemmas.{occurrences_rearranged, count_rearranged}
 
 module _ {A B : Type 0} (R : A → B → Type 0) where

@@ -1,5 +1,5 @@
 -- Adding the items that come, one after another.
-use Rattle.std.proofs.Common.{◌≡◌, ℕ, ◌+◌, ◌-◌, ◌<◌, ◌≤◌, Bool, List, [], ◌∷◌, ◌++◌, length, refl, sym, ◌∙◌, arith}
+use Rattle.std.proofs.Common.{◌≡◌, ℕ, Bool, List, [], ◌∷◌, ◌++◌, refl, ◌∙◌, arith}
 use Rattle.std.specs.Cmp.{IsEquivalence}
 use Rattle.std.specs.List.{AllZip}
 use Rattle.std.specs.List.Sorted.{IsPermutation}
@@ -8,7 +8,7 @@ use Rattle.hashbag_table.proofs.CloneLemmas.{zip_more}
 use Rattle.hashbag.specs.declared.bag.BagError.{BagError}
 use Rattle.hashbag.specs.declared.bag.BagError.TheVariants.{Memory, TooMany}
 use Rattle.hashbag.specs.Bag.{Bag, IsBagOf}
-use Rattle.hashbag.specs.Occurrences.{greatest_total, count, add, IsBag}
+use Rattle.hashbag.specs.Occurrences.{add, IsBag}
 use Rattle.hashbag.specs.Extends.{add_all, Refuses, RefusesClones}
 use Rattle.hashbag.proofs.OccurrenceLemmas.{add_rearranged, bag_rearranged, count_rearranged}
 

@@ -1,8 +1,8 @@
 -- A list of which each value keeps at most so many.
-use Rattle.std.proofs.Common.{◌≡◌, ℕ, zero, suc, ◌+◌, ◌<◌, ◌≤◌, min, nat_lt, ltb, Bool, true, false, cond, List, [], ◌∷◌, ◌++◌, length, replicate, filter, map, find, option_map, unwrap_or, All, refl, sym, ◌∙◌, ap, subst, append_assoc, arith}
+use Rattle.std.proofs.Common.{◌≡◌, ℕ, zero, suc, ◌+◌, min, nat_lt, ltb, Bool, true, false, cond, List, [], ◌∷◌, ◌++◌, replicate, map, find, option_map, unwrap_or, All, refl, sym, ◌∙◌, ap, subst, arith}
 use borrow.Author.Tests.{ltb-true, ltb-false}
 use Rattle.std.specs.Cmp.{IsEquivalence}
-use Rattle.std.specs.List.{IsDistinct, AllByRecursion}
+use Rattle.std.specs.List.{IsDistinct}
 use Rattle.std.specs.List.Sorted.{IsPermutation}
 use Rattle.std.specs.Map.{keys_of}
 use Rattle.std.proofs.lemmas.List.{map-id}
@@ -15,7 +15,7 @@ use Rattle.hashbag.specs.Bag.{Bag, occurrences, IsBagOf}
 use Rattle.hashbag.specs.Occurrences.{count, IsBag, IsOneInstanceEach}
 use Rattle.hashbag.specs.Rows.{quota, retained}
 use Rattle.hashbag.specs.Walks.{IsSetWalkOf, IsSetWalk}
-use Rattle.hashbag.specs.EqualityLaws.{count_congr, count_append}
+use Rattle.hashbag.specs.EqualityLaws.{count_append}
 use Rattle.hashbag.proofs.MemberLemmas.{map-map}
 use Rattle.hashbag.proofs.OccurrenceLemmas.{count_rearranged, all_occurrences}
 

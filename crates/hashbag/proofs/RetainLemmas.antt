@@ -1,7 +1,6 @@
 -- What a closure's answers leave of a bag.
-use Rattle.std.proofs.Common.{◌≡◌, ℕ, ◌+◌, ◌<◌, ◌≤◌, ◌^◌, Bool, List, [], ◌∷◌, map, refl, sym, ◌∙◌, ap, arith}
+use Rattle.std.proofs.Common.{◌≡◌, ℕ, ◌<◌, ◌^◌, Bool, List, [], ◌∷◌, map, refl, sym, ◌∙◌, ap, arith}
 use Rattle.std.specs.Cmp.{IsEquivalence}
-use Rattle.std.specs.List.Sorted.{IsPermutation}
 use Rattle.std.proofs.lemmas.List.Sorted.{sum_by-IsPermutation}
 use denote.Ref.{Bor}
 use denote.Param.Members.{Mut}
@@ -9,7 +8,7 @@ use Rattle.std.specs.Fn.{Called}
 use Rattle.hashbag_table.specs.Asked.{Retains, AnswersInTurn, kept}
 use Rattle.hashbag_table.specs.Entries.{IsCounted, total}
 use Rattle.hashbag_table.proofs.AskedLemmas.{total_kept}
-use Rattle.hashbag.specs.Bag.{Bag, occurrences, IsTallied}
+use Rattle.hashbag.specs.Bag.{occurrences, IsTallied}
 use Rattle.hashbag.specs.Retain.{IsRetained}
 use Rattle.hashbag.proofs.OccurrenceLemmas.{occurrences_rearranged, bag_from_tally}
 use Rattle.hashbag.proofs.WalkLemmas.{length_occurrences, set_walk_of_bag}

@@ -1,5 +1,5 @@
 -- When two bags are equal.
-use Rattle.std.specs.Prelude.{ℕ, nat_eq, Bool, List, ◌++◌}
+use Rattle.std.specs.Prelude.{nat_eq, Bool, List, ◌++◌}
 use Rattle.std.specs.List.{list_all}
 use Rattle.hashbag.specs.Bag.{Bag}
 use Rattle.hashbag.specs.Occurrences.{count}

@@ -8,7 +8,10 @@ use Rattle.std.specs.List.{IsDistinct, Contains}
 use Rattle.std.specs.List.Sorted.{IsPermutation}
 use Rattle.hashbag.specs.declared.script.Step.TheVariants.{Insert, Remove, Count as CountStep}
 use Rattle.hashbag.specs.declared.script.Reply.TheVariants.{Count, Left, Taken, Absent, Done, TooMany}
+use Rattle.hashbag_table.specs.Asked.{kept as kept_of}
 use Rattle.hashbag.specs.Bag.{occurrences}
+use Rattle.hashbag.specs.Equality.{same_counts}
+use Rattle.hashbag.specs.Extends.{add_all}
 use Rattle.hashbag.specs.Occurrences.{greatest_total, alike, others, count, instance, instance_or_itself, stored, add, less, put, distinct_count, SameCounts}
 use Rattle.hashbag.specs.Rows.{insert_row, replace_row, remove_row, remove_up_to_row, try_take_row, take_all_row, entry_set_row, entry_or_row, quota, retained, retain_row, clear_row, count_row, reserve_row, shrink_to_fit_row}
 use Rattle.hashbag.specs.Script.{step, run, peak, arrivals, has_newcomer}
@@ -76,8 +79,8 @@ two_values : distinct_count same_key bag ≡ 2
 two_values = refl
 
 -- the counts of two lists, whatever the instances and the order
-same_counts : SameCounts same_key ((1, 10) ∷ (1, 10) ∷ []) ((1, 20) ∷ (1, 20) ∷ [])
-same_counts v = refl
+same_in_counts : SameCounts same_key ((1, 10) ∷ (1, 10) ∷ []) ((1, 20) ∷ (1, 20) ∷ [])
+same_in_counts v = refl
 
 -- a rearrangement: places 0 and 1 exchanged
 rearranged : IsPermutation bag ((2, 7) ∷ (1, 10) ∷ (1, 10) ∷ [])
@@ -164,6 +167,36 @@ kept = refl
 
 retain_done : retain_row same_key (((1, 0), 1) ∷ []) bag ≡ ((1, 10) ∷ [], Done)
 retain_done = refl
+
+-- ---- answers, insertions in turn and equality
+
+-- 2 keeps all of its 3, 1 has 5 and keeps 4, and 3 goes
+answered : kept_of {T = ℕ} ((2, 3) ∷ (1, 5) ∷ (3, 7) ∷ []) (9 ∷ 4 ∷ 0 ∷ []) ≡ (2, 3) ∷ (1, 4) ∷ []
+answered = refl
+
+-- the instance that is there stays, and a pair with 0 adds nothing
+added_in_turn : add_all same_key ((1, 10) ∷ []) (((1, 20), 2) ∷ ((3, 30), 0) ∷ ((2, 7), 1) ∷ []) ≡ (1, 10) ∷ (1, 10) ∷ (1, 10) ∷ (2, 7) ∷ []
+added_in_turn = refl
+
+-- neither the order nor the instances matter
+equal_bags : same_counts same_key bag ((2, 0) ∷ (1, 0) ∷ (1, 0) ∷ []) ≡ Bool.true
+unfolding same_counts
+equal_bags = refl
+
+other_totals : same_counts same_key bag ((1, 10) ∷ (2, 7) ∷ []) ≡ Bool.false
+unfolding same_counts
+other_totals = refl
+
+-- as many in all, and as many values
+other_counts : same_counts same_key bag ((1, 10) ∷ (2, 7) ∷ (2, 7) ∷ []) ≡ Bool.false
+unfolding same_counts
+other_counts = refl
+
+more_on_the_other_side : same_counts same_key [] bag ≡ Bool.false
+unfolding same_counts
+more_on_the_other_side = refl
+
+-- ---- the other steps
 
 cleared : clear_row same_key bag ≡ ([], Done)
 cleared = refl

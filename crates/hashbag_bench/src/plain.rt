@@ -1,7 +1,7 @@
 //! `PlainBag`: the plain, slow program that a bag is compared with.
 ghost use Rattle.std.specs.Prelude.{◌≡◌, ◌↔◌, [], length, IsTrue, IfOk, OnOk, OnErr};
 ghost use Rattle.hashbag.specs.Occurrences.{others, count, add, less, put, instance};
-ghost use Rattle.hashbag.specs.Rows.{insert_row, replace_row, remove_row, remove_up_to_row, try_take_row, take_all_row, entry_set_row, entry_or_row, clear_row, count_row};
+ghost use Rattle.hashbag.specs.Rows.{insert_row, replace_row, remove_row, remove_up_to_row, try_take_row, take_all_row, entry_set_row, entry_or_row, quota as quota_of, retained, retain_row, clear_row, count_row};
 ghost use Rattle.hashbag.specs.Script.{step as step_of};
 
 use hashbag::script::{Reply, Step};
@@ -25,6 +25,16 @@ impl<T: Eq + Copy> Model for PlainBag<T> {
     ghost Value = { List T };
 
     ghost view = { λ a. a.items.items };
+}
+
+// The number beside the first value of the list that is equal to this one, 0 where there is none.
+fn quota<T: Eq>(list: &[(T, usize)], value: &T) -> usize
+    ensures { result ≡ quota_of T.eq list.now value.now }
+{
+    match list.iter().find(|entry| *value == entry.0) {
+        Some(entry) => entry.1,
+        None => 0,
+    }
 }
 
 impl<T: Eq + Copy> PlainBag<T> {
@@ -117,6 +127,26 @@ impl<T: Eq + Copy> PlainBag<T> {
         items.reserve(n)?;
         items.resize(items.len() + n, value)?;
         self.items = items;
+        Ok(())
+    }
+
+    /// Leaves of each value at most as many as the number beside the first value of the list that is equal to it, 0 where there is
+    /// none.
+    ///
+    /// The list of occurrences is made anew. Where memory for it is refused, nothing changes.
+    pub fn retain(&mut self, list: &[(T, usize)]) -> Result<(), AllocError>
+        ensures kept { OnOk result (self.new ≡ retained T.eq (quota_of T.eq list.now) self.old) }
+        ensures err { OnErr result (self.new ≡ self.old) }
+    {
+        let mut kept = Vec::new(self.alloc);
+        let mut rest = self.items.as_slice();
+        while let Some((item, later)) = rest.split_first() {
+            if later.iter().filter(|other| *item == **other).count() < quota(list, item) {
+                kept.push(*item)?;
+            }
+            rest = later;
+        }
+        self.items = kept;
         Ok(())
     }
 
@@ -239,6 +269,15 @@ impl<T: Eq + Copy> PlainBag<T> {
         Ok(Reply::Count(quantity))
     }
 
+    // What `retain` does.
+    fn retain_row(&mut self, list: &[(T, usize)]) -> Result<Reply<T>, AllocError>
+        ensures done { IfOk result (λ reply. (self.new, reply) ≡ retain_row T.eq list.now self.old) }
+        ensures err { OnErr result (self.new ≡ self.old) }
+    {
+        self.retain(list)?;
+        Ok(Reply::Done)
+    }
+
     // What `contains` does.
     fn count_row(&self, value: &T) -> Reply<T>
         ensures { (self.now, result) ≡ count_row T.eq value.now self.now }
@@ -262,6 +301,7 @@ impl<T: Eq + Copy> PlainBag<T> {
             Step::TakeAll(value) => self.take_all_row(&value),
             Step::EntrySet(value, n) => self.entry_set_row(&value, n),
             Step::EntryOr(value, quantity) => self.entry_or_row(value, quantity),
+            Step::Retain(list) => self.retain_row(&list),
             Step::Clear => {
                 self.clear();
                 Ok(Reply::Done)

@@ -1,7 +1,7 @@
 //! The program's input: a step on a bag in each line.
 use hashbag::script::Step;
 use std::alloc::{AllocError, Global};
-use std::str;
+use std::str::{self, Split};
 
 /// Why an input was refused.
 pub enum LinesError {
@@ -57,19 +57,56 @@ fn step_of(verb: &str, first: Option<u64>, second: Option<u64>) -> Option<Step<u
     }
 }
 
-// The step of a line: the name of the bag, a verb and its numbers, with one space between each two.
-fn step(line: &[u8]) -> Option<Step<u64>> {
-    let mut words = str::from_utf8(line).ok()?.split(' ');
-    if words.next()? != "a" {
-        return None;
-    }
-    let verb = words.next()?;
+// The step of a verb and the words after it, of which there may be two.
+fn short_step(verb: &str, mut words: Split<'_, char>) -> Option<Step<u64>> {
     let first = optional_number(words.next())?;
     let second = optional_number(words.next())?;
     if words.next().is_some() {
         return None;
     }
     step_of(verb, first, second)
+}
+
+// The step of `retain` and the words after it: pairs of a value and a number, one after the other.
+fn retain_step(alloc: Global, words: Split<'_, char>) -> Result<Option<Step<u64>>, AllocError> {
+    let mut pairs = Vec::new(alloc);
+    let mut value = None;
+    for word in words {
+        let Some(n) = number(word) else {
+            return Ok(None);
+        };
+        value = match value {
+            Some(first) => {
+                pairs.push((first, n as usize))?;
+                None
+            }
+            None => Some(n),
+        };
+    }
+    if value.is_some() {
+        return Ok(None);
+    }
+    Ok(Some(Step::Retain(pairs)))
+}
+
+// The words of a line, with one space between each two.
+fn words(line: &[u8]) -> Option<Split<'_, char>> {
+    Some(str::from_utf8(line).ok()?.split(' '))
+}
+
+// The step of a line: the name of the bag, a verb and its numbers.
+fn step(alloc: Global, line: &[u8]) -> Result<Option<Step<u64>>, AllocError> {
+    let Some(mut words) = words(line) else {
+        return Ok(None);
+    };
+    if words.next() != Some("a") {
+        return Ok(None);
+    }
+    match words.next() {
+        Some("retain") => retain_step(alloc, words),
+        Some(verb) => Ok(short_step(verb, words)),
+        None => Ok(None),
+    }
 }
 
 /// The steps of an input, or the first line that is none. Empty lines are counted and skipped.
@@ -81,7 +118,7 @@ pub fn steps(alloc: Global, text: &[u8]) -> Result<Vec<Step<u64>>, LinesError> {
         if line.is_empty() {
             continue;
         }
-        let Some(step) = step(line) else {
+        let Some(step) = step(alloc, line)? else {
             return Err(LinesError::BadLine(number));
         };
         steps.push(step).map_err(AllocError::from)?;

@@ -1,7 +1,6 @@
-use Rattle.std.proofs.Common.{◌≡◌, ◌<◌, ℕ, Bool, List, Result, Ok, sym, subst, rules}
+use Rattle.std.proofs.Common.{◌≡◌, ℕ, Bool, List, Result, Ok, sym, subst, rules}
 use Rattle.hashbag.specs.declared.bag.BagError.{BagError}
 use Rattle.hashbag.specs.Bag.{Bag, IsBagOf}
-use Rattle.hashbag.specs.Occurrences.{count, add}
 use Rattle.hashbag.proofs.RowLemmas.{entry_or_done}
 use Rattle.hashbag.proofs.script.entry_or.Goals as goal
 

@@ -1,4 +1,4 @@
-use Rattle.std.proofs.Common.{◌≡◌, true, All}
+use Rattle.std.proofs.Common.{◌≡◌, true}
 use Rattle.hashbag.proofs.CopyLemmas.{clones_occurrences, same_from_clones, tally_cloned, entries_from_items}
 use Rattle.hashbag.proofs.bag.HashBag.clone.Goals as goal
 

@@ -1,8 +1,7 @@
-use Rattle.std.proofs.Common.{◌≡◌, ◌+◌, ◌≤◌, ℕ, length, arith, sym, ◌∙◌, subst}
-use Rattle.std.specs.List.Sorted.{IsPermutation}
+use Rattle.std.proofs.Common.{◌≡◌, ◌+◌, ◌≤◌, length, arith, sym, ◌∙◌}
 use Rattle.hashbag_table.specs.Entries.{count_of}
 use Rattle.hashbag.specs.Bag.{occurrences}
-use Rattle.hashbag.specs.Occurrences.{greatest_total, count, add}
+use Rattle.hashbag.specs.Occurrences.{greatest_total, count}
 use Rattle.hashbag.proofs.OccurrenceLemmas.{bag_from_tally, count_occurrences, absent_from_count, new_occurrences, tally_added}
 use Rattle.hashbag.proofs.bag.HashBag.insert_new.Goals as goal
 

@@ -1,9 +1,8 @@
 use Rattle.std.proofs.Common.{◌≡◌, ◌+◌, ◌-◌, ◌<◌, ◌≤◌, length, arith, sym, ◌∙◌, subst, ℕ}
 use Rattle.std.proofs.lemmas.List.Sorted.{IsPermutation-trans}
 use Rattle.hashbag_table.specs.Entries.{count_of}
-use Rattle.hashbag_table.proofs.EntryLemmas.{OnOk-map}
-use Rattle.hashbag.specs.Bag.{occurrences, IsBagOf, IsTallied}
-use Rattle.hashbag.specs.Occurrences.{greatest_total, count, put, add}
+use Rattle.hashbag.specs.Bag.{occurrences, IsTallied}
+use Rattle.hashbag.specs.Occurrences.{greatest_total, count}
 use Rattle.hashbag.proofs.OccurrenceLemmas.{bag_from_tally, count_occurrences, present_from_count, put_absent, put_occurrences, tally_put}
 use Rattle.hashbag.proofs.bag.HashBag.replace.Goals as goal
 

@@ -1,5 +1,4 @@
-use Rattle.std.proofs.Common.{◌≡◌, ◌+◌, ◌-◌, ◌<◌, ◌≤◌, ℕ, length, arith, sym, ◌∙◌, subst}
-use Rattle.hashbag_table.specs.Entries.{count_of}
+use Rattle.std.proofs.Common.{◌+◌, ◌-◌, ◌≤◌, ℕ, length, arith, sym, ◌∙◌, subst}
 use Rattle.hashbag.specs.Bag.{occurrences, IsTallied}
 use Rattle.hashbag.specs.Occurrences.{greatest_total}
 use Rattle.hashbag.proofs.OccurrenceLemmas.{bag_from_tally, count_occurrences, tally_set}

@@ -1,4 +1,4 @@
-use Rattle.std.proofs.Common.{◌≡◌, ◌+◌, ◌-◌, ◌<◌, ◌≤◌, refl, arith}
+use Rattle.std.proofs.Common.{refl, arith}
 use Rattle.hashbag.proofs.OccurrenceLemmas.{count_le}
 use Rattle.hashbag.proofs.entry.Entry.and_modify.Goals as goal
 

@@ -1,4 +1,4 @@
-use Rattle.std.proofs.Common.{◌≡◌, ℕ, List, sym, ◌∙◌, ap}
+use Rattle.std.proofs.Common.{ℕ, List, sym, ◌∙◌, ap}
 use Rattle.std.specs.List.{list_all}
 use Rattle.hashbag.specs.Bag.{occurrences}
 use Rattle.hashbag.proofs.EqualityLemmas.{agrees_in, unequal_totals, unequal_counts, equal_counts}
