@@ -3,6 +3,9 @@ pub mod Drain
 pub mod EntryCalls
 pub mod Examples
 pub mod Iter
+pub mod JoinExamples
+pub mod Joins
+pub mod JoinsLeft
 pub mod Lending
 pub mod Occurrences
 pub mod Rows
