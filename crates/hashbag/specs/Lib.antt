@@ -8,6 +8,7 @@ pub mod Joins
 pub mod JoinsLeft
 pub mod Lending
 pub mod Occurrences
+pub mod Pairs
 pub mod Rows
 pub mod Script
 pub mod Walks

@@ -24,7 +24,8 @@ pub struct Difference<'a, T: Eq + Hash + Drop, S: BuildHasher + Drop, S2: BuildH
     // The values that weren't looked up yet.
     left: SetIter<'a, T>,
     other: &'a HashBag<T, S2>,
-    state: PhantomData<S>,
+    // The bag whose values these are.
+    bag: PhantomData<&'a HashBag<T, S>>,
 }
 
 impl<'a, T: Eq + Hash + Drop, S: BuildHasher + Drop, S2: BuildHasher + Drop> Model
@@ -72,7 +73,8 @@ pub struct NotIn<'a, T: Eq + Hash + Drop, S: BuildHasher + Drop, S2: BuildHasher
     // The values that weren't looked up yet.
     left: SetIter<'a, T>,
     other: &'a HashBag<T, S2>,
-    state: PhantomData<S>,
+    // The bag whose values these are.
+    bag: PhantomData<&'a HashBag<T, S>>,
 }
 
 impl<'a, T: Eq + Hash + Drop, S: BuildHasher + Drop, S2: BuildHasher + Drop> Model
@@ -261,7 +263,7 @@ impl<T: Eq + Hash + Drop, S: BuildHasher + Drop> HashBag<T, S> {
         Difference {
             left: self.set_iter(),
             other,
-            state: PhantomData,
+            bag: PhantomData,
         }
     }
 
@@ -292,7 +294,7 @@ impl<T: Eq + Hash + Drop, S: BuildHasher + Drop> HashBag<T, S> {
         NotIn {
             left: self.set_iter(),
             other,
-            state: PhantomData,
+            bag: PhantomData,
         }
     }
 }
