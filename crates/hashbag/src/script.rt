@@ -6,7 +6,7 @@ ghost use Rattle.hashbag.specs.Rows.{insert_row, replace_row, try_take_row, take
 ghost use Rattle.hashbag.specs.Script.{step as step_of, run as run_of, IsRefusedInsertion, AsksForMemory, IsStopped};
 ghost use Rattle.std.specs.Prelude.{map};
 ghost use Rattle.hashbag.specs.Joins.{IsOuterJoin, IsDifference, IsNotIn, IsSignedDifference};
-ghost use Rattle.hashbag.specs.Pairs.{IsDone, IsUntouched};
+ghost use Rattle.hashbag.specs.Pairs.{ran, HasNoRoom, IsDone, IsPairCutOff};
 
 use crate::bag::{BagError, HashBag};
 use std::alloc::Global;
@@ -258,15 +258,14 @@ pub fn run_pair<T: Eq + Hash + Drop, S: BuildHasher + Drop, S2: BuildHasher + Dr
 ) -> Result<(), BagError>
     // Each step replies as the plain list of occurrences replies, whichever list its bag means, and each bag then means what
     // its list has become.
-    ensures first { OnOk result ((X : List T) → Means a.old X → IsDone T.eq X steps_a.items replies_a.old.items replies_a.new.items a.new) }
-    ensures second { OnOk result ((Y : List T) → Means b.old Y → IsDone T.eq Y steps_b.items replies_b.old.items replies_b.new.items b.new) }
+    ensures first { OnOk result (IsDone T.eq (ran a.old a.new steps_a.items replies_a.old.items replies_a.new.items)) }
+    ensures second { OnOk result (IsDone T.eq (ran b.old b.new steps_b.items replies_b.old.items replies_b.new.items)) }
     ensures first_hasher { a.new.hasher ≡ a.old.hasher }
     ensures second_hasher { b.new.hasher ≡ b.old.hasher }
 
-    // Only memory stops the runs: either nothing was done, since there was no room for the replies of one; or the first was
-    // stopped, and the second bag is untouched; or the first was done, and the second was stopped.
+    // Only memory stops the runs.
     ensures memory { OnErr result (result ≡ Err BagError.Memory) }
-    ensures stopped { OnErr result ((((vec_capacity replies_a.old < vec_len replies_a.old + vec_len steps_a) ⊎ (vec_capacity replies_b.old < vec_len replies_b.old + vec_len steps_b)) × IsUntouched a.old a.new replies_a.old.items replies_a.new.items × IsUntouched b.old b.new replies_b.old.items replies_b.new.items) ⊎ ((((X : List T) → Means a.old X → IsStopped T.eq X steps_a.items replies_a.old.items replies_a.new.items a.new) × IsUntouched b.old b.new replies_b.old.items replies_b.new.items) ⊎ (((X : List T) → Means a.old X → IsDone T.eq X steps_a.items replies_a.old.items replies_a.new.items a.new) × ((Y : List T) → Means b.old Y → IsStopped T.eq Y steps_b.items replies_b.old.items replies_b.new.items b.new)))) }
+    ensures stopped { OnErr result (IsPairCutOff T.eq (HasNoRoom replies_a.old steps_a ⊎ HasNoRoom replies_b.old steps_b) (ran a.old a.new steps_a.items replies_a.old.items replies_a.new.items) (ran b.old b.new steps_b.items replies_b.old.items replies_b.new.items)) }
 {
     replies_a.reserve(steps_a.len())?;
     replies_b.reserve(steps_b.len())?;
