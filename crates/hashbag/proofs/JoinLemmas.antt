@@ -1,12 +1,12 @@
 -- Joins: whatever the order of the lists, and how they follow from set walks.
-use Rattle.std.proofs.Common.{◌≡◌, ℕ, ◌<◌, ◌≤◌, ◌-◌, Bool, List, ◌++◌, length, map, filter, All, ℤ, ◌==◌, nat_lt, refl, sym, ap, subst, ◌∙◌, arith}
+use Rattle.std.proofs.Common.{◌≡◌, ℕ, ◌<◌, ◌≤◌, ◌+◌, ◌-◌, Bool, List, ◌++◌, length, map, filter, All, ℤ, ◌==◌, nat_lt, refl, sym, ap, subst, ◌∙◌, arith}
 use borrow.Author.Tests.{eqb-true, eq-eqb, ltb-true, lt-ltb}
 use Rattle.std.specs.Cmp.{IsEquivalence}
 use Rattle.std.specs.List.{IsDistinct, Contains}
 use Rattle.std.specs.List.Sorted.{IsPermutation}
 use Rattle.std.specs.Map.{keys_of}
 use Rattle.std.proofs.lemmas.List.{map-append, map-id, length-map}
-use Rattle.std.proofs.lemmas.List.Elements.{All-contains}
+use Rattle.std.proofs.lemmas.List.Elements.{All-append, All-contains, All-weaker}
 use Rattle.std.proofs.lemmas.List.Sorted.{Contains-permutation, IsPermutation-sym, IsPermutation-trans}
 use Rattle.std.proofs.lemmas.List.Sums.{length-filter, count_by-le-length}
 use Rattle.std.proofs.lemmas.Map.Made.{IsDistinct-keys_filter}
@@ -145,6 +145,17 @@ module _ {T : Type 0} {eq : T → T → Bool} (laws : IsEquivalence eq) where
         of_second = each_alone X Y M rest;
         counts = (λ i. front i ++ back i) ∙ sym (map-append both walk.values (keys_of M));
       }
+
+  -- no value has the count 0 in both lists
+  pub outer_none_zero : (X Y : List T) (J : List (T × ℕ × ℕ)) → IsOuterJoin eq X Y J → All (λ j. 0 < j.1 + j.2) J
+  outer_none_zero X Y J h =
+      let both : T → T × ℕ × ℕ = λ v. (v, count eq v X, count eq v Y) in
+      let in_first = All-weaker (λ v. Contains X v) (λ v. 0 < count eq v X + count eq v Y) (λ v c. let some = count_of_item v X c in omega arith) h.first h.of_first.only in
+      let in_second = All-weaker (λ v. Contains (alone eq X Y) v) (λ v. 0 < count eq v X + count eq v Y) (λ v c. let some = count_of_item v Y (Contains-filter_back (λ y. count eq y X == 0) v Y c).0 in omega arith) h.second h.of_second.only in
+      let all = All-append (λ v. 0 < count eq v X + count eq v Y) h.first h.second in_first in_second in
+      All-from_Contains (λ j. 0 < j.1 + j.2) J (λ j c.
+          let u = Contains-map_back both j (h.first ++ h.second) (Contains-same J _ j h.counts c) in
+          subst (λ (j : T × ℕ × ℕ). 0 < j.1 + j.2) u.2 (All-contains (λ v. 0 < count eq v X + count eq v Y) (h.first ++ h.second) u.0 all u.1))
 
 -- ---- how much a join gives at most
 

@@ -1,4 +1,4 @@
-//! The program's input: a step on a bag in each line.
+//! The program's input: a step on one of two bags in each line.
 use hashbag::script::Step;
 use std::alloc::{AllocError, Global};
 use std::str;
@@ -57,34 +57,76 @@ fn step_of(verb: &str, first: Option<u64>, second: Option<u64>) -> Option<Step<u
     }
 }
 
-// The step of a line: the name of the bag, a verb and its numbers, with one space between each two.
-fn step(line: &[u8]) -> Option<Step<u64>> {
-    let mut words = str::from_utf8(line).ok()?.split(' ');
-    if words.next()? != "a" {
-        return None;
+// The bag that a line names.
+#[derive(Clone, Copy)]
+enum BagName {
+    A,
+    B,
+}
+
+// The bag of a name.
+fn bag_of(word: &str) -> Option<BagName> {
+    match word {
+        "a" => Some(BagName::A),
+        "b" => Some(BagName::B),
+        _ => None,
     }
+}
+
+// The step of a line and its bag: the name of the bag, a verb and its numbers, with one space between each two.
+fn step(line: &[u8]) -> Option<(BagName, Step<u64>)> {
+    let mut words = str::from_utf8(line).ok()?.split(' ');
+    let bag = bag_of(words.next()?)?;
     let verb = words.next()?;
     let first = optional_number(words.next())?;
     let second = optional_number(words.next())?;
     if words.next().is_some() {
         return None;
     }
-    step_of(verb, first, second)
+    Some((bag, step_of(verb, first, second)?))
+}
+
+/// The steps of an input, in the order of its lines.
+#[derive(Drop)]
+pub struct Scripts {
+    /// Those of bag a.
+    pub a: Vec<Step<u64>>,
+    /// Those of bag b.
+    pub b: Vec<Step<u64>>,
+}
+
+impl Scripts {
+    // No steps yet.
+    fn new(alloc: Global) -> Scripts {
+        Scripts {
+            a: Vec::new(alloc),
+            b: Vec::new(alloc),
+        }
+    }
+
+    // Appends the step of a line, and answers whether it is one.
+    fn push(&mut self, line: &[u8]) -> Result<bool, AllocError> {
+        match step(line) {
+            Some((BagName::A, step)) => self.a.push(step).map_err(AllocError::from)?,
+            Some((BagName::B, step)) => self.b.push(step).map_err(AllocError::from)?,
+            None => return Ok(false),
+        }
+        Ok(true)
+    }
 }
 
 /// The steps of an input, or the first line that is none. Empty lines are counted and skipped.
-pub fn steps(alloc: Global, text: &[u8]) -> Result<Vec<Step<u64>>, LinesError> {
-    let mut steps = Vec::new(alloc);
+pub fn steps(alloc: Global, text: &[u8]) -> Result<Scripts, LinesError> {
+    let mut scripts = Scripts::new(alloc);
     let mut number = 0u64;
     for line in text.split(|byte| *byte == b'\n') {
         number = number.saturating_add(1);
         if line.is_empty() {
             continue;
         }
-        let Some(step) = step(line) else {
+        if !scripts.push(line)? {
             return Err(LinesError::BadLine(number));
-        };
-        steps.push(step).map_err(AllocError::from)?;
+        }
     }
-    Ok(steps)
+    Ok(scripts)
 }
