@@ -1,8 +1,10 @@
 //! Joins of two bags, with the items found by hand, between each two of the four hash states.
+use crate::states::Nothing;
 use crate::{IdentityState, OneState, ParityState};
 use hashbag::script::{Joins, joins_of};
 use hashbag::{FixedState, HashBag};
 use std::alloc::{AllocError, Global};
+use std::cell::Cell;
 use std::hash::BuildHasher;
 use std::process::Abort;
 use std::test::Fail;
@@ -516,5 +518,84 @@ fn joins_collected(rt: HostRuntime) -> Result<(), Fail> {
     let a: HashBag<u64, OneState> = bag_with(&rt, alloc, &[(1, 1), (2, 1), (3, 2)])?;
     let b: HashBag<u64, IdentityState> = bag_with(&rt, alloc, &[(2, 1), (3, 1), (4, 2)])?;
     collected_joins(&rt, joins_of(alloc, &a, &b)?);
+    Ok(())
+}
+
+// Hashes every value to 0, and counts how often it hashes.
+#[derive(Drop)]
+struct CountingState {
+    hashed: Cell<u64>,
+}
+
+impl Default for CountingState {
+    fn default() -> CountingState {
+        CountingState {
+            hashed: Cell::new(0),
+        }
+    }
+}
+
+impl BuildHasher for CountingState {
+    type Hasher = Nothing;
+
+    ghost build_hasher = { λ _. record {} };
+
+    fn build_hasher(&self) -> Nothing {
+        self.hashed.set(self.hashed.get().saturating_add(1));
+        Nothing
+    }
+}
+
+type CountingBag = HashBag<u64, CountingState>;
+
+// How often the states of two bags hashed.
+fn hashed_by(a: &CountingBag, b: &CountingBag) -> (u64, u64) {
+    (a.hasher().hashed.get(), b.hasher().hashed.get())
+}
+
+// How much more often than before.
+fn hashed_since(before: (u64, u64), a: &CountingBag, b: &CountingBag) -> (u64, u64) {
+    let now = hashed_by(a, b);
+    (
+        now.0.saturating_sub(before.0),
+        now.1.saturating_sub(before.1),
+    )
+}
+
+fn hashed_in_outer_join(
+    alloc: Global,
+    a: &CountingBag,
+    b: &CountingBag,
+) -> Result<(u64, u64), Fail> {
+    let before = hashed_by(a, b);
+    outer_join_of(alloc, a, b)?;
+    Ok(hashed_since(before, a, b))
+}
+
+fn hashed_in_difference(
+    alloc: Global,
+    a: &CountingBag,
+    b: &CountingBag,
+) -> Result<(u64, u64), Fail> {
+    let before = hashed_by(a, b);
+    difference_of(alloc, a, b)?;
+    Ok(hashed_since(before, a, b))
+}
+
+fn hashed_in_not_in(alloc: Global, a: &CountingBag, b: &CountingBag) -> Result<(u64, u64), Fail> {
+    let before = hashed_by(a, b);
+    not_in_of(alloc, a, b)?;
+    Ok(hashed_since(before, a, b))
+}
+
+// Each value that is looked up is hashed once, under the state of the bag in which it is, and walks hash nothing.
+#[test]
+fn values_are_hashed_once(rt: HostRuntime) -> Result<(), Fail> {
+    let alloc = rt.alloc();
+    let a: CountingBag = bag_with(&rt, alloc, &[(1, 1), (2, 5), (3, 2)])?;
+    let b: CountingBag = bag_with(&rt, alloc, &[(2, 1), (4, 1), (5, 3), (6, 1)])?;
+    assert_eq!(rt; hashed_in_outer_join(alloc, &a, &b)?, (4, 3));
+    assert_eq!(rt; hashed_in_difference(alloc, &a, &b)?, (0, 3));
+    assert_eq!(rt; hashed_in_not_in(alloc, &b, &a)?, (0, 4));
     Ok(())
 }
