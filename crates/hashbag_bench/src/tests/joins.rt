@@ -491,7 +491,28 @@ fn size_hints(rt: HostRuntime) -> Result<(), Fail> {
     Ok(())
 }
 
-// The joins of [1, 2, 3, 3] with [2, 3, 4, 4], collected: the first bag's values come first.
+fn same_counts(rt: &impl Abort, got: &[(&u64, usize)], wanted: &[Count]) {
+    assert_eq!(rt; got.len(), wanted.len());
+    for (entry, want) in got.iter().zip(wanted) {
+        assert_eq!(rt; (*entry.0, entry.1), *want);
+    }
+}
+
+fn same_joins(rt: &impl Abort, got: &[(&u64, usize, usize)], wanted: &[Counts]) {
+    assert_eq!(rt; got.len(), wanted.len());
+    for (join, want) in got.iter().zip(wanted) {
+        assert_eq!(rt; (*join.0, join.1, join.2), *want);
+    }
+}
+
+fn same_differences(rt: &impl Abort, got: &[(&u64, isize)], wanted: &[Signed]) {
+    assert_eq!(rt; got.len(), wanted.len());
+    for (entry, want) in got.iter().zip(wanted) {
+        assert_eq!(rt; (*entry.0, entry.1), *want);
+    }
+}
+
+// The joins of [1, 2, 3, 3] with [2, 3, 4, 4], collected.
 fn collected_joins(rt: &impl Abort, joins: Joins<'_, u64>) {
     let Joins {
         mut outer,
@@ -499,17 +520,17 @@ fn collected_joins(rt: &impl Abort, joins: Joins<'_, u64>) {
         mut signed,
         not_in,
     } = joins;
-    assert_eq!(rt; outer.last(), Some(&(&4, 0, 2)));
-    assert_eq!(rt; signed.last(), Some(&(&4, -2)));
     outer.sort_unstable();
     difference.sort_unstable();
     signed.sort_unstable();
-    let wanted = [(&1, 1, 0), (&2, 1, 1), (&3, 2, 1), (&4, 0, 2)];
-    assert_eq!(rt; outer.as_slice(), wanted.as_slice());
-    assert_eq!(rt; difference.as_slice(), [(&1, 1), (&3, 1)].as_slice());
-    let wanted = [(&1, 1), (&2, 0), (&3, 1), (&4, -2)];
-    assert_eq!(rt; signed.as_slice(), wanted.as_slice());
-    assert_eq!(rt; not_in.as_slice(), [(&1, 1)].as_slice());
+    same_joins(
+        rt,
+        outer.as_slice(),
+        &[(1, 1, 0), (2, 1, 1), (3, 2, 1), (4, 0, 2)],
+    );
+    same_counts(rt, difference.as_slice(), &[(1, 1), (3, 1)]);
+    same_differences(rt, signed.as_slice(), &[(1, 1), (2, 0), (3, 1), (4, -2)]);
+    same_counts(rt, not_in.as_slice(), &[(1, 1)]);
 }
 
 #[test]
