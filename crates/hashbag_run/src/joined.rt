@@ -11,36 +11,24 @@ use std::hash::{BuildHasher, Hash};
 /// The four joins of two bags, by value.
 #[derive(Drop)]
 pub struct JoinLists<T> {
+    /// Copies of [`Joins::outer`].
     pub outer: Vec<(T, usize, usize)>,
+    /// Copies of [`Joins::difference`].
     pub difference: Vec<(T, usize)>,
+    /// Copies of [`Joins::signed`].
     pub signed: Vec<(T, isize)>,
+    /// Copies of [`Joins::not_in`].
     pub not_in: Vec<(T, usize)>,
 }
 
-// Copies of values with a count each.
-fn copied_counts<T: Copy>(
+// Copies of values with a number each.
+fn copied_pairs<T: Copy, N: Copy>(
     alloc: Global,
-    counts: &Vec<(&T, usize)>,
-) -> Result<Vec<(T, usize)>, AllocError>
-    ensures { IfOk result (λ copies. copies.items ≡ map (λ e. (e.0.now, e.1)) counts.now.items) }
+    pairs: &Vec<(&T, N)>,
+) -> Result<Vec<(T, N)>, AllocError>
+    ensures { IfOk result (λ copies. copies.items ≡ map (λ e. (e.0.now, e.1)) pairs.now.items) }
 {
-    counts
-        .iter()
-        .map(|entry| (*entry.0, entry.1))
-        .collect(alloc)
-}
-
-// Copies of values with a difference each.
-fn copied_differences<T: Copy>(
-    alloc: Global,
-    differences: &Vec<(&T, isize)>,
-) -> Result<Vec<(T, isize)>, AllocError>
-    ensures { IfOk result (λ copies. copies.items ≡ map (λ e. (e.0.now, e.1)) differences.now.items) }
-{
-    differences
-        .iter()
-        .map(|entry| (*entry.0, entry.1))
-        .collect(alloc)
+    pairs.iter().map(|pair| (*pair.0, pair.1)).collect(alloc)
 }
 
 // Copies of values with two counts each.
@@ -65,9 +53,9 @@ fn copied<T: Copy + Drop>(alloc: Global, joins: &Joins<'_, T>) -> Result<JoinLis
 {
     Ok(JoinLists {
         outer: copied_joins(alloc, &joins.outer)?,
-        difference: copied_counts(alloc, &joins.difference)?,
-        signed: copied_differences(alloc, &joins.signed)?,
-        not_in: copied_counts(alloc, &joins.not_in)?,
+        difference: copied_pairs(alloc, &joins.difference)?,
+        signed: copied_pairs(alloc, &joins.signed)?,
+        not_in: copied_pairs(alloc, &joins.not_in)?,
     })
 }
 
