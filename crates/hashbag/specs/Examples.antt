@@ -17,14 +17,14 @@ use Rattle.hashbag.specs.Rows.{insert_row, replace_row, remove_row, remove_up_to
 use Rattle.hashbag.specs.Script.{step, run, peak, arrivals, has_newcomer}
 use Rattle.hashbag.specs.Walks.{IsEach, IsSetWalk, IsWalk}
 
-abbrev Tagged : Type 0
+abbrev pub Tagged : Type 0
 Tagged = ℕ × ℕ
 
-abbrev same_key : Tagged → Tagged → Bool
+abbrev pub same_key : Tagged → Tagged → Bool
 same_key a b = a.0 == b.0
 
 -- 1 twice and 2 once
-abbrev bag : List Tagged
+abbrev pub bag : List Tagged
 bag = (1, 10) ∷ (2, 7) ∷ (1, 10) ∷ []
 
 -- ---- the words
@@ -92,7 +92,7 @@ entries_as_occurrences = refl
 -- ---- walks
 
 -- 2 stands at place 0 of the values and at place 1 of the bag, 1 at place 1 and at place 0
-each_value : IsEach same_key bag ((2, 7) ∷ (1, 10) ∷ [])
+pub each_value : IsEach same_key bag ((2, 7) ∷ (1, 10) ∷ [])
 unfolding IsDistinct
 each_value =
     let in_values = Contains ((2, 7) ∷ (1, 10) ∷ []) in

@@ -6,8 +6,12 @@ pub mod EqualityLaws
 pub mod Examples
 pub mod Extends
 pub mod Iter
+pub mod JoinExamples
+pub mod Joins
+pub mod JoinsLeft
 pub mod Lending
 pub mod Occurrences
+pub mod Pairs
 pub mod Retain
 pub mod Rows
 pub mod Script

@@ -4,8 +4,10 @@
 pub mod bag;
 pub mod entry;
 pub mod iters;
+pub mod joins;
 pub mod script;
 
 pub use bag::{BagError, FixedState, HashBag};
 pub use entry::Entry;
 pub use iters::{Drain, IntoIter, Iter, SetIter};
+pub use joins::{Difference, NotIn, OuterJoin, SignedDifference};

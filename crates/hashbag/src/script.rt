@@ -4,8 +4,12 @@ ghost use Rattle.hashbag.specs.Bag.{Means, IsBagOf};
 ghost use Rattle.hashbag.specs.Occurrences.{greatest_total, count, IsBag};
 ghost use Rattle.hashbag.specs.Rows.{insert_row, replace_row, try_take_row, take_all_row, entry_set_row, entry_or_row, retain_row, quota as quota_of};
 ghost use Rattle.hashbag.specs.Script.{step as step_of, run as run_of, IsRefusedInsertion, AsksForMemory, IsStopped};
+ghost use Rattle.std.specs.Prelude.{map};
+ghost use Rattle.hashbag.specs.Joins.{IsOuterJoin, IsDifference, IsNotIn, IsSignedDifference};
+ghost use Rattle.hashbag.specs.Pairs.{ran, HasNoRoom, IsDone, IsPairCutOff};
 
 use crate::bag::{BagError, HashBag};
+use std::alloc::Global;
 use std::hash::{BuildHasher, Hash};
 
 /// A call on a bag.
@@ -266,4 +270,75 @@ pub fn run<T: Eq + Hash + Drop, S: BuildHasher + Drop>(
         replies.push_reserved(reply);
     }
     Ok(())
+}
+
+/// Does the steps of two bags, those of the first before those of the second, and appends a reply for each. The states of
+/// the bags may be of different types.
+///
+/// Room for all replies of both is taken first: where it is refused, nothing changes. Then the two runs are as [`run`] does
+/// them. Where memory stops the first one, the second bag and its replies stay as they were; where it stops the second one,
+/// the first run was done. So the replies say how far each run came.
+pub fn run_pair<T: Eq + Hash + Drop, S: BuildHasher + Drop, S2: BuildHasher + Drop>(
+    a: &mut HashBag<T, S>,
+    b: &mut HashBag<T, S2>,
+    steps_a: Vec<Step<T>>,
+    steps_b: Vec<Step<T>>,
+    replies_a: &mut Vec<Reply<T>>,
+    replies_b: &mut Vec<Reply<T>>,
+) -> Result<(), BagError>
+    // Each step replies as the plain list of occurrences replies, whichever list its bag means, and each bag then means what
+    // its list has become.
+    ensures first { OnOk result (IsDone T.eq (ran a.old a.new steps_a.items replies_a.old.items replies_a.new.items)) }
+    ensures second { OnOk result (IsDone T.eq (ran b.old b.new steps_b.items replies_b.old.items replies_b.new.items)) }
+    ensures first_hasher { a.new.hasher ≡ a.old.hasher }
+    ensures second_hasher { b.new.hasher ≡ b.old.hasher }
+
+    // Only memory stops the runs.
+    ensures memory { OnErr result (result ≡ Err BagError.Memory) }
+    ensures stopped { OnErr result (IsPairCutOff T.eq (HasNoRoom replies_a.old steps_a ⊎ HasNoRoom replies_b.old steps_b) (ran a.old a.new steps_a.items replies_a.old.items replies_a.new.items) (ran b.old b.new steps_b.items replies_b.old.items replies_b.new.items)) }
+{
+    replies_a.reserve(steps_a.len())?;
+    replies_b.reserve(steps_b.len())?;
+    run(a, steps_a, replies_a)?;
+    run(b, steps_b, replies_b)
+}
+
+/// The four joins of a bag with another, collected.
+#[derive(Drop)]
+pub struct Joins<'a, T> {
+    /// What [`HashBag::outer_join`] gives.
+    pub outer: Vec<(&'a T, usize, usize)>,
+    /// What [`HashBag::difference`] gives.
+    pub difference: Vec<(&'a T, usize)>,
+    /// What [`HashBag::signed_difference`] gives.
+    pub signed: Vec<(&'a T, isize)>,
+    /// What [`HashBag::not_in`] gives.
+    pub not_in: Vec<(&'a T, usize)>,
+}
+
+/// Collects the four joins of `a` with `b`. It changes neither bag.
+///
+/// Memory may be refused: then there are no joins.
+pub fn joins_of<'a, T: Eq + Hash + Drop, S: BuildHasher + Drop, S2: BuildHasher + Drop>(
+    alloc: Global,
+    a: &'a HashBag<T, S>,
+    b: &'a HashBag<T, S2>,
+) -> Result<Joins<'a, T>, BagError>
+    // Whichever lists the bags mean.
+    ensures outer { IfOk result (λ joins. (X Y : List T) → Means a.now X → Means b.now Y → IsOuterJoin T.eq X Y (map (λ j. (j.0.now, j.1, j.2)) joins.outer.items)) }
+    ensures difference { IfOk result (λ joins. (X Y : List T) → Means a.now X → Means b.now Y → IsDifference T.eq X Y (map (λ e. (e.0.now, e.1)) joins.difference.items)) }
+    ensures signed { IfOk result (λ joins. (X Y : List T) → Means a.now X → Means b.now Y → IsSignedDifference T.eq X Y (map (λ e. (e.0.now, e.1)) joins.signed.items)) }
+    ensures not_in { IfOk result (λ joins. (X Y : List T) → Means a.now X → Means b.now Y → IsNotIn T.eq X Y (map (λ e. (e.0.now, e.1)) joins.not_in.items)) }
+    ensures memory { OnErr result (result ≡ Err BagError.Memory) }
+{
+    let outer = a.outer_join(b).collect(alloc)?;
+    let difference = a.difference(b).collect(alloc)?;
+    let signed = a.signed_difference(b).collect(alloc)?;
+    let not_in = a.not_in(b).collect(alloc)?;
+    Ok(Joins {
+        outer,
+        difference,
+        signed,
+        not_in,
+    })
 }

@@ -4,6 +4,8 @@ mod agreement;
 mod calls;
 mod entries;
 mod hashes;
+mod joins;
+mod pair_refusals;
 mod plain_calls;
 mod refusals;
 mod walks;

@@ -1,10 +1,12 @@
 //! A whole run of the program over any reader and writer.
 ghost use Rattle.std.specs.Prelude.{◌≡◌, ◌⊎◌, [], IfOk};
 ghost use Rattle.hashbag.specs.Script.{run as run_of};
+ghost use Rattle.hashbag.specs.Joins.{IsOuterJoin, IsDifference, IsNotIn, IsSignedDifference};
 
-use crate::lines::{self, LinesError};
-use crate::output::{print_reply, write_all};
-use hashbag::script::{self, Reply, Step};
+use crate::joined::{JoinLists, run_and_join};
+use crate::lines::{self, LinesError, Scripts};
+use crate::output::{print_joins, print_replies, write_all};
+use hashbag::script::{Reply, Step};
 use hashbag::{BagError, HashBag};
 use std::alloc::{AllocError, Global};
 use std::io::{Read, Write};
@@ -59,7 +61,7 @@ fn read_all<R: Read>(alloc: Global, input: &mut R) -> Result<Vec<u8>, Failure> {
 }
 
 // The steps of the whole input.
-fn steps_of(alloc: Global, text: &[u8]) -> Result<Vec<Step<u64>>, Failure> {
+fn steps_of(alloc: Global, text: &[u8]) -> Result<Scripts, Failure> {
     match lines::steps(alloc, text) {
         Ok(steps) => Ok(steps),
         Err(LinesError::Memory) => Err(Failure::Memory),
@@ -69,25 +71,57 @@ fn steps_of(alloc: Global, text: &[u8]) -> Result<Vec<Step<u64>>, Failure> {
     }
 }
 
-// What the steps reply on an empty bag.
-fn replies_to(alloc: Global, steps: Vec<Step<u64>>) -> Result<Vec<Reply<u64>>, BagError>
-    ensures { IfOk result (λ replies. replies.items ≡ (run_of ⟦<u64 as PartialEq>⟧.eq [] steps.items).1) }
+// What the steps of two bags answer.
+#[derive(Drop)]
+struct Answers {
+    replies_a: Vec<Reply<u64>>,
+    replies_b: Vec<Reply<u64>>,
+    // Of the bags that the steps leave.
+    joins: JoinLists<u64>,
+}
+
+// What the steps answer on two empty bags.
+fn answers_to(
+    alloc: Global,
+    steps_a: Vec<Step<u64>>,
+    steps_b: Vec<Step<u64>>,
+) -> Result<Answers, BagError>
+    ensures replies_a { IfOk result (λ answers. answers.replies_a.items ≡ (run_of ⟦<u64 as PartialEq>⟧.eq [] steps_a.items).1) }
+    ensures replies_b { IfOk result (λ answers. answers.replies_b.items ≡ (run_of ⟦<u64 as PartialEq>⟧.eq [] steps_b.items).1) }
+    ensures outer { IfOk result (λ answers. IsOuterJoin ⟦<u64 as PartialEq>⟧.eq (run_of ⟦<u64 as PartialEq>⟧.eq [] steps_a.items).0 (run_of ⟦<u64 as PartialEq>⟧.eq [] steps_b.items).0 answers.joins.outer.items) }
+    ensures difference { IfOk result (λ answers. IsDifference ⟦<u64 as PartialEq>⟧.eq (run_of ⟦<u64 as PartialEq>⟧.eq [] steps_a.items).0 (run_of ⟦<u64 as PartialEq>⟧.eq [] steps_b.items).0 answers.joins.difference.items) }
+    ensures signed { IfOk result (λ answers. IsSignedDifference ⟦<u64 as PartialEq>⟧.eq (run_of ⟦<u64 as PartialEq>⟧.eq [] steps_a.items).0 (run_of ⟦<u64 as PartialEq>⟧.eq [] steps_b.items).0 answers.joins.signed.items) }
+    ensures not_in { IfOk result (λ answers. IsNotIn ⟦<u64 as PartialEq>⟧.eq (run_of ⟦<u64 as PartialEq>⟧.eq [] steps_a.items).0 (run_of ⟦<u64 as PartialEq>⟧.eq [] steps_b.items).0 answers.joins.not_in.items) }
 {
-    let mut bag: HashBag<u64> = HashBag::new(alloc);
-    let mut replies = Vec::new(alloc);
-    script::run(&mut bag, steps, &mut replies)?;
-    Ok(replies)
+    let mut a: HashBag<u64> = HashBag::new(alloc);
+    let mut b: HashBag<u64> = HashBag::new(alloc);
+    let mut replies_a = Vec::new(alloc);
+    let mut replies_b = Vec::new(alloc);
+    let joins = run_and_join(
+        alloc,
+        &mut a,
+        &mut b,
+        steps_a,
+        steps_b,
+        &mut replies_a,
+        &mut replies_b,
+    )?;
+    Ok(Answers {
+        replies_a,
+        replies_b,
+        joins,
+    })
 }
 
 // What the whole input makes the program write.
 fn output_of<R: Read>(alloc: Global, input: &mut R) -> Result<String, Failure> {
     let text = read_all(alloc, input)?;
-    let steps = steps_of(alloc, text.as_slice())?;
-    let replies = replies_to(alloc, steps)?;
+    let Scripts { a, b } = steps_of(alloc, text.as_slice())?;
+    let answers = answers_to(alloc, a, b)?;
     let mut output = String::new(alloc);
-    for reply in &replies {
-        print_reply(&mut output, reply)?;
-    }
+    print_replies(&mut output, "a", &answers.replies_a)?;
+    print_replies(&mut output, "b", &answers.replies_b)?;
+    print_joins(&mut output, answers.joins)?;
     Ok(output)
 }
 
@@ -102,7 +136,8 @@ fn send<W: Write>(output: &mut W, text: &str, status: u8) -> u8
     }
 }
 
-/// Reads steps, runs them on an empty bag, writes what each replies, and answers the exit status.
+/// Reads steps, runs them on two empty bags, writes what each replies and then the joins of the bags, and answers the exit
+/// status.
 ///
 /// The whole input is read before any line is judged, all lines are judged before any step is run, and the whole output
 /// is made before any of it is written. The status is 0 where all went well, 2 after a bad line (`bad line ` and its

@@ -1,4 +1,4 @@
-//! The program's input: a step on a bag in each line.
+//! The program's input: a step on one of two bags in each line.
 use hashbag::script::Step;
 use std::alloc::{AllocError, Global};
 use std::str::{self, Split};
@@ -89,19 +89,8 @@ fn retain_step(alloc: Global, words: Split<'_, char>) -> Result<Option<Step<u64>
     Ok(Some(Step::Retain(pairs)))
 }
 
-// The words of a line, with one space between each two.
-fn words(line: &[u8]) -> Option<Split<'_, char>> {
-    Some(str::from_utf8(line).ok()?.split(' '))
-}
-
-// The step of a line: the name of the bag, a verb and its numbers.
-fn step(alloc: Global, line: &[u8]) -> Result<Option<Step<u64>>, AllocError> {
-    let Some(mut words) = words(line) else {
-        return Ok(None);
-    };
-    if words.next() != Some("a") {
-        return Ok(None);
-    }
+// The step of the words after the name of the bag.
+fn step(alloc: Global, mut words: Split<'_, char>) -> Result<Option<Step<u64>>, AllocError> {
     match words.next() {
         Some("retain") => retain_step(alloc, words),
         Some(verb) => Ok(short_step(verb, words)),
@@ -109,19 +98,59 @@ fn step(alloc: Global, line: &[u8]) -> Result<Option<Step<u64>>, AllocError> {
     }
 }
 
+// The words of a line, with one space between each two.
+fn words(line: &[u8]) -> Option<Split<'_, char>> {
+    Some(str::from_utf8(line).ok()?.split(' '))
+}
+
+/// The steps of an input, in the order of its lines.
+#[derive(Drop)]
+pub struct Scripts {
+    /// Those of bag a.
+    pub a: Vec<Step<u64>>,
+    /// Those of bag b.
+    pub b: Vec<Step<u64>>,
+}
+
+impl Scripts {
+    // No steps yet.
+    fn new(alloc: Global) -> Scripts {
+        Scripts {
+            a: Vec::new(alloc),
+            b: Vec::new(alloc),
+        }
+    }
+
+    // Appends the step of a line to those of the bag that it names, and answers whether it is one.
+    fn push(&mut self, alloc: Global, line: &[u8]) -> Result<bool, AllocError> {
+        let Some(mut words) = words(line) else {
+            return Ok(false);
+        };
+        let steps = match words.next() {
+            Some("a") => &mut self.a,
+            Some("b") => &mut self.b,
+            _ => return Ok(false),
+        };
+        match step(alloc, words)? {
+            Some(step) => steps.push(step).map_err(AllocError::from)?,
+            None => return Ok(false),
+        }
+        Ok(true)
+    }
+}
+
 /// The steps of an input, or the first line that is none. Empty lines are counted and skipped.
-pub fn steps(alloc: Global, text: &[u8]) -> Result<Vec<Step<u64>>, LinesError> {
-    let mut steps = Vec::new(alloc);
+pub fn steps(alloc: Global, text: &[u8]) -> Result<Scripts, LinesError> {
+    let mut scripts = Scripts::new(alloc);
     let mut number = 0u64;
     for line in text.split(|byte| *byte == b'\n') {
         number = number.saturating_add(1);
         if line.is_empty() {
             continue;
         }
-        let Some(step) = step(alloc, line)? else {
+        if !scripts.push(alloc, line)? {
             return Err(LinesError::BadLine(number));
-        };
-        steps.push(step).map_err(AllocError::from)?;
+        }
     }
-    Ok(steps)
+    Ok(scripts)
 }

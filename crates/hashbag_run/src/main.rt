@@ -1,7 +1,8 @@
-//! Reads steps on a bag, a line each, from standard input, and prints what each replies.
+//! Reads steps on two bags, a line each, from standard input, and prints what each replies and the joins of the bags.
 #![tactic(auto)]
 
 mod execute;
+mod joined;
 mod lines;
 mod output;
 #[cfg(test)]

@@ -1,18 +1,65 @@
-//! The program's output: a line for each reply.
+//! The program's output: a line for each reply, and a line for each item of the joins.
+use crate::joined::JoinLists;
 use hashbag::script::Reply;
 use std::alloc::AllocError;
 use std::io::Write;
 
-/// Appends the line of a reply of bag a.
-pub fn print_reply(text: &mut String, reply: &Reply<u64>) -> Result<(), AllocError> {
+// Appends the line of a reply of a bag.
+fn print_reply(text: &mut String, bag: &str, reply: &Reply<u64>) -> Result<(), AllocError> {
     match reply {
-        Reply::Count(count) => writeln!(text, "a count {count}"),
-        Reply::Left(count) => writeln!(text, "a left {count}"),
-        Reply::Taken(value, count) => writeln!(text, "a taken {value} {count}"),
-        Reply::Absent => writeln!(text, "a absent"),
-        Reply::Done => writeln!(text, "a done"),
-        Reply::TooMany => writeln!(text, "a too many"),
+        Reply::Count(count) => writeln!(text, "{bag} count {count}"),
+        Reply::Left(count) => writeln!(text, "{bag} left {count}"),
+        Reply::Taken(value, count) => writeln!(text, "{bag} taken {value} {count}"),
+        Reply::Absent => writeln!(text, "{bag} absent"),
+        Reply::Done => writeln!(text, "{bag} done"),
+        Reply::TooMany => writeln!(text, "{bag} too many"),
     }
+}
+
+/// Appends the lines of the replies of the bag of that name.
+pub fn print_replies(
+    text: &mut String,
+    bag: &str,
+    replies: &Vec<Reply<u64>>,
+) -> Result<(), AllocError> {
+    for reply in replies {
+        print_reply(text, bag, reply)?;
+    }
+    Ok(())
+}
+
+// Appends a line of that kind for each value with its count.
+fn print_counts(
+    text: &mut String,
+    kind: &str,
+    counts: &Vec<(u64, usize)>,
+) -> Result<(), AllocError> {
+    for (value, count) in counts {
+        writeln!(text, "{kind} {value} {count}")?;
+    }
+    Ok(())
+}
+
+/// Sorts the joins by value, and appends their lines.
+pub fn print_joins(text: &mut String, joins: JoinLists<u64>) -> Result<(), AllocError> {
+    let JoinLists {
+        mut outer,
+        mut difference,
+        mut signed,
+        mut not_in,
+    } = joins;
+    outer.sort_unstable();
+    difference.sort_unstable();
+    signed.sort_unstable();
+    not_in.sort_unstable();
+    for (value, first, second) in &outer {
+        writeln!(text, "outer {value} {first} {second}")?;
+    }
+    print_counts(text, "difference", &difference)?;
+    for (value, count) in &signed {
+        writeln!(text, "signed {value} {count}")?;
+    }
+    print_counts(text, "not_in", &not_in)
 }
 
 /// Writes the whole text, and answers whether that went well. Any error of the writer is a failure, and so is a write

@@ -9,7 +9,8 @@ use std::test::Fail;
 // Two insertions of a value, a removal and a count.
 const STEPS: &str = "a insert 5\na insert 5\na remove 5\na count 5\n";
 
-const REPLIES: &str = "a count 0\na count 1\na count 2\na count 1\n";
+const OUTPUT: &str = "a count 0\na count 1\na count 2\na count 1\n\
+    outer 5 1 0\ndifference 5 1\nsigned 5 1\nnot_in 5 1\n";
 
 // Gives its text in pieces of seven bytes. The read of the number `fails_at`, from 1, fails.
 #[derive(Drop)]
@@ -91,21 +92,21 @@ fn answers(alloc: Global, rt: &impl Abort, input: &[u8], status: u8, wanted: &st
 }
 
 #[test]
-fn replies_to_steps(rt: HostRuntime) {
+fn answers_steps(rt: HostRuntime) {
     let rows = [
-        (STEPS, REPLIES),
+        (STEPS, OUTPUT),
         ("", ""),
         ("\n\n", ""),
         ("a count 7", "a count 0\n"),
-        ("a insert 005\n\na count 5\n", "a count 0\na count 1\n"),
         ("a remove 1\n", "a count 0\n"),
+        ("a insert 005\n\na remove 5\n", "a count 0\na count 1\n"),
         (
             "a insert 18446744073709551615\na remove 18446744073709551615\n",
             "a count 0\na count 1\n",
         ),
         (
-            "a insert 00000000000000000007\na count 7\n",
-            "a count 0\na count 1\n",
+            "a insert 00000000000000000007\na all 7\n",
+            "a count 0\na taken 7 1\n",
         ),
     ];
     for (input, wanted) in rows {
@@ -113,7 +114,39 @@ fn replies_to_steps(rt: HostRuntime) {
     }
 }
 
-// Each verb, with the reply that its line has.
+// Runs on two bags, with the joins of what they leave: replies of a and then of b, and each join by rising values.
+#[test]
+fn answers_two_bags(rt: HostRuntime) {
+    let rows = [
+        (
+            "a many 2 1\na many 2 2\nb insert 2\na many 2 4\n\n\
+            b insert 9\na count 2\nb try 9\nb try 9\n",
+            "a count 0\na count 1\na count 3\na count 7\n\
+            b count 0\nb count 0\nb taken 9 1\nb absent\n\
+            outer 2 7 1\ndifference 2 6\nsigned 2 6\n",
+        ),
+        (
+            "a many 7 18446744073709551615\na insert 8\n",
+            "a count 0\na too many\nouter 7 18446744073709551615 0\ndifference 7 18446744073709551615\n\
+            signed 7 9223372036854775807\nnot_in 7 18446744073709551615\n",
+        ),
+        (
+            "b many 7 18446744073709551615\nb insert 8\n",
+            "b count 0\nb too many\nouter 7 0 18446744073709551615\nsigned 7 -9223372036854775808\n",
+        ),
+        (
+            "b insert 10\nb many 2 3\na insert 9\na many 2 1\na many 100 2\nb insert 9\n",
+            "a count 0\na count 0\na count 0\nb count 0\nb count 0\nb count 0\n\
+            outer 2 1 3\nouter 9 1 1\nouter 10 0 1\nouter 100 2 0\ndifference 100 2\n\
+            signed 2 -2\nsigned 9 0\nsigned 10 -1\nsigned 100 2\nnot_in 100 2\n",
+        ),
+    ];
+    for (input, wanted) in rows {
+        answers(rt.alloc(), &rt, input.as_bytes(), 0, wanted);
+    }
+}
+
+// Each verb, with the reply that its line has. Nothing is left, so that there are no joins.
 #[test]
 fn replies_to_each_verb(rt: HostRuntime) {
     let script = "a many 5 3\na insert 5\na upto 5 3\na replace 5\na try 5\na try 5\n\
@@ -129,26 +162,27 @@ fn replies_to_each_verb(rt: HostRuntime) {
 fn replies_to_entries(rt: HostRuntime) {
     let script = "a or 4 3\na or 4 9\na set 4 0\na set 4 1\na or 6 0\na count 6\n\
         a many 7 18446744073709551615\na or 8 1\na or 8 0\na set 7 2\na set 7 18446744073709551615\n\
-        a set 7 1\na or 8 2\na set 8 18446744073709551615\na count 8\n";
+        a set 7 1\na or 8 2\na set 8 18446744073709551615\na count 8\na clear\n";
     let replies = "a count 3\na count 3\na done\na absent\na count 0\na count 0\n\
         a count 0\na too many\na count 0\na done\na done\n\
-        a done\na count 2\na too many\na count 2\n";
+        a done\na count 2\na too many\na count 2\na done\n";
     answers(rt.alloc(), &rt, script.as_bytes(), 0, replies);
 }
 
 #[test]
 fn totals_stop_at_their_end(rt: HostRuntime) {
     let script = "a many 7 18446744073709551615\na insert 8\na many 7 1\na many 8 0\n\
-        a replace 8\na replace 7\na replace 8\na upto 7 0\n";
+        a replace 8\na replace 7\na replace 8\na upto 7 0\na clear\n";
     let replies = "a count 0\na too many\na too many\na count 0\n\
-        a too many\na count 18446744073709551615\na count 0\na count 1\n";
+        a too many\na count 18446744073709551615\na count 0\na count 1\na done\n";
     answers(rt.alloc(), &rt, script.as_bytes(), 0, replies);
 }
 
 #[test]
 fn counts_lines_to_the_bad_one(rt: HostRuntime) {
     let rows = [
-        ("b insert 5\n", "bad line 1\n"),
+        ("c insert 5\n", "bad line 1\n"),
+        ("b insert 5\nb insert\n", "bad line 2\n"),
         ("a insert 1\nc insert 2\na insert\n", "bad line 2\n"),
         ("a insert 1\n\na insert", "bad line 3\n"),
         ("a insert 18446744073709551616\n", "bad line 1\n"),
@@ -161,7 +195,7 @@ fn counts_lines_to_the_bad_one(rt: HostRuntime) {
 
 #[test]
 fn refuses_hostile_lines(rt: HostRuntime) {
-    let rows: [&[u8]; 27] = [
+    let rows: [&[u8]; 30] = [
         b"a  insert 5",
         b" a insert 5",
         b"A insert 5",
@@ -188,6 +222,9 @@ fn refuses_hostile_lines(rt: HostRuntime) {
         b"a or",
         b"insert 5",
         b"a",
+        b"b",
+        b"B insert 5",
+        b"ab insert 5",
         b" ",
     ];
     for line in rows {
@@ -228,10 +265,10 @@ fn fails_at_write(
 
 #[test]
 fn fails_at_each_write(rt: HostRuntime) {
-    // The replies have 40 bytes and take six writes, and what is said of a bad line has 11 and takes two.
-    for fails_at in 1..7 {
-        fails_at_write(rt.alloc(), &rt, STEPS, REPLIES, fails_at, false);
-        fails_at_write(rt.alloc(), &rt, STEPS, REPLIES, fails_at, true);
+    // The output has 89 bytes and takes thirteen writes, and what is said of a bad line has 11 and takes two.
+    for fails_at in 1..14 {
+        fails_at_write(rt.alloc(), &rt, STEPS, OUTPUT, fails_at, false);
+        fails_at_write(rt.alloc(), &rt, STEPS, OUTPUT, fails_at, true);
     }
     for fails_at in 1..3 {
         fails_at_write(rt.alloc(), &rt, "x\n", "bad line 1\n", fails_at, false);

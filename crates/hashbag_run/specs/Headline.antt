@@ -1,0 +1,19 @@
+-- The theorem over two runs of steps and the joins of what they leave.
+use Rattle.std.specs.Prelude.{◌≡◌, ℕ, ◌+◌, ◌<◌, ℤ, Bool, List, All}
+use Rattle.hashbag.specs.Bag.{Means}
+use Rattle.hashbag.specs.Joins.{IsOuterJoin, IsDifference, IsNotIn, IsSignedDifference}
+use Rattle.hashbag.specs.Pairs.{Ran, IsDone}
+use Rattle.hashbag.specs.Script.{run}
+
+-- r and q are runs of steps on two bags, and the four lists the joins of the bags that they leave. Then, whichever lists X
+-- and Y the bags meant: each step replies as the plain list replies, and each bag means what its list has become; the outer
+-- join lists each value of either of these two lists once, those of the first one before, with both counts, of which one is
+-- above 0; and the other joins are what these counts decide
+pub record IsHeadline {T S S2 : Type 0} (eq : T → T → Bool) (r : Ran T S) (q : Ran T S2) (outer_list : List (T × ℕ × ℕ)) (difference_list : List (T × ℕ)) (signed_list : List (T × ℤ)) (not_in_list : List (T × ℕ)) : Type 0 where
+  pub first : IsDone eq r
+  pub second : IsDone eq q
+  pub outer : (X Y : List T) → Means r.before X → Means q.before Y → IsOuterJoin eq (run eq X r.steps).0 (run eq Y q.steps).0 outer_list
+  pub none_zero : All (λ j. 0 < j.1 + j.2) outer_list
+  pub difference : (X Y : List T) → Means r.before X → Means q.before Y → IsDifference eq (run eq X r.steps).0 (run eq Y q.steps).0 difference_list
+  pub signed : (X Y : List T) → Means r.before X → Means q.before Y → IsSignedDifference eq (run eq X r.steps).0 (run eq Y q.steps).0 signed_list
+  pub not_in : (X Y : List T) → Means r.before X → Means q.before Y → IsNotIn eq (run eq X r.steps).0 (run eq Y q.steps).0 not_in_list
