@@ -1,2 +1,2 @@
-pub mod Headline
+pub mod RunAndJoin
 pub use Rattle.hashbag.specs.Pairs

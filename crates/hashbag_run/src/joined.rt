@@ -1,7 +1,7 @@
 //! Two runs of steps, and the joins of what they leave.
 ghost use Rattle.std.specs.Prelude.{◌≡◌, ◌⊎◌, map, IfOk, OnErr};
 ghost use Rattle.hashbag.specs.Pairs.{ran, HasNoRoom, IsDone, IsPairCutOff};
-ghost use Rattle.hashbag_run.specs.Headline.{IsHeadline};
+ghost use Rattle.hashbag_run.specs.RunAndJoin.{IsRunAndJoined};
 
 use hashbag::script::{Joins, Reply, Step, joins_of, run_pair};
 use hashbag::{BagError, HashBag};
@@ -72,7 +72,7 @@ pub fn run_and_join<T: Eq + Hash + Copy + Drop, S: BuildHasher + Drop, S2: Build
     replies_a: &mut Vec<Reply<T>>,
     replies_b: &mut Vec<Reply<T>>,
 ) -> Result<JoinLists<T>, BagError>
-    ensures headline { IfOk result (λ joins. IsHeadline T.eq (ran a.old a.new steps_a.items replies_a.old.items replies_a.new.items) (ran b.old b.new steps_b.items replies_b.old.items replies_b.new.items) joins.outer.items joins.difference.items joins.signed.items joins.not_in.items) }
+    ensures whole { IfOk result (λ joins. IsRunAndJoined T.eq (ran a.old a.new steps_a.items replies_a.old.items replies_a.new.items) (ran b.old b.new steps_b.items replies_b.old.items replies_b.new.items) joins.outer.items joins.difference.items joins.signed.items joins.not_in.items) }
     ensures first_hasher { a.new.hasher ≡ a.old.hasher }
     ensures second_hasher { b.new.hasher ≡ b.old.hasher }
 

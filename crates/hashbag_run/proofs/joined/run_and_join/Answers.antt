@@ -3,8 +3,8 @@ use Rattle.hashbag.specs.Script.{run}
 use Rattle.hashbag.proofs.JoinLemmas.{outer_none_zero}
 use Rattle.hashbag_run.proofs.joined.run_and_join.Goals as goal
 
-pub returns-clause-headline : goal.returns-clause-headline
-returns-clause-headline g c =
+pub returns-clause-whole : goal.returns-clause-whole
+returns-clause-whole g c =
     let eq = g.T.PartialEq.eq in
     let first = c.in_ok-run_pair.ensures.first in
     let second = c.in_ok-run_pair.ensures.second in

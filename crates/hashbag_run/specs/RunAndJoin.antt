@@ -9,7 +9,7 @@ use Rattle.hashbag.specs.Script.{run}
 -- and Y the bags meant: each step replies as the plain list replies, and each bag means what its list has become; the outer
 -- join lists each value of either of these two lists once, those of the first one before, with both counts, of which one is
 -- above 0; and the other joins are what these counts decide
-pub record IsHeadline {T S S2 : Type 0} (eq : T → T → Bool) (r : Ran T S) (q : Ran T S2) (outer_list : List (T × ℕ × ℕ)) (difference_list : List (T × ℕ)) (signed_list : List (T × ℤ)) (not_in_list : List (T × ℕ)) : Type 0 where
+pub record IsRunAndJoined {T S S2 : Type 0} (eq : T → T → Bool) (r : Ran T S) (q : Ran T S2) (outer_list : List (T × ℕ × ℕ)) (difference_list : List (T × ℕ)) (signed_list : List (T × ℤ)) (not_in_list : List (T × ℕ)) : Type 0 where
   pub first : IsDone eq r
   pub second : IsDone eq q
   pub outer : (X Y : List T) → Means r.before X → Means q.before Y → IsOuterJoin eq (run eq X r.steps).0 (run eq Y q.steps).0 outer_list
