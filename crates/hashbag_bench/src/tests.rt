@@ -6,4 +6,5 @@ mod entries;
 mod hashes;
 mod plain_calls;
 mod refusals;
+mod rows;
 mod walks;
