@@ -118,6 +118,40 @@ fn compare_replies<T: Sample>(
     }
 }
 
+// The instance that the plain bag has of a value.
+fn plain_instance<'a, T: Sample>(plain: &'a PlainBag<T>, value: &T) -> Option<&'a T> {
+    plain.items().iter().find(|item| *item == value)
+}
+
+// How many distinct values the plain bag has.
+fn plain_set_len<T: Sample>(plain: &PlainBag<T>) -> usize {
+    let present = |key: &u64| plain.count(&T::sample(*key, STEPS)) > 0;
+    (0..KEYS).filter(present).count()
+}
+
+// What `get` answers, against the plain bag's instance and count.
+fn compare_found<T: Sample>(
+    rt: &impl Abort,
+    state: &str,
+    found: Option<(&T, usize)>,
+    wanted: Option<&T>,
+    count: usize,
+) {
+    match (found, wanted) {
+        (Some((instance, number)), Some(item)) => {
+            assert!(rt;
+                instance.is_same(item),
+                "{instance:?}, not {item:?}, under {state}"
+            );
+            assert_eq!(rt; number, count, "{item:?} under {state}");
+        }
+        (None, None) => {}
+        (Some((value, _)), None) | (None, Some(value)) => {
+            assert!(rt; false, "{value:?} is in one bag alone under {state}");
+        }
+    }
+}
+
 // The count and the instance of a value in both bags.
 fn compare_value<T: Sample + Drop, S: BuildHasher + Drop>(
     rt: &impl Abort,
@@ -128,20 +162,24 @@ fn compare_value<T: Sample + Drop, S: BuildHasher + Drop>(
 ) {
     let count = plain.count(value);
     assert_eq!(rt; bag.contains(value), count, "{value:?} under {state}");
-    match (
+    compare_found(
+        rt,
+        state,
         bag.get(value),
-        plain.items().iter().find(|item| *item == value),
-    ) {
-        (Some((instance, number)), Some(item)) => {
-            assert!(rt;
-                instance.is_same(item),
-                "{instance:?}, not {item:?}, under {state}"
-            );
-            assert_eq!(rt; number, count, "{value:?} under {state}");
-        }
-        (None, None) => {}
-        _ => assert!(rt; false, "{value:?} is in one bag alone under {state}"),
-    }
+        plain_instance(plain, value),
+        count,
+    );
+}
+
+fn compare_lens<T: Sample + Drop, S: BuildHasher + Drop>(
+    rt: &impl Abort,
+    state: &str,
+    bag: &HashBag<T, S>,
+    plain: &PlainBag<T>,
+) {
+    assert_eq!(rt; bag.len(), plain.len(), "under {state}");
+    assert_eq!(rt; bag.is_empty(), plain.is_empty(), "under {state}");
+    assert_eq!(rt; bag.set_len(), plain_set_len(plain), "under {state}");
 }
 
 fn compare_bags<T: Sample + Drop, S: BuildHasher + Drop>(
@@ -150,17 +188,23 @@ fn compare_bags<T: Sample + Drop, S: BuildHasher + Drop>(
     bag: &HashBag<T, S>,
     plain: &PlainBag<T>,
 ) {
-    assert_eq!(rt; bag.len(), plain.len(), "under {state}");
-    assert_eq!(rt; bag.is_empty(), plain.is_empty(), "under {state}");
-    let mut distinct = 0usize;
+    compare_lens(rt, state, bag, plain);
     for key in 0..KEYS {
-        let value = T::sample(key, STEPS);
-        compare_value(rt, state, bag, plain, &value);
-        if plain.count(&value) > 0 {
-            distinct = distinct.saturating_add(1);
-        }
+        compare_value(rt, state, bag, plain, &T::sample(key, STEPS));
     }
-    assert_eq!(rt; bag.set_len(), distinct, "under {state}");
+}
+
+// What a bag replies to the steps.
+fn bag_replies<T: Sample + Drop, S: BuildHasher + Drop>(
+    rt: &impl Abort,
+    alloc: Global,
+    state: &str,
+    bag: &mut HashBag<T, S>,
+) -> Result<Vec<Reply<T>>, Fail> {
+    let mut replies = Vec::new(alloc);
+    let done = run(bag, steps_of::<T>(alloc)?, &mut replies);
+    assert_eq!(rt; done, Ok(()), "under {state}");
+    Ok(replies)
 }
 
 // Does the same steps on a bag and on the plain bag.
@@ -173,9 +217,7 @@ fn compare_runs<T: Sample + Drop, S: BuildHasher + Drop>(
     let mut plain = PlainBag::new(alloc);
     let wanted = plain_replies(alloc, &mut plain, steps_of::<T>(alloc)?)?;
     let mut bag = HashBag::with_hasher(alloc, state);
-    let mut replies = Vec::new(alloc);
-    let done = run(&mut bag, steps_of::<T>(alloc)?, &mut replies);
-    assert_eq!(rt; done, Ok(()), "under {state_name}");
+    let replies = bag_replies(rt, alloc, state_name, &mut bag)?;
     compare_replies(rt, state_name, &replies, &wanted);
     compare_bags(rt, state_name, &bag, &plain);
     Ok(())

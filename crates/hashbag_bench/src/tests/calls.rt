@@ -128,17 +128,25 @@ fn has_room<S: BuildHasher + Drop>(rt: &impl Abort, alloc: Global, state: S) {
     assert!(rt; bag.capacity() >= 6);
 }
 
+// Checks that a bag is empty and has room for `n` values.
+fn is_roomy<S: BuildHasher + Drop>(rt: &impl Abort, bag: &HashBag<u64, S>, n: usize) {
+    assert!(rt; bag.capacity() >= n, "at {n}");
+    assert!(rt; bag.is_empty(), "at {n}");
+}
+
+// Checks that a bag has no room.
+fn has_no_room<S: BuildHasher + Drop>(rt: &impl Abort, bag: &HashBag<u64, S>) {
+    assert_eq!(rt; bag.capacity(), 0);
+}
+
 fn begins_with_room<S: BuildHasher + Drop + Copy>(
     rt: &impl Abort,
     alloc: Global,
     state: S,
 ) -> Result<(), Fail> {
-    let empty: HashBag<u64, S> = HashBag::with_hasher(alloc, state);
-    assert_eq!(rt; empty.capacity(), 0);
+    has_no_room(rt, &HashBag::with_hasher(alloc, state));
     for n in [0, 10] {
-        let bag: HashBag<u64, S> = HashBag::with_capacity_and_hasher(alloc, n, state)?;
-        assert!(rt; bag.capacity() >= n, "at {n}");
-        assert!(rt; bag.is_empty(), "at {n}");
+        is_roomy(rt, &HashBag::with_capacity_and_hasher(alloc, n, state)?, n);
     }
     let much = HashBag::<u64, S>::with_capacity_and_hasher(alloc, MOST_VALUES + 1, state);
     assert_eq!(rt; much.map(|bag| bag.len()), Err(BagError::Memory));
@@ -167,12 +175,9 @@ fn calls_under_each_state(rt: HostRuntime) -> Result<(), Fail> {
 #[test]
 fn fixed_state_by_default(rt: HostRuntime) -> Result<(), Fail> {
     let alloc = rt.alloc();
-    let bag: HashBag<u64> = HashBag::new(alloc);
-    assert_eq!(rt; bag.capacity(), 0);
-    let none: HashBag<u64> = HashBag::with_capacity(alloc, 0)?;
-    assert_eq!(rt; none.capacity(), 0);
-    let some: HashBag<u64> = HashBag::with_capacity(alloc, 10)?;
-    assert!(rt; some.capacity() >= 10);
+    has_no_room(&rt, &HashBag::new(alloc));
+    has_no_room(&rt, &HashBag::with_capacity(alloc, 0)?);
+    is_roomy(&rt, &HashBag::with_capacity(alloc, 10)?, 10);
     let much = HashBag::<u64>::with_capacity(alloc, MOST_VALUES + 1);
     assert_eq!(rt; much.map(|bag| bag.len()), Err(BagError::Memory));
     Ok(())
@@ -198,7 +203,19 @@ fn insert_tagged(
     Ok(bag.insert(Tagged { key, tag })?)
 }
 
-fn stored_tag(bag: &HashBag<Tagged, OneState>, key: u64) -> Option<(u64, usize)> {
+fn replace_tagged(
+    rt: &impl Abort,
+    bag: &mut HashBag<Tagged, OneState>,
+    key: u64,
+    tag: u64,
+) -> Result<usize, Fail> {
+    let value = Tagged { key, tag };
+    assert!(rt; bag.len().saturating_sub(bag.contains(&value)) < usize::MAX);
+    Ok(bag.replace(value)?)
+}
+
+// The tag of the stored instance with this key, and how often it occurs.
+pub fn stored_tag(bag: &HashBag<Tagged, OneState>, key: u64) -> Option<(u64, usize)> {
     match bag.get(&Tagged { key, tag: 0 }) {
         Some((instance, count)) => Some((instance.tag, count)),
         None => None,
@@ -211,9 +228,7 @@ fn instances_stay_until_replaced(rt: HostRuntime) -> Result<(), Fail> {
     assert_eq!(rt; insert_tagged(&rt, &mut bag, 1, 10)?, 0);
     assert_eq!(rt; insert_tagged(&rt, &mut bag, 1, 20)?, 1);
     assert_eq!(rt; stored_tag(&bag, 1), Some((10, 2)));
-    let newer = Tagged { key: 1, tag: 30 };
-    assert!(rt; bag.len().saturating_sub(bag.contains(&newer)) < usize::MAX);
-    assert_eq!(rt; bag.replace(newer)?, 2);
+    assert_eq!(rt; replace_tagged(&rt, &mut bag, 1, 30)?, 2);
     assert_eq!(rt; stored_tag(&bag, 1), Some((30, 1)));
     assert_eq!(rt; stored_tag(&bag, 2), None);
     Ok(())

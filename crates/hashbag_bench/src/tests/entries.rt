@@ -1,4 +1,5 @@
 //! The entry view, with the answers found by hand.
+use crate::tests::calls::stored_tag;
 use crate::tests::rows::{Answer, Call, make_rows};
 use crate::{IdentityState, OneState, ParityState, Tagged};
 use hashbag::{BagError, FixedState, HashBag};
@@ -80,30 +81,47 @@ fn entries_under_each_state(rt: HostRuntime) {
     make_rows(&rt, alloc, IdentityState, ROWS);
 }
 
-fn stored_tag(bag: &HashBag<Tagged, OneState>, key: u64) -> Option<(u64, usize)> {
-    match bag.get(&Tagged { key, tag: 0 }) {
-        Some((instance, count)) => Some((instance.tag, count)),
-        None => None,
-    }
+// The tag of the value that an entry gives.
+fn tag_at(bag: &mut HashBag<Tagged, OneState>, key: u64, tag: u64) -> u64 {
+    bag.entry(Tagged { key, tag }).value().tag
+}
+
+fn or_insert_many(
+    bag: &mut HashBag<Tagged, OneState>,
+    key: u64,
+    tag: u64,
+    n: usize,
+) -> Result<usize, BagError> {
+    bag.entry(Tagged { key, tag }).or_insert_many(n)
+}
+
+fn or_insert(bag: &mut HashBag<Tagged, OneState>, key: u64, tag: u64) -> Result<usize, BagError> {
+    bag.entry(Tagged { key, tag }).or_insert()
+}
+
+// Sets the count to 0, and inserts at the entry that is then vacant. The value is the one handed in.
+fn set_to_none_and_insert(
+    rt: &impl Abort,
+    bag: &mut HashBag<Tagged, OneState>,
+    key: u64,
+    tag: u64,
+) -> Result<usize, BagError> {
+    let vacated = bag
+        .entry(Tagged { key, tag })
+        .and_modify(|count: &mut usize| *count = 0)?;
+    assert_eq!(rt; vacated.value().tag, tag);
+    vacated.or_insert()
 }
 
 // The entry gives the stored instance, and holds on to the value handed in.
 #[test]
-fn instances_of_entries(rt: HostRuntime) -> Result<(), Fail> {
+fn instances_of_entries(rt: HostRuntime) {
     let mut bag = HashBag::with_hasher(rt.alloc(), OneState);
-    assert_eq!(rt; bag.entry(Tagged { key: 1, tag: 30 }).value().tag, 30);
-    assert_eq!(rt;
-        bag.entry(Tagged { key: 1, tag: 30 }).or_insert_many(2),
-        Ok(2)
-    );
-    assert_eq!(rt; bag.entry(Tagged { key: 1, tag: 40 }).value().tag, 30);
-    assert_eq!(rt; bag.entry(Tagged { key: 1, tag: 40 }).or_insert(), Ok(2));
+    assert_eq!(rt; tag_at(&mut bag, 1, 30), 30);
+    assert_eq!(rt; or_insert_many(&mut bag, 1, 30, 2), Ok(2));
+    assert_eq!(rt; tag_at(&mut bag, 1, 40), 30);
+    assert_eq!(rt; or_insert(&mut bag, 1, 40), Ok(2));
     assert_eq!(rt; stored_tag(&bag, 1), Some((30, 2)));
-    let vacated = bag
-        .entry(Tagged { key: 1, tag: 50 })
-        .and_modify(|count: &mut usize| *count = 0)?;
-    assert_eq!(rt; vacated.value().tag, 50);
-    assert_eq!(rt; vacated.or_insert(), Ok(1));
+    assert_eq!(rt; set_to_none_and_insert(&rt, &mut bag, 1, 50), Ok(1));
     assert_eq!(rt; stored_tag(&bag, 1), Some((50, 1)));
-    Ok(())
 }

@@ -282,6 +282,12 @@ fn counts_of_values<S: BuildHasher + Drop>(rt: &impl Abort, bag: &HashBag<u64, S
     }
 }
 
+fn numbers_of_items<S: BuildHasher + Drop>(rt: &impl Abort, bag: &HashBag<u64, S>) {
+    assert_eq!(rt; bag.iter().filter(|value| **value == 5).count(), 3);
+    assert_eq!(rt; number_of_items(bag), ITEMS);
+    assert_eq!(rt; sum_of_counts(bag), ITEMS);
+}
+
 fn items_of_walks<S: BuildHasher + Drop>(
     rt: &impl Abort,
     alloc: Global,
@@ -289,9 +295,7 @@ fn items_of_walks<S: BuildHasher + Drop>(
 ) -> Result<(), Fail> {
     let bag = sample_bag(rt, alloc, state)?;
     assert_eq!(rt; changes_of_value(&bag), 2);
-    assert_eq!(rt; bag.iter().filter(|value| **value == 5).count(), 3);
-    assert_eq!(rt; number_of_items(&bag), ITEMS);
-    assert_eq!(rt; sum_of_counts(&bag), ITEMS);
+    numbers_of_items(rt, &bag);
     counts_of_values(rt, &bag);
     Ok(())
 }
@@ -379,6 +383,18 @@ fn is_text<T: Debug>(rt: &impl Abort, alloc: Global, value: &T, want: &str) -> R
     Ok(())
 }
 
+fn texts_of_walks<S: BuildHasher + Drop>(
+    rt: &impl Abort,
+    alloc: Global,
+    bag: &HashBag<u64, S>,
+) -> Result<(), Fail> {
+    let mut walk = bag.iter();
+    is_text(rt, alloc, &walk, "{5, 5, 5}")?;
+    let _ = walk.next();
+    is_text(rt, alloc, &walk, "{5, 5}")?;
+    is_text(rt, alloc, &bag.set_iter(), "{(5, 3)}")
+}
+
 fn texts_of_five<S: BuildHasher + Drop>(
     rt: &impl Abort,
     alloc: Global,
@@ -386,11 +402,7 @@ fn texts_of_five<S: BuildHasher + Drop>(
 ) -> Result<(), Fail> {
     let mut bag = bag_of(rt, alloc, state, &[5, 5, 5])?;
     is_text(rt, alloc, &bag, "{5, 5, 5}")?;
-    let mut walk = bag.iter();
-    is_text(rt, alloc, &walk, "{5, 5, 5}")?;
-    let _ = walk.next();
-    is_text(rt, alloc, &walk, "{5, 5}")?;
-    is_text(rt, alloc, &bag.set_iter(), "{(5, 3)}")?;
+    texts_of_walks(rt, alloc, &bag)?;
     is_text(rt, alloc, &bag.entry(5), "Entry(5, 3)")
 }
 
