@@ -2,6 +2,7 @@
 //! hand, under each hash state.
 mod agreement;
 mod calls;
+mod collections;
 mod entries;
 mod hashes;
 mod plain_calls;
