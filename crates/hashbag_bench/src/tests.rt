@@ -2,10 +2,13 @@
 //! hand, under each hash state.
 mod agreement;
 mod calls;
+mod collection_refusals;
+mod collections;
 mod entries;
 mod hashes;
 mod joins;
 mod pair_refusals;
 mod plain_calls;
 mod refusals;
+mod rows;
 mod walks;

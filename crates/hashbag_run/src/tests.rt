@@ -1,4 +1,6 @@
 //! Whole runs of the program over readers and writers in memory.
+mod refusals;
+
 use crate::execute::execute;
 use std::alloc::Global;
 use std::io;

@@ -50,6 +50,20 @@ fn next_number(number: u64) -> u64 {
         .wrapping_add(1442695040888963407)
 }
 
+// How many of each value but the last are to stay. The first value stands there a second time, which is not looked at.
+fn quotas<T: Sample + Drop>(
+    alloc: Global,
+    amount: usize,
+    step: u64,
+) -> Result<Vec<(T, usize)>, AllocError> {
+    let mut list = Vec::new(alloc);
+    for key in 0..KEYS - 1 {
+        list.push((T::sample(key, step), (key as usize + amount) % 5))?;
+    }
+    list.push((T::sample(0, step), 9))?;
+    Ok(list)
+}
+
 // A step on the value, or on all values. `amount` is at most 3.
 fn step_on<T: Drop>(choice: u64, value: T, amount: usize) -> Step<T> {
     match choice % 28 {
@@ -77,6 +91,10 @@ fn steps_of<T: Sample + Drop>(alloc: Global) -> Result<Vec<Step<T>>, AllocError>
         number = next_number(number);
         let value = T::sample((number >> 40) % KEYS, step);
         let amount = ((number >> 30) % 4) as usize;
+        if step % 25 == 24 {
+            steps.push(Step::Retain(quotas(alloc, amount, step)?))?;
+            continue;
+        }
         steps.push(step_on(number >> 50, value, amount))?;
     }
     Ok(steps)
@@ -118,6 +136,40 @@ fn compare_replies<T: Sample>(
     }
 }
 
+// The instance that the plain bag has of a value.
+fn plain_instance<'a, T: Sample>(plain: &'a PlainBag<T>, value: &T) -> Option<&'a T> {
+    plain.items().iter().find(|item| *item == value)
+}
+
+// How many distinct values the plain bag has.
+fn plain_set_len<T: Sample>(plain: &PlainBag<T>) -> usize {
+    let present = |key: &u64| plain.count(&T::sample(*key, STEPS)) > 0;
+    (0..KEYS).filter(present).count()
+}
+
+// What `get` answers, against the plain bag's instance and count.
+fn compare_found<T: Sample>(
+    rt: &impl Abort,
+    state: &str,
+    found: Option<(&T, usize)>,
+    wanted: Option<&T>,
+    count: usize,
+) {
+    match (found, wanted) {
+        (Some((instance, number)), Some(item)) => {
+            assert!(rt;
+                instance.is_same(item),
+                "{instance:?}, not {item:?}, under {state}"
+            );
+            assert_eq!(rt; number, count, "{item:?} under {state}");
+        }
+        (None, None) => {}
+        (Some((value, _)), None) | (None, Some(value)) => {
+            assert!(rt; false, "{value:?} is in one bag alone under {state}");
+        }
+    }
+}
+
 // The count and the instance of a value in both bags.
 fn compare_value<T: Sample + Drop, S: BuildHasher + Drop>(
     rt: &impl Abort,
@@ -128,20 +180,24 @@ fn compare_value<T: Sample + Drop, S: BuildHasher + Drop>(
 ) {
     let count = plain.count(value);
     assert_eq!(rt; bag.contains(value), count, "{value:?} under {state}");
-    match (
+    compare_found(
+        rt,
+        state,
         bag.get(value),
-        plain.items().iter().find(|item| *item == value),
-    ) {
-        (Some((instance, number)), Some(item)) => {
-            assert!(rt;
-                instance.is_same(item),
-                "{instance:?}, not {item:?}, under {state}"
-            );
-            assert_eq!(rt; number, count, "{value:?} under {state}");
-        }
-        (None, None) => {}
-        _ => assert!(rt; false, "{value:?} is in one bag alone under {state}"),
-    }
+        plain_instance(plain, value),
+        count,
+    );
+}
+
+fn compare_lens<T: Sample + Drop, S: BuildHasher + Drop>(
+    rt: &impl Abort,
+    state: &str,
+    bag: &HashBag<T, S>,
+    plain: &PlainBag<T>,
+) {
+    assert_eq!(rt; bag.len(), plain.len(), "under {state}");
+    assert_eq!(rt; bag.is_empty(), plain.is_empty(), "under {state}");
+    assert_eq!(rt; bag.set_len(), plain_set_len(plain), "under {state}");
 }
 
 fn compare_bags<T: Sample + Drop, S: BuildHasher + Drop>(
@@ -150,17 +206,23 @@ fn compare_bags<T: Sample + Drop, S: BuildHasher + Drop>(
     bag: &HashBag<T, S>,
     plain: &PlainBag<T>,
 ) {
-    assert_eq!(rt; bag.len(), plain.len(), "under {state}");
-    assert_eq!(rt; bag.is_empty(), plain.is_empty(), "under {state}");
-    let mut distinct = 0usize;
+    compare_lens(rt, state, bag, plain);
     for key in 0..KEYS {
-        let value = T::sample(key, STEPS);
-        compare_value(rt, state, bag, plain, &value);
-        if plain.count(&value) > 0 {
-            distinct = distinct.saturating_add(1);
-        }
+        compare_value(rt, state, bag, plain, &T::sample(key, STEPS));
     }
-    assert_eq!(rt; bag.set_len(), distinct, "under {state}");
+}
+
+// What a bag replies to the steps.
+fn bag_replies<T: Sample + Drop, S: BuildHasher + Drop>(
+    rt: &impl Abort,
+    alloc: Global,
+    state: &str,
+    bag: &mut HashBag<T, S>,
+) -> Result<Vec<Reply<T>>, Fail> {
+    let mut replies = Vec::new(alloc);
+    let done = run(bag, steps_of::<T>(alloc)?, &mut replies);
+    assert_eq!(rt; done, Ok(()), "under {state}");
+    Ok(replies)
 }
 
 // Does the same steps on a bag and on the plain bag.
@@ -173,9 +235,7 @@ fn compare_runs<T: Sample + Drop, S: BuildHasher + Drop>(
     let mut plain = PlainBag::new(alloc);
     let wanted = plain_replies(alloc, &mut plain, steps_of::<T>(alloc)?)?;
     let mut bag = HashBag::with_hasher(alloc, state);
-    let mut replies = Vec::new(alloc);
-    let done = run(&mut bag, steps_of::<T>(alloc)?, &mut replies);
-    assert_eq!(rt; done, Ok(()), "under {state_name}");
+    let replies = bag_replies(rt, alloc, state_name, &mut bag)?;
     compare_replies(rt, state_name, &replies, &wanted);
     compare_bags(rt, state_name, &bag, &plain);
     Ok(())

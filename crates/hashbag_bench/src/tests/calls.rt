@@ -1,4 +1,5 @@
 //! Single calls on the bag, with the answers found by hand.
+use crate::tests::rows::{Answer, Call, make_calls, make_rows};
 use crate::{IdentityState, OneState, ParityState, Tagged};
 use hashbag::{BagError, FixedState, HashBag};
 use std::alloc::Global;
@@ -9,137 +10,133 @@ use std::test::Fail;
 // The most distinct values that room is made for.
 const MOST_VALUES: usize = 432345564227567616;
 
-fn insert_many<S: BuildHasher + Drop>(
-    rt: &impl Abort,
-    bag: &mut HashBag<u64, S>,
-    value: u64,
-    n: usize,
-) -> Result<usize, Fail> {
-    assert!(rt; n <= usize::MAX - bag.len());
-    Ok(bag.insert_many(value, n)?)
-}
-
-fn replace<S: BuildHasher + Drop>(
-    rt: &impl Abort,
-    bag: &mut HashBag<u64, S>,
-    value: u64,
-) -> Result<usize, Fail> {
-    assert!(rt; bag.len().saturating_sub(bag.contains(&value)) < usize::MAX);
-    Ok(bag.replace(value)?)
-}
-
-// A bag of these values, inserted one by one.
-fn bag_of<S: BuildHasher + Drop>(
-    rt: &impl Abort,
-    alloc: Global,
-    state: S,
-    values: &[u64],
-) -> Result<HashBag<u64, S>, Fail> {
-    let mut bag = HashBag::with_hasher(alloc, state);
-    for value in values {
-        assert!(rt; bag.len() < usize::MAX);
-        bag.insert(*value)?;
-    }
-    Ok(bag)
-}
-
-fn inserts<S: BuildHasher + Drop>(rt: &impl Abort, alloc: Global, state: S) -> Result<(), Fail> {
-    let mut bag = HashBag::with_hasher(alloc, state);
-    assert!(rt; bag.is_empty());
-    for (n, before) in [(1, 0), (2, 1), (4, 3), (0, 7)] {
-        assert_eq!(rt; insert_many(rt, &mut bag, 2, n)?, before, "at {n}");
-    }
-    assert_eq!(rt; bag.set_len(), 1);
-    assert_eq!(rt; bag.len(), 7);
-    assert!(rt; !bag.is_empty());
-    assert_eq!(rt; insert_many(rt, &mut bag, 3, 0)?, 0);
-    assert_eq!(rt; bag.contains(&3), 0);
-    assert_eq!(rt; bag.set_len(), 1);
-    makes_room(rt, &mut bag);
-    Ok(())
-}
+// Row by row: what a new bag answers to these calls.
+const INSERTS: &[(Call, Answer)] = &[
+    (Call::IsEmpty, Answer::Is(true)),
+    (Call::InsertMany(2, 1), Answer::Number(0)),
+    (Call::InsertMany(2, 2), Answer::Number(1)),
+    (Call::InsertMany(2, 4), Answer::Number(3)),
+    (Call::InsertMany(2, 0), Answer::Number(7)),
+    (Call::SetLen, Answer::Number(1)),
+    (Call::Len, Answer::Number(7)),
+    (Call::IsEmpty, Answer::Is(false)),
+    (Call::InsertMany(3, 0), Answer::Number(0)),
+    (Call::Contains(3), Answer::Number(0)),
+    (Call::SetLen, Answer::Number(1)),
+];
 
 // Room changes nothing of what a bag of seven occurrences of 2 has.
-fn makes_room<S: BuildHasher + Drop>(rt: &impl Abort, bag: &mut HashBag<u64, S>) {
-    assert_eq!(rt; bag.reserve(5), Ok(()));
+const MAKES_ROOM: &[(Call, Answer)] = &[
+    (Call::InsertMany(2, 7), Answer::Number(0)),
+    (Call::Reserve(5), Answer::Done),
+    (Call::ShrinkToFit, Answer::Done),
+    (Call::Reserve(usize::MAX), Answer::Failed(BagError::Memory)),
+    (Call::Reserve(MOST_VALUES), Answer::Failed(BagError::Memory)),
+    (Call::Reserve(0), Answer::Done),
+    (Call::Contains(2), Answer::Number(7)),
+    (Call::Len, Answer::Number(7)),
+];
+
+const REMOVES: &[(Call, Answer)] = &[
+    (Call::InsertMany(5, 2), Answer::Number(0)),
+    (Call::Remove(5), Answer::Number(2)),
+    (Call::Remove(5), Answer::Number(1)),
+    (Call::Remove(5), Answer::Number(0)),
+    (Call::IsEmpty, Answer::Is(true)),
+    (Call::InsertMany(5, 10), Answer::Number(0)),
+    (Call::RemoveUpTo(5, 0), Answer::Number(10)),
+    (Call::RemoveUpTo(5, 3), Answer::Number(7)),
+    (Call::RemoveUpTo(5, 10), Answer::Number(0)),
+    (Call::RemoveUpTo(6, 1), Answer::Number(0)),
+];
+
+const REMOVES_UP_TO: &[(Call, Answer)] = &[
+    (Call::Insert(42), Answer::Number(0)),
+    (Call::Insert(42), Answer::Number(1)),
+    (Call::Insert(42), Answer::Number(2)),
+    (Call::RemoveUpTo(0, 1), Answer::Number(0)),
+    (Call::Len, Answer::Number(3)),
+    (Call::RemoveUpTo(42, 1), Answer::Number(2)),
+    (Call::Len, Answer::Number(2)),
+    (Call::RemoveUpTo(42, 10), Answer::Number(0)),
+    (Call::Len, Answer::Number(0)),
+];
+
+const TRIES_TAKES: &[(Call, Answer)] = &[
+    (Call::Insert(1), Answer::Number(0)),
+    (Call::Insert(2), Answer::Number(0)),
+    (Call::Insert(3), Answer::Number(0)),
+    (Call::Insert(3), Answer::Number(1)),
+    (Call::TryTake(2), Answer::Took(Ok(2))),
+    (Call::Len, Answer::Number(3)),
+    (Call::TryTake(3), Answer::Took(Err(Some((3, 2))))),
+    (Call::Len, Answer::Number(2)),
+    (Call::TryTake(3), Answer::Took(Ok(3))),
+    (Call::TryTake(4), Answer::Took(Err(None))),
+    (Call::Len, Answer::Number(1)),
+    (Call::Contains(3), Answer::Number(0)),
+];
+
+const TAKES_ALL: &[(Call, Answer)] = &[
+    (Call::Insert(1), Answer::Number(0)),
+    (Call::Insert(2), Answer::Number(0)),
+    (Call::Insert(3), Answer::Number(0)),
+    (Call::Insert(3), Answer::Number(1)),
+    (Call::TakeAll(2), Answer::Found(Some((2, 1)))),
+    (Call::TakeAll(3), Answer::Found(Some((3, 2)))),
+    (Call::TakeAll(2), Answer::Found(None)),
+    (Call::TakeAll(3), Answer::Found(None)),
+    (Call::Len, Answer::Number(1)),
+    (Call::Clear, Answer::Done),
+    (Call::IsEmpty, Answer::Is(true)),
+    (Call::SetLen, Answer::Number(0)),
+    (Call::Contains(1), Answer::Number(0)),
+];
+
+const REPLACES: &[(Call, Answer)] = &[
+    (Call::InsertMany(7, usize::MAX), Answer::Number(0)),
+    (Call::Replace(7), Answer::Number(usize::MAX)),
+    (Call::Len, Answer::Number(1)),
+    (Call::Replace(8), Answer::Number(0)),
+    (Call::Len, Answer::Number(2)),
+    (Call::Get(8), Answer::Found(Some((8, 1)))),
+    (Call::Get(9), Answer::Found(None)),
+];
+
+const ROWS: &[(&str, &[(Call, Answer)])] = &[
+    ("inserts", INSERTS),
+    ("makes room", MAKES_ROOM),
+    ("removes", REMOVES),
+    ("removes up to", REMOVES_UP_TO),
+    ("tries takes", TRIES_TAKES),
+    ("takes all", TAKES_ALL),
+    ("replaces", REPLACES),
+];
+
+// After room for five more was made, there is room for six values.
+fn has_room<S: BuildHasher + Drop>(rt: &impl Abort, alloc: Global, state: S) {
+    let mut bag = HashBag::with_hasher(alloc, state);
+    make_calls(
+        rt,
+        &mut bag,
+        "room",
+        &[
+            (Call::InsertMany(2, 7), Answer::Number(0)),
+            (Call::Reserve(5), Answer::Done),
+        ],
+    );
     assert!(rt; bag.capacity() >= 6);
-    assert_eq!(rt; bag.shrink_to_fit(), Ok(()));
-    assert_eq!(rt; bag.reserve(usize::MAX), Err(BagError::Memory));
-    assert_eq!(rt; bag.reserve(MOST_VALUES), Err(BagError::Memory));
-    assert_eq!(rt; bag.reserve(0), Ok(()));
-    assert_eq!(rt; bag.contains(&2), 7);
-    assert_eq!(rt; bag.len(), 7);
 }
 
-fn removes<S: BuildHasher + Drop>(rt: &impl Abort, alloc: Global, state: S) -> Result<(), Fail> {
-    let mut bag = HashBag::with_hasher(alloc, state);
-    insert_many(rt, &mut bag, 5, 2)?;
-    for before in [2, 1, 0] {
-        assert_eq!(rt; bag.remove(&5), before);
-    }
-    assert!(rt; bag.is_empty());
-    insert_many(rt, &mut bag, 5, 10)?;
-    for (quantity, after) in [(0, 10), (3, 7), (10, 0)] {
-        assert_eq!(rt; bag.remove_up_to(&5, quantity), after, "at {quantity}");
-    }
-    assert_eq!(rt; bag.remove_up_to(&6, 1), 0);
-    Ok(())
+// Checks that a bag is empty and has room for `n` values.
+fn is_roomy<S: BuildHasher + Drop>(rt: &impl Abort, bag: &HashBag<u64, S>, n: usize) {
+    assert!(rt; bag.capacity() >= n, "at {n}");
+    assert!(rt; bag.is_empty(), "at {n}");
 }
 
-fn removes_up_to<S: BuildHasher + Drop>(
-    rt: &impl Abort,
-    alloc: Global,
-    state: S,
-) -> Result<(), Fail> {
-    let mut bag = bag_of(rt, alloc, state, &[42, 42, 42])?;
-    for (value, quantity, after, len) in [(0, 1, 0, 3), (42, 1, 2, 2), (42, 10, 0, 0)] {
-        assert_eq!(rt; bag.remove_up_to(&value, quantity), after, "at {value}");
-        assert_eq!(rt; bag.len(), len, "at {value}");
-    }
-    Ok(())
-}
-
-fn tries_takes<S: BuildHasher + Drop>(
-    rt: &impl Abort,
-    alloc: Global,
-    state: S,
-) -> Result<(), Fail> {
-    let mut bag = bag_of(rt, alloc, state, &[1, 2, 3, 3])?;
-    assert_eq!(rt; bag.try_take(&2), Ok(2));
-    assert_eq!(rt; bag.len(), 3);
-    assert_eq!(rt; bag.try_take(&3), Err(Some((&3, 2))));
-    assert_eq!(rt; bag.len(), 2);
-    assert_eq!(rt; bag.try_take(&3), Ok(3));
-    assert_eq!(rt; bag.try_take(&4), Err(None));
-    assert_eq!(rt; bag.len(), 1);
-    assert_eq!(rt; bag.contains(&3), 0);
-    Ok(())
-}
-
-fn takes_all<S: BuildHasher + Drop>(rt: &impl Abort, alloc: Global, state: S) -> Result<(), Fail> {
-    let mut bag = bag_of(rt, alloc, state, &[1, 2, 3, 3])?;
-    assert_eq!(rt; bag.take_all(&2), Some((2, 1)));
-    assert_eq!(rt; bag.take_all(&3), Some((3, 2)));
-    assert_eq!(rt; bag.take_all(&2), None);
-    assert_eq!(rt; bag.take_all(&3), None);
-    assert_eq!(rt; bag.len(), 1);
-    bag.clear();
-    assert!(rt; bag.is_empty());
-    assert_eq!(rt; bag.set_len(), 0);
-    assert_eq!(rt; bag.contains(&1), 0);
-    Ok(())
-}
-
-fn replaces<S: BuildHasher + Drop>(rt: &impl Abort, alloc: Global, state: S) -> Result<(), Fail> {
-    let mut bag = HashBag::with_hasher(alloc, state);
-    assert_eq!(rt; insert_many(rt, &mut bag, 7, usize::MAX)?, 0);
-    assert_eq!(rt; replace(rt, &mut bag, 7)?, usize::MAX);
-    assert_eq!(rt; bag.len(), 1);
-    assert_eq!(rt; replace(rt, &mut bag, 8)?, 0);
-    assert_eq!(rt; bag.len(), 2);
-    assert_eq!(rt; bag.get(&8), Some((&8, 1)));
-    assert_eq!(rt; bag.get(&9), None);
-    Ok(())
+// Checks that a bag has no room.
+fn has_no_room<S: BuildHasher + Drop>(rt: &impl Abort, bag: &HashBag<u64, S>) {
+    assert_eq!(rt; bag.capacity(), 0);
 }
 
 fn begins_with_room<S: BuildHasher + Drop + Copy>(
@@ -147,12 +144,9 @@ fn begins_with_room<S: BuildHasher + Drop + Copy>(
     alloc: Global,
     state: S,
 ) -> Result<(), Fail> {
-    let empty: HashBag<u64, S> = HashBag::with_hasher(alloc, state);
-    assert_eq!(rt; empty.capacity(), 0);
+    has_no_room(rt, &HashBag::with_hasher(alloc, state));
     for n in [0, 10] {
-        let bag: HashBag<u64, S> = HashBag::with_capacity_and_hasher(alloc, n, state)?;
-        assert!(rt; bag.capacity() >= n, "at {n}");
-        assert!(rt; bag.is_empty(), "at {n}");
+        is_roomy(rt, &HashBag::with_capacity_and_hasher(alloc, n, state)?, n);
     }
     let much = HashBag::<u64, S>::with_capacity_and_hasher(alloc, MOST_VALUES + 1, state);
     assert_eq!(rt; much.map(|bag| bag.len()), Err(BagError::Memory));
@@ -164,12 +158,8 @@ fn calls_under<S: BuildHasher + Drop + Copy>(
     alloc: Global,
     state: S,
 ) -> Result<(), Fail> {
-    inserts(rt, alloc, state)?;
-    removes(rt, alloc, state)?;
-    removes_up_to(rt, alloc, state)?;
-    tries_takes(rt, alloc, state)?;
-    takes_all(rt, alloc, state)?;
-    replaces(rt, alloc, state)?;
+    make_rows(rt, alloc, state, ROWS);
+    has_room(rt, alloc, state);
     begins_with_room(rt, alloc, state)
 }
 
@@ -185,12 +175,9 @@ fn calls_under_each_state(rt: HostRuntime) -> Result<(), Fail> {
 #[test]
 fn fixed_state_by_default(rt: HostRuntime) -> Result<(), Fail> {
     let alloc = rt.alloc();
-    let bag: HashBag<u64> = HashBag::new(alloc);
-    assert_eq!(rt; bag.capacity(), 0);
-    let none: HashBag<u64> = HashBag::with_capacity(alloc, 0)?;
-    assert_eq!(rt; none.capacity(), 0);
-    let some: HashBag<u64> = HashBag::with_capacity(alloc, 10)?;
-    assert!(rt; some.capacity() >= 10);
+    has_no_room(&rt, &HashBag::new(alloc));
+    has_no_room(&rt, &HashBag::with_capacity(alloc, 0)?);
+    is_roomy(&rt, &HashBag::with_capacity(alloc, 10)?, 10);
     let much = HashBag::<u64>::with_capacity(alloc, MOST_VALUES + 1);
     assert_eq!(rt; much.map(|bag| bag.len()), Err(BagError::Memory));
     Ok(())
@@ -216,7 +203,19 @@ fn insert_tagged(
     Ok(bag.insert(Tagged { key, tag })?)
 }
 
-fn stored_tag(bag: &HashBag<Tagged, OneState>, key: u64) -> Option<(u64, usize)> {
+fn replace_tagged(
+    rt: &impl Abort,
+    bag: &mut HashBag<Tagged, OneState>,
+    key: u64,
+    tag: u64,
+) -> Result<usize, Fail> {
+    let value = Tagged { key, tag };
+    assert!(rt; bag.len().saturating_sub(bag.contains(&value)) < usize::MAX);
+    Ok(bag.replace(value)?)
+}
+
+// The tag of the stored instance with this key, and how often it occurs.
+pub fn stored_tag(bag: &HashBag<Tagged, OneState>, key: u64) -> Option<(u64, usize)> {
     match bag.get(&Tagged { key, tag: 0 }) {
         Some((instance, count)) => Some((instance.tag, count)),
         None => None,
@@ -229,9 +228,7 @@ fn instances_stay_until_replaced(rt: HostRuntime) -> Result<(), Fail> {
     assert_eq!(rt; insert_tagged(&rt, &mut bag, 1, 10)?, 0);
     assert_eq!(rt; insert_tagged(&rt, &mut bag, 1, 20)?, 1);
     assert_eq!(rt; stored_tag(&bag, 1), Some((10, 2)));
-    let newer = Tagged { key: 1, tag: 30 };
-    assert!(rt; bag.len().saturating_sub(bag.contains(&newer)) < usize::MAX);
-    assert_eq!(rt; bag.replace(newer)?, 2);
+    assert_eq!(rt; replace_tagged(&rt, &mut bag, 1, 30)?, 2);
     assert_eq!(rt; stored_tag(&bag, 1), Some((30, 1)));
     assert_eq!(rt; stored_tag(&bag, 2), None);
     Ok(())

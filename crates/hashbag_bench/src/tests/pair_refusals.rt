@@ -1,5 +1,4 @@
-//! What stands after a refused request for memory in runs on two bags and in their joins. As `refusals`, these tests are run
-//! by the script `tests/refused_memory` with each request refused.
+//! What stands after a refused request for memory in runs on two bags and in their joins: calls of the tests `refusals`.
 use hashbag::script::{Reply, Step, joins_of, run_pair};
 use hashbag::{BagError, HashBag};
 use std::alloc::{AllocFailed, Global};
@@ -108,16 +107,15 @@ fn runs(
     done
 }
 
-#[test]
-fn pairs_of_runs(rt: HostRuntime) {
-    let alloc = rt.alloc();
+/// Runs on two bags, and their joins.
+pub fn pairs_of_runs(rt: &impl Abort, alloc: Global) {
     let Ok(steps) = steps_of(alloc) else {
         return;
     };
     let mut a: HashBag<u64> = HashBag::new(alloc);
     let mut b: HashBag<u64> = HashBag::new(alloc);
-    match runs(&rt, alloc, &mut a, &mut b, steps) {
-        Ok(()) => joins(&rt, alloc, &a, &b),
+    match runs(rt, alloc, &mut a, &mut b, steps) {
+        Ok(()) => joins(rt, alloc, &a, &b),
         Err(error) => assert_eq!(rt; error, BagError::Memory),
     }
 }

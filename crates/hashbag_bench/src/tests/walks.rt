@@ -1,9 +1,11 @@
 //! Walks over the bag, with the items found by hand, and the texts of `Debug`.
+use crate::tests::rows::{Answer, Call, bag_of, make_calls};
 use crate::uses::{first_moved_out, moved_out, number_of_items, sum_of_counts};
 use crate::{IdentityState, OneState, ParityState};
-use hashbag::{FixedState, HashBag};
+use hashbag::{FixedState, HashBag, Iter};
 use std::alloc::Global;
-use std::hash::BuildHasher;
+use std::fmt::Debug;
+use std::hash::{BuildHasher, Hash};
 use std::process::Abort;
 use std::test::Fail;
 
@@ -13,18 +15,26 @@ const ITEMS: usize = 6;
 // Distinct values of `sample_bag`.
 const VALUES: usize = 3;
 
+// Checks how many items a walk has left.
+fn has_left<I: ExactSizeIterator>(rt: &impl Abort, walk: &I, left: usize) {
+    assert_eq!(rt; walk.len(), left);
+    assert_eq!(rt; walk.size_hint(), (left, Some(left)));
+}
+
+// Checks that a bag has nothing.
+fn is_empty<T: Eq + Hash + Drop, S: BuildHasher + Drop>(rt: &impl Abort, bag: &HashBag<T, S>) {
+    assert!(rt; bag.is_empty());
+    assert_eq!(rt; bag.len(), 0);
+    assert_eq!(rt; bag.set_len(), 0);
+}
+
 // 5 three times, 6 twice and 7 once.
 fn sample_bag<S: BuildHasher + Drop>(
     rt: &impl Abort,
     alloc: Global,
     state: S,
 ) -> Result<HashBag<u64, S>, Fail> {
-    let mut bag = HashBag::with_hasher(alloc, state);
-    for value in [5, 6, 5, 7, 6, 5] {
-        assert!(rt; bag.len() < ITEMS);
-        bag.insert(value)?;
-    }
-    Ok(bag)
+    bag_of(rt, alloc, state, &[5, 6, 5, 7, 6, 5])
 }
 
 fn insert_name<S: BuildHasher + Drop>(
@@ -51,29 +61,33 @@ fn three_names<S: BuildHasher + Drop>(
 }
 
 fn names_one_by_one<S: BuildHasher + Drop>(rt: &impl Abort, bag: &HashBag<String, S>) {
-    assert_eq!(rt; bag.iter().size_hint(), (3, Some(3)));
-    assert_eq!(rt; bag.iter().count(), 3);
+    has_left(rt, &bag.iter(), 3);
     let einars = bag.iter().filter(|name| name.as_str() == "Einar").count();
     assert_eq!(rt; einars, 2);
 }
 
-fn names_with_counts<S: BuildHasher + Drop>(rt: &impl Abort, bag: &HashBag<String, S>) {
-    assert_eq!(rt; bag.set_iter().size_hint(), (2, Some(2)));
+fn all_names<S: BuildHasher + Drop>(rt: &impl Abort, bag: &HashBag<String, S>) {
+    assert_eq!(rt; bag.iter().count(), 3);
     assert_eq!(rt; bag.set_iter().count(), 2);
+}
+
+fn is_count_of(rt: &impl Abort, name: &str, count: usize) {
+    let want = if name == "Einar" { 2 } else { 1 };
+    assert_eq!(rt; count, want, "of {name}");
+}
+
+fn names_with_counts<S: BuildHasher + Drop>(rt: &impl Abort, bag: &HashBag<String, S>) {
+    has_left(rt, &bag.set_iter(), 2);
     for (name, count) in bag.set_iter() {
-        let want = if name.as_str() == "Einar" { 2 } else { 1 };
-        assert_eq!(rt; count, want, "of {name}");
+        is_count_of(rt, name.as_str(), count);
     }
 }
 
 fn one_name_taken_out<S: BuildHasher + Drop>(rt: &impl Abort, bag: &mut HashBag<String, S>) {
     let mut drain = bag.drain();
-    assert_eq!(rt; drain.size_hint(), (2, Some(2)));
+    has_left(rt, &drain, 2);
     assert!(rt; drain.next().is_some());
-    assert_eq!(rt; drain.size_hint(), (1, Some(1)));
-    drop(drain);
-    assert_eq!(rt; bag.len(), 0);
-    assert_eq!(rt; bag.set_len(), 0);
+    has_left(rt, &drain, 1);
 }
 
 fn walks_over_names<S: BuildHasher + Drop>(
@@ -83,8 +97,10 @@ fn walks_over_names<S: BuildHasher + Drop>(
 ) -> Result<(), Fail> {
     let mut bag = three_names(rt, alloc, state)?;
     names_one_by_one(rt, &bag);
+    all_names(rt, &bag);
     names_with_counts(rt, &bag);
     one_name_taken_out(rt, &mut bag);
+    is_empty(rt, &bag);
     Ok(())
 }
 
@@ -100,9 +116,9 @@ fn walks_over_three_names(rt: HostRuntime) -> Result<(), Fail> {
 // What the sample bag answers after a walk that borrowed it.
 fn is_sample<S: BuildHasher + Drop>(rt: &impl Abort, bag: &HashBag<u64, S>) {
     assert_eq!(rt; bag.len(), ITEMS);
-    assert_eq!(rt; bag.contains(&5), 3);
-    assert_eq!(rt; bag.contains(&6), 2);
-    assert_eq!(rt; bag.contains(&7), 1);
+    for (value, count) in [(5, 3), (6, 2), (7, 1)] {
+        assert_eq!(rt; bag.contains(&value), count, "of {value}");
+    }
 }
 
 // Takes some of the occurrences and drops the walk.
@@ -111,9 +127,7 @@ fn some_items<S: BuildHasher + Drop>(rt: &impl Abort, bag: &HashBag<u64, S>, tak
     for _ in 0..taken {
         assert!(rt; walk.next().is_some(), "before {taken}");
     }
-    let left = ITEMS.saturating_sub(taken);
-    assert_eq!(rt; walk.len(), left, "after {taken}");
-    assert_eq!(rt; walk.size_hint(), (left, Some(left)), "after {taken}");
+    has_left(rt, &walk, ITEMS.saturating_sub(taken));
 }
 
 fn some_values<S: BuildHasher + Drop>(rt: &impl Abort, bag: &HashBag<u64, S>, taken: usize) {
@@ -121,9 +135,7 @@ fn some_values<S: BuildHasher + Drop>(rt: &impl Abort, bag: &HashBag<u64, S>, ta
     for _ in 0..taken {
         assert!(rt; walk.next().is_some(), "before {taken}");
     }
-    let left = VALUES.saturating_sub(taken);
-    assert_eq!(rt; walk.len(), left, "after {taken}");
-    assert_eq!(rt; walk.size_hint(), (left, Some(left)), "after {taken}");
+    has_left(rt, &walk, VALUES.saturating_sub(taken));
 }
 
 fn some_drained<S: BuildHasher + Drop>(rt: &impl Abort, bag: &mut HashBag<u64, S>, taken: usize) {
@@ -131,9 +143,7 @@ fn some_drained<S: BuildHasher + Drop>(rt: &impl Abort, bag: &mut HashBag<u64, S
     for _ in 0..taken {
         assert!(rt; walk.next().is_some(), "before {taken}");
     }
-    let left = VALUES.saturating_sub(taken);
-    assert_eq!(rt; walk.len(), left, "after {taken}");
-    assert_eq!(rt; walk.size_hint(), (left, Some(left)), "after {taken}");
+    has_left(rt, &walk, VALUES.saturating_sub(taken));
 }
 
 fn some_moved<S: BuildHasher + Drop>(rt: &impl Abort, bag: HashBag<u64, S>, taken: usize) {
@@ -141,9 +151,7 @@ fn some_moved<S: BuildHasher + Drop>(rt: &impl Abort, bag: HashBag<u64, S>, take
     for _ in 0..taken {
         assert!(rt; walk.next().is_some(), "before {taken}");
     }
-    let left = VALUES.saturating_sub(taken);
-    assert_eq!(rt; walk.len(), left, "after {taken}");
-    assert_eq!(rt; walk.size_hint(), (left, Some(left)), "after {taken}");
+    has_left(rt, &walk, VALUES.saturating_sub(taken));
 }
 
 // Each walk that borrows the bag, dropped after each number of its items, leaves it as before.
@@ -178,14 +186,19 @@ fn drained_and_filled<S: BuildHasher + Drop>(
     rt: &impl Abort,
     mut bag: HashBag<u64, S>,
     taken: usize,
-) -> Result<(), Fail> {
+) {
     some_drained(rt, &mut bag, taken);
-    assert_eq!(rt; bag.len(), 0, "after {taken}");
-    assert!(rt; bag.is_empty(), "after {taken}");
-    assert_eq!(rt; bag.contains(&5), 0, "after {taken}");
-    assert_eq!(rt; bag.insert(5)?, 0, "after {taken}");
-    assert_eq!(rt; bag.contains(&5), 1, "after {taken}");
-    Ok(())
+    is_empty(rt, &bag);
+    make_calls(
+        rt,
+        &mut bag,
+        "drained",
+        &[
+            (Call::Contains(5), Answer::Number(0)),
+            (Call::Insert(5), Answer::Number(0)),
+            (Call::Contains(5), Answer::Number(1)),
+        ],
+    );
 }
 
 fn owned_walks_dropped<S: BuildHasher + Copy>(
@@ -194,7 +207,7 @@ fn owned_walks_dropped<S: BuildHasher + Copy>(
     state: S,
 ) -> Result<(), Fail> {
     for taken in 0..=VALUES {
-        drained_and_filled(rt, sample_bag(rt, alloc, state)?, taken)?;
+        drained_and_filled(rt, sample_bag(rt, alloc, state)?, taken);
         some_moved(rt, sample_bag(rt, alloc, state)?, taken);
     }
     Ok(())
@@ -210,22 +223,34 @@ fn drains_leave_an_empty_bag(rt: HostRuntime) -> Result<(), Fail> {
 }
 
 // After the last item there is none for good.
+fn items_end<S: BuildHasher + Drop>(rt: &impl Abort, bag: &HashBag<u64, S>) {
+    let mut walk = bag.iter();
+    for _ in 0..ITEMS {
+        assert!(rt; walk.next().is_some());
+    }
+    for _ in 0..3 {
+        assert!(rt; walk.next().is_none());
+    }
+}
+
+fn values_end<S: BuildHasher + Drop>(rt: &impl Abort, bag: &HashBag<u64, S>) {
+    let mut walk = bag.set_iter();
+    for _ in 0..VALUES {
+        assert!(rt; walk.next().is_some());
+    }
+    for _ in 0..3 {
+        assert!(rt; walk.next().is_none());
+    }
+}
+
 fn ends_of_walks<S: BuildHasher + Drop>(
     rt: &impl Abort,
     alloc: Global,
     state: S,
 ) -> Result<(), Fail> {
     let bag = sample_bag(rt, alloc, state)?;
-    let mut walk = bag.iter();
-    let mut set_walk = bag.set_iter();
-    for _ in 0..ITEMS {
-        assert!(rt; walk.next().is_some());
-        let _ = set_walk.next();
-    }
-    for _ in 0..3 {
-        assert!(rt; walk.next().is_none());
-        assert!(rt; set_walk.next().is_none());
-    }
+    items_end(rt, &bag);
+    values_end(rt, &bag);
     Ok(())
 }
 
@@ -251,6 +276,18 @@ fn changes_of_value<S: BuildHasher + Drop>(bag: &HashBag<u64, S>) -> usize {
     changes
 }
 
+fn counts_of_values<S: BuildHasher + Drop>(rt: &impl Abort, bag: &HashBag<u64, S>) {
+    for (value, count) in bag.set_iter() {
+        assert_eq!(rt; count, bag.contains(value), "of {value}");
+    }
+}
+
+fn numbers_of_items<S: BuildHasher + Drop>(rt: &impl Abort, bag: &HashBag<u64, S>) {
+    assert_eq!(rt; bag.iter().filter(|value| **value == 5).count(), 3);
+    assert_eq!(rt; number_of_items(bag), ITEMS);
+    assert_eq!(rt; sum_of_counts(bag), ITEMS);
+}
+
 fn items_of_walks<S: BuildHasher + Drop>(
     rt: &impl Abort,
     alloc: Global,
@@ -258,12 +295,8 @@ fn items_of_walks<S: BuildHasher + Drop>(
 ) -> Result<(), Fail> {
     let bag = sample_bag(rt, alloc, state)?;
     assert_eq!(rt; changes_of_value(&bag), 2);
-    assert_eq!(rt; bag.iter().filter(|value| **value == 5).count(), 3);
-    assert_eq!(rt; number_of_items(&bag), ITEMS);
-    assert_eq!(rt; sum_of_counts(&bag), ITEMS);
-    for (value, count) in bag.set_iter() {
-        assert_eq!(rt; count, bag.contains(value), "of {value}");
-    }
+    numbers_of_items(rt, &bag);
+    counts_of_values(rt, &bag);
     Ok(())
 }
 
@@ -274,6 +307,12 @@ fn items_under_each_state(rt: HostRuntime) -> Result<(), Fail> {
     items_of_walks(&rt, alloc, OneState)?;
     items_of_walks(&rt, alloc, ParityState)?;
     items_of_walks(&rt, alloc, IdentityState)
+}
+
+fn gives_the_same(rt: &impl Abort, walk: Iter<u64>, again: Iter<u64>) {
+    for (one, other) in walk.zip(again) {
+        assert_eq!(rt; *one, *other);
+    }
 }
 
 // A clone that was taken after some items gives the same ones as the walk that it was taken of.
@@ -287,10 +326,18 @@ fn clones_go_on<S: BuildHasher + Drop>(
         let _ = walk.next();
     }
     let again = walk.clone()?;
-    assert_eq!(rt; again.len(), walk.len(), "after {taken}");
-    for (one, other) in walk.zip(again) {
-        assert_eq!(rt; *one, *other, "after {taken}");
-    }
+    has_left(rt, &again, ITEMS.saturating_sub(taken));
+    gives_the_same(rt, walk, again);
+    Ok(())
+}
+
+fn set_clones_go_on<S: BuildHasher + Drop>(
+    rt: &impl Abort,
+    bag: &HashBag<u64, S>,
+) -> Result<(), Fail> {
+    let mut walk = bag.set_iter();
+    let _ = walk.next();
+    assert_eq!(rt; walk.clone()?.next(), walk.next());
     Ok(())
 }
 
@@ -300,36 +347,52 @@ fn clones_go_on_from_the_same_place(rt: HostRuntime) -> Result<(), Fail> {
     for taken in 0..=ITEMS {
         clones_go_on(&rt, &bag, taken)?;
     }
-    let mut set_walk = bag.set_iter();
-    let _ = set_walk.next();
-    assert_eq!(rt; set_walk.clone()?.next(), set_walk.next());
+    set_clones_go_on(&rt, &bag)
+}
+
+fn list_moved_out<S: BuildHasher + Drop>(
+    rt: &impl Abort,
+    alloc: Global,
+    bag: &mut HashBag<u64, S>,
+) -> Result<(), Fail> {
+    let list = moved_out(alloc, bag)?;
+    assert_eq!(rt; list.len(), VALUES);
+    assert!(rt; list.contains(&(5, 3)));
     Ok(())
 }
 
 #[test]
 fn moved_out_whole_and_in_part(rt: HostRuntime) -> Result<(), Fail> {
     let mut bag = sample_bag(&rt, rt.alloc(), OneState)?;
-    let list = moved_out(rt.alloc(), &mut bag)?;
-    assert_eq!(rt; list.len(), VALUES);
-    assert!(rt; list.contains(&(5, 3)));
-    assert!(rt; bag.is_empty());
-    bag.insert(8)?;
+    list_moved_out(&rt, rt.alloc(), &mut bag)?;
+    is_empty(&rt, &bag);
+    make_calls(
+        &rt,
+        &mut bag,
+        "moved out",
+        &[(Call::Insert(8), Answer::Number(0))],
+    );
     assert_eq!(rt; first_moved_out(&mut bag), Some((8, 1)));
     assert!(rt; first_moved_out(&mut bag).is_none());
     Ok(())
 }
 
-fn five_three_times<S: BuildHasher + Drop>(
+// Checks the text that `Debug` writes.
+fn is_text<T: Debug>(rt: &impl Abort, alloc: Global, value: &T, want: &str) -> Result<(), Fail> {
+    assert_eq!(rt; format!(in alloc; "{value:?}")?.as_str(), want);
+    Ok(())
+}
+
+fn texts_of_walks<S: BuildHasher + Drop>(
     rt: &impl Abort,
     alloc: Global,
-    state: S,
-) -> Result<HashBag<u64, S>, Fail> {
-    let mut bag = HashBag::with_hasher(alloc, state);
-    for _ in 0..3 {
-        assert!(rt; bag.len() < 3);
-        bag.insert(5)?;
-    }
-    Ok(bag)
+    bag: &HashBag<u64, S>,
+) -> Result<(), Fail> {
+    let mut walk = bag.iter();
+    is_text(rt, alloc, &walk, "{5, 5, 5}")?;
+    let _ = walk.next();
+    is_text(rt, alloc, &walk, "{5, 5}")?;
+    is_text(rt, alloc, &bag.set_iter(), "{(5, 3)}")
 }
 
 fn texts_of_five<S: BuildHasher + Drop>(
@@ -337,17 +400,10 @@ fn texts_of_five<S: BuildHasher + Drop>(
     alloc: Global,
     state: S,
 ) -> Result<(), Fail> {
-    let mut bag = five_three_times(rt, alloc, state)?;
-    assert_eq!(rt; format!(in alloc; "{bag:?}")?.as_str(), "{5, 5, 5}");
-    let mut walk = bag.iter();
-    assert_eq!(rt; format!(in alloc; "{walk:?}")?.as_str(), "{5, 5, 5}");
-    let _ = walk.next();
-    assert_eq!(rt; format!(in alloc; "{walk:?}")?.as_str(), "{5, 5}");
-    let set_walk = bag.set_iter();
-    assert_eq!(rt; format!(in alloc; "{set_walk:?}")?.as_str(), "{(5, 3)}");
-    let entry = bag.entry(5);
-    assert_eq!(rt; format!(in alloc; "{entry:?}")?.as_str(), "Entry(5, 3)");
-    Ok(())
+    let mut bag = bag_of(rt, alloc, state, &[5, 5, 5])?;
+    is_text(rt, alloc, &bag, "{5, 5, 5}")?;
+    texts_of_walks(rt, alloc, &bag)?;
+    is_text(rt, alloc, &bag.entry(5), "Entry(5, 3)")
 }
 
 fn texts_of_nothing<S: BuildHasher + Drop>(
@@ -356,12 +412,9 @@ fn texts_of_nothing<S: BuildHasher + Drop>(
     state: S,
 ) -> Result<(), Fail> {
     let bag: HashBag<u64, S> = HashBag::with_hasher(alloc, state);
-    assert_eq!(rt; format!(in alloc; "{bag:?}")?.as_str(), "{}");
-    let walk = bag.iter();
-    assert_eq!(rt; format!(in alloc; "{walk:?}")?.as_str(), "{}");
-    let set_walk = bag.set_iter();
-    assert_eq!(rt; format!(in alloc; "{set_walk:?}")?.as_str(), "{}");
-    Ok(())
+    is_text(rt, alloc, &bag, "{}")?;
+    is_text(rt, alloc, &bag.iter(), "{}")?;
+    is_text(rt, alloc, &bag.set_iter(), "{}")
 }
 
 #[test]
