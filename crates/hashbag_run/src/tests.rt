@@ -128,6 +128,14 @@ fn answers_two_bags(rt: HostRuntime) {
             outer 2 7 1\ndifference 2 6\nsigned 2 6\n",
         ),
         (
+            "a or 4 3\na or 4 9\na set 4 0\na set 4 1\nb retain\nb or 6 0\n",
+            "a count 3\na count 3\na done\na absent\nb done\nb count 0\n",
+        ),
+        (
+            "a many 5 3\na many 6 2\na retain 6 9 5 2 5 1\na count 5\na count 6\na retain\na count 5\n",
+            "a count 0\na count 0\na done\na count 2\na count 2\na done\na count 0\n",
+        ),
+        (
             "a many 7 18446744073709551615\na insert 8\n",
             "a count 0\na too many\nouter 7 18446744073709551615 0\ndifference 7 18446744073709551615\n\
             signed 7 9223372036854775807\nnot_in 7 18446744073709551615\n",
@@ -197,7 +205,7 @@ fn counts_lines_to_the_bad_one(rt: HostRuntime) {
 
 #[test]
 fn refuses_hostile_lines(rt: HostRuntime) {
-    let rows: [&[u8]; 30] = [
+    let rows: [&[u8]; 33] = [
         b"a  insert 5",
         b" a insert 5",
         b"A insert 5",
@@ -219,7 +227,10 @@ fn refuses_hostile_lines(rt: HostRuntime) {
         b"a clear 5",
         b"a reserve",
         b"a upto 5 -1",
-        b"a retain",
+        b"a retain 1",
+        b"a retain 1 2 3",
+        b"a retain 1 -2",
+        b"a retain 1  2",
         b"a set 5",
         b"a or",
         b"insert 5",
