@@ -154,8 +154,8 @@ module _ {T : Type 0} {eq : T → T → Bool} (laws : IsEquivalence eq) where
       let in_second = All-weaker (λ v. Contains (alone eq X Y) v) (λ v. 0 < count eq v X + count eq v Y) (λ v c. let some = count_of_item v Y (Contains-filter_back (λ y. count eq y X == 0) v Y c).0 in omega arith) h.second h.of_second.only in
       let all = All-append (λ v. 0 < count eq v X + count eq v Y) h.first h.second in_first in_second in
       All-from_Contains (λ j. 0 < j.1 + j.2) J (λ j c.
-          let u = Contains-map_back both j (h.first ++ h.second) (Contains-same J _ j h.counts c) in
-          subst (λ (j : T × ℕ × ℕ). 0 < j.1 + j.2) u.2 (All-contains (λ v. 0 < count eq v X + count eq v Y) (h.first ++ h.second) u.0 all u.1))
+      let u = Contains-map_back both j (h.first ++ h.second) (Contains-same J _ j h.counts c) in
+      subst (λ (j : T × ℕ × ℕ). 0 < j.1 + j.2) u.2 (All-contains (λ v. 0 < count eq v X + count eq v Y) (h.first ++ h.second) u.0 all u.1))
 
 -- ---- how much a join gives at most
 
