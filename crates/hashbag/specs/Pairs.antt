@@ -31,10 +31,11 @@ module _ {T : Type 0} (eq : T → T → Bool) where
     pub replies : r.replies_after ≡ r.replies_before ++ (run eq X r.steps).1
     pub means : Means r.after (run eq X r.steps).0
 
-  -- every step was done, and memory stopped the run, whichever list the bag meant
+  -- every step was done, whichever list the bag meant
   abbrev pub IsDone : {S : Type 0} → Ran T S → Type 0
   IsDone r = (X : List T) → Means r.before X → IsDoneFrom X r
 
+  -- memory stopped the run, whichever list the bag meant
   abbrev pub IsCutOff : {S : Type 0} → Ran T S → Type 0
   IsCutOff r = (X : List T) → Means r.before X → IsStopped eq X r.steps r.replies_before r.replies_after r.after
 

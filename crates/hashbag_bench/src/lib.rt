@@ -2,6 +2,7 @@
 //! is stored, and hash states under which values collide.
 #![tactic(auto)]
 
+pub mod join_uses;
 pub mod plain;
 pub mod states;
 pub mod tagged;

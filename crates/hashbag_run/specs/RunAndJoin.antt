@@ -1,5 +1,5 @@
 -- The theorem over two runs of steps and the joins of what they leave.
-use Rattle.std.specs.Prelude.{◌≡◌, ℕ, ◌+◌, ◌<◌, ℤ, Bool, List, All}
+use Rattle.std.specs.Prelude.{ℕ, ◌+◌, ◌<◌, ℤ, Bool, List, All}
 use Rattle.hashbag.specs.Bag.{Means}
 use Rattle.hashbag.specs.Joins.{IsOuterJoin, IsDifference, IsNotIn, IsSignedDifference}
 use Rattle.hashbag.specs.Pairs.{Ran, IsDone}

@@ -1,4 +1,5 @@
 //! Joins of two bags, with the items found by hand, between each two of the four hash states.
+use crate::join_uses::excess_of;
 use crate::states::Nothing;
 use crate::{IdentityState, OneState, ParityState};
 use hashbag::script::{Joins, joins_of};
@@ -539,6 +540,17 @@ fn joins_collected(rt: HostRuntime) -> Result<(), Fail> {
     let a: HashBag<u64, OneState> = bag_with(&rt, alloc, &[(1, 1), (2, 1), (3, 2)])?;
     let b: HashBag<u64, IdentityState> = bag_with(&rt, alloc, &[(2, 1), (3, 1), (4, 2)])?;
     collected_joins(&rt, joins_of(alloc, &a, &b)?);
+    Ok(())
+}
+
+#[test]
+fn excesses_one_by_one(rt: HostRuntime) -> Result<(), Fail> {
+    let alloc = rt.alloc();
+    let a: HashBag<u64, OneState> = bag_with(&rt, alloc, &FIRST)?;
+    let b: HashBag<u64, IdentityState> = bag_with(&rt, alloc, &SECOND)?;
+    for (value, excess) in [(4, 1), (5, 3), (6, 1), (7, 0), (8, 0), (1, 0)] {
+        assert_eq!(rt; excess_of(&a, &b, &value), excess, "of {value}");
+    }
     Ok(())
 }
 

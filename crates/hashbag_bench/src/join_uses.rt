@@ -1,0 +1,21 @@
+//! Callers to copy: what the contracts of the joins are good for.
+ghost use Rattle.std.specs.Prelude.{◌≡◌, ◌+◌, min};
+ghost use Rattle.hashbag.specs.Occurrences.{count};
+
+use hashbag::HashBag;
+use std::hash::{BuildHasher, Hash};
+
+/// How many more of a value one bag has than another, 0 where it has no more: found in their difference. With the lesser of
+/// both counts it is the count in the first bag.
+pub fn excess_of<T: Eq + Hash + Drop, S: BuildHasher + Drop, S2: BuildHasher + Drop>(
+    a: &HashBag<T, S>,
+    b: &HashBag<T, S2>,
+    value: &T,
+) -> usize
+    ensures { count T.eq value.now a.now.items ≡ min (count T.eq value.now a.now.items) (count T.eq value.now b.now.items) + result }
+{
+    match a.difference(b).find(|entry| *entry.0 == *value) {
+        Some((_, excess)) => excess,
+        None => 0,
+    }
+}
