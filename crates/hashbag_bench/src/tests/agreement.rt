@@ -58,7 +58,10 @@ fn quotas<T: Sample + Drop>(
 ) -> Result<Vec<(T, usize)>, AllocError> {
     let mut list = Vec::new(alloc);
     for key in 0..KEYS - 1 {
-        list.push((T::sample(key, step), (key as usize).saturating_add(amount) % 5))?;
+        list.push((
+            T::sample(key, step),
+            (key as usize).saturating_add(amount) % 5,
+        ))?;
     }
     list.push((T::sample(0, step), 9))?;
     Ok(list)
