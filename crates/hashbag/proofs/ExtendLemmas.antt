@@ -13,7 +13,7 @@ use Rattle.hashbag.specs.Extends.{add_all, Refuses, RefusesClones}
 use Rattle.hashbag.proofs.OccurrenceLemmas.{add_rearranged, bag_rearranged, count_rearranged}
 
 module _ {T : Type 0} {eq : T → T → Bool} (laws : IsEquivalence eq) where
-  add_all_last : (X : List T) (pairs : List (T × ℕ)) (p : T × ℕ) → add_all eq X (pairs ++ p ∷ []) ≡ add eq p.0 p.1 (add_all eq X pairs)
+  pub add_all_last : (X : List T) (pairs : List (T × ℕ)) (p : T × ℕ) → add_all eq X (pairs ++ p ∷ []) ≡ add eq p.0 p.1 (add_all eq X pairs)
   add_all_last X [] p = refl
   add_all_last X (q ∷ pairs) p = add_all_last (add eq q.0 q.1 X) pairs p
 

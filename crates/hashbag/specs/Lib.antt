@@ -9,6 +9,11 @@ pub mod Iter
 pub mod JoinExamples
 pub mod Joins
 pub mod JoinsLeft
+pub mod JsonExamples
+pub mod JsonFaults
+pub mod JsonItemLaws
+pub mod JsonItems
+pub mod JsonTrees
 pub mod Lending
 pub mod Occurrences
 pub mod Pairs

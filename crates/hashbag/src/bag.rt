@@ -437,7 +437,7 @@ impl<T: Eq + Hash + Drop, S: BuildHasher + Drop> HashBag<T, S> {
     }
 
     // Adds occurrences of a value if the total can have them.
-    fn insert_within(&mut self, value: T, n: usize) -> Result<(), BagError>
+    pub(crate) fn insert_within(&mut self, value: T, n: usize) -> Result<(), BagError>
         ensures added { OnOk result (IsBagOf T.eq self.old (add T.eq value n self.old.items) self.new) }
         ensures refused { IfErr result (Refuses T.eq self.old.items value n) }
         ensures err { OnErr result (self.new ≡ self.old) }

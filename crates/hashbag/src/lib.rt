@@ -5,9 +5,11 @@ pub mod bag;
 pub mod entry;
 pub mod iters;
 pub mod joins;
+pub mod json;
 pub mod script;
 
 pub use bag::{BagError, FixedState, HashBag};
 pub use entry::Entry;
 pub use iters::{Drain, IntoIter, Iter, SetIter};
 pub use joins::{Difference, NotIn, OuterJoin, SignedDifference};
+pub use json::{ItemError, JsonError, JsonItem};

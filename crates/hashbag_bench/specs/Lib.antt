@@ -1,1 +1,2 @@
 pub mod LastNumber
+pub mod Named

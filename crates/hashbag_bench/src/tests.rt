@@ -7,6 +7,8 @@ mod collections;
 mod entries;
 mod hashes;
 mod joins;
+mod json;
+mod json_refusals;
 mod pair_refusals;
 mod plain_calls;
 mod refusals;

@@ -1,13 +1,16 @@
 //! A whole run of the program over any reader and writer.
 ghost use Rattle.std.specs.Prelude.{◌≡◌, ◌⊎◌, [], IfOk};
 ghost use Rattle.hashbag.specs.Script.{run as run_of};
+ghost use Rattle.serde_json.specs.View.{view};
+ghost use Rattle.hashbag.specs.JsonTrees.{IsTree};
 ghost use Rattle.hashbag.specs.Joins.{IsOuterJoin, IsDifference, IsNotIn, IsSignedDifference};
 
 use crate::joined::{JoinLists, run_and_join};
 use crate::lines::{self, LinesError, Scripts};
-use crate::output::{print_joins, print_replies, write_all};
+use crate::output::{print_joins, print_replies, print_tree, write_all};
 use hashbag::script::{Reply, Step};
-use hashbag::{BagError, HashBag};
+use hashbag::{BagError, HashBag, JsonItem};
+use serde_json::Value;
 use std::alloc::{AllocError, Global};
 use std::io::{Read, Write};
 
@@ -78,6 +81,8 @@ struct Answers {
     replies_b: Vec<Reply<u64>>,
     // Of the bags that the steps leave.
     joins: JoinLists<u64>,
+    tree_a: Value,
+    tree_b: Value,
 }
 
 // What the steps answer on two empty bags.
@@ -92,6 +97,8 @@ fn answers_to(
     ensures difference { IfOk result (λ answers. IsDifference ⟦<u64 as PartialEq>⟧.eq (run_of ⟦<u64 as PartialEq>⟧.eq [] steps_a.items).0 (run_of ⟦<u64 as PartialEq>⟧.eq [] steps_b.items).0 answers.joins.difference.items) }
     ensures signed { IfOk result (λ answers. IsSignedDifference ⟦<u64 as PartialEq>⟧.eq (run_of ⟦<u64 as PartialEq>⟧.eq [] steps_a.items).0 (run_of ⟦<u64 as PartialEq>⟧.eq [] steps_b.items).0 answers.joins.signed.items) }
     ensures not_in { IfOk result (λ answers. IsNotIn ⟦<u64 as PartialEq>⟧.eq (run_of ⟦<u64 as PartialEq>⟧.eq [] steps_a.items).0 (run_of ⟦<u64 as PartialEq>⟧.eq [] steps_b.items).0 answers.joins.not_in.items) }
+    ensures tree_a { IfOk result (λ answers. IsTree ⟦<u64 as PartialEq>⟧.eq ⟦<u64 as Ord>⟧.cmp ⟦<u64 as JsonItem>⟧.tree_of (run_of ⟦<u64 as PartialEq>⟧.eq [] steps_a.items).0 (view answers.tree_a)) }
+    ensures tree_b { IfOk result (λ answers. IsTree ⟦<u64 as PartialEq>⟧.eq ⟦<u64 as Ord>⟧.cmp ⟦<u64 as JsonItem>⟧.tree_of (run_of ⟦<u64 as PartialEq>⟧.eq [] steps_b.items).0 (view answers.tree_b)) }
 {
     let mut a: HashBag<u64> = HashBag::new(alloc);
     let mut b: HashBag<u64> = HashBag::new(alloc);
@@ -110,6 +117,8 @@ fn answers_to(
         replies_a,
         replies_b,
         joins,
+        tree_a: a.to_value(alloc)?,
+        tree_b: b.to_value(alloc)?,
     })
 }
 
@@ -122,6 +131,8 @@ fn output_of<R: Read>(alloc: Global, input: &mut R) -> Result<String, Failure> {
     print_replies(&mut output, "a", &answers.replies_a)?;
     print_replies(&mut output, "b", &answers.replies_b)?;
     print_joins(&mut output, answers.joins)?;
+    print_tree(alloc, &mut output, "a", &answers.tree_a)?;
+    print_tree(alloc, &mut output, "b", &answers.tree_b)?;
     Ok(output)
 }
 
@@ -136,8 +147,8 @@ fn send<W: Write>(output: &mut W, text: &str, status: u8) -> u8
     }
 }
 
-/// Reads steps, runs them on two empty bags, writes what each replies and then the joins of the bags, and answers the exit
-/// status.
+/// Reads steps, runs them on two empty bags, writes what each replies, then the joins of the bags and then their trees,
+/// and answers the exit status.
 ///
 /// The whole input is read before any line is judged, all lines are judged before any step is run, and the whole output
 /// is made before any of it is written. The status is 0 where all went well, 2 after a bad line (`bad line ` and its

@@ -1,4 +1,5 @@
-//! Reads steps on two bags, a line each, from standard input, and prints what each replies and the joins of the bags.
+//! Reads steps on two bags, a line each, from standard input, and prints what each replies, the joins of the bags and
+//! their trees.
 #![tactic(auto)]
 
 mod execute;

@@ -1,7 +1,8 @@
-//! The program's output: a line for each reply, and a line for each item of the joins.
+//! The program's output: a line for each reply, a line for each item of the joins, and a line for each bag's tree.
 use crate::joined::JoinLists;
 use hashbag::script::Reply;
-use std::alloc::AllocError;
+use serde_json::Value;
+use std::alloc::{AllocError, Global};
 use std::io::Write;
 
 // Appends the line of a reply of a bag.
@@ -60,6 +61,17 @@ pub fn print_joins(text: &mut String, joins: JoinLists<u64>) -> Result<(), Alloc
         writeln!(text, "signed {value} {count}")?;
     }
     print_counts(text, "not_in", &not_in)
+}
+
+/// Appends the line of the tree of the bag of that name, with no space in the tree.
+pub fn print_tree(
+    alloc: Global,
+    text: &mut String,
+    bag: &str,
+    tree: &Value,
+) -> Result<(), AllocError> {
+    let compact = tree.to_string(alloc)?;
+    writeln!(text, "{bag} json {compact}")
 }
 
 /// Writes the whole text, and answers whether that went well. Any error of the writer is a failure, and so is a write

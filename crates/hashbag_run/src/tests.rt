@@ -12,7 +12,10 @@ use std::test::Fail;
 const STEPS: &str = "a insert 5\na insert 5\na remove 5\na count 5\n";
 
 const OUTPUT: &str = "a count 0\na count 1\na count 2\na count 1\n\
-    outer 5 1 0\ndifference 5 1\nsigned 5 1\nnot_in 5 1\n";
+    outer 5 1 0\ndifference 5 1\nsigned 5 1\nnot_in 5 1\na json [[5,1]]\nb json []\n";
+
+// The trees of two empty bags.
+const EMPTY: &str = "a json []\nb json []\n";
 
 // Gives its text in pieces of seven bytes. The read of the number `fails_at`, from 1, fails.
 #[derive(Drop)]
@@ -93,10 +96,21 @@ fn answers(alloc: Global, rt: &impl Abort, input: &[u8], status: u8, wanted: &st
     assert_eq!(rt; output.taken.as_slice(), wanted.as_bytes(), "at {input:?}");
 }
 
+// The same for an input that leaves both bags empty: their trees are written after what is wanted.
+fn leaves_none(alloc: Global, rt: &impl Abort, input: &[u8], wanted: &str) {
+    let mut output = Sink::new(alloc, 0, false);
+    let got = execute(alloc, &mut Pieces::new(input, 0), &mut output);
+    assert_eq!(rt; got, 0, "at {input:?}");
+    let written = output.taken.as_slice();
+    let (replies, trees) = written.split_at(written.len().min(wanted.len()));
+    assert_eq!(rt; replies, wanted.as_bytes(), "at {input:?}");
+    assert_eq!(rt; trees, EMPTY.as_bytes(), "at {input:?}");
+}
+
 #[test]
 fn answers_steps(rt: HostRuntime) {
+    answers(rt.alloc(), &rt, STEPS.as_bytes(), 0, OUTPUT);
     let rows = [
-        (STEPS, OUTPUT),
         ("", ""),
         ("\n\n", ""),
         ("a count 7", "a count 0\n"),
@@ -112,11 +126,11 @@ fn answers_steps(rt: HostRuntime) {
         ),
     ];
     for (input, wanted) in rows {
-        answers(rt.alloc(), &rt, input.as_bytes(), 0, wanted);
+        leaves_none(rt.alloc(), &rt, input.as_bytes(), wanted);
     }
 }
 
-// Runs on two bags, with the joins of what they leave: replies of a and then of b, and each join by rising values.
+// Runs on two bags: replies of a and then of b, each join of what they leave by rising values, and the trees.
 #[test]
 fn answers_two_bags(rt: HostRuntime) {
     let rows = [
@@ -125,30 +139,35 @@ fn answers_two_bags(rt: HostRuntime) {
             b insert 9\na count 2\nb try 9\nb try 9\n",
             "a count 0\na count 1\na count 3\na count 7\n\
             b count 0\nb count 0\nb taken 9 1\nb absent\n\
-            outer 2 7 1\ndifference 2 6\nsigned 2 6\n",
+            outer 2 7 1\ndifference 2 6\nsigned 2 6\na json [[2,7]]\nb json [[2,1]]\n",
         ),
         (
             "a or 4 3\na or 4 9\na set 4 0\na set 4 1\nb retain\nb or 6 0\n",
-            "a count 3\na count 3\na done\na absent\nb done\nb count 0\n",
+            "a count 3\na count 3\na done\na absent\nb done\nb count 0\n\
+            a json []\nb json []\n",
         ),
         (
             "a many 5 3\na many 6 2\na retain 6 9 5 2 5 1\na count 5\na count 6\na retain\na count 5\n",
-            "a count 0\na count 0\na done\na count 2\na count 2\na done\na count 0\n",
+            "a count 0\na count 0\na done\na count 2\na count 2\na done\na count 0\n\
+            a json []\nb json []\n",
         ),
         (
             "a many 7 18446744073709551615\na insert 8\n",
             "a count 0\na too many\nouter 7 18446744073709551615 0\ndifference 7 18446744073709551615\n\
-            signed 7 9223372036854775807\nnot_in 7 18446744073709551615\n",
+            signed 7 9223372036854775807\nnot_in 7 18446744073709551615\n\
+            a json [[7,18446744073709551615]]\nb json []\n",
         ),
         (
             "b many 7 18446744073709551615\nb insert 8\n",
-            "b count 0\nb too many\nouter 7 0 18446744073709551615\nsigned 7 -9223372036854775808\n",
+            "b count 0\nb too many\nouter 7 0 18446744073709551615\nsigned 7 -9223372036854775808\n\
+            a json []\nb json [[7,18446744073709551615]]\n",
         ),
         (
             "b insert 10\nb many 2 3\na insert 9\na many 2 1\na many 100 2\nb insert 9\n",
             "a count 0\na count 0\na count 0\nb count 0\nb count 0\nb count 0\n\
             outer 2 1 3\nouter 9 1 1\nouter 10 0 1\nouter 100 2 0\ndifference 100 2\n\
-            signed 2 -2\nsigned 9 0\nsigned 10 -1\nsigned 100 2\nnot_in 100 2\n",
+            signed 2 -2\nsigned 9 0\nsigned 10 -1\nsigned 100 2\nnot_in 100 2\n\
+            a json [[2,1],[9,1],[100,2]]\nb json [[2,3],[9,1],[10,1]]\n",
         ),
     ];
     for (input, wanted) in rows {
@@ -156,7 +175,7 @@ fn answers_two_bags(rt: HostRuntime) {
     }
 }
 
-// Each verb, with the reply that its line has. Nothing is left, so that there are no joins.
+// Each verb, with the reply that its line has. Nothing is left, so that there are no joins and the trees are empty.
 #[test]
 fn replies_to_each_verb(rt: HostRuntime) {
     let script = "a many 5 3\na insert 5\na upto 5 3\na replace 5\na try 5\na try 5\n\
@@ -165,7 +184,7 @@ fn replies_to_each_verb(rt: HostRuntime) {
     let replies = "a count 0\na count 3\na count 1\na count 1\na taken 5 1\na absent\n\
         a count 0\na left 2\na count 0\na taken 6 1\na absent\na done\na done\n\
         a count 1\na count 0\na count 0\na done\na count 0\na count 0\na count 0\n";
-    answers(rt.alloc(), &rt, script.as_bytes(), 0, replies);
+    leaves_none(rt.alloc(), &rt, script.as_bytes(), replies);
 }
 
 #[test]
@@ -176,7 +195,7 @@ fn replies_to_entries(rt: HostRuntime) {
     let replies = "a count 3\na count 3\na done\na absent\na count 0\na count 0\n\
         a count 0\na too many\na count 0\na done\na done\n\
         a done\na count 2\na too many\na count 2\na done\n";
-    answers(rt.alloc(), &rt, script.as_bytes(), 0, replies);
+    leaves_none(rt.alloc(), &rt, script.as_bytes(), replies);
 }
 
 #[test]
@@ -185,7 +204,7 @@ fn totals_stop_at_their_end(rt: HostRuntime) {
         a replace 8\na replace 7\na replace 8\na upto 7 0\na clear\n";
     let replies = "a count 0\na too many\na too many\na count 0\n\
         a too many\na count 18446744073709551615\na count 0\na count 1\na done\n";
-    answers(rt.alloc(), &rt, script.as_bytes(), 0, replies);
+    leaves_none(rt.alloc(), &rt, script.as_bytes(), replies);
 }
 
 #[test]
@@ -278,8 +297,8 @@ fn fails_at_write(
 
 #[test]
 fn fails_at_each_write(rt: HostRuntime) {
-    // The output has 89 bytes and takes thirteen writes, and what is said of a bad line has 11 and takes two.
-    for fails_at in 1..14 {
+    // The output has 114 bytes and takes seventeen writes, and what is said of a bad line has 11 and takes two.
+    for fails_at in 1..18 {
         fails_at_write(rt.alloc(), &rt, STEPS, OUTPUT, fails_at, false);
         fails_at_write(rt.alloc(), &rt, STEPS, OUTPUT, fails_at, true);
     }

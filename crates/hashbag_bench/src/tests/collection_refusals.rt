@@ -1,6 +1,6 @@
 //! What stands after a refused request for memory in extends, collections and clones: calls of the tests `refusals`.
 use hashbag::{BagError, HashBag};
-use std::alloc::Global;
+use std::alloc::{AllocError, Global};
 use std::process::Abort;
 
 // The values that come new, each as often as its call says.
@@ -121,4 +121,46 @@ pub fn collections(rt: &impl Abort, alloc: Global) {
     from_iter(rt, alloc);
     from_counts(rt, alloc);
     clone(rt, alloc);
+}
+
+// Two names, whose clones ask for memory themselves.
+fn names(alloc: Global) -> Result<(String, String), AllocError> {
+    Ok((
+        String::from_str(alloc, "Einar")?,
+        String::from_str(alloc, "Harald")?,
+    ))
+}
+
+// After an extend by Einar, Harald and Einar: all are there, or those before the one that was refused.
+fn has_names(
+    rt: &impl Abort,
+    bag: &HashBag<String>,
+    counts: (usize, usize),
+    done: Result<(), BagError>,
+) {
+    match done {
+        Ok(()) => assert_eq!(rt; counts, (2, 1)),
+        Err(error) => {
+            assert_eq!(rt; error, BagError::Memory);
+            let before = [(0, 0), (1, 0), (1, 1)];
+            assert!(rt; before.contains(&counts), "{counts:?}");
+        }
+    }
+    assert_eq!(rt; bag.len(), counts.0.saturating_add(counts.1));
+}
+
+/// An extend by clones that ask for memory, and a clone of the bag that it leaves, which is equal where there is one.
+pub fn cloned_names(rt: &impl Abort, alloc: Global) {
+    let Ok((einar, harald)) = names(alloc) else {
+        return;
+    };
+    let mut bag: HashBag<String> = HashBag::new(alloc);
+    let done = bag.extend_refs([&einar, &harald, &einar].into_iter());
+    let counts = (bag.contains(&einar), bag.contains(&harald));
+    has_names(rt, &bag, counts, done);
+    match bag.clone() {
+        Ok(clone) => assert!(rt; clone == bag),
+        Err(error) => assert_eq!(rt; error, BagError::Memory),
+    }
+    assert_eq!(rt; (bag.contains(&einar), bag.contains(&harald)), counts);
 }

@@ -5,7 +5,8 @@
 //! spare requests first as its name says. So a few runs of the script refuse many different requests of the calls. After the
 //! calls each test makes more spare requests than the script refuses: where it is one of these that is refused, the calls have
 //! made fewer requests, and the test says so.
-use crate::tests::collection_refusals::{collections, extends};
+use crate::tests::collection_refusals::{cloned_names, collections, extends};
+use crate::tests::json_refusals::{faulty_trees, trees};
 use crate::tests::pair_refusals::pairs_of_runs;
 use hashbag::script::{Reply, Step, run};
 use hashbag::{BagError, HashBag};
@@ -159,8 +160,9 @@ fn room_from_the_start(rt: &impl Abort, alloc: Global) {
     }
 }
 
-// Steps that ask for memory, and some that don't.
+// A step of each kind, and more insertions.
 fn steps_of(alloc: Global) -> Result<Vec<Step<u64>>, AllocError> {
+    let kept = vec![in alloc; (5, 4), (7, 9)]?;
     Ok(vec![in alloc;
         Step::InsertMany(5, 3),
         Step::Insert(6),
@@ -168,13 +170,21 @@ fn steps_of(alloc: Global) -> Result<Vec<Step<u64>>, AllocError> {
         Step::Reserve(40),
         Step::Remove(6),
         Step::ShrinkToFit,
+        Step::EntryOr(6, 4),
+        Step::RemoveUpTo(6, 1),
         Step::InsertMany(7, 2),
         Step::TryTake(7),
+        Step::EntrySet(5, 6),
+        Step::Count(5),
+        Step::Retain(kept),
+        Step::TakeAll(7),
+        Step::Clear,
+        Step::InsertMany(6, 5),
     ]?)
 }
 
 // The counts of 5, 6 and 7 after each number of these steps.
-const AFTER: [Counts; 9] = [
+const AFTER: [Counts; 17] = [
     (0, 0, 0),
     (3, 0, 0),
     (3, 1, 0),
@@ -182,8 +192,16 @@ const AFTER: [Counts; 9] = [
     (1, 1, 0),
     (1, 0, 0),
     (1, 0, 0),
-    (1, 0, 2),
-    (1, 0, 1),
+    (1, 4, 0),
+    (1, 3, 0),
+    (1, 3, 2),
+    (1, 3, 1),
+    (6, 3, 1),
+    (6, 3, 1),
+    (4, 0, 1),
+    (4, 0, 0),
+    (0, 0, 0),
+    (0, 5, 0),
 ];
 
 // What a run leaves is what the steps with replies leave.
@@ -195,7 +213,7 @@ fn runs_of(rt: &impl Abort, alloc: Global, steps: Vec<Step<u64>>) {
     assert!(rt; number < AFTER.len());
     has_counts(rt, &bag, AFTER[number]);
     match done {
-        Ok(()) => assert_eq!(rt; number, 8),
+        Ok(()) => assert_eq!(rt; number, 16),
         Err(error) => assert_eq!(rt; error, BagError::Memory),
     }
 }
@@ -218,7 +236,10 @@ fn refusals(rt: &impl Abort, alloc: Global, spare: usize) {
     runs(rt, alloc);
     extends(rt, alloc);
     collections(rt, alloc);
+    cloned_names(rt, alloc);
     pairs_of_runs(rt, alloc);
+    trees(rt, alloc);
+    faulty_trees(rt, alloc);
     assert!(rt; lists(alloc, SPARE).is_ok(), "no refusal before the end");
 }
 
@@ -305,4 +326,24 @@ fn after_120(rt: HostRuntime) {
 #[test]
 fn after_128(rt: HostRuntime) {
     refusals(&rt, rt.alloc(), 128);
+}
+
+#[test]
+fn after_136(rt: HostRuntime) {
+    refusals(&rt, rt.alloc(), 136);
+}
+
+#[test]
+fn after_144(rt: HostRuntime) {
+    refusals(&rt, rt.alloc(), 144);
+}
+
+#[test]
+fn after_152(rt: HostRuntime) {
+    refusals(&rt, rt.alloc(), 152);
+}
+
+#[test]
+fn after_160(rt: HostRuntime) {
+    refusals(&rt, rt.alloc(), 160);
 }

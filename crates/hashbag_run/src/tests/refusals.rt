@@ -16,13 +16,14 @@ use std::process::Abort;
 const SPARE: usize = 100;
 
 // The most bytes that a page takes.
-const PAGE: usize = 100;
+const PAGE: usize = 150;
 
-// Steps on two bags, and what they and the joins of the bags answer.
+// Steps on two bags, and what they, the joins of the bags and their trees answer.
 const TWO_BAGS: &str = "a many 2 7\nb insert 2\nb insert 9\n";
 
 const JOINED: &str = "a count 0\nb count 0\nb count 0\nouter 2 7 1\nouter 9 0 1\n\
-    difference 2 6\nsigned 2 6\nsigned 9 -1\n";
+    difference 2 6\nsigned 2 6\nsigned 9 -1\n\
+    a json [[2,7]]\nb json [[2,1],[9,1]]\n";
 
 // A step that is a list.
 const LIST: &str = "a retain 1 2 3 4\n";
@@ -88,7 +89,7 @@ fn refusals(rt: &impl Abort, alloc: Global, spare: usize) {
     }
     answers_or_has_no_memory(rt, alloc, STEPS, DONE, OUTPUT);
     answers_or_has_no_memory(rt, alloc, TWO_BAGS, DONE, JOINED);
-    answers_or_has_no_memory(rt, alloc, LIST, DONE, "a done\n");
+    answers_or_has_no_memory(rt, alloc, LIST, DONE, "a done\na json []\nb json []\n");
     answers_or_has_no_memory(rt, alloc, BAD, BAD_LINE, "bad line 3\n");
     assert!(rt; lists(alloc, SPARE).is_ok(), "no refusal before the end");
 }
@@ -136,4 +137,14 @@ fn after_56(rt: HostRuntime) {
 #[test]
 fn after_64(rt: HostRuntime) {
     refusals(&rt, rt.alloc(), 64);
+}
+
+#[test]
+fn after_72(rt: HostRuntime) {
+    refusals(&rt, rt.alloc(), 72);
+}
+
+#[test]
+fn after_80(rt: HostRuntime) {
+    refusals(&rt, rt.alloc(), 80);
 }

@@ -1,0 +1,40 @@
+//! Callers to copy: what the contracts of trees are good for.
+ghost use Rattle.std.specs.Prelude.{◌≡◌, ◌↔◌, true, IfOk, IfErr};
+ghost use Rattle.serde_json.specs.View.{view};
+ghost use Rattle.hashbag.specs.Equality.{same_counts, bag_eq};
+
+use hashbag::{BagError, HashBag, JsonError, JsonItem};
+use serde_json::Value;
+use std::alloc::Global;
+use std::hash::{BuildHasher, Hash};
+
+/// Writes a bag as a tree and reads that back. Only memory is refused, and what is read has the counts of the bag.
+pub fn read_again<
+    T: JsonItem + Ord + Hash + Drop,
+    S: BuildHasher + Drop,
+    S2: BuildHasher + Default + Drop,
+>(alloc: Global, bag: &HashBag<T, S>) -> Result<HashBag<T, S2>, JsonError>
+    ensures equal { IfOk result (λ again. same_counts T.eq again.items bag.now.items ≡ true) }
+    ensures memory { IfErr result (λ e. e ≡ JsonError.Memory) }
+{
+    match bag.to_value(alloc) {
+        Ok(tree) => HashBag::from_value(alloc, &tree),
+        Err(_) => Err(JsonError::Memory),
+    }
+}
+
+/// The trees of two bags: they are the same exactly if the bags are equal.
+pub fn both_trees<T: JsonItem + Ord + Hash + Drop, S: BuildHasher + Drop>(
+    alloc: Global,
+    a: &HashBag<T, S>,
+    b: &HashBag<T, S>,
+) -> Result<(Value, Value), BagError>
+    ensures same { IfOk result (λ trees. (bag_eq T.eq a.now b.now ≡ true) ↔ (view trees.0 ≡ view trees.1)) }
+    ensures memory { IfErr result (λ e. e ≡ BagError.Memory) }
+{
+    // By the contract of `len`, b is a bag, of which the clauses of `a.to_value` speak.
+    let _len = b.len();
+    let first = a.to_value(alloc)?;
+    let second = b.to_value(alloc)?;
+    Ok((first, second))
+}
