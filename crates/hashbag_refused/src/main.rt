@@ -90,7 +90,7 @@ fn outcome_of(alloc: Global, order: Order) -> Result<Outcome, Wrong> {
 }
 
 // The order that is read, which is short enough for one read.
-fn order<R: Read>(input: &mut R) -> Option<Order> {
+fn read_order<R: Read>(input: &mut R) -> Option<Order> {
     let mut text = [0u8; 16];
     let n = input.read(&mut text).ok()?;
     let (calls, spare) = str::from_utf8(&text[..n]).ok()?.trim_end().split_once(' ')?;
@@ -108,7 +108,7 @@ fn order<R: Read>(input: &mut R) -> Option<Order> {
 }
 
 fn main(rt: HostRuntime) -> ExitCode {
-    let Some(order) = order(&mut rt.stdin()) else {
+    let Some(order) = read_order(&mut rt.stdin()) else {
         let _ = println!(rt; "wrong: no order");
         return ExitCode::from(1);
     };
