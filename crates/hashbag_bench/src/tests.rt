@@ -2,15 +2,11 @@
 //! hand, under each hash state.
 mod agreement;
 mod calls;
-mod collection_refusals;
 mod collections;
 mod entries;
 mod hashes;
 mod joins;
 mod json;
-mod json_refusals;
-mod pair_refusals;
 mod plain_calls;
-mod refusals;
 mod rows;
 mod walks;

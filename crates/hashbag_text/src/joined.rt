@@ -1,7 +1,7 @@
 //! Two runs of steps, and the joins of what they leave.
 ghost use Rattle.std.specs.Prelude.{◌≡◌, ◌⊎◌, map, IfOk, OnErr};
 ghost use Rattle.hashbag.specs.Pairs.{ran, HasNoRoom, IsDone, IsPairCutOff};
-ghost use Rattle.hashbag_run.specs.RunAndJoin.{IsRunAndJoined};
+ghost use Rattle.hashbag_text.specs.RunAndJoin.{IsRunAndJoined};
 
 use hashbag::script::{Joins, Reply, Step, joins_of, run_pair};
 use hashbag::{BagError, HashBag};

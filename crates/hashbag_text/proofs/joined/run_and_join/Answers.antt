@@ -1,7 +1,7 @@
 use Rattle.std.proofs.lemmas.List.Sorted.{IsPermutation-refl}
 use Rattle.hashbag.specs.Script.{run}
 use Rattle.hashbag.proofs.JoinLemmas.{outer_none_zero}
-use Rattle.hashbag_run.proofs.joined.run_and_join.Goals as goal
+use Rattle.hashbag_text.proofs.joined.run_and_join.Goals as goal
 
 pub returns-clause-whole : goal.returns-clause-whole
 returns-clause-whole g c =

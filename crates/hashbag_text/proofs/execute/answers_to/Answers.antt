@@ -5,7 +5,7 @@ use Rattle.std.specs.List.Sorted.{IsPermutation}
 use Rattle.std.proofs.lemmas.List.Sorted.{IsPermutation-refl}
 use Rattle.hashbag.specs.Occurrences.{IsOneInstanceEach}
 use Rattle.hashbag.proofs.OccurrenceLemmas.{count_rearranged}
-use Rattle.hashbag_run.proofs.execute.answers_to.Goals as goal
+use Rattle.hashbag_text.proofs.execute.answers_to.Goals as goal
 
 empty_means : (items : List ℕ) → items ≡ [] → IsPermutation [] items
 empty_means items none = subst (λ (l : List ℕ). IsPermutation [] l) (sym none) (IsPermutation-refl [])
