@@ -1,3 +1,7 @@
 //! What no clause says: that the calls succeed, and that their answers are those of the plain bag and of values found by
 //! hand, under each hash state.
+mod calls;
+mod entries;
+mod instances;
+mod rows;
 mod texts;
