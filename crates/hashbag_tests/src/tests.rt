@@ -1,7 +1,11 @@
 //! What no clause says: that the calls succeed, and that their answers are those of the plain bag and of values found by
 //! hand, under each hash state.
 mod calls;
+mod collections;
 mod entries;
+mod hashes;
 mod instances;
+mod plain_calls;
 mod rows;
 mod texts;
+mod walks;

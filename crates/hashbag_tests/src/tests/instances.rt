@@ -96,8 +96,8 @@ fn set_to_none_and_insert<S: BuildHasher + Drop>(
     vacated.or_insert()
 }
 
-// The value that is written as `1:10`.
-fn tagged(word: &str) -> Result<Tagged, Fail> {
+/// The value that is written as `1:10`.
+pub fn tagged(word: &str) -> Result<Tagged, Fail> {
     let (key, tag) = halves(word, ":")?;
     Ok(Tagged {
         key: number(key)?,

@@ -223,8 +223,8 @@ fn extend_refs_many<S: BuildHasher + Drop>(
     bag.extend_refs_many(pairs.iter().map(|pair| (&pair.0, pair.1)))
 }
 
-// The counts of these values.
-fn counts_of<S: BuildHasher + Drop>(
+/// The counts of these values.
+pub fn counts_of<S: BuildHasher + Drop>(
     alloc: Global,
     bag: &HashBag<u64, S>,
     values: &[u64],
@@ -340,6 +340,10 @@ fn with_values<S: BuildHasher + Default + Drop>(
         "extend" => text_of(alloc, extend(bag, values)),
         "extend_refs" => text_of(alloc, extend_refs(bag, values)),
         "counts" => counts_of(alloc, bag, values),
+        "insert_each" => {
+            *bag = bag_of(rt, alloc, S::default(), values)?;
+            debug_of(alloc, &())
+        }
         "equals" => equals(rt, alloc, bag, values),
         _ => no_call(verb),
     }
