@@ -1,11 +1,14 @@
 //! What no clause says: that the calls succeed, and that their answers are those of the plain bag and of values found by
 //! hand, under each hash state.
+mod agreement;
 mod calls;
+mod clones;
 mod collections;
 mod entries;
 mod hashes;
 mod instances;
 mod plain_calls;
+mod room;
 mod rows;
 mod texts;
 mod walks;
