@@ -1,5 +1,5 @@
 //! Single calls on the bag, with the answers found by hand.
-use crate::tests::rows::make_rows;
+use crate::tests::rows::{clone_of, make_rows};
 use crate::tests::texts::is_text;
 use hashbag::{BagError, FixedState, HashBag};
 use hashbag_bench::{IdentityState, OneState, ParityState};
@@ -143,7 +143,7 @@ fn states_by_default_and_cloned(rt: HostRuntime) -> Result<(), Fail> {
     let alloc = rt.alloc();
     let identity: HashBag<u64, IdentityState> = HashBag::default_in(alloc);
     assert_eq!(rt; hash_of(&identity, 258), 258);
-    let copy = identity.clone()?;
+    let copy = clone_of(&identity)?;
     assert_eq!(rt; hash_of(&copy, 258), 258);
     let parity: HashBag<u64, ParityState> = HashBag::default_in(alloc);
     assert_eq!(rt; hash_of(&parity, 259), 1);

@@ -1,5 +1,5 @@
 //! Retaining, extending, collecting, cloning and comparing, with the answers found by hand.
-use crate::tests::rows::{make_calls, make_rows};
+use crate::tests::rows::{clone_of, make_calls, make_rows};
 use crate::tests::texts::{count, counts, debug_of, halves, is_text, number, rows_of};
 use hashbag::script::{Reply, Step, run};
 use hashbag::{FixedState, HashBag};
@@ -110,7 +110,7 @@ const CLONE_ROWS: &str = "\
 fn clones<S: BuildHasher + Default + Copy>(rt: &impl Abort, alloc: Global) -> Result<(), Fail> {
     let mut bag: HashBag<u64, S> = HashBag::default_in(alloc);
     make_calls(rt, alloc, &mut bag, "from_iter [5, 6, 5, 7, 6, 5] = ()", 1)?;
-    let mut copy = bag.clone()?;
+    let mut copy = clone_of(&bag)?;
     assert!(rt; copy == bag);
     make_calls(rt, alloc, &mut copy, CLONE_ROWS, 4)?;
     assert!(rt; copy != bag);
@@ -140,17 +140,20 @@ const RUN_ROWS: &str = "\
     retain none = Done
     count 1 = Count(0)";
 
-// The step of a row.
+// The step that inserts as `5:2` says.
+fn insert_many(pair: &str) -> Result<Step<u64>, Fail> {
+    let (value, n) = halves(pair, ":")?;
+    Ok(Step::InsertMany(number(value)?, count(n)?))
+}
+
+// The step of a call.
 fn step_of(alloc: Global, call: &str) -> Result<Step<u64>, Fail> {
     if call == "retain none" {
         return Ok(Step::Retain(Vec::new(alloc)));
     }
     let (verb, rest) = halves(call, " ")?;
     match verb {
-        "insert_many" => {
-            let (value, n) = halves(rest, ":")?;
-            Ok(Step::InsertMany(number(value)?, count(n)?))
-        }
+        "insert_many" => insert_many(rest),
         "retain" => Ok(Step::Retain(counts(alloc, rest)?)),
         "count" => Ok(Step::Count(number(rest)?)),
         _ => Err(Fail::new(format_args!("no such step: {verb}"))),

@@ -250,6 +250,13 @@ pub fn bag_of<S: BuildHasher + Drop>(
     Ok(bag)
 }
 
+/// A clone of a bag.
+pub fn clone_of<S: BuildHasher + Clone + Drop>(
+    bag: &HashBag<u64, S>,
+) -> Result<HashBag<u64, S>, BagError> {
+    bag.clone()
+}
+
 // Whether the bag equals a bag of these values, and whether that equals the bag.
 fn equals<S: BuildHasher + Default + Drop>(
     rt: &impl Abort,
