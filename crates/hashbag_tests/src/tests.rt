@@ -2,11 +2,13 @@
 //! hand, under each hash state.
 mod agreement;
 mod calls;
+mod clones;
 mod collections;
 mod entries;
 mod hashes;
-mod joins;
-mod json;
+mod instances;
 mod plain_calls;
+mod room;
 mod rows;
+mod texts;
 mod walks;
