@@ -6,8 +6,6 @@ mod collection_refusals;
 mod collections;
 mod entries;
 mod hashes;
-mod joins;
-mod json;
 mod json_refusals;
 mod pair_refusals;
 mod plain_calls;
