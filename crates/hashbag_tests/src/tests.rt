@@ -1,5 +1,6 @@
 //! What no clause says: that the calls succeed, and that their answers are those of the plain bag and of values found by
 //! hand, under each hash state.
+mod hash_counts;
 mod joins;
 mod json;
 mod texts;
