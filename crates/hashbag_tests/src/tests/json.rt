@@ -5,6 +5,7 @@ use hashbag_bench::json_uses::{both_trees, read_again};
 use hashbag_bench::{IdentityState, Named, OneState, ParityState};
 use serde_json::Value;
 use std::alloc::{AllocError, Global};
+use std::fmt::{Debug, Display};
 use std::hash::{BuildHasher, Hash};
 use std::process::Abort;
 use std::test::Fail;
@@ -227,33 +228,53 @@ fn long_tree(alloc: Global, pair: &str, pairs: usize) -> Result<Value, Fail> {
     tree_of(alloc, text.as_str())
 }
 
-// A long tree with one distinct value needs room for one.
-fn takes_room_for_one<S: BuildHasher + Default + Drop>(
+// Room for one value is made, and not for as many as there are pairs.
+fn has_little_room<S: BuildHasher + Drop>(rt: &impl Abort, bag: &HashBag<u64, S>) {
+    let room = bag.capacity();
+    assert!(rt; room < 100, "room for {room} values");
+}
+
+fn is_read_as_one_value<S: BuildHasher + Default + Drop>(
     rt: &impl Abort,
-    tree: &Value,
     alloc: Global,
+    tree: &Value,
 ) -> Result<(), Fail> {
     let read: Result<HashBag<u64, S>, JsonError> = HashBag::from_value(alloc, tree);
     let bag = read.ok().ok_or("a bag")?;
-    assert_eq!(rt; bag.contains(&7), 5000);
-    assert_eq!(rt; bag.set_len(), 1);
-    let room = bag.capacity();
-    assert!(rt; room < 100, "room for {room} values");
+    is_text(
+        rt,
+        "a long tree",
+        written(alloc, &bag)?.as_str(),
+        "5000 1 [[7,5000]]",
+    );
+    has_little_room(rt, &bag);
     Ok(())
 }
 
 #[test]
 fn long_trees_of_one_value(rt: HostRuntime) -> Result<(), Fail> {
     let tree = long_tree(rt.alloc(), "[7,1]", 5000)?;
-    takes_room_for_one::<FixedState>(&rt, &tree, rt.alloc())?;
-    takes_room_for_one::<OneState>(&rt, &tree, rt.alloc())?;
-    takes_room_for_one::<ParityState>(&rt, &tree, rt.alloc())?;
-    takes_room_for_one::<IdentityState>(&rt, &tree, rt.alloc())
+    is_read_as_one_value::<FixedState>(&rt, rt.alloc(), &tree)?;
+    is_read_as_one_value::<OneState>(&rt, rt.alloc(), &tree)?;
+    is_read_as_one_value::<ParityState>(&rt, rt.alloc(), &tree)?;
+    is_read_as_one_value::<IdentityState>(&rt, rt.alloc(), &tree)
+}
+
+// The row of an error, its number and its text.
+fn is_told<E: Debug + Display>(
+    rt: &impl Abort,
+    alloc: Global,
+    error: &E,
+    number: u8,
+    row: &str,
+) -> Result<(), Fail> {
+    let got = format!(in alloc; "{error:?} | {number} | {error}")?;
+    is_text(rt, row, got.as_str(), row);
+    Ok(())
 }
 
 #[test]
-fn errors_are_told(rt: HostRuntime) -> Result<(), Fail> {
-    let alloc = rt.alloc();
+fn json_errors_are_told(rt: HostRuntime) -> Result<(), Fail> {
     let errors = [
         JsonError::NotAnArray,
         JsonError::NotAPair(0),
@@ -262,16 +283,19 @@ fn errors_are_told(rt: HostRuntime) -> Result<(), Fail> {
         JsonError::TooMany(3),
         JsonError::Memory,
     ];
-    for (row, error) in rows_of(alloc, JSON_ERRORS, 6)?.into_iter().zip(errors) {
-        let number = error.number();
-        let got = format!(in alloc; "{error:?} | {number} | {error}")?;
-        is_text(&rt, row, got.as_str(), row);
+    let rows = rows_of(rt.alloc(), JSON_ERRORS, errors.len())?;
+    for (row, error) in rows.into_iter().zip(errors) {
+        is_told(&rt, rt.alloc(), &error, error.number(), row)?;
     }
+    Ok(())
+}
+
+#[test]
+fn item_errors_are_told(rt: HostRuntime) -> Result<(), Fail> {
     let errors = [ItemError::NotAnItem, ItemError::Memory];
-    for (row, error) in rows_of(alloc, ITEM_ERRORS, 2)?.into_iter().zip(errors) {
-        let number = error.number();
-        let got = format!(in alloc; "{error:?} | {number} | {error}")?;
-        is_text(&rt, row, got.as_str(), row);
+    let rows = rows_of(rt.alloc(), ITEM_ERRORS, errors.len())?;
+    for (row, error) in rows.into_iter().zip(errors) {
+        is_told(&rt, rt.alloc(), &error, error.number(), row)?;
     }
     Ok(())
 }
