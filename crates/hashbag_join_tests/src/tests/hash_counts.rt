@@ -1,10 +1,10 @@
 //! How often each call on a bag hashes.
 //!
 //! Each kind of call has a function with no contract of its own. So the proof carries nothing from one call to the next.
-use crate::tests::texts::{count, counts, halves, is_text, number, rows_of};
 use hashbag::script::joins_of;
 use hashbag::{BagError, HashBag};
 use hashbag_bench::states::CountingState;
+use hashbag_rows::texts::{count, counts, halves, is_text, number, rows_of};
 use serde_json::Value;
 use std::alloc::Global;
 use std::process::Abort;
@@ -418,7 +418,7 @@ fn calls_on_two_hash_so_often(rt: HostRuntime) -> Result<(), Fail> {
         let hashed_a = a.hasher().hashed().saturating_sub(start_a);
         let hashed_b = b.hasher().hashed().saturating_sub(start_b);
         let got = format!(in alloc; "{hashed_a} {hashed_b}")?;
-        is_text(&rt, row, got.as_str(), wanted);
+        is_text(row, got.as_str(), wanted)?;
     }
     Ok(())
 }

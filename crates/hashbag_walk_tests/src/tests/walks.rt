@@ -1,12 +1,12 @@
 //! Walks over the bag, with the items found by hand, and the texts of `Debug`.
-use crate::tests::rows::{bag_of, counts_of, make_calls};
-use crate::tests::texts::{debug_of, is_text};
 use hashbag::{FixedState, HashBag, Iter};
 use hashbag_bench::uses::{
     first_moved_out, moved_out, number_by_loop, number_of_items, sum_by_loop, sum_of_counts,
     sum_used_up,
 };
 use hashbag_bench::{IdentityState, OneState, ParityState};
+use hashbag_rows::calls::{bag_of, counts_of, make_calls};
+use hashbag_rows::texts::{debug_of, is_text};
 use std::alloc::Global;
 use std::fmt::Debug;
 use std::hash::{BuildHasher, Hash};
@@ -33,12 +33,8 @@ fn is_empty<T: Eq + Hash + Drop, S: BuildHasher + Drop>(rt: &impl Abort, bag: &H
 }
 
 // 5 three times, 6 twice and 7 once.
-fn sample_bag<S: BuildHasher + Drop>(
-    rt: &impl Abort,
-    alloc: Global,
-    state: S,
-) -> Result<HashBag<u64, S>, Fail> {
-    bag_of(rt, alloc, state, &[5, 6, 5, 7, 6, 5])
+fn sample_bag<S: BuildHasher + Drop>(alloc: Global, state: S) -> Result<HashBag<u64, S>, Fail> {
+    bag_of(alloc, state, &[5, 6, 5, 7, 6, 5])
 }
 
 fn insert_name<S: BuildHasher + Drop>(
@@ -125,7 +121,7 @@ fn is_sample<S: BuildHasher + Drop>(
 ) -> Result<(), Fail> {
     assert_eq!(rt; bag.len(), ITEMS);
     let counts = counts_of(alloc, bag, &[5, 6, 7])?;
-    is_text(rt, "counts of 5, 6 and 7", counts.as_str(), "[3, 2, 1]");
+    is_text("counts of 5, 6 and 7", counts.as_str(), "[3, 2, 1]")?;
     Ok(())
 }
 
@@ -168,7 +164,7 @@ fn borrowed_walks_dropped<S: BuildHasher + Drop>(
     alloc: Global,
     state: S,
 ) -> Result<(), Fail> {
-    let bag = sample_bag(rt, alloc, state)?;
+    let bag = sample_bag(alloc, state)?;
     for taken in 0..=ITEMS {
         some_items(rt, &bag, taken);
         is_sample(rt, alloc, &bag)?;
@@ -203,7 +199,7 @@ fn drained_and_filled<S: BuildHasher + Default + Drop>(
 ) -> Result<(), Fail> {
     some_drained(rt, &mut bag, taken);
     is_empty(rt, &bag);
-    make_calls(rt, alloc, &mut bag, DRAINED_ROWS, 3)
+    make_calls(alloc, &mut bag, DRAINED_ROWS, 3)
 }
 
 fn owned_walks_dropped<S: BuildHasher + Default + Copy>(
@@ -212,8 +208,8 @@ fn owned_walks_dropped<S: BuildHasher + Default + Copy>(
     state: S,
 ) -> Result<(), Fail> {
     for taken in 0..=VALUES {
-        drained_and_filled(rt, alloc, sample_bag(rt, alloc, state)?, taken)?;
-        some_moved(rt, sample_bag(rt, alloc, state)?, taken);
+        drained_and_filled(rt, alloc, sample_bag(alloc, state)?, taken)?;
+        some_moved(rt, sample_bag(alloc, state)?, taken);
     }
     Ok(())
 }
@@ -253,7 +249,7 @@ fn ends_of_walks<S: BuildHasher + Drop>(
     alloc: Global,
     state: S,
 ) -> Result<(), Fail> {
-    let bag = sample_bag(rt, alloc, state)?;
+    let bag = sample_bag(alloc, state)?;
     items_end(rt, &bag);
     values_end(rt, &bag);
     Ok(())
@@ -309,7 +305,7 @@ fn items_of_walks<S: BuildHasher + Drop>(
     alloc: Global,
     state: S,
 ) -> Result<(), Fail> {
-    let bag = sample_bag(rt, alloc, state)?;
+    let bag = sample_bag(alloc, state)?;
     assert_eq!(rt; changes_of_value(&bag), 2);
     number_of_fives(rt, &bag);
     counts_of_values(rt, &bag);
@@ -361,7 +357,7 @@ fn set_clones_go_on<S: BuildHasher + Drop>(
 
 #[test]
 fn clones_go_on_from_the_same_place(rt: HostRuntime) -> Result<(), Fail> {
-    let bag = sample_bag(&rt, rt.alloc(), ParityState)?;
+    let bag = sample_bag(rt.alloc(), ParityState)?;
     for taken in 0..=ITEMS {
         clones_go_on(&rt, &bag, taken)?;
     }
@@ -381,69 +377,57 @@ fn list_moved_out<S: BuildHasher + Drop>(
 
 #[test]
 fn moved_out_whole_and_in_part(rt: HostRuntime) -> Result<(), Fail> {
-    let mut bag = sample_bag(&rt, rt.alloc(), OneState)?;
+    let mut bag = sample_bag(rt.alloc(), OneState)?;
     list_moved_out(&rt, rt.alloc(), &mut bag)?;
     is_empty(&rt, &bag);
-    make_calls(&rt, rt.alloc(), &mut bag, "insert 8 = 0", 1)?;
+    make_calls(rt.alloc(), &mut bag, "insert 8 = 0", 1)?;
     assert_eq!(rt; first_moved_out(&mut bag), Some((8, 1)));
     assert!(rt; first_moved_out(&mut bag).is_none());
     Ok(())
 }
 
 // Checks the text that `Debug` writes.
-fn is_shown<T: Debug>(rt: &impl Abort, alloc: Global, value: &T, want: &str) -> Result<(), Fail> {
-    is_text(rt, "Debug", debug_of(alloc, value)?.as_str(), want);
+fn is_shown<T: Debug>(alloc: Global, value: &T, want: &str) -> Result<(), Fail> {
+    is_text("Debug", debug_of(alloc, value)?.as_str(), want)?;
     Ok(())
 }
 
-fn texts_of_walks<S: BuildHasher + Drop>(
-    rt: &impl Abort,
-    alloc: Global,
-    bag: &HashBag<u64, S>,
-) -> Result<(), Fail> {
+fn texts_of_walks<S: BuildHasher + Drop>(alloc: Global, bag: &HashBag<u64, S>) -> Result<(), Fail> {
     let mut walk = bag.iter();
-    is_shown(rt, alloc, &walk, "{5, 5, 5}")?;
+    is_shown(alloc, &walk, "{5, 5, 5}")?;
     let _ = walk.next();
-    is_shown(rt, alloc, &walk, "{5, 5}")?;
-    is_shown(rt, alloc, &bag.set_iter(), "{(5, 3)}")
+    is_shown(alloc, &walk, "{5, 5}")?;
+    is_shown(alloc, &bag.set_iter(), "{(5, 3)}")
 }
 
-fn texts_of_five<S: BuildHasher + Drop>(
-    rt: &impl Abort,
-    alloc: Global,
-    state: S,
-) -> Result<(), Fail> {
-    let mut bag = bag_of(rt, alloc, state, &[5, 5, 5])?;
-    is_shown(rt, alloc, &bag, "{5, 5, 5}")?;
-    texts_of_walks(rt, alloc, &bag)?;
-    is_shown(rt, alloc, &bag.entry(5), "Entry(5, 3)")
+fn texts_of_five<S: BuildHasher + Drop>(alloc: Global, state: S) -> Result<(), Fail> {
+    let mut bag = bag_of(alloc, state, &[5, 5, 5])?;
+    is_shown(alloc, &bag, "{5, 5, 5}")?;
+    texts_of_walks(alloc, &bag)?;
+    is_shown(alloc, &bag.entry(5), "Entry(5, 3)")
 }
 
-fn texts_of_nothing<S: BuildHasher + Drop>(
-    rt: &impl Abort,
-    alloc: Global,
-    state: S,
-) -> Result<(), Fail> {
+fn texts_of_nothing<S: BuildHasher + Drop>(alloc: Global, state: S) -> Result<(), Fail> {
     let bag: HashBag<u64, S> = HashBag::with_hasher(alloc, state);
-    is_shown(rt, alloc, &bag, "{}")?;
-    is_shown(rt, alloc, &bag.iter(), "{}")?;
-    is_shown(rt, alloc, &bag.set_iter(), "{}")
+    is_shown(alloc, &bag, "{}")?;
+    is_shown(alloc, &bag.iter(), "{}")?;
+    is_shown(alloc, &bag.set_iter(), "{}")
 }
 
 #[test]
 fn texts_of_debug(rt: HostRuntime) -> Result<(), Fail> {
     let alloc = rt.alloc();
-    texts_of_five(&rt, alloc, FixedState::new())?;
-    texts_of_five(&rt, alloc, OneState)?;
-    texts_of_five(&rt, alloc, ParityState)?;
-    texts_of_five(&rt, alloc, IdentityState)
+    texts_of_five(alloc, FixedState::new())?;
+    texts_of_five(alloc, OneState)?;
+    texts_of_five(alloc, ParityState)?;
+    texts_of_five(alloc, IdentityState)
 }
 
 #[test]
 fn texts_of_an_empty_bag(rt: HostRuntime) -> Result<(), Fail> {
     let alloc = rt.alloc();
-    texts_of_nothing(&rt, alloc, FixedState::new())?;
-    texts_of_nothing(&rt, alloc, OneState)?;
-    texts_of_nothing(&rt, alloc, ParityState)?;
-    texts_of_nothing(&rt, alloc, IdentityState)
+    texts_of_nothing(alloc, FixedState::new())?;
+    texts_of_nothing(alloc, OneState)?;
+    texts_of_nothing(alloc, ParityState)?;
+    texts_of_nothing(alloc, IdentityState)
 }

@@ -1,8 +1,8 @@
 //! Trees of bags, read and written, with the answers found by hand.
-use crate::tests::texts::{debug_of, halves, is_text, rows_of};
 use hashbag::{FixedState, HashBag, ItemError, JsonError, JsonItem};
 use hashbag_bench::json_uses::{both_trees, read_again};
 use hashbag_bench::{IdentityState, Named, OneState, ParityState};
+use hashbag_rows::texts::{debug_of, halves, is_text, rows_of};
 use serde_json::Value;
 use std::alloc::{AllocError, Global};
 use std::fmt::{Debug, Display};
@@ -141,29 +141,25 @@ fn is_answered<T: JsonItem + Ord + Hash + Drop>(
     wanted: &str,
 ) -> Result<(), Fail> {
     is_text(
-        rt,
         text,
         answer_of::<T, FixedState>(rt, alloc, text)?.as_str(),
         wanted,
-    );
+    )?;
     is_text(
-        rt,
         text,
         answer_of::<T, OneState>(rt, alloc, text)?.as_str(),
         wanted,
-    );
+    )?;
     is_text(
-        rt,
         text,
         answer_of::<T, ParityState>(rt, alloc, text)?.as_str(),
         wanted,
-    );
+    )?;
     is_text(
-        rt,
         text,
         answer_of::<T, IdentityState>(rt, alloc, text)?.as_str(),
         wanted,
-    );
+    )?;
     Ok(())
 }
 
@@ -242,11 +238,10 @@ fn is_read_as_one_value<S: BuildHasher + Default + Drop>(
     let read: Result<HashBag<u64, S>, JsonError> = HashBag::from_value(alloc, tree);
     let bag = read.ok().ok_or("a bag")?;
     is_text(
-        rt,
         "a long tree",
         written(alloc, &bag)?.as_str(),
         "5000 1 [[7,5000]]",
-    );
+    )?;
     has_little_room(rt, &bag);
     Ok(())
 }
@@ -262,14 +257,13 @@ fn long_trees_of_one_value(rt: HostRuntime) -> Result<(), Fail> {
 
 // The row of an error, its number and its text.
 fn is_told<E: Debug + Display>(
-    rt: &impl Abort,
     alloc: Global,
     error: &E,
     number: u8,
     row: &str,
 ) -> Result<(), Fail> {
     let got = format!(in alloc; "{error:?} | {number} | {error}")?;
-    is_text(rt, row, got.as_str(), row);
+    is_text(row, got.as_str(), row)?;
     Ok(())
 }
 
@@ -285,7 +279,7 @@ fn json_errors_are_told(rt: HostRuntime) -> Result<(), Fail> {
     ];
     let rows = rows_of(rt.alloc(), JSON_ERRORS, errors.len())?;
     for (row, error) in rows.into_iter().zip(errors) {
-        is_told(&rt, rt.alloc(), &error, error.number(), row)?;
+        is_told(rt.alloc(), &error, error.number(), row)?;
     }
     Ok(())
 }
@@ -295,7 +289,7 @@ fn item_errors_are_told(rt: HostRuntime) -> Result<(), Fail> {
     let errors = [ItemError::NotAnItem, ItemError::Memory];
     let rows = rows_of(rt.alloc(), ITEM_ERRORS, errors.len())?;
     for (row, error) in rows.into_iter().zip(errors) {
-        is_told(&rt, rt.alloc(), &error, error.number(), row)?;
+        is_told(rt.alloc(), &error, error.number(), row)?;
     }
     Ok(())
 }

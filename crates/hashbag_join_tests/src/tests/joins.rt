@@ -1,9 +1,9 @@
 //! Joins of two bags, with the items found by hand, between each two of the four hash states.
-use crate::tests::texts::{count, counts, debug_of, halves, is_text, number, rows_of};
 use hashbag::script::{Joins, joins_of};
 use hashbag::{FixedState, HashBag};
 use hashbag_bench::join_uses::excess_of;
 use hashbag_bench::{IdentityState, OneState, ParityState};
+use hashbag_rows::texts::{count, counts, debug_of, halves, is_text, number, rows_of};
 use std::alloc::{AllocError, Global};
 use std::fmt::{self, Debug, Display, Formatter, Write};
 use std::hash::BuildHasher;
@@ -170,7 +170,7 @@ fn is_joined<S: BuildHasher + Default + Drop, S2: BuildHasher + Default + Drop>(
     let a: HashBag<u64, S> = bag_of(rt, alloc, parts.first)?;
     let b: HashBag<u64, S2> = bag_of(rt, alloc, parts.second)?;
     let got = text_of(alloc, joins_of(alloc, &a, &b)?, parts.join)?;
-    is_text(rt, row, got.as_str(), parts.wanted);
+    is_text(row, got.as_str(), parts.wanted)?;
     Ok(())
 }
 
@@ -318,8 +318,8 @@ fn is_stepped<S: BuildHasher + Default + Drop, S2: BuildHasher + Default + Drop>
         let got = steps_of(alloc, parts.join, &a, &b, steps)?;
         let as_wanted = steps_as_wanted(got.as_str(), parts.wanted);
         assert_eq!(rt; as_wanted, steps, "steps {got}of the row: {row}");
-        is_text(rt, row, counts_of(alloc, &a)?.trim(), parts.first);
-        is_text(rt, row, counts_of(alloc, &b)?.trim(), parts.second);
+        is_text(row, counts_of(alloc, &a)?.trim(), parts.first)?;
+        is_text(row, counts_of(alloc, &b)?.trim(), parts.second)?;
     }
     Ok(())
 }

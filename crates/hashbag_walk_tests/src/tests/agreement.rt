@@ -1,10 +1,10 @@
 //! Whole runs of steps on the bag, against the plain bag.
 //!
 //! What both answer is compared as `Debug` writes it, which tells equal instances apart.
-use crate::tests::texts::{debug_of, is_text};
 use hashbag::script::{Reply, Step, run};
 use hashbag::{FixedState, HashBag};
 use hashbag_bench::{IdentityState, OneState, ParityState, PlainBag, Tagged};
+use hashbag_rows::texts::{debug_of, is_text};
 use std::alloc::{AllocError, Global};
 use std::fmt::Debug;
 use std::hash::{BuildHasher, Hash};
@@ -130,7 +130,7 @@ fn compare_replies<T: Sample>(
     assert_eq!(rt; replies.len(), wanted.len(), "under {state}");
     for (reply, want) in replies.iter().zip(wanted) {
         let want = debug_of(alloc, want)?;
-        is_text(rt, state, debug_of(alloc, reply)?.as_str(), want.as_str());
+        is_text(state, debug_of(alloc, reply)?.as_str(), want.as_str())?;
     }
     Ok(())
 }
@@ -152,7 +152,6 @@ fn plain_set_len<T: Sample>(plain: &PlainBag<T>) -> usize {
 
 // The count and the instance of a value in both bags.
 fn compare_value<T: Sample + Drop, S: BuildHasher + Drop>(
-    rt: &impl Abort,
     alloc: Global,
     state: &str,
     bag: &HashBag<T, S>,
@@ -161,12 +160,11 @@ fn compare_value<T: Sample + Drop, S: BuildHasher + Drop>(
 ) -> Result<(), Fail> {
     let want = debug_of(alloc, &(plain.count(value), plain_found(plain, value)))?;
     let got = debug_of(alloc, &(bag.contains(value), bag.get(value)))?;
-    is_text(rt, state, got.as_str(), want.as_str());
+    is_text(state, got.as_str(), want.as_str())?;
     Ok(())
 }
 
 fn compare_lens<T: Sample + Drop, S: BuildHasher + Drop>(
-    rt: &impl Abort,
     alloc: Global,
     state: &str,
     bag: &HashBag<T, S>,
@@ -177,20 +175,19 @@ fn compare_lens<T: Sample + Drop, S: BuildHasher + Drop>(
         &(plain.len(), plain.is_empty(), plain_set_len(plain)),
     )?;
     let got = debug_of(alloc, &(bag.len(), bag.is_empty(), bag.set_len()))?;
-    is_text(rt, state, got.as_str(), want.as_str());
+    is_text(state, got.as_str(), want.as_str())?;
     Ok(())
 }
 
 fn compare_bags<T: Sample + Drop, S: BuildHasher + Drop>(
-    rt: &impl Abort,
     alloc: Global,
     state: &str,
     bag: &HashBag<T, S>,
     plain: &PlainBag<T>,
 ) -> Result<(), Fail> {
-    compare_lens(rt, alloc, state, bag, plain)?;
+    compare_lens(alloc, state, bag, plain)?;
     for key in 0..KEYS {
-        compare_value(rt, alloc, state, bag, plain, &T::sample(key, STEPS))?;
+        compare_value(alloc, state, bag, plain, &T::sample(key, STEPS))?;
     }
     Ok(())
 }
@@ -207,7 +204,7 @@ fn compare_runs<T: Sample + Drop, S: BuildHasher + Drop>(
     let mut bag = HashBag::with_hasher(alloc, state);
     let replies = bag_replies(alloc, &mut bag, steps_of::<T>(alloc)?)?;
     compare_replies(rt, alloc, state_name, &replies, &wanted)?;
-    compare_bags(rt, alloc, state_name, &bag, &plain)
+    compare_bags(alloc, state_name, &bag, &plain)
 }
 
 fn compare_under_each_state<T: Sample + Drop>(rt: &impl Abort, alloc: Global) -> Result<(), Fail> {

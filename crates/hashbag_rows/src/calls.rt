@@ -5,12 +5,11 @@
 //! are on a new bag.
 //!
 //! Each kind of call has a function with no contract of its own. So the proof carries nothing from one call to the next.
-use crate::tests::texts::{count, counts, debug_of, halves, is_text, number, rows_of, values};
+use crate::texts::{count, counts, debug_of, halves, is_text, number, rows_of, values};
 use hashbag::{BagError, HashBag};
 use std::alloc::Global;
 use std::fmt::Debug;
 use std::hash::BuildHasher;
-use std::process::Abort;
 use std::test::Fail;
 
 // A value with its count.
@@ -28,31 +27,33 @@ fn no_call(verb: &str) -> Result<String, Fail> {
     Err(Fail::new(format_args!("no such call: {verb}")))
 }
 
-fn insert<S: BuildHasher + Drop>(
-    rt: &impl Abort,
-    bag: &mut HashBag<u64, S>,
-    value: u64,
-) -> Result<usize, BagError> {
-    assert!(rt; bag.len() < usize::MAX);
+// The bag leaves it to its caller to test the total before these three calls.
+
+fn insert<S: BuildHasher + Drop>(bag: &mut HashBag<u64, S>, value: u64) -> Result<usize, BagError> {
+    if bag.len() == usize::MAX {
+        return Err(BagError::TooMany);
+    }
     bag.insert(value)
 }
 
 fn insert_many<S: BuildHasher + Drop>(
-    rt: &impl Abort,
     bag: &mut HashBag<u64, S>,
     value: u64,
     n: usize,
 ) -> Result<usize, BagError> {
-    assert!(rt; n <= usize::MAX - bag.len());
+    if n > usize::MAX - bag.len() {
+        return Err(BagError::TooMany);
+    }
     bag.insert_many(value, n)
 }
 
 fn replace<S: BuildHasher + Drop>(
-    rt: &impl Abort,
     bag: &mut HashBag<u64, S>,
     value: u64,
 ) -> Result<usize, BagError> {
-    assert!(rt; bag.len().saturating_sub(bag.contains(&value)) < usize::MAX);
+    if bag.len().saturating_sub(bag.contains(&value)) == usize::MAX {
+        return Err(BagError::TooMany);
+    }
     bag.replace(value)
 }
 
@@ -238,14 +239,13 @@ pub fn counts_of<S: BuildHasher + Drop>(
 
 /// A bag of these values, inserted one by one.
 pub fn bag_of<S: BuildHasher + Drop>(
-    rt: &impl Abort,
     alloc: Global,
     state: S,
     values: &[u64],
 ) -> Result<HashBag<u64, S>, Fail> {
     let mut bag = HashBag::with_hasher(alloc, state);
     for value in values {
-        insert(rt, &mut bag, *value)?;
+        insert(&mut bag, *value)?;
     }
     Ok(bag)
 }
@@ -259,12 +259,11 @@ pub fn clone_of<S: BuildHasher + Clone + Drop>(
 
 // Whether the bag equals a bag of these values, and whether that equals the bag.
 fn equals<S: BuildHasher + Default + Drop>(
-    rt: &impl Abort,
     alloc: Global,
     bag: &HashBag<u64, S>,
     values: &[u64],
 ) -> Result<String, Fail> {
-    let other = bag_of(rt, alloc, S::default(), values)?;
+    let other = bag_of(alloc, S::default(), values)?;
     debug_of(alloc, &(*bag == other, other == *bag))
 }
 
@@ -292,15 +291,14 @@ fn with_nothing<S: BuildHasher + Default + Drop>(
 
 // What a call with one number answers: a value, or how many values.
 fn with_number<S: BuildHasher + Default + Drop>(
-    rt: &impl Abort,
     alloc: Global,
     bag: &mut HashBag<u64, S>,
     verb: &str,
     value: u64,
 ) -> Result<String, Fail> {
     match verb {
-        "insert" => text_of(alloc, insert(rt, bag, value)),
-        "replace" => text_of(alloc, replace(rt, bag, value)),
+        "insert" => text_of(alloc, insert(bag, value)),
+        "replace" => text_of(alloc, replace(bag, value)),
         "remove" => debug_of(alloc, &remove(bag, value)),
         "try_take" => debug_of(alloc, &try_take(bag, value)),
         "take_all" => debug_of(alloc, &take_all(bag, value)),
@@ -317,7 +315,6 @@ fn with_number<S: BuildHasher + Default + Drop>(
 
 // What a call on a value with a count answers.
 fn with_count<S: BuildHasher + Drop>(
-    rt: &impl Abort,
     alloc: Global,
     bag: &mut HashBag<u64, S>,
     verb: &str,
@@ -325,7 +322,7 @@ fn with_count<S: BuildHasher + Drop>(
     n: usize,
 ) -> Result<String, Fail> {
     match verb {
-        "insert_many" => text_of(alloc, insert_many(rt, bag, value, n)),
+        "insert_many" => text_of(alloc, insert_many(bag, value, n)),
         "remove_up_to" => debug_of(alloc, &remove_up_to(bag, value, n)),
         "set" => text_of(alloc, set(bag, value, n)),
         "raise" => text_of(alloc, raise(bag, value, n)),
@@ -336,7 +333,6 @@ fn with_count<S: BuildHasher + Drop>(
 
 // What a call on a list of values answers.
 fn with_values<S: BuildHasher + Default + Drop>(
-    rt: &impl Abort,
     alloc: Global,
     bag: &mut HashBag<u64, S>,
     verb: &str,
@@ -348,10 +344,10 @@ fn with_values<S: BuildHasher + Default + Drop>(
         "extend_refs" => text_of(alloc, extend_refs(bag, values)),
         "counts" => counts_of(alloc, bag, values),
         "insert_each" => {
-            *bag = bag_of(rt, alloc, S::default(), values)?;
+            *bag = bag_of(alloc, S::default(), values)?;
             debug_of(alloc, &())
         }
-        "equals" => equals(rt, alloc, bag, values),
+        "equals" => equals(alloc, bag, values),
         _ => no_call(verb),
     }
 }
@@ -373,7 +369,6 @@ fn with_counts<S: BuildHasher + Default + Drop>(
 
 // What a call answers. What it is called with tells its kind.
 fn answer<S: BuildHasher + Default + Drop>(
-    rt: &impl Abort,
     alloc: Global,
     bag: &mut HashBag<u64, S>,
     call: &str,
@@ -382,49 +377,46 @@ fn answer<S: BuildHasher + Default + Drop>(
         return with_nothing(alloc, bag, call);
     };
     if rest.starts_with('[') {
-        return with_values(rt, alloc, bag, verb, values(alloc, rest)?.as_slice());
+        return with_values(alloc, bag, verb, values(alloc, rest)?.as_slice());
     }
     if rest.contains(':') {
         return with_counts(alloc, bag, verb, counts(alloc, rest)?.as_slice());
     }
     match rest.split_once(' ') {
-        Some((value, n)) => with_count(rt, alloc, bag, verb, number(value)?, count(n)?),
-        None => with_number(rt, alloc, bag, verb, number(rest)?),
+        Some((value, n)) => with_count(alloc, bag, verb, number(value)?, count(n)?),
+        None => with_number(alloc, bag, verb, number(rest)?),
     }
 }
 
 // Makes the call of a row, and compares what it answers.
 fn make_row<S: BuildHasher + Default + Drop>(
-    rt: &impl Abort,
     alloc: Global,
     bag: &mut HashBag<u64, S>,
     name: &str,
     row: &str,
 ) -> Result<(), Fail> {
     let (call, want) = halves(row, " = ")?;
-    let got = answer(rt, alloc, bag, call)?;
+    let got = answer(alloc, bag, call)?;
     let place = format!(in alloc; "{row}, of {name}")?;
-    is_text(rt, place.as_str(), got.as_str(), want);
+    is_text(place.as_str(), got.as_str(), want)?;
     Ok(())
 }
 
 /// Makes the calls of so many rows in turn.
 pub fn make_calls<S: BuildHasher + Default + Drop>(
-    rt: &impl Abort,
     alloc: Global,
     bag: &mut HashBag<u64, S>,
     text: &str,
     wanted: usize,
 ) -> Result<(), Fail> {
     for row in rows_of(alloc, text, wanted)? {
-        make_row(rt, alloc, bag, "one bag", row)?;
+        make_row(alloc, bag, "one bag", row)?;
     }
     Ok(())
 }
 
 /// Makes the calls of so many rows, the names among them, each name on a new bag.
 pub fn make_rows<S: BuildHasher + Default + Copy>(
-    rt: &impl Abort,
     alloc: Global,
     state: S,
     text: &str,
@@ -437,7 +429,7 @@ pub fn make_rows<S: BuildHasher + Default + Copy>(
             name = String::from_str(alloc, row)?;
             bag = HashBag::with_hasher(alloc, state);
         } else {
-            make_row(rt, alloc, &mut bag, name.as_str(), row)?;
+            make_row(alloc, &mut bag, name.as_str(), row)?;
         }
     }
     Ok(())
