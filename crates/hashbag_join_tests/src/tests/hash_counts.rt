@@ -39,8 +39,8 @@ const CALLS: &str = "
     5:2 6:1 | take_all 7 | 1
     5:2 6:1 | try_take 5 | 3
     5:2 6:1 | try_take 6 | 2
-    5:2 6:1 | try_take 7 | 3
-    5:2 6:1 | replace 5 | 3
+    5:2 6:1 | try_take 7 | 1
+    5:2 6:1 | replace 5 | 2
     5:2 6:1 | replace 7 | 2
     5:2 6:1 | entry 5 | 0
     5:2 6:1 | entry_value 5 | 1
@@ -88,7 +88,7 @@ const CALLS_ON_TWO: &str = "
     1:1 2:5 3:2 | 2:1 4:1 5:3 6:1 | difference | 0 3
     1:1 2:5 3:2 | 2:1 4:1 5:3 6:1 | signed_difference | 4 3
     2:1 4:1 5:3 6:1 | 1:1 2:5 3:2 | not_in | 0 4
-    1:1 2:5 3:2 | 2:1 4:1 5:3 6:1 | joins_of | 8 12
+    1:1 2:5 3:2 | 2:1 4:1 5:3 6:1 | joins_of | 4 3
     1:1 2:5 3:2 | 2:5 3:2 1:1 | equal | 0 3
     1:1 | 1:2 | equal | 0 0
     1:1 | 2:1 | equal | 0 1
