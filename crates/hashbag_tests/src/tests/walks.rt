@@ -1,8 +1,12 @@
 //! Walks over the bag, with the items found by hand, and the texts of `Debug`.
-use crate::tests::rows::{Answer, Call, bag_of, make_calls};
-use crate::uses::{first_moved_out, moved_out, number_of_items, sum_of_counts};
-use crate::{IdentityState, OneState, ParityState};
+use crate::tests::rows::{bag_of, counts_of, make_calls};
+use crate::tests::texts::{debug_of, is_text};
 use hashbag::{FixedState, HashBag, Iter};
+use hashbag_bench::uses::{
+    first_moved_out, moved_out, number_by_loop, number_of_items, sum_by_loop, sum_of_counts,
+    sum_used_up,
+};
+use hashbag_bench::{IdentityState, OneState, ParityState};
 use std::alloc::Global;
 use std::fmt::Debug;
 use std::hash::{BuildHasher, Hash};
@@ -114,11 +118,15 @@ fn walks_over_three_names(rt: HostRuntime) -> Result<(), Fail> {
 }
 
 // What the sample bag answers after a walk that borrowed it.
-fn is_sample<S: BuildHasher + Drop>(rt: &impl Abort, bag: &HashBag<u64, S>) {
+fn is_sample<S: BuildHasher + Drop>(
+    rt: &impl Abort,
+    alloc: Global,
+    bag: &HashBag<u64, S>,
+) -> Result<(), Fail> {
     assert_eq!(rt; bag.len(), ITEMS);
-    for (value, count) in [(5, 3), (6, 2), (7, 1)] {
-        assert_eq!(rt; bag.contains(&value), count, "of {value}");
-    }
+    let counts = counts_of(alloc, bag, &[5, 6, 7])?;
+    is_text(rt, "counts of 5, 6 and 7", counts.as_str(), "[3, 2, 1]");
+    Ok(())
 }
 
 // Takes some of the occurrences and drops the walk.
@@ -163,11 +171,11 @@ fn borrowed_walks_dropped<S: BuildHasher + Drop>(
     let bag = sample_bag(rt, alloc, state)?;
     for taken in 0..=ITEMS {
         some_items(rt, &bag, taken);
-        is_sample(rt, &bag);
+        is_sample(rt, alloc, &bag)?;
     }
     for taken in 0..=VALUES {
         some_values(rt, &bag, taken);
-        is_sample(rt, &bag);
+        is_sample(rt, alloc, &bag)?;
     }
     Ok(())
 }
@@ -181,33 +189,30 @@ fn borrowed_walks_leave_the_bag(rt: HostRuntime) -> Result<(), Fail> {
     borrowed_walks_dropped(&rt, alloc, IdentityState)
 }
 
+const DRAINED_ROWS: &str = "\
+    contains 5 = 0
+    insert 5 = 0
+    contains 5 = 1";
+
 // A drain that is dropped leaves an empty bag, which takes values in again.
-fn drained_and_filled<S: BuildHasher + Drop>(
+fn drained_and_filled<S: BuildHasher + Default + Drop>(
     rt: &impl Abort,
+    alloc: Global,
     mut bag: HashBag<u64, S>,
     taken: usize,
-) {
+) -> Result<(), Fail> {
     some_drained(rt, &mut bag, taken);
     is_empty(rt, &bag);
-    make_calls(
-        rt,
-        &mut bag,
-        "drained",
-        &[
-            (Call::Contains(5), Answer::Number(0)),
-            (Call::Insert(5), Answer::Number(0)),
-            (Call::Contains(5), Answer::Number(1)),
-        ],
-    );
+    make_calls(rt, alloc, &mut bag, DRAINED_ROWS, 3)
 }
 
-fn owned_walks_dropped<S: BuildHasher + Copy>(
+fn owned_walks_dropped<S: BuildHasher + Default + Copy>(
     rt: &impl Abort,
     alloc: Global,
     state: S,
 ) -> Result<(), Fail> {
     for taken in 0..=VALUES {
-        drained_and_filled(rt, sample_bag(rt, alloc, state)?, taken);
+        drained_and_filled(rt, alloc, sample_bag(rt, alloc, state)?, taken)?;
         some_moved(rt, sample_bag(rt, alloc, state)?, taken);
     }
     Ok(())
@@ -282,10 +287,21 @@ fn counts_of_values<S: BuildHasher + Drop>(rt: &impl Abort, bag: &HashBag<u64, S
     }
 }
 
-fn numbers_of_items<S: BuildHasher + Drop>(rt: &impl Abort, bag: &HashBag<u64, S>) {
+fn number_of_fives<S: BuildHasher + Drop>(rt: &impl Abort, bag: &HashBag<u64, S>) {
     assert_eq!(rt; bag.iter().filter(|value| **value == 5).count(), 3);
-    assert_eq!(rt; number_of_items(bag), ITEMS);
-    assert_eq!(rt; sum_of_counts(bag), ITEMS);
+}
+
+// Checks the number of items that a caller found.
+fn is_total(rt: &impl Abort, caller: &str, total: usize) {
+    assert_eq!(rt; total, ITEMS, "by {caller}");
+}
+
+fn totals<S: BuildHasher + Drop>(rt: &impl Abort, bag: HashBag<u64, S>) {
+    is_total(rt, "number_of_items", number_of_items(&bag));
+    is_total(rt, "number_by_loop", number_by_loop(&bag));
+    is_total(rt, "sum_of_counts", sum_of_counts(&bag));
+    is_total(rt, "sum_by_loop", sum_by_loop(&bag));
+    is_total(rt, "sum_used_up", sum_used_up(bag));
 }
 
 fn items_of_walks<S: BuildHasher + Drop>(
@@ -295,8 +311,9 @@ fn items_of_walks<S: BuildHasher + Drop>(
 ) -> Result<(), Fail> {
     let bag = sample_bag(rt, alloc, state)?;
     assert_eq!(rt; changes_of_value(&bag), 2);
-    numbers_of_items(rt, &bag);
+    number_of_fives(rt, &bag);
     counts_of_values(rt, &bag);
+    totals(rt, bag);
     Ok(())
 }
 
@@ -326,6 +343,7 @@ fn clones_go_on<S: BuildHasher + Drop>(
         let _ = walk.next();
     }
     let again = walk.clone()?;
+    has_left(rt, &walk, ITEMS.saturating_sub(taken));
     has_left(rt, &again, ITEMS.saturating_sub(taken));
     gives_the_same(rt, walk, again);
     Ok(())
@@ -366,20 +384,15 @@ fn moved_out_whole_and_in_part(rt: HostRuntime) -> Result<(), Fail> {
     let mut bag = sample_bag(&rt, rt.alloc(), OneState)?;
     list_moved_out(&rt, rt.alloc(), &mut bag)?;
     is_empty(&rt, &bag);
-    make_calls(
-        &rt,
-        &mut bag,
-        "moved out",
-        &[(Call::Insert(8), Answer::Number(0))],
-    );
+    make_calls(&rt, rt.alloc(), &mut bag, "insert 8 = 0", 1)?;
     assert_eq!(rt; first_moved_out(&mut bag), Some((8, 1)));
     assert!(rt; first_moved_out(&mut bag).is_none());
     Ok(())
 }
 
 // Checks the text that `Debug` writes.
-fn is_text<T: Debug>(rt: &impl Abort, alloc: Global, value: &T, want: &str) -> Result<(), Fail> {
-    assert_eq!(rt; format!(in alloc; "{value:?}")?.as_str(), want);
+fn is_shown<T: Debug>(rt: &impl Abort, alloc: Global, value: &T, want: &str) -> Result<(), Fail> {
+    is_text(rt, "Debug", debug_of(alloc, value)?.as_str(), want);
     Ok(())
 }
 
@@ -389,10 +402,10 @@ fn texts_of_walks<S: BuildHasher + Drop>(
     bag: &HashBag<u64, S>,
 ) -> Result<(), Fail> {
     let mut walk = bag.iter();
-    is_text(rt, alloc, &walk, "{5, 5, 5}")?;
+    is_shown(rt, alloc, &walk, "{5, 5, 5}")?;
     let _ = walk.next();
-    is_text(rt, alloc, &walk, "{5, 5}")?;
-    is_text(rt, alloc, &bag.set_iter(), "{(5, 3)}")
+    is_shown(rt, alloc, &walk, "{5, 5}")?;
+    is_shown(rt, alloc, &bag.set_iter(), "{(5, 3)}")
 }
 
 fn texts_of_five<S: BuildHasher + Drop>(
@@ -401,9 +414,9 @@ fn texts_of_five<S: BuildHasher + Drop>(
     state: S,
 ) -> Result<(), Fail> {
     let mut bag = bag_of(rt, alloc, state, &[5, 5, 5])?;
-    is_text(rt, alloc, &bag, "{5, 5, 5}")?;
+    is_shown(rt, alloc, &bag, "{5, 5, 5}")?;
     texts_of_walks(rt, alloc, &bag)?;
-    is_text(rt, alloc, &bag.entry(5), "Entry(5, 3)")
+    is_shown(rt, alloc, &bag.entry(5), "Entry(5, 3)")
 }
 
 fn texts_of_nothing<S: BuildHasher + Drop>(
@@ -412,9 +425,9 @@ fn texts_of_nothing<S: BuildHasher + Drop>(
     state: S,
 ) -> Result<(), Fail> {
     let bag: HashBag<u64, S> = HashBag::with_hasher(alloc, state);
-    is_text(rt, alloc, &bag, "{}")?;
-    is_text(rt, alloc, &bag.iter(), "{}")?;
-    is_text(rt, alloc, &bag.set_iter(), "{}")
+    is_shown(rt, alloc, &bag, "{}")?;
+    is_shown(rt, alloc, &bag.iter(), "{}")?;
+    is_shown(rt, alloc, &bag.set_iter(), "{}")
 }
 
 #[test]

@@ -1,7 +1,10 @@
 //! Whole runs of steps on the bag, against the plain bag.
-use crate::{IdentityState, OneState, ParityState, PlainBag, Tagged};
+//!
+//! What both answer is compared as `Debug` writes it, which tells equal instances apart.
+use crate::tests::texts::{debug_of, is_text};
 use hashbag::script::{Reply, Step, run};
 use hashbag::{FixedState, HashBag};
+use hashbag_bench::{IdentityState, OneState, ParityState, PlainBag, Tagged};
 use std::alloc::{AllocError, Global};
 use std::fmt::Debug;
 use std::hash::{BuildHasher, Hash};
@@ -14,32 +17,21 @@ const KEYS: u64 = 8;
 // How many steps a run has.
 const STEPS: u64 = 500;
 
-// Values that the steps are on.
+// Values that the steps are on. What `Debug` writes of them says which instance they are.
 trait Sample: Eq + Hash + Copy + Debug {
     // A value with this key. Which instance it is, is up to the number of the step.
     fn sample(key: u64, step: u64) -> Self;
-
-    // Whether two equal values are the same instance.
-    fn is_same(&self, other: &Self) -> bool;
 }
 
 impl Sample for u64 {
     fn sample(key: u64, _step: u64) -> u64 {
         key
     }
-
-    fn is_same(&self, other: &u64) -> bool {
-        self == other
-    }
 }
 
 impl Sample for Tagged {
     fn sample(key: u64, step: u64) -> Tagged {
         Tagged { key, tag: step }
-    }
-
-    fn is_same(&self, other: &Tagged) -> bool {
-        self.key == other.key && self.tag == other.tag
     }
 }
 
@@ -116,32 +108,40 @@ fn plain_replies<T: Sample>(
     Ok(replies)
 }
 
-// Whether two replies are equal, down to the instance.
-fn same_reply<T: Sample>(a: &Reply<T>, b: &Reply<T>) -> bool {
-    match (a, b) {
-        (Reply::Taken(x, n), Reply::Taken(y, m)) => x.is_same(y) && n == m,
-        _ => a == b,
-    }
+// What a bag replies to the steps.
+fn bag_replies<T: Sample + Drop, S: BuildHasher + Drop>(
+    alloc: Global,
+    bag: &mut HashBag<T, S>,
+    steps: Vec<Step<T>>,
+) -> Result<Vec<Reply<T>>, Fail> {
+    let mut replies = Vec::new(alloc);
+    run(bag, steps, &mut replies)?;
+    Ok(replies)
 }
 
 fn compare_replies<T: Sample>(
     rt: &impl Abort,
+    alloc: Global,
     state: &str,
     replies: &[Reply<T>],
     wanted: &[Reply<T>],
-) {
-    assert_eq!(rt; replies.len(), wanted.len());
+) -> Result<(), Fail> {
+    assert_eq!(rt; replies.len(), STEPS as usize, "under {state}");
+    assert_eq!(rt; replies.len(), wanted.len(), "under {state}");
     for (reply, want) in replies.iter().zip(wanted) {
-        assert!(rt;
-            same_reply(reply, want),
-            "{reply:?}, not {want:?}, under {state}"
-        );
+        let want = debug_of(alloc, want)?;
+        is_text(rt, state, debug_of(alloc, reply)?.as_str(), want.as_str());
     }
+    Ok(())
 }
 
-// The instance that the plain bag has of a value.
-fn plain_instance<'a, T: Sample>(plain: &'a PlainBag<T>, value: &T) -> Option<&'a T> {
-    plain.items().iter().find(|item| *item == value)
+// The instance that the plain bag has of a value, and how often it occurs.
+fn plain_found<'a, T: Sample>(plain: &'a PlainBag<T>, value: &T) -> Option<(&'a T, usize)> {
+    let count = plain.count(value);
+    match plain.items().iter().find(|item| *item == value) {
+        Some(item) => Some((item, count)),
+        None => None,
+    }
 }
 
 // How many distinct values the plain bag has.
@@ -150,82 +150,49 @@ fn plain_set_len<T: Sample>(plain: &PlainBag<T>) -> usize {
     (0..KEYS).filter(present).count()
 }
 
-// What `get` answers, against the plain bag's instance and count.
-fn compare_found<T: Sample>(
-    rt: &impl Abort,
-    state: &str,
-    found: Option<(&T, usize)>,
-    wanted: Option<&T>,
-    count: usize,
-) {
-    match (found, wanted) {
-        (Some((instance, number)), Some(item)) => {
-            assert!(rt;
-                instance.is_same(item),
-                "{instance:?}, not {item:?}, under {state}"
-            );
-            assert_eq!(rt; number, count, "{item:?} under {state}");
-        }
-        (None, None) => {}
-        (Some((value, _)), None) | (None, Some(value)) => {
-            assert!(rt; false, "{value:?} is in one bag alone under {state}");
-        }
-    }
-}
-
 // The count and the instance of a value in both bags.
 fn compare_value<T: Sample + Drop, S: BuildHasher + Drop>(
     rt: &impl Abort,
+    alloc: Global,
     state: &str,
     bag: &HashBag<T, S>,
     plain: &PlainBag<T>,
     value: &T,
-) {
-    let count = plain.count(value);
-    assert_eq!(rt; bag.contains(value), count, "{value:?} under {state}");
-    compare_found(
-        rt,
-        state,
-        bag.get(value),
-        plain_instance(plain, value),
-        count,
-    );
+) -> Result<(), Fail> {
+    let want = debug_of(alloc, &(plain.count(value), plain_found(plain, value)))?;
+    let got = debug_of(alloc, &(bag.contains(value), bag.get(value)))?;
+    is_text(rt, state, got.as_str(), want.as_str());
+    Ok(())
 }
 
 fn compare_lens<T: Sample + Drop, S: BuildHasher + Drop>(
     rt: &impl Abort,
+    alloc: Global,
     state: &str,
     bag: &HashBag<T, S>,
     plain: &PlainBag<T>,
-) {
-    assert_eq!(rt; bag.len(), plain.len(), "under {state}");
-    assert_eq!(rt; bag.is_empty(), plain.is_empty(), "under {state}");
-    assert_eq!(rt; bag.set_len(), plain_set_len(plain), "under {state}");
+) -> Result<(), Fail> {
+    let want = debug_of(
+        alloc,
+        &(plain.len(), plain.is_empty(), plain_set_len(plain)),
+    )?;
+    let got = debug_of(alloc, &(bag.len(), bag.is_empty(), bag.set_len()))?;
+    is_text(rt, state, got.as_str(), want.as_str());
+    Ok(())
 }
 
 fn compare_bags<T: Sample + Drop, S: BuildHasher + Drop>(
     rt: &impl Abort,
+    alloc: Global,
     state: &str,
     bag: &HashBag<T, S>,
     plain: &PlainBag<T>,
-) {
-    compare_lens(rt, state, bag, plain);
+) -> Result<(), Fail> {
+    compare_lens(rt, alloc, state, bag, plain)?;
     for key in 0..KEYS {
-        compare_value(rt, state, bag, plain, &T::sample(key, STEPS));
+        compare_value(rt, alloc, state, bag, plain, &T::sample(key, STEPS))?;
     }
-}
-
-// What a bag replies to the steps.
-fn bag_replies<T: Sample + Drop, S: BuildHasher + Drop>(
-    rt: &impl Abort,
-    alloc: Global,
-    state: &str,
-    bag: &mut HashBag<T, S>,
-) -> Result<Vec<Reply<T>>, Fail> {
-    let mut replies = Vec::new(alloc);
-    let done = run(bag, steps_of::<T>(alloc)?, &mut replies);
-    assert_eq!(rt; done, Ok(()), "under {state}");
-    Ok(replies)
+    Ok(())
 }
 
 // Does the same steps on a bag and on the plain bag.
@@ -238,10 +205,9 @@ fn compare_runs<T: Sample + Drop, S: BuildHasher + Drop>(
     let mut plain = PlainBag::new(alloc);
     let wanted = plain_replies(alloc, &mut plain, steps_of::<T>(alloc)?)?;
     let mut bag = HashBag::with_hasher(alloc, state);
-    let replies = bag_replies(rt, alloc, state_name, &mut bag)?;
-    compare_replies(rt, state_name, &replies, &wanted);
-    compare_bags(rt, state_name, &bag, &plain);
-    Ok(())
+    let replies = bag_replies(alloc, &mut bag, steps_of::<T>(alloc)?)?;
+    compare_replies(rt, alloc, state_name, &replies, &wanted)?;
+    compare_bags(rt, alloc, state_name, &bag, &plain)
 }
 
 fn compare_under_each_state<T: Sample + Drop>(rt: &impl Abort, alloc: Global) -> Result<(), Fail> {
