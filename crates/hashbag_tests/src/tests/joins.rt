@@ -151,13 +151,24 @@ fn is_first_before(joins: &[(&u64, usize, usize)]) -> bool {
 }
 
 // The text of one of the four joins.
-fn text_of(alloc: Global, joins: Joins<'_, u64>, join: &str) -> Result<String, Fail> {
+fn text_of(
+    rt: &impl Abort,
+    alloc: Global,
+    joins: Joins<'_, u64>,
+    join: &str,
+) -> Result<String, Fail> {
     match join {
-        "outer_join" if is_first_before(joins.outer.as_slice()) => rising(alloc, joins.outer),
+        "outer_join" => {
+            assert!(rt;
+                is_first_before(joins.outer.as_slice()),
+                "a value of the first bag is late"
+            );
+            rising(alloc, joins.outer)
+        }
         "difference" => rising(alloc, joins.difference),
         "signed_difference" => rising(alloc, joins.signed),
         "not_in" => rising(alloc, joins.not_in),
-        _ => Err(Fail::new("no such join, or values of the first bag come late")),
+        _ => Err(Fail::new(format_args!("no join: {join}"))),
     }
 }
 
@@ -169,7 +180,7 @@ fn is_joined<S: BuildHasher + Default + Drop, S2: BuildHasher + Default + Drop>(
     let parts = parts_of(row)?;
     let a: HashBag<u64, S> = bag_of(rt, alloc, parts.first)?;
     let b: HashBag<u64, S2> = bag_of(rt, alloc, parts.second)?;
-    let got = text_of(alloc, joins_of(alloc, &a, &b)?, parts.join)?;
+    let got = text_of(rt, alloc, joins_of(alloc, &a, &b)?, parts.join)?;
     is_text(rt, row, got.as_str(), parts.wanted);
     Ok(())
 }
