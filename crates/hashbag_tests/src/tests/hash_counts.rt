@@ -1,6 +1,7 @@
 //! How often each call on a bag hashes.
+use crate::tests::joins::bag_of;
 use crate::tests::rows::answer;
-use crate::tests::texts::{count, counts, halves, is_text, number, rows_of};
+use crate::tests::texts::{count, halves, is_text, number, rows_of};
 use hashbag::script::joins_of;
 use hashbag::{BagError, HashBag};
 use hashbag_bench::states::CountingState;
@@ -97,16 +98,6 @@ const CALLS_ON_TWO: &str = "
 
 type CountingBag = HashBag<u64, CountingState>;
 
-// The bag with the counts of a text.
-fn bag_of(rt: &impl Abort, alloc: Global, text: &str) -> Result<CountingBag, Fail> {
-    let mut bag = HashBag::default_in(alloc);
-    for (value, n) in counts(alloc, text)? {
-        assert!(rt; n <= usize::MAX - bag.len());
-        bag.insert_many(value, n)?;
-    }
-    Ok(bag)
-}
-
 fn replace(rt: &impl Abort, bag: &mut CountingBag, value: u64) -> Result<usize, BagError> {
     assert!(rt; bag.len() < usize::MAX);
     bag.replace(value)
@@ -175,7 +166,7 @@ fn make_call(
 fn hashes_so_often(rt: &impl Abort, alloc: Global, row: &str) -> Result<(), Fail> {
     let (before, rest) = halves(row, "|")?;
     let (call, wanted) = halves(rest, "|")?;
-    let mut bag = bag_of(rt, alloc, before)?;
+    let mut bag: CountingBag = bag_of(rt, alloc, before)?;
     let start = bag.hasher().hashed();
     make_call(rt, alloc, &mut bag, call)?;
     let hashed = bag.hasher().hashed().saturating_sub(start);
@@ -235,7 +226,8 @@ fn both_hash_so_often(rt: &impl Abort, alloc: Global, row: &str) -> Result<(), F
     let (first, rest) = halves(row, "|")?;
     let (second, rest) = halves(rest, "|")?;
     let (call, wanted) = halves(rest, "|")?;
-    let (a, b) = (bag_of(rt, alloc, first)?, bag_of(rt, alloc, second)?);
+    let a: CountingBag = bag_of(rt, alloc, first)?;
+    let b: CountingBag = bag_of(rt, alloc, second)?;
     let start = hashed_by(&a, &b);
     make_call_on_two(alloc, &a, &b, call)?;
     let end = hashed_by(&a, &b);
@@ -256,7 +248,7 @@ fn calls_on_two_hash_so_often(rt: HostRuntime) -> Result<(), Fail> {
 // The state of a clone, which goes on from the number of the first one's, hashes each value once, and the first state nothing.
 #[test]
 fn clones_are_hashed_once(rt: HostRuntime) -> Result<(), Fail> {
-    let bag = bag_of(&rt, rt.alloc(), "1:1 2:5 3:2")?;
+    let bag: CountingBag = bag_of(&rt, rt.alloc(), "1:1 2:5 3:2")?;
     let start = bag.hasher().hashed();
     let clone = bag.clone()?;
     assert_eq!(rt; bag.hasher().hashed(), start);

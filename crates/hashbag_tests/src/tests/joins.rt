@@ -116,8 +116,8 @@ fn parts_of(row: &str) -> Result<Row<'_>, Fail> {
     })
 }
 
-// The bag with the counts of a text.
-fn bag_of<S: BuildHasher + Default + Drop>(
+/// The bag with the counts of a text.
+pub fn bag_of<S: BuildHasher + Default + Drop>(
     rt: &impl Abort,
     alloc: Global,
     text: &str,
