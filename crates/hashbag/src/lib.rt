@@ -1,15 +1,11 @@
 //! A counted hash multiset: how often each of several values occurs, and how many occurrences there are in all.
+//!
+//! This is the one name by which users call the crates below it. A crate that walks over a `&HashBag` by `for` lists `hashbag_core` beside it
+//! among its libraries: an impl for a reference is found by the crate of the type behind it.
 #![tactic(auto)]
 
-pub mod bag;
-pub mod entry;
-pub mod iters;
-pub mod joins;
-pub mod json;
-pub mod script;
-
-pub use bag::{BagError, FixedState, HashBag};
-pub use entry::Entry;
-pub use iters::{Drain, IntoIter, Iter, SetIter};
-pub use joins::{Difference, NotIn, OuterJoin, SignedDifference};
-pub use json::{ItemError, JsonError, JsonItem};
+pub use hashbag_core::{
+    BagError, Difference, Drain, Entry, FixedState, HashBag, IntoIter, ItemError, Iter, JsonError,
+    JsonItem, NotIn, OuterJoin, SetIter, SignedDifference, bag, entry, iters, joins, json,
+};
+pub use hashbag_script::script;

@@ -1,8 +1,8 @@
 //! Single calls on the bag, with the answers found by hand.
-use crate::tests::rows::{clone_of, make_rows};
-use crate::tests::texts::is_text;
 use hashbag::{BagError, FixedState, HashBag};
 use hashbag_bench::{IdentityState, OneState, ParityState};
+use hashbag_rows::calls::{clone_of, make_rows};
+use hashbag_rows::texts::is_text;
 use std::alloc::Global;
 use std::hash::BuildHasher;
 use std::test::Fail;
@@ -106,22 +106,22 @@ const ROWS: &str = "\
 
 #[test]
 fn calls_of_fixed_state(rt: HostRuntime) -> Result<(), Fail> {
-    make_rows(&rt, rt.alloc(), FixedState::new(), ROWS, 87)
+    make_rows(rt.alloc(), FixedState::new(), ROWS, 87)
 }
 
 #[test]
 fn calls_of_one_state(rt: HostRuntime) -> Result<(), Fail> {
-    make_rows(&rt, rt.alloc(), OneState, ROWS, 87)
+    make_rows(rt.alloc(), OneState, ROWS, 87)
 }
 
 #[test]
 fn calls_of_parity_state(rt: HostRuntime) -> Result<(), Fail> {
-    make_rows(&rt, rt.alloc(), ParityState, ROWS, 87)
+    make_rows(rt.alloc(), ParityState, ROWS, 87)
 }
 
 #[test]
 fn calls_of_identity_state(rt: HostRuntime) -> Result<(), Fail> {
-    make_rows(&rt, rt.alloc(), IdentityState, ROWS, 87)
+    make_rows(rt.alloc(), IdentityState, ROWS, 87)
 }
 
 // The state that a bag has hashes its values.
@@ -159,13 +159,8 @@ fn report_of(alloc: Global, error: BagError) -> Result<String, Fail> {
 #[test]
 fn errors_as_text_and_number(rt: HostRuntime) -> Result<(), Fail> {
     let memory = report_of(rt.alloc(), BagError::Memory)?;
-    is_text(&rt, "refused", memory.as_str(), "Memory is 1: no memory");
+    is_text("refused", memory.as_str(), "Memory is 1: no memory")?;
     let many = report_of(rt.alloc(), BagError::TooMany)?;
-    is_text(
-        &rt,
-        "full",
-        many.as_str(),
-        "TooMany is 2: total past its end",
-    );
+    is_text("full", many.as_str(), "TooMany is 2: total past its end")?;
     Ok(())
 }

@@ -4,13 +4,12 @@ ghost use Rattle.std.proofs.Common.{rules};
 ghost use Rattle.std.specs.Cmp.Rules.{comparing, hashing};
 ghost use Rattle.std.specs.Hash as fed;
 
-use crate::tests::texts::{counts, halves, is_text, rows_of};
 use hashbag::{BagError, FixedState, HashBag};
 use hashbag_bench::OneState;
+use hashbag_rows::texts::{counts, halves, is_text, rows_of};
 use std::alloc::{AllocError, Global};
 use std::cell::Cell;
 use std::hash::{BuildHasher, Hash, Hasher};
-use std::process::Abort;
 use std::test::Fail;
 
 // Pairs of a value and a number, and what extending with them gives. Each pair takes one clone, and none where its number is 0
@@ -92,20 +91,16 @@ fn answer<S: BuildHasher + Drop>(alloc: Global, state: S, text: &str) -> Result<
     Ok(format!(in alloc; "{answered:?} after {made} clones")?)
 }
 
-fn clones_under<S: BuildHasher + Copy>(
-    rt: &impl Abort,
-    alloc: Global,
-    state: S,
-) -> Result<(), Fail> {
+fn clones_under<S: BuildHasher + Copy>(alloc: Global, state: S) -> Result<(), Fail> {
     for row in rows_of(alloc, ROWS, 4)? {
         let (text, want) = halves(row, " = ")?;
-        is_text(rt, row, answer(alloc, state, text)?.as_str(), want);
+        is_text(row, answer(alloc, state, text)?.as_str(), want)?;
     }
     Ok(())
 }
 
 #[test]
 fn clones_are_counted(rt: HostRuntime) -> Result<(), Fail> {
-    clones_under(&rt, rt.alloc(), FixedState::new())?;
-    clones_under(&rt, rt.alloc(), OneState)
+    clones_under(rt.alloc(), FixedState::new())?;
+    clones_under(rt.alloc(), OneState)
 }

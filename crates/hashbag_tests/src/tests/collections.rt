@@ -1,9 +1,9 @@
 //! Retaining, extending, collecting, cloning and comparing, with the answers found by hand.
-use crate::tests::rows::{clone_of, make_calls, make_rows};
-use crate::tests::texts::{count, counts, debug_of, halves, is_text, number, rows_of};
 use hashbag::script::{Reply, Step, run};
 use hashbag::{FixedState, HashBag};
 use hashbag_bench::{IdentityState, OneState, ParityState};
+use hashbag_rows::calls::{clone_of, make_calls, make_rows};
+use hashbag_rows::texts::{count, counts, debug_of, halves, is_text, number, rows_of};
 use std::alloc::Global;
 use std::hash::BuildHasher;
 use std::process::Abort;
@@ -109,12 +109,12 @@ const CLONE_ROWS: &str = "\
 // Changes of a clone leave its source.
 fn clones<S: BuildHasher + Default + Copy>(rt: &impl Abort, alloc: Global) -> Result<(), Fail> {
     let mut bag: HashBag<u64, S> = HashBag::default_in(alloc);
-    make_calls(rt, alloc, &mut bag, "from_iter [5, 6, 5, 7, 6, 5] = ()", 1)?;
+    make_calls(alloc, &mut bag, "from_iter [5, 6, 5, 7, 6, 5] = ()", 1)?;
     let mut copy = clone_of(&bag)?;
     assert!(rt; copy == bag);
-    make_calls(rt, alloc, &mut copy, CLONE_ROWS, 4)?;
+    make_calls(alloc, &mut copy, CLONE_ROWS, 4)?;
     assert!(rt; copy != bag);
-    make_calls(rt, alloc, &mut bag, SOURCE_ROWS, 3)
+    make_calls(alloc, &mut bag, SOURCE_ROWS, 3)
 }
 
 // The rows of a run, with its replies. Where a run retains, of a value stay as many as the first pair that has it says, and
@@ -190,7 +190,7 @@ fn retains_in_a_run<S: BuildHasher + Drop>(
     assert_eq!(rt; replies.len(), rows.len());
     for (row, reply) in rows.iter().zip(&replies) {
         let (_, want) = halves(row, " = ")?;
-        is_text(rt, row, debug_of(alloc, reply)?.as_str(), want);
+        is_text(row, debug_of(alloc, reply)?.as_str(), want)?;
     }
     Ok(())
 }
@@ -200,8 +200,8 @@ fn collections_under<S: BuildHasher + Default + Copy>(
     alloc: Global,
     state: S,
 ) -> Result<(), Fail> {
-    make_rows(rt, alloc, state, ROWS, 50)?;
-    make_rows(rt, alloc, state, EQUAL_ROWS, 22)?;
+    make_rows(alloc, state, ROWS, 50)?;
+    make_rows(alloc, state, EQUAL_ROWS, 22)?;
     clones::<S>(rt, alloc)?;
     retains_in_a_run(rt, alloc, state)
 }

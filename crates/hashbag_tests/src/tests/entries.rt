@@ -1,7 +1,7 @@
 //! The entry view, with the answers found by hand.
-use crate::tests::rows::make_rows;
 use hashbag::FixedState;
 use hashbag_bench::{IdentityState, OneState, ParityState};
+use hashbag_rows::calls::make_rows;
 use std::test::Fail;
 
 // `entry` drops an entry at once. `set` and `raise` are `and_modify`, which calls nothing where the entry is vacant.
@@ -54,20 +54,20 @@ const ROWS: &str = "\
 
 #[test]
 fn entries_of_fixed_state(rt: HostRuntime) -> Result<(), Fail> {
-    make_rows(&rt, rt.alloc(), FixedState::new(), ROWS, 41)
+    make_rows(rt.alloc(), FixedState::new(), ROWS, 41)
 }
 
 #[test]
 fn entries_of_one_state(rt: HostRuntime) -> Result<(), Fail> {
-    make_rows(&rt, rt.alloc(), OneState, ROWS, 41)
+    make_rows(rt.alloc(), OneState, ROWS, 41)
 }
 
 #[test]
 fn entries_of_parity_state(rt: HostRuntime) -> Result<(), Fail> {
-    make_rows(&rt, rt.alloc(), ParityState, ROWS, 41)
+    make_rows(rt.alloc(), ParityState, ROWS, 41)
 }
 
 #[test]
 fn entries_of_identity_state(rt: HostRuntime) -> Result<(), Fail> {
-    make_rows(&rt, rt.alloc(), IdentityState, ROWS, 41)
+    make_rows(rt.alloc(), IdentityState, ROWS, 41)
 }

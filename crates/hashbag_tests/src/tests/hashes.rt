@@ -1,7 +1,7 @@
 //! What the hash states answer.
-use crate::tests::texts::{halves, is_text, number, rows_of};
 use hashbag_bench::states::{identity_hash, one_hash, parity_hash};
 use hashbag_bench::{IdentityState, OneState, ParityState, Tagged};
+use hashbag_rows::texts::{halves, is_text, number, rows_of};
 use std::alloc::{AllocError, Global};
 use std::hash::{BuildHasher, Hash, Hasher};
 use std::test::Fail;
@@ -44,8 +44,8 @@ fn numbers_by_state_and_function(rt: HostRuntime) -> Result<(), Fail> {
     for row in rows_of(alloc, ROWS, 8)? {
         let (value, want) = halves(row, " = ")?;
         let value = number(value)?;
-        is_text(&rt, row, hashes_by_state(alloc, value)?.as_str(), want);
-        is_text(&rt, row, hashes_by_function(alloc, value)?.as_str(), want);
+        is_text(row, hashes_by_state(alloc, value)?.as_str(), want)?;
+        is_text(row, hashes_by_function(alloc, value)?.as_str(), want)?;
     }
     Ok(())
 }

@@ -1,9 +1,9 @@
 //! Which instance of a value is stored: rows of calls on a bag of tagged values.
 //!
 //! A value is written as its key and its tag, as `1:10`. Two values with one key are equal.
-use crate::tests::texts::{count, debug_of, halves, is_text, number, rows_of};
 use hashbag::{BagError, FixedState, HashBag};
 use hashbag_bench::{IdentityState, OneState, ParityState, Tagged};
+use hashbag_rows::texts::{count, debug_of, halves, is_text, number, rows_of};
 use std::alloc::Global;
 use std::hash::BuildHasher;
 use std::process::Abort;
@@ -213,7 +213,7 @@ fn make_rows<S: BuildHasher + Default + Copy>(
         } else {
             let (call, want) = halves(row, " = ")?;
             let got = answer(rt, alloc, &mut bag, call)?;
-            is_text(rt, row, got.as_str(), want);
+            is_text(row, got.as_str(), want)?;
         }
     }
     Ok(())

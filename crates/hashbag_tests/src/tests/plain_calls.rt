@@ -1,10 +1,9 @@
 //! Calls on the plain bag, with the answers found by hand.
 use crate::tests::instances::tagged;
-use crate::tests::texts::{count, debug_of, halves, is_text, rows_of};
 use hashbag::script::{Reply, Step};
 use hashbag_bench::{PlainBag, Tagged};
+use hashbag_rows::texts::{count, debug_of, halves, is_text, rows_of};
 use std::alloc::{AllocError, Global};
-use std::process::Abort;
 use std::test::Fail;
 
 // A value is written as its key and its tag. `tags` answers the tags of all occurrences, in the order of the list.
@@ -121,7 +120,7 @@ fn calls_on_the_plain_bag(rt: HostRuntime) -> Result<(), Fail> {
         } else {
             let (call, want) = halves(row, " = ")?;
             let got = answer(alloc, &mut bag, call)?;
-            is_text(&rt, row, got.as_str(), want);
+            is_text(row, got.as_str(), want)?;
         }
     }
     Ok(())

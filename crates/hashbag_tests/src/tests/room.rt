@@ -1,7 +1,7 @@
 //! Room for distinct values. No clause can promise it, since it takes memory.
-use crate::tests::texts::{debug_of, is_text};
 use hashbag::{BagError, FixedState, HashBag};
 use hashbag_bench::{IdentityState, OneState, ParityState};
+use hashbag_rows::texts::{debug_of, is_text};
 use std::alloc::Global;
 use std::hash::BuildHasher;
 use std::process::Abort;
@@ -154,8 +154,8 @@ fn fixed_state_by_default(rt: HostRuntime) -> Result<(), Fail> {
 fn no_room_and_too_much(rt: HostRuntime) -> Result<(), Fail> {
     let alloc = rt.alloc();
     let none = debug_of(alloc, &capacity_of(alloc, 0))?;
-    is_text(&rt, "no room", none.as_str(), "Ok(0)");
+    is_text("no room", none.as_str(), "Ok(0)")?;
     let much = debug_of(alloc, &capacity_of(alloc, MOST_VALUES + 1))?;
-    is_text(&rt, "too much", much.as_str(), "Err(Memory)");
+    is_text("too much", much.as_str(), "Err(Memory)")?;
     Ok(())
 }

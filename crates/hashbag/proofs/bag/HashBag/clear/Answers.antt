@@ -1,5 +1,0 @@
-use Rattle.hashbag.proofs.OccurrenceLemmas.{tally_none}
-use Rattle.hashbag.proofs.bag.HashBag.clear.Goals as goal
-
-pub invariant_of-self : goal.invariant_of-self
-invariant_of-self g c = rw c.clear.ensures.empty (tally_none g.met.T.Eq.laws)

@@ -1,7 +1,0 @@
-use Rattle.hashbag.specs.Extends.{AsItIs}
-use Rattle.hashbag.proofs.ExtendLemmas.{SoFar}
-use Rattle.hashbag.proofs.bag.HashBag.extend_many.Given as goal
-
--- the items so far went in
-abbrev pub invariant-loop-value : goal.invariant-loop-value
-invariant-loop-value g l = SoFar g.met.T.Eq.laws AsItIs l.fn.self l.self l.yielded

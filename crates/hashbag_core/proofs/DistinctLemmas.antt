@@ -1,0 +1,48 @@
+-- How many distinct values the occurrences of a map have.
+use Rattle.std.proofs.Common.{◌≡◌, ℕ, zero, suc, ◌+◌, ◌<◌, ◌==◌, Bool, cond, List, [], ◌∷◌, ◌++◌, length, replicate, filter, Option, unwrap_or, refl, ◌∙◌, ap, arith}
+use Rattle.std.specs.Cmp.{IsEquivalence}
+use Rattle.std.proofs.lemmas.Bool.Decides.{nat_tests}
+use Rattle.std.specs.List.{IsDistinct}
+use Rattle.std.specs.Map.{keys_of}
+use Rattle.std.proofs.lemmas.List.Sums.{length-filter}
+use Rattle.std.proofs.lemmas.Map.{lookup-none}
+use Rattle.std.proofs.lemmas.Map.Entries.{none_past_head}
+use Rattle.std.proofs.lemmas.Map.Keys.{IsDistinct-tail}
+use Rattle.hashbag_table.specs.Entries.{IsCounted}
+use Rattle.hashbag_core.specs.Bag.{occurrences}
+use Rattle.hashbag_core.specs.Occurrences.{count, distinct_count}
+use Rattle.hashbag_core.proofs.OccurrenceLemmas.{count_occurrences}
+
+module _ {T : Type 0} {eq : T → T → Bool} (laws : IsEquivalence eq) where
+  first_counts : (k d : ℕ) → k ≡ 0 → (cond (k == 0) 1 0) + d ≡ suc d
+  first_counts k d none = grind (arith, nat_tests)
+
+  later_counts_not : (k d : ℕ) → 0 < k → (cond (k == 0) 1 0) + d ≡ d
+  later_counts_not k d some = grind (arith, nat_tests)
+
+  copy_counts : (x : T) (X : List T) → 0 < count eq x (x ∷ X)
+  copy_counts x X =
+      let found = length-filter (eq x) (x ∷ X) in
+      let first : length (filter (eq x) (x ∷ X)) ≡ suc (length (filter (eq x) X)) = ap (λ (b : Bool). length (cond b (x ∷ filter (eq x) X) (filter (eq x) X))) (laws.refl x) in
+      omega arith
+
+  -- copies of a value that doesn't occur later on count once
+  copies_count_once : (x : T) (n : ℕ) (X : List T) → 0 < n → count eq x X ≡ 0 → distinct_count eq (replicate n x ++ X) ≡ suc (distinct_count eq X)
+  copies_count_once x zero X some none = absurd (omega arith)
+  copies_count_once x (suc zero) X some none = first_counts (count eq x X) (distinct_count eq X) none
+  copies_count_once x (suc (suc n)) X some none =
+      later_counts_not (count eq x (replicate (suc n) x ++ X)) (distinct_count eq (replicate (suc n) x ++ X)) (copy_counts x (replicate n x ++ X))
+      ∙ copies_count_once x (suc n) X (omega arith) none
+
+  absent_later : (e : T × ℕ) (es : List (T × ℕ)) → IsDistinct eq (keys_of (e ∷ es)) → count eq e.0 (occurrences es) ≡ 0
+  absent_later e es distinct =
+      count_occurrences laws e.0 es (IsDistinct-tail eq e.0 (keys_of es) distinct)
+      ∙ ap (λ (o : Option ℕ). unwrap_or o 0) (lookup-none (eq e.0) es (none_past_head laws e.0 e es distinct (laws.refl e.0)))
+
+  -- each entry is one distinct value
+  pub distinct_count-occurrences : (es : List (T × ℕ)) → IsCounted eq es → distinct_count eq (occurrences es) ≡ length es
+  distinct_count-occurrences [] counted = refl
+  distinct_count-occurrences (e ∷ es) counted =
+      let later : IsCounted eq es = record { distinct = IsDistinct-tail eq e.0 (keys_of es) counted.distinct; positive = λ k d at. counted.positive (suc k) d (omega arith) } in
+      copies_count_once e.0 e.1 (occurrences es) (counted.positive 0 e.1 (omega arith)) (absent_later e es counted.distinct)
+      ∙ ap suc (distinct_count-occurrences es later)

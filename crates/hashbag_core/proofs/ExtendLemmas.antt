@@ -1,0 +1,57 @@
+-- Adding the items that come, one after another.
+use Rattle.std.proofs.Common.{◌≡◌, ℕ, Bool, List, [], ◌∷◌, ◌++◌, refl, ◌∙◌, arith}
+use Rattle.std.specs.Cmp.{IsEquivalence}
+use Rattle.std.specs.List.{AllZip}
+use Rattle.std.specs.List.Sorted.{IsPermutation}
+use Rattle.std.proofs.lemmas.List.Sorted.{IsPermutation-refl, IsPermutation-sym, IsPermutation-trans, length_permutation}
+use Rattle.hashbag_table.proofs.CloneLemmas.{zip_more}
+use Rattle.hashbag_core.specs.declared.bag.BagError.{BagError}
+use Rattle.hashbag_core.specs.declared.bag.BagError.TheVariants.{Memory, TooMany}
+use Rattle.hashbag_core.specs.Bag.{Bag, IsBagOf}
+use Rattle.hashbag_core.specs.Occurrences.{add, IsBag}
+use Rattle.hashbag_core.specs.Extends.{add_all, Refuses, RefusesClones}
+use Rattle.hashbag_core.proofs.OccurrenceLemmas.{add_rearranged, bag_rearranged, count_rearranged}
+
+module _ {T : Type 0} {eq : T → T → Bool} (laws : IsEquivalence eq) where
+  pub add_all_last : (X : List T) (pairs : List (T × ℕ)) (p : T × ℕ) → add_all eq X (pairs ++ p ∷ []) ≡ add eq p.0 p.1 (add_all eq X pairs)
+  add_all_last X [] p = refl
+  add_all_last X (q ∷ pairs) p = add_all_last (add eq q.0 q.1 X) pairs p
+
+  module _ {S A : Type 0} (Goes : A → T × ℕ → Type 0) where
+    -- the items went in as these pairs
+    pub record SoFar (before now : Bag T S) (items : List A) : Type 0 where
+      pub pairs : List (T × ℕ)
+      pub went : AllZip Goes items pairs
+      pub left : IsBagOf eq before (add_all eq before.items pairs) now
+
+    pub none_yet : (bag : Bag T S) → IsBag eq bag.items → SoFar bag bag []
+    none_yet bag is = record { pairs = []; went = tt; left = record { means = IsPermutation-refl _; hasher = refl; bag = is } }
+
+    pub one_more : (before now after : Bag T S) (items : List A) (x : A) (p : T × ℕ) → SoFar before now items → Goes x p → IsBagOf eq now (add eq p.0 p.1 now.items) after → SoFar before after (items ++ x ∷ [])
+    one_more before now after items x p so_far goes added = record {
+      pairs = so_far.pairs ++ p ∷ [];
+      went = zip_more Goes items so_far.pairs x p so_far.went goes;
+      left = record {
+        means =
+            let was = so_far.left in
+            let bag = bag_rearranged laws _ _ (IsPermutation-sym _ _ was.means) was.bag in
+            rw (add_all_last before.items so_far.pairs p) (IsPermutation-trans _ _ _ (add_rearranged laws p.0 p.1 (add_all eq before.items so_far.pairs) now.items bag was.means) added.means);
+        hasher = added.hasher ∙ so_far.left.hasher;
+        bag = added.bag;
+      };
+    }
+
+  -- why an item is refused doesn't depend on the order of the list
+  pub refuses_rearranged : (X Y : List T) (v : T) (n : ℕ) (e : BagError) → IsPermutation X Y → Refuses eq Y v n e → Refuses eq X v n e
+  refuses_rearranged X Y v n TooMany h over = let long = length_permutation X Y h in omega arith
+  refuses_rearranged X Y v n Memory h asks =
+      let long = length_permutation X Y h in
+      let fits = asks.0 in
+      (omega arith, asks.1, count_rearranged laws v X Y h ∙ asks.2)
+
+pub refuses_clones_rearranged : {T : Type 0} (X Y : List T) (n : ℕ) (e : BagError) → IsPermutation X Y → RefusesClones Y n e → RefusesClones X n e
+refuses_clones_rearranged X Y n TooMany h over = let long = length_permutation X Y h in omega arith
+refuses_clones_rearranged X Y n Memory h asks =
+    let long = length_permutation X Y h in
+    let fits = asks.0 in
+    (omega arith, asks.1)

@@ -1,0 +1,144 @@
+-- Arrays of values as lists of trees, and how far a tree was read.
+use Rattle.std.proofs.Common.{◌≡◌, ℕ, suc, zero, ◌<◌, ◌≤◌, ◌+◌, Bool, true, false, cond, ltb, List, [], ◌∷◌, ◌++◌, length, get_or, drop, map, Option, Some, None, option_map, option_and_then, unwrap_or, refl, sym, ◌∙◌, ap, subst, append_assoc, arith, add-one}
+use Rattle.std.specs.Option.{option_or}
+use Rattle.std.specs.List.{AllZip}
+use Rattle.std.specs.List.Sorted.{IsPermutation}
+use Rattle.std.specs.Cmp.{IsEquivalence}
+use Rattle.std.proofs.lemmas.Bool.{le-ltb}
+use Rattle.std.proofs.lemmas.List.{append-nil}
+use Rattle.std.proofs.lemmas.List.Elements.{All-nil}
+use Rattle.std.proofs.lemmas.List.Sorted.{IsPermutation-refl, IsPermutation-trans, IsPermutation-sym}
+use Rattle.serde_json.specs.Data.{Data}
+use Rattle.serde_json.specs.Find.{as_array}
+use Rattle.serde_json.specs.View.{view, items_of, items_view}
+use Rattle.serde_json.specs.declared.value.Value.{Value}
+use Rattle.hashbag_table.proofs.CloneLemmas.{zip_more}
+use Rattle.hashbag_core.specs.declared.json.JsonError.{JsonError}
+use Rattle.hashbag_core.specs.declared.json.JsonError.TheVariants.{BadItem, TooMany}
+use Rattle.hashbag_core.specs.Extends.{add_all}
+use Rattle.hashbag_core.specs.JsonFaults.{list_of, array_of, two_of, pair_of, pair_count, part_fault, pair_fault, first_fault, fault, array_fault, IsCountedItem, MayEnd}
+use Rattle.hashbag_core.specs.JsonItems.{u64_of}
+use Rattle.hashbag_core.specs.JsonTrees.{IsPair, IsReading}
+use Rattle.hashbag_core.specs.Occurrences.{add, IsBag}
+use Rattle.hashbag_core.proofs.ExtendLemmas.{add_all_last}
+use Rattle.hashbag_core.proofs.OccurrenceLemmas.{add_rearranged, bag_rearranged, length_added}
+
+pub list_of-items_of : (ds : List Data) → list_of (items_of ds) ≡ ds
+list_of-items_of [] = refl
+list_of-items_of (d ∷ ds) = ap (λ l. d ∷ l) (list_of-items_of ds)
+
+-- what `as_array` found
+pub array_of_found : (d : Data) (vs : List Value) → Some (items_view vs) ≡ as_array d → array_of d ≡ Some (map view vs)
+array_of_found d vs e = ap (option_map list_of) (sym e) ∙ ap (λ l. Some l) (list_of-items_of (map view vs))
+
+not_two : (ds : List Value) → (length ds ≡ 2 → ⊥) → two_of (map view ds) ≡ None
+not_two [] h = refl
+not_two (d ∷ []) h = refl
+not_two (d ∷ e ∷ []) h = absurd (h refl)
+not_two (d ∷ e ∷ f ∷ ds) h = refl
+
+pub no_pair : (d : Data) (vs : List Value) → Some (items_view vs) ≡ as_array d → (length vs ≡ 2 → ⊥) → None ≡ pair_of d
+no_pair d vs e h = sym (ap (option_and_then two_of) (array_of_found d vs e) ∙ not_two vs h)
+
+drop_map : (vs : List Value) (i : ℕ) (d : Value) → i < length vs → map view (drop i vs) ≡ view (get_or vs i d) ∷ map view (drop (suc i) vs)
+drop_map [] i d h = absurd (omega arith)
+drop_map (v ∷ vs) zero d h = refl
+drop_map (v ∷ vs) (suc i) d h = drop_map vs i d (omega arith)
+
+-- the tree at i is the first of those that are left
+pub left_at : (vs : List Value) (i : ℕ) (d : Value) → d ≡ get_or vs i d → i < length vs → map view (drop i vs) ≡ view d ∷ map view (drop (i + 1) vs)
+left_at vs i d is h = rw add-one (drop_map vs i d h ∙ ap (λ (e : Value). view e ∷ map view (drop (suc i) vs)) (sym is))
+
+module _ {T : Type 0} {eq : T → T → Bool} (laws : IsEquivalence eq) (end : ℕ) (has_item : Data → Bool) (reads : Data → T → Type 0) where
+  -- `rest` is left of the pairs `ds`, and the first i were added to nothing, which gave a rearrangement of X
+  pub record IsReadTo (ds rest : List Data) (i : ℕ) (X : List T) : Type 0 where
+    pub done : List Data
+    pub pairs : List (T × ℕ)
+    pub parts : ds ≡ done ++ rest
+    pub each : AllZip (IsPair reads) done pairs
+    pub means : IsPermutation (add_all eq [] pairs) X
+    pub bag : IsBag eq X
+    pub fault : (others : List Data) → first_fault end has_item 0 0 (done ++ others) ≡ first_fault end has_item i (length X) others
+
+  pub read_to_start : (ds : List Data) → IsReadTo ds ds 0 []
+  read_to_start ds = record {
+    done = [];
+    pairs = [];
+    parts = refl;
+    each = tt;
+    means = IsPermutation-refl [];
+    bag = record { one_instance = All-nil _; fits = omega arith };
+    fault = λ others. refl;
+  }
+
+  pair_counted : (d : Data) (p : T × ℕ) → IsPair reads d p → pair_count d ≡ Some p.1
+  pair_counted d p is = ap (option_and_then (λ (q : Data × Data). u64_of q.1)) is.parts ∙ is.count
+
+  -- a pair that was added has no fault
+  pub good_pair : (d tree counted_by : Data) (i : ℕ) (X Y : List T) (x : T) (n : ℕ) → pair_of d ≡ Some (tree, counted_by) → u64_of counted_by ≡ Some n → has_item tree ≡ true → IsPermutation (add eq x n X) Y → length Y ≤ end
+      → pair_fault end has_item i (length X) (pair_of d) ≡ None
+  good_pair d tree counted_by i X Y x n parts counted item added fits =
+      let long = length_added laws x n X Y added in
+      let low : ltb end (length X + n) ≡ false = le-ltb _ _ (omega arith) in
+      ap (pair_fault end has_item i (length X)) parts
+      ∙ ap (part_fault end has_item i (length X) tree) counted
+      ∙ ap (λ (b : Bool). cond b (cond (ltb end (length X + n)) (Some (TooMany i)) None) (Some (BadItem i))) item
+      ∙ ap (λ (b : Bool). cond b (Some (TooMany i)) None) low
+
+  past_pair : (d : Data) (rest : List Data) (i total n : ℕ) → pair_fault end has_item i total (pair_of d) ≡ None → pair_count d ≡ Some n → first_fault end has_item i total (d ∷ rest) ≡ first_fault end has_item (i + 1) (total + n) rest
+  unfolding first_fault
+  past_pair d rest i total n good count =
+      ap (λ (o : Option JsonError). option_or o (first_fault end has_item (i + 1) (total + unwrap_or (pair_count d) 0) rest)) good
+      ∙ ap (λ (o : Option ℕ). first_fault end has_item (i + 1) (total + unwrap_or o 0) rest) count
+
+  pub read_to_next : (ds rest : List Data) (d : Data) (i : ℕ) (X Y : List T) (p : T × ℕ) → IsReadTo ds (d ∷ rest) i X
+      → pair_fault end has_item i (length X) (pair_of d) ≡ None → IsPair reads d p → IsPermutation (add eq p.0 p.1 X) Y → IsBag eq Y → IsReadTo ds rest (i + 1) Y
+  read_to_next ds rest d i X Y p so good is means bag =
+      let before : IsBag eq (add_all eq [] so.pairs) = bag_rearranged laws _ _ (IsPermutation-sym _ _ so.means) so.bag in
+      record {
+        done = so.done ++ d ∷ [];
+        pairs = so.pairs ++ p ∷ [];
+        parts = so.parts ∙ sym (append_assoc so.done (d ∷ []) rest);
+        each = zip_more (IsPair reads) so.done so.pairs d p so.each is;
+        means = subst (λ (l : List T). IsPermutation l Y) (sym (add_all_last laws [] so.pairs p)) (IsPermutation-trans _ _ _ (add_rearranged laws p.0 p.1 _ X before so.means) means);
+        bag = bag;
+        fault = λ others. ap (λ (l : List Data). first_fault end has_item 0 0 l) (append_assoc so.done (d ∷ []) others) ∙ so.fault (d ∷ others)
+            ∙ past_pair d others i (length X) p.1 good (pair_counted d p is) ∙ ap (λ (n : ℕ). first_fault end has_item (i + 1) n others) (sym (length_added laws p.0 p.1 X Y means));
+      }
+
+  at_pair : (d : Data) (rest : List Data) (i total : ℕ) (e : JsonError) → pair_fault end has_item i total (pair_of d) ≡ Some e → first_fault end has_item i total (d ∷ rest) ≡ Some e
+  unfolding first_fault
+  at_pair d rest i total e bad = ap (λ (o : Option JsonError). option_or o (first_fault end has_item (i + 1) (total + unwrap_or (pair_count d) 0) rest)) bad
+
+  none_left : (i total : ℕ) → first_fault end has_item i total [] ≡ None
+  unfolding first_fault
+  none_left i total = refl
+
+  whole_fault : (ds rest : List Data) (i : ℕ) (X : List T) → (so : IsReadTo ds rest i X) → first_fault end has_item 0 0 ds ≡ first_fault end has_item i (length X) rest
+  whole_fault ds rest i X so = ap (λ (l : List Data). first_fault end has_item 0 0 l) so.parts ∙ so.fault rest
+
+  -- the fault of a tree is that of the pair at which the reading stopped
+  pub fault_at : (t : Data) (ds rest : List Data) (d : Data) (i : ℕ) (X : List T) (e : JsonError) → array_of t ≡ Some ds → IsReadTo ds (d ∷ rest) i X
+      → pair_fault end has_item i (length X) (pair_of d) ≡ Some e → fault end has_item t ≡ Some e
+  fault_at t ds rest d i X e is so bad = ap (array_fault end has_item) is ∙ whole_fault ds (d ∷ rest) i X so ∙ at_pair d rest i (length X) e bad
+
+  -- memory may have ended it there
+  pub may_end_at : (t : Data) (ds rest : List Data) (d : Data) (i : ℕ) (X : List T) → array_of t ≡ Some ds → IsReadTo ds (d ∷ rest) i X → IsCountedItem has_item d → MayEnd end has_item t
+  may_end_at t ds rest d i X is so asks = record {
+    before = so.done;
+    pair = d;
+    after = rest;
+    array = is ∙ ap (λ (l : List Data). Some l) so.parts;
+    good = ap (λ (l : List Data). first_fault end has_item 0 0 l) (sym (append-nil so.done)) ∙ so.fault [] ∙ none_left i (length X);
+    asks = asks;
+  }
+
+  pub no_fault_at_end : (t : Data) (ds : List Data) (i : ℕ) (X : List T) → array_of t ≡ Some ds → IsReadTo ds [] i X → fault end has_item t ≡ None
+  no_fault_at_end t ds i X is so = ap (array_fault end has_item) is ∙ whole_fault ds [] i X so ∙ none_left i (length X)
+
+  pub reading_at_end : (t : Data) (ds : List Data) (i : ℕ) (X : List T) → array_of t ≡ Some ds → (so : IsReadTo ds [] i X) → IsReading reads t so.pairs
+  reading_at_end t ds i X is so = record {
+    trees = so.done;
+    array = is ∙ ap (λ (l : List Data). Some l) (so.parts ∙ append-nil so.done);
+    each = so.each;
+  }

@@ -1,0 +1,17 @@
+pub mod ContainsLemmas
+pub mod CopyLemmas
+pub mod DistinctLemmas
+pub mod EqualityLemmas
+pub mod ExcessLemmas
+pub mod ExtendLemmas
+pub mod JoinLemmas
+pub mod JsonReadLemmas
+pub mod JsonSameLemmas
+pub mod JsonTripLemmas
+pub mod JsonWriteLemmas
+pub mod Laws
+pub mod MemberLemmas
+pub mod OccurrenceLemmas
+pub mod RetainLemmas
+pub mod TakeLemmas
+pub mod WalkLemmas

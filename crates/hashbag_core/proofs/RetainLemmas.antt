@@ -1,0 +1,60 @@
+-- What a closure's answers leave of a bag.
+use Rattle.std.proofs.Common.{◌≡◌, ℕ, ◌<◌, ◌^◌, Bool, List, [], ◌∷◌, map, refl, sym, ◌∙◌, ap, arith}
+use Rattle.std.specs.Cmp.{IsEquivalence}
+use Rattle.std.proofs.lemmas.List.Sorted.{sum_by-IsPermutation}
+use denote.Ref.{Bor}
+use denote.Param.Members.{Mut}
+use Rattle.std.specs.Fn.{Called}
+use Rattle.hashbag_table.specs.Asked.{Retains, AnswersInTurn, kept}
+use Rattle.hashbag_table.specs.Entries.{IsCounted, total}
+use Rattle.hashbag_table.proofs.AskedLemmas.{total_kept}
+use Rattle.hashbag_core.specs.Bag.{occurrences, IsTallied}
+use Rattle.hashbag_core.specs.Retain.{IsRetained}
+use Rattle.hashbag_core.proofs.OccurrenceLemmas.{occurrences_rearranged, bag_from_tally}
+use Rattle.hashbag_core.proofs.WalkLemmas.{length_occurrences, set_walk_of_bag}
+
+module _ {F T : Type 0} {eq : T → T → Bool} (laws : IsEquivalence eq) (g : Mut F (Bor T × (ℕ × Unit {0})) ℕ) (f : F) (es fs : List (T × ℕ)) (len : ℕ) (tally : IsTallied eq es len) where
+  pub total_fits : total es < 2 ^ 64
+  total_fits =
+      let sum = length_occurrences es in
+      let len_sum = tally.sum in
+      let fits = tally.fits in
+      omega arith
+
+  module _ (counted : IsCounted eq fs) (retains : Retains g f es fs) where
+    pub tally_retained : (left : ℕ) → left ≡ total fs → IsTallied eq fs left
+    tally_retained left is =
+        let sum = length_occurrences fs in
+        let before = length_occurrences es in
+        let len_sum = tally.sum in
+        let fits = tally.fits in
+        let walked = sum_by-IsPermutation (λ e. e.1) es retains.walk retains.order in
+        let fewer = total_kept retains.walk retains.answers in
+        let kept_sum = sum_by-IsPermutation (λ e. e.1) (kept retains.walk retains.answers) fs retains.kept in
+        record { sum = is ∙ sym sum; fits = omega arith; counted = counted }
+
+    pub is_retained : {S : Type 0} (hasher after : S) (left : ℕ) → left ≡ total fs → after ≡ hasher → IsRetained eq g f (record { items = occurrences es; hasher = hasher }) (record { items = occurrences fs; hasher = after })
+    is_retained hasher after left is same = record {
+      walk = retains.walk;
+      set_walk = set_walk_of_bag laws hasher es retains.walk len tally retains.order;
+      answers = retains.answers;
+      last = retains.last;
+      asked = retains.asked;
+      left = record {
+        means = occurrences_rearranged (kept retains.walk retains.answers) fs retains.kept;
+        hasher = same;
+        bag = bag_from_tally laws fs left (tally_retained left is);
+      };
+    }
+
+-- what a closure answers that answers by the value alone, as long as J holds of it
+module _ {F T : Type 0} (g : Mut F (Bor T × (ℕ × Unit {0})) ℕ) (J : F → Type 0) (many : T → ℕ)
+    (says : (p q : F) (x : Bor T) (n a : ℕ) → J p → Called g p (x, (n, tt)) a q → (a ≡ many x.now) × J q) where
+  pub answers_are : (p : F) (walk : List (T × ℕ)) (answers : List ℕ) (last : F) → J p → AnswersInTurn g p walk answers last → answers ≡ map (λ e. many e.0) walk
+  answers_are p [] [] last j asked = refl
+  answers_are p [] (a ∷ answers) last j asked = absurd asked
+  answers_are p (e ∷ walk) [] last j asked = absurd asked
+  answers_are p (e ∷ walk) (a ∷ answers) last j asked =
+      let one = says p asked.0 asked.1.value e.1 a j asked.1.called in
+      let later = answers_are asked.0 walk answers last one.1 asked.2 in
+      λ i. (one.0 ∙ ap many asked.1.shows) i ∷ later i

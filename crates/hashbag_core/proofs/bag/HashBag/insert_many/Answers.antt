@@ -1,0 +1,36 @@
+use Rattle.std.proofs.Common.{◌≡◌, ◌+◌, ◌≤◌, length, arith, sym, ◌∙◌}
+use Rattle.hashbag_table.proofs.EntryLemmas.{OnErr-from}
+use Rattle.hashbag_core.specs.Bag.{occurrences}
+use Rattle.hashbag_core.specs.Occurrences.{greatest_total, count}
+use Rattle.hashbag_core.proofs.OccurrenceLemmas.{add_occurrences, bag_from_tally, tally_added, count_occurrences, count_of_entry, count_in_tally}
+use Rattle.hashbag_core.proofs.bag.HashBag.insert_many.Goals as goal
+
+pub add-requires-clause-fits : goal.add-requires-clause-fits
+add-requires-clause-fits g c =
+    let few = count_in_tally g.met.T.Eq.laws c.args.value _ _ c.self.invariant in
+    let sum = c.self.invariant.sum in
+    let fits : length (occurrences c.self.inside.table.entries) + c.args.n ≤ greatest_total = rw (← c.self.view_is) at c.requires in
+    omega arith
+
+pub returns-in_err-before-clause-absent : goal.returns-in_err-before-clause-absent
+returns-in_err-before-clause-absent g c =
+    let absent : count g.T.PartialEq.eq c.args.value c.args.self.now.items ≡ 0 =
+    rw (← c.self.view_is) (count_occurrences g.met.T.Eq.laws c.args.value _ c.self.invariant.counted.distinct ∙ count_of_entry g.met.T.Eq.laws c.args.value _ _ (sym c.in_err-before.ensures.absent)) in
+    OnErr-from _ absent
+
+-- the total with n more
+pub invariant_of-self-2 : goal.invariant_of-self-2
+invariant_of-self-2 g c =
+    let fits : length (occurrences c.self.inside.table.entries) + c.args.n ≤ greatest_total = rw (← c.self.view_is) at c.requires in
+    let sum = c.self.invariant.sum in
+    tally_added g.met.T.Eq.laws c.args.value c.args.n _ c.add.new.self.entries c.self.inside.len c.self.invariant c.add.ensures.counted (omega arith) (add_occurrences g.met.T.Eq.laws c.args.value c.args.n _ _ c.self.invariant.counted c.in_ok-before.ensures.added)
+
+pub returns-clause-before : goal.returns-clause-before
+returns-clause-before g c = rw (← c.self.view_is) (c.in_ok-before.ensures.before ∙ sym (count_occurrences g.met.T.Eq.laws c.args.value _ c.self.invariant.counted.distinct))
+
+pub returns-clause-added : goal.returns-clause-added
+returns-clause-added g c = rw (← c.self.view_is) (record {
+  means = add_occurrences g.met.T.Eq.laws c.args.value c.args.n _ _ c.self.invariant.counted c.in_ok-before.ensures.added;
+  hasher = c.add.ensures.hasher;
+  bag = bag_from_tally g.met.T.Eq.laws _ _ (invariant_of-self-2 g c);
+})

@@ -1,0 +1,28 @@
+use Rattle.std.proofs.Common.{◌≡◌, ◌+◌, ◌≤◌, length, arith, sym, ◌∙◌}
+use Rattle.hashbag_table.specs.Entries.{count_of}
+use Rattle.hashbag_core.specs.Bag.{occurrences}
+use Rattle.hashbag_core.specs.Occurrences.{greatest_total, count}
+use Rattle.hashbag_core.proofs.OccurrenceLemmas.{bag_from_tally, count_occurrences, absent_from_count, new_occurrences, tally_added}
+use Rattle.hashbag_core.proofs.bag.HashBag.insert_new.Goals as goal
+
+pub insert_new-requires-clause-absent : goal.insert_new-requires-clause-absent
+insert_new-requires-clause-absent g c =
+    let none : count_of g.T.PartialEq.eq c.args.value c.self.inside.table.entries ≡ 0 = sym (count_occurrences g.met.T.Eq.laws c.args.value c.self.inside.table.entries c.self.invariant.counted.distinct) ∙ (rw (← c.self.view_is) at c.requires.absent) in
+    absent_from_count g.met.T.Eq.laws c.args.value c.self.inside.table.entries c.self.invariant.counted none
+
+pub invariant_of-self-2 : goal.invariant_of-self-2
+invariant_of-self-2 g c =
+    let fits : length (occurrences c.self.inside.table.entries) + c.args.quantity ≤ greatest_total = rw (← c.self.view_is) at c.requires.fits in
+    let sum = c.self.invariant.sum in
+    let none : count g.T.PartialEq.eq c.args.value (occurrences c.self.inside.table.entries) ≡ 0 = rw (← c.self.view_is) at c.requires.absent in
+    tally_added g.met.T.Eq.laws c.args.value c.args.quantity c.self.inside.table.entries c.insert_new.new.self.entries c.self.inside.len c.self.invariant c.insert_new.ensures.counted (omega arith)
+    (new_occurrences g.met.T.Eq.laws c.args.value c.args.quantity c.self.inside.table.entries c.insert_new.new.self.entries c.self.invariant.counted none c.in_ok-insert_new.ensures.inserted)
+
+pub returns-clause-added : goal.returns-clause-added
+returns-clause-added g c =
+    let none : count g.T.PartialEq.eq c.args.value (occurrences c.self.inside.table.entries) ≡ 0 = rw (← c.self.view_is) at c.requires.absent in
+    rw (← c.self.view_is) (record {
+      means = new_occurrences g.met.T.Eq.laws c.args.value c.args.quantity c.self.inside.table.entries c.insert_new.new.self.entries c.self.invariant.counted none c.in_ok-insert_new.ensures.inserted;
+      hasher = c.insert_new.ensures.hasher;
+      bag = bag_from_tally g.met.T.Eq.laws _ _ (invariant_of-self-2 g c);
+    })

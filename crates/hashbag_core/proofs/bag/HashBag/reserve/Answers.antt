@@ -1,0 +1,32 @@
+use Rattle.std.proofs.Common.{◌+◌, ◌<◌, length, arith}
+use Rattle.std.proofs.lemmas.Bool.{false≢true}
+use Rattle.hashbag_table.specs.declared.table.TheConstants.{MOST_VALUES}
+use Rattle.hashbag_core.specs.Bag.{occurrences}
+use Rattle.hashbag_core.specs.Occurrences.{distinct_count}
+use Rattle.hashbag_core.proofs.OccurrenceLemmas.{bag_from_tally, occurrences_rearranged, tally_rearranged}
+use Rattle.hashbag_core.proofs.DistinctLemmas.{distinct_count-occurrences}
+use Rattle.hashbag_core.proofs.bag.HashBag.reserve.Goals as goal
+
+pub returns-in_err-reserve-clause-kept : goal.returns-in_err-reserve-clause-kept
+returns-in_err-reserve-clause-kept g c = rw (← c.self.view_is) (record {
+  means = occurrences_rearranged _ _ c.reserve.ensures.entries;
+  hasher = c.reserve.ensures.hasher;
+  bag = bag_from_tally g.met.T.Eq.laws _ _ (tally_rearranged g.met.T.Eq.laws _ _ _ c.self.invariant c.reserve.ensures.counted c.reserve.ensures.entries);
+})
+
+pub invariant_of-self-2 : goal.invariant_of-self-2
+invariant_of-self-2 g c = tally_rearranged g.met.T.Eq.laws _ _ _ c.self.invariant c.reserve.ensures.counted c.reserve.ensures.entries
+
+pub returns-clause-kept : goal.returns-clause-kept
+returns-clause-kept g c = rw (← c.self.view_is) (record {
+  means = occurrences_rearranged _ _ c.reserve.ensures.entries;
+  hasher = c.reserve.ensures.hasher;
+  bag = bag_from_tally g.met.T.Eq.laws _ _ (invariant_of-self-2 g c);
+})
+
+pub returns-clause-beyond : goal.returns-clause-beyond
+returns-clause-beyond g c = λ some more.
+    let same = distinct_count-occurrences g.met.T.Eq.laws c.self.inside.table.entries c.self.invariant.counted in
+    let much : MOST_VALUES < distinct_count g.T.PartialEq.eq (occurrences c.self.inside.table.entries) + c.args.n = rw (← c.self.view_is) at more in
+    let many : MOST_VALUES < length c.self.inside.table.entries + c.args.n = omega arith in
+    absurd (false≢true (c.in_ok-reserve.ensures.beyond some many))

@@ -1,0 +1,22 @@
+use Rattle.hashbag_core.proofs.RetainLemmas.{total_fits, tally_retained, is_retained}
+use Rattle.hashbag_core.proofs.WalkLemmas.{set_walk_of_bag}
+use Rattle.hashbag_core.proofs.bag.HashBag.retain.Goals as goal
+
+pub retain-self-inside-requires-clause-asks : goal.retain-self-inside-requires-clause-asks
+retain-self-inside-requires-clause-asks g c = λ walk order.
+    let asks = rw (← c.self.view_is) at c.requires.asks in
+    asks walk (set_walk_of_bag g.met.T.Eq.laws c.self.inside.table.hasher c.self.inside.table.entries walk c.self.inside.len c.self.invariant order)
+
+pub retain-self-inside-requires-clause-fits : goal.retain-self-inside-requires-clause-fits
+retain-self-inside-requires-clause-fits g c = total_fits g.met.T.Eq.laws g.F.FnMut c.args.f c.self.inside.table.entries c.self.inside.table.entries c.self.inside.len c.self.invariant
+
+pub invariant_of-self : goal.invariant_of-self
+invariant_of-self g c =
+    let done = c.retain-self-inside.ensures in
+    tally_retained g.met.T.Eq.laws g.F.FnMut c.args.f c.self.inside.table.entries c.retain-self-inside.new.self.entries c.self.inside.len c.self.invariant done.counted done.kept c.retain-self-inside.result done.total
+
+pub returns : goal.returns
+returns g c =
+    let done = c.retain-self-inside.ensures in
+    rw (← c.self.view_is) (is_retained g.met.T.Eq.laws g.F.FnMut c.args.f c.self.inside.table.entries c.retain-self-inside.new.self.entries c.self.inside.len c.self.invariant done.counted done.kept
+    c.self.inside.table.hasher c.retain-self-inside.new.self.hasher c.retain-self-inside.result done.total done.hasher)

@@ -1,0 +1,29 @@
+use Rattle.std.proofs.Common.{◌+◌, ◌-◌, ◌≤◌, ℕ, length, arith, sym, ◌∙◌, subst}
+use Rattle.hashbag_core.specs.Bag.{occurrences, IsTallied}
+use Rattle.hashbag_core.specs.Occurrences.{greatest_total}
+use Rattle.hashbag_core.proofs.OccurrenceLemmas.{bag_from_tally, count_occurrences, tally_set}
+use Rattle.hashbag_core.proofs.bag.HashBag.set_count.Goals as goal
+
+pub set_or_remove-requires-clause-present : goal.set_or_remove-requires-clause-present
+set_or_remove-requires-clause-present g c =
+    let before = (rw (← c.self.view_is) at c.requires.before) ∙ count_occurrences g.met.T.Eq.laws c.args.value.now c.self.inside.table.entries c.self.invariant.counted.distinct in
+    let some = c.requires.present in
+    omega arith
+
+pub invariant_of-self : goal.invariant_of-self
+invariant_of-self g c =
+    let es = c.self.inside.table.entries in
+    let v = c.args.value.now in
+    let before = (rw (← c.self.view_is) at c.requires.before) ∙ count_occurrences g.met.T.Eq.laws v es c.self.invariant.counted.distinct in
+    let some = c.requires.present in
+    let sum = c.self.invariant.sum in
+    let fits : length (occurrences es) - c.args.before + c.args.n ≤ greatest_total = rw (← c.self.view_is) at c.requires.fits in
+    subst (λ (k : ℕ). IsTallied g.T.PartialEq.eq c.set_or_remove.new.table.entries (c.self.inside.len - k + c.args.n)) (sym before)
+    (tally_set g.met.T.Eq.laws v c.args.n es c.set_or_remove.new.table.entries c.self.inside.len c.self.invariant c.set_or_remove.ensures.counted (omega arith) (omega arith) c.set_or_remove.ensures.set)
+
+pub returns : goal.returns
+returns g c = rw (← c.self.view_is) (record {
+  means = c.set_or_remove.ensures.set;
+  hasher = c.set_or_remove.ensures.hasher;
+  bag = bag_from_tally g.met.T.Eq.laws _ _ (invariant_of-self g c);
+})

@@ -1,0 +1,59 @@
+use Rattle.std.proofs.Common.{◌≡◌, ◌-◌, ℕ, None, arith, sym, ◌∙◌, subst}
+use Rattle.hashbag_core.specs.Bag.{occurrences, IsTallied}
+use Rattle.hashbag_core.specs.Occurrences.{count}
+use Rattle.hashbag_core.proofs.OccurrenceLemmas.{bag_from_tally, tally_less, count_occurrences, count_of_entry, count_in_tally, less_all_occurrences}
+use Rattle.hashbag_core.proofs.TakeLemmas.{stored_occurrences}
+use Rattle.hashbag_core.proofs.bag.HashBag.take_all.Goals as goal
+
+-- all that were there are taken
+pub invariant_of-self : goal.invariant_of-self
+invariant_of-self g c =
+    let es = c.self.inside.table.entries in
+    let v = c.args.value.now in
+    let none = count_of_entry g.met.T.Eq.laws v es None c.in_err-instance.ensures.taken in
+    subst (λ (k : ℕ). IsTallied g.T.PartialEq.eq c.remove.new.self.entries k) (let same : c.self.inside.len - 0 ≡ c.self.inside.len = omega arith in same)
+    (tally_less g.met.T.Eq.laws v (count g.T.PartialEq.eq v (occurrences es)) 0 es c.remove.new.self.entries c.self.inside.len c.self.invariant (omega arith) c.remove.ensures.counted
+    (less_all_occurrences g.met.T.Eq.laws v _ es _ c.self.invariant.counted (omega arith) c.remove.ensures.left))
+
+pub returns-in_err-instance-clause-taken : goal.returns-in_err-instance-clause-taken
+returns-in_err-instance-clause-taken g c = rw (← c.self.view_is) (c.from_residual.ensures ∙ c.in_err-instance.ensures.taken ∙ sym (stored_occurrences g.met.T.Eq.laws c.args.value.now _ c.self.invariant.counted))
+
+pub returns-in_err-instance-clause-left : goal.returns-in_err-instance-clause-left
+returns-in_err-instance-clause-left g c =
+    let es = c.self.inside.table.entries in
+    let v = c.args.value.now in
+    let same = count_occurrences g.met.T.Eq.laws v es c.self.invariant.counted.distinct in
+    rw (← c.self.view_is) (record {
+      means = less_all_occurrences g.met.T.Eq.laws v _ es _ c.self.invariant.counted (omega arith) c.remove.ensures.left;
+      hasher = c.remove.ensures.hasher;
+      bag = bag_from_tally g.met.T.Eq.laws _ _ (invariant_of-self g c);
+    })
+
+pub overflow_sub-self : goal.overflow_sub-self
+overflow_sub-self g c =
+    let n = count_of_entry g.met.T.Eq.laws c.args.value.now c.self.inside.table.entries _ c.in_ok-instance.ensures.taken in
+    let few = count_in_tally g.met.T.Eq.laws c.args.value.now c.self.inside.table.entries c.self.inside.len c.self.invariant in
+    omega arith
+
+pub invariant_of-self-2 : goal.invariant_of-self-2
+invariant_of-self-2 g c =
+    let es = c.self.inside.table.entries in
+    let v = c.args.value.now in
+    let n = count_of_entry g.met.T.Eq.laws v es _ c.in_ok-instance.ensures.taken in
+    let same = count_occurrences g.met.T.Eq.laws v es c.self.invariant.counted.distinct in
+    tally_less g.met.T.Eq.laws v (count g.T.PartialEq.eq v (occurrences es)) c.in_ok-instance.count es c.remove.new.self.entries c.self.inside.len c.self.invariant (omega arith) c.remove.ensures.counted
+    (less_all_occurrences g.met.T.Eq.laws v _ es _ c.self.invariant.counted (omega arith) c.remove.ensures.left)
+
+pub returns-clause-taken : goal.returns-clause-taken
+returns-clause-taken g c = rw (← c.self.view_is) (c.in_ok-instance.ensures.taken ∙ sym (stored_occurrences g.met.T.Eq.laws c.args.value.now _ c.self.invariant.counted))
+
+pub returns-clause-left : goal.returns-clause-left
+returns-clause-left g c =
+    let es = c.self.inside.table.entries in
+    let v = c.args.value.now in
+    let same = count_occurrences g.met.T.Eq.laws v es c.self.invariant.counted.distinct in
+    rw (← c.self.view_is) (record {
+      means = less_all_occurrences g.met.T.Eq.laws v _ es _ c.self.invariant.counted (omega arith) c.remove.ensures.left;
+      hasher = c.remove.ensures.hasher;
+      bag = bag_from_tally g.met.T.Eq.laws _ _ (invariant_of-self-2 g c);
+    })

@@ -1,0 +1,26 @@
+use Rattle.std.proofs.Common.{arith, sym, ◌∙◌}
+use Rattle.hashbag_core.proofs.OccurrenceLemmas.{bag_from_tally, tally_less, count_in_tally, count_occurrences, fewer_occurrences}
+use Rattle.hashbag_core.proofs.bag.HashBag.take_up_to.Goals as goal
+
+pub overflow_sub-self : goal.overflow_sub-self
+overflow_sub-self g c =
+    let few = count_in_tally g.met.T.Eq.laws c.args.value.now _ _ c.self.invariant in
+    let before = c.take-before.ensures.before in
+    let one = c.min.ensures in
+    omega arith
+
+pub invariant_of-self : goal.invariant_of-self
+invariant_of-self g c =
+    let before = c.take-before.ensures.before in
+    let one = c.min.ensures in
+    tally_less g.met.T.Eq.laws c.args.value.now c.args.quantity c.min.result _ _ _ c.self.invariant (omega arith) c.take-before.ensures.counted (fewer_occurrences g.met.T.Eq.laws c.args.value.now c.args.quantity _ _ c.self.invariant.counted c.take-before.ensures.taken)
+
+pub returns-clause-before : goal.returns-clause-before
+returns-clause-before g c = rw (← c.self.view_is) (c.take-before.ensures.before ∙ sym (count_occurrences g.met.T.Eq.laws c.args.value.now _ c.self.invariant.counted.distinct))
+
+pub returns-clause-removed : goal.returns-clause-removed
+returns-clause-removed g c = rw (← c.self.view_is) (record {
+  means = fewer_occurrences g.met.T.Eq.laws c.args.value.now c.args.quantity _ _ c.self.invariant.counted c.take-before.ensures.taken;
+  hasher = c.take-before.ensures.hasher;
+  bag = bag_from_tally g.met.T.Eq.laws _ _ (invariant_of-self g c);
+})

@@ -1,0 +1,49 @@
+use Rattle.std.proofs.Common.{refl, arith}
+use Rattle.hashbag_core.proofs.OccurrenceLemmas.{count_le}
+use Rattle.hashbag_core.proofs.entry.Entry.and_modify.Goals as goal
+
+pub returns-then-n-len : goal.returns-then-n-len
+returns-then-n-len g c =
+    let before = c.contains-before.ensures.count in
+    let some = c.if-before-eq0.false in
+    let long = c.len.ensures.len in
+    let past = c.if-n-len.true in
+    let few = count_le g.met.T.Eq.laws c.args.self.value c.args.self.bag.now.items in
+    let fits = c.len.type_inv in (
+      (refl, λ _. tt, refl),
+      record {
+        same_bag = tt;
+        same_value = tt;
+        changes = tt;
+        too_many = refl;
+        passes = record {
+          present = omega arith;
+          number = c.f.new.arg2;
+          left = record { shown = _; shows = c.contains-before.ensures.count; left = _; met = c.f.ensures; leaves = refl };
+          passes = omega arith;
+        };
+        stays = tt;
+      },
+    )
+
+pub returns : goal.returns
+returns g c =
+    let before = c.contains-before.ensures.count in
+    let some = c.if-before-eq0.false in
+    let long = c.len.ensures.len in
+    let past = c.if-n-len.false in
+    let few = count_le g.met.T.Eq.laws c.args.self.value c.args.self.bag.now.items in
+    let fits = c.len.type_inv in (
+      (refl, λ w. refl, tt),
+      record {
+        same_bag = refl;
+        same_value = refl;
+        changes = record {
+          absent = λ none. absurd (omega arith);
+          present = λ _. (c.f.new.arg2, record { shown = _; shows = c.contains-before.ensures.count; left = _; met = c.f.ensures; leaves = refl }, omega arith, c.set_count.ensures);
+        };
+        too_many = tt;
+        passes = tt;
+        stays = tt;
+      },
+    )

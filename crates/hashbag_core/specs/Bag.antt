@@ -1,0 +1,34 @@
+-- What contracts see of a `HashBag`.
+use Rattle.std.specs.Prelude.{◌≡◌, ℕ, ◌≤◌, Bool, List, length, refl, replicate, flat_map}
+use Rattle.std.specs.Coded.{Coded, code_by, coded×, coded_list}
+use Rattle.std.specs.List.Sorted.{IsPermutation}
+use Rattle.hashbag_table.specs.Entries.{IsCounted}
+use Rattle.hashbag_core.specs.Occurrences.{greatest_total, IsBag}
+
+-- its occurrences, in an order that means nothing, and the state that hashes its values
+pub record Bag (T S : Type 0) : Type 0 where
+  pub items : List T
+  pub hasher : S
+
+abbrev pub bag_code : {T S : Type 0} → Coded T → Coded S → Coded (Bag T S)
+bag_code t s = code_by (List _ × _) (coded× (coded_list t) s) (λ m. (m.items, m.hasher)) (λ p. record { items = p.0; hasher = p.1 }) (λ _. refl)
+
+-- the bag means the list X: its occurrences are a rearrangement of X
+abbrev pub Means : {T S : Type 0} → Bag T S → List T → Type 0
+Means bag X = IsPermutation X bag.items
+
+-- `after` means X, under the state of `before`
+pub record IsBagOf {T S : Type 0} (eq : T → T → Bool) (before : Bag T S) (X : List T) (after : Bag T S) : Type 0 where
+  pub means : Means after X
+  pub hasher : after.hasher ≡ before.hasher
+  pub bag : IsBag eq after.items
+
+-- the occurrences of a map of counts: each entry's instance as often as its count
+abbrev pub occurrences : {T : Type 0} → List (T × ℕ) → List T
+occurrences es = flat_map (λ e. replicate e.1 e.0) es
+
+-- what every bag keeps: its total is the sum of its counts and fits, and its entries are a map of counts
+pub record IsTallied {T : Type 0} (eq : T → T → Bool) (es : List (T × ℕ)) (total : ℕ) : Type 0 where
+  pub sum : total ≡ length (occurrences es)
+  pub fits : total ≤ greatest_total
+  pub counted : IsCounted eq es

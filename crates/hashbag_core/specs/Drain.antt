@@ -1,0 +1,26 @@
+-- What a `Drain` still gives, and what becomes of the bag that it empties.
+use Rattle.std.specs.Prelude.{ℕ, List, [], Bool}
+use Rattle.std.specs.Borrow.{Fml, GName, RattleType, MutBor, Array, usize, follows}
+use Rattle.std.specs.declared.hash.Hasher as hasher
+use Rattle.std.specs.declared.hash.BuildHasher as builder
+use Rattle.hashbag_table.specs.DrainWalk as table
+use Rattle.hashbag_core.specs.declared.iters.Drain.{Drain}
+use Rattle.hashbag_core.specs.contracts.bag.HashBag.{the_row}
+use Rattle.hashbag_core.specs.Bag.{Bag}
+
+module _ {T : Type 0} where
+  -- the values with their counts that are still to come
+  abbrev pub drain_rest : Drain T → List (T × ℕ)
+  drain_rest s = table.drain_rest s.drained
+
+  -- the name of its loan of the bag
+  abbrev pub drain_name : Drain T → GName
+  drain_name s = table.drain_name s.drained
+
+-- the bag with no occurrences, under the same state
+abbrev pub emptied : {T S : Type 0} → Bag T S → Bag T S
+emptied b = record { items = []; hasher = b.hasher }
+
+-- once the loan named r has ended, the bag behind b is empty
+abbrev pub follows_drain : (T S H : RattleType) (g : record { eq : T.Denot → T.Denot → Bool; hash_input : T.Denot → List (List ℕ) }) (s : builder.Ghosts S.Denot H.Denot) (w : hasher.Ghosts H.Denot) → MutBor (Bag T.Denot S.Denot) → GName → Fml
+follows_drain T S H g s w b r = follows (the_row T S H (record { eq = g.eq }) (record { hash_input = g.hash_input }) s w) (Array usize 0) b.ghost_name r (λ _. emptied b.now)

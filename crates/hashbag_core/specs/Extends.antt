@@ -1,0 +1,58 @@
+-- What the extends and collections make of the items that come.
+use Rattle.std.specs.Prelude.{◌≡◌, ℕ, ◌+◌, ◌<◌, ◌≤◌, Bool, List, [], ◌∷◌, length, Option, Some}
+use denote.Ref.{Bor}
+use Rattle.std.specs.List.{AllZip}
+use Rattle.std.specs.Iterator.{Drains, YieldsThen}
+use Rattle.hashbag_core.specs.declared.bag.BagError.{BagError}
+use Rattle.hashbag_core.specs.declared.bag.BagError.TheVariants.{Memory, TooMany}
+use Rattle.hashbag_core.specs.Occurrences.{greatest_total, count, add}
+
+-- the pair of a value and a number as which an item goes in: a value by itself once, and a pair as it is
+abbrev pub Once : {T : Type 0} → T → T × ℕ → Type 0
+Once x p = p ≡ (x, 1)
+
+abbrev pub AsItIs : {T : Type 0} → T × ℕ → T × ℕ → Type 0
+AsItIs e p = p ≡ e
+
+-- as a clone of what is lent. With the number 0 nothing is cloned, and it doesn't matter which value goes in
+abbrev pub CloneOnce : {T : Type 0} → (T → T → Type 0) → Bor T → T × ℕ → Type 0
+CloneOnce is_clone x p = is_clone x.now p.0 × (p.1 ≡ 1)
+
+abbrev pub CloneAsOften : {T : Type 0} → (T → T → Type 0) → Bor T × ℕ → T × ℕ → Type 0
+CloneAsOften is_clone e p = (0 < e.1 → is_clone e.0.now p.0) × (p.1 ≡ e.1)
+
+-- n clones may be refused to a bag that means X: the total would pass its end, or else memory is asked for
+abbrev pub RefusesClones : {T : Type 0} → List T → ℕ → BagError → Type 0
+RefusesClones X n TooMany = greatest_total < length X + n
+RefusesClones X n Memory = (length X + n ≤ greatest_total) × (0 < n)
+
+module _ {T : Type 0} (eq : T → T → Bool) where
+  -- X with each value added in turn, as often as the number beside it
+  abbrev pub add_all : List T → List (T × ℕ) → List T
+  add_all X [] = X
+  add_all X (p ∷ pairs) = add_all (add eq p.0 p.1 X) pairs
+
+  -- n of v may be: then memory is asked for only by a value that is absent
+  abbrev pub Refuses : List T → T → ℕ → BagError → Type 0
+  Refuses X v n TooMany = greatest_total < length X + n
+  Refuses X v n Memory = (length X + n ≤ greatest_total) × (0 < n) × (count eq v X ≡ 0)
+
+  module _ {I A : Type 0} (steps : I → Option A → I → Type 0) (Goes : A → T × ℕ → Type 0) where
+    -- all items that an iterator gave went in, one after another, and what X became of it is what is left
+    pub record Extends (it : I) (X : List T) (Left : List T → Type 0) : Type 0 where
+      pub items : List A
+      pub came : Drains steps it items
+      pub pairs : List (T × ℕ)
+      pub went : AllZip Goes items pairs
+      pub left : Left (add_all X pairs)
+
+    -- the items before one that was refused went in, and what X became of them is what is left
+    pub record ExtendsUpTo (it : I) (X : List T) (Left : List T → Type 0) (Why : List T → A → Type 0) : Type 0 where
+      pub items : List A
+      pub refused : A
+      pub rest : I
+      pub came : YieldsThen steps it items (Some refused) rest
+      pub pairs : List (T × ℕ)
+      pub went : AllZip Goes items pairs
+      pub left : Left (add_all X pairs)
+      pub why : Why (add_all X pairs) refused

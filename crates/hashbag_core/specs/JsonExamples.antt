@@ -1,0 +1,135 @@
+-- The definitions of trees compute. Items here are whole numbers below 2 ^ 64, with the end of the total at 9.
+use Rattle.std.specs.Prelude.{◌≡◌, ℕ, ◌==◌, ℤ, Bool, List, [], ◌∷◌, codes, Option, Some, None, is_some, refl}
+use Rattle.std.proofs.Common.{lit<}
+use Rattle.std.proofs.lemmas.List.Elements.{All-from_recursion}
+use Rattle.std.specs.Ordering.{nat_cmp}
+use Rattle.std.specs.List.{IsDistinct, Contains}
+use Rattle.std.specs.List.Sorted.{IsStrictlySortedBy}
+use Rattle.serde_json.specs.Data.{Data, null, number, unsigned, negative, string, array}
+use Rattle.serde_json.specs.View.{items_of}
+use Rattle.hashbag_core.specs.declared.json.JsonError.{JsonError}
+use Rattle.hashbag_core.specs.declared.json.JsonError.TheVariants.{NotAnArray, NotAPair, BadCount, BadItem, TooMany}
+use Rattle.hashbag_core.specs.Extends.{add_all}
+use Rattle.hashbag_core.specs.JsonFaults.{fault, MayEnd, first_fault}
+use Rattle.hashbag_core.specs.JsonItems.{u64_of, i64_of}
+use Rattle.hashbag_core.specs.JsonTrees.{IsPair, IsReading, IsTree}
+
+abbrev same : ℕ → ℕ → Bool
+same a b = a == b
+
+abbrev tree_of : ℕ → Data
+tree_of n = number (unsigned n)
+
+abbrev has_item : Data → Bool
+has_item d = is_some (u64_of d)
+
+abbrev reads : Data → ℕ → Type 0
+reads d n = u64_of d ≡ Some n
+
+abbrev list : List Data → Data
+list ds = array (items_of ds)
+
+abbrev pair : Data → Data → Data
+pair d e = list (d ∷ e ∷ [])
+
+abbrev fault_of : List Data → Option JsonError
+fault_of ds = fault 9 has_item (list ds)
+
+abbrev text : Data
+text = string (codes "a")
+
+-- ---- numbers
+
+negative_is_no_u64 : u64_of (number (negative (ℤ.negsuc 0))) ≡ None
+negative_is_no_u64 = refl
+
+negative_is_i64 : i64_of (number (negative (ℤ.negsuc 0))) ≡ Some (ℤ.negsuc 0)
+negative_is_i64 = refl
+
+text_is_no_number : u64_of text ≡ None
+text_is_no_number = refl
+
+-- ---- faults
+
+no_array : fault 9 has_item null ≡ Some NotAnArray
+no_array = refl
+
+empty : fault_of [] ≡ None
+unfolding first_fault
+empty = refl
+
+no_pair : fault_of (null ∷ []) ≡ Some (NotAPair 0)
+unfolding first_fault
+no_pair = refl
+
+three_are_no_pair : fault_of (list (tree_of 1 ∷ tree_of 1 ∷ tree_of 1 ∷ []) ∷ []) ≡ Some (NotAPair 0)
+unfolding first_fault
+three_are_no_pair = refl
+
+-- the count is judged before the item
+bad_count : fault_of (pair (tree_of 1) (tree_of 1) ∷ pair text null ∷ []) ≡ Some (BadCount 1)
+unfolding first_fault
+bad_count = refl
+
+-- the item is judged where the count is 0, and before the total
+bad_item : fault_of (pair text (tree_of 0) ∷ []) ≡ Some (BadItem 0)
+unfolding first_fault
+bad_item = refl
+
+bad_item_before_total : fault_of (pair (tree_of 1) (tree_of 9) ∷ pair text (tree_of 1) ∷ []) ≡ Some (BadItem 1)
+unfolding first_fault
+bad_item_before_total = refl
+
+too_many : fault_of (pair (tree_of 1) (tree_of 9) ∷ pair (tree_of 2) (tree_of 1) ∷ null ∷ []) ≡ Some (TooMany 1)
+unfolding first_fault
+too_many = refl
+
+just_enough : fault_of (pair (tree_of 1) (tree_of 9) ∷ pair (tree_of 2) (tree_of 0) ∷ []) ≡ None
+unfolding first_fault
+just_enough = refl
+
+-- memory may end a reading at the pair with which the total passes its end, for its item
+may_end : MayEnd 9 has_item (list (pair (tree_of 1) (tree_of 9) ∷ pair (tree_of 2) (tree_of 1) ∷ []))
+unfolding first_fault
+may_end = record {
+  before = pair (tree_of 1) (tree_of 9) ∷ [];
+  pair = pair (tree_of 2) (tree_of 1);
+  after = [];
+  array = refl;
+  good = refl;
+  asks = record { tree = tree_of 2; number = tree_of 1; count = 1; parts = refl; counted = refl; item = refl };
+}
+
+-- ---- readings and trees
+
+one_pair : IsPair reads (pair (tree_of 7) (tree_of 2)) (7, 2)
+one_pair = record { tree = tree_of 7; number = tree_of 2; parts = refl; item = refl; count = refl }
+
+reading : IsReading reads (list (pair (tree_of 7) (tree_of 2) ∷ [])) ((7, 2) ∷ [])
+reading = record { trees = pair (tree_of 7) (tree_of 2) ∷ []; array = refl; each = (one_pair, tt) }
+
+-- equal items add up, and a pair with the count 0 adds nothing
+read_in_turn : add_all same [] ((7, 2) ∷ (8, 0) ∷ (7, 1) ∷ []) ≡ 7 ∷ 7 ∷ 7 ∷ []
+read_in_turn = refl
+
+-- each value once, with its count, values rising
+tree : IsTree same nat_cmp tree_of (8 ∷ 7 ∷ 8 ∷ []) (list (pair (tree_of 7) (tree_of 1) ∷ pair (tree_of 8) (tree_of 2) ∷ []))
+unfolding IsDistinct IsStrictlySortedBy
+tree =
+    let in_values = Contains (7 ∷ 8 ∷ []) in
+    let seven : in_values 7 = (0, lit< tt, refl) in
+    let eight : in_values 8 = (1, lit< tt, refl) in
+    record {
+      pairs = (7, 1) ∷ (8, 2) ∷ [];
+      walk = record {
+        values = 7 ∷ 8 ∷ [];
+        each = record {
+          once = ((refl, tt), (tt, tt));
+          all = All-from_recursion in_values (8 ∷ 7 ∷ 8 ∷ []) (eight, (seven, (eight, tt)));
+          only = All-from_recursion (Contains (8 ∷ 7 ∷ 8 ∷ [])) (7 ∷ 8 ∷ []) ((1, lit< tt, refl), ((0, lit< tt, refl), tt));
+        };
+        counts = refl;
+      };
+      rising = ((refl, tt), (tt, tt));
+      is = refl;
+    }

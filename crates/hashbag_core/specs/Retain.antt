@@ -1,0 +1,17 @@
+-- What a closure that is asked how many of each value stay leaves of a bag.
+use Rattle.std.specs.Prelude.{ℕ, Bool, List}
+use denote.Ref.{Bor}
+use denote.Param.Members.{Mut}
+use Rattle.hashbag_table.specs.Asked.{AnswersInTurn, kept}
+use Rattle.hashbag_core.specs.Bag.{Bag, occurrences, IsBagOf}
+use Rattle.hashbag_core.specs.Walks.{IsSetWalkOf}
+
+-- f was asked along a set walk of the bag, at each value once with its count, each time as the call before left it. Each
+-- value has the lesser of its count and the answer
+pub record IsRetained {F T S : Type 0} (eq : T → T → Bool) (g : Mut F (Bor T × (ℕ × Unit {0})) ℕ) (f : F) (before after : Bag T S) : Type 0 where
+  pub walk : List (T × ℕ)
+  pub set_walk : IsSetWalkOf eq before walk
+  pub answers : List ℕ
+  pub last : F
+  pub asked : AnswersInTurn g f walk answers last
+  pub left : IsBagOf eq before (occurrences (kept walk answers)) after

@@ -1,0 +1,44 @@
+-- What the walks over a bag give in all, by the plain list X of its occurrences. The order of X means nothing, and so does
+-- the order in which a walk comes to the values.
+use Rattle.std.specs.Prelude.{◌≡◌, ℕ, ◌≤◌, Bool, List, length, sum_by, map, flat_map, replicate, All}
+use Rattle.std.specs.List.{IsDistinct, Contains}
+use Rattle.hashbag_core.specs.Bag.{Bag, Means, occurrences}
+use Rattle.hashbag_core.specs.Occurrences.{greatest_total, count, distinct_count}
+
+module _ {T : Type 0} (eq : T → T → Bool) where
+  -- ys names the values of X: no value twice, each by the very instance that occurs in X, and none that doesn't occur
+  pub record IsEach (X ys : List T) : Type 0 where
+    pub once : IsDistinct eq ys
+    pub all : All (λ x. Contains ys x) X
+    pub only : All (λ y. Contains X y) ys
+
+  -- W names the values of X, each beside its count
+  pub record IsSetWalk (X : List T) (W : List (T × ℕ)) : Type 0 where
+    pub values : List T
+    pub each : IsEach X values
+    pub counts : W ≡ map (λ v. (v, count eq v X)) values
+
+  -- W goes through the values of X and repeats each as often as it occurs, before it goes on to the next
+  pub record IsWalk (X W : List T) : Type 0 where
+    pub values : List T
+    pub each : IsEach X values
+    pub pieces : W ≡ flat_map (λ v. replicate (count eq v X) v) values
+
+  -- W is a walk of each list that the bag means, and such a list itself. So it is as long as the bag, and its items can be
+  -- counted
+  pub record IsWalkOf {S : Type 0} (bag : Bag T S) (W : List T) : Type 0 where
+    pub walk : (X : List T) → Means bag X → IsWalk X W
+    pub means : Means bag W
+    pub len : length W ≡ length bag.items
+    pub fits : length bag.items ≤ greatest_total
+
+  -- W is a set walk of each list that the bag means, and such a list itself once its counts are written out. So the counts
+  -- add up to the length of the bag, there are as many entries as distinct values and no more than occurrences, and all of
+  -- these can be counted
+  pub record IsSetWalkOf {S : Type 0} (bag : Bag T S) (W : List (T × ℕ)) : Type 0 where
+    pub walk : (X : List T) → Means bag X → IsSetWalk X W
+    pub means : Means bag (occurrences W)
+    pub total : sum_by (λ e. e.1) W ≡ length bag.items
+    pub distinct : length W ≡ distinct_count eq bag.items
+    pub few : length W ≤ length bag.items
+    pub fits : length bag.items ≤ greatest_total

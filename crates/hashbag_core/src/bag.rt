@@ -1,0 +1,481 @@
+//! `HashBag`: how often each of several values occurs.
+ghost use Rattle.std.specs.Borrow.{sem};
+ghost use Rattle.std.specs.Prelude.{◌≡◌, ◌≢◌, ◌+◌, ◌-◌, ◌<◌, ◌≤◌, ◌↔◌, [], All, true, length, option_map, IsTrue, IsOk, IfOk, IfErr, IsErrAnd, OnOk, OnErr};
+ghost use Rattle.std.specs.List.Sorted.{IsPermutation};
+ghost use Rattle.hashbag_table.specs.Asked.{MayAskInTurn};
+ghost use Rattle.hashbag_table.specs.Entries.{count_of, IsCounted, HasClones};
+ghost use Rattle.hashbag_core.specs.Bag.{occurrences};
+ghost use Rattle.hashbag_core.specs.Occurrences.{greatest_total, count, counted, stored, add, less, put, instance_or_itself, distinct_count, IsBag, SameCounts};
+ghost use Rattle.hashbag_core.specs.Extends.{Refuses};
+ghost use Rattle.hashbag_core.specs.Retain.{IsRetained};
+ghost use Rattle.hashbag_core.specs.Walks.{IsSetWalkOf};
+ghost use Rattle.hashbag_table.specs.declared.table.TheConstants.{MOST_VALUES};
+ghost use Rattle.hashbag_core.specs.declared.bag.BagError.TheVariants.{Memory};
+
+mod equality;
+mod extends;
+
+use hashbag_table::Table;
+use std::alloc::{AllocError, Global};
+use std::hash::{BuildHasher, BuildHasherDefault, FoldHasher, Hash};
+use std::marker::Model;
+use thiserror::Error;
+
+/// Why a call was refused.
+#[derive(Clone, Copy, Debug, PartialEq, Eq, Error)]
+pub enum BagError {
+    /// Memory was refused.
+    #[error("no memory")]
+    Memory,
+    /// The total would pass `usize::MAX`.
+    #[error("total past its end")]
+    TooMany,
+}
+
+impl BagError {
+    /// The number by which programs report the error: 1 for `Memory`, 2 for `TooMany`.
+    pub fn number(&self) -> u8
+        ensures memory { self.now ≡ BagError.Memory → result ≡ 1 }
+        ensures too_many { self.now ≡ BagError.TooMany → result ≡ 2 }
+    {
+        match self {
+            BagError::Memory => 1,
+            BagError::TooMany => 2,
+        }
+    }
+}
+
+impl From<AllocError> for BagError {
+    ghost from_gives = { λ _ e. e ≡ Memory };
+
+    fn from(_e: AllocError) -> BagError {
+        BagError::Memory
+    }
+}
+
+/// The state that hashes the values of a bag where no other is given. Its keys are fixed, so a bag hashes alike in every
+/// run of a program.
+pub type FixedState = BuildHasherDefault<FoldHasher>;
+
+/// A bag of values, also called a counted multiset: how often each distinct value occurs.
+///
+/// Values that `==` calls equal are one value, stored once, as the instance that came first. A count is a `usize` of
+/// occurrences and at least 1 for a value that is there, and the total of all counts is a `usize` too.
+///
+/// Contracts see a bag as the plain list of its occurrences, in an order that means nothing, and the state that hashes
+/// its values.
+#[derive(Drop)]
+pub struct HashBag<T: Eq + Hash + Drop, S: BuildHasher + Drop = FixedState> {
+    pub(crate) table: Table<T, S>,
+    pub(crate) len: usize,
+}
+
+impl<T: Eq + Hash + Drop, S: BuildHasher + Drop> Model for HashBag<T, S> {
+    ghost use Rattle.hashbag_core.specs.Bag.{Bag, bag_code, occurrences, IsTallied};
+
+    ghost Value = { Bag T S };
+
+    ghost coded = { bag_code T.code S.code };
+
+    ghost view = { λ a. record { items = occurrences a.table.entries; hasher = a.table.hasher } };
+
+    ghost invariant = { λ a. IsTallied T.eq a.table.entries a.len };
+}
+
+// Gives a value that is there another count, and takes it out where that is 0.
+fn set_or_remove<T: Eq + Hash + Drop, S: BuildHasher + Drop>(
+    table: &mut Table<T, S>,
+    value: &T,
+    n: usize,
+)
+    requires counted { IsCounted T.eq table.old.entries }
+    requires present { 0 < count_of T.eq value.now table.old.entries }
+    ensures set { IsPermutation (put T.eq (instance_or_itself T.eq value.now (occurrences table.old.entries)) n (occurrences table.old.entries)) (occurrences table.new.entries) }
+    ensures hasher { table.new.hasher ≡ table.old.hasher }
+    ensures counted { IsCounted T.eq table.new.entries }
+{
+    if n == 0 {
+        let _ = table.remove(value);
+    } else {
+        table.set_count(value, n);
+    }
+}
+
+impl<T: Eq + Hash + Drop> HashBag<T, FixedState> {
+    /// An empty bag, whose values are hashed with fixed keys. It takes no memory.
+    pub fn new(alloc: Global) -> HashBag<T, FixedState>
+        ensures empty { result.items ≡ [] }
+        ensures hasher { ⟦<FixedState as Default>⟧.is_default result.hasher }
+    {
+        HashBag::with_hasher(alloc, FixedState::new())
+    }
+
+    /// An empty bag with room for `n` distinct values, which are hashed with fixed keys.
+    ///
+    /// It answers `Memory` where memory is refused, and for more than 3 * 2^57 distinct values before memory is asked for.
+    /// With `n` 0 it takes no memory and succeeds.
+    pub fn with_capacity(alloc: Global, n: usize) -> Result<HashBag<T, FixedState>, BagError>
+        ensures empty { IfOk result (λ bag. bag.items ≡ []) }
+        ensures hasher { IfOk result (λ bag. ⟦<FixedState as Default>⟧.is_default bag.hasher) }
+        ensures none { n ≡ 0 → IsOk result }
+        ensures beyond { MOST_VALUES < n → result ≡ Err BagError.Memory }
+        ensures memory { OnErr result (result ≡ Err BagError.Memory) }
+    {
+        HashBag::with_capacity_and_hasher(alloc, n, FixedState::new())
+    }
+}
+
+impl<T: Eq + Hash + Drop, S: BuildHasher + Drop> HashBag<T, S> {
+    ghost use Rattle.hashbag_core.specs.Bag.{IsBagOf};
+    ghost use Rattle.hashbag_core.specs.Lending.{ends_meaning};
+
+    /// An empty bag, whose values `hasher` hashes. It takes no memory.
+    pub fn with_hasher(alloc: Global, hasher: S) -> HashBag<T, S>
+        ensures empty { result.items ≡ [] }
+        ensures hasher { result.hasher ≡ hasher }
+    {
+        HashBag {
+            table: Table::new(alloc, hasher),
+            len: 0,
+        }
+    }
+
+    /// An empty bag with room for `n` distinct values, which `hasher` hashes.
+    ///
+    /// It answers `Memory` where memory is refused, and for more than 3 * 2^57 distinct values before memory is asked for.
+    /// With `n` 0 it takes no memory and succeeds.
+    pub fn with_capacity_and_hasher(
+        alloc: Global,
+        n: usize,
+        hasher: S,
+    ) -> Result<HashBag<T, S>, BagError>
+        ensures empty { IfOk result (λ bag. bag.items ≡ []) }
+        ensures hasher { IfOk result (λ bag. bag.hasher ≡ hasher) }
+        ensures none { n ≡ 0 → IsOk result }
+        ensures beyond { MOST_VALUES < n → result ≡ Err BagError.Memory }
+        ensures memory { OnErr result (result ≡ Err BagError.Memory) }
+    {
+        let table = Table::with_room(alloc, hasher, n)?;
+        Ok(HashBag { table, len: 0 })
+    }
+
+    /// How many distinct values the bag can have before it grows. It is at least the number of those that are there.
+    pub fn capacity(&self) -> usize
+        ensures { distinct_count T.eq self.now.items ≤ result }
+    {
+        self.table.capacity()
+    }
+
+    /// The number of occurrences: the sum of all counts.
+    pub fn len(&self) -> usize
+        ensures len { result ≡ length self.now.items }
+        ensures bag { IsBag T.eq self.now.items }
+    {
+        self.len
+    }
+
+    /// The number of distinct values.
+    pub fn set_len(&self) -> usize
+        ensures { result ≡ distinct_count T.eq self.now.items }
+    {
+        self.table.set_len()
+    }
+
+    /// Whether there are no occurrences.
+    pub fn is_empty(&self) -> bool
+        ensures { IsTrue result ↔ (self.now.items ≡ []) }
+    {
+        self.len == 0
+    }
+
+    /// The state that hashes the values.
+    pub fn hasher(&self) -> &S
+        ensures { result.now ≡ self.now.hasher }
+    {
+        self.table.hasher()
+    }
+
+    /// How often a value occurs, 0 where it is absent. The value is hashed once.
+    pub fn contains(&self, value: &T) -> usize
+        ensures count { result ≡ count T.eq value.now self.now.items }
+        ensures bag { IsBag T.eq self.now.items }
+    {
+        match self.table.get(value) {
+            Some((_, count)) => count,
+            None => 0,
+        }
+    }
+
+    /// The stored instance of a value and how often it occurs, or `None` where it is absent. The value is hashed once.
+    pub fn get(&self, value: &T) -> Option<(&T, usize)>
+        ensures found { option_map (λ e. (e.0.now, e.1)) result ≡ stored T.eq value.now self.now.items }
+        ensures bag { IsBag T.eq self.now.items }
+    {
+        self.table.get(value)
+    }
+
+    /// Adds one occurrence of a value, and answers how many there were: [`HashBag::insert_many`] with 1.
+    pub fn insert(&mut self, value: T) -> Result<usize, BagError>
+        requires { length self.old.items + 1 ≤ greatest_total }
+        ensures before { IfOk result (λ before. before ≡ count T.eq value self.old.items) }
+        ensures added { OnOk result (IsBagOf T.eq self.old (add T.eq value 1 self.old.items) self.new) }
+
+        // Only memory can be refused, and only to a value that is absent.
+        ensures memory { OnErr result (result ≡ Err BagError.Memory) }
+        ensures absent { OnErr result (count T.eq value self.old.items ≡ 0) }
+        ensures err { OnErr result (self.new ≡ self.old) }
+    {
+        self.insert_many(value, 1)
+    }
+
+    /// Adds `n` occurrences of a value, and answers how many there were.
+    ///
+    /// The caller sees to it that the total fits. A stored instance stays, and the value handed in is dropped. A value that
+    /// is there is hashed once, takes no memory and is never refused, and neither is an insertion of 0, which changes
+    /// nothing. A value that is absent may be refused for memory: the bag is then unchanged, and the value is dropped.
+    pub fn insert_many(&mut self, value: T, n: usize) -> Result<usize, BagError>
+        requires { length self.old.items + n ≤ greatest_total }
+        ensures before { IfOk result (λ before. before ≡ count T.eq value self.old.items) }
+        ensures added { OnOk result (IsBagOf T.eq self.old (add T.eq value n self.old.items) self.new) }
+        ensures none { n ≡ 0 → self.new ≡ self.old }
+
+        // Only memory can be refused, and only to some occurrences of a value that is absent.
+        ensures memory { OnErr result (result ≡ Err BagError.Memory) }
+        ensures absent { OnErr result (count T.eq value self.old.items ≡ 0) }
+        ensures some { OnErr result (0 < n) }
+        ensures err { OnErr result (self.new ≡ self.old) }
+    {
+        if n == 0 {
+            return Ok(self.contains(&value));
+        }
+        let before = self.table.add(value, n)?;
+        self.len += n;
+        Ok(before)
+    }
+
+    /// Stores a value with the count 1 in the place of all occurrences that equal it, and answers how many there were. The
+    /// instance that was stored is dropped.
+    ///
+    /// The caller sees to it that the total fits. Memory may be refused, to a value that is there too: the bag is then
+    /// unchanged, and the value handed in is dropped.
+    pub fn replace(&mut self, value: T) -> Result<usize, BagError>
+        requires { length self.old.items - count T.eq value self.old.items + 1 ≤ greatest_total }
+        ensures before { IfOk result (λ before. before ≡ count T.eq value self.old.items) }
+        ensures put { OnOk result (IsBagOf T.eq self.old (put T.eq value 1 self.old.items) self.new) }
+        ensures memory { OnErr result (result ≡ Err BagError.Memory) }
+        ensures err { OnErr result (self.new ≡ self.old) }
+    {
+        let before = self.contains(&value);
+        if before == 0 {
+            self.insert_new(value, 1)?;
+            return Ok(0);
+        }
+        self.table.put_instance(value)?;
+        self.len = self.len - before + 1;
+        Ok(before)
+    }
+
+    /// Takes one occurrence of a value, if there is one, and answers how many there were. With the last occurrence the
+    /// stored instance is dropped.
+    ///
+    /// It takes no memory. A value that stays is hashed once.
+    pub fn remove(&mut self, value: &T) -> usize
+        ensures before { result ≡ count T.eq value.now self.old.items }
+        ensures removed { IsBagOf T.eq self.old (less T.eq value.now 1 self.old.items) self.new }
+    {
+        self.take_up_to(value, 1)
+    }
+
+    /// Takes `quantity` occurrences of a value, or all where they are fewer, and answers how many are left. With the last
+    /// occurrence the stored instance is dropped.
+    ///
+    /// It takes no memory. A value that stays is hashed once.
+    pub fn remove_up_to(&mut self, value: &T, quantity: usize) -> usize
+        ensures after { result ≡ count T.eq value.now self.old.items - quantity }
+        ensures removed { IsBagOf T.eq self.old (less T.eq value.now quantity self.old.items) self.new }
+    {
+        self.take_up_to(value, quantity).saturating_sub(quantity)
+    }
+
+    // Takes `quantity` occurrences of a value, or all where they are fewer, and answers how many there were.
+    fn take_up_to(&mut self, value: &T, quantity: usize) -> usize
+        ensures before { result ≡ count T.eq value.now self.old.items }
+        ensures removed { IsBagOf T.eq self.old (less T.eq value.now quantity self.old.items) self.new }
+    {
+        let before = self.table.take(value, quantity);
+        self.len -= before.min(quantity);
+        before
+    }
+
+    /// Takes one occurrence of a value: the last one itself, or else one of several, and then it answers the stored instance,
+    /// which stays, with how many there were. `Err(None)` where the value is absent.
+    ///
+    /// It lowers the count in place and takes no memory.
+    pub fn try_take(&mut self, value: &T) -> Result<T, Option<(&T, usize)>>
+        // Once the loan is over.
+        ensures* left { sem 𝓛 (ends_meaning T.row S.row S.Hasher.row T.Hash S.BuildHasher S.Hasher.Hasher self.entry (less T.eq value.now 1 self.old.items)) }
+        ensures last { IfOk result (λ instance. stored T.eq value.now self.old.items ≡ Some (instance, 1)) }
+        ensures others { IfErr result (λ found. (option_map (λ e. (e.0.now, e.1)) found ≡ stored T.eq value.now self.old.items) × (count T.eq value.now self.old.items ≢ 1)) }
+    {
+        HashBag::with_rest(self.take_one(value), self, value)
+    }
+
+    // What was taken, or else the stored instance, of which some are left, with how many there were.
+    fn with_rest<'a>(
+        taken: Result<T, usize>,
+        bag: &'a HashBag<T, S>,
+        value: &T,
+    ) -> Result<T, Option<(&'a T, usize)>>
+        ensures last { IfOk taken (λ instance. result ≡ Ok instance) }
+        ensures absent { IfErr taken (λ before. before ≡ 0 → result ≡ Err None) }
+        ensures others { IfErr taken (λ before. before ≢ 0 → IsErrAnd result (λ found. option_map (λ e. (e.0.now, e.1)) found ≡ counted T.eq value.now before bag.now.items)) }
+    {
+        match taken {
+            Ok(instance) => Ok(instance),
+            Err(0) => Err(None),
+            Err(before) => match bag.get(value) {
+                Some((instance, _)) => Err(Some((instance, before))),
+                None => Err(None),
+            },
+        }
+    }
+
+    /// Takes one occurrence of a value: the last one itself, or else one of as many as it answers in `Err`, 0 where the value is
+    /// absent.
+    ///
+    /// It is [`HashBag::try_take`] without the loan of the instance that stays. It takes no memory.
+    pub fn take_one(&mut self, value: &T) -> Result<T, usize>
+        ensures taken { IsBagOf T.eq self.old (less T.eq value.now 1 self.old.items) self.new }
+        ensures last { IfOk result (λ instance. stored T.eq value.now self.old.items ≡ Some (instance, 1)) }
+        ensures others { IfErr result (λ before. (before ≡ count T.eq value.now self.old.items) × (before ≢ 1)) }
+        ensures bag { IsBag T.eq self.old.items }
+    {
+        let before = self.contains(value);
+        if before != 1 {
+            return Err(self.remove(value));
+        }
+        match self.take_all(value) {
+            Some((instance, _)) => Ok(instance),
+            None => Err(0),
+        }
+    }
+
+    /// Takes a value out, and answers its stored instance and its whole count, or `None` where it is absent. It takes no
+    /// memory.
+    pub fn take_all(&mut self, value: &T) -> Option<(T, usize)>
+        ensures taken { result ≡ stored T.eq value.now self.old.items }
+        ensures left { IsBagOf T.eq self.old (less T.eq value.now (count T.eq value.now self.old.items) self.old.items) self.new }
+    {
+        let (instance, count) = self.table.remove(value)?;
+        self.len -= count;
+        Some((instance, count))
+    }
+
+    /// Takes all occurrences out. It takes no memory, and keeps the room that the bag has.
+    pub fn clear(&mut self)
+        ensures empty { self.new.items ≡ [] }
+        ensures hasher { self.new.hasher ≡ self.old.hasher }
+    {
+        self.table.clear();
+        self.len = 0;
+    }
+
+    /// Asks `f` once for each distinct value, with its count, in an open order, how many of it are to stay. The value keeps the
+    /// lesser of its count and the answer, and goes with its stored instance where that is 0.
+    ///
+    /// It takes no memory and hashes nothing.
+    pub fn retain<F: FnMut(&T, usize) -> usize + Drop>(&mut self, f: F)
+        requires asks { (walk : _) → IsSetWalkOf T.eq self.old walk → MayAskInTurn F.FnMut f walk }
+        ensures { IsRetained T.eq F.FnMut f self.old self.new }
+    {
+        self.len = self.table.retain(f);
+    }
+
+    /// Makes room for `n` more distinct values. What occurs stays.
+    ///
+    /// It answers `Memory` where memory is refused, and before memory is asked for where there would be more than 3 * 2^57
+    /// distinct values: the bag is then unchanged. With `n` 0 it takes no memory and succeeds.
+    pub fn reserve(&mut self, n: usize) -> Result<(), BagError>
+        ensures kept { IsBagOf T.eq self.old self.old.items self.new }
+        ensures none { n ≡ 0 → IsOk result }
+        ensures beyond { 0 < n → MOST_VALUES < distinct_count T.eq self.old.items + n → result ≡ Err BagError.Memory }
+        ensures memory { OnErr result (result ≡ Err BagError.Memory) }
+        ensures err { OnErr result (self.new ≡ self.old) }
+    {
+        self.table.reserve(n)?;
+        Ok(())
+    }
+
+    /// Gives memory back that the bag doesn't need. What occurs stays.
+    ///
+    /// It answers `Memory` where memory is refused: the bag is then unchanged.
+    pub fn shrink_to_fit(&mut self) -> Result<(), BagError>
+        ensures kept { IsBagOf T.eq self.old self.old.items self.new }
+        ensures memory { OnErr result (result ≡ Err BagError.Memory) }
+        ensures err { OnErr result (self.new ≡ self.old) }
+    {
+        self.table.shrink_to_fit()?;
+        Ok(())
+    }
+
+    /// A bag with clones of all stored instances, each as often as here, under a clone of the state. This bag stays as it is.
+    ///
+    /// The caller sees to it that clones of the values equal them. It answers `Memory` where memory is refused, to a clone of a
+    /// value or of the state too: there is then no new bag. It makes room for all values at once, and hashes each clone once.
+    pub fn clone(&self) -> Result<HashBag<T, S>, BagError>
+    where
+        T: Clone,
+        S: Clone,
+        requires equal { All (λ x. (y : _) → T.is_clone x y → T.eq x y ≡ true) self.now.items }
+        ensures clones { IfOk result (λ bag. HasClones T.is_clone self.now.items bag.items) }
+        ensures counts { IfOk result (λ bag. SameCounts T.eq self.now.items bag.items) }
+        ensures hasher { IfOk result (λ bag. S.is_clone self.now.hasher bag.hasher) }
+        ensures memory { OnErr result (result ≡ Err BagError.Memory) }
+    {
+        let table = self.table.clone_in()?;
+        Ok(HashBag {
+            table,
+            len: self.len,
+        })
+    }
+
+    // Adds occurrences of a value if the total can have them.
+    pub(crate) fn insert_within(&mut self, value: T, n: usize) -> Result<(), BagError>
+        ensures added { OnOk result (IsBagOf T.eq self.old (add T.eq value n self.old.items) self.new) }
+        ensures refused { IfErr result (Refuses T.eq self.old.items value n) }
+        ensures err { OnErr result (self.new ≡ self.old) }
+    {
+        if n > usize::MAX - self.len() {
+            return Err(BagError::TooMany);
+        }
+        match self.insert_many(value, n) {
+            Ok(_) => Ok(()),
+            Err(_) => Err(BagError::Memory),
+        }
+    }
+
+    // Puts in some occurrences of a value that is absent.
+    pub(crate) fn insert_new(&mut self, value: T, quantity: usize) -> Result<(), BagError>
+        requires absent { count T.eq value self.old.items ≡ 0 }
+        requires some { 0 < quantity }
+        requires fits { length self.old.items + quantity ≤ greatest_total }
+        ensures added { OnOk result (IsBagOf T.eq self.old (add T.eq value quantity self.old.items) self.new) }
+        ensures memory { OnErr result (result ≡ Err BagError.Memory) }
+        ensures err { OnErr result (self.new ≡ self.old) }
+    {
+        self.table.insert_new(value, quantity)?;
+        self.len += quantity;
+        Ok(())
+    }
+
+    // Gives a value that is there, as often as `before`, another count, and takes it out where that is 0.
+    pub(crate) fn set_count(&mut self, value: &T, before: usize, n: usize)
+        requires before { before ≡ count T.eq value.now self.old.items }
+        requires present { 0 < before }
+        requires fits { length self.old.items - before + n ≤ greatest_total }
+        ensures { IsBagOf T.eq self.old (put T.eq (instance_or_itself T.eq value.now self.old.items) n self.old.items) self.new }
+    {
+        set_or_remove(&mut self.table, value, n);
+        self.len = self.len - before + n;
+    }
+}

@@ -1,0 +1,32 @@
+//! Equality of bags.
+ghost use Rattle.std.specs.Cmp;
+ghost use Rattle.hashbag_core.specs.Equality.{bag_eq};
+ghost use Rattle.hashbag_core.specs.EqualityLaws.{bag_eq_refl, bag_eq_partial};
+
+use crate::bag::HashBag;
+use std::hash::{BuildHasher, Hash};
+
+/// Two bags are equal where each value occurs as often in one as in the other. Which instances are stored, the states, the
+/// room and the history of the bags don't matter.
+impl<T: Eq + Hash + Drop, S: BuildHasher + Drop> PartialEq for HashBag<T, S> {
+    ghost eq = { bag_eq T.eq };
+
+    ghost laws = { bag_eq_partial T.Eq.laws };
+
+    /// It compares the totals, and then looks each distinct value of one bag up in the other. It takes no memory.
+    fn eq(&self, other: &HashBag<T, S>) -> bool {
+        if self.len != other.len {
+            return false;
+        }
+        for (value, count) in self.table.walk() {
+            if other.contains(value) != count {
+                return false;
+            }
+        }
+        true
+    }
+}
+
+impl<T: Eq + Hash + Drop, S: BuildHasher + Drop> Eq for HashBag<T, S> {
+    ghost laws = { Cmp.equiv (bag_eq_partial T.Eq.laws) (bag_eq_refl T.Eq.laws) };
+}

@@ -1,0 +1,181 @@
+//! Bags made of the items that an iterator gives, and bags to which they are added.
+ghost use Rattle.std.specs.Prelude.{◌≡◌, ◌<◌, ⊤, [], OnOk, IfOk, IfErr, OnErr};
+ghost use Rattle.std.specs.Iterator.{IsFinite};
+ghost use Rattle.hashbag_core.specs.Bag.{Means, IsBagOf};
+ghost use Rattle.hashbag_core.specs.Occurrences.{add, IsBag};
+ghost use Rattle.hashbag_core.specs.Extends.{Extends, ExtendsUpTo, Refuses, RefusesClones, Once, AsItIs, CloneOnce, CloneAsOften};
+
+use crate::bag::{BagError, HashBag};
+use std::alloc::Global;
+use std::hash::{BuildHasher, Hash};
+
+impl<T: Eq + Hash + Drop, S: BuildHasher + Drop> HashBag<T, S> {
+    /// An empty bag under the default state. It takes no memory.
+    pub fn default_in(alloc: Global) -> HashBag<T, S>
+    where
+        S: Default,
+        ensures empty { result.items ≡ [] }
+        ensures hasher { S.is_default result.hasher }
+    {
+        HashBag::with_hasher(alloc, S::default())
+    }
+
+    /// A bag of the items, under the default state: an empty one, extended by [`HashBag::extend`]. Where that is refused, there is no
+    /// bag.
+    pub fn from_iter<I: Iterator<Item = T> + Drop>(
+        alloc: Global,
+        items: I,
+    ) -> Result<HashBag<T, S>, BagError>
+    where
+        S: Default,
+        requires can { I.can_next items }
+        requires ends { IsFinite (I.remaining items) }
+        ensures all { IfOk result (λ bag. Extends T.eq I.next_gives Once items [] (Means bag)) }
+        ensures hasher { IfOk result (λ bag. S.is_default bag.hasher) }
+        ensures refused { IfErr result (λ e. ExtendsUpTo T.eq I.next_gives Once items [] (λ _. ⊤) (λ X v. Refuses T.eq X v 1 e)) }
+    {
+        let mut bag = HashBag::default_in(alloc);
+        match bag.extend(items) {
+            Ok(()) => Ok(bag),
+            Err(e) => Err(e),
+        }
+    }
+
+    /// A bag of the pairs of a value and a number, under the default state: an empty one, extended by [`HashBag::extend_many`]. Where
+    /// that is refused, there is no bag.
+    pub fn from_counts<I: Iterator<Item = (T, usize)> + Drop>(
+        alloc: Global,
+        pairs: I,
+    ) -> Result<HashBag<T, S>, BagError>
+    where
+        S: Default,
+        requires can { I.can_next pairs }
+        requires ends { IsFinite (I.remaining pairs) }
+        ensures all { IfOk result (λ bag. Extends T.eq I.next_gives AsItIs pairs [] (Means bag)) }
+        ensures hasher { IfOk result (λ bag. S.is_default bag.hasher) }
+        ensures refused { IfErr result (λ e. ExtendsUpTo T.eq I.next_gives AsItIs pairs [] (λ _. ⊤) (λ X p. Refuses T.eq X p.0 p.1 e)) }
+    {
+        let mut bag = HashBag::default_in(alloc);
+        match bag.extend_many(pairs) {
+            Ok(()) => Ok(bag),
+            Err(e) => Err(e),
+        }
+    }
+
+    /// Inserts each item, as [`HashBag::insert`] does.
+    ///
+    /// It answers `TooMany` at the first item with which the total would pass `usize::MAX`, which is tested before anything
+    /// grows, and `Memory` where it is refused to a value that is absent. The items before that one have then been inserted, and
+    /// the rest of the iterator is dropped. The caller sees to it that the items end.
+    pub fn extend<I: Iterator<Item = T> + Drop>(&mut self, items: I) -> Result<(), BagError>
+        requires can { I.can_next items }
+        requires ends { IsFinite (I.remaining items) }
+        ensures all { OnOk result (Extends T.eq I.next_gives Once items self.old.items (λ X. IsBagOf T.eq self.old X self.new)) }
+        ensures refused { IfErr result (λ e. ExtendsUpTo T.eq I.next_gives Once items self.old.items (λ X. IsBagOf T.eq self.old X self.new) (λ X v. Refuses T.eq X v 1 e)) }
+    {
+        let _len = self.len();
+        for item in items {
+            match self.insert_within(item, 1) {
+                Ok(()) => {}
+                Err(e) => return Err(e),
+            }
+        }
+        Ok(())
+    }
+
+    /// Inserts the value of each pair as often as the number beside it, as [`HashBag::insert_many`] does. A pair with 0 adds nothing.
+    ///
+    /// It answers as [`HashBag::extend`] does.
+    pub fn extend_many<I: Iterator<Item = (T, usize)> + Drop>(
+        &mut self,
+        pairs: I,
+    ) -> Result<(), BagError>
+        requires can { I.can_next pairs }
+        requires ends { IsFinite (I.remaining pairs) }
+        ensures all { OnOk result (Extends T.eq I.next_gives AsItIs pairs self.old.items (λ X. IsBagOf T.eq self.old X self.new)) }
+        ensures refused { IfErr result (λ e. ExtendsUpTo T.eq I.next_gives AsItIs pairs self.old.items (λ X. IsBagOf T.eq self.old X self.new) (λ X p. Refuses T.eq X p.0 p.1 e)) }
+    {
+        let _len = self.len();
+        for (value, n) in pairs {
+            match self.insert_within(value, n) {
+                Ok(()) => {}
+                Err(e) => return Err(e),
+            }
+        }
+        Ok(())
+    }
+
+    /// Inserts a clone of each item.
+    ///
+    /// It answers as [`HashBag::extend`] does, and `Memory` also where the clone is refused it. The total is tested before an item is
+    /// cloned.
+    pub fn extend_refs<'a, I: Iterator<Item = &'a T> + Drop>(
+        &mut self,
+        items: I,
+    ) -> Result<(), BagError>
+    where
+        T: Clone + 'a,
+        requires can { I.can_next items }
+        requires ends { IsFinite (I.remaining items) }
+        ensures all { OnOk result (Extends T.eq I.next_gives (CloneOnce T.is_clone) items self.old.items (λ X. IsBagOf T.eq self.old X self.new)) }
+        ensures refused { IfErr result (λ e. ExtendsUpTo T.eq I.next_gives (CloneOnce T.is_clone) items self.old.items (λ X. IsBagOf T.eq self.old X self.new) (λ X _. RefusesClones X 1 e)) }
+    {
+        let _len = self.len();
+        for item in items {
+            match self.insert_clone(item, 1) {
+                Ok(()) => {}
+                Err(e) => return Err(e),
+            }
+        }
+        Ok(())
+    }
+
+    /// Inserts a clone of the value of each pair as often as the number beside it. A pair with 0 adds nothing, and its value isn't
+    /// cloned.
+    ///
+    /// It answers as [`HashBag::extend_refs`] does.
+    pub fn extend_refs_many<'a, I: Iterator<Item = (&'a T, usize)> + Drop>(
+        &mut self,
+        pairs: I,
+    ) -> Result<(), BagError>
+    where
+        T: Clone + 'a,
+        requires can { I.can_next pairs }
+        requires ends { IsFinite (I.remaining pairs) }
+        ensures all { OnOk result (Extends T.eq I.next_gives (CloneAsOften T.is_clone) pairs self.old.items (λ X. IsBagOf T.eq self.old X self.new)) }
+        ensures refused { IfErr result (λ e. ExtendsUpTo T.eq I.next_gives (CloneAsOften T.is_clone) pairs self.old.items (λ X. IsBagOf T.eq self.old X self.new) (λ X p. RefusesClones X p.1 e)) }
+    {
+        let _len = self.len();
+        for (value, n) in pairs {
+            match self.insert_clone(value, n) {
+                Ok(()) => {}
+                Err(e) => return Err(e),
+            }
+        }
+        Ok(())
+    }
+
+    // Adds occurrences of a clone if the total can have them, and clones nothing for 0.
+    fn insert_clone(&mut self, value: &T, n: usize) -> Result<(), BagError>
+    where
+        T: Clone,
+        ensures added { OnOk result ((x : _) × (0 < n → T.is_clone value.now x) × IsBagOf T.eq self.old (add T.eq x n self.old.items) self.new) }
+        ensures refused { IfErr result (RefusesClones self.old.items n) }
+        ensures err { OnErr result (self.new ≡ self.old) }
+    {
+        if n > usize::MAX - self.len() {
+            return Err(BagError::TooMany);
+        }
+        if n == 0 {
+            return Ok(());
+        }
+        let clone = match value.clone() {
+            Ok(clone) => clone,
+            Err(_) => return Err(BagError::Memory),
+        };
+        match self.insert_within(clone, n) {
+            Ok(()) => Ok(()),
+            Err(_) => Err(BagError::Memory),
+        }
+    }
+}

@@ -1,0 +1,130 @@
+//! `Entry`: the place of a value in a bag.
+ghost use Rattle.std.specs.Prelude.{◌≡◌, ◌+◌, ◌<◌, ◌≤◌, ℕ, length, IsOk, IfOk, OnErr};
+ghost use Rattle.std.specs.Borrow.{sem, MutBor, RestsIfErr};
+ghost use Rattle.hashbag_core.specs.Bag.{IsBagOf};
+ghost use Rattle.hashbag_core.specs.Occurrences.{greatest_total, count, instance_or_itself, add};
+
+use crate::bag::{BagError, FixedState, HashBag};
+use std::fmt::{self, Debug, Formatter, Write};
+use std::hash::{BuildHasher, Hash};
+
+/// The place of a value in a bag: a borrow of the bag, and the value that was handed in.
+///
+/// It is occupied where the bag has the value, and else vacant. An entry that is dropped changes nothing.
+pub struct Entry<'a, T: Eq + Hash + Drop, S: BuildHasher + Drop = FixedState> {
+    bag: &'a mut HashBag<T, S>,
+    value: T,
+}
+
+impl<'a, T: Eq + Hash + Drop, S: BuildHasher + Drop> Drop for Entry<'a, T, S> {
+    fn drop(self)
+        ensures unchanged { self.exit.0.now ≡ self.entry.bag.now }
+    {
+        let Entry { bag: _, value } = self;
+        drop(value);
+    }
+}
+
+impl<T: Eq + Hash + Drop, S: BuildHasher + Drop> HashBag<T, S> {
+    /// The place of a value in the bag. It takes no memory, and looks nothing up.
+    pub fn entry(&mut self, value: T) -> Entry<'_, T, S>
+        ensures same_bag { result.bag.ghost_name ≡ self.entry.ghost_name }
+        ensures unchanged { result.bag.now ≡ self.old }
+        ensures value { result.value ≡ value }
+    {
+        Entry { bag: self, value }
+    }
+}
+
+impl<'a, T: Eq + Hash + Drop, S: BuildHasher + Drop> Entry<'a, T, S> {
+    ghost use Rattle.hashbag_core.specs.EntryCalls.{ChangesCount, PassesEnd};
+    ghost use Rattle.hashbag_core.specs.Lending.{bag_row};
+
+    /// The stored instance where the entry is occupied, else the value that was handed in. It takes no memory.
+    pub fn value(&self) -> &T
+        ensures { result.now ≡ instance_or_itself T.eq self.now.value self.now.bag.now.items }
+    {
+        match self.bag.get(&self.value) {
+            Some((instance, _)) => instance,
+            None => &self.value,
+        }
+    }
+
+    /// Runs `f` on a copy of the count, and makes the number that it leaves the count. On a vacant entry `f` isn't called.
+    ///
+    /// Where `f` leaves 0, the value is taken out, its stored instance is dropped, and the entry is vacant with the value
+    /// handed in. The old count leaves the total before the new one comes, so `TooMany` is answered exactly where the new
+    /// total passes `usize::MAX`: the bag is then as before the call, and the entry is gone. It takes no memory.
+    pub fn and_modify<F: FnOnce(&mut usize) + Drop>(self, f: F) -> Result<Entry<'a, T, S>, BagError>
+        requires { (p : MutBor ℕ) → p.now ≡ count T.eq self.value self.bag.now.items → 0 < p.now → F.pre f p }
+        ensures same_bag { IfOk result (λ e. e.bag.ghost_name ≡ self.entry.bag.ghost_name) }
+        ensures same_value { IfOk result (λ e. e.value ≡ self.entry.value) }
+        ensures changes { IfOk result (λ e. ChangesCount T.eq F.FnOnce f self.entry.value self.entry.bag.now e.bag.now) }
+        ensures too_many { OnErr result (result ≡ Err BagError.TooMany) }
+        ensures passes { OnErr result (PassesEnd T.eq F.FnOnce f self.entry.value self.entry.bag.now) }
+        ensures* stays { sem 𝓛 (RestsIfErr (bag_row T.row S.row S.Hasher.row T.Hash S.BuildHasher S.Hasher.Hasher) self.entry.bag (λ e. e.bag.ghost_name) result (λ n. n ≡ self.entry.bag.now)) }
+    {
+        let Entry { bag, value } = self;
+        let before = bag.contains(&value);
+        if before == 0 {
+            drop(f);
+            return Ok(Entry { bag, value });
+        }
+        let mut n = before;
+        f(&mut n);
+        if n > usize::MAX - (bag.len() - before) {
+            return Err(BagError::TooMany);
+        }
+        bag.set_count(&value, before, n);
+        Ok(Entry { bag, value })
+    }
+
+    /// Puts in the value handed in, once, where the entry is vacant: [`Entry::or_insert_many`] with 1.
+    pub fn or_insert(self) -> Result<usize, BagError>
+        ensures occupied { 0 < count T.eq self.entry.value self.entry.bag.now.items → (result ≡ Ok (count T.eq self.entry.value self.entry.bag.now.items)) × (self.exit.0.now ≡ self.entry.bag.now) }
+        ensures vacant { count T.eq self.entry.value self.entry.bag.now.items ≡ 0 → IfOk result (λ after. (after ≡ 1) × IsBagOf T.eq self.entry.bag.now (add T.eq self.entry.value 1 self.entry.bag.now.items) self.exit.0.now) }
+        ensures too_many { result ≡ Err BagError.TooMany → greatest_total < length self.entry.bag.now.items + 1 }
+        ensures memory { result ≡ Err BagError.Memory → length self.entry.bag.now.items + 1 ≤ greatest_total }
+        ensures err { OnErr result (self.exit.0.now ≡ self.entry.bag.now) }
+    {
+        self.or_insert_many(1)
+    }
+
+    /// Puts in `quantity` occurrences of the value handed in where the entry is vacant, and answers the count after.
+    ///
+    /// Where the entry is occupied, it answers the count that is there, ignores `quantity`, drops the value handed in and is
+    /// never refused. A `quantity` of 0 adds nothing, and is never refused either. Else `TooMany` is answered where the total
+    /// would pass `usize::MAX`, and only then memory is asked for, which may be refused: the bag is then as before the call,
+    /// the value is dropped and the entry is gone.
+    pub fn or_insert_many(self, quantity: usize) -> Result<usize, BagError>
+        ensures occupied { 0 < count T.eq self.entry.value self.entry.bag.now.items → (result ≡ Ok (count T.eq self.entry.value self.entry.bag.now.items)) × (self.exit.0.now ≡ self.entry.bag.now) }
+        ensures vacant { count T.eq self.entry.value self.entry.bag.now.items ≡ 0 → IfOk result (λ after. (after ≡ quantity) × IsBagOf T.eq self.entry.bag.now (add T.eq self.entry.value quantity self.entry.bag.now.items) self.exit.0.now) }
+        ensures none { quantity ≡ 0 → IsOk result }
+        ensures too_many { result ≡ Err BagError.TooMany → greatest_total < length self.entry.bag.now.items + quantity }
+        ensures memory { result ≡ Err BagError.Memory → length self.entry.bag.now.items + quantity ≤ greatest_total }
+        ensures err { OnErr result (self.exit.0.now ≡ self.entry.bag.now) }
+    {
+        let Entry { bag, value } = self;
+        let before = bag.contains(&value);
+        if before > 0 {
+            return Ok(before);
+        }
+        if quantity == 0 {
+            return Ok(0);
+        }
+        if quantity > usize::MAX - bag.len() {
+            return Err(BagError::TooMany);
+        }
+        bag.insert_new(value, quantity)?;
+        Ok(quantity)
+    }
+}
+
+impl<'a, T: Eq + Hash + Drop + Debug, S: BuildHasher + Drop> Debug for Entry<'a, T, S> {
+    /// Writes the value that the entry gives and how often it occurs, as `Entry(5, 3)`.
+    fn fmt<W: Write>(&self, f: &mut Formatter<W>) -> fmt::Result {
+        let value = self.value();
+        let count = self.bag.contains(&self.value);
+        write!(f, "Entry({value:?}, {count})")
+    }
+}

@@ -1,0 +1,332 @@
+//! Walks over a bag: what it holds, one after another.
+//!
+//! The order in which a walk comes to the values is open. Every walk knows how many items are still to come, and gives
+//! `None` for good after the last. It hashes nothing and takes no memory.
+ghost use Rattle.std.specs.Prelude.{◌≡◌, length, Some, IfSome, ⊤};
+ghost use Rattle.std.specs.Borrow.{sem};
+ghost use Rattle.std.specs.Iterator.{YieldsFirst, YieldsFirstBy, YieldsFirstRef, item_count, at_most, UpTo};
+ghost use Rattle.std.specs.Iterator.SizeHint.{IsWithinCount};
+ghost use Rattle.hashbag_core.specs.Drain.{drain_rest, drain_name, follows_drain};
+ghost use Rattle.hashbag_core.specs.Walks.{IsSetWalkOf, IsWalkOf};
+
+use crate::bag::HashBag;
+use hashbag_table::walk::{DrainWalk, IntoWalk, Walk};
+use std::alloc::AllocError;
+use std::fmt::{self, Debug, Formatter, Write};
+use std::hash::{BuildHasher, Hash};
+use std::iter::ExactSizeIterator;
+use std::marker::Model;
+
+/// The occurrences of a bag that is lent. A value comes once for each of its occurrences, as the stored instance, before
+/// the next value does.
+///
+/// Contracts see it as the list of the occurrences that are still to come.
+#[derive(Drop)]
+pub struct Iter<'a, T> {
+    // The entries after the value that is being given.
+    walk: Walk<'a, T>,
+    // The value that is being given, and how often it still comes.
+    at: Option<(&'a T, usize)>,
+    // How many occurrences are still to come, of all values.
+    left: usize,
+}
+
+impl<'a, T> Model for Iter<'a, T> {
+    ghost use Rattle.std.specs.Prelude.{List};
+    ghost use Rattle.hashbag_core.specs.Iter.{occurrences_left, IsPending};
+
+    ghost Value = { List T };
+
+    ghost view = { λ a. occurrences_left a.at a.walk };
+
+    ghost invariant = { λ a. IsPending a.at a.walk a.left };
+}
+
+impl<'a, T> Clone for Iter<'a, T> {
+    ghost is_clone = { λ s r. r ≡ s };
+
+    ghost is_infallible = { λ _. ⊤ };
+
+    /// A walk that goes on from the same place. It takes no memory, and is never refused.
+    fn clone(&self) -> Result<Iter<'a, T>, AllocError> {
+        Ok(Iter {
+            walk: self.walk.clone()?,
+            at: self.at,
+            left: self.left,
+        })
+    }
+}
+
+impl<'a, T> Iterator for Iter<'a, T> {
+    type Item = &'a T;
+
+    ghost next_gives = { YieldsFirstRef (λ s. s) };
+
+    ghost remaining = { item_count (λ s. s) };
+
+    fn next(&mut self) -> Option<&'a T> {
+        if let Some((value, count)) = self.at {
+            if count > 0 {
+                self.at = Some((value, count - 1));
+                self.left -= 1;
+                return Some(value);
+            }
+        }
+        let (value, count) = self.walk.next()?;
+        self.at = Some((value, count - 1));
+        self.left -= 1;
+        Some(value)
+    }
+
+    fn size_hint(&self) -> (usize, Option<usize>)
+        ensures lower { IsWithinCount result.0 (at_most (length self.now)) }
+        ensures upper { IfSome result.1 (UpTo (at_most (length self.now))) }
+        ensures exact { result ≡ (length self.now, Some (length self.now)) }
+    {
+        (self.left, Some(self.left))
+    }
+}
+
+impl<'a, T> ExactSizeIterator for Iter<'a, T> {
+    fn len(&self) -> usize {
+        self.left
+    }
+}
+
+impl<'a, T: Debug> Debug for Iter<'a, T> {
+    /// Writes the occurrences that are still to come as a set of them, as `{5, 5, 5}`.
+    fn fmt<W: Write>(&self, f: &mut Formatter<W>) -> fmt::Result {
+        f.debug_set().entries(self.clone().unwrap()).finish()
+    }
+}
+
+/// The distinct values of a bag that is lent, each with its count.
+///
+/// Contracts see it as the list of the values with their counts that are still to come.
+#[derive(Drop)]
+pub struct SetIter<'a, T> {
+    walk: Walk<'a, T>,
+}
+
+impl<'a, T> Model for SetIter<'a, T> {
+    ghost use Rattle.std.specs.Prelude.{ℕ, List};
+
+    ghost Value = { List (T × ℕ) };
+
+    ghost view = { λ a. a.walk };
+}
+
+impl<'a, T> Clone for SetIter<'a, T> {
+    ghost is_clone = { λ s r. r ≡ s };
+
+    ghost is_infallible = { λ _. ⊤ };
+
+    /// A walk that goes on from the same place. It takes no memory, and is never refused.
+    fn clone(&self) -> Result<SetIter<'a, T>, AllocError> {
+        Ok(SetIter {
+            walk: self.walk.clone()?,
+        })
+    }
+}
+
+impl<'a, T> Iterator for SetIter<'a, T> {
+    type Item = (&'a T, usize);
+
+    ghost next_gives = { YieldsFirstBy (λ e. (e.0.now, e.1)) (λ s. s) };
+
+    ghost remaining = { item_count (λ s. s) };
+
+    fn next(&mut self) -> Option<(&'a T, usize)> {
+        self.walk.next()
+    }
+
+    fn size_hint(&self) -> (usize, Option<usize>)
+        ensures lower { IsWithinCount result.0 (at_most (length self.now)) }
+        ensures upper { IfSome result.1 (UpTo (at_most (length self.now))) }
+        ensures exact { result ≡ (length self.now, Some (length self.now)) }
+    {
+        self.walk.size_hint()
+    }
+}
+
+impl<'a, T> ExactSizeIterator for SetIter<'a, T> {
+    fn len(&self) -> usize {
+        self.walk.len()
+    }
+}
+
+impl<'a, T: Debug> Debug for SetIter<'a, T> {
+    /// Writes the values with their counts that are still to come as a set of pairs, as `{(5, 3)}`.
+    fn fmt<W: Write>(&self, f: &mut Formatter<W>) -> fmt::Result {
+        f.debug_set().entries(self.clone().unwrap()).finish()
+    }
+}
+
+/// The distinct values that were taken out of a bag, by value, each with its count. The bag is empty from the start, and
+/// those that are not taken are dropped with the walk.
+///
+/// Contracts see the list of the values with their counts that are still to come as `drain_rest`.
+pub struct Drain<'a, T> {
+    drained: DrainWalk<'a, T>,
+}
+
+impl<'a, T: Drop> Drop for Drain<'a, T> {
+    fn drop(self) {
+        let Drain { drained } = self;
+        drop(drained);
+    }
+}
+
+impl<'a, T: Drop> Iterator for Drain<'a, T> {
+    type Item = (T, usize);
+
+    ghost next_gives = { YieldsFirst drain_rest };
+
+    ghost remaining = { item_count drain_rest };
+
+    fn next(&mut self) -> Option<(T, usize)> {
+        self.drained.next()
+    }
+
+    fn size_hint(&self) -> (usize, Option<usize>)
+        ensures lower { IsWithinCount result.0 (at_most (length (drain_rest self.now))) }
+        ensures upper { IfSome result.1 (UpTo (at_most (length (drain_rest self.now)))) }
+        ensures exact { result ≡ (length (drain_rest self.now), Some (length (drain_rest self.now))) }
+    {
+        self.drained.size_hint()
+    }
+}
+
+impl<'a, T: Drop> ExactSizeIterator for Drain<'a, T> {
+    fn len(&self) -> usize {
+        self.drained.len()
+    }
+}
+
+/// The distinct values of a bag that is gone, by value, each with its count. Those that are not taken are dropped with the
+/// walk.
+///
+/// Contracts see it as the list of the values with their counts that are still to come.
+pub struct IntoIter<T> {
+    owned: IntoWalk<T>,
+}
+
+impl<T> Model for IntoIter<T> {
+    ghost use Rattle.std.specs.Prelude.{ℕ, List};
+
+    ghost Value = { List (T × ℕ) };
+
+    ghost view = { λ a. a.owned };
+}
+
+impl<T: Drop> Drop for IntoIter<T> {
+    fn drop(self) {
+        let IntoIter { owned } = self;
+        drop(owned);
+    }
+}
+
+impl<T: Drop> Iterator for IntoIter<T> {
+    type Item = (T, usize);
+
+    ghost next_gives = { YieldsFirst (λ s. s) };
+
+    ghost remaining = { item_count (λ s. s) };
+
+    fn next(&mut self) -> Option<(T, usize)> {
+        self.owned.next()
+    }
+
+    fn size_hint(&self) -> (usize, Option<usize>)
+        ensures lower { IsWithinCount result.0 (at_most (length self.now)) }
+        ensures upper { IfSome result.1 (UpTo (at_most (length self.now))) }
+        ensures exact { result ≡ (length self.now, Some (length self.now)) }
+    {
+        self.owned.size_hint()
+    }
+}
+
+impl<T: Drop> ExactSizeIterator for IntoIter<T> {
+    fn len(&self) -> usize {
+        self.owned.len()
+    }
+}
+
+impl<T: Eq + Hash + Drop, S: BuildHasher + Drop> HashBag<T, S> {
+    /// Walks over the occurrences, of which there are `len()`. A value comes once for each of its occurrences, as the stored
+    /// instance, before the next value does.
+    ///
+    /// It takes no memory and hashes nothing, here and at each step.
+    pub fn iter(&self) -> Iter<'_, T>
+        ensures { IsWalkOf T.eq self.now result }
+    {
+        Iter {
+            walk: self.table.walk(),
+            at: None,
+            left: self.len,
+        }
+    }
+
+    /// Walks over the distinct values: each stored instance once, with its count. The counts add up to `len()`.
+    ///
+    /// It takes no memory and hashes nothing, here and at each step.
+    pub fn set_iter(&self) -> SetIter<'_, T>
+        ensures { IsSetWalkOf T.eq self.now result }
+    {
+        SetIter {
+            walk: self.table.walk(),
+        }
+    }
+
+    /// Takes everything out, and walks over the distinct values: each stored instance once, by value, with its count.
+    ///
+    /// The bag is empty at once and keeps its state, however many values are taken. The others are dropped with the walk.
+    /// Whether the bag keeps its room for values is open. It takes no memory and hashes nothing, here and at each step.
+    pub fn drain(&mut self) -> Drain<'_, T>
+        ensures* writes_back { sem 𝓛 (follows_drain T.row S.row S.Hasher.row T.Hash S.BuildHasher S.Hasher.Hasher self.entry (drain_name result)) }
+        ensures set_walk { IsSetWalkOf T.eq self.old (drain_rest result) }
+    {
+        self.len = 0;
+        Drain {
+            drained: self.table.drain(),
+        }
+    }
+}
+
+impl<'a, T: Eq + Hash + Drop, S: BuildHasher + Drop> IntoIterator for &'a HashBag<T, S> {
+    type Item = &'a T;
+
+    type IntoIter = Iter<'a, T>;
+
+    ghost into_iter_gives = { λ bag r. IsWalkOf T.eq bag.now r };
+
+    /// Walks over the occurrences, as [`HashBag::iter`] does.
+    fn into_iter(self) -> Iter<'a, T> {
+        self.iter()
+    }
+}
+
+impl<T: Eq + Hash + Drop, S: BuildHasher + Drop> IntoIterator for HashBag<T, S> {
+    type Item = (T, usize);
+
+    type IntoIter = IntoIter<T>;
+
+    ghost into_iter_gives = { λ bag r. IsSetWalkOf T.eq bag r };
+
+    /// Makes a walk of the bag over its distinct values: each stored instance once, by value, with its count.
+    ///
+    /// Values that are not taken are dropped with the walk. It takes no memory and hashes nothing, here and at each step.
+    fn into_iter(self) -> IntoIter<T> {
+        let HashBag { table, len: _ } = self;
+        IntoIter {
+            owned: table.into_walk(),
+        }
+    }
+}
+
+impl<T: Eq + Hash + Drop + Debug, S: BuildHasher + Drop> Debug for HashBag<T, S> {
+    /// Writes the occurrences as a set of them, as `{5, 5, 5}`.
+    fn fmt<W: Write>(&self, f: &mut Formatter<W>) -> fmt::Result {
+        f.debug_set().entries(self.iter()).finish()
+    }
+}

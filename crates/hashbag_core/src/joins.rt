@@ -1,0 +1,300 @@
+//! Joins of two bags of the same type of values: what each value's counts in the two are, and how they differ.
+//!
+//! The states that hash the values of the two bags may be of different types: a join looks a value up in a bag under that
+//! bag's own state. The order in which a join comes to the values is open, but for an outer join's two parts. A join hashes
+//! each value once, to look it up in the bag that it doesn't come from, and takes no memory. After its end it gives `None`
+//! for good.
+ghost use Rattle.std.specs.Prelude.{◌≡◌, List, pos, ◌-ℤ◌, length, IfSome};
+ghost use Rattle.std.specs.Iterator.{YieldsFirstBy, item_count, at_most, UpTo};
+ghost use Rattle.std.specs.Iterator.SizeHint.{IsWithinCount};
+ghost use Rattle.hashbag_core.specs.Bag.{Means};
+ghost use Rattle.hashbag_core.specs.Joins.{limited, IsOuterJoin, IsDifference, IsNotIn, IsSignedDifference};
+
+use crate::bag::HashBag;
+use crate::iters::SetIter;
+use std::hash::{BuildHasher, Hash};
+use std::iter::ExactSizeIterator;
+use std::marker::{Model, PhantomData};
+
+/// The values that one bag has more often than another, each with the excess: [`HashBag::difference`].
+///
+/// Contracts see it as the list of what is still to come.
+#[derive(Drop)]
+pub struct Difference<'a, T: Eq + Hash + Drop, S: BuildHasher + Drop, S2: BuildHasher + Drop> {
+    // The values that weren't looked up yet.
+    left: SetIter<'a, T>,
+    other: &'a HashBag<T, S2>,
+    // The bag whose values these are.
+    bag: PhantomData<&'a HashBag<T, S>>,
+}
+
+impl<'a, T: Eq + Hash + Drop, S: BuildHasher + Drop, S2: BuildHasher + Drop> Model
+    for Difference<'a, T, S, S2> {
+    ghost use Rattle.std.specs.Prelude.{ℕ, List};
+    ghost use Rattle.hashbag_core.specs.JoinsLeft.{excesses};
+
+    ghost Value = { List (T × ℕ) };
+
+    ghost view = { λ a. excesses T.eq a.other.now.items a.left };
+}
+
+impl<'a, T: Eq + Hash + Drop, S: BuildHasher + Drop, S2: BuildHasher + Drop> Iterator
+    for Difference<'a, T, S, S2> {
+    type Item = (&'a T, usize);
+
+    ghost next_gives = { YieldsFirstBy (λ e. (e.0.now, e.1)) (λ s. s) };
+
+    ghost remaining = { item_count (λ s. s) };
+
+    fn next(&mut self) -> Option<(&'a T, usize)> {
+        while let Some((value, count)) = self.left.next() {
+            let others = self.other.contains(value);
+            if others < count {
+                return Some((value, count - others));
+            }
+        }
+        None
+    }
+
+    /// At least 0, and at most the number of values that weren't looked up yet.
+    fn size_hint(&self) -> (usize, Option<usize>)
+        ensures lower { IsWithinCount result.0 (at_most (length self.now)) }
+        ensures upper { IfSome result.1 (UpTo (at_most (length self.now))) }
+    {
+        (0, Some(self.left.len()))
+    }
+}
+
+/// The values of one bag that another lacks, each with its count: [`HashBag::not_in`].
+///
+/// Contracts see it as the list of what is still to come.
+#[derive(Drop)]
+pub struct NotIn<'a, T: Eq + Hash + Drop, S: BuildHasher + Drop, S2: BuildHasher + Drop> {
+    // The values that weren't looked up yet.
+    left: SetIter<'a, T>,
+    other: &'a HashBag<T, S2>,
+    // The bag whose values these are.
+    bag: PhantomData<&'a HashBag<T, S>>,
+}
+
+impl<'a, T: Eq + Hash + Drop, S: BuildHasher + Drop, S2: BuildHasher + Drop> Model
+    for NotIn<'a, T, S, S2> {
+    ghost use Rattle.std.specs.Prelude.{ℕ, List};
+    ghost use Rattle.hashbag_core.specs.JoinsLeft.{lacking};
+
+    ghost Value = { List (T × ℕ) };
+
+    ghost view = { λ a. lacking T.eq a.other.now.items a.left };
+}
+
+impl<'a, T: Eq + Hash + Drop, S: BuildHasher + Drop, S2: BuildHasher + Drop> Iterator
+    for NotIn<'a, T, S, S2> {
+    type Item = (&'a T, usize);
+
+    ghost next_gives = { YieldsFirstBy (λ e. (e.0.now, e.1)) (λ s. s) };
+
+    ghost remaining = { item_count (λ s. s) };
+
+    fn next(&mut self) -> Option<(&'a T, usize)> {
+        while let Some((value, count)) = self.left.next() {
+            if self.other.contains(value) == 0 {
+                return Some((value, count));
+            }
+        }
+        None
+    }
+
+    /// At least 0, and at most the number of values that weren't looked up yet.
+    fn size_hint(&self) -> (usize, Option<usize>)
+        ensures lower { IsWithinCount result.0 (at_most (length self.now)) }
+        ensures upper { IfSome result.1 (UpTo (at_most (length self.now))) }
+    {
+        (0, Some(self.left.len()))
+    }
+}
+
+/// The values of two bags, each with its count in either, those of the first bag first: [`HashBag::outer_join`].
+///
+/// Contracts see it as the list of what is still to come.
+#[derive(Drop)]
+pub struct OuterJoin<'a, T: Eq + Hash + Drop, S: BuildHasher + Drop, S2: BuildHasher + Drop> {
+    // The values of the first bag.
+    first: SetIter<'a, T>,
+    other: &'a HashBag<T, S2>,
+    // Those of the second bag that the first lacks.
+    second: NotIn<'a, T, S2, S>,
+}
+
+impl<'a, T: Eq + Hash + Drop, S: BuildHasher + Drop, S2: BuildHasher + Drop> Model
+    for OuterJoin<'a, T, S, S2> {
+    ghost use Rattle.std.specs.Prelude.{ℕ, List, ◌++◌};
+    ghost use Rattle.hashbag_core.specs.JoinsLeft.{with_second, with_no_first};
+
+    ghost Value = { List (T × ℕ × ℕ) };
+
+    ghost view = { λ a. with_second T.eq a.other.now.items a.first ++ with_no_first a.second };
+}
+
+impl<'a, T: Eq + Hash + Drop, S: BuildHasher + Drop, S2: BuildHasher + Drop> Iterator
+    for OuterJoin<'a, T, S, S2> {
+    type Item = (&'a T, usize, usize);
+
+    ghost next_gives = { YieldsFirstBy (λ e. (e.0.now, e.1, e.2)) (λ s. s) };
+
+    ghost remaining = { item_count (λ s. s) };
+
+    fn next(&mut self) -> Option<(&'a T, usize, usize)> {
+        if let Some((value, count)) = self.first.next() {
+            return Some((value, count, self.other.contains(value)));
+        }
+        let (value, count) = self.second.next()?;
+        Some((value, 0, count))
+    }
+
+    /// At least the number of values of the first bag that weren't looked up yet, and at most this and that of the second
+    /// bag together.
+    fn size_hint(&self) -> (usize, Option<usize>)
+        ensures lower { IsWithinCount result.0 (at_most (length self.now)) }
+        ensures upper { IfSome result.1 (UpTo (at_most (length self.now))) }
+    {
+        let first = self.first.len();
+        let (_, second) = self.second.size_hint();
+        match second {
+            Some(second) => (first, first.checked_add(second)),
+            None => (first, None),
+        }
+    }
+}
+
+/// The values of two bags, each with its count in the first less that in the second: [`HashBag::signed_difference`].
+///
+/// Contracts see it as the list of what is still to come.
+#[derive(Drop)]
+pub struct SignedDifference<
+    'a,
+    T: Eq + Hash + Drop,
+    S: BuildHasher + Drop,
+    S2: BuildHasher + Drop,
+> {
+    counts: OuterJoin<'a, T, S, S2>,
+}
+
+impl<'a, T: Eq + Hash + Drop, S: BuildHasher + Drop, S2: BuildHasher + Drop> Model
+    for SignedDifference<'a, T, S, S2> {
+    ghost use Rattle.std.specs.Prelude.{ℤ, List};
+    ghost use Rattle.hashbag_core.specs.JoinsLeft.{subtracted};
+
+    ghost Value = { List (T × ℤ) };
+
+    ghost view = { λ a. subtracted a.counts };
+}
+
+// The first count less the second, or where that is no `isize` the end that is nearer.
+fn limited_difference(first: usize, second: usize) -> isize
+    ensures { result ≡ limited (pos first -ℤ pos second) }
+{
+    let most = isize::MAX as usize;
+    if second <= first {
+        let more = first - second;
+        if more <= most {
+            more as isize
+        } else {
+            isize::MAX
+        }
+    } else {
+        let fewer = second - first;
+        if fewer <= most {
+            -(fewer as isize)
+        } else {
+            isize::MIN
+        }
+    }
+}
+
+impl<'a, T: Eq + Hash + Drop, S: BuildHasher + Drop, S2: BuildHasher + Drop> Iterator
+    for SignedDifference<'a, T, S, S2> {
+    type Item = (&'a T, isize);
+
+    ghost next_gives = { YieldsFirstBy (λ e. (e.0.now, e.1)) (λ s. s) };
+
+    ghost remaining = { item_count (λ s. s) };
+
+    fn next(&mut self) -> Option<(&'a T, isize)> {
+        let (value, first, second) = self.counts.next()?;
+        Some((value, limited_difference(first, second)))
+    }
+
+    /// As that of the outer join.
+    fn size_hint(&self) -> (usize, Option<usize>)
+        ensures lower { IsWithinCount result.0 (at_most (length self.now)) }
+        ensures upper { IfSome result.1 (UpTo (at_most (length self.now))) }
+    {
+        self.counts.size_hint()
+    }
+}
+
+impl<T: Eq + Hash + Drop, S: BuildHasher + Drop> HashBag<T, S> {
+    /// Every value that either bag has, once, with its count in this bag and its count in the other.
+    ///
+    /// All values of this bag come first, as this bag's instances; then those that the other bag alone has, as its instances.
+    /// It takes no memory; each step hashes the values that it looks up, each of them once.
+    pub fn outer_join<'a, S2: BuildHasher + Drop>(
+        &'a self,
+        other: &'a HashBag<T, S2>,
+    ) -> OuterJoin<'a, T, S, S2>
+        ensures { (X Y : List T) → Means self.now X → Means other.now Y → IsOuterJoin T.eq X Y result }
+    {
+        OuterJoin {
+            first: self.set_iter(),
+            other,
+            second: other.not_in(self),
+        }
+    }
+
+    /// The values that this bag has more often than the other, each once, as this bag's instance, with how many more.
+    ///
+    /// It takes no memory; each step hashes the values that it looks up, each of them once.
+    pub fn difference<'a, S2: BuildHasher + Drop>(
+        &'a self,
+        other: &'a HashBag<T, S2>,
+    ) -> Difference<'a, T, S, S2>
+        ensures { (X Y : List T) → Means self.now X → Means other.now Y → IsDifference T.eq X Y result }
+    {
+        Difference {
+            left: self.set_iter(),
+            other,
+            bag: PhantomData,
+        }
+    }
+
+    /// Every value that either bag has, once, with its count in this bag less its count in the other, in the order of
+    /// [`HashBag::outer_join`]. A difference above `isize::MAX` is given as that, and one below `isize::MIN` as that.
+    ///
+    /// It takes no memory; each step hashes the values that it looks up, each of them once.
+    pub fn signed_difference<'a, S2: BuildHasher + Drop>(
+        &'a self,
+        other: &'a HashBag<T, S2>,
+    ) -> SignedDifference<'a, T, S, S2>
+        ensures { (X Y : List T) → Means self.now X → Means other.now Y → IsSignedDifference T.eq X Y result }
+    {
+        SignedDifference {
+            counts: self.outer_join(other),
+        }
+    }
+
+    /// The values of this bag that the other lacks, each once, as this bag's instance, with its count.
+    ///
+    /// It takes no memory; each step hashes the values that it looks up, each of them once.
+    pub fn not_in<'a, S2: BuildHasher + Drop>(
+        &'a self,
+        other: &'a HashBag<T, S2>,
+    ) -> NotIn<'a, T, S, S2>
+        ensures { (X Y : List T) → Means self.now X → Means other.now Y → IsNotIn T.eq X Y result }
+    {
+        NotIn {
+            left: self.set_iter(),
+            other,
+            bag: PhantomData,
+        }
+    }
+}

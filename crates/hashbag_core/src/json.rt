@@ -1,0 +1,284 @@
+//! Bags as JSON trees: an array of pairs, each of an item and its count.
+ghost use Rattle.std.specs.Prelude.{◌≡◌, ◌≢◌, ◌↔◌, ℕ, List, [], length, map, All, Bool, true, false, None, option_map, IfOk, OnOk, IfErr};
+ghost use Rattle.std.specs.List.Sorted.{IsStrictlySortedBy};
+ghost use Rattle.std.specs.Map.{keys_of};
+ghost use Rattle.serde_json.specs.Data.{Data};
+ghost use Rattle.serde_json.specs.View.{view};
+ghost use Rattle.serde_json.specs.Written.{has_float};
+ghost use Rattle.hashbag_core.specs.Bag.{Means, IsBagOf};
+ghost use Rattle.hashbag_core.specs.Equality.{same_counts};
+ghost use Rattle.hashbag_core.specs.Extends.{add_all};
+ghost use Rattle.hashbag_core.specs.JsonFaults.{pair_of, pair_fault, fault, IsCountedItem, MayEnd};
+ghost use Rattle.hashbag_core.specs.JsonTrees.{IsPair, IsReading, IsTree, pair_tree, seen};
+ghost use Rattle.hashbag_core.specs.Occurrences.{greatest_total, add, IsBag, IsOneInstanceEach, SameCounts};
+ghost use Rattle.hashbag_core.specs.Walks.{IsSetWalkOf};
+
+mod items;
+
+use crate::bag::{BagError, HashBag};
+use serde_json::Value;
+use std::alloc::{AllocError, Global};
+use std::hash::{BuildHasher, Hash};
+use thiserror::Error;
+
+/// Why a tree was not read as an item.
+#[derive(Clone, Copy, Debug, PartialEq, Eq, Error)]
+pub enum ItemError {
+    /// The tree is no item's.
+    #[error("not an item")]
+    NotAnItem,
+    /// Memory was refused.
+    #[error("no memory")]
+    Memory,
+}
+
+impl ItemError {
+    /// The number by which programs report the error: 11 for `NotAnItem`, 12 for `Memory`.
+    pub fn number(&self) -> u8
+        ensures not_an_item { self.now ≡ ItemError.NotAnItem → result ≡ 11 }
+        ensures memory { self.now ≡ ItemError.Memory → result ≡ 12 }
+    {
+        match self {
+            ItemError::NotAnItem => 11,
+            ItemError::Memory => 12,
+        }
+    }
+}
+
+impl From<AllocError> for ItemError {
+    ghost use Rattle.hashbag_core.specs.declared.json.ItemError.TheVariants.{Memory};
+
+    ghost from_gives = { λ _ e. e ≡ Memory };
+
+    fn from(_e: AllocError) -> ItemError {
+        ItemError::Memory
+    }
+}
+
+/// Why a tree was not read as a bag. Pairs are numbered from 0.
+#[derive(Clone, Copy, Debug, PartialEq, Eq, Error)]
+pub enum JsonError {
+    /// The tree is no array.
+    #[error("not an array")]
+    NotAnArray,
+    /// The pair is no array of exactly two.
+    #[error("pair {0}: not a pair")]
+    NotAPair(usize),
+    /// The second part of the pair is no whole number from 0 to `usize::MAX`. A float is none, 1.0 neither.
+    #[error("pair {0}: bad count")]
+    BadCount(usize),
+    /// The first part of the pair is no item's tree.
+    #[error("pair {0}: bad item")]
+    BadItem(usize),
+    /// The total would pass `usize::MAX` with the pair.
+    #[error("pair {0}: total past its end")]
+    TooMany(usize),
+    /// Memory was refused.
+    #[error("no memory")]
+    Memory,
+}
+
+impl JsonError {
+    /// The number by which programs report the error: 3 to 8, in the order of the names.
+    pub fn number(&self) -> u8
+        ensures not_an_array { self.now ≡ JsonError.NotAnArray → result ≡ 3 }
+        ensures not_a_pair { (i : ℕ) → self.now ≡ JsonError.NotAPair i → result ≡ 4 }
+        ensures bad_count { (i : ℕ) → self.now ≡ JsonError.BadCount i → result ≡ 5 }
+        ensures bad_item { (i : ℕ) → self.now ≡ JsonError.BadItem i → result ≡ 6 }
+        ensures too_many { (i : ℕ) → self.now ≡ JsonError.TooMany i → result ≡ 7 }
+        ensures memory { self.now ≡ JsonError.Memory → result ≡ 8 }
+    {
+        match self {
+            JsonError::NotAnArray => 3,
+            JsonError::NotAPair(_) => 4,
+            JsonError::BadCount(_) => 5,
+            JsonError::BadItem(_) => 6,
+            JsonError::TooMany(_) => 7,
+            JsonError::Memory => 8,
+        }
+    }
+}
+
+/// Values that are written as JSON trees and read back.
+///
+/// An implementation says, for contracts alone, which values are items, which tree is an item's, which trees have an item, and
+/// when a tree is read as an item; and it proves that these agree with `==` and with one another.
+pub trait JsonItem: Eq + Sized {
+    /// Holds of the values of the type.
+    ghost is_item: { Self → Type 0 };
+
+    /// The tree of an item.
+    ghost tree_of: { Self → Data };
+
+    /// Whether a tree has an item.
+    ghost has_item: { Data → Bool };
+
+    /// Holds of a tree and the item that it is read as.
+    ghost reads: { Data → Self → Type 0 };
+
+    /// The tree of an item.
+    ///
+    /// It answers `Memory` where memory is refused, and no other error.
+    fn to_json(&self, alloc: Global) -> Result<Value, BagError>
+        ensures item { is_item self.now }
+        ensures tree { IfOk result (λ v. view v ≡ tree_of self.now) }
+        ensures memory { IfErr result (λ e. e ≡ BagError.Memory) };
+
+    /// The item of a tree.
+    ///
+    /// It answers `NotAnItem` where the tree has none, whether or not there is memory, and `Memory` where memory is refused.
+    fn from_json(alloc: Global, v: &Value) -> Result<Self, ItemError>
+        ensures item { IfOk result (λ x. is_item x × reads (view v.now) x) }
+        ensures none { (result ≡ Err ItemError.NotAnItem) ↔ (has_item (view v.now) ≡ false) };
+
+    /// A value that equals an item is an item.
+    ghost equal_is_item: { (x y : Self) → is_item x → Self.eq x y ≡ true → is_item y };
+
+    /// Equal items have equal trees.
+    ghost equal_trees: { (x y : Self) → is_item x → is_item y → Self.eq x y ≡ true → tree_of x ≡ tree_of y };
+
+    /// The tree of an item is read as an item.
+    ghost tree_is_read: { (x : Self) → is_item x → (y : Self) × is_item y × reads (tree_of x) y };
+
+    /// A tree that is read as an item has one.
+    ghost read_has_item: { (d : Data) (x : Self) → reads d x → has_item d ≡ true };
+
+    /// What the tree of an item is read as equals that item.
+    ghost reads_back: { (x y : Self) → is_item x → reads (tree_of x) y → Self.eq x y ≡ true };
+
+    /// What one tree is read as is equal.
+    ghost reads_one: { (d : Data) (x y : Self) → is_item x → is_item y → reads d x → reads d y → Self.eq x y ≡ true };
+
+    /// No item's tree holds a float.
+    ghost no_float: { (x : Self) → is_item x → has_float (tree_of x) ≡ false };
+}
+
+// The two parts of an array of exactly two.
+fn parts_of(pair: &Value) -> Option<(&Value, &Value)>
+    ensures { option_map (λ p. (view p.0.now, view p.1.now)) result ≡ pair_of (view pair.now) }
+{
+    let list = pair.as_array()?;
+    if list.len() != 2 {
+        return None;
+    }
+    Some((&list[0], &list[1]))
+}
+
+// Reads the pair of that number, and adds its item as often as its count.
+fn read_pair<T: JsonItem + Hash + Drop, S: BuildHasher + Drop>(
+    alloc: Global,
+    bag: &mut HashBag<T, S>,
+    pair: &Value,
+    number: usize,
+) -> Result<(), JsonError>
+    ensures no_fault { OnOk result (pair_fault greatest_total T.has_item number (length bag.old.items) (pair_of (view pair.now)) ≡ None) }
+    ensures read { OnOk result ((p : T × ℕ) × IsPair T.reads (view pair.now) p × IsBagOf T.eq bag.old (add T.eq p.0 p.1 bag.old.items) bag.new) }
+    ensures fault { IfErr result (λ e. e ≢ JsonError.Memory → pair_fault greatest_total T.has_item number (length bag.old.items) (pair_of (view pair.now)) ≡ Some e) }
+    ensures memory { IfErr result (λ e. e ≡ JsonError.Memory → IsCountedItem T.has_item (view pair.now)) }
+{
+    let Some((tree, count)) = parts_of(pair) else {
+        return Err(JsonError::NotAPair(number));
+    };
+    let Some(count) = count.as_u64() else {
+        return Err(JsonError::BadCount(number));
+    };
+    let item = match T::from_json(alloc, tree) {
+        Ok(item) => item,
+        Err(ItemError::NotAnItem) => return Err(JsonError::BadItem(number)),
+        Err(ItemError::Memory) => return Err(JsonError::Memory),
+    };
+    match bag.insert_within(item, count as usize) {
+        Ok(()) => Ok(()),
+        Err(BagError::TooMany) => Err(JsonError::TooMany(number)),
+        Err(BagError::Memory) => Err(JsonError::Memory),
+    }
+}
+
+// The pair of an item and its count.
+fn pair_value<T: JsonItem>(alloc: Global, item: &T, count: usize) -> Result<Value, BagError>
+    ensures item { T.is_item item.now }
+    ensures pair { IfOk result (λ v. view v ≡ pair_tree T.tree_of (item.now, count)) }
+    ensures memory { IfErr result (λ e. e ≡ BagError.Memory) }
+{
+    let tree = item.to_json(alloc)?;
+    let mut pair = Vec::new(alloc);
+    serde_json::push(&mut pair, tree)?;
+    serde_json::push(&mut pair, Value::from(count))?;
+    Ok(Value::Array(pair))
+}
+
+impl<T: JsonItem + Hash + Drop, S: BuildHasher + Drop> HashBag<T, S> {
+    /// The bag of a tree, under the default state: its pairs are read and inserted in turn.
+    ///
+    /// Of each pair it checks that it is an array of two, then its count, then its item, then that the total stays within
+    /// `usize::MAX`, and the first pair with a fault decides. A pair with the count 0 is checked and adds nothing. Equal items add up,
+    /// and the first instance stays. It answers `Memory` where memory is refused, which it asks for at no pair after the
+    /// first with a fault, and at that one for its item alone. Where it is refused there is no bag.
+    pub fn from_value(alloc: Global, tree: &Value) -> Result<HashBag<T, S>, JsonError>
+    where
+        S: Default,
+        ensures no_fault { OnOk result (fault greatest_total T.has_item (view tree.now) ≡ None) }
+        ensures read { IfOk result (λ bag. (pairs : List (T × ℕ)) × IsReading T.reads (view tree.now) pairs × Means bag (add_all T.eq [] pairs)) }
+        ensures bag { IfOk result (λ bag. IsBag T.eq bag.items) }
+        ensures hasher { IfOk result (λ bag. S.is_default bag.hasher) }
+        ensures fault { IfErr result (λ e. e ≢ JsonError.Memory → fault greatest_total T.has_item (view tree.now) ≡ Some e) }
+        ensures memory { IfErr result (λ e. e ≡ JsonError.Memory → MayEnd greatest_total T.has_item (view tree.now)) }
+    {
+        let Some(list) = tree.as_array() else {
+            return Err(JsonError::NotAnArray);
+        };
+        let mut bag = HashBag::default_in(alloc);
+        for (number, pair) in list.iter().enumerate() {
+            if let Err(e) = read_pair(alloc, &mut bag, pair, number) {
+                return Err(e);
+            }
+        }
+        Ok(bag)
+    }
+
+    // The distinct values with their counts, values rising.
+    fn sorted_pairs(&self, alloc: Global) -> Result<Vec<(&T, usize)>, BagError>
+    where
+        T: Ord,
+        ensures walk { IfOk result (λ pairs. IsSetWalkOf T.eq self.now (map seen pairs.items)) }
+        ensures rising { IfOk result (λ pairs. IsStrictlySortedBy T.cmp (keys_of (map seen pairs.items))) }
+        ensures memory { IfErr result (λ e. e ≡ BagError.Memory) }
+    {
+        let mut pairs = Vec::new(alloc);
+        for pair in self.set_iter() {
+            if pairs.push(pair).is_err() {
+                return Err(BagError::Memory);
+            }
+        }
+        pairs.sort_unstable();
+        Ok(pairs)
+    }
+
+    /// The tree of the bag: an array with an array `[item, count]` for each distinct value, items rising.
+    ///
+    /// Equal bags have equal trees, whatever their instances, states and history. What is written is read back as an equal bag,
+    /// where there is memory for it. It answers `Memory` where memory is refused.
+    pub fn to_value(&self, alloc: Global) -> Result<Value, BagError>
+    where
+        T: Ord,
+        // Of every list with the counts of the bag.
+        ensures tree { IfOk result (λ v. (Y : List T) → IsOneInstanceEach T.eq Y → SameCounts T.eq Y self.now.items → IsTree T.eq T.cmp T.tree_of Y (view v)) }
+        ensures items { OnOk result (All T.is_item self.now.items) }
+
+        // The tree has no fault, and is read as a list with the counts of the bag.
+        ensures no_fault { IfOk result (λ v. fault greatest_total T.has_item (view v) ≡ None) }
+        ensures counts { IfOk result (λ v. (pairs : List (T × ℕ)) → IsReading T.reads (view v) pairs → SameCounts T.eq (add_all T.eq [] pairs) self.now.items) }
+
+        // A bag equals this one exactly if its tree is this one.
+        ensures same { IfOk result (λ v. (Y : List T) (d : Data) → All T.is_item Y → IsTree T.eq T.cmp T.tree_of Y d → (same_counts T.eq self.now.items Y ≡ true) ↔ (view v ≡ d)) }
+        ensures no_float { IfOk result (λ v. has_float (view v) ≡ false) }
+        ensures memory { IfErr result (λ e. e ≡ BagError.Memory) }
+    {
+        let pairs = self.sorted_pairs(alloc)?;
+        let mut list = Vec::new(alloc);
+        for (item, count) in pairs {
+            serde_json::push(&mut list, pair_value(alloc, item, count)?)?;
+        }
+        Ok(Value::Array(list))
+    }
+}

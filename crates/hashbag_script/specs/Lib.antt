@@ -1,0 +1,4 @@
+pub mod Examples
+pub mod Pairs
+pub mod Rows
+pub mod Script

@@ -1,0 +1,45 @@
+-- Runs of steps on two bags, one after the other.
+use Rattle.std.specs.Prelude.{◌≡◌, ◌+◌, ◌<◌, Bool, List, ◌++◌, ◌⊎◌, Vec, vec_len, vec_capacity}
+use Rattle.hashbag_script.specs.declared.script.Step.{Step}
+use Rattle.hashbag_script.specs.declared.script.Reply.{Reply}
+use Rattle.hashbag_core.specs.Bag.{Bag, Means}
+use Rattle.hashbag_script.specs.Script.{run, IsStopped}
+
+-- what a run of steps on a bag began with, and what it left
+pub record Ran (T S : Type 0) : Type 0 where
+  pub before : Bag T S
+  pub after : Bag T S
+  pub steps : List (Step T)
+  pub replies_before : List (Reply T)
+  pub replies_after : List (Reply T)
+
+abbrev pub ran : {T S : Type 0} → Bag T S → Bag T S → List (Step T) → List (Reply T) → List (Reply T) → Ran T S
+ran before after steps replies_before replies_after = record { before = before; after = after; steps = steps; replies_before = replies_before; replies_after = replies_after }
+
+-- v has no room for as many more items as w has
+abbrev pub HasNoRoom : {X Y Z W : Type 0} → Vec X Z → Vec Y W → Type 0
+HasNoRoom v w = vec_capacity v < vec_len v + vec_len w
+
+-- no step was done
+pub record IsUntouched {T S : Type 0} (r : Ran T S) : Type 0 where
+  pub bag : r.after ≡ r.before
+  pub replies : r.replies_after ≡ r.replies_before
+
+module _ {T : Type 0} (eq : T → T → Bool) where
+  -- every step was done, from the list X on: the replies of that run were appended, and the bag means what it left
+  pub record IsDoneFrom {S : Type 0} (X : List T) (r : Ran T S) : Type 0 where
+    pub replies : r.replies_after ≡ r.replies_before ++ (run eq X r.steps).1
+    pub means : Means r.after (run eq X r.steps).0
+
+  -- every step was done, whichever list the bag meant
+  abbrev pub IsDone : {S : Type 0} → Ran T S → Type 0
+  IsDone r = (X : List T) → Means r.before X → IsDoneFrom X r
+
+  -- memory stopped the run, whichever list the bag meant
+  abbrev pub IsCutOff : {S : Type 0} → Ran T S → Type 0
+  IsCutOff r = (X : List T) → Means r.before X → IsStopped eq X r.steps r.replies_before r.replies_after r.after
+
+  -- memory stopped the runs of two bags: before the first step, since there was no room for the replies; or in the first
+  -- run, and the second bag is untouched; or in the second run, and the first was done
+  abbrev pub IsPairCutOff : {S S2 : Type 0} → Type 0 → Ran T S → Ran T S2 → Type 0
+  IsPairCutOff NoRoom r q = (NoRoom × IsUntouched r × IsUntouched q) ⊎ ((IsCutOff r × IsUntouched q) ⊎ (IsDone r × IsCutOff q))

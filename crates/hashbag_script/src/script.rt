@@ -1,0 +1,344 @@
+//! Whole runs of steps on a bag.
+ghost use Rattle.std.specs.Prelude.{◌≡◌, ◌+◌, ◌-◌, ◌<◌, ◌≤◌, ◌++◌, ◌⊎◌, List, length, vec_len, vec_capacity, IfOk, OnOk, OnErr};
+ghost use Rattle.hashbag_core.specs.Bag.{Means, IsBagOf};
+ghost use Rattle.hashbag_core.specs.Occurrences.{greatest_total, count, IsBag};
+ghost use Rattle.hashbag_script.specs.Rows.{insert_row, replace_row, try_take_row, take_all_row, entry_set_row, entry_or_row, retain_row, quota as quota_of};
+ghost use Rattle.hashbag_script.specs.Script.{step as step_of, run as run_of, IsRefusedInsertion, AsksForMemory, IsStopped};
+ghost use Rattle.std.specs.Prelude.{map};
+ghost use Rattle.hashbag_core.specs.Joins.{IsOuterJoin, IsDifference, IsNotIn, IsSignedDifference};
+ghost use Rattle.hashbag_script.specs.Pairs.{ran, HasNoRoom, IsDone, IsPairCutOff};
+
+use hashbag_core::{BagError, HashBag};
+use std::alloc::Global;
+use std::hash::{BuildHasher, Hash};
+
+/// A call on a bag.
+#[derive(Debug, PartialEq, Eq, Drop)]
+pub enum Step<T> {
+    /// [`HashBag::insert`], or `TooMany` where the total would pass `usize::MAX`.
+    Insert(T),
+    /// [`HashBag::insert_many`], or `TooMany` where the total would pass `usize::MAX`.
+    InsertMany(T, usize),
+    /// [`HashBag::replace`], or `TooMany` where the total would pass `usize::MAX`.
+    Replace(T),
+    /// [`HashBag::remove`].
+    Remove(T),
+    /// [`HashBag::remove_up_to`].
+    RemoveUpTo(T, usize),
+    /// [`HashBag::try_take`]: `Taken` with 1 for the last occurrence, `Left` with the count before where more were there.
+    TryTake(T),
+    /// [`HashBag::take_all`].
+    TakeAll(T),
+    /// [`HashBag::entry`] with `and_modify` that sets the count: `Absent` where the value isn't there, `TooMany` where the total
+    /// would pass `usize::MAX`.
+    EntrySet(T, usize),
+    /// [`HashBag::entry`] with `or_insert_many`, or `TooMany` where the total would pass `usize::MAX`.
+    EntryOr(T, usize),
+    /// [`HashBag::retain`]: a value keeps at most as many as the number beside the first value of the list that is equal to it, and
+    /// goes where there is none.
+    Retain(Vec<(T, usize)>),
+    /// [`HashBag::clear`].
+    Clear,
+    /// [`HashBag::contains`].
+    Count(T),
+    /// [`HashBag::reserve`].
+    Reserve(usize),
+    /// [`HashBag::shrink_to_fit`].
+    ShrinkToFit,
+}
+
+/// What a step answers.
+#[derive(Debug, PartialEq, Eq, Drop)]
+pub enum Reply<T> {
+    /// A number of occurrences of the value.
+    Count(usize),
+    /// One occurrence was taken of as many as this.
+    Left(usize),
+    /// The stored instance, and how many occurrences were taken with it.
+    Taken(T, usize),
+    /// The value doesn't occur.
+    Absent,
+    /// The call answers nothing.
+    Done,
+    /// The total would have passed `usize::MAX`, and nothing changed.
+    TooMany,
+}
+
+// Adds occurrences if the total can have them.
+fn insert_within<T: Eq + Hash + Drop, S: BuildHasher + Drop>(
+    bag: &mut HashBag<T, S>,
+    value: T,
+    n: usize,
+) -> Result<Reply<T>, BagError>
+    ensures reply { IfOk result (λ reply. reply ≡ (insert_row T.eq value n bag.old.items).1) }
+    ensures left { OnOk result (IsBagOf T.eq bag.old (insert_row T.eq value n bag.old.items).0 bag.new) }
+    ensures memory { OnErr result (result ≡ Err BagError.Memory) }
+    ensures refused { OnErr result (IsRefusedInsertion T.eq value n bag.old.items) }
+    ensures err { OnErr result (bag.new ≡ bag.old) }
+{
+    if n > usize::MAX - bag.len() {
+        return Ok(Reply::TooMany);
+    }
+    Ok(Reply::Count(bag.insert_many(value, n)?))
+}
+
+// Replaces a value if the total can have it.
+fn replace_within<T: Eq + Hash + Drop, S: BuildHasher + Drop>(
+    bag: &mut HashBag<T, S>,
+    value: T,
+) -> Result<Reply<T>, BagError>
+    ensures reply { IfOk result (λ reply. reply ≡ (replace_row T.eq value bag.old.items).1) }
+    ensures left { OnOk result (IsBagOf T.eq bag.old (replace_row T.eq value bag.old.items).0 bag.new) }
+    ensures memory { OnErr result (result ≡ Err BagError.Memory) }
+    ensures refused { OnErr result (length bag.old.items - count T.eq value bag.old.items + 1 ≤ greatest_total) }
+    ensures err { OnErr result (bag.new ≡ bag.old) }
+{
+    if bag.len() == usize::MAX && bag.contains(&value) == 0 {
+        return Ok(Reply::TooMany);
+    }
+    Ok(Reply::Count(bag.replace(value)?))
+}
+
+// Takes one occurrence, and answers it where it was the last.
+fn try_take<T: Eq + Hash + Drop, S: BuildHasher + Drop>(
+    bag: &mut HashBag<T, S>,
+    value: &T,
+) -> Reply<T>
+    ensures reply { result ≡ (try_take_row T.eq value.now bag.old.items).1 }
+    ensures left { IsBagOf T.eq bag.old (try_take_row T.eq value.now bag.old.items).0 bag.new }
+{
+    match bag.take_one(value) {
+        Ok(instance) => Reply::Taken(instance, 1),
+        Err(0) => Reply::Absent,
+        Err(before) => Reply::Left(before),
+    }
+}
+
+// Takes all occurrences, and answers them.
+fn take_all<T: Eq + Hash + Drop, S: BuildHasher + Drop>(
+    bag: &mut HashBag<T, S>,
+    value: &T,
+) -> Reply<T>
+    ensures reply { result ≡ (take_all_row T.eq value.now bag.old.items).1 }
+    ensures left { IsBagOf T.eq bag.old (take_all_row T.eq value.now bag.old.items).0 bag.new }
+{
+    match bag.take_all(value) {
+        Some((instance, count)) => Reply::Taken(instance, count),
+        None => Reply::Absent,
+    }
+}
+
+// Sets the count of a value that is there, if the total can have it.
+fn entry_set<T: Eq + Hash + Drop, S: BuildHasher + Drop>(
+    bag: &mut HashBag<T, S>,
+    value: T,
+    n: usize,
+) -> Reply<T>
+    ensures reply { result ≡ (entry_set_row T.eq value n bag.old.items).1 }
+    ensures left { IsBagOf T.eq bag.old (entry_set_row T.eq value n bag.old.items).0 bag.new }
+{
+    if bag.contains(&value) == 0 {
+        return Reply::Absent;
+    }
+    let set = |count: &mut usize|
+        ensures { count.new ≡ n }
+    {
+        *count = n;
+    };
+    match bag.entry(value).and_modify(set) {
+        Ok(entry) => {
+            drop(entry);
+            Reply::Done
+        }
+        Err(_) => Reply::TooMany,
+    }
+}
+
+// Puts in occurrences of a value that isn't there, if the total can have them.
+fn entry_or<T: Eq + Hash + Drop, S: BuildHasher + Drop>(
+    bag: &mut HashBag<T, S>,
+    value: T,
+    quantity: usize,
+) -> Result<Reply<T>, BagError>
+    ensures reply { IfOk result (λ reply. reply ≡ (entry_or_row T.eq value quantity bag.old.items).1) }
+    ensures left { OnOk result (IsBagOf T.eq bag.old (entry_or_row T.eq value quantity bag.old.items).0 bag.new) }
+    ensures memory { OnErr result (result ≡ Err BagError.Memory) }
+    ensures refused { OnErr result (IsRefusedInsertion T.eq value quantity bag.old.items) }
+    ensures err { OnErr result (bag.new ≡ bag.old) }
+{
+    let _len = bag.len();
+    match bag.entry(value).or_insert_many(quantity) {
+        Ok(count) => Ok(Reply::Count(count)),
+        Err(BagError::TooMany) => Ok(Reply::TooMany),
+        Err(BagError::Memory) => Err(BagError::Memory),
+    }
+}
+
+// The number beside the first value of the list that is equal to this one, 0 where there is none.
+fn quota<T: Eq>(list: &[(T, usize)], value: &T) -> usize
+    ensures { result ≡ quota_of T.eq list.now value.now }
+{
+    match list.iter().find(|entry| *value == entry.0) {
+        Some(entry) => entry.1,
+        None => 0,
+    }
+}
+
+// Leaves of each value at most as many as the list says.
+fn retain<T: Eq + Hash + Drop, S: BuildHasher + Drop>(bag: &mut HashBag<T, S>, list: &[(T, usize)])
+    ensures left { IsBagOf T.eq bag.old (retain_row T.eq list.now bag.old.items).0 bag.new }
+{
+    let _len = bag.len();
+    bag.retain(
+        |value: &T, _count: usize| -> usize
+            ensures quota { result ≡ quota_of T.eq list.entry.now value.entry.now }
+            ensures same { list.exit.now ≡ list.entry.now }
+        { quota(list, value) },
+    );
+}
+
+// Does one step, and answers it.
+fn apply<T: Eq + Hash + Drop, S: BuildHasher + Drop>(
+    bag: &mut HashBag<T, S>,
+    step: Step<T>,
+) -> Result<Reply<T>, BagError>
+    ensures reply { IfOk result (λ reply. reply ≡ (step_of T.eq bag.old.items step).1) }
+    ensures left { OnOk result (IsBagOf T.eq bag.old (step_of T.eq bag.old.items step).0 bag.new) }
+    ensures bag { IsBag T.eq bag.old.items }
+
+    // Only memory can be refused, and only to a step that asks for it.
+    ensures memory { OnErr result (result ≡ Err BagError.Memory) }
+    ensures refused { OnErr result (AsksForMemory T.eq bag.old.items step) }
+    ensures err { OnErr result (bag.new ≡ bag.old) }
+{
+    let _len = bag.len();
+    match step {
+        Step::Insert(value) => insert_within(bag, value, 1),
+        Step::InsertMany(value, n) => insert_within(bag, value, n),
+        Step::Replace(value) => replace_within(bag, value),
+        Step::Remove(value) => Ok(Reply::Count(bag.remove(&value))),
+        Step::RemoveUpTo(value, quantity) => Ok(Reply::Count(bag.remove_up_to(&value, quantity))),
+        Step::TryTake(value) => Ok(try_take(bag, &value)),
+        Step::TakeAll(value) => Ok(take_all(bag, &value)),
+        Step::EntrySet(value, n) => Ok(entry_set(bag, value, n)),
+        Step::EntryOr(value, quantity) => entry_or(bag, value, quantity),
+        Step::Retain(list) => {
+            retain(bag, &list);
+            Ok(Reply::Done)
+        }
+        Step::Clear => {
+            bag.clear();
+            Ok(Reply::Done)
+        }
+        Step::Count(value) => Ok(Reply::Count(bag.contains(&value))),
+        Step::Reserve(n) => {
+            bag.reserve(n)?;
+            Ok(Reply::Done)
+        }
+        Step::ShrinkToFit => {
+            bag.shrink_to_fit()?;
+            Ok(Reply::Done)
+        }
+    }
+}
+
+/// Does the steps in turn, and appends a reply for each.
+///
+/// Room for all replies is taken first: where it is refused, nothing changes. Then only an insertion of a value that is
+/// absent (`EntryOr` too), a replacement, `Reserve` and `ShrinkToFit` can be refused for memory. The run stops there with `Memory`: the
+/// steps before it have their replies and are done, that step left the bag as it was, and the rest of the steps is
+/// dropped. A total that would pass its end is the reply `TooMany`, and no error. No value is copied.
+pub fn run<T: Eq + Hash + Drop, S: BuildHasher + Drop>(
+    bag: &mut HashBag<T, S>,
+    steps: Vec<Step<T>>,
+    replies: &mut Vec<Reply<T>>,
+) -> Result<(), BagError>
+    // Each step replies as the plain list of occurrences replies, whichever list the bag means, and the bag then means
+    // what that list has become.
+    ensures replies { OnOk result ((X : List T) → Means bag.old X → replies.new.items ≡ replies.old.items ++ (run_of T.eq X steps.items).1) }
+    ensures means { OnOk result ((X : List T) → Means bag.old X → Means bag.new (run_of T.eq X steps.items).0) }
+    ensures hasher { bag.new.hasher ≡ bag.old.hasher }
+
+    // Only memory stops a run: either nothing was done, since there was no room for the replies, or the steps that have
+    // replies are the run.
+    ensures memory { OnErr result (result ≡ Err BagError.Memory) }
+    ensures stopped { OnErr result (((vec_capacity replies.old < vec_len replies.old + vec_len steps) × (bag.new ≡ bag.old) × (replies.new.items ≡ replies.old.items)) ⊎ ((X : List T) → Means bag.old X → IsStopped T.eq X steps.items replies.old.items replies.new.items bag.new)) }
+{
+    replies.reserve(steps.len())?;
+    for step in steps {
+        let reply = apply(bag, step)?;
+        replies.push_reserved(reply);
+    }
+    Ok(())
+}
+
+/// Does the steps of two bags, those of the first before those of the second, and appends a reply for each. The states of
+/// the bags may be of different types.
+///
+/// Room for all replies of both is taken first: where it is refused, nothing changes. Then the two runs are as [`run`] does
+/// them. Where memory stops the first one, the second bag and its replies stay as they were; where it stops the second one,
+/// the first run was done. So the replies say how far each run came.
+pub fn run_pair<T: Eq + Hash + Drop, S: BuildHasher + Drop, S2: BuildHasher + Drop>(
+    a: &mut HashBag<T, S>,
+    b: &mut HashBag<T, S2>,
+    steps_a: Vec<Step<T>>,
+    steps_b: Vec<Step<T>>,
+    replies_a: &mut Vec<Reply<T>>,
+    replies_b: &mut Vec<Reply<T>>,
+) -> Result<(), BagError>
+    // Each step replies as the plain list of occurrences replies, whichever list its bag means, and each bag then means what
+    // its list has become.
+    ensures first { OnOk result (IsDone T.eq (ran a.old a.new steps_a.items replies_a.old.items replies_a.new.items)) }
+    ensures second { OnOk result (IsDone T.eq (ran b.old b.new steps_b.items replies_b.old.items replies_b.new.items)) }
+    ensures first_hasher { a.new.hasher ≡ a.old.hasher }
+    ensures second_hasher { b.new.hasher ≡ b.old.hasher }
+
+    // Only memory stops the runs.
+    ensures memory { OnErr result (result ≡ Err BagError.Memory) }
+    ensures stopped { OnErr result (IsPairCutOff T.eq (HasNoRoom replies_a.old steps_a ⊎ HasNoRoom replies_b.old steps_b) (ran a.old a.new steps_a.items replies_a.old.items replies_a.new.items) (ran b.old b.new steps_b.items replies_b.old.items replies_b.new.items)) }
+{
+    replies_a.reserve(steps_a.len())?;
+    replies_b.reserve(steps_b.len())?;
+    run(a, steps_a, replies_a)?;
+    run(b, steps_b, replies_b)
+}
+
+/// The four joins of a bag with another, collected.
+#[derive(Drop)]
+pub struct Joins<'a, T> {
+    /// What [`HashBag::outer_join`] gives.
+    pub outer: Vec<(&'a T, usize, usize)>,
+    /// What [`HashBag::difference`] gives.
+    pub difference: Vec<(&'a T, usize)>,
+    /// What [`HashBag::signed_difference`] gives.
+    pub signed: Vec<(&'a T, isize)>,
+    /// What [`HashBag::not_in`] gives.
+    pub not_in: Vec<(&'a T, usize)>,
+}
+
+/// Collects the four joins of `a` with `b`. It changes neither bag.
+///
+/// Memory may be refused: then there are no joins.
+pub fn joins_of<'a, T: Eq + Hash + Drop, S: BuildHasher + Drop, S2: BuildHasher + Drop>(
+    alloc: Global,
+    a: &'a HashBag<T, S>,
+    b: &'a HashBag<T, S2>,
+) -> Result<Joins<'a, T>, BagError>
+    // Whichever lists the bags mean.
+    ensures outer { IfOk result (λ joins. (X Y : List T) → Means a.now X → Means b.now Y → IsOuterJoin T.eq X Y (map (λ j. (j.0.now, j.1, j.2)) joins.outer.items)) }
+    ensures difference { IfOk result (λ joins. (X Y : List T) → Means a.now X → Means b.now Y → IsDifference T.eq X Y (map (λ e. (e.0.now, e.1)) joins.difference.items)) }
+    ensures signed { IfOk result (λ joins. (X Y : List T) → Means a.now X → Means b.now Y → IsSignedDifference T.eq X Y (map (λ e. (e.0.now, e.1)) joins.signed.items)) }
+    ensures not_in { IfOk result (λ joins. (X Y : List T) → Means a.now X → Means b.now Y → IsNotIn T.eq X Y (map (λ e. (e.0.now, e.1)) joins.not_in.items)) }
+    ensures memory { OnErr result (result ≡ Err BagError.Memory) }
+{
+    let outer = a.outer_join(b).collect(alloc)?;
+    let difference = a.difference(b).collect(alloc)?;
+    let signed = a.signed_difference(b).collect(alloc)?;
+    let not_in = a.not_in(b).collect(alloc)?;
+    Ok(Joins {
+        outer,
+        difference,
+        signed,
+        not_in,
+    })
+}
