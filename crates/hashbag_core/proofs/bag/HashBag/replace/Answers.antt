@@ -3,7 +3,7 @@ use Rattle.std.proofs.lemmas.List.Sorted.{IsPermutation-trans}
 use Rattle.hashbag_table.specs.Entries.{count_of}
 use Rattle.hashbag_core.specs.Bag.{occurrences, IsTallied}
 use Rattle.hashbag_core.specs.Occurrences.{greatest_total, count}
-use Rattle.hashbag_core.proofs.OccurrenceLemmas.{bag_from_tally, count_occurrences, present_from_count, put_absent, put_occurrences, tally_put}
+use Rattle.hashbag_core.proofs.OccurrenceLemmas.{bag_from_tally, count_occurrences, count_in_tally, present_from_count, put_absent, put_occurrences, tally_put}
 use Rattle.hashbag_core.proofs.bag.HashBag.replace.Goals as goal
 
 pub returns-then-before-eq0-clause-put : goal.returns-then-before-eq0-clause-put
@@ -44,3 +44,11 @@ returns-clause-put g c = rw (← c.self.view_is) (record {
   hasher = c.put_instance.ensures.hasher;
   bag = bag_from_tally g.met.T.Eq.laws _ _ (invariant_of-self-2 g c);
 })
+
+pub returns-clause-len : goal.returns-clause-len
+returns-clause-len g c =
+    let before = (rw (← c.self.view_is) at c.contains-before.ensures.count) ∙ count_occurrences g.met.T.Eq.laws c.args.value c.self.inside.table.entries c.self.invariant.counted.distinct in
+    let few = count_in_tally g.met.T.Eq.laws c.args.value c.self.inside.table.entries c.self.inside.len c.self.invariant in
+    let was = c.self.invariant.sum in
+    let now = (invariant_of-self-2 g c).sum in
+    rw (← c.self.view_is) (omega arith)
