@@ -1,3 +1,4 @@
+pub mod CallerLemmas
 pub mod ContainsLemmas
 pub mod CopyLemmas
 pub mod DistinctLemmas

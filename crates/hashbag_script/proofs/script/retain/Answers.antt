@@ -6,7 +6,7 @@ use Rattle.hashbag_script.proofs.script.retain.Goals as goal
 
 pub returns : goal.returns
 returns g c =
-    let done = c.retain.ensures in
+    let done = c.retain.ensures.retained in
     let eq = g.T.PartialEq.eq in
     let list = c.args.list.now in
     let answers = answers_are _ (λ p. p.0.now ≡ list) (quota eq list) (λ p q x n a same t. search rules) _ done.walk done.answers done.last refl done.asked in

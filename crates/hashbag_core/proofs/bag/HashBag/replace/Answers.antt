@@ -40,3 +40,12 @@ returns-clause-put g c = rw (← c.self.view_is) (record {
   hasher = c.put_instance.ensures.hasher;
   bag = bag_from_tally g.met.T.Eq.laws _ _ (invariant_of-self-2 g c);
 })
+
+pub returns-clause-len : goal.returns-clause-len
+returns-clause-len g c =
+    let before = c.in_ok-before.ensures.before in
+    let same = count_occurrences g.met.T.Eq.laws c.args.value c.self.inside.table.entries c.self.invariant.counted.distinct in
+    let few = count_in_tally g.met.T.Eq.laws c.args.value c.self.inside.table.entries c.self.inside.len c.self.invariant in
+    let was = c.self.invariant.sum in
+    let now = (invariant_of-self-2 g c).sum in
+    rw (← c.self.view_is) (omega arith)
