@@ -1,17 +1,37 @@
 -- How many distinct values the occurrences of a map have.
-use Rattle.std.proofs.Common.{◌≡◌, ℕ, zero, suc, ◌+◌, ◌<◌, ◌==◌, Bool, cond, List, [], ◌∷◌, ◌++◌, length, replicate, filter, Option, unwrap_or, refl, ◌∙◌, ap, arith}
+use Rattle.std.proofs.Common.{◌≡◌, ℕ, zero, suc, ◌+◌, ◌<◌, ◌≤◌, ◌==◌, Bool, true, false, cond, List, [], ◌∷◌, ◌++◌, length, replicate, filter, Option, Some, unwrap_or, IsSome, refl, ◌∙◌, ap, arith}
 use Rattle.std.specs.Cmp.{IsEquivalence}
 use Rattle.std.proofs.lemmas.Bool.Decides.{nat_tests}
 use Rattle.std.specs.List.{IsDistinct}
-use Rattle.std.specs.Map.{keys_of}
+use Rattle.std.specs.List.Sorted.{IsPermutation}
+use Rattle.std.specs.Map.{keys_of, lookup_entry, remove_entry}
 use Rattle.std.proofs.lemmas.List.Sums.{length-filter}
 use Rattle.std.proofs.lemmas.Map.{lookup-none}
 use Rattle.std.proofs.lemmas.Map.Entries.{none_past_head}
 use Rattle.std.proofs.lemmas.Map.Keys.{IsDistinct-tail}
-use Rattle.hashbag_table.specs.Entries.{IsCounted}
+use Rattle.std.proofs.lemmas.List.Sorted.{length_permutation}
+use Rattle.hashbag_table.specs.Entries.{with_count, without, IsCounted}
 use Rattle.hashbag_core.specs.Bag.{occurrences}
 use Rattle.hashbag_core.specs.Occurrences.{count, distinct_count}
-use Rattle.hashbag_core.proofs.OccurrenceLemmas.{count_occurrences}
+use Rattle.hashbag_core.proofs.OccurrenceLemmas.{count_occurrences, present_from_count}
+
+-- without one of its values a map is no longer, and shorter by one where the value was there
+module _ {T : Type 0} (test : T → Bool) where
+  fewer_step : (b : Bool) (e : T × ℕ) (es rest : List (T × ℕ)) → length rest ≤ length es → length (cond b es (e ∷ rest)) ≤ length (e ∷ es)
+  fewer_step true e es rest h = omega arith
+  fewer_step false e es rest h = omega arith
+
+  length_without : (es : List (T × ℕ)) → length (remove_entry test es) ≤ length es
+  length_without [] = omega arith
+  length_without (e ∷ es) = fewer_step (test e.0) e es (remove_entry test es) (length_without es)
+
+  one_fewer_step : (b : Bool) (e : T × ℕ) (es rest : List (T × ℕ)) → (IsSome (lookup_entry test es) → length rest + 1 ≡ length es) → IsSome (cond b (Some e) (lookup_entry test es)) → length (cond b es (e ∷ rest)) + 1 ≡ length (e ∷ es)
+  one_fewer_step true e es rest later there = omega arith
+  one_fewer_step false e es rest later there = let h = later there in omega arith
+
+  length_without_one : (es : List (T × ℕ)) → IsSome (lookup_entry test es) → length (remove_entry test es) + 1 ≡ length es
+  length_without_one [] there = absurd (cc)
+  length_without_one (e ∷ es) there = one_fewer_step (test e.0) e es (remove_entry test es) (length_without_one es) there
 
 module _ {T : Type 0} {eq : T → T → Bool} (laws : IsEquivalence eq) where
   first_counts : (k d : ℕ) → k ≡ 0 → (cond (k == 0) 1 0) + d ≡ suc d
@@ -34,7 +54,8 @@ module _ {T : Type 0} {eq : T → T → Bool} (laws : IsEquivalence eq) where
       later_counts_not (count eq x (replicate (suc n) x ++ X)) (distinct_count eq (replicate (suc n) x ++ X)) (copy_counts x (replicate n x ++ X))
       ∙ copies_count_once x (suc n) X (omega arith) none
 
-  absent_later : (e : T × ℕ) (es : List (T × ℕ)) → IsDistinct eq (keys_of (e ∷ es)) → count eq e.0 (occurrences es) ≡ 0
+  -- the value of an entry doesn't occur in the later ones
+  pub absent_later : (e : T × ℕ) (es : List (T × ℕ)) → IsDistinct eq (keys_of (e ∷ es)) → count eq e.0 (occurrences es) ≡ 0
   absent_later e es distinct =
       count_occurrences laws e.0 es (IsDistinct-tail eq e.0 (keys_of es) distinct)
       ∙ ap (λ (o : Option ℕ). unwrap_or o 0) (lookup-none (eq e.0) es (none_past_head laws e.0 e es distinct (laws.refl e.0)))
@@ -46,3 +67,23 @@ module _ {T : Type 0} {eq : T → T → Bool} (laws : IsEquivalence eq) where
       let later : IsCounted eq es = record { distinct = IsDistinct-tail eq e.0 (keys_of es) counted.distinct; positive = λ k d at. counted.positive (suc k) d (omega arith) } in
       copies_count_once e.0 e.1 (occurrences es) (counted.positive 0 e.1 (omega arith)) (absent_later e es counted.distinct)
       ∙ ap suc (distinct_count-occurrences es later)
+
+  -- a map in which one value got a count has at most one value more, and none where that one was there
+  pub distinct_added : (v : T) (n : ℕ) (es fs : List (T × ℕ)) → IsCounted eq es → IsCounted eq fs → IsPermutation (with_count eq v n es) fs
+      → distinct_count eq (occurrences fs) ≤ distinct_count eq (occurrences es) + 1
+  distinct_added v n es fs counted after h =
+      let before = distinct_count-occurrences es counted in
+      let now = distinct_count-occurrences fs after in
+      let long = length_permutation (with_count eq v n es) fs h in
+      let few = length_without (eq v) es in
+      omega arith
+
+  pub distinct_same : (v : T) (n : ℕ) (es fs : List (T × ℕ)) → IsCounted eq es → IsCounted eq fs → IsPermutation (with_count eq v n es) fs
+      → 0 < count eq v (occurrences es) → distinct_count eq (occurrences fs) ≡ distinct_count eq (occurrences es)
+  distinct_same v n es fs counted after h some =
+      let before = distinct_count-occurrences es counted in
+      let now = distinct_count-occurrences fs after in
+      let same = count_occurrences laws v es counted.distinct in
+      let long = length_permutation (with_count eq v n es) fs h in
+      let fewer = length_without_one (eq v) es (present_from_count laws v es (omega arith)) in
+      omega arith

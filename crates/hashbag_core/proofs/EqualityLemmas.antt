@@ -37,7 +37,7 @@ module _ {T : Type 0} {eq : T → T → Bool} (laws : IsEquivalence eq) where
   not_alike b e = cc
 
   -- the counts of other values don't change where v's items go
-  count_in_others : (v x : T) (Y : List T) → eq v x ≡ false → count eq x (others eq v Y) ≡ count eq x Y
+  pub count_in_others : (v x : T) (Y : List T) → eq v x ≡ false → count eq x (others eq v Y) ≡ count eq x Y
   count_in_others v x Y other =
       sym (length-filter (eq x) (others eq v Y))
       ∙ filter_in_others (eq x) (λ y. not (eq v y)) Y (λ y e. not_alike (eq v y) (laws.symm v y ∙ sym (laws.congr x y v e) ∙ laws.symm x v ∙ other))

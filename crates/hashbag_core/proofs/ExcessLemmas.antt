@@ -24,7 +24,7 @@ module _ {T : Type 0} {eq : T → T → Bool} (laws : IsEquivalence eq) where
   count_of_equal v x X p = sym (length-filter (eq v) X) ∙ (λ i. length (filter (λ z. laws.congr v x z p i) X)) ∙ length-filter (eq x) X
 
   -- a value that occurs has an instance
-  an_instance : (v : T) (X : List T) → 0 < count eq v X → (x : T) × Contains X x × (eq v x ≡ true)
+  pub an_instance : (v : T) (X : List T) → 0 < count eq v X → (x : T) × Contains X x × (eq v x ≡ true)
   an_instance v X some = pick (filter (eq v) X) refl
     where
       pick : (l : List T) → l ≡ filter (eq v) X → (x : T) × Contains X x × (eq v x ≡ true)

@@ -1,3 +1,4 @@
+pub mod CallerLemmas
 pub mod ContainsLemmas
 pub mod CopyLemmas
 pub mod DistinctLemmas
@@ -12,6 +13,7 @@ pub mod JsonWriteLemmas
 pub mod Laws
 pub mod MemberLemmas
 pub mod OccurrenceLemmas
+pub mod OuterJoinLemmas
 pub mod RetainLemmas
 pub mod TakeLemmas
 pub mod WalkLemmas

@@ -1,5 +1,5 @@
 -- What a closure's answers leave of a bag.
-use Rattle.std.proofs.Common.{◌≡◌, ℕ, ◌<◌, ◌^◌, Bool, List, [], ◌∷◌, map, refl, sym, ◌∙◌, ap, arith}
+use Rattle.std.proofs.Common.{◌≡◌, ℕ, ◌<◌, ◌≤◌, ◌^◌, Bool, List, [], ◌∷◌, length, map, refl, sym, ◌∙◌, ap, arith}
 use Rattle.std.specs.Cmp.{IsEquivalence}
 use Rattle.std.proofs.lemmas.List.Sorted.{sum_by-IsPermutation}
 use denote.Ref.{Bor}
@@ -22,15 +22,22 @@ module _ {F T : Type 0} {eq : T → T → Bool} (laws : IsEquivalence eq) (g : M
       omega arith
 
   module _ (counted : IsCounted eq fs) (retains : Retains g f es fs) where
-    pub tally_retained : (left : ℕ) → left ≡ total fs → IsTallied eq fs left
-    tally_retained left is =
+    -- no more is left than was there
+    pub fewer_retained : length (occurrences fs) ≤ length (occurrences es)
+    fewer_retained =
         let sum = length_occurrences fs in
         let before = length_occurrences es in
-        let len_sum = tally.sum in
-        let fits = tally.fits in
         let walked = sum_by-IsPermutation (λ e. e.1) es retains.walk retains.order in
         let fewer = total_kept retains.walk retains.answers in
         let kept_sum = sum_by-IsPermutation (λ e. e.1) (kept retains.walk retains.answers) fs retains.kept in
+        omega arith
+
+    pub tally_retained : (left : ℕ) → left ≡ total fs → IsTallied eq fs left
+    tally_retained left is =
+        let sum = length_occurrences fs in
+        let len_sum = tally.sum in
+        let fits = tally.fits in
+        let fewer = fewer_retained in
         record { sum = is ∙ sym sum; fits = omega arith; counted = counted }
 
     pub is_retained : {S : Type 0} (hasher after : S) (left : ℕ) → left ≡ total fs → after ≡ hasher → IsRetained eq g f (record { items = occurrences es; hasher = hasher }) (record { items = occurrences fs; hasher = after })

@@ -26,7 +26,7 @@ module _ {T : Type 0} (p : T → Bool) where
   none_step x R true e h = h
   none_step x R false e h = ap (λ c. cond c (x ∷ filter p R) (filter p R)) e ∙ h
 
-  none_of_others : (xs : List T) → filter p (filter (λ x. not (p x)) xs) ≡ []
+  pub none_of_others : (xs : List T) → filter p (filter (λ x. not (p x)) xs) ≡ []
   none_of_others [] = refl
   none_of_others (x ∷ xs) = none_step x _ (p x) refl (none_of_others xs)
 

@@ -1,6 +1,6 @@
 //! `HashBag`: how often each of several values occurs.
 ghost use Rattle.std.specs.Borrow.{sem};
-ghost use Rattle.std.specs.Prelude.{◌≡◌, ◌≢◌, ◌+◌, ◌-◌, ◌<◌, ◌≤◌, ◌↔◌, [], All, true, length, option_map, IsTrue, IsOk, IfOk, IfErr, IsErrAnd, OnOk, OnErr};
+ghost use Rattle.std.specs.Prelude.{◌≡◌, ◌≢◌, ◌+◌, ◌-◌, ◌<◌, ◌≤◌, ◌↔◌, [], All, true, length, min, option_map, IsTrue, IsOk, IfOk, IfErr, IsErrAnd, OnOk, OnErr, MatchOption, MatchResult};
 ghost use Rattle.std.specs.List.Sorted.{IsPermutation};
 ghost use Rattle.hashbag_table.specs.Asked.{MayAskInTurn};
 ghost use Rattle.hashbag_table.specs.Entries.{count_of, IsCounted, HasClones};
@@ -219,6 +219,9 @@ impl<T: Eq + Hash + Drop, S: BuildHasher + Drop> HashBag<T, S> {
         requires { length self.old.items + 1 ≤ greatest_total }
         ensures before { IfOk result (λ before. before ≡ count T.eq value self.old.items) }
         ensures added { OnOk result (IsBagOf T.eq self.old (add T.eq value 1 self.old.items) self.new) }
+        ensures len { OnOk result (length self.new.items ≡ length self.old.items + 1) }
+        ensures set_len { OnOk result (distinct_count T.eq self.new.items ≤ distinct_count T.eq self.old.items + 1) }
+        ensures same_set { 0 < count T.eq value self.old.items → distinct_count T.eq self.new.items ≡ distinct_count T.eq self.old.items }
 
         // Only memory can be refused, and only to a value that is absent.
         ensures memory { OnErr result (result ≡ Err BagError.Memory) }
@@ -238,6 +241,9 @@ impl<T: Eq + Hash + Drop, S: BuildHasher + Drop> HashBag<T, S> {
         ensures before { IfOk result (λ before. before ≡ count T.eq value self.old.items) }
         ensures added { OnOk result (IsBagOf T.eq self.old (add T.eq value n self.old.items) self.new) }
         ensures none { n ≡ 0 → self.new ≡ self.old }
+        ensures len { OnOk result (length self.new.items ≡ length self.old.items + n) }
+        ensures set_len { OnOk result (distinct_count T.eq self.new.items ≤ distinct_count T.eq self.old.items + 1) }
+        ensures same_set { 0 < count T.eq value self.old.items → distinct_count T.eq self.new.items ≡ distinct_count T.eq self.old.items }
 
         // Only memory can be refused, and only to some occurrences of a value that is absent.
         ensures memory { OnErr result (result ≡ Err BagError.Memory) }
@@ -262,15 +268,11 @@ impl<T: Eq + Hash + Drop, S: BuildHasher + Drop> HashBag<T, S> {
         requires { length self.old.items - count T.eq value self.old.items + 1 ≤ greatest_total }
         ensures before { IfOk result (λ before. before ≡ count T.eq value self.old.items) }
         ensures put { OnOk result (IsBagOf T.eq self.old (put T.eq value 1 self.old.items) self.new) }
+        ensures len { IfOk result (λ before. length self.new.items + before ≡ length self.old.items + 1) }
         ensures memory { OnErr result (result ≡ Err BagError.Memory) }
         ensures err { OnErr result (self.new ≡ self.old) }
     {
-        let before = self.contains(&value);
-        if before == 0 {
-            self.insert_new(value, 1)?;
-            return Ok(0);
-        }
-        self.table.put_instance(value)?;
+        let before = self.table.put_instance(value)?;
         self.len = self.len - before + 1;
         Ok(before)
     }
@@ -282,6 +284,7 @@ impl<T: Eq + Hash + Drop, S: BuildHasher + Drop> HashBag<T, S> {
     pub fn remove(&mut self, value: &T) -> usize
         ensures before { result ≡ count T.eq value.now self.old.items }
         ensures removed { IsBagOf T.eq self.old (less T.eq value.now 1 self.old.items) self.new }
+        ensures len { length self.new.items + min result 1 ≡ length self.old.items }
     {
         self.take_up_to(value, 1)
     }
@@ -293,6 +296,7 @@ impl<T: Eq + Hash + Drop, S: BuildHasher + Drop> HashBag<T, S> {
     pub fn remove_up_to(&mut self, value: &T, quantity: usize) -> usize
         ensures after { result ≡ count T.eq value.now self.old.items - quantity }
         ensures removed { IsBagOf T.eq self.old (less T.eq value.now quantity self.old.items) self.new }
+        ensures len { length self.new.items + count T.eq value.now self.old.items ≡ length self.old.items + result }
     {
         self.take_up_to(value, quantity).saturating_sub(quantity)
     }
@@ -301,6 +305,7 @@ impl<T: Eq + Hash + Drop, S: BuildHasher + Drop> HashBag<T, S> {
     fn take_up_to(&mut self, value: &T, quantity: usize) -> usize
         ensures before { result ≡ count T.eq value.now self.old.items }
         ensures removed { IsBagOf T.eq self.old (less T.eq value.now quantity self.old.items) self.new }
+        ensures len { length self.new.items + min result quantity ≡ length self.old.items }
     {
         let before = self.table.take(value, quantity);
         self.len -= before.min(quantity);
@@ -311,17 +316,20 @@ impl<T: Eq + Hash + Drop, S: BuildHasher + Drop> HashBag<T, S> {
     /// which stays, with how many there were. `Err(None)` where the value is absent.
     ///
     /// It lowers the count in place and takes no memory.
+    ///
+    /// The answer may lend the instance that stays, so a caller that is proved learns what it was, and not what the bag means
+    /// afterwards. Whoever needs that, as in a loop, calls [`HashBag::take_one`], which takes the same and lends nothing.
     pub fn try_take(&mut self, value: &T) -> Result<T, Option<(&T, usize)>>
         // Once the loan is over.
         ensures* left { sem 𝓛 (ends_meaning T.row S.row S.Hasher.row T.Hash S.BuildHasher S.Hasher.Hasher self.entry (less T.eq value.now 1 self.old.items)) }
         ensures last { IfOk result (λ instance. stored T.eq value.now self.old.items ≡ Some (instance, 1)) }
         ensures others { IfErr result (λ found. (option_map (λ e. (e.0.now, e.1)) found ≡ stored T.eq value.now self.old.items) × (count T.eq value.now self.old.items ≢ 1)) }
     {
-        HashBag::with_rest(self.take_one(value), self, value)
+        HashBag::taken_or_lent(self.take_one(value), self, value)
     }
 
     // What was taken, or else the stored instance, of which some are left, with how many there were.
-    fn with_rest<'a>(
+    fn taken_or_lent<'a>(
         taken: Result<T, usize>,
         bag: &'a HashBag<T, S>,
         value: &T,
@@ -340,17 +348,22 @@ impl<T: Eq + Hash + Drop, S: BuildHasher + Drop> HashBag<T, S> {
         }
     }
 
-    /// Takes one occurrence of a value: the last one itself, or else one of as many as it answers in `Err`, 0 where the value is
-    /// absent.
+    /// Takes one occurrence of a value: the last one itself in `Ok`, and else one of several, of which `Err` says how many there
+    /// were. `Err(0)` where the value is absent: nothing is then taken.
     ///
-    /// It is [`HashBag::try_take`] without the loan of the instance that stays. It takes no memory.
+    /// It is [`HashBag::try_take`] without the loan of the instance that stays, so its contract says what the bag means
+    /// afterwards. It takes no memory.
     pub fn take_one(&mut self, value: &T) -> Result<T, usize>
         ensures taken { IsBagOf T.eq self.old (less T.eq value.now 1 self.old.items) self.new }
+        ensures len { MatchResult result (λ _. length self.new.items + 1 ≡ length self.old.items) (λ before. length self.new.items + min before 1 ≡ length self.old.items) }
         ensures last { IfOk result (λ instance. stored T.eq value.now self.old.items ≡ Some (instance, 1)) }
         ensures others { IfErr result (λ before. (before ≡ count T.eq value.now self.old.items) × (before ≢ 1)) }
         ensures bag { IsBag T.eq self.old.items }
     {
         let before = self.contains(value);
+        if before == 0 {
+            return Err(0);
+        }
         if before != 1 {
             return Err(self.remove(value));
         }
@@ -365,6 +378,7 @@ impl<T: Eq + Hash + Drop, S: BuildHasher + Drop> HashBag<T, S> {
     pub fn take_all(&mut self, value: &T) -> Option<(T, usize)>
         ensures taken { result ≡ stored T.eq value.now self.old.items }
         ensures left { IsBagOf T.eq self.old (less T.eq value.now (count T.eq value.now self.old.items) self.old.items) self.new }
+        ensures len { MatchOption result (length self.new.items ≡ length self.old.items) (λ taken. length self.new.items + taken.1 ≡ length self.old.items) }
     {
         let (instance, count) = self.table.remove(value)?;
         self.len -= count;
@@ -386,7 +400,8 @@ impl<T: Eq + Hash + Drop, S: BuildHasher + Drop> HashBag<T, S> {
     /// It takes no memory and hashes nothing.
     pub fn retain<F: FnMut(&T, usize) -> usize + Drop>(&mut self, f: F)
         requires asks { (walk : _) → IsSetWalkOf T.eq self.old walk → MayAskInTurn F.FnMut f walk }
-        ensures { IsRetained T.eq F.FnMut f self.old self.new }
+        ensures retained { IsRetained T.eq F.FnMut f self.old self.new }
+        ensures len { length self.new.items ≤ length self.old.items }
     {
         self.len = self.table.retain(f);
     }
@@ -397,6 +412,7 @@ impl<T: Eq + Hash + Drop, S: BuildHasher + Drop> HashBag<T, S> {
     /// distinct values: the bag is then unchanged. With `n` 0 it takes no memory and succeeds.
     pub fn reserve(&mut self, n: usize) -> Result<(), BagError>
         ensures kept { IsBagOf T.eq self.old self.old.items self.new }
+        ensures len { length self.new.items ≡ length self.old.items }
         ensures none { n ≡ 0 → IsOk result }
         ensures beyond { 0 < n → MOST_VALUES < distinct_count T.eq self.old.items + n → result ≡ Err BagError.Memory }
         ensures memory { OnErr result (result ≡ Err BagError.Memory) }
@@ -411,6 +427,7 @@ impl<T: Eq + Hash + Drop, S: BuildHasher + Drop> HashBag<T, S> {
     /// It answers `Memory` where memory is refused: the bag is then unchanged.
     pub fn shrink_to_fit(&mut self) -> Result<(), BagError>
         ensures kept { IsBagOf T.eq self.old self.old.items self.new }
+        ensures len { length self.new.items ≡ length self.old.items }
         ensures memory { OnErr result (result ≡ Err BagError.Memory) }
         ensures err { OnErr result (self.new ≡ self.old) }
     {
@@ -429,6 +446,7 @@ impl<T: Eq + Hash + Drop, S: BuildHasher + Drop> HashBag<T, S> {
         requires equal { All (λ x. (y : _) → T.is_clone x y → T.eq x y ≡ true) self.now.items }
         ensures clones { IfOk result (λ bag. HasClones T.is_clone self.now.items bag.items) }
         ensures counts { IfOk result (λ bag. SameCounts T.eq self.now.items bag.items) }
+        ensures len { IfOk result (λ bag. length bag.items ≡ length self.now.items) }
         ensures hasher { IfOk result (λ bag. S.is_clone self.now.hasher bag.hasher) }
         ensures memory { OnErr result (result ≡ Err BagError.Memory) }
     {
@@ -437,6 +455,13 @@ impl<T: Eq + Hash + Drop, S: BuildHasher + Drop> HashBag<T, S> {
             table,
             len: self.len,
         })
+    }
+
+    // For the prover alone, which learns here from the invariant that the list is a bag's. It does nothing when it runs.
+    pub(crate) fn recall_bag(&self)
+        ensures { IsBag T.eq self.now.items }
+    {
+        let _ = self.len();
     }
 
     // Adds occurrences of a value if the total can have them.
@@ -448,10 +473,8 @@ impl<T: Eq + Hash + Drop, S: BuildHasher + Drop> HashBag<T, S> {
         if n > usize::MAX - self.len() {
             return Err(BagError::TooMany);
         }
-        match self.insert_many(value, n) {
-            Ok(_) => Ok(()),
-            Err(_) => Err(BagError::Memory),
-        }
+        self.insert_many(value, n)?;
+        Ok(())
     }
 
     // Puts in some occurrences of a value that is absent.
@@ -460,6 +483,7 @@ impl<T: Eq + Hash + Drop, S: BuildHasher + Drop> HashBag<T, S> {
         requires some { 0 < quantity }
         requires fits { length self.old.items + quantity ≤ greatest_total }
         ensures added { OnOk result (IsBagOf T.eq self.old (add T.eq value quantity self.old.items) self.new) }
+        ensures len { OnOk result (length self.new.items ≡ length self.old.items + quantity) }
         ensures memory { OnErr result (result ≡ Err BagError.Memory) }
         ensures err { OnErr result (self.new ≡ self.old) }
     {
@@ -473,7 +497,9 @@ impl<T: Eq + Hash + Drop, S: BuildHasher + Drop> HashBag<T, S> {
         requires before { before ≡ count T.eq value.now self.old.items }
         requires present { 0 < before }
         requires fits { length self.old.items - before + n ≤ greatest_total }
-        ensures { IsBagOf T.eq self.old (put T.eq (instance_or_itself T.eq value.now self.old.items) n self.old.items) self.new }
+        ensures put { IsBagOf T.eq self.old (put T.eq (instance_or_itself T.eq value.now self.old.items) n self.old.items) self.new }
+        ensures after { count T.eq value.now self.new.items ≡ n }
+        ensures len { length self.new.items + before ≡ length self.old.items + n }
     {
         set_or_remove(&mut self.table, value, n);
         self.len = self.len - before + n;

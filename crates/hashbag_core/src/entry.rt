@@ -62,6 +62,7 @@ impl<'a, T: Eq + Hash + Drop, S: BuildHasher + Drop> Entry<'a, T, S> {
         ensures changes { IfOk result (λ e. ChangesCount T.eq F.FnOnce f self.entry.value self.entry.bag.now e.bag.now) }
         ensures too_many { OnErr result (result ≡ Err BagError.TooMany) }
         ensures passes { OnErr result (PassesEnd T.eq F.FnOnce f self.entry.value self.entry.bag.now) }
+        ensures len { IfOk result (λ e. length e.bag.now.items + count T.eq self.entry.value self.entry.bag.now.items ≡ length self.entry.bag.now.items + count T.eq self.entry.value e.bag.now.items) }
         ensures* stays { sem 𝓛 (RestsIfErr (bag_row T.row S.row S.Hasher.row T.Hash S.BuildHasher S.Hasher.Hasher) self.entry.bag (λ e. e.bag.ghost_name) result (λ n. n ≡ self.entry.bag.now)) }
     {
         let Entry { bag, value } = self;
@@ -83,6 +84,7 @@ impl<'a, T: Eq + Hash + Drop, S: BuildHasher + Drop> Entry<'a, T, S> {
     pub fn or_insert(self) -> Result<usize, BagError>
         ensures occupied { 0 < count T.eq self.entry.value self.entry.bag.now.items → (result ≡ Ok (count T.eq self.entry.value self.entry.bag.now.items)) × (self.exit.0.now ≡ self.entry.bag.now) }
         ensures vacant { count T.eq self.entry.value self.entry.bag.now.items ≡ 0 → IfOk result (λ after. (after ≡ 1) × IsBagOf T.eq self.entry.bag.now (add T.eq self.entry.value 1 self.entry.bag.now.items) self.exit.0.now) }
+        ensures len { IfOk result (λ after. length self.exit.0.now.items + count T.eq self.entry.value self.entry.bag.now.items ≡ length self.entry.bag.now.items + after) }
         ensures too_many { result ≡ Err BagError.TooMany → greatest_total < length self.entry.bag.now.items + 1 }
         ensures memory { result ≡ Err BagError.Memory → length self.entry.bag.now.items + 1 ≤ greatest_total }
         ensures err { OnErr result (self.exit.0.now ≡ self.entry.bag.now) }
@@ -100,6 +102,7 @@ impl<'a, T: Eq + Hash + Drop, S: BuildHasher + Drop> Entry<'a, T, S> {
         ensures occupied { 0 < count T.eq self.entry.value self.entry.bag.now.items → (result ≡ Ok (count T.eq self.entry.value self.entry.bag.now.items)) × (self.exit.0.now ≡ self.entry.bag.now) }
         ensures vacant { count T.eq self.entry.value self.entry.bag.now.items ≡ 0 → IfOk result (λ after. (after ≡ quantity) × IsBagOf T.eq self.entry.bag.now (add T.eq self.entry.value quantity self.entry.bag.now.items) self.exit.0.now) }
         ensures none { quantity ≡ 0 → IsOk result }
+        ensures len { IfOk result (λ after. length self.exit.0.now.items + count T.eq self.entry.value self.entry.bag.now.items ≡ length self.entry.bag.now.items + after) }
         ensures too_many { result ≡ Err BagError.TooMany → greatest_total < length self.entry.bag.now.items + quantity }
         ensures memory { result ≡ Err BagError.Memory → length self.entry.bag.now.items + quantity ≤ greatest_total }
         ensures err { OnErr result (self.exit.0.now ≡ self.entry.bag.now) }

@@ -28,7 +28,7 @@ pub struct Iter<'a, T> {
     // The value that is being given, and how often it still comes.
     at: Option<(&'a T, usize)>,
     // How many occurrences are still to come, of all values.
-    left: usize,
+    to_come: usize,
 }
 
 impl<'a, T> Model for Iter<'a, T> {
@@ -39,7 +39,7 @@ impl<'a, T> Model for Iter<'a, T> {
 
     ghost view = { λ a. occurrences_left a.at a.walk };
 
-    ghost invariant = { λ a. IsPending a.at a.walk a.left };
+    ghost invariant = { λ a. IsPending a.at a.walk a.to_come };
 }
 
 impl<'a, T> Clone for Iter<'a, T> {
@@ -52,7 +52,7 @@ impl<'a, T> Clone for Iter<'a, T> {
         Ok(Iter {
             walk: self.walk.clone()?,
             at: self.at,
-            left: self.left,
+            to_come: self.to_come,
         })
     }
 }
@@ -68,13 +68,13 @@ impl<'a, T> Iterator for Iter<'a, T> {
         if let Some((value, count)) = self.at {
             if count > 0 {
                 self.at = Some((value, count - 1));
-                self.left -= 1;
+                self.to_come -= 1;
                 return Some(value);
             }
         }
         let (value, count) = self.walk.next()?;
         self.at = Some((value, count - 1));
-        self.left -= 1;
+        self.to_come -= 1;
         Some(value)
     }
 
@@ -83,13 +83,13 @@ impl<'a, T> Iterator for Iter<'a, T> {
         ensures upper { IfSome result.1 (UpTo (at_most (length self.now))) }
         ensures exact { result ≡ (length self.now, Some (length self.now)) }
     {
-        (self.left, Some(self.left))
+        (self.to_come, Some(self.to_come))
     }
 }
 
 impl<'a, T> ExactSizeIterator for Iter<'a, T> {
     fn len(&self) -> usize {
-        self.left
+        self.to_come
     }
 }
 
@@ -263,7 +263,7 @@ impl<T: Eq + Hash + Drop, S: BuildHasher + Drop> HashBag<T, S> {
         Iter {
             walk: self.table.walk(),
             at: None,
-            left: self.len,
+            to_come: self.len,
         }
     }
 

@@ -4,6 +4,7 @@ ghost use Rattle.std.specs.List.Sorted.{IsStrictlySortedBy};
 ghost use Rattle.std.specs.Map.{keys_of};
 ghost use Rattle.serde_json.specs.Data.{Data};
 ghost use Rattle.serde_json.specs.View.{view};
+ghost use Rattle.serde_json.specs.declared.value.Value.{Value};
 ghost use Rattle.serde_json.specs.Written.{has_float};
 ghost use Rattle.hashbag_core.specs.Bag.{Means, IsBagOf};
 ghost use Rattle.hashbag_core.specs.Equality.{same_counts};
@@ -143,6 +144,9 @@ pub trait JsonItem: Eq + Sized {
     /// A tree that is read as an item has one.
     ghost read_has_item: { (d : Data) (x : Self) → reads d x → has_item d ≡ true };
 
+    /// A tree that has an item is read as one. So no more than memory can keep `from_json` from an item there.
+    ghost item_is_read: { (v : Value) → has_item (view v) ≡ true → (x : Self) × is_item x × reads (view v) x };
+
     /// What the tree of an item is read as equals that item.
     ghost reads_back: { (x y : Self) → is_item x → reads (tree_of x) y → Self.eq x y ≡ true };
 
@@ -229,14 +233,13 @@ impl<T: JsonItem + Hash + Drop, S: BuildHasher + Drop> HashBag<T, S> {
         };
         let mut bag = HashBag::default_in(alloc);
         for (number, pair) in list.iter().enumerate() {
-            if let Err(e) = read_pair(alloc, &mut bag, pair, number) {
-                return Err(e);
-            }
+            read_pair(alloc, &mut bag, pair, number)?;
         }
         Ok(bag)
     }
 
-    // The distinct values with their counts, values rising.
+    // The distinct values with their counts, values rising. Room is taken for all of them at once, since the walk knows its
+    // length.
     fn sorted_pairs(&self, alloc: Global) -> Result<Vec<(&T, usize)>, BagError>
     where
         T: Ord,
@@ -244,12 +247,7 @@ impl<T: JsonItem + Hash + Drop, S: BuildHasher + Drop> HashBag<T, S> {
         ensures rising { IfOk result (λ pairs. IsStrictlySortedBy T.cmp (keys_of (map seen pairs.items))) }
         ensures memory { IfErr result (λ e. e ≡ BagError.Memory) }
     {
-        let mut pairs = Vec::new(alloc);
-        for pair in self.set_iter() {
-            if pairs.push(pair).is_err() {
-                return Err(BagError::Memory);
-            }
-        }
+        let mut pairs: Vec<(&T, usize)> = self.set_iter().collect(alloc)?;
         pairs.sort_unstable();
         Ok(pairs)
     }

@@ -367,8 +367,8 @@ fn with_counts<S: BuildHasher + Default + Drop>(
     }
 }
 
-// What a call answers. What it is called with tells its kind.
-fn answer<S: BuildHasher + Default + Drop>(
+/// What a call answers. What it is called with tells its kind.
+pub fn answer<S: BuildHasher + Default + Drop>(
     alloc: Global,
     bag: &mut HashBag<u64, S>,
     call: &str,

@@ -1,15 +1,12 @@
 //! A whole run of the program over any reader and writer.
-ghost use Rattle.std.specs.Prelude.{◌≡◌, ◌⊎◌, [], IfOk};
-ghost use Rattle.hashbag.specs.Script.{run as run_of};
-ghost use Rattle.serde_json.specs.View.{view};
-ghost use Rattle.hashbag.specs.JsonTrees.{IsTree};
-ghost use Rattle.hashbag.specs.Joins.{IsOuterJoin, IsDifference, IsNotIn, IsSignedDifference};
+ghost use Rattle.std.specs.Prelude.{◌≡◌, ◌⊎◌, IfOk};
+ghost use Rattle.hashbag_text.specs.Answers.{AreAnswersTo};
 
 use crate::joined::{JoinLists, run_and_join};
 use crate::lines::{self, LinesError, Scripts};
 use crate::output::{print_joins, print_replies, print_tree, write_all};
 use hashbag::script::{Reply, Step};
-use hashbag::{BagError, HashBag, JsonItem};
+use hashbag::{BagError, HashBag};
 use serde_json::Value;
 use std::alloc::{AllocError, Global};
 use std::io::{Read, Write};
@@ -91,14 +88,7 @@ fn answers_to(
     steps_a: Vec<Step<u64>>,
     steps_b: Vec<Step<u64>>,
 ) -> Result<Answers, BagError>
-    ensures replies_a { IfOk result (λ answers. answers.replies_a.items ≡ (run_of ⟦<u64 as PartialEq>⟧.eq [] steps_a.items).1) }
-    ensures replies_b { IfOk result (λ answers. answers.replies_b.items ≡ (run_of ⟦<u64 as PartialEq>⟧.eq [] steps_b.items).1) }
-    ensures outer { IfOk result (λ answers. IsOuterJoin ⟦<u64 as PartialEq>⟧.eq (run_of ⟦<u64 as PartialEq>⟧.eq [] steps_a.items).0 (run_of ⟦<u64 as PartialEq>⟧.eq [] steps_b.items).0 answers.joins.outer.items) }
-    ensures difference { IfOk result (λ answers. IsDifference ⟦<u64 as PartialEq>⟧.eq (run_of ⟦<u64 as PartialEq>⟧.eq [] steps_a.items).0 (run_of ⟦<u64 as PartialEq>⟧.eq [] steps_b.items).0 answers.joins.difference.items) }
-    ensures signed { IfOk result (λ answers. IsSignedDifference ⟦<u64 as PartialEq>⟧.eq (run_of ⟦<u64 as PartialEq>⟧.eq [] steps_a.items).0 (run_of ⟦<u64 as PartialEq>⟧.eq [] steps_b.items).0 answers.joins.signed.items) }
-    ensures not_in { IfOk result (λ answers. IsNotIn ⟦<u64 as PartialEq>⟧.eq (run_of ⟦<u64 as PartialEq>⟧.eq [] steps_a.items).0 (run_of ⟦<u64 as PartialEq>⟧.eq [] steps_b.items).0 answers.joins.not_in.items) }
-    ensures tree_a { IfOk result (λ answers. IsTree ⟦<u64 as PartialEq>⟧.eq ⟦<u64 as Ord>⟧.cmp ⟦<u64 as JsonItem>⟧.tree_of (run_of ⟦<u64 as PartialEq>⟧.eq [] steps_a.items).0 (view answers.tree_a)) }
-    ensures tree_b { IfOk result (λ answers. IsTree ⟦<u64 as PartialEq>⟧.eq ⟦<u64 as Ord>⟧.cmp ⟦<u64 as JsonItem>⟧.tree_of (run_of ⟦<u64 as PartialEq>⟧.eq [] steps_b.items).0 (view answers.tree_b)) }
+    ensures { IfOk result (AreAnswersTo steps_a.items steps_b.items) }
 {
     let mut a: HashBag<u64> = HashBag::new(alloc);
     let mut b: HashBag<u64> = HashBag::new(alloc);

@@ -1,6 +1,6 @@
 //! Bags made of the items that an iterator gives, and bags to which they are added.
-ghost use Rattle.std.specs.Prelude.{◌≡◌, ◌<◌, ⊤, [], OnOk, IfOk, IfErr, OnErr};
-ghost use Rattle.std.specs.Iterator.{IsFinite};
+ghost use Rattle.std.specs.Prelude.{◌≡◌, ◌+◌, ◌<◌, ◌≤◌, ⊤, [], length, sum_by, OnOk, IfOk, IfErr, OnErr};
+ghost use Rattle.std.specs.Iterator.{IsFinite, Drains};
 ghost use Rattle.hashbag_core.specs.Bag.{Means, IsBagOf};
 ghost use Rattle.hashbag_core.specs.Occurrences.{add, IsBag};
 ghost use Rattle.hashbag_core.specs.Extends.{Extends, ExtendsUpTo, Refuses, RefusesClones, Once, AsItIs, CloneOnce, CloneAsOften};
@@ -31,14 +31,13 @@ impl<T: Eq + Hash + Drop, S: BuildHasher + Drop> HashBag<T, S> {
         requires can { I.can_next items }
         requires ends { IsFinite (I.remaining items) }
         ensures all { IfOk result (λ bag. Extends T.eq I.next_gives Once items [] (Means bag)) }
+        ensures len { IfOk result (λ bag. (came : _) × Drains I.next_gives items came × (length bag.items ≡ length came)) }
         ensures hasher { IfOk result (λ bag. S.is_default bag.hasher) }
         ensures refused { IfErr result (λ e. ExtendsUpTo T.eq I.next_gives Once items [] (λ _. ⊤) (λ X v. Refuses T.eq X v 1 e)) }
     {
         let mut bag = HashBag::default_in(alloc);
-        match bag.extend(items) {
-            Ok(()) => Ok(bag),
-            Err(e) => Err(e),
-        }
+        bag.extend(items)?;
+        Ok(bag)
     }
 
     /// A bag of the pairs of a value and a number, under the default state: an empty one, extended by [`HashBag::extend_many`]. Where
@@ -52,33 +51,32 @@ impl<T: Eq + Hash + Drop, S: BuildHasher + Drop> HashBag<T, S> {
         requires can { I.can_next pairs }
         requires ends { IsFinite (I.remaining pairs) }
         ensures all { IfOk result (λ bag. Extends T.eq I.next_gives AsItIs pairs [] (Means bag)) }
+        ensures len { IfOk result (λ bag. (came : _) × Drains I.next_gives pairs came × (length bag.items ≡ sum_by (λ p. p.1) came)) }
         ensures hasher { IfOk result (λ bag. S.is_default bag.hasher) }
         ensures refused { IfErr result (λ e. ExtendsUpTo T.eq I.next_gives AsItIs pairs [] (λ _. ⊤) (λ X p. Refuses T.eq X p.0 p.1 e)) }
     {
         let mut bag = HashBag::default_in(alloc);
-        match bag.extend_many(pairs) {
-            Ok(()) => Ok(bag),
-            Err(e) => Err(e),
-        }
+        bag.extend_many(pairs)?;
+        Ok(bag)
     }
 
-    /// Inserts each item, as [`HashBag::insert`] does.
+    /// Inserts each item in turn, as [`HashBag::insert`] does, until the iterator ends or an item is refused. The caller sees to it
+    /// that the items end.
     ///
-    /// It answers `TooMany` at the first item with which the total would pass `usize::MAX`, which is tested before anything
-    /// grows, and `Memory` where it is refused to a value that is absent. The items before that one have then been inserted, and
-    /// the rest of the iterator is dropped. The caller sees to it that the items end.
+    /// An item is refused with `TooMany` where the total would pass `usize::MAX`, which is tested before anything grows, and with
+    /// `Memory` where the value is absent and memory is refused. The items before it stay inserted. It is dropped itself, and so
+    /// is the iterator with what is still to come.
     pub fn extend<I: Iterator<Item = T> + Drop>(&mut self, items: I) -> Result<(), BagError>
         requires can { I.can_next items }
         requires ends { IsFinite (I.remaining items) }
         ensures all { OnOk result (Extends T.eq I.next_gives Once items self.old.items (λ X. IsBagOf T.eq self.old X self.new)) }
+        ensures len { OnOk result ((came : _) × Drains I.next_gives items came × (length self.new.items ≡ length self.old.items + length came)) }
+        ensures grown { length self.old.items ≤ length self.new.items }
         ensures refused { IfErr result (λ e. ExtendsUpTo T.eq I.next_gives Once items self.old.items (λ X. IsBagOf T.eq self.old X self.new) (λ X v. Refuses T.eq X v 1 e)) }
     {
-        let _len = self.len();
+        self.recall_bag();
         for item in items {
-            match self.insert_within(item, 1) {
-                Ok(()) => {}
-                Err(e) => return Err(e),
-            }
+            self.insert_within(item, 1)?;
         }
         Ok(())
     }
@@ -93,14 +91,13 @@ impl<T: Eq + Hash + Drop, S: BuildHasher + Drop> HashBag<T, S> {
         requires can { I.can_next pairs }
         requires ends { IsFinite (I.remaining pairs) }
         ensures all { OnOk result (Extends T.eq I.next_gives AsItIs pairs self.old.items (λ X. IsBagOf T.eq self.old X self.new)) }
+        ensures len { OnOk result ((came : _) × Drains I.next_gives pairs came × (length self.new.items ≡ length self.old.items + sum_by (λ p. p.1) came)) }
+        ensures grown { length self.old.items ≤ length self.new.items }
         ensures refused { IfErr result (λ e. ExtendsUpTo T.eq I.next_gives AsItIs pairs self.old.items (λ X. IsBagOf T.eq self.old X self.new) (λ X p. Refuses T.eq X p.0 p.1 e)) }
     {
-        let _len = self.len();
+        self.recall_bag();
         for (value, n) in pairs {
-            match self.insert_within(value, n) {
-                Ok(()) => {}
-                Err(e) => return Err(e),
-            }
+            self.insert_within(value, n)?;
         }
         Ok(())
     }
@@ -118,14 +115,13 @@ impl<T: Eq + Hash + Drop, S: BuildHasher + Drop> HashBag<T, S> {
         requires can { I.can_next items }
         requires ends { IsFinite (I.remaining items) }
         ensures all { OnOk result (Extends T.eq I.next_gives (CloneOnce T.is_clone) items self.old.items (λ X. IsBagOf T.eq self.old X self.new)) }
+        ensures len { OnOk result ((came : _) × Drains I.next_gives items came × (length self.new.items ≡ length self.old.items + length came)) }
+        ensures grown { length self.old.items ≤ length self.new.items }
         ensures refused { IfErr result (λ e. ExtendsUpTo T.eq I.next_gives (CloneOnce T.is_clone) items self.old.items (λ X. IsBagOf T.eq self.old X self.new) (λ X _. RefusesClones X 1 e)) }
     {
-        let _len = self.len();
+        self.recall_bag();
         for item in items {
-            match self.insert_clone(item, 1) {
-                Ok(()) => {}
-                Err(e) => return Err(e),
-            }
+            self.insert_clone(item, 1)?;
         }
         Ok(())
     }
@@ -143,14 +139,13 @@ impl<T: Eq + Hash + Drop, S: BuildHasher + Drop> HashBag<T, S> {
         requires can { I.can_next pairs }
         requires ends { IsFinite (I.remaining pairs) }
         ensures all { OnOk result (Extends T.eq I.next_gives (CloneAsOften T.is_clone) pairs self.old.items (λ X. IsBagOf T.eq self.old X self.new)) }
+        ensures len { OnOk result ((came : _) × Drains I.next_gives pairs came × (length self.new.items ≡ length self.old.items + sum_by (λ p. p.1) came)) }
+        ensures grown { length self.old.items ≤ length self.new.items }
         ensures refused { IfErr result (λ e. ExtendsUpTo T.eq I.next_gives (CloneAsOften T.is_clone) pairs self.old.items (λ X. IsBagOf T.eq self.old X self.new) (λ X p. RefusesClones X p.1 e)) }
     {
-        let _len = self.len();
+        self.recall_bag();
         for (value, n) in pairs {
-            match self.insert_clone(value, n) {
-                Ok(()) => {}
-                Err(e) => return Err(e),
-            }
+            self.insert_clone(value, n)?;
         }
         Ok(())
     }
@@ -169,13 +164,7 @@ impl<T: Eq + Hash + Drop, S: BuildHasher + Drop> HashBag<T, S> {
         if n == 0 {
             return Ok(());
         }
-        let clone = match value.clone() {
-            Ok(clone) => clone,
-            Err(_) => return Err(BagError::Memory),
-        };
-        match self.insert_within(clone, n) {
-            Ok(()) => Ok(()),
-            Err(_) => Err(BagError::Memory),
-        }
+        let clone = value.clone()?;
+        self.insert_within(clone, n)
     }
 }

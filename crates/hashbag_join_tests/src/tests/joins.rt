@@ -116,8 +116,8 @@ fn parts_of(row: &str) -> Result<Row<'_>, Fail> {
     })
 }
 
-// The bag with the counts of a text.
-fn bag_of<S: BuildHasher + Default + Drop>(
+/// The bag with the counts of a text.
+pub fn bag_of<S: BuildHasher + Default + Drop>(
     rt: &impl Abort,
     alloc: Global,
     text: &str,
@@ -153,11 +153,14 @@ fn is_first_before(joins: &[(&u64, usize, usize)]) -> bool {
 // The text of one of the four joins.
 fn text_of(alloc: Global, joins: Joins<'_, u64>, join: &str) -> Result<String, Fail> {
     match join {
-        "outer_join" if is_first_before(joins.outer.as_slice()) => rising(alloc, joins.outer),
+        "outer_join" if !is_first_before(joins.outer.as_slice()) => {
+            Err(Fail::new("a value of the first bag comes late"))
+        }
+        "outer_join" => rising(alloc, joins.outer),
         "difference" => rising(alloc, joins.difference),
         "signed_difference" => rising(alloc, joins.signed),
         "not_in" => rising(alloc, joins.not_in),
-        _ => Err(Fail::new("no such join, or values of the first bag come late")),
+        _ => Err(Fail::new(format_args!("no join: {join}"))),
     }
 }
 

@@ -1,4 +1,4 @@
-use Rattle.std.proofs.Common.{◌≡◌, true}
+use Rattle.std.proofs.Common.{◌≡◌, true, sym, ◌∙◌}
 use Rattle.hashbag_core.proofs.CopyLemmas.{clones_occurrences, same_from_clones, tally_cloned, entries_from_items}
 use Rattle.hashbag_core.proofs.bag.HashBag.clone.Goals as goal
 
@@ -19,3 +19,6 @@ pub returns-clause-counts : goal.returns-clause-counts
 returns-clause-counts g c =
     let equal = rw (← c.self.view_is) at c.requires.equal in
     rw (← c.self.view_is) (same_from_clones g.met.T.Eq.laws g.T.Clone.is_clone _ _ equal (clones_occurrences g.met.T.Eq.laws g.T.Clone.is_clone _ _ c.in_ok-table.ensures.clones))
+
+pub returns-clause-len : goal.returns-clause-len
+returns-clause-len g c = rw (← c.self.view_is) (sym (invariant_of-result g c).sum ∙ c.self.invariant.sum)

@@ -2,6 +2,7 @@ use Rattle.std.proofs.Common.{◌≡◌, ◌+◌, ◌≤◌, length, arith, sym,
 use Rattle.hashbag_table.proofs.EntryLemmas.{OnErr-from}
 use Rattle.hashbag_core.specs.Bag.{occurrences}
 use Rattle.hashbag_core.specs.Occurrences.{greatest_total, count}
+use Rattle.hashbag_core.proofs.DistinctLemmas.{distinct_added, distinct_same}
 use Rattle.hashbag_core.proofs.OccurrenceLemmas.{add_occurrences, bag_from_tally, tally_added, count_occurrences, count_of_entry, count_in_tally}
 use Rattle.hashbag_core.proofs.bag.HashBag.insert_many.Goals as goal
 
@@ -34,3 +35,15 @@ returns-clause-added g c = rw (← c.self.view_is) (record {
   hasher = c.add.ensures.hasher;
   bag = bag_from_tally g.met.T.Eq.laws _ _ (invariant_of-self-2 g c);
 })
+
+pub returns-clause-len : goal.returns-clause-len
+returns-clause-len g c =
+    let was = c.self.invariant.sum in
+    let now = (invariant_of-self-2 g c).sum in
+    rw (← c.self.view_is) (omega arith)
+
+pub returns-clause-set_len : goal.returns-clause-set_len
+returns-clause-set_len g c = rw (← c.self.view_is) (distinct_added g.met.T.Eq.laws c.args.value _ _ _ c.self.invariant.counted c.add.ensures.counted c.in_ok-before.ensures.added)
+
+pub returns-clause-same_set : goal.returns-clause-same_set
+returns-clause-same_set g c = rw (← c.self.view_is) (distinct_same g.met.T.Eq.laws c.args.value _ _ _ c.self.invariant.counted c.add.ensures.counted c.in_ok-before.ensures.added)

@@ -26,3 +26,9 @@ returns-clause-added g c =
       hasher = c.insert_new.ensures.hasher;
       bag = bag_from_tally g.met.T.Eq.laws _ _ (invariant_of-self-2 g c);
     })
+
+pub returns-clause-len : goal.returns-clause-len
+returns-clause-len g c =
+    let was = c.self.invariant.sum in
+    let now = (invariant_of-self-2 g c).sum in
+    rw (← c.self.view_is) (omega arith)

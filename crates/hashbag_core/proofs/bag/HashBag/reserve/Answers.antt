@@ -1,4 +1,4 @@
-use Rattle.std.proofs.Common.{◌+◌, ◌<◌, length, arith}
+use Rattle.std.proofs.Common.{◌+◌, ◌<◌, length, sym, ◌∙◌, arith}
 use Rattle.std.proofs.lemmas.Bool.{false≢true}
 use Rattle.hashbag_table.specs.declared.table.TheConstants.{MOST_VALUES}
 use Rattle.hashbag_core.specs.Bag.{occurrences}
@@ -30,3 +30,9 @@ returns-clause-beyond g c = λ some more.
     let much : MOST_VALUES < distinct_count g.T.PartialEq.eq (occurrences c.self.inside.table.entries) + c.args.n = rw (← c.self.view_is) at more in
     let many : MOST_VALUES < length c.self.inside.table.entries + c.args.n = omega arith in
     absurd (false≢true (c.in_ok-reserve.ensures.beyond some many))
+
+pub returns-in_err-reserve-clause-len : goal.returns-in_err-reserve-clause-len
+returns-in_err-reserve-clause-len g c = rw (← c.self.view_is) (sym (tally_rearranged g.met.T.Eq.laws _ _ _ c.self.invariant c.reserve.ensures.counted c.reserve.ensures.entries).sum ∙ c.self.invariant.sum)
+
+pub returns-clause-len : goal.returns-clause-len
+returns-clause-len g c = rw (← c.self.view_is) (sym (invariant_of-self-2 g c).sum ∙ c.self.invariant.sum)

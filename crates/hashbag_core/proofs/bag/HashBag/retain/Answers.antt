@@ -1,4 +1,4 @@
-use Rattle.hashbag_core.proofs.RetainLemmas.{total_fits, tally_retained, is_retained}
+use Rattle.hashbag_core.proofs.RetainLemmas.{total_fits, fewer_retained, tally_retained, is_retained}
 use Rattle.hashbag_core.proofs.WalkLemmas.{set_walk_of_bag}
 use Rattle.hashbag_core.proofs.bag.HashBag.retain.Goals as goal
 
@@ -15,8 +15,13 @@ invariant_of-self g c =
     let done = c.retain-self-inside.ensures in
     tally_retained g.met.T.Eq.laws g.F.FnMut c.args.f c.self.inside.table.entries c.retain-self-inside.new.self.entries c.self.inside.len c.self.invariant done.counted done.kept c.retain-self-inside.result done.total
 
-pub returns : goal.returns
-returns g c =
+pub returns-clause-retained : goal.returns-clause-retained
+returns-clause-retained g c =
     let done = c.retain-self-inside.ensures in
     rw (← c.self.view_is) (is_retained g.met.T.Eq.laws g.F.FnMut c.args.f c.self.inside.table.entries c.retain-self-inside.new.self.entries c.self.inside.len c.self.invariant done.counted done.kept
     c.self.inside.table.hasher c.retain-self-inside.new.self.hasher c.retain-self-inside.result done.total done.hasher)
+
+pub returns-clause-len : goal.returns-clause-len
+returns-clause-len g c =
+    let done = c.retain-self-inside.ensures in
+    rw (← c.self.view_is) (fewer_retained g.met.T.Eq.laws g.F.FnMut c.args.f c.self.inside.table.entries c.retain-self-inside.new.self.entries c.self.inside.len c.self.invariant done.counted done.kept)

@@ -1,7 +1,8 @@
-use Rattle.std.proofs.Common.{◌+◌, ◌-◌, ◌≤◌, ℕ, length, arith, sym, ◌∙◌, subst}
+use Rattle.std.proofs.Common.{◌+◌, ◌-◌, ◌≤◌, ℕ, Bool, cond, length, arith, sym, ◌∙◌, ap, subst}
 use Rattle.hashbag_core.specs.Bag.{occurrences, IsTallied}
-use Rattle.hashbag_core.specs.Occurrences.{greatest_total}
-use Rattle.hashbag_core.proofs.OccurrenceLemmas.{bag_from_tally, count_occurrences, tally_set}
+use Rattle.hashbag_core.specs.Occurrences.{greatest_total, count}
+use Rattle.hashbag_core.proofs.CallerLemmas.{count_put_instance}
+use Rattle.hashbag_core.proofs.OccurrenceLemmas.{bag_from_tally, count_in_tally, count_occurrences, count_rearranged, tally_set}
 use Rattle.hashbag_core.proofs.bag.HashBag.set_count.Goals as goal
 
 pub set_or_remove-requires-clause-present : goal.set_or_remove-requires-clause-present
@@ -21,9 +22,24 @@ invariant_of-self g c =
     subst (λ (k : ℕ). IsTallied g.T.PartialEq.eq c.set_or_remove.new.table.entries (c.self.inside.len - k + c.args.n)) (sym before)
     (tally_set g.met.T.Eq.laws v c.args.n es c.set_or_remove.new.table.entries c.self.inside.len c.self.invariant c.set_or_remove.ensures.counted (omega arith) (omega arith) c.set_or_remove.ensures.set)
 
-pub returns : goal.returns
-returns g c = rw (← c.self.view_is) (record {
+pub returns-clause-put : goal.returns-clause-put
+returns-clause-put g c = rw (← c.self.view_is) (record {
   means = c.set_or_remove.ensures.set;
   hasher = c.set_or_remove.ensures.hasher;
   bag = bag_from_tally g.met.T.Eq.laws _ _ (invariant_of-self g c);
 })
+
+pub returns-clause-after : goal.returns-clause-after
+returns-clause-after g c =
+    let v = c.args.value.now in
+    let X = occurrences c.self.inside.table.entries in
+    sym (count_rearranged g.met.T.Eq.laws v _ _ c.set_or_remove.ensures.set) ∙ count_put_instance g.met.T.Eq.laws v v c.args.n X
+    ∙ ap (λ (b : Bool). cond b c.args.n (count g.T.PartialEq.eq v X)) (g.met.T.Eq.laws.refl v)
+
+pub returns-clause-len : goal.returns-clause-len
+returns-clause-len g c =
+    let before = (rw (← c.self.view_is) at c.requires.before) ∙ count_occurrences g.met.T.Eq.laws c.args.value.now c.self.inside.table.entries c.self.invariant.counted.distinct in
+    let few = count_in_tally g.met.T.Eq.laws c.args.value.now c.self.inside.table.entries c.self.inside.len c.self.invariant in
+    let was = c.self.invariant.sum in
+    let now = (invariant_of-self g c).sum in
+    rw (← c.self.view_is) (omega arith)

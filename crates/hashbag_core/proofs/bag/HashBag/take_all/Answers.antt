@@ -57,3 +57,14 @@ returns-clause-left g c =
       hasher = c.remove.ensures.hasher;
       bag = bag_from_tally g.met.T.Eq.laws _ _ (invariant_of-self-2 g c);
     })
+
+pub returns-in_err-instance-clause-len : goal.returns-in_err-instance-clause-len
+returns-in_err-instance-clause-len g c = rw c.from_residual.ensures (rw (← c.self.view_is) (sym (invariant_of-self g c).sum ∙ c.self.invariant.sum))
+
+pub returns-clause-len : goal.returns-clause-len
+returns-clause-len g c =
+    let n = count_of_entry g.met.T.Eq.laws c.args.value.now c.self.inside.table.entries _ c.in_ok-instance.ensures.taken in
+    let few = count_in_tally g.met.T.Eq.laws c.args.value.now c.self.inside.table.entries c.self.inside.len c.self.invariant in
+    let was = c.self.invariant.sum in
+    let now = (invariant_of-self-2 g c).sum in
+    rw (← c.self.view_is) (omega arith)

@@ -24,3 +24,12 @@ returns-clause-removed g c = rw (← c.self.view_is) (record {
   hasher = c.take-before.ensures.hasher;
   bag = bag_from_tally g.met.T.Eq.laws _ _ (invariant_of-self g c);
 })
+
+pub returns-clause-len : goal.returns-clause-len
+returns-clause-len g c =
+    let few = count_in_tally g.met.T.Eq.laws c.args.value.now c.self.inside.table.entries c.self.inside.len c.self.invariant in
+    let before = c.take-before.ensures.before in
+    let taken = c.min.ensures in
+    let was = c.self.invariant.sum in
+    let now = (invariant_of-self g c).sum in
+    rw (← c.self.view_is) (omega arith)

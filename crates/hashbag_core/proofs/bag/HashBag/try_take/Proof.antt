@@ -1,9 +1,30 @@
 -- `try_take`, by hand: Rattle writes no proof of its `left`, since its result has a `T` beside a `&T`.
 --
--- The walk is in the borrow checker's own rules, and follows what Rattle writes where it covers such a clause. The bag is
--- lent again to `take_one` for a lifetime that is made for the call, and comes back. Then it is shared for all the time
--- that the caller's loan has left, which says its last value. That stays in the local of `self` until the function
--- returns, and the clause is made of it.
+-- The body is two calls: `taken_or_lent(self.take_one(value), self, value)`. The walk is in the borrow checker's own rules,
+-- and follows what Rattle writes where it covers such a clause. The bag is lent again to `take_one` for a lifetime that is
+-- made for the call, and comes back. Then it is shared for all the time that the caller's loan has left, which says its
+-- last value. That stays in the local of `self` until the function returns, and the clause is made of it.
+--
+-- What stands where, from the top:
+--
+-- 1. The types: of the bag (`R`), of what `take_one` returns (`Taken`) and of the answer (`Answer`), as the logic holds them,
+--    and as the code writes them (`tA`, `tM` and so on). `taken_kind` and `answer_kind` are the two results as kinds.
+-- 2. What the walk owes of `self` (`owe`): nothing while the bag is lent, and then its last value.
+-- 3. The locals before and after each statement, from `entry` to `leaving`. Each has six rows: the result, `self`, `value`, what
+--    was taken, the bag lent again, the bag shared.
+-- 4. The statements as steps on the values that these locals show: `lends`, `shortens`, `takes`, `comes`, `shares`, `answers`,
+--    `lands`, `drops`, `owes`. `Φ-9` down to `Φ-0` chain them from the end, so that `Φ-0` is what is to be shown of the values.
+-- 5. The code from each statement on, from `lends-s` to `lends-t`.
+-- 6. The walk itself, for any lifetimes `κs` and shares `qs` of their tokens. First the tables of lifetimes: eight places, of the bag's
+--    loan, of the value's, of T, of S, of the hasher, the static one, the one made for the call, and what it has in common with those
+--    of T and S. Then one context for each place in the code (`G-entry` to `G-leaving`). Then the proofs, the last
+--    statement first: `returns`, `lets_go`, `gives_answer`, `shares_self`, `ends`, `takes_one`, `meets`, and `typed` for the whole body.
+-- 7. What is owed gives the clause (`meaning`, `gives_left`, `owed`): the last value means the list without one of the value.
+-- 8. What is left to show of the values (`asked`): that both calls may be made, and at the return the clauses. This is all that is
+--    particular to bags: it is `answer_of` of `TakeLemmas`, by the clauses of `take_one` and `taken_or_lent`.
+-- 9. The function meets its contract (`met`), and that under the names that other proofs use (`try_take_spec`).
+--
+-- A change of `take_one`'s or `taken_or_lent`'s clauses asks for a change of `asked` alone, and one of the body for 3 to 6.
 use Rattle.hashbag_core.proofs.bag.HashBag.TheLaws.{the_within, the_row_laws}
 use Rattle.hashbag_core.specs.contracts.bag.HashBag.{the_row}
 use Rattle.std.specs.Cmp.{IsEquivalence}
@@ -18,7 +39,7 @@ use Rattle.hashbag_core.proofs.bag.HashBag.try_take.Reads as reads
 use Rattle.hashbag_core.proofs.bag.HashBag.try_take.Lts as lts
 use Rattle.hashbag_core.proofs.bag.HashBag.try_take.Tie as tie
 use Rattle.hashbag_core.proofs.bag.HashBag.take_one.Symbol.{name as #take-one}
-use Rattle.hashbag_core.proofs.bag.HashBag.with_rest.Symbol.{name as #with-rest}
+use Rattle.hashbag_core.proofs.bag.HashBag.taken_or_lent.Symbol.{name as #taken-or-lent}
 use Rattle.std.specs.contracts.result.Result as result_rows
 use Rattle.std.proofs.result.Result.TheLaws as result_laws
 use Rattle.std.specs.declared.cmp.Eq.{Ghosts as EqGhosts}
@@ -327,7 +348,7 @@ module _ (T S H : RattleType) (lT : Laws T) (lS : Laws S) (lH : Laws H) (e : EqG
   shares-s = assign (place 5 []) (addr_of (place 1 (deref deep ∷ [])))
 
   abbrev answers-s : Body
-  answers-s = call (#with-rest (lts.passed-1 T S H lT lS lH e ed p pd h hd b bd s sd dT dS dH)) (copy (place 3 []) ∷ copy (place 5 []) ∷ copy (place 2 []) ∷ []) (place 0 [])
+  answers-s = call (#taken-or-lent (lts.passed-1 T S H lT lS lH e ed p pd h hd b bd s sd dT dS dH)) (copy (place 3 []) ∷ copy (place 5 []) ∷ copy (place 2 []) ∷ []) (place 0 [])
 
   abbrev answers-t : Body
   answers-t = seq answers-s return
@@ -451,7 +472,7 @@ module _ (T S H : RattleType) (lT : Laws T) (lS : Laws S) (lH : Laws H) (e : EqG
     abbrev Δ : Outs
     Δ = record { next = none; exits = []; returns = some G-leaving }
 
-    module _ {M : Type 1} {𝓤 : Ura M} (𝓛 : Logic 𝓤) (𝓣 : Tables 𝓤 𝓛.H) (take_one : lts.Known-0 T S H lT lS lH e ed p pd h hd b bd s sd dT dS dH claims 𝓛 𝓣) (with_rest : lts.Known-1 T S H lT lS lH e ed p pd h hd b bd s sd dT dS dH claims 𝓛 𝓣)
+    module _ {M : Type 1} {𝓤 : Ura M} (𝓛 : Logic 𝓤) (𝓣 : Tables 𝓤 𝓛.H) (take_one : lts.Known-0 T S H lT lS lH e ed p pd h hd b bd s sd dT dS dH claims 𝓛 𝓣) (taken_or_lent : lts.Known-1 T S H lT lS lH e ed p pd h hd b bd s sd dT dS dH claims 𝓛 𝓣)
         (lives : (κT ⊑ T.lives) × ((κS ⊑ S.lives) × ((κH ⊑ H.lives) × Unit {0}))) (bs : List ℕ) (below : AllOutlive 5 (os_r r) κs) where
       abbrev E : Env 𝓤 𝓛.H
       E = EnvOf 𝓛 (ty_r r ∷ tys_p ps (lts.xs T S H lT lS lH e ed p pd h hd b bd s sd dT dS dH)) bs
@@ -470,7 +491,7 @@ module _ (T S H : RattleType) (lT : Laws T) (lS : Laws S) (lH : Laws H) (e : EqG
           (of_slots_Val 𝓛 5 Lft (λ ks. ks.0) Answer Value (λ c v. v) own κs.0 tA (Answer κs.0) refl refl (λ x. x) (λ x vs. id⊢ 𝓤 _)))
           (g_pre_lem 𝓛 𝓣 E G-landed G-dropped return Δ (pass (cx (landed [])) (cx (dropped [])) drops) Φ-8 (g_drop_sref 𝓛 E G-landed 5 0 R tS (λ x. x) (as_is 𝓛 (sref R tS 0))) returns)
 
-      -- `with_rest` is called
+      -- `taken_or_lent` is called
       lR : RowLaws R
       lR = (the_row_laws pT pS pH p h b s (param_laws 0 T lT) (param_laws 1 S lS) (param_laws 2 H lH)).shr_laws
 
@@ -485,7 +506,7 @@ module _ (T S H : RattleType) (lT : Laws T) (lS : Laws S) (lH : Laws H) (e : EqG
       gives_answer : Typed 𝓛 𝓣 E G-shared answers-t Δ Φ-5
       gives_answer =
           s_seq 𝓛 𝓣 E G-shared G-answered answers-s return Δ (both answers) Φ-6
-          (t_call_plain_by_Pin 𝓛 𝓣 5 ps-1 r-1 claims.2 claims.3 (#with-rest (lts.passed-1 T S H lT lS lH e ed p pd h hd b bd s sd dT dS dH)) with_rest Lives E (λ pos β. β) G-shared args-1 0 own T-lives (sub_id 𝓛 with_static)
+          (t_call_plain_by_Pin 𝓛 𝓣 5 ps-1 r-1 claims.2 claims.3 (#taken-or-lent (lts.passed-1 T S H lT lS lH e ed p pd h hd b bd s sd dT dS dH)) taken_or_lent Lives E (λ pos β. β) G-shared args-1 0 own T-lives (sub_id 𝓛 with_static)
           (mem_whole 𝓛 Taken, refl, (lR, Spares-sref 𝓛 R lR tS 0, reads_sref 𝓛 R tS 0, refl, (lV, Spares-sref 𝓛 pT lV tV 1, reads_sref 𝓛 pT tV 1, refl, tt)))
           (room_gone 𝓛 tA) (tt, (tt, (tt, (tt, (tt, tt)))))
           (Told-bounds 𝓛 5 with_static own (os_r r-1)
@@ -671,9 +692,14 @@ module _ (T S H : RattleType) (lT : Laws T) (lS : Laws S) (lH : Laws H) (e : EqG
         λ κs' l. l,
         λ answered. (
           (refl, (refl, tt)),
+          -- the clauses of the two calls, in the order of their contracts
           let one = taken.5 in
+              let left = one.0 in
+              let last = one.1.1.0 in
+              let several = one.1.1.1.0 in
+              let bag = one.1.1.1.1 in
               let rest = answered.5 in
-              (one.0, answer_of laws (λ f. (f.0.now, f.1)) a.1.0.now a.0.now.items taken.2.0.items one.1.1.1 one.0.bag one.0.means taken.1 answered.1 one.1.0 one.1.1.0 rest.0 rest.1.0 rest.1.1),
+              (left, answer_of laws (λ f. (f.0.now, f.1)) a.1.0.now a.0.now.items taken.2.0.items bag left.bag left.means taken.1 answered.1 last several rest.0 rest.1.0 rest.1.1),
         ),
       ),
     ),
@@ -681,9 +707,9 @@ module _ (T S H : RattleType) (lT : Laws T) (lS : Laws S) (lH : Laws H) (e : EqG
 
   met : IsEquivalence p.eq → {M : Type 1} {𝓤 : Ura M} (𝓛 : Logic 𝓤) (𝓣 : Tables 𝓤 𝓛.H) → lts.Known-0 T S H lT lS lH e ed p pd h hd b bd s sd dT dS dH claims 𝓛 𝓣 → lts.Known-1 T S H lT lS lH e ed p pd h hd b bd s sd dT dS dH claims 𝓛 𝓣
       → Triple 𝓤 (WpFn 𝓤 𝓛.H 𝓣.C 𝓣.Λ (lts.function T S H lT lS lH e ed p pd h hd b bd s sd dT dS dH)) (plain_of 𝓛 5 ps r (reads.Pre T S H lT lS lH e ed p pd h hd b bd s sd dT dS dH) (Owing 5 R last self others r owed (reads.Post T S H lT lS lH e ed p pd h hd b bd s sd dT dS dH)))
-  met laws 𝓛 𝓣 take_one with_rest =
+  met laws 𝓛 𝓣 take_one taken_or_lent =
       t_fn_plain_given 𝓛 𝓣 5 ps r (lts.xs T S H lT lS lH e ed p pd h hd b bd s sd dT dS dH) (lts.m T S H lT lS lH e ed p pd h hd b bd s sd dT dS dH) (lts.hs T S H lT lS lH e ed p pd h hd b bd s sd dT dS dH) lends-t (λ κs qs bs. Φ-0) (λ κs. (κs.1.1.0 ⊑ T.lives) × ((κs.1.1.1.0 ⊑ S.lives) × ((κs.1.1.1.1.0 ⊑ H.lives) × Unit {0})))
-      (λ κs qs bs below lives. typed κs qs 𝓛 𝓣 take_one with_rest lives bs below) (reads.Pre T S H lT lS lH e ed p pd h hd b bd s sd dT dS dH) (Owing 5 R last self others r owed (reads.Post T S H lT lS lH e ed p pd h hd b bd s sd dT dS dH)) (λ κs a pre. let known = (reads.pre_read T S H lT lS lH e ed p pd h hd b bd s sd dT dS dH κs a tt).tells in (All-at 0 known pre, (All-at 1 known pre, (All-at 2 known pre, tt)))) (asked laws)
+      (λ κs qs bs below lives. typed κs qs 𝓛 𝓣 take_one taken_or_lent lives bs below) (reads.Pre T S H lT lS lH e ed p pd h hd b bd s sd dT dS dH) (Owing 5 R last self others r owed (reads.Post T S H lT lS lH e ed p pd h hd b bd s sd dT dS dH)) (λ κs a pre. let known = (reads.pre_read T S H lT lS lH e ed p pd h hd b bd s sd dT dS dH κs a tt).tells in (All-at 0 known pre, (All-at 1 known pre, (All-at 2 known pre, tt)))) (asked laws)
 
 pub try_take_spec : {M : Type 1} → statement M
 unfolding tables_of such_by

@@ -23,6 +23,7 @@ returns-then-n-len g c =
           passes = omega arith;
         };
         stays = tt;
+        len = tt;
       },
     )
 
@@ -40,10 +41,11 @@ returns g c =
         same_value = refl;
         changes = record {
           absent = λ none. absurd (omega arith);
-          present = λ _. (c.f.new.arg2, record { shown = _; shows = c.contains-before.ensures.count; left = _; met = c.f.ensures; leaves = refl }, omega arith, c.set_count.ensures);
+          present = λ _. (c.f.new.arg2, record { shown = _; shows = c.contains-before.ensures.count; left = _; met = c.f.ensures; leaves = refl }, omega arith, c.set_count.ensures.put);
         };
         too_many = tt;
         passes = tt;
+        len = omega (arith, c.set_count.ensures.len, c.set_count.ensures.after);
         stays = tt;
       },
     )
