@@ -119,6 +119,12 @@ fn bag_replies<T: Sample + Drop, S: BuildHasher + Drop>(
     Ok(replies)
 }
 
+// Checks that `Debug` writes the same of two values.
+fn is_same<T: Debug>(alloc: Global, place: &str, got: &T, want: &T) -> Result<(), Fail> {
+    let want = debug_of(alloc, want)?;
+    is_text(place, debug_of(alloc, got)?.as_str(), want.as_str())
+}
+
 fn compare_replies<T: Sample>(
     rt: &impl Abort,
     alloc: Global,
@@ -128,9 +134,9 @@ fn compare_replies<T: Sample>(
 ) -> Result<(), Fail> {
     assert_eq!(rt; replies.len(), STEPS as usize, "under {state}");
     assert_eq!(rt; replies.len(), wanted.len(), "under {state}");
-    for (reply, want) in replies.iter().zip(wanted) {
-        let want = debug_of(alloc, want)?;
-        is_text(state, debug_of(alloc, reply)?.as_str(), want.as_str())?;
+    for (at, (reply, want)) in replies.iter().zip(wanted).enumerate() {
+        let place = format!(in alloc; "reply {at} under {state}")?;
+        is_same(alloc, place.as_str(), reply, want)?;
     }
     Ok(())
 }
@@ -158,10 +164,9 @@ fn compare_value<T: Sample + Drop, S: BuildHasher + Drop>(
     plain: &PlainBag<T>,
     value: &T,
 ) -> Result<(), Fail> {
-    let want = debug_of(alloc, &(plain.count(value), plain_found(plain, value)))?;
-    let got = debug_of(alloc, &(bag.contains(value), bag.get(value)))?;
-    is_text(state, got.as_str(), want.as_str())?;
-    Ok(())
+    let got = (bag.contains(value), bag.get(value));
+    let want = (plain.count(value), plain_found(plain, value));
+    is_same(alloc, state, &got, &want)
 }
 
 fn compare_lens<T: Sample + Drop, S: BuildHasher + Drop>(
@@ -170,13 +175,9 @@ fn compare_lens<T: Sample + Drop, S: BuildHasher + Drop>(
     bag: &HashBag<T, S>,
     plain: &PlainBag<T>,
 ) -> Result<(), Fail> {
-    let want = debug_of(
-        alloc,
-        &(plain.len(), plain.is_empty(), plain_set_len(plain)),
-    )?;
-    let got = debug_of(alloc, &(bag.len(), bag.is_empty(), bag.set_len()))?;
-    is_text(state, got.as_str(), want.as_str())?;
-    Ok(())
+    let got = (bag.len(), bag.is_empty(), bag.set_len());
+    let want = (plain.len(), plain.is_empty(), plain_set_len(plain));
+    is_same(alloc, state, &got, &want)
 }
 
 fn compare_bags<T: Sample + Drop, S: BuildHasher + Drop>(

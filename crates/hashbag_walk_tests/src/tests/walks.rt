@@ -355,13 +355,25 @@ fn set_clones_go_on<S: BuildHasher + Drop>(
     Ok(())
 }
 
+fn all_clones_go_on<S: BuildHasher + Drop>(
+    rt: &impl Abort,
+    alloc: Global,
+    state: S,
+) -> Result<(), Fail> {
+    let bag = sample_bag(alloc, state)?;
+    for taken in 0..=ITEMS {
+        clones_go_on(rt, &bag, taken)?;
+    }
+    set_clones_go_on(rt, &bag)
+}
+
 #[test]
 fn clones_go_on_from_the_same_place(rt: HostRuntime) -> Result<(), Fail> {
-    let bag = sample_bag(rt.alloc(), ParityState)?;
-    for taken in 0..=ITEMS {
-        clones_go_on(&rt, &bag, taken)?;
-    }
-    set_clones_go_on(&rt, &bag)
+    let alloc = rt.alloc();
+    all_clones_go_on(&rt, alloc, FixedState::new())?;
+    all_clones_go_on(&rt, alloc, OneState)?;
+    all_clones_go_on(&rt, alloc, ParityState)?;
+    all_clones_go_on(&rt, alloc, IdentityState)
 }
 
 fn list_moved_out<S: BuildHasher + Drop>(
@@ -375,15 +387,31 @@ fn list_moved_out<S: BuildHasher + Drop>(
     Ok(())
 }
 
+fn one_moved_out<S: BuildHasher + Drop>(rt: &impl Abort, bag: &mut HashBag<u64, S>) {
+    assert_eq!(rt; first_moved_out(bag), Some((8, 1)));
+    assert!(rt; first_moved_out(bag).is_none());
+}
+
+fn all_moved_out<S: BuildHasher + Default + Drop>(
+    rt: &impl Abort,
+    alloc: Global,
+    state: S,
+) -> Result<(), Fail> {
+    let mut bag = sample_bag(alloc, state)?;
+    list_moved_out(rt, alloc, &mut bag)?;
+    is_empty(rt, &bag);
+    make_calls(alloc, &mut bag, "insert 8 = 0", 1)?;
+    one_moved_out(rt, &mut bag);
+    Ok(())
+}
+
 #[test]
 fn moved_out_whole_and_in_part(rt: HostRuntime) -> Result<(), Fail> {
-    let mut bag = sample_bag(rt.alloc(), OneState)?;
-    list_moved_out(&rt, rt.alloc(), &mut bag)?;
-    is_empty(&rt, &bag);
-    make_calls(rt.alloc(), &mut bag, "insert 8 = 0", 1)?;
-    assert_eq!(rt; first_moved_out(&mut bag), Some((8, 1)));
-    assert!(rt; first_moved_out(&mut bag).is_none());
-    Ok(())
+    let alloc = rt.alloc();
+    all_moved_out(&rt, alloc, FixedState::new())?;
+    all_moved_out(&rt, alloc, OneState)?;
+    all_moved_out(&rt, alloc, ParityState)?;
+    all_moved_out(&rt, alloc, IdentityState)
 }
 
 // Checks the text that `Debug` writes.
