@@ -1,5 +1,5 @@
 -- For callers: how often each value occurs after a call, from the clause that says what the bag then means (`IsBagOf`,
--- `Extends`, `IsRetained`). docs/CALLING.md shows which call needs which.
+-- `Extends`, `IsRetained`).
 --
 -- `laws` is `g.met.T.Eq.laws` under a bound `T: Eq`, and `nat_eq_equiv` of `Rattle.std.specs.Cmp` at unsigned numbers.
 use Rattle.std.proofs.Common.{◌≡◌, ℕ, zero, suc, ◌+◌, ◌-◌, ◌<◌, ◌≤◌, min, Bool, true, false, cond, nat_lt, ltb, List, [], ◌∷◌, ◌++◌, length, replicate, take, drop, get_or, filter, map, sum_by, Option, refl, sym, ◌∙◌, ap, subst, arith}
