@@ -104,15 +104,6 @@ fn walks_over_names<S: BuildHasher + Drop>(
     Ok(())
 }
 
-#[test]
-fn walks_over_three_names(rt: HostRuntime) -> Result<(), Fail> {
-    let alloc = rt.alloc();
-    walks_over_names(&rt, alloc, FixedState::new())?;
-    walks_over_names(&rt, alloc, OneState)?;
-    walks_over_names(&rt, alloc, ParityState)?;
-    walks_over_names(&rt, alloc, IdentityState)
-}
-
 // What the sample bag answers after a walk that borrowed it.
 fn is_sample<S: BuildHasher + Drop>(
     rt: &impl Abort,
@@ -176,15 +167,6 @@ fn borrowed_walks_dropped<S: BuildHasher + Drop>(
     Ok(())
 }
 
-#[test]
-fn borrowed_walks_leave_the_bag(rt: HostRuntime) -> Result<(), Fail> {
-    let alloc = rt.alloc();
-    borrowed_walks_dropped(&rt, alloc, FixedState::new())?;
-    borrowed_walks_dropped(&rt, alloc, OneState)?;
-    borrowed_walks_dropped(&rt, alloc, ParityState)?;
-    borrowed_walks_dropped(&rt, alloc, IdentityState)
-}
-
 const DRAINED_ROWS: &str = "\
     contains 5 = 0
     insert 5 = 0
@@ -212,15 +194,6 @@ fn owned_walks_dropped<S: BuildHasher + Default + Copy>(
         some_moved(rt, sample_bag(alloc, state)?, taken);
     }
     Ok(())
-}
-
-#[test]
-fn drains_leave_an_empty_bag(rt: HostRuntime) -> Result<(), Fail> {
-    let alloc = rt.alloc();
-    owned_walks_dropped(&rt, alloc, FixedState::new())?;
-    owned_walks_dropped(&rt, alloc, OneState)?;
-    owned_walks_dropped(&rt, alloc, ParityState)?;
-    owned_walks_dropped(&rt, alloc, IdentityState)
 }
 
 // After the last item there is none for good.
@@ -253,15 +226,6 @@ fn ends_of_walks<S: BuildHasher + Drop>(
     items_end(rt, &bag);
     values_end(rt, &bag);
     Ok(())
-}
-
-#[test]
-fn walks_end_for_good(rt: HostRuntime) -> Result<(), Fail> {
-    let alloc = rt.alloc();
-    ends_of_walks(&rt, alloc, FixedState::new())?;
-    ends_of_walks(&rt, alloc, OneState)?;
-    ends_of_walks(&rt, alloc, ParityState)?;
-    ends_of_walks(&rt, alloc, IdentityState)
 }
 
 // The occurrences of one value stand side by side: the value changes twice over three values.
@@ -313,15 +277,6 @@ fn items_of_walks<S: BuildHasher + Drop>(
     Ok(())
 }
 
-#[test]
-fn items_under_each_state(rt: HostRuntime) -> Result<(), Fail> {
-    let alloc = rt.alloc();
-    items_of_walks(&rt, alloc, FixedState::new())?;
-    items_of_walks(&rt, alloc, OneState)?;
-    items_of_walks(&rt, alloc, ParityState)?;
-    items_of_walks(&rt, alloc, IdentityState)
-}
-
 fn gives_the_same(rt: &impl Abort, walk: Iter<u64>, again: Iter<u64>) {
     for (one, other) in walk.zip(again) {
         assert_eq!(rt; *one, *other);
@@ -367,15 +322,6 @@ fn all_clones_go_on<S: BuildHasher + Drop>(
     set_clones_go_on(rt, &bag)
 }
 
-#[test]
-fn clones_go_on_from_the_same_place(rt: HostRuntime) -> Result<(), Fail> {
-    let alloc = rt.alloc();
-    all_clones_go_on(&rt, alloc, FixedState::new())?;
-    all_clones_go_on(&rt, alloc, OneState)?;
-    all_clones_go_on(&rt, alloc, ParityState)?;
-    all_clones_go_on(&rt, alloc, IdentityState)
-}
-
 fn list_moved_out<S: BuildHasher + Drop>(
     rt: &impl Abort,
     alloc: Global,
@@ -403,15 +349,6 @@ fn all_moved_out<S: BuildHasher + Default + Drop>(
     make_calls(alloc, &mut bag, "insert 8 = 0", 1)?;
     one_moved_out(rt, &mut bag);
     Ok(())
-}
-
-#[test]
-fn moved_out_whole_and_in_part(rt: HostRuntime) -> Result<(), Fail> {
-    let alloc = rt.alloc();
-    all_moved_out(&rt, alloc, FixedState::new())?;
-    all_moved_out(&rt, alloc, OneState)?;
-    all_moved_out(&rt, alloc, ParityState)?;
-    all_moved_out(&rt, alloc, IdentityState)
 }
 
 // Checks the text that `Debug` writes.
@@ -442,20 +379,39 @@ fn texts_of_nothing<S: BuildHasher + Drop>(alloc: Global, state: S) -> Result<()
     is_shown(alloc, &bag.set_iter(), "{}")
 }
 
-#[test]
-fn texts_of_debug(rt: HostRuntime) -> Result<(), Fail> {
-    let alloc = rt.alloc();
-    texts_of_five(alloc, FixedState::new())?;
-    texts_of_five(alloc, OneState)?;
-    texts_of_five(alloc, ParityState)?;
-    texts_of_five(alloc, IdentityState)
+// All of these under one state.
+fn walks_under<S: BuildHasher + Default + Copy>(
+    rt: &impl Abort,
+    alloc: Global,
+    state: S,
+) -> Result<(), Fail> {
+    walks_over_names(rt, alloc, state)?;
+    borrowed_walks_dropped(rt, alloc, state)?;
+    owned_walks_dropped(rt, alloc, state)?;
+    ends_of_walks(rt, alloc, state)?;
+    items_of_walks(rt, alloc, state)?;
+    all_clones_go_on(rt, alloc, state)?;
+    all_moved_out(rt, alloc, state)?;
+    texts_of_five(alloc, state)?;
+    texts_of_nothing(alloc, state)
 }
 
 #[test]
-fn texts_of_an_empty_bag(rt: HostRuntime) -> Result<(), Fail> {
-    let alloc = rt.alloc();
-    texts_of_nothing(alloc, FixedState::new())?;
-    texts_of_nothing(alloc, OneState)?;
-    texts_of_nothing(alloc, ParityState)?;
-    texts_of_nothing(alloc, IdentityState)
+fn walks_of_fixed_state(rt: HostRuntime) -> Result<(), Fail> {
+    walks_under(&rt, rt.alloc(), FixedState::new())
+}
+
+#[test]
+fn walks_of_one_state(rt: HostRuntime) -> Result<(), Fail> {
+    walks_under(&rt, rt.alloc(), OneState)
+}
+
+#[test]
+fn walks_of_parity_state(rt: HostRuntime) -> Result<(), Fail> {
+    walks_under(&rt, rt.alloc(), ParityState)
+}
+
+#[test]
+fn walks_of_identity_state(rt: HostRuntime) -> Result<(), Fail> {
+    walks_under(&rt, rt.alloc(), IdentityState)
 }
