@@ -238,8 +238,7 @@ impl<T: JsonItem + Hash + Drop, S: BuildHasher + Drop> HashBag<T, S> {
         Ok(bag)
     }
 
-    // The distinct values with their counts, values rising. Room is taken for all of them at once, since the walk knows its
-    // length.
+    // The distinct values with their counts, values rising.
     fn sorted_pairs(&self, alloc: Global) -> Result<Vec<(&T, usize)>, BagError>
     where
         T: Ord,
@@ -247,7 +246,12 @@ impl<T: JsonItem + Hash + Drop, S: BuildHasher + Drop> HashBag<T, S> {
         ensures rising { IfOk result (λ pairs. IsStrictlySortedBy T.cmp (keys_of (map seen pairs.items))) }
         ensures memory { IfErr result (λ e. e ≡ BagError.Memory) }
     {
-        let mut pairs: Vec<(&T, usize)> = self.set_iter().collect(alloc)?;
+        let mut pairs = Vec::new(alloc);
+        for pair in self.set_iter() {
+            if pairs.push(pair).is_err() {
+                return Err(BagError::Memory);
+            }
+        }
         pairs.sort_unstable();
         Ok(pairs)
     }

@@ -1,6 +1,5 @@
-use Rattle.std.proofs.Common.{◌≡◌, map, refl, sym, ◌∙◌, ap, subst}
-use Rattle.std.proofs.lemmas.Iterator.{items_from_drains}
-use Rattle.std.proofs.lemmas.Iterator.Consumers.{YieldsList-from_first}
+use Rattle.std.proofs.Common.{◌≡◌, ◌++◌, map, sym, ◌∙◌, ap, subst}
+use Rattle.std.proofs.lemmas.List.{append-nil}
 use Rattle.std.proofs.lemmas.List.Sorted.{IsPermutation-map}
 use Rattle.hashbag_core.specs.JsonTrees.{seen}
 use Rattle.hashbag_core.specs.Walks.{IsSetWalkOf}
@@ -10,11 +9,10 @@ use Rattle.hashbag_core.proofs.bag.HashBag.sorted_pairs.Goals as goal
 -- the pairs are a set walk, before the sort and after it
 pub returns-clause-walk : goal.returns-clause-walk
 returns-clause-walk g c =
-    let got = c.in_ok-pairs.ensures.ran in
-    let whole : map seen got.0 ≡ c.set_iter.result = items_from_drains got.0 got.1 (YieldsList-from_first seen (λ s. s) c.set_iter.result refl) in
-    let pairs : map seen c.in_ok-pairs.pairs.items ≡ c.set_iter.result = ap (map seen) got.2.0 ∙ whole in
-    let walk = subst (λ l. IsSetWalkOf g.T.PartialEq.eq c.args.self.now l) (sym pairs) c.set_iter.ensures in
-    set_walk_reordered g.met.T.Eq.laws c.args.self.now (map seen c.in_ok-pairs.pairs.items) _ (IsPermutation-map seen _ _ c.sort_unstable.ensures.permutation) walk
+    let whole : map seen c.loop-pair.yielded ≡ c.set_iter-pair-items.result = sym (append-nil (map seen c.loop-pair.yielded)) ∙ ap (λ l. map seen c.loop-pair.yielded ++ l) (sym c.in-None.ensures.steps.0) ∙ c.loop-pair.invariant.parts ∙ c.into_iter-pair-iterator.ensures.into_iter_gives in
+    let pairs : map seen c.loop-pair.pairs.items ≡ c.set_iter-pair-items.result = ap (map seen) c.loop-pair.invariant.pairs ∙ whole in
+    let walk = subst (λ l. IsSetWalkOf g.T.PartialEq.eq c.args.self.now l) (sym pairs) c.set_iter-pair-items.ensures in
+    set_walk_reordered g.met.T.Eq.laws c.args.self.now (map seen c.loop-pair.pairs.items) _ (IsPermutation-map seen _ _ c.sort_unstable.ensures.permutation) walk
 
 pub returns-clause-rising : goal.returns-clause-rising
 returns-clause-rising g c =
