@@ -1,2 +1,3 @@
 pub mod LastNumber
+pub mod Ledger
 pub mod Named

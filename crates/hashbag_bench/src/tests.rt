@@ -1,6 +1,7 @@
 //! What no clause says: that the calls succeed, and that their answers are those of the plain bag and of values found by
 //! hand, under each hash state.
 mod agreement;
+mod callers;
 mod calls;
 mod collection_refusals;
 mod collections;

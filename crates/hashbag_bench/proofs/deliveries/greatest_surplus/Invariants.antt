@@ -1,0 +1,10 @@
+use Rattle.std.proofs.Common.{◌≡◌, ◌+◌, ◌-◌, ◌≤◌, ◌<◌, ◌⊎◌}
+use Rattle.std.specs.List.{Contains}
+use Rattle.hashbag.specs.Occurrences.{count}
+use Rattle.hashbag_bench.proofs.deliveries.greatest_surplus.Given as goal
+
+-- a value's surplus is no more than the greatest so far, or is still to come
+abbrev pub invariant-loop-surplus : goal.invariant-loop-surplus
+invariant-loop-surplus g l =
+    (v : g.row.T.Denot) → (count g.T.PartialEq.eq v l.delivered.items ≤ count g.T.PartialEq.eq v l.ordered.items + l.greatest)
+    ⊎ ((x : g.row.T.Denot) × Contains l.surplus-iterator (x, count g.T.PartialEq.eq v l.delivered.items - count g.T.PartialEq.eq v l.ordered.items))
