@@ -1,4 +1,4 @@
-use Rattle.std.proofs.Common.{◌≡◌, ◌+◌, ◌-◌, ◌≤◌, ◌<◌, ◌⊎◌}
+use Rattle.std.proofs.Common.{◌+◌, ◌-◌, ◌≤◌, ◌⊎◌}
 use Rattle.std.specs.List.{Contains}
 use Rattle.hashbag.specs.Occurrences.{count}
 use Rattle.hashbag_bench.proofs.deliveries.greatest_surplus.Given as goal
