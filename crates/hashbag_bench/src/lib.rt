@@ -19,6 +19,3 @@ pub use named::Named;
 pub use plain::PlainBag;
 pub use states::{IdentityState, OneState, ParityState};
 pub use tagged::Tagged;
-
-#[cfg(test)]
-mod tests;

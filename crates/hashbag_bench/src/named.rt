@@ -1,6 +1,6 @@
 //! `Named`: a value with a name, whose tree is an object.
 ghost use Rattle.std.specs.Prelude.{◌≡◌, Some, is_some, string_bytes, refl};
-ghost use Rattle.hashbag_bench.specs.Named.{name_of, named_tree, named_equal_trees, named_back, named_one, named_has};
+ghost use Rattle.hashbag_bench.specs.Named.{name_of, named_tree, named_equal_trees, named_back, named_one, named_has, named_is_read};
 
 use hashbag::{BagError, ItemError, JsonItem};
 use serde_json::{Map, Value};
@@ -49,6 +49,8 @@ impl JsonItem for Named {
     ghost tree_is_read = { λ x h. (x, h, refl) };
 
     ghost read_has_item = { λ d x e. named_has d (string_bytes x.name) e };
+
+    ghost item_is_read = { λ v e. let found = named_is_read v e in (record { name = found.0 }, tt, found.1) };
 
     ghost reads_back = { λ x y h e. named_back (string_bytes x.name) (string_bytes y.name) e };
 

@@ -2,6 +2,8 @@
 ghost use Rattle.std.specs.Prelude.{◌≡◌, ◌%◌};
 ghost use Rattle.hashbag_bench.specs.LastNumber.{number_after};
 
+use std::alloc::AllocError;
+use std::cell::Cell;
 use std::hash::{BuildHasher, Hash, Hasher};
 
 /// Takes in nothing, and answers 0.
@@ -104,6 +106,46 @@ impl BuildHasher for ParityState {
         LastBit {
             last: LastNumber { number: 0 },
         }
+    }
+}
+
+/// Hashes every value to 0, and counts how often it hashes.
+#[derive(Drop)]
+pub struct CountingState {
+    hashed: Cell<u64>,
+}
+
+impl CountingState {
+    /// How many values were hashed since the state was made. A clone goes on from the number of its original.
+    pub fn hashed(&self) -> u64 {
+        self.hashed.get()
+    }
+}
+
+impl Default for CountingState {
+    fn default() -> CountingState {
+        CountingState {
+            hashed: Cell::new(0),
+        }
+    }
+}
+
+impl Clone for CountingState {
+    fn clone(&self) -> Result<CountingState, AllocError> {
+        Ok(CountingState {
+            hashed: Cell::new(self.hashed.get()),
+        })
+    }
+}
+
+impl BuildHasher for CountingState {
+    type Hasher = Nothing;
+
+    ghost build_hasher = { λ _. record {} };
+
+    fn build_hasher(&self) -> Nothing {
+        self.hashed.set(self.hashed.get().saturating_add(1));
+        Nothing
     }
 }
 

@@ -13,6 +13,7 @@ pub mod JsonWriteLemmas
 pub mod Laws
 pub mod MemberLemmas
 pub mod OccurrenceLemmas
+pub mod OuterJoinLemmas
 pub mod RetainLemmas
 pub mod TakeLemmas
 pub mod WalkLemmas

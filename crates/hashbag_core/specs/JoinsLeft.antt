@@ -23,3 +23,13 @@ with_no_first es = map (λ e. (e.0, 0, e.1)) es
 -- each value with the first count less the second, as near as an isize comes
 abbrev pub subtracted : {T : Type 0} → List (T × ℕ × ℕ) → List (T × ℤ)
 subtracted js = map (λ j. (j.0, limited (pos j.1 -ℤ pos j.2))) js
+
+-- ---- what the other joins are, of the list of an outer join
+
+-- each value whose first count is above its second, with how much it is
+abbrev pub exceeding : {T : Type 0} → List (T × ℕ × ℕ) → List (T × ℕ)
+exceeding js = filter (λ e. nat_lt 0 e.1) (map (λ j. (j.0, j.1 - j.2)) js)
+
+-- each value whose second count is 0, with its first
+abbrev pub unmatched : {T : Type 0} → List (T × ℕ × ℕ) → List (T × ℕ)
+unmatched js = map (λ j. (j.0, j.1)) (filter (λ j. j.2 == 0) js)

@@ -272,12 +272,7 @@ impl<T: Eq + Hash + Drop, S: BuildHasher + Drop> HashBag<T, S> {
         ensures memory { OnErr result (result ≡ Err BagError.Memory) }
         ensures err { OnErr result (self.new ≡ self.old) }
     {
-        let before = self.contains(&value);
-        if before == 0 {
-            self.insert_new(value, 1)?;
-            return Ok(0);
-        }
-        self.table.put_instance(value)?;
+        let before = self.table.put_instance(value)?;
         self.len = self.len - before + 1;
         Ok(before)
     }
@@ -366,6 +361,9 @@ impl<T: Eq + Hash + Drop, S: BuildHasher + Drop> HashBag<T, S> {
         ensures bag { IsBag T.eq self.old.items }
     {
         let before = self.contains(value);
+        if before == 0 {
+            return Err(0);
+        }
         if before != 1 {
             return Err(self.remove(value));
         }

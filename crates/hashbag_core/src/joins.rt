@@ -189,8 +189,9 @@ impl<'a, T: Eq + Hash + Drop, S: BuildHasher + Drop, S2: BuildHasher + Drop> Mod
     ghost view = { λ a. subtracted a.counts };
 }
 
-// The first count less the second, or where that is no `isize` the end that is nearer.
-fn limited_difference(first: usize, second: usize) -> isize
+/// The first count less the second, or where that is no `isize` the end that is nearer: what [`HashBag::signed_difference`] puts
+/// beside a value.
+pub fn limited_difference(first: usize, second: usize) -> isize
     ensures { result ≡ limited (pos first -ℤ pos second) }
 {
     let most = isize::MAX as usize;

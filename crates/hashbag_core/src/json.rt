@@ -4,6 +4,7 @@ ghost use Rattle.std.specs.List.Sorted.{IsStrictlySortedBy};
 ghost use Rattle.std.specs.Map.{keys_of};
 ghost use Rattle.serde_json.specs.Data.{Data};
 ghost use Rattle.serde_json.specs.View.{view};
+ghost use Rattle.serde_json.specs.declared.value.Value.{Value};
 ghost use Rattle.serde_json.specs.Written.{has_float};
 ghost use Rattle.hashbag_core.specs.Bag.{Means, IsBagOf};
 ghost use Rattle.hashbag_core.specs.Equality.{same_counts};
@@ -143,6 +144,9 @@ pub trait JsonItem: Eq + Sized {
     /// A tree that is read as an item has one.
     ghost read_has_item: { (d : Data) (x : Self) → reads d x → has_item d ≡ true };
 
+    /// A tree that has an item is read as one. So no more than memory can keep `from_json` from an item there.
+    ghost item_is_read: { (v : Value) → has_item (view v) ≡ true → (x : Self) × is_item x × reads (view v) x };
+
     /// What the tree of an item is read as equals that item.
     ghost reads_back: { (x y : Self) → is_item x → reads (tree_of x) y → Self.eq x y ≡ true };
 
@@ -229,9 +233,7 @@ impl<T: JsonItem + Hash + Drop, S: BuildHasher + Drop> HashBag<T, S> {
         };
         let mut bag = HashBag::default_in(alloc);
         for (number, pair) in list.iter().enumerate() {
-            if let Err(e) = read_pair(alloc, &mut bag, pair, number) {
-                return Err(e);
-            }
+            read_pair(alloc, &mut bag, pair, number)?;
         }
         Ok(bag)
     }

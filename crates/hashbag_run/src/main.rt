@@ -2,15 +2,11 @@
 //! their trees.
 #![tactic(auto)]
 
-mod execute;
-mod joined;
-mod lines;
-mod output;
 #[cfg(test)]
 mod tests;
 
 use std::process::ExitCode;
 
 fn main(rt: HostRuntime) -> ExitCode {
-    ExitCode::from(execute::execute(rt.alloc(), &mut rt.stdin(), &mut rt.stdout()))
+    ExitCode::from(hashbag_text::execute::execute(rt.alloc(), &mut rt.stdin(), &mut rt.stdout()))
 }

@@ -1,12 +1,11 @@
 //! Whole runs of the program over readers and writers in memory.
-mod refusals;
-
-use crate::execute::execute;
-use std::alloc::Global;
-use std::io;
+use hashbag_text::execute::execute;
+use std::alloc::{AllocError, Global};
+use std::fmt::Write as _;
 use std::io::{ErrorKind, Read, Write};
 use std::process::Abort;
 use std::test::Fail;
+use std::{io, str};
 
 // Two insertions of a value, a removal and a count.
 const STEPS: &str = "a insert 5\na insert 5\na remove 5\na count 5\n";
@@ -17,10 +16,11 @@ const OUTPUT: &str = "a count 0\na count 1\na count 2\na count 1\n\
 // The trees of two empty bags.
 const EMPTY: &str = "a json []\nb json []\n";
 
-// Gives its text in pieces of seven bytes. The read of the number `fails_at`, from 1, fails.
+// Gives its text in pieces of so many bytes. The read of the number `fails_at`, from 1, fails.
 #[derive(Drop)]
 struct Pieces<'a> {
     left: &'a [u8],
+    piece: usize,
     reads: usize,
     fails_at: usize,
 }
@@ -29,6 +29,7 @@ impl<'a> Pieces<'a> {
     fn new(text: &'a [u8], fails_at: usize) -> Pieces<'a> {
         Pieces {
             left: text,
+            piece: 7,
             reads: 0,
             fails_at,
         }
@@ -41,7 +42,7 @@ impl Read for Pieces<'_> {
         if self.reads == self.fails_at {
             return Err(io::Error::from(ErrorKind::Interrupted));
         }
-        let n = buffer.len().min(self.left.len()).min(7);
+        let n = buffer.len().min(self.left.len()).min(self.piece);
         buffer[..n].copy_from_slice(&self.left[..n]);
         self.left = &self.left[n..];
         Ok(n)
@@ -66,6 +67,11 @@ impl Sink {
             takes_none,
         }
     }
+
+    // What was written, as a text.
+    fn text(&self) -> &str {
+        str::from_utf8(self.taken.as_slice()).unwrap_or("not a text")
+    }
 }
 
 impl Write for Sink {
@@ -89,27 +95,29 @@ impl Write for Sink {
 }
 
 // Runs the program on an input, and compares its status and all that it writes.
-fn answers(alloc: Global, rt: &impl Abort, input: &[u8], status: u8, wanted: &str) {
+fn answers(alloc: Global, rt: &impl Abort, input: &str, status: u8, wanted: &str) {
     let mut output = Sink::new(alloc, 0, false);
-    let got = execute(alloc, &mut Pieces::new(input, 0), &mut output);
+    let got = execute(alloc, &mut Pieces::new(input.as_bytes(), 0), &mut output);
     assert_eq!(rt; got, status, "at {input:?}");
-    assert_eq!(rt; output.taken.as_slice(), wanted.as_bytes(), "at {input:?}");
+    assert_eq!(rt; output.text(), wanted, "at {input:?}");
 }
 
 // The same for an input that leaves both bags empty: their trees are written after what is wanted.
-fn leaves_none(alloc: Global, rt: &impl Abort, input: &[u8], wanted: &str) {
-    let mut output = Sink::new(alloc, 0, false);
-    let got = execute(alloc, &mut Pieces::new(input, 0), &mut output);
-    assert_eq!(rt; got, 0, "at {input:?}");
-    let written = output.taken.as_slice();
-    let (replies, trees) = written.split_at(written.len().min(wanted.len()));
-    assert_eq!(rt; replies, wanted.as_bytes(), "at {input:?}");
-    assert_eq!(rt; trees, EMPTY.as_bytes(), "at {input:?}");
+fn leaves_none(
+    alloc: Global,
+    rt: &impl Abort,
+    input: &str,
+    wanted: &str,
+) -> Result<(), AllocError> {
+    let mut whole = String::from_str(alloc, wanted)?;
+    whole.push_str(EMPTY)?;
+    answers(alloc, rt, input, 0, whole.as_str());
+    Ok(())
 }
 
 #[test]
-fn answers_steps(rt: HostRuntime) {
-    answers(rt.alloc(), &rt, STEPS.as_bytes(), 0, OUTPUT);
+fn answers_steps(rt: HostRuntime) -> Result<(), Fail> {
+    answers(rt.alloc(), &rt, STEPS, 0, OUTPUT);
     let rows = [
         ("", ""),
         ("\n\n", ""),
@@ -126,8 +134,9 @@ fn answers_steps(rt: HostRuntime) {
         ),
     ];
     for (input, wanted) in rows {
-        leaves_none(rt.alloc(), &rt, input.as_bytes(), wanted);
+        leaves_none(rt.alloc(), &rt, input, wanted)?;
     }
+    Ok(())
 }
 
 // Runs on two bags: replies of a and then of b, each join of what they leave by rising values, and the trees.
@@ -171,40 +180,40 @@ fn answers_two_bags(rt: HostRuntime) {
         ),
     ];
     for (input, wanted) in rows {
-        answers(rt.alloc(), &rt, input.as_bytes(), 0, wanted);
+        answers(rt.alloc(), &rt, input, 0, wanted);
     }
 }
 
 // Each verb, with the reply that its line has. Nothing is left, so that there are no joins and the trees are empty.
 #[test]
-fn replies_to_each_verb(rt: HostRuntime) {
+fn replies_to_each_verb(rt: HostRuntime) -> Result<(), Fail> {
     let script = "a many 5 3\na insert 5\na upto 5 3\na replace 5\na try 5\na try 5\n\
         a many 6 2\na try 6\na insert 7\na all 6\na all 6\na reserve 10\na shrink\n\
         a remove 7\na count 7\na insert 8\na clear\na count 8\na many 8 0\na upto 8 2\n";
     let replies = "a count 0\na count 3\na count 1\na count 1\na taken 5 1\na absent\n\
         a count 0\na left 2\na count 0\na taken 6 1\na absent\na done\na done\n\
         a count 1\na count 0\na count 0\na done\na count 0\na count 0\na count 0\n";
-    leaves_none(rt.alloc(), &rt, script.as_bytes(), replies);
+    Ok(leaves_none(rt.alloc(), &rt, script, replies)?)
 }
 
 #[test]
-fn replies_to_entries(rt: HostRuntime) {
+fn replies_to_entries(rt: HostRuntime) -> Result<(), Fail> {
     let script = "a or 4 3\na or 4 9\na set 4 0\na set 4 1\na or 6 0\na count 6\n\
         a many 7 18446744073709551615\na or 8 1\na or 8 0\na set 7 2\na set 7 18446744073709551615\n\
         a set 7 1\na or 8 2\na set 8 18446744073709551615\na count 8\na clear\n";
     let replies = "a count 3\na count 3\na done\na absent\na count 0\na count 0\n\
         a count 0\na too many\na count 0\na done\na done\n\
         a done\na count 2\na too many\na count 2\na done\n";
-    leaves_none(rt.alloc(), &rt, script.as_bytes(), replies);
+    Ok(leaves_none(rt.alloc(), &rt, script, replies)?)
 }
 
 #[test]
-fn totals_stop_at_their_end(rt: HostRuntime) {
+fn totals_stop_at_their_end(rt: HostRuntime) -> Result<(), Fail> {
     let script = "a many 7 18446744073709551615\na insert 8\na many 7 1\na many 8 0\n\
         a replace 8\na replace 7\na replace 8\na upto 7 0\na clear\n";
     let replies = "a count 0\na too many\na too many\na count 0\n\
         a too many\na count 18446744073709551615\na count 0\na count 1\na done\n";
-    leaves_none(rt.alloc(), &rt, script.as_bytes(), replies);
+    Ok(leaves_none(rt.alloc(), &rt, script, replies)?)
 }
 
 #[test]
@@ -218,50 +227,64 @@ fn counts_lines_to_the_bad_one(rt: HostRuntime) {
         ("a insert 000000000000000000001\n", "bad line 1\n"),
     ];
     for (input, wanted) in rows {
-        answers(rt.alloc(), &rt, input.as_bytes(), 2, wanted);
+        answers(rt.alloc(), &rt, input, 2, wanted);
     }
 }
 
+// Each line is no step.
+const HOSTILE: &str = "a  insert 5\n a insert 5\nA insert 5\na insert 5 \na insert 5\r\n\
+    a insert\na insert \na insert -5\na insert +5\na insert 5 5\na insert 1.0\na insert five\n\
+    a \u{e4} 5\na\tinsert 5\na Insert 5\na many 5\na many 5 1 1\na clear 5\na reserve\na upto 5 -1\n\
+    a retain 1\na retain 1 2 3\na retain 1 -2\na retain 1  2\na set 5\na or\n\
+    insert 5\na\nb\nB insert 5\nab insert 5\n ";
+
 #[test]
 fn refuses_hostile_lines(rt: HostRuntime) {
-    let rows: [&[u8]; 33] = [
-        b"a  insert 5",
-        b" a insert 5",
-        b"A insert 5",
-        b"a insert 5 ",
-        b"a insert 5\r",
-        b"a insert",
-        b"a insert ",
-        b"a insert -5",
-        b"a insert +5",
-        b"a insert 5 5",
-        b"a insert 1.0",
-        b"a insert five",
-        b"a insert \xff",
-        b"a \xc3\xa4 5",
-        b"a\tinsert 5",
-        b"a Insert 5",
-        b"a many 5",
-        b"a many 5 1 1",
-        b"a clear 5",
-        b"a reserve",
-        b"a upto 5 -1",
-        b"a retain 1",
-        b"a retain 1 2 3",
-        b"a retain 1 -2",
-        b"a retain 1  2",
-        b"a set 5",
-        b"a or",
-        b"insert 5",
-        b"a",
-        b"b",
-        b"B insert 5",
-        b"ab insert 5",
-        b" ",
-    ];
-    for line in rows {
+    let mut lines = 0usize;
+    for line in HOSTILE.split('\n') {
         answers(rt.alloc(), &rt, line, 2, "bad line 1\n");
+        lines = lines.saturating_add(1);
     }
+    assert_eq!(rt; lines, 32);
+}
+
+#[test]
+fn refuses_what_is_no_text(rt: HostRuntime) {
+    let mut output = Sink::new(rt.alloc(), 0, false);
+    let mut input = Pieces::new(b"a insert \xff", 0);
+    assert_eq!(rt; execute(rt.alloc(), &mut input, &mut output), 2);
+    assert_eq!(rt; output.text(), "bad line 1\n");
+}
+
+// So many insertions of 7, eleven bytes each, and what they answer.
+fn insertions(alloc: Global, n: usize) -> Result<(String, String), AllocError> {
+    let mut input = String::new(alloc);
+    let mut wanted = String::new(alloc);
+    for before in 0..n {
+        input.push_str("a insert 7\n")?;
+        writeln!(wanted, "a count {before}")?;
+    }
+    writeln!(
+        wanted,
+        "outer 7 {n} 0\ndifference 7 {n}\nsigned 7 {n}\nnot_in 7 {n}"
+    )?;
+    writeln!(wanted, "a json [[7,{n}]]\nb json []")?;
+    Ok((input, wanted))
+}
+
+// Inputs of 66,000 bytes, in reads as large as they are asked for, and of 11,000 bytes, in as many reads. Lines go across reads.
+#[test]
+fn reads_long_inputs(rt: HostRuntime) -> Result<(), Fail> {
+    for (lines, piece) in [(6_000usize, usize::MAX), (1_000, 1)] {
+        let (input, wanted) = insertions(rt.alloc(), lines)?;
+        let mut pieces = Pieces::new(input.as_bytes(), 0);
+        pieces.piece = piece;
+        let mut output = Sink::new(rt.alloc(), 0, false);
+        let status = execute(rt.alloc(), &mut pieces, &mut output);
+        assert_eq!(rt; status, 0, "at {lines} lines");
+        assert!(rt; output.text() == wanted.as_str(), "at {lines} lines");
+    }
+    Ok(())
 }
 
 #[test]
@@ -290,9 +313,9 @@ fn fails_at_write(
     let mut output = Sink::new(alloc, fails_at, takes_none);
     let status = execute(alloc, &mut Pieces::new(input.as_bytes(), 0), &mut output);
     assert_eq!(rt; status, 4, "at write {fails_at}");
-    let taken = output.taken.as_slice();
+    let taken = output.text();
     assert_eq!(rt; taken.len(), fails_at.saturating_sub(1).saturating_mul(7));
-    assert!(rt; whole.as_bytes().starts_with(taken), "at write {fails_at}");
+    assert!(rt; whole.starts_with(taken), "at write {fails_at}: {taken:?}");
 }
 
 #[test]

@@ -8,6 +8,9 @@ use Rattle.hashbag_core.specs.Bag.{Bag, Means}
 use Rattle.hashbag_core.specs.Occurrences.{greatest_total, count, distinct_count}
 use Rattle.hashbag_script.specs.Rows.{insert_row, replace_row, remove_row, remove_up_to_row, try_take_row, take_all_row, entry_set_row, entry_or_row, retain_row, clear_row, count_row, reserve_row, shrink_to_fit_row}
 
+abbrev pub Steps : Type 0 → Type 0
+Steps T = List (Step T)
+
 module _ {T : Type 0} (eq : T → T → Bool) where
   -- the list that a step leaves of X, and its reply
   abbrev pub step : List T → Step T → List T × Reply T
@@ -33,6 +36,13 @@ module _ {T : Type 0} (eq : T → T → Bool) where
       let one = step X s in
       let rest = run one.0 steps in
       (rest.0, one.1 ∷ rest.1)
+
+  -- what the steps leave of an empty list, and what they reply on it
+  abbrev pub left_by : Steps T → List T
+  left_by steps = (run [] steps).0
+
+  abbrev pub replies_to : Steps T → List (Reply T)
+  replies_to steps = (run [] steps).1
 
   -- the greatest number of distinct values in any list that the run passes through, X included
   unfoldable pub peak : List T → List (Step T) → ℕ

@@ -6,10 +6,12 @@ ghost use Rattle.hashbag_script.specs.Rows.{insert_row, replace_row, try_take_ro
 ghost use Rattle.hashbag_script.specs.Script.{step as step_of, run as run_of, IsRefusedInsertion, AsksForMemory, IsStopped};
 ghost use Rattle.std.specs.Prelude.{map};
 ghost use Rattle.hashbag_core.specs.Joins.{IsOuterJoin, IsDifference, IsNotIn, IsSignedDifference};
+ghost use Rattle.hashbag_core.specs.JoinsLeft.{exceeding, subtracted, unmatched};
 ghost use Rattle.hashbag_script.specs.Pairs.{ran, HasNoRoom, IsDone, IsPairCutOff};
 
+use hashbag_core::joins::limited_difference;
 use hashbag_core::{BagError, HashBag};
-use std::alloc::Global;
+use std::alloc::{AllocError, Global};
 use std::hash::{BuildHasher, Hash};
 
 /// A call on a bag.
@@ -64,8 +66,15 @@ pub enum Reply<T> {
     TooMany,
 }
 
+// Tells the proof what every bag keeps: its total fits, and equal items are one instance. It does nothing else.
+fn recall_what_bags_keep<T: Eq + Hash + Drop, S: BuildHasher + Drop>(bag: &HashBag<T, S>)
+    ensures { IsBag T.eq bag.now.items }
+{
+    let _ = bag.len();
+}
+
 // Adds occurrences if the total can have them.
-fn insert_within<T: Eq + Hash + Drop, S: BuildHasher + Drop>(
+fn insert_if_it_fits<T: Eq + Hash + Drop, S: BuildHasher + Drop>(
     bag: &mut HashBag<T, S>,
     value: T,
     n: usize,
@@ -83,7 +92,7 @@ fn insert_within<T: Eq + Hash + Drop, S: BuildHasher + Drop>(
 }
 
 // Replaces a value if the total can have it.
-fn replace_within<T: Eq + Hash + Drop, S: BuildHasher + Drop>(
+fn replace_if_it_fits<T: Eq + Hash + Drop, S: BuildHasher + Drop>(
     bag: &mut HashBag<T, S>,
     value: T,
 ) -> Result<Reply<T>, BagError>
@@ -166,7 +175,7 @@ fn entry_or<T: Eq + Hash + Drop, S: BuildHasher + Drop>(
     ensures refused { OnErr result (IsRefusedInsertion T.eq value quantity bag.old.items) }
     ensures err { OnErr result (bag.new ≡ bag.old) }
 {
-    let _len = bag.len();
+    recall_what_bags_keep(bag);
     match bag.entry(value).or_insert_many(quantity) {
         Ok(count) => Ok(Reply::Count(count)),
         Err(BagError::TooMany) => Ok(Reply::TooMany),
@@ -188,7 +197,7 @@ fn quota<T: Eq>(list: &[(T, usize)], value: &T) -> usize
 fn retain<T: Eq + Hash + Drop, S: BuildHasher + Drop>(bag: &mut HashBag<T, S>, list: &[(T, usize)])
     ensures left { IsBagOf T.eq bag.old (retain_row T.eq list.now bag.old.items).0 bag.new }
 {
-    let _len = bag.len();
+    recall_what_bags_keep(bag);
     bag.retain(
         |value: &T, _count: usize| -> usize
             ensures quota { result ≡ quota_of T.eq list.entry.now value.entry.now }
@@ -211,11 +220,11 @@ fn apply<T: Eq + Hash + Drop, S: BuildHasher + Drop>(
     ensures refused { OnErr result (AsksForMemory T.eq bag.old.items step) }
     ensures err { OnErr result (bag.new ≡ bag.old) }
 {
-    let _len = bag.len();
+    recall_what_bags_keep(bag);
     match step {
-        Step::Insert(value) => insert_within(bag, value, 1),
-        Step::InsertMany(value, n) => insert_within(bag, value, n),
-        Step::Replace(value) => replace_within(bag, value),
+        Step::Insert(value) => insert_if_it_fits(bag, value, 1),
+        Step::InsertMany(value, n) => insert_if_it_fits(bag, value, n),
+        Step::Replace(value) => replace_if_it_fits(bag, value),
         Step::Remove(value) => Ok(Reply::Count(bag.remove(&value))),
         Step::RemoveUpTo(value, quantity) => Ok(Reply::Count(bag.remove_up_to(&value, quantity))),
         Step::TryTake(value) => Ok(try_take(bag, &value)),
@@ -316,9 +325,51 @@ pub struct Joins<'a, T> {
     pub not_in: Vec<(&'a T, usize)>,
 }
 
+// The values of an outer join of which the first bag has more, with how many more.
+fn difference_of<'a, T>(
+    alloc: Global,
+    outer: &Vec<(&'a T, usize, usize)>,
+) -> Result<Vec<(&'a T, usize)>, AllocError>
+    ensures { IfOk result (λ entries. entries.items ≡ exceeding outer.now.items) }
+{
+    outer
+        .iter()
+        .map(|join| (join.0, join.1.saturating_sub(join.2)))
+        .filter(|entry| entry.1 > 0)
+        .collect(alloc)
+}
+
+// The values of an outer join, with the first count less the second. There is room for all of them from the start.
+fn signed_difference_of<'a, T>(
+    alloc: Global,
+    outer: &Vec<(&'a T, usize, usize)>,
+) -> Result<Vec<(&'a T, isize)>, AllocError>
+    ensures { IfOk result (λ entries. entries.items ≡ subtracted outer.now.items) }
+{
+    outer
+        .iter()
+        .map(|join| (join.0, limited_difference(join.1, join.2)))
+        .collect(alloc)
+}
+
+// The values of an outer join that the second bag lacks, with their counts in the first.
+fn not_in_of<'a, T>(
+    alloc: Global,
+    outer: &Vec<(&'a T, usize, usize)>,
+) -> Result<Vec<(&'a T, usize)>, AllocError>
+    ensures { IfOk result (λ entries. entries.items ≡ unmatched outer.now.items) }
+{
+    outer
+        .iter()
+        .filter(|join| join.2 == 0)
+        .map(|join| (join.0, join.1))
+        .collect(alloc)
+}
+
 /// Collects the four joins of `a` with `b`. It changes neither bag.
 ///
-/// Memory may be refused: then there are no joins.
+/// It looks each value up once, for the outer join, from which the other three follow. Memory may be refused: then there are
+/// no joins.
 pub fn joins_of<'a, T: Eq + Hash + Drop, S: BuildHasher + Drop, S2: BuildHasher + Drop>(
     alloc: Global,
     a: &'a HashBag<T, S>,
@@ -332,9 +383,9 @@ pub fn joins_of<'a, T: Eq + Hash + Drop, S: BuildHasher + Drop, S2: BuildHasher 
     ensures memory { OnErr result (result ≡ Err BagError.Memory) }
 {
     let outer = a.outer_join(b).collect(alloc)?;
-    let difference = a.difference(b).collect(alloc)?;
-    let signed = a.signed_difference(b).collect(alloc)?;
-    let not_in = a.not_in(b).collect(alloc)?;
+    let difference = difference_of(alloc, &outer)?;
+    let signed = signed_difference_of(alloc, &outer)?;
+    let not_in = not_in_of(alloc, &outer)?;
     Ok(Joins {
         outer,
         difference,

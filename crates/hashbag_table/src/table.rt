@@ -14,6 +14,8 @@ use std::marker::Model;
 /// The most distinct values that a table makes room for when it is asked to, 3 * 2^57.
 pub const MOST_VALUES: usize = 3 << 57;
 
+const _: () = prove!(MOST_VALUES == 432_345_564_227_567_616);
+
 /// Distinct values, each stored once with its count, a `usize` of at least 1. Values that `==` calls equal are one value.
 ///
 /// Contracts see a table as the list of its entries, in an order that means nothing, and the state that hashes its
@@ -62,10 +64,8 @@ impl<T: Eq + Hash + Drop, S: BuildHasher + Drop> Table<T, S> {
         ensures beyond { MOST_VALUES < n → IsErr result }
     {
         let mut table = Table::new(alloc, hasher);
-        match table.reserve(n) {
-            Ok(()) => Ok(table),
-            Err(e) => Err(e),
-        }
+        table.reserve(n)?;
+        Ok(table)
     }
 
     /// The number of distinct values.
@@ -185,21 +185,22 @@ impl<T: Eq + Hash + Drop, S: BuildHasher + Drop> Table<T, S> {
         self.map.remove_entry(value)
     }
 
-    /// Stores another instance of a value that is present, with the count 1, and drops the former instance.
+    /// Stores a value itself with the count 1, and answers what the count was, 0 where the value was absent. An instance that
+    /// was stored is dropped. It hashes the value twice.
     ///
-    /// It makes room before it takes the former instance out, so that a refusal leaves the table unchanged. The value handed
+    /// It makes room before it takes a former instance out, so that a refusal leaves the table unchanged. The value handed
     /// in is then dropped.
-    pub fn put_instance(&mut self, value: T) -> Result<(), AllocError>
-        requires present { IsSome (entry_of T.eq value self.old.entries) }
+    pub fn put_instance(&mut self, value: T) -> Result<usize, AllocError>
+        ensures before { IfOk result (λ before. before ≡ count_of T.eq value self.old.entries) }
         ensures put { OnOk result (IsPermutation (with_instance T.eq value 1 self.old.entries) self.new.entries) }
         ensures hasher { self.new.hasher ≡ self.old.hasher }
         ensures counted { IsCounted T.eq self.new.entries }
         ensures err { OnErr result (self.new ≡ self.old) }
     {
         self.map.reserve(1)?;
-        let _ = self.map.remove(&value);
+        let before = self.map.remove(&value).unwrap_or(0);
         self.map.insert(value, 1)?;
-        Ok(())
+        Ok(before)
     }
 
     /// Takes all values out. It takes no memory.

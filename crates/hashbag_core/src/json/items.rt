@@ -2,8 +2,9 @@
 ghost use Rattle.std.specs.Prelude.{◌≡◌, Some, is_some, string_bytes, refl};
 ghost use Rattle.serde_json.specs.Data.{number, string, unsigned};
 ghost use Rattle.serde_json.specs.Find.{as_str, of_integer};
-ghost use Rattle.hashbag_core.specs.JsonItems.{IsU64, IsI64, u64_of, i64_of};
-ghost use Rattle.hashbag_core.specs.JsonItemLaws.{u64_equal, u64_trees, u64_back, u64_one, i64_equal, i64_trees, i64_reads, u64_has, i64_has, text_has, i64_back, i64_one, i64_no_float, text_trees, text_back, text_one};
+ghost use Rattle.serde_json.specs.View.{view};
+ghost use Rattle.hashbag_core.specs.JsonItems.{IsU64, IsI64, u64_item, i64_item};
+ghost use Rattle.hashbag_core.specs.JsonItemLaws.{u64_equal, u64_trees, u64_reads, u64_has, u64_is_read, u64_back, u64_one, i64_equal, i64_trees, i64_reads, i64_has, i64_is_read, i64_back, i64_one, i64_no_float, text_trees, text_has, text_is_read, text_back, text_one};
 
 use crate::bag::BagError;
 use crate::json::{ItemError, JsonItem};
@@ -15,9 +16,9 @@ impl JsonItem for u64 {
 
     ghost tree_of = { λ x. number (unsigned x) };
 
-    ghost has_item = { λ d. is_some (u64_of d) };
+    ghost has_item = { λ d. is_some (u64_item d) };
 
-    ghost reads = { λ d x. u64_of d ≡ Some x };
+    ghost reads = { λ d x. u64_item d ≡ Some x };
 
     fn to_json(&self, _alloc: Global) -> Result<Value, BagError> {
         Ok(Value::from(*self))
@@ -34,9 +35,11 @@ impl JsonItem for u64 {
 
     ghost equal_trees = { u64_trees };
 
-    ghost tree_is_read = { λ x h. (x, h, refl) };
+    ghost tree_is_read = { λ x h. (x, h, u64_reads x h) };
 
     ghost read_has_item = { λ d x e. u64_has d x e };
+
+    ghost item_is_read = { λ v e. u64_is_read (view v) e };
 
     ghost reads_back = { u64_back };
 
@@ -50,9 +53,9 @@ impl JsonItem for i64 {
 
     ghost tree_of = { λ x. number (of_integer x) };
 
-    ghost has_item = { λ d. is_some (i64_of d) };
+    ghost has_item = { λ d. is_some (i64_item d) };
 
-    ghost reads = { λ d x. i64_of d ≡ Some x };
+    ghost reads = { λ d x. i64_item d ≡ Some x };
 
     fn to_json(&self, _alloc: Global) -> Result<Value, BagError> {
         Ok(Value::from(*self))
@@ -72,6 +75,8 @@ impl JsonItem for i64 {
     ghost tree_is_read = { λ x h. (x, h, i64_reads x h) };
 
     ghost read_has_item = { λ d x e. i64_has d x e };
+
+    ghost item_is_read = { λ v e. i64_is_read (view v) e };
 
     ghost reads_back = { i64_back };
 
@@ -107,6 +112,8 @@ impl JsonItem for String {
     ghost tree_is_read = { λ x h. (x, h, refl) };
 
     ghost read_has_item = { λ d x e. text_has d x e };
+
+    ghost item_is_read = { text_is_read };
 
     ghost reads_back = { text_back };
 

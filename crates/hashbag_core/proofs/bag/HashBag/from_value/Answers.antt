@@ -1,5 +1,6 @@
 use Rattle.std.proofs.Common.{◌≡◌, List, [], map, drop, Some, refl, sym, ◌∙◌, ap, subst, arith}
 use Rattle.std.proofs.lemmas.List.{drop_all}
+use Rattle.std.proofs.lemmas.Result.{err_from_is_err_and}
 use Rattle.serde_json.specs.Data.{Data}
 use Rattle.serde_json.specs.Find.{as_array}
 use Rattle.serde_json.specs.View.{view, items_view}
@@ -24,25 +25,29 @@ loop-number-preserved g c =
     let inside = c.loop-number-test.true in
     let left = left_at c.deref-pair-items.result.now c.loop-number.number c.pair-item.result c.pair-item.is (omega arith) in
     let so = subst (λ (l : List Data). IsReadTo g.met.T.Eq.laws greatest_total g.T.JsonItem.has_item g.T.JsonItem.reads (map view c.deref-pair-items.result.now) l c.loop-number.number c.loop-number.bag.items) left c.loop-number.invariant.read in
-    let one = c.in_default-read_pair.ensures.read in
+    let one = c.in_ok-read_pair.ensures.read in
     record {
-      read = read_to_next g.met.T.Eq.laws greatest_total g.T.JsonItem.has_item g.T.JsonItem.reads _ _ (view c.pair-item.result) c.loop-number.number _ _ one.0 so c.in_default-read_pair.ensures.no_fault one.1 one.2.means one.2.bag;
+      read = read_to_next g.met.T.Eq.laws greatest_total g.T.JsonItem.has_item g.T.JsonItem.reads _ _ (view c.pair-item.result) c.loop-number.number _ _ one.0 so c.in_ok-read_pair.ensures.no_fault one.1 one.2.means one.2.bag;
       hasher = one.2.hasher ∙ c.loop-number.invariant.hasher;
     }
 
-pub returns-in-Err-clause-fault : goal.returns-in-Err-clause-fault
-returns-in-Err-clause-fault g c = λ other.
+pub returns-in_err-read_pair-clause-fault : goal.returns-in_err-read_pair-clause-fault
+returns-in_err-read_pair-clause-fault g c =
+    let error = err_from_is_err_and c.from_residual.result c.from_residual.ensures.1 in
+    rw (error.1, error.2) (λ other.
     let inside = c.loop-number-test.true in
     let left = left_at c.deref-pair-items.result.now c.loop-number.number c.pair-item.result c.pair-item.is (omega arith) in
     let so = subst (λ (l : List Data). IsReadTo g.met.T.Eq.laws greatest_total g.T.JsonItem.has_item g.T.JsonItem.reads (map view c.deref-pair-items.result.now) l c.loop-number.number c.loop-number.bag.items) left c.loop-number.invariant.read in
-    fault_at g.met.T.Eq.laws greatest_total g.T.JsonItem.has_item g.T.JsonItem.reads _ _ _ (view c.pair-item.result) c.loop-number.number _ _ (trees _ _ _ c.in-Some.ensures c.deref-pair-items.ensures.value) so (c.in-Err.ensures.fault other)
+    fault_at g.met.T.Eq.laws greatest_total g.T.JsonItem.has_item g.T.JsonItem.reads _ _ _ (view c.pair-item.result) c.loop-number.number _ _ (trees _ _ _ c.in-Some.ensures c.deref-pair-items.ensures.value) so (c.in_err-read_pair.ensures.fault other))
 
-pub returns-in-Err-clause-memory : goal.returns-in-Err-clause-memory
-returns-in-Err-clause-memory g c = λ memory.
+pub returns-in_err-read_pair-clause-memory : goal.returns-in_err-read_pair-clause-memory
+returns-in_err-read_pair-clause-memory g c =
+    let error = err_from_is_err_and c.from_residual.result c.from_residual.ensures.1 in
+    rw (error.1, error.2) (λ memory.
     let inside = c.loop-number-test.true in
     let left = left_at c.deref-pair-items.result.now c.loop-number.number c.pair-item.result c.pair-item.is (omega arith) in
     let so = subst (λ (l : List Data). IsReadTo g.met.T.Eq.laws greatest_total g.T.JsonItem.has_item g.T.JsonItem.reads (map view c.deref-pair-items.result.now) l c.loop-number.number c.loop-number.bag.items) left c.loop-number.invariant.read in
-    may_end_at g.met.T.Eq.laws greatest_total g.T.JsonItem.has_item g.T.JsonItem.reads _ _ _ (view c.pair-item.result) c.loop-number.number _ (trees _ _ _ c.in-Some.ensures c.deref-pair-items.ensures.value) so (c.in-Err.ensures.memory memory)
+    may_end_at g.met.T.Eq.laws greatest_total g.T.JsonItem.has_item g.T.JsonItem.reads _ _ _ (view c.pair-item.result) c.loop-number.number _ (trees _ _ _ c.in-Some.ensures c.deref-pair-items.ensures.value) so (c.in_err-read_pair.ensures.memory memory))
 
 -- all pairs were read
 at_end : (g : _) (c : goal.After-loop-number g) → IsReadTo g.met.T.Eq.laws greatest_total g.T.JsonItem.has_item g.T.JsonItem.reads (map view c.deref-pair-items.result.now) [] c.loop-number.number c.loop-number.bag.items

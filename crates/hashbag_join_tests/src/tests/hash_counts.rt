@@ -1,0 +1,256 @@
+//! How often each call on a bag hashes.
+use crate::tests::joins::bag_of;
+use hashbag::script::joins_of;
+use hashbag::{BagError, HashBag};
+use hashbag_bench::states::CountingState;
+use hashbag_rows::calls::answer;
+use hashbag_rows::texts::{count, halves, is_text, number, rows_of};
+use serde_json::Value;
+use std::alloc::Global;
+use std::process::Abort;
+use std::test::Fail;
+
+// The counts of a bag, a call on it, and how often its state hashes in the call. A call is named as in the rows of calls.
+const CALLS: &str = "
+    5:2 6:1 | len | 0
+    5:2 6:1 | set_len | 0
+    5:2 6:1 | is_empty | 0
+    5:2 6:1 | capacity | 0
+    5:2 6:1 | contains 5 | 1
+    5:2 6:1 | contains 7 | 1
+    | contains 7 | 1
+    5:2 6:1 | get 5 | 1
+    5:2 6:1 | get 7 | 1
+    5:2 6:1 | insert 5 | 1
+    5:2 6:1 | insert 7 | 2
+    | insert 7 | 2
+    5:2 6:1 | insert_many 5 3 | 1
+    5:2 6:1 | insert_many 7 3 | 2
+    5:2 6:1 | insert_many 5 0 | 1
+    5:2 6:1 | insert_many 7 0 | 1
+    5:2 6:1 | remove 5 | 1
+    5:2 6:1 | remove 6 | 2
+    5:2 6:1 | remove 7 | 2
+    5:3 6:1 | remove_up_to 5 2 | 1
+    5:3 6:1 | remove_up_to 5 3 | 2
+    5:3 6:1 | remove_up_to 5 0 | 1
+    5:3 6:1 | remove_up_to 7 2 | 2
+    5:2 6:1 | take_all 5 | 1
+    5:2 6:1 | take_all 7 | 1
+    5:2 6:1 | try_take 5 | 3
+    5:2 6:1 | try_take 6 | 2
+    5:2 6:1 | try_take 7 | 1
+    5:2 6:1 | replace 5 | 2
+    5:2 6:1 | replace 7 | 2
+    5:2 6:1 | entry 5 | 0
+    5:2 6:1 | entry_value 5 | 1
+    5:2 6:1 | entry_value 7 | 1
+    5:2 6:1 | entry_text 5 | 2
+    5:2 6:1 | entry_text 7 | 2
+    5:2 6:1 | or_insert 5 | 1
+    5:2 6:1 | or_insert 7 | 2
+    5:2 6:1 | or_insert_many 5 3 | 1
+    5:2 6:1 | or_insert_many 7 3 | 2
+    5:2 6:1 | or_insert_many 7 0 | 1
+    5:2 6:1 | or_insert_many 7 18446744073709551615 | 1
+    5:2 6:1 | set 5 3 | 2
+    5:2 6:1 | set 5 0 | 2
+    5:2 6:1 | set 5 18446744073709551615 | 1
+    5:2 6:1 | set 7 3 | 1
+    5:2 6:1 | set_or_insert 5 3 | 3
+    5:2 6:1 | set_or_insert 5 0 | 4
+    5:2 6:1 | set_or_insert 7 3 | 3
+    5:2 6:1 | extend [] | 0
+    5:2 6:1 | extend [5, 6, 5] | 3
+    5:2 6:1 | extend [7, 5, 7] | 4
+    5:2 6:1 | extend_refs [5, 6, 5] | 3
+    5:2 6:1 | extend_refs [7, 5, 7] | 4
+    5:2 6:1 | extend_many 5:4 6:2 5:1 | 3
+    5:2 6:1 | extend_many 7:4 5:0 8:0 | 4
+    5:2 6:1 | extend_refs_many 5:4 6:2 5:1 | 3
+    5:2 6:1 | extend_refs_many 7:4 5:0 8:0 | 2
+    | from_iter [5, 6, 5] | 5
+    | from_counts 5:4 6:0 5:1 | 4
+    | from_value [[5,4],[6,0],[5,1]] | 4
+    5:2 6:1 | to_value | 0
+    5:2 6:1 7:9 | retain_itself | 0
+    5:2 6:1 7:9 | retain_none | 0
+    5:2 6:1 7:9 | iter.count | 0
+    5:2 6:1 7:9 | set_iter.count | 0
+    5:2 6:1 7:9 | drain | 0
+    5:2 6:1 7:9 | clear | 0
+    5:2 6:1 7:9 | reserve 1000 | 0
+    5:2 6:1 7:9 | shrink_to_fit | 0
+    | default_in | 0
+    | with_capacity 10 | 0";
+
+// The counts of two bags, a call on both, and how often the state of each hashes.
+const CALLS_ON_TWO: &str = "
+    1:1 2:5 3:2 | 2:1 4:1 5:3 6:1 | outer_join | 4 3
+    1:1 2:5 3:2 | 2:1 4:1 5:3 6:1 | difference | 0 3
+    1:1 2:5 3:2 | 2:1 4:1 5:3 6:1 | signed_difference | 4 3
+    2:1 4:1 5:3 6:1 | 1:1 2:5 3:2 | not_in | 0 4
+    1:1 2:5 3:2 | 2:1 4:1 5:3 6:1 | joins_of | 4 3
+    1:1 2:5 3:2 | 2:5 3:2 1:1 | equal | 0 3
+    1:1 | 1:2 | equal | 0 0
+    1:1 | 2:1 | equal | 0 1
+    | | equal | 0 0";
+
+type CountingBag = HashBag<u64, CountingState>;
+
+fn replace(rt: &impl Abort, bag: &mut CountingBag, value: u64) -> Result<usize, BagError> {
+    assert!(rt; bag.len() < usize::MAX);
+    bag.replace(value)
+}
+
+fn entry_value(bag: &mut CountingBag, value: u64) -> u64 {
+    *bag.entry(value).value()
+}
+
+fn entry_text(alloc: Global, bag: &mut CountingBag, value: u64) -> Result<String, Fail> {
+    let entry = bag.entry(value);
+    Ok(format!(in alloc; "{entry:?}")?)
+}
+
+// `and_modify` that sets the count, and then `or_insert`.
+fn set_or_insert(bag: &mut CountingBag, value: u64, n: usize) -> Result<usize, BagError> {
+    bag.entry(value)
+        .and_modify(|count: &mut usize| *count = n)?
+        .or_insert()
+}
+
+fn drain(bag: &mut CountingBag) -> usize {
+    bag.drain().count()
+}
+
+// Puts the bag of a tree in the place of an empty one.
+fn from_value(alloc: Global, bag: &mut CountingBag, text: &str) -> Result<(), Fail> {
+    let tree = Value::from_str(alloc, text).ok().ok_or("a tree")?;
+    *bag = HashBag::from_value(alloc, &tree).ok().ok_or("a bag")?;
+    Ok(())
+}
+
+fn to_value(alloc: Global, bag: &CountingBag) -> bool {
+    bag.to_value(alloc).is_ok()
+}
+
+// What a call answers doesn't matter here.
+fn done<T: Drop>(_answer: T) -> Result<(), Fail> {
+    Ok(())
+}
+
+// Makes a call, also one that the rows of calls lack. Theirs looks the value up before it is replaced.
+fn make_call(
+    rt: &impl Abort,
+    alloc: Global,
+    bag: &mut CountingBag,
+    call: &str,
+) -> Result<(), Fail> {
+    let (verb, rest) = call.split_once(' ').unwrap_or((call, ""));
+    match verb {
+        "replace" => done(replace(rt, bag, number(rest)?)?),
+        "entry_value" => done(entry_value(bag, number(rest)?)),
+        "entry_text" => done(entry_text(alloc, bag, number(rest)?)?),
+        "set_or_insert" => {
+            let (value, n) = halves(rest, " ")?;
+            done(set_or_insert(bag, number(value)?, count(n)?)?)
+        }
+        "drain" => done(drain(bag)),
+        "from_value" => from_value(alloc, bag, rest),
+        "to_value" => done(to_value(alloc, bag)),
+        _ => done(answer(alloc, bag, call)?),
+    }
+}
+
+// Makes the call of a row.
+fn hashes_so_often(rt: &impl Abort, alloc: Global, row: &str) -> Result<(), Fail> {
+    let (before, rest) = halves(row, "|")?;
+    let (call, wanted) = halves(rest, "|")?;
+    let mut bag: CountingBag = bag_of(rt, alloc, before)?;
+    let start = bag.hasher().hashed();
+    make_call(rt, alloc, &mut bag, call)?;
+    let hashed = bag.hasher().hashed().saturating_sub(start);
+    assert_eq!(rt; hashed, number(wanted)?, "hashes in the row: {row}");
+    Ok(())
+}
+
+#[test]
+fn calls_hash_so_often(rt: HostRuntime) -> Result<(), Fail> {
+    for row in rows_of(rt.alloc(), CALLS, 71)? {
+        hashes_so_often(&rt, rt.alloc(), row)?;
+    }
+    Ok(())
+}
+
+fn outer_join(a: &CountingBag, b: &CountingBag) {
+    for _ in a.outer_join(b) {}
+}
+
+fn difference(a: &CountingBag, b: &CountingBag) {
+    for _ in a.difference(b) {}
+}
+
+fn signed_difference(a: &CountingBag, b: &CountingBag) {
+    for _ in a.signed_difference(b) {}
+}
+
+fn not_in(a: &CountingBag, b: &CountingBag) {
+    for _ in a.not_in(b) {}
+}
+
+// Makes a call on two bags.
+fn make_call_on_two(
+    alloc: Global,
+    a: &CountingBag,
+    b: &CountingBag,
+    call: &str,
+) -> Result<(), Fail> {
+    match call {
+        "outer_join" => done(outer_join(a, b)),
+        "difference" => done(difference(a, b)),
+        "signed_difference" => done(signed_difference(a, b)),
+        "not_in" => done(not_in(a, b)),
+        "joins_of" => done(joins_of(alloc, a, b)?),
+        "equal" => done(*a == *b),
+        _ => Err(Fail::new(format_args!("no such call: {call}"))),
+    }
+}
+
+// How often each state hashed so far.
+fn hashed_by(a: &CountingBag, b: &CountingBag) -> (u64, u64) {
+    (a.hasher().hashed(), b.hasher().hashed())
+}
+
+// Makes the call of a row on two bags.
+fn both_hash_so_often(rt: &impl Abort, alloc: Global, row: &str) -> Result<(), Fail> {
+    let (first, rest) = halves(row, "|")?;
+    let (second, rest) = halves(rest, "|")?;
+    let (call, wanted) = halves(rest, "|")?;
+    let a: CountingBag = bag_of(rt, alloc, first)?;
+    let b: CountingBag = bag_of(rt, alloc, second)?;
+    let start = hashed_by(&a, &b);
+    make_call_on_two(alloc, &a, &b, call)?;
+    let end = hashed_by(&a, &b);
+    let (first, second) = (end.0.saturating_sub(start.0), end.1.saturating_sub(start.1));
+    let got = format!(in alloc; "{first} {second}")?;
+    is_text(row, got.as_str(), wanted)
+}
+
+#[test]
+fn calls_on_two_hash_so_often(rt: HostRuntime) -> Result<(), Fail> {
+    for row in rows_of(rt.alloc(), CALLS_ON_TWO, 9)? {
+        both_hash_so_often(&rt, rt.alloc(), row)?;
+    }
+    Ok(())
+}
+
+// The state of a clone, which goes on from the number of the first one's, hashes each value once, and the first state nothing.
+#[test]
+fn clones_are_hashed_once(rt: HostRuntime) -> Result<(), Fail> {
+    let bag: CountingBag = bag_of(&rt, rt.alloc(), "1:1 2:5 3:2")?;
+    let start = bag.hasher().hashed();
+    let clone = bag.clone()?;
+    assert_eq!(rt; bag.hasher().hashed(), start);
+    assert_eq!(rt; clone.hasher().hashed().saturating_sub(start), 3);
+    Ok(())
+}

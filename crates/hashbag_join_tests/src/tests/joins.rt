@@ -1,0 +1,404 @@
+//! Joins of two bags, with the items found by hand, between each two of the four hash states.
+use hashbag::script::{Joins, joins_of};
+use hashbag::{FixedState, HashBag};
+use hashbag_bench::join_uses::excess_of;
+use hashbag_bench::{IdentityState, OneState, ParityState};
+use hashbag_rows::texts::{count, counts, debug_of, halves, is_text, number, rows_of};
+use std::alloc::{AllocError, Global};
+use std::fmt::{self, Debug, Display, Formatter, Write};
+use std::hash::BuildHasher;
+use std::process::Abort;
+use std::test::Fail;
+
+// A join, two bags, and the items of the join, values rising.
+const JOINS: &str = "
+    difference | | | []
+    difference | | 1:1 | []
+    difference | | 1:2 | []
+    difference | | 1:2 2:1 | []
+    difference | 1:1 | | [(1, 1)]
+    difference | 1:1 | 1:1 | []
+    difference | 1:1 | 1:2 | []
+    difference | 1:1 | 2:1 | [(1, 1)]
+    difference | 1:1 | 1:1 2:1 | []
+    difference | 1:1 | 2:2 | [(1, 1)]
+    difference | 1:2 | | [(1, 2)]
+    difference | 1:2 | 1:1 | [(1, 1)]
+    difference | 1:2 | 1:2 | []
+    difference | 1:2 | 2:1 | [(1, 2)]
+    difference | 1:2 | 1:1 2:1 | [(1, 1)]
+    difference | 1:2 | 2:2 | [(1, 2)]
+    difference | 1:2 2:1 | | [(1, 2), (2, 1)]
+    difference | 1:2 2:1 | 1:1 | [(1, 1), (2, 1)]
+    difference | 1:2 2:1 | 1:2 | [(2, 1)]
+    difference | 1:2 2:1 | 2:1 | [(1, 2)]
+    difference | 1:2 2:1 | 1:1 2:1 | [(1, 1)]
+    difference | 1:2 2:1 | 2:2 | [(1, 2)]
+    difference | 1:1 2:2 3:1 | 3:1 | [(1, 1), (2, 2)]
+    difference | 1:1 2:2 3:1 | 4:1 | [(1, 1), (2, 2), (3, 1)]
+    difference | 2:4 | 2:2 | [(2, 2)]
+    difference | 2:4 | | [(2, 4)]
+    difference | 1:1 2:1 3:2 | 2:1 3:1 4:2 | [(1, 1), (3, 1)]
+    difference | | 1:1 2:2 3:1 | []
+    difference | 104:2 97:1 115:1 | 109:1 97:1 116:1 104:1 | [(104, 1), (115, 1)]
+    difference | 1:18446744073709551615 | 1:1 | [(1, 18446744073709551614)]
+    difference | 1:9223372036854775807 | 1:18446744073709551615 | []
+    outer_join | | | []
+    outer_join | 104:2 97:1 115:1 | 109:1 97:1 116:1 104:1 | [(97, 1, 1), (104, 2, 1), (109, 0, 1), (115, 1, 0), (116, 0, 1)]
+    outer_join | | 1:1 2:2 3:1 | [(1, 0, 1), (2, 0, 2), (3, 0, 1)]
+    outer_join | 1:1 2:2 3:1 | | [(1, 1, 0), (2, 2, 0), (3, 1, 0)]
+    outer_join | 1:1 2:2 3:2 | 3:1 4:1 5:2 | [(1, 1, 0), (2, 2, 0), (3, 2, 1), (4, 0, 1), (5, 0, 2)]
+    outer_join | 1:1 2:1 3:1 | 4:1 5:1 6:1 | [(1, 1, 0), (2, 1, 0), (3, 1, 0), (4, 0, 1), (5, 0, 1), (6, 0, 1)]
+    outer_join | 1:1 2:2 3:1 | 4:2 5:1 6:1 | [(1, 1, 0), (2, 2, 0), (3, 1, 0), (4, 0, 2), (5, 0, 1), (6, 0, 1)]
+    outer_join | 1:1 2:1 3:1 | 2:1 3:1 4:1 | [(1, 1, 0), (2, 1, 1), (3, 1, 1), (4, 0, 1)]
+    outer_join | 1:2 2:1 3:1 | 2:1 3:3 4:1 | [(1, 2, 0), (2, 1, 1), (3, 1, 3), (4, 0, 1)]
+    signed_difference | | | []
+    signed_difference | 1:1 2:1 3:2 | 2:1 3:1 4:2 | [(1, 1), (2, 0), (3, 1), (4, -2)]
+    signed_difference | 1:1 2:2 3:1 | | [(1, 1), (2, 2), (3, 1)]
+    signed_difference | 1:1 2:2 3:2 | 3:1 4:1 5:2 | [(1, 1), (2, 2), (3, 1), (4, -1), (5, -2)]
+    signed_difference | | 1:1 2:2 3:1 | [(1, -1), (2, -2), (3, -1)]
+    signed_difference | 1:9223372036854776807 | 1:9223372036854775807 | [(1, 1000)]
+    signed_difference | 1:9223372036854775807 | 1:9223372036854776807 | [(1, -1000)]
+    signed_difference | 1:9223372036854776807 | | [(1, 9223372036854775807)]
+    signed_difference | | 1:9223372036854776807 | [(1, -9223372036854775808)]
+    signed_difference | | 1:9223372036854775808 | [(1, -9223372036854775808)]
+    signed_difference | 1:9223372036854775807 | | [(1, 9223372036854775807)]
+    signed_difference | | 1:9223372036854775807 | [(1, -9223372036854775807)]
+    not_in | | 1:1 2:1 3:2 | []
+    not_in | 1:1 2:1 3:2 | | [(1, 1), (2, 1), (3, 2)]
+    not_in | 1:1 2:1 3:2 | 2:1 4:1 | [(1, 1), (3, 2)]
+    not_in | 1:1 2:1 3:2 | 2:1 3:1 4:2 | [(1, 1)]
+    not_in | | 1:1 2:2 3:1 | []
+    not_in | 1:18446744073709551615 | 2:1 | [(1, 18446744073709551615)]
+    outer_join | 1:1 2:1 3:2 | 2:1 3:1 4:2 | [(1, 1, 0), (2, 1, 1), (3, 2, 1), (4, 0, 2)]";
+
+// A join, two bags, and what the join answers step by step: the fewest and the most items that may be left, and then `+` where an item
+// comes or `-` where none does. With `/` between them, one of several answers is given, since values are looked up in an open order.
+const STEPS: &str = "
+    difference | 1:1 2:1 3:1 | | 0..3+ 0..2+ 0..1+ 0..0- 0..0-
+    not_in | 1:1 2:1 3:1 | | 0..3+ 0..2+ 0..1+ 0..0- 0..0-
+    outer_join | 1:1 2:1 3:1 | 4:1 5:2 | 3..5+ 2..4+ 1..3+ 0..2+ 0..1+ 0..0- 0..0-
+    signed_difference | 1:1 2:1 3:1 | 4:1 5:2 | 3..5+ 2..4+ 1..3+ 0..2+ 0..1+ 0..0- 0..0-
+    difference | 1:2 2:3 | 1:1 2:1 3:1 4:1 5:1 | 0..2+ 0..1+ 0..0- 0..0-
+    not_in | 1:2 2:3 | 3:1 4:1 5:1 | 0..2+ 0..1+ 0..0- 0..0-
+    difference | 4:1 5:3 6:2 7:1 | 6:1 7:3 8:1 9:2 | 0..4+ 0..3+/0..2+ 0..2+/0..1+ 0..1-/0..0- 0..0- 0..0- 0..0- 0..0-
+    not_in | 4:1 5:3 6:2 7:1 | 6:1 7:3 8:1 9:2 | 0..4+ 0..3+/0..2+/0..1+ 0..2-/0..1-/0..0- 0..0- 0..0- 0..0- 0..0- 0..0-
+    outer_join | 4:1 5:3 6:2 7:1 | 6:1 7:3 8:1 9:2 | 4..8+ 3..7+ 2..6+ 1..5+ 0..4+ 0..3+/0..2+/0..1+ 0..2-/0..1-/0..0- 0..0-
+    signed_difference | 4:1 5:3 6:2 7:1 | 6:1 7:3 8:1 9:2 | 4..8+ 3..7+ 2..6+ 1..5+ 0..4+ 0..3+/0..2+/0..1+ 0..2-/0..1-/0..0- 0..0-";
+
+// A value, and how many more of it one bag has than another.
+const EXCESSES: &str = "
+    4 | 1
+    5 | 3
+    6 | 1
+    7 | 0
+    8 | 0
+    1 | 0";
+
+// What stands in a row.
+#[derive(Clone, Copy)]
+struct Row<'a> {
+    join: &'a str,
+    first: &'a str,
+    second: &'a str,
+    wanted: &'a str,
+}
+
+fn parts_of(row: &str) -> Result<Row<'_>, Fail> {
+    let (join, rest) = halves(row, "|")?;
+    let (first, rest) = halves(rest, "|")?;
+    let (second, wanted) = halves(rest, "|")?;
+    Ok(Row {
+        join,
+        first,
+        second,
+        wanted,
+    })
+}
+
+/// The bag with the counts of a text.
+pub fn bag_of<S: BuildHasher + Default + Drop>(
+    rt: &impl Abort,
+    alloc: Global,
+    text: &str,
+) -> Result<HashBag<u64, S>, Fail> {
+    let mut bag = HashBag::default_in(alloc);
+    for (value, count) in counts(alloc, text)? {
+        assert!(rt; count <= usize::MAX - bag.len());
+        bag.insert_many(value, count)?;
+    }
+    Ok(bag)
+}
+
+// The text of some items, rising.
+fn rising<T: Ord + Debug + Copy>(alloc: Global, items: Vec<T>) -> Result<String, Fail> {
+    let mut items = items;
+    items.sort_unstable();
+    debug_of(alloc, &items)
+}
+
+// Whether the values that the first bag has come before all others.
+fn is_first_before(joins: &[(&u64, usize, usize)]) -> bool {
+    let mut ended = false;
+    for join in joins {
+        if join.1 == 0 {
+            ended = true;
+        } else if ended {
+            return false;
+        }
+    }
+    true
+}
+
+// The text of one of the four joins.
+fn text_of(alloc: Global, joins: Joins<'_, u64>, join: &str) -> Result<String, Fail> {
+    match join {
+        "outer_join" if !is_first_before(joins.outer.as_slice()) => {
+            Err(Fail::new("a value of the first bag comes late"))
+        }
+        "outer_join" => rising(alloc, joins.outer),
+        "difference" => rising(alloc, joins.difference),
+        "signed_difference" => rising(alloc, joins.signed),
+        "not_in" => rising(alloc, joins.not_in),
+        _ => Err(Fail::new(format_args!("no join: {join}"))),
+    }
+}
+
+fn is_joined<S: BuildHasher + Default + Drop, S2: BuildHasher + Default + Drop>(
+    rt: &impl Abort,
+    alloc: Global,
+    row: &str,
+) -> Result<(), Fail> {
+    let parts = parts_of(row)?;
+    let a: HashBag<u64, S> = bag_of(rt, alloc, parts.first)?;
+    let b: HashBag<u64, S2> = bag_of(rt, alloc, parts.second)?;
+    let got = text_of(alloc, joins_of(alloc, &a, &b)?, parts.join)?;
+    is_text(row, got.as_str(), parts.wanted)?;
+    Ok(())
+}
+
+// A step of a join: the size hint before it, and whether an item came.
+#[derive(Clone, Copy)]
+struct Step {
+    hint: (usize, Option<usize>),
+    came: bool,
+}
+
+impl Display for Step {
+    fn fmt<W: Write>(&self, f: &mut Formatter<W>) -> fmt::Result {
+        let fewest = self.hint.0;
+        let mark = if self.came { '+' } else { '-' };
+        match self.hint.1 {
+            Some(most) => write!(f, "{fewest}..{most}{mark} "),
+            None => write!(f, "{fewest}..{mark} "),
+        }
+    }
+}
+
+fn write_step(text: &mut String, hint: (usize, Option<usize>), came: bool) -> Result<(), Fail> {
+    let step = Step { hint, came };
+    write!(text, "{step}")?;
+    Ok(())
+}
+
+// So many steps of a join, which is then dropped.
+fn steps_of_outer_join<S: BuildHasher + Drop, S2: BuildHasher + Drop>(
+    text: &mut String,
+    a: &HashBag<u64, S>,
+    b: &HashBag<u64, S2>,
+    steps: usize,
+) -> Result<(), Fail> {
+    let mut join = a.outer_join(b);
+    for _ in 0..steps {
+        write_step(text, join.size_hint(), join.next().is_some())?;
+    }
+    Ok(())
+}
+
+fn steps_of_difference<S: BuildHasher + Drop, S2: BuildHasher + Drop>(
+    text: &mut String,
+    a: &HashBag<u64, S>,
+    b: &HashBag<u64, S2>,
+    steps: usize,
+) -> Result<(), Fail> {
+    let mut join = a.difference(b);
+    for _ in 0..steps {
+        write_step(text, join.size_hint(), join.next().is_some())?;
+    }
+    Ok(())
+}
+
+fn steps_of_signed_difference<S: BuildHasher + Drop, S2: BuildHasher + Drop>(
+    text: &mut String,
+    a: &HashBag<u64, S>,
+    b: &HashBag<u64, S2>,
+    steps: usize,
+) -> Result<(), Fail> {
+    let mut join = a.signed_difference(b);
+    for _ in 0..steps {
+        write_step(text, join.size_hint(), join.next().is_some())?;
+    }
+    Ok(())
+}
+
+fn steps_of_not_in<S: BuildHasher + Drop, S2: BuildHasher + Drop>(
+    text: &mut String,
+    a: &HashBag<u64, S>,
+    b: &HashBag<u64, S2>,
+    steps: usize,
+) -> Result<(), Fail> {
+    let mut join = a.not_in(b);
+    for _ in 0..steps {
+        write_step(text, join.size_hint(), join.next().is_some())?;
+    }
+    Ok(())
+}
+
+// The first steps of one of the joins.
+fn steps_of<S: BuildHasher + Drop, S2: BuildHasher + Drop>(
+    alloc: Global,
+    join: &str,
+    a: &HashBag<u64, S>,
+    b: &HashBag<u64, S2>,
+    steps: usize,
+) -> Result<String, Fail> {
+    let mut text = String::new(alloc);
+    match join {
+        "outer_join" => steps_of_outer_join(&mut text, a, b, steps)?,
+        "difference" => steps_of_difference(&mut text, a, b, steps)?,
+        "signed_difference" => steps_of_signed_difference(&mut text, a, b, steps)?,
+        "not_in" => steps_of_not_in(&mut text, a, b, steps)?,
+        _ => return Err(Fail::new(format_args!("no join: {join}"))),
+    }
+    Ok(text)
+}
+
+fn is_one_of(word: &str, words: &str) -> bool {
+    for other in words.split('/') {
+        if other == word {
+            return true;
+        }
+    }
+    false
+}
+
+// How many steps are one of those that are wanted at their place.
+fn steps_as_wanted(got: &str, wanted: &str) -> usize {
+    let mut as_wanted = 0usize;
+    for (step, words) in got.split_whitespace().zip(wanted.split_whitespace()) {
+        if is_one_of(step, words) {
+            as_wanted = as_wanted.saturating_add(1);
+        }
+    }
+    as_wanted
+}
+
+// The text of a bag's counts, values rising.
+fn counts_of<S: BuildHasher + Drop>(alloc: Global, bag: &HashBag<u64, S>) -> Result<String, Fail> {
+    let mut pairs: Vec<(u64, usize)> = Vec::new(alloc);
+    for (value, count) in bag.set_iter() {
+        pairs.push((*value, count))?;
+    }
+    pairs.sort_unstable();
+    let mut text = String::new(alloc);
+    for (value, count) in pairs {
+        write!(text, "{value}:{count} ")?;
+    }
+    Ok(text)
+}
+
+// A join, dropped after each number of its steps, leaves both bags as they were.
+fn is_stepped<S: BuildHasher + Default + Drop, S2: BuildHasher + Default + Drop>(
+    rt: &impl Abort,
+    alloc: Global,
+    row: &str,
+) -> Result<(), Fail> {
+    let parts = parts_of(row)?;
+    let a: HashBag<u64, S> = bag_of(rt, alloc, parts.first)?;
+    let b: HashBag<u64, S2> = bag_of(rt, alloc, parts.second)?;
+    let most = parts.wanted.split_whitespace().count();
+    for steps in 0..=most {
+        let got = steps_of(alloc, parts.join, &a, &b, steps)?;
+        let as_wanted = steps_as_wanted(got.as_str(), parts.wanted);
+        assert_eq!(rt; as_wanted, steps, "steps {got}of the row: {row}");
+        is_text(row, counts_of(alloc, &a)?.trim(), parts.first)?;
+        is_text(row, counts_of(alloc, &b)?.trim(), parts.second)?;
+    }
+    Ok(())
+}
+
+fn are_joined<S: BuildHasher + Default + Drop, S2: BuildHasher + Default + Drop>(
+    rt: &impl Abort,
+    alloc: Global,
+) -> Result<(), Fail> {
+    for row in rows_of(alloc, JOINS, 59)? {
+        is_joined::<S, S2>(rt, alloc, row)?;
+    }
+    Ok(())
+}
+
+fn are_stepped<S: BuildHasher + Default + Drop, S2: BuildHasher + Default + Drop>(
+    rt: &impl Abort,
+    alloc: Global,
+) -> Result<(), Fail> {
+    for row in rows_of(alloc, STEPS, 10)? {
+        is_stepped::<S, S2>(rt, alloc, row)?;
+    }
+    Ok(())
+}
+
+// All rows, under two states.
+fn joins_under<S: BuildHasher + Default + Drop, S2: BuildHasher + Default + Drop>(
+    rt: &impl Abort,
+    alloc: Global,
+) -> Result<(), Fail> {
+    are_joined::<S, S2>(rt, alloc)?;
+    are_stepped::<S, S2>(rt, alloc)
+}
+
+// The first bag under one state, and the second under each.
+fn joins_with_each<S: BuildHasher + Default + Drop>(
+    rt: &impl Abort,
+    alloc: Global,
+) -> Result<(), Fail> {
+    joins_under::<S, FixedState>(rt, alloc)?;
+    joins_under::<S, OneState>(rt, alloc)?;
+    joins_under::<S, ParityState>(rt, alloc)?;
+    joins_under::<S, IdentityState>(rt, alloc)
+}
+
+#[test]
+fn joins_of_fixed_state(rt: HostRuntime) -> Result<(), Fail> {
+    joins_with_each::<FixedState>(&rt, rt.alloc())
+}
+
+#[test]
+fn joins_of_one_state(rt: HostRuntime) -> Result<(), Fail> {
+    joins_with_each::<OneState>(&rt, rt.alloc())
+}
+
+#[test]
+fn joins_of_parity_state(rt: HostRuntime) -> Result<(), Fail> {
+    joins_with_each::<ParityState>(&rt, rt.alloc())
+}
+
+#[test]
+fn joins_of_identity_state(rt: HostRuntime) -> Result<(), Fail> {
+    joins_with_each::<IdentityState>(&rt, rt.alloc())
+}
+
+#[test]
+fn excesses_one_by_one(rt: HostRuntime) -> Result<(), Fail> {
+    let alloc = rt.alloc();
+    let a: HashBag<u64, OneState> = bag_of(&rt, alloc, "4:1 5:3 6:2 7:1")?;
+    let b: HashBag<u64, IdentityState> = bag_of(&rt, alloc, "6:1 7:3 8:1 9:2")?;
+    for row in rows_of(alloc, EXCESSES, 6)? {
+        let (value, excess) = halves(row, "|")?;
+        assert_eq!(rt;
+            excess_of(&a, &b, &number(value)?),
+            count(excess)?,
+            "in the row: {row}"
+        );
+    }
+    Ok(())
+}

@@ -1,0 +1,295 @@
+//! Trees of bags, read and written, with the answers found by hand.
+use hashbag::{FixedState, HashBag, ItemError, JsonError, JsonItem};
+use hashbag_bench::json_uses::{both_trees, read_again};
+use hashbag_bench::{IdentityState, Named, OneState, ParityState};
+use hashbag_rows::texts::{debug_of, halves, is_text, rows_of};
+use serde_json::Value;
+use std::alloc::{AllocError, Global};
+use std::fmt::{Debug, Display};
+use std::hash::{BuildHasher, Hash};
+use std::process::Abort;
+use std::test::Fail;
+
+// What the items are, a tree, and why it is refused, or else the total of its bag, the number of distinct values, and the tree that is
+// written of it.
+const TREES: &str = r#"
+    String | null | NotAnArray
+    String | true | NotAnArray
+    String | 5 | NotAnArray
+    String | "x" | NotAnArray
+    String | {} | NotAnArray
+    String | [null] | NotAPair(0)
+    String | ["a"] | NotAPair(0)
+    String | [[]] | NotAPair(0)
+    String | [["a"]] | NotAPair(0)
+    String | [["a",1,2]] | NotAPair(0)
+    String | [["a"],["b",-1]] | NotAPair(0)
+    String | [["a",null]] | BadCount(0)
+    String | [["a","1"]] | BadCount(0)
+    String | [["a",true]] | BadCount(0)
+    String | [["a",[]]] | BadCount(0)
+    String | [["a",1.0]] | BadCount(0)
+    String | [["a",1],["b",-1]] | BadCount(1)
+    String | [[5,-1]] | BadCount(0)
+    String | [[5,0]] | BadItem(0)
+    String | [["a",18446744073709551615],[7,1]] | BadItem(1)
+    u64 | [[-1,1]] | BadItem(0)
+    u64 | [[1.0,1]] | BadItem(0)
+    i64 | [[9223372036854775808,1]] | BadItem(0)
+    Named | [["a",1]] | BadItem(0)
+    Named | [[{},1]] | BadItem(0)
+    Named | [[{"name":5},1]] | BadItem(0)
+    String | [["a",18446744073709551615],["b",1]] | TooMany(1)
+    String | [["a",1],["b",2],["a",18446744073709551613]] | TooMany(2)
+    String | [] | 0 0 []
+    String | [["a",0]] | 0 0 []
+    String | [["a",18446744073709551615],["a",0]] | 18446744073709551615 1 [["a",18446744073709551615]]
+    String | [["a",1],["b",2],["a",18446744073709551612]] | 18446744073709551615 2 [["a",18446744073709551613],["b",2]]
+    u64 | [[18446744073709551615,2]] | 2 1 [[18446744073709551615,2]]
+    String | [["Einar",1],["Olaf",1],["Olaf",1],["Harald",2],["Harald",1]] | 6 3 [["Einar",1],["Harald",3],["Olaf",2]]
+    String | [["ä",1],["\"",1]] | 2 2 [["\"",1],["ä",1]]
+    i64 | [[4,1],[-3,2]] | 3 2 [[-3,2],[4,1]]
+    u64 | [[10,1],[9,2]] | 3 2 [[9,2],[10,1]]
+    Named | [[{"name":"Einar"},1],[{"name":"Olaf"},1],[{"name":"Olaf"},1],[{"name":"Harald"},2],[{"name":"Harald"},1]] | 6 3 [[{"name":"Einar"},1],[{"name":"Harald"},3],[{"name":"Olaf"},2]]
+    String | [["Einar",1],["Olaf",2],["Harald",3]] | 6 3 [["Einar",1],["Harald",3],["Olaf",2]]
+    Named | [[{"name":"Einar"},1],[{"name":"Olaf"},2],[{"name":"Harald"},3]] | 6 3 [[{"name":"Einar"},1],[{"name":"Harald"},3],[{"name":"Olaf"},2]]"#;
+
+// Each error, its number and its text.
+const JSON_ERRORS: &str = "
+    NotAnArray | 3 | not an array
+    NotAPair(0) | 4 | pair 0: not a pair
+    BadCount(1) | 5 | pair 1: bad count
+    BadItem(2) | 6 | pair 2: bad item
+    TooMany(3) | 7 | pair 3: total past its end
+    Memory | 8 | no memory";
+
+const ITEM_ERRORS: &str = "
+    NotAnItem | 11 | not an item
+    Memory | 12 | no memory";
+
+fn tree_of(alloc: Global, text: &str) -> Result<Value, Fail> {
+    match Value::from_str(alloc, text) {
+        Ok(tree) => Ok(tree),
+        Err(_) => Err(Fail::new(format_args!("no tree: {text}"))),
+    }
+}
+
+// The total of a bag, the number of its distinct values, and its tree.
+fn written<T: JsonItem + Ord + Hash + Drop, S: BuildHasher + Drop>(
+    alloc: Global,
+    bag: &HashBag<T, S>,
+) -> Result<String, Fail> {
+    let len = bag.len();
+    let set_len = bag.set_len();
+    let tree = bag.to_value(alloc).ok().ok_or("a tree")?;
+    let tree = tree.to_string(alloc)?;
+    Ok(format!(in alloc; "{len} {set_len} {tree}")?)
+}
+
+// Whether two bags have one text.
+fn have_one_text<T: JsonItem + Ord + Hash + Drop, S: BuildHasher + Drop>(
+    alloc: Global,
+    a: &HashBag<T, S>,
+    b: &HashBag<T, S>,
+) -> Result<bool, Fail> {
+    let (first, second) = both_trees(alloc, a, b).ok().ok_or("trees")?;
+    Ok(first.to_string(alloc)? == second.to_string(alloc)?)
+}
+
+fn are_equal<T: JsonItem + Hash + Drop, S: BuildHasher + Drop>(
+    a: &HashBag<T, S>,
+    b: &HashBag<T, S>,
+) -> bool {
+    a == b
+}
+
+// What a bag is written as is read back as an equal bag.
+fn is_read_again<T: JsonItem + Ord + Hash + Drop, S: BuildHasher + Default + Drop>(
+    rt: &impl Abort,
+    alloc: Global,
+    row: &str,
+    bag: &HashBag<T, S>,
+) -> Result<(), Fail> {
+    let again: HashBag<T, S> = read_again(alloc, bag).ok().ok_or("a bag")?;
+    assert!(rt; are_equal(&again, bag), "read again: {row}");
+    assert!(rt; have_one_text(alloc, &again, bag)?, "written again: {row}");
+    Ok(())
+}
+
+// What a text is answered with.
+fn answer_of<T: JsonItem + Ord + Hash + Drop, S: BuildHasher + Default + Drop>(
+    rt: &impl Abort,
+    alloc: Global,
+    text: &str,
+) -> Result<String, Fail> {
+    let tree = tree_of(alloc, text)?;
+    let read: Result<HashBag<T, S>, JsonError> = HashBag::from_value(alloc, &tree);
+    match read {
+        Ok(bag) => {
+            is_read_again(rt, alloc, text, &bag)?;
+            written(alloc, &bag)
+        }
+        Err(error) => debug_of(alloc, &error),
+    }
+}
+
+// Under each state.
+fn is_answered<T: JsonItem + Ord + Hash + Drop>(
+    rt: &impl Abort,
+    alloc: Global,
+    text: &str,
+    wanted: &str,
+) -> Result<(), Fail> {
+    is_text(
+        text,
+        answer_of::<T, FixedState>(rt, alloc, text)?.as_str(),
+        wanted,
+    )?;
+    is_text(
+        text,
+        answer_of::<T, OneState>(rt, alloc, text)?.as_str(),
+        wanted,
+    )?;
+    is_text(
+        text,
+        answer_of::<T, ParityState>(rt, alloc, text)?.as_str(),
+        wanted,
+    )?;
+    is_text(
+        text,
+        answer_of::<T, IdentityState>(rt, alloc, text)?.as_str(),
+        wanted,
+    )?;
+    Ok(())
+}
+
+// The items of a row are of one of four types.
+fn is_answered_as(
+    rt: &impl Abort,
+    alloc: Global,
+    items: &str,
+    text: &str,
+    wanted: &str,
+) -> Result<(), Fail> {
+    match items {
+        "String" => is_answered::<String>(rt, alloc, text, wanted),
+        "u64" => is_answered::<u64>(rt, alloc, text, wanted),
+        "i64" => is_answered::<i64>(rt, alloc, text, wanted),
+        "Named" => is_answered::<Named>(rt, alloc, text, wanted),
+        _ => Err(Fail::new(format_args!("no items: {items}"))),
+    }
+}
+
+#[test]
+fn trees_are_answered(rt: HostRuntime) -> Result<(), Fail> {
+    for row in rows_of(rt.alloc(), TREES, 40)? {
+        let (items, rest) = halves(row, "|")?;
+        let (text, wanted) = halves(rest, "|")?;
+        is_answered_as(&rt, rt.alloc(), items, text, wanted)?;
+    }
+    Ok(())
+}
+
+fn push_often(text: &mut String, mark: char, times: usize) -> Result<(), AllocError> {
+    for _ in 0..times {
+        text.push(mark)?;
+    }
+    Ok(())
+}
+
+// An item of 100 arrays, one inside the other.
+#[test]
+fn deep_items_are_refused(rt: HostRuntime) -> Result<(), Fail> {
+    let mut text = String::new(rt.alloc());
+    push_often(&mut text, '[', 102)?;
+    push_often(&mut text, ']', 100)?;
+    text.push_str(",1]]")?;
+    for items in ["String", "u64", "i64"] {
+        is_answered_as(&rt, rt.alloc(), items, text.as_str(), "BadItem(0)")?;
+    }
+    Ok(())
+}
+
+// The tree of so many equal pairs.
+fn long_tree(alloc: Global, pair: &str, pairs: usize) -> Result<Value, Fail> {
+    let mut text = String::new(alloc);
+    text.push('[')?;
+    for number in 0..pairs {
+        if number > 0 {
+            text.push(',')?;
+        }
+        text.push_str(pair)?;
+    }
+    text.push(']')?;
+    tree_of(alloc, text.as_str())
+}
+
+// Room for one value is made, and not for as many as there are pairs.
+fn has_little_room<S: BuildHasher + Drop>(rt: &impl Abort, bag: &HashBag<u64, S>) {
+    let room = bag.capacity();
+    assert!(rt; room < 100, "room for {room} values");
+}
+
+fn is_read_as_one_value<S: BuildHasher + Default + Drop>(
+    rt: &impl Abort,
+    alloc: Global,
+    tree: &Value,
+) -> Result<(), Fail> {
+    let read: Result<HashBag<u64, S>, JsonError> = HashBag::from_value(alloc, tree);
+    let bag = read.ok().ok_or("a bag")?;
+    is_text(
+        "a long tree",
+        written(alloc, &bag)?.as_str(),
+        "5000 1 [[7,5000]]",
+    )?;
+    has_little_room(rt, &bag);
+    Ok(())
+}
+
+#[test]
+fn long_trees_of_one_value(rt: HostRuntime) -> Result<(), Fail> {
+    let tree = long_tree(rt.alloc(), "[7,1]", 5000)?;
+    is_read_as_one_value::<FixedState>(&rt, rt.alloc(), &tree)?;
+    is_read_as_one_value::<OneState>(&rt, rt.alloc(), &tree)?;
+    is_read_as_one_value::<ParityState>(&rt, rt.alloc(), &tree)?;
+    is_read_as_one_value::<IdentityState>(&rt, rt.alloc(), &tree)
+}
+
+// The row of an error, its number and its text.
+fn is_told<E: Debug + Display>(
+    alloc: Global,
+    error: &E,
+    number: u8,
+    row: &str,
+) -> Result<(), Fail> {
+    let got = format!(in alloc; "{error:?} | {number} | {error}")?;
+    is_text(row, got.as_str(), row)?;
+    Ok(())
+}
+
+#[test]
+fn json_errors_are_told(rt: HostRuntime) -> Result<(), Fail> {
+    let errors = [
+        JsonError::NotAnArray,
+        JsonError::NotAPair(0),
+        JsonError::BadCount(1),
+        JsonError::BadItem(2),
+        JsonError::TooMany(3),
+        JsonError::Memory,
+    ];
+    let rows = rows_of(rt.alloc(), JSON_ERRORS, errors.len())?;
+    for (row, error) in rows.into_iter().zip(errors) {
+        is_told(rt.alloc(), &error, error.number(), row)?;
+    }
+    Ok(())
+}
+
+#[test]
+fn item_errors_are_told(rt: HostRuntime) -> Result<(), Fail> {
+    let errors = [ItemError::NotAnItem, ItemError::Memory];
+    let rows = rows_of(rt.alloc(), ITEM_ERRORS, errors.len())?;
+    for (row, error) in rows.into_iter().zip(errors) {
+        is_told(rt.alloc(), &error, error.number(), row)?;
+    }
+    Ok(())
+}

@@ -1,0 +1,46 @@
+//! Bags of the values 5, 6 and 7.
+use crate::checks::{Refusals, Wrong, check};
+use hashbag::HashBag;
+use std::alloc::Global;
+
+/// Counts of 5, 6 and 7.
+pub type Counts = (usize, usize, usize);
+
+/// Checks the counts of 5, 6 and 7, which are all that the bag has.
+pub fn has_counts(bag: &HashBag<u64>, counts: Counts, wrong: &'static str) -> Result<(), Wrong> {
+    let (five, six, seven) = counts;
+    for (value, count) in [(5, five), (6, six), (7, seven)] {
+        check(bag.contains(&value) == count, wrong)?;
+    }
+    let total = five.saturating_add(six).saturating_add(seven);
+    check(bag.len() == total, wrong)
+}
+
+/// Inserts two of a value, of which there must be so many, and answers whether they went in.
+pub fn insert_two(
+    bag: &mut HashBag<u64>,
+    value: u64,
+    before: usize,
+    refusals: &mut Refusals,
+) -> Result<bool, Wrong> {
+    if bag.len() >= usize::MAX - 1 {
+        return Err(Wrong("insert_many: the total before it"));
+    }
+    let Some(answer) = refusals.answer(bag.insert_many(value, 2))? else {
+        return Ok(false);
+    };
+    check(answer == before, "insert_many: its answer")?;
+    Ok(true)
+}
+
+/// A bag with 5 twice. Where that is refused, the bag is empty, and takes 5 with memory again.
+pub fn two_fives(alloc: Global, refusals: &mut Refusals) -> Result<HashBag<u64>, Wrong> {
+    let mut bag = HashBag::new(alloc);
+    if !insert_two(&mut bag, 5, 0, refusals)? {
+        has_counts(&bag, (0, 0, 0), "the first insertion: refused")?;
+        let done = insert_two(&mut bag, 5, 0, refusals)?;
+        check(done, "the first insertion: with memory again")?;
+    }
+    has_counts(&bag, (2, 0, 0), "the first insertion")?;
+    Ok(bag)
+}

@@ -1,0 +1,87 @@
+//! Insertions and replacements.
+use crate::checks::{Refusals, Wrong, check};
+use crate::counts::{has_counts, insert_two, two_fives};
+use hashbag::HashBag;
+use std::alloc::Global;
+
+// After a refused insertion of an absent value: 5 is there, which is inserted all the same, and so is the value with memory
+// again.
+fn insert_after_refusal(
+    bag: &mut HashBag<u64>,
+    value: u64,
+    refusals: &mut Refusals,
+) -> Result<(), Wrong> {
+    check(bag.contains(&value) == 0, "insertion: refused")?;
+    let done = insert_two(bag, 5, 2, refusals)?;
+    check(done, "insertion: of a value that is there")?;
+    let done = insert_two(bag, value, 0, refusals)?;
+    check(done, "insertion: with memory again")
+}
+
+// Inserts a value twice into a bag that has so many values, each twice, and answers whether it went in.
+fn insert_next(
+    bag: &mut HashBag<u64>,
+    value: u64,
+    values: usize,
+    refusals: &mut Refusals,
+) -> Result<bool, Wrong> {
+    let done = insert_two(bag, value, 0, refusals)?;
+    let values = if done {
+        values.saturating_add(1)
+    } else {
+        values
+    };
+    check(bag.set_len() == values, "insertion: the values")?;
+    check(
+        bag.len() == values.saturating_mul(2),
+        "insertion: the total",
+    )?;
+    Ok(done)
+}
+
+/// Inserts 25 values in turn, each twice. A refusal leaves all that came before.
+pub fn insertions(alloc: Global, refusals: &mut Refusals) -> Result<(), Wrong> {
+    let mut bag = two_fives(alloc, refusals)?;
+    for at in 0..25usize {
+        let value = 100 + at as u64;
+        if !insert_next(&mut bag, value, at + 1, refusals)? {
+            return insert_after_refusal(&mut bag, value, refusals);
+        }
+        check(bag.contains(&value) == 2, "insertion: the count")?;
+    }
+    Ok(())
+}
+
+// Replaces a value, of which there must be so many, and answers whether it was done.
+fn replace(
+    bag: &mut HashBag<u64>,
+    value: u64,
+    before: usize,
+    refusals: &mut Refusals,
+) -> Result<bool, Wrong> {
+    if bag.len() == usize::MAX {
+        return Err(Wrong("replace: the total before it"));
+    }
+    let Some(answer) = refusals.answer(bag.replace(value))? else {
+        return Ok(false);
+    };
+    check(answer == before, "replace: its answer")?;
+    Ok(true)
+}
+
+/// Replaces a value that is there, and one that isn't.
+pub fn replacements(alloc: Global, refusals: &mut Refusals) -> Result<(), Wrong> {
+    let mut bag = two_fives(alloc, refusals)?;
+    let five = if replace(&mut bag, 5, 2, refusals)? {
+        1
+    } else {
+        2
+    };
+    has_counts(&bag, (five, 0, 0), "replace: of a value that is there")?;
+    let six = if replace(&mut bag, 6, 0, refusals)? {
+        1
+    } else {
+        0
+    };
+    has_counts(&bag, (five, six, 0), "replace: of an absent value")
+}

@@ -1,0 +1,125 @@
+//! Goes through calls that ask for memory, of which the script `tests/refused_memory` has one request refused, and says
+//! whether a call answered so and whether all is then as it must be.
+//!
+//! Standard input is `strict`, `lenient` or `all`, which names the calls, and how many spare requests are made before them: so
+//! where request N is refused, it is request N less that number of the calls. After the calls more spare requests are made than
+//! the script refuses: where it is one of these, the calls have made fewer. With ample memory nothing is refused.
+#![tactic(auto)]
+
+mod checks;
+mod counts;
+mod extends;
+mod insertions;
+mod pairs;
+mod room;
+mod runs;
+mod spare;
+mod texts;
+mod trees;
+mod whole;
+
+use crate::checks::{Refusals, Wrong, check};
+use crate::spare::refused_of;
+use std::alloc::Global;
+use std::io::Read;
+use std::process::ExitCode;
+use std::str;
+
+// More requests than the script refuses of the calls.
+const SPARE: usize = 300;
+
+// What to do.
+#[derive(Clone, Copy)]
+struct Order {
+    // Whether to go through the strict calls, and through the lenient ones.
+    strict: bool,
+    lenient: bool,
+    // How many spare requests to make first.
+    spare: usize,
+}
+
+// Which request was refused, by what the calls answered.
+enum Outcome {
+    // No call answered that one was.
+    None,
+    // One of the calls.
+    InCalls,
+    // The spare one of this number, from 1, after the calls.
+    After(usize),
+}
+
+// Calls that answer each refusal.
+fn strict_calls(alloc: Global, refusals: &mut Refusals) -> Result<(), Wrong> {
+    insertions::insertions(alloc, refusals)?;
+    insertions::replacements(alloc, refusals)?;
+    room::room(alloc, refusals)?;
+    room::room_from_the_start(alloc, refusals)?;
+    extends::extends(alloc, refusals)?;
+    extends::collections(alloc, refusals)?;
+    texts::cloned_names(alloc, refusals)?;
+    trees::trees(alloc, refusals)?;
+    trees::faulty_trees(alloc, refusals)
+}
+
+// Calls that do without some requests: std's lists are collected with less room where it is refused, and std's map gives back
+// what it can. What they answer is checked all the same.
+fn lenient_calls(alloc: Global, refusals: &mut Refusals) -> Result<(), Wrong> {
+    room::room_given_back(alloc, refusals)?;
+    runs::runs(alloc, refusals)?;
+    pairs::pairs_of_runs(alloc, refusals)?;
+    whole::executions(alloc, refusals)
+}
+
+// Makes the spare requests, goes through the calls, and makes spare requests again.
+fn outcome_of(alloc: Global, order: Order) -> Result<Outcome, Wrong> {
+    let before = refused_of(alloc, order.spare);
+    check(before.is_none(), "a refusal before the calls")?;
+    let mut refusals = Refusals::new();
+    if order.strict {
+        strict_calls(alloc, &mut refusals)?;
+    }
+    if order.lenient {
+        lenient_calls(alloc, &mut refusals)?;
+    }
+    match (refusals.seen(), refused_of(alloc, SPARE)) {
+        (0, None) => Ok(Outcome::None),
+        (1, None) => Ok(Outcome::InCalls),
+        (0, Some(number)) => Ok(Outcome::After(number)),
+        _ => Err(Wrong("more refusals than one")),
+    }
+}
+
+// The order that is read, which is short enough for one read.
+fn read_order<R: Read>(input: &mut R) -> Option<Order> {
+    let mut text = [0u8; 16];
+    let n = input.read(&mut text).ok()?;
+    let (calls, spare) = str::from_utf8(&text[..n]).ok()?.trim_end().split_once(' ')?;
+    let (strict, lenient) = match calls {
+        "strict" => (true, false),
+        "lenient" => (false, true),
+        "all" => (true, true),
+        _ => return None,
+    };
+    Some(Order {
+        strict,
+        lenient,
+        spare: spare.parse().ok()?,
+    })
+}
+
+fn main(rt: HostRuntime) -> ExitCode {
+    let Some(order) = read_order(&mut rt.stdin()) else {
+        let _ = println!(rt; "wrong: no order");
+        return ExitCode::from(1);
+    };
+    let said = match outcome_of(rt.alloc(), order) {
+        Ok(Outcome::None) => println!(rt; "nothing refused"),
+        Ok(Outcome::InCalls) => println!(rt; "refused, and all stands"),
+        Ok(Outcome::After(number)) => println!(rt; "not refused: request {number} after the calls"),
+        Err(Wrong(what)) => {
+            let _ = println!(rt; "wrong: {what}");
+            return ExitCode::from(1);
+        }
+    };
+    ExitCode::from(if said.is_ok() { 0 } else { 1 })
+}

@@ -1,0 +1,60 @@
+//! Room for values.
+use crate::checks::{Refusals, Wrong, check};
+use crate::counts::{has_counts, two_fives};
+use hashbag::HashBag;
+use std::alloc::Global;
+
+/// Checks that a bag has room for so many values beside those that are there.
+pub fn has_room(bag: &HashBag<u64>, n: usize, wrong: &'static str) -> Result<(), Wrong> {
+    check(bag.capacity() >= bag.set_len().saturating_add(n), wrong)
+}
+
+// Makes room for so many more values, and answers whether it was done.
+fn reserve(bag: &mut HashBag<u64>, n: usize, refusals: &mut Refusals) -> Result<bool, Wrong> {
+    let done = refusals.is_done(bag.reserve(n))?;
+    has_counts(bag, (2, 0, 0), "reserve: the counts")?;
+    if done {
+        has_room(bag, n, "reserve: the room")?;
+    }
+    Ok(done)
+}
+
+// A bag with 5 twice and room for 100 more values. Where the room is refused, it is made with memory again.
+fn roomy(alloc: Global, refusals: &mut Refusals) -> Result<HashBag<u64>, Wrong> {
+    let mut bag = two_fives(alloc, refusals)?;
+    if !reserve(&mut bag, 100, refusals)? {
+        let done = reserve(&mut bag, 100, refusals)?;
+        check(done, "reserve: with memory again")?;
+    }
+    Ok(bag)
+}
+
+/// Makes room in a bag.
+pub fn room(alloc: Global, refusals: &mut Refusals) -> Result<(), Wrong> {
+    drop(roomy(alloc, refusals)?);
+    Ok(())
+}
+
+/// Makes room in a small bag and gives it back: then there is less, or as much where that is refused.
+pub fn room_given_back(alloc: Global, refusals: &mut Refusals) -> Result<(), Wrong> {
+    let mut bag = roomy(alloc, refusals)?;
+    let before = bag.capacity();
+    let done = refusals.is_done(bag.shrink_to_fit())?;
+    has_counts(&bag, (2, 0, 0), "shrink_to_fit: the counts")?;
+    if done {
+        check(bag.capacity() < before, "shrink_to_fit: the room")
+    } else {
+        has_room(&bag, 100, "shrink_to_fit: the room where it is refused")
+    }
+}
+
+/// Makes a bag with room.
+pub fn room_from_the_start(alloc: Global, refusals: &mut Refusals) -> Result<(), Wrong> {
+    match refusals.answer(HashBag::<u64>::with_capacity(alloc, 100))? {
+        Some(bag) => {
+            has_counts(&bag, (0, 0, 0), "with_capacity: the counts")?;
+            has_room(&bag, 100, "with_capacity: the room")
+        }
+        None => Ok(()),
+    }
+}

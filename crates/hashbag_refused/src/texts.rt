@@ -1,0 +1,60 @@
+//! Bags of texts, whose clones ask for memory themselves.
+use crate::checks::{Refusals, Wrong, check};
+use hashbag::HashBag;
+use std::alloc::{AllocError, Global};
+
+fn names(alloc: Global) -> Result<(String, String), AllocError> {
+    Ok((
+        String::from_str(alloc, "Einar")?,
+        String::from_str(alloc, "Harald")?,
+    ))
+}
+
+// After an extend by Einar, Harald and Einar: all are there, or those before the one that was refused.
+fn has_names(bag: &HashBag<String>, counts: (usize, usize), is_done: bool) -> Result<(), Wrong> {
+    if is_done {
+        check(counts == (2, 1), "names: the counts")?;
+    } else {
+        let before = [(0, 0), (1, 0), (1, 1)];
+        check(before.contains(&counts), "names: those before a refusal")?;
+    }
+    check(
+        bag.len() == counts.0.saturating_add(counts.1),
+        "names: the total",
+    )
+}
+
+fn counts_of(bag: &HashBag<String>, names: &(String, String)) -> (usize, usize) {
+    (bag.contains(&names.0), bag.contains(&names.1))
+}
+
+// An extend by clones, and a clone of the bag that it leaves.
+fn extend_and_clone(
+    alloc: Global,
+    names: &(String, String),
+    refusals: &mut Refusals,
+) -> Result<(), Wrong> {
+    let mut bag: HashBag<String> = HashBag::new(alloc);
+    let items = [&names.0, &names.1, &names.0];
+    let done = refusals.is_done(bag.extend_refs(items.into_iter()))?;
+    let counts = counts_of(&bag, names);
+    has_names(&bag, counts, done)?;
+    if let Some(clone) = refusals.answer(bag.clone())? {
+        check(clone == bag, "names: the clone is equal")?;
+    }
+    check(
+        counts_of(&bag, names) == counts,
+        "names: the source of a clone",
+    )
+}
+
+/// An extend by clones that ask for memory, and a clone of the bag that it leaves, which is equal where there is one.
+pub fn cloned_names(alloc: Global, refusals: &mut Refusals) -> Result<(), Wrong> {
+    match names(alloc) {
+        Ok(names) => extend_and_clone(alloc, &names, refusals),
+        Err(_) => {
+            refusals.count();
+            Ok(())
+        }
+    }
+}

@@ -1,2 +1,0 @@
-pub mod RunAndJoin
-pub use Rattle.hashbag.specs.Pairs

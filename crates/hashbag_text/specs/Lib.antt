@@ -1,0 +1,3 @@
+pub mod Answers
+pub mod RunAndJoin
+pub use Rattle.hashbag.specs.Pairs

@@ -1,0 +1,7 @@
+//! The program's text format: lines in, replies out.
+#![tactic(auto)]
+
+pub mod execute;
+pub mod joined;
+mod lines;
+mod output;

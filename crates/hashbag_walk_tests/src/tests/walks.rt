@@ -1,0 +1,417 @@
+//! Walks over the bag, with the items found by hand, and the texts of `Debug`.
+use hashbag::{FixedState, HashBag, Iter};
+use hashbag_bench::uses::{
+    first_moved_out, moved_out, number_by_loop, number_of_items, sum_by_loop, sum_of_counts,
+    sum_used_up,
+};
+use hashbag_bench::{IdentityState, OneState, ParityState};
+use hashbag_rows::calls::{bag_of, counts_of, make_calls};
+use hashbag_rows::texts::{debug_of, is_text};
+use std::alloc::Global;
+use std::fmt::Debug;
+use std::hash::{BuildHasher, Hash};
+use std::process::Abort;
+use std::test::Fail;
+
+// Occurrences of `sample_bag`.
+const ITEMS: usize = 6;
+
+// Distinct values of `sample_bag`.
+const VALUES: usize = 3;
+
+// Checks how many items a walk has left.
+fn has_left<I: ExactSizeIterator>(rt: &impl Abort, walk: &I, left: usize) {
+    assert_eq!(rt; walk.len(), left);
+    assert_eq!(rt; walk.size_hint(), (left, Some(left)));
+}
+
+// Checks that a bag has nothing.
+fn is_empty<T: Eq + Hash + Drop, S: BuildHasher + Drop>(rt: &impl Abort, bag: &HashBag<T, S>) {
+    assert!(rt; bag.is_empty());
+    assert_eq!(rt; bag.len(), 0);
+    assert_eq!(rt; bag.set_len(), 0);
+}
+
+// 5 three times, 6 twice and 7 once.
+fn sample_bag<S: BuildHasher + Drop>(alloc: Global, state: S) -> Result<HashBag<u64, S>, Fail> {
+    bag_of(alloc, state, &[5, 6, 5, 7, 6, 5])
+}
+
+fn insert_name<S: BuildHasher + Drop>(
+    rt: &impl Abort,
+    bag: &mut HashBag<String, S>,
+    name: String,
+) -> Result<(), Fail> {
+    assert!(rt; bag.len() < 3);
+    bag.insert(name)?;
+    Ok(())
+}
+
+// Einar twice and Harald once.
+fn three_names<S: BuildHasher + Drop>(
+    rt: &impl Abort,
+    alloc: Global,
+    state: S,
+) -> Result<HashBag<String, S>, Fail> {
+    let mut bag = HashBag::with_hasher(alloc, state);
+    insert_name(rt, &mut bag, String::from_str(alloc, "Einar")?)?;
+    insert_name(rt, &mut bag, String::from_str(alloc, "Harald")?)?;
+    insert_name(rt, &mut bag, String::from_str(alloc, "Einar")?)?;
+    Ok(bag)
+}
+
+fn names_one_by_one<S: BuildHasher + Drop>(rt: &impl Abort, bag: &HashBag<String, S>) {
+    has_left(rt, &bag.iter(), 3);
+    let einars = bag.iter().filter(|name| name.as_str() == "Einar").count();
+    assert_eq!(rt; einars, 2);
+}
+
+fn all_names<S: BuildHasher + Drop>(rt: &impl Abort, bag: &HashBag<String, S>) {
+    assert_eq!(rt; bag.iter().count(), 3);
+    assert_eq!(rt; bag.set_iter().count(), 2);
+}
+
+fn is_count_of(rt: &impl Abort, name: &str, count: usize) {
+    let want = if name == "Einar" { 2 } else { 1 };
+    assert_eq!(rt; count, want, "of {name}");
+}
+
+fn names_with_counts<S: BuildHasher + Drop>(rt: &impl Abort, bag: &HashBag<String, S>) {
+    has_left(rt, &bag.set_iter(), 2);
+    for (name, count) in bag.set_iter() {
+        is_count_of(rt, name.as_str(), count);
+    }
+}
+
+fn one_name_taken_out<S: BuildHasher + Drop>(rt: &impl Abort, bag: &mut HashBag<String, S>) {
+    let mut drain = bag.drain();
+    has_left(rt, &drain, 2);
+    assert!(rt; drain.next().is_some());
+    has_left(rt, &drain, 1);
+}
+
+fn walks_over_names<S: BuildHasher + Drop>(
+    rt: &impl Abort,
+    alloc: Global,
+    state: S,
+) -> Result<(), Fail> {
+    let mut bag = three_names(rt, alloc, state)?;
+    names_one_by_one(rt, &bag);
+    all_names(rt, &bag);
+    names_with_counts(rt, &bag);
+    one_name_taken_out(rt, &mut bag);
+    is_empty(rt, &bag);
+    Ok(())
+}
+
+// What the sample bag answers after a walk that borrowed it.
+fn is_sample<S: BuildHasher + Drop>(
+    rt: &impl Abort,
+    alloc: Global,
+    bag: &HashBag<u64, S>,
+) -> Result<(), Fail> {
+    assert_eq!(rt; bag.len(), ITEMS);
+    let counts = counts_of(alloc, bag, &[5, 6, 7])?;
+    is_text("counts of 5, 6 and 7", counts.as_str(), "[3, 2, 1]")?;
+    Ok(())
+}
+
+// Takes some of the occurrences and drops the walk.
+fn some_items<S: BuildHasher + Drop>(rt: &impl Abort, bag: &HashBag<u64, S>, taken: usize) {
+    let mut walk = bag.iter();
+    for _ in 0..taken {
+        assert!(rt; walk.next().is_some(), "before {taken}");
+    }
+    has_left(rt, &walk, ITEMS.saturating_sub(taken));
+}
+
+fn some_values<S: BuildHasher + Drop>(rt: &impl Abort, bag: &HashBag<u64, S>, taken: usize) {
+    let mut walk = bag.set_iter();
+    for _ in 0..taken {
+        assert!(rt; walk.next().is_some(), "before {taken}");
+    }
+    has_left(rt, &walk, VALUES.saturating_sub(taken));
+}
+
+fn some_drained<S: BuildHasher + Drop>(rt: &impl Abort, bag: &mut HashBag<u64, S>, taken: usize) {
+    let mut walk = bag.drain();
+    for _ in 0..taken {
+        assert!(rt; walk.next().is_some(), "before {taken}");
+    }
+    has_left(rt, &walk, VALUES.saturating_sub(taken));
+}
+
+fn some_moved<S: BuildHasher + Drop>(rt: &impl Abort, bag: HashBag<u64, S>, taken: usize) {
+    let mut walk = bag.into_iter();
+    for _ in 0..taken {
+        assert!(rt; walk.next().is_some(), "before {taken}");
+    }
+    has_left(rt, &walk, VALUES.saturating_sub(taken));
+}
+
+// Each walk that borrows the bag, dropped after each number of its items, leaves it as before.
+fn borrowed_walks_dropped<S: BuildHasher + Drop>(
+    rt: &impl Abort,
+    alloc: Global,
+    state: S,
+) -> Result<(), Fail> {
+    let bag = sample_bag(alloc, state)?;
+    for taken in 0..=ITEMS {
+        some_items(rt, &bag, taken);
+        is_sample(rt, alloc, &bag)?;
+    }
+    for taken in 0..=VALUES {
+        some_values(rt, &bag, taken);
+        is_sample(rt, alloc, &bag)?;
+    }
+    Ok(())
+}
+
+const DRAINED_ROWS: &str = "\
+    contains 5 = 0
+    insert 5 = 0
+    contains 5 = 1";
+
+// A drain that is dropped leaves an empty bag, which takes values in again.
+fn drained_and_filled<S: BuildHasher + Default + Drop>(
+    rt: &impl Abort,
+    alloc: Global,
+    mut bag: HashBag<u64, S>,
+    taken: usize,
+) -> Result<(), Fail> {
+    some_drained(rt, &mut bag, taken);
+    is_empty(rt, &bag);
+    make_calls(alloc, &mut bag, DRAINED_ROWS, 3)
+}
+
+fn owned_walks_dropped<S: BuildHasher + Default + Copy>(
+    rt: &impl Abort,
+    alloc: Global,
+    state: S,
+) -> Result<(), Fail> {
+    for taken in 0..=VALUES {
+        drained_and_filled(rt, alloc, sample_bag(alloc, state)?, taken)?;
+        some_moved(rt, sample_bag(alloc, state)?, taken);
+    }
+    Ok(())
+}
+
+// After the last item there is none for good.
+fn items_end<S: BuildHasher + Drop>(rt: &impl Abort, bag: &HashBag<u64, S>) {
+    let mut walk = bag.iter();
+    for _ in 0..ITEMS {
+        assert!(rt; walk.next().is_some());
+    }
+    for _ in 0..3 {
+        assert!(rt; walk.next().is_none());
+    }
+}
+
+fn values_end<S: BuildHasher + Drop>(rt: &impl Abort, bag: &HashBag<u64, S>) {
+    let mut walk = bag.set_iter();
+    for _ in 0..VALUES {
+        assert!(rt; walk.next().is_some());
+    }
+    for _ in 0..3 {
+        assert!(rt; walk.next().is_none());
+    }
+}
+
+fn ends_of_walks<S: BuildHasher + Drop>(
+    rt: &impl Abort,
+    alloc: Global,
+    state: S,
+) -> Result<(), Fail> {
+    let bag = sample_bag(alloc, state)?;
+    items_end(rt, &bag);
+    values_end(rt, &bag);
+    Ok(())
+}
+
+// The occurrences of one value stand side by side: the value changes twice over three values.
+fn changes_of_value<S: BuildHasher + Drop>(bag: &HashBag<u64, S>) -> usize {
+    let mut changes = 0usize;
+    let mut before = None;
+    for value in bag {
+        if before.is_some() && before != Some(*value) {
+            changes = changes.saturating_add(1);
+        }
+        before = Some(*value);
+    }
+    changes
+}
+
+fn counts_of_values<S: BuildHasher + Drop>(rt: &impl Abort, bag: &HashBag<u64, S>) {
+    for (value, count) in bag.set_iter() {
+        assert_eq!(rt; count, bag.contains(value), "of {value}");
+    }
+}
+
+fn number_of_fives<S: BuildHasher + Drop>(rt: &impl Abort, bag: &HashBag<u64, S>) {
+    assert_eq!(rt; bag.iter().filter(|value| **value == 5).count(), 3);
+}
+
+// Checks the number of items that a caller found.
+fn is_total(rt: &impl Abort, caller: &str, total: usize) {
+    assert_eq!(rt; total, ITEMS, "by {caller}");
+}
+
+fn totals<S: BuildHasher + Drop>(rt: &impl Abort, bag: HashBag<u64, S>) {
+    is_total(rt, "number_of_items", number_of_items(&bag));
+    is_total(rt, "number_by_loop", number_by_loop(&bag));
+    is_total(rt, "sum_of_counts", sum_of_counts(&bag));
+    is_total(rt, "sum_by_loop", sum_by_loop(&bag));
+    is_total(rt, "sum_used_up", sum_used_up(bag));
+}
+
+fn items_of_walks<S: BuildHasher + Drop>(
+    rt: &impl Abort,
+    alloc: Global,
+    state: S,
+) -> Result<(), Fail> {
+    let bag = sample_bag(alloc, state)?;
+    assert_eq!(rt; changes_of_value(&bag), 2);
+    number_of_fives(rt, &bag);
+    counts_of_values(rt, &bag);
+    totals(rt, bag);
+    Ok(())
+}
+
+fn gives_the_same(rt: &impl Abort, walk: Iter<u64>, again: Iter<u64>) {
+    for (one, other) in walk.zip(again) {
+        assert_eq!(rt; *one, *other);
+    }
+}
+
+// A clone that was taken after some items gives the same ones as the walk that it was taken of.
+fn clones_go_on<S: BuildHasher + Drop>(
+    rt: &impl Abort,
+    bag: &HashBag<u64, S>,
+    taken: usize,
+) -> Result<(), Fail> {
+    let mut walk = bag.iter();
+    for _ in 0..taken {
+        let _ = walk.next();
+    }
+    let again = walk.clone()?;
+    has_left(rt, &walk, ITEMS.saturating_sub(taken));
+    has_left(rt, &again, ITEMS.saturating_sub(taken));
+    gives_the_same(rt, walk, again);
+    Ok(())
+}
+
+fn set_clones_go_on<S: BuildHasher + Drop>(
+    rt: &impl Abort,
+    bag: &HashBag<u64, S>,
+) -> Result<(), Fail> {
+    let mut walk = bag.set_iter();
+    let _ = walk.next();
+    assert_eq!(rt; walk.clone()?.next(), walk.next());
+    Ok(())
+}
+
+fn all_clones_go_on<S: BuildHasher + Drop>(
+    rt: &impl Abort,
+    alloc: Global,
+    state: S,
+) -> Result<(), Fail> {
+    let bag = sample_bag(alloc, state)?;
+    for taken in 0..=ITEMS {
+        clones_go_on(rt, &bag, taken)?;
+    }
+    set_clones_go_on(rt, &bag)
+}
+
+fn list_moved_out<S: BuildHasher + Drop>(
+    rt: &impl Abort,
+    alloc: Global,
+    bag: &mut HashBag<u64, S>,
+) -> Result<(), Fail> {
+    let list = moved_out(alloc, bag)?;
+    assert_eq!(rt; list.len(), VALUES);
+    assert!(rt; list.contains(&(5, 3)));
+    Ok(())
+}
+
+fn one_moved_out<S: BuildHasher + Drop>(rt: &impl Abort, bag: &mut HashBag<u64, S>) {
+    assert_eq!(rt; first_moved_out(bag), Some((8, 1)));
+    assert!(rt; first_moved_out(bag).is_none());
+}
+
+fn all_moved_out<S: BuildHasher + Default + Drop>(
+    rt: &impl Abort,
+    alloc: Global,
+    state: S,
+) -> Result<(), Fail> {
+    let mut bag = sample_bag(alloc, state)?;
+    list_moved_out(rt, alloc, &mut bag)?;
+    is_empty(rt, &bag);
+    make_calls(alloc, &mut bag, "insert 8 = 0", 1)?;
+    one_moved_out(rt, &mut bag);
+    Ok(())
+}
+
+// Checks the text that `Debug` writes.
+fn is_shown<T: Debug>(alloc: Global, value: &T, want: &str) -> Result<(), Fail> {
+    is_text("Debug", debug_of(alloc, value)?.as_str(), want)?;
+    Ok(())
+}
+
+fn texts_of_walks<S: BuildHasher + Drop>(alloc: Global, bag: &HashBag<u64, S>) -> Result<(), Fail> {
+    let mut walk = bag.iter();
+    is_shown(alloc, &walk, "{5, 5, 5}")?;
+    let _ = walk.next();
+    is_shown(alloc, &walk, "{5, 5}")?;
+    is_shown(alloc, &bag.set_iter(), "{(5, 3)}")
+}
+
+fn texts_of_five<S: BuildHasher + Drop>(alloc: Global, state: S) -> Result<(), Fail> {
+    let mut bag = bag_of(alloc, state, &[5, 5, 5])?;
+    is_shown(alloc, &bag, "{5, 5, 5}")?;
+    texts_of_walks(alloc, &bag)?;
+    is_shown(alloc, &bag.entry(5), "Entry(5, 3)")
+}
+
+fn texts_of_nothing<S: BuildHasher + Drop>(alloc: Global, state: S) -> Result<(), Fail> {
+    let bag: HashBag<u64, S> = HashBag::with_hasher(alloc, state);
+    is_shown(alloc, &bag, "{}")?;
+    is_shown(alloc, &bag.iter(), "{}")?;
+    is_shown(alloc, &bag.set_iter(), "{}")
+}
+
+// All of these under one state.
+fn walks_under<S: BuildHasher + Default + Copy>(
+    rt: &impl Abort,
+    alloc: Global,
+    state: S,
+) -> Result<(), Fail> {
+    walks_over_names(rt, alloc, state)?;
+    borrowed_walks_dropped(rt, alloc, state)?;
+    owned_walks_dropped(rt, alloc, state)?;
+    ends_of_walks(rt, alloc, state)?;
+    items_of_walks(rt, alloc, state)?;
+    all_clones_go_on(rt, alloc, state)?;
+    all_moved_out(rt, alloc, state)?;
+    texts_of_five(alloc, state)?;
+    texts_of_nothing(alloc, state)
+}
+
+#[test]
+fn walks_of_fixed_state(rt: HostRuntime) -> Result<(), Fail> {
+    walks_under(&rt, rt.alloc(), FixedState::new())
+}
+
+#[test]
+fn walks_of_one_state(rt: HostRuntime) -> Result<(), Fail> {
+    walks_under(&rt, rt.alloc(), OneState)
+}
+
+#[test]
+fn walks_of_parity_state(rt: HostRuntime) -> Result<(), Fail> {
+    walks_under(&rt, rt.alloc(), ParityState)
+}
+
+#[test]
+fn walks_of_identity_state(rt: HostRuntime) -> Result<(), Fail> {
+    walks_under(&rt, rt.alloc(), IdentityState)
+}
