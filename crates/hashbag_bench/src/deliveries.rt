@@ -2,7 +2,7 @@
 //!
 //! The two bags come by reference. A function that owns both lends them to one like these: it can't itself hand a join of its
 //! own two bags on by value.
-ghost use Rattle.std.specs.Prelude.{◌≡◌, ◌+◌, ◌≤◌, ◌↔◌, IsTrue};
+ghost use Rattle.std.specs.Prelude.{◌≡◌, ◌+◌, ◌<◌, ◌≤◌, ◌↔◌, IsTrue};
 ghost use Rattle.hashbag.specs.Occurrences.{count};
 
 use hashbag::HashBag;
@@ -23,7 +23,8 @@ pub fn greatest_surplus<T: Eq + Hash + Drop, S: BuildHasher + Drop, S2: BuildHas
     delivered: &HashBag<T, S>,
     ordered: &HashBag<T, S2>,
 ) -> usize
-    ensures { (v : T) → count T.eq v delivered.now.items ≤ count T.eq v ordered.now.items + result }
+    ensures most { (v : T) → count T.eq v delivered.now.items ≤ count T.eq v ordered.now.items + result }
+    ensures reached { 0 < result → (v : T) × (count T.eq v delivered.now.items ≡ count T.eq v ordered.now.items + result) }
 {
     let mut greatest = 0;
     for (_, surplus) in delivered.difference(ordered) {
@@ -37,7 +38,8 @@ pub fn greatest_surplus_by_fold<T: Eq + Hash + Drop, S: BuildHasher + Drop, S2: 
     delivered: &HashBag<T, S>,
     ordered: &HashBag<T, S2>,
 ) -> usize
-    ensures { (v : T) → count T.eq v delivered.now.items ≤ count T.eq v ordered.now.items + result }
+    ensures most { (v : T) → count T.eq v delivered.now.items ≤ count T.eq v ordered.now.items + result }
+    ensures reached { 0 < result → (v : T) × (count T.eq v delivered.now.items ≡ count T.eq v ordered.now.items + result) }
 {
     delivered
         .difference(ordered)

@@ -3,7 +3,7 @@
 //! Each clause follows from the contracts of the calls alone, by the lemmas of `CallerLemmas`.
 ghost use Rattle.std.specs.Prelude.{◌≡◌, ◌+◌, ◌<◌, ◌≤◌, ◌↔◌, min, false, length, IsTrue, OnOk, OnErr, IfOk, IfSome};
 ghost use Rattle.std.specs.Bool.{OnTrue, OnFalse};
-ghost use Rattle.hashbag.specs.Occurrences.{greatest_total, count};
+ghost use Rattle.hashbag.specs.Occurrences.{greatest_total, count, instance_or_itself};
 ghost use Rattle.hashbag_bench.specs.Ledger.{ChangesOnly};
 
 use hashbag::{BagError, HashBag};
@@ -55,6 +55,8 @@ pub fn sell_out<T: Eq + Hash + Drop, S: BuildHasher + Drop>(
 ) -> Option<T>
     ensures none_left { count T.eq article.now stock.new.items ≡ 0 }
     ensures there { IfSome result (λ _. 0 < count T.eq article.now stock.old.items) }
+    ensures last { IfSome result (λ last. last ≡ instance_or_itself T.eq article.now stock.old.items) }
+    ensures absent { result ≡ None → count T.eq article.now stock.old.items ≡ 0 }
     ensures len { length stock.new.items + count T.eq article.now stock.old.items ≡ length stock.old.items }
 {
     loop {
@@ -85,6 +87,7 @@ pub fn list<T: Eq + Hash + Drop, S: BuildHasher + Drop>(
     ensures there { IfOk result (λ after. 0 < after) }
     ensures listed { IfOk result (λ after. ChangesOnly T.eq article after stock.old stock.new) }
     ensures occupied { 0 < count T.eq article stock.old.items → result ≡ Ok (count T.eq article stock.old.items) }
+    ensures vacant { count T.eq article stock.old.items ≡ 0 → IfOk result (λ after. after ≡ 1) }
     ensures err { OnErr result (stock.new ≡ stock.old) }
 {
     stock.entry(article).or_insert()

@@ -1,6 +1,7 @@
 //! Callers to copy: a run of steps, and what it replies.
-ghost use Rattle.std.specs.Prelude.{◌≡◌, ◌+◌, ◌≤◌, [], ◌∷◌, length, IfOk};
-ghost use Rattle.hashbag.specs.Occurrences.{greatest_total, count};
+ghost use Rattle.std.specs.Prelude.{◌≡◌, ◌+◌, ◌≤◌, [], ◌∷◌, length, OnOk, IfOk};
+ghost use Rattle.hashbag.specs.Bag.{Means};
+ghost use Rattle.hashbag.specs.Occurrences.{greatest_total, count, add};
 
 use hashbag::script::{Reply, Step, run};
 use hashbag::{BagError, HashBag};
@@ -24,7 +25,8 @@ pub fn insert_and_count<T: Eq + Hash + Copy, S: BuildHasher + Drop>(
     value: T,
 ) -> Result<Vec<Reply<T>>, BagError>
     requires { length bag.old.items + 1 ≤ greatest_total }
-    ensures { IfOk result (λ replies. replies.items ≡ Reply.Count (count T.eq value bag.old.items) ∷ Reply.Count (count T.eq value bag.old.items + 1) ∷ []) }
+    ensures replies { IfOk result (λ replies. replies.items ≡ Reply.Count (count T.eq value bag.old.items) ∷ Reply.Count (count T.eq value bag.old.items + 1) ∷ []) }
+    ensures left { OnOk result (Means bag.new (add T.eq value 1 bag.old.items)) }
 {
     let steps = insert_then_count(alloc, value)?;
     let mut replies = Vec::new(alloc);

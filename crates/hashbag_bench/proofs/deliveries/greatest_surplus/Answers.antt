@@ -1,12 +1,14 @@
-use Rattle.std.proofs.Common.{◌≡◌, ℕ, zero, suc, ◌+◌, ◌-◌, ◌≤◌, ◌⊎◌, inl, inr, Bool, List, [], ◌∷◌, max, ap, subst, refl, arith, rules}
+use Rattle.std.proofs.Common.{◌≡◌, ℕ, zero, suc, ◌+◌, ◌-◌, ◌≤◌, ◌⊎◌, inl, inr, Bool, List, [], ◌∷◌, All, max, ap, subst, refl, arith, rules}
 use borrow.Author.Tests.{tests}
 use Rattle.std.specs.Cmp.{IsEquivalence}
 use Rattle.std.specs.List.{Contains}
+use Rattle.std.proofs.lemmas.List.Elements.{All-head, All-tail}
 use Rattle.std.proofs.lemmas.List.Sorted.{IsPermutation-refl}
 use Rattle.hashbag.specs.Joins.{IsDifference}
 use Rattle.hashbag.specs.Occurrences.{count}
 use Rattle.hashbag.proofs.CallerLemmas.{excess_listed}
 use Rattle.hashbag.proofs.ContainsLemmas.{not_in_nil, Contains-cases, Contains-same}
+use Rattle.hashbag_bench.proofs.DeliveryLemmas.{CameMore, all_came_more, greater_reached}
 use Rattle.hashbag_bench.proofs.deliveries.greatest_surplus.Goals as goal
 
 module _ {T : Type 0} (eq : T → T → Bool) (X Y : List T) (v : T) where
@@ -30,17 +32,34 @@ module _ {T : Type 0} (eq : T → T → Bool) (X Y : List T) (v : T) where
   all_seen n E none (inr there) = absurd (not_in_nil _ (Contains-same E [] _ none there.1))
 
 pub loop-surplus-init : goal.loop-surplus-init
-loop-surplus-init g c = λ v.
-    rw c.into_iter-surplus-iterator.ensures.into_iter_gives
-    (none_seen g.T.PartialEq.eq c.args.delivered.now.items c.args.ordered.now.items v g.met.T.Eq.laws c.difference-surplus-items.result (c.difference-surplus-items.ensures _ _ (IsPermutation-refl _) (IsPermutation-refl _)) _ refl)
+loop-surplus-init g c =
+    let eq = g.T.PartialEq.eq in
+    let X = c.args.delivered.now.items in
+    let Y = c.args.ordered.now.items in
+    let E = c.difference-surplus-items.result in
+    let difference = c.difference-surplus-items.ensures X Y (IsPermutation-refl X) (IsPermutation-refl Y) in
+    record {
+      most = λ v. rw c.into_iter-surplus-iterator.ensures.into_iter_gives (none_seen eq X Y v g.met.T.Eq.laws E difference _ refl);
+      listed = rw c.into_iter-surplus-iterator.ensures.into_iter_gives (all_came_more eq X Y E difference);
+      reached = λ some. absurd (omega arith);
+    }
 
 pub loop-surplus-preserved : goal.loop-surplus-preserved
-loop-surplus-preserved g c = λ v.
+loop-surplus-preserved g c =
+    let eq = g.T.PartialEq.eq in
     let X = c.args.delivered.now.items in
     let Y = c.args.ordered.now.items in
     let most : c.max-greatest.result ≡ max c.loop-surplus.greatest c.in-Some.surplus = search (rules, tests) in
-    one_seen g.T.PartialEq.eq X Y v c.loop-surplus.greatest c.max-greatest.result _ c.next.new.self (omega arith) (omega arith)
-    (subst (λ (E : List (g.row.T.Denot × ℕ)). Seen g.T.PartialEq.eq X Y v c.loop-surplus.greatest E) c.in-Some.ensures.steps (c.loop-surplus.invariant v))
+    let came = subst (λ (E : List (g.row.T.Denot × ℕ)). All (CameMore eq X Y) E) c.in-Some.ensures.steps c.loop-surplus.invariant.listed in
+    record {
+      most = λ v. one_seen eq X Y v c.loop-surplus.greatest c.max-greatest.result _ c.next.new.self (omega arith) (omega arith)
+          (subst (λ (E : List (g.row.T.Denot × ℕ)). Seen eq X Y v c.loop-surplus.greatest E) c.in-Some.ensures.steps (c.loop-surplus.invariant.most v));
+      listed = All-tail (CameMore eq X Y) _ c.next.new.self came;
+      reached = greater_reached eq X Y c.loop-surplus.greatest c.max-greatest.result _ most (All-head (CameMore eq X Y) _ c.next.new.self came) c.loop-surplus.invariant.reached;
+    }
 
-pub returns : goal.returns
-returns g c = λ v. all_seen g.T.PartialEq.eq c.args.delivered.now.items c.args.ordered.now.items v c.loop-surplus.greatest c.loop-surplus.surplus-iterator c.in-None.ensures.steps.0 (c.loop-surplus.invariant v)
+pub returns-clause-most : goal.returns-clause-most
+returns-clause-most g c = λ v. all_seen g.T.PartialEq.eq c.args.delivered.now.items c.args.ordered.now.items v c.loop-surplus.greatest c.loop-surplus.surplus-iterator c.in-None.ensures.steps.0 (c.loop-surplus.invariant.most v)
+
+pub returns-clause-reached : goal.returns-clause-reached
+returns-clause-reached g c = c.loop-surplus.invariant.reached
