@@ -2,8 +2,9 @@
 //!
 //! The two bags come by reference. A function that owns both lends them to one like these: it can't itself hand a join of its
 //! own two bags on by value.
-ghost use Rattle.std.specs.Prelude.{◌≡◌, ◌+◌, ◌<◌, ◌≤◌, ◌↔◌, IsTrue};
+ghost use Rattle.std.specs.Prelude.{◌≤◌, ◌↔◌, IsTrue};
 ghost use Rattle.hashbag.specs.Occurrences.{count};
+ghost use Rattle.hashbag_bench.specs.Deliveries.{IsGreatestSurplus};
 
 use hashbag::HashBag;
 use std::hash::{BuildHasher, Hash};
@@ -23,8 +24,7 @@ pub fn greatest_surplus<T: Eq + Hash + Drop, S: BuildHasher + Drop, S2: BuildHas
     delivered: &HashBag<T, S>,
     ordered: &HashBag<T, S2>,
 ) -> usize
-    ensures most { (v : T) → count T.eq v delivered.now.items ≤ count T.eq v ordered.now.items + result }
-    ensures reached { 0 < result → (v : T) × (count T.eq v delivered.now.items ≡ count T.eq v ordered.now.items + result) }
+    ensures { IsGreatestSurplus T.eq delivered.now.items ordered.now.items result }
 {
     let mut greatest = 0;
     for (_, surplus) in delivered.difference(ordered) {
@@ -38,8 +38,7 @@ pub fn greatest_surplus_by_fold<T: Eq + Hash + Drop, S: BuildHasher + Drop, S2: 
     delivered: &HashBag<T, S>,
     ordered: &HashBag<T, S2>,
 ) -> usize
-    ensures most { (v : T) → count T.eq v delivered.now.items ≤ count T.eq v ordered.now.items + result }
-    ensures reached { 0 < result → (v : T) × (count T.eq v delivered.now.items ≡ count T.eq v ordered.now.items + result) }
+    ensures { IsGreatestSurplus T.eq delivered.now.items ordered.now.items result }
 {
     delivered
         .difference(ordered)

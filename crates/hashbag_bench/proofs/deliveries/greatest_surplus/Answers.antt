@@ -58,8 +58,8 @@ loop-surplus-preserved g c =
       reached = greater_reached eq X Y c.loop-surplus.greatest c.max-greatest.result _ most (All-head (CameMore eq X Y) _ c.next.new.self came) c.loop-surplus.invariant.reached;
     }
 
-pub returns-clause-most : goal.returns-clause-most
-returns-clause-most g c = λ v. all_seen g.T.PartialEq.eq c.args.delivered.now.items c.args.ordered.now.items v c.loop-surplus.greatest c.loop-surplus.surplus-iterator c.in-None.ensures.steps.0 (c.loop-surplus.invariant.most v)
-
-pub returns-clause-reached : goal.returns-clause-reached
-returns-clause-reached g c = c.loop-surplus.invariant.reached
+pub returns : goal.returns
+returns g c = record {
+  most = λ v. all_seen g.T.PartialEq.eq c.args.delivered.now.items c.args.ordered.now.items v c.loop-surplus.greatest c.loop-surplus.surplus-iterator c.in-None.ensures.steps.0 (c.loop-surplus.invariant.most v);
+  reached = c.loop-surplus.invariant.reached;
+}

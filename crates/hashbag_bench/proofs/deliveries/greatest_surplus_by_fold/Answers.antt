@@ -9,6 +9,7 @@ use Rattle.hashbag.specs.Joins.{IsDifference}
 use Rattle.hashbag.specs.Occurrences.{count}
 use Rattle.hashbag.proofs.CallerLemmas.{excess_listed}
 use Rattle.hashbag.proofs.ContainsLemmas.{not_in_nil, Contains-cases}
+use Rattle.hashbag_bench.specs.Deliveries.{IsGreatestSurplus}
 use Rattle.hashbag_bench.proofs.DeliveryLemmas.{CameMore, all_came_more, greater_reached}
 use Rattle.hashbag_bench.proofs.deliveries.greatest_surplus_by_fold.Goals as goal
 
@@ -40,22 +41,15 @@ module _ {T : Type 0} where
   reached eq X Y (x ∷ E) n came before =
       reached eq X Y E (max x.1 n) (All-tail (CameMore eq X Y) x E came) (greater_reached eq X Y n (max x.1 n) x (omega arith) (All-head (CameMore eq X Y) x E came) before)
 
-  -- the fold, and what it is
-  folded_to : (eq : T → T → Bool) (X Y : List T) (E : List (T × ℕ)) → IsDifference eq X Y E → (r : ℕ) → r ≡ fold greater 0 E → (0 < r → (v : T) × (count eq v X ≡ count eq v Y + r))
-  folded_to eq X Y E h r is = subst (λ (n : ℕ). 0 < n → (v : T) × (count eq v X ≡ count eq v Y + n)) (sym is) (reached eq X Y E 0 (all_came_more eq X Y E h) (λ some. absurd (omega arith)))
-
-pub returns-clause-most : goal.returns-clause-most
-returns-clause-most g c =
+pub returns : goal.returns
+returns g c =
     let eq = g.T.PartialEq.eq in
     let X = c.args.delivered.now.items in
     let Y = c.args.ordered.now.items in
-    let folded = fold_from_yields_List _ greater 0 c.fold.result c.fold.ensures.ran (YieldsList-from_first (λ e. (e.0.now, e.1)) (λ s. s) c.difference.result refl) (λ a x b q k. search (rules, tests)) in
-    λ v. subst (λ (n : ℕ). count eq v X ≤ count eq v Y + n) (sym folded) (bound g.met.T.Eq.laws X Y c.difference.result (c.difference.ensures X Y (IsPermutation-refl X) (IsPermutation-refl Y)) v _ refl)
-
-pub returns-clause-reached : goal.returns-clause-reached
-returns-clause-reached g c =
-    let eq = g.T.PartialEq.eq in
-    let X = c.args.delivered.now.items in
-    let Y = c.args.ordered.now.items in
-    let folded = fold_from_yields_List _ greater 0 c.fold.result c.fold.ensures.ran (YieldsList-from_first (λ e. (e.0.now, e.1)) (λ s. s) c.difference.result refl) (λ a x b q k. search (rules, tests)) in
-    folded_to eq X Y c.difference.result (c.difference.ensures X Y (IsPermutation-refl X) (IsPermutation-refl Y)) c.fold.result folded
+    let E = c.difference.result in
+    let difference = c.difference.ensures X Y (IsPermutation-refl X) (IsPermutation-refl Y) in
+    let folded = fold_from_yields_List _ greater 0 c.fold.result c.fold.ensures.ran (YieldsList-from_first (λ e. (e.0.now, e.1)) (λ s. s) E refl) (λ a x b q k. search (rules, tests)) in
+    subst (λ (n : ℕ). IsGreatestSurplus eq X Y n) (sym folded) (record {
+      most = λ v. bound g.met.T.Eq.laws X Y E difference v _ refl;
+      reached = reached eq X Y E 0 (all_came_more eq X Y E difference) (λ some. absurd (omega arith));
+    })
