@@ -1,7 +1,7 @@
 //! Callers to copy: two deliveries that are matched. A join is used up by a `for`, by a `fold`, or asked for its first item alone.
 //!
-//! The two bags come by reference. A function that owns both lends them to one like these: it can't itself hand a join of its
-//! own two bags on by value.
+//! The two bags come by reference. A function that owns both, under states that are type parameters, lends them to one like
+//! these: it can't itself hand a join of its own two bags on by value.
 ghost use Rattle.std.specs.Prelude.{◌≤◌, ◌↔◌, IsTrue};
 ghost use Rattle.hashbag.specs.Occurrences.{count};
 ghost use Rattle.hashbag_bench.specs.Deliveries.{IsGreatestSurplus};
