@@ -1,2 +1,4 @@
+pub mod Deliveries
 pub mod LastNumber
+pub mod Ledger
 pub mod Named

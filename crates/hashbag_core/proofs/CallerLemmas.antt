@@ -1,9 +1,9 @@
 -- For callers: how often each value occurs after a call, from the clause that says what the bag then means (`IsBagOf`,
--- `Extends`, `IsRetained`).
+-- `Extends`, `IsRetained`). docs/CALLING.md shows which call needs which.
 --
 -- `laws` is `g.met.T.Eq.laws` under a bound `T: Eq`, and `nat_eq_equiv` of `Rattle.std.specs.Cmp` at unsigned numbers.
-use Rattle.std.proofs.Common.{◌≡◌, ℕ, zero, suc, ◌+◌, ◌-◌, ◌<◌, ◌≤◌, min, Bool, true, false, cond, nat_lt, ltb, List, [], ◌∷◌, ◌++◌, length, replicate, take, drop, get_or, filter, map, sum_by, Option, refl, sym, ◌∙◌, ap, subst, arith}
-use borrow.Author.Tests.{ltb-true, ltb-false}
+use Rattle.std.proofs.Common.{◌≡◌, ℕ, zero, suc, ◌+◌, ◌-◌, ◌<◌, ◌≤◌, min, Bool, true, false, cond, nat_lt, List, [], ◌∷◌, ◌++◌, length, replicate, take, drop, get_or, filter, map, sum_by, Option, refl, sym, ◌∙◌, ap, subst, arith}
+use borrow.Author.Tests.{ltb-false}
 use denote.Ref.{Bor}
 use denote.Param.Members.{Mut}
 use Rattle.std.specs.Cmp.{IsEquivalence}
@@ -15,8 +15,8 @@ use Rattle.std.proofs.lemmas.Iterator.{YieldsList, items_from_drains}
 use Rattle.std.proofs.lemmas.List.{length-drop, length-replicate, map-id, take_more}
 use Rattle.std.proofs.lemmas.List.Sums.{length-filter, sum_by-cons}
 use Rattle.std.proofs.lemmas.List.Elements.{All-drop, filter_passes}
-use Rattle.std.proofs.lemmas.List.Sorted.{IsPermutation-refl, length_permutation}
-use Rattle.std.proofs.lemmas.Map.Keys.{IsDistinct-head, IsDistinct-tail}
+use Rattle.std.proofs.lemmas.List.Sorted.{IsPermutation-refl}
+use Rattle.std.proofs.lemmas.Map.Keys.{IsDistinct-tail}
 use Rattle.hashbag_table.specs.Asked.{kept}
 use Rattle.hashbag_table.proofs.CloneLemmas.{all_to_recursion}
 use Rattle.hashbag_core.specs.Bag.{Bag, Means, occurrences, IsBagOf}
@@ -26,14 +26,14 @@ use Rattle.hashbag_core.specs.Extends.{add_all, Once, AsItIs}
 use Rattle.hashbag_core.specs.Joins.{IsDifference}
 use Rattle.hashbag_core.specs.Occurrences.{alike, others, count, instance_or_itself, add, less, put, SameCounts}
 use Rattle.hashbag_core.specs.Retain.{IsRetained}
-use Rattle.hashbag_core.specs.Walks.{IsSetWalk, IsSetWalkOf}
+use Rattle.hashbag_core.specs.Walks.{IsSetWalk}
 use Rattle.hashbag_core.proofs.DistinctLemmas.{absent_later}
 use Rattle.hashbag_core.proofs.EqualityLemmas.{count_in_others}
 use Rattle.hashbag_core.proofs.ContainsLemmas.{not_in_nil, Contains-same}
 use Rattle.hashbag_core.proofs.ExcessLemmas.{an_instance}
 use Rattle.hashbag_core.proofs.Laws.{count_added, count_all_added, insertions_in_any_order, instance_equals}
 use Rattle.hashbag_core.proofs.MemberLemmas.{map-map}
-use Rattle.hashbag_core.proofs.OccurrenceLemmas.{count_rearranged, count_occurrences}
+use Rattle.hashbag_core.proofs.OccurrenceLemmas.{count_rearranged}
 use Rattle.hashbag_core.proofs.TakeLemmas.{none_of_others}
 
 none_before : (n : ℕ) → 0 + n ≡ n

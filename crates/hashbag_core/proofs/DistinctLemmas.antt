@@ -10,7 +10,7 @@ use Rattle.std.proofs.lemmas.Map.{lookup-none}
 use Rattle.std.proofs.lemmas.Map.Entries.{none_past_head}
 use Rattle.std.proofs.lemmas.Map.Keys.{IsDistinct-tail}
 use Rattle.std.proofs.lemmas.List.Sorted.{length_permutation}
-use Rattle.hashbag_table.specs.Entries.{with_count, without, IsCounted}
+use Rattle.hashbag_table.specs.Entries.{with_count, IsCounted}
 use Rattle.hashbag_core.specs.Bag.{occurrences}
 use Rattle.hashbag_core.specs.Occurrences.{count, distinct_count}
 use Rattle.hashbag_core.proofs.OccurrenceLemmas.{count_occurrences, present_from_count}

@@ -99,11 +99,6 @@ module _ {T : Type 0} {eq : T → T → Bool} (laws : IsEquivalence eq) where
       let fits = asks.0 in
       (omega arith, asks.1, count_rearranged laws v X Y h ∙ asks.2)
 
--- what refuses a value that is there to be had refuses its clone
-pub refuses_clones : {T : Type 0} (eq : T → T → Bool) (X : List T) (v : T) (n : ℕ) (e : BagError) → Refuses eq X v n e → RefusesClones X n e
-refuses_clones eq X v n TooMany over = over
-refuses_clones eq X v n Memory asks = (asks.0, asks.1)
-
 pub refuses_clones_rearranged : {T : Type 0} (X Y : List T) (n : ℕ) (e : BagError) → IsPermutation X Y → RefusesClones Y n e → RefusesClones X n e
 refuses_clones_rearranged X Y n TooMany h over = let long = length_permutation X Y h in omega arith
 refuses_clones_rearranged X Y n Memory h asks =

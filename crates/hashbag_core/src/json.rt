@@ -238,7 +238,7 @@ impl<T: JsonItem + Hash + Drop, S: BuildHasher + Drop> HashBag<T, S> {
         Ok(bag)
     }
 
-    // The distinct values with their counts, values rising.
+    // The distinct values with their counts, values rising. Room for all of them is taken at once.
     fn sorted_pairs(&self, alloc: Global) -> Result<Vec<(&T, usize)>, BagError>
     where
         T: Ord,
@@ -246,7 +246,7 @@ impl<T: JsonItem + Hash + Drop, S: BuildHasher + Drop> HashBag<T, S> {
         ensures rising { IfOk result (λ pairs. IsStrictlySortedBy T.cmp (keys_of (map seen pairs.items))) }
         ensures memory { IfErr result (λ e. e ≡ BagError.Memory) }
     {
-        let mut pairs = Vec::new(alloc);
+        let mut pairs = Vec::with_capacity(alloc, self.set_len())?;
         for pair in self.set_iter() {
             if pairs.push(pair).is_err() {
                 return Err(BagError::Memory);

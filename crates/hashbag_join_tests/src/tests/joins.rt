@@ -287,33 +287,18 @@ fn is_stepped<S: BuildHasher + Default + Drop, S2: BuildHasher + Default + Drop>
     Ok(())
 }
 
-fn are_joined<S: BuildHasher + Default + Drop, S2: BuildHasher + Default + Drop>(
+// All rows, under two states.
+fn joins_under<S: BuildHasher + Default + Drop, S2: BuildHasher + Default + Drop>(
     rt: &impl Abort,
     alloc: Global,
 ) -> Result<(), Fail> {
     for row in rows_of(alloc, JOINS, 59)? {
         is_joined::<S, S2>(rt, alloc, row)?;
     }
-    Ok(())
-}
-
-fn are_stepped<S: BuildHasher + Default + Drop, S2: BuildHasher + Default + Drop>(
-    rt: &impl Abort,
-    alloc: Global,
-) -> Result<(), Fail> {
     for row in rows_of(alloc, STEPS, 10)? {
         is_stepped::<S, S2>(rt, alloc, row)?;
     }
     Ok(())
-}
-
-// All rows, under two states.
-fn joins_under<S: BuildHasher + Default + Drop, S2: BuildHasher + Default + Drop>(
-    rt: &impl Abort,
-    alloc: Global,
-) -> Result<(), Fail> {
-    are_joined::<S, S2>(rt, alloc)?;
-    are_stepped::<S, S2>(rt, alloc)
 }
 
 // The first bag under one state, and the second under each.

@@ -1,0 +1,35 @@
+//! Callers to copy: a run of steps, and what it replies.
+ghost use Rattle.std.specs.Prelude.{◌≡◌, ◌+◌, ◌≤◌, [], ◌∷◌, length, OnOk, IfOk};
+ghost use Rattle.hashbag.specs.Bag.{Means};
+ghost use Rattle.hashbag.specs.Occurrences.{greatest_total, count, add};
+
+use hashbag::script::{Reply, Step, run};
+use hashbag::{BagError, HashBag};
+use std::alloc::{AllocError, Global};
+use std::hash::{BuildHasher, Hash};
+
+// The two steps.
+fn insert_then_count<T: Copy>(alloc: Global, value: T) -> Result<Vec<Step<T>>, AllocError>
+    ensures { IfOk result (λ steps. steps.items ≡ Step.Insert value ∷ Step.Count value ∷ []) }
+{
+    let mut steps = Vec::new(alloc);
+    steps.push(Step::Insert(value))?;
+    steps.push(Step::Count(value))?;
+    Ok(steps)
+}
+
+/// Inserts a value and counts it, as two steps of one run: the replies are the count before, and one more.
+pub fn insert_and_count<T: Eq + Hash + Copy, S: BuildHasher + Drop>(
+    alloc: Global,
+    bag: &mut HashBag<T, S>,
+    value: T,
+) -> Result<Vec<Reply<T>>, BagError>
+    requires { length bag.old.items + 1 ≤ greatest_total }
+    ensures replies { IfOk result (λ replies. replies.items ≡ Reply.Count (count T.eq value bag.old.items) ∷ Reply.Count (count T.eq value bag.old.items + 1) ∷ []) }
+    ensures left { OnOk result (Means bag.new (add T.eq value 1 bag.old.items)) }
+{
+    let steps = insert_then_count(alloc, value)?;
+    let mut replies = Vec::new(alloc);
+    run(bag, steps, &mut replies)?;
+    Ok(replies)
+}

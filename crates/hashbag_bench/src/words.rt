@@ -1,0 +1,59 @@
+//! Callers to copy: words that are counted, one by one or all at once, and bags that are equal whatever the order in which the words came.
+ghost use Rattle.std.specs.Prelude.{◌≡◌, ◌+◌, ◌≤◌, ℕ, nat_eq, length, IsTrue, OnOk, IfOk, IfErr};
+ghost use Rattle.std.specs.List.Sorted.{IsPermutation};
+ghost use Rattle.hashbag.specs.Occurrences.{greatest_total, count};
+
+use hashbag::{BagError, HashBag};
+use std::alloc::Global;
+use std::hash::{BuildHasher, Hash};
+
+/// Two words in a new bag: each call says the length that the next one needs.
+pub fn two_words(alloc: Global) -> Result<HashBag<u64>, BagError>
+    ensures { IfOk result (λ bag. length bag.items ≡ 2) }
+{
+    let mut bag = HashBag::new(alloc);
+    bag.insert(5)?;
+    bag.insert(6)?;
+    Ok(bag)
+}
+
+/// Inserts words one by one, each a number here. The caller sees to it that all of them fit, so that only memory is refused.
+pub fn insert_each<S: BuildHasher + Drop>(
+    bag: &mut HashBag<u64, S>,
+    words: &[u64],
+) -> Result<(), BagError>
+    requires { length bag.old.items + length words.now ≤ greatest_total }
+    ensures counts { OnOk result ((v : ℕ) → count nat_eq v bag.new.items ≡ count nat_eq v bag.old.items + count nat_eq v words.now) }
+    ensures len { OnOk result (length bag.new.items ≡ length bag.old.items + length words.now) }
+    ensures memory { IfErr result (λ e. e ≡ BagError.Memory) }
+{
+    for word in words {
+        bag.insert(*word)?;
+    }
+    Ok(())
+}
+
+/// Counts words: the bag has each word as often as the list.
+pub fn count_words<T: Eq + Hash + Drop>(
+    alloc: Global,
+    words: Vec<T>,
+) -> Result<HashBag<T>, BagError>
+    ensures counts { IfOk result (λ bag. (v : T) → count T.eq v bag.items ≡ count T.eq v words.items) }
+    ensures len { IfOk result (λ bag. length bag.items ≡ length words.items) }
+{
+    HashBag::from_iter(alloc, words.into_iter())
+}
+
+/// Whether two bags are equal that are made by the same insertions in any two orders: they are.
+pub fn equal_in_any_order<T: Eq + Hash + Drop>(
+    alloc: Global,
+    pairs: Vec<(T, usize)>,
+    others: Vec<(T, usize)>,
+) -> Result<bool, BagError>
+    requires { IsPermutation pairs.items others.items }
+    ensures { IfOk result (λ equal. IsTrue equal) }
+{
+    let first: HashBag<T> = HashBag::from_counts(alloc, pairs.into_iter())?;
+    let second: HashBag<T> = HashBag::from_counts(alloc, others.into_iter())?;
+    Ok(first == second)
+}
