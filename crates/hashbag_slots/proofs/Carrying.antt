@@ -1,0 +1,126 @@
+-- Slots of the older table that are carried, and pairs that are placed in the newer one.
+use Rattle.std.proofs.Common.{◌≡◌, ℕ, zero, suc, ◌+◌, ◌-◌, ◌<◌, ◌≤◌, Bool, false, List, [], ◌∷◌, ◌++◌, length, take, drop, get_or, refl, sym, ap, subst, ◌∙◌, inl, inr, arith, slice_set}
+use Rattle.std.proofs.lemmas.Bool.{cases_lt}
+use Rattle.std.proofs.lemmas.List.{length-set, length-drop, length-take, get_or-take, take_more, get_or-drop}
+use Rattle.hashbag_slots.specs.declared.slots.Slot.{Slot}
+use Rattle.hashbag_slots.specs.declared.slots.Slot.TheVariants.{Empty, Removed, Moved, Live}
+use Rattle.hashbag_slots.specs.Slots.{is_live, holds, live_count, slot_at, IsAbsent, IsSet, entries, Places, PlacesAll, carried, Carries, entries_in, AreApart}
+use Rattle.hashbag_slots.proofs.Probing.{false_by}
+use Rattle.hashbag_slots.proofs.Edits.{set_cases, count-set}
+
+module _ {T : Type 0} where
+  pub length-Places : (v : T) (n : ℕ) (old new : List (Slot T)) → Places v n old new → length new ≡ length old
+  length-Places v n old new put = ap length put.after ∙ length-set old put.at (Live v n)
+
+  pub live-Places : (v : T) (n : ℕ) (old new : List (Slot T)) → Places v n old new → live_count new ≡ live_count old + 1
+  live-Places v n old new put =
+      let e = rw put.free at (count-set old put.at (Live v n) put.within is_live) in
+      let f = ap live_count put.after in
+      omega (arith, e, f)
+
+  pub IsAbsent-Places : (test : T → Bool) (v : T) (n : ℕ) (old new : List (Slot T)) → IsAbsent test old → Places v n old new → test v ≡ false → IsAbsent test new
+  IsAbsent-Places test v n old new absent put unequal =
+      subst (IsAbsent test) (sym put.after) (λ p lt.
+      elim (set_cases old put.at (Live v n) put.within p) [
+        | inl x ↦ ap (holds test) x.1 ∙ unequal
+        | inr x ↦ ap (holds test) x.1 ∙ absent p (let e = length-set old put.at (Live v n) in omega arith)
+      ])
+
+  pub AreApart-carry : (eq : T → T → Bool) (older self next : List (Slot T)) (at : ℕ) (v : T) (n : ℕ) → IsSet eq older → AreApart eq older self → at < length older
+      → slot_at older at ≡ Live v n → Places v n self next → AreApart eq (slice_set older at Moved) next
+  AreApart-carry eq older self next at v n set apart within was put p w m here =
+      elim (set_cases older at Moved within p) [
+        | inl x ↦ absurd (let z = x.1 in cc)
+        | inr x ↦
+            let there : slot_at older p ≡ Live w m = sym x.1 ∙ here in
+            IsAbsent-Places (λ y. eq y w) v n self next (apart p w m there) put
+            (false_by (eq v w) (λ yes. absurd (x.0 (sym (set.apart at p v w n m was there yes)))))
+      ]
+
+  pub PlacesAll-append : (es fs : List (T × ℕ)) (a b c : List (Slot T)) → PlacesAll es a b → PlacesAll fs b c → PlacesAll (es ++ fs) a c
+  PlacesAll-append [] fs a b c p q = subst (λ x. PlacesAll fs x c) p q
+  PlacesAll-append (e ∷ es) fs a b c p q = (p.0, p.1, PlacesAll-append es fs p.0 b c p.2 q)
+
+  entries-append : (xs ys : List (Slot T)) → entries (xs ++ ys) ≡ entries xs ++ entries ys
+  entries-append [] ys = refl
+  entries-append (Empty ∷ xs) ys = entries-append xs ys
+  entries-append (Removed ∷ xs) ys = entries-append xs ys
+  entries-append (Moved ∷ xs) ys = entries-append xs ys
+  entries-append (Live v n ∷ xs) ys = ap (λ es. (v, n) ∷ es) (entries-append xs ys)
+
+  pub entries_in_more : (from k : ℕ) (ss : List (Slot T)) → from + k < length ss → entries_in from (k + 1) ss ≡ entries_in from k ss ++ entries (slot_at ss (from + k) ∷ [])
+  entries_in_more from k ss lt =
+      ap entries (take_more (drop from ss) k Empty (let l = length-drop from ss in omega arith) ∙ ap (λ s. take k (drop from ss) ++ s ∷ []) (get_or-drop from ss k Empty)) ∙ entries-append (take k (drop from ss)) (slot_at ss (from + k) ∷ [])
+
+  -- a slot that is not Live is left as it is
+  pub carried_same : (s : Slot T) → is_live s ≡ false → carried s ≡ s
+  carried_same Empty h = refl
+  carried_same Removed h = refl
+  carried_same Moved h = refl
+  carried_same (Live v n) h = absurd (cc)
+
+  pub no_entries : (s : Slot T) → is_live s ≡ false → entries (s ∷ []) ≡ []
+  no_entries Empty h = refl
+  no_entries Removed h = refl
+  no_entries Moved h = refl
+  no_entries (Live v n) h = absurd (cc)
+
+  pub Carries-none : (from : ℕ) (ss : List (Slot T)) → Carries from 0 ss ss
+  Carries-none from ss = record { same_length = refl; inside = λ p a b. absurd (omega arith); outside = λ p h. refl }
+
+  pub Carries-more : (from k : ℕ) (old mid new : List (Slot T)) → from + k < length old → Carries from k old mid → new ≡ slice_set mid (from + k) (carried (slot_at mid (from + k))) → Carries from (k + 1) old new
+  Carries-more from k old mid new lt carry after =
+      let at = from + k in
+      let s = carried (slot_at mid at) in
+      let within : at < length mid = let e = carry.same_length in omega arith in
+      let here : slot_at mid at ≡ slot_at old at = carry.outside at (inr (omega arith)) in
+      subst (Carries from (k + 1) old) (sym after) (record {
+        same_length = length-set mid at s ∙ carry.same_length;
+        inside = λ p a b.
+            elim (set_cases mid at s within p) [
+              | inl x ↦ x.1 ∙ ap carried (here ∙ ap (slot_at old) (sym x.0))
+              | inr x ↦ x.1 ∙ carry.inside p a (let ne = x.0 in elim (cases_lt p at) [ inl y ↦ y | inr y ↦ absurd (ne (let z : p ≡ at = omega arith in z)) ])
+            ];
+        outside = λ p h.
+            elim (set_cases mid at s within p) [
+              | inl x ↦ absurd (let e = x.0 in elim h [ inl y ↦ omega arith | inr y ↦ omega arith ])
+              | inr x ↦ x.1 ∙ carry.outside p (elim h [ inl y ↦ inl y | inr y ↦ inr (omega arith) ])
+            ];
+      })
+
+  -- one more slot, at a place of its own
+  pub Carries-step : (from at : ℕ) (old mid new : List (Slot T)) → from ≤ at → at < length old → Carries from (at - from) old mid → new ≡ slice_set mid at (carried (slot_at mid at)) → Carries from (at + 1 - from) old new
+  Carries-step from at old mid new le lt carry after =
+      let e : at ≡ from + (at - from) = omega arith in
+      let more : at - from + 1 ≡ at + 1 - from = omega arith in
+      subst (λ m. Carries from m old new) more (Carries-more from (at - from) old mid new (omega arith) carry (subst (λ a. new ≡ slice_set mid a (carried (slot_at mid a))) e after))
+
+  pub PlacesAll-step : (from at : ℕ) (old mid a b c : List (Slot T)) → from ≤ at → at < length old → Carries from (at - from) old mid → PlacesAll (entries_in from (at - from) old) a b → PlacesAll (entries (slot_at mid at ∷ [])) b c → PlacesAll (entries_in from (at + 1 - from) old) a c
+  PlacesAll-step from at old mid a b c le lt carry p q =
+      let e : at ≡ from + (at - from) = omega arith in
+      let more : at + 1 - from ≡ at - from + 1 = omega arith in
+      let same : slot_at mid at ≡ slot_at old (from + (at - from)) = carry.outside at (inr (omega arith)) ∙ ap (slot_at old) e in
+      let es : entries_in from (at + 1 - from) old ≡ entries_in from (at - from) old ++ entries (slot_at mid at ∷ []) =
+      ap (λ m. entries_in from m old) more ∙ entries_in_more from (at - from) old (omega arith) ∙ ap (λ s. entries_in from (at - from) old ++ entries (s ∷ [])) (sym same) in
+      subst (λ xs. PlacesAll xs a c) (sym es) (PlacesAll-append (entries_in from (at - from) old) (entries (slot_at mid at ∷ [])) a b c p q)
+
+  pub IsAbsent-PlacesAll : (test : T → Bool) (es : List (T × ℕ)) (a b : List (Slot T)) → IsAbsent test a → ((i : ℕ) (e : T × ℕ) → i < length es → get_or es i e ≡ e → test e.0 ≡ false) → PlacesAll es a b → IsAbsent test b
+  IsAbsent-PlacesAll test [] a b absent each h = subst (IsAbsent test) (sym h) absent
+  IsAbsent-PlacesAll test (e ∷ es) a b absent each h =
+      IsAbsent-PlacesAll test es h.0 b (IsAbsent-Places test e.0 e.1 a h.0 absent h.1 (each 0 e (omega arith) refl)) (λ i f lt at. each (suc i) f (omega arith) at) h.2
+
+  -- the pairs of slots that do not hold the value do not have it
+  pub entries-apart : (test : T → Bool) (ss : List (Slot T)) → IsAbsent test ss → (i : ℕ) (e : T × ℕ) → i < length (entries ss) → get_or (entries ss) i e ≡ e → test e.0 ≡ false
+  entries-apart test [] absent i e lt at = absurd (omega arith)
+  entries-apart test (Empty ∷ ss) absent i e lt at = entries-apart test ss (λ p l. absent (suc p) (omega arith)) i e lt at
+  entries-apart test (Removed ∷ ss) absent i e lt at = entries-apart test ss (λ p l. absent (suc p) (omega arith)) i e lt at
+  entries-apart test (Moved ∷ ss) absent i e lt at = entries-apart test ss (λ p l. absent (suc p) (omega arith)) i e lt at
+  entries-apart test (Live v n ∷ ss) absent zero e lt at = ap (λ x. test x.0) (sym at) ∙ absent 0 (omega arith)
+  entries-apart test (Live v n ∷ ss) absent (suc i) e lt at = entries-apart test ss (λ p l. absent (suc p) (omega arith)) i e (omega arith) at
+
+  pub IsAbsent-take : (test : T → Bool) (k : ℕ) (ss : List (Slot T)) → IsAbsent test ss → IsAbsent test (take k ss)
+  IsAbsent-take test k ss absent p lt =
+      let l = length-take k ss in
+      let here : p < k = omega arith in
+      let within : p < length ss = omega arith in
+      ap (holds test) (get_or-take k ss p Empty here) ∙ absent p within

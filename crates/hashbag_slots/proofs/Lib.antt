@@ -1,0 +1,12 @@
+pub mod Carrying
+pub mod Edits
+pub mod Hashing
+pub mod Maps
+pub mod Paths
+pub mod Probing
+pub mod Reading
+pub mod Rooms
+pub mod Tables
+pub mod Values
+pub mod Walking
+pub mod Writing

@@ -1,0 +1,108 @@
+-- Reading the columns.
+use Rattle.std.proofs.Common.{◌≡◌, ◌≢◌, ℕ, zero, suc, ◌<◌, ◌≤◌, inl, inr, Bool, true, false, cond, nat_eq, List, [], ◌∷◌, length, Option, Some, None, get_or, refl, sym, ap, ◌∙◌, arith}
+use Rattle.std.proofs.lemmas.Bool.{cases_lt}
+use Rattle.hashbag_slots.specs.declared.slots.Slot.TheVariants.{Empty, Removed, Moved, Live}
+use Rattle.hashbag_slots.specs.Slots.{slot_at, holds, is_live, is_removed}
+use Rattle.hashbag_slots.specs.declared.slots.Slot.{Slot}
+use Rattle.hashbag_slots.specs.Columns.{mark_of, IsNextMark, slot_of, slots_of, columns, Agree, IsReached}
+use Rattle.hashbag_slots.proofs.Probing.{false_by, holder}
+
+-- a slot without a value is not Live
+blank_dead : (T : Type 0) (a b : Bool) → is_live {T = T} (cond a Removed (cond b Moved Empty)) ≡ false
+blank_dead T true b = refl
+blank_dead T false true = refl
+blank_dead T false false = refl
+
+blank_removed : (T : Type 0) (a b : Bool) → is_removed {T = T} (cond a Removed (cond b Moved Empty)) ≡ a
+blank_removed T true b = refl
+blank_removed T false true = refl
+blank_removed T false false = refl
+
+pub dead_slot : (T : Type 0) (t : ℕ) → is_live {T = T} (slot_of t None) ≡ false
+dead_slot T t = blank_dead T (nat_eq t 1) (nat_eq t 2)
+
+pub removed_slot : (T : Type 0) (t : ℕ) → is_removed {T = T} (slot_of t None) ≡ nat_eq t 1
+removed_slot T t = blank_removed T (nat_eq t 1) (nat_eq t 2)
+
+module _ {T : Type 0} where
+  pub length-slots_of : (ts : List ℕ) (cs : List (Option (T × ℕ))) → length ts ≡ length cs → length (slots_of ts cs) ≡ length ts
+  length-slots_of [] cs e = refl
+  length-slots_of (t ∷ ts) [] e = absurd (omega arith)
+  length-slots_of (t ∷ ts) (c ∷ cs) e = ap suc (length-slots_of ts cs (omega arith))
+
+  pub slot_at-slots_of : (ts : List ℕ) (cs : List (Option (T × ℕ))) (p : ℕ) → length ts ≡ length cs → slot_at (slots_of ts cs) p ≡ slot_of (get_or ts p 0) (get_or cs p None)
+  slot_at-slots_of [] [] p e = refl
+  slot_at-slots_of [] (c ∷ cs) p e = absurd (omega arith)
+  slot_at-slots_of (t ∷ ts) [] p e = absurd (omega arith)
+  slot_at-slots_of (t ∷ ts) (c ∷ cs) zero e = refl
+  slot_at-slots_of (t ∷ ts) (c ∷ cs) (suc p) e = slot_at-slots_of ts cs p (omega arith)
+
+  none_cases : (c : Option (T × ℕ)) → ((e : T × ℕ) → c ≡ Some e → ⊥) → c ≡ None
+  none_cases None h = refl
+  none_cases (Some e) h = absurd (h e refl)
+
+  cell_of_live : (t : ℕ) (c : Option (T × ℕ)) → is_live (slot_of t c) ≡ true → (e : T × ℕ) × (c ≡ Some e)
+  cell_of_live t None h = absurd (let d = dead_slot T t in cc)
+  cell_of_live t (Some e) h = (e, refl)
+
+module _ {T : Type 0} (ts : List ℕ) (cs : List (Option (T × ℕ))) (agree : Agree ts cs) (p : ℕ) where
+  pub at : slot_at (slots_of ts cs) p ≡ slot_of (get_or ts p 0) (get_or cs p None)
+  at = slot_at-slots_of ts cs p agree.same_length
+
+  pub live_at : (e : T × ℕ) → get_or cs p None ≡ Some e → slot_at (slots_of ts cs) p ≡ Live e.0 e.1
+  live_at e h = at ∙ ap (slot_of (get_or ts p 0)) h
+
+  -- a tag below 128 is that of an empty cell
+  pub no_cell : get_or ts p 0 < 128 → get_or cs p None ≡ None
+  no_cell low = none_cases (get_or cs p None) (λ e h. let m = agree.marked p e h in omega arith)
+
+  pub dead_at : get_or ts p 0 < 128 → is_live (slot_at (slots_of ts cs) p) ≡ false
+  dead_at low = ap is_live at ∙ ap (λ c. is_live (slot_of (get_or ts p 0) c)) (no_cell low) ∙ dead_slot T (get_or ts p 0)
+
+  pub removed_at : get_or ts p 0 < 128 → is_removed (slot_at (slots_of ts cs) p) ≡ nat_eq (get_or ts p 0) 1
+  removed_at low = ap is_removed at ∙ ap (λ c. is_removed (slot_of (get_or ts p 0) c)) (no_cell low) ∙ removed_slot T (get_or ts p 0)
+
+  pub marked_at : is_live (slot_at (slots_of ts cs) p) ≡ true → (128 ≤ get_or ts p 0) × (e : T × ℕ) × (get_or cs p None ≡ Some e)
+  marked_at h =
+      let c = cell_of_live (get_or ts p 0) (get_or cs p None) (sym (ap is_live at) ∙ h) in
+      (agree.marked p c.0 c.1, c.0, c.1)
+
+  pub alive_at : 128 ≤ get_or ts p 0 → is_live (slot_at (slots_of ts cs) p) ≡ true
+  alive_at h = let c = agree.filled p h in ap is_live (live_at c.0 c.1)
+
+  pub low_at : is_live (slot_at (slots_of ts cs) p) ≡ false → get_or ts p 0 < 128
+  low_at h = elim (cases_lt (get_or ts p 0) 128) [ inl a ↦ a | inr b ↦ absurd (let z = alive_at b in cc) ]
+
+  -- the byte 0 is an Empty slot
+  pub empty_at : get_or ts p 0 ≡ 0 → slot_at (slots_of ts cs) p ≡ Empty
+  empty_at z =
+      let none = no_cell (omega arith) in
+      at ∙ ap (λ t. slot_of t (get_or cs p None)) z ∙ ap (slot_of 0) none
+
+  module _ (eq : T → T → Bool) (x : T) where
+    pub holds_at : (e : T × ℕ) → get_or cs p None ≡ Some e → holds (λ v. eq v x) (slot_at (slots_of ts cs) p) ≡ eq e.0 x
+    holds_at e h = ap (holds (λ v. eq v x)) (live_at e h)
+
+    -- a slot with another mark holds another value
+    pub holds_other : (hash : T → ℕ) → ((v w : T) → eq v w ≡ true → hash v ≡ hash w) → IsReached hash (columns ts cs) → get_or ts p 0 ≢ mark_of (hash x) → holds (λ v. eq v x) (slot_at (slots_of ts cs) p) ≡ false
+    holds_other hash alike reached ne =
+        false_by _ (λ yes.
+        let found = holder (λ v. eq v x) (slot_at (slots_of ts cs) p) yes in
+        absurd (ne (reached.marks p found.0 found.1 found.2 ∙ ap (λ h. mark_of h) (alike found.0 x found.3))))
+
+-- the first Live slot from a place on is at p
+pub record IsNextLive {T : Type 0} (ss : List (Slot T)) (from p : ℕ) : Type 0 where
+  pub after : from ≤ p
+  pub within : p < length ss
+  pub live : is_live (slot_at ss p) ≡ true
+  pub between : (q : ℕ) → from ≤ q → q < p → is_live (slot_at ss q) ≡ false
+
+module _ {T : Type 0} (ts : List ℕ) (cs : List (Option (T × ℕ))) (agree : Agree ts cs) (from : ℕ) where
+  -- what the tags say of the next Live slot
+  pub next_slot : (p : ℕ) → IsNextMark ts from p → IsNextLive (slots_of ts cs) from p
+  next_slot p h = record {
+    after = h.0;
+    within = let l = length-slots_of ts cs agree.same_length in let i = h.1 in omega arith;
+    live = alive_at ts cs agree p h.2;
+    between = λ q a b. dead_at ts cs agree q (h.3 q a b);
+  }

@@ -1,0 +1,60 @@
+-- A table of slots as it is kept: a tag for each slot, which is a byte, beside a row of cells. How the two mean slots, and
+-- what a probe rests on.
+use Rattle.std.specs.Prelude.{◌≡◌, ℕ, ◌+◌, ◌/◌, ◌^◌, ◌<◌, ◌≤◌, Bool, true, List, [], ◌∷◌, length, Option, Some, None, if◌then◌else◌, nat_eq, slice_index_or}
+use Rattle.hashbag_slots.specs.declared.slots.Slot.{Slot}
+use Rattle.hashbag_slots.specs.declared.slots.Slot.TheVariants.{Empty, Removed, Moved, Live}
+use Rattle.hashbag_slots.specs.Cells.{cell_at}
+use Rattle.hashbag_slots.specs.Slots.{slot_at, KeepsPaths, IsTable}
+
+-- the tag of a Live slot, its mark: 128 and the top seven bits of its value's hash
+abbrev pub mark_of : ℕ → ℕ
+mark_of hash = hash / 2 ^ 57 + 128
+
+-- the tag at a place, and 0 past the end
+abbrev pub tag_at : List ℕ → ℕ → ℕ
+tag_at ts p = slice_index_or ts p 0
+
+-- the first tag of a Live slot from the place `from` on is at p
+abbrev pub IsNextMark : List ℕ → ℕ → ℕ → Type 0
+IsNextMark ts from p = (from ≤ p) × (p < length ts) × (128 ≤ tag_at ts p) × ((q : ℕ) → from ≤ q → q < p → tag_at ts q < 128)
+
+-- what contracts see of a table: its slots in order. The tags are for `IsReached` alone
+pub record Columns (T : Type 0) : Type 0 where
+  pub slots : List (Slot T)
+  pub tags : List ℕ
+
+module _ {T : Type 0} where
+  -- the slot that a tag and a cell mean. Where the cell is empty, 1 is Removed, 2 is Moved, and any other tag is Empty
+  abbrev pub slot_of : ℕ → Option (T × ℕ) → Slot T
+  slot_of tag None = if nat_eq tag 1 then Removed else if nat_eq tag 2 then Moved else Empty
+  slot_of tag (Some e) = Live e.0 e.1
+
+  -- the slots that tags and cells mean, place by place
+  abbrev pub slots_of : List ℕ → List (Option (T × ℕ)) → List (Slot T)
+  slots_of [] cs = []
+  slots_of (t ∷ ts) [] = []
+  slots_of (t ∷ ts) (c ∷ cs) = slot_of t c ∷ slots_of ts cs
+
+  abbrev pub columns : List ℕ → List (Option (T × ℕ)) → Columns T
+  columns ts cs = record { slots = slots_of ts cs; tags = ts }
+
+  -- a cell has a value exactly where the tag is 128 or more
+  pub record Agree (ts : List ℕ) (cs : List (Option (T × ℕ))) : Type 0 where
+    pub same_length : length ts ≡ length cs
+    pub filled : (p : ℕ) → 128 ≤ tag_at ts p → (e : T × ℕ) × (cell_at cs p ≡ Some e)
+    pub marked : (p : ℕ) (e : T × ℕ) → cell_at cs p ≡ Some e → 128 ≤ tag_at ts p
+
+  -- each Live value of a table is found under this hash: a probe for it meets no Empty slot before its slot, and the
+  -- tag of its slot is the mark of its hash. Callers pass this on as it is
+  pub record IsReached (hash : T → ℕ) (table : Columns T) : Type 0 where
+    pub paths : KeepsPaths hash table.slots
+    pub marks : (p : ℕ) (v : T) (n : ℕ) → slot_at table.slots p ≡ Live v n → tag_at table.tags p ≡ mark_of (hash v)
+
+  -- equal values have one hash
+  abbrev pub IsAlike : (T → T → Bool) → (T → ℕ) → Type 0
+  IsAlike eq hash = (v w : T) → eq v w ≡ true → hash v ≡ hash w
+
+  -- the invariant of a table, over its columns and its two counters
+  pub record IsColumns (eq : T → T → Bool) (ts : List ℕ) (cs : List (Option (T × ℕ))) (live removed : ℕ) : Type 0 where
+    pub agree : Agree ts cs
+    pub table : IsTable eq (slots_of ts cs) live removed

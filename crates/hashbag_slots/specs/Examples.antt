@@ -1,0 +1,116 @@
+-- The definitions compute. Values are numbers here, and so are their hashes: `hash` is the value itself.
+use Rattle.std.specs.Prelude.{◌≡◌, ℕ, ◌==◌, true, false, List, [], ◌∷◌, ◌++◌, replicate, Some, None, refl}
+use Rattle.std.proofs.Common.{lit<, inl, inr}
+use Rattle.hashbag_slots.specs.declared.slots.Slot.{Slot}
+use Rattle.hashbag_slots.specs.declared.slots.Slot.TheVariants.{Empty, Removed, Moved, Live}
+use Rattle.hashbag_slots.specs.Cells.{cell_at, filled_values}
+use Rattle.hashbag_slots.specs.Columns.{mark_of, tag_at, slots_of}
+use Rattle.hashbag_slots.specs.Slots.{IsSlotCount, path_slot, holds, live_count, removed_count, slot_at, HoldsAt, entry_at, entries, recounted, raised, count_in, Places, PlacesAll, carried, entries_in}
+
+-- 16 slots: 31 begins at the last one, which 15 has, and so it lies in slot 0. In slot 1 there was a value, and in slot 2
+-- there was one that was carried
+abbrev table : List (Slot ℕ)
+table = Live 31 2 ∷ Removed ∷ Moved ∷ replicate 12 Empty ++ Live 15 7 ∷ []
+
+-- ---- numbers of slots
+
+no_slots : IsSlotCount 0
+no_slots = inl refl
+
+sixteen : IsSlotCount 16
+sixteen = inr (4, lit< tt, lit< tt, refl)
+
+-- ---- the path of a probe
+
+home : path_slot 16 31 0 ≡ 15
+home = refl
+
+wrapped : path_slot 16 31 1 ≡ 0
+wrapped = refl
+
+-- ---- slots
+
+live : live_count table ≡ 2
+live = refl
+
+removed : removed_count table ≡ 1
+removed = refl
+
+past_the_end : slot_at table 16 ≡ Empty
+past_the_end = refl
+
+held : HoldsAt (λ v. v == 31) table 0
+held = (lit< tt, refl)
+
+not_held : holds (λ v. v == 31) (slot_at table 15) ≡ false
+not_held = refl
+
+-- ---- the map
+
+all_entries : entries table ≡ (31, 2) ∷ (15, 7) ∷ []
+all_entries = refl
+
+first_three : entries_in 0 3 table ≡ (31, 2) ∷ []
+first_three = refl
+
+last_three : entries_in 13 3 table ≡ (15, 7) ∷ []
+last_three = refl
+
+entry_there : entry_at table (Some 15) ≡ Some (15, 7)
+entry_there = refl
+
+no_place : entry_at table None ≡ None
+no_place = refl
+
+-- ---- edits of a slot
+
+with_five : recounted 5 (slot_at table 0) ≡ Live 31 5
+with_five = refl
+
+with_three_more : raised 3 (slot_at table 0) ≡ Live 31 5
+with_three_more = refl
+
+nothing_to_raise : raised 3 (slot_at table 1) ≡ Removed
+nothing_to_raise = refl
+
+two : count_in (slot_at table 0) ≡ 2
+two = refl
+
+none : count_in (slot_at table 1) ≡ 0
+none = refl
+
+carried_away : carried (slot_at table 0) ≡ Moved
+carried_away = refl
+
+stays_removed : carried (slot_at table 1) ≡ Removed
+stays_removed = refl
+
+-- 47 begins at the last slot too, and goes past 15 and 31 into the Removed slot
+abbrev after : List (Slot ℕ)
+after = Live 31 2 ∷ Live 47 1 ∷ Moved ∷ replicate 12 Empty ++ Live 15 7 ∷ []
+
+placed : Places 47 1 table after
+placed = record { at = 1; within = lit< tt; free = refl; after = refl }
+
+all_placed : PlacesAll ((47, 1) ∷ []) table after
+all_placed = (after, placed, refl)
+
+-- ---- tags and cells
+
+least_mark : mark_of 31 ≡ 128
+least_mark = refl
+
+greatest_mark : mark_of 18446744073709551615 ≡ 255
+greatest_mark = refl
+
+no_tag : tag_at (128 ∷ 1 ∷ []) 2 ≡ 0
+no_tag = refl
+
+means : slots_of {T = ℕ} (128 ∷ 1 ∷ 2 ∷ 0 ∷ []) (Some (31, 2) ∷ None ∷ None ∷ None ∷ []) ≡ Live 31 2 ∷ Removed ∷ Moved ∷ Empty ∷ []
+means = refl
+
+full_places : filled_values {T = ℕ} (5 ∷ 6 ∷ 7 ∷ []) (true ∷ false ∷ true ∷ []) ≡ Some 5 ∷ None ∷ Some 7 ∷ []
+full_places = refl
+
+no_cell : cell_at {T = ℕ} (Some 5 ∷ []) 1 ≡ None
+no_cell = refl

@@ -1,0 +1,132 @@
+//! A row of cells, each empty or with a value. No cell is written before its value comes.
+//!
+//! So cells for many values cost no more than their allocation, however many there are: their memory is first touched where
+//! values are put.
+ghost use Rattle.std.specs.Prelude.{◌≡◌, ℕ, ◌<◌, length, replicate, slice_set, Some, None, IfOk, IsOk};
+ghost use Rattle.std.specs.declared.alloc.Global.{Global as Heap};
+ghost use Rattle.hashbag_slots.specs.Cells.{cell_at, IsFilled, IsBlank, cells_of, IsStore};
+
+use crate::room::{Claim, Room, release, reserve};
+use core::mem::replace_with;
+use core::slots::Slots as Row;
+use std::alloc::{AllocError, Global};
+use std::marker::Model;
+use std_alloc::room::may_hold;
+
+/// Where cells lie: nowhere, in room of which nothing was used yet, or in a row of places, which the room becomes with the
+/// first value.
+pub enum Store<T> {
+    Nothing,
+    Bare(Room<T>, Claim<T, Global>),
+    Open(Row<T>, Claim<T, Global>),
+}
+
+/// A row of cells. Contracts see the list of them: each cell's value, or `None` where it is empty.
+pub struct Cells<T> {
+    store: Store<T>,
+    alloc: Global,
+}
+
+impl<T> Model for Cells<T> {
+    ghost use Rattle.std.specs.Prelude.{List, Option};
+
+    ghost Value = { List (Option T) };
+
+    ghost use Rattle.std.specs.declared.alloc.Global.{Global as Heap};
+    ghost use Rattle.hashbag_slots.specs.Cells.{cells_of, IsStore};
+
+    ghost view = { λ c. cells_of c.store };
+
+    ghost invariant = { λ c. IsStore c.alloc c.store };
+}
+
+// Puts a value into an empty cell. Room becomes a row of places here.
+fn put_into<T>(store: Store<T>, cell: (usize, T)) -> (Store<T>, ())
+    requires within { cell.0 < length (cells_of store) }
+    ensures cells { cells_of result.0 ≡ slice_set (cells_of store) cell.0 (Some cell.1) }
+    ensures store { (alloc : Heap) → IsStore alloc store → IsStore alloc result.0 }
+{
+    let (place, value) = cell;
+    let (mut row, claim) = match store {
+        Store::Bare(room, claim) => (room.open(&value), claim),
+        Store::Open(row, claim) => (row, claim),
+        Store::Nothing => unreachable!(),
+    };
+    row.put(place, value);
+    (Store::Open(row, claim), ())
+}
+
+impl<T> Cells<T> {
+    /// So many empty cells. No cells take no memory and are never refused. Where memory is refused, or more bytes are
+    /// asked for than an allocation can have, there are none.
+    pub fn new(alloc: Global, count: usize) -> Result<Cells<T>, AllocError>
+        ensures cells { IfOk result (λ c. c ≡ replicate count None) }
+        ensures none { count ≡ 0 → IsOk result }
+    {
+        if count == 0 {
+            return Ok(Cells {
+                store: Store::Nothing,
+                alloc,
+            });
+        }
+        if !may_hold::<T>(count) {
+            return Err(AllocError);
+        }
+        let (room, claim) = reserve(&alloc, count)?;
+        Ok(Cells {
+            store: Store::Bare(room, claim),
+            alloc,
+        })
+    }
+
+    /// The value in a cell, lent.
+    #[inline(always)]
+    pub fn get(&self, place: usize) -> &T
+        requires { IsFilled self.now place }
+        ensures { cell_at self.now place ≡ Some result.now }
+    {
+        match &self.store {
+            Store::Open(row, _) => row.get(place),
+            Store::Nothing | Store::Bare(_, _) => unreachable!(),
+        }
+    }
+
+    /// Puts a value into an empty cell.
+    #[inline(always)]
+    pub fn put(&mut self, place: usize, value: T)
+        requires within { place < length self.old }
+        requires empty { cell_at self.old place ≡ None }
+        ensures { self.new ≡ slice_set self.old place (Some value) }
+    {
+        if let Store::Open(row, _) = &mut self.store {
+            row.put(place, value);
+            return;
+        }
+        replace_with(&mut self.store, (place, value), put_into);
+    }
+
+    /// Takes the value out of a cell.
+    #[inline(always)]
+    pub fn take(&mut self, place: usize) -> T
+        requires { IsFilled self.old place }
+        ensures value { cell_at self.old place ≡ Some result }
+        ensures after { self.new ≡ slice_set self.old place None }
+    {
+        match &mut self.store {
+            Store::Open(row, _) => row.take(place),
+            Store::Nothing | Store::Bare(_, _) => unreachable!(),
+        }
+    }
+
+    /// Gives back the memory of cells that are all empty: no value is dropped here, and none is forgotten.
+    pub fn free(self)
+        requires { IsBlank self }
+    {
+        let Cells { store, alloc } = self;
+        match store {
+            Store::Nothing => {}
+            Store::Bare(room, claim) => release(&alloc, room, claim),
+            Store::Open(row, claim) => release(&alloc, Room::close(row), claim),
+        }
+    }
+}

@@ -1,0 +1,378 @@
+//! `Slots`: one table of slots with open addressing, which holds distinct values, each with a count.
+//!
+//! A table has no slots, or a power of two from 16 to 2^59 of them. A place is the index of a slot. A probe for a value begins
+//! at its 64-bit hash modulo the number of slots, goes slot by slot, after the last one to slot 0, and ends at an Empty slot or
+//! at a Live one with an equal value. So a value is found where no Empty slot lies before its own on that path. Every call keeps
+//! this, and says so by `IsReached`.
+//!
+//! Costs are told in probes, each of which looks at one slot after another on a value's path, and in hashes. A call hashes
+//! nothing and takes no memory, except where it says so. No order of slots is promised but what the contracts say.
+ghost use Rattle.std.specs.Prelude.{◌≡◌, ℕ, ◌+◌, ◌<◌, ◌≤◌, ◌^◌, length, true, false, IfSome, IfNone, IfOk, IsOk, replicate, slice_set, ◌∷◌, []};
+ghost use Rattle.std.specs.Map.{lookup_entry};
+ghost use Rattle.std.specs.Option.{option_map};
+ghost use Rattle.hashbag_slots.specs.Hashing.{hash_under};
+ghost use Rattle.hashbag_slots.specs.Slots.{IsSlotCount, is_live, holds, live_count, removed_count, slot_at, HoldsAt, IsAbsent, IsSet, slot_entry, entry_at, entries, recounted, raised, count_in, Places, PlacesAll, carried, Carries, entries_in, AreApart};
+ghost use Rattle.hashbag_slots.specs.Columns.{IsReached, IsAlike};
+
+use crate::cells::Cells;
+use crate::tags::{
+    LEAST_MARK, MOVED, REMOVED, drop_values, empty_tags, find_place, free_place, mark_of,
+};
+use crate::walk::{IntoWalk, Walk};
+use std::alloc::{AllocError, Global};
+use std::hash::{BuildHasher, Hash};
+use std::marker::Model;
+
+/// What a slot holds, as contracts see it.
+#[derive(Drop)]
+pub enum Slot<T> {
+    /// Nothing, and nothing since the table was made or cleared: a probe ends here.
+    Empty,
+    /// Nothing: its value was taken out. A probe goes on.
+    Removed,
+    /// Nothing: its value was carried to a newer table. A probe goes on.
+    Moved,
+    /// A value and its count, which is at least 1. A probe goes on where the value is another.
+    Live(T, usize),
+}
+
+/// The 64-bit hash of a value under a state.
+#[inline(always)]
+pub fn hash_of<T: Hash, S: BuildHasher>(state: &S, value: &T) -> u64
+    ensures { result ≡ hash_under T.hash_input S.BuildHasher S.Hasher.Hasher state.now value.now }
+{
+    state.hash_one(value)
+}
+
+/// A table of slots. No two Live slots have equal values.
+///
+/// Contracts see its slots in the order of their places. A caller passes `IsReached` on as it is: it says that values are found
+/// under a hash, and nothing else shows how the table is kept. A table that is dropped drops each of its values once.
+pub struct Slots<T: Eq> {
+    tags: Vec<u8>,
+    cells: Cells<(T, usize)>,
+    live: usize,
+    removed: usize,
+}
+
+impl<T: Eq> Model for Slots<T> {
+    ghost use Rattle.hashbag_slots.specs.Columns.{Columns};
+
+    ghost Value = { Columns T };
+
+    ghost use Rattle.hashbag_slots.specs.Columns.{columns, IsColumns};
+
+    ghost view = { λ s. columns s.tags.items s.cells };
+
+    ghost invariant = { λ s. IsColumns T.eq s.tags.items s.cells s.live s.removed };
+}
+
+impl<T: Eq + Drop> Drop for Slots<T> {
+    fn drop(self) {
+        let Slots {
+            mut tags,
+            mut cells,
+            live,
+            removed: _,
+        } = self;
+        if live > 0 {
+            drop_values(tags.as_mut_slice(), &mut cells);
+        }
+        cells.free();
+    }
+}
+
+impl<T: Eq> Slots<T> {
+    /// A table of `n` Empty slots.
+    ///
+    /// It takes memory for them, a byte and a cell each. No slots take none and are never refused. Where memory is refused there
+    /// is no table.
+    pub fn with_slots(alloc: Global, n: usize) -> Result<Slots<T>, AllocError>
+        requires { IsSlotCount n }
+        ensures slots { IfOk result (λ s. s.slots ≡ replicate n Slot.Empty) }
+        ensures reached { IfOk result (λ s. (hash : T → ℕ) → IsReached hash s) }
+        ensures none { n ≡ 0 → IsOk result }
+    {
+        let tags = empty_tags(alloc, n)?;
+        let cells = Cells::new(alloc, n)?;
+        Ok(Slots {
+            tags,
+            cells,
+            live: 0,
+            removed: 0,
+        })
+    }
+
+    /// The number of slots.
+    pub fn slots(&self) -> usize
+        ensures value { result ≡ length self.now.slots }
+        ensures count { IsSlotCount result }
+        ensures bound { result ≤ 2 ^ 59 }
+        ensures distinct { IsSet T.eq self.now.slots }
+    {
+        self.tags.len()
+    }
+
+    /// The number of Live slots, and so of values.
+    pub fn live(&self) -> usize
+        ensures { result ≡ live_count self.now.slots }
+    {
+        self.live
+    }
+
+    /// The number of Removed slots.
+    pub fn removed(&self) -> usize
+        ensures { result ≡ removed_count self.now.slots }
+    {
+        self.removed
+    }
+
+    /// The value at a place, lent, and its count, or `None` where the slot is not Live.
+    #[inline(always)]
+    pub fn at(&self, place: usize) -> Option<(&T, usize)>
+        requires { place < length self.now.slots }
+        ensures { option_map (λ e. (e.0.now, e.1)) result ≡ slot_entry (slot_at self.now.slots place) }
+    {
+        if self.tags[place] < LEAST_MARK {
+            return None;
+        }
+        let entry = self.cells.get(place);
+        Some((&entry.0, entry.1))
+    }
+
+    /// Gives the value at a place the count `n`. The slot is Live.
+    #[inline(always)]
+    pub fn set_at(&mut self, place: usize, n: usize)
+        requires live { is_live (slot_at self.old.slots place) ≡ true }
+        requires counted { 0 < n }
+        ensures after { self.new.slots ≡ slice_set self.old.slots place (recounted n (slot_at self.old.slots place)) }
+        ensures reached { (hash : T → ℕ) → IsReached hash self.old → IsReached hash self.new }
+    {
+        let (value, _) = self.cells.take(place);
+        self.cells.put(place, (value, n));
+    }
+
+    /// Adds `n` to the count of the value at a place. The slot is Live, and the sum fits.
+    #[inline(always)]
+    pub fn add_at(&mut self, place: usize, n: usize)
+        requires live { is_live (slot_at self.old.slots place) ≡ true }
+        requires fits { count_in (slot_at self.old.slots place) + n < 2 ^ 64 }
+        ensures after { self.new.slots ≡ slice_set self.old.slots place (raised n (slot_at self.old.slots place)) }
+        ensures reached { (hash : T → ℕ) → IsReached hash self.old → IsReached hash self.new }
+    {
+        let (value, count) = self.cells.take(place);
+        self.cells.put(place, (value, count + n));
+    }
+
+    /// Stores another equal instance of the value at a place, which keeps its count, and gives the former back. It hashes
+    /// nothing: equal values have one hash.
+    pub fn put_at(&mut self, place: usize, value: T) -> T
+        requires equal { holds (λ v. T.eq v value) (slot_at self.old.slots place) ≡ true }
+        ensures given { slot_at self.old.slots place ≡ Slot.Live result (count_in (slot_at self.old.slots place)) }
+        ensures after { self.new.slots ≡ slice_set self.old.slots place (Slot.Live value (count_in (slot_at self.old.slots place))) }
+        ensures reached { (hash : T → ℕ) → IsAlike T.eq hash → IsReached hash self.old → IsReached hash self.new }
+    {
+        let (former, count) = self.cells.take(place);
+        self.cells.put(place, (value, count));
+        former
+    }
+
+    /// Takes the value at a place out with its count, and leaves Removed there. The slot is Live.
+    #[inline(always)]
+    pub fn take_at(&mut self, place: usize) -> (T, usize)
+        requires { is_live (slot_at self.old.slots place) ≡ true }
+        ensures taken { slot_at self.old.slots place ≡ Slot.Live result.0 result.1 }
+        ensures after { self.new.slots ≡ slice_set self.old.slots place Slot.Removed }
+        ensures reached { (hash : T → ℕ) → IsReached hash self.old → IsReached hash self.new }
+    {
+        self.tags[place] = REMOVED;
+        self.live -= 1;
+        self.removed += 1;
+        self.cells.take(place)
+    }
+
+    /// Drops all values, and makes each slot Empty. It goes through all slots, and keeps their memory.
+    pub fn clear(&mut self)
+    where
+        T: Drop,
+        ensures slots { self.new.slots ≡ replicate (length self.old.slots) Slot.Empty }
+        ensures reached { (hash : T → ℕ) → IsReached hash self.new }
+    {
+        drop_values(self.tags.as_mut_slice(), &mut self.cells);
+        self.live = 0;
+        self.removed = 0;
+    }
+
+    // Whether the slot at a place is Live.
+    #[inline(always)]
+    fn is_live_at(&self, place: usize) -> bool
+        requires { place < length self.now.slots }
+        ensures live { result ≡ is_live (slot_at self.now.slots place) }
+        ensures distinct { IsSet T.eq self.now.slots }
+    {
+        self.tags[place] >= LEAST_MARK
+    }
+
+    // Takes the value at a place out, and leaves Moved.
+    #[inline(always)]
+    fn move_at(&mut self, place: usize) -> (T, usize)
+        requires { is_live (slot_at self.old.slots place) ≡ true }
+        ensures taken { slot_at self.old.slots place ≡ Slot.Live result.0 result.1 }
+        ensures counted { 0 < result.1 }
+        ensures after { self.new.slots ≡ slice_set self.old.slots place Slot.Moved }
+        ensures reached { (hash : T → ℕ) → IsReached hash self.old → IsReached hash self.new }
+    {
+        self.tags[place] = MOVED;
+        self.live -= 1;
+        self.cells.take(place)
+    }
+
+    /// Walks over the values, lent, each with its count.
+    pub fn walk(&self) -> Walk<'_, T>
+        ensures { result ≡ entries self.now.slots }
+    {
+        Walk {
+            tags: self.tags.as_slice(),
+            cells: &self.cells,
+            next: 0,
+            left: self.live,
+        }
+    }
+
+    /// Makes a walk of the table, which gives its values with their counts. Values that are not taken are dropped with it.
+    pub fn into_walk(self) -> IntoWalk<T>
+        ensures { result ≡ entries self.slots }
+    {
+        let Slots {
+            tags,
+            cells,
+            live: left,
+            removed: _,
+        } = self;
+        IntoWalk {
+            tags,
+            cells,
+            next: 0,
+            left,
+        }
+    }
+}
+
+impl<T: Eq + Hash> Slots<T> {
+    /// The place of the Live slot with an equal value, or `None` where the value is absent.
+    ///
+    /// It hashes the value once, under a state under which the table's values are found, and probes once, past Removed and Moved
+    /// slots.
+    #[inline(always)]
+    pub fn find<S: BuildHasher>(&self, state: &S, value: &T) -> Option<usize>
+        requires reached { IsReached (hash_under T.hash_input S.BuildHasher S.Hasher.Hasher state.now) self.now }
+        ensures found { IfSome result (HoldsAt (λ v. T.eq v value.now) self.now.slots) }
+        ensures absent { IfNone result (IsAbsent (λ v. T.eq v value.now) self.now.slots) }
+        ensures map { entry_at self.now.slots result ≡ lookup_entry (λ v. T.eq v value.now) (entries self.now.slots) }
+    {
+        let hash = hash_of(state, value);
+        self.find_hashed(state, hash, value)
+    }
+
+    /// As `find`, of a value whose hash under the state is handed in: it hashes nothing.
+    #[inline(always)]
+    pub fn find_hashed<S: BuildHasher>(&self, state: &S, hash: u64, value: &T) -> Option<usize>
+        requires hashed { hash ≡ hash_under T.hash_input S.BuildHasher S.Hasher.Hasher state.now value.now }
+        requires reached { IsReached (hash_under T.hash_input S.BuildHasher S.Hasher.Hasher state.now) self.now }
+        ensures found { IfSome result (HoldsAt (λ v. T.eq v value.now) self.now.slots) }
+        ensures absent { IfNone result (IsAbsent (λ v. T.eq v value.now) self.now.slots) }
+        ensures map { entry_at self.now.slots result ≡ lookup_entry (λ v. T.eq v value.now) (entries self.now.slots) }
+    {
+        let _live = self.live;
+        find_place(self.tags.as_slice(), &self.cells, state, hash, value)
+    }
+
+    /// Puts in an absent value with the count `n`. It goes into the first slot on its path that is not Live, and all others
+    /// stay as they are.
+    ///
+    /// It hashes the value once, and probes once. Not all slots are Live.
+    #[inline(always)]
+    pub fn place<S: BuildHasher>(&mut self, state: &S, value: T, n: usize)
+        requires counted { 0 < n }
+        requires absent { IsAbsent (λ v. T.eq v value) self.old.slots }
+        requires room { live_count self.old.slots < length self.old.slots }
+        requires reached { IsReached (hash_under T.hash_input S.BuildHasher S.Hasher.Hasher state.now) self.old }
+        ensures placed { Places value n self.old.slots self.new.slots }
+        ensures reached { IsReached (hash_under T.hash_input S.BuildHasher S.Hasher.Hasher state.now) self.new }
+    {
+        let hash = hash_of(state, &value);
+        self.place_hashed(state, hash, value, n);
+    }
+
+    /// As `place`, of a value whose hash under the state is handed in: it hashes nothing.
+    #[inline(always)]
+    pub fn place_hashed<S: BuildHasher>(&mut self, state: &S, hash: u64, value: T, n: usize)
+        requires hashed { hash ≡ hash_under T.hash_input S.BuildHasher S.Hasher.Hasher state.now value }
+        requires counted { 0 < n }
+        requires absent { IsAbsent (λ v. T.eq v value) self.old.slots }
+        requires room { live_count self.old.slots < length self.old.slots }
+        requires reached { IsReached (hash_under T.hash_input S.BuildHasher S.Hasher.Hasher state.now) self.old }
+        ensures placed { Places value n self.old.slots self.new.slots }
+        ensures reached { IsReached (hash_under T.hash_input S.BuildHasher S.Hasher.Hasher state.now) self.new }
+    {
+        let place = free_place(self.tags.as_slice(), hash);
+        if self.tags[place] == REMOVED {
+            self.removed -= 1;
+        }
+        self.tags[place] = mark_of(hash);
+        self.cells.put(place, (value, n));
+        self.live += 1;
+    }
+
+    // Carries what is in one slot of the older table: a Live value is placed here, and becomes Moved there.
+    #[inline(always)]
+    fn carry_one<S: BuildHasher>(&mut self, state: &S, older: &mut Slots<T>, at: usize)
+        requires within { at < length older.old.slots }
+        requires apart { AreApart T.eq older.old.slots self.old.slots }
+        requires room { live_count self.old.slots + live_count older.old.slots ≤ length self.old.slots }
+        requires reached { IsReached (hash_under T.hash_input S.BuildHasher S.Hasher.Hasher state.now) self.old }
+        ensures placed { PlacesAll (entries (slot_at older.old.slots at ∷ [])) self.old.slots self.new.slots }
+        ensures left { older.new.slots ≡ slice_set older.old.slots at (carried (slot_at older.old.slots at)) }
+        ensures apart { AreApart T.eq older.new.slots self.new.slots }
+        ensures kept { live_count self.new.slots + live_count older.new.slots ≡ live_count self.old.slots + live_count older.old.slots }
+        ensures removed { removed_count self.new.slots ≤ removed_count self.old.slots }
+        ensures slots { length self.new.slots ≡ length self.old.slots }
+        ensures reached { IsReached (hash_under T.hash_input S.BuildHasher S.Hasher.Hasher state.now) self.new }
+        ensures older_reached { (hash : T → ℕ) → IsReached hash older.old → IsReached hash older.new }
+    {
+        if older.is_live_at(at) {
+            let (value, n) = older.move_at(at);
+            self.place(state, value, n);
+        }
+    }
+
+    /// Carries `many` slots of an older table, from the place `from` on: each Live value is placed here as by `place`, with its
+    /// count, and its slot becomes Moved there. All other slots of both tables stay as they are.
+    ///
+    /// It hashes and probes once for each value that it carries. No value is Live in both tables, and all of them fit here.
+    pub fn carry_from<S: BuildHasher>(
+        &mut self,
+        state: &S,
+        older: &mut Slots<T>,
+        from: usize,
+        many: usize,
+    )
+        requires within { from + many ≤ length older.old.slots }
+        requires apart { AreApart T.eq older.old.slots self.old.slots }
+        requires room { live_count self.old.slots + live_count older.old.slots ≤ length self.old.slots }
+        requires reached { IsReached (hash_under T.hash_input S.BuildHasher S.Hasher.Hasher state.now) self.old }
+        ensures placed { PlacesAll (entries_in from many older.old.slots) self.old.slots self.new.slots }
+        ensures left { Carries from many older.old.slots older.new.slots }
+        ensures apart { AreApart T.eq older.new.slots self.new.slots }
+        ensures kept { live_count self.new.slots + live_count older.new.slots ≡ live_count self.old.slots + live_count older.old.slots }
+        ensures removed { removed_count self.new.slots ≤ removed_count self.old.slots }
+        ensures slots { length self.new.slots ≡ length self.old.slots }
+        ensures reached { IsReached (hash_under T.hash_input S.BuildHasher S.Hasher.Hasher state.now) self.new }
+        ensures older_reached { (hash : T → ℕ) → IsReached hash older.old → IsReached hash older.new }
+    {
+        let _count = older.slots();
+        for at in from..from + many {
+            self.carry_one(state, older, at);
+        }
+    }
+}

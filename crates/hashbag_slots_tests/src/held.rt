@@ -1,0 +1,127 @@
+//! `Held`: a table of slots together with the state that hashes its values.
+ghost use Rattle.std.specs.Prelude.{◌≡◌, ◌≤◌, ◌^◌};
+ghost use Rattle.hashbag_slots.specs.Hashing.{hash_under};
+ghost use Rattle.hashbag_slots.specs.Slots.{IsSlotCount};
+ghost use Rattle.hashbag_slots.specs.Columns.{IsReached};
+
+use hashbag_slots::slots::Slots;
+use hashbag_slots::walk::IntoWalk;
+use std::alloc::{AllocError, Global};
+use std::hash::{BuildHasher, Hash};
+
+// 2 to the power `k`.
+fn power(k: usize) -> usize
+    requires { k ≤ 59 }
+    ensures { result ≡ 2 ^ k }
+{
+    1 << k
+}
+
+/// 2 to the power `k`, as a number of slots.
+pub fn slot_count(k: usize) -> usize
+    requires { (4 ≤ k) × (k ≤ 59) }
+    ensures { IsSlotCount result }
+{
+    power(k)
+}
+
+/// A table whose values are found under the state beside it.
+#[derive(Drop)]
+pub struct Held<T: Eq + Hash, S: BuildHasher> {
+    /// The table.
+    pub slots: Slots<T>,
+    /// The state that hashes its values.
+    pub state: S,
+    pub ghost reached: { IsReached (hash_under T.hash_input S.BuildHasher S.Hasher.Hasher state) slots },
+}
+
+impl<T: Eq + Hash + Drop, S: BuildHasher + Drop> Held<T, S> {
+    /// A table of 2 to the power `k` Empty slots.
+    pub fn new(alloc: Global, state: S, k: usize) -> Result<Held<T, S>, AllocError>
+        requires { (4 ≤ k) × (k ≤ 59) }
+    {
+        let slots = Slots::with_slots(alloc, slot_count(k))?;
+        Ok(Held { slots, state })
+    }
+
+    /// A table of no slots.
+    pub fn none(alloc: Global, state: S) -> Result<Held<T, S>, AllocError> {
+        let slots = Slots::with_slots(alloc, 0)?;
+        Ok(Held { slots, state })
+    }
+
+    /// Whether the value could be placed, with a count: it was absent, the count is not 0, and a slot was not Live.
+    pub fn place(&mut self, value: T, n: usize) -> bool {
+        if n == 0 || self.slots.live() >= self.slots.slots() {
+            return false;
+        }
+        if self.slots.find(&self.state, &value).is_some() {
+            return false;
+        }
+        self.slots.place(&self.state, value, n);
+        true
+    }
+
+    /// The place of a value.
+    pub fn find(&self, value: &T) -> Option<usize> {
+        self.slots.find(&self.state, value)
+    }
+
+    /// The count of a value, 0 where it is absent.
+    pub fn count(&self, value: &T) -> usize {
+        match self.slots.find(&self.state, value) {
+            Some(place) => match self.slots.at(place) {
+                Some((_, n)) => n,
+                None => 0,
+            },
+            None => 0,
+        }
+    }
+
+    /// Adds to the count of a value that is present, where the sum fits. It answers the count before.
+    pub fn add(&mut self, value: &T, n: usize) -> usize {
+        let Some(place) = self.slots.find(&self.state, value) else {
+            return 0;
+        };
+        let before = match self.slots.at(place) {
+            Some((_, count)) => count,
+            None => 0,
+        };
+        if n <= usize::MAX - before {
+            self.slots.add_at(place, n);
+        }
+        before
+    }
+
+    /// Gives a value that is present another count, which is not 0. It answers the count after.
+    pub fn set(&mut self, value: &T, n: usize) -> usize {
+        if n > 0 {
+            if let Some(place) = self.slots.find(&self.state, value) {
+                self.slots.set_at(place, n);
+            }
+        }
+        self.count(value)
+    }
+
+    /// Stores another instance of a value, and gives the former back. A value that is absent comes back itself.
+    pub fn put(&mut self, value: T) -> T {
+        match self.slots.find(&self.state, &value) {
+            Some(place) => self.slots.put_at(place, value),
+            None => value,
+        }
+    }
+
+    /// Takes a value out, with its count.
+    pub fn take(&mut self, value: &T) -> Option<(T, usize)> {
+        match self.slots.find(&self.state, value) {
+            Some(place) => Some(self.slots.take_at(place)),
+            None => None,
+        }
+    }
+
+    /// The table as a walk.
+    pub fn into_walk(self) -> IntoWalk<T> {
+        let Held { slots, state: _ } = self;
+        slots.into_walk()
+    }
+}

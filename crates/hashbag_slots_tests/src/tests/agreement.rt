@@ -1,0 +1,72 @@
+//! A table against a plain list of counts, through many calls under a hash that spreads its values.
+use crate::held::Held;
+use std::hash::{BuildHasherDefault, FoldHasher};
+use std::process::Abort;
+use std::test::Fail;
+
+type Numbers = Held<u64, BuildHasherDefault<FoldHasher>>;
+
+// How many different values there are. The table has 64 slots, so that paths run into one another.
+const VALUES: usize = 60;
+
+// The next of a fixed row of numbers that look random.
+fn next_number(number: u64) -> u64 {
+    number
+        .wrapping_mul(6364136223846793005)
+        .wrapping_add(1442695040888963407)
+}
+
+// One more of a value, of which there were so many.
+fn insert(rt: &impl Abort, table: &mut Numbers, value: u64, before: usize) {
+    if before == 0 {
+        assert!(rt; table.place(value, 1));
+    } else {
+        assert_eq!(rt; table.add(&value, 1), before);
+    }
+}
+
+// Takes a value out, of which there were so many.
+fn take(rt: &impl Abort, table: &mut Numbers, value: u64, before: usize) {
+    let wanted = if before == 0 {
+        None
+    } else {
+        Some((value, before))
+    };
+    assert_eq!(rt; table.take(&value), wanted);
+}
+
+// Checks the counts of all values, by look-ups and by a walk.
+fn agrees(rt: &impl Abort, table: &Numbers, counts: &[usize; VALUES]) {
+    for value in 0..VALUES {
+        assert_eq!(rt; table.count(&(value as u64)), counts[value], "of {value}");
+    }
+    let live = counts.iter().filter(|count| **count > 0).count();
+    assert_eq!(rt; table.slots.live(), live);
+    assert_eq!(rt; table.slots.walk().len(), live);
+    for (value, count) in table.slots.walk() {
+        assert!(rt; *value < VALUES as u64);
+        assert_eq!(rt; counts[*value as usize], count, "of {value}");
+    }
+}
+
+#[test]
+fn with_a_list_of_counts(rt: HostRuntime) -> Result<(), Fail> {
+    let mut table: Numbers = Held::new(rt.alloc(), BuildHasherDefault::new(), 6)?;
+    let mut counts = [0; VALUES];
+    let mut number = 1;
+    for step in 0..3000 {
+        number = next_number(number);
+        let value = (number >> 33) as usize % VALUES;
+        let before = counts[value];
+        assert!(&rt; before < 3000);
+        if step % 5 < 3 {
+            insert(&rt, &mut table, value as u64, before);
+            counts[value] = before + 1;
+        } else {
+            take(&rt, &mut table, value as u64, before);
+            counts[value] = 0;
+        }
+    }
+    agrees(&rt, &table, &counts);
+    Ok(())
+}

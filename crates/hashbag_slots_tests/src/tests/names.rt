@@ -1,0 +1,84 @@
+//! Values that own memory.
+use crate::held::Held;
+use crate::pair::Pair;
+use std::alloc::{AllocError, Global};
+use std::hash::{BuildHasherDefault, FoldHasher};
+use std::process::Abort;
+use std::test::Fail;
+
+type Names = Held<String, BuildHasherDefault<FoldHasher>>;
+
+const EIGHT: [&str; 8] = [
+    "Einar",
+    "Olaf",
+    "Harald",
+    "",
+    "Ha",
+    "Ingrid",
+    "Harald Hardrada",
+    "Astrid",
+];
+
+fn place(rt: &impl Abort, alloc: Global, table: &mut Names, name: &str) -> Result<(), AllocError> {
+    let owned = String::from_str(alloc, name)?;
+    assert!(rt; table.place(owned, name.len().min(99) + 1), "{name}");
+    Ok(())
+}
+
+// The names, each once more often than it has letters.
+fn eight_names(rt: &impl Abort, alloc: Global) -> Result<Names, AllocError> {
+    let mut table = Held::new(alloc, BuildHasherDefault::new(), 4)?;
+    for name in EIGHT {
+        place(rt, alloc, &mut table, name)?;
+    }
+    Ok(table)
+}
+
+// Checks the count of a name.
+fn has_count(
+    rt: &impl Abort,
+    alloc: Global,
+    table: &Names,
+    name: &str,
+    wanted: usize,
+) -> Result<(), AllocError> {
+    let owned = String::from_str(alloc, name)?;
+    assert_eq!(rt; table.count(&owned), wanted);
+    Ok(())
+}
+
+#[test]
+fn are_found(rt: HostRuntime) -> Result<(), Fail> {
+    let table = eight_names(&rt, rt.alloc())?;
+    for (name, count) in [("Einar", 6), ("", 1), ("Harald Hardrada", 16), ("Har", 0)] {
+        has_count(&rt, rt.alloc(), &table, name, count)?;
+    }
+    Ok(())
+}
+
+#[test]
+fn are_taken(rt: HostRuntime) -> Result<(), Fail> {
+    let mut table = eight_names(&rt, rt.alloc())?;
+    let harald = String::from_str(rt.alloc(), "Harald")?;
+    let taken = table.take(&harald);
+    assert!(&rt; taken.is_some_and(|entry| entry.0 == harald && entry.1 == 7));
+    for (name, count) in [("Harald", 0), ("Ha", 3), ("Olaf", 5)] {
+        has_count(&rt, rt.alloc(), &table, name, count)?;
+    }
+    Ok(())
+}
+
+#[test]
+fn are_carried(rt: HostRuntime) -> Result<(), Fail> {
+    let table = eight_names(&rt, rt.alloc())?;
+    let mut pair = Pair::new(rt.alloc(), table, 5)?;
+    for looked in [7, 14, 16] {
+        assert_eq!(&rt; pair.carry(7), looked);
+        let live = pair.newer.live().saturating_add(pair.older.live());
+        assert_eq!(&rt; live, 8);
+    }
+    for (value, count) in pair.newer.walk() {
+        assert_eq!(&rt; value.len().min(99) + 1, count, "of {value}");
+    }
+    Ok(())
+}
