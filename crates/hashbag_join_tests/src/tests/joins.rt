@@ -202,52 +202,12 @@ fn write_step(text: &mut String, hint: (usize, Option<usize>), came: bool) -> Re
 }
 
 // So many steps of a join, which is then dropped.
-fn steps_of_outer_join<S: BuildHasher + Drop, S2: BuildHasher + Drop>(
-    text: &mut String,
-    a: &HashBag<u64, S>,
-    b: &HashBag<u64, S2>,
-    steps: usize,
-) -> Result<(), Fail> {
-    let mut join = a.outer_join(b);
-    for _ in 0..steps {
-        write_step(text, join.size_hint(), join.next().is_some())?;
-    }
-    Ok(())
-}
-
-fn steps_of_difference<S: BuildHasher + Drop, S2: BuildHasher + Drop>(
-    text: &mut String,
-    a: &HashBag<u64, S>,
-    b: &HashBag<u64, S2>,
-    steps: usize,
-) -> Result<(), Fail> {
-    let mut join = a.difference(b);
-    for _ in 0..steps {
-        write_step(text, join.size_hint(), join.next().is_some())?;
-    }
-    Ok(())
-}
-
-fn steps_of_signed_difference<S: BuildHasher + Drop, S2: BuildHasher + Drop>(
-    text: &mut String,
-    a: &HashBag<u64, S>,
-    b: &HashBag<u64, S2>,
-    steps: usize,
-) -> Result<(), Fail> {
-    let mut join = a.signed_difference(b);
-    for _ in 0..steps {
-        write_step(text, join.size_hint(), join.next().is_some())?;
-    }
-    Ok(())
-}
-
-fn steps_of_not_in<S: BuildHasher + Drop, S2: BuildHasher + Drop>(
-    text: &mut String,
-    a: &HashBag<u64, S>,
-    b: &HashBag<u64, S2>,
-    steps: usize,
-) -> Result<(), Fail> {
-    let mut join = a.not_in(b);
+fn write_steps<I: Iterator + Drop>(text: &mut String, join: I, steps: usize) -> Result<(), Fail>
+where
+    I::Item: Drop,
+    requires any { (state : _) → I.can_next state }
+{
+    let mut join = join;
     for _ in 0..steps {
         write_step(text, join.size_hint(), join.next().is_some())?;
     }
@@ -264,10 +224,10 @@ fn steps_of<S: BuildHasher + Drop, S2: BuildHasher + Drop>(
 ) -> Result<String, Fail> {
     let mut text = String::new(alloc);
     match join {
-        "outer_join" => steps_of_outer_join(&mut text, a, b, steps)?,
-        "difference" => steps_of_difference(&mut text, a, b, steps)?,
-        "signed_difference" => steps_of_signed_difference(&mut text, a, b, steps)?,
-        "not_in" => steps_of_not_in(&mut text, a, b, steps)?,
+        "outer_join" => write_steps(&mut text, a.outer_join(b), steps)?,
+        "difference" => write_steps(&mut text, a.difference(b), steps)?,
+        "signed_difference" => write_steps(&mut text, a.signed_difference(b), steps)?,
+        "not_in" => write_steps(&mut text, a.not_in(b), steps)?,
         _ => return Err(Fail::new(format_args!("no join: {join}"))),
     }
     Ok(text)
