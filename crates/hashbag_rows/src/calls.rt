@@ -108,6 +108,11 @@ fn has_room<S: BuildHasher + Drop>(bag: &HashBag<u64, S>, n: usize) -> bool {
     bag.capacity() >= bag.set_len().saturating_add(n)
 }
 
+// The slots of the newer table, those of the older one that wait, and the room.
+fn tables<S: BuildHasher + Drop>(bag: &HashBag<u64, S>) -> (usize, usize, usize) {
+    (bag.slots(), bag.waiting(), bag.room())
+}
+
 // An entry that is dropped at once.
 fn entry<S: BuildHasher + Drop>(bag: &mut HashBag<u64, S>, value: u64) {
     let _ = bag.entry(value);
@@ -279,6 +284,7 @@ fn with_nothing<S: BuildHasher + Default + Drop>(
         "set_len" => debug_of(alloc, &bag.set_len()),
         "is_empty" => debug_of(alloc, &bag.is_empty()),
         "capacity" => debug_of(alloc, &bag.capacity()),
+        "tables" => debug_of(alloc, &tables(bag)),
         "iter.count" => debug_of(alloc, &bag.iter().count()),
         "set_iter.count" => debug_of(alloc, &bag.set_iter().count()),
         "clear" => debug_of(alloc, &clear(bag)),

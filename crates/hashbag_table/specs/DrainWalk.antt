@@ -3,7 +3,6 @@ use Rattle.std.specs.Prelude.{ℕ, List, [], Bool}
 use Rattle.std.specs.Borrow.{Fml, GName, RattleType, MutBor, Array, usize, follows}
 use Rattle.std.specs.declared.hash.Hasher as hasher
 use Rattle.std.specs.declared.hash.BuildHasher as builder
-use Rattle.std.specs.HashMap.IterMut as map
 use Rattle.hashbag_table.specs.declared.walk.DrainWalk.{DrainWalk}
 use Rattle.hashbag_table.specs.contracts.table.Table.{the_row}
 use Rattle.hashbag_table.specs.Table.{Table}
@@ -11,15 +10,15 @@ use Rattle.hashbag_table.specs.Table.{Table}
 module _ {T : Type 0} where
   -- the entries that are still to come
   abbrev pub drain_rest : DrainWalk T → List (T × ℕ)
-  drain_rest s = map.drain_rest s.drained
+  drain_rest s = s.taken
 
   -- the name of its loan of the table
   abbrev pub drain_name : DrainWalk T → GName
-  drain_name s = map.drain_name s.drained
+  drain_name s = s.table.ghost_name
 
--- the table with no entries, under the same state
+-- the table with no entries and no slots, under the same state
 abbrev pub emptied : {T S : Type 0} → Table T S → Table T S
-emptied t = record { entries = []; hasher = t.hasher }
+emptied t = record { entries = []; hasher = t.hasher; tables = record { newer = []; waiting = [] } }
 
 -- once the loan named r has ended, the table behind t is empty
 abbrev pub follows_drain : (T S H : RattleType) (g : record { eq : T.Denot → T.Denot → Bool; hash_input : T.Denot → List (List ℕ) }) (b : builder.Ghosts S.Denot H.Denot) (w : hasher.Ghosts H.Denot) → MutBor (Table T.Denot S.Denot) → GName → Fml

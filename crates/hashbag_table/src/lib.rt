@@ -1,10 +1,14 @@
 //! Distinct values with their counts, found by hashing: what a counted multiset stands on.
 //!
-//! A [`table::Table`] is a finite map from each distinct value to its stored instance and its count, which is at least 1.
+//! A [`table::Table`] is a finite map from each distinct value to its stored instance and its count, which is at least 1. It
+//! keeps them in two tables of [`slots`].
 #![tactic(auto)]
 
+mod growth;
+mod retain;
 pub mod table;
 pub mod walk;
 
+pub use hashbag_slots::slots;
 pub use table::Table;
 pub use walk::{DrainWalk, IntoWalk, Walk};

@@ -1,71 +1,153 @@
-//! `Table`: a finite map from each distinct value to its stored instance and its count.
-ghost use Rattle.std.specs.Prelude.{◌≡◌, ◌+◌, ◌<◌, ◌≤◌, ◌^◌, ℕ, min, nat_lt, [], ◌∷◌, All, length, true, None, IfOk, OnOk, OnErr, IsOk, IsErr, IsSome, option_map};
+//! `Table`: a finite map from each distinct value to its stored instance and its count, in two tables of slots.
+//!
+//! The newer table takes what comes. When it has no room left it becomes the older one, and a new one takes its place. Each value
+//! that comes after that takes the next 16 slots of the older table along, so that no insertion moves all values at once.
+ghost use Rattle.std.specs.Prelude.{◌≡◌, ◌+◌, ◌-◌, ◌*◌, ◌<◌, ◌≤◌, ◌^◌, ℕ, [], ◌∷◌, All, length, replicate, true, Some, None, IfSome, IfOk, OnOk, OnErr, IsOk, IsErr, IsSome, option_map, slice_set};
 ghost use Rattle.std.specs.Borrow.{sem};
 ghost use Rattle.std.specs.List.Sorted.{IsPermutation};
+ghost use Rattle.hashbag_slots.specs.Hashing.{hash_under};
+ghost use Rattle.hashbag_slots.specs.Slots.{IsSlotCount, live_count, is_live, Places, recounted, holds, slot_at, count_in};
+ghost use Rattle.hashbag_slots.specs.Columns.{IsReached, IsAlike};
 ghost use Rattle.hashbag_table.specs.Asked.{MayAskInTurn, Retains};
 ghost use Rattle.hashbag_table.specs.Entries.{entry_of, count_of, without, with_count, with_fewer, with_instance, total, IsCounted, HasClones};
+ghost use Rattle.hashbag_table.specs.Tables.{limit, room, IsLeast, IsPacked, entries_of, Arrives, Carried, IsReady, Roomy, slot_in, HoldsIn, entry_in, Writes, Rewrites, Swaps};
 
+use crate::growth::{carry_next, grown_count, least_count, no_slots};
+use crate::retain::retain_slots;
 use crate::walk::{DrainWalk, IntoWalk, Walk};
+use hashbag_slots::slots::{Slot, Slots, hash_of};
 use std::alloc::{AllocError, Global};
-use std::collections::HashMap;
 use std::hash::{BuildHasher, Hash};
 use std::marker::Model;
+use std::mem;
 
 /// The most distinct values that a table makes room for when it is asked to, 3 * 2^57.
 pub const MOST_VALUES: usize = 3 << 57;
 
 const _: () = prove!(MOST_VALUES == 432_345_564_227_567_616);
 
+// Stores another equal instance at a place, with the count 1, and gives the former one back.
+fn put_one<T: Eq>(slots: &mut Slots<T>, place: usize, value: T) -> T
+    requires equal { holds (λ v. T.eq v value) (slot_at slots.old.slots place) ≡ true }
+    ensures given { slot_at slots.old.slots place ≡ Slot.Live result (count_in (slot_at slots.old.slots place)) }
+    ensures after { slots.new.slots ≡ slice_set slots.old.slots place (Slot.Live value 1) }
+    ensures reached { (hash : T → ℕ) → IsAlike T.eq hash → IsReached hash slots.old → IsReached hash slots.new }
+{
+    let former = slots.put_at(place, value);
+    slots.set_at(place, 1);
+    former
+}
+
+/// Where a value is: the place of its slot among those of the newer table, or among those that wait.
+#[derive(Clone, Copy)]
+pub enum Spot {
+    /// A place among the newer table's slots.
+    Newer(usize),
+    /// A place among the older table's slots that wait.
+    Waiting(usize),
+}
+
 /// Distinct values, each stored once with its count, a `usize` of at least 1. Values that `==` calls equal are one value.
 ///
-/// Contracts see a table as the list of its entries, in an order that means nothing, and the state that hashes its
-/// values. The calls, their answers and their refusals are this project's own.
+/// Contracts see a table as the list of its entries, in an order that means nothing, and the state that hashes its values;
+/// beside it the slots of the newer table, and those of the older one that wait to be carried. The calls, their answers
+/// and their refusals are this project's own.
 #[derive(Drop)]
 pub struct Table<T: Eq + Hash + Drop, S: BuildHasher + Drop> {
-    map: HashMap<T, usize, S>,
+    newer: Slots<T>,
+    // The former table, of which the first `looked` slots were carried. It has no slots where none waits.
+    older: Slots<T>,
+    looked: usize,
+    hasher: S,
     // What the table grows on. Its copies are made on it too.
     alloc: Global,
+    // What a drain borrows.
+    lent: [usize; 0],
 }
 
 impl<T: Eq + Hash + Drop, S: BuildHasher + Drop> Model for Table<T, S> {
-    ghost use Rattle.std.specs.HashMap.{hasher_of};
-    ghost use Rattle.hashbag_table.specs.Table.{Table as Entries, table_code};
-    ghost use Rattle.hashbag_table.specs.Entries.{IsCounted};
+    ghost use Rattle.std.specs.Prelude.{drop};
+    ghost use Rattle.hashbag_slots.specs.Hashing.{hash_under};
+    ghost use Rattle.hashbag_table.specs.Table.{Table as Entries};
+    ghost use Rattle.hashbag_table.specs.Tables.{IsTables, entries_of};
 
     ghost Value = { Entries T S };
 
-    ghost coded = { table_code T.code S.code };
+    ghost view = { λ t. record { entries = entries_of t.newer.slots (drop t.looked t.older.slots); hasher = t.hasher; tables = record { newer = t.newer.slots; waiting = drop t.looked t.older.slots } } };
 
-    ghost view = { λ a. record { entries = a.map.entries; hasher = hasher_of a.map } };
-
-    ghost invariant = { λ a. IsCounted T.eq a.map.entries };
+    ghost invariant = { λ t. IsTables T.eq (hash_under T.hash_input S.BuildHasher S.Hasher.Hasher t.hasher) t.newer t.older t.looked };
 }
 
 impl<T: Eq + Hash + Drop, S: BuildHasher + Drop> Table<T, S> {
     ghost use Rattle.hashbag_table.specs.DrainWalk.{drain_rest, drain_name, follows_drain};
 
-    /// An empty table, whose values `hasher` hashes. It takes no memory.
+    /// An empty table of no slots, whose values `hasher` hashes. It takes no memory.
     pub fn new(alloc: Global, hasher: S) -> Table<T, S>
         ensures empty { result.entries ≡ [] }
         ensures hasher { result.hasher ≡ hasher }
+        ensures newer { result.tables.newer ≡ [] }
+        ensures waiting { result.tables.waiting ≡ [] }
     {
+        let newer = no_slots(alloc);
+        let older = no_slots(alloc);
         Table {
-            map: HashMap::with_hasher(alloc, hasher),
+            newer,
+            older,
+            looked: 0,
+            hasher,
             alloc,
+            lent: [],
         }
     }
 
-    /// An empty table with room for `n` distinct values, which `hasher` hashes. With `n` 0 it takes no memory and succeeds; a
-    /// request for more than [`MOST_VALUES`] is refused before memory is asked for.
+    /// An empty table with room for `n` distinct values, which `hasher` hashes: the least table of slots that has it.
+    ///
+    /// With `n` 0 it takes no memory and succeeds; a request for more than [`MOST_VALUES`] is refused before memory is asked for.
     pub fn with_room(alloc: Global, hasher: S, n: usize) -> Result<Table<T, S>, AllocError>
         ensures empty { IfOk result (λ table. table.entries ≡ []) }
         ensures hasher { IfOk result (λ table. table.hasher ≡ hasher) }
         ensures none { n ≡ 0 → IsOk result }
         ensures beyond { MOST_VALUES < n → IsErr result }
+        ensures fresh { IfOk result (λ table. table.tables.newer ≡ replicate (length table.tables.newer) Slot.Empty) }
+        ensures least { IfOk result (λ table. IsLeast 0 n (length table.tables.newer)) }
+        ensures packed { IfOk result (λ table. IsPacked table.tables) }
     {
-        let mut table = Table::new(alloc, hasher);
-        table.reserve(n)?;
-        Ok(table)
+        let count = least_count(0, n)?;
+        let newer = Slots::with_slots(alloc, count)?;
+        let older = no_slots(alloc);
+        Ok(Table {
+            newer,
+            older,
+            looked: 0,
+            hasher,
+            alloc,
+            lent: [],
+        })
+    }
+
+    /// The number of slots of the newer table.
+    pub fn slots(&self) -> usize
+        ensures slots { result ≡ length self.now.tables.newer }
+        ensures count { IsSlotCount result }
+        ensures entries { self.now.entries ≡ entries_of self.now.tables.newer self.now.tables.waiting }
+    {
+        self.newer.slots()
+    }
+
+    /// The number of slots that wait to be carried.
+    pub fn waiting(&self) -> usize
+        ensures waiting { result ≡ length self.now.tables.waiting }
+        ensures carries { result ≤ 16 * room self.now.tables }
+        ensures smaller { 0 < result → result + 16 ≤ length self.now.tables.newer }
+    {
+        self.older.slots() - self.looked
+    }
+
+    /// How many absent values may come before the table grows.
+    pub fn room(&self) -> usize
+        ensures { result ≡ room self.now.tables }
+    {
+        3 * self.newer.slots() / 4 - self.newer.live() - self.newer.removed() - self.older.live()
     }
 
     /// The number of distinct values.
@@ -73,62 +155,127 @@ impl<T: Eq + Hash + Drop, S: BuildHasher + Drop> Table<T, S> {
         ensures len { result ≡ length self.now.entries }
         ensures counted { IsCounted T.eq self.now.entries }
     {
-        self.map.len()
+        let _count = self.newer.slots();
+        self.newer.live() + self.older.live()
     }
 
     /// The state that hashes the values.
     pub fn hasher(&self) -> &S
         ensures { result.now ≡ self.now.hasher }
     {
-        self.map.hasher()
+        &self.hasher
     }
 
-    /// How many distinct values the table can have before it grows. It is at least the number of those that are there.
+    /// How many distinct values the table can have before it grows.
     pub fn capacity(&self) -> usize
-        ensures { length self.now.entries ≤ result }
+        ensures { result ≡ length self.now.entries + room self.now.tables }
     {
-        self.map.capacity()
+        let _count = self.newer.slots();
+        self.set_len() + self.room()
     }
 
-    /// The stored instance of a value and its count, or `None` where it is absent. The value is hashed once.
+    /// The stored instance of a value and its count, or `None` where it is absent. It is hashed once for
+    /// both tables.
     pub fn get(&self, value: &T) -> Option<(&T, usize)>
         ensures found { option_map (λ e. (e.0.now, e.1)) result ≡ entry_of T.eq value.now self.now.entries }
         ensures counted { IsCounted T.eq self.now.entries }
     {
-        match self.map.get_key_value(value) {
-            Some((instance, count)) => Some((instance, *count)),
+        let hash = hash_of(&self.hasher, value);
+        if let Some(place) = self.newer.find_hashed(&self.hasher, hash, value) {
+            return self.newer.at(place);
+        }
+        match self.older.find_hashed(&self.hasher, hash, value) {
+            Some(place) => self.older.at(place),
             None => None,
         }
     }
 
-    /// Adds `n` to the count of a value, and answers what the count was, 0 where the value was absent.
-    ///
-    /// A stored instance stays, and the value handed in is dropped. A value that is present takes no memory and is hashed
-    /// once. One that is absent may be refused for memory: the table is then unchanged, and the value is dropped.
-    pub fn add(&mut self, value: T, n: usize) -> Result<usize, AllocError>
-        requires some { 0 < n }
-        requires fits { count_of T.eq value self.old.entries + n < 2 ^ 64 }
-        ensures before { IfOk result (λ before. before ≡ count_of T.eq value self.old.entries) }
-        ensures added { OnOk result (IsPermutation (with_count T.eq value (count_of T.eq value self.old.entries + n) self.old.entries) self.new.entries) }
+    // Carries the next 16 waiting slots. It takes no memory.
+    fn carry(&mut self)
+        requires room { 0 < room self.old.tables }
+        ensures carried { Carried 16 self.old.tables.newer self.old.tables.waiting self.new.tables.newer self.new.tables.waiting }
+        ensures some { 0 < room self.new.tables }
+        ensures carries { length self.new.tables.waiting ≤ 16 * (room self.new.tables - 1) }
+        ensures entries { IsPermutation self.old.entries self.new.entries }
         ensures hasher { self.new.hasher ≡ self.old.hasher }
-        ensures counted { IsCounted T.eq self.new.entries }
+    {
+        self.looked = carry_next(
+            &mut self.newer,
+            &mut self.older,
+            self.looked,
+            16,
+            &self.hasher,
+            self.alloc,
+        );
+    }
 
-        // Only a value that is absent asks for memory.
-        ensures absent { OnErr result (entry_of T.eq value self.old.entries ≡ None) }
+    // Takes a table of slots as the newer one: in this function alone a table that stands is given one. The former newer one
+    // waits, save for its first `many` slots, which are carried; the older one, of which none waits, is freed. It takes no memory.
+    fn adopt(&mut self, newer: Slots<T>, many: usize)
+        requires none_waits { self.old.tables.waiting ≡ [] }
+    {
+        let former = mem::replace(&mut self.newer, newer);
+        let _freed = mem::replace(&mut self.older, former);
+        self.looked = carry_next(
+            &mut self.newer,
+            &mut self.older,
+            0,
+            many,
+            &self.hasher,
+            self.alloc,
+        );
+    }
+
+    // Grows where no room is left: a new table, into which the first 16 slots are carried. Where memory is refused the table is
+    // unchanged.
+    fn grow(&mut self) -> Result<(), AllocError>
+        requires full { room self.old.tables ≡ 0 }
+        ensures ready { OnOk result (IsReady self.old.tables self.new.tables) }
+        ensures entries { OnOk result (IsPermutation self.old.entries self.new.entries) }
+        ensures hasher { self.new.hasher ≡ self.old.hasher }
         ensures err { OnErr result (self.new ≡ self.old) }
     {
-        if let Some(count) = self.map.get_mut(&value) {
-            let before = *count;
-            *count = before + n;
-            return Ok(before);
+        let count = grown_count(self.newer.slots(), self.newer.live())?;
+        let newer = Slots::with_slots(self.alloc, count)?;
+        self.adopt(newer, 16);
+        Ok(())
+    }
+
+    // Makes way for an absent value: a growth where no room is left, and else a carry, which takes no memory.
+    fn make_way(&mut self) -> Result<(), AllocError>
+        ensures ready { OnOk result (IsReady self.old.tables self.new.tables) }
+        ensures takes { 0 < room self.old.tables → IsOk result }
+        ensures entries { OnOk result (IsPermutation self.old.entries self.new.entries) }
+        ensures hasher { self.new.hasher ≡ self.old.hasher }
+        ensures err { OnErr result (self.new ≡ self.old) }
+    {
+        if self.room() > 0 {
+            self.carry();
+            return Ok(());
         }
-        self.map.insert(value, n)?;
-        Ok(0)
+        self.grow()
+    }
+
+    // Places an absent value, where way was made for it. It takes no memory.
+    fn settle(&mut self, hash: u64, value: T, count: usize)
+        requires hashed { hash ≡ hash_under T.hash_input S.BuildHasher S.Hasher.Hasher self.old.hasher value }
+        requires absent { entry_of T.eq value self.old.entries ≡ None }
+        requires some { 0 < count }
+        requires room { 0 < room self.old.tables }
+        requires carries { length self.old.tables.waiting ≤ 16 * (room self.old.tables - 1) }
+        ensures placed { Places value count self.old.tables.newer self.new.tables.newer }
+        ensures waiting { self.new.tables.waiting ≡ self.old.tables.waiting }
+        ensures entries { IsPermutation ((value, count) ∷ self.old.entries) self.new.entries }
+        ensures hasher { self.new.hasher ≡ self.old.hasher }
+        ensures counted { IsCounted T.eq self.new.entries }
+    {
+        let _looked = self.looked;
+        self.newer.place_hashed(&self.hasher, hash, value, count);
     }
 
     /// Puts in a value that is absent, with a count. It hashes the value once.
     ///
-    /// Where memory is refused the table is unchanged, and the value is dropped.
+    /// Where memory is refused the table is unchanged, and the value is dropped. While there is room none is asked for.
     pub fn insert_new(&mut self, value: T, count: usize) -> Result<(), AllocError>
         requires absent { entry_of T.eq value self.old.entries ≡ None }
         requires some { 0 < count }
@@ -136,83 +283,261 @@ impl<T: Eq + Hash + Drop, S: BuildHasher + Drop> Table<T, S> {
         ensures hasher { self.new.hasher ≡ self.old.hasher }
         ensures counted { IsCounted T.eq self.new.entries }
         ensures err { OnErr result (self.new ≡ self.old) }
+        ensures takes { 0 < room self.old.tables → IsOk result }
+        ensures arrives { OnOk result (Arrives self.old.tables self.new.tables) }
     {
-        self.map.insert(value, count)?;
+        let hash = hash_of(&self.hasher, &value);
+        self.insert_hashed(hash, value, count)
+    }
+
+    // As `insert_new`, of a value whose hash is handed in.
+    fn insert_hashed(&mut self, hash: u64, value: T, count: usize) -> Result<(), AllocError>
+        requires hashed { hash ≡ hash_under T.hash_input S.BuildHasher S.Hasher.Hasher self.old.hasher value }
+        requires absent { entry_of T.eq value self.old.entries ≡ None }
+        requires some { 0 < count }
+        ensures inserted { OnOk result (IsPermutation (with_instance T.eq value count self.old.entries) self.new.entries) }
+        ensures hasher { self.new.hasher ≡ self.old.hasher }
+        ensures counted { IsCounted T.eq self.new.entries }
+        ensures err { OnErr result (self.new ≡ self.old) }
+        ensures takes { 0 < room self.old.tables → IsOk result }
+        ensures arrives { OnOk result (Arrives self.old.tables self.new.tables) }
+    {
+        let _looked = self.looked;
+        self.make_way()?;
+        self.settle(hash, value, count);
         Ok(())
     }
 
-    /// Gives a value that is present another count. It takes no memory, and hashes the value once.
+    // Where a value is, whose hash is handed in.
+    fn locate(&self, hash: u64, value: &T) -> Option<Spot>
+        requires hashed { hash ≡ hash_under T.hash_input S.BuildHasher S.Hasher.Hasher self.now.hasher value.now }
+        ensures map { entry_in self.now.tables result ≡ entry_of T.eq value.now self.now.entries }
+        ensures held { IfSome result (HoldsIn (λ w. T.eq w value.now) self.now.tables) }
+        ensures counted { IsCounted T.eq self.now.entries }
+    {
+        if let Some(place) = self.newer.find_hashed(&self.hasher, hash, value) {
+            return Some(Spot::Newer(place));
+        }
+        match self.older.find_hashed(&self.hasher, hash, value) {
+            Some(place) => Some(Spot::Waiting(place - self.looked)),
+            None => None,
+        }
+    }
+
+    // Gives the value at a spot another count.
+    fn set_spot(&mut self, spot: Spot, n: usize)
+        requires live { is_live (slot_in self.old.tables spot) ≡ true }
+        requires some { 0 < n }
+        ensures after { Writes spot (recounted n (slot_in self.old.tables spot)) self.old.tables self.new.tables }
+        ensures map { (e : T × ℕ) → entry_in self.old.tables (Some spot) ≡ Some e → Swaps self.old.entries self.new.entries e ((e.0, n) ∷ []) }
+        ensures hasher { self.new.hasher ≡ self.old.hasher }
+        ensures counted { IsCounted T.eq self.new.entries }
+    {
+        let _count = self.older.slots();
+        if let Spot::Newer(place) = spot {
+            self.newer.set_at(place, n);
+            return;
+        }
+        if let Spot::Waiting(place) = spot {
+            self.older.set_at(self.looked + place, n);
+        }
+    }
+
+    // Takes the value at a spot out, and leaves Removed there.
+    fn take_spot(&mut self, spot: Spot) -> (T, usize)
+        requires live { is_live (slot_in self.old.tables spot) ≡ true }
+        ensures taken { slot_in self.old.tables spot ≡ Slot.Live result.0 result.1 }
+        ensures after { Writes spot Slot.Removed self.old.tables self.new.tables }
+        ensures map { Swaps self.old.entries self.new.entries (result.0, result.1) [] }
+        ensures hasher { self.new.hasher ≡ self.old.hasher }
+        ensures counted { IsCounted T.eq self.new.entries }
+    {
+        let _count = self.older.slots();
+        match spot {
+            Spot::Newer(place) => {
+                let entry = self.newer.take_at(place);
+                return entry;
+            }
+            Spot::Waiting(place) => {
+                let entry = self.older.take_at(self.looked + place);
+                return entry;
+            }
+        }
+    }
+
+    /// Gives a value that is present another count. It takes no memory.
     pub fn set_count(&mut self, value: &T, n: usize)
         requires present { IsSome (entry_of T.eq value.now self.old.entries) }
         requires some { 0 < n }
         ensures set { IsPermutation (with_count T.eq value.now n self.old.entries) self.new.entries }
         ensures hasher { self.new.hasher ≡ self.old.hasher }
         ensures counted { IsCounted T.eq self.new.entries }
+        ensures slot { Rewrites (λ w. T.eq w value.now) (recounted n) self.old.tables self.new.tables }
     {
-        if let Some(count) = self.map.get_mut(value) {
-            *count = n;
+        let hash = hash_of(&self.hasher, value);
+        if let Some(spot) = self.locate(hash, value) {
+            self.set_spot(spot, n);
         }
     }
 
-    /// Takes `n` from the count of a value, and answers what the count was, 0 where the value was absent. Where no more
-    /// than `n` are there, the value goes, and its stored instance is dropped.
-    ///
-    /// It takes no memory. A value that stays is hashed once.
-    pub fn take(&mut self, value: &T, n: usize) -> usize
-        ensures before { result ≡ count_of T.eq value.now self.old.entries }
-        ensures taken { IsPermutation (with_fewer T.eq value.now n self.old.entries) self.new.entries }
-        ensures hasher { self.new.hasher ≡ self.old.hasher }
-        ensures counted { IsCounted T.eq self.new.entries }
-    {
-        if let Some(count) = self.map.get_mut(value) {
-            let before = *count;
-            if n < before {
-                *count = before - n;
-                return before;
-            }
-        }
-        self.map.remove(value).unwrap_or(0)
-    }
-
-    /// Takes a value out, and answers its stored instance and its count, or `None` where it was absent. It takes no
-    /// memory.
+    /// Takes a value out, and answers its stored instance and its count, or `None` where it was absent. Its slot, in whichever
+    /// table it is, becomes Removed. It takes no memory.
     pub fn remove(&mut self, value: &T) -> Option<(T, usize)>
         ensures taken { result ≡ entry_of T.eq value.now self.old.entries }
         ensures left { IsPermutation (without T.eq value.now self.old.entries) self.new.entries }
         ensures hasher { self.new.hasher ≡ self.old.hasher }
         ensures counted { IsCounted T.eq self.new.entries }
+        ensures slot { IsSome result → Rewrites (λ w. T.eq w value.now) (λ _. Slot.Removed) self.old.tables self.new.tables }
+        ensures none { result ≡ None → self.new ≡ self.old }
     {
-        self.map.remove_entry(value)
+        let hash = hash_of(&self.hasher, value);
+        match self.locate(hash, value) {
+            Some(spot) => {
+                let entry = self.take_spot(spot);
+                return Some(entry);
+            }
+            None => None,
+        }
+    }
+
+    // The count of the value at a spot.
+    fn count_at(&self, spot: Spot) -> usize
+        requires live { is_live (slot_in self.now.tables spot) ≡ true }
+        ensures count { (e : T × ℕ) → entry_in self.now.tables (Some spot) ≡ Some e → result ≡ e.1 }
+    {
+        let _count = self.older.slots();
+        if let Spot::Newer(place) = spot {
+            return match self.newer.at(place) {
+                Some((_, count)) => count,
+                None => 0,
+            };
+        }
+        if let Spot::Waiting(place) = spot {
+            return match self.older.at(self.looked + place) {
+                Some((_, count)) => count,
+                None => 0,
+            };
+        }
+        0
+    }
+
+    /// Takes `n` from the count of a value, and answers what the count was, 0 where the value was absent. Where no more
+    /// than `n` are there, the value goes, and its stored instance is dropped.
+    ///
+    /// It takes no memory. The value is hashed once.
+    pub fn take(&mut self, value: &T, n: usize) -> usize
+        ensures before { result ≡ count_of T.eq value.now self.old.entries }
+        ensures taken { IsPermutation (with_fewer T.eq value.now n self.old.entries) self.new.entries }
+        ensures hasher { self.new.hasher ≡ self.old.hasher }
+        ensures counted { IsCounted T.eq self.new.entries }
+        ensures fewer { n < result → Rewrites (λ w. T.eq w value.now) (recounted (result - n)) self.old.tables self.new.tables }
+        ensures gone { 0 < result → result ≤ n → Rewrites (λ w. T.eq w value.now) (λ _. Slot.Removed) self.old.tables self.new.tables }
+        ensures none { result ≡ 0 → self.new ≡ self.old }
+    {
+        let hash = hash_of(&self.hasher, value);
+        if let Some(spot) = self.locate(hash, value) {
+            let before = self.count_at(spot);
+            if n < before {
+                self.set_spot(spot, before - n);
+                return before;
+            }
+            let (former, count) = self.take_spot(spot);
+            drop(former);
+            return count;
+        }
+        0
+    }
+
+    /// Adds `n` to the count of a value, and answers what the count was, 0 where the value was absent.
+    ///
+    /// A stored instance stays, and the value handed in is dropped. It is hashed once. A value that is present takes no memory.
+    /// One that is absent may be refused for memory where no room is left: the table is then unchanged, and the value is dropped.
+    pub fn add(&mut self, value: T, n: usize) -> Result<usize, AllocError>
+        requires some { 0 < n }
+        requires fits { count_of T.eq value self.old.entries + n < 2 ^ 64 }
+        ensures before { IfOk result (λ before. before ≡ count_of T.eq value self.old.entries) }
+        ensures added { OnOk result (IsPermutation (with_count T.eq value (count_of T.eq value self.old.entries + n) self.old.entries) self.new.entries) }
+        ensures hasher { self.new.hasher ≡ self.old.hasher }
+        ensures counted { IsCounted T.eq self.new.entries }
+        ensures absent { OnErr result (entry_of T.eq value self.old.entries ≡ None) }
+        ensures err { OnErr result (self.new ≡ self.old) }
+        ensures takes { 0 < room self.old.tables → IsOk result }
+        ensures slot { IsSome (entry_of T.eq value self.old.entries) → Rewrites (λ w. T.eq w value) (recounted (count_of T.eq value self.old.entries + n)) self.old.tables self.new.tables }
+        ensures arrives { entry_of T.eq value self.old.entries ≡ None → OnOk result (Arrives self.old.tables self.new.tables) }
+    {
+        let hash = hash_of(&self.hasher, &value);
+        if let Some(spot) = self.locate(hash, &value) {
+            let before = self.count_at(spot);
+            self.set_spot(spot, before + n);
+            return Ok(before);
+        }
+        self.insert_hashed(hash, value, n)?;
+        Ok(0)
+    }
+
+    // Stores another equal instance at a spot, with the count 1, and gives the former one back.
+    fn put_spot(&mut self, spot: Spot, value: T) -> T
+        requires equal { holds (λ v. T.eq v value) (slot_in self.old.tables spot) ≡ true }
+        ensures after { Writes spot (Slot.Live value 1) self.old.tables self.new.tables }
+        ensures map { (e : T × ℕ) → entry_in self.old.tables (Some spot) ≡ Some e → Swaps self.old.entries self.new.entries e ((value, 1) ∷ []) }
+        ensures hasher { self.new.hasher ≡ self.old.hasher }
+        ensures counted { IsCounted T.eq self.new.entries }
+    {
+        let _count = self.older.slots();
+        match spot {
+            Spot::Newer(place) => {
+                let former = put_one(&mut self.newer, place, value);
+                return former;
+            }
+            Spot::Waiting(place) => {
+                let former = put_one(&mut self.older, self.looked + place, value);
+                return former;
+            }
+        }
     }
 
     /// Stores a value itself with the count 1, and answers what the count was, 0 where the value was absent. An instance that
-    /// was stored is dropped. It hashes the value twice.
+    /// was stored is dropped, in whichever table it is.
     ///
-    /// It makes room before it takes a former instance out, so that a refusal leaves the table unchanged. The value handed
-    /// in is then dropped.
+    /// It hashes the value once. A value that is present takes no memory. One that is absent may be refused for memory where no
+    /// room is left: the table is then unchanged, and the value is dropped.
     pub fn put_instance(&mut self, value: T) -> Result<usize, AllocError>
         ensures before { IfOk result (λ before. before ≡ count_of T.eq value self.old.entries) }
         ensures put { OnOk result (IsPermutation (with_instance T.eq value 1 self.old.entries) self.new.entries) }
         ensures hasher { self.new.hasher ≡ self.old.hasher }
         ensures counted { IsCounted T.eq self.new.entries }
+        ensures absent { OnErr result (entry_of T.eq value self.old.entries ≡ None) }
         ensures err { OnErr result (self.new ≡ self.old) }
+        ensures takes { 0 < room self.old.tables → IsOk result }
+        ensures slot { IsSome (entry_of T.eq value self.old.entries) → Rewrites (λ w. T.eq w value) (λ _. Slot.Live value 1) self.old.tables self.new.tables }
+        ensures arrives { entry_of T.eq value self.old.entries ≡ None → OnOk result (Arrives self.old.tables self.new.tables) }
     {
-        self.map.reserve(1)?;
-        let before = self.map.remove(&value).unwrap_or(0);
-        self.map.insert(value, 1)?;
-        Ok(before)
+        let hash = hash_of(&self.hasher, &value);
+        if let Some(spot) = self.locate(hash, &value) {
+            let before = self.count_at(spot);
+            let former = self.put_spot(spot, value);
+            drop(former);
+            return Ok(before);
+        }
+        self.insert_hashed(hash, value, 1)?;
+        Ok(0)
     }
 
-    /// Takes all values out. It takes no memory.
+    /// Takes all values out. It takes no memory: the newer table keeps its slots, and the older one is freed.
     pub fn clear(&mut self)
         ensures empty { self.new.entries ≡ [] }
         ensures hasher { self.new.hasher ≡ self.old.hasher }
+        ensures newer { self.new.tables.newer ≡ replicate (length self.old.tables.newer) Slot.Empty }
+        ensures waiting { self.new.tables.waiting ≡ [] }
     {
-        self.map.clear();
+        self.newer.clear();
+        let _freed = mem::replace(&mut self.older, no_slots(self.alloc));
+        self.looked = 0;
     }
 
     /// Asks `f` once for each value, with its count, in an open order. The value keeps the lesser of its count and the answer,
-    /// and goes where that is 0. It answers the total of the counts that are left.
+    /// and goes where that is 0: its slot, in whichever table it is, becomes Removed. It answers the total of the counts that
+    /// are left.
     ///
     /// It takes no memory and hashes nothing. The caller sees to it that the total fits.
     pub fn retain<F: FnMut(&T, usize) -> usize + Drop>(&mut self, mut f: F) -> usize
@@ -222,36 +547,39 @@ impl<T: Eq + Hash + Drop, S: BuildHasher + Drop> Table<T, S> {
         ensures total { result ≡ total self.new.entries }
         ensures hasher { self.new.hasher ≡ self.old.hasher }
         ensures counted { IsCounted T.eq self.new.entries }
+        ensures newer { length self.new.tables.newer ≡ length self.old.tables.newer }
+        ensures waiting { length self.new.tables.waiting ≡ length self.old.tables.waiting }
+        ensures room { room self.old.tables ≤ room self.new.tables }
     {
-        self.map.retain(
-            |value: &T, count: &mut usize| -> bool
-                requires { F.pre f value count.old }
-                ensures { (a : ℕ) × F.step f.entry value.entry count.old a f.exit × (count.new ≡ min a count.old) × (result ≡ nat_lt 0 (min a count.old)) }
-            {
-                let left = f(value, *count).min(*count);
-                *count = left;
-                left > 0
-            },
-        );
-        self.total()
+        let newer = retain_slots(&mut self.newer, 0, &mut f);
+        newer + retain_slots(&mut self.older, self.looked, &mut f)
     }
 
-    // The total of all counts.
-    fn total(&self) -> usize
-        requires fits { total self.now.entries < 2 ^ 64 }
-        ensures { result ≡ total self.now.entries }
+    // Takes a table of Empty slots in which all values have room as the newer one, moves every value into it, and frees the
+    // others. It takes no memory, and hashes each value once.
+    fn pack(&mut self, newer: Slots<T>)
+        requires empty { newer.slots ≡ replicate (length newer.slots) Slot.Empty }
+        requires reached { (hash : T → ℕ) → IsReached hash newer }
+        requires enough { length self.old.entries ≤ limit (length newer.slots) }
+        ensures slots { length self.new.tables.newer ≡ length newer.slots }
+        ensures packed { IsPacked self.new.tables }
+        ensures entries { IsPermutation self.old.entries self.new.entries }
+        ensures hasher { self.new.hasher ≡ self.old.hasher }
     {
-        let mut sum = 0;
-        for (_, count) in self.walk() {
-            sum += count;
-        }
-        sum
+        let mut newer = newer;
+        let waiting = self.older.slots() - self.looked;
+        newer.carry_from(&self.hasher, &mut self.older, self.looked, waiting);
+        let _freed = mem::replace(&mut self.older, no_slots(self.alloc));
+        self.looked = 0;
+        let many = self.newer.slots();
+        self.adopt(newer, many);
     }
 
     /// Makes room for `n` more distinct values. The entries stay, and so does the table where memory is refused.
     ///
-    /// With `n` 0 it takes no memory and succeeds. A request with which there would be more than [`MOST_VALUES`] is refused
-    /// before memory is asked for.
+    /// Where there is room it takes no memory and does nothing. Else it builds the least table of slots that has the room, and is
+    /// not smaller than the newer one: every value is moved into it and hashed once, and the others are freed. A request with
+    /// which there would be more than [`MOST_VALUES`] is refused before memory is asked for.
     pub fn reserve(&mut self, n: usize) -> Result<(), AllocError>
         ensures entries { IsPermutation self.old.entries self.new.entries }
         ensures hasher { self.new.hasher ≡ self.old.hasher }
@@ -259,21 +587,48 @@ impl<T: Eq + Hash + Drop, S: BuildHasher + Drop> Table<T, S> {
         ensures none { n ≡ 0 → IsOk result }
         ensures beyond { 0 < n → MOST_VALUES < length self.old.entries + n → IsErr result }
         ensures err { OnErr result (self.new ≡ self.old) }
+        ensures enough { n ≤ room self.old.tables → IsOk result }
+        ensures kept { n ≤ room self.old.tables → self.new ≡ self.old }
+        ensures least { room self.old.tables < n → OnOk result (IsLeast (length self.old.tables.newer) (length self.old.entries + n) (length self.new.tables.newer)) }
+        ensures packed { room self.old.tables < n → OnOk result (IsPacked self.new.tables) }
+        ensures room { OnOk result (n ≤ room self.new.tables) }
     {
-        if n > MOST_VALUES.saturating_sub(self.set_len()) {
+        if n <= self.room() {
+            return Ok(());
+        }
+        let values = self.set_len();
+        if n > MOST_VALUES - values {
             return Err(AllocError);
         }
-        self.map.reserve(n)
+        let count = least_count(self.newer.slots(), values + n)?;
+        let newer = Slots::with_slots(self.alloc, count)?;
+        self.pack(newer);
+        Ok(())
     }
 
     /// Gives memory back that the entries don't need. The entries stay, and so does the table where memory is refused.
+    ///
+    /// It builds the least table of slots in which the entries have room where that one is smaller than the newer one: every
+    /// value is moved into it and hashed once, and the others are freed. Else it takes no memory and does nothing. Where there
+    /// are no entries it takes no memory, and no slots are left.
     pub fn shrink_to_fit(&mut self) -> Result<(), AllocError>
         ensures entries { IsPermutation self.old.entries self.new.entries }
         ensures hasher { self.new.hasher ≡ self.old.hasher }
         ensures counted { IsCounted T.eq self.new.entries }
         ensures err { OnErr result (self.new ≡ self.old) }
+        ensures none { self.old.entries ≡ [] → IsOk result }
+        ensures freed { self.old.entries ≡ [] → self.new.tables.newer ≡ [] }
+        ensures enough { (m : ℕ) → IsLeast 0 (length self.old.entries) m → length self.old.tables.newer ≤ m → IsOk result }
+        ensures kept { (m : ℕ) → IsLeast 0 (length self.old.entries) m → length self.old.tables.newer ≤ m → self.new ≡ self.old }
+        ensures least { (m : ℕ) → IsLeast 0 (length self.old.entries) m → m < length self.old.tables.newer → OnOk result (length self.new.tables.newer ≡ m) }
+        ensures packed { (m : ℕ) → IsLeast 0 (length self.old.entries) m → m < length self.old.tables.newer → OnOk result (IsPacked self.new.tables) }
     {
-        self.map.shrink_to_fit();
+        let count = least_count(0, self.set_len())?;
+        if count >= self.newer.slots() {
+            return Ok(());
+        }
+        let newer = Slots::with_slots(self.alloc, count)?;
+        self.pack(newer);
         Ok(())
     }
 
@@ -285,24 +640,11 @@ impl<T: Eq + Hash + Drop, S: BuildHasher + Drop> Table<T, S> {
         ensures counted { IsCounted T.eq self.now.entries }
         ensures fits { length result < 2 ^ 63 }
     {
-        Walk {
-            entries: self.map.iter(),
-        }
-    }
-
-    /// Takes all entries out, and walks over them, in an open order: each value once, with its count.
-    ///
-    /// The table is empty at once and keeps its state, however many entries are taken. The others are dropped with the walk.
-    /// Whether it keeps its room is open. It takes no memory and hashes nothing, here and at each step.
-    pub fn drain(&mut self) -> DrainWalk<'_, T>
-        ensures* writes_back { sem 𝓛 (follows_drain T.row S.row S.Hasher.row T.Hash S.BuildHasher S.Hasher.Hasher self.entry (drain_name result)) }
-        ensures entries { IsPermutation self.old.entries (drain_rest result) }
-        ensures counted { IsCounted T.eq self.old.entries }
-        ensures fits { length (drain_rest result) < 2 ^ 63 }
-    {
-        DrainWalk {
-            drained: self.map.drain(),
-        }
+        let _newer = self.newer.slots();
+        let _older = self.older.slots();
+        let newer = self.newer.walk();
+        let older = self.older.walk();
+        Walk { newer, older }
     }
 
     /// Makes a walk of the table, in an open order: each value once, with its count.
@@ -313,16 +655,54 @@ impl<T: Eq + Hash + Drop, S: BuildHasher + Drop> Table<T, S> {
         ensures counted { IsCounted T.eq self.entries }
         ensures fits { length result < 2 ^ 63 }
     {
-        let Table { map, alloc: _ } = self;
+        let _newer = self.newer.slots();
+        let _older = self.older.slots();
+        let Table {
+            newer,
+            older,
+            looked: _,
+            hasher: _,
+            alloc: _,
+            lent: _,
+        } = self;
+        let first = newer.into_walk();
+        let second = older.into_walk();
         IntoWalk {
-            owned: map.into_iter(),
+            newer: first,
+            older: second,
+        }
+    }
+
+    /// Takes all entries out, and walks over them, in an open order: each value once, with its count.
+    ///
+    /// The table is empty at once and keeps its state, however many entries are taken. The others are dropped with the walk.
+    /// It keeps no room. It takes no memory and hashes nothing, here and at each step.
+    pub fn drain(&mut self) -> DrainWalk<'_, T>
+        ensures* writes_back { sem 𝓛 (follows_drain T.row S.row S.Hasher.row T.Hash S.BuildHasher S.Hasher.Hasher self.entry (drain_name result)) }
+        ensures entries { IsPermutation self.old.entries (drain_rest result) }
+        ensures counted { IsCounted T.eq self.old.entries }
+        ensures fits { length (drain_rest result) < 2 ^ 63 }
+    {
+        let _newer = self.newer.slots();
+        let _older = self.older.slots();
+        let newer = mem::replace(&mut self.newer, no_slots(self.alloc));
+        let older = mem::replace(&mut self.older, no_slots(self.alloc));
+        self.looked = 0;
+        let first = newer.into_walk();
+        let second = older.into_walk();
+        DrainWalk {
+            taken: IntoWalk {
+                newer: first,
+                older: second,
+            },
+            table: &mut self.lent,
         }
     }
 
     /// A table with clones of all entries, under a clone of the state. This table stays as it is.
     ///
-    /// The caller sees to it that clones of the values equal them. It makes room for all entries at once, and hashes each clone
-    /// once. Where memory is refused, to a clone of a value or of the state too, there is no new table.
+    /// The caller sees to it that clones of the values equal them. It makes the least table of slots in which all entries have
+    /// room, and hashes each clone once. Where memory is refused, to a clone of a value or of the state too, there is no new table.
     pub fn clone_in(&self) -> Result<Table<T, S>, AllocError>
     where
         T: Clone,
@@ -331,6 +711,8 @@ impl<T: Eq + Hash + Drop, S: BuildHasher + Drop> Table<T, S> {
         ensures clones { IfOk result (λ table. HasClones (λ e c. T.is_clone e.0 c.0 × (c.1 ≡ e.1)) self.now.entries table.entries) }
         ensures hasher { IfOk result (λ table. S.is_clone self.now.hasher table.hasher) }
         ensures counted { IfOk result (λ table. IsCounted T.eq table.entries) }
+        ensures least { IfOk result (λ table. IsLeast 0 (length self.now.entries) (length table.tables.newer)) }
+        ensures packed { IfOk result (λ table. IsPacked table.tables) }
     {
         let hasher = self.hasher().clone()?;
         let mut table = Table::with_room(self.alloc, hasher, self.set_len())?;

@@ -1,14 +1,14 @@
 //! Walks over a table: its entries one after another, each once.
 //!
 //! The order of a walk is open. Every walk knows how many entries are still to come, and gives `None` for good after the
-//! last. It hashes nothing and takes no memory.
+//! last. It hashes nothing and takes no memory. It goes through the slots of both tables once.
 ghost use Rattle.std.specs.Prelude.{◌≡◌, length, Some, IfSome, ⊤};
 ghost use Rattle.std.specs.Iterator.{YieldsFirst, YieldsFirstBy, item_count, at_most, UpTo};
 ghost use Rattle.std.specs.Iterator.SizeHint.{IsWithinCount};
 ghost use Rattle.hashbag_table.specs.DrainWalk.{drain_rest};
 
+use hashbag_slots::walk as slots;
 use std::alloc::AllocError;
-use std::collections::hash_map;
 use std::iter::ExactSizeIterator;
 use std::marker::Model;
 
@@ -17,15 +17,18 @@ use std::marker::Model;
 /// Contracts see a walk as the list of the entries that are still to come.
 #[derive(Drop)]
 pub struct Walk<'a, T> {
-    pub(crate) entries: hash_map::Iter<'a, T, usize>,
+    pub(crate) newer: slots::Walk<'a, T>,
+    pub(crate) older: slots::Walk<'a, T>,
 }
 
 impl<'a, T> Model for Walk<'a, T> {
-    ghost use Rattle.std.specs.Prelude.{ℕ, List};
+    ghost use Rattle.std.specs.Prelude.{ℕ, List, ◌++◌, ◌+◌, ◌<◌, ◌^◌, length};
 
     ghost Value = { List (T × ℕ) };
 
-    ghost view = { λ a. a.entries };
+    ghost view = { λ a. a.newer ++ a.older };
+
+    ghost invariant = { λ a. length a.newer + length a.older < 2 ^ 63 };
 }
 
 impl<'a, T> Clone for Walk<'a, T> {
@@ -35,9 +38,9 @@ impl<'a, T> Clone for Walk<'a, T> {
 
     /// A walk that goes on from the same place. It takes no memory, and is never refused.
     fn clone(&self) -> Result<Walk<'a, T>, AllocError> {
-        Ok(Walk {
-            entries: self.entries.clone()?,
-        })
+        let newer = self.newer.clone()?;
+        let older = self.older.clone()?;
+        Ok(Walk { newer, older })
     }
 }
 
@@ -49,10 +52,10 @@ impl<'a, T> Iterator for Walk<'a, T> {
     ghost remaining = { item_count (λ s. s) };
 
     fn next(&mut self) -> Option<(&'a T, usize)> {
-        match self.entries.next() {
-            Some((value, count)) => Some((value, *count)),
-            None => None,
+        if let Some(entry) = self.newer.next() {
+            return Some(entry);
         }
+        self.older.next()
     }
 
     fn size_hint(&self) -> (usize, Option<usize>)
@@ -67,7 +70,7 @@ impl<'a, T> Iterator for Walk<'a, T> {
 
 impl<'a, T> ExactSizeIterator for Walk<'a, T> {
     fn len(&self) -> usize {
-        self.entries.len()
+        self.newer.len() + self.older.len()
     }
 }
 
@@ -76,13 +79,15 @@ impl<'a, T> ExactSizeIterator for Walk<'a, T> {
 ///
 /// Contracts see the list of the entries that are still to come as `drain_rest`.
 pub struct DrainWalk<'a, T> {
-    pub(crate) drained: hash_map::Drain<'a, T, usize>,
+    pub(crate) taken: IntoWalk<T>,
+    // What it borrows of the table, which is nothing. It keeps the table from being used before the walk is over.
+    pub(crate) table: &'a mut [usize; 0],
 }
 
 impl<'a, T: Drop> Drop for DrainWalk<'a, T> {
     fn drop(self) {
-        let DrainWalk { drained } = self;
-        drop(drained);
+        let DrainWalk { taken, table: _ } = self;
+        drop(taken);
     }
 }
 
@@ -94,7 +99,7 @@ impl<'a, T: Drop> Iterator for DrainWalk<'a, T> {
     ghost remaining = { item_count drain_rest };
 
     fn next(&mut self) -> Option<(T, usize)> {
-        self.drained.next()
+        self.taken.next()
     }
 
     fn size_hint(&self) -> (usize, Option<usize>)
@@ -109,7 +114,16 @@ impl<'a, T: Drop> Iterator for DrainWalk<'a, T> {
 
 impl<'a, T: Drop> ExactSizeIterator for DrainWalk<'a, T> {
     fn len(&self) -> usize {
-        self.drained.len()
+        self.taken.len()
+    }
+}
+
+impl<'a, T> DrainWalk<'a, T> {
+    /// A walk over what is still to come, which lends it and leaves this walk where it is.
+    pub fn rest(&self) -> Walk<'_, T>
+        ensures { result ≡ drain_rest self.now }
+    {
+        self.taken.rest()
     }
 }
 
@@ -117,21 +131,25 @@ impl<'a, T: Drop> ExactSizeIterator for DrainWalk<'a, T> {
 ///
 /// Contracts see a walk as the list of the entries that are still to come.
 pub struct IntoWalk<T> {
-    pub(crate) owned: hash_map::IntoIter<T, usize>,
+    pub(crate) newer: slots::IntoWalk<T>,
+    pub(crate) older: slots::IntoWalk<T>,
 }
 
 impl<T> Model for IntoWalk<T> {
-    ghost use Rattle.std.specs.Prelude.{ℕ, List};
+    ghost use Rattle.std.specs.Prelude.{ℕ, List, ◌++◌, ◌+◌, ◌<◌, ◌^◌, length};
 
     ghost Value = { List (T × ℕ) };
 
-    ghost view = { λ a. a.owned };
+    ghost view = { λ a. a.newer ++ a.older };
+
+    ghost invariant = { λ a. length a.newer + length a.older < 2 ^ 63 };
 }
 
 impl<T: Drop> Drop for IntoWalk<T> {
     fn drop(self) {
-        let IntoWalk { owned } = self;
-        drop(owned);
+        let IntoWalk { newer, older } = self;
+        drop(newer);
+        drop(older);
     }
 }
 
@@ -143,7 +161,10 @@ impl<T: Drop> Iterator for IntoWalk<T> {
     ghost remaining = { item_count (λ s. s) };
 
     fn next(&mut self) -> Option<(T, usize)> {
-        self.owned.next()
+        match self.newer.next() {
+            Some(entry) => Some(entry),
+            None => self.older.next(),
+        }
     }
 
     fn size_hint(&self) -> (usize, Option<usize>)
@@ -158,6 +179,18 @@ impl<T: Drop> Iterator for IntoWalk<T> {
 
 impl<T: Drop> ExactSizeIterator for IntoWalk<T> {
     fn len(&self) -> usize {
-        self.owned.len()
+        self.newer.len() + self.older.len()
+    }
+}
+
+impl<T> IntoWalk<T> {
+    /// A walk over what is still to come, which lends it and leaves this walk where it is.
+    pub fn rest(&self) -> Walk<'_, T>
+        ensures { result ≡ self.now }
+    {
+        Walk {
+            newer: self.newer.rest(),
+            older: self.older.rest(),
+        }
     }
 }

@@ -9,4 +9,5 @@ mod hashes;
 mod instances;
 mod plain_calls;
 mod room;
+mod tables;
 mod texts;

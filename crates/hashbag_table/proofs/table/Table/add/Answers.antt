@@ -1,55 +1,60 @@
-use Rattle.std.proofs.Common.{◌≡◌, ◌+◌, ◌<◌, None, Some, subst, arith, ap, sym, ◌∙◌, unwrap_or}
-use Rattle.std.specs.Option.{option_copied_mut}
-use Rattle.std.proofs.Common.{All}
-use Rattle.std.specs.List.Sorted.{IsPermutation}
-use Rattle.std.specs.Map.{lookup, values_of}
-use Rattle.std.proofs.lemmas.Map.Views.{All-values-PutsEntry, All-values-set_value}
-use Rattle.hashbag_table.specs.Entries.{count_of, entry_of, with_count}
-use Rattle.hashbag_table.proofs.EntryLemmas.{OnErr-from, entry_none_from_lookup, entry_from_lookup, with_count_put, with_count_set}
+use Rattle.std.proofs.Common.{◌≡◌, ◌+◌, ◌∷◌, [], Some, sym, ◌∙◌, subst, arith}
+use Rattle.std.specs.Map.{lookup_entry}
+use Rattle.hashbag_slots.specs.Slots.{recounted}
+use Rattle.hashbag_table.specs.Entries.{count_of}
+use Rattle.hashbag_table.specs.Tables.{Swaps, slot_in, Writes}
+use Rattle.hashbag_table.proofs.SpotLemmas.{held_entry, count_present, count_absent, added_swapped, added_absent}
 use Rattle.hashbag_table.proofs.table.Table.add.Goals as goal
 
-pub invariant_of-self : goal.invariant_of-self
-invariant_of-self g c =
-    let h = c.get_mut.follows.holds (c.in-Some.count.now + c.args.n) in
-    let some = c.requires.some in
-    record {
-      distinct = h.4;
-      positive = rw h.0 (All-values-set_value (g.T.PartialEq.eq c.args.value) (λ n. 0 < n) _ _ c.self.invariant.positive (omega arith));
-    }
+pub overflow_add-before : goal.overflow_add-before
+overflow_add-before g c =
+    let eq = g.T.PartialEq.eq in let v = c.args.value in let es = c.args.self.now.entries in
+    let held = held_entry (λ w. eq w v) c.args.self.now c.in-Some.spot c.in-Some.ensures.held in
+    let e = held.0 in
+    let found : lookup_entry (eq v) es ≡ Some e = sym c.in-Some.ensures.map ∙ held.1 in
+    let count : c.count_at-before.result ≡ e.1 = c.count_at-before.ensures.count e held.1 in
+    let before : c.count_at-before.result ≡ count_of eq v es = count ∙ sym (count_present eq v es e found) in
+    let f = c.requires.fits in omega (arith, before, f)
+
+pub returns-in-Some-clause-before : goal.returns-in-Some-clause-before
+returns-in-Some-clause-before g c =
+    let eq = g.T.PartialEq.eq in let v = c.args.value in let es = c.args.self.now.entries in
+    let held = held_entry (λ w. eq w v) c.args.self.now c.in-Some.spot c.in-Some.ensures.held in
+    let e = held.0 in
+    let found : lookup_entry (eq v) es ≡ Some e = sym c.in-Some.ensures.map ∙ held.1 in
+    let count : c.count_at-before.result ≡ e.1 = c.count_at-before.ensures.count e held.1 in
+    let before : c.count_at-before.result ≡ count_of eq v es = count ∙ sym (count_present eq v es e found) in
+    before
 
 pub returns-in-Some-clause-added : goal.returns-in-Some-clause-added
 returns-in-Some-clause-added g c =
-    let h = c.get_mut.follows.holds (c.in-Some.count.now + c.args.n) in
-    let found : lookup (g.T.PartialEq.eq c.args.value) c.self.inside.map.entries ≡ Some c.in-Some.count.now = sym c.in-Some.ensures.value in
-    let before : count_of g.T.PartialEq.eq c.args.value c.self.inside.map.entries ≡ c.in-Some.count.now = ap (λ o. unwrap_or o 0) found in
-    rw (← c.self.view_is, before, h.0) (with_count_set g.T.PartialEq.eq c.args.value _ _ (entry_from_lookup (g.T.PartialEq.eq c.args.value) c.self.inside.map.entries c.in-Some.count.now found))
+    let eq = g.T.PartialEq.eq in let v = c.args.value in let es = c.args.self.now.entries in
+    let held = held_entry (λ w. eq w v) c.args.self.now c.in-Some.spot c.in-Some.ensures.held in
+    let e = held.0 in
+    let found : lookup_entry (eq v) es ≡ Some e = sym c.in-Some.ensures.map ∙ held.1 in
+    let count : c.count_at-before.result ≡ e.1 = c.count_at-before.ensures.count e held.1 in
+    let before : c.count_at-before.result ≡ count_of eq v es = count ∙ sym (count_present eq v es e found) in
+    added_swapped eq v es g.met.T.Eq.laws c.args.n c.set_spot.new.self.entries e c.in-Some.ensures.counted found
+    (subst (λ b. Swaps es c.set_spot.new.self.entries e ((e.0, b + c.args.n) ∷ [])) count (c.set_spot.ensures.map e held.1))
 
-pub returns-in-Some-clause-counted : goal.returns-in-Some-clause-counted
-returns-in-Some-clause-counted g c = invariant_of-self g c
-
-pub returns-in_err-insert-clause-absent : goal.returns-in_err-insert-clause-absent
-returns-in_err-insert-clause-absent g c =
-    let absent : entry_of g.T.PartialEq.eq c.args.value c.args.self.now.entries ≡ None = rw (← c.self.view_is) (entry_none_from_lookup (g.T.PartialEq.eq c.args.value) _ (sym c.get_mut.ensures.value ∙ ap option_copied_mut c.in_default.is)) in
-    OnErr-from _ absent
-
-pub invariant_of-self-2 : goal.invariant_of-self-2
-invariant_of-self-2 g c =
-    let same_positive = subst (λ m. All (λ n. 0 < n) (values_of m.entries)) (sym c.get_mut.follows.holds-at-none) c.self.invariant.positive in
+pub returns-in-Some-clause-slot : goal.returns-in-Some-clause-slot
+returns-in-Some-clause-slot g c some =
+    let eq = g.T.PartialEq.eq in let v = c.args.value in let es = c.args.self.now.entries in
+    let held = held_entry (λ w. eq w v) c.args.self.now c.in-Some.spot c.in-Some.ensures.held in
+    let e = held.0 in
+    let found : lookup_entry (eq v) es ≡ Some e = sym c.in-Some.ensures.map ∙ held.1 in
+    let count : c.count_at-before.result ≡ e.1 = c.count_at-before.ensures.count e held.1 in
+    let before : c.count_at-before.result ≡ count_of eq v es = count ∙ sym (count_present eq v es e found) in
     record {
-      distinct = c.insert.ensures.unique;
-      positive = All-values-PutsEntry {S = g.row.S.Denot} g.T.PartialEq.eq (λ n. 0 < n) c.get_mut.follows.lender-at-none c.insert.new.self _ _ _ c.in_ok-insert.ensures.entries same_positive c.requires.some;
+      spot = c.in-Some.spot;
+      held = c.in-Some.ensures.held;
+      after = subst (λ b. Writes c.in-Some.spot (recounted (b + c.args.n) (slot_in c.args.self.now c.in-Some.spot)) c.args.self.now c.set_spot.new.self) before c.set_spot.ensures.after;
     }
+
+pub returns-clause-before : goal.returns-clause-before
+returns-clause-before g c =
+    sym (count_absent g.T.PartialEq.eq c.args.value c.args.self.now.entries (sym c.in_default.ensures.map))
 
 pub returns-clause-added : goal.returns-clause-added
 returns-clause-added g c =
-    let eq = g.T.PartialEq.eq in
-    let v = c.args.value in
-    let es = c.self.inside.map.entries in
-    let absent : lookup (eq v) es ≡ None = sym c.get_mut.ensures.value ∙ ap option_copied_mut c.in_default.is in
-    let before : count_of eq v es ≡ 0 = ap (λ o. unwrap_or o 0) absent in
-    let total : count_of eq v es + c.args.n ≡ c.args.n = omega arith in
-    rw (← c.self.view_is, total) (subst (λ m. IsPermutation (with_count eq v c.args.n m.entries) c.insert.new.self.entries) c.get_mut.follows.holds-at-none
-    (with_count_put {S = g.row.S.Denot} eq v c.args.n c.get_mut.follows.lender-at-none c.insert.new.self _ c.in_ok-insert.ensures.old c.in_ok-insert.ensures.entries))
-
-pub returns-clause-counted : goal.returns-clause-counted
-returns-clause-counted g c = invariant_of-self-2 g c
+    added_absent g.T.PartialEq.eq c.args.value c.args.self.now.entries c.args.n c.insert_hashed.new.self.entries (sym c.in_default.ensures.map) c.in_ok-insert_hashed.ensures.inserted

@@ -1,18 +1,56 @@
-use Rattle.std.proofs.Common.{refl, ap, subst}
-use Rattle.std.proofs.lemmas.List.Sorted.{IsPermutation-refl}
-use Rattle.std_collections.specs.Layout.HashMapValues as map
+use Rattle.std.proofs.Common.{◌≡◌, ◌++◌, [], List, length, drop, refl, ap, sym, subst, ◌∙◌, arith}
+use Rattle.std.specs.List.Sorted.{IsPermutation}
+use Rattle.std.proofs.lemmas.List.{length-append}
+use Rattle.hashbag_slots.specs.declared.slots.Slot.{Slot}
+use Rattle.hashbag_slots.specs.Columns.{IsReached}
+use Rattle.hashbag_slots.specs.Hashing.{hash_under}
+use Rattle.hashbag_slots.specs.Slots.{entries}
 use Rattle.hashbag_table.specs.DrainWalk.{emptied}
 use Rattle.hashbag_table.specs.Entries.{IsCounted}
+use Rattle.hashbag_table.specs.Table.{Table}
+use Rattle.hashbag_table.specs.Tables.{entries_of}
+use Rattle.hashbag_table.proofs.CarryLemmas.{IsTables-none}
+use Rattle.hashbag_table.proofs.ListLemmas.{IsPermutation-same}
+use Rattle.hashbag_table.proofs.SlotLemmas.{entries-drop, entries_few}
 use Rattle.hashbag_table.proofs.table.Table.drain.Goals as goal
 
+-- what contracts see of a table of no slots
+none_left : {T S : Type 0} (h : S) (newer older : List (Slot T)) → newer ≡ [] → older ≡ [] → (let t : Table T S = record { entries = entries_of newer older; hasher = h; newer = newer; waiting = older } in t) ≡ record { entries = []; hasher = h; newer = []; waiting = [] }
+none_left h newer older e f i = record { entries = entries_of (e i) (f i); hasher = h; newer = e i; waiting = f i }
+
+pub invariant_of-result : goal.invariant_of-result
+invariant_of-result g c =
+    let a = entries_few c.self.inside.newer.slots in let b = entries_few c.self.inside.older.slots in
+    let d = ap length c.into_walk-first.ensures ∙ ap (λ (s : _). length (entries s.slots)) c.replace-newer.ensures.value in
+    let e = ap length c.into_walk-second.ensures ∙ ap (λ (s : _). length (entries s.slots)) c.replace-older.ensures.value in
+    let m = c.slots-newer.ensures.value in let n = c.slots-older.ensures.value in let p = c.slots-newer.ensures.bound in let q = c.slots-older.ensures.bound in
+    omega (arith, a, b, d, e, m, n, p, q)
+
+-- both tables have no slots
+pub invariant_of-self-lent : goal.invariant_of-self-lent
+invariant_of-self-lent g c = λ w.
+    let hash = hash_under g.T.Hash.hash_input g.S.BuildHasher g.S.Hasher.Hasher c.self.inside.hasher in
+    IsTables-none g.T.PartialEq.eq hash c.replace-newer.new.dest c.replace-older.new.dest
+    (ap (λ (s : _). s.slots) c.replace-newer.ensures.after ∙ c.no_slots.ensures.slots) (ap (λ (s : _). s.slots) c.replace-older.ensures.after ∙ c.no_slots-2.ensures.slots)
+    (subst (IsReached hash) (sym c.replace-newer.ensures.after) (c.no_slots.ensures.reached hash)) (subst (IsReached hash) (sym c.replace-older.ensures.after) (c.no_slots-2.ensures.reached hash))
+
 pub returns : goal.returns
-unfolding map.drained
-returns g c = (
-  (refl, λ w. ap emptied c.self.view_is),
-  record {
-    writes_back = tt;
-    entries = rw (← c.self.view_is, c.drain.ensures.rest) (IsPermutation-refl _);
-    counted = subst (λ t. IsCounted g.T.PartialEq.eq t.entries) c.self.view_is c.self.invariant;
-    fits = rw c.drain.ensures.rest c.drain.ensures.fits;
-  },
-)
+returns g c =
+    let i = c.self.inside in let t = c.self.invariant.tables in
+    let e = ap (λ (s : _). s.slots) c.replace-newer.ensures.after ∙ c.no_slots.ensures.slots in
+    let f = ap (λ (s : _). s.slots) c.replace-older.ensures.after ∙ c.no_slots-2.ensures.slots in
+    let first : c.into_walk-first.result ≡ entries i.newer.slots = c.into_walk-first.ensures ∙ ap (λ (s : _). entries s.slots) c.replace-newer.ensures.value in
+    let second : c.into_walk-second.result ≡ entries i.older.slots = c.into_walk-second.ensures ∙ ap (λ (s : _). entries s.slots) c.replace-older.ensures.value in
+    let same : entries_of i.newer.slots (drop i.looked i.older.slots) ≡ c.into_walk-first.result ++ c.into_walk-second.result =
+    ap (λ es. entries i.newer.slots ++ es) (entries-drop i.older.slots i.looked t.looked_within t.looked_dead) ∙ sym (λ j. first j ++ second j) in
+    let l = length-append c.into_walk-first.result c.into_walk-second.result in let a = entries_few i.newer.slots in let b = entries_few i.older.slots in
+    let d = ap length first in let k = ap length second in
+    let m = c.slots-newer.ensures.value in let n = c.slots-older.ensures.value in let p = c.slots-newer.ensures.bound in let q = c.slots-older.ensures.bound in (
+      (refl, λ w. none_left i.hasher _ _ e f ∙ ap emptied c.self.view_is),
+      record {
+        writes_back = tt;
+        entries = subst (λ m. IsPermutation m.entries (c.into_walk-first.result ++ c.into_walk-second.result)) c.self.view_is (IsPermutation-same _ _ same);
+        counted = subst (λ m. IsCounted g.T.PartialEq.eq m.entries) c.self.view_is c.self.invariant.counted;
+        fits = omega (arith, l, a, b, d, k, m, n, p, q);
+      },
+    )

@@ -1,0 +1,427 @@
+-- Two tables, of which the older is carried.
+use Rattle.std.proofs.Common.{◌≡◌, ℕ, zero, suc, ◌+◌, ◌-◌, ◌*◌, ◌<◌, ◌≤◌, min, Bool, true, false, List, [], ◌∷◌, ◌++◌, length, take, drop, replicate, refl, sym, ap, subst, ◌∙◌, inl, inr, arith, append_assoc, None}
+use Rattle.std.specs.Cmp.{IsEquivalence}
+use Rattle.std.specs.Map.{lookup_entry}
+use Rattle.std.specs.List.{IsDistinct}
+use Rattle.std.specs.List.Sorted.{IsPermutation}
+use Rattle.std.proofs.lemmas.Bool.{cases_lt}
+use Rattle.std.proofs.lemmas.List.{length-drop, length-take, take-append-drop, get_or-drop, drop-drop, drop_all, length-append, get_or_append_left, get_or-append-add, same_lists, get_or_default}
+use Rattle.std.proofs.lemmas.List.Sorted.{IsPermutation-trans, IsPermutation-append_left, IsPermutation-append_comm}
+use Rattle.hashbag_slots.specs.declared.slots.Slot.{Slot}
+use Rattle.hashbag_slots.specs.declared.slots.Slot.TheVariants.{Empty, Removed, Moved, Live}
+use Rattle.hashbag_slots.specs.Slots.{is_live, is_removed, holds, live_count, removed_count, slot_at, Places, PlacesAll, carried, Carries, entries, entries_in, AreApart}
+use Rattle.hashbag_slots.specs.Columns.{Columns, IsReached}
+use Rattle.hashbag_slots.proofs.Edits.{count-set, set_cases}
+use Rattle.hashbag_slots.proofs.Tables.{within_table}
+use Rattle.hashbag_slots.proofs.Carrying.{length-Places, live-Places, IsAbsent-Places}
+use Rattle.hashbag_table.specs.Entries.{IsCounted}
+use Rattle.hashbag_table.specs.Table.{Table}
+use Rattle.hashbag_table.specs.Tables.{limit, Fills, room_of, entries_of, AreTables, IsTables, Carried, Roomy, room, fresh, grown_slots, IsReady, Arrives}
+use Rattle.hashbag_table.proofs.EntryLemmas.{counted_rearranged}
+use Rattle.hashbag_slots.proofs.Tables.{slot_at-replicate}
+use Rattle.std.proofs.lemmas.List.{append-nil}
+use Rattle.hashbag_table.proofs.SlotLemmas.{entries-append, length-entries, entries_few, live-drop, absent_both, IsCounted-cons, entries-Places, entries-PlacesAll}
+
+IsCounted-nil : (T : Type 0) (eq : T → T → Bool) → IsCounted eq []
+unfolding IsDistinct
+IsCounted-nil T eq = record { distinct = tt; positive = λ k d lt. absurd (omega arith) }
+
+module _ {T : Type 0} (eq : T → T → Bool) (hash : T → ℕ) where
+  pub IsTables-none : (newer older : Columns T) → newer.slots ≡ [] → older.slots ≡ [] → IsReached hash newer → IsReached hash older → IsTables eq hash newer older 0
+  IsTables-none newer older e f r s =
+      let l = ap length e in
+      let m : length (drop 0 older.slots) ≡ 0 = ap length f in
+      record {
+        tables = record {
+          newer_reached = r;
+          older_reached = s;
+          apart = λ p v n here q lt. absurd (omega arith);
+          looked_within = omega arith;
+          looked_dead = λ p lt. absurd (omega arith);
+          fits = let a = ap live_count e in let b = ap removed_count e in let c = ap live_count f in omega arith;
+        };
+        counted = subst (λ ss. IsCounted eq (entries ss ++ entries (drop 0 older.slots))) (sym e) (subst (λ ss. IsCounted eq (entries ss)) (sym f) (IsCounted-nil T eq));
+        carries = omega arith;
+        smaller = inl f;
+      }
+
+module _ {T : Type 0} where
+  pub Fills-none : (ss : List (Slot T)) → Fills 0 ss ss
+  Fills-none ss = record { same_length = refl; places = []; few = omega arith; each = λ p. inl refl }
+
+  pub Fills-Places : (v : T) (n : ℕ) (old new : List (Slot T)) → Places v n old new → Fills 1 old new
+  Fills-Places v n old new put = record {
+    same_length = length-Places v n old new put;
+    places = put.at ∷ [];
+    few = omega arith;
+    each = λ p.
+        elim (set_cases old put.at (Live v n) put.within p) [
+          | inl x ↦ inr ((0, omega arith, sym x.0), ap (λ q. is_live (slot_at old q)) x.0 ∙ put.free, ap (λ ss. is_live (slot_at ss p)) put.after ∙ ap is_live x.1)
+          | inr x ↦ inl (ap (λ ss. slot_at ss p) put.after ∙ x.1)
+        ];
+  }
+
+  pub Fills-then : (j k : ℕ) (a b c : List (Slot T)) → Fills j a b → Fills k b c → Fills (j + k) a c
+  Fills-then j k a b c f h = record {
+    same_length = h.same_length ∙ f.same_length;
+    places = f.places ++ h.places;
+    few = let l = length-append f.places h.places in let x = f.few in let y = h.few in omega arith;
+    each = λ p.
+        elim (f.each p) [
+          | inl x ↦ elim (h.each p) [
+            | inl y ↦ inl (y ∙ x)
+            | inr y ↦
+                let l = length-append f.places h.places in
+                let i = y.0 in
+                let within : length f.places + i.0 < length (f.places ++ h.places) = let z = i.1 in omega arith in
+                inr ((length f.places + i.0, within, get_or-append-add f.places h.places i.0 0 ∙ i.2), sym (ap is_live x) ∙ y.1, y.2)
+          ]
+          | inr x ↦ elim (h.each p) [
+            | inl y ↦
+                let l = length-append f.places h.places in
+                let i = x.0 in
+                let within : i.0 < length (f.places ++ h.places) = let z = i.1 in omega arith in
+                inr ((i.0, within, get_or_append_left f.places h.places 0 i.0 i.1 ∙ i.2), x.1, ap is_live y ∙ x.2)
+            | inr y ↦ absurd (let z = x.2 in let w = y.1 in cc)
+          ]
+        ];
+  }
+
+  pub Fills-PlacesAll : (es : List (T × ℕ)) (a b : List (Slot T)) → PlacesAll es a b → Fills (length es) a b
+  Fills-PlacesAll [] a b h = subst (Fills 0 a) (sym h) (Fills-none a)
+  Fills-PlacesAll (e ∷ es) a b h =
+      let k : 1 + length es ≡ suc (length es) = omega arith in
+      subst (λ n. Fills n a b) k (Fills-then 1 (length es) a h.0 b (Fills-Places e.0 e.1 a h.0 h.1) (Fills-PlacesAll es h.0 b h.2))
+
+  pub Fills-more : (j k : ℕ) (a b : List (Slot T)) → j ≤ k → Fills j a b → Fills k a b
+  Fills-more j k a b le f = record { same_length = f.same_length; places = f.places; few = let x = f.few in omega arith; each = f.each }
+
+  -- a carry: so many slots of the older table are looked at, at most 16
+  pub Fills-carry : (from many : ℕ) (older a b : List (Slot T)) → many ≤ 16 → PlacesAll (entries_in from many older) a b → Fills 16 a b
+  Fills-carry from many older a b few all =
+      let es = entries_in from many older in
+      let l = entries_few (take many (drop from older)) in
+      let t = length-take many (drop from older) in
+      let le : length es ≤ 16 = omega arith in
+      Fills-more (length es) 16 a b le (Fills-PlacesAll es a b all)
+
+  -- what waits after a carry is what waited, without the slots that were looked at
+  pub drop-Carries : (from many : ℕ) (old new : List (Slot T)) → Carries from many old new → drop (from + many) new ≡ drop (from + many) old
+  drop-Carries from many old new carry =
+      let e = carry.same_length in
+      let l = length-drop (from + many) new in
+      let m = length-drop (from + many) old in
+      let same : length (drop (from + many) new) ≡ length (drop (from + many) old) = omega arith in
+      same_lists (drop (from + many) new) (drop (from + many) old) same (λ k d lt.
+      let lt_old : k < length (drop (from + many) old) = omega arith in
+      get_or_default (drop (from + many) new) k d Empty lt ∙ get_or-drop (from + many) new k Empty ∙ carry.outside (from + many + k) (inr (omega arith)) ∙ sym (get_or-drop (from + many) old k Empty)
+      ∙ sym (get_or_default (drop (from + many) old) k d Empty lt_old))
+
+  carried_dead : (s : Slot T) → is_live (carried s) ≡ false
+  carried_dead Empty = refl
+  carried_dead Removed = refl
+  carried_dead Moved = refl
+  carried_dead (Live v n) = refl
+
+  pub removed-Places : (v : T) (n : ℕ) (old new : List (Slot T)) → Places v n old new → removed_count new ≤ removed_count old
+  removed-Places v n old new put =
+      let e = count-set old put.at (Live v n) put.within is_removed in
+      let f = ap removed_count put.after in
+      omega (arith, e, f)
+
+module _ {T : Type 0} (eq : T → T → Bool) (hash : T → ℕ) (newer older newer1 older1 : Columns T) (looked many : ℕ)
+    (tables : AreTables eq hash newer older looked) (least : many ≡ min (length older.slots - looked) 16)
+    (placed : PlacesAll (entries_in looked many older.slots) newer.slots newer1.slots) (left : Carries looked many older.slots older1.slots) (apart : AreApart eq older1.slots newer1.slots)
+    (kept : live_count newer1.slots + live_count older1.slots ≡ live_count newer.slots + live_count older.slots) (removed : removed_count newer1.slots ≤ removed_count newer.slots) (slots : length newer1.slots ≡ length newer.slots)
+    (newer_reached : IsReached hash newer1) (older_reached : IsReached hash older1) where
+  within : looked + many ≤ length older.slots
+  within = let w = tables.looked_within in omega (arith, least, w)
+
+  dead : (p : ℕ) → p < looked + many → is_live (slot_at older1.slots p) ≡ false
+  dead p lt = elim (cases_lt p looked) [
+    | inl a ↦ ap is_live (left.outside p (inl a)) ∙ tables.looked_dead p a
+    | inr b ↦ ap is_live (left.inside p b lt) ∙ carried_dead (slot_at older.slots p)
+  ]
+
+  pub kept_after : live_count newer1.slots + live_count (drop (looked + many) older1.slots) ≡ live_count newer.slots + live_count (drop looked older.slots)
+  kept_after =
+      let w = within in let same = left.same_length in
+      let a = live-drop older.slots looked tables.looked_within tables.looked_dead in
+      let b = live-drop older1.slots (looked + many) (omega (arith, w, same)) dead in
+      omega (arith, a, b, kept)
+
+  pub tables_after : AreTables eq hash newer1 older1 (looked + many)
+  tables_after = record {
+    newer_reached = newer_reached;
+    older_reached = older_reached;
+    apart = apart;
+    looked_within = let w = within in let same = left.same_length in omega (arith, w, same);
+    looked_dead = dead;
+    fits = let k = kept_after in let f = tables.fits in let l : limit (length newer1.slots) ≡ limit (length newer.slots) = ap limit slots in omega (arith, k, f, l, removed);
+  }
+
+  pub waiting_after : drop (looked + many) older1.slots ≡ drop 16 (drop looked older.slots)
+  waiting_after =
+      drop-Carries looked many older.slots older1.slots left
+      ∙ elim (cases_lt (length older.slots - looked) 16) [
+        | inl a ↦
+            let e : length older.slots ≤ looked + many = omega (arith, least, a) in
+            let f : length older.slots ≤ looked + 16 = omega (arith, a) in
+            drop_all (looked + many) older.slots e ∙ sym (drop_all (looked + 16) older.slots f) ∙ sym (drop-drop 16 looked older.slots)
+        | inr b ↦
+            let e : many ≡ 16 = omega (arith, least, b) in
+            ap (λ m. drop (looked + m) older.slots) e ∙ sym (drop-drop 16 looked older.slots)
+      ]
+
+  pub entries_after : IsPermutation (entries_of newer.slots (drop looked older.slots)) (entries_of newer1.slots (drop (looked + many) older1.slots))
+  entries_after =
+      let w = drop looked older.slots in
+      let es = entries_in looked many older.slots in
+      let rest = entries (drop (looked + many) older.slots) in
+      let split : entries w ≡ es ++ rest = ap entries (sym (take-append-drop many w)) ∙ entries-append (take many w) (drop many w) ∙ ap (λ ss. es ++ entries ss) (drop-drop many looked older.slots) in
+      let moved : IsPermutation (entries newer.slots ++ (es ++ rest)) (entries newer1.slots ++ rest) =
+      subst (λ l. IsPermutation l (entries newer1.slots ++ rest)) (append_assoc (entries newer.slots) es rest)
+      (IsPermutation-append_left rest _ _ (IsPermutation-trans _ _ _ (IsPermutation-append_comm (entries newer.slots) es) (entries-PlacesAll es newer.slots newer1.slots placed))) in
+      subst (λ l. IsPermutation (entries newer.slots ++ l) (entries_of newer1.slots (drop (looked + many) older1.slots))) (sym split)
+      (subst (λ ss. IsPermutation (entries newer.slots ++ (es ++ rest)) (entries newer1.slots ++ entries ss)) (sym (drop-Carries looked many older.slots older1.slots left)) moved)
+
+  pub carried_after : many ≤ 16 → Carried newer.slots (drop looked older.slots) newer1.slots (drop (looked + many) older1.slots)
+  carried_after few = record {
+    fills = Fills-carry looked many older.slots newer.slots newer1.slots few placed;
+    waits = waiting_after;
+    entries = entries_after;
+    live = kept_after;
+    removed = removed;
+  }
+
+module _ {T : Type 0} (eq : T → T → Bool) (hash : T → ℕ) where
+  -- the older table is freed where none of its slots waits
+  pub tables_freed : (newer older none : Columns T) (k : ℕ) → AreTables eq hash newer older k → length older.slots ≡ k → none.slots ≡ [] → IsReached hash none → AreTables eq hash newer none 0
+  tables_freed newer older none k tables all empty reached =
+      let l = ap length empty in
+      record {
+        newer_reached = tables.newer_reached;
+        older_reached = reached;
+        apart = λ p v n here q lt. absurd (let w = within_table none.slots p (ap is_live here) in omega arith);
+        looked_within = omega arith;
+        looked_dead = λ p lt. absurd (omega arith);
+        fits = let f = tables.fits in let c : live_count (drop 0 none.slots) ≡ 0 = ap live_count empty in omega arith;
+      }
+
+  pub carried_freed : (newer waiting newer1 : List (Slot T)) (older none : Columns T) (k : ℕ) → Carried newer waiting newer1 (drop k older.slots) → length older.slots ≡ k → none.slots ≡ [] → Carried newer waiting newer1 (drop 0 none.slots)
+  carried_freed newer waiting newer1 older none k carried all empty =
+      subst (Carried newer waiting newer1) (drop_all k older.slots (omega arith) ∙ sym empty) carried
+
+  room_carried : (newer waiting newer1 waiting1 : List (Slot T)) → Carried newer waiting newer1 waiting1 → room_of newer waiting ≤ room_of newer1 waiting1
+  room_carried newer waiting newer1 waiting1 h =
+      let l : limit (length newer1) ≡ limit (length newer) = ap limit h.fills.same_length in
+      let a = h.live in let b = h.removed in omega (arith, l, a, b)
+
+  -- a carry keeps what holds between two calls
+  pub IsTables-carried : IsEquivalence eq → (newer older newer1 older1 : Columns T) (looked looked1 : ℕ) → IsTables eq hash newer older looked → AreTables eq hash newer1 older1 looked1
+      → Carried newer.slots (drop looked older.slots) newer1.slots (drop looked1 older1.slots) → IsTables eq hash newer1 older1 looked1
+  IsTables-carried laws newer older newer1 older1 looked looked1 before tables h =
+      let w = drop looked older.slots in
+      let w1 = drop looked1 older1.slots in
+      let r = room_carried newer.slots w newer1.slots w1 h in
+      let len : length w1 ≡ length w - 16 = ap length h.waits ∙ length-drop 16 w in
+      record {
+        tables = tables;
+        counted = counted_rearranged laws _ _ h.entries before.counted;
+        carries = let c = before.carries in omega (arith, r, len, c);
+        smaller = elim before.smaller [
+          | inl none ↦ inl (h.waits ∙ ap (drop 16) none)
+          | inr some ↦ inr (let same = h.fills.same_length in omega (arith, len, same, some))
+        ];
+      }
+
+  -- a carry out of the older table leaves what another insertion needs
+  pub carries_after : (newer waiting newer1 waiting1 : List (Slot T)) → Carried newer waiting newer1 waiting1 → length waiting ≤ 16 * room_of newer waiting → 0 < room_of newer waiting
+      → (0 < room_of newer1 waiting1) × (length waiting1 ≤ 16 * (room_of newer1 waiting1 - 1))
+  carries_after newer waiting newer1 waiting1 h c pos =
+      let r = room_carried newer waiting newer1 waiting1 h in
+      let len : length waiting1 ≡ length waiting - 16 = ap length h.waits ∙ length-drop 16 waiting in
+      (omega (arith, r, pos), omega (arith, r, len, c, pos))
+
+pub live_empty : (T : Type 0) (n : ℕ) → live_count {T = T} (replicate n Empty) ≡ 0
+live_empty T zero = refl
+live_empty T (suc n) = live_empty T n
+
+pub removed_empty : (T : Type 0) (n : ℕ) → removed_count {T = T} (replicate n Empty) ≡ 0
+removed_empty T zero = refl
+removed_empty T (suc n) = removed_empty T n
+
+entries_empty : (T : Type 0) (n : ℕ) → entries {T = T} (replicate n Empty) ≡ []
+entries_empty T zero = refl
+entries_empty T (suc n) = entries_empty T n
+
+-- no values in the newer table, and no older one
+pub IsTables-blank : {T : Type 0} (eq : T → T → Bool) (hash : T → ℕ) (newer older : Columns T) (n : ℕ) → newer.slots ≡ replicate n Empty → older.slots ≡ [] → IsReached hash newer → IsReached hash older → IsTables eq hash newer older 0
+IsTables-blank {T = T} eq hash newer older n e f r s =
+    let m : length (drop 0 older.slots) ≡ 0 = ap length f in
+    record {
+      tables = record {
+        newer_reached = r;
+        older_reached = s;
+        apart = λ p v k here q lt. ap (λ ss. holds (λ w. eq w v) (slot_at ss q)) e ∙ ap (holds (λ w. eq w v)) (slot_at-replicate n q);
+        looked_within = omega arith;
+        looked_dead = λ p lt. absurd (omega arith);
+        fits = let a = ap live_count e ∙ live_empty T n in let b = ap removed_count e ∙ removed_empty T n in let c = ap live_count f in omega (arith, a, b, c);
+      };
+      counted = subst (λ es. IsCounted eq (es ++ entries (drop 0 older.slots))) (sym (ap entries e ∙ entries_empty T n)) (subst (λ ss. IsCounted eq (entries ss)) (sym f) (IsCounted-nil T eq));
+      carries = omega arith;
+      smaller = inl f;
+    }
+
+pub entries_blank : {T : Type 0} (newer older : List (Slot T)) (n : ℕ) → newer ≡ replicate n Empty → older ≡ [] → entries_of newer (drop 0 older) ≡ []
+entries_blank {T = T} newer older n e f = (λ i. entries (e i) ++ entries (f i)) ∙ ap (λ es. es ++ []) (entries_empty T n)
+
+module _ {T : Type 0} where
+  pub live_fresh : (ss : List (Slot T)) → ss ≡ replicate (length ss) Empty → live_count ss ≡ 0
+  live_fresh ss e = ap live_count e ∙ live_empty T (length ss)
+
+  pub removed_fresh : (ss : List (Slot T)) → ss ≡ replicate (length ss) Empty → removed_count ss ≡ 0
+  removed_fresh ss e = ap removed_count e ∙ removed_empty T (length ss)
+
+  pub entries_fresh : (ss : List (Slot T)) → ss ≡ replicate (length ss) Empty → entries ss ≡ []
+  entries_fresh ss e = ap entries e ∙ entries_empty T (length ss)
+
+module _ {T : Type 0} (eq : T → T → Bool) (hash : T → ℕ) (newer older fresh : Columns T) (looked : ℕ)
+    (before : IsTables eq hash newer older looked) (empty : fresh.slots ≡ replicate (length fresh.slots) Empty) (reached : IsReached hash fresh) (alone : drop looked older.slots ≡ [])
+    (roomy : Roomy (length newer.slots) (live_count newer.slots) (length fresh.slots)) where
+  -- the former newer table waits beside one of Empty slots
+  pub tables_adopted : AreTables eq hash fresh newer 0
+  tables_adopted =
+      let l = live_fresh fresh.slots empty in
+      record {
+        newer_reached = reached;
+        older_reached = before.tables.newer_reached;
+        apart = λ p v n here q lt. ap (λ ss. holds (λ w. eq w v) (slot_at ss q)) empty ∙ ap (holds (λ w. eq w v)) (slot_at-replicate (length fresh.slots) q);
+        looked_within = omega arith;
+        looked_dead = λ p lt. absurd (omega arith);
+        fits = let a = roomy.some in let b = removed_fresh fresh.slots empty in omega (arith, l, a, b);
+      }
+
+  entries_adopted : entries_of newer.slots (drop looked older.slots) ≡ entries_of fresh.slots newer.slots
+  entries_adopted =
+      ap (λ ss. entries newer.slots ++ entries ss) alone ∙ append-nil (entries newer.slots) ∙ sym (ap (λ es. es ++ entries newer.slots) (entries_fresh fresh.slots empty))
+
+  room_adopted : room_of fresh.slots newer.slots ≡ limit (length fresh.slots) - live_count newer.slots
+  room_adopted = let a = live_fresh fresh.slots empty in let b = removed_fresh fresh.slots empty in omega (arith, a, b)
+
+  module _ (newer1 older1 : Columns T) (looked1 : ℕ) (tables : AreTables eq hash newer1 older1 looked1) (h : Carried fresh.slots newer.slots newer1.slots (drop looked1 older1.slots)) where
+    pub same_adopted : IsPermutation (entries_of newer.slots (drop looked older.slots)) (entries_of newer1.slots (drop looked1 older1.slots))
+    same_adopted = subst (λ es. IsPermutation es (entries_of newer1.slots (drop looked1 older1.slots))) (sym entries_adopted) h.entries
+
+    pub room_first : (0 < room_of newer1.slots (drop looked1 older1.slots)) × (length (drop looked1 older1.slots) ≤ 16 * (room_of newer1.slots (drop looked1 older1.slots) - 1))
+    room_first =
+        let r = room_adopted in let a = roomy.some in let b = roomy.carries in
+        carries_after eq hash fresh.slots newer.slots newer1.slots (drop looked1 older1.slots) h (omega (arith, r, b)) (omega (arith, r, a))
+
+    pub IsTables-adopted : IsEquivalence eq → IsTables eq hash newer1 older1 looked1
+    IsTables-adopted laws =
+        let w1 = drop looked1 older1.slots in
+        let r = room_first in
+        let len : length w1 ≡ length newer.slots - 16 = ap length h.waits ∙ length-drop 16 newer.slots in
+        record {
+          tables = tables;
+          counted = counted_rearranged laws _ _ same_adopted before.counted;
+          carries = let c = r.1 in omega (arith, c);
+          smaller = elim (cases_lt 16 (length newer.slots)) [
+            | inl more ↦ inr (let same = h.fills.same_length in let m = roomy.smaller in omega (arith, len, same, more, m))
+            | inr few ↦ inl (h.waits ∙ drop_all 16 newer.slots few)
+          ];
+        }
+
+module _ {T : Type 0} (eq : T → T → Bool) (laws : IsEquivalence eq) (hash : T → ℕ) (newer older newer1 : Columns T) (looked : ℕ) (v : T) (n : ℕ)
+    (before : IsTables eq hash newer older looked) (absent : lookup_entry (eq v) (entries_of newer.slots (drop looked older.slots)) ≡ None) (some : 0 < n)
+    (room : 0 < room_of newer.slots (drop looked older.slots)) (carries : length (drop looked older.slots) ≤ 16 * (room_of newer.slots (drop looked older.slots) - 1)) where
+  pub free_slot : live_count newer.slots < length newer.slots
+  free_slot = omega (arith, room)
+
+  module _ (put : Places v n newer.slots newer1.slots) (reached : IsReached hash newer1) where
+    abbrev pub w : List (Slot T)
+    w = drop looked older.slots
+
+    pub entries_settled : IsPermutation ((v, n) ∷ entries_of newer.slots w) (entries_of newer1.slots w)
+    entries_settled = IsPermutation-append_left (entries w) _ _ (entries-Places v n newer.slots newer1.slots put)
+
+    -- what is Live in the older table waits, and is not the new value
+    other : (x : T) (m p : ℕ) → slot_at older.slots p ≡ Live x m → eq v x ≡ false
+    other x m p here = elim (cases_lt p looked) [
+      | inl a ↦ absurd (let d = before.tables.looked_dead p a in let h : is_live (slot_at older.slots p) ≡ true = ap is_live here in cc)
+      | inr b ↦
+          let e : looked + (p - looked) ≡ p = omega arith in
+          let at : slot_at w (p - looked) ≡ Live x m = get_or-drop looked older.slots (p - looked) Empty ∙ ap (slot_at older.slots) e ∙ here in
+          let inside = within_table w (p - looked) (ap is_live at) in
+          laws.symm v x ∙ sym (ap (holds (λ y. eq y v)) at) ∙ (absent_both eq laws v newer.slots w absent).1 (p - looked) inside
+    ]
+
+    pub IsTables-settled : IsTables eq hash newer1 older looked
+    IsTables-settled =
+        let live = live-Places v n newer.slots newer1.slots put in
+        let fewer = removed-Places v n newer.slots newer1.slots put in
+        let len = length-Places v n newer.slots newer1.slots put in
+        let limits : limit (length newer1.slots) ≡ limit (length newer.slots) = ap limit len in
+        record {
+          tables = record {
+            newer_reached = reached;
+            older_reached = before.tables.older_reached;
+            apart = λ p x m here. IsAbsent-Places (λ y. eq y x) v n newer.slots newer1.slots (before.tables.apart p x m here) put (other x m p here);
+            looked_within = before.tables.looked_within;
+            looked_dead = before.tables.looked_dead;
+            fits = let f = before.tables.fits in omega (arith, room, live, fewer, limits, f);
+          };
+          counted = counted_rearranged laws _ _ entries_settled (IsCounted-cons eq v n (entries_of newer.slots w) absent some before.counted);
+          carries = omega (arith, room, live, fewer, limits, carries);
+          smaller = elim before.smaller [
+            | inl none ↦ inl none
+            | inr more ↦ inr (omega (arith, len, more))
+          ];
+        }
+
+module _ {T : Type 0} where
+  -- where room is 0 nothing waits
+  pub alone_full : (eq : T → T → Bool) (hash : T → ℕ) (newer older : Columns T) (looked : ℕ) → IsTables eq hash newer older looked → room_of newer.slots (drop looked older.slots) ≡ 0 → drop looked older.slots ≡ []
+  alone_full eq hash newer older looked before full = drop_all 0 (drop looked older.slots) (let c = before.carries in omega (arith, c, full))
+
+  pub live_alone : (newer waiting : List (Slot T)) → waiting ≡ [] → live_count newer ≡ length (entries_of newer waiting)
+  live_alone newer waiting e =
+      let a = length-entries newer in
+      let b = length-append (entries newer) (entries waiting) in
+      let z : length (entries waiting) ≡ 0 = ap (λ ss. length (entries ss)) e in
+      omega (arith, a, b, z)
+
+module _ {T S : Type 0} (old mid new : Table T S) where
+  pub ready_grown : room old ≡ 0 → Carried (fresh old) old.newer new.newer new.waiting → live_count old.newer ≡ length old.entries → IsPermutation old.entries new.entries
+      → 0 < room new → length new.waiting ≤ 16 * (room new - 1) → IsReady old new
+  ready_grown full carried live same some carries = record {
+    kept = λ pos. absurd (omega (arith, pos, full));
+    grown = λ none. (carried, live);
+    entries = same;
+    some = some;
+    carries = carries;
+  }
+
+  pub arrives_from : (v : T) (n : ℕ) → IsReady old mid → Places v n mid.newer new.newer → new.waiting ≡ mid.waiting → Arrives old new
+  arrives_from v n ready put same =
+      let live = live-Places v n mid.newer new.newer put in
+      let fewer = removed-Places v n mid.newer new.newer put in
+      let len = length-Places v n mid.newer new.newer put in
+      let limits : limit (length new.newer) ≡ limit (length mid.newer) = ap limit len in
+      let waits : live_count new.waiting ≡ live_count mid.waiting = ap live_count same in
+      record {
+        kept = λ pos. let h = ready.kept pos in record { fills = Fills-then 16 1 old.newer mid.newer new.newer h.fills (Fills-Places v n mid.newer new.newer put); waits = same ∙ h.waits };
+        grown = λ none. let h = (ready.grown none).0 in record { fills = Fills-then 16 1 (fresh old) mid.newer new.newer h.fills (Fills-Places v n mid.newer new.newer put); waits = same ∙ h.waits };
+        room_kept = λ pos.
+            let h = ready.kept pos in
+            let l : limit (length mid.newer) ≡ limit (length old.newer) = ap limit h.fills.same_length in
+            let a = h.live in let b = h.removed in omega (arith, l, a, b, live, fewer, limits, waits);
+        room_grown = λ none.
+            let h = (ready.grown none).0 in
+            let e = (ready.grown none).1 in
+            let a = h.live in let b = h.removed in
+            let x = live_empty T (grown_slots (length old.newer) (length old.entries)) in
+            let y = removed_empty T (grown_slots (length old.newer) (length old.entries)) in
+            omega (arith, e, a, b, x, y, live, fewer, limits, waits);
+      }

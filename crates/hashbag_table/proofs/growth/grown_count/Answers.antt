@@ -1,0 +1,12 @@
+use Rattle.std.proofs.Common.{arith}
+use Rattle.hashbag_table.proofs.RoomLemmas.{eight_fits, IsSlotCount-double}
+use Rattle.hashbag_table.proofs.growth.grown_count.Goals as goal
+
+pub overflow_mul-live : goal.overflow_mul-live
+overflow_mul-live g = let b = eight_fits _ g.requires.count in let l = g.requires.live in omega arith
+
+pub overflow_mul-count : goal.overflow_mul-count
+overflow_mul-count g = let b = eight_fits _ g.requires.count in omega arith
+
+pub returns-clause-slots : goal.returns-clause-slots
+returns-clause-slots g = IsSlotCount-double _ g.requires.count g.if-count.false g.if-count-eq0.false

@@ -1,0 +1,16 @@
+use Rattle.std.proofs.Common.{length, sym, ap, subst, ◌∙◌}
+use Rattle.hashbag_slots.specs.Hashing.{hash_under}
+use Rattle.hashbag_table.specs.Tables.{IsTables}
+use Rattle.hashbag_table.proofs.CarryLemmas.{IsTables-blank, entries_blank}
+use Rattle.hashbag_table.proofs.table.Table.clear.Goals as goal
+
+pub invariant_of-self : goal.invariant_of-self
+invariant_of-self g c =
+    let eq = g.T.PartialEq.eq in
+    let hash = hash_under g.T.Hash.hash_input g.S.BuildHasher g.S.Hasher.Hasher c.self.inside.hasher in
+    subst (λ (o : _). IsTables eq hash c.clear.new.self o 0) (sym c.replace-freed.ensures.after)
+    (IsTables-blank eq hash c.clear.new.self c.no_slots.result (length c.self.inside.newer.slots) c.clear.ensures.slots c.no_slots.ensures.slots (c.clear.ensures.reached hash) (c.no_slots.ensures.reached hash))
+
+pub returns-clause-empty : goal.returns-clause-empty
+returns-clause-empty g c =
+    entries_blank c.clear.new.self.slots c.replace-freed.new.dest.slots (length c.self.inside.newer.slots) c.clear.ensures.slots (ap (λ (o : _). o.slots) c.replace-freed.ensures.after ∙ c.no_slots.ensures.slots)

@@ -1,0 +1,22 @@
+use Rattle.std.proofs.Common.{◌≡◌, ◌+◌, arith, length, drop, ap, ◌∙◌}
+use Rattle.std.proofs.lemmas.List.{length-append}
+use Rattle.hashbag_slots.specs.Slots.{entries}
+use Rattle.hashbag_table.specs.Tables.{entries_of}
+use Rattle.hashbag_table.proofs.SlotLemmas.{live-drop, length-entries}
+use Rattle.hashbag_table.proofs.table.Table.set_len.Goals as goal
+
+pub overflow_add-result : goal.overflow_add-result
+overflow_add-result g c =
+    let n = c.self.inside.newer.slots in let o = c.self.inside.older.slots in let k = c.self.inside.looked in let t = c.self.invariant.tables in
+    let l = live-drop o k t.looked_within t.looked_dead in
+    let f = t.fits in let a = c.live.ensures in let b = c.live-2.ensures in let s = c.slots-count.ensures.value in let w = c.slots-count.ensures.bound in omega arith
+
+pub returns-clause-len : goal.returns-clause-len
+returns-clause-len g c =
+    let n = c.self.inside.newer.slots in let o = c.self.inside.older.slots in let k = c.self.inside.looked in let t = c.self.invariant.tables in
+    let l = live-drop o k t.looked_within t.looked_dead in
+    let x = length-append (entries n) (entries (drop k o)) in
+    let a = c.live.ensures in let b = c.live-2.ensures in
+    let p = length-entries n in let q = length-entries (drop k o) in
+    let e : c.live.result + c.live-2.result ≡ length (entries_of n (drop k o)) = omega arith in
+    e ∙ ap (λ m. length m.entries) c.self.view_is

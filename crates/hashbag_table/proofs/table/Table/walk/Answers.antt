@@ -1,0 +1,25 @@
+use Rattle.std.proofs.Common.{◌≡◌, ◌++◌, length, drop, ap, sym, subst, ◌∙◌, arith}
+use Rattle.std.specs.List.Sorted.{IsPermutation}
+use Rattle.std.proofs.lemmas.List.{length-append}
+use Rattle.hashbag_slots.specs.Slots.{entries}
+use Rattle.hashbag_table.specs.Tables.{entries_of}
+use Rattle.hashbag_table.proofs.ListLemmas.{IsPermutation-same}
+use Rattle.hashbag_table.proofs.SlotLemmas.{entries-drop, entries_few}
+use Rattle.hashbag_table.proofs.table.Table.walk.Goals as goal
+
+pub invariant_of-result : goal.invariant_of-result
+invariant_of-result g c =
+    let a = entries_few c.self.inside.newer.slots in let b = entries_few c.self.inside.older.slots in
+    let d = ap length c.walk-newer.ensures in let e = ap length c.walk-older.ensures in
+    let m = c.slots-newer.ensures.value in let n = c.slots-older.ensures.value in let p = c.slots-newer.ensures.bound in let q = c.slots-older.ensures.bound in
+    omega (arith, a, b, d, e, m, n, p, q)
+
+pub returns-clause-entries : goal.returns-clause-entries
+returns-clause-entries g c =
+    let i = c.self.inside in let t = c.self.invariant.tables in
+    let same : entries_of i.newer.slots (drop i.looked i.older.slots) ≡ c.walk-newer.result ++ c.walk-older.result =
+    ap (λ es. entries i.newer.slots ++ es) (entries-drop i.older.slots i.looked t.looked_within t.looked_dead) ∙ sym (λ j. c.walk-newer.ensures j ++ c.walk-older.ensures j) in
+    subst (λ m. IsPermutation m.entries (c.walk-newer.result ++ c.walk-older.result)) c.self.view_is (IsPermutation-same _ _ same)
+
+pub returns-clause-fits : goal.returns-clause-fits
+returns-clause-fits g c = let l = length-append c.walk-newer.result c.walk-older.result in let few = invariant_of-result g c in omega (arith, l, few)

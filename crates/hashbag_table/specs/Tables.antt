@@ -1,0 +1,149 @@
+-- Two tables of slots as one map: the newer one, and the slots of the older one that wait to be carried.
+use Rattle.std.specs.Prelude.{◌≡◌, ℕ, ◌+◌, ◌-◌, ◌*◌, ◌/◌, ◌<◌, ◌≤◌, Bool, true, false, List, [], ◌∷◌, ◌++◌, Option, Some, None, drop, length, replicate, if◌then◌else◌, nat_eq, nat_le, ◌⊎◌, slice_index, slice_set}
+use Rattle.hashbag_slots.specs.declared.slots.Slot.{Slot}
+use Rattle.hashbag_slots.specs.declared.slots.Slot.TheVariants.{Empty}
+use Rattle.hashbag_slots.specs.Slots.{IsSlotCount, is_live, live_count, removed_count, slot_at, entries, AreApart, HoldsAt, slot_entry}
+use Rattle.hashbag_slots.specs.Columns.{Columns, IsReached}
+use Rattle.std.specs.List.Sorted.{IsPermutation}
+use Rattle.hashbag_table.specs.declared.table.Spot.{Spot}
+use Rattle.hashbag_table.specs.declared.table.Spot.TheVariants.{Newer, Waiting}
+use Rattle.hashbag_table.specs.Entries.{IsCounted}
+
+-- the slots of the newer table in place order, and those of the older one that wait to be carried
+pub record Tables (T : Type 0) : Type 0 where
+  pub newer : List (Slot T)
+  pub waiting : List (Slot T)
+
+-- how many of n slots may be Live or Removed before a table grows
+abbrev pub limit : ℕ → ℕ
+limit n = 3 * n / 4
+
+-- the slots from which the number of a new table's follows: n slots there were, and s distinct values
+abbrev pub grown_slots : ℕ → ℕ → ℕ
+grown_slots n s = if nat_eq n 0 then 16 else if nat_le (8 * s) (3 * n) then n else 2 * n
+
+-- m is the least number of slots, from n on, of which k may be Live
+pub record IsLeast (n k m : ℕ) : Type 0 where
+  pub count : IsSlotCount m
+  pub from : n ≤ m
+  pub enough : k ≤ limit m
+  pub least : (other : ℕ) → IsSlotCount other → n ≤ other → k ≤ limit other → m ≤ other
+
+-- m slots are enough after n slots with s values: there is room, each insertion's 16 slots carry all before it is spent, and
+-- the former table is no larger
+pub record Roomy (n s m : ℕ) : Type 0 where
+  pub some : s < limit m
+  pub carries : n ≤ 16 * (limit m - s)
+  pub smaller : n ≤ m
+
+module _ {T : Type 0} where
+  -- at most k slots differ, each of which was not Live and is Live now
+  pub record Fills (k : ℕ) (old new : List (Slot T)) : Type 0 where
+    pub same_length : length new ≡ length old
+    pub places : List ℕ
+    pub few : length places ≤ k
+    pub each : (p : ℕ) → (slot_at new p ≡ slot_at old p) ⊎ (((i : ℕ) × (i < length places) × (slice_index places i ≡ p)) × (is_live (slot_at old p) ≡ false) × (is_live (slot_at new p) ≡ true))
+
+  -- how many absent values may come before a growth
+  abbrev pub room_of : List (Slot T) → List (Slot T) → ℕ
+  room_of newer waiting = limit (length newer) - live_count newer - removed_count newer - live_count waiting
+
+  -- the map of both tables
+  abbrev pub entries_of : List (Slot T) → List (Slot T) → List (T × ℕ)
+  entries_of newer waiting = entries newer ++ entries waiting
+
+  -- two tables, of whose older one so many slots were looked at: values are found in both, none is Live in both, what was
+  -- looked at is not Live, and all is within the limit
+  pub record AreTables (eq : T → T → Bool) (hash : T → ℕ) (newer older : Columns T) (looked : ℕ) : Type 0 where
+    pub newer_reached : IsReached hash newer
+    pub older_reached : IsReached hash older
+    pub apart : AreApart eq older.slots newer.slots
+    pub looked_within : looked ≤ length older.slots
+    pub looked_dead : (p : ℕ) → p < looked → is_live (slot_at older.slots p) ≡ false
+    pub fits : live_count newer.slots + removed_count newer.slots + live_count (drop looked older.slots) ≤ limit (length newer.slots)
+
+  -- what holds between two calls: what waits is at most 16 times the room, and at least 16 fewer than the newer slots
+  pub record IsTables (eq : T → T → Bool) (hash : T → ℕ) (newer older : Columns T) (looked : ℕ) : Type 0 where
+    pub tables : AreTables eq hash newer older looked
+    pub counted : IsCounted eq (entries_of newer.slots (drop looked older.slots))
+    pub carries : length (drop looked older.slots) ≤ 16 * room_of newer.slots (drop looked older.slots)
+    pub smaller : (drop looked older.slots ≡ []) ⊎ (16 + length (drop looked older.slots) ≤ length newer.slots)
+
+  -- the next k waiting slots wait no more: their Live ones came into slots of the newer table that were not Live
+  pub record Carried (k : ℕ) (newer waiting newer_after waiting_after : List (Slot T)) : Type 0 where
+    pub fills : Fills k newer newer_after
+    pub waits : waiting_after ≡ drop k waiting
+    pub entries : IsPermutation (entries_of newer waiting) (entries_of newer_after waiting_after)
+    pub live : live_count newer_after + live_count waiting_after ≡ live_count newer + live_count waiting
+    pub removed : removed_count newer_after ≤ removed_count newer
+
+module _ {T : Type 0} where
+  -- how many distinct values there are
+  abbrev pub values : Tables T → ℕ
+  values t = live_count t.newer + live_count t.waiting
+
+  abbrev pub room : Tables T → ℕ
+  room t = room_of t.newer t.waiting
+
+  -- from these newer slots at most so many became Live, and from these waiting ones the first 16 wait no more
+  pub record Settles (k : ℕ) (newer waiting : List (Slot T)) (new : Tables T) : Type 0 where
+    pub fills : Fills k newer new.newer
+    pub waits : new.waiting ≡ drop 16 waiting
+
+  -- the slots of a new table, all Empty
+  abbrev pub fresh : Tables T → List (Slot T)
+  fresh t = replicate (grown_slots (length t.newer) (values t)) Empty
+
+  -- what an absent value finds in the place of the tables that were: carried as far as it carries, and with room
+  pub record IsReady (old new : Tables T) : Type 0 where
+    pub kept : 0 < room old → Carried 16 old.newer old.waiting new.newer new.waiting
+    pub grown : room old ≡ 0 → Carried 16 (fresh old) old.newer new.newer new.waiting × (old.waiting ≡ [])
+    pub some : 0 < room new
+    pub carries : length new.waiting ≤ 16 * (room new - 1)
+
+  -- What an absent value leaves. Where there was room: the same slots but for at most 17, which became Live; what waited,
+  -- without its first 16; and room lower by at most 1. Where there was none: the grown number of slots, Empty but for at
+  -- most 17, which became Live; what was the newer table waits, without its first 16; and room is three quarters of the
+  -- slots without all values.
+  pub record Arrives (old new : Tables T) : Type 0 where
+    pub kept : 0 < room old → Settles 17 old.newer old.waiting new
+    pub grown : room old ≡ 0 → Settles 17 (fresh old) old.newer new
+    pub room_kept : 0 < room old → room old ≤ room new + 1
+    pub room_grown : room old ≡ 0 → room new ≡ limit (length new.newer) - values old - 1
+
+  -- one table of slots: nothing waits, and what values don't take of the limit is room
+  pub record IsPacked (t : Tables T) : Type 0 where
+    pub waiting : t.waiting ≡ []
+    pub room : room t ≡ limit (length t.newer) - values t
+
+  -- the slot at a spot
+  abbrev pub slot_in : Tables T → Spot → Slot T
+  slot_in t (Newer p) = slot_at t.newer p
+  slot_in t (Waiting p) = slot_at t.waiting p
+
+  -- a value that passes is Live at the spot
+  abbrev pub HoldsIn : (T → Bool) → Tables T → Spot → Type 0
+  HoldsIn test t (Newer p) = HoldsAt test t.newer p
+  HoldsIn test t (Waiting p) = HoldsAt test t.waiting p
+
+  -- the entry of the slot at the spot, if there is a spot
+  abbrev pub entry_in : Tables T → Option Spot → Option (T × ℕ)
+  entry_in t None = None
+  entry_in t (Some spot) = slot_entry (slot_in t spot)
+
+  -- the slot at the spot is this one now, and all others are as they were
+  abbrev pub Writes : Spot → Slot T → Tables T → Tables T → Type 0
+  Writes (Newer p) s old new = (new.newer ≡ slice_set old.newer p s) × (new.waiting ≡ old.waiting)
+  Writes (Waiting p) s old new = (new.newer ≡ old.newer) × (new.waiting ≡ slice_set old.waiting p s)
+
+  -- one slot in which a value that passes is Live, in whichever table it is, is changed, and all others are as they were
+  pub record Rewrites (test : T → Bool) (change : Slot T → Slot T) (old new : Tables T) : Type 0 where
+    pub spot : Spot
+    pub held : HoldsIn test old spot
+    pub after : Writes spot (change (slot_in old spot)) old new
+
+-- one entry of a map is replaced by others
+pub record Swaps {T : Type 0} (es new : List (T × ℕ)) (e : T × ℕ) (now : List (T × ℕ)) : Type 0 where
+  pub rest : List (T × ℕ)
+  pub before : IsPermutation es (e ∷ rest)
+  pub after : IsPermutation (now ++ rest) new

@@ -1,0 +1,86 @@
+//! Numbers of slots, and the carry from an older table of slots to a newer one.
+ghost use Rattle.std.specs.Prelude.{◌≡◌, ℕ, ◌*◌, ◌<◌, ◌≤◌, ◌^◌, [], drop, IfOk, IsErr};
+ghost use Rattle.hashbag_slots.specs.Hashing.{hash_under};
+ghost use Rattle.hashbag_slots.specs.Slots.{IsSlotCount};
+ghost use Rattle.hashbag_slots.specs.Columns.{IsReached};
+ghost use Rattle.hashbag_table.specs.Tables.{limit, grown_slots, IsLeast, AreTables, Carried};
+
+use hashbag_slots::slots::Slots;
+use std::alloc::{AllocError, Global};
+use std::hash::{BuildHasher, Hash};
+use std::mem;
+
+/// A table of no slots. It takes no memory.
+pub fn no_slots<T: Eq + Drop>(alloc: Global) -> Slots<T>
+    ensures slots { result.slots ≡ [] }
+    ensures reached { (hash : T → ℕ) → IsReached hash result }
+{
+    match Slots::with_slots(alloc, 0) {
+        Ok(slots) => slots,
+        Err(_) => unreachable!(),
+    }
+}
+
+/// The number of slots of a new table, after one of `count` slots with `live` values: 16 where there were none, so many again
+/// where at most three eighths are Live, else twice as many. More than 2^59 are refused.
+pub fn grown_count(count: usize, live: usize) -> Result<usize, AllocError>
+    requires count { IsSlotCount count }
+    requires live { live ≤ count }
+    ensures grown { IfOk result (λ n. n ≡ grown_slots count live) }
+    ensures slots { IfOk result (λ n. IsSlotCount n) }
+    ensures refused { IsErr result → 2 ^ 59 < grown_slots count live }
+{
+    if count == 0 {
+        return Ok(16);
+    }
+    if 8 * live <= 3 * count {
+        return Ok(count);
+    }
+    if count >= 1 << 59 {
+        return Err(AllocError);
+    }
+    Ok(2 * count)
+}
+
+/// The least number of slots, from `from` on, of which `values` may be Live. More than 2^59 are refused.
+pub fn least_count(from: usize, values: usize) -> Result<usize, AllocError>
+    requires count { IsSlotCount from }
+    ensures least { IfOk result (λ n. IsLeast from values n) }
+    ensures refused { IsErr result → limit (2 ^ 59) < values }
+{
+    let mut count = from;
+    while 3 * count / 4 < values {
+        if count >= 1 << 59 {
+            return Err(AllocError);
+        }
+        count = if count == 0 { 16 } else { 2 * count };
+    }
+    Ok(count)
+}
+
+/// Carries the next `most` waiting slots of the older table into the newer one, or all where they are fewer, and frees the older
+/// one where none waits then.
+///
+/// It answers how many slots of the older one were looked at. It takes no memory, and hashes each value that it carries once.
+pub fn carry_next<T: Eq + Hash + Drop, S: BuildHasher>(
+    newer: &mut Slots<T>,
+    older: &mut Slots<T>,
+    looked: usize,
+    most: usize,
+    hasher: &S,
+    alloc: Global,
+) -> usize
+    requires tables { AreTables T.eq (hash_under T.hash_input S.BuildHasher S.Hasher.Hasher hasher.now) newer.old older.old looked }
+    ensures tables { AreTables T.eq (hash_under T.hash_input S.BuildHasher S.Hasher.Hasher hasher.now) newer.new older.new result }
+    ensures carried { Carried most newer.old.slots (drop looked older.old.slots) newer.new.slots (drop result older.new.slots) }
+{
+    let count = older.slots();
+    let _newer_count = newer.slots();
+    let many = (count - looked).min(most);
+    newer.carry_from(hasher, older, looked, many);
+    if looked + many == count {
+        let _freed = mem::replace(older, no_slots(alloc));
+        return 0;
+    }
+    looked + many
+}

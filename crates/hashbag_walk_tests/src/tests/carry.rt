@@ -1,0 +1,159 @@
+//! Walks over a bag in the middle of a carry, dropped after each number of items.
+use hashbag::{FixedState, HashBag};
+use hashbag_bench::{IdentityState, OneState, ParityState};
+use hashbag_rows::texts::{debug_of, is_text};
+use std::alloc::Global;
+use std::hash::BuildHasher;
+use std::process::Abort;
+use std::test::Fail;
+
+// So many distinct values leave 16 slots that wait.
+const VALUES: usize = 25;
+
+// The values that the walks give, rising.
+const ALL: &str = "[0, 1, 2, 3, 4, 5, 6, 7, 8, 9, 10, 11, 12, 13, 14, 15, 16, 17, 18, 19, 20, 21, 22, 23, 24]";
+
+// The numbers below 25, each once.
+fn carrying<S: BuildHasher + Drop>(
+    rt: &impl Abort,
+    alloc: Global,
+    state: S,
+) -> Result<HashBag<u64, S>, Fail> {
+    let mut bag = HashBag::with_hasher(alloc, state);
+    bag.extend(0..25)?;
+    assert_eq!(rt; (bag.slots(), bag.waiting()), (64, 16));
+    Ok(bag)
+}
+
+fn are_all(alloc: Global, walk: &str, got: Vec<u64>) -> Result<(), Fail> {
+    let mut got = got;
+    got.sort_unstable();
+    is_text(walk, debug_of(alloc, &got)?.as_str(), ALL)
+}
+
+// Checks how many items a walk has left.
+fn has_left<I: ExactSizeIterator>(rt: &impl Abort, walk: &I, taken: usize) {
+    let left = VALUES.saturating_sub(taken);
+    assert_eq!(rt; walk.size_hint(), (left, Some(left)), "after {taken}");
+}
+
+// So many items, and then the others.
+fn items<S: BuildHasher + Drop>(
+    rt: &impl Abort,
+    alloc: Global,
+    bag: &HashBag<u64, S>,
+    taken: usize,
+) -> Result<(), Fail> {
+    let mut got = Vec::new(alloc);
+    let mut walk = bag.iter();
+    for _ in 0..taken {
+        let Some(value) = walk.next() else {
+            return Err(Fail::new("the walk ends early"));
+        };
+        got.push(*value)?;
+    }
+    has_left(rt, &walk, taken);
+    let again = walk.clone()?;
+    for value in again {
+        got.push(*value)?;
+    }
+    are_all(alloc, "iter", got)
+}
+
+fn values<S: BuildHasher + Drop>(
+    rt: &impl Abort,
+    alloc: Global,
+    bag: &HashBag<u64, S>,
+    taken: usize,
+) -> Result<(), Fail> {
+    let mut got = Vec::new(alloc);
+    let mut walk = bag.set_iter();
+    for _ in 0..taken {
+        let Some((value, _)) = walk.next() else {
+            return Err(Fail::new("the set walk ends early"));
+        };
+        got.push(*value)?;
+    }
+    has_left(rt, &walk, taken);
+    for (value, _) in walk {
+        got.push(*value)?;
+    }
+    are_all(alloc, "set_iter", got)
+}
+
+fn drained<S: BuildHasher + Drop>(
+    rt: &impl Abort,
+    bag: &mut HashBag<u64, S>,
+    taken: usize,
+) -> u64 {
+    let mut sum = 0u64;
+    let mut walk = bag.drain();
+    for _ in 0..taken {
+        let (value, count) = walk.next().unwrap_or((0, 0));
+        sum = sum.saturating_add(value);
+        assert_eq!(rt; count, 1, "of {value}");
+    }
+    has_left(rt, &walk, taken);
+    sum
+}
+
+fn moved<S: BuildHasher + Drop>(rt: &impl Abort, bag: HashBag<u64, S>, taken: usize) -> u64 {
+    let mut sum = 0u64;
+    let mut walk = bag.into_iter();
+    for _ in 0..taken {
+        let (value, count) = walk.next().unwrap_or((0, 0));
+        sum = sum.saturating_add(value);
+        assert_eq!(rt; count, 1, "of {value}");
+    }
+    has_left(rt, &walk, taken);
+    sum
+}
+
+// The sum of so many different numbers below 25 is at least that of the least ones, and all together have the sum 300.
+fn is_sum(rt: &impl Abort, sum: u64, taken: usize) {
+    let least = (taken as u64).saturating_mul((taken as u64).saturating_sub(1)) / 2;
+    assert!(rt; sum >= least && sum <= 300, "{sum} after {taken}");
+    assert!(rt; taken < VALUES || sum == 300, "{sum} in all");
+}
+
+fn walks_after<S: BuildHasher + Copy>(
+    rt: &impl Abort,
+    alloc: Global,
+    state: S,
+    taken: usize,
+) -> Result<(), Fail> {
+    let mut bag = carrying(rt, alloc, state)?;
+    items(rt, alloc, &bag, taken)?;
+    values(rt, alloc, &bag, taken)?;
+    is_sum(rt, drained(rt, &mut bag, taken), taken);
+    assert!(rt; bag.is_empty() && bag.set_len() == 0, "after {taken}");
+    is_sum(rt, moved(rt, carrying(rt, alloc, state)?, taken), taken);
+    Ok(())
+}
+
+fn walks_under<S: BuildHasher + Copy>(rt: &impl Abort, alloc: Global, state: S) -> Result<(), Fail> {
+    for taken in 0..=VALUES {
+        walks_after(rt, alloc, state, taken)?;
+    }
+    Ok(())
+}
+
+#[test]
+fn carry_of_fixed_state(rt: HostRuntime) -> Result<(), Fail> {
+    walks_under(&rt, rt.alloc(), FixedState::new())
+}
+
+#[test]
+fn carry_of_one_state(rt: HostRuntime) -> Result<(), Fail> {
+    walks_under(&rt, rt.alloc(), OneState)
+}
+
+#[test]
+fn carry_of_parity_state(rt: HostRuntime) -> Result<(), Fail> {
+    walks_under(&rt, rt.alloc(), ParityState)
+}
+
+#[test]
+fn carry_of_identity_state(rt: HostRuntime) -> Result<(), Fail> {
+    walks_under(&rt, rt.alloc(), IdentityState)
+}
