@@ -1,5 +1,5 @@
--- What a closure's answers leave of a map, and of two tables of slots.
-use Rattle.std.proofs.Common.{◌≡◌, ℕ, ◌+◌, ◌-◌, ◌*◌, ◌<◌, ◌≤◌, ◌^◌, min, Bool, true, false, cond, ltb, List, [], ◌∷◌, ◌++◌, length, drop, refl, sym, ap, subst, ◌∙◌, inl, inr, arith, append_assoc}
+-- What the answers of a closure leave of a map, and of two tables of slots.
+use Rattle.std.proofs.Common.{◌≡◌, ℕ, ◌+◌, ◌-◌, ◌≤◌, min, Bool, true, false, cond, ltb, List, [], ◌∷◌, ◌++◌, length, drop, refl, sym, ap, subst, ◌∙◌, inl, inr, arith, append_assoc}
 use denote.Ref.{Bor}
 use denote.Param.Members.{Mut}
 use Rattle.std.specs.List.{IsDistinct, AllByRecursion}
@@ -8,7 +8,7 @@ use Rattle.std.proofs.lemmas.List.{length-drop}
 use Rattle.std.proofs.lemmas.List.Sums.{sum_by-append}
 use Rattle.std.proofs.lemmas.List.Sorted.{IsPermutation-refl}
 use Rattle.std.proofs.lemmas.Map.Keys.{IsDistinct-cons, IsDistinct-head, IsDistinct-tail}
-use Rattle.hashbag_slots.specs.Slots.{is_live, live_count, removed_count, entries}
+use Rattle.hashbag_slots.specs.Slots.{is_live, entries}
 use Rattle.hashbag_slots.specs.Columns.{Columns, IsReached}
 use Rattle.hashbag_table.specs.Asked.{MayAskInTurn, AnswersInTurn, Retains, kept}
 use Rattle.hashbag_table.specs.Entries.{IsCounted, total}
@@ -53,27 +53,27 @@ module _ {T : Type 0} where
 
 module _ {F T : Type 0} (g : Mut F (Bor T × (ℕ × Unit {0})) ℕ) where
   -- one walk, and then another one
-  kept_both : (f f' : F) (es fs : List (T × ℕ)) (as bs : List ℕ) → AnswersInTurn g f es as f' → kept (es ++ fs) (as ++ bs) ≡ kept es as ++ kept fs bs
-  kept_both f f' [] fs [] bs h = refl
-  kept_both f f' [] fs (a ∷ as) bs h = absurd h
-  kept_both f f' (e ∷ es) fs [] bs h = absurd h
-  kept_both f f' (e ∷ es) fs (a ∷ as) bs h = append_step (ltb 0 (min a e.1)) e.0 (min a e.1) (kept (es ++ fs) (as ++ bs)) (kept es as) (kept fs bs) (kept_both h.0 f' es fs as bs h.2)
+  kept_both : (f f' : F) (es fs : List (T × ℕ)) (ms ns : List ℕ) → AnswersInTurn g f es ms f' → kept (es ++ fs) (ms ++ ns) ≡ kept es ms ++ kept fs ns
+  kept_both f f' [] fs [] ns h = refl
+  kept_both f f' [] fs (a ∷ ms) ns h = absurd h
+  kept_both f f' (e ∷ es) fs [] ns h = absurd h
+  kept_both f f' (e ∷ es) fs (a ∷ ms) ns h = append_step (ltb 0 (min a e.1)) e.0 (min a e.1) (kept (es ++ fs) (ms ++ ns)) (kept es ms) (kept fs ns) (kept_both h.0 f' es fs ms ns h.2)
 
-  answers_both : (f f1 f2 : F) (es fs : List (T × ℕ)) (as bs : List ℕ) → AnswersInTurn g f es as f1 → AnswersInTurn g f1 fs bs f2 → AnswersInTurn g f (es ++ fs) (as ++ bs) f2
-  answers_both f f1 f2 [] fs [] bs h k = subst (λ x. AnswersInTurn g x fs bs f2) (sym h) k
-  answers_both f f1 f2 [] fs (a ∷ as) bs h k = absurd h
-  answers_both f f1 f2 (e ∷ es) fs [] bs h k = absurd h
-  answers_both f f1 f2 (e ∷ es) fs (a ∷ as) bs h k = (h.0, h.1, answers_both h.0 f1 f2 es fs as bs h.2 k)
+  answers_both : (f f1 f2 : F) (es fs : List (T × ℕ)) (ms ns : List ℕ) → AnswersInTurn g f es ms f1 → AnswersInTurn g f1 fs ns f2 → AnswersInTurn g f (es ++ fs) (ms ++ ns) f2
+  answers_both f f1 f2 [] fs [] ns h k = subst (λ x. AnswersInTurn g x fs ns f2) (sym h) k
+  answers_both f f1 f2 [] fs (a ∷ ms) ns h k = absurd h
+  answers_both f f1 f2 (e ∷ es) fs [] ns h k = absurd h
+  answers_both f f1 f2 (e ∷ es) fs (a ∷ ms) ns h k = (h.0, h.1, answers_both h.0 f1 f2 es fs ms ns h.2 k)
 
   pub asks_first : (f : F) (es fs : List (T × ℕ)) → MayAskInTurn g f (es ++ fs) → MayAskInTurn g f es
   asks_first f es fs asks = record {
     at = λ before after e answers last split asked. asks.at before (after ++ fs) e answers last (ap (λ l. l ++ fs) split ∙ append_assoc before (e ∷ after) fs) asked;
   }
 
-  asks_then : (f f1 : F) (es fs : List (T × ℕ)) (as : List ℕ) → MayAskInTurn g f (es ++ fs) → AnswersInTurn g f es as f1 → MayAskInTurn g f1 fs
-  asks_then f f1 es fs as asks first = record {
+  asks_then : (f f1 : F) (es fs : List (T × ℕ)) (ms : List ℕ) → MayAskInTurn g f (es ++ fs) → AnswersInTurn g f es ms f1 → MayAskInTurn g f1 fs
+  asks_then f f1 es fs ms asks first = record {
     at = λ before after e answers last split asked.
-        asks.at (es ++ before) after e (as ++ answers) last (ap (λ l. es ++ l) split ∙ sym (append_assoc es before (e ∷ after))) (answers_both f f1 last es before as answers first asked);
+        asks.at (es ++ before) after e (ms ++ answers) last (ap (λ l. es ++ l) split ∙ sym (append_assoc es before (e ∷ after))) (answers_both f f1 last es before ms answers first asked);
   }
 
   pub total_both : (es fs : List (T × ℕ)) → total (es ++ fs) ≡ total es + total fs
@@ -81,11 +81,6 @@ module _ {F T : Type 0} (g : Mut F (Bor T × (ℕ × Unit {0})) ℕ) where
 
   -- the newer table, and then the slots that wait
   module _ (newer waiting newer1 : Columns T) (looked : ℕ) (f f1 : F) (first : RetainsFrom g 0 f newer.slots newer1.slots f1) where
-    pub total_less : total (entries newer1.slots) ≤ total (entries newer.slots)
-    total_less =
-        let a = answers_left g f f1 newer.slots newer1.slots first.left in
-        let b = total_kept (entries newer.slots) a.0 in let e = ap (λ l. total l) a.2 in omega (arith, b, e)
-
     pub asks_waiting : MayAskInTurn g f (entries_of newer.slots (drop looked waiting.slots)) → MayAskInTurn g f1 (entries (drop looked waiting.slots))
     asks_waiting asks =
         let a = answers_left g f f1 newer.slots newer1.slots first.left in

@@ -1,5 +1,5 @@
--- What a closure's answers leave of one table of slots, slot by slot.
-use Rattle.std.proofs.Common.{◌≡◌, ◌≢◌, ℕ, zero, suc, ◌+◌, ◌-◌, ◌<◌, ◌≤◌, ◌^◌, min, Bool, true, false, cond, ltb, List, [], ◌∷◌, ◌++◌, length, drop, Option, Some, None, refl, sym, ap, subst, ◌∙◌, inl, inr, arith, slice_set, append_assoc}
+-- What the answers of a closure leave of one table of slots.
+use Rattle.std.proofs.Common.{◌≡◌, ℕ, zero, suc, ◌+◌, ◌-◌, ◌<◌, ◌≤◌, min, Bool, true, false, cond, ltb, List, [], ◌∷◌, length, drop, Some, None, refl, sym, ap, subst, ◌∙◌, inl, inr, arith, slice_set}
 use borrow.Author.Tests.{lt-ltb}
 use denote.Ref.{Bor}
 use denote.Param.Members.{Mut}
@@ -12,6 +12,7 @@ use Rattle.hashbag_slots.specs.Slots.{is_live, is_removed, holds, live_count, re
 use Rattle.hashbag_table.specs.Asked.{MayAsk, MayAnswer, MayAskInTurn, AnswersInTurn, kept}
 use Rattle.hashbag_table.specs.Entries.{total}
 use Rattle.hashbag_table.specs.Retained.{slot_left, LeavesSlot, LeavesSlots, RetainsFrom}
+use Rattle.hashbag_table.proofs.AskedLemmas.{lesser}
 
 module _ {T : Type 0} where
   pub dead_entry : (s : Slot T) → None ≡ slot_entry s → is_live s ≡ false
@@ -25,6 +26,9 @@ module _ {T : Type 0} where
   live_entry Removed v n h = absurd (cc)
   live_entry Moved v n h = absurd (cc)
   live_entry (Live w m) v n h = let e : (w, m) ≡ (v, n) = cc in ap (λ (x : T × ℕ). Live x.0 x.1) e
+
+  pub written_at : (ss ts : List (Slot T)) (p : ℕ) (s : Slot T) → p < length ss → ts ≡ slice_set ss p s → slot_at ts p ≡ s
+  written_at ss ts p s within e = ap (λ us. slot_at us p) e ∙ get_or-set_same ss p s Empty within
 
   pub left_some : (v : T) (n a : ℕ) → 0 < min a n → slot_left v n a ≡ Live v (min a n)
   left_some v n a pos = ap (λ b. cond b (Live v (min a n)) Removed) (lt-ltb 0 (min a n) pos)
@@ -68,9 +72,6 @@ module _ {T : Type 0} where
   left_few : (b : Bool) (v : T) (m : ℕ) → (let s : Slot T = cond b (Live v m) Removed in one_live s) ≤ 1
   left_few true v m = omega arith
   left_few false v m = omega arith
-
-lesser : (a n : ℕ) → min a n ≤ n
-lesser a n = omega arith
 
 module _ {F T : Type 0} (g : Mut F (Bor T × (ℕ × Unit {0})) ℕ) where
   -- one slot

@@ -1,8 +1,7 @@
-use Rattle.std.proofs.Common.{◌≡◌, ◌<◌, min, refl, sym, ap, subst, ◌∙◌, arith, slice_set}
-use Rattle.std.proofs.lemmas.List.{get_or-set_same}
-use Rattle.hashbag_slots.specs.declared.slots.Slot.TheVariants.{Empty, Removed, Live}
-use Rattle.hashbag_slots.specs.Slots.{is_live, slot_at, recounted}
-use Rattle.hashbag_table.proofs.RetainLemmas.{dead_entry, live_entry, left_some, left_none, leaves_dead, leaves_live}
+use Rattle.std.proofs.Common.{◌≡◌, min, refl, sym, ap, ◌∙◌, arith}
+use Rattle.hashbag_slots.specs.declared.slots.Slot.TheVariants.{Removed, Live}
+use Rattle.hashbag_slots.specs.Slots.{slot_at, recounted}
+use Rattle.hashbag_table.proofs.RetainLemmas.{dead_entry, live_entry, written_at, left_some, left_none, leaves_dead, leaves_live}
 use Rattle.hashbag_table.proofs.retain.retain_at.Goals as goal
 
 pub returns-in_default-clause-asked : goal.returns-in_default-clause-asked
@@ -19,7 +18,7 @@ returns-then-left-gt0-clause-asked g c =
     let here = live_entry (slot_at ss p) v n c.in-Some.ensures in
     let least : c.min-left.result ≡ min a n = c.min-left.ensures in
     let some = c.if-left-gt0.true in
-    let after : slot_at c.set_at.new.self.slots p ≡ recounted c.min-left.result (slot_at ss p) = ap (λ us. slot_at us p) c.set_at.ensures.after ∙ get_or-set_same ss p (recounted c.min-left.result (slot_at ss p)) Empty c.requires.within in
+    let after = written_at ss c.set_at.new.self.slots p (recounted c.min-left.result (slot_at ss p)) c.requires.within c.set_at.ensures.after in
     leaves_live g.F.FnMut c.args.f.now c.f.new.self (slot_at ss p) (slot_at c.set_at.new.self.slots p) v n a here
     (record { value = c.in-Some.value; shows = refl; called = c.f.ensures })
     (after ∙ ap (recounted c.min-left.result) here ∙ ap (λ m. Live v m) least ∙ sym (left_some v n a (omega (arith, least, some))))
@@ -30,7 +29,7 @@ returns-clause-asked g c =
     let here = live_entry (slot_at ss p) v n c.in-Some.ensures in
     let least : c.min-left.result ≡ min a n = c.min-left.ensures in
     let none = c.if-left-gt0.false in
-    let after : slot_at c.take_at-former.new.self.slots p ≡ Removed = ap (λ us. slot_at us p) c.take_at-former.ensures.after ∙ get_or-set_same ss p Removed Empty c.requires.within in
+    let after = written_at ss c.take_at-former.new.self.slots p Removed c.requires.within c.take_at-former.ensures.after in
     leaves_live g.F.FnMut c.args.f.now c.f.new.self (slot_at ss p) (slot_at c.take_at-former.new.self.slots p) v n a here
     (record { value = c.in-Some.value; shows = refl; called = c.f.ensures })
     (after ∙ sym (left_none v n a (omega (arith, least, none))))

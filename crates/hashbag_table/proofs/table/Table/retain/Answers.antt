@@ -1,11 +1,11 @@
-use Rattle.std.proofs.Common.{◌≡◌, ◌+◌, ◌<◌, ◌^◌, length, drop, sym, ap, subst, ◌∙◌, arith}
+use Rattle.std.proofs.Common.{length, drop, sym, ap, subst, ◌∙◌, arith}
 use Rattle.std.proofs.lemmas.List.Sorted.{IsPermutation-refl}
 use Rattle.hashbag_slots.specs.Hashing.{hash_under}
 use Rattle.hashbag_slots.specs.Slots.{entries}
 use Rattle.hashbag_table.specs.Asked.{MayAskInTurn, Retains}
-use Rattle.hashbag_table.specs.Entries.{IsCounted, total}
-use Rattle.hashbag_table.specs.Tables.{entries_of, room, room_of}
-use Rattle.hashbag_table.proofs.KeptLemmas.{asks_first, asks_waiting, total_both, total_less, total_left, retains_both, room_left, length_waiting, IsTables-left}
+use Rattle.hashbag_table.specs.Entries.{total}
+use Rattle.hashbag_table.specs.Tables.{entries_of, room}
+use Rattle.hashbag_table.proofs.KeptLemmas.{asks_first, asks_waiting, total_both, total_left, retains_both, room_left, length_waiting, IsTables-left}
 use Rattle.hashbag_table.proofs.table.Table.retain.Goals as goal
 
 pub retain_slots-newer-requires-clause-asks : goal.retain_slots-newer-requires-clause-asks
