@@ -18,8 +18,7 @@ use Rattle.hashbag_slots.proofs.Writing.{set_twice}
 use Rattle.hashbag_slots.proofs.Tables.{within_table}
 use Rattle.hashbag_slots.proofs.Probing.{holder}
 use Rattle.hashbag_table.specs.Entries.{IsCounted, with_count, without, with_fewer, with_instance, count_of}
-use Rattle.hashbag_table.specs.Table.{Table}
-use Rattle.hashbag_table.specs.Tables.{limit, entries_of, IsTables, Swaps, HoldsIn, slot_in}
+use Rattle.hashbag_table.specs.Tables.{limit, Tables, entries_of, IsTables, Swaps, HoldsIn, slot_in}
 use Rattle.hashbag_table.specs.declared.table.Spot.{Spot}
 use Rattle.hashbag_table.specs.declared.table.Spot.TheVariants.{Newer, Waiting}
 use Rattle.hashbag_table.proofs.EntryLemmas.{counted_rearranged, entry_to_front, stored-present, lookup-entry, with_fewer-some, with_fewer-all, without_absent, with_count-absent}
@@ -405,7 +404,7 @@ module _ {T : Type 0} (eq : T → T → Bool) (x : T) (es : List (T × ℕ)) whe
       subst (λ l. IsPermutation l new) (ap (λ l. (x, n) ∷ l) (without_absent (eq x) es h) ∙ sym (with_count-absent eq x n es none) ∙ ap (λ m. with_count eq x m es) (sym c)) same
 
 -- what is held at a spot is an entry
-pub held_entry : {T S : Type 0} (test : T → Bool) (t : Table T S) (spot : Spot) → HoldsIn test t spot → (e : T × ℕ) × (slot_entry (slot_in t spot) ≡ Some e)
+pub held_entry : {T : Type 0} (test : T → Bool) (t : Tables T) (spot : Spot) → HoldsIn test t spot → (e : T × ℕ) × (slot_entry (slot_in t spot) ≡ Some e)
 held_entry test t (Newer p) h = let l = holder test (slot_at t.newer p) h.1 in ((l.0, l.1), ap slot_entry l.2)
 held_entry test t (Waiting p) h = let l = holder test (slot_at t.waiting p) h.1 in ((l.0, l.1), ap slot_entry l.2)
 

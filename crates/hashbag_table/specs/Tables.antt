@@ -69,6 +69,16 @@ module _ {T : Type 0} where
     pub carries : length (drop looked older.slots) ≤ 16 * room_of newer.slots (drop looked older.slots)
     pub smaller : (drop looked older.slots ≡ []) ⊎ (16 + length (drop looked older.slots) ≤ length newer.slots)
 
+  -- a table may take the place of these newer slots, so many of which are carried at once: values are found in it, all are
+  -- within its limit, and those that wait are few enough for its room
+  pub record MayAdopt (eq : T → T → Bool) (hash : T → ℕ) (newer : Columns T) (former : List (Slot T)) (many : ℕ) : Type 0 where
+    pub reached : IsReached hash newer
+    pub apart : AreApart eq former newer.slots
+    pub counted : IsCounted eq (entries_of newer.slots former)
+    pub fits : live_count newer.slots + removed_count newer.slots + live_count former ≤ limit (length newer.slots)
+    pub carries : length former - many ≤ 16 * room_of newer.slots former
+    pub smaller : (length former ≤ many) ⊎ (16 + (length former - many) ≤ length newer.slots)
+
   -- the next k waiting slots wait no more: their Live ones came into slots of the newer table that were not Live
   pub record Carried (k : ℕ) (newer waiting newer_after waiting_after : List (Slot T)) : Type 0 where
     pub fills : Fills k newer newer_after

@@ -2,15 +2,15 @@
 //!
 //! The newer table takes what comes. When it has no room left it becomes the older one, and a new one takes its place. Each value
 //! that comes after that takes the next 16 slots of the older table along, so that no insertion moves all values at once.
-ghost use Rattle.std.specs.Prelude.{◌≡◌, ◌+◌, ◌-◌, ◌*◌, ◌<◌, ◌≤◌, ◌^◌, ℕ, [], ◌∷◌, All, length, replicate, true, Some, None, IfSome, IfOk, OnOk, OnErr, IsOk, IsErr, IsSome, option_map, slice_set};
+ghost use Rattle.std.specs.Prelude.{◌≡◌, ◌++◌, ◌+◌, ◌-◌, ◌*◌, ◌<◌, ◌≤◌, ◌^◌, ℕ, [], ◌∷◌, All, length, replicate, true, Some, None, IfSome, IfOk, OnOk, OnErr, IsOk, IsErr, IsSome, option_map, slice_set};
 ghost use Rattle.std.specs.Borrow.{sem};
 ghost use Rattle.std.specs.List.Sorted.{IsPermutation};
 ghost use Rattle.hashbag_slots.specs.Hashing.{hash_under};
-ghost use Rattle.hashbag_slots.specs.Slots.{IsSlotCount, live_count, is_live, Places, recounted, holds, slot_at, count_in};
+ghost use Rattle.hashbag_slots.specs.Slots.{IsSlotCount, entries, live_count, is_live, Places, recounted, holds, slot_at, count_in};
 ghost use Rattle.hashbag_slots.specs.Columns.{IsReached, IsAlike};
 ghost use Rattle.hashbag_table.specs.Asked.{MayAskInTurn, Retains};
 ghost use Rattle.hashbag_table.specs.Entries.{entry_of, count_of, without, with_count, with_fewer, with_instance, total, IsCounted, HasClones};
-ghost use Rattle.hashbag_table.specs.Tables.{limit, room, IsLeast, IsPacked, entries_of, Arrives, Carried, IsReady, Roomy, slot_in, HoldsIn, entry_in, Writes, Rewrites, Swaps};
+ghost use Rattle.hashbag_table.specs.Tables.{limit, room, IsLeast, IsPacked, entries_of, Arrives, Carried, IsReady, MayAdopt, slot_in, HoldsIn, entry_in, Writes, Rewrites, Swaps};
 
 use crate::growth::{carry_next, grown_count, least_count, no_slots};
 use crate::retain::retain_slots;
@@ -213,6 +213,10 @@ impl<T: Eq + Hash + Drop, S: BuildHasher + Drop> Table<T, S> {
     // waits, save for its first `many` slots, which are carried; the older one, of which none waits, is freed. It takes no memory.
     fn adopt(&mut self, newer: Slots<T>, many: usize)
         requires none_waits { self.old.tables.waiting ≡ [] }
+        requires may { MayAdopt T.eq (hash_under T.hash_input S.BuildHasher S.Hasher.Hasher self.old.hasher) newer self.old.tables.newer many }
+        ensures carried { Carried many newer.slots self.old.tables.newer self.new.tables.newer self.new.tables.waiting }
+        ensures entries { IsPermutation (entries newer.slots ++ self.old.entries) self.new.entries }
+        ensures hasher { self.new.hasher ≡ self.old.hasher }
     {
         let former = mem::replace(&mut self.newer, newer);
         let _freed = mem::replace(&mut self.older, former);
