@@ -1,14 +1,26 @@
-use Rattle.std.proofs.Common.{◌≡◌, ◌+◌, ◌<◌, ◌≤◌, ◌++◌, ◌∷◌, [], List, ℕ, length, refl, ap, subst, append_assoc, ◌∙◌, sym, arith}
+use Rattle.std.proofs.Common.{◌≡◌, ◌+◌, ◌<◌, ◌++◌, ◌∷◌, [], List, ℕ, length, refl, ap, subst, append_assoc, ◌∙◌, sym, arith}
 use Rattle.std.specs.List.Sorted.{IsPermutation}
 use Rattle.std.proofs.lemmas.List.{append-nil, length-append}
 use Rattle.std.proofs.lemmas.List.Sorted.{length_permutation, IsPermutation-refl}
+use Rattle.hashbag_table.specs.Entries.{IsCounted}
 use Rattle.hashbag_table.specs.Tables.{limit, IsLeast}
+use Rattle.hashbag_table.proofs.CarryLemmas.{IsCounted-nil}
 use Rattle.hashbag_table.proofs.CloneLemmas.{IsCopy, next_is_new, next_is_some, copied, clones_reordered}
 use Rattle.hashbag_table.proofs.PackedLemmas.{IsFilled, filled_first, filled_next, filled_packed}
 use Rattle.hashbag_table.proofs.table.Table.clone_in.Goals as goal
 
 pub loop-value-init : goal.loop-value-init
-loop-value-init g c = ?
+loop-value-init g c =
+    let none = c.in_ok-table.ensures.empty in (
+      (
+        [],
+        subst (IsPermutation c.args.self.now.entries) (sym c.into_iter-value-iterator.ensures.into_iter_gives) c.walk-value-items.ensures.entries,
+        record { clones = []; each = tt; all = subst (IsPermutation []) (sym none) (IsPermutation-refl []) },
+        filled_first c.in_ok-table.table.tables c.in_ok-table.ensures.fresh c.in_ok-table.ensures.packed,
+      ),
+      refl,
+      subst (IsCounted g.T.PartialEq.eq) (sym none) (IsCounted-nil g.row.T.Denot g.T.PartialEq.eq),
+    )
 
 pub insert_new-requires-clause-absent : goal.insert_new-requires-clause-absent
 insert_new-requires-clause-absent g c =
@@ -30,8 +42,9 @@ loop-value-preserved g c =
     let order = subst (λ (l : List (g.row.T.Denot × ℕ)). IsPermutation c.args.self.now.entries (so_far.0 ++ l)) c.in-Some.ensures.steps so_far.1 in
     let absent = next_is_new g.met.T.Eq.laws g.T.Clone.is_clone c.args.self.now.entries so_far.0 c.next.new.self c.loop-value.table.entries entry c.in_ok-clone.clone
     c.requires.equal c.walk-value-items.ensures.counted.distinct order so_far.2 c.in_ok-clone.ensures.cases in
-    let all : length c.args.self.now.entries ≡ length so_far.0 + length (entry ∷ c.next.new.self) = length_permutation _ _ order ∙ length-append so_far.0 (entry ∷ c.next.new.self) in
-    let more : length so_far.0 < limit (length c.in_ok-table.table.tables.newer) = let e = c.in_ok-table.ensures.least.enough in let n = c.set_len.ensures.len in omega (arith, e, n, all) in
+    let all = length_permutation _ _ order in
+    let both = length-append so_far.0 (entry ∷ c.next.new.self) in
+    let more : length so_far.0 < limit (length c.in_ok-table.table.tables.newer) = let e = c.in_ok-table.ensures.least.enough in let n = c.set_len.ensures.len in omega (arith, e, n, all, both) in
     let longer : length so_far.0 + 1 ≡ length (so_far.0 ++ entry ∷ []) = sym (length-append so_far.0 (entry ∷ [])) in (
       (
         so_far.0 ++ entry ∷ [],
