@@ -22,7 +22,7 @@ use Rattle.std.proofs.lemmas.List.{append-nil}
 use Rattle.hashbag_table.proofs.UnmovedLemmas.{unmoved_blank, unmoved_filled}
 use Rattle.hashbag_table.proofs.SlotLemmas.{entries-append, length-entries, entries_few, live-drop, absent_both, IsCounted-cons, entries-Places, entries-PlacesAll}
 
-IsCounted-nil : (T : Type 0) (eq : T → T → Bool) → IsCounted eq []
+pub IsCounted-nil : (T : Type 0) (eq : T → T → Bool) → IsCounted eq []
 unfolding IsDistinct
 IsCounted-nil T eq = record { distinct = tt; positive = λ k d lt. absurd (omega arith) }
 
