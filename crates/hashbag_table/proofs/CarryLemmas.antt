@@ -19,9 +19,10 @@ use Rattle.hashbag_table.specs.Tables.{limit, Tables, Fills, room_of, entries_of
 use Rattle.hashbag_table.proofs.EntryLemmas.{counted_rearranged}
 use Rattle.hashbag_slots.proofs.Tables.{slot_at-replicate}
 use Rattle.std.proofs.lemmas.List.{append-nil}
+use Rattle.hashbag_table.proofs.UnmovedLemmas.{unmoved_blank, unmoved_filled}
 use Rattle.hashbag_table.proofs.SlotLemmas.{entries-append, length-entries, entries_few, live-drop, absent_both, IsCounted-cons, entries-Places, entries-PlacesAll}
 
-IsCounted-nil : (T : Type 0) (eq : T → T → Bool) → IsCounted eq []
+pub IsCounted-nil : (T : Type 0) (eq : T → T → Bool) → IsCounted eq []
 unfolding IsDistinct
 IsCounted-nil T eq = record { distinct = tt; positive = λ k d lt. absurd (omega arith) }
 
@@ -35,6 +36,7 @@ module _ {T : Type 0} (eq : T → T → Bool) (hash : T → ℕ) where
           newer_reached = r;
           older_reached = s;
           apart = λ p v n here q lt. absurd (omega arith);
+          unmoved = unmoved_blank newer.slots 0 e;
           looked_within = omega arith;
           looked_dead = λ p lt. absurd (omega arith);
           fits = let a = ap live_count e in let b = ap removed_count e in let c = ap live_count f in omega arith;
@@ -154,6 +156,7 @@ module _ {T : Type 0} (eq : T → T → Bool) (hash : T → ℕ) (newer older ne
     newer_reached = newer_reached;
     older_reached = older_reached;
     apart = apart;
+    unmoved = unmoved_filled most newer.slots newer1.slots (Fills-carry most looked many older.slots newer.slots newer1.slots (omega (arith, least)) placed) tables.unmoved;
     looked_within = let w = within in let same = left.same_length in omega (arith, w, same);
     looked_dead = dead;
     fits = let k = kept_after in let f = tables.fits in let l : limit (length newer1.slots) ≡ limit (length newer.slots) = ap limit slots in omega (arith, k, f, l, removed);
@@ -202,6 +205,7 @@ module _ {T : Type 0} (eq : T → T → Bool) (hash : T → ℕ) where
         newer_reached = tables.newer_reached;
         older_reached = reached;
         apart = λ p v n here q lt. absurd (let w = within_table none.slots p (ap is_live here) in omega arith);
+        unmoved = tables.unmoved;
         looked_within = omega arith;
         looked_dead = λ p lt. absurd (omega arith);
         fits = let f = tables.fits in let c : live_count (drop 0 none.slots) ≡ 0 = ap live_count empty in omega arith;
@@ -263,6 +267,7 @@ IsTables-blank {T = T} eq hash newer older n e f r s =
         newer_reached = r;
         older_reached = s;
         apart = λ p v k here q lt. ap (λ ss. holds (λ w. eq w v) (slot_at ss q)) e ∙ ap (holds (λ w. eq w v)) (slot_at-replicate n q);
+        unmoved = unmoved_blank newer.slots n e;
         looked_within = omega arith;
         looked_dead = λ p lt. absurd (omega arith);
         fits = let a = ap live_count e ∙ live_empty T n in let b = ap removed_count e ∙ removed_empty T n in let c = ap live_count f in omega (arith, a, b, c);
@@ -292,6 +297,7 @@ module _ {T : Type 0} (eq : T → T → Bool) (hash : T → ℕ) (newer fresh : 
     newer_reached = may.reached;
     older_reached = reached;
     apart = may.apart;
+    unmoved = may.unmoved;
     looked_within = omega arith;
     looked_dead = λ p lt. absurd (omega arith);
     fits = may.fits;
@@ -326,6 +332,7 @@ module _ {T : Type 0} (eq : T → T → Bool) (hash : T → ℕ) (newer fresh : 
       record {
         reached = reached;
         apart = λ p v n here q lt. ap (λ ss. holds (λ w. eq w v) (slot_at ss q)) empty ∙ ap (holds (λ w. eq w v)) (slot_at-replicate (length fresh.slots) q);
+        unmoved = unmoved_blank fresh.slots (length fresh.slots) empty;
         counted = subst (λ es. IsCounted eq (es ++ entries newer.slots)) (sym (entries_fresh fresh.slots empty)) counted;
         fits = omega (arith, a, b, x);
         carries = omega (arith, r, y);
@@ -375,6 +382,7 @@ module _ {T : Type 0} (eq : T → T → Bool) (laws : IsEquivalence eq) (hash : 
             newer_reached = reached;
             older_reached = before.tables.older_reached;
             apart = λ p x m here. IsAbsent-Places (λ y. eq y x) v n newer.slots newer1.slots (before.tables.apart p x m here) put (other x m p here);
+            unmoved = unmoved_filled 1 newer.slots newer1.slots (Fills-Places v n newer.slots newer1.slots put) before.tables.unmoved;
             looked_within = before.tables.looked_within;
             looked_dead = before.tables.looked_dead;
             fits = let f = before.tables.fits in omega (arith, room, live, fewer, limits, f);

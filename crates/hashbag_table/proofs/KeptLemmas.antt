@@ -16,7 +16,7 @@ use Rattle.hashbag_table.specs.Retained.{RetainsFrom}
 use Rattle.hashbag_table.specs.Tables.{limit, room_of, entries_of, AreTables, IsTables}
 use Rattle.hashbag_table.proofs.AskedLemmas.{total_kept, positive_kept}
 use Rattle.hashbag_table.proofs.ListLemmas.{IsPermutation-same}
-use Rattle.hashbag_table.proofs.RetainLemmas.{answers_left, counts_left, retained_live, retained_absent}
+use Rattle.hashbag_table.proofs.RetainLemmas.{answers_left, counts_left, retained_live, retained_moved, retained_absent}
 
 distinct_nil : (T : Type 0) (eq : T → T → Bool) → IsDistinct eq []
 unfolding IsDistinct
@@ -136,6 +136,7 @@ module _ {F T : Type 0} (g : Mut F (Bor T × (ℕ × Unit {0})) ℕ) where
         apart = λ p v n here.
             let was = retained_live g looked f1 f2 older.slots older1.slots second p v n here in
             retained_absent g 0 f f1 newer.slots newer1.slots first (λ w. eq w v) (before.tables.apart p v was.0 was.1);
+        unmoved = λ p here. before.tables.unmoved p (retained_moved g 0 f f1 newer.slots newer1.slots first p here);
         looked_within = let l = before.tables.looked_within in let same = second.same_length in omega (arith, l, same);
         looked_dead = λ p lt. ap is_live (second.before p lt) ∙ before.tables.looked_dead p lt;
         fits =

@@ -10,7 +10,7 @@ ghost use Rattle.hashbag_slots.specs.Slots.{IsSlotCount, entries, live_count, is
 ghost use Rattle.hashbag_slots.specs.Columns.{IsReached, IsAlike};
 ghost use Rattle.hashbag_table.specs.Asked.{MayAskInTurn, Retains};
 ghost use Rattle.hashbag_table.specs.Entries.{entry_of, count_of, without, with_count, with_fewer, with_instance, total, IsCounted, HasClones};
-ghost use Rattle.hashbag_table.specs.Tables.{limit, room, IsLeast, IsPacked, entries_of, Arrives, Carried, IsReady, MayAdopt, slot_in, HoldsIn, entry_in, Writes, Rewrites, Swaps};
+ghost use Rattle.hashbag_table.specs.Tables.{limit, room, values, IsLeast, IsPacked, entries_of, Arrives, Carried, IsReady, MayAdopt, NoneMoved, slot_in, HoldsIn, entry_in, Writes, Rewrites, Swaps};
 
 use crate::growth::{carry_next, grown_count, least_count, no_slots};
 use crate::retain::retain_slots;
@@ -125,11 +125,12 @@ impl<T: Eq + Hash + Drop, S: BuildHasher + Drop> Table<T, S> {
         })
     }
 
-    /// The number of slots of the newer table.
+    /// The number of slots of the newer table. Those that aren't Empty are its Live and its Removed ones.
     pub fn slots(&self) -> usize
         ensures slots { result ≡ length self.now.tables.newer }
         ensures count { IsSlotCount result }
         ensures entries { self.now.entries ≡ entries_of self.now.tables.newer self.now.tables.waiting }
+        ensures unmoved { NoneMoved self.now.tables.newer }
     {
         self.newer.slots()
     }
@@ -568,8 +569,10 @@ impl<T: Eq + Hash + Drop, S: BuildHasher + Drop> Table<T, S> {
         requires enough { length self.old.entries ≤ limit (length newer.slots) }
         ensures slots { length self.new.tables.newer ≡ length newer.slots }
         ensures packed { IsPacked self.new.tables }
+        ensures values { values self.new.tables ≡ length self.old.entries }
         ensures entries { IsPermutation self.old.entries self.new.entries }
         ensures hasher { self.new.hasher ≡ self.old.hasher }
+        ensures counted { IsCounted T.eq self.new.entries }
     {
         let mut newer = newer;
         let waiting = self.older.slots() - self.looked;
@@ -598,6 +601,7 @@ impl<T: Eq + Hash + Drop, S: BuildHasher + Drop> Table<T, S> {
         ensures packed { room self.old.tables < n → OnOk result (IsPacked self.new.tables) }
         ensures room { OnOk result (n ≤ room self.new.tables) }
     {
+        let slots = self.newer.slots();
         if n <= self.room() {
             return Ok(());
         }
@@ -605,7 +609,7 @@ impl<T: Eq + Hash + Drop, S: BuildHasher + Drop> Table<T, S> {
         if n > MOST_VALUES - values {
             return Err(AllocError);
         }
-        let count = least_count(self.newer.slots(), values + n)?;
+        let count = least_count(slots, values + n)?;
         let newer = Slots::with_slots(self.alloc, count)?;
         self.pack(newer);
         Ok(())

@@ -12,14 +12,14 @@ pub loop-count-preserved-then-count-eq0 : goal.loop-count-preserved-then-count-e
 loop-count-preserved-then-count-eq0 c = record {
   count = IsSlotCount-16;
   from = let f = c.loop-count.invariant.from in let z = c.if-count-eq0.true in omega (arith, f, z);
-  below = below_first c.args.from c.args.values c.loop-count.count c.if-count-eq0.true c.loop-count-test.true;
+  below = below_first c.args.from c.args.values c.loop-count.count c.if-count-eq0.true (let t = c.loop-count-test.true in omega (arith, t));
 }
 
 pub loop-count-preserved : goal.loop-count-preserved
 loop-count-preserved c = record {
   count = IsSlotCount-double c.loop-count.count c.loop-count.invariant.count c.if-count.false c.if-count-eq0.false;
   from = let f = c.loop-count.invariant.from in omega (arith, f);
-  below = below_double c.args.from c.args.values c.loop-count.count c.loop-count.invariant.count (let z = c.if-count-eq0.false in omega arith) c.loop-count-test.true c.loop-count.invariant.below;
+  below = below_double c.args.from c.args.values c.loop-count.count c.loop-count.invariant.count (let z = c.if-count-eq0.false in omega arith) (let t = c.loop-count-test.true in omega (arith, t)) c.loop-count.invariant.below;
 }
 
 pub returns-clause-least : goal.returns-clause-least
