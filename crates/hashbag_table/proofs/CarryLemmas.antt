@@ -130,14 +130,11 @@ module _ {T : Type 0} where
       let f = ap removed_count put.after in
       omega (arith, e, f)
 
-module _ {T : Type 0} (eq : T → T → Bool) (hash : T → ℕ) (newer older newer1 older1 : Columns T) (looked many most : ℕ)
-    (tables : AreTables eq hash newer older looked) (least : many ≡ min (length older.slots - looked) most)
+module _ {T : Type 0} (eq : T → T → Bool) (hash : T → ℕ) (newer older newer1 older1 : Columns T) (looked many : ℕ)
+    (tables : AreTables eq hash newer older looked) (within : looked + many ≤ length older.slots)
     (placed : PlacesAll (entries_in looked many older.slots) newer.slots newer1.slots) (left : Carries looked many older.slots older1.slots) (apart : AreApart eq older1.slots newer1.slots)
     (kept : live_count newer1.slots + live_count older1.slots ≡ live_count newer.slots + live_count older.slots) (removed : removed_count newer1.slots ≤ removed_count newer.slots) (slots : length newer1.slots ≡ length newer.slots)
     (newer_reached : IsReached hash newer1) (older_reached : IsReached hash older1) where
-  within : looked + many ≤ length older.slots
-  within = let w = tables.looked_within in omega (arith, least, w)
-
   dead : (p : ℕ) → p < looked + many → is_live (slot_at older1.slots p) ≡ false
   dead p lt = elim (cases_lt p looked) [
     | inl a ↦ ap is_live (left.outside p (inl a)) ∙ tables.looked_dead p a
@@ -146,9 +143,9 @@ module _ {T : Type 0} (eq : T → T → Bool) (hash : T → ℕ) (newer older ne
 
   pub kept_after : live_count newer1.slots + live_count (drop (looked + many) older1.slots) ≡ live_count newer.slots + live_count (drop looked older.slots)
   kept_after =
-      let w = within in let same = left.same_length in
+      let same = left.same_length in
       let a = live-drop older.slots looked tables.looked_within tables.looked_dead in
-      let b = live-drop older1.slots (looked + many) (omega (arith, w, same)) dead in
+      let b = live-drop older1.slots (looked + many) (omega (arith, within, same)) dead in
       omega (arith, a, b, kept)
 
   pub tables_after : AreTables eq hash newer1 older1 (looked + many)
@@ -156,14 +153,14 @@ module _ {T : Type 0} (eq : T → T → Bool) (hash : T → ℕ) (newer older ne
     newer_reached = newer_reached;
     older_reached = older_reached;
     apart = apart;
-    unmoved = unmoved_filled most newer.slots newer1.slots (Fills-carry most looked many older.slots newer.slots newer1.slots (omega (arith, least)) placed) tables.unmoved;
-    looked_within = let w = within in let same = left.same_length in omega (arith, w, same);
+    unmoved = unmoved_filled _ newer.slots newer1.slots (Fills-PlacesAll _ newer.slots newer1.slots placed) tables.unmoved;
+    looked_within = let same = left.same_length in omega (arith, within, same);
     looked_dead = dead;
     fits = let k = kept_after in let f = tables.fits in let l : limit (length newer1.slots) ≡ limit (length newer.slots) = ap limit slots in omega (arith, k, f, l, removed);
   }
 
-  pub waiting_after : drop (looked + many) older1.slots ≡ drop most (drop looked older.slots)
-  waiting_after =
+  waiting_after : (most : ℕ) → many ≡ min (length older.slots - looked) most → drop (looked + many) older1.slots ≡ drop most (drop looked older.slots)
+  waiting_after most least =
       drop-Carries looked many older.slots older1.slots left
       ∙ elim (cases_lt (length older.slots - looked) most) [
         | inl a ↦
@@ -187,10 +184,10 @@ module _ {T : Type 0} (eq : T → T → Bool) (hash : T → ℕ) (newer older ne
       subst (λ l. IsPermutation (entries newer.slots ++ l) (entries_of newer1.slots (drop (looked + many) older1.slots))) (sym split)
       (subst (λ ss. IsPermutation (entries newer.slots ++ (es ++ rest)) (entries newer1.slots ++ entries ss)) (sym (drop-Carries looked many older.slots older1.slots left)) moved)
 
-  pub carried_after : Carried most newer.slots (drop looked older.slots) newer1.slots (drop (looked + many) older1.slots)
-  carried_after = record {
+  pub carried_after : (most : ℕ) → many ≡ min (length older.slots - looked) most → Carried most newer.slots (drop looked older.slots) newer1.slots (drop (looked + many) older1.slots)
+  carried_after most least = record {
     fills = Fills-carry most looked many older.slots newer.slots newer1.slots (omega (arith, least)) placed;
-    waits = waiting_after;
+    waits = waiting_after most least;
     entries = entries_after;
     live = kept_after;
     removed = removed;

@@ -577,7 +577,7 @@ impl<T: Eq + Hash + Drop, S: BuildHasher + Drop> Table<T, S> {
         let mut newer = newer;
         let waiting = self.older.slots() - self.looked;
         newer.carry_from(&self.hasher, &mut self.older, self.looked, waiting);
-        let _freed = mem::replace(&mut self.older, no_slots(self.alloc));
+        let _older = mem::replace(&mut self.older, no_slots(self.alloc));
         self.looked = 0;
         let many = self.newer.slots();
         self.adopt(newer, many);

@@ -37,8 +37,8 @@ pub invariant_of-self : goal.invariant_of-self
 invariant_of-self g c =
     let hash = hash_under g.T.Hash.hash_input g.S.BuildHasher g.S.Hasher.Hasher c.self.inside.hasher in
     let i = c.self.inside in
-    IsTables-freed g.T.PartialEq.eq g.met.T.Eq.laws hash i.newer i.older c.replace-freed.new.dest i.looked c.self.invariant
-    (ap (λ (o : _). o.slots) c.replace-freed.ensures.after ∙ c.no_slots.ensures.slots) (subst (IsReached hash) (sym c.replace-freed.ensures.after) (c.no_slots.ensures.reached hash))
+    IsTables-freed g.T.PartialEq.eq g.met.T.Eq.laws hash i.newer i.older c.replace-older.new.dest i.looked c.self.invariant
+    (ap (λ (o : _). o.slots) c.replace-older.ensures.after ∙ c.no_slots.ensures.slots) (subst (IsReached hash) (sym c.replace-older.ensures.after) (c.no_slots.ensures.reached hash))
 
 pub adopt-requires-clause-may : goal.adopt-requires-clause-may
 adopt-requires-clause-may g c =
@@ -78,7 +78,7 @@ returns-clause-entries g c =
     let w = c.self.invariant.tables.looked_within in let s = c.slots.ensures.value in
     let enough = subst (λ t. length t.entries ≤ limit (length c.args.newer.slots)) (sym c.self.view_is) c.requires.enough in
     let es = entries c.carry_from.new.self.slots in let ns = entries i.newer.slots in
-    let none = ap (λ (o : _). o.slots) c.replace-freed.ensures.after ∙ c.no_slots.ensures.slots in
+    let none = ap (λ (o : _). o.slots) c.replace-older.ensures.after ∙ c.no_slots.ensures.slots in
     let same = ap (λ ss. es ++ (ns ++ entries ss)) none ∙ ap (λ l. es ++ l) (append-nil ns) in
     subst (λ t. IsPermutation t.entries c.adopt.new.self.entries) c.self.view_is
     (IsPermutation-trans _ _ _
