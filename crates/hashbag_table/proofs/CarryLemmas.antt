@@ -15,14 +15,14 @@ use Rattle.hashbag_slots.proofs.Edits.{count-set, set_cases}
 use Rattle.hashbag_slots.proofs.Tables.{within_table}
 use Rattle.hashbag_slots.proofs.Carrying.{length-Places, live-Places, IsAbsent-Places}
 use Rattle.hashbag_table.specs.Entries.{IsCounted}
-use Rattle.hashbag_table.specs.Table.{Table}
-use Rattle.hashbag_table.specs.Tables.{limit, Fills, room_of, entries_of, AreTables, IsTables, Carried, Roomy, room, fresh, grown_slots, IsReady, Arrives}
+use Rattle.hashbag_table.specs.Tables.{limit, Tables, Fills, room_of, entries_of, AreTables, IsTables, MayAdopt, Carried, Roomy, room, values, fresh, grown_slots, IsReady, Arrives}
 use Rattle.hashbag_table.proofs.EntryLemmas.{counted_rearranged}
 use Rattle.hashbag_slots.proofs.Tables.{slot_at-replicate}
 use Rattle.std.proofs.lemmas.List.{append-nil}
+use Rattle.hashbag_table.proofs.UnmovedLemmas.{unmoved_blank, unmoved_filled}
 use Rattle.hashbag_table.proofs.SlotLemmas.{entries-append, length-entries, entries_few, live-drop, absent_both, IsCounted-cons, entries-Places, entries-PlacesAll}
 
-IsCounted-nil : (T : Type 0) (eq : T → T → Bool) → IsCounted eq []
+pub IsCounted-nil : (T : Type 0) (eq : T → T → Bool) → IsCounted eq []
 unfolding IsDistinct
 IsCounted-nil T eq = record { distinct = tt; positive = λ k d lt. absurd (omega arith) }
 
@@ -36,6 +36,7 @@ module _ {T : Type 0} (eq : T → T → Bool) (hash : T → ℕ) where
           newer_reached = r;
           older_reached = s;
           apart = λ p v n here q lt. absurd (omega arith);
+          unmoved = unmoved_blank newer.slots 0 e;
           looked_within = omega arith;
           looked_dead = λ p lt. absurd (omega arith);
           fits = let a = ap live_count e in let b = ap removed_count e in let c = ap live_count f in omega arith;
@@ -96,14 +97,14 @@ module _ {T : Type 0} where
   pub Fills-more : (j k : ℕ) (a b : List (Slot T)) → j ≤ k → Fills j a b → Fills k a b
   Fills-more j k a b le f = record { same_length = f.same_length; places = f.places; few = let x = f.few in omega arith; each = f.each }
 
-  -- a carry: so many slots of the older table are looked at, at most 16
-  pub Fills-carry : (from many : ℕ) (older a b : List (Slot T)) → many ≤ 16 → PlacesAll (entries_in from many older) a b → Fills 16 a b
-  Fills-carry from many older a b few all =
+  -- a carry: so many slots of the older table are looked at, at most k
+  pub Fills-carry : (k from many : ℕ) (older a b : List (Slot T)) → many ≤ k → PlacesAll (entries_in from many older) a b → Fills k a b
+  Fills-carry k from many older a b few all =
       let es = entries_in from many older in
       let l = entries_few (take many (drop from older)) in
       let t = length-take many (drop from older) in
-      let le : length es ≤ 16 = omega arith in
-      Fills-more (length es) 16 a b le (Fills-PlacesAll es a b all)
+      let le : length es ≤ k = omega arith in
+      Fills-more (length es) k a b le (Fills-PlacesAll es a b all)
 
   -- what waits after a carry is what waited, without the slots that were looked at
   pub drop-Carries : (from many : ℕ) (old new : List (Slot T)) → Carries from many old new → drop (from + many) new ≡ drop (from + many) old
@@ -130,13 +131,10 @@ module _ {T : Type 0} where
       omega (arith, e, f)
 
 module _ {T : Type 0} (eq : T → T → Bool) (hash : T → ℕ) (newer older newer1 older1 : Columns T) (looked many : ℕ)
-    (tables : AreTables eq hash newer older looked) (least : many ≡ min (length older.slots - looked) 16)
+    (tables : AreTables eq hash newer older looked) (within : looked + many ≤ length older.slots)
     (placed : PlacesAll (entries_in looked many older.slots) newer.slots newer1.slots) (left : Carries looked many older.slots older1.slots) (apart : AreApart eq older1.slots newer1.slots)
     (kept : live_count newer1.slots + live_count older1.slots ≡ live_count newer.slots + live_count older.slots) (removed : removed_count newer1.slots ≤ removed_count newer.slots) (slots : length newer1.slots ≡ length newer.slots)
     (newer_reached : IsReached hash newer1) (older_reached : IsReached hash older1) where
-  within : looked + many ≤ length older.slots
-  within = let w = tables.looked_within in omega (arith, least, w)
-
   dead : (p : ℕ) → p < looked + many → is_live (slot_at older1.slots p) ≡ false
   dead p lt = elim (cases_lt p looked) [
     | inl a ↦ ap is_live (left.outside p (inl a)) ∙ tables.looked_dead p a
@@ -145,9 +143,9 @@ module _ {T : Type 0} (eq : T → T → Bool) (hash : T → ℕ) (newer older ne
 
   pub kept_after : live_count newer1.slots + live_count (drop (looked + many) older1.slots) ≡ live_count newer.slots + live_count (drop looked older.slots)
   kept_after =
-      let w = within in let same = left.same_length in
+      let same = left.same_length in
       let a = live-drop older.slots looked tables.looked_within tables.looked_dead in
-      let b = live-drop older1.slots (looked + many) (omega (arith, w, same)) dead in
+      let b = live-drop older1.slots (looked + many) (omega (arith, within, same)) dead in
       omega (arith, a, b, kept)
 
   pub tables_after : AreTables eq hash newer1 older1 (looked + many)
@@ -155,22 +153,23 @@ module _ {T : Type 0} (eq : T → T → Bool) (hash : T → ℕ) (newer older ne
     newer_reached = newer_reached;
     older_reached = older_reached;
     apart = apart;
-    looked_within = let w = within in let same = left.same_length in omega (arith, w, same);
+    unmoved = unmoved_filled _ newer.slots newer1.slots (Fills-PlacesAll _ newer.slots newer1.slots placed) tables.unmoved;
+    looked_within = let same = left.same_length in omega (arith, within, same);
     looked_dead = dead;
     fits = let k = kept_after in let f = tables.fits in let l : limit (length newer1.slots) ≡ limit (length newer.slots) = ap limit slots in omega (arith, k, f, l, removed);
   }
 
-  pub waiting_after : drop (looked + many) older1.slots ≡ drop 16 (drop looked older.slots)
-  waiting_after =
+  waiting_after : (most : ℕ) → many ≡ min (length older.slots - looked) most → drop (looked + many) older1.slots ≡ drop most (drop looked older.slots)
+  waiting_after most least =
       drop-Carries looked many older.slots older1.slots left
-      ∙ elim (cases_lt (length older.slots - looked) 16) [
+      ∙ elim (cases_lt (length older.slots - looked) most) [
         | inl a ↦
             let e : length older.slots ≤ looked + many = omega (arith, least, a) in
-            let f : length older.slots ≤ looked + 16 = omega (arith, a) in
-            drop_all (looked + many) older.slots e ∙ sym (drop_all (looked + 16) older.slots f) ∙ sym (drop-drop 16 looked older.slots)
+            let f : length older.slots ≤ looked + most = omega (arith, a) in
+            drop_all (looked + many) older.slots e ∙ sym (drop_all (looked + most) older.slots f) ∙ sym (drop-drop most looked older.slots)
         | inr b ↦
-            let e : many ≡ 16 = omega (arith, least, b) in
-            ap (λ m. drop (looked + m) older.slots) e ∙ sym (drop-drop 16 looked older.slots)
+            let e : many ≡ most = omega (arith, least, b) in
+            ap (λ m. drop (looked + m) older.slots) e ∙ sym (drop-drop most looked older.slots)
       ]
 
   pub entries_after : IsPermutation (entries_of newer.slots (drop looked older.slots)) (entries_of newer1.slots (drop (looked + many) older1.slots))
@@ -185,10 +184,10 @@ module _ {T : Type 0} (eq : T → T → Bool) (hash : T → ℕ) (newer older ne
       subst (λ l. IsPermutation (entries newer.slots ++ l) (entries_of newer1.slots (drop (looked + many) older1.slots))) (sym split)
       (subst (λ ss. IsPermutation (entries newer.slots ++ (es ++ rest)) (entries newer1.slots ++ entries ss)) (sym (drop-Carries looked many older.slots older1.slots left)) moved)
 
-  pub carried_after : many ≤ 16 → Carried newer.slots (drop looked older.slots) newer1.slots (drop (looked + many) older1.slots)
-  carried_after few = record {
-    fills = Fills-carry looked many older.slots newer.slots newer1.slots few placed;
-    waits = waiting_after;
+  pub carried_after : (most : ℕ) → many ≡ min (length older.slots - looked) most → Carried most newer.slots (drop looked older.slots) newer1.slots (drop (looked + many) older1.slots)
+  carried_after most least = record {
+    fills = Fills-carry most looked many older.slots newer.slots newer1.slots (omega (arith, least)) placed;
+    waits = waiting_after most least;
     entries = entries_after;
     live = kept_after;
     removed = removed;
@@ -203,27 +202,28 @@ module _ {T : Type 0} (eq : T → T → Bool) (hash : T → ℕ) where
         newer_reached = tables.newer_reached;
         older_reached = reached;
         apart = λ p v n here q lt. absurd (let w = within_table none.slots p (ap is_live here) in omega arith);
+        unmoved = tables.unmoved;
         looked_within = omega arith;
         looked_dead = λ p lt. absurd (omega arith);
         fits = let f = tables.fits in let c : live_count (drop 0 none.slots) ≡ 0 = ap live_count empty in omega arith;
       }
 
-  pub carried_freed : (newer waiting newer1 : List (Slot T)) (older none : Columns T) (k : ℕ) → Carried newer waiting newer1 (drop k older.slots) → length older.slots ≡ k → none.slots ≡ [] → Carried newer waiting newer1 (drop 0 none.slots)
-  carried_freed newer waiting newer1 older none k carried all empty =
-      subst (Carried newer waiting newer1) (drop_all k older.slots (omega arith) ∙ sym empty) carried
+  pub carried_freed : (most : ℕ) (newer waiting newer1 : List (Slot T)) (older none : Columns T) (k : ℕ) → Carried most newer waiting newer1 (drop k older.slots) → length older.slots ≡ k → none.slots ≡ [] → Carried most newer waiting newer1 (drop 0 none.slots)
+  carried_freed most newer waiting newer1 older none k carried all empty =
+      subst (Carried most newer waiting newer1) (drop_all k older.slots (omega arith) ∙ sym empty) carried
 
-  room_carried : (newer waiting newer1 waiting1 : List (Slot T)) → Carried newer waiting newer1 waiting1 → room_of newer waiting ≤ room_of newer1 waiting1
-  room_carried newer waiting newer1 waiting1 h =
+  room_carried : (k : ℕ) (newer waiting newer1 waiting1 : List (Slot T)) → Carried k newer waiting newer1 waiting1 → room_of newer waiting ≤ room_of newer1 waiting1
+  room_carried k newer waiting newer1 waiting1 h =
       let l : limit (length newer1) ≡ limit (length newer) = ap limit h.fills.same_length in
       let a = h.live in let b = h.removed in omega (arith, l, a, b)
 
   -- a carry keeps what holds between two calls
   pub IsTables-carried : IsEquivalence eq → (newer older newer1 older1 : Columns T) (looked looked1 : ℕ) → IsTables eq hash newer older looked → AreTables eq hash newer1 older1 looked1
-      → Carried newer.slots (drop looked older.slots) newer1.slots (drop looked1 older1.slots) → IsTables eq hash newer1 older1 looked1
+      → Carried 16 newer.slots (drop looked older.slots) newer1.slots (drop looked1 older1.slots) → IsTables eq hash newer1 older1 looked1
   IsTables-carried laws newer older newer1 older1 looked looked1 before tables h =
       let w = drop looked older.slots in
       let w1 = drop looked1 older1.slots in
-      let r = room_carried newer.slots w newer1.slots w1 h in
+      let r = room_carried 16 newer.slots w newer1.slots w1 h in
       let len : length w1 ≡ length w - 16 = ap length h.waits ∙ length-drop 16 w in
       record {
         tables = tables;
@@ -236,10 +236,10 @@ module _ {T : Type 0} (eq : T → T → Bool) (hash : T → ℕ) where
       }
 
   -- a carry out of the older table leaves what another insertion needs
-  pub carries_after : (newer waiting newer1 waiting1 : List (Slot T)) → Carried newer waiting newer1 waiting1 → length waiting ≤ 16 * room_of newer waiting → 0 < room_of newer waiting
+  pub carries_after : (newer waiting newer1 waiting1 : List (Slot T)) → Carried 16 newer waiting newer1 waiting1 → length waiting ≤ 16 * room_of newer waiting → 0 < room_of newer waiting
       → (0 < room_of newer1 waiting1) × (length waiting1 ≤ 16 * (room_of newer1 waiting1 - 1))
   carries_after newer waiting newer1 waiting1 h c pos =
-      let r = room_carried newer waiting newer1 waiting1 h in
+      let r = room_carried 16 newer waiting newer1 waiting1 h in
       let len : length waiting1 ≡ length waiting - 16 = ap length h.waits ∙ length-drop 16 waiting in
       (omega (arith, r, pos), omega (arith, r, len, c, pos))
 
@@ -264,6 +264,7 @@ IsTables-blank {T = T} eq hash newer older n e f r s =
         newer_reached = r;
         older_reached = s;
         apart = λ p v k here q lt. ap (λ ss. holds (λ w. eq w v) (slot_at ss q)) e ∙ ap (holds (λ w. eq w v)) (slot_at-replicate n q);
+        unmoved = unmoved_blank newer.slots n e;
         looked_within = omega arith;
         looked_dead = λ p lt. absurd (omega arith);
         fits = let a = ap live_count e ∙ live_empty T n in let b = ap removed_count e ∙ removed_empty T n in let c = ap live_count f in omega (arith, a, b, c);
@@ -286,52 +287,62 @@ module _ {T : Type 0} where
   pub entries_fresh : (ss : List (Slot T)) → ss ≡ replicate (length ss) Empty → entries ss ≡ []
   entries_fresh ss e = ap entries e ∙ entries_empty T (length ss)
 
-module _ {T : Type 0} (eq : T → T → Bool) (hash : T → ℕ) (newer older fresh : Columns T) (looked : ℕ)
-    (before : IsTables eq hash newer older looked) (empty : fresh.slots ≡ replicate (length fresh.slots) Empty) (reached : IsReached hash fresh) (alone : drop looked older.slots ≡ [])
-    (roomy : Roomy (length newer.slots) (live_count newer.slots) (length fresh.slots)) where
-  -- the former newer table waits beside one of Empty slots
+module _ {T : Type 0} (eq : T → T → Bool) (hash : T → ℕ) (newer fresh : Columns T) (many : ℕ) (reached : IsReached hash newer) (may : MayAdopt eq hash fresh newer.slots many) where
+  -- the former newer table waits beside the one that takes its place
   pub tables_adopted : AreTables eq hash fresh newer 0
-  tables_adopted =
-      let l = live_fresh fresh.slots empty in
+  tables_adopted = record {
+    newer_reached = may.reached;
+    older_reached = reached;
+    apart = may.apart;
+    unmoved = may.unmoved;
+    looked_within = omega arith;
+    looked_dead = λ p lt. absurd (omega arith);
+    fits = may.fits;
+  }
+
+  pub IsTables-adopted : IsEquivalence eq → (newer1 older1 : Columns T) (looked1 : ℕ) → AreTables eq hash newer1 older1 looked1 → Carried many fresh.slots newer.slots newer1.slots (drop looked1 older1.slots)
+      → IsTables eq hash newer1 older1 looked1
+  IsTables-adopted laws newer1 older1 looked1 tables h =
+      let w1 = drop looked1 older1.slots in
+      let r = room_carried eq hash many fresh.slots newer.slots newer1.slots w1 h in
+      let len : length w1 ≡ length newer.slots - many = ap length h.waits ∙ length-drop many newer.slots in
       record {
-        newer_reached = reached;
-        older_reached = before.tables.newer_reached;
-        apart = λ p v n here q lt. ap (λ ss. holds (λ w. eq w v) (slot_at ss q)) empty ∙ ap (holds (λ w. eq w v)) (slot_at-replicate (length fresh.slots) q);
-        looked_within = omega arith;
-        looked_dead = λ p lt. absurd (omega arith);
-        fits = let a = roomy.some in let b = removed_fresh fresh.slots empty in omega (arith, l, a, b);
+        tables = tables;
+        counted = counted_rearranged laws _ _ h.entries may.counted;
+        carries = let c = may.carries in omega (arith, r, len, c);
+        smaller = elim may.smaller [
+          | inl all ↦ inl (h.waits ∙ drop_all many newer.slots all)
+          | inr some ↦ inr (let same = h.fills.same_length in omega (arith, len, same, some))
+        ];
       }
 
-  entries_adopted : entries_of newer.slots (drop looked older.slots) ≡ entries_of fresh.slots newer.slots
-  entries_adopted =
-      ap (λ ss. entries newer.slots ++ entries ss) alone ∙ append-nil (entries newer.slots) ∙ sym (ap (λ es. es ++ entries newer.slots) (entries_fresh fresh.slots empty))
+-- a table of Empty slots with room enough takes the place of one that is full
+module _ {T : Type 0} (eq : T → T → Bool) (hash : T → ℕ) (newer fresh : Columns T) (counted : IsCounted eq (entries newer.slots)) (empty : fresh.slots ≡ replicate (length fresh.slots) Empty) (reached : IsReached hash fresh)
+    (roomy : Roomy (length newer.slots) (live_count newer.slots) (length fresh.slots)) where
+  room_fresh : room_of fresh.slots newer.slots ≡ limit (length fresh.slots) - live_count newer.slots
+  room_fresh = let a = live_fresh fresh.slots empty in let b = removed_fresh fresh.slots empty in omega (arith, a, b)
 
-  room_adopted : room_of fresh.slots newer.slots ≡ limit (length fresh.slots) - live_count newer.slots
-  room_adopted = let a = live_fresh fresh.slots empty in let b = removed_fresh fresh.slots empty in omega (arith, a, b)
+  pub may_grow : MayAdopt eq hash fresh newer.slots 16
+  may_grow =
+      let a = live_fresh fresh.slots empty in let b = removed_fresh fresh.slots empty in let r = room_fresh in
+      let x = roomy.some in let y = roomy.carries in
+      record {
+        reached = reached;
+        apart = λ p v n here q lt. ap (λ ss. holds (λ w. eq w v) (slot_at ss q)) empty ∙ ap (holds (λ w. eq w v)) (slot_at-replicate (length fresh.slots) q);
+        unmoved = unmoved_blank fresh.slots (length fresh.slots) empty;
+        counted = subst (λ es. IsCounted eq (es ++ entries newer.slots)) (sym (entries_fresh fresh.slots empty)) counted;
+        fits = omega (arith, a, b, x);
+        carries = omega (arith, r, y);
+        smaller = elim (cases_lt 16 (length newer.slots)) [
+          | inl more ↦ inr (let m = roomy.smaller in omega (arith, more, m))
+          | inr few ↦ inl few
+        ];
+      }
 
-  module _ (newer1 older1 : Columns T) (looked1 : ℕ) (tables : AreTables eq hash newer1 older1 looked1) (h : Carried fresh.slots newer.slots newer1.slots (drop looked1 older1.slots)) where
-    pub same_adopted : IsPermutation (entries_of newer.slots (drop looked older.slots)) (entries_of newer1.slots (drop looked1 older1.slots))
-    same_adopted = subst (λ es. IsPermutation es (entries_of newer1.slots (drop looked1 older1.slots))) (sym entries_adopted) h.entries
-
-    pub room_first : (0 < room_of newer1.slots (drop looked1 older1.slots)) × (length (drop looked1 older1.slots) ≤ 16 * (room_of newer1.slots (drop looked1 older1.slots) - 1))
-    room_first =
-        let r = room_adopted in let a = roomy.some in let b = roomy.carries in
-        carries_after eq hash fresh.slots newer.slots newer1.slots (drop looked1 older1.slots) h (omega (arith, r, b)) (omega (arith, r, a))
-
-    pub IsTables-adopted : IsEquivalence eq → IsTables eq hash newer1 older1 looked1
-    IsTables-adopted laws =
-        let w1 = drop looked1 older1.slots in
-        let r = room_first in
-        let len : length w1 ≡ length newer.slots - 16 = ap length h.waits ∙ length-drop 16 newer.slots in
-        record {
-          tables = tables;
-          counted = counted_rearranged laws _ _ same_adopted before.counted;
-          carries = let c = r.1 in omega (arith, c);
-          smaller = elim (cases_lt 16 (length newer.slots)) [
-            | inl more ↦ inr (let same = h.fills.same_length in let m = roomy.smaller in omega (arith, len, same, more, m))
-            | inr few ↦ inl (h.waits ∙ drop_all 16 newer.slots few)
-          ];
-        }
+  pub room_first : (newer1 waiting1 : List (Slot T)) → Carried 16 fresh.slots newer.slots newer1 waiting1 → (0 < room_of newer1 waiting1) × (length waiting1 ≤ 16 * (room_of newer1 waiting1 - 1))
+  room_first newer1 waiting1 h =
+      let r = room_fresh in let a = roomy.some in let b = roomy.carries in
+      carries_after eq hash fresh.slots newer.slots newer1 waiting1 h (omega (arith, r, b)) (omega (arith, r, a))
 
 module _ {T : Type 0} (eq : T → T → Bool) (laws : IsEquivalence eq) (hash : T → ℕ) (newer older newer1 : Columns T) (looked : ℕ) (v : T) (n : ℕ)
     (before : IsTables eq hash newer older looked) (absent : lookup_entry (eq v) (entries_of newer.slots (drop looked older.slots)) ≡ None) (some : 0 < n)
@@ -368,6 +379,7 @@ module _ {T : Type 0} (eq : T → T → Bool) (laws : IsEquivalence eq) (hash : 
             newer_reached = reached;
             older_reached = before.tables.older_reached;
             apart = λ p x m here. IsAbsent-Places (λ y. eq y x) v n newer.slots newer1.slots (before.tables.apart p x m here) put (other x m p here);
+            unmoved = unmoved_filled 1 newer.slots newer1.slots (Fills-Places v n newer.slots newer1.slots put) before.tables.unmoved;
             looked_within = before.tables.looked_within;
             looked_dead = before.tables.looked_dead;
             fits = let f = before.tables.fits in omega (arith, room, live, fewer, limits, f);
@@ -385,20 +397,14 @@ module _ {T : Type 0} where
   pub alone_full : (eq : T → T → Bool) (hash : T → ℕ) (newer older : Columns T) (looked : ℕ) → IsTables eq hash newer older looked → room_of newer.slots (drop looked older.slots) ≡ 0 → drop looked older.slots ≡ []
   alone_full eq hash newer older looked before full = drop_all 0 (drop looked older.slots) (let c = before.carries in omega (arith, c, full))
 
-  pub live_alone : (newer waiting : List (Slot T)) → waiting ≡ [] → live_count newer ≡ length (entries_of newer waiting)
-  live_alone newer waiting e =
-      let a = length-entries newer in
-      let b = length-append (entries newer) (entries waiting) in
-      let z : length (entries waiting) ≡ 0 = ap (λ ss. length (entries ss)) e in
-      omega (arith, a, b, z)
+  pub live_alone : (newer waiting : List (Slot T)) → waiting ≡ [] → live_count newer ≡ live_count newer + live_count waiting
+  live_alone newer waiting e = let z : live_count waiting ≡ 0 = ap live_count e in omega (arith, z)
 
-module _ {T S : Type 0} (old mid new : Table T S) where
-  pub ready_grown : room old ≡ 0 → Carried (fresh old) old.newer new.newer new.waiting → live_count old.newer ≡ length old.entries → IsPermutation old.entries new.entries
-      → 0 < room new → length new.waiting ≤ 16 * (room new - 1) → IsReady old new
-  ready_grown full carried live same some carries = record {
+module _ {T : Type 0} (old mid new : Tables T) where
+  pub ready_grown : room old ≡ 0 → Carried 16 (fresh old) old.newer new.newer new.waiting → old.waiting ≡ [] → 0 < room new → length new.waiting ≤ 16 * (room new - 1) → IsReady old new
+  ready_grown full carried alone some carries = record {
     kept = λ pos. absurd (omega (arith, pos, full));
-    grown = λ none. (carried, live);
-    entries = same;
+    grown = λ none. (carried, alone);
     some = some;
     carries = carries;
   }
@@ -419,9 +425,9 @@ module _ {T S : Type 0} (old mid new : Table T S) where
             let a = h.live in let b = h.removed in omega (arith, l, a, b, live, fewer, limits, waits);
         room_grown = λ none.
             let h = (ready.grown none).0 in
-            let e = (ready.grown none).1 in
+            let e : live_count old.waiting ≡ 0 = ap live_count (ready.grown none).1 in
             let a = h.live in let b = h.removed in
-            let x = live_empty T (grown_slots (length old.newer) (length old.entries)) in
-            let y = removed_empty T (grown_slots (length old.newer) (length old.entries)) in
+            let x = live_empty T (grown_slots (length old.newer) (values old)) in
+            let y = removed_empty T (grown_slots (length old.newer) (values old)) in
             omega (arith, e, a, b, x, y, live, fewer, limits, waits);
       }

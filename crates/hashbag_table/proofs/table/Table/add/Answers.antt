@@ -9,7 +9,7 @@ use Rattle.hashbag_table.proofs.table.Table.add.Goals as goal
 pub overflow_add-before : goal.overflow_add-before
 overflow_add-before g c =
     let eq = g.T.PartialEq.eq in let v = c.args.value in let es = c.args.self.now.entries in
-    let held = held_entry (λ w. eq w v) c.args.self.now c.in-Some.spot c.in-Some.ensures.held in
+    let held = held_entry (λ w. eq w v) c.args.self.now.tables c.in-Some.spot c.in-Some.ensures.held in
     let e = held.0 in
     let found : lookup_entry (eq v) es ≡ Some e = sym c.in-Some.ensures.map ∙ held.1 in
     let count : c.count_at-before.result ≡ e.1 = c.count_at-before.ensures.count e held.1 in
@@ -19,7 +19,7 @@ overflow_add-before g c =
 pub returns-in-Some-clause-before : goal.returns-in-Some-clause-before
 returns-in-Some-clause-before g c =
     let eq = g.T.PartialEq.eq in let v = c.args.value in let es = c.args.self.now.entries in
-    let held = held_entry (λ w. eq w v) c.args.self.now c.in-Some.spot c.in-Some.ensures.held in
+    let held = held_entry (λ w. eq w v) c.args.self.now.tables c.in-Some.spot c.in-Some.ensures.held in
     let e = held.0 in
     let found : lookup_entry (eq v) es ≡ Some e = sym c.in-Some.ensures.map ∙ held.1 in
     let count : c.count_at-before.result ≡ e.1 = c.count_at-before.ensures.count e held.1 in
@@ -29,7 +29,7 @@ returns-in-Some-clause-before g c =
 pub returns-in-Some-clause-added : goal.returns-in-Some-clause-added
 returns-in-Some-clause-added g c =
     let eq = g.T.PartialEq.eq in let v = c.args.value in let es = c.args.self.now.entries in
-    let held = held_entry (λ w. eq w v) c.args.self.now c.in-Some.spot c.in-Some.ensures.held in
+    let held = held_entry (λ w. eq w v) c.args.self.now.tables c.in-Some.spot c.in-Some.ensures.held in
     let e = held.0 in
     let found : lookup_entry (eq v) es ≡ Some e = sym c.in-Some.ensures.map ∙ held.1 in
     let count : c.count_at-before.result ≡ e.1 = c.count_at-before.ensures.count e held.1 in
@@ -40,7 +40,7 @@ returns-in-Some-clause-added g c =
 pub returns-in-Some-clause-slot : goal.returns-in-Some-clause-slot
 returns-in-Some-clause-slot g c some =
     let eq = g.T.PartialEq.eq in let v = c.args.value in let es = c.args.self.now.entries in
-    let held = held_entry (λ w. eq w v) c.args.self.now c.in-Some.spot c.in-Some.ensures.held in
+    let held = held_entry (λ w. eq w v) c.args.self.now.tables c.in-Some.spot c.in-Some.ensures.held in
     let e = held.0 in
     let found : lookup_entry (eq v) es ≡ Some e = sym c.in-Some.ensures.map ∙ held.1 in
     let count : c.count_at-before.result ≡ e.1 = c.count_at-before.ensures.count e held.1 in
@@ -48,7 +48,7 @@ returns-in-Some-clause-slot g c some =
     record {
       spot = c.in-Some.spot;
       held = c.in-Some.ensures.held;
-      after = subst (λ b. Writes c.in-Some.spot (recounted (b + c.args.n) (slot_in c.args.self.now c.in-Some.spot)) c.args.self.now c.set_spot.new.self) before c.set_spot.ensures.after;
+      after = subst (λ b. Writes c.in-Some.spot (recounted (b + c.args.n) (slot_in c.args.self.now.tables c.in-Some.spot)) c.args.self.now.tables c.set_spot.new.self.tables) before c.set_spot.ensures.after;
     }
 
 pub returns-clause-before : goal.returns-clause-before

@@ -14,4 +14,4 @@ returns-clause-carries g c =
     let hash = hash_under g.T.Hash.hash_input g.S.BuildHasher g.S.Hasher.Hasher c.self.inside.hasher in
     let w = drop c.self.inside.looked c.self.inside.older.slots in
     (carries_after g.T.PartialEq.eq hash c.self.inside.newer.slots w c.carry_next-self-inside.new.newer.slots (drop c.carry_next-self-inside.result c.carry_next-self-inside.new.older.slots) c.carry_next-self-inside.ensures.carried c.self.invariant.carries
-    (subst (λ t. 0 < room t) (sym c.self.view_is) c.requires.room)).1
+    (subst (λ t. 0 < room t.tables) (sym c.self.view_is) c.requires.room)).1

@@ -15,8 +15,8 @@ use Rattle.hashbag_table.proofs.SlotLemmas.{entries-drop, entries_few}
 use Rattle.hashbag_table.proofs.table.Table.drain.Goals as goal
 
 -- what contracts see of a table of no slots
-none_left : {T S : Type 0} (h : S) (newer older : List (Slot T)) → newer ≡ [] → older ≡ [] → (let t : Table T S = record { entries = entries_of newer older; hasher = h; newer = newer; waiting = older } in t) ≡ record { entries = []; hasher = h; newer = []; waiting = [] }
-none_left h newer older e f i = record { entries = entries_of (e i) (f i); hasher = h; newer = e i; waiting = f i }
+none_left : {T S : Type 0} (h : S) (newer older : List (Slot T)) → newer ≡ [] → older ≡ [] → (let t : Table T S = record { entries = entries_of newer older; hasher = h; tables = record { newer = newer; waiting = older } } in t) ≡ record { entries = []; hasher = h; tables = record { newer = []; waiting = [] } }
+none_left h newer older e f i = record { entries = entries_of (e i) (f i); hasher = h; tables = record { newer = e i; waiting = f i } }
 
 pub invariant_of-result : goal.invariant_of-result
 invariant_of-result g c =

@@ -13,14 +13,14 @@ returns-in_err-make_way-clause-counted g c =
 
 pub settle-requires-clause-absent : goal.settle-requires-clause-absent
 settle-requires-clause-absent g c =
-    absent_rearranged (g.T.PartialEq.eq c.args.value) _ _ c.in_ok-make_way.ensures.ready.entries c.requires.absent
+    absent_rearranged (g.T.PartialEq.eq c.args.value) _ _ c.in_ok-make_way.ensures.entries c.requires.absent
 
 pub returns-clause-inserted : goal.returns-clause-inserted
 returns-clause-inserted g c =
     let v = c.args.value in
     subst (λ es. IsPermutation ((v, c.args.count) ∷ es) c.settle.new.self.entries) (sym (without_absent (g.T.PartialEq.eq v) c.args.self.now.entries c.requires.absent))
-    (IsPermutation-trans _ _ _ (IsPermutation-cons (v, c.args.count) _ _ c.in_ok-make_way.ensures.ready.entries) c.settle.ensures.entries)
+    (IsPermutation-trans _ _ _ (IsPermutation-cons (v, c.args.count) _ _ c.in_ok-make_way.ensures.entries) c.settle.ensures.entries)
 
 pub returns-clause-arrives : goal.returns-clause-arrives
 returns-clause-arrives g c =
-    arrives_from c.args.self.now c.make_way.new.self c.settle.new.self c.args.value c.args.count c.in_ok-make_way.ensures.ready c.settle.ensures.placed c.settle.ensures.waiting
+    arrives_from c.args.self.now.tables c.make_way.new.self.tables c.settle.new.self.tables c.args.value c.args.count c.in_ok-make_way.ensures.ready c.settle.ensures.placed c.settle.ensures.waiting

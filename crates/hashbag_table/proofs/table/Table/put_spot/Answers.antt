@@ -13,7 +13,7 @@ invariant_of-self g c =
     let eq = g.T.PartialEq.eq in let i = c.self.inside in let x = c.args.value in
     let hash = hash_under g.T.Hash.hash_input g.S.BuildHasher g.S.Hasher.Hasher c.self.inside.hasher in
     let p = c.in-Newer.place in let v = c.put_one-former.result in let given = c.put_one-former.ensures.given in
-    let equal : eq v x ≡ true = sym (ap (holds (λ w. eq w x)) given) ∙ ap (λ t. holds (λ w. eq w x) (slot_at t.newer p)) c.self.view_is ∙ ap (λ q. holds (λ w. eq w x) (slot_in c.args.self.now q)) (sym c.in-Newer.is) ∙ c.requires.equal in
+    let equal : eq v x ≡ true = sym (ap (holds (λ w. eq w x)) given) ∙ ap (λ t. holds (λ w. eq w x) (slot_at t.tables.newer p)) c.self.view_is ∙ ap (λ q. holds (λ w. eq w x) (slot_in c.args.self.now.tables q)) (sym c.in-Newer.is) ∙ c.requires.equal in
     let reached = c.put_one-former.ensures.reached hash (λ a b e. hash_alike _ _ _ _ a b (g.met.T.Hash.respects_eq a b e)) c.self.invariant.tables.newer_reached in
     put_newer_tables eq g.met.T.Eq.laws v x equal hash i.newer i.older i.looked c.self.invariant p (count_in (slot_at i.newer.slots p)) c.put_one-former.new.slots given c.put_one-former.ensures.after reached
 
@@ -22,9 +22,9 @@ returns-in-Newer-clause-map g c e h =
     let eq = g.T.PartialEq.eq in let i = c.self.inside in let x = c.args.value in
     let hash = hash_under g.T.Hash.hash_input g.S.BuildHasher g.S.Hasher.Hasher c.self.inside.hasher in
     let p = c.in-Newer.place in let v = c.put_one-former.result in let given = c.put_one-former.ensures.given in
-    let equal : eq v x ≡ true = sym (ap (holds (λ w. eq w x)) given) ∙ ap (λ t. holds (λ w. eq w x) (slot_at t.newer p)) c.self.view_is ∙ ap (λ q. holds (λ w. eq w x) (slot_in c.args.self.now q)) (sym c.in-Newer.is) ∙ c.requires.equal in
+    let equal : eq v x ≡ true = sym (ap (holds (λ w. eq w x)) given) ∙ ap (λ t. holds (λ w. eq w x) (slot_at t.tables.newer p)) c.self.view_is ∙ ap (λ q. holds (λ w. eq w x) (slot_in c.args.self.now.tables q)) (sym c.in-Newer.is) ∙ c.requires.equal in
     let reached = c.put_one-former.ensures.reached hash (λ a b e. hash_alike _ _ _ _ a b (g.met.T.Hash.respects_eq a b e)) c.self.invariant.tables.newer_reached in
-    let there = ap (λ t. slot_entry (slot_at t.newer p)) c.self.view_is ∙ ap (λ q. slot_entry (slot_in c.args.self.now q)) (sym c.in-Newer.is) in
+    let there = ap (λ t. slot_entry (slot_at t.tables.newer p)) c.self.view_is ∙ ap (λ q. slot_entry (slot_in c.args.self.now.tables q)) (sym c.in-Newer.is) in
     subst (λ t. Swaps t.entries (entries_of c.put_one-former.new.slots.slots (drop i.looked i.older.slots)) e ((x, 1) ∷ [])) c.self.view_is
     (put_newer_at eq g.met.T.Eq.laws v x equal hash i.newer i.older i.looked c.self.invariant p (count_in (slot_at i.newer.slots p)) c.put_one-former.new.slots given c.put_one-former.ensures.after reached e (there ∙ h))
 
@@ -36,7 +36,7 @@ invariant_of-self-in-Waiting g c =
     let eq = g.T.PartialEq.eq in let i = c.self.inside in let x = c.args.value in
     let hash = hash_under g.T.Hash.hash_input g.S.BuildHasher g.S.Hasher.Hasher c.self.inside.hasher in
     let p = c.in-Waiting.place in let v = c.put_one-former-in-Waiting.result in let given = c.put_one-former-in-Waiting.ensures.given in
-    let equal : eq v x ≡ true = sym (ap (holds (λ w. eq w x)) given) ∙ sym (ap (holds (λ w. eq w x)) (get_or-drop i.looked i.older.slots p Empty)) ∙ ap (λ t. holds (λ w. eq w x) (slot_at t.waiting p)) c.self.view_is ∙ ap (λ q. holds (λ w. eq w x) (slot_in c.args.self.now q)) (sym c.in-Waiting.is) ∙ c.requires.equal in
+    let equal : eq v x ≡ true = sym (ap (holds (λ w. eq w x)) given) ∙ sym (ap (holds (λ w. eq w x)) (get_or-drop i.looked i.older.slots p Empty)) ∙ ap (λ t. holds (λ w. eq w x) (slot_at t.tables.waiting p)) c.self.view_is ∙ ap (λ q. holds (λ w. eq w x) (slot_in c.args.self.now.tables q)) (sym c.in-Waiting.is) ∙ c.requires.equal in
     let reached = c.put_one-former-in-Waiting.ensures.reached hash (λ a b e. hash_alike _ _ _ _ a b (g.met.T.Hash.respects_eq a b e)) c.self.invariant.tables.older_reached in
     put_waiting_tables eq g.met.T.Eq.laws v x equal hash i.newer i.older i.looked c.self.invariant p (count_in (slot_at i.older.slots (i.looked + p))) c.put_one-former-in-Waiting.new.slots given c.put_one-former-in-Waiting.ensures.after reached
 
@@ -45,9 +45,9 @@ returns-in-Waiting-clause-map g c e h =
     let eq = g.T.PartialEq.eq in let i = c.self.inside in let x = c.args.value in
     let hash = hash_under g.T.Hash.hash_input g.S.BuildHasher g.S.Hasher.Hasher c.self.inside.hasher in
     let p = c.in-Waiting.place in let v = c.put_one-former-in-Waiting.result in let given = c.put_one-former-in-Waiting.ensures.given in
-    let equal : eq v x ≡ true = sym (ap (holds (λ w. eq w x)) given) ∙ sym (ap (holds (λ w. eq w x)) (get_or-drop i.looked i.older.slots p Empty)) ∙ ap (λ t. holds (λ w. eq w x) (slot_at t.waiting p)) c.self.view_is ∙ ap (λ q. holds (λ w. eq w x) (slot_in c.args.self.now q)) (sym c.in-Waiting.is) ∙ c.requires.equal in
+    let equal : eq v x ≡ true = sym (ap (holds (λ w. eq w x)) given) ∙ sym (ap (holds (λ w. eq w x)) (get_or-drop i.looked i.older.slots p Empty)) ∙ ap (λ t. holds (λ w. eq w x) (slot_at t.tables.waiting p)) c.self.view_is ∙ ap (λ q. holds (λ w. eq w x) (slot_in c.args.self.now.tables q)) (sym c.in-Waiting.is) ∙ c.requires.equal in
     let reached = c.put_one-former-in-Waiting.ensures.reached hash (λ a b e. hash_alike _ _ _ _ a b (g.met.T.Hash.respects_eq a b e)) c.self.invariant.tables.older_reached in
-    let there = ap (λ t. slot_entry (slot_at t.waiting p)) c.self.view_is ∙ ap (λ q. slot_entry (slot_in c.args.self.now q)) (sym c.in-Waiting.is) in
+    let there = ap (λ t. slot_entry (slot_at t.tables.waiting p)) c.self.view_is ∙ ap (λ q. slot_entry (slot_in c.args.self.now.tables q)) (sym c.in-Waiting.is) in
     subst (λ t. Swaps t.entries (entries_of i.newer.slots (drop i.looked c.put_one-former-in-Waiting.new.slots.slots)) e ((x, 1) ∷ [])) c.self.view_is
     (put_waiting_at eq g.met.T.Eq.laws v x equal hash i.newer i.older i.looked c.self.invariant p (count_in (slot_at i.older.slots (i.looked + p))) c.put_one-former-in-Waiting.new.slots given c.put_one-former-in-Waiting.ensures.after reached e (there ∙ h))
 
@@ -56,11 +56,11 @@ returns-in-Waiting-clause-after g c =
     let eq = g.T.PartialEq.eq in let i = c.self.inside in let x = c.args.value in
     let hash = hash_under g.T.Hash.hash_input g.S.BuildHasher g.S.Hasher.Hasher c.self.inside.hasher in
     let p = c.in-Waiting.place in let v = c.put_one-former-in-Waiting.result in let given = c.put_one-former-in-Waiting.ensures.given in
-    let equal : eq v x ≡ true = sym (ap (holds (λ w. eq w x)) given) ∙ sym (ap (holds (λ w. eq w x)) (get_or-drop i.looked i.older.slots p Empty)) ∙ ap (λ t. holds (λ w. eq w x) (slot_at t.waiting p)) c.self.view_is ∙ ap (λ q. holds (λ w. eq w x) (slot_in c.args.self.now q)) (sym c.in-Waiting.is) ∙ c.requires.equal in
+    let equal : eq v x ≡ true = sym (ap (holds (λ w. eq w x)) given) ∙ sym (ap (holds (λ w. eq w x)) (get_or-drop i.looked i.older.slots p Empty)) ∙ ap (λ t. holds (λ w. eq w x) (slot_at t.tables.waiting p)) c.self.view_is ∙ ap (λ q. holds (λ w. eq w x) (slot_in c.args.self.now.tables q)) (sym c.in-Waiting.is) ∙ c.requires.equal in
     let reached = c.put_one-former-in-Waiting.ensures.reached hash (λ a b e. hash_alike _ _ _ _ a b (g.met.T.Hash.respects_eq a b e)) c.self.invariant.tables.older_reached in
     let new = c.put_one-former-in-Waiting.new.slots.slots in
-    subst (λ q. Writes q (Live x 1) c.args.self.now (record { entries = entries_of i.newer.slots (drop i.looked new); hasher = i.hasher; newer = i.newer.slots; waiting = drop i.looked new })) (sym c.in-Waiting.is)
-    (ap (λ t. t.newer) c.self.view_is, put_waiting_slots eq g.met.T.Eq.laws v x equal hash i.newer i.older i.looked c.self.invariant p (count_in (slot_at i.older.slots (i.looked + p))) c.put_one-former-in-Waiting.new.slots given c.put_one-former-in-Waiting.ensures.after reached ∙ ap (λ t. slice_set t.waiting p (Live x 1)) c.self.view_is)
+    subst (λ q. Writes q (Live x 1) c.args.self.now.tables (record { newer = i.newer.slots; waiting = drop i.looked new })) (sym c.in-Waiting.is)
+    (ap (λ t. t.tables.newer) c.self.view_is, put_waiting_slots eq g.met.T.Eq.laws v x equal hash i.newer i.older i.looked c.self.invariant p (count_in (slot_at i.older.slots (i.looked + p))) c.put_one-former-in-Waiting.new.slots given c.put_one-former-in-Waiting.ensures.after reached ∙ ap (λ t. slice_set t.tables.waiting p (Live x 1)) c.self.view_is)
 
 pub returns-in-Waiting-clause-counted : goal.returns-in-Waiting-clause-counted
 returns-in-Waiting-clause-counted g c = (invariant_of-self-in-Waiting g c).counted

@@ -16,4 +16,4 @@ returns g c =
     let l = live-drop c.self.inside.older.slots c.self.inside.looked t.looked_within t.looked_dead in
     let e : 3 * c.slots.result / 4 - c.live.result - c.removed.result - c.live-2.result ≡ room_of c.self.inside.newer.slots (drop c.self.inside.looked c.self.inside.older.slots)
     = let s = c.slots.ensures.value in let a = c.live.ensures in let b = c.removed.ensures in let d = c.live-2.ensures in let f : 3 * c.slots.result / 4 ≡ limit (length c.self.inside.newer.slots) = ap limit s in omega (arith, l, s, a, b, d, f) in
-    e ∙ ap room c.self.view_is
+    e ∙ ap (λ t. room t.tables) c.self.view_is

@@ -18,8 +18,8 @@ invariant_of-self g c =
     let eq = g.T.PartialEq.eq in let v = c.args.value in
     let hash = hash_under g.T.Hash.hash_input g.S.BuildHasher g.S.Hasher.Hasher c.self.inside.hasher in
     let absent = subst (λ t. entry_of eq v t.entries ≡ None) (sym c.self.view_is) c.requires.absent in
-    let has_room = subst (λ t. 0 < room t) (sym c.self.view_is) c.requires.room in
-    let carries = subst (λ t. length t.waiting ≤ 16 * (room t - 1)) (sym c.self.view_is) c.requires.carries in
+    let has_room = subst (λ t. 0 < room t.tables) (sym c.self.view_is) c.requires.room in
+    let carries = subst (λ t. length t.tables.waiting ≤ 16 * (room t.tables - 1)) (sym c.self.view_is) c.requires.carries in
     IsTables-settled eq g.met.T.Eq.laws hash c.self.inside.newer c.self.inside.older c.place_hashed.new.self c.self.inside.looked v c.args.count c.self.invariant absent c.requires.some has_room carries c.place_hashed.ensures.placed c.place_hashed.ensures.reached
 
 pub returns-clause-entries : goal.returns-clause-entries
@@ -27,8 +27,8 @@ returns-clause-entries g c =
     let eq = g.T.PartialEq.eq in let v = c.args.value in
     let hash = hash_under g.T.Hash.hash_input g.S.BuildHasher g.S.Hasher.Hasher c.self.inside.hasher in
     let absent = subst (λ t. entry_of eq v t.entries ≡ None) (sym c.self.view_is) c.requires.absent in
-    let has_room = subst (λ t. 0 < room t) (sym c.self.view_is) c.requires.room in
-    let carries = subst (λ t. length t.waiting ≤ 16 * (room t - 1)) (sym c.self.view_is) c.requires.carries in
+    let has_room = subst (λ t. 0 < room t.tables) (sym c.self.view_is) c.requires.room in
+    let carries = subst (λ t. length t.tables.waiting ≤ 16 * (room t.tables - 1)) (sym c.self.view_is) c.requires.carries in
     subst (λ t. IsPermutation ((v, c.args.count) ∷ t.entries) (entries_of c.place_hashed.new.self.slots (drop c.self.inside.looked c.self.inside.older.slots))) c.self.view_is
     (entries_settled eq g.met.T.Eq.laws hash c.self.inside.newer c.self.inside.older c.place_hashed.new.self c.self.inside.looked v c.args.count c.self.invariant absent c.requires.some has_room carries c.place_hashed.ensures.placed c.place_hashed.ensures.reached)
 

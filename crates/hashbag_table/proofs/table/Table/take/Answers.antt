@@ -9,7 +9,7 @@ use Rattle.hashbag_table.proofs.table.Table.take.Goals as goal
 pub returns-then-n-before-clause-before : goal.returns-then-n-before-clause-before
 returns-then-n-before-clause-before g c =
     let eq = g.T.PartialEq.eq in let v = c.args.value.now in let es = c.args.self.now.entries in
-    let held = held_entry (λ w. eq w v) c.args.self.now c.in-Some.spot c.in-Some.ensures.held in
+    let held = held_entry (λ w. eq w v) c.args.self.now.tables c.in-Some.spot c.in-Some.ensures.held in
     let e = held.0 in
     let found : lookup_entry (eq v) es ≡ Some e = sym c.in-Some.ensures.map ∙ held.1 in
     let count : c.count_at-before.result ≡ e.1 = c.count_at-before.ensures.count e held.1 in
@@ -19,7 +19,7 @@ returns-then-n-before-clause-before g c =
 pub returns-then-n-before-clause-taken : goal.returns-then-n-before-clause-taken
 returns-then-n-before-clause-taken g c =
     let eq = g.T.PartialEq.eq in let v = c.args.value.now in let es = c.args.self.now.entries in
-    let held = held_entry (λ w. eq w v) c.args.self.now c.in-Some.spot c.in-Some.ensures.held in
+    let held = held_entry (λ w. eq w v) c.args.self.now.tables c.in-Some.spot c.in-Some.ensures.held in
     let e = held.0 in
     let found : lookup_entry (eq v) es ≡ Some e = sym c.in-Some.ensures.map ∙ held.1 in
     let count : c.count_at-before.result ≡ e.1 = c.count_at-before.ensures.count e held.1 in

@@ -1,0 +1,79 @@
+use Rattle.std.proofs.Common.{◌≡◌, ◌+◌, ◌<◌, ◌++◌, ◌∷◌, [], List, ℕ, length, refl, ap, subst, append_assoc, ◌∙◌, sym, arith}
+use Rattle.std.specs.List.Sorted.{IsPermutation}
+use Rattle.std.proofs.lemmas.List.{append-nil, length-append}
+use Rattle.std.proofs.lemmas.List.Sorted.{length_permutation, IsPermutation-refl}
+use Rattle.hashbag_table.specs.Entries.{IsCounted}
+use Rattle.hashbag_table.specs.Tables.{limit, IsLeast}
+use Rattle.hashbag_table.proofs.CarryLemmas.{IsCounted-nil}
+use Rattle.hashbag_table.proofs.CloneLemmas.{IsCopy, next_is_new, next_is_some, copied, clones_reordered}
+use Rattle.hashbag_table.proofs.PackedLemmas.{IsFilled, filled_first, filled_next, filled_packed}
+use Rattle.hashbag_table.proofs.table.Table.clone_in.Goals as goal
+
+pub loop-value-init : goal.loop-value-init
+loop-value-init g c =
+    let none = c.in_ok-table.ensures.empty in (
+      (
+        [],
+        subst (IsPermutation c.args.self.now.entries) (sym c.into_iter-value-iterator.ensures.into_iter_gives) c.walk-value-items.ensures.entries,
+        record { clones = []; each = tt; all = subst (IsPermutation []) (sym none) (IsPermutation-refl []) },
+        filled_first c.in_ok-table.table.tables c.in_ok-table.ensures.fresh c.in_ok-table.ensures.packed,
+      ),
+      refl,
+      subst (IsCounted g.T.PartialEq.eq) (sym none) (IsCounted-nil g.row.T.Denot g.T.PartialEq.eq),
+    )
+
+pub insert_new-requires-clause-absent : goal.insert_new-requires-clause-absent
+insert_new-requires-clause-absent g c =
+    let so_far = c.loop-value.invariant.0 in
+    let order = subst (λ (l : List (g.row.T.Denot × ℕ)). IsPermutation c.args.self.now.entries (so_far.0 ++ l)) c.in-Some.ensures.steps so_far.1 in
+    next_is_new g.met.T.Eq.laws g.T.Clone.is_clone c.args.self.now.entries so_far.0 c.next.new.self c.loop-value.table.entries (c.in-Some.value.now, c.in-Some.count) c.in_ok-clone.clone
+    c.requires.equal c.walk-value-items.ensures.counted.distinct order so_far.2 c.in_ok-clone.ensures.cases
+
+pub insert_new-requires-clause-some : goal.insert_new-requires-clause-some
+insert_new-requires-clause-some g c =
+    let so_far = c.loop-value.invariant.0 in
+    let order = subst (λ (l : List (g.row.T.Denot × ℕ)). IsPermutation c.args.self.now.entries (so_far.0 ++ l)) c.in-Some.ensures.steps so_far.1 in
+    next_is_some c.args.self.now.entries so_far.0 c.next.new.self (c.in-Some.value.now, c.in-Some.count) c.walk-value-items.ensures.counted.positive order
+
+pub loop-value-preserved : goal.loop-value-preserved
+loop-value-preserved g c =
+    let so_far = c.loop-value.invariant.0 in
+    let entry : g.row.T.Denot × ℕ = (c.in-Some.value.now, c.in-Some.count) in
+    let order = subst (λ (l : List (g.row.T.Denot × ℕ)). IsPermutation c.args.self.now.entries (so_far.0 ++ l)) c.in-Some.ensures.steps so_far.1 in
+    let absent = next_is_new g.met.T.Eq.laws g.T.Clone.is_clone c.args.self.now.entries so_far.0 c.next.new.self c.loop-value.table.entries entry c.in_ok-clone.clone
+    c.requires.equal c.walk-value-items.ensures.counted.distinct order so_far.2 c.in_ok-clone.ensures.cases in
+    let all = length_permutation _ _ order in
+    let both = length-append so_far.0 (entry ∷ c.next.new.self) in
+    let more : length so_far.0 < limit (length c.in_ok-table.table.tables.newer) = let e = c.in_ok-table.ensures.least.enough in let n = c.set_len.ensures.len in omega (arith, e, n, all, both) in
+    let longer : length so_far.0 + 1 ≡ length (so_far.0 ++ entry ∷ []) = sym (length-append so_far.0 (entry ∷ [])) in (
+      (
+        so_far.0 ++ entry ∷ [],
+        rw (append_assoc so_far.0 (entry ∷ []) c.next.new.self) order,
+        copied g.met.T.Eq.laws g.T.Clone.is_clone so_far.0 c.loop-value.table.entries c.insert_new.new.self.entries entry c.in_ok-clone.clone so_far.2 c.in_ok-clone.ensures.cases absent c.in_ok-insert_new.ensures.inserted,
+        subst (IsFilled c.insert_new.new.self.tables c.in_ok-table.table.tables) longer
+        (filled_next c.loop-value.table.tables c.insert_new.new.self.tables c.in_ok-table.table.tables (length so_far.0) so_far.3 more c.in_ok-insert_new.ensures.arrives),
+      ),
+      c.insert_new.ensures.hasher ∙ c.loop-value.invariant.1,
+      c.insert_new.ensures.counted,
+    )
+
+pub returns-clause-clones : goal.returns-clause-clones
+returns-clause-clones g c =
+    let so_far = c.loop-value.invariant.0 in
+    let order = subst (λ (l : List (g.row.T.Denot × ℕ)). IsPermutation c.args.self.now.entries l) (ap (λ (l : List (g.row.T.Denot × ℕ)). so_far.0 ++ l) c.in-None.ensures.steps.0 ∙ append-nil so_far.0) so_far.1 in
+    clones_reordered (IsCopy g.met.T.Eq.laws g.T.Clone.is_clone) c.args.self.now.entries so_far.0 c.loop-value.table.entries order so_far.2
+
+pub returns-clause-hasher : goal.returns-clause-hasher
+returns-clause-hasher g c =
+    let cloned = subst (λ (h : g.row.S.Denot). g.S.Clone.is_clone h c.in_ok-hasher.hasher) c.hasher.ensures c.in_ok-hasher.ensures.cases in
+    subst (λ (h : g.row.S.Denot). g.S.Clone.is_clone c.args.self.now.hasher h) (sym (c.loop-value.invariant.1 ∙ c.in_ok-table.ensures.hasher)) cloned
+
+pub returns-clause-least : goal.returns-clause-least
+returns-clause-least g c =
+    let so_far = c.loop-value.invariant.0 in
+    subst (IsLeast 0 (length c.args.self.now.entries)) (sym so_far.3.slots) (subst (λ n. IsLeast 0 n (length c.in_ok-table.table.tables.newer)) c.set_len.ensures.len c.in_ok-table.ensures.least)
+
+pub returns-clause-packed : goal.returns-clause-packed
+returns-clause-packed g c =
+    let so_far = c.loop-value.invariant.0 in
+    filled_packed c.loop-value.table.tables c.in_ok-table.table.tables (length so_far.0) so_far.3
