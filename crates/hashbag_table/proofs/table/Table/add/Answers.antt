@@ -4,7 +4,7 @@ use Rattle.hashbag_slots.specs.Slots.{recounted}
 use Rattle.hashbag_table.specs.Entries.{count_of}
 use Rattle.hashbag_table.specs.Tables.{Swaps, slot_in, Writes}
 use Rattle.hashbag_table.proofs.SpotLemmas.{held_entry, count_present, count_absent, added_swapped, added_absent}
-use Rattle.hashbag_table.proofs.KeptLemmas.{kept_Rewrites}
+use Rattle.hashbag_table.proofs.RoomKeptLemmas.{kept_Rewrites}
 use Rattle.hashbag_table.proofs.table.Table.add.Goals as goal
 
 pub overflow_add-before : goal.overflow_add-before

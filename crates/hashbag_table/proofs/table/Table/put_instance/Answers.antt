@@ -5,7 +5,7 @@ use Rattle.hashbag_table.specs.Entries.{count_of, with_instance}
 use Rattle.hashbag_table.specs.Tables.{Swaps, slot_in, Writes}
 use Rattle.hashbag_table.proofs.SpotLemmas.{held_entry, count_present, count_absent, put_swapped}
 use Rattle.hashbag_slots.specs.declared.slots.Slot.TheVariants.{Live}
-use Rattle.hashbag_table.proofs.KeptLemmas.{kept_Rewrites}
+use Rattle.hashbag_table.proofs.RoomKeptLemmas.{kept_Rewrites}
 use Rattle.hashbag_table.proofs.table.Table.put_instance.Goals as goal
 
 pub returns-in-Some-clause-before : goal.returns-in-Some-clause-before

@@ -5,7 +5,7 @@ use Rattle.hashbag_table.specs.Entries.{count_of}
 use Rattle.hashbag_table.specs.Tables.{Swaps}
 use Rattle.hashbag_table.proofs.SpotLemmas.{held_entry, positive_found, count_present, count_absent, fewer_swapped, gone_swapped, fewer_absent}
 use Rattle.hashbag_slots.specs.declared.slots.Slot.TheVariants.{Removed}
-use Rattle.hashbag_table.proofs.KeptLemmas.{kept_Rewrites}
+use Rattle.hashbag_table.proofs.RoomKeptLemmas.{kept_Rewrites}
 use Rattle.hashbag_table.proofs.table.Table.take.Goals as goal
 
 pub returns-then-n-before-clause-before : goal.returns-then-n-before-clause-before
