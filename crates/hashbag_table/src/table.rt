@@ -572,7 +572,8 @@ impl<T: Eq + Hash + Drop, S: BuildHasher + Drop> Table<T, S> {
         ensures room { room self.old.tables ≤ room self.new.tables }
     {
         let newer = retain_slots(&mut self.newer, 0, &mut f);
-        newer + retain_slots(&mut self.older, self.looked, &mut f)
+        let waiting = retain_slots(&mut self.older, self.looked, &mut f);
+        newer + waiting
     }
 
     // Takes a table of Empty slots in which all values have room as the newer one, moves every value into it, and frees the

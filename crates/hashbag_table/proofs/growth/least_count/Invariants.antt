@@ -1,0 +1,15 @@
+use Rattle.std.proofs.Common.{ℕ, ◌-◌, ◌^◌, ◌≤◌}
+use Rattle.hashbag_slots.specs.Slots.{IsSlotCount}
+use Rattle.hashbag_table.proofs.LeastLemmas.{Below}
+use Rattle.hashbag_table.proofs.growth.least_count.Given as goal
+
+-- no number of slots below this one is enough
+abbrev pub invariant-loop-count : goal.invariant-loop-count
+invariant-loop-count l = record {
+  count : IsSlotCount l.count;
+  from : l.from ≤ l.count;
+  below : Below l.from l.values l.count;
+}
+
+abbrev pub decreases-loop-count : goal.decreases-loop-count
+decreases-loop-count l = 2 ^ 60 - l.count
