@@ -290,6 +290,8 @@ impl<T: Eq + Hash + Drop, S: BuildHasher + Drop> Table<T, S> {
         ensures err { OnErr result (self.new ≡ self.old) }
         ensures takes { 0 < room self.old.tables → IsOk result }
         ensures arrives { OnOk result (Arrives self.old.tables self.new.tables) }
+        ensures slots { OnOk result (0 < room self.old.tables → length self.new.tables.newer ≡ length self.old.tables.newer) }
+        ensures room { OnOk result (0 < room self.old.tables → room self.old.tables ≤ room self.new.tables + 1) }
     {
         let hash = hash_of(&self.hasher, &value);
         self.insert_hashed(hash, value, count)
@@ -378,6 +380,8 @@ impl<T: Eq + Hash + Drop, S: BuildHasher + Drop> Table<T, S> {
         ensures hasher { self.new.hasher ≡ self.old.hasher }
         ensures counted { IsCounted T.eq self.new.entries }
         ensures slot { Rewrites (λ w. T.eq w value.now) (recounted n) self.old.tables self.new.tables }
+        ensures slots { length self.new.tables.newer ≡ length self.old.tables.newer }
+        ensures room { room self.old.tables ≤ room self.new.tables }
     {
         let hash = hash_of(&self.hasher, value);
         if let Some(spot) = self.locate(hash, value) {
@@ -394,6 +398,8 @@ impl<T: Eq + Hash + Drop, S: BuildHasher + Drop> Table<T, S> {
         ensures counted { IsCounted T.eq self.new.entries }
         ensures slot { IsSome result → Rewrites (λ w. T.eq w value.now) (λ _. Slot.Removed) self.old.tables self.new.tables }
         ensures none { result ≡ None → self.new ≡ self.old }
+        ensures slots { length self.new.tables.newer ≡ length self.old.tables.newer }
+        ensures room { room self.old.tables ≤ room self.new.tables }
     {
         let hash = hash_of(&self.hasher, value);
         match self.locate(hash, value) {
@@ -438,6 +444,8 @@ impl<T: Eq + Hash + Drop, S: BuildHasher + Drop> Table<T, S> {
         ensures fewer { n < result → Rewrites (λ w. T.eq w value.now) (recounted (result - n)) self.old.tables self.new.tables }
         ensures gone { 0 < result → result ≤ n → Rewrites (λ w. T.eq w value.now) (λ _. Slot.Removed) self.old.tables self.new.tables }
         ensures none { result ≡ 0 → self.new ≡ self.old }
+        ensures slots { length self.new.tables.newer ≡ length self.old.tables.newer }
+        ensures room { room self.old.tables ≤ room self.new.tables }
     {
         let hash = hash_of(&self.hasher, value);
         if let Some(spot) = self.locate(hash, value) {
@@ -469,6 +477,10 @@ impl<T: Eq + Hash + Drop, S: BuildHasher + Drop> Table<T, S> {
         ensures takes { 0 < room self.old.tables → IsOk result }
         ensures slot { IsSome (entry_of T.eq value self.old.entries) → Rewrites (λ w. T.eq w value) (recounted (count_of T.eq value self.old.entries + n)) self.old.tables self.new.tables }
         ensures arrives { entry_of T.eq value self.old.entries ≡ None → OnOk result (Arrives self.old.tables self.new.tables) }
+        ensures slots { OnOk result (0 < room self.old.tables → length self.new.tables.newer ≡ length self.old.tables.newer) }
+        ensures room { OnOk result (0 < room self.old.tables → room self.old.tables ≤ room self.new.tables + 1) }
+        ensures same_slots { IfOk result (λ before. 0 < before → length self.new.tables.newer ≡ length self.old.tables.newer) }
+        ensures same_room { IfOk result (λ before. 0 < before → room self.old.tables ≤ room self.new.tables) }
     {
         let hash = hash_of(&self.hasher, &value);
         if let Some(spot) = self.locate(hash, &value) {
@@ -516,6 +528,10 @@ impl<T: Eq + Hash + Drop, S: BuildHasher + Drop> Table<T, S> {
         ensures takes { 0 < room self.old.tables → IsOk result }
         ensures slot { IsSome (entry_of T.eq value self.old.entries) → Rewrites (λ w. T.eq w value) (λ _. Slot.Live value 1) self.old.tables self.new.tables }
         ensures arrives { entry_of T.eq value self.old.entries ≡ None → OnOk result (Arrives self.old.tables self.new.tables) }
+        ensures slots { OnOk result (0 < room self.old.tables → length self.new.tables.newer ≡ length self.old.tables.newer) }
+        ensures room { OnOk result (0 < room self.old.tables → room self.old.tables ≤ room self.new.tables + 1) }
+        ensures same_slots { IfOk result (λ before. 0 < before → length self.new.tables.newer ≡ length self.old.tables.newer) }
+        ensures same_room { IfOk result (λ before. 0 < before → room self.old.tables ≤ room self.new.tables) }
     {
         let hash = hash_of(&self.hasher, &value);
         if let Some(spot) = self.locate(hash, &value) {

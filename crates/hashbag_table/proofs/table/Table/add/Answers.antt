@@ -1,9 +1,10 @@
-use Rattle.std.proofs.Common.{◌≡◌, ◌+◌, ◌∷◌, [], Some, sym, ◌∙◌, subst, arith}
+use Rattle.std.proofs.Common.{◌≡◌, refl, ◌+◌, ◌∷◌, [], Some, sym, ◌∙◌, subst, arith}
 use Rattle.std.specs.Map.{lookup_entry}
 use Rattle.hashbag_slots.specs.Slots.{recounted}
 use Rattle.hashbag_table.specs.Entries.{count_of}
 use Rattle.hashbag_table.specs.Tables.{Swaps, slot_in, Writes}
 use Rattle.hashbag_table.proofs.SpotLemmas.{held_entry, count_present, count_absent, added_swapped, added_absent}
+use Rattle.hashbag_table.proofs.RoomKeptLemmas.{kept_Rewrites}
 use Rattle.hashbag_table.proofs.table.Table.add.Goals as goal
 
 pub overflow_add-before : goal.overflow_add-before
@@ -58,3 +59,29 @@ returns-clause-before g c =
 pub returns-clause-added : goal.returns-clause-added
 returns-clause-added g c =
     added_absent g.T.PartialEq.eq c.args.value c.args.self.now.entries c.args.n c.insert_hashed.new.self.entries (sym c.in_default.ensures.map) c.in_ok-insert_hashed.ensures.inserted
+
+pub returns-in-Some-clause-slots : goal.returns-in-Some-clause-slots
+returns-in-Some-clause-slots g c some =
+    (kept_Rewrites (λ w. g.T.PartialEq.eq w c.args.value) (recounted (c.count_at-before.result + c.args.n)) c.args.self.now.tables c.set_spot.new.self.tables (λ v n. refl)
+    (record { spot = c.in-Some.spot; held = c.in-Some.ensures.held; after = c.set_spot.ensures.after })).0
+
+pub returns-in-Some-clause-room : goal.returns-in-Some-clause-room
+returns-in-Some-clause-room g c some =
+    let k = (kept_Rewrites (λ w. g.T.PartialEq.eq w c.args.value) (recounted (c.count_at-before.result + c.args.n)) c.args.self.now.tables c.set_spot.new.self.tables (λ v n. refl)
+    (record { spot = c.in-Some.spot; held = c.in-Some.ensures.held; after = c.set_spot.ensures.after })).2 in omega (arith, k)
+
+pub returns-in-Some-clause-same_slots : goal.returns-in-Some-clause-same_slots
+returns-in-Some-clause-same_slots g c some =
+    (kept_Rewrites (λ w. g.T.PartialEq.eq w c.args.value) (recounted (c.count_at-before.result + c.args.n)) c.args.self.now.tables c.set_spot.new.self.tables (λ v n. refl)
+    (record { spot = c.in-Some.spot; held = c.in-Some.ensures.held; after = c.set_spot.ensures.after })).0
+
+pub returns-in-Some-clause-same_room : goal.returns-in-Some-clause-same_room
+returns-in-Some-clause-same_room g c some =
+    (kept_Rewrites (λ w. g.T.PartialEq.eq w c.args.value) (recounted (c.count_at-before.result + c.args.n)) c.args.self.now.tables c.set_spot.new.self.tables (λ v n. refl)
+    (record { spot = c.in-Some.spot; held = c.in-Some.ensures.held; after = c.set_spot.ensures.after })).2
+
+pub returns-clause-slots : goal.returns-clause-slots
+returns-clause-slots g c some = (c.in_ok-insert_hashed.ensures.arrives.kept some).fills.same_length
+
+pub returns-clause-room : goal.returns-clause-room
+returns-clause-room g c some = c.in_ok-insert_hashed.ensures.arrives.room_kept some
