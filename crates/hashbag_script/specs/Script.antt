@@ -66,11 +66,11 @@ module _ {T : Type 0} (eq : T → T → Bool) where
     pub some : 0 < n
     pub fits : length X + n ≤ greatest_total
 
-  -- a step that may be refused for memory: such an insertion, a replacement with a total that fits, and what asks for room
+  -- a step that may be refused for memory: such an insertion, or a replacement that is one, and what asks for room
   abbrev pub AsksForMemory : List T → Step T → Type 0
   AsksForMemory X (Insert v) = IsRefusedInsertion v 1 X
   AsksForMemory X (InsertMany v n) = IsRefusedInsertion v n X
-  AsksForMemory X (Replace v) = length X - count eq v X + 1 ≤ greatest_total
+  AsksForMemory X (Replace v) = IsRefusedInsertion v 1 X
   AsksForMemory X (Remove v) = ⊥
   AsksForMemory X (RemoveUpTo v q) = ⊥
   AsksForMemory X (TryTake v) = ⊥

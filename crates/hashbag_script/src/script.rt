@@ -99,7 +99,7 @@ fn replace_if_it_fits<T: Eq + Hash + Drop, S: BuildHasher + Drop>(
     ensures reply { IfOk result (λ reply. reply ≡ (replace_row T.eq value bag.old.items).1) }
     ensures left { OnOk result (IsBagOf T.eq bag.old (replace_row T.eq value bag.old.items).0 bag.new) }
     ensures memory { OnErr result (result ≡ Err BagError.Memory) }
-    ensures refused { OnErr result (length bag.old.items - count T.eq value bag.old.items + 1 ≤ greatest_total) }
+    ensures refused { OnErr result (IsRefusedInsertion T.eq value 1 bag.old.items) }
     ensures err { OnErr result (bag.new ≡ bag.old) }
 {
     if bag.len() == usize::MAX && bag.contains(&value) == 0 {
@@ -254,7 +254,7 @@ fn apply<T: Eq + Hash + Drop, S: BuildHasher + Drop>(
 /// Does the steps in turn, and appends a reply for each.
 ///
 /// Room for all replies is taken first: where it is refused, nothing changes. Then only an insertion of a value that is
-/// absent (`EntryOr` too), a replacement, `Reserve` and `ShrinkToFit` can be refused for memory. The run stops there with `Memory`: the
+/// absent (`Replace` and `EntryOr` too), `Reserve` and `ShrinkToFit` can be refused for memory. The run stops there with `Memory`: the
 /// steps before it have their replies and are done, that step left the bag as it was, and the rest of the steps is
 /// dropped. A total that would pass its end is the reply `TooMany`, and no error. No value is copied.
 pub fn run<T: Eq + Hash + Drop, S: BuildHasher + Drop>(

@@ -43,3 +43,6 @@ returns-clause-len g c =
     let was = c.self.invariant.sum in
     let now = (invariant_of-self g c).sum in
     rw (← c.self.view_is) (omega arith)
+
+pub returns-clause-slot : goal.returns-clause-slot
+returns-clause-slot g c = rw (← c.self.view_is) c.set_or_remove.ensures.slot

@@ -697,7 +697,7 @@ module _ (T S H : RattleType) (lT : Laws T) (lS : Laws S) (lH : Laws H) (e : EqG
               let left = one.0 in
               let last = one.1.1.0 in
               let several = one.1.1.1.0 in
-              let bag = one.1.1.1.1 in
+              let bag = one.1.1.1.1.0 in
               let rest = answered.5 in
               (left, answer_of laws (λ f. (f.0.now, f.1)) a.1.0.now a.0.now.items taken.2.0.items bag left.bag left.means taken.1 answered.1 last several rest.0 rest.1.0 rest.1.1),
         ),
