@@ -1,7 +1,7 @@
 -- What calls leave of the slots of a bag, from what the calls of its table leave of them.
-use Rattle.std.proofs.Common.{◌≡◌, ℕ, zero, suc, ◌+◌, ◌-◌, ◌<◌, ◌≤◌, Bool, true, false, cond, List, [], ◌∷◌, length, replicate, None, IsSome, Result, Ok, Err, IfErr, refl, sym, ap, subst, ◌∙◌, arith}
+use Rattle.std.proofs.Common.{◌≡◌, ℕ, zero, suc, ◌+◌, ◌-◌, ◌<◌, ◌≤◌, ◌==◌, Bool, true, false, cond, List, [], ◌∷◌, length, replicate, None, IsSome, Result, Ok, Err, IfErr, refl, sym, ap, subst, ◌∙◌, inl, inr, arith}
 use Rattle.std.specs.Cmp.{IsEquivalence}
-use Rattle.std.proofs.lemmas.Bool.{cases_lt}
+use Rattle.std.proofs.lemmas.Bool.{cases_lt, ne_eqb}
 use Rattle.std.proofs.lemmas.List.{nil_from_length, length-set}
 use Rattle.hashbag_slots.specs.declared.slots.Slot.{Slot}
 use Rattle.hashbag_slots.specs.declared.slots.Slot.TheVariants.{Empty, Removed, Moved, Live}
@@ -27,10 +27,18 @@ pub none_left : (k : ℕ) → (0 < k → ⊥) → k ≡ 0
 none_left zero h = refl
 none_left (suc k) h = absurd (h (omega arith))
 
+pub more_than_one : (k : ℕ) → 0 < k → (k ≡ 1 → ⊥) → 0 < k - 1
+more_than_one zero some several = absurd (omega arith)
+more_than_one (suc zero) some several = absurd (several refl)
+more_than_one (suc (suc k)) some several = omega arith
+
 -- whatever the error is
 pub err_from : {A E P : Type 0} (r : Result A E) (Q : E → Type 0) → P → IfErr r (λ e. Q e → P)
 err_from (Ok a) Q p = tt
 err_from (Err e) Q p = λ _. p
+
+abbrev one_if : Bool → ℕ
+one_if b = cond b 1 0
 
 module _ {T : Type 0} where
   pub tables_from : (t u : Tables T) → t.newer ≡ u.newer → t.waiting ≡ u.waiting → t ≡ u
@@ -52,8 +60,7 @@ module _ {T : Type 0} where
       omega (arith, live, none, enough, is)
 
   left_some : (n : ℕ) (s : Slot T) → 0 < n → recounted n s ≡ left_in n s
-  left_some zero s some = absurd (omega arith)
-  left_some (suc n) s some = refl
+  left_some n s some = ap (λ (b : Bool). cond b Removed (recounted n s)) (sym (ne_eqb n 0 (λ e. omega (arith, e, some))))
 
   left_none : (n : ℕ) (s : Slot T) → n ≡ 0 → Removed ≡ left_in n s
   left_none n s none = ap (λ k. left_in k s) (sym none)
@@ -63,11 +70,8 @@ module _ {T : Type 0} where
 
   -- ---- room
 
-  one_if : Bool → ℕ
-  one_if b = cond b 1 0
-
   -- the slot is Live or Removed
-  IsTaken : Slot T → Type 0
+  abbrev IsTaken : Slot T → Type 0
   IsTaken s = one_if (is_live s) + one_if (is_removed s) ≡ 1
 
   alive : (test : T → Bool) (s : Slot T) → holds test s ≡ true → (one_if (is_live s) ≡ 1) × (one_if (is_removed s) ≡ 0)
@@ -77,7 +81,6 @@ module _ {T : Type 0} where
   alive test (Live v n) h = (refl, refl)
 
   room_written : (test : T → Bool) (s : Slot T) → IsTaken s → (spot : Spot) (old new : Tables T) → HoldsIn test old spot → Writes spot s old new → room old ≤ room new
-  unfolding one_if, IsTaken
   room_written test s taken (Newer p) old new held w =
       let was = alive test (slot_at old.newer p) held.1 in
       let was_live = was.0 in
@@ -105,8 +108,11 @@ module _ {T : Type 0} where
   recounted_taken test n Empty h = absurd (cc)
   recounted_taken test n Removed h = absurd (cc)
   recounted_taken test n Moved h = absurd (cc)
-  recounted_taken test zero (Live v m) h = refl
-  recounted_taken test (suc n) (Live v m) h = refl
+  recounted_taken test n (Live v m) h = either (n == 0)
+    where
+      either : (b : Bool) → IsTaken (cond b Removed (Live v n))
+      either true = refl
+      either false = refl
 
   held_slot : (test : T → Bool) (t : Tables T) (spot : Spot) → HoldsIn test t spot → holds test (slot_in t spot) ≡ true
   held_slot test t (Newer p) h = h.1
@@ -133,7 +139,6 @@ module _ {T : Type 0} (eq : T → T → Bool) where
   room_recounted v n old new r = room_written (λ w. eq w v) (left_in n (slot_in old r.spot)) (recounted_taken (λ w. eq w v) n (slot_in old r.spot) (held_slot (λ w. eq w v) old r.spot r.held)) r.spot old new r.held r.after
 
   pub room_restored : (v : T) (old new : Tables T) → Restores eq v old new → room old ≤ room new
-  unfolding one_if, IsTaken
   room_restored v old new r = room_written (λ w. eq w v) (Live v 1) refl r.spot old new r.held r.after
 
 module _ {T : Type 0} {eq : T → T → Bool} (laws : IsEquivalence eq) where

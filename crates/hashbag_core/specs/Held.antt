@@ -23,7 +23,7 @@ module _ {T : Type 0} where
 module _ {T : Type 0} (eq : T → T → Bool) where
   -- the values with their counts are the Live slots of both tables, and no value is in both, or twice in one
   pub record AreHeld (items : List T) (tables : Tables T) : Type 0 where
-    pub items : items ≡ occurrences (entries_of tables.newer tables.waiting)
+    pub entries : items ≡ occurrences (entries_of tables.newer tables.waiting)
     pub counted : IsCounted eq (entries_of tables.newer tables.waiting)
 
   -- of v, which was there, n are left: its slot alone is changed, in whichever table it is

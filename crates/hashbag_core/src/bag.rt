@@ -385,7 +385,7 @@ impl<T: Eq + Hash + Drop, S: BuildHasher + Drop> HashBag<T, S> {
     /// Takes one occurrence of a value: the last one itself, or else one of several, and then it answers the stored instance,
     /// which stays, with how many there were. `Err(None)` where the value is absent.
     ///
-    /// It lowers the count in place and takes no memory.
+    /// It lowers the count in place and takes no memory. It hashes the value once, and twice where one of several is taken.
     ///
     /// The answer may lend the instance that stays, so a caller that is proved learns what it was, and not what the bag means
     /// afterwards. Whoever needs that, as in a loop, calls [`HashBag::take_one`], which takes the same and lends nothing.
@@ -422,7 +422,7 @@ impl<T: Eq + Hash + Drop, S: BuildHasher + Drop> HashBag<T, S> {
     /// were. `Err(0)` where the value is absent: nothing is then taken.
     ///
     /// It is [`HashBag::try_take`] without the loan of the instance that stays, so its contract says what the bag means
-    /// afterwards. It takes no memory.
+    /// afterwards. It takes no memory, and hashes the value once.
     pub fn take_one(&mut self, value: &T) -> Result<T, usize>
         ensures taken { IsBagOf T.eq self.old (less T.eq value.now 1 self.old.items) self.new }
         ensures len { MatchResult result (λ _. length self.new.items + 1 ≡ length self.old.items) (λ before. length self.new.items + min before 1 ≡ length self.old.items) }
@@ -432,16 +432,15 @@ impl<T: Eq + Hash + Drop, S: BuildHasher + Drop> HashBag<T, S> {
         ensures slot { 0 < count T.eq value.now self.old.items → Recounts T.eq value.now (count T.eq value.now self.old.items - 1) self.old.tables self.new.tables }
         ensures none { count T.eq value.now self.old.items ≡ 0 → self.new ≡ self.old }
     {
-        let before = self.contains(value);
-        if before == 0 {
-            return Err(0);
-        }
-        if before != 1 {
-            return Err(self.remove(value));
-        }
-        match self.take_all(value) {
-            Some((instance, _)) => Ok(instance),
-            None => Err(0),
+        match self.table.take_one(value) {
+            Ok(instance) => {
+                self.len -= 1;
+                Ok(instance)
+            }
+            Err(before) => {
+                self.len -= before.min(1);
+                Err(before)
+            }
         }
     }
 

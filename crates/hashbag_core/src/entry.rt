@@ -1,5 +1,5 @@
 //! `Entry`: the place of a value in a bag.
-ghost use Rattle.std.specs.Prelude.{◌≡◌, ◌+◌, ◌<◌, ◌≤◌, ℕ, length, IsOk, IfOk, OnErr};
+ghost use Rattle.std.specs.Prelude.{◌≡◌, ◌+◌, ◌<◌, ◌≤◌, ℕ, length, IsOk, IfOk, OnOk, OnErr};
 ghost use Rattle.hashbag_table.specs.Tables.{room, Arrives};
 ghost use Rattle.hashbag_core.specs.Held.{Recounts};
 ghost use Rattle.std.specs.Borrow.{sem, MutBor, RestsIfErr};

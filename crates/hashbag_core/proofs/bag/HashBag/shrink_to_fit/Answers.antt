@@ -46,12 +46,12 @@ returns-clause-same g c = λ m least enough.
 
 pub returns-clause-freed : goal.returns-clause-freed
 returns-clause-freed g c = λ empty.
-    none_from_newer c.shrink_to_fit.new.self.tables c.waiting.result
-    (c.shrink_to_fit.ensures.freed (no_entries g.met.T.Eq.laws _ c.self.invariant.counted (rw (← c.self.view_is) at empty))) c.waiting.ensures.waiting c.waiting.ensures.smaller
+    none_from_newer c.shrink_to_fit.new.self.tables c.waiting-waiting.result
+    (c.shrink_to_fit.ensures.freed (no_entries g.met.T.Eq.laws _ c.self.invariant.counted (rw (← c.self.view_is) at empty))) c.waiting-waiting.ensures.waiting c.waiting-waiting.ensures.smaller
 
 pub returns-clause-least : goal.returns-clause-least
 returns-clause-least g c = λ m least more.
-    rw (← c.self.view_is) (c.in_ok-shrink_to_fit.ensures.least m (rw (← c.self.view_is, distinct_count-occurrences g.met.T.Eq.laws c.self.inside.table.entries c.self.invariant.counted) at least) (rw (← c.self.view_is) at more))
+    c.in_ok-shrink_to_fit.ensures.least m (rw (← c.self.view_is, distinct_count-occurrences g.met.T.Eq.laws c.self.inside.table.entries c.self.invariant.counted) at least) (rw (← c.self.view_is) at more)
 
 pub returns-clause-packed : goal.returns-clause-packed
 returns-clause-packed g c = λ m least more.

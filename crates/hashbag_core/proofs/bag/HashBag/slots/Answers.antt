@@ -5,6 +5,6 @@ use Rattle.hashbag_core.proofs.bag.HashBag.slots.Goals as goal
 
 pub returns-clause-held : goal.returns-clause-held
 returns-clause-held g c = rw (← c.self.view_is) (record {
-  items = ap occurrences c.slots.ensures.entries;
+  entries = ap occurrences c.slots.ensures.entries;
   counted = subst (λ es. IsCounted g.T.PartialEq.eq es) c.slots.ensures.entries c.self.invariant.counted;
 })
