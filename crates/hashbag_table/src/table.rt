@@ -462,6 +462,8 @@ impl<T: Eq + Hash + Drop, S: BuildHasher + Drop> Table<T, S> {
         ensures fewer { IfErr result (λ before. 0 < before → Rewrites (λ w. T.eq w value.now) (recounted (before - 1)) self.old.tables self.new.tables) }
         ensures gone { IfOk result (λ _. Rewrites (λ w. T.eq w value.now) (λ _. Slot.Removed) self.old.tables self.new.tables) }
         ensures none { IfErr result (λ before. before ≡ 0 → self.new ≡ self.old) }
+        ensures slots { length self.new.tables.newer ≡ length self.old.tables.newer }
+        ensures room { room self.old.tables ≤ room self.new.tables }
     {
         let hash = hash_of(&self.hasher, value);
         if let Some(spot) = self.locate(hash, value) {
