@@ -6,6 +6,7 @@ use denote.Ref.{Bor}
 use denote.Param.Members.{Mut}
 use Rattle.std.specs.Fn.{Called}
 use Rattle.hashbag_table.specs.Asked.{Retains, AnswersInTurn, kept}
+use Rattle.hashbag_table.specs.Tables.{Tables}
 use Rattle.hashbag_table.specs.Entries.{IsCounted, total}
 use Rattle.hashbag_table.proofs.AskedLemmas.{total_kept}
 use Rattle.hashbag_core.specs.Bag.{occurrences, IsTallied}
@@ -40,10 +41,10 @@ module _ {F T : Type 0} {eq : T → T → Bool} (laws : IsEquivalence eq) (g : M
         let fewer = fewer_retained in
         record { sum = is ∙ sym sum; fits = omega arith; counted = counted }
 
-    pub is_retained : {S : Type 0} (hasher after : S) (left : ℕ) → left ≡ total fs → after ≡ hasher → IsRetained eq g f (record { items = occurrences es; hasher = hasher }) (record { items = occurrences fs; hasher = after })
-    is_retained hasher after left is same = record {
+    pub is_retained : {S : Type 0} (hasher after : S) (tables tables_after : Tables T) (left : ℕ) → left ≡ total fs → after ≡ hasher → IsRetained eq g f (record { items = occurrences es; hasher = hasher; tables = tables }) (record { items = occurrences fs; hasher = after; tables = tables_after })
+    is_retained hasher after tables tables_after left is same = record {
       walk = retains.walk;
-      set_walk = set_walk_of_bag laws hasher es retains.walk len tally retains.order;
+      set_walk = set_walk_of_bag laws hasher tables es retains.walk len tally retains.order;
       answers = retains.answers;
       last = retains.last;
       asked = retains.asked;

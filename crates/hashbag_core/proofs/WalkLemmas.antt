@@ -12,6 +12,7 @@ use Rattle.std.proofs.lemmas.List.Elements.{All-nil, All-cons, All-head, All-tai
 use Rattle.std.proofs.lemmas.List.Sorted.{All-permutation, Contains-permutation, length_permutation, IsPermutation-sym, IsPermutation-trans}
 use Rattle.std.proofs.lemmas.Map.Entries.{lookup_from_place}
 use Rattle.std.proofs.lemmas.Option.{slice_get-get_or}
+use Rattle.hashbag_table.specs.Tables.{Tables}
 use Rattle.hashbag_table.specs.Entries.{IsCounted}
 use Rattle.hashbag_table.proofs.EntryLemmas.{counted_rearranged}
 use Rattle.hashbag_core.specs.Bag.{occurrences, IsTallied}
@@ -117,8 +118,8 @@ module _ {T : Type 0} {eq : T → T → Bool} (laws : IsEquivalence eq) where
       (IsPermutation-sym _ _ (IsPermutation-trans _ _ _ means (occurrences_rearranged es W p)))
       (set_walk_occurrences W (counted_rearranged laws es W p counted))
 
-  pub set_walk_of_bag : {S : Type 0} (hasher : S) (es W : List (T × ℕ)) (total : ℕ) → IsTallied eq es total → IsPermutation es W → IsSetWalkOf eq (record { items = occurrences es; hasher = hasher }) W
-  set_walk_of_bag hasher es W total tally p =
+  pub set_walk_of_bag : {S : Type 0} (hasher : S) (tables : Tables T) (es W : List (T × ℕ)) (total : ℕ) → IsTallied eq es total → IsPermutation es W → IsSetWalkOf eq (record { items = occurrences es; hasher = hasher; tables = tables }) W
+  set_walk_of_bag hasher tables es W total tally p =
       let sum : sum_by (λ e. e.1) W ≡ length (occurrences es) = sym (length_occurrences W) ∙ length_permutation _ _ (occurrences_rearranged es W p) in
       let few = length_le_total W (counted_rearranged laws es W p tally.counted).positive in
       record {
@@ -130,8 +131,8 @@ module _ {T : Type 0} {eq : T → T → Bool} (laws : IsEquivalence eq) where
         fits = (bag_from_tally laws es total tally).fits;
       }
 
-  pub walk_of_bag : {S : Type 0} (hasher : S) (es W : List (T × ℕ)) (total : ℕ) → IsTallied eq es total → IsPermutation es W → IsWalkOf eq (record { items = occurrences es; hasher = hasher }) (occurrences W)
-  walk_of_bag hasher es W total tally p = record {
+  pub walk_of_bag : {S : Type 0} (hasher : S) (tables : Tables T) (es W : List (T × ℕ)) (total : ℕ) → IsTallied eq es total → IsPermutation es W → IsWalkOf eq (record { items = occurrences es; hasher = hasher; tables = tables }) (occurrences W)
+  walk_of_bag hasher tables es W total tally p = record {
     walk = λ X means. walk_from_set_walk X W (set_walk_of_table es W X tally.counted p means);
     means = IsPermutation-sym _ _ (occurrences_rearranged es W p);
     len = length_permutation _ _ (occurrences_rearranged es W p);

@@ -1,17 +1,15 @@
 -- What contracts see of a `HashBag`.
-use Rattle.std.specs.Prelude.{◌≡◌, ℕ, ◌≤◌, Bool, List, length, refl, replicate, flat_map}
-use Rattle.std.specs.Coded.{Coded, code_by, coded×, coded_list}
+use Rattle.std.specs.Prelude.{◌≡◌, ℕ, ◌≤◌, Bool, List, length, replicate, flat_map}
 use Rattle.std.specs.List.Sorted.{IsPermutation}
 use Rattle.hashbag_table.specs.Entries.{IsCounted}
+use Rattle.hashbag_table.specs.Tables.{Tables}
 use Rattle.hashbag_core.specs.Occurrences.{greatest_total, IsBag}
 
--- its occurrences, in an order that means nothing, and the state that hashes its values
+-- its occurrences, in an order that means nothing, the state that hashes its values, and the two tables of slots that hold them
 pub record Bag (T S : Type 0) : Type 0 where
   pub items : List T
   pub hasher : S
-
-abbrev pub bag_code : {T S : Type 0} → Coded T → Coded S → Coded (Bag T S)
-bag_code t s = code_by (List _ × _) (coded× (coded_list t) s) (λ m. (m.items, m.hasher)) (λ p. record { items = p.0; hasher = p.1 }) (λ _. refl)
+  pub tables : Tables T
 
 -- the bag means the list X: its occurrences are a rearrangement of X
 abbrev pub Means : {T S : Type 0} → Bag T S → List T → Type 0

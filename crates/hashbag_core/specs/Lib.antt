@@ -5,6 +5,7 @@ pub mod Equality
 pub mod EqualityLaws
 pub mod Examples
 pub mod Extends
+pub mod Held
 pub mod Iter
 pub mod JoinExamples
 pub mod Joins
@@ -22,3 +23,4 @@ pub use Rattle.hashbag_table.specs.Asked
 pub use Rattle.hashbag_table.specs.DrainWalk
 pub use Rattle.hashbag_table.specs.Entries
 pub use Rattle.hashbag_table.specs.Table
+pub use Rattle.hashbag_table.specs.Tables

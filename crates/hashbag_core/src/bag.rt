@@ -1,12 +1,15 @@
 //! `HashBag`: how often each of several values occurs.
 ghost use Rattle.std.specs.Borrow.{sem};
-ghost use Rattle.std.specs.Prelude.{◌≡◌, ◌≢◌, ◌+◌, ◌-◌, ◌<◌, ◌≤◌, ◌↔◌, [], All, true, length, min, option_map, IsTrue, IsOk, IfOk, IfErr, IsErrAnd, OnOk, OnErr, MatchOption, MatchResult};
+ghost use Rattle.std.specs.Prelude.{◌≡◌, ◌≢◌, ℕ, ◌+◌, ◌-◌, ◌*◌, ◌<◌, ◌≤◌, ◌↔◌, [], All, true, length, min, option_map, IsTrue, IsOk, IfOk, IfErr, IsErrAnd, OnOk, OnErr, MatchOption, MatchResult};
 ghost use Rattle.std.specs.List.Sorted.{IsPermutation};
 ghost use Rattle.hashbag_table.specs.Asked.{MayAskInTurn};
+ghost use Rattle.hashbag_slots.specs.Slots.{IsSlotCount};
 ghost use Rattle.hashbag_table.specs.Entries.{count_of, IsCounted, HasClones};
+ghost use Rattle.hashbag_table.specs.Tables.{room, IsLeast, IsPacked, Arrives, NoneMoved};
 ghost use Rattle.hashbag_core.specs.Bag.{occurrences};
 ghost use Rattle.hashbag_core.specs.Occurrences.{greatest_total, count, counted, stored, add, less, put, instance_or_itself, distinct_count, IsBag, SameCounts};
 ghost use Rattle.hashbag_core.specs.Extends.{Refuses};
+ghost use Rattle.hashbag_core.specs.Held.{no_slots, cleared, AreHeld, Recounts, Restores};
 ghost use Rattle.hashbag_core.specs.Retain.{IsRetained};
 ghost use Rattle.hashbag_core.specs.Walks.{IsSetWalkOf};
 ghost use Rattle.hashbag_table.specs.declared.table.TheConstants.{MOST_VALUES};
@@ -63,7 +66,7 @@ pub type FixedState = BuildHasherDefault<FoldHasher>;
 /// occurrences and at least 1 for a value that is there, and the total of all counts is a `usize` too.
 ///
 /// Contracts see a bag as the plain list of its occurrences, in an order that means nothing, and the state that hashes
-/// its values.
+/// its values; beside it the slots of its newer table, and those of its older one that wait to be carried.
 #[derive(Drop)]
 pub struct HashBag<T: Eq + Hash + Drop, S: BuildHasher + Drop = FixedState> {
     pub(crate) table: Table<T, S>,
@@ -71,13 +74,11 @@ pub struct HashBag<T: Eq + Hash + Drop, S: BuildHasher + Drop = FixedState> {
 }
 
 impl<T: Eq + Hash + Drop, S: BuildHasher + Drop> Model for HashBag<T, S> {
-    ghost use Rattle.hashbag_core.specs.Bag.{Bag, bag_code, occurrences, IsTallied};
+    ghost use Rattle.hashbag_core.specs.Bag.{Bag, occurrences, IsTallied};
 
     ghost Value = { Bag T S };
 
-    ghost coded = { bag_code T.code S.code };
-
-    ghost view = { λ a. record { items = occurrences a.table.entries; hasher = a.table.hasher } };
+    ghost view = { λ a. record { items = occurrences a.table.entries; hasher = a.table.hasher; tables = a.table.tables } };
 
     ghost invariant = { λ a. IsTallied T.eq a.table.entries a.len };
 }
@@ -93,6 +94,9 @@ fn set_or_remove<T: Eq + Hash + Drop, S: BuildHasher + Drop>(
     ensures set { IsPermutation (put T.eq (instance_or_itself T.eq value.now (occurrences table.old.entries)) n (occurrences table.old.entries)) (occurrences table.new.entries) }
     ensures hasher { table.new.hasher ≡ table.old.hasher }
     ensures counted { IsCounted T.eq table.new.entries }
+    ensures slot { Recounts T.eq value.now n table.old.tables table.new.tables }
+    ensures slots { length table.new.tables.newer ≡ length table.old.tables.newer }
+    ensures room { room table.old.tables ≤ room table.new.tables }
 {
     if n == 0 {
         let _ = table.remove(value);
@@ -102,15 +106,17 @@ fn set_or_remove<T: Eq + Hash + Drop, S: BuildHasher + Drop>(
 }
 
 impl<T: Eq + Hash + Drop> HashBag<T, FixedState> {
-    /// An empty bag, whose values are hashed with fixed keys. It takes no memory.
+    /// An empty bag of no slots, whose values are hashed with fixed keys. It takes no memory.
     pub fn new(alloc: Global) -> HashBag<T, FixedState>
         ensures empty { result.items ≡ [] }
         ensures hasher { ⟦<FixedState as Default>⟧.is_default result.hasher }
+        ensures slots { result.tables ≡ no_slots }
     {
         HashBag::with_hasher(alloc, FixedState::new())
     }
 
-    /// An empty bag with room for `n` distinct values, which are hashed with fixed keys.
+    /// An empty bag with room for `n` distinct values, which are hashed with fixed keys: `n` insertions of absent values take no
+    /// memory then. It has the least table of slots with that room.
     ///
     /// It answers `Memory` where memory is refused, and for more than 3 * 2^57 distinct values before memory is asked for.
     /// With `n` 0 it takes no memory and succeeds.
@@ -120,6 +126,11 @@ impl<T: Eq + Hash + Drop> HashBag<T, FixedState> {
         ensures none { n ≡ 0 → IsOk result }
         ensures beyond { MOST_VALUES < n → result ≡ Err BagError.Memory }
         ensures memory { OnErr result (result ≡ Err BagError.Memory) }
+
+        // The table of slots that was made.
+        ensures least { IfOk result (λ bag. IsLeast 0 n (length bag.tables.newer)) }
+        ensures packed { IfOk result (λ bag. IsPacked bag.tables) }
+        ensures room { IfOk result (λ bag. n ≤ room bag.tables) }
     {
         HashBag::with_capacity_and_hasher(alloc, n, FixedState::new())
     }
@@ -127,12 +138,13 @@ impl<T: Eq + Hash + Drop> HashBag<T, FixedState> {
 
 impl<T: Eq + Hash + Drop, S: BuildHasher + Drop> HashBag<T, S> {
     ghost use Rattle.hashbag_core.specs.Bag.{IsBagOf};
-    ghost use Rattle.hashbag_core.specs.Lending.{ends_meaning};
+    ghost use Rattle.hashbag_core.specs.Lending.{ends_taking};
 
-    /// An empty bag, whose values `hasher` hashes. It takes no memory.
+    /// An empty bag of no slots, whose values `hasher` hashes. It takes no memory.
     pub fn with_hasher(alloc: Global, hasher: S) -> HashBag<T, S>
         ensures empty { result.items ≡ [] }
         ensures hasher { result.hasher ≡ hasher }
+        ensures slots { result.tables ≡ no_slots }
     {
         HashBag {
             table: Table::new(alloc, hasher),
@@ -140,7 +152,8 @@ impl<T: Eq + Hash + Drop, S: BuildHasher + Drop> HashBag<T, S> {
         }
     }
 
-    /// An empty bag with room for `n` distinct values, which `hasher` hashes.
+    /// An empty bag with room for `n` distinct values, which `hasher` hashes: `n` insertions of absent values take no memory then.
+    /// It has the least table of slots with that room.
     ///
     /// It answers `Memory` where memory is refused, and for more than 3 * 2^57 distinct values before memory is asked for.
     /// With `n` 0 it takes no memory and succeeds.
@@ -154,16 +167,49 @@ impl<T: Eq + Hash + Drop, S: BuildHasher + Drop> HashBag<T, S> {
         ensures none { n ≡ 0 → IsOk result }
         ensures beyond { MOST_VALUES < n → result ≡ Err BagError.Memory }
         ensures memory { OnErr result (result ≡ Err BagError.Memory) }
+
+        // The table of slots that was made.
+        ensures least { IfOk result (λ bag. IsLeast 0 n (length bag.tables.newer)) }
+        ensures packed { IfOk result (λ bag. IsPacked bag.tables) }
+        ensures room { IfOk result (λ bag. n ≤ room bag.tables) }
     {
         let table = Table::with_room(alloc, hasher, n)?;
         Ok(HashBag { table, len: 0 })
     }
 
-    /// How many distinct values the bag can have before it grows. It is at least the number of those that are there.
+    /// How many distinct values the bag can have before it grows: [`HashBag::set_len`] and [`HashBag::room`] together.
     pub fn capacity(&self) -> usize
-        ensures { distinct_count T.eq self.now.items ≤ result }
+        ensures { result ≡ distinct_count T.eq self.now.items + room self.now.tables }
     {
         self.table.capacity()
+    }
+
+    /// The number of slots of the newer table, 0 where there is none. A slot has a place for one distinct value with its count. Those
+    /// that aren't Empty are Live, which hold a value, or Removed, which held one.
+    pub fn slots(&self) -> usize
+        ensures slots { result ≡ length self.now.tables.newer }
+        ensures count { IsSlotCount result }
+        ensures held { AreHeld T.eq self.now.items self.now.tables }
+        ensures unmoved { NoneMoved self.now.tables.newer }
+    {
+        self.table.slots()
+    }
+
+    /// The number of slots of the older table that wait to be carried, 0 where there is no older table. Each insertion of an absent
+    /// value carries the next 16 of them.
+    pub fn waiting(&self) -> usize
+        ensures waiting { result ≡ length self.now.tables.waiting }
+        ensures carries { result ≤ 16 * room self.now.tables }
+        ensures smaller { 0 < result → result + 16 ≤ length self.now.tables.newer }
+    {
+        self.table.waiting()
+    }
+
+    /// How many absent values may be inserted before the bag grows. None of these insertions takes memory.
+    pub fn room(&self) -> usize
+        ensures { result ≡ room self.now.tables }
+    {
+        self.table.room()
     }
 
     /// The number of occurrences: the sum of all counts.
@@ -223,19 +269,30 @@ impl<T: Eq + Hash + Drop, S: BuildHasher + Drop> HashBag<T, S> {
         ensures set_len { OnOk result (distinct_count T.eq self.new.items ≤ distinct_count T.eq self.old.items + 1) }
         ensures same_set { 0 < count T.eq value self.old.items → distinct_count T.eq self.new.items ≡ distinct_count T.eq self.old.items }
 
-        // Only memory can be refused, and only to a value that is absent.
+        // Only memory can be refused, and only to a value that is absent where there is no room.
         ensures memory { OnErr result (result ≡ Err BagError.Memory) }
         ensures absent { OnErr result (count T.eq value self.old.items ≡ 0) }
         ensures err { OnErr result (self.new ≡ self.old) }
+        ensures takes { 0 < room self.old.tables → IsOk result }
+
+        // What becomes of the slots: a value that is there is changed in its own.
+        ensures arrives { OnOk result (count T.eq value self.old.items ≡ 0 → Arrives self.old.tables self.new.tables) }
+        ensures slot { OnOk result (0 < count T.eq value self.old.items → Recounts T.eq value (count T.eq value self.old.items + 1) self.old.tables self.new.tables) }
+        ensures slots { OnOk result (0 < room self.old.tables → length self.new.tables.newer ≡ length self.old.tables.newer) }
+        ensures room { OnOk result (0 < room self.old.tables → room self.old.tables ≤ room self.new.tables + 1) }
+        ensures same_slots { IfOk result (λ before. 0 < before → length self.new.tables.newer ≡ length self.old.tables.newer) }
+        ensures same_room { IfOk result (λ before. 0 < before → room self.old.tables ≤ room self.new.tables) }
     {
         self.insert_many(value, 1)
     }
 
     /// Adds `n` occurrences of a value, and answers how many there were.
     ///
-    /// The caller sees to it that the total fits. A stored instance stays, and the value handed in is dropped. A value that
-    /// is there is hashed once, takes no memory and is never refused, and neither is an insertion of 0, which changes
-    /// nothing. A value that is absent may be refused for memory: the bag is then unchanged, and the value is dropped.
+    /// The caller sees to it that the total fits. A stored instance stays, and the value handed in is dropped. It is hashed once.
+    /// A value that is there takes no memory and is never refused, and neither is an insertion of 0, which changes nothing.
+    ///
+    /// A value that is absent takes no memory while there is room. Else it may be refused for memory: the bag is then unchanged, and
+    /// the value is dropped. It carries up to 16 slots of an older table along, and hashes each value in them once.
     pub fn insert_many(&mut self, value: T, n: usize) -> Result<usize, BagError>
         requires { length self.old.items + n ≤ greatest_total }
         ensures before { IfOk result (λ before. before ≡ count T.eq value self.old.items) }
@@ -245,11 +302,20 @@ impl<T: Eq + Hash + Drop, S: BuildHasher + Drop> HashBag<T, S> {
         ensures set_len { OnOk result (distinct_count T.eq self.new.items ≤ distinct_count T.eq self.old.items + 1) }
         ensures same_set { 0 < count T.eq value self.old.items → distinct_count T.eq self.new.items ≡ distinct_count T.eq self.old.items }
 
-        // Only memory can be refused, and only to some occurrences of a value that is absent.
+        // Only memory can be refused, and only to some occurrences of a value that is absent where there is no room.
         ensures memory { OnErr result (result ≡ Err BagError.Memory) }
         ensures absent { OnErr result (count T.eq value self.old.items ≡ 0) }
         ensures some { OnErr result (0 < n) }
         ensures err { OnErr result (self.new ≡ self.old) }
+        ensures takes { 0 < room self.old.tables → IsOk result }
+
+        // What becomes of the slots: a value that is there is changed in its own.
+        ensures arrives { OnOk result (0 < n → count T.eq value self.old.items ≡ 0 → Arrives self.old.tables self.new.tables) }
+        ensures slot { OnOk result (0 < n → 0 < count T.eq value self.old.items → Recounts T.eq value (count T.eq value self.old.items + n) self.old.tables self.new.tables) }
+        ensures slots { OnOk result (0 < room self.old.tables → length self.new.tables.newer ≡ length self.old.tables.newer) }
+        ensures room { OnOk result (0 < room self.old.tables → room self.old.tables ≤ room self.new.tables + 1) }
+        ensures same_slots { IfOk result (λ before. 0 < before → length self.new.tables.newer ≡ length self.old.tables.newer) }
+        ensures same_room { IfOk result (λ before. 0 < before → room self.old.tables ≤ room self.new.tables) }
     {
         if n == 0 {
             return Ok(self.contains(&value));
@@ -262,15 +328,29 @@ impl<T: Eq + Hash + Drop, S: BuildHasher + Drop> HashBag<T, S> {
     /// Stores a value with the count 1 in the place of all occurrences that equal it, and answers how many there were. The
     /// instance that was stored is dropped.
     ///
-    /// The caller sees to it that the total fits. Memory may be refused, to a value that is there too: the bag is then
-    /// unchanged, and the value handed in is dropped.
+    /// The caller sees to it that the total fits. The value is hashed once. One that is there takes no memory and is never refused.
+    ///
+    /// A value that is absent takes no memory while there is room. Else it may be refused for memory: the bag is then unchanged, and
+    /// the value is dropped. It carries up to 16 slots of an older table along, and hashes each value in them once.
     pub fn replace(&mut self, value: T) -> Result<usize, BagError>
         requires { length self.old.items - count T.eq value self.old.items + 1 ≤ greatest_total }
         ensures before { IfOk result (λ before. before ≡ count T.eq value self.old.items) }
         ensures put { OnOk result (IsBagOf T.eq self.old (put T.eq value 1 self.old.items) self.new) }
         ensures len { IfOk result (λ before. length self.new.items + before ≡ length self.old.items + 1) }
+
+        // Only memory can be refused, and only to a value that is absent where there is no room.
         ensures memory { OnErr result (result ≡ Err BagError.Memory) }
+        ensures absent { OnErr result (count T.eq value self.old.items ≡ 0) }
         ensures err { OnErr result (self.new ≡ self.old) }
+        ensures takes { 0 < room self.old.tables → IsOk result }
+
+        // What becomes of the slots: a value that is there is replaced in its own.
+        ensures arrives { OnOk result (count T.eq value self.old.items ≡ 0 → Arrives self.old.tables self.new.tables) }
+        ensures slot { OnOk result (0 < count T.eq value self.old.items → Restores T.eq value self.old.tables self.new.tables) }
+        ensures slots { OnOk result (0 < room self.old.tables → length self.new.tables.newer ≡ length self.old.tables.newer) }
+        ensures room { OnOk result (0 < room self.old.tables → room self.old.tables ≤ room self.new.tables + 1) }
+        ensures same_slots { IfOk result (λ before. 0 < before → length self.new.tables.newer ≡ length self.old.tables.newer) }
+        ensures same_room { IfOk result (λ before. 0 < before → room self.old.tables ≤ room self.new.tables) }
     {
         let before = self.table.put_instance(value)?;
         self.len = self.len - before + 1;
@@ -280,11 +360,15 @@ impl<T: Eq + Hash + Drop, S: BuildHasher + Drop> HashBag<T, S> {
     /// Takes one occurrence of a value, if there is one, and answers how many there were. With the last occurrence the
     /// stored instance is dropped.
     ///
-    /// It takes no memory. A value that stays is hashed once.
+    /// It takes no memory, and hashes the value once.
     pub fn remove(&mut self, value: &T) -> usize
         ensures before { result ≡ count T.eq value.now self.old.items }
         ensures removed { IsBagOf T.eq self.old (less T.eq value.now 1 self.old.items) self.new }
         ensures len { length self.new.items + min result 1 ≡ length self.old.items }
+        ensures slot { 0 < count T.eq value.now self.old.items → Recounts T.eq value.now (count T.eq value.now self.old.items - 1) self.old.tables self.new.tables }
+        ensures none { count T.eq value.now self.old.items ≡ 0 → self.new ≡ self.old }
+        ensures slots { length self.new.tables.newer ≡ length self.old.tables.newer }
+        ensures room { room self.old.tables ≤ room self.new.tables }
     {
         self.take_up_to(value, 1)
     }
@@ -292,11 +376,15 @@ impl<T: Eq + Hash + Drop, S: BuildHasher + Drop> HashBag<T, S> {
     /// Takes `quantity` occurrences of a value, or all where they are fewer, and answers how many are left. With the last
     /// occurrence the stored instance is dropped.
     ///
-    /// It takes no memory. A value that stays is hashed once.
+    /// It takes no memory, and hashes the value once.
     pub fn remove_up_to(&mut self, value: &T, quantity: usize) -> usize
         ensures after { result ≡ count T.eq value.now self.old.items - quantity }
         ensures removed { IsBagOf T.eq self.old (less T.eq value.now quantity self.old.items) self.new }
         ensures len { length self.new.items + count T.eq value.now self.old.items ≡ length self.old.items + result }
+        ensures slot { 0 < count T.eq value.now self.old.items → Recounts T.eq value.now (count T.eq value.now self.old.items - quantity) self.old.tables self.new.tables }
+        ensures none { count T.eq value.now self.old.items ≡ 0 → self.new ≡ self.old }
+        ensures slots { length self.new.tables.newer ≡ length self.old.tables.newer }
+        ensures room { room self.old.tables ≤ room self.new.tables }
     {
         self.take_up_to(value, quantity).saturating_sub(quantity)
     }
@@ -306,6 +394,10 @@ impl<T: Eq + Hash + Drop, S: BuildHasher + Drop> HashBag<T, S> {
         ensures before { result ≡ count T.eq value.now self.old.items }
         ensures removed { IsBagOf T.eq self.old (less T.eq value.now quantity self.old.items) self.new }
         ensures len { length self.new.items + min result quantity ≡ length self.old.items }
+        ensures slot { 0 < count T.eq value.now self.old.items → Recounts T.eq value.now (count T.eq value.now self.old.items - quantity) self.old.tables self.new.tables }
+        ensures none { count T.eq value.now self.old.items ≡ 0 → self.new ≡ self.old }
+        ensures slots { length self.new.tables.newer ≡ length self.old.tables.newer }
+        ensures room { room self.old.tables ≤ room self.new.tables }
     {
         let before = self.table.take(value, quantity);
         self.len -= before.min(quantity);
@@ -315,13 +407,13 @@ impl<T: Eq + Hash + Drop, S: BuildHasher + Drop> HashBag<T, S> {
     /// Takes one occurrence of a value: the last one itself, or else one of several, and then it answers the stored instance,
     /// which stays, with how many there were. `Err(None)` where the value is absent.
     ///
-    /// It lowers the count in place and takes no memory.
+    /// It lowers the count in place and takes no memory. It hashes the value once, and twice where one of several is taken.
     ///
     /// The answer may lend the instance that stays, so a caller that is proved learns what it was, and not what the bag means
     /// afterwards. Whoever needs that, as in a loop, calls [`HashBag::take_one`], which takes the same and lends nothing.
     pub fn try_take(&mut self, value: &T) -> Result<T, Option<(&T, usize)>>
         // Once the loan is over.
-        ensures* left { sem 𝓛 (ends_meaning T.row S.row S.Hasher.row T.Hash S.BuildHasher S.Hasher.Hasher self.entry (less T.eq value.now 1 self.old.items)) }
+        ensures* left { sem 𝓛 (ends_taking T.row S.row S.Hasher.row T.Hash S.BuildHasher S.Hasher.Hasher self.entry value.now) }
         ensures last { IfOk result (λ instance. stored T.eq value.now self.old.items ≡ Some (instance, 1)) }
         ensures others { IfErr result (λ found. (option_map (λ e. (e.0.now, e.1)) found ≡ stored T.eq value.now self.old.items) × (count T.eq value.now self.old.items ≢ 1)) }
     {
@@ -352,43 +444,53 @@ impl<T: Eq + Hash + Drop, S: BuildHasher + Drop> HashBag<T, S> {
     /// were. `Err(0)` where the value is absent: nothing is then taken.
     ///
     /// It is [`HashBag::try_take`] without the loan of the instance that stays, so its contract says what the bag means
-    /// afterwards. It takes no memory.
+    /// afterwards. It takes no memory, and hashes the value once.
     pub fn take_one(&mut self, value: &T) -> Result<T, usize>
         ensures taken { IsBagOf T.eq self.old (less T.eq value.now 1 self.old.items) self.new }
         ensures len { MatchResult result (λ _. length self.new.items + 1 ≡ length self.old.items) (λ before. length self.new.items + min before 1 ≡ length self.old.items) }
         ensures last { IfOk result (λ instance. stored T.eq value.now self.old.items ≡ Some (instance, 1)) }
         ensures others { IfErr result (λ before. (before ≡ count T.eq value.now self.old.items) × (before ≢ 1)) }
         ensures bag { IsBag T.eq self.old.items }
+        ensures slot { 0 < count T.eq value.now self.old.items → Recounts T.eq value.now (count T.eq value.now self.old.items - 1) self.old.tables self.new.tables }
+        ensures none { count T.eq value.now self.old.items ≡ 0 → self.new ≡ self.old }
+        ensures slots { length self.new.tables.newer ≡ length self.old.tables.newer }
+        ensures room { room self.old.tables ≤ room self.new.tables }
     {
-        let before = self.contains(value);
-        if before == 0 {
-            return Err(0);
-        }
-        if before != 1 {
-            return Err(self.remove(value));
-        }
-        match self.take_all(value) {
-            Some((instance, _)) => Ok(instance),
-            None => Err(0),
+        match self.table.take_one(value) {
+            Ok(instance) => {
+                self.len -= 1;
+                Ok(instance)
+            }
+            Err(before) => {
+                self.len -= before.min(1);
+                Err(before)
+            }
         }
     }
 
     /// Takes a value out, and answers its stored instance and its whole count, or `None` where it is absent. It takes no
-    /// memory.
+    /// memory, and hashes the value once.
     pub fn take_all(&mut self, value: &T) -> Option<(T, usize)>
         ensures taken { result ≡ stored T.eq value.now self.old.items }
         ensures left { IsBagOf T.eq self.old (less T.eq value.now (count T.eq value.now self.old.items) self.old.items) self.new }
         ensures len { MatchOption result (length self.new.items ≡ length self.old.items) (λ taken. length self.new.items + taken.1 ≡ length self.old.items) }
+        ensures slot { 0 < count T.eq value.now self.old.items → Recounts T.eq value.now 0 self.old.tables self.new.tables }
+        ensures none { count T.eq value.now self.old.items ≡ 0 → self.new ≡ self.old }
+        ensures slots { length self.new.tables.newer ≡ length self.old.tables.newer }
+        ensures room { room self.old.tables ≤ room self.new.tables }
     {
         let (instance, count) = self.table.remove(value)?;
         self.len -= count;
         Some((instance, count))
     }
 
-    /// Takes all occurrences out. It takes no memory, and keeps the room that the bag has.
+    /// Takes all occurrences out. It takes no memory: the newer table keeps its slots, all of them Empty, and an older one is freed.
     pub fn clear(&mut self)
         ensures empty { self.new.items ≡ [] }
         ensures hasher { self.new.hasher ≡ self.old.hasher }
+        ensures cleared { self.new.tables ≡ cleared self.old.tables }
+        ensures slots { length self.new.tables.newer ≡ length self.old.tables.newer }
+        ensures room { room self.old.tables ≤ room self.new.tables }
     {
         self.table.clear();
         self.len = 0;
@@ -402,14 +504,19 @@ impl<T: Eq + Hash + Drop, S: BuildHasher + Drop> HashBag<T, S> {
         requires asks { (walk : _) → IsSetWalkOf T.eq self.old walk → MayAskInTurn F.FnMut f walk }
         ensures retained { IsRetained T.eq F.FnMut f self.old self.new }
         ensures len { length self.new.items ≤ length self.old.items }
+        ensures slots { length self.new.tables.newer ≡ length self.old.tables.newer }
+        ensures waiting { length self.new.tables.waiting ≡ length self.old.tables.waiting }
+        ensures room { room self.old.tables ≤ room self.new.tables }
     {
         self.len = self.table.retain(f);
     }
 
-    /// Makes room for `n` more distinct values. What occurs stays.
+    /// Makes room for `n` more distinct values: so many insertions of absent values take no memory then. What occurs stays.
     ///
-    /// It answers `Memory` where memory is refused, and before memory is asked for where there would be more than 3 * 2^57
-    /// distinct values: the bag is then unchanged. With `n` 0 it takes no memory and succeeds.
+    /// Where there is that room it takes no memory, does nothing and succeeds. Else it makes the least table of slots that has the
+    /// room, and is not smaller than the newer one: every value is moved into it and hashed once, and the others are freed. It answers
+    /// `Memory` where memory is refused, and before memory is asked for where there would be more than 3 * 2^57 distinct values:
+    /// the bag is then unchanged.
     pub fn reserve(&mut self, n: usize) -> Result<(), BagError>
         ensures kept { IsBagOf T.eq self.old self.old.items self.new }
         ensures len { length self.new.items ≡ length self.old.items }
@@ -417,6 +524,13 @@ impl<T: Eq + Hash + Drop, S: BuildHasher + Drop> HashBag<T, S> {
         ensures beyond { 0 < n → MOST_VALUES < distinct_count T.eq self.old.items + n → result ≡ Err BagError.Memory }
         ensures memory { OnErr result (result ≡ Err BagError.Memory) }
         ensures err { OnErr result (self.new ≡ self.old) }
+        ensures room { OnOk result (n ≤ room self.new.tables) }
+
+        // Where there is room already nothing is done; else the table of slots that was made.
+        ensures enough { n ≤ room self.old.tables → IsOk result }
+        ensures same { n ≤ room self.old.tables → self.new ≡ self.old }
+        ensures least { OnOk result (room self.old.tables < n → IsLeast (length self.old.tables.newer) (distinct_count T.eq self.old.items + n) (length self.new.tables.newer)) }
+        ensures packed { OnOk result (room self.old.tables < n → IsPacked self.new.tables) }
     {
         self.table.reserve(n)?;
         Ok(())
@@ -424,21 +538,33 @@ impl<T: Eq + Hash + Drop, S: BuildHasher + Drop> HashBag<T, S> {
 
     /// Gives memory back that the bag doesn't need. What occurs stays.
     ///
-    /// It answers `Memory` where memory is refused: the bag is then unchanged.
+    /// It makes the least table of slots that has room for the values, where that one is smaller than the newer one: every value is
+    /// moved into it and hashed once, and the others are freed. Else it takes no memory, does nothing and succeeds. An empty bag takes
+    /// no memory, and is left with no slots. It answers `Memory` where memory is refused: the bag is then unchanged.
     pub fn shrink_to_fit(&mut self) -> Result<(), BagError>
         ensures kept { IsBagOf T.eq self.old self.old.items self.new }
         ensures len { length self.new.items ≡ length self.old.items }
         ensures memory { OnErr result (result ≡ Err BagError.Memory) }
         ensures err { OnErr result (self.new ≡ self.old) }
+
+        // An empty bag is left with no slots. Where the least table, of m slots, isn't smaller, nothing is done; else it was made.
+        ensures none { self.old.items ≡ [] → IsOk result }
+        ensures freed { OnOk result (self.old.items ≡ [] → self.new.tables ≡ no_slots) }
+        ensures enough { (m : ℕ) → IsLeast 0 (distinct_count T.eq self.old.items) m → length self.old.tables.newer ≤ m → IsOk result }
+        ensures same { (m : ℕ) → IsLeast 0 (distinct_count T.eq self.old.items) m → length self.old.tables.newer ≤ m → self.new ≡ self.old }
+        ensures least { OnOk result ((m : ℕ) → IsLeast 0 (distinct_count T.eq self.old.items) m → m < length self.old.tables.newer → length self.new.tables.newer ≡ m) }
+        ensures packed { OnOk result ((m : ℕ) → IsLeast 0 (distinct_count T.eq self.old.items) m → m < length self.old.tables.newer → IsPacked self.new.tables) }
     {
         self.table.shrink_to_fit()?;
+        let _waiting = self.table.waiting();
         Ok(())
     }
 
     /// A bag with clones of all stored instances, each as often as here, under a clone of the state. This bag stays as it is.
     ///
     /// The caller sees to it that clones of the values equal them. It answers `Memory` where memory is refused, to a clone of a
-    /// value or of the state too: there is then no new bag. It makes room for all values at once, and hashes each clone once.
+    /// value or of the state too: there is then no new bag. It makes the least table of slots that has room for all values, and hashes
+    /// each clone once.
     pub fn clone(&self) -> Result<HashBag<T, S>, BagError>
     where
         T: Clone,
@@ -449,6 +575,8 @@ impl<T: Eq + Hash + Drop, S: BuildHasher + Drop> HashBag<T, S> {
         ensures len { IfOk result (λ bag. length bag.items ≡ length self.now.items) }
         ensures hasher { IfOk result (λ bag. S.is_clone self.now.hasher bag.hasher) }
         ensures memory { OnErr result (result ≡ Err BagError.Memory) }
+        ensures least { IfOk result (λ bag. IsLeast 0 (distinct_count T.eq self.now.items) (length bag.tables.newer)) }
+        ensures packed { IfOk result (λ bag. IsPacked bag.tables) }
     {
         let table = self.table.clone_in()?;
         Ok(HashBag {
@@ -469,6 +597,7 @@ impl<T: Eq + Hash + Drop, S: BuildHasher + Drop> HashBag<T, S> {
         ensures added { OnOk result (IsBagOf T.eq self.old (add T.eq value n self.old.items) self.new) }
         ensures refused { IfErr result (Refuses T.eq self.old.items value n) }
         ensures err { OnErr result (self.new ≡ self.old) }
+        ensures full { IfErr result (λ e. e ≡ BagError.Memory → room self.new.tables ≡ 0) }
     {
         if n > usize::MAX - self.len() {
             return Err(BagError::TooMany);
@@ -486,6 +615,10 @@ impl<T: Eq + Hash + Drop, S: BuildHasher + Drop> HashBag<T, S> {
         ensures len { OnOk result (length self.new.items ≡ length self.old.items + quantity) }
         ensures memory { OnErr result (result ≡ Err BagError.Memory) }
         ensures err { OnErr result (self.new ≡ self.old) }
+        ensures takes { 0 < room self.old.tables → IsOk result }
+        ensures arrives { OnOk result (Arrives self.old.tables self.new.tables) }
+        ensures slots { OnOk result (0 < room self.old.tables → length self.new.tables.newer ≡ length self.old.tables.newer) }
+        ensures room { OnOk result (0 < room self.old.tables → room self.old.tables ≤ room self.new.tables + 1) }
     {
         self.table.insert_new(value, quantity)?;
         self.len += quantity;
@@ -499,6 +632,9 @@ impl<T: Eq + Hash + Drop, S: BuildHasher + Drop> HashBag<T, S> {
         requires fits { length self.old.items - before + n ≤ greatest_total }
         ensures put { IsBagOf T.eq self.old (put T.eq (instance_or_itself T.eq value.now self.old.items) n self.old.items) self.new }
         ensures after { count T.eq value.now self.new.items ≡ n }
+        ensures slot { Recounts T.eq value.now n self.old.tables self.new.tables }
+        ensures slots { length self.new.tables.newer ≡ length self.old.tables.newer }
+        ensures room { room self.old.tables ≤ room self.new.tables }
         ensures len { length self.new.items + before ≡ length self.old.items + n }
     {
         set_or_remove(&mut self.table, value, n);

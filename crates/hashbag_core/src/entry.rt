@@ -1,5 +1,7 @@
 //! `Entry`: the place of a value in a bag.
-ghost use Rattle.std.specs.Prelude.{◌≡◌, ◌+◌, ◌<◌, ◌≤◌, ℕ, length, IsOk, IfOk, OnErr};
+ghost use Rattle.std.specs.Prelude.{◌≡◌, ◌+◌, ◌<◌, ◌≤◌, ℕ, length, IsOk, IfOk, OnOk, OnErr};
+ghost use Rattle.hashbag_table.specs.Tables.{room, Arrives};
+ghost use Rattle.hashbag_core.specs.Held.{Recounts};
 ghost use Rattle.std.specs.Borrow.{sem, MutBor, RestsIfErr};
 ghost use Rattle.hashbag_core.specs.Bag.{IsBagOf};
 ghost use Rattle.hashbag_core.specs.Occurrences.{greatest_total, count, instance_or_itself, add};
@@ -40,7 +42,8 @@ impl<'a, T: Eq + Hash + Drop, S: BuildHasher + Drop> Entry<'a, T, S> {
     ghost use Rattle.hashbag_core.specs.EntryCalls.{ChangesCount, PassesEnd};
     ghost use Rattle.hashbag_core.specs.Lending.{bag_row};
 
-    /// The stored instance where the entry is occupied, else the value that was handed in. It takes no memory.
+    /// The stored instance where the entry is occupied, else the value that was handed in. It takes no memory, and hashes the
+    /// value once.
     pub fn value(&self) -> &T
         ensures { result.now ≡ instance_or_itself T.eq self.now.value self.now.bag.now.items }
     {
@@ -54,7 +57,8 @@ impl<'a, T: Eq + Hash + Drop, S: BuildHasher + Drop> Entry<'a, T, S> {
     ///
     /// Where `f` leaves 0, the value is taken out, its stored instance is dropped, and the entry is vacant with the value
     /// handed in. The old count leaves the total before the new one comes, so `TooMany` is answered exactly where the new
-    /// total passes `usize::MAX`: the bag is then as before the call, and the entry is gone. It takes no memory.
+    /// total passes `usize::MAX`: the bag is then as before the call, and the entry is gone. It takes no memory, and hashes the value
+    /// twice where the count is set, and else once.
     pub fn and_modify<F: FnOnce(&mut usize) + Drop>(self, f: F) -> Result<Entry<'a, T, S>, BagError>
         requires { (p : MutBor ℕ) → p.now ≡ count T.eq self.value self.bag.now.items → 0 < p.now → F.pre f p }
         ensures same_bag { IfOk result (λ e. e.bag.ghost_name ≡ self.entry.bag.ghost_name) }
@@ -63,6 +67,9 @@ impl<'a, T: Eq + Hash + Drop, S: BuildHasher + Drop> Entry<'a, T, S> {
         ensures too_many { OnErr result (result ≡ Err BagError.TooMany) }
         ensures passes { OnErr result (PassesEnd T.eq F.FnOnce f self.entry.value self.entry.bag.now) }
         ensures len { IfOk result (λ e. length e.bag.now.items + count T.eq self.entry.value self.entry.bag.now.items ≡ length self.entry.bag.now.items + count T.eq self.entry.value e.bag.now.items) }
+        ensures slot { IfOk result (λ e. 0 < count T.eq self.entry.value self.entry.bag.now.items → Recounts T.eq self.entry.value (count T.eq self.entry.value e.bag.now.items) self.entry.bag.now.tables e.bag.now.tables) }
+        ensures slots { IfOk result (λ e. length e.bag.now.tables.newer ≡ length self.entry.bag.now.tables.newer) }
+        ensures room { IfOk result (λ e. room self.entry.bag.now.tables ≤ room e.bag.now.tables) }
         ensures* stays { sem 𝓛 (RestsIfErr (bag_row T.row S.row S.Hasher.row T.Hash S.BuildHasher S.Hasher.Hasher) self.entry.bag (λ e. e.bag.ghost_name) result (λ n. n ≡ self.entry.bag.now)) }
     {
         let Entry { bag, value } = self;
@@ -88,6 +95,10 @@ impl<'a, T: Eq + Hash + Drop, S: BuildHasher + Drop> Entry<'a, T, S> {
         ensures too_many { result ≡ Err BagError.TooMany → greatest_total < length self.entry.bag.now.items + 1 }
         ensures memory { result ≡ Err BagError.Memory → length self.entry.bag.now.items + 1 ≤ greatest_total }
         ensures err { OnErr result (self.exit.0.now ≡ self.entry.bag.now) }
+        ensures takes { length self.entry.bag.now.items + 1 ≤ greatest_total → 0 < room self.entry.bag.now.tables → IsOk result }
+        ensures arrives { OnOk result (count T.eq self.entry.value self.entry.bag.now.items ≡ 0 → Arrives self.entry.bag.now.tables self.exit.0.now.tables) }
+        ensures slots { OnOk result (0 < room self.entry.bag.now.tables → length self.exit.0.now.tables.newer ≡ length self.entry.bag.now.tables.newer) }
+        ensures room { OnOk result (0 < room self.entry.bag.now.tables → room self.entry.bag.now.tables ≤ room self.exit.0.now.tables + 1) }
     {
         self.or_insert_many(1)
     }
@@ -96,8 +107,8 @@ impl<'a, T: Eq + Hash + Drop, S: BuildHasher + Drop> Entry<'a, T, S> {
     ///
     /// Where the entry is occupied, it answers the count that is there, ignores `quantity`, drops the value handed in and is
     /// never refused. A `quantity` of 0 adds nothing, and is never refused either. Else `TooMany` is answered where the total
-    /// would pass `usize::MAX`, and only then memory is asked for, which may be refused: the bag is then as before the call,
-    /// the value is dropped and the entry is gone.
+    /// would pass `usize::MAX`, and only then memory is asked for where there is no room, which may be refused: the bag is then
+    /// as before the call, the value is dropped and the entry is gone. It hashes the value twice where it goes in, and else once.
     pub fn or_insert_many(self, quantity: usize) -> Result<usize, BagError>
         ensures occupied { 0 < count T.eq self.entry.value self.entry.bag.now.items → (result ≡ Ok (count T.eq self.entry.value self.entry.bag.now.items)) × (self.exit.0.now ≡ self.entry.bag.now) }
         ensures vacant { count T.eq self.entry.value self.entry.bag.now.items ≡ 0 → IfOk result (λ after. (after ≡ quantity) × IsBagOf T.eq self.entry.bag.now (add T.eq self.entry.value quantity self.entry.bag.now.items) self.exit.0.now) }
@@ -106,6 +117,11 @@ impl<'a, T: Eq + Hash + Drop, S: BuildHasher + Drop> Entry<'a, T, S> {
         ensures too_many { result ≡ Err BagError.TooMany → greatest_total < length self.entry.bag.now.items + quantity }
         ensures memory { result ≡ Err BagError.Memory → length self.entry.bag.now.items + quantity ≤ greatest_total }
         ensures err { OnErr result (self.exit.0.now ≡ self.entry.bag.now) }
+        ensures same { quantity ≡ 0 → self.exit.0.now ≡ self.entry.bag.now }
+        ensures takes { length self.entry.bag.now.items + quantity ≤ greatest_total → 0 < room self.entry.bag.now.tables → IsOk result }
+        ensures arrives { OnOk result (0 < quantity → count T.eq self.entry.value self.entry.bag.now.items ≡ 0 → Arrives self.entry.bag.now.tables self.exit.0.now.tables) }
+        ensures slots { OnOk result (0 < room self.entry.bag.now.tables → length self.exit.0.now.tables.newer ≡ length self.entry.bag.now.tables.newer) }
+        ensures room { OnOk result (0 < room self.entry.bag.now.tables → room self.entry.bag.now.tables ≤ room self.exit.0.now.tables + 1) }
     {
         let Entry { bag, value } = self;
         let before = bag.contains(&value);

@@ -203,6 +203,25 @@ impl<'a, T: Drop> ExactSizeIterator for Drain<'a, T> {
     }
 }
 
+impl<'a, T> Drain<'a, T> {
+    /// Walks over what is still to come, which it lends, and leaves this walk where it is. It takes no memory and hashes nothing,
+    /// here and at each step.
+    pub fn rest(&self) -> SetIter<'_, T>
+        ensures { result ≡ drain_rest self.now }
+    {
+        SetIter {
+            walk: self.drained.rest(),
+        }
+    }
+}
+
+impl<'a, T: Debug> Debug for Drain<'a, T> {
+    /// Writes the values with their counts that are still to come as a list of pairs, as `[(5, 3)]`.
+    fn fmt<W: Write>(&self, f: &mut Formatter<W>) -> fmt::Result {
+        f.debug_list().entries(self.rest()).finish()
+    }
+}
+
 /// The distinct values of a bag that is gone, by value, each with its count. Those that are not taken are dropped with the
 /// walk.
 ///
@@ -252,6 +271,25 @@ impl<T: Drop> ExactSizeIterator for IntoIter<T> {
     }
 }
 
+impl<T> IntoIter<T> {
+    /// Walks over what is still to come, which it lends, and leaves this walk where it is. It takes no memory and hashes nothing,
+    /// here and at each step.
+    pub fn rest(&self) -> SetIter<'_, T>
+        ensures { result ≡ self.now }
+    {
+        SetIter {
+            walk: self.owned.rest(),
+        }
+    }
+}
+
+impl<T: Debug> Debug for IntoIter<T> {
+    /// Writes the values with their counts that are still to come as a list of pairs, as `[(5, 3)]`.
+    fn fmt<W: Write>(&self, f: &mut Formatter<W>) -> fmt::Result {
+        f.debug_list().entries(self.rest()).finish()
+    }
+}
+
 impl<T: Eq + Hash + Drop, S: BuildHasher + Drop> HashBag<T, S> {
     /// Walks over the occurrences, of which there are `len()`. A value comes once for each of its occurrences, as the stored
     /// instance, before the next value does.
@@ -281,7 +319,7 @@ impl<T: Eq + Hash + Drop, S: BuildHasher + Drop> HashBag<T, S> {
     /// Takes everything out, and walks over the distinct values: each stored instance once, by value, with its count.
     ///
     /// The bag is empty at once and keeps its state, however many values are taken. The others are dropped with the walk.
-    /// Whether the bag keeps its room for values is open. It takes no memory and hashes nothing, here and at each step.
+    /// The bag has no slots then. It takes no memory and hashes nothing, here and at each step.
     pub fn drain(&mut self) -> Drain<'_, T>
         ensures* writes_back { sem 𝓛 (follows_drain T.row S.row S.Hasher.row T.Hash S.BuildHasher S.Hasher.Hasher self.entry (drain_name result)) }
         ensures set_walk { IsSetWalkOf T.eq self.old (drain_rest result) }

@@ -54,18 +54,18 @@ fn strict_calls(alloc: Global, refusals: &mut Refusals) -> Result<(), Wrong> {
     insertions::replacements(alloc, refusals)?;
     room::room(alloc, refusals)?;
     room::room_from_the_start(alloc, refusals)?;
+    room::room_given_back(alloc, refusals)?;
     extends::extends(alloc, refusals)?;
     extends::collections(alloc, refusals)?;
     texts::cloned_names(alloc, refusals)?;
     trees::trees(alloc, refusals)?;
-    trees::faulty_trees(alloc, refusals)
+    trees::faulty_trees(alloc, refusals)?;
+    runs::runs(alloc, refusals)
 }
 
 // Calls that do without some requests: std's lists are collected with less room where it is refused, and std's map gives back
 // what it can. What they answer is checked all the same.
 fn lenient_calls(alloc: Global, refusals: &mut Refusals) -> Result<(), Wrong> {
-    room::room_given_back(alloc, refusals)?;
-    runs::runs(alloc, refusals)?;
     pairs::pairs_of_runs(alloc, refusals)?;
     whole::executions(alloc, refusals)
 }

@@ -136,7 +136,7 @@ module _ {T : Type 0} {eq : T → T → Bool} (laws : IsEquivalence eq) (X Y : L
   pub asks_rearranged : (s : Step T) → AsksForMemory eq Y s → AsksForMemory eq X s
   asks_rearranged (Insert v) asks = refused_rearranged v 1 asks
   asks_rearranged (InsertMany v n) asks = refused_rearranged v n asks
-  asks_rearranged (Replace v) asks = let same = often v in let as_long = long in omega arith
+  asks_rearranged (Replace v) asks = refused_rearranged v 1 asks
   asks_rearranged (Remove v) asks = asks
   asks_rearranged (RemoveUpTo v q) asks = asks
   asks_rearranged (TryTake v) asks = asks

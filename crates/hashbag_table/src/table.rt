@@ -79,6 +79,7 @@ impl<T: Eq + Hash + Drop, S: BuildHasher + Drop> Model for Table<T, S> {
 }
 
 impl<T: Eq + Hash + Drop, S: BuildHasher + Drop> Table<T, S> {
+    ghost use Rattle.std.specs.Prelude.{◌≢◌, IfErr};
     ghost use Rattle.hashbag_table.specs.DrainWalk.{drain_rest, drain_name, follows_drain};
 
     /// An empty table of no slots, whose values `hasher` hashes. It takes no memory.
@@ -459,6 +460,35 @@ impl<T: Eq + Hash + Drop, S: BuildHasher + Drop> Table<T, S> {
             return count;
         }
         0
+    }
+
+    /// Takes one of a value: the last one itself in `Ok`, and else one of several, of which `Err` says how many there were. `Err(0)`
+    /// where the value is absent.
+    ///
+    /// It takes no memory. The value is hashed once.
+    pub fn take_one(&mut self, value: &T) -> Result<T, usize>
+        ensures last { IfOk result (λ instance. entry_of T.eq value.now self.old.entries ≡ Some (instance, 1)) }
+        ensures others { IfErr result (λ before. (before ≡ count_of T.eq value.now self.old.entries) × (before ≢ 1)) }
+        ensures taken { IsPermutation (with_fewer T.eq value.now 1 self.old.entries) self.new.entries }
+        ensures hasher { self.new.hasher ≡ self.old.hasher }
+        ensures counted { IsCounted T.eq self.new.entries }
+        ensures fewer { IfErr result (λ before. 0 < before → Rewrites (λ w. T.eq w value.now) (recounted (before - 1)) self.old.tables self.new.tables) }
+        ensures gone { IfOk result (λ _. Rewrites (λ w. T.eq w value.now) (λ _. Slot.Removed) self.old.tables self.new.tables) }
+        ensures none { IfErr result (λ before. before ≡ 0 → self.new ≡ self.old) }
+        ensures slots { length self.new.tables.newer ≡ length self.old.tables.newer }
+        ensures room { room self.old.tables ≤ room self.new.tables }
+    {
+        let hash = hash_of(&self.hasher, value);
+        if let Some(spot) = self.locate(hash, value) {
+            let before = self.count_at(spot);
+            if before > 1 {
+                self.set_spot(spot, before - 1);
+                return Err(before);
+            }
+            let (former, _) = self.take_spot(spot);
+            return Ok(former);
+        }
+        Err(0)
     }
 
     /// Adds `n` to the count of a value, and answers what the count was, 0 where the value was absent.

@@ -3,6 +3,8 @@ ghost use Rattle.std.specs.Prelude.{◌≡◌, ◌+◌, ◌<◌, ◌≤◌, ⊤,
 ghost use Rattle.std.specs.Iterator.{IsFinite, Drains};
 ghost use Rattle.hashbag_core.specs.Bag.{Means, IsBagOf};
 ghost use Rattle.hashbag_core.specs.Occurrences.{add, IsBag};
+ghost use Rattle.hashbag_core.specs.Held.{no_slots};
+ghost use Rattle.hashbag_table.specs.Tables.{room};
 ghost use Rattle.hashbag_core.specs.Extends.{Extends, ExtendsUpTo, Refuses, RefusesClones, Once, AsItIs, CloneOnce, CloneAsOften};
 
 use crate::bag::{BagError, HashBag};
@@ -10,12 +12,13 @@ use std::alloc::Global;
 use std::hash::{BuildHasher, Hash};
 
 impl<T: Eq + Hash + Drop, S: BuildHasher + Drop> HashBag<T, S> {
-    /// An empty bag under the default state. It takes no memory.
+    /// An empty bag of no slots under the default state. It takes no memory.
     pub fn default_in(alloc: Global) -> HashBag<T, S>
     where
         S: Default,
         ensures empty { result.items ≡ [] }
         ensures hasher { S.is_default result.hasher }
+        ensures slots { result.tables ≡ no_slots }
     {
         HashBag::with_hasher(alloc, S::default())
     }
@@ -64,8 +67,8 @@ impl<T: Eq + Hash + Drop, S: BuildHasher + Drop> HashBag<T, S> {
     /// that the items end.
     ///
     /// An item is refused with `TooMany` where the total would pass `usize::MAX`, which is tested before anything grows, and with
-    /// `Memory` where the value is absent and memory is refused. The items before it stay inserted. It is dropped itself, and so
-    /// is the iterator with what is still to come.
+    /// `Memory` where the value is absent, there is no room and memory is refused. The items before it stay inserted. It is dropped
+    /// itself, and so is the iterator with what is still to come. Each item is hashed once.
     pub fn extend<I: Iterator<Item = T> + Drop>(&mut self, items: I) -> Result<(), BagError>
         requires can { I.can_next items }
         requires ends { IsFinite (I.remaining items) }
@@ -73,6 +76,7 @@ impl<T: Eq + Hash + Drop, S: BuildHasher + Drop> HashBag<T, S> {
         ensures len { OnOk result ((came : _) × Drains I.next_gives items came × (length self.new.items ≡ length self.old.items + length came)) }
         ensures grown { length self.old.items ≤ length self.new.items }
         ensures refused { IfErr result (λ e. ExtendsUpTo T.eq I.next_gives Once items self.old.items (λ X. IsBagOf T.eq self.old X self.new) (λ X v. Refuses T.eq X v 1 e)) }
+        ensures full { IfErr result (λ e. e ≡ BagError.Memory → room self.new.tables ≡ 0) }
     {
         self.recall_bag();
         for item in items {
@@ -94,6 +98,7 @@ impl<T: Eq + Hash + Drop, S: BuildHasher + Drop> HashBag<T, S> {
         ensures len { OnOk result ((came : _) × Drains I.next_gives pairs came × (length self.new.items ≡ length self.old.items + sum_by (λ p. p.1) came)) }
         ensures grown { length self.old.items ≤ length self.new.items }
         ensures refused { IfErr result (λ e. ExtendsUpTo T.eq I.next_gives AsItIs pairs self.old.items (λ X. IsBagOf T.eq self.old X self.new) (λ X p. Refuses T.eq X p.0 p.1 e)) }
+        ensures full { IfErr result (λ e. e ≡ BagError.Memory → room self.new.tables ≡ 0) }
     {
         self.recall_bag();
         for (value, n) in pairs {

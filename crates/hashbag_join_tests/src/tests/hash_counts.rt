@@ -22,26 +22,26 @@ const CALLS: &str = "
     5:2 6:1 | get 5 | 1
     5:2 6:1 | get 7 | 1
     5:2 6:1 | insert 5 | 1
-    5:2 6:1 | insert 7 | 2
-    | insert 7 | 2
+    5:2 6:1 | insert 7 | 1
+    | insert 7 | 1
     5:2 6:1 | insert_many 5 3 | 1
-    5:2 6:1 | insert_many 7 3 | 2
+    5:2 6:1 | insert_many 7 3 | 1
     5:2 6:1 | insert_many 5 0 | 1
     5:2 6:1 | insert_many 7 0 | 1
     5:2 6:1 | remove 5 | 1
-    5:2 6:1 | remove 6 | 2
-    5:2 6:1 | remove 7 | 2
+    5:2 6:1 | remove 6 | 1
+    5:2 6:1 | remove 7 | 1
     5:3 6:1 | remove_up_to 5 2 | 1
-    5:3 6:1 | remove_up_to 5 3 | 2
+    5:3 6:1 | remove_up_to 5 3 | 1
     5:3 6:1 | remove_up_to 5 0 | 1
-    5:3 6:1 | remove_up_to 7 2 | 2
+    5:3 6:1 | remove_up_to 7 2 | 1
     5:2 6:1 | take_all 5 | 1
     5:2 6:1 | take_all 7 | 1
-    5:2 6:1 | try_take 5 | 3
-    5:2 6:1 | try_take 6 | 2
+    5:2 6:1 | try_take 5 | 2
+    5:2 6:1 | try_take 6 | 1
     5:2 6:1 | try_take 7 | 1
-    5:2 6:1 | replace 5 | 2
-    5:2 6:1 | replace 7 | 2
+    5:2 6:1 | replace 5 | 1
+    5:2 6:1 | replace 7 | 1
     5:2 6:1 | entry 5 | 0
     5:2 6:1 | entry_value 5 | 1
     5:2 6:1 | entry_value 7 | 1
@@ -62,16 +62,16 @@ const CALLS: &str = "
     5:2 6:1 | set_or_insert 7 3 | 3
     5:2 6:1 | extend [] | 0
     5:2 6:1 | extend [5, 6, 5] | 3
-    5:2 6:1 | extend [7, 5, 7] | 4
+    5:2 6:1 | extend [7, 5, 7] | 3
     5:2 6:1 | extend_refs [5, 6, 5] | 3
-    5:2 6:1 | extend_refs [7, 5, 7] | 4
+    5:2 6:1 | extend_refs [7, 5, 7] | 3
     5:2 6:1 | extend_many 5:4 6:2 5:1 | 3
-    5:2 6:1 | extend_many 7:4 5:0 8:0 | 4
+    5:2 6:1 | extend_many 7:4 5:0 8:0 | 3
     5:2 6:1 | extend_refs_many 5:4 6:2 5:1 | 3
-    5:2 6:1 | extend_refs_many 7:4 5:0 8:0 | 2
-    | from_iter [5, 6, 5] | 5
-    | from_counts 5:4 6:0 5:1 | 4
-    | from_value [[5,4],[6,0],[5,1]] | 4
+    5:2 6:1 | extend_refs_many 7:4 5:0 8:0 | 1
+    | from_iter [5, 6, 5] | 3
+    | from_counts 5:4 6:0 5:1 | 3
+    | from_value [[5,4],[6,0],[5,1]] | 3
     5:2 6:1 | to_value | 0
     5:2 6:1 7:9 | retain_itself | 0
     5:2 6:1 7:9 | retain_none | 0
@@ -79,7 +79,7 @@ const CALLS: &str = "
     5:2 6:1 7:9 | set_iter.count | 0
     5:2 6:1 7:9 | drain | 0
     5:2 6:1 7:9 | clear | 0
-    5:2 6:1 7:9 | reserve 1000 | 0
+    5:2 6:1 7:9 | reserve 1000 | 3
     5:2 6:1 7:9 | shrink_to_fit | 0
     | default_in | 0
     | with_capacity 10 | 0";

@@ -1,5 +1,6 @@
 use Rattle.std.proofs.Common.{◌≡◌, true, sym, ◌∙◌}
 use Rattle.hashbag_core.proofs.CopyLemmas.{clones_occurrences, same_from_clones, tally_cloned, entries_from_items}
+use Rattle.hashbag_core.proofs.DistinctLemmas.{distinct_count-occurrences}
 use Rattle.hashbag_core.proofs.bag.HashBag.clone.Goals as goal
 
 pub clone_in-requires : goal.clone_in-requires
@@ -22,3 +23,6 @@ returns-clause-counts g c =
 
 pub returns-clause-len : goal.returns-clause-len
 returns-clause-len g c = rw (← c.self.view_is) (sym (invariant_of-result g c).sum ∙ c.self.invariant.sum)
+
+pub returns-clause-least : goal.returns-clause-least
+returns-clause-least g c = rw (← c.self.view_is, distinct_count-occurrences g.met.T.Eq.laws c.self.inside.table.entries c.self.invariant.counted) c.in_ok-table.ensures.least

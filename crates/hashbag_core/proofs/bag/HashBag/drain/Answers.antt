@@ -19,6 +19,6 @@ returns g c = (
   (refl, λ w. ap emptied c.self.view_is),
   record {
     writes_back = tt;
-    set_walk = rw (← c.self.view_is) (set_walk_of_bag g.met.T.Eq.laws _ _ _ _ c.self.invariant c.drain.ensures.entries);
+    set_walk = rw (← c.self.view_is) (set_walk_of_bag g.met.T.Eq.laws _ _ _ _ _ c.self.invariant c.drain.ensures.entries);
   },
 )

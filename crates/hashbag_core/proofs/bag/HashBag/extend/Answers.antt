@@ -1,4 +1,6 @@
-use Rattle.std.proofs.Common.{ℕ, refl, ap, arith}
+use Rattle.std.proofs.Common.{◌≡◌, ℕ, refl, ap, arith}
+use Rattle.hashbag_table.specs.Tables.{room}
+use Rattle.hashbag_core.specs.declared.bag.BagError.TheVariants.{Memory}
 use Rattle.hashbag_core.specs.Extends.{Once}
 use Rattle.hashbag_core.proofs.ExtendLemmas.{handed_on, none_yet, one_more, longer, grown, sum_went_once, refuses_rearranged}
 use Rattle.hashbag_core.proofs.bag.HashBag.extend.Goals as goal
@@ -42,3 +44,7 @@ returns-clause-len g c =
     let long = longer g.met.T.Eq.laws Once c.args.self.now c.loop-item.self c.loop-item.yielded c.loop-item.invariant in
     let numbers = sum_went_once Once (λ x p is. ap (λ (q : _ × ℕ). q.1) is) c.loop-item.yielded c.loop-item.invariant.pairs c.loop-item.invariant.went in
     (c.loop-item.yielded, (c.next.new.self, (c.loop-item.item-iterator, rw (← c.into_iter-item-iterator.ensures.into_iter_gives) c.loop-item.yielded_by, c.in-None.ensures.steps)), omega arith)
+
+pub returns-in_err-insert_within-clause-full : goal.returns-in_err-insert_within-clause-full
+returns-in_err-insert_within-clause-full g c =
+    handed_on c.from_residual.result c.in_err-insert_within.field-0.0 _ (λ e. e ≡ Memory → room c.insert_within.new.self.tables ≡ 0) (λ x is. cc) c.from_residual.ensures.1 c.in_err-insert_within.ensures.full

@@ -1,4 +1,6 @@
-use Rattle.std.proofs.Common.{ℕ, refl, ap, arith}
+use Rattle.std.proofs.Common.{◌≡◌, ℕ, refl, ap, arith}
+use Rattle.hashbag_table.specs.Tables.{room}
+use Rattle.hashbag_core.specs.declared.bag.BagError.TheVariants.{Memory}
 use Rattle.hashbag_core.specs.Extends.{AsItIs}
 use Rattle.hashbag_core.proofs.ExtendLemmas.{handed_on, none_yet, one_more, longer, grown, sum_went, refuses_rearranged}
 use Rattle.hashbag_core.proofs.bag.HashBag.extend_many.Goals as goal
@@ -42,3 +44,7 @@ returns-clause-len g c =
     let long = longer g.met.T.Eq.laws AsItIs c.args.self.now c.loop-value.self c.loop-value.yielded c.loop-value.invariant in
     let numbers = sum_went AsItIs (λ e. e.1) (λ x p is. ap (λ (q : _ × ℕ). q.1) is) c.loop-value.yielded c.loop-value.invariant.pairs c.loop-value.invariant.went in
     (c.loop-value.yielded, (c.next.new.self, (c.loop-value.value-iterator, rw (← c.into_iter-value-iterator.ensures.into_iter_gives) c.loop-value.yielded_by, c.in-None.ensures.steps)), omega arith)
+
+pub returns-in_err-insert_within-clause-full : goal.returns-in_err-insert_within-clause-full
+returns-in_err-insert_within-clause-full g c =
+    handed_on c.from_residual.result c.in_err-insert_within.field-0.0 _ (λ e. e ≡ Memory → room c.insert_within.new.self.tables ≡ 0) (λ x is. cc) c.from_residual.ensures.1 c.in_err-insert_within.ensures.full

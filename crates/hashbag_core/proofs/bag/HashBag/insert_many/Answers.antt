@@ -4,6 +4,8 @@ use Rattle.hashbag_core.specs.Bag.{occurrences}
 use Rattle.hashbag_core.specs.Occurrences.{greatest_total, count}
 use Rattle.hashbag_core.proofs.DistinctLemmas.{distinct_added, distinct_same}
 use Rattle.hashbag_core.proofs.OccurrenceLemmas.{add_occurrences, bag_from_tally, tally_added, count_occurrences, count_of_entry, count_in_tally}
+use Rattle.std.proofs.lemmas.Bool.{false≢true}
+use Rattle.hashbag_core.proofs.HeldLemmas.{absent_in_table, present_in_table, recounts_some}
 use Rattle.hashbag_core.proofs.bag.HashBag.insert_many.Goals as goal
 
 pub add-requires-clause-fits : goal.add-requires-clause-fits
@@ -47,3 +49,27 @@ returns-clause-set_len g c = rw (← c.self.view_is) (distinct_added g.met.T.Eq.
 
 pub returns-clause-same_set : goal.returns-clause-same_set
 returns-clause-same_set g c = rw (← c.self.view_is) (distinct_same g.met.T.Eq.laws c.args.value _ _ _ c.self.invariant.counted c.add.ensures.counted c.in_ok-before.ensures.added)
+
+pub returns-in_err-before-clause-takes : goal.returns-in_err-before-clause-takes
+returns-in_err-before-clause-takes g c = λ some. absurd (false≢true (c.in_err-before.ensures.takes (rw (← c.self.view_is) at some)))
+
+pub returns-clause-arrives : goal.returns-clause-arrives
+returns-clause-arrives g c = λ some none. rw (← c.self.view_is) (c.in_ok-before.ensures.arrives (absent_in_table g.met.T.Eq.laws c.args.value _ c.self.invariant.counted (rw (← c.self.view_is) at none)))
+
+pub returns-clause-slot : goal.returns-clause-slot
+returns-clause-slot g c = λ some there.
+    let is_there = rw (← c.self.view_is) at there in
+    let same = count_occurrences g.met.T.Eq.laws c.args.value c.self.inside.table.entries c.self.invariant.counted.distinct in
+    rw (← c.self.view_is, same) (recounts_some g.T.PartialEq.eq c.args.value _ _ _ (omega arith) (c.add.ensures.slot (present_in_table g.met.T.Eq.laws c.args.value _ c.self.invariant.counted is_there)))
+
+pub returns-clause-slots : goal.returns-clause-slots
+returns-clause-slots g c = λ some. rw (← c.self.view_is) (c.in_ok-before.ensures.slots (rw (← c.self.view_is) at some))
+
+pub returns-clause-room : goal.returns-clause-room
+returns-clause-room g c = λ some. rw (← c.self.view_is) (c.in_ok-before.ensures.room (rw (← c.self.view_is) at some))
+
+pub returns-clause-same_slots : goal.returns-clause-same_slots
+returns-clause-same_slots g c = λ some. rw (← c.self.view_is) (c.in_ok-before.ensures.same_slots some)
+
+pub returns-clause-same_room : goal.returns-clause-same_room
+returns-clause-same_room g c = λ some. rw (← c.self.view_is) (c.in_ok-before.ensures.same_room some)

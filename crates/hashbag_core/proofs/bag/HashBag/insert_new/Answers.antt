@@ -3,6 +3,7 @@ use Rattle.hashbag_table.specs.Entries.{count_of}
 use Rattle.hashbag_core.specs.Bag.{occurrences}
 use Rattle.hashbag_core.specs.Occurrences.{greatest_total, count}
 use Rattle.hashbag_core.proofs.OccurrenceLemmas.{bag_from_tally, count_occurrences, absent_from_count, new_occurrences, tally_added}
+use Rattle.std.proofs.lemmas.Bool.{false≢true}
 use Rattle.hashbag_core.proofs.bag.HashBag.insert_new.Goals as goal
 
 pub insert_new-requires-clause-absent : goal.insert_new-requires-clause-absent
@@ -32,3 +33,15 @@ returns-clause-len g c =
     let was = c.self.invariant.sum in
     let now = (invariant_of-self-2 g c).sum in
     rw (← c.self.view_is) (omega arith)
+
+pub returns-in_err-insert_new-clause-takes : goal.returns-in_err-insert_new-clause-takes
+returns-in_err-insert_new-clause-takes g c = λ some. absurd (false≢true (c.in_err-insert_new.ensures.takes (rw (← c.self.view_is) at some)))
+
+pub returns-clause-arrives : goal.returns-clause-arrives
+returns-clause-arrives g c = rw (← c.self.view_is) c.in_ok-insert_new.ensures.arrives
+
+pub returns-clause-slots : goal.returns-clause-slots
+returns-clause-slots g c = λ some. rw (← c.self.view_is) (c.in_ok-insert_new.ensures.slots (rw (← c.self.view_is) at some))
+
+pub returns-clause-room : goal.returns-clause-room
+returns-clause-room g c = λ some. rw (← c.self.view_is) (c.in_ok-insert_new.ensures.room (rw (← c.self.view_is) at some))

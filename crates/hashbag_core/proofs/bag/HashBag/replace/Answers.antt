@@ -2,6 +2,11 @@ use Rattle.std.proofs.Common.{◌+◌, ◌-◌, ◌≤◌, length, arith, sym, �
 use Rattle.hashbag_core.specs.Bag.{occurrences, IsTallied}
 use Rattle.hashbag_core.specs.Occurrences.{greatest_total, count}
 use Rattle.hashbag_core.proofs.OccurrenceLemmas.{bag_from_tally, count_occurrences, count_in_tally, put_occurrences, tally_put}
+use Rattle.std.proofs.Common.{◌≡◌}
+use Rattle.std.proofs.lemmas.Bool.{false≢true}
+use Rattle.hashbag_table.proofs.EntryLemmas.{OnErr-from}
+use Rattle.hashbag_core.proofs.OccurrenceLemmas.{count_of_entry}
+use Rattle.hashbag_core.proofs.HeldLemmas.{absent_in_table, present_in_table}
 use Rattle.hashbag_core.proofs.bag.HashBag.replace.Goals as goal
 
 pub overflow_sub-self : goal.overflow_sub-self
@@ -49,3 +54,30 @@ returns-clause-len g c =
     let was = c.self.invariant.sum in
     let now = (invariant_of-self-2 g c).sum in
     rw (← c.self.view_is) (omega arith)
+
+pub returns-in_err-before-clause-absent : goal.returns-in_err-before-clause-absent
+returns-in_err-before-clause-absent g c =
+    let absent : count g.T.PartialEq.eq c.args.value c.args.self.now.items ≡ 0 =
+    rw (← c.self.view_is) (count_occurrences g.met.T.Eq.laws c.args.value _ c.self.invariant.counted.distinct ∙ count_of_entry g.met.T.Eq.laws c.args.value _ _ (sym c.in_err-before.ensures.absent)) in
+    OnErr-from _ absent
+
+pub returns-in_err-before-clause-takes : goal.returns-in_err-before-clause-takes
+returns-in_err-before-clause-takes g c = λ some. absurd (false≢true (c.in_err-before.ensures.takes (rw (← c.self.view_is) at some)))
+
+pub returns-clause-arrives : goal.returns-clause-arrives
+returns-clause-arrives g c = λ none. rw (← c.self.view_is) (c.in_ok-before.ensures.arrives (absent_in_table g.met.T.Eq.laws c.args.value _ c.self.invariant.counted (rw (← c.self.view_is) at none)))
+
+pub returns-clause-slot : goal.returns-clause-slot
+returns-clause-slot g c = λ there. rw (← c.self.view_is) (c.put_instance.ensures.slot (present_in_table g.met.T.Eq.laws c.args.value _ c.self.invariant.counted (rw (← c.self.view_is) at there)))
+
+pub returns-clause-slots : goal.returns-clause-slots
+returns-clause-slots g c = λ some. rw (← c.self.view_is) (c.in_ok-before.ensures.slots (rw (← c.self.view_is) at some))
+
+pub returns-clause-room : goal.returns-clause-room
+returns-clause-room g c = λ some. rw (← c.self.view_is) (c.in_ok-before.ensures.room (rw (← c.self.view_is) at some))
+
+pub returns-clause-same_slots : goal.returns-clause-same_slots
+returns-clause-same_slots g c = λ some. rw (← c.self.view_is) (c.in_ok-before.ensures.same_slots some)
+
+pub returns-clause-same_room : goal.returns-clause-same_room
+returns-clause-same_room g c = λ some. rw (← c.self.view_is) (c.in_ok-before.ensures.same_room some)

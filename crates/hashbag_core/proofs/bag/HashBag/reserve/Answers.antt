@@ -5,6 +5,8 @@ use Rattle.hashbag_core.specs.Bag.{occurrences}
 use Rattle.hashbag_core.specs.Occurrences.{distinct_count}
 use Rattle.hashbag_core.proofs.OccurrenceLemmas.{bag_from_tally, occurrences_rearranged, tally_rearranged}
 use Rattle.hashbag_core.proofs.DistinctLemmas.{distinct_count-occurrences}
+use Rattle.std.proofs.Common.{ap}
+use Rattle.hashbag_core.proofs.HeldLemmas.{shown}
 use Rattle.hashbag_core.proofs.bag.HashBag.reserve.Goals as goal
 
 pub returns-in_err-reserve-clause-kept : goal.returns-in_err-reserve-clause-kept
@@ -36,3 +38,18 @@ returns-in_err-reserve-clause-len g c = rw (← c.self.view_is) (sym (tally_rear
 
 pub returns-clause-len : goal.returns-clause-len
 returns-clause-len g c = rw (← c.self.view_is) (sym (invariant_of-self-2 g c).sum ∙ c.self.invariant.sum)
+
+pub returns-in_err-reserve-clause-enough : goal.returns-in_err-reserve-clause-enough
+returns-in_err-reserve-clause-enough g c = λ enough. absurd (false≢true (c.in_err-reserve.ensures.enough (rw (← c.self.view_is) at enough)))
+
+pub returns-in_err-reserve-clause-same : goal.returns-in_err-reserve-clause-same
+returns-in_err-reserve-clause-same g c = λ enough. rw (← c.self.view_is) (ap shown (c.reserve.ensures.kept (rw (← c.self.view_is) at enough)))
+
+pub returns-clause-same : goal.returns-clause-same
+returns-clause-same g c = λ enough. rw (← c.self.view_is) (ap shown (c.reserve.ensures.kept (rw (← c.self.view_is) at enough)))
+
+pub returns-clause-least : goal.returns-clause-least
+returns-clause-least g c = λ more. rw (← c.self.view_is, distinct_count-occurrences g.met.T.Eq.laws c.self.inside.table.entries c.self.invariant.counted) (c.in_ok-reserve.ensures.least (rw (← c.self.view_is) at more))
+
+pub returns-clause-packed : goal.returns-clause-packed
+returns-clause-packed g c = λ more. c.in_ok-reserve.ensures.packed (rw (← c.self.view_is) at more)

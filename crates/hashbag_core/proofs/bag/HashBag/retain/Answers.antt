@@ -5,7 +5,7 @@ use Rattle.hashbag_core.proofs.bag.HashBag.retain.Goals as goal
 pub retain-self-inside-requires-clause-asks : goal.retain-self-inside-requires-clause-asks
 retain-self-inside-requires-clause-asks g c = λ walk order.
     let asks = rw (← c.self.view_is) at c.requires.asks in
-    asks walk (set_walk_of_bag g.met.T.Eq.laws c.self.inside.table.hasher c.self.inside.table.entries walk c.self.inside.len c.self.invariant order)
+    asks walk (set_walk_of_bag g.met.T.Eq.laws c.self.inside.table.hasher c.self.inside.table.tables c.self.inside.table.entries walk c.self.inside.len c.self.invariant order)
 
 pub retain-self-inside-requires-clause-fits : goal.retain-self-inside-requires-clause-fits
 retain-self-inside-requires-clause-fits g c = total_fits g.met.T.Eq.laws g.F.FnMut c.args.f c.self.inside.table.entries c.self.inside.table.entries c.self.inside.len c.self.invariant
@@ -19,9 +19,18 @@ pub returns-clause-retained : goal.returns-clause-retained
 returns-clause-retained g c =
     let done = c.retain-self-inside.ensures in
     rw (← c.self.view_is) (is_retained g.met.T.Eq.laws g.F.FnMut c.args.f c.self.inside.table.entries c.retain-self-inside.new.self.entries c.self.inside.len c.self.invariant done.counted done.kept
-    c.self.inside.table.hasher c.retain-self-inside.new.self.hasher c.retain-self-inside.result done.total done.hasher)
+    c.self.inside.table.hasher c.retain-self-inside.new.self.hasher c.self.inside.table.tables c.retain-self-inside.new.self.tables c.retain-self-inside.result done.total done.hasher)
 
 pub returns-clause-len : goal.returns-clause-len
 returns-clause-len g c =
     let done = c.retain-self-inside.ensures in
     rw (← c.self.view_is) (fewer_retained g.met.T.Eq.laws g.F.FnMut c.args.f c.self.inside.table.entries c.retain-self-inside.new.self.entries c.self.inside.len c.self.invariant done.counted done.kept)
+
+pub returns-clause-slots : goal.returns-clause-slots
+returns-clause-slots g c = rw (← c.self.view_is) c.retain-self-inside.ensures.newer
+
+pub returns-clause-waiting : goal.returns-clause-waiting
+returns-clause-waiting g c = rw (← c.self.view_is) c.retain-self-inside.ensures.waiting
+
+pub returns-clause-room : goal.returns-clause-room
+returns-clause-room g c = rw (← c.self.view_is) c.retain-self-inside.ensures.room

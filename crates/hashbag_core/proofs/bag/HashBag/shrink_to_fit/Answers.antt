@@ -1,5 +1,9 @@
 use Rattle.std.proofs.Common.{sym, ◌∙◌}
 use Rattle.hashbag_core.proofs.OccurrenceLemmas.{bag_from_tally, occurrences_rearranged, tally_rearranged}
+use Rattle.std.proofs.Common.{ap, refl}
+use Rattle.std.proofs.lemmas.Bool.{false≢true}
+use Rattle.hashbag_core.proofs.DistinctLemmas.{distinct_count-occurrences}
+use Rattle.hashbag_core.proofs.HeldLemmas.{shown, no_entries, none_from_newer}
 use Rattle.hashbag_core.proofs.bag.HashBag.shrink_to_fit.Goals as goal
 
 pub returns-in_err-shrink_to_fit-clause-kept : goal.returns-in_err-shrink_to_fit-clause-kept
@@ -24,3 +28,31 @@ returns-in_err-shrink_to_fit-clause-len g c = rw (← c.self.view_is) (sym (tall
 
 pub returns-clause-len : goal.returns-clause-len
 returns-clause-len g c = rw (← c.self.view_is) (sym (invariant_of-self-2 g c).sum ∙ c.self.invariant.sum)
+
+pub returns-in_err-shrink_to_fit-clause-none : goal.returns-in_err-shrink_to_fit-clause-none
+returns-in_err-shrink_to_fit-clause-none g c = λ empty. absurd (false≢true (c.in_err-shrink_to_fit.ensures.none (no_entries g.met.T.Eq.laws _ c.self.invariant.counted (rw (← c.self.view_is) at empty))))
+
+pub returns-in_err-shrink_to_fit-clause-enough : goal.returns-in_err-shrink_to_fit-clause-enough
+returns-in_err-shrink_to_fit-clause-enough g c = λ m least enough.
+    absurd (false≢true (c.in_err-shrink_to_fit.ensures.enough m (rw (← c.self.view_is, distinct_count-occurrences g.met.T.Eq.laws c.self.inside.table.entries c.self.invariant.counted) at least) (rw (← c.self.view_is) at enough)))
+
+pub returns-in_err-shrink_to_fit-clause-same : goal.returns-in_err-shrink_to_fit-clause-same
+returns-in_err-shrink_to_fit-clause-same g c = λ m least enough.
+    rw (← c.self.view_is) (ap shown (c.shrink_to_fit.ensures.kept m (rw (← c.self.view_is, distinct_count-occurrences g.met.T.Eq.laws c.self.inside.table.entries c.self.invariant.counted) at least) (rw (← c.self.view_is) at enough)))
+
+pub returns-clause-same : goal.returns-clause-same
+returns-clause-same g c = λ m least enough.
+    rw (← c.self.view_is) (ap shown (c.shrink_to_fit.ensures.kept m (rw (← c.self.view_is, distinct_count-occurrences g.met.T.Eq.laws c.self.inside.table.entries c.self.invariant.counted) at least) (rw (← c.self.view_is) at enough)))
+
+pub returns-clause-freed : goal.returns-clause-freed
+returns-clause-freed g c = λ empty.
+    none_from_newer c.shrink_to_fit.new.self.tables c.waiting-waiting.result
+    (c.shrink_to_fit.ensures.freed (no_entries g.met.T.Eq.laws _ c.self.invariant.counted (rw (← c.self.view_is) at empty))) c.waiting-waiting.ensures.waiting c.waiting-waiting.ensures.smaller
+
+pub returns-clause-least : goal.returns-clause-least
+returns-clause-least g c = λ m least more.
+    c.in_ok-shrink_to_fit.ensures.least m (rw (← c.self.view_is, distinct_count-occurrences g.met.T.Eq.laws c.self.inside.table.entries c.self.invariant.counted) at least) (rw (← c.self.view_is) at more)
+
+pub returns-clause-packed : goal.returns-clause-packed
+returns-clause-packed g c = λ m least more.
+    c.in_ok-shrink_to_fit.ensures.packed m (rw (← c.self.view_is, distinct_count-occurrences g.met.T.Eq.laws c.self.inside.table.entries c.self.invariant.counted) at least) (rw (← c.self.view_is) at more)

@@ -3,6 +3,9 @@ use Rattle.hashbag_core.specs.Bag.{occurrences, IsTallied}
 use Rattle.hashbag_core.specs.Occurrences.{count}
 use Rattle.hashbag_core.proofs.OccurrenceLemmas.{bag_from_tally, tally_less, count_occurrences, count_of_entry, count_in_tally, less_all_occurrences}
 use Rattle.hashbag_core.proofs.TakeLemmas.{stored_occurrences}
+use Rattle.std.proofs.Common.{ap, refl}
+use Rattle.hashbag_core.proofs.TakeLemmas.{stored_some}
+use Rattle.hashbag_core.proofs.HeldLemmas.{shown, recounts_none}
 use Rattle.hashbag_core.proofs.bag.HashBag.take_all.Goals as goal
 
 -- all that were there are taken
@@ -68,3 +71,34 @@ returns-clause-len g c =
     let was = c.self.invariant.sum in
     let now = (invariant_of-self-2 g c).sum in
     rw (← c.self.view_is) (omega arith)
+
+pub returns-in_err-instance-clause-slot : goal.returns-in_err-instance-clause-slot
+returns-in_err-instance-clause-slot g c = λ there.
+    let is_there = rw (← c.self.view_is) at there in
+    let none = count_of_entry g.met.T.Eq.laws c.args.value.now c.self.inside.table.entries None c.in_err-instance.ensures.taken in
+    let same = count_occurrences g.met.T.Eq.laws c.args.value.now c.self.inside.table.entries c.self.invariant.counted.distinct in
+    absurd (omega (arith, is_there, none, same))
+
+pub returns-in_err-instance-clause-none : goal.returns-in_err-instance-clause-none
+returns-in_err-instance-clause-none g c = λ _. rw (← c.self.view_is) (ap shown (c.in_err-instance.ensures.none refl))
+
+pub returns-clause-slot : goal.returns-clause-slot
+returns-clause-slot g c = λ _. rw (← c.self.view_is) (recounts_none g.T.PartialEq.eq c.args.value.now 0 _ _ refl (c.in_ok-instance.ensures.slot refl))
+
+pub returns-clause-none : goal.returns-clause-none
+returns-clause-none g c = λ none.
+    let is_none = rw (← c.self.view_is) at none in
+    let some = stored_some g.met.T.Eq.laws c.args.value.now (occurrences c.self.inside.table.entries) _ (c.in_ok-instance.ensures.taken ∙ sym (stored_occurrences g.met.T.Eq.laws c.args.value.now _ c.self.invariant.counted)) in
+    absurd (omega (arith, is_none, some))
+
+pub returns-in_err-instance-clause-slots : goal.returns-in_err-instance-clause-slots
+returns-in_err-instance-clause-slots g c = rw (← c.self.view_is) c.remove.ensures.slots
+
+pub returns-in_err-instance-clause-room : goal.returns-in_err-instance-clause-room
+returns-in_err-instance-clause-room g c = rw (← c.self.view_is) c.remove.ensures.room
+
+pub returns-clause-slots : goal.returns-clause-slots
+returns-clause-slots g c = rw (← c.self.view_is) c.remove.ensures.slots
+
+pub returns-clause-room : goal.returns-clause-room
+returns-clause-room g c = rw (← c.self.view_is) c.remove.ensures.room

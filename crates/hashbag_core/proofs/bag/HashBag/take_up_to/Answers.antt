@@ -1,5 +1,10 @@
 use Rattle.std.proofs.Common.{arith, sym, ◌∙◌}
 use Rattle.hashbag_core.proofs.OccurrenceLemmas.{bag_from_tally, tally_less, count_in_tally, count_occurrences, fewer_occurrences}
+use Rattle.std.proofs.Common.{◌≡◌, ap}
+use Rattle.hashbag_core.specs.Bag.{occurrences}
+use Rattle.hashbag_core.specs.Occurrences.{count}
+use Rattle.hashbag_core.specs.Held.{Recounts}
+use Rattle.hashbag_core.proofs.HeldLemmas.{shown, recounts_fewer}
 use Rattle.hashbag_core.proofs.bag.HashBag.take_up_to.Goals as goal
 
 pub overflow_sub-self : goal.overflow_sub-self
@@ -33,3 +38,21 @@ returns-clause-len g c =
     let was = c.self.invariant.sum in
     let now = (invariant_of-self g c).sum in
     rw (← c.self.view_is) (omega arith)
+
+pub returns-clause-slot : goal.returns-clause-slot
+returns-clause-slot g c = λ there.
+    let is_there = rw (← c.self.view_is) at there in
+    let before : c.take-before.result ≡ count g.T.PartialEq.eq c.args.value.now (occurrences c.self.inside.table.entries) = c.take-before.ensures.before ∙ sym (count_occurrences g.met.T.Eq.laws c.args.value.now _ c.self.invariant.counted.distinct) in
+    rw (← c.self.view_is, ← before) (recounts_fewer g.T.PartialEq.eq c.args.value.now c.take-before.result c.args.quantity _ _ (omega (arith, before, is_there)) c.take-before.ensures.fewer c.take-before.ensures.gone)
+
+pub returns-clause-none : goal.returns-clause-none
+returns-clause-none g c = λ none.
+    let is_none = rw (← c.self.view_is) at none in
+    let before : c.take-before.result ≡ count g.T.PartialEq.eq c.args.value.now (occurrences c.self.inside.table.entries) = c.take-before.ensures.before ∙ sym (count_occurrences g.met.T.Eq.laws c.args.value.now _ c.self.invariant.counted.distinct) in
+    rw (← c.self.view_is) (ap shown (c.take-before.ensures.none (before ∙ is_none)))
+
+pub returns-clause-slots : goal.returns-clause-slots
+returns-clause-slots g c = rw (← c.self.view_is) c.take-before.ensures.slots
+
+pub returns-clause-room : goal.returns-clause-room
+returns-clause-room g c = rw (← c.self.view_is) c.take-before.ensures.room

@@ -1,4 +1,5 @@
-use Rattle.std.proofs.Common.{refl, arith}
+use Rattle.std.proofs.Common.{ℕ, refl, sym, subst, arith}
+use Rattle.hashbag_core.specs.Held.{Recounts}
 use Rattle.hashbag_core.proofs.OccurrenceLemmas.{count_le}
 use Rattle.hashbag_core.proofs.entry.Entry.and_modify.Goals as goal
 
@@ -24,6 +25,9 @@ returns-then-n-len g c =
         };
         stays = tt;
         len = tt;
+        slot = tt;
+        slots = tt;
+        room = tt;
       },
     )
 
@@ -46,6 +50,9 @@ returns g c =
         too_many = tt;
         passes = tt;
         len = omega (arith, c.set_count.ensures.len, c.set_count.ensures.after);
+        slot = λ _. subst (λ (k : ℕ). Recounts g.T.PartialEq.eq c.args.self.value k c.args.self.bag.now.tables c.set_count.new.self.tables) (sym c.set_count.ensures.after) c.set_count.ensures.slot;
+        slots = c.set_count.ensures.slots;
+        room = c.set_count.ensures.room;
         stays = tt;
       },
     )

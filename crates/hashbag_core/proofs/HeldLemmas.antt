@@ -1,0 +1,105 @@
+-- What calls leave of the slots of a bag, from what the calls of its table leave of them.
+use Rattle.std.proofs.Common.{◌≡◌, ℕ, zero, suc, ◌+◌, ◌-◌, ◌<◌, ◌≤◌, ◌==◌, Bool, true, false, cond, List, [], ◌∷◌, length, replicate, None, IsSome, Result, Ok, Err, IfErr, refl, sym, ap, subst, ◌∙◌, inl, inr, arith}
+use Rattle.std.specs.Cmp.{IsEquivalence}
+use Rattle.std.proofs.lemmas.Bool.{cases_lt, ne_eqb}
+use Rattle.std.proofs.lemmas.List.{nil_from_length, length-replicate}
+use Rattle.hashbag_slots.specs.declared.slots.Slot.{Slot}
+use Rattle.hashbag_slots.specs.declared.slots.Slot.TheVariants.{Empty, Removed}
+use Rattle.hashbag_slots.specs.Slots.{recounted, live_count}
+use Rattle.hashbag_table.specs.Table.{Table}
+use Rattle.hashbag_table.specs.Entries.{entry_of, count_of, IsCounted}
+use Rattle.hashbag_table.specs.Tables.{Tables, limit, room, IsLeast, IsPacked, Writes, Rewrites, slot_in}
+use Rattle.hashbag_table.proofs.CarryLemmas.{live_fresh, live_empty, removed_empty}
+use Rattle.hashbag_core.specs.Bag.{Bag, occurrences}
+use Rattle.hashbag_core.specs.Occurrences.{count}
+use Rattle.hashbag_core.specs.Held.{no_slots, cleared, left_in, Recounts}
+use Rattle.hashbag_core.proofs.OccurrenceLemmas.{count_occurrences, absent_from_count, present_from_count}
+use Rattle.hashbag_core.proofs.WalkLemmas.{length_occurrences, length_le_total}
+
+-- what a bag shows of its table
+abbrev pub shown : {T S : Type 0} → Table T S → Bag T S
+shown t = record { items = occurrences t.entries; hasher = t.hasher; tables = t.tables }
+
+pub none_left : (k : ℕ) → (0 < k → ⊥) → k ≡ 0
+none_left zero h = refl
+none_left (suc k) h = absurd (h (omega arith))
+
+pub more_than_one : (k : ℕ) → 0 < k → (k ≡ 1 → ⊥) → 0 < k - 1
+more_than_one zero some several = absurd (omega arith)
+more_than_one (suc zero) some several = absurd (several refl)
+more_than_one (suc (suc k)) some several = omega arith
+
+-- whatever the error is
+pub err_from : {A E P : Type 0} (r : Result A E) (Q : E → Type 0) → P → IfErr r (λ e. Q e → P)
+err_from (Ok a) Q p = tt
+err_from (Err e) Q p = λ _. p
+
+module _ {T : Type 0} where
+  pub tables_from : (t u : Tables T) → t.newer ≡ u.newer → t.waiting ≡ u.waiting → t ≡ u
+  tables_from t u p q = λ i. record { newer = p i; waiting = q i }
+
+  -- where there are no slots, none waits
+  pub none_from_newer : (t : Tables T) (w : ℕ) → t.newer ≡ [] → w ≡ length t.waiting → (0 < w → w + 16 ≤ length t.newer) → t ≡ no_slots
+  none_from_newer t w newer is smaller =
+      let none : length t.newer ≡ 0 = ap (λ (ss : List (Slot T)). length ss) newer in
+      tables_from t no_slots newer (nil_from_length t.waiting (sym is ∙ none_left w (λ some. let more = smaller some in omega (arith, more, none))))
+
+  -- the least table for n values that is made of Empty slots has room for them
+  pub room_made : (n : ℕ) (t : Tables T) → t.newer ≡ replicate (length t.newer) Empty → IsLeast 0 n (length t.newer) → IsPacked t → n ≤ room t
+  room_made n t fresh least packed =
+      let live = live_fresh t.newer fresh in
+      let none : live_count t.waiting ≡ 0 = ap (λ (ss : List (Slot T)). live_count ss) packed.waiting in
+      let enough = least.enough in
+      let is = packed.room in
+      omega (arith, live, none, enough, is)
+
+  left_some : (n : ℕ) (s : Slot T) → 0 < n → recounted n s ≡ left_in n s
+  left_some n s some = ap (λ (b : Bool). cond b Removed (recounted n s)) (sym (ne_eqb n 0 (λ e. omega (arith, e, some))))
+
+  left_none : (n : ℕ) (s : Slot T) → n ≡ 0 → Removed ≡ left_in n s
+  left_none n s none = ap (λ k. left_in k s) (sym none)
+
+  rewrites_by : (test : T → Bool) (f h : Slot T → Slot T) (old new : Tables T) → ((s : Slot T) → f s ≡ h s) → Rewrites test f old new → Rewrites test h old new
+  rewrites_by test f h old new same r = record { spot = r.spot; held = r.held; after = subst (λ s. Writes r.spot s old new) (same (slot_in old r.spot)) r.after }
+
+  -- cleared slots have as much room as their number allows
+  pub room_cleared : (t : Tables T) → room t ≤ room (cleared t)
+  room_cleared t =
+      let live = live_empty T (length t.newer) in
+      let removed = removed_empty T (length t.newer) in
+      let empty : Slot T = Empty in
+      let long = ap limit (length-replicate (length t.newer) empty) in
+      omega (arith, live, removed, long)
+
+module _ {T : Type 0} (eq : T → T → Bool) where
+  -- some of a value are left, or none
+  pub recounts_some : (v : T) (n : ℕ) (old new : Tables T) → 0 < n → Rewrites (λ w. eq w v) (recounted n) old new → Recounts eq v n old new
+  recounts_some v n old new some r = rewrites_by (λ w. eq w v) (recounted n) (left_in n) old new (λ s. left_some n s some) r
+
+  pub recounts_none : (v : T) (n : ℕ) (old new : Tables T) → n ≡ 0 → Rewrites (λ w. eq w v) (λ _. Removed) old new → Recounts eq v n old new
+  recounts_none v n old new none r = rewrites_by (λ w. eq w v) (λ _. Removed) (left_in n) old new (λ s. left_none n s none) r
+
+  -- of m of a value q are taken
+  pub recounts_fewer : (v : T) (m q : ℕ) (old new : Tables T) → 0 < m → (q < m → Rewrites (λ w. eq w v) (recounted (m - q)) old new) → (0 < m → m ≤ q → Rewrites (λ w. eq w v) (λ _. Removed) old new) → Recounts eq v (m - q) old new
+  recounts_fewer v m q old new some fewer gone = elim (cases_lt q m) [
+    | inl less ↦ recounts_some v (m - q) old new (omega (arith, less)) (fewer less)
+    | inr all ↦ recounts_none v (m - q) old new (omega (arith, all)) (gone some (omega (arith, all)))
+  ]
+
+module _ {T : Type 0} {eq : T → T → Bool} (laws : IsEquivalence eq) where
+  -- ---- what is there and what isn't, of a bag and of its table
+
+  pub absent_in_table : (v : T) (es : List (T × ℕ)) → IsCounted eq es → count eq v (occurrences es) ≡ 0 → entry_of eq v es ≡ None
+  absent_in_table v es counted none = absent_from_count laws v es counted (sym (count_occurrences laws v es counted.distinct) ∙ none)
+
+  pub present_in_table : (v : T) (es : List (T × ℕ)) → IsCounted eq es → 0 < count eq v (occurrences es) → IsSome (entry_of eq v es)
+  present_in_table v es counted some =
+      let same = count_occurrences laws v es counted.distinct in
+      present_from_count laws v es (omega (arith, same, some))
+
+  pub no_entries : (es : List (T × ℕ)) → IsCounted eq es → occurrences es ≡ [] → es ≡ []
+  no_entries es counted none =
+      let long = length_occurrences es in
+      let few = length_le_total es counted.positive in
+      let zero_long : length (occurrences es) ≡ 0 = ap (λ (X : List T). length X) none in
+      nil_from_length es (omega (arith, long, few, zero_long))

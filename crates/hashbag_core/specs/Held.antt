@@ -1,0 +1,35 @@
+-- What the two tables of slots of a bag have to do with its occurrences, and what calls leave of them.
+use Rattle.std.specs.Prelude.{◌≡◌, ℕ, ◌==◌, if◌then◌else◌, Bool, List, [], length, replicate}
+use Rattle.hashbag_slots.specs.declared.slots.Slot.{Slot}
+use Rattle.hashbag_slots.specs.declared.slots.Slot.TheVariants.{Empty, Removed, Live}
+use Rattle.hashbag_slots.specs.Slots.{recounted}
+use Rattle.hashbag_table.specs.Entries.{IsCounted}
+use Rattle.hashbag_table.specs.Tables.{Tables, entries_of, Rewrites}
+use Rattle.hashbag_core.specs.Bag.{occurrences}
+
+module _ {T : Type 0} where
+  -- no slots, in either table
+  abbrev pub no_slots : Tables T
+  no_slots = record { newer = []; waiting = [] }
+
+  -- so many slots as before, all of them Empty, and none that waits
+  abbrev pub cleared : Tables T → Tables T
+  cleared t = record { newer = replicate (length t.newer) Empty; waiting = [] }
+
+  -- the slot of a value of which n are left: with that count, and Removed where it is 0
+  abbrev pub left_in : ℕ → Slot T → Slot T
+  left_in n s = if n == 0 then Removed else recounted n s
+
+module _ {T : Type 0} (eq : T → T → Bool) where
+  -- the values with their counts are the Live slots of both tables, and no value is in both, or twice in one
+  pub record AreHeld (items : List T) (tables : Tables T) : Type 0 where
+    pub entries : items ≡ occurrences (entries_of tables.newer tables.waiting)
+    pub counted : IsCounted eq (entries_of tables.newer tables.waiting)
+
+  -- of v, which was there, n are left: its slot alone is changed, in whichever table it is
+  abbrev pub Recounts : T → ℕ → Tables T → Tables T → Type 0
+  Recounts v n old new = Rewrites (λ w. eq w v) (left_in n) old new
+
+  -- v itself is stored, once, in the slot of the value that is equal to it, and no other slot is changed
+  abbrev pub Restores : T → Tables T → Tables T → Type 0
+  Restores v old new = Rewrites (λ w. eq w v) (λ _. Live v 1) old new

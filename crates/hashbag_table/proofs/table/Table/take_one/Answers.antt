@@ -1,0 +1,85 @@
+use Rattle.std.proofs.Common.{◌≡◌, ℕ, ◌-◌, refl, ◌∷◌, [], Some, sym, ap, ◌∙◌, subst, arith}
+use Rattle.std.specs.Map.{lookup_entry}
+use Rattle.hashbag_slots.specs.declared.slots.Slot.TheVariants.{Removed}
+use Rattle.hashbag_slots.specs.Slots.{slot_entry, recounted}
+use Rattle.hashbag_table.specs.Tables.{Swaps}
+use Rattle.hashbag_table.proofs.RoomKeptLemmas.{kept_Rewrites}
+use Rattle.hashbag_table.proofs.SpotLemmas.{held_entry, positive_found, count_present, count_absent, fewer_swapped, gone_swapped, fewer_absent}
+use Rattle.hashbag_table.proofs.table.Table.take_one.Goals as goal
+
+pub returns-then-before-gt1-clause-others : goal.returns-then-before-gt1-clause-others
+returns-then-before-gt1-clause-others g c =
+    let eq = g.T.PartialEq.eq in let v = c.args.value.now in let es = c.args.self.now.entries in
+    let held = held_entry (λ w. eq w v) c.args.self.now.tables c.in-Some.spot c.in-Some.ensures.held in
+    let e = held.0 in
+    let found : lookup_entry (eq v) es ≡ Some e = sym c.in-Some.ensures.map ∙ held.1 in
+    let count : c.count_at-before.result ≡ e.1 = c.count_at-before.ensures.count e held.1 in
+    let more = c.if-before-gt1.true in
+    (count ∙ sym (count_present eq v es e found), λ one. absurd (omega (arith, more, one)))
+
+pub returns-then-before-gt1-clause-taken : goal.returns-then-before-gt1-clause-taken
+returns-then-before-gt1-clause-taken g c =
+    let eq = g.T.PartialEq.eq in let v = c.args.value.now in let es = c.args.self.now.entries in
+    let held = held_entry (λ w. eq w v) c.args.self.now.tables c.in-Some.spot c.in-Some.ensures.held in
+    let e = held.0 in
+    let found : lookup_entry (eq v) es ≡ Some e = sym c.in-Some.ensures.map ∙ held.1 in
+    let count : c.count_at-before.result ≡ e.1 = c.count_at-before.ensures.count e held.1 in
+    let more = c.if-before-gt1.true in
+    fewer_swapped eq v es g.met.T.Eq.laws 1 c.set_spot.new.self.entries e c.in-Some.ensures.counted found (omega (arith, more, count))
+    (subst (λ (b : ℕ). Swaps es c.set_spot.new.self.entries e ((e.0, b - 1) ∷ [])) count (c.set_spot.ensures.map e held.1))
+
+pub returns-then-before-gt1-clause-fewer : goal.returns-then-before-gt1-clause-fewer
+returns-then-before-gt1-clause-fewer g c = λ some. record { spot = c.in-Some.spot; held = c.in-Some.ensures.held; after = c.set_spot.ensures.after }
+
+pub returns-then-before-gt1-clause-none : goal.returns-then-before-gt1-clause-none
+returns-then-before-gt1-clause-none g c = λ none. let more = c.if-before-gt1.true in absurd (omega (arith, more, none))
+
+pub returns-in-Some-clause-last : goal.returns-in-Some-clause-last
+returns-in-Some-clause-last g c =
+    let eq = g.T.PartialEq.eq in let v = c.args.value.now in let es = c.args.self.now.entries in let r = c.take_spot-former.result in
+    let at = ap slot_entry c.take_spot-former.ensures.taken in
+    let found : lookup_entry (eq v) es ≡ Some (r.0, r.1) = sym c.in-Some.ensures.map ∙ at in
+    let count : c.count_at-before.result ≡ r.1 = c.count_at-before.ensures.count (r.0, r.1) at in
+    let few = c.if-before-gt1.false in
+    let some = positive_found eq g.met.T.Eq.laws v es (r.0, r.1) c.in-Some.ensures.counted found in
+    let one : r.1 ≡ 1 = omega (arith, count, few, some) in
+    found ∙ ap (λ (n : ℕ). Some (r.0, n)) one
+
+pub returns-in-Some-clause-taken : goal.returns-in-Some-clause-taken
+returns-in-Some-clause-taken g c =
+    let eq = g.T.PartialEq.eq in let v = c.args.value.now in let es = c.args.self.now.entries in let r = c.take_spot-former.result in
+    let at = ap slot_entry c.take_spot-former.ensures.taken in
+    let found : lookup_entry (eq v) es ≡ Some (r.0, r.1) = sym c.in-Some.ensures.map ∙ at in
+    let count : c.count_at-before.result ≡ r.1 = c.count_at-before.ensures.count (r.0, r.1) at in
+    let few = c.if-before-gt1.false in
+    gone_swapped eq v es g.met.T.Eq.laws 1 c.take_spot-former.new.self.entries (r.0, r.1) c.in-Some.ensures.counted found (omega (arith, few, count)) c.take_spot-former.ensures.map
+
+pub returns-in-Some-clause-gone : goal.returns-in-Some-clause-gone
+returns-in-Some-clause-gone g c = record { spot = c.in-Some.spot; held = c.in-Some.ensures.held; after = c.take_spot-former.ensures.after }
+
+pub returns-clause-others : goal.returns-clause-others
+returns-clause-others g c = (sym (count_absent g.T.PartialEq.eq c.args.value.now c.args.self.now.entries (sym c.in_default.ensures.map)), λ one. absurd (omega (arith, one)))
+
+pub returns-clause-taken : goal.returns-clause-taken
+returns-clause-taken g c =
+    fewer_absent g.T.PartialEq.eq c.args.value.now c.args.self.now.entries 1 (sym c.in_default.ensures.map)
+
+pub returns-in-Some-clause-slots : goal.returns-in-Some-clause-slots
+returns-in-Some-clause-slots g c =
+    (kept_Rewrites (λ w. g.T.PartialEq.eq w c.args.value.now) (λ _. Removed) c.args.self.now.tables c.take_spot-former.new.self.tables (λ v n. refl)
+    (record { spot = c.in-Some.spot; held = c.in-Some.ensures.held; after = c.take_spot-former.ensures.after })).0
+
+pub returns-in-Some-clause-room : goal.returns-in-Some-clause-room
+returns-in-Some-clause-room g c =
+    (kept_Rewrites (λ w. g.T.PartialEq.eq w c.args.value.now) (λ _. Removed) c.args.self.now.tables c.take_spot-former.new.self.tables (λ v n. refl)
+    (record { spot = c.in-Some.spot; held = c.in-Some.ensures.held; after = c.take_spot-former.ensures.after })).2
+
+pub returns-then-before-gt1-clause-slots : goal.returns-then-before-gt1-clause-slots
+returns-then-before-gt1-clause-slots g c =
+    (kept_Rewrites (λ w. g.T.PartialEq.eq w c.args.value.now) (recounted (c.count_at-before.result - 1)) c.args.self.now.tables c.set_spot.new.self.tables (λ v n. refl)
+    (record { spot = c.in-Some.spot; held = c.in-Some.ensures.held; after = c.set_spot.ensures.after })).0
+
+pub returns-then-before-gt1-clause-room : goal.returns-then-before-gt1-clause-room
+returns-then-before-gt1-clause-room g c =
+    (kept_Rewrites (λ w. g.T.PartialEq.eq w c.args.value.now) (recounted (c.count_at-before.result - 1)) c.args.self.now.tables c.set_spot.new.self.tables (λ v n. refl)
+    (record { spot = c.in-Some.spot; held = c.in-Some.ensures.held; after = c.set_spot.ensures.after })).2
