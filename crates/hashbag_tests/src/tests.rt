@@ -4,6 +4,7 @@ mod callers;
 mod calls;
 mod clones;
 mod collections;
+mod drops;
 mod entries;
 mod hashes;
 mod instances;

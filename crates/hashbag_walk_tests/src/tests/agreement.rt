@@ -11,8 +11,8 @@ use std::hash::{BuildHasher, Hash};
 use std::process::Abort;
 use std::test::Fail;
 
-// The steps are on values of this many keys.
-const KEYS: u64 = 8;
+// The steps are on values of so many keys: of few, so that most steps find a value, and of many, so that the tables grow and carry.
+const KEYS: [u64; 2] = [8, 64];
 
 // How many steps a run has.
 const STEPS: u64 = 500;
@@ -45,13 +45,14 @@ fn next_number(number: u64) -> u64 {
 // How many of each value but the last are to stay. The first value stands there a second time, which is not looked at.
 fn quotas<T: Sample + Drop>(
     alloc: Global,
+    keys: u64,
     amount: usize,
     step: u64,
 ) -> Result<Vec<(T, usize)>, AllocError> {
     let mut list = Vec::new(alloc);
-    for key in 0..KEYS - 1 {
+    for key in 1..keys {
         list.push((
-            T::sample(key, step),
+            T::sample(key - 1, step),
             (key as usize).saturating_add(amount) % 5,
         ))?;
     }
@@ -79,15 +80,15 @@ fn step_on<T: Drop>(choice: u64, value: T, amount: usize) -> Step<T> {
 }
 
 // The steps of a run, the same ones at each call.
-fn steps_of<T: Sample + Drop>(alloc: Global) -> Result<Vec<Step<T>>, AllocError> {
+fn steps_of<T: Sample + Drop>(alloc: Global, keys: u64) -> Result<Vec<Step<T>>, AllocError> {
     let mut steps = Vec::new(alloc);
     let mut number = 1;
     for step in 0..STEPS {
         number = next_number(number);
-        let value = T::sample((number >> 40) % KEYS, step);
+        let value = T::sample((number >> 40) % keys.max(1), step);
         let amount = ((number >> 30) % 4) as usize;
         if step % 25 == 24 {
-            steps.push(Step::Retain(quotas(alloc, amount, step)?))?;
+            steps.push(Step::Retain(quotas(alloc, keys, amount, step)?))?;
             continue;
         }
         steps.push(step_on(number >> 50, value, amount))?;
@@ -151,9 +152,9 @@ fn plain_found<'a, T: Sample>(plain: &'a PlainBag<T>, value: &T) -> Option<(&'a 
 }
 
 // How many distinct values the plain bag has.
-fn plain_set_len<T: Sample>(plain: &PlainBag<T>) -> usize {
+fn plain_set_len<T: Sample>(plain: &PlainBag<T>, keys: u64) -> usize {
     let present = |key: &u64| plain.count(&T::sample(*key, STEPS)) > 0;
-    (0..KEYS).filter(present).count()
+    (0..keys).filter(present).count()
 }
 
 // The count and the instance of a value in both bags.
@@ -174,9 +175,10 @@ fn compare_lens<T: Sample + Drop, S: BuildHasher + Drop>(
     state: &str,
     bag: &HashBag<T, S>,
     plain: &PlainBag<T>,
+    keys: u64,
 ) -> Result<(), Fail> {
     let got = (bag.len(), bag.is_empty(), bag.set_len());
-    let want = (plain.len(), plain.is_empty(), plain_set_len(plain));
+    let want = (plain.len(), plain.is_empty(), plain_set_len(plain, keys));
     is_same(alloc, state, &got, &want)
 }
 
@@ -185,9 +187,10 @@ fn compare_bags<T: Sample + Drop, S: BuildHasher + Drop>(
     state: &str,
     bag: &HashBag<T, S>,
     plain: &PlainBag<T>,
+    keys: u64,
 ) -> Result<(), Fail> {
-    compare_lens(alloc, state, bag, plain)?;
-    for key in 0..KEYS {
+    compare_lens(alloc, state, bag, plain, keys)?;
+    for key in 0..keys {
         compare_value(alloc, state, bag, plain, &T::sample(key, STEPS))?;
     }
     Ok(())
@@ -197,30 +200,41 @@ fn compare_bags<T: Sample + Drop, S: BuildHasher + Drop>(
 fn compare_runs<T: Sample + Drop, S: BuildHasher + Drop>(
     rt: &impl Abort,
     alloc: Global,
+    keys: u64,
     state_name: &str,
     state: S,
 ) -> Result<(), Fail> {
     let mut plain = PlainBag::new(alloc);
-    let wanted = plain_replies(alloc, &mut plain, steps_of::<T>(alloc)?)?;
+    let wanted = plain_replies(alloc, &mut plain, steps_of::<T>(alloc, keys)?)?;
     let mut bag = HashBag::with_hasher(alloc, state);
-    let replies = bag_replies(alloc, &mut bag, steps_of::<T>(alloc)?)?;
+    let replies = bag_replies(alloc, &mut bag, steps_of::<T>(alloc, keys)?)?;
     compare_replies(rt, alloc, state_name, &replies, &wanted)?;
-    compare_bags(alloc, state_name, &bag, &plain)
+    compare_bags(alloc, state_name, &bag, &plain, keys)
 }
 
-fn compare_under_each_state<T: Sample + Drop>(rt: &impl Abort, alloc: Global) -> Result<(), Fail> {
-    compare_runs::<T, _>(rt, alloc, "FixedState", FixedState::new())?;
-    compare_runs::<T, _>(rt, alloc, "OneState", OneState)?;
-    compare_runs::<T, _>(rt, alloc, "ParityState", ParityState)?;
-    compare_runs::<T, _>(rt, alloc, "IdentityState", IdentityState)
+fn compare_under_each_state<T: Sample + Drop>(
+    rt: &impl Abort,
+    alloc: Global,
+    keys: u64,
+) -> Result<(), Fail> {
+    compare_runs::<T, _>(rt, alloc, keys, "FixedState", FixedState::new())?;
+    compare_runs::<T, _>(rt, alloc, keys, "OneState", OneState)?;
+    compare_runs::<T, _>(rt, alloc, keys, "ParityState", ParityState)?;
+    compare_runs::<T, _>(rt, alloc, keys, "IdentityState", IdentityState)
 }
 
 #[test]
 fn numbers_as_in_the_plain_bag(rt: HostRuntime) -> Result<(), Fail> {
-    compare_under_each_state::<u64>(&rt, rt.alloc())
+    for keys in KEYS {
+        compare_under_each_state::<u64>(&rt, rt.alloc(), keys)?;
+    }
+    Ok(())
 }
 
 #[test]
 fn tagged_as_in_the_plain_bag(rt: HostRuntime) -> Result<(), Fail> {
-    compare_under_each_state::<Tagged>(&rt, rt.alloc())
+    for keys in KEYS {
+        compare_under_each_state::<Tagged>(&rt, rt.alloc(), keys)?;
+    }
+    Ok(())
 }

@@ -365,18 +365,31 @@ fn texts_of_walks<S: BuildHasher + Drop>(alloc: Global, bag: &HashBag<u64, S>) -
     is_shown(alloc, &bag.set_iter(), "{(5, 3)}")
 }
 
-fn texts_of_five<S: BuildHasher + Drop>(alloc: Global, state: S) -> Result<(), Fail> {
+fn texts_of_five<S: BuildHasher + Default + Drop>(alloc: Global, state: S) -> Result<(), Fail> {
     let mut bag = bag_of(alloc, state, &[5, 5, 5])?;
     is_shown(alloc, &bag, "{5, 5, 5}")?;
     texts_of_walks(alloc, &bag)?;
-    is_shown(alloc, &bag.entry(5), "Entry(5, 3)")
+    is_shown(alloc, &bag.entry(5), "Entry(5, 3)")?;
+    is_shown(alloc, &bag.drain(), "[(5, 3)]")?;
+    is_shown(alloc, &bag.drain(), "[]")?;
+    make_calls(alloc, &mut bag, "insert_many 5 3 = 0", 1)?;
+    texts_of_owned(alloc, bag)
+}
+
+// A walk that owns its values shows those that are still to come.
+fn texts_of_owned<S: BuildHasher + Drop>(alloc: Global, bag: HashBag<u64, S>) -> Result<(), Fail> {
+    let mut walk = bag.into_iter();
+    is_shown(alloc, &walk, "[(5, 3)]")?;
+    let _ = walk.next();
+    is_shown(alloc, &walk, "[]")
 }
 
 fn texts_of_nothing<S: BuildHasher + Drop>(alloc: Global, state: S) -> Result<(), Fail> {
-    let bag: HashBag<u64, S> = HashBag::with_hasher(alloc, state);
+    let mut bag: HashBag<u64, S> = HashBag::with_hasher(alloc, state);
     is_shown(alloc, &bag, "{}")?;
     is_shown(alloc, &bag.iter(), "{}")?;
-    is_shown(alloc, &bag.set_iter(), "{}")
+    is_shown(alloc, &bag.set_iter(), "{}")?;
+    is_shown(alloc, &bag.drain(), "[]")
 }
 
 // All of these under one state.

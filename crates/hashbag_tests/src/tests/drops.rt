@@ -1,0 +1,161 @@
+//! Each value is dropped once, by the call that takes it out or by the bag, while the tables grow, carry and are built anew.
+use hashbag::{BagError, FixedState, HashBag};
+use hashbag_bench::OneState;
+use hashbag_slots_tests::counted::Counted;
+use std::alloc::Global;
+use std::cell::Cell;
+use std::hash::BuildHasher;
+use std::process::Abort;
+use std::test::Fail;
+
+// Checks how many values were dropped.
+fn has_dropped(rt: &impl Abort, call: &str, drops: &Cell<usize>, wanted: usize) {
+    assert_eq!(rt; drops.get(), wanted, "after {call}");
+}
+
+fn value<'a>(drops: &'a Cell<usize>, key: u64) -> Counted<'a> {
+    Counted { key, tag: 1, drops }
+}
+
+fn insert<'a, S: BuildHasher + Drop>(
+    bag: &mut HashBag<Counted<'a>, S>,
+    drops: &'a Cell<usize>,
+    key: u64,
+) -> Result<usize, BagError> {
+    if bag.len() == usize::MAX {
+        return Err(BagError::TooMany);
+    }
+    bag.insert(value(drops, key))
+}
+
+fn replace<'a, S: BuildHasher + Drop>(
+    bag: &mut HashBag<Counted<'a>, S>,
+    drops: &'a Cell<usize>,
+    key: u64,
+) -> Result<usize, BagError> {
+    if bag.len() == usize::MAX {
+        return Err(BagError::TooMany);
+    }
+    bag.replace(value(drops, key))
+}
+
+// The keys below 25, in a bag in the middle of a carry.
+fn carrying<'a, S: BuildHasher + Drop>(
+    rt: &impl Abort,
+    alloc: Global,
+    state: S,
+    drops: &'a Cell<usize>,
+) -> Result<HashBag<Counted<'a>, S>, Fail> {
+    let mut bag = HashBag::with_hasher(alloc, state);
+    for key in 0..25 {
+        insert(&mut bag, drops, key)?;
+    }
+    assert_eq!(rt; bag.waiting(), 16);
+    has_dropped(rt, "insertions", drops, 0);
+    Ok(bag)
+}
+
+// The value handed in is dropped where an equal one stays, and the one that was stored where it is replaced.
+fn equal_values<'a, S: BuildHasher + Drop>(
+    rt: &impl Abort,
+    bag: &mut HashBag<Counted<'a>, S>,
+    drops: &'a Cell<usize>,
+) -> Result<(), Fail> {
+    for key in 0..25 {
+        insert(bag, drops, key)?;
+    }
+    has_dropped(rt, "insertions of equal values", drops, 25);
+    for key in 0..25 {
+        replace(bag, drops, key)?;
+    }
+    has_dropped(rt, "replacements", drops, 50);
+    Ok(())
+}
+
+// Of 25 values 24 to 8 are left.
+fn taken_out<'a, S: BuildHasher + Drop>(
+    rt: &impl Abort,
+    bag: &mut HashBag<Counted<'a>, S>,
+    drops: &'a Cell<usize>,
+    probes: &'a Cell<usize>,
+) {
+    for key in 0..8 {
+        bag.remove(&value(probes, key));
+        has_dropped(rt, "a removal", drops, 51usize.saturating_add(key as usize));
+    }
+    let taken = bag.take_all(&value(probes, 8));
+    has_dropped(rt, "a take", drops, 58);
+    drop(taken);
+    has_dropped(rt, "the drop of what was taken", drops, 59);
+}
+
+// All values move, and none is dropped; then those of even keys go.
+fn moved_and_retained<'a, S: BuildHasher + Drop>(
+    rt: &impl Abort,
+    bag: &mut HashBag<Counted<'a>, S>,
+    drops: &'a Cell<usize>,
+) -> Result<(), Fail> {
+    bag.reserve(200)?;
+    has_dropped(rt, "reserve", drops, 59);
+    bag.shrink_to_fit()?;
+    has_dropped(rt, "shrink_to_fit", drops, 59);
+    bag.retain(|value: &Counted, _count: usize| (value.key % 2) as usize);
+    has_dropped(rt, "retain", drops, 67);
+    assert_eq!(rt; bag.set_len(), 8);
+    Ok(())
+}
+
+fn drained<'a, S: BuildHasher + Drop>(
+    rt: &impl Abort,
+    bag: &mut HashBag<Counted<'a>, S>,
+    drops: &'a Cell<usize>,
+) {
+    let mut drain = bag.drain();
+    drop(drain.next());
+    has_dropped(rt, "an item of a drain", drops, 68);
+    drop(drain);
+    has_dropped(rt, "a drain", drops, 75);
+}
+
+fn drops_under<S: BuildHasher + Drop>(
+    rt: &impl Abort,
+    alloc: Global,
+    state: S,
+) -> Result<(), Fail> {
+    let (drops, probes) = (Cell::new(0), Cell::new(0));
+    let mut bag = carrying(rt, alloc, state, &drops)?;
+    equal_values(rt, &mut bag, &drops)?;
+    taken_out(rt, &mut bag, &drops, &probes);
+    moved_and_retained(rt, &mut bag, &drops)?;
+    drained(rt, &mut bag, &drops);
+    insert(&mut bag, &drops, 5)?;
+    bag.clear();
+    has_dropped(rt, "clear", &drops, 76);
+    insert(&mut bag, &drops, 6)?;
+    drop(bag);
+    has_dropped(rt, "the drop of the bag", &drops, 77);
+    Ok(())
+}
+
+fn bag_dropped_in_a_carry<S: BuildHasher + Drop>(
+    rt: &impl Abort,
+    alloc: Global,
+    state: S,
+) -> Result<(), Fail> {
+    let drops = Cell::new(0);
+    drop(carrying(rt, alloc, state, &drops)?);
+    has_dropped(rt, "the drop of a bag that carries", &drops, 25);
+    Ok(())
+}
+
+#[test]
+fn drops_of_fixed_state(rt: HostRuntime) -> Result<(), Fail> {
+    drops_under(&rt, rt.alloc(), FixedState::new())?;
+    bag_dropped_in_a_carry(&rt, rt.alloc(), FixedState::new())
+}
+
+#[test]
+fn drops_of_one_state(rt: HostRuntime) -> Result<(), Fail> {
+    drops_under(&rt, rt.alloc(), OneState)?;
+    bag_dropped_in_a_carry(&rt, rt.alloc(), OneState)
+}
