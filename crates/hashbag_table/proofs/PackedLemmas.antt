@@ -1,11 +1,11 @@
 -- One table of slots that is filled: nothing waits, and no slot is Removed.
-use Rattle.std.proofs.Common.{◌≡◌, ℕ, zero, suc, ◌+◌, ◌-◌, ◌<◌, ◌≤◌, Bool, true, false, cond, List, [], ◌∷◌, length, drop, replicate, refl, sym, ap, ◌∙◌, inl, inr, arith}
+use Rattle.std.proofs.Common.{◌≡◌, ℕ, suc, ◌+◌, ◌<◌, ◌≤◌, Bool, true, false, cond, List, [], ◌∷◌, length, drop, replicate, refl, sym, ap, ◌∙◌, inl, inr, arith}
 use Rattle.std.proofs.lemmas.List.{length-replicate}
 use Rattle.std.proofs.lemmas.List.Sums.{sum_by-cons}
 use Rattle.hashbag_slots.specs.declared.slots.Slot.{Slot}
 use Rattle.hashbag_slots.specs.declared.slots.Slot.TheVariants.{Empty, Removed, Moved, Live}
 use Rattle.hashbag_slots.specs.Slots.{is_live, is_removed, live_count, removed_count, slot_at}
-use Rattle.hashbag_table.specs.Tables.{limit, Tables, Fills, Arrives, IsPacked, room, room_of}
+use Rattle.hashbag_table.specs.Tables.{limit, Tables, Fills, Arrives, IsPacked, room}
 use Rattle.hashbag_table.proofs.CarryLemmas.{live_fresh, removed_fresh}
 
 abbrev one_if : Bool → ℕ
@@ -39,10 +39,10 @@ module _ {T : Type 0} where
   pub removed-Fills : (k : ℕ) (old new : List (Slot T)) → Fills k old new → removed_count new ≤ removed_count old
   removed-Fills k old new fills =
       removed_fewer old new fills.same_length (λ p here.
-          elim (fills.each p) [
-            | inl same ↦ ap is_removed (sym same) ∙ here
-            | inr x ↦ absurd (not_both (slot_at new p) x.2 here)
-          ])
+      elim (fills.each p) [
+        | inl same ↦ ap is_removed (sym same) ∙ here
+        | inr x ↦ absurd (not_both (slot_at new p) x.2 here)
+      ])
 
   pub fresh_length : (ss : List (Slot T)) (n : ℕ) → ss ≡ replicate n Empty → ss ≡ replicate (length ss) Empty
   fresh_length ss n e = e ∙ ap (λ m. replicate m Empty) (sym (ap length e ∙ length-replicate n Empty))

@@ -1,8 +1,7 @@
-use Rattle.std.proofs.Common.{◌≡◌, ◌*◌, ◌^◌, ◌<◌, ◌≤◌, arith}
+use Rattle.std.proofs.Common.{arith}
 use Rattle.hashbag_slots.proofs.Paths.{count_bound}
-use Rattle.hashbag_table.specs.Tables.{limit}
 use Rattle.hashbag_table.proofs.RoomLemmas.{IsSlotCount-16, IsSlotCount-double}
-use Rattle.hashbag_table.proofs.LeastLemmas.{Below, below_first, below_double, least_from}
+use Rattle.hashbag_table.proofs.LeastLemmas.{below_first, below_double, least_from}
 use Rattle.hashbag_table.proofs.growth.least_count.Goals as goal
 
 pub overflow_mul-count : goal.overflow_mul-count

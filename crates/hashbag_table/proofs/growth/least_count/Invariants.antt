@@ -1,4 +1,4 @@
-use Rattle.std.proofs.Common.{ℕ, ◌-◌, ◌^◌, ◌≤◌}
+use Rattle.std.proofs.Common.{◌-◌, ◌^◌, ◌≤◌}
 use Rattle.hashbag_slots.specs.Slots.{IsSlotCount}
 use Rattle.hashbag_table.proofs.LeastLemmas.{Below}
 use Rattle.hashbag_table.proofs.growth.least_count.Given as goal
