@@ -1,4 +1,4 @@
--- The definitions compute.
+-- The definitions compute. Values are numbers here.
 use Rattle.std.specs.Prelude.{◌≡◌, ℕ, ◌<◌, ◌≤◌, ◌^◌, List, [], ◌∷◌, ◌++◌, replicate, Some, None, refl}
 use Rattle.std.proofs.Common.{suc, lit<, inl, inr, arith}
 use Rattle.std.proofs.lemmas.Bool.{cases_lt}
@@ -8,7 +8,7 @@ use Rattle.hashbag_slots.specs.declared.slots.Slot.TheVariants.{Empty, Removed, 
 use Rattle.hashbag_table.specs.declared.table.Spot.TheVariants.{Newer, Waiting}
 use Rattle.hashbag_table.specs.Tables.{limit, grown_slots, IsLeast, Tables, room, values, entries_of, slot_in, entry_in, IsPacked, fresh}
 
--- 32 slots, of which 8 wait for nothing; 16 slots, of which 14 were carried: 5 was, and 15 still waits
+-- 32 slots of the newer table, one Live and one Removed; and 16 of the older one, of which the last two still wait
 abbrev newer : List (Slot ℕ)
 newer = replicate 5 Empty ++ Live 5 2 ∷ Removed ∷ replicate 25 Empty
 
@@ -96,7 +96,7 @@ all_entries = refl
 two : values tables ≡ 2
 two = refl
 
--- 24 may be Live or Removed: one is Live, one is Removed, and one waits
+-- 24 may be Live or Removed: one is Live, one is Removed, and another value waits for its place
 room_left : room tables ≡ 21
 room_left = refl
 
@@ -116,6 +116,6 @@ entry_there = refl
 no_spot : entry_in tables None ≡ None
 no_spot = refl
 
--- carried whole, with no Removed slot: 2 of 24
+-- both values in one table, without a Removed slot
 packed : IsPacked {T = ℕ} (record { newer = Live 15 7 ∷ replicate 4 Empty ++ Live 5 2 ∷ replicate 26 Empty; waiting = [] })
 packed = record { waiting = refl; room = refl }
