@@ -22,9 +22,6 @@ returns-in-Some-clause-put g c =
     let found : lookup_entry (eq v) es ≡ Some e = sym c.in-Some.ensures.map ∙ held.1 in
     put_swapped eq g.met.T.Eq.laws v es c.put_spot-former.new.self.entries e c.in-Some.ensures.counted found (c.put_spot-former.ensures.map e held.1)
 
-pub returns-in-Some-clause-slot : goal.returns-in-Some-clause-slot
-returns-in-Some-clause-slot g c some = record { spot = c.in-Some.spot; held = c.in-Some.ensures.held; after = c.put_spot-former.ensures.after }
-
 pub returns-clause-before : goal.returns-clause-before
 returns-clause-before g c =
     sym (count_absent g.T.PartialEq.eq c.args.value c.args.self.now.entries (sym c.in_default.ensures.map))
