@@ -18,9 +18,8 @@ use Rattle.hashbag_table.specs.Entries.{IsCounted}
 use Rattle.hashbag_table.specs.Tables.{limit, Tables, Fills, room_of, entries_of, AreTables, IsTables, MayAdopt, Carried, Roomy, room, values, fresh, grown_slots, IsReady, Arrives}
 use Rattle.hashbag_table.proofs.EntryLemmas.{counted_rearranged}
 use Rattle.hashbag_slots.proofs.Tables.{slot_at-replicate}
-use Rattle.std.proofs.lemmas.List.{append-nil}
 use Rattle.hashbag_table.proofs.UnmovedLemmas.{unmoved_blank, unmoved_filled}
-use Rattle.hashbag_table.proofs.SlotLemmas.{entries-append, length-entries, entries_few, live-drop, absent_both, IsCounted-cons, entries-Places, entries-PlacesAll}
+use Rattle.hashbag_table.proofs.SlotLemmas.{entries-append, entries_few, live-drop, absent_both, IsCounted-cons, entries-Places, entries-PlacesAll}
 
 pub IsCounted-nil : (T : Type 0) (eq : T → T → Bool) → IsCounted eq []
 unfolding IsDistinct

@@ -1,5 +1,5 @@
 -- All values move into one table, which was of Empty slots.
-use Rattle.std.proofs.Common.{◌≡◌, ℕ, suc, ◌+◌, ◌-◌, ◌*◌, ◌<◌, ◌≤◌, Bool, false, cond, List, [], ◌∷◌, ◌++◌, length, take, drop, replicate, Some, None, refl, sym, ap, subst, ◌∙◌, inl, arith, slice_set}
+use Rattle.std.proofs.Common.{◌≡◌, ℕ, ◌+◌, ◌≤◌, Bool, false, cond, List, [], ◌∷◌, ◌++◌, length, drop, replicate, Some, None, refl, sym, ap, subst, ◌∙◌, inl, arith, slice_set}
 use Rattle.std.specs.Cmp.{IsEquivalence}
 use Rattle.std.specs.Map.{lookup_entry, keys_of}
 use Rattle.std.specs.List.{AllByRecursion}
@@ -8,12 +8,12 @@ use Rattle.std.proofs.lemmas.List.{length-drop, length-append, take_all, drop_al
 use Rattle.std.proofs.lemmas.List.Sorted.{IsPermutation-trans, IsPermutation-append_left, IsPermutation-append_comm, length_permutation}
 use Rattle.std.proofs.lemmas.Map.Keys.{IsDistinct-head}
 use Rattle.hashbag_slots.specs.declared.slots.Slot.{Slot}
-use Rattle.hashbag_slots.specs.declared.slots.Slot.TheVariants.{Empty, Removed, Live}
+use Rattle.hashbag_slots.specs.declared.slots.Slot.TheVariants.{Empty, Removed}
 use Rattle.hashbag_slots.specs.Slots.{is_live, holds, live_count, removed_count, slot_at, PlacesAll, entries, entries_in, AreApart}
 use Rattle.hashbag_slots.specs.Columns.{Columns, IsReached}
 use Rattle.hashbag_slots.proofs.Tables.{within_table, slot_at-replicate}
 use Rattle.hashbag_table.specs.Entries.{IsCounted}
-use Rattle.hashbag_table.specs.Tables.{limit, Tables, values, room_of, entries_of, IsTables, IsPacked, MayAdopt, Carried}
+use Rattle.hashbag_table.specs.Tables.{limit, Tables, values, entries_of, IsTables, IsPacked, MayAdopt, Carried}
 use Rattle.hashbag_table.proofs.CarryLemmas.{Fills-PlacesAll, live_fresh, removed_fresh, entries_fresh}
 use Rattle.hashbag_table.proofs.EntryLemmas.{counted_rearranged}
 use Rattle.hashbag_table.proofs.LeastLemmas.{limit_few}

@@ -1,4 +1,4 @@
-use Rattle.std.proofs.Common.{◌≡◌, ◌≤◌, ◌+◌, ◌-◌, ◌++◌, [], length, drop, sym, ap, subst, ◌∙◌, arith}
+use Rattle.std.proofs.Common.{◌≤◌, ◌-◌, ◌++◌, length, sym, ap, subst, ◌∙◌, arith}
 use Rattle.std.specs.List.Sorted.{IsPermutation}
 use Rattle.std.proofs.lemmas.List.{append-nil}
 use Rattle.std.proofs.lemmas.List.Sorted.{IsPermutation-trans}
@@ -8,7 +8,7 @@ use Rattle.hashbag_slots.specs.Columns.{IsReached}
 use Rattle.hashbag_table.specs.Entries.{IsCounted}
 use Rattle.hashbag_table.specs.Tables.{limit}
 use Rattle.hashbag_table.proofs.EntryLemmas.{counted_rearranged}
-use Rattle.hashbag_table.proofs.PackLemmas.{apart_blank, room_blank, beside, may_pack, slots_packed, packed, values_packed, IsTables-freed}
+use Rattle.hashbag_table.proofs.PackLemmas.{apart_blank, room_blank, beside, may_pack, packed, values_packed, IsTables-freed}
 use Rattle.hashbag_table.proofs.table.Table.pack.Goals as goal
 
 pub overflow_sub-waiting : goal.overflow_sub-waiting

@@ -1,8 +1,6 @@
-use Rattle.std.proofs.Common.{◌≡◌, refl, ◌+◌, ◌∷◌, [], Some, sym, ◌∙◌, subst, arith}
+use Rattle.std.proofs.Common.{◌≡◌, refl, Some, sym, ◌∙◌, arith}
 use Rattle.std.specs.Map.{lookup_entry}
-use Rattle.hashbag_slots.specs.Slots.{recounted}
-use Rattle.hashbag_table.specs.Entries.{count_of, with_instance}
-use Rattle.hashbag_table.specs.Tables.{Swaps, slot_in, Writes}
+use Rattle.hashbag_table.specs.Entries.{count_of}
 use Rattle.hashbag_table.proofs.SpotLemmas.{held_entry, count_present, count_absent, put_swapped}
 use Rattle.hashbag_slots.specs.declared.slots.Slot.TheVariants.{Live}
 use Rattle.hashbag_table.proofs.RoomKeptLemmas.{kept_Rewrites}
@@ -25,9 +23,6 @@ returns-in-Some-clause-put g c =
     let e = held.0 in
     let found : lookup_entry (eq v) es ≡ Some e = sym c.in-Some.ensures.map ∙ held.1 in
     put_swapped eq g.met.T.Eq.laws v es c.put_spot-former.new.self.entries e c.in-Some.ensures.counted found (c.put_spot-former.ensures.map e held.1)
-
-pub returns-in-Some-clause-slot : goal.returns-in-Some-clause-slot
-returns-in-Some-clause-slot g c some = record { spot = c.in-Some.spot; held = c.in-Some.ensures.held; after = c.put_spot-former.ensures.after }
 
 pub returns-clause-before : goal.returns-clause-before
 returns-clause-before g c =
