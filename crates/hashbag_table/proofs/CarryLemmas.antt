@@ -18,8 +18,8 @@ use Rattle.hashbag_table.specs.Entries.{IsCounted}
 use Rattle.hashbag_table.specs.Tables.{limit, Tables, Fills, room_of, entries_of, AreTables, IsTables, MayAdopt, Carried, Roomy, room, values, fresh, grown_slots, IsReady, Arrives}
 use Rattle.hashbag_table.proofs.EntryLemmas.{counted_rearranged}
 use Rattle.hashbag_slots.proofs.Tables.{slot_at-replicate}
-use Rattle.std.proofs.lemmas.List.{append-nil}
-use Rattle.hashbag_table.proofs.SlotLemmas.{entries-append, length-entries, entries_few, live-drop, absent_both, IsCounted-cons, entries-Places, entries-PlacesAll}
+use Rattle.hashbag_table.proofs.UnmovedLemmas.{unmoved_blank, unmoved_filled}
+use Rattle.hashbag_table.proofs.SlotLemmas.{entries-append, entries_few, live-drop, absent_both, IsCounted-cons, entries-Places, entries-PlacesAll}
 
 pub IsCounted-nil : (T : Type 0) (eq : T → T → Bool) → IsCounted eq []
 unfolding IsDistinct
@@ -35,6 +35,7 @@ module _ {T : Type 0} (eq : T → T → Bool) (hash : T → ℕ) where
           newer_reached = r;
           older_reached = s;
           apart = λ p v n here q lt. absurd (omega arith);
+          unmoved = unmoved_blank newer.slots 0 e;
           looked_within = omega arith;
           looked_dead = λ p lt. absurd (omega arith);
           fits = let a = ap live_count e in let b = ap removed_count e in let c = ap live_count f in omega arith;
@@ -128,14 +129,11 @@ module _ {T : Type 0} where
       let f = ap removed_count put.after in
       omega (arith, e, f)
 
-module _ {T : Type 0} (eq : T → T → Bool) (hash : T → ℕ) (newer older newer1 older1 : Columns T) (looked many most : ℕ)
-    (tables : AreTables eq hash newer older looked) (least : many ≡ min (length older.slots - looked) most)
+module _ {T : Type 0} (eq : T → T → Bool) (hash : T → ℕ) (newer older newer1 older1 : Columns T) (looked many : ℕ)
+    (tables : AreTables eq hash newer older looked) (within : looked + many ≤ length older.slots)
     (placed : PlacesAll (entries_in looked many older.slots) newer.slots newer1.slots) (left : Carries looked many older.slots older1.slots) (apart : AreApart eq older1.slots newer1.slots)
     (kept : live_count newer1.slots + live_count older1.slots ≡ live_count newer.slots + live_count older.slots) (removed : removed_count newer1.slots ≤ removed_count newer.slots) (slots : length newer1.slots ≡ length newer.slots)
     (newer_reached : IsReached hash newer1) (older_reached : IsReached hash older1) where
-  within : looked + many ≤ length older.slots
-  within = let w = tables.looked_within in omega (arith, least, w)
-
   dead : (p : ℕ) → p < looked + many → is_live (slot_at older1.slots p) ≡ false
   dead p lt = elim (cases_lt p looked) [
     | inl a ↦ ap is_live (left.outside p (inl a)) ∙ tables.looked_dead p a
@@ -144,9 +142,9 @@ module _ {T : Type 0} (eq : T → T → Bool) (hash : T → ℕ) (newer older ne
 
   pub kept_after : live_count newer1.slots + live_count (drop (looked + many) older1.slots) ≡ live_count newer.slots + live_count (drop looked older.slots)
   kept_after =
-      let w = within in let same = left.same_length in
+      let same = left.same_length in
       let a = live-drop older.slots looked tables.looked_within tables.looked_dead in
-      let b = live-drop older1.slots (looked + many) (omega (arith, w, same)) dead in
+      let b = live-drop older1.slots (looked + many) (omega (arith, within, same)) dead in
       omega (arith, a, b, kept)
 
   pub tables_after : AreTables eq hash newer1 older1 (looked + many)
@@ -154,13 +152,14 @@ module _ {T : Type 0} (eq : T → T → Bool) (hash : T → ℕ) (newer older ne
     newer_reached = newer_reached;
     older_reached = older_reached;
     apart = apart;
-    looked_within = let w = within in let same = left.same_length in omega (arith, w, same);
+    unmoved = unmoved_filled _ newer.slots newer1.slots (Fills-PlacesAll _ newer.slots newer1.slots placed) tables.unmoved;
+    looked_within = let same = left.same_length in omega (arith, within, same);
     looked_dead = dead;
     fits = let k = kept_after in let f = tables.fits in let l : limit (length newer1.slots) ≡ limit (length newer.slots) = ap limit slots in omega (arith, k, f, l, removed);
   }
 
-  pub waiting_after : drop (looked + many) older1.slots ≡ drop most (drop looked older.slots)
-  waiting_after =
+  waiting_after : (most : ℕ) → many ≡ min (length older.slots - looked) most → drop (looked + many) older1.slots ≡ drop most (drop looked older.slots)
+  waiting_after most least =
       drop-Carries looked many older.slots older1.slots left
       ∙ elim (cases_lt (length older.slots - looked) most) [
         | inl a ↦
@@ -184,10 +183,10 @@ module _ {T : Type 0} (eq : T → T → Bool) (hash : T → ℕ) (newer older ne
       subst (λ l. IsPermutation (entries newer.slots ++ l) (entries_of newer1.slots (drop (looked + many) older1.slots))) (sym split)
       (subst (λ ss. IsPermutation (entries newer.slots ++ (es ++ rest)) (entries newer1.slots ++ entries ss)) (sym (drop-Carries looked many older.slots older1.slots left)) moved)
 
-  pub carried_after : Carried most newer.slots (drop looked older.slots) newer1.slots (drop (looked + many) older1.slots)
-  carried_after = record {
+  pub carried_after : (most : ℕ) → many ≡ min (length older.slots - looked) most → Carried most newer.slots (drop looked older.slots) newer1.slots (drop (looked + many) older1.slots)
+  carried_after most least = record {
     fills = Fills-carry most looked many older.slots newer.slots newer1.slots (omega (arith, least)) placed;
-    waits = waiting_after;
+    waits = waiting_after most least;
     entries = entries_after;
     live = kept_after;
     removed = removed;
@@ -202,6 +201,7 @@ module _ {T : Type 0} (eq : T → T → Bool) (hash : T → ℕ) where
         newer_reached = tables.newer_reached;
         older_reached = reached;
         apart = λ p v n here q lt. absurd (let w = within_table none.slots p (ap is_live here) in omega arith);
+        unmoved = tables.unmoved;
         looked_within = omega arith;
         looked_dead = λ p lt. absurd (omega arith);
         fits = let f = tables.fits in let c : live_count (drop 0 none.slots) ≡ 0 = ap live_count empty in omega arith;
@@ -263,6 +263,7 @@ IsTables-blank {T = T} eq hash newer older n e f r s =
         newer_reached = r;
         older_reached = s;
         apart = λ p v k here q lt. ap (λ ss. holds (λ w. eq w v) (slot_at ss q)) e ∙ ap (holds (λ w. eq w v)) (slot_at-replicate n q);
+        unmoved = unmoved_blank newer.slots n e;
         looked_within = omega arith;
         looked_dead = λ p lt. absurd (omega arith);
         fits = let a = ap live_count e ∙ live_empty T n in let b = ap removed_count e ∙ removed_empty T n in let c = ap live_count f in omega (arith, a, b, c);
@@ -292,6 +293,7 @@ module _ {T : Type 0} (eq : T → T → Bool) (hash : T → ℕ) (newer fresh : 
     newer_reached = may.reached;
     older_reached = reached;
     apart = may.apart;
+    unmoved = may.unmoved;
     looked_within = omega arith;
     looked_dead = λ p lt. absurd (omega arith);
     fits = may.fits;
@@ -326,6 +328,7 @@ module _ {T : Type 0} (eq : T → T → Bool) (hash : T → ℕ) (newer fresh : 
       record {
         reached = reached;
         apart = λ p v n here q lt. ap (λ ss. holds (λ w. eq w v) (slot_at ss q)) empty ∙ ap (holds (λ w. eq w v)) (slot_at-replicate (length fresh.slots) q);
+        unmoved = unmoved_blank fresh.slots (length fresh.slots) empty;
         counted = subst (λ es. IsCounted eq (es ++ entries newer.slots)) (sym (entries_fresh fresh.slots empty)) counted;
         fits = omega (arith, a, b, x);
         carries = omega (arith, r, y);
@@ -375,6 +378,7 @@ module _ {T : Type 0} (eq : T → T → Bool) (laws : IsEquivalence eq) (hash : 
             newer_reached = reached;
             older_reached = before.tables.older_reached;
             apart = λ p x m here. IsAbsent-Places (λ y. eq y x) v n newer.slots newer1.slots (before.tables.apart p x m here) put (other x m p here);
+            unmoved = unmoved_filled 1 newer.slots newer1.slots (Fills-Places v n newer.slots newer1.slots put) before.tables.unmoved;
             looked_within = before.tables.looked_within;
             looked_dead = before.tables.looked_dead;
             fits = let f = before.tables.fits in omega (arith, room, live, fewer, limits, f);

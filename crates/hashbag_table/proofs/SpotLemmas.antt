@@ -18,10 +18,11 @@ use Rattle.hashbag_slots.proofs.Writing.{set_twice}
 use Rattle.hashbag_slots.proofs.Tables.{within_table}
 use Rattle.hashbag_slots.proofs.Probing.{holder}
 use Rattle.hashbag_table.specs.Entries.{IsCounted, with_count, without, with_fewer, with_instance, count_of}
-use Rattle.hashbag_table.specs.Tables.{limit, Tables, entries_of, IsTables, Swaps, HoldsIn, slot_in}
+use Rattle.hashbag_table.specs.Tables.{limit, Tables, NoneMoved, entries_of, IsTables, Swaps, HoldsIn, slot_in}
 use Rattle.hashbag_table.specs.declared.table.Spot.{Spot}
 use Rattle.hashbag_table.specs.declared.table.Spot.TheVariants.{Newer, Waiting}
 use Rattle.hashbag_table.proofs.EntryLemmas.{counted_rearranged, entry_to_front, stored-present, lookup-entry, with_fewer-some, with_fewer-all, without_absent, with_count-absent}
+use Rattle.hashbag_table.proofs.UnmovedLemmas.{unmoved_set}
 use Rattle.hashbag_table.proofs.WithoutLemmas.{without_rearranged}
 use Rattle.hashbag_table.proofs.SlotLemmas.{IsCounted-cons, entries_put}
 
@@ -74,15 +75,18 @@ module _ {T : Type 0} where
       after = IsPermutation-trans _ _ _ (IsPermutation-sym _ _ (IsPermutation-middle (entries ss) (x, k) _)) (IsPermutation-append_right (entries ss) _ _ (put_removed ts p x k lt));
     }
 
+    pub take_first : p < length ts → slot_at ts p ≡ Live v m → IsPermutation (entries_of ss ts) ((v, m) ∷ entries_of ss (slice_set ts p Removed))
+    take_first lt was = IsPermutation-trans _ _ _ (IsPermutation-append_right (entries ss) _ _ (take_removed ts p v m lt was)) (IsPermutation-middle (entries ss) (v, m) _)
+
     pub take_waiting : p < length ts → slot_at ts p ≡ Live v m → Swaps (entries_of ss ts) (entries_of ss (slice_set ts p Removed)) (v, m) []
     take_waiting lt was = record {
       rest = entries_of ss (slice_set ts p Removed);
-      before = IsPermutation-trans _ _ _ (IsPermutation-append_right (entries ss) _ _ (take_removed ts p v m lt was)) (IsPermutation-middle (entries ss) (v, m) _);
+      before = take_first lt was;
       after = IsPermutation-refl _;
     }
 
 module _ {T : Type 0} (eq : T → T → Bool) (laws : IsEquivalence eq) where
-  tail_counted : (e : T × ℕ) (rest : List (T × ℕ)) → IsCounted eq (e ∷ rest) → IsCounted eq rest
+  pub tail_counted : (e : T × ℕ) (rest : List (T × ℕ)) → IsCounted eq (e ∷ rest) → IsCounted eq rest
   tail_counted e rest h = record {
     distinct = IsDistinct-tail eq e.0 (keys_of rest) h.distinct;
     positive = λ k d lt. h.positive (suc k) d (omega arith);
@@ -134,6 +138,9 @@ module _ {T : Type 0} (eq : T → T → Bool) (hash : T → ℕ) (newer older : 
   waiting_at p le = let e : looked + (p - looked) ≡ p = omega arith in get_or-drop looked older.slots (p - looked) Empty ∙ ap (slot_at older.slots) e
 
   module _ (p : ℕ) (v : T) (m : ℕ) (s : Slot T) (quiet : (x : T) → eq v x ≡ false → holds (λ z. eq z x) s ≡ false) (used : one_if (is_live s) + one_if (is_removed s) ≡ 1) where
+    not_moved : s ≡ Moved → ⊥
+    not_moved e = absurd (let z : one_if (is_live {T = T} Moved) + one_if (is_removed {T = T} Moved) ≡ 1 = subst (λ x. one_if (is_live x) + one_if (is_removed x) ≡ 1) e used in omega arith)
+
     pub IsTables-newer : (newer1 : Columns T) → p < length newer.slots → slot_at newer.slots p ≡ Live v m → newer1.slots ≡ slice_set newer.slots p s → IsReached hash newer1
         → IsCounted eq (entries_of newer1.slots (drop looked older.slots)) → IsTables eq hash newer1 older looked
     IsTables-newer newer1 lt was now reached counted =
@@ -155,6 +162,7 @@ module _ {T : Type 0} (eq : T → T → Bool) (hash : T → ℕ) (newer older : 
                   | inl at ↦ ap (holds (λ z. eq z x)) at.1 ∙ quiet x (sym (ap (holds (λ z. eq z x)) was) ∙ before.tables.apart q x n here p lt)
                   | inr at ↦ ap (holds (λ z. eq z x)) at.1 ∙ before.tables.apart q x n here i (omega (arith, len, inside))
                 ];
+            unmoved = subst NoneMoved (sym now) (unmoved_set newer.slots p s lt not_moved before.tables.unmoved);
             looked_within = before.tables.looked_within;
             looked_dead = before.tables.looked_dead;
             fits = let f = before.tables.fits in omega (arith, sum, limits, f);
@@ -189,6 +197,7 @@ module _ {T : Type 0} (eq : T → T → Bool) (hash : T → ℕ) (newer older : 
                   | inl at ↦ same x n (sym at.1 ∙ ap (λ ss. slot_at ss q) (sym now) ∙ here) (before.tables.apart (looked + p) v m was)
                   | inr at ↦ before.tables.apart q x n (sym at.1 ∙ ap (λ ss. slot_at ss q) (sym now) ∙ here)
                 ];
+            unmoved = before.tables.unmoved;
             looked_within = let l = before.tables.looked_within in omega (arith, l, len);
             looked_dead = λ q below.
                 ap (λ ss. is_live (slot_at ss q)) now

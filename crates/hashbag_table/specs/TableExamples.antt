@@ -1,10 +1,10 @@
 -- The definitions compute. Values are numbers here.
-use Rattle.std.specs.Prelude.{◌≡◌, ℕ, ◌<◌, ◌≤◌, ◌^◌, List, [], ◌∷◌, ◌++◌, drop, replicate, Some, None, refl}
-use Rattle.std.proofs.Common.{suc, lit<, inl, inr, ap, arith}
+use Rattle.std.specs.Prelude.{◌≡◌, ℕ, ◌<◌, ◌≤◌, ◌^◌, List, [], ◌∷◌, ◌++◌, replicate, Some, None, refl}
+use Rattle.std.proofs.Common.{suc, lit<, inl, inr, arith}
 use Rattle.std.proofs.lemmas.Bool.{cases_lt}
 use lib.Pow.{pow_mono}
 use Rattle.hashbag_slots.specs.declared.slots.Slot.{Slot}
-use Rattle.hashbag_slots.specs.declared.slots.Slot.TheVariants.{Empty, Removed, Moved, Live}
+use Rattle.hashbag_slots.specs.declared.slots.Slot.TheVariants.{Empty, Removed, Live}
 use Rattle.hashbag_table.specs.declared.table.Spot.TheVariants.{Newer, Waiting}
 use Rattle.hashbag_table.specs.Tables.{limit, grown_slots, IsLeast, Tables, room, values, entries_of, slot_in, entry_in, IsPacked, fresh}
 

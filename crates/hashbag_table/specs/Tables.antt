@@ -1,7 +1,7 @@
 -- Two tables of slots as one map: the newer one, and the slots of the older one that wait to be carried.
-use Rattle.std.specs.Prelude.{◌≡◌, ℕ, ◌+◌, ◌-◌, ◌*◌, ◌/◌, ◌<◌, ◌≤◌, Bool, true, false, List, [], ◌∷◌, ◌++◌, Option, Some, None, drop, length, replicate, if◌then◌else◌, nat_eq, nat_le, ◌⊎◌, slice_index, slice_set}
+use Rattle.std.specs.Prelude.{◌≡◌, ◌≢◌, ℕ, ◌+◌, ◌-◌, ◌*◌, ◌/◌, ◌<◌, ◌≤◌, Bool, true, false, List, [], ◌∷◌, ◌++◌, Option, Some, None, drop, length, replicate, if◌then◌else◌, nat_eq, nat_le, ◌⊎◌, slice_index, slice_set}
 use Rattle.hashbag_slots.specs.declared.slots.Slot.{Slot}
-use Rattle.hashbag_slots.specs.declared.slots.Slot.TheVariants.{Empty}
+use Rattle.hashbag_slots.specs.declared.slots.Slot.TheVariants.{Empty, Removed, Moved, Live}
 use Rattle.hashbag_slots.specs.Slots.{IsSlotCount, is_live, live_count, removed_count, slot_at, entries, AreApart, HoldsAt, slot_entry}
 use Rattle.hashbag_slots.specs.Columns.{Columns, IsReached}
 use Rattle.std.specs.List.Sorted.{IsPermutation}
@@ -37,6 +37,17 @@ pub record Roomy (n s m : ℕ) : Type 0 where
   pub smaller : n ≤ m
 
 module _ {T : Type 0} where
+  -- the slot is not Empty
+  abbrev pub is_used : Slot T → Bool
+  is_used Empty = false
+  is_used Removed = true
+  is_used Moved = true
+  is_used (Live v n) = true
+
+  -- no value of these slots was carried to another table
+  abbrev pub NoneMoved : List (Slot T) → Type 0
+  NoneMoved ss = (p : ℕ) → slot_at ss p ≢ Moved
+
   -- at most k slots differ, each of which was not Live and is Live now
   pub record Fills (k : ℕ) (old new : List (Slot T)) : Type 0 where
     pub same_length : length new ≡ length old
@@ -52,12 +63,13 @@ module _ {T : Type 0} where
   abbrev pub entries_of : List (Slot T) → List (Slot T) → List (T × ℕ)
   entries_of newer waiting = entries newer ++ entries waiting
 
-  -- two tables, of whose older one so many slots were looked at: values are found in both, none is Live in both, what was
-  -- looked at is not Live, and all is within the limit
+  -- two tables, of whose older one so many slots were looked at: values are found in both, none is Live in both, none was
+  -- carried out of the newer one, what was looked at is not Live, and all is within the limit
   pub record AreTables (eq : T → T → Bool) (hash : T → ℕ) (newer older : Columns T) (looked : ℕ) : Type 0 where
     pub newer_reached : IsReached hash newer
     pub older_reached : IsReached hash older
     pub apart : AreApart eq older.slots newer.slots
+    pub unmoved : NoneMoved newer.slots
     pub looked_within : looked ≤ length older.slots
     pub looked_dead : (p : ℕ) → p < looked → is_live (slot_at older.slots p) ≡ false
     pub fits : live_count newer.slots + removed_count newer.slots + live_count (drop looked older.slots) ≤ limit (length newer.slots)
@@ -74,6 +86,7 @@ module _ {T : Type 0} where
   pub record MayAdopt (eq : T → T → Bool) (hash : T → ℕ) (newer : Columns T) (former : List (Slot T)) (many : ℕ) : Type 0 where
     pub reached : IsReached hash newer
     pub apart : AreApart eq former newer.slots
+    pub unmoved : NoneMoved newer.slots
     pub counted : IsCounted eq (entries_of newer.slots former)
     pub fits : live_count newer.slots + removed_count newer.slots + live_count former ≤ limit (length newer.slots)
     pub carries : length former - many ≤ 16 * room_of newer.slots former

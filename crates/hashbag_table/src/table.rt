@@ -10,7 +10,7 @@ ghost use Rattle.hashbag_slots.specs.Slots.{IsSlotCount, entries, live_count, is
 ghost use Rattle.hashbag_slots.specs.Columns.{IsReached, IsAlike};
 ghost use Rattle.hashbag_table.specs.Asked.{MayAskInTurn, Retains};
 ghost use Rattle.hashbag_table.specs.Entries.{entry_of, count_of, without, with_count, with_fewer, with_instance, total, IsCounted, HasClones};
-ghost use Rattle.hashbag_table.specs.Tables.{limit, room, IsLeast, IsPacked, entries_of, Arrives, Carried, IsReady, MayAdopt, slot_in, HoldsIn, entry_in, Writes, Rewrites, Swaps};
+ghost use Rattle.hashbag_table.specs.Tables.{limit, room, values, IsLeast, IsPacked, entries_of, Arrives, Carried, IsReady, MayAdopt, NoneMoved, slot_in, HoldsIn, entry_in, Writes, Rewrites, Swaps};
 
 use crate::growth::{carry_next, grown_count, least_count, no_slots};
 use crate::retain::retain_slots;
@@ -125,11 +125,12 @@ impl<T: Eq + Hash + Drop, S: BuildHasher + Drop> Table<T, S> {
         })
     }
 
-    /// The number of slots of the newer table.
+    /// The number of slots of the newer table. Those that aren't Empty are its Live and its Removed ones.
     pub fn slots(&self) -> usize
         ensures slots { result ≡ length self.now.tables.newer }
         ensures count { IsSlotCount result }
         ensures entries { self.now.entries ≡ entries_of self.now.tables.newer self.now.tables.waiting }
+        ensures unmoved { NoneMoved self.now.tables.newer }
     {
         self.newer.slots()
     }
@@ -556,7 +557,8 @@ impl<T: Eq + Hash + Drop, S: BuildHasher + Drop> Table<T, S> {
         ensures room { room self.old.tables ≤ room self.new.tables }
     {
         let newer = retain_slots(&mut self.newer, 0, &mut f);
-        newer + retain_slots(&mut self.older, self.looked, &mut f)
+        let waiting = retain_slots(&mut self.older, self.looked, &mut f);
+        newer + waiting
     }
 
     // Takes a table of Empty slots in which all values have room as the newer one, moves every value into it, and frees the
@@ -567,13 +569,15 @@ impl<T: Eq + Hash + Drop, S: BuildHasher + Drop> Table<T, S> {
         requires enough { length self.old.entries ≤ limit (length newer.slots) }
         ensures slots { length self.new.tables.newer ≡ length newer.slots }
         ensures packed { IsPacked self.new.tables }
+        ensures values { values self.new.tables ≡ length self.old.entries }
         ensures entries { IsPermutation self.old.entries self.new.entries }
         ensures hasher { self.new.hasher ≡ self.old.hasher }
+        ensures counted { IsCounted T.eq self.new.entries }
     {
         let mut newer = newer;
         let waiting = self.older.slots() - self.looked;
         newer.carry_from(&self.hasher, &mut self.older, self.looked, waiting);
-        let _freed = mem::replace(&mut self.older, no_slots(self.alloc));
+        let _older = mem::replace(&mut self.older, no_slots(self.alloc));
         self.looked = 0;
         let many = self.newer.slots();
         self.adopt(newer, many);
@@ -597,6 +601,7 @@ impl<T: Eq + Hash + Drop, S: BuildHasher + Drop> Table<T, S> {
         ensures packed { room self.old.tables < n → OnOk result (IsPacked self.new.tables) }
         ensures room { OnOk result (n ≤ room self.new.tables) }
     {
+        let slots = self.newer.slots();
         if n <= self.room() {
             return Ok(());
         }
@@ -604,7 +609,7 @@ impl<T: Eq + Hash + Drop, S: BuildHasher + Drop> Table<T, S> {
         if n > MOST_VALUES - values {
             return Err(AllocError);
         }
-        let count = least_count(self.newer.slots(), values + n)?;
+        let count = least_count(slots, values + n)?;
         let newer = Slots::with_slots(self.alloc, count)?;
         self.pack(newer);
         Ok(())

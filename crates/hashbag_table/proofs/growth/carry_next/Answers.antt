@@ -13,27 +13,29 @@ carry_from-requires-clause-room g c =
 pub returns-clause-tables : goal.returns-clause-tables
 returns-clause-tables g c =
     let hash = hash_under g.T.Hash.hash_input g.S.BuildHasher g.S.Hasher.Hasher c.args.hasher.now in let h = c.carry_from.ensures in let t = c.requires.tables in
-    let least : c.min-many.result ≡ min (length c.args.older.now.slots - c.args.looked) c.args.most = c.min-many.ensures ∙ ap (λ l. min (l - c.args.looked) c.args.most) c.slots-count.ensures.value in
-    tables_after g.T.PartialEq.eq hash c.args.newer.now c.args.older.now c.carry_from.new.self c.carry_from.new.older c.args.looked c.min-many.result c.args.most t least h.placed h.left h.apart h.kept h.removed h.slots h.reached (h.older_reached hash t.older_reached)
+    let within : c.args.looked + c.min-many.result ≤ length c.args.older.now.slots = let m = c.min-many.ensures in let s = c.slots-count.ensures.value in let w = t.looked_within in omega (arith, m, s, w) in
+    tables_after g.T.PartialEq.eq hash c.args.newer.now c.args.older.now c.carry_from.new.self c.carry_from.new.older c.args.looked c.min-many.result t within h.placed h.left h.apart h.kept h.removed h.slots h.reached (h.older_reached hash t.older_reached)
 
 pub returns-clause-carried : goal.returns-clause-carried
 returns-clause-carried g c =
     let hash = hash_under g.T.Hash.hash_input g.S.BuildHasher g.S.Hasher.Hasher c.args.hasher.now in let h = c.carry_from.ensures in let t = c.requires.tables in
+    let within : c.args.looked + c.min-many.result ≤ length c.args.older.now.slots = let m = c.min-many.ensures in let s = c.slots-count.ensures.value in let w = t.looked_within in omega (arith, m, s, w) in
     let least : c.min-many.result ≡ min (length c.args.older.now.slots - c.args.looked) c.args.most = c.min-many.ensures ∙ ap (λ l. min (l - c.args.looked) c.args.most) c.slots-count.ensures.value in
-    carried_after g.T.PartialEq.eq hash c.args.newer.now c.args.older.now c.carry_from.new.self c.carry_from.new.older c.args.looked c.min-many.result c.args.most t least h.placed h.left h.apart h.kept h.removed h.slots h.reached (h.older_reached hash t.older_reached)
+    carried_after g.T.PartialEq.eq hash c.args.newer.now c.args.older.now c.carry_from.new.self c.carry_from.new.older c.args.looked c.min-many.result t within h.placed h.left h.apart h.kept h.removed h.slots h.reached (h.older_reached hash t.older_reached) c.args.most least
 
 pub returns-then-looked-many-clause-tables : goal.returns-then-looked-many-clause-tables
 returns-then-looked-many-clause-tables g c =
     let hash = hash_under g.T.Hash.hash_input g.S.BuildHasher g.S.Hasher.Hasher c.args.hasher.now in let h = c.carry_from.ensures in let t = c.requires.tables in
-    let least : c.min-many.result ≡ min (length c.args.older.now.slots - c.args.looked) c.args.most = c.min-many.ensures ∙ ap (λ l. min (l - c.args.looked) c.args.most) c.slots-count.ensures.value in
+    let within : c.args.looked + c.min-many.result ≤ length c.args.older.now.slots = let m = c.min-many.ensures in let s = c.slots-count.ensures.value in let w = t.looked_within in omega (arith, m, s, w) in
     let e = c.carry_from.ensures.left.same_length in let v = c.slots-count.ensures.value in let all = c.if-looked-many.true in
     subst (λ none. AreTables g.T.PartialEq.eq hash c.carry_from.new.self none 0) (sym c.replace-freed.ensures.after)
-    (tables_freed g.T.PartialEq.eq hash c.carry_from.new.self c.carry_from.new.older c.no_slots.result (c.args.looked + c.min-many.result) (tables_after g.T.PartialEq.eq hash c.args.newer.now c.args.older.now c.carry_from.new.self c.carry_from.new.older c.args.looked c.min-many.result c.args.most t least h.placed h.left h.apart h.kept h.removed h.slots h.reached (h.older_reached hash t.older_reached)) (e ∙ sym v ∙ sym all) c.no_slots.ensures.slots (c.no_slots.ensures.reached hash))
+    (tables_freed g.T.PartialEq.eq hash c.carry_from.new.self c.carry_from.new.older c.no_slots.result (c.args.looked + c.min-many.result) (tables_after g.T.PartialEq.eq hash c.args.newer.now c.args.older.now c.carry_from.new.self c.carry_from.new.older c.args.looked c.min-many.result t within h.placed h.left h.apart h.kept h.removed h.slots h.reached (h.older_reached hash t.older_reached)) (e ∙ sym v ∙ sym all) c.no_slots.ensures.slots (c.no_slots.ensures.reached hash))
 
 pub returns-then-looked-many-clause-carried : goal.returns-then-looked-many-clause-carried
 returns-then-looked-many-clause-carried g c =
     let hash = hash_under g.T.Hash.hash_input g.S.BuildHasher g.S.Hasher.Hasher c.args.hasher.now in let h = c.carry_from.ensures in let t = c.requires.tables in
+    let within : c.args.looked + c.min-many.result ≤ length c.args.older.now.slots = let m = c.min-many.ensures in let s = c.slots-count.ensures.value in let w = t.looked_within in omega (arith, m, s, w) in
     let least : c.min-many.result ≡ min (length c.args.older.now.slots - c.args.looked) c.args.most = c.min-many.ensures ∙ ap (λ l. min (l - c.args.looked) c.args.most) c.slots-count.ensures.value in
     let e = c.carry_from.ensures.left.same_length in let v = c.slots-count.ensures.value in let all = c.if-looked-many.true in
     subst (λ none. Carried c.args.most c.args.newer.now.slots (drop c.args.looked c.args.older.now.slots) c.carry_from.new.self.slots (drop 0 none.slots)) (sym c.replace-freed.ensures.after)
-    (carried_freed g.T.PartialEq.eq hash c.args.most c.args.newer.now.slots (drop c.args.looked c.args.older.now.slots) c.carry_from.new.self.slots c.carry_from.new.older c.no_slots.result (c.args.looked + c.min-many.result) (carried_after g.T.PartialEq.eq hash c.args.newer.now c.args.older.now c.carry_from.new.self c.carry_from.new.older c.args.looked c.min-many.result c.args.most t least h.placed h.left h.apart h.kept h.removed h.slots h.reached (h.older_reached hash t.older_reached)) (e ∙ sym v ∙ sym all) c.no_slots.ensures.slots)
+    (carried_freed g.T.PartialEq.eq hash c.args.most c.args.newer.now.slots (drop c.args.looked c.args.older.now.slots) c.carry_from.new.self.slots c.carry_from.new.older c.no_slots.result (c.args.looked + c.min-many.result) (carried_after g.T.PartialEq.eq hash c.args.newer.now c.args.older.now c.carry_from.new.self c.carry_from.new.older c.args.looked c.min-many.result t within h.placed h.left h.apart h.kept h.removed h.slots h.reached (h.older_reached hash t.older_reached) c.args.most least) (e ∙ sym v ∙ sym all) c.no_slots.ensures.slots)

@@ -1,10 +1,10 @@
-use Rattle.std.proofs.Common.{◌≡◌, ◌++◌, [], length, drop, sym, ap, subst, ◌∙◌}
+use Rattle.std.proofs.Common.{◌≡◌, ◌++◌, [], drop, sym, ap, subst, ◌∙◌}
 use Rattle.std.proofs.lemmas.List.{append-nil}
 use Rattle.std.specs.List.Sorted.{IsPermutation}
 use Rattle.hashbag_slots.specs.Hashing.{hash_under}
 use Rattle.hashbag_slots.specs.Slots.{entries}
 use Rattle.hashbag_table.specs.Tables.{entries_of, Carried, MayAdopt}
-use Rattle.hashbag_table.proofs.CarryLemmas.{IsTables-adopted, tables_adopted}
+use Rattle.hashbag_table.proofs.CarryLemmas.{IsTables-adopted}
 use Rattle.hashbag_table.proofs.table.Table.adopt.Goals as goal
 
 pub invariant_of-self : goal.invariant_of-self

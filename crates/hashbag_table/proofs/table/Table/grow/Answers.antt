@@ -6,7 +6,7 @@ use Rattle.hashbag_slots.specs.Hashing.{hash_under}
 use Rattle.hashbag_slots.specs.declared.slots.Slot.TheVariants.{Empty}
 use Rattle.hashbag_slots.specs.Slots.{IsSlotCount, live_count, entries}
 use Rattle.hashbag_table.specs.Entries.{IsCounted}
-use Rattle.hashbag_table.specs.Tables.{limit, MayAdopt, Roomy, Carried, grown_slots, room, room_of, fresh}
+use Rattle.hashbag_table.specs.Tables.{limit, MayAdopt, Carried, grown_slots, room, room_of, fresh}
 use Rattle.hashbag_table.proofs.RoomLemmas.{grown_room, Roomy_at}
 use Rattle.hashbag_table.proofs.CarryLemmas.{alone_full, live_alone, entries_fresh, may_grow, room_first, ready_grown}
 use Rattle.hashbag_table.proofs.table.Table.grow.Goals as goal

@@ -1,8 +1,6 @@
-use Rattle.std.proofs.Common.{◌≡◌, ◌+◌, ◌∷◌, [], Some, sym, ◌∙◌, subst, arith}
+use Rattle.std.proofs.Common.{◌≡◌, Some, sym, ◌∙◌}
 use Rattle.std.specs.Map.{lookup_entry}
-use Rattle.hashbag_slots.specs.Slots.{recounted}
-use Rattle.hashbag_table.specs.Entries.{count_of, with_instance}
-use Rattle.hashbag_table.specs.Tables.{Swaps, slot_in, Writes}
+use Rattle.hashbag_table.specs.Entries.{count_of}
 use Rattle.hashbag_table.proofs.SpotLemmas.{held_entry, count_present, count_absent, put_swapped}
 use Rattle.hashbag_table.proofs.table.Table.put_instance.Goals as goal
 

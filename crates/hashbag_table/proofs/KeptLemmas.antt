@@ -1,0 +1,164 @@
+-- What the answers of a closure leave of a map, and of two tables of slots.
+use Rattle.std.proofs.Common.{◌≡◌, ℕ, ◌+◌, ◌≤◌, min, Bool, true, false, cond, ltb, List, [], ◌∷◌, ◌++◌, length, drop, refl, sym, ap, subst, ◌∙◌, inl, inr, arith, append_assoc}
+use denote.Ref.{Bor}
+use denote.Param.Members.{Mut}
+use Rattle.std.specs.List.{IsDistinct, AllByRecursion}
+use Rattle.std.specs.Map.{keys_of}
+use Rattle.std.proofs.lemmas.List.{length-drop}
+use Rattle.std.proofs.lemmas.List.Sums.{sum_by-append}
+use Rattle.std.proofs.lemmas.List.Sorted.{IsPermutation-refl}
+use Rattle.std.proofs.lemmas.Map.Keys.{IsDistinct-cons, IsDistinct-head, IsDistinct-tail}
+use Rattle.hashbag_slots.specs.Slots.{is_live, entries}
+use Rattle.hashbag_slots.specs.Columns.{Columns, IsReached}
+use Rattle.hashbag_table.specs.Asked.{MayAskInTurn, AnswersInTurn, Retains, kept}
+use Rattle.hashbag_table.specs.Entries.{IsCounted, total}
+use Rattle.hashbag_table.specs.Retained.{RetainsFrom}
+use Rattle.hashbag_table.specs.Tables.{limit, room_of, entries_of, AreTables, IsTables}
+use Rattle.hashbag_table.proofs.AskedLemmas.{total_kept, positive_kept}
+use Rattle.hashbag_table.proofs.ListLemmas.{IsPermutation-same}
+use Rattle.hashbag_table.proofs.RetainLemmas.{answers_left, counts_left, retained_live, retained_moved, retained_absent}
+
+distinct_nil : (T : Type 0) (eq : T → T → Bool) → IsDistinct eq []
+unfolding IsDistinct
+distinct_nil T eq = tt
+
+-- what is kept of a map has its values apart
+module _ {T : Type 0} where
+  keys_step : (P : T → Type 0) (b : Bool) (v : T) (m : ℕ) (es : List (T × ℕ)) → P v → AllByRecursion P (keys_of es) → AllByRecursion P (keys_of (cond b ((v, m) ∷ es) es))
+  keys_step P true v m es p h = (p, h)
+  keys_step P false v m es p h = h
+
+  keys_kept : (P : T → Type 0) (es : List (T × ℕ)) (answers : List ℕ) → AllByRecursion P (keys_of es) → AllByRecursion P (keys_of (kept es answers))
+  keys_kept P [] answers h = tt
+  keys_kept P (e ∷ es) [] h = tt
+  keys_kept P (e ∷ es) (a ∷ answers) h = keys_step P (ltb 0 (min a e.1)) e.0 (min a e.1) (kept es answers) h.0 (keys_kept P es answers h.1)
+
+  distinct_step : (eq : T → T → Bool) (b : Bool) (v : T) (m : ℕ) (es : List (T × ℕ)) → AllByRecursion (λ y. eq v y ≡ false) (keys_of es) → IsDistinct eq (keys_of es) → IsDistinct eq (keys_of (cond b ((v, m) ∷ es) es))
+  distinct_step eq true v m es p h = IsDistinct-cons eq v (keys_of es) p h
+  distinct_step eq false v m es p h = h
+
+  distinct_kept : (eq : T → T → Bool) (es : List (T × ℕ)) (answers : List ℕ) → IsDistinct eq (keys_of es) → IsDistinct eq (keys_of (kept es answers))
+  distinct_kept eq [] answers h = distinct_nil T eq
+  distinct_kept eq (e ∷ es) [] h = distinct_nil T eq
+  distinct_kept eq (e ∷ es) (a ∷ answers) h =
+      distinct_step eq (ltb 0 (min a e.1)) e.0 (min a e.1) (kept es answers) (keys_kept (λ y. eq e.0 y ≡ false) es answers (IsDistinct-head eq e.0 (keys_of es) h))
+      (distinct_kept eq es answers (IsDistinct-tail eq e.0 (keys_of es) h))
+
+  pub counted_kept : (eq : T → T → Bool) (es : List (T × ℕ)) (answers : List ℕ) → IsCounted eq es → IsCounted eq (kept es answers)
+  counted_kept eq es answers h = record { distinct = distinct_kept eq es answers h.distinct; positive = positive_kept es answers }
+
+  append_step : (b : Bool) (v : T) (m : ℕ) (all front back : List (T × ℕ)) → all ≡ front ++ back → cond b ((v, m) ∷ all) all ≡ cond b ((v, m) ∷ front) front ++ back
+  append_step true v m all front back h = ap (λ l. (v, m) ∷ l) h
+  append_step false v m all front back h = h
+
+module _ {F T : Type 0} (g : Mut F (Bor T × (ℕ × Unit {0})) ℕ) where
+  -- one walk, and then another one
+  kept_both : (f f' : F) (es fs : List (T × ℕ)) (ms ns : List ℕ) → AnswersInTurn g f es ms f' → kept (es ++ fs) (ms ++ ns) ≡ kept es ms ++ kept fs ns
+  kept_both f f' [] fs [] ns h = refl
+  kept_both f f' [] fs (a ∷ ms) ns h = absurd h
+  kept_both f f' (e ∷ es) fs [] ns h = absurd h
+  kept_both f f' (e ∷ es) fs (a ∷ ms) ns h = append_step (ltb 0 (min a e.1)) e.0 (min a e.1) (kept (es ++ fs) (ms ++ ns)) (kept es ms) (kept fs ns) (kept_both h.0 f' es fs ms ns h.2)
+
+  answers_both : (f f1 f2 : F) (es fs : List (T × ℕ)) (ms ns : List ℕ) → AnswersInTurn g f es ms f1 → AnswersInTurn g f1 fs ns f2 → AnswersInTurn g f (es ++ fs) (ms ++ ns) f2
+  answers_both f f1 f2 [] fs [] ns h k = subst (λ x. AnswersInTurn g x fs ns f2) (sym h) k
+  answers_both f f1 f2 [] fs (a ∷ ms) ns h k = absurd h
+  answers_both f f1 f2 (e ∷ es) fs [] ns h k = absurd h
+  answers_both f f1 f2 (e ∷ es) fs (a ∷ ms) ns h k = (h.0, h.1, answers_both h.0 f1 f2 es fs ms ns h.2 k)
+
+  pub asks_first : (f : F) (es fs : List (T × ℕ)) → MayAskInTurn g f (es ++ fs) → MayAskInTurn g f es
+  asks_first f es fs asks = record {
+    at = λ before after e answers last split asked. asks.at before (after ++ fs) e answers last (ap (λ l. l ++ fs) split ∙ append_assoc before (e ∷ after) fs) asked;
+  }
+
+  asks_then : (f f1 : F) (es fs : List (T × ℕ)) (ms : List ℕ) → MayAskInTurn g f (es ++ fs) → AnswersInTurn g f es ms f1 → MayAskInTurn g f1 fs
+  asks_then f f1 es fs ms asks first = record {
+    at = λ before after e answers last split asked.
+        asks.at (es ++ before) after e (ms ++ answers) last (ap (λ l. es ++ l) split ∙ sym (append_assoc es before (e ∷ after))) (answers_both f f1 last es before ms answers first asked);
+  }
+
+  pub total_both : (es fs : List (T × ℕ)) → total (es ++ fs) ≡ total es + total fs
+  total_both es fs = sum_by-append (λ e. e.1) es fs
+
+  -- the newer table, and then the slots that wait
+  module _ (newer waiting newer1 : Columns T) (looked : ℕ) (f f1 : F) (first : RetainsFrom g 0 f newer.slots newer1.slots f1) where
+    pub asks_waiting : MayAskInTurn g f (entries_of newer.slots (drop looked waiting.slots)) → MayAskInTurn g f1 (entries (drop looked waiting.slots))
+    asks_waiting asks =
+        let a = answers_left g f f1 newer.slots newer1.slots first.left in
+        asks_then f f1 (entries newer.slots) (entries (drop looked waiting.slots)) a.0 asks a.1
+
+  module _ (eq : T → T → Bool) (newer older newer1 older1 : Columns T) (looked : ℕ) (f f1 f2 : F)
+      (first : RetainsFrom g 0 f newer.slots newer1.slots f1) (second : RetainsFrom g looked f1 older.slots older1.slots f2) where
+    pub length_waiting : length (drop looked older1.slots) ≡ length (drop looked older.slots)
+    length_waiting = let a = length-drop looked older1.slots in let b = length-drop looked older.slots in let same = second.same_length in omega (arith, a, b, same)
+
+    both_left : (answers : List ℕ) × AnswersInTurn g f (entries_of newer.slots (drop looked older.slots)) answers f2
+        × (entries_of newer1.slots (drop looked older1.slots) ≡ kept (entries_of newer.slots (drop looked older.slots)) answers)
+    both_left =
+        let w = drop looked older.slots in let w1 = drop looked older1.slots in
+        let a = answers_left g f f1 newer.slots newer1.slots first.left in
+        let b = answers_left g f1 f2 w w1 second.left in (
+          a.0 ++ b.0,
+          answers_both f f1 f2 (entries newer.slots) (entries w) a.0 b.0 a.1 b.1,
+          (λ i. a.2 i ++ b.2 i) ∙ sym (kept_both f f1 (entries newer.slots) (entries w) a.0 b.0 a.1),
+        )
+
+    pub retains_both : Retains g f (entries_of newer.slots (drop looked older.slots)) (entries_of newer1.slots (drop looked older1.slots))
+    retains_both =
+        let all = both_left in
+        record {
+          walk = entries_of newer.slots (drop looked older.slots);
+          order = IsPermutation-refl _;
+          answers = all.0;
+          last = f2;
+          asked = all.1;
+          kept = IsPermutation-same _ _ (sym all.2);
+        }
+
+    pub total_left : total (entries newer1.slots) + total (entries (drop looked older1.slots)) ≤ total (entries_of newer.slots (drop looked older.slots))
+    total_left =
+        let all = both_left in
+        let a = total_kept (entries_of newer.slots (drop looked older.slots)) all.0 in let e = ap (λ l. total l) all.2 in
+        let s = total_both (entries newer1.slots) (entries (drop looked older1.slots)) in omega (arith, a, e, s)
+
+    pub room_left : room_of newer.slots (drop looked older.slots) ≤ room_of newer1.slots (drop looked older1.slots)
+    room_left =
+        let a = counts_left g f f1 newer.slots newer1.slots first.left in let x = a.0 in
+        let b = counts_left g f1 f2 (drop looked older.slots) (drop looked older1.slots) second.left in let y = b.1 in
+        let l : limit (length newer1.slots) ≡ limit (length newer.slots) = ap limit first.same_length in
+        omega (arith, x, y, l)
+
+    -- two tables stay two tables
+    module _ (hash : T → ℕ) (before : IsTables eq hash newer older looked) (newer_reached : IsReached hash newer1) (older_reached : IsReached hash older1) where
+      tables_left : AreTables eq hash newer1 older1 looked
+      tables_left = record {
+        newer_reached = newer_reached;
+        older_reached = older_reached;
+        apart = λ p v n here.
+            let was = retained_live g looked f1 f2 older.slots older1.slots second p v n here in
+            retained_absent g 0 f f1 newer.slots newer1.slots first (λ w. eq w v) (before.tables.apart p v was.0 was.1);
+        unmoved = λ p here. before.tables.unmoved p (retained_moved g 0 f f1 newer.slots newer1.slots first p here);
+        looked_within = let l = before.tables.looked_within in let same = second.same_length in omega (arith, l, same);
+        looked_dead = λ p lt. ap is_live (second.before p lt) ∙ before.tables.looked_dead p lt;
+        fits =
+            let a = counts_left g f f1 newer.slots newer1.slots first.left in let x = a.0 in
+            let b = counts_left g f1 f2 (drop looked older.slots) (drop looked older1.slots) second.left in let y = b.1 in
+            let l : limit (length newer1.slots) ≡ limit (length newer.slots) = ap limit first.same_length in
+            let t = before.tables.fits in omega (arith, x, y, l, t);
+      }
+
+      pub IsTables-left : IsTables eq hash newer1 older1 looked
+      IsTables-left =
+          let all = both_left in let len = length_waiting in
+          record {
+            tables = tables_left;
+            counted = subst (IsCounted eq) (sym all.2) (counted_kept eq (entries_of newer.slots (drop looked older.slots)) all.0 before.counted);
+            carries = let c = before.carries in let r = room_left in omega (arith, c, r, len);
+            smaller = elim before.smaller [
+              | inl none ↦ inl (let z : length (drop looked older1.slots) ≡ 0 = len ∙ ap length none in nil_is (drop looked older1.slots) z)
+              | inr some ↦ inr (let same = first.same_length in omega (arith, len, same, some))
+            ];
+          }
+        where
+          nil_is : {X : Type 0} (xs : List X) → length xs ≡ 0 → xs ≡ []
+          nil_is [] h = refl
+          nil_is (x ∷ xs) h = absurd (omega arith)

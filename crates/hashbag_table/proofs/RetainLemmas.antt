@@ -1,0 +1,256 @@
+-- What the answers of a closure leave of one table of slots.
+use Rattle.std.proofs.Common.{◌≡◌, ℕ, zero, suc, ◌+◌, ◌-◌, ◌<◌, ◌≤◌, min, Bool, true, false, cond, ltb, List, [], ◌∷◌, length, drop, Some, None, refl, sym, ap, subst, ◌∙◌, inl, inr, arith, slice_set}
+use borrow.Author.Tests.{lt-ltb}
+use denote.Ref.{Bor}
+use denote.Param.Members.{Mut}
+use Rattle.std.proofs.lemmas.Bool.{cases_lt}
+use Rattle.std.proofs.lemmas.List.{drop_all, drop_more, drop-set-lt, get_or-set_same, get_or-set_other, get_or-drop, length-set}
+use Rattle.std.proofs.lemmas.List.Sums.{sum_by-cons}
+use Rattle.hashbag_slots.specs.declared.slots.Slot.{Slot}
+use Rattle.hashbag_slots.specs.declared.slots.Slot.TheVariants.{Empty, Removed, Moved, Live}
+use Rattle.hashbag_slots.specs.Slots.{is_live, is_removed, holds, live_count, removed_count, slot_at, slot_entry, count_in, entries, IsAbsent}
+use Rattle.hashbag_table.specs.Asked.{MayAsk, MayAnswer, MayAskInTurn, AnswersInTurn, kept}
+use Rattle.hashbag_table.specs.Entries.{total}
+use Rattle.hashbag_table.specs.Retained.{slot_left, LeavesSlot, LeavesSlots, RetainsFrom}
+use Rattle.hashbag_table.proofs.AskedLemmas.{lesser}
+
+module _ {T : Type 0} where
+  pub dead_entry : (s : Slot T) → None ≡ slot_entry s → is_live s ≡ false
+  dead_entry Empty h = refl
+  dead_entry Removed h = refl
+  dead_entry Moved h = refl
+  dead_entry (Live v n) h = absurd (cc)
+
+  pub live_entry : (s : Slot T) (v : T) (n : ℕ) → Some (v, n) ≡ slot_entry s → s ≡ Live v n
+  live_entry Empty v n h = absurd (cc)
+  live_entry Removed v n h = absurd (cc)
+  live_entry Moved v n h = absurd (cc)
+  live_entry (Live w m) v n h = let e : (w, m) ≡ (v, n) = cc in ap (λ (x : T × ℕ). Live x.0 x.1) e
+
+  pub written_at : (ss ts : List (Slot T)) (p : ℕ) (s : Slot T) → p < length ss → ts ≡ slice_set ss p s → slot_at ts p ≡ s
+  written_at ss ts p s within e = ap (λ us. slot_at us p) e ∙ get_or-set_same ss p s Empty within
+
+  pub left_some : (v : T) (n a : ℕ) → 0 < min a n → slot_left v n a ≡ Live v (min a n)
+  left_some v n a pos = ap (λ b. cond b (Live v (min a n)) Removed) (lt-ltb 0 (min a n) pos)
+
+  pub left_none : (v : T) (n a : ℕ) → min a n ≡ 0 → slot_left v n a ≡ Removed
+  left_none v n a e = ap (λ m. cond (ltb 0 m) (Live v m) Removed) e
+
+  pub total_slots : (s : Slot T) (ss : List (Slot T)) → total (entries (s ∷ ss)) ≡ count_in s + total (entries ss)
+  total_slots Empty ss = omega arith
+  total_slots Removed ss = omega arith
+  total_slots Moved ss = omega arith
+  total_slots (Live v n) ss = sum_by-cons (λ e. e.1) (v, n) (entries ss)
+
+  left_entry : (b : Bool) (v : T) (m : ℕ) (ts : List (Slot T)) (es : List (T × ℕ)) → entries ts ≡ es → entries (cond b (Live v m) Removed ∷ ts) ≡ cond b ((v, m) ∷ es) es
+  left_entry true v m ts es h = ap (λ l. (v, m) ∷ l) h
+  left_entry false v m ts es h = h
+
+  left_same : (b : Bool) (v w : T) (m n : ℕ) → cond b (Live v m) Removed ≡ Live w n → v ≡ w
+  left_same true v w m n h = cc
+  left_same false v w m n h = absurd (cc)
+
+  left_moved : (b : Bool) (v : T) (m : ℕ) → cond b (Live v m) Removed ≡ Moved → ⊥
+  left_moved true v m h = cc
+  left_moved false v m h = cc
+
+  left_count : (b : Bool) (v : T) (m n : ℕ) → m ≤ n → count_in (cond b (Live v m) Removed) ≤ n
+  left_count true v m n h = h
+  left_count false v m n h = omega arith
+
+  -- how many slots the two counts have of one
+  abbrev one_live : Slot T → ℕ
+  one_live s = cond (is_live s) 1 0
+
+  abbrev one_removed : Slot T → ℕ
+  one_removed s = cond (is_removed s) 1 0
+
+  left_sum : (b : Bool) (v : T) (m : ℕ) → (let s : Slot T = cond b (Live v m) Removed in one_live s + one_removed s) ≡ 1
+  left_sum true v m = refl
+  left_sum false v m = refl
+
+  left_few : (b : Bool) (v : T) (m : ℕ) → (let s : Slot T = cond b (Live v m) Removed in one_live s) ≤ 1
+  left_few true v m = omega arith
+  left_few false v m = omega arith
+
+module _ {F T : Type 0} (g : Mut F (Bor T × (ℕ × Unit {0})) ℕ) where
+  -- one slot
+  pub leaves_dead : (f : F) (s : Slot T) → is_live s ≡ false → LeavesSlot g f s s f
+  leaves_dead f Empty h = (refl, refl)
+  leaves_dead f Removed h = (refl, refl)
+  leaves_dead f Moved h = (refl, refl)
+  leaves_dead f (Live v n) h = absurd (cc)
+
+  pub leaves_live : (f f' : F) (s t : Slot T) (v : T) (n a : ℕ) → s ≡ Live v n → MayAnswer g f (v, n) a f' → t ≡ slot_left v n a → LeavesSlot g f s t f'
+  leaves_live f f' s t v n a here may is = subst (λ x. LeavesSlot g f x t f') (sym here) (a, may, is)
+
+  slot_live : (f f' : F) (s t : Slot T) (v : T) (n : ℕ) → LeavesSlot g f s t f' → t ≡ Live v n → (m : ℕ) × (s ≡ Live v m)
+  slot_live f f' Empty t v n h here = let e = h.0 in absurd (cc)
+  slot_live f f' Removed t v n h here = let e = h.0 in absurd (cc)
+  slot_live f f' Moved t v n h here = let e = h.0 in absurd (cc)
+  slot_live f f' (Live w m) t v n h here = (m, ap (λ x. Live x m) (left_same _ w v _ n (sym h.2 ∙ here)))
+
+  slot_moved : (f f' : F) (s t : Slot T) → LeavesSlot g f s t f' → t ≡ Moved → s ≡ Moved
+  slot_moved f f' Empty t h here = let e = h.0 in absurd (cc)
+  slot_moved f f' Removed t h here = let e = h.0 in absurd (cc)
+  slot_moved f f' Moved t h here = refl
+  slot_moved f f' (Live w m) t h here = absurd (left_moved _ w _ (sym h.2 ∙ here))
+
+  slot_sum : (f f' : F) (s t : Slot T) → LeavesSlot g f s t f' → one_live t + one_removed t ≡ one_live s + one_removed s
+  slot_sum f f' Empty t h = ap (λ x. one_live x + one_removed x) h.0
+  slot_sum f f' Removed t h = ap (λ x. one_live x + one_removed x) h.0
+  slot_sum f f' Moved t h = ap (λ x. one_live x + one_removed x) h.0
+  slot_sum f f' (Live w m) t h = ap (λ x. one_live x + one_removed x) h.2 ∙ left_sum _ w _
+
+  slot_few : (f f' : F) (s t : Slot T) → LeavesSlot g f s t f' → one_live t ≤ one_live s
+  slot_few f f' Empty t h = let e = ap one_live h.0 in omega (arith, e)
+  slot_few f f' Removed t h = let e = ap one_live h.0 in omega (arith, e)
+  slot_few f f' Moved t h = let e = ap one_live h.0 in omega (arith, e)
+  slot_few f f' (Live w m) t h = subst (λ x. one_live x ≤ 1) (sym h.2) (left_few _ w _)
+
+  count_left : (f f' : F) (s t : Slot T) → LeavesSlot g f s t f' → count_in t ≤ count_in s
+  count_left f f' Empty t h = let e = ap count_in h.0 in omega (arith, e)
+  count_left f f' Removed t h = let e = ap count_in h.0 in omega (arith, e)
+  count_left f f' Moved t h = let e = ap count_in h.0 in omega (arith, e)
+  count_left f f' (Live w m) t h = subst (λ x. count_in x ≤ m) (sym h.2) (left_count _ w _ m (lesser h.0 m))
+
+  -- what may be asked
+  asks_later : (f f' : F) (e : T × ℕ) (walk : List (T × ℕ)) (a : ℕ) → MayAskInTurn g f (e ∷ walk) → MayAnswer g f e a f' → MayAskInTurn g f' walk
+  asks_later f f' e walk a asks may = record {
+    at = λ before after d answers last split asked. asks.at (e ∷ before) after d (a ∷ answers) last (ap (λ l. e ∷ l) split) (f', may, asked);
+  }
+
+  asks_left : (f f' : F) (s t : Slot T) (ss : List (Slot T)) → MayAskInTurn g f (entries (s ∷ ss)) → LeavesSlot g f s t f' → MayAskInTurn g f' (entries ss)
+  asks_left f f' Empty t ss asks h = subst (λ x. MayAskInTurn g x (entries ss)) h.1 asks
+  asks_left f f' Removed t ss asks h = subst (λ x. MayAskInTurn g x (entries ss)) h.1 asks
+  asks_left f f' Moved t ss asks h = subst (λ x. MayAskInTurn g x (entries ss)) h.1 asks
+  asks_left f f' (Live v n) t ss asks h = asks_later f f' (v, n) (entries ss) h.0 asks h.1
+
+  asks_slot : (f : F) (s : Slot T) (ss : List (Slot T)) → MayAskInTurn g f (entries (s ∷ ss)) → (e : T × ℕ) → slot_entry s ≡ Some e → MayAsk g f e
+  asks_slot f Empty ss asks e h = absurd (cc)
+  asks_slot f Removed ss asks e h = absurd (cc)
+  asks_slot f Moved ss asks e h = absurd (cc)
+  asks_slot f (Live v n) ss asks e h = let z : (v, n) ≡ e = cc in subst (MayAsk g f) z (asks.at [] (entries ss) (v, n) [] f refl refl)
+
+  -- the value at a place may be asked for
+  pub asks_at : (f : F) (ss : List (Slot T)) (p : ℕ) → p < length ss → MayAskInTurn g f (entries (drop p ss)) → (e : T × ℕ) → slot_entry (slot_at ss p) ≡ Some e → MayAsk g f e
+  asks_at f ss p within asks = asks_slot f (slot_at ss p) (drop (p + 1) ss) (subst (λ l. MayAskInTurn g f (entries l)) (drop_more ss p Empty within) asks)
+
+  -- past the last place nothing is asked
+  pub retained_none : (p : ℕ) (f : F) (ss : List (Slot T)) → length ss ≤ p → RetainsFrom g p f ss ss f
+  retained_none p f ss past = record {
+    same_length = refl;
+    before = λ q lt. refl;
+    left = subst (λ l. LeavesSlots g f l l f) (sym (drop_all p ss past)) refl;
+  }
+
+  -- one place, and then those after it
+  module _ (p : ℕ) (f f1 : F) (ss ts : List (Slot T)) (within : p < length ss) (leaves : LeavesSlot g f (slot_at ss p) (slot_at ts p) f1) (set : ts ≡ slice_set ss p (slot_at ts p)) where
+    rest_is : drop (p + 1) ts ≡ drop (p + 1) ss
+    rest_is = ap (drop (p + 1)) set ∙ drop-set-lt (p + 1) ss p (slot_at ts p) (omega arith)
+
+    head_is : drop p ss ≡ slot_at ss p ∷ drop (p + 1) ss
+    head_is = drop_more ss p Empty within
+
+    pub length_next : length ts ≡ length ss
+    length_next = ap length set ∙ length-set ss p (slot_at ts p)
+
+    pub asks_next : MayAskInTurn g f (entries (drop p ss)) → MayAskInTurn g f1 (entries (drop (p + 1) ts))
+    asks_next asks =
+        subst (λ l. MayAskInTurn g f1 (entries l)) (sym rest_is)
+        (asks_left f f1 (slot_at ss p) (slot_at ts p) (drop (p + 1) ss) (subst (λ l. MayAskInTurn g f (entries l)) head_is asks) leaves)
+
+    pub total_next : count_in (slot_at ts p) + total (entries (drop (p + 1) ts)) ≤ total (entries (drop p ss))
+    total_next =
+        let a = ap (λ l. total (entries l)) head_is ∙ total_slots (slot_at ss p) (drop (p + 1) ss) in
+        let b = ap (λ l. total (entries l)) rest_is in
+        let c = count_left f f1 (slot_at ss p) (slot_at ts p) leaves in
+        omega (arith, a, b, c)
+
+    module _ (last : List (Slot T)) (f' : F) (later : RetainsFrom g (p + 1) f1 ts last f') where
+      last_head : drop p last ≡ slot_at ts p ∷ drop (p + 1) last
+      last_head =
+          let l = later.same_length in let m = length_next in
+          drop_more last p Empty (omega (arith, l, m)) ∙ ap (λ s. s ∷ drop (p + 1) last) (later.before p (omega arith))
+
+      pub retained_next : RetainsFrom g p f ss last f'
+      retained_next = record {
+        same_length = later.same_length ∙ length_next;
+        before = λ q lt. later.before q (omega arith) ∙ ap (λ us. slot_at us q) set ∙ get_or-set_other ss p q (slot_at ts p) Empty (λ e. omega arith);
+        left = subst (λ l. LeavesSlots g f l (drop p last) f') (sym head_is)
+            (subst (λ l. LeavesSlots g f (slot_at ss p ∷ drop (p + 1) ss) l f') (sym last_head)
+            (f1, leaves, subst (λ l. LeavesSlots g f1 l (drop (p + 1) last) f') rest_is later.left));
+      }
+
+      pub total_last : total (entries (drop p last)) ≡ count_in (slot_at ts p) + total (entries (drop (p + 1) last))
+      total_last = ap (λ l. total (entries l)) last_head ∙ total_slots (slot_at ts p) (drop (p + 1) last)
+
+  -- all slots
+  pub answers_left : (f f' : F) (ss ts : List (Slot T)) → LeavesSlots g f ss ts f' → (answers : List ℕ) × AnswersInTurn g f (entries ss) answers f' × (entries ts ≡ kept (entries ss) answers)
+  answers_left f f' [] [] h = ([], h, refl)
+  answers_left f f' [] (t ∷ ts) h = absurd h
+  answers_left f f' (s ∷ ss) [] h = absurd h
+  answers_left f f' (Empty ∷ ss) (t ∷ ts) h = let r = answers_left h.0 f' ss ts h.2 in (r.0, subst (λ x. AnswersInTurn g x (entries ss) r.0 f') (sym h.1.1) r.1, ap (λ x. entries (x ∷ ts)) h.1.0 ∙ r.2)
+  answers_left f f' (Removed ∷ ss) (t ∷ ts) h = let r = answers_left h.0 f' ss ts h.2 in (r.0, subst (λ x. AnswersInTurn g x (entries ss) r.0 f') (sym h.1.1) r.1, ap (λ x. entries (x ∷ ts)) h.1.0 ∙ r.2)
+  answers_left f f' (Moved ∷ ss) (t ∷ ts) h = let r = answers_left h.0 f' ss ts h.2 in (r.0, subst (λ x. AnswersInTurn g x (entries ss) r.0 f') (sym h.1.1) r.1, ap (λ x. entries (x ∷ ts)) h.1.0 ∙ r.2)
+  answers_left f f' (Live v n ∷ ss) (t ∷ ts) h =
+      let r = answers_left h.0 f' ss ts h.2 in
+      (h.1.0 ∷ r.0, (h.0, h.1.1, r.1), ap (λ x. entries (x ∷ ts)) h.1.2 ∙ left_entry (ltb 0 (min h.1.0 n)) v (min h.1.0 n) ts (kept (entries ss) r.0) r.2)
+
+  live_left : (f f' : F) (ss ts : List (Slot T)) → LeavesSlots g f ss ts f' → (p : ℕ) (v : T) (n : ℕ) → slot_at ts p ≡ Live v n → (m : ℕ) × (slot_at ss p ≡ Live v m)
+  live_left f f' [] [] h p v n here = absurd (cc)
+  live_left f f' [] (t ∷ ts) h p v n here = absurd h
+  live_left f f' (s ∷ ss) [] h p v n here = absurd h
+  live_left f f' (s ∷ ss) (t ∷ ts) h zero v n here = slot_live f h.0 s t v n h.1 here
+  live_left f f' (s ∷ ss) (t ∷ ts) h (suc p) v n here = live_left h.0 f' ss ts h.2 p v n here
+
+  moved_left : (f f' : F) (ss ts : List (Slot T)) → LeavesSlots g f ss ts f' → (p : ℕ) → slot_at ts p ≡ Moved → slot_at ss p ≡ Moved
+  moved_left f f' [] [] h p here = absurd (cc)
+  moved_left f f' [] (t ∷ ts) h p here = absurd h
+  moved_left f f' (s ∷ ss) [] h p here = absurd h
+  moved_left f f' (s ∷ ss) (t ∷ ts) h zero here = slot_moved f h.0 s t h.1 here
+  moved_left f f' (s ∷ ss) (t ∷ ts) h (suc p) here = moved_left h.0 f' ss ts h.2 p here
+
+  -- a slot that is Live no more is Removed
+  pub counts_left : (f f' : F) (ss ts : List (Slot T)) → LeavesSlots g f ss ts f' → (live_count ts + removed_count ts ≡ live_count ss + removed_count ss) × (live_count ts ≤ live_count ss)
+  counts_left f f' [] [] h = (refl, omega arith)
+  counts_left f f' [] (t ∷ ts) h = absurd h
+  counts_left f f' (s ∷ ss) [] h = absurd h
+  counts_left f f' (s ∷ ss) (t ∷ ts) h =
+      let r = counts_left h.0 f' ss ts h.2 in let sum = r.0 in let few = r.1 in
+      let a = sum_by-cons one_live t ts in let b = sum_by-cons one_live s ss in
+      let c = sum_by-cons one_removed t ts in let d = sum_by-cons one_removed s ss in
+      let x = slot_sum f h.0 s t h.1 in let y = slot_few f h.0 s t h.1 in
+      (omega (arith, a, b, c, d, x, sum), omega (arith, a, b, y, few))
+
+  module _ (from : ℕ) (f f' : F) (old new : List (Slot T)) (retains : RetainsFrom g from f old new f') where
+    -- a value that is Live was Live there
+    pub retained_live : (p : ℕ) (v : T) (n : ℕ) → slot_at new p ≡ Live v n → (m : ℕ) × (slot_at old p ≡ Live v m)
+    retained_live p v n here =
+        elim (cases_lt p from) [
+          | inl a ↦ (n, sym (retains.before p a) ∙ here)
+          | inr b ↦
+              let e : from + (p - from) ≡ p = omega (arith, b) in
+              let there = live_left f f' (drop from old) (drop from new) retains.left (p - from) v n (get_or-drop from new (p - from) Empty ∙ ap (slot_at new) e ∙ here) in
+              (there.0, sym (ap (slot_at old) e) ∙ sym (get_or-drop from old (p - from) Empty) ∙ there.1)
+        ]
+
+    -- no slot becomes Moved
+    pub retained_moved : (p : ℕ) → slot_at new p ≡ Moved → slot_at old p ≡ Moved
+    retained_moved p here =
+        elim (cases_lt p from) [
+          | inl a ↦ sym (retains.before p a) ∙ here
+          | inr b ↦
+              let e : from + (p - from) ≡ p = omega (arith, b) in
+              let there = moved_left f f' (drop from old) (drop from new) retains.left (p - from) (get_or-drop from new (p - from) Empty ∙ ap (slot_at new) e ∙ here) in
+              sym (ap (slot_at old) e) ∙ sym (get_or-drop from old (p - from) Empty) ∙ there
+        ]
+
+    -- a value that was absent is absent
+    pub retained_absent : (test : T → Bool) → IsAbsent test old → IsAbsent test new
+    retained_absent test absent p lt = each (slot_at new p) refl where
+      each : (s : Slot T) → slot_at new p ≡ s → holds test s ≡ false
+      each Empty h = refl
+      each Removed h = refl
+      each Moved h = refl
+      each (Live v n) h = let l = retained_live p v n h in let same = retains.same_length in sym (ap (holds test) l.1) ∙ absent p (omega (arith, lt, same))

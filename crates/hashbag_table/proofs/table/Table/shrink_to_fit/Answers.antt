@@ -1,0 +1,30 @@
+use Rattle.std.proofs.Common.{◌≡◌, [], length, ap, subst, ◌∙◌, refl, arith}
+use Rattle.std.proofs.lemmas.List.{length-replicate, drop_all}
+use Rattle.hashbag_slots.specs.declared.slots.Slot.TheVariants.{Empty}
+use Rattle.hashbag_table.specs.Tables.{IsLeast}
+use Rattle.hashbag_table.proofs.LeastLemmas.{limit_most, least_bound, least_none, least_unique}
+use Rattle.hashbag_table.proofs.table.Table.shrink_to_fit.Goals as goal
+
+pub returns-in_err-count-clause-enough : goal.returns-in_err-count-clause-enough
+returns-in_err-count-clause-enough g c m least le =
+    let few = least_bound 0 _ m least in let len = c.set_len.ensures.len in let most = limit_most in let many = c.in_err-count.ensures.refused refl in
+    absurd (omega (arith, few, len, most, many))
+
+pub returns-then-count-slots-clause-freed : goal.returns-then-count-slots-clause-freed
+returns-then-count-slots-clause-freed g c none =
+    let zero : c.set_len.result ≡ 0 = c.set_len.ensures.len ∙ ap length none in
+    let count = least_none c.in_ok-count.count (subst (λ k. IsLeast 0 k c.in_ok-count.count) zero c.in_ok-count.ensures.least) in
+    let few = c.if-count-slots.true in let s = c.slots.ensures.value in
+    subst (λ t. t.tables.newer ≡ []) c.self.view_is (drop_all 0 c.self.inside.newer.slots (omega (arith, count, few, s)))
+
+pub returns-clause-freed : goal.returns-clause-freed
+returns-clause-freed g c none =
+    let zero : c.set_len.result ≡ 0 = c.set_len.ensures.len ∙ ap length none in
+    let count = least_none c.in_ok-count.count (subst (λ k. IsLeast 0 k c.in_ok-count.count) zero c.in_ok-count.ensures.least) in
+    let slots : length c.pack.new.self.tables.newer ≡ c.in_ok-count.count = c.pack.ensures.slots ∙ ap length c.in_ok-newer.ensures.slots ∙ length-replicate c.in_ok-count.count Empty in
+    drop_all 0 c.pack.new.self.tables.newer (omega (arith, count, slots))
+
+pub returns-clause-least : goal.returns-clause-least
+returns-clause-least g c m least less =
+    c.pack.ensures.slots ∙ ap length c.in_ok-newer.ensures.slots ∙ length-replicate c.in_ok-count.count Empty
+    ∙ least_unique 0 _ c.in_ok-count.count m (subst (λ k. IsLeast 0 k c.in_ok-count.count) c.set_len.ensures.len c.in_ok-count.ensures.least) least

@@ -1,0 +1,35 @@
+-- What answers leave computes.
+use Rattle.std.specs.Prelude.{◌≡◌, ℕ, List, [], ◌∷◌, refl}
+use denote.Ref.{Bor}
+use denote.Param.Members.{Mut}
+use Rattle.hashbag_slots.specs.declared.slots.Slot.{Slot}
+use Rattle.hashbag_slots.specs.declared.slots.Slot.TheVariants.{Empty, Removed, Moved, Live}
+use Rattle.hashbag_table.specs.Asked.{MayAnswer, kept}
+use Rattle.hashbag_table.specs.Retained.{slot_left, LeavesSlots}
+
+-- the value 7 with the count 5, and a lesser, a greater and no answer
+lesser_answer : slot_left {T = ℕ} 7 5 3 ≡ Live 7 3
+lesser_answer = refl
+
+greater_answer : slot_left {T = ℕ} 7 5 9 ≡ Live 7 5
+greater_answer = refl
+
+answer_of_0 : slot_left {T = ℕ} 7 5 0 ≡ Removed
+answer_of_0 = refl
+
+-- 5 keeps its count, 15 the answer, and 31 goes
+abbrev walk : List (ℕ × ℕ)
+walk = (5, 2) ∷ (15, 7) ∷ (31, 4) ∷ []
+
+map_kept : kept walk (9 ∷ 3 ∷ 0 ∷ []) ≡ (5, 2) ∷ (15, 3) ∷ []
+map_kept = refl
+
+abbrev slots : List (Slot ℕ)
+slots = Live 5 2 ∷ Empty ∷ Live 15 7 ∷ Moved ∷ Live 31 4 ∷ []
+
+abbrev slots_kept : List (Slot ℕ)
+slots_kept = Live 5 2 ∷ Empty ∷ Live 15 3 ∷ Moved ∷ Removed ∷ []
+
+module _ {F : Type 0} (g : Mut F (Bor ℕ × (ℕ × Unit {0})) ℕ) (f f1 f2 f3 : F) (first : MayAnswer g f (5, 2) 9 f1) (second : MayAnswer g f1 (15, 7) 3 f2) (third : MayAnswer g f2 (31, 4) 0 f3) where
+  all_slots : LeavesSlots g f slots slots_kept f3
+  all_slots = (f1, (9, first, refl), (f1, (refl, refl), (f2, (3, second, refl), (f2, (refl, refl), (f3, (0, third, refl), refl)))))
