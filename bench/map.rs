@@ -1,0 +1,265 @@
+//! Measures Rust's own map of numbers to counts, under the hash by which a bag hashes where no other is given.
+//!
+//! It does step by step what the program `hashbag_speed` does with a bag, reads the same lines, and answers in the same form.
+use std::collections::HashMap;
+use std::collections::hash_map::Entry;
+use std::hash::{BuildHasherDefault, Hasher};
+use std::hint::black_box;
+use std::io::{BufRead, stdin};
+use std::time::Instant;
+
+const MULTIPLIER: u64 = 0x9e37_79b9_7f4a_7c15;
+
+/// The `FoldHasher` of Rattle's std, to the bit.
+pub struct Fold(u64);
+
+impl Default for Fold {
+    fn default() -> Fold {
+        Fold(0x243f_6a88_85a3_08d3)
+    }
+}
+
+fn folded_multiply(a: u64, b: u64) -> u64 {
+    let product = a as u128 * b as u128;
+    product as u64 ^ (product >> 64) as u64
+}
+
+fn read_u32(bytes: &[u8], at: usize) -> u64 {
+    u32::from_le_bytes([bytes[at], bytes[at + 1], bytes[at + 2], bytes[at + 3]]) as u64
+}
+
+fn read_u64(bytes: &[u8], at: usize) -> u64 {
+    read_u32(bytes, at) | read_u32(bytes, at + 4) << 32
+}
+
+fn read_short(bytes: &[u8]) -> u64 {
+    let len = bytes.len();
+    if len >= 4 {
+        read_u32(bytes, 0) | read_u32(bytes, len - 4) << 32
+    } else if len > 0 {
+        bytes[0] as u64 | (bytes[len / 2] as u64) << 8 | (bytes[len - 1] as u64) << 16
+    } else {
+        0
+    }
+}
+
+impl Hasher for Fold {
+    #[inline]
+    fn finish(&self) -> u64 {
+        self.0
+    }
+
+    #[inline]
+    fn write(&mut self, bytes: &[u8]) {
+        let len = bytes.len();
+        if len <= 8 {
+            self.0 = folded_multiply(self.0 ^ read_short(bytes), MULTIPLIER ^ (2 * len as u64));
+            return;
+        }
+        let mut state = self.0.wrapping_add(len as u64);
+        let mut at = 0;
+        while len - at > 16 {
+            state = folded_multiply(
+                read_u64(bytes, at) ^ state,
+                read_u64(bytes, at + 8) ^ MULTIPLIER,
+            );
+            at += 16;
+        }
+        self.0 = folded_multiply(
+            read_u64(bytes, len.saturating_sub(16)) ^ state,
+            read_u64(bytes, len - 8) ^ MULTIPLIER,
+        );
+    }
+}
+
+type Map = HashMap<u64, usize, BuildHasherDefault<Fold>>;
+
+fn mixed(i: u64) -> u64 {
+    let x = i.wrapping_add(0x9e37_79b9_7f4a_7c15);
+    let y = (x ^ (x >> 30)).wrapping_mul(0xbf58_476d_1ce4_e5b9);
+    let z = (y ^ (y >> 27)).wrapping_mul(0x94d0_49bb_1331_11eb);
+    z ^ (z >> 31)
+}
+
+fn distinct(from: u64, many: u64, step: u64) -> Vec<u64> {
+    (0..many)
+        .map(|i| mixed(from.wrapping_add(i.wrapping_mul(step) % many)))
+        .collect()
+}
+
+fn words(many: u64) -> Vec<u64> {
+    (0..many)
+        .map(|i| {
+            let draw = mixed(i);
+            let least = 1u64 << (draw >> 60);
+            mixed((least + draw % least) % 50_000)
+        })
+        .collect()
+}
+
+fn put(map: &mut Map, value: u64) {
+    *map.entry(value).or_insert(0) += 1;
+}
+
+fn fill(map: &mut Map, values: &[u64]) {
+    for value in values {
+        put(map, *value);
+    }
+}
+
+fn look_up(map: &Map, values: &[u64]) -> usize {
+    let mut sum = 0usize;
+    for value in values {
+        sum = sum.wrapping_add(map.get(value).copied().unwrap_or(0));
+    }
+    sum
+}
+
+// One occurrence of each, as a bag removes it.
+fn take_out(map: &mut Map, values: &[u64]) -> usize {
+    let mut sum = 0usize;
+    for value in values {
+        if let Entry::Occupied(mut entry) = map.entry(*value) {
+            let count = *entry.get();
+            sum = sum.wrapping_add(count);
+            if count == 1 {
+                entry.remove();
+            } else {
+                *entry.get_mut() -= 1;
+            }
+        }
+    }
+    sum
+}
+
+fn walk(map: &Map) -> u64 {
+    let mut sum = 0u64;
+    for (value, count) in map {
+        sum = sum.wrapping_add(value.wrapping_mul(*count as u64));
+    }
+    sum
+}
+
+fn join(first: &Map, second: &Map) -> u64 {
+    let mut sum = 0u64;
+    for (value, count) in first {
+        let other = second.get(value).copied().unwrap_or(0);
+        sum = sum.wrapping_add(value.wrapping_mul((*count as u64) ^ (other as u64) << 1));
+    }
+    for (value, count) in second {
+        if !first.contains_key(value) {
+            sum = sum.wrapping_add(value.wrapping_mul((*count as u64) << 1));
+        }
+    }
+    sum
+}
+
+fn say(what: &str, many: u64, since: Instant, sum: u64) {
+    let time = since.elapsed().as_nanos();
+    println!("{what} {many} {time} {sum}");
+}
+
+fn small(many: u64) {
+    let all = distinct(0, many, 1);
+    let mut sum = 0u64;
+    let start = Instant::now();
+    for _ in 0..300 {
+        let mut map = Map::default();
+        fill(&mut map, &all);
+        sum = sum.wrapping_add(map.len() as u64);
+        black_box(&map);
+    }
+    say("small_insert", many.wrapping_mul(300), start, sum)
+}
+
+fn large(many: u64) {
+    let all = distinct(0, many, 1);
+    let other_order = distinct(0, many, 7919);
+    let absent = distinct(many, many, 1);
+    let mut map = Map::default();
+    let start = Instant::now();
+    fill(&mut map, &all);
+    say("insert", many, start, map.len() as u64);
+    let start = Instant::now();
+    let sum = look_up(&map, &other_order);
+    say("found", many, start, sum as u64);
+    let start = Instant::now();
+    let sum = look_up(&map, &absent);
+    say("absent", many, start, sum as u64);
+    let start = Instant::now();
+    let sum = walk(&map);
+    say("set_walk", many, start, sum);
+    let start = Instant::now();
+    let sum = take_out(&mut map, &other_order);
+    say("remove", many, start, sum as u64)
+}
+
+fn of_words(many: u64) {
+    let all = words(many);
+    let mut map = Map::default();
+    let start = Instant::now();
+    fill(&mut map, &all);
+    say("words", many, start, map.len() as u64)
+}
+
+fn of_joins(many: u64) {
+    let mut first = Map::default();
+    fill(&mut first, &distinct(0, many, 1));
+    let mut second = Map::default();
+    fill(&mut second, &distinct(many / 2, many, 1));
+    let start = Instant::now();
+    let sum = join(&first, &second);
+    say("outer_join", many.wrapping_mul(2), start, sum)
+}
+
+// The longest of these times but so many longer ones.
+fn longest_but(times: &[u64], longer: usize) -> u64 {
+    if longer < times.len() {
+        times[times.len() - 1 - longer]
+    } else {
+        0
+    }
+}
+
+fn growth(many: u64) {
+    let mut times = distinct(0, many, 1);
+    let mut map = Map::default();
+    let mut worst = 0;
+    let mut worst_at = 0;
+    let mut before = Instant::now();
+    for value in &mut times {
+        put(&mut map, *value);
+        let now = Instant::now();
+        *value = now.duration_since(before).subsec_nanos() as u64;
+        before = now;
+        if *value > worst {
+            worst = *value;
+            worst_at = map.len();
+        }
+    }
+    times.sort_unstable();
+    let worst_of_10000 = longest_but(&times, times.len() / 10_000);
+    let worst_of_1000 = longest_but(&times, times.len() / 1000);
+    let median = longest_but(&times, times.len() / 2);
+    println!("worst 1 {worst} {many}\nworst_at 1 {worst_at} {many}");
+    println!("worst_of_10000 1 {worst_of_10000} {many}\nworst_of_1000 1 {worst_of_1000} {many}");
+    println!("median 1 {median} {many}");
+}
+
+fn main() {
+    for line in stdin().lock().lines() {
+        let text = line.expect("a line");
+        let Some((what, many)) = text.split_once(' ') else {
+            continue;
+        };
+        let many = many.parse().expect("a number");
+        match what {
+            "small" => small(many),
+            "large" => large(many),
+            "words" => of_words(many),
+            "join" => of_joins(many),
+            "growth" => growth(many),
+            _ => {}
+        }
+    }
+}

@@ -1,0 +1,19 @@
+//! Measures a bag of numbers. Standard input names what is measured, a line each: `small`, `large`, `words`, `join` or `growth`,
+//! and how many values there are.
+//!
+//! Each answer is a line with what was done, how many times, in how many nanoseconds, and a sum by which `bench/map.rs`, which
+//! does the same with Rust's own map, can be seen to have come to the same.
+#![tactic(auto)]
+
+mod runs;
+mod values;
+
+fn main(rt: HostRuntime) -> anyhow::Result<()> {
+    for line in rt.lines(rt.alloc()) {
+        let text = line?;
+        if let Some((what, many)) = text.split_once(' ') {
+            runs::measure(&rt, what, many.parse()?)?;
+        }
+    }
+    Ok(())
+}

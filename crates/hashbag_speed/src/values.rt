@@ -1,0 +1,31 @@
+//! The values that go into a bag.
+use std::alloc::{AllocError, Global};
+
+/// A number by which `i` goes, and no other does.
+fn mixed(i: u64) -> u64 {
+    let x = i.wrapping_add(0x9e37_79b9_7f4a_7c15);
+    let y = (x ^ (x >> 30)).wrapping_mul(0xbf58_476d_1ce4_e5b9);
+    let z = (y ^ (y >> 27)).wrapping_mul(0x94d0_49bb_1331_11eb);
+    z ^ (z >> 31)
+}
+
+/// `many` values from the number `from` on. They come in the order of their numbers where `step` is 1, and in another one
+/// where it has no factor in common with `many`.
+pub fn distinct(alloc: Global, from: u64, many: u64, step: u64) -> Result<Vec<u64>, AllocError> {
+    let mut values = Vec::new(alloc);
+    for i in 0..many {
+        values.push(mixed(from.wrapping_add(i.wrapping_mul(step) % many)))?;
+    }
+    Ok(values)
+}
+
+/// `many` values as words come in a text, of 50,000: a few often, and many seldom.
+pub fn words(alloc: Global, many: u64) -> Result<Vec<u64>, AllocError> {
+    let mut values = Vec::new(alloc);
+    for i in 0..many {
+        let draw = mixed(i);
+        let least = 1u64 << (draw >> 60);
+        values.push(mixed((least + draw % least) % 50_000))?;
+    }
+    Ok(values)
+}
