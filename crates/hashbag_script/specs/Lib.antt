@@ -1,4 +1,5 @@
 pub mod Examples
 pub mod Pairs
+pub mod Reserved
 pub mod Rows
 pub mod Script

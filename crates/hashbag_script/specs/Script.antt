@@ -53,12 +53,16 @@ module _ {T : Type 0} (eq : T → T → Bool) where
   abbrev pub has_newcomer : List T → List T → Bool
   has_newcomer X Y = list_any (λ y. count eq y X == 0) Y
 
+  -- 1 where some value occurs in Y that doesn't occur in X, and else 0
+  abbrev pub arrival : List T → List T → ℕ
+  arrival X Y = if has_newcomer X Y then 1 else 0
+
   -- the number of steps of the run that bring in a value which didn't occur before them
   unfoldable pub arrivals : List T → List (Step T) → ℕ
   arrivals X [] = 0
   arrivals X (s ∷ steps) =
       let Y = (step X s).0 in
-      (if has_newcomer X Y then 1 else 0) + arrivals Y steps
+      arrival X Y + arrivals Y steps
 
   -- some occurrences of a value that is absent, with a total that fits
   pub record IsRefusedInsertion (v : T) (n : ℕ) (X : List T) : Type 0 where
