@@ -4,6 +4,7 @@ pub use Rattle.hashbag_core.specs.EntryCalls
 pub use Rattle.hashbag_core.specs.Equality
 pub use Rattle.hashbag_core.specs.EqualityLaws
 pub use Rattle.hashbag_core.specs.Extends
+pub use Rattle.hashbag_core.specs.Held
 pub use Rattle.hashbag_core.specs.Iter
 pub use Rattle.hashbag_core.specs.Joins
 pub use Rattle.hashbag_core.specs.JoinsLeft
@@ -22,3 +23,4 @@ pub use Rattle.hashbag_table.specs.Asked
 pub use Rattle.hashbag_table.specs.DrainWalk
 pub use Rattle.hashbag_table.specs.Entries
 pub use Rattle.hashbag_table.specs.Table
+pub use Rattle.hashbag_table.specs.Tables

@@ -5,7 +5,7 @@ ghost use Rattle.std.specs.List.Sorted.{IsPermutation};
 ghost use Rattle.hashbag_table.specs.Asked.{MayAskInTurn};
 ghost use Rattle.hashbag_slots.specs.Slots.{IsSlotCount};
 ghost use Rattle.hashbag_table.specs.Entries.{count_of, IsCounted, HasClones};
-ghost use Rattle.hashbag_table.specs.Tables.{room, IsLeast, IsPacked, Arrives};
+ghost use Rattle.hashbag_table.specs.Tables.{room, IsLeast, IsPacked, Arrives, NoneMoved};
 ghost use Rattle.hashbag_core.specs.Bag.{occurrences};
 ghost use Rattle.hashbag_core.specs.Occurrences.{greatest_total, count, counted, stored, add, less, put, instance_or_itself, distinct_count, IsBag, SameCounts};
 ghost use Rattle.hashbag_core.specs.Extends.{Refuses};
@@ -95,6 +95,8 @@ fn set_or_remove<T: Eq + Hash + Drop, S: BuildHasher + Drop>(
     ensures hasher { table.new.hasher ≡ table.old.hasher }
     ensures counted { IsCounted T.eq table.new.entries }
     ensures slot { Recounts T.eq value.now n table.old.tables table.new.tables }
+    ensures slots { length table.new.tables.newer ≡ length table.old.tables.newer }
+    ensures room { room table.old.tables ≤ room table.new.tables }
 {
     if n == 0 {
         let _ = table.remove(value);
@@ -136,7 +138,7 @@ impl<T: Eq + Hash + Drop> HashBag<T, FixedState> {
 
 impl<T: Eq + Hash + Drop, S: BuildHasher + Drop> HashBag<T, S> {
     ghost use Rattle.hashbag_core.specs.Bag.{IsBagOf};
-    ghost use Rattle.hashbag_core.specs.Lending.{ends_meaning};
+    ghost use Rattle.hashbag_core.specs.Lending.{ends_taking};
 
     /// An empty bag of no slots, whose values `hasher` hashes. It takes no memory.
     pub fn with_hasher(alloc: Global, hasher: S) -> HashBag<T, S>
@@ -182,11 +184,13 @@ impl<T: Eq + Hash + Drop, S: BuildHasher + Drop> HashBag<T, S> {
         self.table.capacity()
     }
 
-    /// The number of slots of the newer table, 0 where there is none. A slot has a place for one distinct value with its count.
+    /// The number of slots of the newer table, 0 where there is none. A slot has a place for one distinct value with its count. Those
+    /// that aren't Empty are Live, which hold a value, or Removed, which held one.
     pub fn slots(&self) -> usize
         ensures slots { result ≡ length self.now.tables.newer }
         ensures count { IsSlotCount result }
         ensures held { AreHeld T.eq self.now.items self.now.tables }
+        ensures unmoved { NoneMoved self.now.tables.newer }
     {
         self.table.slots()
     }
@@ -274,6 +278,10 @@ impl<T: Eq + Hash + Drop, S: BuildHasher + Drop> HashBag<T, S> {
         // What becomes of the slots: a value that is there is changed in its own.
         ensures arrives { OnOk result (count T.eq value self.old.items ≡ 0 → Arrives self.old.tables self.new.tables) }
         ensures slot { OnOk result (0 < count T.eq value self.old.items → Recounts T.eq value (count T.eq value self.old.items + 1) self.old.tables self.new.tables) }
+        ensures slots { OnOk result (0 < room self.old.tables → length self.new.tables.newer ≡ length self.old.tables.newer) }
+        ensures room { OnOk result (0 < room self.old.tables → room self.old.tables ≤ room self.new.tables + 1) }
+        ensures same_slots { IfOk result (λ before. 0 < before → length self.new.tables.newer ≡ length self.old.tables.newer) }
+        ensures same_room { IfOk result (λ before. 0 < before → room self.old.tables ≤ room self.new.tables) }
     {
         self.insert_many(value, 1)
     }
@@ -304,6 +312,10 @@ impl<T: Eq + Hash + Drop, S: BuildHasher + Drop> HashBag<T, S> {
         // What becomes of the slots: a value that is there is changed in its own.
         ensures arrives { OnOk result (0 < n → count T.eq value self.old.items ≡ 0 → Arrives self.old.tables self.new.tables) }
         ensures slot { OnOk result (0 < n → 0 < count T.eq value self.old.items → Recounts T.eq value (count T.eq value self.old.items + n) self.old.tables self.new.tables) }
+        ensures slots { OnOk result (0 < room self.old.tables → length self.new.tables.newer ≡ length self.old.tables.newer) }
+        ensures room { OnOk result (0 < room self.old.tables → room self.old.tables ≤ room self.new.tables + 1) }
+        ensures same_slots { IfOk result (λ before. 0 < before → length self.new.tables.newer ≡ length self.old.tables.newer) }
+        ensures same_room { IfOk result (λ before. 0 < before → room self.old.tables ≤ room self.new.tables) }
     {
         if n == 0 {
             return Ok(self.contains(&value));
@@ -335,6 +347,10 @@ impl<T: Eq + Hash + Drop, S: BuildHasher + Drop> HashBag<T, S> {
         // What becomes of the slots: a value that is there is replaced in its own.
         ensures arrives { OnOk result (count T.eq value self.old.items ≡ 0 → Arrives self.old.tables self.new.tables) }
         ensures slot { OnOk result (0 < count T.eq value self.old.items → Restores T.eq value self.old.tables self.new.tables) }
+        ensures slots { OnOk result (0 < room self.old.tables → length self.new.tables.newer ≡ length self.old.tables.newer) }
+        ensures room { OnOk result (0 < room self.old.tables → room self.old.tables ≤ room self.new.tables + 1) }
+        ensures same_slots { IfOk result (λ before. 0 < before → length self.new.tables.newer ≡ length self.old.tables.newer) }
+        ensures same_room { IfOk result (λ before. 0 < before → room self.old.tables ≤ room self.new.tables) }
     {
         let before = self.table.put_instance(value)?;
         self.len = self.len - before + 1;
@@ -351,6 +367,8 @@ impl<T: Eq + Hash + Drop, S: BuildHasher + Drop> HashBag<T, S> {
         ensures len { length self.new.items + min result 1 ≡ length self.old.items }
         ensures slot { 0 < count T.eq value.now self.old.items → Recounts T.eq value.now (count T.eq value.now self.old.items - 1) self.old.tables self.new.tables }
         ensures none { count T.eq value.now self.old.items ≡ 0 → self.new ≡ self.old }
+        ensures slots { length self.new.tables.newer ≡ length self.old.tables.newer }
+        ensures room { room self.old.tables ≤ room self.new.tables }
     {
         self.take_up_to(value, 1)
     }
@@ -365,6 +383,8 @@ impl<T: Eq + Hash + Drop, S: BuildHasher + Drop> HashBag<T, S> {
         ensures len { length self.new.items + count T.eq value.now self.old.items ≡ length self.old.items + result }
         ensures slot { 0 < count T.eq value.now self.old.items → Recounts T.eq value.now (count T.eq value.now self.old.items - quantity) self.old.tables self.new.tables }
         ensures none { count T.eq value.now self.old.items ≡ 0 → self.new ≡ self.old }
+        ensures slots { length self.new.tables.newer ≡ length self.old.tables.newer }
+        ensures room { room self.old.tables ≤ room self.new.tables }
     {
         self.take_up_to(value, quantity).saturating_sub(quantity)
     }
@@ -376,6 +396,8 @@ impl<T: Eq + Hash + Drop, S: BuildHasher + Drop> HashBag<T, S> {
         ensures len { length self.new.items + min result quantity ≡ length self.old.items }
         ensures slot { 0 < count T.eq value.now self.old.items → Recounts T.eq value.now (count T.eq value.now self.old.items - quantity) self.old.tables self.new.tables }
         ensures none { count T.eq value.now self.old.items ≡ 0 → self.new ≡ self.old }
+        ensures slots { length self.new.tables.newer ≡ length self.old.tables.newer }
+        ensures room { room self.old.tables ≤ room self.new.tables }
     {
         let before = self.table.take(value, quantity);
         self.len -= before.min(quantity);
@@ -391,7 +413,7 @@ impl<T: Eq + Hash + Drop, S: BuildHasher + Drop> HashBag<T, S> {
     /// afterwards. Whoever needs that, as in a loop, calls [`HashBag::take_one`], which takes the same and lends nothing.
     pub fn try_take(&mut self, value: &T) -> Result<T, Option<(&T, usize)>>
         // Once the loan is over.
-        ensures* left { sem 𝓛 (ends_meaning T.row S.row S.Hasher.row T.Hash S.BuildHasher S.Hasher.Hasher self.entry (less T.eq value.now 1 self.old.items)) }
+        ensures* left { sem 𝓛 (ends_taking T.row S.row S.Hasher.row T.Hash S.BuildHasher S.Hasher.Hasher self.entry value.now) }
         ensures last { IfOk result (λ instance. stored T.eq value.now self.old.items ≡ Some (instance, 1)) }
         ensures others { IfErr result (λ found. (option_map (λ e. (e.0.now, e.1)) found ≡ stored T.eq value.now self.old.items) × (count T.eq value.now self.old.items ≢ 1)) }
     {
@@ -431,6 +453,8 @@ impl<T: Eq + Hash + Drop, S: BuildHasher + Drop> HashBag<T, S> {
         ensures bag { IsBag T.eq self.old.items }
         ensures slot { 0 < count T.eq value.now self.old.items → Recounts T.eq value.now (count T.eq value.now self.old.items - 1) self.old.tables self.new.tables }
         ensures none { count T.eq value.now self.old.items ≡ 0 → self.new ≡ self.old }
+        ensures slots { length self.new.tables.newer ≡ length self.old.tables.newer }
+        ensures room { room self.old.tables ≤ room self.new.tables }
     {
         match self.table.take_one(value) {
             Ok(instance) => {
@@ -452,6 +476,8 @@ impl<T: Eq + Hash + Drop, S: BuildHasher + Drop> HashBag<T, S> {
         ensures len { MatchOption result (length self.new.items ≡ length self.old.items) (λ taken. length self.new.items + taken.1 ≡ length self.old.items) }
         ensures slot { 0 < count T.eq value.now self.old.items → Recounts T.eq value.now 0 self.old.tables self.new.tables }
         ensures none { count T.eq value.now self.old.items ≡ 0 → self.new ≡ self.old }
+        ensures slots { length self.new.tables.newer ≡ length self.old.tables.newer }
+        ensures room { room self.old.tables ≤ room self.new.tables }
     {
         let (instance, count) = self.table.remove(value)?;
         self.len -= count;
@@ -462,7 +488,9 @@ impl<T: Eq + Hash + Drop, S: BuildHasher + Drop> HashBag<T, S> {
     pub fn clear(&mut self)
         ensures empty { self.new.items ≡ [] }
         ensures hasher { self.new.hasher ≡ self.old.hasher }
-        ensures slots { self.new.tables ≡ cleared self.old.tables }
+        ensures cleared { self.new.tables ≡ cleared self.old.tables }
+        ensures slots { length self.new.tables.newer ≡ length self.old.tables.newer }
+        ensures room { room self.old.tables ≤ room self.new.tables }
     {
         self.table.clear();
         self.len = 0;
@@ -589,6 +617,8 @@ impl<T: Eq + Hash + Drop, S: BuildHasher + Drop> HashBag<T, S> {
         ensures err { OnErr result (self.new ≡ self.old) }
         ensures takes { 0 < room self.old.tables → IsOk result }
         ensures arrives { OnOk result (Arrives self.old.tables self.new.tables) }
+        ensures slots { OnOk result (0 < room self.old.tables → length self.new.tables.newer ≡ length self.old.tables.newer) }
+        ensures room { OnOk result (0 < room self.old.tables → room self.old.tables ≤ room self.new.tables + 1) }
     {
         self.table.insert_new(value, quantity)?;
         self.len += quantity;
@@ -603,6 +633,8 @@ impl<T: Eq + Hash + Drop, S: BuildHasher + Drop> HashBag<T, S> {
         ensures put { IsBagOf T.eq self.old (put T.eq (instance_or_itself T.eq value.now self.old.items) n self.old.items) self.new }
         ensures after { count T.eq value.now self.new.items ≡ n }
         ensures slot { Recounts T.eq value.now n self.old.tables self.new.tables }
+        ensures slots { length self.new.tables.newer ≡ length self.old.tables.newer }
+        ensures room { room self.old.tables ≤ room self.new.tables }
         ensures len { length self.new.items + before ≡ length self.old.items + n }
     {
         set_or_remove(&mut self.table, value, n);

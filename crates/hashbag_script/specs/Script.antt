@@ -1,6 +1,7 @@
 -- What whole runs of steps reply and leave, on the plain list of a bag's occurrences.
-use Rattle.std.specs.Prelude.{◌≡◌, ℕ, ◌+◌, ◌-◌, ◌<◌, ◌≤◌, ◌==◌, max, if◌then◌else◌, Bool, List, [], ◌∷◌, ◌++◌, length}
+use Rattle.std.specs.Prelude.{◌≡◌, ℕ, ◌+◌, ◌-◌, ◌<◌, ◌≤◌, ◌==◌, max, if◌then◌else◌, Bool, true, false, List, [], ◌∷◌, ◌++◌, length}
 use Rattle.std.specs.List.{list_any}
+use Rattle.hashbag_table.specs.Tables.{Tables, room}
 use Rattle.hashbag_script.specs.declared.script.Step.{Step}
 use Rattle.hashbag_script.specs.declared.script.Step.TheVariants.{Insert, InsertMany, Replace, Remove, RemoveUpTo, TryTake, TakeAll, EntrySet, EntryOr, Retain, Clear, Count, Reserve, ShrinkToFit}
 use Rattle.hashbag_script.specs.declared.script.Reply.{Reply}
@@ -10,6 +11,29 @@ use Rattle.hashbag_script.specs.Rows.{insert_row, replace_row, remove_row, remov
 
 abbrev pub Steps : Type 0 → Type 0
 Steps T = List (Step T)
+
+module _ {T : Type 0} where
+  -- whether the step asks for room, or gives it back
+  abbrev pub is_about_room : Step T → Bool
+  is_about_room (Insert v) = false
+  is_about_room (InsertMany v n) = false
+  is_about_room (Replace v) = false
+  is_about_room (Remove v) = false
+  is_about_room (RemoveUpTo v q) = false
+  is_about_room (TryTake v) = false
+  is_about_room (TakeAll v) = false
+  is_about_room (EntrySet v n) = false
+  is_about_room (EntryOr v q) = false
+  is_about_room (Retain list) = false
+  is_about_room Clear = false
+  is_about_room (Count v) = false
+  is_about_room (Reserve n) = true
+  is_about_room ShrinkToFit = true
+
+  -- as many slots are left, and room but for k values
+  pub record KeepsRoom (k : ℕ) (old new : Tables T) : Type 0 where
+    pub slots : length new.newer ≡ length old.newer
+    pub room : room old ≤ room new + k
 
 module _ {T : Type 0} (eq : T → T → Bool) where
   -- the list that a step leaves of X, and its reply
@@ -53,16 +77,21 @@ module _ {T : Type 0} (eq : T → T → Bool) where
   abbrev pub has_newcomer : List T → List T → Bool
   has_newcomer X Y = list_any (λ y. count eq y X == 0) Y
 
-  -- 1 where some value occurs in Y that doesn't occur in X, and else 0
-  abbrev pub arrival : List T → List T → ℕ
-  arrival X Y = if has_newcomer X Y then 1 else 0
+  -- 1 where some value occurs in Y that doesn't occur in X, else 0
+  abbrev pub newcomers : List T → List T → ℕ
+  newcomers X Y = if has_newcomer X Y then 1 else 0
 
   -- the number of steps of the run that bring in a value which didn't occur before them
   unfoldable pub arrivals : List T → List (Step T) → ℕ
   arrivals X [] = 0
   arrivals X (s ∷ steps) =
       let Y = (step X s).0 in
-      arrival X Y + arrivals Y steps
+      newcomers X Y + arrivals Y steps
+
+  -- no step is about room, and the tables have room for all values that the run brings in
+  pub record IsRoomy (X : List T) (steps : List (Step T)) (tables : Tables T) : Type 0 where
+    pub calls : list_any is_about_room steps ≡ false
+    pub enough : arrivals X steps ≤ room tables
 
   -- some occurrences of a value that is absent, with a total that fits
   pub record IsRefusedInsertion (v : T) (n : ℕ) (X : List T) : Type 0 where
@@ -88,7 +117,7 @@ module _ {T : Type 0} (eq : T → T → Bool) where
   AsksForMemory X ShrinkToFit = Unit {0}
 
   -- a run that memory stopped: the steps that have replies are the run, the bag means what they left, and the next step
-  -- asked for memory
+  -- asked for memory, which a value asks for only where there is no room
   pub record IsStopped {S : Type 0} (X : List T) (steps : List (Step T)) (before after : List (Reply T)) (bag : Bag T S) : Type 0 where
     pub done : List (Step T)
     pub stopped_at : Step T
@@ -97,3 +126,4 @@ module _ {T : Type 0} (eq : T → T → Bool) where
     pub replies : after ≡ before ++ (run X done).1
     pub means : Means bag (run X done).0
     pub refused : AsksForMemory (run X done).0 stopped_at
+    pub full : is_about_room stopped_at ≡ false → room bag.tables ≡ 0

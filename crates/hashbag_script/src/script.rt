@@ -1,9 +1,10 @@
 //! Whole runs of steps on a bag.
-ghost use Rattle.std.specs.Prelude.{◌≡◌, ◌+◌, ◌-◌, ◌<◌, ◌≤◌, ◌++◌, ◌⊎◌, List, length, vec_len, vec_capacity, IfOk, OnOk, OnErr};
+ghost use Rattle.std.specs.Prelude.{◌≡◌, ◌+◌, ◌-◌, ◌<◌, ◌≤◌, ◌++◌, ◌⊎◌, List, false, length, vec_len, vec_capacity, IsOk, IfOk, OnOk, OnErr};
 ghost use Rattle.hashbag_core.specs.Bag.{Means, IsBagOf};
 ghost use Rattle.hashbag_core.specs.Occurrences.{greatest_total, count, IsBag};
 ghost use Rattle.hashbag_script.specs.Rows.{insert_row, replace_row, try_take_row, take_all_row, entry_set_row, entry_or_row, retain_row, quota as quota_of};
-ghost use Rattle.hashbag_script.specs.Script.{step as step_of, run as run_of, IsRefusedInsertion, AsksForMemory, IsStopped};
+ghost use Rattle.hashbag_table.specs.Tables.{room};
+ghost use Rattle.hashbag_script.specs.Script.{step as step_of, run as run_of, newcomers, is_about_room, KeepsRoom, IsRoomy, IsRefusedInsertion, AsksForMemory, IsStopped};
 ghost use Rattle.std.specs.Prelude.{map};
 ghost use Rattle.hashbag_core.specs.Joins.{IsOuterJoin, IsDifference, IsNotIn, IsSignedDifference};
 ghost use Rattle.hashbag_core.specs.JoinsLeft.{exceeding, subtracted, unmatched};
@@ -84,6 +85,8 @@ fn insert_if_it_fits<T: Eq + Hash + Drop, S: BuildHasher + Drop>(
     ensures memory { OnErr result (result ≡ Err BagError.Memory) }
     ensures refused { OnErr result (IsRefusedInsertion T.eq value n bag.old.items) }
     ensures err { OnErr result (bag.new ≡ bag.old) }
+    ensures takes { newcomers T.eq bag.old.items (insert_row T.eq value n bag.old.items).0 ≤ room bag.old.tables → IsOk result }
+    ensures room { OnOk result (newcomers T.eq bag.old.items (insert_row T.eq value n bag.old.items).0 ≤ room bag.old.tables → KeepsRoom (newcomers T.eq bag.old.items (insert_row T.eq value n bag.old.items).0) bag.old.tables bag.new.tables) }
 {
     if n > usize::MAX - bag.len() {
         return Ok(Reply::TooMany);
@@ -101,6 +104,8 @@ fn replace_if_it_fits<T: Eq + Hash + Drop, S: BuildHasher + Drop>(
     ensures memory { OnErr result (result ≡ Err BagError.Memory) }
     ensures refused { OnErr result (IsRefusedInsertion T.eq value 1 bag.old.items) }
     ensures err { OnErr result (bag.new ≡ bag.old) }
+    ensures takes { newcomers T.eq bag.old.items (replace_row T.eq value bag.old.items).0 ≤ room bag.old.tables → IsOk result }
+    ensures room { OnOk result (newcomers T.eq bag.old.items (replace_row T.eq value bag.old.items).0 ≤ room bag.old.tables → KeepsRoom (newcomers T.eq bag.old.items (replace_row T.eq value bag.old.items).0) bag.old.tables bag.new.tables) }
 {
     if bag.len() == usize::MAX && bag.contains(&value) == 0 {
         return Ok(Reply::TooMany);
@@ -115,6 +120,7 @@ fn try_take<T: Eq + Hash + Drop, S: BuildHasher + Drop>(
 ) -> Reply<T>
     ensures reply { result ≡ (try_take_row T.eq value.now bag.old.items).1 }
     ensures left { IsBagOf T.eq bag.old (try_take_row T.eq value.now bag.old.items).0 bag.new }
+    ensures room { KeepsRoom 0 bag.old.tables bag.new.tables }
 {
     match bag.take_one(value) {
         Ok(instance) => Reply::Taken(instance, 1),
@@ -130,6 +136,7 @@ fn take_all<T: Eq + Hash + Drop, S: BuildHasher + Drop>(
 ) -> Reply<T>
     ensures reply { result ≡ (take_all_row T.eq value.now bag.old.items).1 }
     ensures left { IsBagOf T.eq bag.old (take_all_row T.eq value.now bag.old.items).0 bag.new }
+    ensures room { KeepsRoom 0 bag.old.tables bag.new.tables }
 {
     match bag.take_all(value) {
         Some((instance, count)) => Reply::Taken(instance, count),
@@ -145,6 +152,7 @@ fn entry_set<T: Eq + Hash + Drop, S: BuildHasher + Drop>(
 ) -> Reply<T>
     ensures reply { result ≡ (entry_set_row T.eq value n bag.old.items).1 }
     ensures left { IsBagOf T.eq bag.old (entry_set_row T.eq value n bag.old.items).0 bag.new }
+    ensures room { KeepsRoom 0 bag.old.tables bag.new.tables }
 {
     if bag.contains(&value) == 0 {
         return Reply::Absent;
@@ -174,6 +182,8 @@ fn entry_or<T: Eq + Hash + Drop, S: BuildHasher + Drop>(
     ensures memory { OnErr result (result ≡ Err BagError.Memory) }
     ensures refused { OnErr result (IsRefusedInsertion T.eq value quantity bag.old.items) }
     ensures err { OnErr result (bag.new ≡ bag.old) }
+    ensures takes { newcomers T.eq bag.old.items (entry_or_row T.eq value quantity bag.old.items).0 ≤ room bag.old.tables → IsOk result }
+    ensures room { OnOk result (newcomers T.eq bag.old.items (entry_or_row T.eq value quantity bag.old.items).0 ≤ room bag.old.tables → KeepsRoom (newcomers T.eq bag.old.items (entry_or_row T.eq value quantity bag.old.items).0) bag.old.tables bag.new.tables) }
 {
     recall_what_bags_keep(bag);
     match bag.entry(value).or_insert_many(quantity) {
@@ -196,6 +206,7 @@ fn quota<T: Eq>(list: &[(T, usize)], value: &T) -> usize
 // Leaves of each value at most as many as the list says.
 fn retain<T: Eq + Hash + Drop, S: BuildHasher + Drop>(bag: &mut HashBag<T, S>, list: &[(T, usize)])
     ensures left { IsBagOf T.eq bag.old (retain_row T.eq list.now bag.old.items).0 bag.new }
+    ensures room { KeepsRoom 0 bag.old.tables bag.new.tables }
 {
     recall_what_bags_keep(bag);
     bag.retain(
@@ -219,6 +230,10 @@ fn apply<T: Eq + Hash + Drop, S: BuildHasher + Drop>(
     ensures memory { OnErr result (result ≡ Err BagError.Memory) }
     ensures refused { OnErr result (AsksForMemory T.eq bag.old.items step) }
     ensures err { OnErr result (bag.new ≡ bag.old) }
+
+    // A step that isn't about room keeps it but for the value that it brings in.
+    ensures takes { is_about_room step ≡ false → newcomers T.eq bag.old.items (step_of T.eq bag.old.items step).0 ≤ room bag.old.tables → IsOk result }
+    ensures room { OnOk result (is_about_room step ≡ false → newcomers T.eq bag.old.items (step_of T.eq bag.old.items step).0 ≤ room bag.old.tables → KeepsRoom (newcomers T.eq bag.old.items (step_of T.eq bag.old.items step).0) bag.old.tables bag.new.tables) }
 {
     recall_what_bags_keep(bag);
     match step {
@@ -272,6 +287,11 @@ pub fn run<T: Eq + Hash + Drop, S: BuildHasher + Drop>(
     // replies are the run.
     ensures memory { OnErr result (result ≡ Err BagError.Memory) }
     ensures stopped { OnErr result (((vec_capacity replies.old < vec_len replies.old + vec_len steps) × (bag.new ≡ bag.old) × (replies.new.items ≡ replies.old.items)) ⊎ ((X : List T) → Means bag.old X → IsStopped T.eq X steps.items replies.old.items replies.new.items bag.new)) }
+
+    // Where the tables have room for all values that it brings in, and no step is about room, a run keeps its slots, and nothing
+    // but the room for the replies can be refused.
+    ensures slots { (X : List T) → Means bag.old X → IsRoomy T.eq X steps.items bag.old.tables → length bag.new.tables.newer ≡ length bag.old.tables.newer }
+    ensures takes { (X : List T) → Means bag.old X → IsRoomy T.eq X steps.items bag.old.tables → OnErr result (vec_capacity replies.old < vec_len replies.old + vec_len steps) }
 {
     replies.reserve(steps.len())?;
     for step in steps {

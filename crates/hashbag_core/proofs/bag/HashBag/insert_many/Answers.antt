@@ -61,3 +61,15 @@ returns-clause-slot g c = λ some there.
     let is_there = rw (← c.self.view_is) at there in
     let same = count_occurrences g.met.T.Eq.laws c.args.value c.self.inside.table.entries c.self.invariant.counted.distinct in
     rw (← c.self.view_is, same) (recounts_some g.T.PartialEq.eq c.args.value _ _ _ (omega arith) (c.add.ensures.slot (present_in_table g.met.T.Eq.laws c.args.value _ c.self.invariant.counted is_there)))
+
+pub returns-clause-slots : goal.returns-clause-slots
+returns-clause-slots g c = λ some. rw (← c.self.view_is) (c.in_ok-before.ensures.slots (rw (← c.self.view_is) at some))
+
+pub returns-clause-room : goal.returns-clause-room
+returns-clause-room g c = λ some. rw (← c.self.view_is) (c.in_ok-before.ensures.room (rw (← c.self.view_is) at some))
+
+pub returns-clause-same_slots : goal.returns-clause-same_slots
+returns-clause-same_slots g c = λ some. rw (← c.self.view_is) (c.in_ok-before.ensures.same_slots some)
+
+pub returns-clause-same_room : goal.returns-clause-same_room
+returns-clause-same_room g c = λ some. rw (← c.self.view_is) (c.in_ok-before.ensures.same_room some)

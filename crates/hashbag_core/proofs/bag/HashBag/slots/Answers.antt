@@ -8,3 +8,6 @@ returns-clause-held g c = rw (← c.self.view_is) (record {
   entries = ap occurrences c.slots.ensures.entries;
   counted = subst (λ es. IsCounted g.T.PartialEq.eq es) c.slots.ensures.entries c.self.invariant.counted;
 })
+
+pub returns-clause-unmoved : goal.returns-clause-unmoved
+returns-clause-unmoved g c = rw (← c.self.view_is) c.slots.ensures.unmoved
