@@ -158,10 +158,10 @@ module _ {T : Type 0} {eq : T → T → Bool} (laws : IsEquivalence eq) where
     bag = left.bag;
   }
 
-  pub none_counts : (k : ℕ) → k ≡ 0 → (k == 0) ≡ true
+  none_counts : (k : ℕ) → k ≡ 0 → (k == 0) ≡ true
   none_counts k e = ap (λ (n : ℕ). n == 0) e
 
-  pub some_count : (k : ℕ) → 0 < k → (k == 0) ≡ false
+  some_count : (k : ℕ) → 0 < k → (k == 0) ≡ false
   some_count k h = grind (arith, nat_tests)
 
   pub try_take_row-absent : (v : T) (X : List T) → count eq v X ≡ 0 → try_take_row eq v X ≡ (X, Absent)
