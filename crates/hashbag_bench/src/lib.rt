@@ -6,6 +6,7 @@ pub mod join_uses;
 pub mod json_uses;
 pub mod named;
 pub mod plain;
+pub mod reserved;
 pub mod states;
 pub mod tagged;
 pub mod uses;
