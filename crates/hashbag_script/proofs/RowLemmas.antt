@@ -190,7 +190,7 @@ module _ {T : Type 0} {eq : T → T → Bool} (laws : IsEquivalence eq) where
   entry_or_row-occupied v q X some =
       ap (λ (b : Bool). cond b (X, Count (count eq v X)) (cond (nat_lt greatest_total (length X + q)) (X, TooMany) (add eq v q X, Count q))) (above 0 (count eq v X) some)
 
-  entry_or_row-vacant : (v : T) (q : ℕ) (X : List T) → count eq v X ≡ 0 → length X + q ≤ greatest_total → entry_or_row eq v q X ≡ (add eq v q X, Count q)
+  pub entry_or_row-vacant : (v : T) (q : ℕ) (X : List T) → count eq v X ≡ 0 → length X + q ≤ greatest_total → entry_or_row eq v q X ≡ (add eq v q X, Count q)
   entry_or_row-vacant v q X none fits =
       ap (λ (b : Bool). cond b (X, Count (count eq v X)) (cond (nat_lt greatest_total (length X + q)) (X, TooMany) (add eq v q X, Count q))) (not_above 0 (count eq v X) (omega arith))
       ∙ ap (λ (b : Bool). cond b (X, TooMany) (add eq v q X, Count q)) (not_above greatest_total (length X + q) fits)

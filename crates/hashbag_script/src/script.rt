@@ -291,7 +291,7 @@ pub fn run<T: Eq + Hash + Drop, S: BuildHasher + Drop>(
     // Where the tables have room for all values that it brings in, and no step is about room, a run keeps its slots, and nothing
     // but the room for the replies can be refused.
     ensures slots { (X : List T) → Means bag.old X → IsRoomy T.eq X steps.items bag.old.tables → length bag.new.tables.newer ≡ length bag.old.tables.newer }
-    ensures takes { (X : List T) → Means bag.old X → IsRoomy T.eq X steps.items bag.old.tables → OnErr result (vec_capacity replies.old < vec_len replies.old + vec_len steps) }
+    ensures takes { (X : List T) → Means bag.old X → IsRoomy T.eq X steps.items bag.old.tables → OnErr result ((vec_capacity replies.old < vec_len replies.old + vec_len steps) × (bag.new ≡ bag.old) × (replies.new.items ≡ replies.old.items)) }
 {
     replies.reserve(steps.len())?;
     for step in steps {

@@ -1,13 +1,19 @@
-use Rattle.std.proofs.Common.{◌≡◌, ◌<◌, ◌+◌, ◌≤◌, ◌++◌, ◌∷◌, [], ◌⊎◌, inr, List, length, vec_len, vec_capacity, refl, sym, ◌∙◌, ap, append_assoc, arith, rules}
+use Rattle.std.proofs.Common.{◌≡◌, ◌<◌, ◌+◌, ◌≤◌, ◌++◌, ◌∷◌, [], ◌⊎◌, inr, Bool, List, length, vec_len, vec_capacity, refl, sym, ◌∙◌, ap, subst, append_assoc, arith, rules}
 use Rattle.std.specs.Vec.Iter.{into_iter_items, into_iter_len}
 use Rattle.std.proofs.lemmas.List.{append-nil}
 use Rattle.std.proofs.lemmas.List.Sorted.{IsPermutation-sym, IsPermutation-trans}
 use Rattle.hashbag_table.proofs.EntryLemmas.{OnErr-from}
 use Rattle.hashbag_core.specs.Bag.{Means}
-use Rattle.hashbag_script.specs.Script.{step as step_of, run as run_of, IsStopped}
+use Rattle.hashbag_script.specs.Script.{step as step_of, run as run_of, is_about_room, IsRoomy, IsStopped}
 use Rattle.hashbag_core.proofs.OccurrenceLemmas.{bag_rearranged}
 use Rattle.hashbag_script.proofs.RowLemmas.{IsSameRow, step_rearranged, asks_rearranged}
 use Rattle.hashbag_script.proofs.ScriptLemmas.{run_none, run_more}
+use Rattle.std.proofs.lemmas.Bool.{false≢true}
+use Rattle.std.specs.List.{list_any}
+use Rattle.hashbag_table.specs.Tables.{Tables, room}
+use Rattle.hashbag_script.specs.declared.script.Step.{Step}
+use Rattle.hashbag_core.proofs.HeldLemmas.{none_left}
+use Rattle.hashbag_script.proofs.RoomLemmas.{first_not_about, few_newcomers, roomy_first, next_enough, roomy_next}
 use Rattle.hashbag_script.proofs.script.run.Goals as goal
 
 pub loop-step-init : goal.loop-step-init
@@ -18,6 +24,7 @@ loop-step-init g c = record {
   replies = λ X means. rw (run_none g.T.PartialEq.eq X).1 (sym (append-nil _));
   means = λ X means. rw (run_none g.T.PartialEq.eq X).0 means;
   hasher = refl;
+  roomy = λ X means roomy. roomy_first g.met.T.Eq.laws X _ c.args.bag.now.tables roomy;
 }
 
 pub loop-step-preserved : goal.loop-step-preserved
@@ -46,6 +53,12 @@ loop-step-preserved g c =
           c.push_reserved.ensures.items ∙ rw (before, reply, more) (append_assoc _ (run_of eq X at.yielded).1 _);
       means = λ X means. rw (run_more eq X at.yielded x).0 (IsPermutation-trans _ _ _ (same X means).left c.in_ok-reply.ensures.left.means);
       hasher = c.in_ok-reply.ensures.left.hasher ∙ at.invariant.hasher;
+      roomy = λ X means roomy.
+          let so_far = rw steps at (at.invariant.roomy X means roomy) in
+          let whole : at.yielded ++ x ∷ into_iter_items c.next.new.self ≡ into_iter_items c.into_iter-step-iterator.result = rw steps at at.invariant.taken in
+          let quiet = first_not_about at.yielded (into_iter_items c.next.new.self) x (ap (list_any is_about_room) whole ∙ roomy.calls) in
+          let enough = next_enough g.met.T.Eq.laws X at.bag.items at.yielded (into_iter_items c.next.new.self) x _ at.bag.tables so_far (at.invariant.means X means) (same X means).left in
+          roomy_next g.met.T.Eq.laws X at.bag.items at.yielded (into_iter_items c.next.new.self) x _ at.bag.tables _ so_far (at.invariant.means X means) (same X means).left (c.in_ok-reply.ensures.room quiet enough);
     }
 
 pub returns-in_err-reply-clause-stopped : goal.returns-in_err-reply-clause-stopped
@@ -64,6 +77,40 @@ returns-in_err-reply-clause-stopped g c =
       refused =
           let before = at.invariant.means X means in
           asks_rearranged g.met.T.Eq.laws (run_of eq X at.yielded).0 at.bag.items before (bag_rearranged g.met.T.Eq.laws _ _ (IsPermutation-sym _ _ before) c.apply.ensures.bag) c.in-Some.step c.in_err-reply.ensures.refused;
+      full = λ about.
+          let few = few_newcomers g.met.T.Eq.laws at.bag.items (step_of eq at.bag.items c.in-Some.step).0 in
+          ap (λ b. room b.tables) c.in_err-reply.ensures.err ∙ none_left (room at.bag.tables) (λ some. false≢true (c.in_err-reply.ensures.takes about (omega (arith, few, some))));
     } in
     let or_unchanged : ((vec_capacity c.args.replies.now < vec_len c.args.replies.now + vec_len c.args.steps) × (c.apply.new.bag ≡ c.args.bag.now) × (at.replies.items ≡ c.args.replies.now.items)) ⊎ ((X : List g.row.T.Denot) → Means c.args.bag.now X → IsStopped eq X c.args.steps.items c.args.replies.now.items at.replies.items c.apply.new.bag) = inr stopped in
     OnErr-from _ or_unchanged
+
+-- the steps that the loop begins with are those of the run
+from_start : {T : Type 0} {eq : T → T → Bool} (X : List T) (steps all : List (Step T)) (t : Tables T) → all ≡ steps → IsRoomy eq X steps t → IsRoomy eq X all t
+from_start {eq = eq} X steps all t e h = subst (λ l. IsRoomy eq X l t) (sym e) h
+
+pub returns-clause-slots : goal.returns-clause-slots
+returns-clause-slots g c = λ X means roomy. (c.loop-step.invariant.roomy X means (from_start X _ _ c.args.bag.now.tables c.into_iter-step-iterator.ensures.into_iter_gives.0 roomy)).slots
+
+pub returns-clause-takes : goal.returns-clause-takes
+returns-clause-takes g c = λ X means roomy. tt
+
+-- a step that isn't about room is not refused where there is room
+not_refused : (g : _) (c : goal.After-drop-step-iterator g) (X : List g.row.T.Denot) → Means c.args.bag.now X → IsRoomy g.T.PartialEq.eq X c.args.steps.items c.args.bag.now.tables → ⊥
+not_refused g c X means roomy =
+    let at = c.loop-step in
+    let eq = g.T.PartialEq.eq in
+    let start = from_start X _ _ c.args.bag.now.tables c.into_iter-step-iterator.ensures.into_iter_gives.0 roomy in
+    let steps : into_iter_items at.step-iterator ≡ c.in-Some.step ∷ into_iter_items c.next.new.self = c.in-Some.ensures.steps.0 in
+    let whole : at.yielded ++ c.in-Some.step ∷ into_iter_items c.next.new.self ≡ c.args.steps.items = (rw steps at at.invariant.taken) ∙ c.into_iter-step-iterator.ensures.into_iter_gives.0 in
+    let so_far = rw steps at (at.invariant.roomy X means start) in
+    let before = at.invariant.means X means in
+    let same = step_rearranged g.met.T.Eq.laws (run_of eq X at.yielded).0 at.bag.items before (bag_rearranged g.met.T.Eq.laws _ _ (IsPermutation-sym _ _ before) c.apply.ensures.bag) c.in-Some.step in
+    false≢true (c.in_err-reply.ensures.takes
+    (first_not_about at.yielded (into_iter_items c.next.new.self) c.in-Some.step (ap (list_any is_about_room) whole ∙ roomy.calls))
+    (next_enough g.met.T.Eq.laws X at.bag.items at.yielded (into_iter_items c.next.new.self) c.in-Some.step _ at.bag.tables so_far before same.left))
+
+pub returns-in_err-reply-clause-slots : goal.returns-in_err-reply-clause-slots
+returns-in_err-reply-clause-slots g c = λ X means roomy. absurd (not_refused g c X means roomy)
+
+pub returns-in_err-reply-clause-takes : goal.returns-in_err-reply-clause-takes
+returns-in_err-reply-clause-takes g c = λ X means roomy. absurd (not_refused g c X means roomy)

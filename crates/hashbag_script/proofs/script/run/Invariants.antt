@@ -1,7 +1,8 @@
 use Rattle.std.proofs.Common.{◌≡◌, ◌++◌, ◌+◌, ◌≤◌, List, length, vec_len, vec_capacity}
 use Rattle.std.specs.Vec.Iter.{into_iter_items, into_iter_len}
 use Rattle.hashbag_core.specs.Bag.{Means}
-use Rattle.hashbag_script.specs.Script.{run as run_of}
+use Rattle.hashbag_script.specs.Script.{run as run_of, IsRoomy}
+use Rattle.hashbag_script.proofs.RoomLemmas.{IsStillRoomy}
 use Rattle.hashbag_script.proofs.script.run.Given as goal
 
 -- what was done so far is a run, and there is room for the other replies
@@ -13,4 +14,5 @@ invariant-loop-step g l = record {
   replies : (X : List g.row.T.Denot) → Means l.initial.bag X → l.replies.items ≡ l.initial.replies.items ++ (run_of g.T.PartialEq.eq X l.yielded).1;
   means : (X : List g.row.T.Denot) → Means l.initial.bag X → Means l.bag (run_of g.T.PartialEq.eq X l.yielded).0;
   hasher : l.bag.hasher ≡ l.initial.bag.hasher;
+  roomy : (X : List g.row.T.Denot) → Means l.initial.bag X → IsRoomy g.T.PartialEq.eq X (into_iter_items l.initial.step-iterator) l.initial.bag.tables → IsStillRoomy g.T.PartialEq.eq X l.yielded (into_iter_items l.step-iterator) l.initial.bag.tables l.bag.tables;
 }

@@ -1,0 +1,157 @@
+-- Room along a run: what a step leaves of it, and which steps bring in a value.
+use Rattle.std.proofs.Common.{◌≡◌, ℕ, zero, suc, ◌+◌, ◌-◌, ◌<◌, ◌≤◌, ◌==◌, Bool, true, false, cond, ◌||◌, List, [], ◌∷◌, ◌++◌, length, replicate, Result, Ok, Err, OnOk, refl, sym, ap, subst, ◌∙◌, arith}
+use Rattle.std.specs.Cmp.{IsEquivalence}
+use Rattle.std.specs.List.{list_any}
+use Rattle.std.specs.List.Sorted.{IsPermutation}
+use Rattle.std.proofs.lemmas.List.Folds.{list_any-append}
+use Rattle.std.proofs.lemmas.List.Sorted.{list_any-IsPermutation, IsPermutation-refl, IsPermutation-sym}
+use Rattle.hashbag_table.specs.Tables.{Tables, room}
+use Rattle.hashbag_core.specs.Occurrences.{greatest_total, count, others, add, put}
+use Rattle.hashbag_core.proofs.OccurrenceLemmas.{count_rearranged, put_absent}
+use Rattle.hashbag_script.specs.declared.script.Step.{Step}
+use Rattle.hashbag_script.specs.declared.script.Reply.{Reply}
+use Rattle.hashbag_script.specs.declared.script.Reply.TheVariants.{Count, TooMany}
+use Rattle.hashbag_script.specs.Script.{step, run, arrivals, newcomers, has_newcomer, is_about_room, IsRoomy, KeepsRoom}
+use Rattle.hashbag_script.specs.Rows.{insert_row, replace_row, entry_or_row}
+use Rattle.hashbag_script.proofs.RowLemmas.{not_above, entry_or_row-vacant}
+use Rattle.hashbag_script.proofs.ScriptLemmas.{run_none, run_more}
+
+abbrev one_if : Bool → ℕ
+one_if b = cond b 1 0
+
+few_if : (b : Bool) → one_if b ≤ 1
+few_if true = omega arith
+few_if false = omega arith
+
+or_true : (a b : Bool) → b ≡ true → (a || b) ≡ true
+or_true true b h = refl
+or_true false b h = h
+
+or_false_left : (a b : Bool) → (a || b) ≡ false → a ≡ false
+or_false_left true b h = h
+or_false_left false b h = refl
+
+or_false_right : (a b : Bool) → (a || b) ≡ false → b ≡ false
+or_false_right true b h = absurd (cc)
+or_false_right false b h = h
+
+-- what holds of an answer holds under whatever condition
+pub on_ok_also : {X E : Type 0} (A P : Type 0) (r : Result X E) → OnOk r P → OnOk r (A → P)
+on_ok_also A P (Ok x) p = λ _. p
+on_ok_also A P (Err e) p = tt
+
+-- ---- what is kept
+
+module _ {T : Type 0} where
+  pub keeps_same : (k : ℕ) (t : Tables T) → KeepsRoom k t t
+  keeps_same k t = record { slots = refl; room = omega arith }
+
+  pub keeps_more : (k : ℕ) (old new : Tables T) → KeepsRoom 0 old new → KeepsRoom k old new
+  keeps_more k old new h = let r = h.room in record { slots = h.slots; room = omega (arith, r) }
+
+  pub keeps_as : (k : ℕ) (old new : Tables T) → new ≡ old → KeepsRoom k old new
+  keeps_as k old new e = subst (λ t. KeepsRoom k old t) (sym e) (keeps_same k old)
+
+  -- n of a value that occurs c times: with none nothing changes, and where it occurs its slot alone does
+  pub keeps_inserted : (c n k : ℕ) (old new : Tables T) → (n ≡ 0 → new ≡ old) → (0 < c → length new.newer ≡ length old.newer) → (0 < c → room old ≤ room new)
+      → (0 < room old → length new.newer ≡ length old.newer) → (0 < room old → room old ≤ room new + 1) → (c ≡ 0 → 0 < n → k ≡ 1) → k ≤ room old → KeepsRoom k old new
+  keeps_inserted (suc c) n k old new none same_slots same_room slots fewer arrives enough = let r = same_room (omega arith) in record { slots = same_slots (omega arith); room = omega (arith, r) }
+  keeps_inserted zero zero k old new none same_slots same_room slots fewer arrives enough = keeps_as k old new (none refl)
+  keeps_inserted zero (suc n) k old new none same_slots same_room slots fewer arrives enough =
+      let one = arrives refl (omega arith) in
+      let some : 0 < room old = omega (arith, one, enough) in
+      let r = fewer some in
+      record { slots = slots some; room = omega (arith, one, r) }
+
+  -- the same where a value that occurs leaves all as it is
+  pub keeps_entered : (c q k : ℕ) (old new : Tables T) → (q ≡ 0 → new ≡ old) → (0 < c → new ≡ old) → (0 < room old → length new.newer ≡ length old.newer) → (0 < room old → room old ≤ room new + 1)
+      → (c ≡ 0 → 0 < q → k ≡ 1) → k ≤ room old → KeepsRoom k old new
+  keeps_entered (suc c) q k old new none same slots fewer arrives enough = keeps_as k old new (same (omega arith))
+  keeps_entered zero q k old new none same slots fewer arrives enough =
+      keeps_inserted zero q k old new none (λ some. absurd (omega (arith, some))) (λ some. absurd (omega (arith, some))) slots fewer arrives enough
+
+-- no step of a run is about room, so neither is the next one, nor are those after it
+module _ {T : Type 0} where
+  pub first_not_about : (done rest : List (Step T)) (s : Step T) → list_any is_about_room (done ++ s ∷ rest) ≡ false → is_about_room s ≡ false
+  first_not_about done rest s h =
+      or_false_left (is_about_room s) (list_any is_about_room rest) (or_false_right (list_any is_about_room done) (list_any is_about_room (s ∷ rest)) (sym (list_any-append is_about_room done (s ∷ rest)) ∙ h))
+
+module _ {T : Type 0} (eq : T → T → Bool) where
+  -- after the steps that were done there is room for what the others bring in, and there are as many slots
+  pub record IsStillRoomy (X : List T) (done rest : List (Step T)) (before now : Tables T) : Type 0 where
+    pub enough : arrivals eq (run eq X done).0 rest ≤ room now
+    pub slots : length now.newer ≡ length before.newer
+
+module _ {T : Type 0} {eq : T → T → Bool} (laws : IsEquivalence eq) where
+  -- ---- values that are brought in
+
+  pub few_newcomers : (X Y : List T) → newcomers eq X Y ≤ 1
+  few_newcomers X Y = few_if (has_newcomer eq X Y)
+
+  test_congr : (X Z : List T) → IsPermutation X Z → (Y : List T) → has_newcomer eq X Y ≡ has_newcomer eq Z Y
+  test_congr X Z h [] = refl
+  test_congr X Z h (y ∷ Y) = ap (λ (k : ℕ). (k == 0) || has_newcomer eq X Y) (count_rearranged laws y X Z h) ∙ ap (λ (b : Bool). (count eq y Z == 0) || b) (test_congr X Z h Y)
+
+  -- as many, whatever the order of the lists
+  pub newcomers_rearranged : (X Z Y W : List T) → IsPermutation X Z → IsPermutation Y W → newcomers eq X Y ≡ newcomers eq Z W
+  newcomers_rearranged X Z Y W h k = ap one_if (test_congr X Z h Y ∙ list_any-IsPermutation (λ y. count eq y Z == 0) Y W k)
+
+  none_counts : (k : ℕ) → k ≡ 0 → (k == 0) ≡ true
+  none_counts k e = ap (λ (n : ℕ). n == 0) e
+
+  newcomer_last : (v : T) (n : ℕ) (X Z : List T) → count eq v X ≡ 0 → 0 < n → has_newcomer eq X (Z ++ replicate n v) ≡ true
+  newcomer_last v zero X Z none some = absurd (omega arith)
+  newcomer_last v (suc n) X Z none some =
+      list_any-append (λ y. count eq y X == 0) Z (v ∷ replicate n v)
+      ∙ or_true (has_newcomer eq X Z) _ (ap (λ (b : Bool). b || has_newcomer eq X (replicate n v)) (none_counts (count eq v X) none))
+
+  pub one_put : (v : T) (n : ℕ) (X : List T) → count eq v X ≡ 0 → 0 < n → newcomers eq X (put eq v n X) ≡ 1
+  one_put v n X none some = ap one_if (newcomer_last v n X (others eq v X) none some)
+
+  pub one_added : (v : T) (n : ℕ) (X : List T) → count eq v X ≡ 0 → 0 < n → newcomers eq X (add eq v n X) ≡ 1
+  one_added v n X none some = sym (newcomers_rearranged X X (put eq v n X) (add eq v n X) (IsPermutation-refl X) (put_absent laws v n X none)) ∙ one_put v n X none some
+
+  -- ---- the rows that bring in a value
+
+  pub one_inserted : (v : T) (n : ℕ) (X : List T) → count eq v X ≡ 0 → 0 < n → length X + n ≤ greatest_total → newcomers eq X (insert_row eq v n X).0 ≡ 1
+  one_inserted v n X none some fits =
+      let row : insert_row eq v n X ≡ (add eq v n X, Count (count eq v X)) = ap (λ (b : Bool). cond b (X, TooMany) (add eq v n X, Count (count eq v X))) (not_above greatest_total (length X + n) fits) in
+      ap (λ (p : List T × Reply T). newcomers eq X p.0) row ∙ one_added v n X none some
+
+  pub one_replaced : (v : T) (X : List T) → count eq v X ≡ 0 → length X + 1 ≤ greatest_total → newcomers eq X (replace_row eq v X).0 ≡ 1
+  one_replaced v X none fits =
+      let row : replace_row eq v X ≡ (put eq v 1 X, Count (count eq v X)) = ap (λ (b : Bool). cond b (X, TooMany) (put eq v 1 X, Count (count eq v X))) (not_above greatest_total (length X - count eq v X + 1) (omega (arith, none, fits))) in
+      ap (λ (p : List T × Reply T). newcomers eq X p.0) row ∙ one_put v 1 X none (omega arith)
+
+  pub one_entered : (v : T) (q : ℕ) (X : List T) → count eq v X ≡ 0 → 0 < q → length X + q ≤ greatest_total → newcomers eq X (entry_or_row eq v q X).0 ≡ 1
+  one_entered v q X none some fits = ap (λ (p : List T × Reply T). newcomers eq X p.0) (entry_or_row-vacant laws v q X none fits) ∙ one_added v q X none some
+
+  -- ---- room along a run
+
+  pub roomy_first : (X : List T) (steps : List (Step T)) (t : Tables T) → IsRoomy eq X steps t → IsStillRoomy eq X [] steps t t
+  roomy_first X steps t h = record { enough = rw (run_none eq X).0 h.enough; slots = refl }
+
+  arrivals_more : (X : List T) (s : Step T) (rest : List (Step T)) → arrivals eq X (s ∷ rest) ≡ newcomers eq X (step eq X s).0 + arrivals eq (step eq X s).0 rest
+  unfolding arrivals
+  arrivals_more X s rest = refl
+
+  -- what the next step may bring in has room
+  pub next_enough : (X B : List T) (done rest : List (Step T)) (s : Step T) (before now : Tables T) → IsStillRoomy eq X done (s ∷ rest) before now → IsPermutation (run eq X done).0 B → IsPermutation (step eq (run eq X done).0 s).0 (step eq B s).0
+      → newcomers eq B (step eq B s).0 ≤ room now
+  next_enough X B done rest s before now h means left =
+      let more = arrivals_more (run eq X done).0 s rest in
+      let same = newcomers_rearranged (run eq X done).0 B (step eq (run eq X done).0 s).0 (step eq B s).0 means left in
+      let enough = h.enough in
+      omega (arith, more, same, enough)
+
+  pub roomy_next : (X B : List T) (done rest : List (Step T)) (s : Step T) (before now after : Tables T) → IsStillRoomy eq X done (s ∷ rest) before now → IsPermutation (run eq X done).0 B → IsPermutation (step eq (run eq X done).0 s).0 (step eq B s).0
+      → KeepsRoom (newcomers eq B (step eq B s).0) now after → IsStillRoomy eq X (done ++ s ∷ []) rest before after
+  roomy_next X B done rest s before now after h means left kept =
+      let more = arrivals_more (run eq X done).0 s rest in
+      let same = newcomers_rearranged (run eq X done).0 B (step eq (run eq X done).0 s).0 (step eq B s).0 means left in
+      let enough = h.enough in
+      let kept_room = kept.room in
+      record {
+        enough = rw (run_more eq X done s).0 (omega (arith, more, same, enough, kept_room));
+        slots = kept.slots ∙ h.slots;
+      }
