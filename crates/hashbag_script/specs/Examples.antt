@@ -1,11 +1,15 @@
 -- The definitions compute, on the bag of the examples of lists: 1 twice and 2 once, of which a number and a tag are an
 -- instance.
-use Rattle.std.specs.Prelude.{◌≡◌, Bool, [], ◌∷◌, refl}
+use Rattle.std.specs.Prelude.{◌≡◌, ℕ, Bool, [], ◌∷◌, replicate, refl}
+use Rattle.std.proofs.Common.{arith}
+use Rattle.std.specs.List.{list_any}
+use Rattle.hashbag_slots.specs.declared.slots.Slot.TheVariants.{Empty}
+use Rattle.hashbag_table.specs.Tables.{Tables, room}
 use Rattle.hashbag_core.specs.Examples.{same_key, bag}
-use Rattle.hashbag_script.specs.declared.script.Step.TheVariants.{Insert, Remove, Count as CountStep}
+use Rattle.hashbag_script.specs.declared.script.Step.TheVariants.{Insert, Remove, Clear, Count as CountStep, Reserve}
 use Rattle.hashbag_script.specs.declared.script.Reply.TheVariants.{Count, Left, Taken, Absent, Done, TooMany}
 use Rattle.hashbag_script.specs.Rows.{insert_row, replace_row, remove_row, remove_up_to_row, try_take_row, take_all_row, entry_set_row, entry_or_row, quota, retained, retain_row, clear_row, count_row, reserve_row, shrink_to_fit_row}
-use Rattle.hashbag_script.specs.Script.{step, run, peak, arrivals, has_newcomer}
+use Rattle.hashbag_script.specs.Script.{step, run, peak, arrivals, has_newcomer, newcomers, is_about_room, IsRoomy}
 
 -- ---- the table of steps
 
@@ -94,3 +98,30 @@ newcomer = refl
 arrivals_of_run : arrivals same_key [] (Insert (1, 10) ∷ Insert (1, 20) ∷ Remove (1, 0) ∷ Remove (1, 0) ∷ Insert (1, 30) ∷ []) ≡ 2
 unfolding arrivals
 arrivals_of_run = refl
+
+one_newcomer : newcomers same_key bag ((1, 11) ∷ (3, 30) ∷ (4, 40) ∷ []) ≡ 1
+one_newcomer = refl
+
+no_newcomer : newcomers same_key bag ((1, 11) ∷ (2, 22) ∷ []) ≡ 0
+no_newcomer = refl
+
+-- ---- runs in reserved room
+
+room_asked : list_any is_about_room (Insert (1, 10) ∷ Reserve 5 ∷ []) ≡ Bool.true
+room_asked = refl
+
+no_room_asked : list_any is_about_room (Insert (1, 10) ∷ Remove (1, 0) ∷ Clear ∷ []) ≡ Bool.false
+no_room_asked = refl
+
+-- 16 slots, all of them Empty: room for 12 values
+sixteen : Tables (ℕ × ℕ)
+sixteen = record { newer = replicate 16 Empty; waiting = [] }
+
+room_for_twelve : room sixteen ≡ 12
+unfolding sixteen
+room_for_twelve = refl
+
+-- a value that comes, goes and comes again arrives twice, for which there is room
+twice_in_reserved_room : IsRoomy same_key [] (Insert (1, 10) ∷ Remove (1, 0) ∷ Insert (1, 30) ∷ []) sixteen
+unfolding arrivals sixteen
+twice_in_reserved_room = record { calls = refl; enough = omega arith }
