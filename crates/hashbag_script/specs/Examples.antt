@@ -1,10 +1,10 @@
 -- The definitions compute, on the bag of the examples of lists: 1 twice and 2 once, of which a number and a tag are an
 -- instance.
-use Rattle.std.specs.Prelude.{◌≡◌, ℕ, Bool, [], ◌∷◌, replicate, refl}
+use Rattle.std.specs.Prelude.{◌≡◌, ℕ, Bool, [], ◌∷◌, refl}
 use Rattle.std.proofs.Common.{arith}
 use Rattle.std.specs.List.{list_any}
-use Rattle.hashbag_slots.specs.declared.slots.Slot.TheVariants.{Empty}
-use Rattle.hashbag_table.specs.Tables.{Tables, room}
+use Rattle.hashbag_table.specs.Tables.{Tables, room, fresh}
+use Rattle.hashbag_core.specs.Held.{no_slots}
 use Rattle.hashbag_core.specs.Examples.{same_key, bag}
 use Rattle.hashbag_script.specs.declared.script.Step.TheVariants.{Insert, Remove, Clear, Count as CountStep, Reserve}
 use Rattle.hashbag_script.specs.declared.script.Reply.TheVariants.{Count, Left, Taken, Absent, Done, TooMany}
@@ -107,21 +107,20 @@ no_newcomer = refl
 
 -- ---- runs in reserved room
 
-room_asked : list_any is_about_room (Insert (1, 10) ∷ Reserve 5 ∷ []) ≡ Bool.true
+room_asked : list_any (is_about_room {T = ℕ × ℕ}) (Insert (1, 10) ∷ Reserve 5 ∷ []) ≡ Bool.true
 room_asked = refl
 
-no_room_asked : list_any is_about_room (Insert (1, 10) ∷ Remove (1, 0) ∷ Clear ∷ []) ≡ Bool.false
+no_room_asked : list_any (is_about_room {T = ℕ × ℕ}) (Insert (1, 10) ∷ Remove (1, 0) ∷ Clear ∷ []) ≡ Bool.false
 no_room_asked = refl
 
--- 16 slots, all of them Empty: room for 12 values
-sixteen : Tables (ℕ × ℕ)
-sixteen = record { newer = replicate 16 Empty; waiting = [] }
+-- 16 slots, all of them Empty, as the first value finds them: room for 12
+abbrev sixteen : Tables (ℕ × ℕ)
+sixteen = record { newer = fresh no_slots; waiting = [] }
 
 room_for_twelve : room sixteen ≡ 12
-unfolding sixteen
 room_for_twelve = refl
 
 -- a value that comes, goes and comes again arrives twice, for which there is room
 twice_in_reserved_room : IsRoomy same_key [] (Insert (1, 10) ∷ Remove (1, 0) ∷ Insert (1, 30) ∷ []) sixteen
-unfolding arrivals sixteen
+unfolding arrivals
 twice_in_reserved_room = record { calls = refl; enough = omega arith }
