@@ -63,8 +63,8 @@ fn strict_calls(alloc: Global, refusals: &mut Refusals) -> Result<(), Wrong> {
     runs::runs(alloc, refusals)
 }
 
-// Calls that do without some requests: std's lists are collected with less room where it is refused, and std's map gives back
-// what it can. What they answer is checked all the same.
+// Calls that do without some requests: std's lists are collected with less room where it is refused. What they answer is checked all
+// the same.
 fn lenient_calls(alloc: Global, refusals: &mut Refusals) -> Result<(), Wrong> {
     pairs::pairs_of_runs(alloc, refusals)?;
     whole::executions(alloc, refusals)
