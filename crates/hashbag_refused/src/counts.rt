@@ -33,6 +33,11 @@ pub fn insert_two(
     Ok(true)
 }
 
+/// The slots of a bag's newer table, those of the older one that wait, and the room.
+pub fn tables_of(bag: &HashBag<u64>) -> (usize, usize, usize) {
+    (bag.slots(), bag.waiting(), bag.room())
+}
+
 /// A bag with 5 twice. Where that is refused, the bag is empty, and takes 5 with memory again.
 pub fn two_fives(alloc: Global, refusals: &mut Refusals) -> Result<HashBag<u64>, Wrong> {
     let mut bag = HashBag::new(alloc);

@@ -1,31 +1,40 @@
 //! Insertions and replacements.
 use crate::checks::{Refusals, Wrong, check};
-use crate::counts::{has_counts, insert_two, two_fives};
+use crate::counts::{has_counts, insert_two, tables_of, two_fives};
 use hashbag::HashBag;
 use std::alloc::Global;
 
-// After a refused insertion of an absent value: 5 is there, which is inserted all the same, and so is the value with memory
-// again.
+// After a refused insertion of an absent value: those before it are found. 5 is there, which is inserted all the same, and so is the
+// value with memory again.
 fn insert_after_refusal(
     bag: &mut HashBag<u64>,
     value: u64,
     refusals: &mut Refusals,
 ) -> Result<(), Wrong> {
     check(bag.contains(&value) == 0, "insertion: refused")?;
+    for former in 100..value {
+        check(bag.contains(&former) == 2, "insertion: those before")?;
+    }
     let done = insert_two(bag, 5, 2, refusals)?;
     check(done, "insertion: of a value that is there")?;
     let done = insert_two(bag, value, 0, refusals)?;
     check(done, "insertion: with memory again")
 }
 
-// Inserts a value twice into a bag that has so many values, each twice, and answers whether it went in.
+// Inserts a value twice into a bag that has so many values, each twice, and answers whether it went in. A refusal changes no slot,
+// and comes only where no room is left.
 fn insert_next(
     bag: &mut HashBag<u64>,
     value: u64,
     values: usize,
     refusals: &mut Refusals,
 ) -> Result<bool, Wrong> {
+    let before = tables_of(bag);
     let done = insert_two(bag, value, 0, refusals)?;
+    if !done {
+        check(tables_of(bag) == before, "insertion: the slots")?;
+        check(bag.room() == 0, "insertion: refused with room")?;
+    }
     let values = if done {
         values.saturating_add(1)
     } else {
@@ -39,10 +48,10 @@ fn insert_next(
     Ok(done)
 }
 
-/// Inserts 25 values in turn, each twice. A refusal leaves all that came before.
+/// Inserts 50 values in turn, each twice, so that the tables grow from 0, 16, 32 and 64 slots. A refusal leaves all that came before.
 pub fn insertions(alloc: Global, refusals: &mut Refusals) -> Result<(), Wrong> {
     let mut bag = two_fives(alloc, refusals)?;
-    for at in 0..25usize {
+    for at in 0..50usize {
         let value = 100 + at as u64;
         if !insert_next(&mut bag, value, at + 1, refusals)? {
             return insert_after_refusal(&mut bag, value, refusals);
@@ -72,16 +81,13 @@ fn replace(
 /// Replaces a value that is there, and one that isn't.
 pub fn replacements(alloc: Global, refusals: &mut Refusals) -> Result<(), Wrong> {
     let mut bag = two_fives(alloc, refusals)?;
-    let five = if replace(&mut bag, 5, 2, refusals)? {
-        1
-    } else {
-        2
-    };
-    has_counts(&bag, (five, 0, 0), "replace: of a value that is there")?;
+    let done = replace(&mut bag, 5, 2, refusals)?;
+    check(done, "replace: of a value that is there, refused")?;
+    has_counts(&bag, (1, 0, 0), "replace: of a value that is there")?;
     let six = if replace(&mut bag, 6, 0, refusals)? {
         1
     } else {
         0
     };
-    has_counts(&bag, (five, six, 0), "replace: of an absent value")
+    has_counts(&bag, (1, six, 0), "replace: of an absent value")
 }

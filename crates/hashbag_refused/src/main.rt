@@ -55,6 +55,8 @@ fn strict_calls(alloc: Global, refusals: &mut Refusals) -> Result<(), Wrong> {
     room::room(alloc, refusals)?;
     room::room_from_the_start(alloc, refusals)?;
     room::room_given_back(alloc, refusals)?;
+    room::reserved_room(alloc, refusals)?;
+    room::room_in_a_carry(alloc, refusals)?;
     extends::extends(alloc, refusals)?;
     extends::collections(alloc, refusals)?;
     texts::cloned_names(alloc, refusals)?;

@@ -71,6 +71,20 @@ const ROWS: &str = "\
     insert 27 = 1
     tables = (64, 0, 21)
 
+    [from 48 values to 52]
+    extend [0, 1, 2, 3, 4, 5, 6, 7, 8, 9, 10, 11, 12, 13, 14, 15, 16, 17, 18, 19, 20, 21, 22, 23, 24, 25, 26, 27, 28, 29, 30, 31, 32, 33, 34, 35, 36, 37, 38, 39, 40, 41, 42, 43, 44, 45, 46, 47] = ()
+    tables = (64, 0, 0)
+    insert 48 = 0
+    tables = (128, 48, 47)
+    insert 49 = 0
+    tables = (128, 32, 46)
+    insert 50 = 0
+    tables = (128, 16, 45)
+    insert 51 = 0
+    tables = (128, 0, 44)
+    counts [44, 45, 46, 47, 48, 49, 50, 51, 52] = [1, 1, 1, 1, 1, 1, 1, 1, 0]
+    set_len = 52
+
     [in the middle of a carry]
     insert_each [1, 2, 3, 4, 5, 6, 7, 8, 9, 10, 11, 12, 13, 14, 15, 16, 17, 18, 19, 20, 21, 22, 23, 24, 25] = ()
     tables = (64, 16, 23)
@@ -315,7 +329,7 @@ fn cloned_in_a_carry<S: BuildHasher + Default + Copy>(alloc: Global, state: S) -
 }
 
 fn tables_under<S: BuildHasher + Default + Copy>(alloc: Global, state: S) -> Result<(), Fail> {
-    make_rows(alloc, state, ROWS, 213)?;
+    make_rows(alloc, state, ROWS, 226)?;
     thousand_in_and_out(alloc, state)?;
     cloned_in_a_carry(alloc, state)
 }
