@@ -63,7 +63,10 @@ pub fn room_from_the_start(alloc: Global, refusals: &mut Refusals) -> Result<(),
 fn thirteen(alloc: Global, refusals: &mut Refusals) -> Result<HashBag<u64>, Wrong> {
     let mut bag = HashBag::new(alloc);
     if !refusals.is_done(bag.reserve(13))? {
-        check(tables_of(&bag) == (0, 0, 0), "reserve: of a new bag, refused")?;
+        check(
+            tables_of(&bag) == (0, 0, 0),
+            "reserve: of a new bag, refused",
+        )?;
         let done = refusals.is_done(bag.reserve(13))?;
         check(done, "reserve: of a new bag, with memory again")?;
     }
@@ -111,7 +114,11 @@ pub fn room_in_a_carry(alloc: Global, refusals: &mut Refusals) -> Result<(), Wro
     check(tables_of(&bag) == wanted, "carry: after reserve")?;
     has_25(&bag, "carry: the values after reserve")?;
     let done = refusals.is_done(bag.shrink_to_fit())?;
-    let wanted = if done && wanted.0 == 256 { (64, 0, 23) } else { wanted };
+    let wanted = if done && wanted.0 == 256 {
+        (64, 0, 23)
+    } else {
+        wanted
+    };
     check(tables_of(&bag) == wanted, "carry: after shrink_to_fit")?;
     has_25(&bag, "carry: the values after shrink_to_fit")
 }

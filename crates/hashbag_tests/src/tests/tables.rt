@@ -298,7 +298,10 @@ const CLONE: &str = "\
 
 // Each value is inserted and at once removed: Removed slots are used again, or a table of the same size takes the place of the
 // one that has no room.
-fn in_and_out<S: BuildHasher + Drop>(bag: &mut HashBag<u64, S>, value: u64) -> Result<usize, BagError> {
+fn in_and_out<S: BuildHasher + Drop>(
+    bag: &mut HashBag<u64, S>,
+    value: u64,
+) -> Result<usize, BagError> {
     if bag.len() == usize::MAX {
         return Err(BagError::TooMany);
     }
@@ -306,7 +309,10 @@ fn in_and_out<S: BuildHasher + Drop>(bag: &mut HashBag<u64, S>, value: u64) -> R
     Ok(bag.remove(&value).saturating_add(before))
 }
 
-fn thousand_in_and_out<S: BuildHasher + Default + Drop>(alloc: Global, state: S) -> Result<(), Fail> {
+fn thousand_in_and_out<S: BuildHasher + Default + Drop>(
+    alloc: Global,
+    state: S,
+) -> Result<(), Fail> {
     let mut bag = HashBag::with_hasher(alloc, state);
     let mut taken = 0usize;
     for value in 0..1000 {
@@ -319,7 +325,14 @@ fn thousand_in_and_out<S: BuildHasher + Default + Drop>(alloc: Global, state: S)
 }
 
 fn cloned_in_a_carry<S: BuildHasher + Default + Copy>(alloc: Global, state: S) -> Result<(), Fail> {
-    let bag = bag_of(alloc, state, &[1, 2, 3, 4, 5, 6, 7, 8, 9, 10, 11, 12, 13, 14, 15, 16, 17, 18, 19, 20, 21, 22, 23, 24, 25])?;
+    let bag = bag_of(
+        alloc,
+        state,
+        &[
+            1, 2, 3, 4, 5, 6, 7, 8, 9, 10, 11, 12, 13, 14, 15, 16, 17, 18, 19, 20, 21, 22, 23, 24,
+            25,
+        ],
+    )?;
     let mut clone = clone_of(&bag)?;
     make_calls(alloc, &mut clone, CLONE, 3)?;
     if clone != bag {

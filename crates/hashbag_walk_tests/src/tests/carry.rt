@@ -11,7 +11,8 @@ use std::test::Fail;
 const VALUES: usize = 25;
 
 // The values that the walks give, rising.
-const ALL: &str = "[0, 1, 2, 3, 4, 5, 6, 7, 8, 9, 10, 11, 12, 13, 14, 15, 16, 17, 18, 19, 20, 21, 22, 23, 24]";
+const ALL: &str =
+    "[0, 1, 2, 3, 4, 5, 6, 7, 8, 9, 10, 11, 12, 13, 14, 15, 16, 17, 18, 19, 20, 21, 22, 23, 24]";
 
 // The numbers below 25, each once.
 fn carrying<S: BuildHasher + Drop>(
@@ -81,11 +82,7 @@ fn values<S: BuildHasher + Drop>(
     are_all(alloc, "set_iter", got)
 }
 
-fn drained<S: BuildHasher + Drop>(
-    rt: &impl Abort,
-    bag: &mut HashBag<u64, S>,
-    taken: usize,
-) -> u64 {
+fn drained<S: BuildHasher + Drop>(rt: &impl Abort, bag: &mut HashBag<u64, S>, taken: usize) -> u64 {
     let mut sum = 0u64;
     let mut walk = bag.drain();
     for _ in 0..taken {
@@ -131,7 +128,11 @@ fn walks_after<S: BuildHasher + Copy>(
     Ok(())
 }
 
-fn walks_under<S: BuildHasher + Copy>(rt: &impl Abort, alloc: Global, state: S) -> Result<(), Fail> {
+fn walks_under<S: BuildHasher + Copy>(
+    rt: &impl Abort,
+    alloc: Global,
+    state: S,
+) -> Result<(), Fail> {
     for taken in 0..=VALUES {
         walks_after(rt, alloc, state, taken)?;
     }
