@@ -113,6 +113,16 @@ impl<T: Eq> Slots<T> {
         self.tags.len()
     }
 
+    /// For the prover alone, which learns here what every table keeps. It does nothing when it runs.
+    #[inline(always)]
+    pub fn recall(&self)
+        ensures count { IsSlotCount (length self.now.slots) }
+        ensures bound { length self.now.slots ≤ 2 ^ 59 }
+        ensures distinct { IsSet T.eq self.now.slots }
+    {
+        let _ = self.slots();
+    }
+
     /// The number of Live slots, and so of values.
     pub fn live(&self) -> usize
         ensures { result ≡ live_count self.now.slots }
@@ -283,7 +293,6 @@ impl<T: Eq + Hash> Slots<T> {
         ensures absent { IfNone result (IsAbsent (λ v. T.eq v value.now) self.now.slots) }
         ensures map { entry_at self.now.slots result ≡ lookup_entry (λ v. T.eq v value.now) (entries self.now.slots) }
     {
-        let _live = self.live;
         find_place(self.tags.as_slice(), &self.cells, state, hash, value)
     }
 
@@ -370,7 +379,7 @@ impl<T: Eq + Hash> Slots<T> {
         ensures reached { IsReached (hash_under T.hash_input S.BuildHasher S.Hasher.Hasher state.now) self.new }
         ensures older_reached { (hash : T → ℕ) → IsReached hash older.old → IsReached hash older.new }
     {
-        let _count = older.slots();
+        older.recall();
         for at in from..from + many {
             self.carry_one(state, older, at);
         }

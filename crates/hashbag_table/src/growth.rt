@@ -75,7 +75,7 @@ pub fn carry_next<T: Eq + Hash + Drop, S: BuildHasher>(
     ensures carried { Carried most newer.old.slots (drop looked older.old.slots) newer.new.slots (drop result older.new.slots) }
 {
     let count = older.slots();
-    let _newer_count = newer.slots();
+    newer.recall();
     let many = (count - looked).min(most);
     newer.carry_from(hasher, older, looked, many);
     if looked + many == count {

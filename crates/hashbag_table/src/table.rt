@@ -157,7 +157,7 @@ impl<T: Eq + Hash + Drop, S: BuildHasher + Drop> Table<T, S> {
         ensures len { result ≡ length self.now.entries }
         ensures counted { IsCounted T.eq self.now.entries }
     {
-        let _count = self.newer.slots();
+        self.newer.recall();
         self.newer.live() + self.older.live()
     }
 
@@ -172,8 +172,23 @@ impl<T: Eq + Hash + Drop, S: BuildHasher + Drop> Table<T, S> {
     pub fn capacity(&self) -> usize
         ensures { result ≡ length self.now.entries + room self.now.tables }
     {
-        let _count = self.newer.slots();
+        self.newer.recall();
         self.set_len() + self.room()
+    }
+
+    // For the prover alone, which learns here what every table keeps. It does nothing when it runs.
+    fn recall(&self)
+        ensures { IsCounted T.eq self.now.entries }
+    {
+        let _ = self.set_len();
+    }
+
+    // The hash of a value under the table's own state, by which alone its values are found.
+    #[inline(always)]
+    fn hash(&self, value: &T) -> u64
+        ensures { result ≡ hash_under T.hash_input S.BuildHasher S.Hasher.Hasher self.now.hasher value.now }
+    {
+        hash_of(&self.hasher, value)
     }
 
     /// The stored instance of a value and its count, or `None` where it is absent. It is hashed once for
@@ -182,7 +197,7 @@ impl<T: Eq + Hash + Drop, S: BuildHasher + Drop> Table<T, S> {
         ensures found { option_map (λ e. (e.0.now, e.1)) result ≡ entry_of T.eq value.now self.now.entries }
         ensures counted { IsCounted T.eq self.now.entries }
     {
-        let hash = hash_of(&self.hasher, value);
+        let hash = self.hash(value);
         if let Some(place) = self.newer.find_hashed(&self.hasher, hash, value) {
             return self.newer.at(place);
         }
@@ -275,7 +290,6 @@ impl<T: Eq + Hash + Drop, S: BuildHasher + Drop> Table<T, S> {
         ensures hasher { self.new.hasher ≡ self.old.hasher }
         ensures counted { IsCounted T.eq self.new.entries }
     {
-        let _looked = self.looked;
         self.newer.place_hashed(&self.hasher, hash, value, count);
     }
 
@@ -294,7 +308,7 @@ impl<T: Eq + Hash + Drop, S: BuildHasher + Drop> Table<T, S> {
         ensures slots { OnOk result (0 < room self.old.tables → length self.new.tables.newer ≡ length self.old.tables.newer) }
         ensures room { OnOk result (0 < room self.old.tables → room self.old.tables ≤ room self.new.tables + 1) }
     {
-        let hash = hash_of(&self.hasher, &value);
+        let hash = self.hash(&value);
         self.insert_hashed(hash, value, count)
     }
 
@@ -310,7 +324,7 @@ impl<T: Eq + Hash + Drop, S: BuildHasher + Drop> Table<T, S> {
         ensures takes { 0 < room self.old.tables → IsOk result }
         ensures arrives { OnOk result (Arrives self.old.tables self.new.tables) }
     {
-        let _looked = self.looked;
+        self.recall();
         self.make_way()?;
         self.settle(hash, value, count);
         Ok(())
@@ -341,7 +355,7 @@ impl<T: Eq + Hash + Drop, S: BuildHasher + Drop> Table<T, S> {
         ensures hasher { self.new.hasher ≡ self.old.hasher }
         ensures counted { IsCounted T.eq self.new.entries }
     {
-        let _count = self.older.slots();
+        self.older.recall();
         if let Spot::Newer(place) = spot {
             self.newer.set_at(place, n);
             return;
@@ -360,7 +374,7 @@ impl<T: Eq + Hash + Drop, S: BuildHasher + Drop> Table<T, S> {
         ensures hasher { self.new.hasher ≡ self.old.hasher }
         ensures counted { IsCounted T.eq self.new.entries }
     {
-        let _count = self.older.slots();
+        self.older.recall();
         match spot {
             Spot::Newer(place) => {
                 let entry = self.newer.take_at(place);
@@ -384,7 +398,7 @@ impl<T: Eq + Hash + Drop, S: BuildHasher + Drop> Table<T, S> {
         ensures slots { length self.new.tables.newer ≡ length self.old.tables.newer }
         ensures room { room self.old.tables ≤ room self.new.tables }
     {
-        let hash = hash_of(&self.hasher, value);
+        let hash = self.hash(value);
         if let Some(spot) = self.locate(hash, value) {
             self.set_spot(spot, n);
         }
@@ -402,7 +416,7 @@ impl<T: Eq + Hash + Drop, S: BuildHasher + Drop> Table<T, S> {
         ensures slots { length self.new.tables.newer ≡ length self.old.tables.newer }
         ensures room { room self.old.tables ≤ room self.new.tables }
     {
-        let hash = hash_of(&self.hasher, value);
+        let hash = self.hash(value);
         match self.locate(hash, value) {
             Some(spot) => {
                 let entry = self.take_spot(spot);
@@ -417,7 +431,7 @@ impl<T: Eq + Hash + Drop, S: BuildHasher + Drop> Table<T, S> {
         requires live { is_live (slot_in self.now.tables spot) ≡ true }
         ensures count { (e : T × ℕ) → entry_in self.now.tables (Some spot) ≡ Some e → result ≡ e.1 }
     {
-        let _count = self.older.slots();
+        self.older.recall();
         if let Spot::Newer(place) = spot {
             return match self.newer.at(place) {
                 Some((_, count)) => count,
@@ -448,7 +462,7 @@ impl<T: Eq + Hash + Drop, S: BuildHasher + Drop> Table<T, S> {
         ensures slots { length self.new.tables.newer ≡ length self.old.tables.newer }
         ensures room { room self.old.tables ≤ room self.new.tables }
     {
-        let hash = hash_of(&self.hasher, value);
+        let hash = self.hash(value);
         if let Some(spot) = self.locate(hash, value) {
             let before = self.count_at(spot);
             if n < before {
@@ -478,7 +492,7 @@ impl<T: Eq + Hash + Drop, S: BuildHasher + Drop> Table<T, S> {
         ensures slots { length self.new.tables.newer ≡ length self.old.tables.newer }
         ensures room { room self.old.tables ≤ room self.new.tables }
     {
-        let hash = hash_of(&self.hasher, value);
+        let hash = self.hash(value);
         if let Some(spot) = self.locate(hash, value) {
             let before = self.count_at(spot);
             if before > 1 {
@@ -512,7 +526,7 @@ impl<T: Eq + Hash + Drop, S: BuildHasher + Drop> Table<T, S> {
         ensures same_slots { IfOk result (λ before. 0 < before → length self.new.tables.newer ≡ length self.old.tables.newer) }
         ensures same_room { IfOk result (λ before. 0 < before → room self.old.tables ≤ room self.new.tables) }
     {
-        let hash = hash_of(&self.hasher, &value);
+        let hash = self.hash(&value);
         if let Some(spot) = self.locate(hash, &value) {
             let before = self.count_at(spot);
             self.set_spot(spot, before + n);
@@ -530,7 +544,7 @@ impl<T: Eq + Hash + Drop, S: BuildHasher + Drop> Table<T, S> {
         ensures hasher { self.new.hasher ≡ self.old.hasher }
         ensures counted { IsCounted T.eq self.new.entries }
     {
-        let _count = self.older.slots();
+        self.older.recall();
         match spot {
             Spot::Newer(place) => {
                 let former = put_one(&mut self.newer, place, value);
@@ -563,7 +577,7 @@ impl<T: Eq + Hash + Drop, S: BuildHasher + Drop> Table<T, S> {
         ensures same_slots { IfOk result (λ before. 0 < before → length self.new.tables.newer ≡ length self.old.tables.newer) }
         ensures same_room { IfOk result (λ before. 0 < before → room self.old.tables ≤ room self.new.tables) }
     {
-        let hash = hash_of(&self.hasher, &value);
+        let hash = self.hash(&value);
         if let Some(spot) = self.locate(hash, &value) {
             let before = self.count_at(spot);
             let former = self.put_spot(spot, value);
@@ -695,8 +709,8 @@ impl<T: Eq + Hash + Drop, S: BuildHasher + Drop> Table<T, S> {
         ensures counted { IsCounted T.eq self.now.entries }
         ensures fits { length result < 2 ^ 63 }
     {
-        let _newer = self.newer.slots();
-        let _older = self.older.slots();
+        self.newer.recall();
+        self.older.recall();
         let newer = self.newer.walk();
         let older = self.older.walk();
         Walk { newer, older }
@@ -710,8 +724,8 @@ impl<T: Eq + Hash + Drop, S: BuildHasher + Drop> Table<T, S> {
         ensures counted { IsCounted T.eq self.entries }
         ensures fits { length result < 2 ^ 63 }
     {
-        let _newer = self.newer.slots();
-        let _older = self.older.slots();
+        self.newer.recall();
+        self.older.recall();
         let Table {
             newer,
             older,
@@ -738,8 +752,8 @@ impl<T: Eq + Hash + Drop, S: BuildHasher + Drop> Table<T, S> {
         ensures counted { IsCounted T.eq self.old.entries }
         ensures fits { length (drain_rest result) < 2 ^ 63 }
     {
-        let _newer = self.newer.slots();
-        let _older = self.older.slots();
+        self.newer.recall();
+        self.older.recall();
         let newer = mem::replace(&mut self.newer, no_slots(self.alloc));
         let older = mem::replace(&mut self.older, no_slots(self.alloc));
         self.looked = 0;

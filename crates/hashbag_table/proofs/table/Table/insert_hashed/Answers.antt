@@ -9,7 +9,7 @@ use Rattle.hashbag_table.proofs.table.Table.insert_hashed.Goals as goal
 
 pub returns-in_err-make_way-clause-counted : goal.returns-in_err-make_way-clause-counted
 returns-in_err-make_way-clause-counted g c =
-    subst (λ t. IsCounted g.T.PartialEq.eq t.entries) (sym c.in_err-make_way.ensures.err) (subst (λ t. IsCounted g.T.PartialEq.eq t.entries) c.self.view_is c.self.invariant.counted)
+    subst (λ t. IsCounted g.T.PartialEq.eq t.entries) (sym c.in_err-make_way.ensures.err) c.recall.ensures
 
 pub settle-requires-clause-absent : goal.settle-requires-clause-absent
 settle-requires-clause-absent g c =

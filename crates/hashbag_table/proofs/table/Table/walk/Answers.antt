@@ -11,8 +11,8 @@ pub invariant_of-result : goal.invariant_of-result
 invariant_of-result g c =
     let a = entries_few c.self.inside.newer.slots in let b = entries_few c.self.inside.older.slots in
     let d = ap length c.walk-newer.ensures in let e = ap length c.walk-older.ensures in
-    let m = c.slots-newer.ensures.value in let n = c.slots-older.ensures.value in let p = c.slots-newer.ensures.bound in let q = c.slots-older.ensures.bound in
-    omega (arith, a, b, d, e, m, n, p, q)
+    let p = c.recall.ensures.bound in let q = c.recall-2.ensures.bound in
+    omega (arith, a, b, d, e, p, q)
 
 pub returns-clause-entries : goal.returns-clause-entries
 returns-clause-entries g c =
