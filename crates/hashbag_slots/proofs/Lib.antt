@@ -6,6 +6,8 @@ pub mod Paths
 pub mod Probing
 pub mod Reading
 pub mod Rooms
+pub mod Sixteen
+pub mod Strides
 pub mod Tables
 pub mod Values
 pub mod Walking

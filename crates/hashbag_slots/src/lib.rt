@@ -6,6 +6,7 @@
 #![tactic(auto)]
 
 mod cells;
+mod lanes;
 mod room;
 pub mod slots;
 mod tags;

@@ -1,13 +1,15 @@
 //! Tags of slots, a byte each, and the probes that read them.
 //!
-//! A probe reads tags, and a cell only where the tag is the mark of its own hash. Under a hash that spreads its values, that is
+//! A probe reads tags, sixteen at once, and a cell only where the tag is the mark of its own hash. Under a hash that spreads its values, that is
 //! so at one in 128 of the other values on its path.
-ghost use Rattle.std.specs.Prelude.{◌≡◌, ℕ, ◌+◌, ◌<◌, ◌≤◌, ◌^◌, ◌/◌, length, IfSome, IfNone, IfOk, IsOk, replicate, None};
+ghost use Rattle.std.specs.Prelude.{◌≡◌, ℕ, ◌+◌, ◌<◌, ◌≤◌, ◌^◌, ◌/◌, length, IfSome, IfNone, IfOk, IsOk, replicate, Some, None};
+ghost use Rattle.hashbag_slots.specs.Cells.{cell_at, IsFilled};
 ghost use Rattle.hashbag_slots.specs.Hashing.{hash_under};
 ghost use Rattle.hashbag_slots.specs.Slots.{IsSlotCount, path_slot, HoldsAt, IsAbsent};
 ghost use Rattle.hashbag_slots.specs.Columns.{mark_of, tag_at, IsNextMark, Agree, columns, slots_of, IsReached};
 
 use crate::cells::Cells;
+use crate::lanes::{LANES, free_before, live_before, others_before};
 use std::alloc::{AllocError, Global};
 use std::hash::{BuildHasher, Hash};
 
@@ -54,8 +56,70 @@ pub fn empty_tags(alloc: Global, count: usize) -> Result<Vec<u8>, AllocError>
     Ok(tags)
 }
 
+// Whether the value in a cell equals a value.
+#[inline(always)]
+fn is_in<T: Eq>(cells: &Cells<(T, usize)>, place: usize, value: &T) -> bool
+    requires { IsFilled cells.now place }
+    ensures { (e : T × ℕ) → cell_at cells.now place ≡ Some e → T.eq e.0 value.now ≡ result }
+{
+    let entry = cells.get(place);
+    entry.0 == *value
+}
+
+// Probes for a value until it finds it or an Empty slot, or has looked at all slots, 16 tags at once where so many come before
+// the last one.
+#[inline(always)]
+fn probe<T: Eq + Hash, S: BuildHasher>(
+    tags: &[u8],
+    cells: &Cells<(T, usize)>,
+    state: &S,
+    hash: u64,
+    value: &T,
+) -> Option<usize>
+    requires hashed { hash ≡ hash_under T.hash_input S.BuildHasher S.Hasher.Hasher state.now value.now }
+    requires count { IsSlotCount (length tags.now) }
+    requires agree { Agree tags.now cells.now }
+    requires reached { IsReached (hash_under T.hash_input S.BuildHasher S.Hasher.Hasher state.now) (columns tags.now cells.now) }
+    ensures found { IfSome result (HoldsAt (λ v. T.eq v value.now) (slots_of tags.now cells.now)) }
+    ensures absent { IfNone result (IsAbsent (λ v. T.eq v value.now) (slots_of tags.now cells.now)) }
+{
+    let count = tags.len();
+    let mark = mark_of(hash);
+    let mut step = 0;
+    'steps: while step < count {
+        let place = place_after(hash, step, count);
+        if place + LANES <= count {
+            let lane = others_before(tags, place, mark);
+            if lane < LANES {
+                if is_in(cells, place + lane, value) {
+                    return Some(place + lane);
+                }
+                step += lane + 1;
+            } else if others_before(tags, place, EMPTY) < LANES {
+                return None;
+            } else {
+                step += LANES;
+            }
+        } else {
+            let tag = tags[place];
+            if tag == mark {
+                if is_in(cells, place, value) {
+                    return Some(place);
+                }
+            } else if tag == EMPTY {
+                return None;
+            }
+            step += 1;
+        }
+    }
+    None
+}
+
 /// The place of the Live slot with an equal value, if there is one. The value's hash is handed in. It probes until it finds
 /// the value or an Empty slot, or has looked at all slots, and goes past Removed and Moved ones.
+///
+/// Most values are in the first slot of their path. It is looked at by itself, so that its cell is read without waiting for
+/// what the tags say.
 #[inline(always)]
 pub fn find_place<T: Eq + Hash, S: BuildHasher>(
     tags: &[u8],
@@ -75,20 +139,11 @@ pub fn find_place<T: Eq + Hash, S: BuildHasher>(
     if count == 0 {
         return None;
     }
-    let mark = mark_of(hash);
-    for step in 0..count {
-        let place = place_after(hash, step, count);
-        let tag = tags[place];
-        if tag == mark {
-            let entry = cells.get(place);
-            if entry.0 == *value {
-                return Some(place);
-            }
-        } else if tag == EMPTY {
-            return None;
-        }
+    let first = place_after(hash, 0, count);
+    if tags[first] == mark_of(hash) && is_in(cells, first, value) {
+        return Some(first);
     }
-    None
+    probe(tags, cells, state, hash, value)
 }
 
 /// The first place on the path of a hash whose slot is not Live.
@@ -101,10 +156,20 @@ pub fn free_place(tags: &[u8], hash: u64) -> usize
     ensures free { tag_at tags.now result < 128 }
 {
     let count = tags.len();
-    for step in 0..count {
+    let mut step = 0;
+    'steps: while step < count {
         let place = place_after(hash, step, count);
-        if tags[place] < LEAST_MARK {
-            return place;
+        if place + LANES <= count {
+            let lane = live_before(tags, place);
+            if lane < LANES {
+                return place + lane;
+            }
+            step += LANES;
+        } else {
+            if tags[place] < LEAST_MARK {
+                return place;
+            }
+            step += 1;
         }
     }
     unreachable!()
@@ -116,9 +181,20 @@ pub fn next_mark(tags: &[u8], from: usize) -> Option<usize>
     ensures some { IfSome result (IsNextMark tags.now from) }
     ensures none { IfNone result ((q : ℕ) → from ≤ q → tag_at tags.now q < 128) }
 {
-    for place in from..tags.len() {
-        if tags[place] >= LEAST_MARK {
-            return Some(place);
+    let count = tags.len();
+    let mut at = from;
+    'places: while at < count {
+        if at + LANES <= count {
+            let lane = free_before(tags, at);
+            if lane < LANES {
+                return Some(at + lane);
+            }
+            at += LANES;
+        } else {
+            if tags[at] >= LEAST_MARK {
+                return Some(at);
+            }
+            at += 1;
         }
     }
     None

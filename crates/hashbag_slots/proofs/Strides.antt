@@ -1,0 +1,28 @@
+-- A probe that goes on by several slots at once, none of which wraps.
+use Rattle.std.proofs.Common.{◌≡◌, ℕ, ◌+◌, ◌-◌, ◌%◌, ◌<◌, ◌≤◌, Bool, true, false, List, Option, nat_eq, sym, ap, subst, ◌∙◌, inl, inr, arith}
+use Rattle.std.proofs.Math.Nat.{mod-add-mod, mod-eq_of_lt}
+use Rattle.std.proofs.lemmas.Bool.{cases_lt, eqb-false}
+use Rattle.hashbag_slots.specs.Slots.{path_slot, holds, slot_at}
+use Rattle.hashbag_slots.specs.Columns.{mark_of, tag_at, slots_of, columns, Agree, IsReached}
+use Rattle.hashbag_slots.proofs.Reading.{holds_other}
+
+pub path_ahead : (n h s k : ℕ) → path_slot n h s + k < n → path_slot n h (s + k) ≡ path_slot n h s + k
+path_ahead n h s k lt =
+    let e : h + (s + k) ≡ h + s + k = omega arith in
+    ap (λ x. x % n) e ∙ sym (mod-add-mod (h + s) n k) ∙ mod-eq_of_lt lt
+
+-- what holds at each place that was passed, and at the next r, holds at all of these
+pub further : (Q : ℕ → Type 0) (n h s r : ℕ) → path_slot n h s + r ≤ n → ((k : ℕ) → k < s → Q (path_slot n h k)) → ((p : ℕ) → path_slot n h s ≤ p → p < path_slot n h s + r → Q p) → (k : ℕ) → k < s + r → Q (path_slot n h k)
+further Q n h s r room before run k lt =
+    elim (cases_lt k s) [
+      | inl a ↦ before k a
+      | inr b ↦
+          let e : s + (k - s) ≡ k = omega arith in
+          let ahead : path_slot n h (s + (k - s)) ≡ path_slot n h s + (k - s) = path_ahead n h s (k - s) (omega arith) in
+          subst (λ i. Q (path_slot n h i)) e (subst Q (sym ahead) (run (path_slot n h s + (k - s)) (omega arith) (omega arith)))
+    ]
+
+module _ {T : Type 0} (eq : T → T → Bool) (x : T) (hash : T → ℕ) (alike : (v w : T) → eq v w ≡ true → hash v ≡ hash w) (ts : List ℕ) (cs : List (Option (T × ℕ))) (agree : Agree ts cs) (reached : IsReached hash (columns ts cs)) where
+  -- slots whose tags are not the value's mark hold other values
+  pub others : (mark : ℕ) → mark ≡ mark_of (hash x) → (from r : ℕ) → ((p : ℕ) → from ≤ p → p < r → nat_eq (tag_at ts p) mark ≡ false) → (p : ℕ) → from ≤ p → p < r → holds (λ v. eq v x) (slot_at (slots_of ts cs) p) ≡ false
+  others mark is from r differ p a b = holds_other ts cs agree p eq x hash alike reached (λ e. eqb-false (tag_at ts p) mark (differ p a b) (e ∙ sym is))

@@ -1,8 +1,0 @@
-use Rattle.std.proofs.Common.{◌≡◌, ℕ, ◌<◌, false}
-use Rattle.hashbag_slots.specs.Slots.{path_slot, holds, slot_at}
-use Rattle.hashbag_slots.specs.Columns.{slots_of}
-use Rattle.hashbag_slots.proofs.tags.find_place.Given as goal
-
--- no slot that was passed holds the value
-abbrev pub invariant-loop-step : goal.invariant-loop-step
-invariant-loop-step g l = (k : ℕ) → k < l.step → holds (λ v. g.T.PartialEq.eq v l.value) (slot_at (slots_of l.tags l.cells) (path_slot l.count l.hash k)) ≡ false
