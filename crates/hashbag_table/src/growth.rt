@@ -61,7 +61,8 @@ pub fn least_count(from: usize, values: usize) -> Result<usize, AllocError>
 /// Carries the next `most` waiting slots of the older table into the newer one, or all where they are fewer, and frees the older
 /// one where none waits then.
 ///
-/// It answers how many slots of the older one were looked at. It takes no memory, and hashes each value that it carries once.
+/// It answers how many slots of the older one were looked at. It takes no memory, hashes each value that it carries once, and does
+/// nothing where the older table has no slots.
 pub fn carry_next<T: Eq + Hash + Drop, S: BuildHasher>(
     newer: &mut Slots<T>,
     older: &mut Slots<T>,
@@ -75,6 +76,9 @@ pub fn carry_next<T: Eq + Hash + Drop, S: BuildHasher>(
     ensures carried { Carried most newer.old.slots (drop looked older.old.slots) newer.new.slots (drop result older.new.slots) }
 {
     let count = older.slots();
+    if count == 0 {
+        return 0;
+    }
     newer.recall();
     let many = (count - looked).min(most);
     newer.carry_from(hasher, older, looked, many);
