@@ -147,6 +147,9 @@ pub fn find_place<T: Eq + Hash, S: BuildHasher>(
 }
 
 /// The first place on the path of a hash whose slot is not Live.
+///
+/// Most first slots are free. They are looked at by themselves, since sixteen tags can't be read while one of them is still being
+/// written, as it is where neighbours are placed one after the other.
 #[inline(always)]
 pub fn free_place(tags: &[u8], hash: u64) -> usize
     requires count { IsSlotCount (length tags.now) }
@@ -156,6 +159,10 @@ pub fn free_place(tags: &[u8], hash: u64) -> usize
     ensures free { tag_at tags.now result < 128 }
 {
     let count = tags.len();
+    let first = place_after(hash, 0, count);
+    if tags[first] < LEAST_MARK {
+        return first;
+    }
     let mut step = 0;
     'steps: while step < count {
         let place = place_after(hash, step, count);

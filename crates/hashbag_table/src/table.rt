@@ -208,6 +208,7 @@ impl<T: Eq + Hash + Drop, S: BuildHasher + Drop> Table<T, S> {
     }
 
     // Carries the next 16 waiting slots. It takes no memory.
+    #[inline(never)]
     fn carry(&mut self)
         requires room { 0 < room self.old.tables }
         ensures carried { Carried 16 self.old.tables.newer self.old.tables.waiting self.new.tables.newer self.new.tables.waiting }
@@ -249,6 +250,7 @@ impl<T: Eq + Hash + Drop, S: BuildHasher + Drop> Table<T, S> {
 
     // Grows where no room is left: a new table, into which the first 16 slots are carried. Where memory is refused the table is
     // unchanged.
+    #[inline(never)]
     fn grow(&mut self) -> Result<(), AllocError>
         requires full { room self.old.tables ≡ 0 }
         ensures ready { OnOk result (IsReady self.old.tables self.new.tables) }
@@ -271,7 +273,9 @@ impl<T: Eq + Hash + Drop, S: BuildHasher + Drop> Table<T, S> {
         ensures err { OnErr result (self.new ≡ self.old) }
     {
         if self.room() > 0 {
-            self.carry();
+            if self.older.slots() > 0 {
+                self.carry();
+            }
             return Ok(());
         }
         self.grow()
@@ -331,6 +335,7 @@ impl<T: Eq + Hash + Drop, S: BuildHasher + Drop> Table<T, S> {
     }
 
     // Where a value is, whose hash is handed in.
+    #[inline(always)]
     fn locate(&self, hash: u64, value: &T) -> Option<Spot>
         requires hashed { hash ≡ hash_under T.hash_input S.BuildHasher S.Hasher.Hasher self.now.hasher value.now }
         ensures map { entry_in self.now.tables result ≡ entry_of T.eq value.now self.now.entries }
@@ -347,6 +352,7 @@ impl<T: Eq + Hash + Drop, S: BuildHasher + Drop> Table<T, S> {
     }
 
     // Gives the value at a spot another count.
+    #[inline(always)]
     fn set_spot(&mut self, spot: Spot, n: usize)
         requires live { is_live (slot_in self.old.tables spot) ≡ true }
         requires some { 0 < n }
@@ -427,6 +433,7 @@ impl<T: Eq + Hash + Drop, S: BuildHasher + Drop> Table<T, S> {
     }
 
     // The count of the value at a spot.
+    #[inline(always)]
     fn count_at(&self, spot: Spot) -> usize
         requires live { is_live (slot_in self.now.tables spot) ≡ true }
         ensures count { (e : T × ℕ) → entry_in self.now.tables (Some spot) ≡ Some e → result ≡ e.1 }
