@@ -1,5 +1,5 @@
 -- What calls leave of the slots of a bag, from what the calls of its table leave of them.
-use Rattle.std.proofs.Common.{◌≡◌, ℕ, zero, suc, ◌+◌, ◌-◌, ◌<◌, ◌≤◌, ◌==◌, Bool, true, false, cond, List, [], ◌∷◌, length, replicate, None, IsSome, Result, Ok, Err, IfErr, refl, sym, ap, subst, ◌∙◌, inl, inr, arith}
+use Rattle.std.proofs.Common.{◌≡◌, ℕ, zero, suc, ◌+◌, ◌-◌, ◌<◌, ◌≤◌, Bool, cond, List, [], length, replicate, None, IsSome, Result, Ok, Err, IfErr, refl, sym, ap, subst, ◌∙◌, inl, inr, arith}
 use Rattle.std.specs.Cmp.{IsEquivalence}
 use Rattle.std.proofs.lemmas.Bool.{cases_lt, ne_eqb}
 use Rattle.std.proofs.lemmas.List.{nil_from_length, length-replicate}
@@ -7,7 +7,7 @@ use Rattle.hashbag_slots.specs.declared.slots.Slot.{Slot}
 use Rattle.hashbag_slots.specs.declared.slots.Slot.TheVariants.{Empty, Removed}
 use Rattle.hashbag_slots.specs.Slots.{recounted, live_count}
 use Rattle.hashbag_table.specs.Table.{Table}
-use Rattle.hashbag_table.specs.Entries.{entry_of, count_of, IsCounted}
+use Rattle.hashbag_table.specs.Entries.{entry_of, IsCounted}
 use Rattle.hashbag_table.specs.Tables.{Tables, limit, room, IsLeast, IsPacked, Writes, Rewrites, slot_in}
 use Rattle.hashbag_table.proofs.CarryLemmas.{live_fresh, live_empty, removed_empty}
 use Rattle.hashbag_core.specs.Bag.{Bag, occurrences}

@@ -242,6 +242,7 @@ impl<T: Eq + Hash + Drop, S: BuildHasher + Drop> HashBag<T, S> {
     }
 
     /// How often a value occurs, 0 where it is absent. The value is hashed once.
+    #[inline(always)]
     pub fn contains(&self, value: &T) -> usize
         ensures count { result ≡ count T.eq value.now self.now.items }
         ensures bag { IsBag T.eq self.now.items }
@@ -253,6 +254,7 @@ impl<T: Eq + Hash + Drop, S: BuildHasher + Drop> HashBag<T, S> {
     }
 
     /// The stored instance of a value and how often it occurs, or `None` where it is absent. The value is hashed once.
+    #[inline(always)]
     pub fn get(&self, value: &T) -> Option<(&T, usize)>
         ensures found { option_map (λ e. (e.0.now, e.1)) result ≡ stored T.eq value.now self.now.items }
         ensures bag { IsBag T.eq self.now.items }

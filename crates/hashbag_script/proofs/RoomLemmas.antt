@@ -4,7 +4,7 @@ use Rattle.std.specs.Cmp.{IsEquivalence}
 use Rattle.std.specs.List.{list_any}
 use Rattle.std.specs.List.Sorted.{IsPermutation}
 use Rattle.std.proofs.lemmas.List.Folds.{list_any-append}
-use Rattle.std.proofs.lemmas.List.Sorted.{list_any-IsPermutation, IsPermutation-refl, IsPermutation-sym}
+use Rattle.std.proofs.lemmas.List.Sorted.{list_any-IsPermutation, IsPermutation-refl}
 use Rattle.hashbag_table.specs.Tables.{Tables, room}
 use Rattle.hashbag_core.specs.Occurrences.{greatest_total, count, others, add, put}
 use Rattle.hashbag_core.proofs.OccurrenceLemmas.{count_rearranged, put_absent}

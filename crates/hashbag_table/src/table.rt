@@ -5,8 +5,9 @@
 ghost use Rattle.std.specs.Prelude.{◌≡◌, ◌++◌, ◌+◌, ◌-◌, ◌*◌, ◌<◌, ◌≤◌, ◌^◌, ℕ, [], ◌∷◌, All, length, replicate, true, Some, None, IfSome, IfOk, OnOk, OnErr, IsOk, IsErr, IsSome, option_map, slice_set};
 ghost use Rattle.std.specs.Borrow.{sem};
 ghost use Rattle.std.specs.List.Sorted.{IsPermutation};
+ghost use Rattle.std.specs.Map.{lookup_entry};
 ghost use Rattle.hashbag_slots.specs.Hashing.{hash_under};
-ghost use Rattle.hashbag_slots.specs.Slots.{IsSlotCount, entries, live_count, is_live, Places, recounted, holds, slot_at, count_in};
+ghost use Rattle.hashbag_slots.specs.Slots.{IsSlotCount, entries, entry_at, live_count, is_live, HoldsAt, Places, recounted, holds, slot_at, count_in};
 ghost use Rattle.hashbag_slots.specs.Columns.{IsReached, IsAlike};
 ghost use Rattle.hashbag_table.specs.Asked.{MayAskInTurn, Retains};
 ghost use Rattle.hashbag_table.specs.Entries.{entry_of, count_of, without, with_count, with_fewer, with_instance, total, IsCounted, HasClones};
@@ -36,6 +37,41 @@ fn put_one<T: Eq>(slots: &mut Slots<T>, place: usize, value: T) -> T
     let former = slots.put_at(place, value);
     slots.set_at(place, 1);
     former
+}
+
+// As `find_hashed`, of the older table, which seldom has slots: look-ups of the newer one alone are to be short.
+#[inline(never)]
+fn probe_older<T: Eq + Hash, S: BuildHasher>(
+    older: &Slots<T>,
+    state: &S,
+    hash: u64,
+    value: &T,
+) -> Option<usize>
+    requires hashed { hash ≡ hash_under T.hash_input S.BuildHasher S.Hasher.Hasher state.now value.now }
+    requires reached { IsReached (hash_under T.hash_input S.BuildHasher S.Hasher.Hasher state.now) older.now }
+    ensures found { IfSome result (HoldsAt (λ v. T.eq v value.now) older.now.slots) }
+    ensures map { entry_at older.now.slots result ≡ lookup_entry (λ v. T.eq v value.now) (entries older.now.slots) }
+{
+    older.find_hashed(state, hash, value)
+}
+
+// The place of a value in the older table.
+#[inline(always)]
+fn find_older<T: Eq + Hash, S: BuildHasher>(
+    older: &Slots<T>,
+    state: &S,
+    hash: u64,
+    value: &T,
+) -> Option<usize>
+    requires hashed { hash ≡ hash_under T.hash_input S.BuildHasher S.Hasher.Hasher state.now value.now }
+    requires reached { IsReached (hash_under T.hash_input S.BuildHasher S.Hasher.Hasher state.now) older.now }
+    ensures found { IfSome result (HoldsAt (λ v. T.eq v value.now) older.now.slots) }
+    ensures map { entry_at older.now.slots result ≡ lookup_entry (λ v. T.eq v value.now) (entries older.now.slots) }
+{
+    if older.slots() == 0 {
+        return None;
+    }
+    probe_older(older, state, hash, value)
 }
 
 /// Where a value is: the place of its slot among those of the newer table, or among those that wait.
@@ -193,6 +229,7 @@ impl<T: Eq + Hash + Drop, S: BuildHasher + Drop> Table<T, S> {
 
     /// The stored instance of a value and its count, or `None` where it is absent. It is hashed once for
     /// both tables.
+    #[inline(always)]
     pub fn get(&self, value: &T) -> Option<(&T, usize)>
         ensures found { option_map (λ e. (e.0.now, e.1)) result ≡ entry_of T.eq value.now self.now.entries }
         ensures counted { IsCounted T.eq self.now.entries }
@@ -201,7 +238,7 @@ impl<T: Eq + Hash + Drop, S: BuildHasher + Drop> Table<T, S> {
         if let Some(place) = self.newer.find_hashed(&self.hasher, hash, value) {
             return self.newer.at(place);
         }
-        match self.older.find_hashed(&self.hasher, hash, value) {
+        match find_older(&self.older, &self.hasher, hash, value) {
             Some(place) => self.older.at(place),
             None => None,
         }
@@ -345,7 +382,7 @@ impl<T: Eq + Hash + Drop, S: BuildHasher + Drop> Table<T, S> {
         if let Some(place) = self.newer.find_hashed(&self.hasher, hash, value) {
             return Some(Spot::Newer(place));
         }
-        match self.older.find_hashed(&self.hasher, hash, value) {
+        match find_older(&self.older, &self.hasher, hash, value) {
             Some(place) => Some(Spot::Waiting(place - self.looked)),
             None => None,
         }

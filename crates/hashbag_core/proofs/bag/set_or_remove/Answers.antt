@@ -1,5 +1,5 @@
 use Rattle.hashbag_core.proofs.OccurrenceLemmas.{set_occurrences, set_none_occurrences, present_from_count}
-use Rattle.std.proofs.Common.{Option, IsSome, subst, sym, ◌<◌, arith, ℕ}
+use Rattle.std.proofs.Common.{Option, IsSome, subst, sym, arith, ℕ}
 use Rattle.hashbag_core.proofs.HeldLemmas.{recounts_some, recounts_none}
 use Rattle.hashbag_core.proofs.bag.set_or_remove.Goals as goal
 

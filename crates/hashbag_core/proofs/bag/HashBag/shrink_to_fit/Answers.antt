@@ -1,6 +1,6 @@
 use Rattle.std.proofs.Common.{sym, ◌∙◌}
 use Rattle.hashbag_core.proofs.OccurrenceLemmas.{bag_from_tally, occurrences_rearranged, tally_rearranged}
-use Rattle.std.proofs.Common.{ap, refl}
+use Rattle.std.proofs.Common.{ap}
 use Rattle.std.proofs.lemmas.Bool.{false≢true}
 use Rattle.hashbag_core.proofs.DistinctLemmas.{distinct_count-occurrences}
 use Rattle.hashbag_core.proofs.HeldLemmas.{shown, no_entries, none_from_newer}

@@ -1,5 +1,4 @@
-use Rattle.std.proofs.Common.{◌≡◌, Some, arith, sym, ◌∙◌, ap}
-use Rattle.hashbag_table.specs.Entries.{count_of}
+use Rattle.std.proofs.Common.{◌≡◌, arith, sym, ◌∙◌, ap}
 use Rattle.hashbag_core.specs.Bag.{occurrences}
 use Rattle.hashbag_core.specs.Occurrences.{count}
 use Rattle.hashbag_core.proofs.OccurrenceLemmas.{bag_from_tally, tally_less, count_occurrences, count_of_entry, count_in_tally, fewer_occurrences}

@@ -3,7 +3,6 @@ use Rattle.hashbag_core.proofs.OccurrenceLemmas.{bag_from_tally, tally_less, cou
 use Rattle.std.proofs.Common.{◌≡◌, ap}
 use Rattle.hashbag_core.specs.Bag.{occurrences}
 use Rattle.hashbag_core.specs.Occurrences.{count}
-use Rattle.hashbag_core.specs.Held.{Recounts}
 use Rattle.hashbag_core.proofs.HeldLemmas.{shown, recounts_fewer}
 use Rattle.hashbag_core.proofs.bag.HashBag.take_up_to.Goals as goal
 
