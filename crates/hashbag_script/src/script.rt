@@ -325,6 +325,12 @@ pub fn run_pair<T: Eq + Hash + Drop, S: BuildHasher + Drop, S2: BuildHasher + Dr
     // Only memory stops the runs.
     ensures memory { OnErr result (result ≡ Err BagError.Memory) }
     ensures stopped { OnErr result (IsPairCutOff T.eq (HasNoRoom replies_a.old steps_a ⊎ HasNoRoom replies_b.old steps_b) (ran a.old a.new steps_a.items replies_a.old.items replies_a.new.items) (ran b.old b.new steps_b.items replies_b.old.items replies_b.new.items)) }
+
+    // Where the tables have room for all values that come, each run keeps its slots, and nothing but the room for the replies can be
+    // refused.
+    ensures first_slots { (X : List T) → Means a.old X → IsRoomy T.eq X steps_a.items a.old.tables → length a.new.tables.newer ≡ length a.old.tables.newer }
+    ensures second_slots { (Y : List T) → Means b.old Y → IsRoomy T.eq Y steps_b.items b.old.tables → length b.new.tables.newer ≡ length b.old.tables.newer }
+    ensures takes { (X Y : List T) → Means a.old X → Means b.old Y → IsRoomy T.eq X steps_a.items a.old.tables → IsRoomy T.eq Y steps_b.items b.old.tables → OnErr result (HasNoRoom replies_a.old steps_a ⊎ HasNoRoom replies_b.old steps_b) }
 {
     replies_a.reserve(steps_a.len())?;
     replies_b.reserve(steps_b.len())?;

@@ -85,6 +85,18 @@ const ROWS: &str = "\
     counts [44, 45, 46, 47, 48, 49, 50, 51, 52] = [1, 1, 1, 1, 1, 1, 1, 1, 0]
     set_len = 52
 
+    [extends within reserved room]
+    reserve 40 = ()
+    tables = (64, 0, 48)
+    extend [1, 2, 3] = ()
+    tables = (64, 0, 45)
+    extend_refs [3, 4] = ()
+    tables = (64, 0, 44)
+    extend_many 5:2 6:1 = ()
+    tables = (64, 0, 42)
+    extend_refs_many 6:2 7:1 = ()
+    tables = (64, 0, 41)
+
     [in the middle of a carry]
     insert_each [1, 2, 3, 4, 5, 6, 7, 8, 9, 10, 11, 12, 13, 14, 15, 16, 17, 18, 19, 20, 21, 22, 23, 24, 25] = ()
     tables = (64, 16, 23)
@@ -342,7 +354,7 @@ fn cloned_in_a_carry<S: BuildHasher + Default + Copy>(alloc: Global, state: S) -
 }
 
 fn tables_under<S: BuildHasher + Default + Copy>(alloc: Global, state: S) -> Result<(), Fail> {
-    make_rows(alloc, state, ROWS, 226)?;
+    make_rows(alloc, state, ROWS, 237)?;
     thousand_in_and_out(alloc, state)?;
     cloned_in_a_carry(alloc, state)
 }
