@@ -1,3 +1,4 @@
+pub mod Bits
 pub mod Carrying
 pub mod Edits
 pub mod Hashing

@@ -2,6 +2,7 @@
 use Rattle.std.proofs.Common.{◌≡◌, ℕ, zero, suc, Bool, true, false, cond, List, [], ◌∷◌, Option, Some, None, refl, sym, ap, ◌∙◌, arith}
 use Rattle.std.specs.Map.{lookup_entry}
 use Rattle.std.specs.Option.{IfSome, IfNone}
+use Rattle.std.specs.Prelude.{Result, Ok, Err, IfOk}
 use Rattle.std.specs.Cmp.{IsEquivalence}
 use Rattle.hashbag_slots.specs.declared.slots.Slot.{Slot}
 use Rattle.hashbag_slots.specs.declared.slots.Slot.TheVariants.{Empty, Removed, Moved, Live}
@@ -59,3 +60,12 @@ module _ {T : Type 0} (eq : T → T → Bool) (laws : IsEquivalence eq) (ss : Li
       let at_q = holder (λ v. eq v x) (slot_at ss q) yes in
       set.apart q p at_q.0 at_p.0 at_q.1 at_p.1 at_q.2 at_p.2
       (sym (laws.congr x at_q.0 at_p.0 (laws.symm x at_q.0 ∙ at_q.3)) ∙ laws.symm x at_p.0 ∙ at_p.3)))
+
+  -- the same of a place alone
+  pub found-lookup : (r : Option ℕ) → IfSome r (HoldsAt (λ v. eq v x) ss) → IfSome r (λ p. slot_entry (slot_at ss p) ≡ lookup_entry (λ v. eq v x) (entries ss))
+  found-lookup None some = tt
+  found-lookup (Some p) some = entry_at-lookup (Some p) some tt
+
+  pub sought-lookup : {E : Type 0} (r : Result ℕ E) → IfOk r (HoldsAt (λ v. eq v x) ss) → IfOk r (λ p. slot_entry (slot_at ss p) ≡ lookup_entry (λ v. eq v x) (entries ss))
+  sought-lookup (Ok p) some = entry_at-lookup (Some p) some tt
+  sought-lookup (Err e) some = tt

@@ -1,10 +1,11 @@
 -- Reading the columns.
-use Rattle.std.proofs.Common.{◌≡◌, ◌≢◌, ℕ, zero, suc, ◌<◌, ◌≤◌, inl, inr, Bool, true, false, cond, nat_eq, List, [], ◌∷◌, length, Option, Some, None, get_or, refl, sym, ap, ◌∙◌, arith}
+use Rattle.std.proofs.Common.{◌≡◌, ◌≢◌, ℕ, zero, suc, ◌<◌, ◌≤◌, inl, inr, Bool, true, false, cond, nat_eq, List, [], ◌∷◌, length, Option, Some, None, get_or, refl, sym, ap, subst, ◌∙◌, arith}
 use Rattle.std.proofs.lemmas.Bool.{cases_lt}
 use Rattle.hashbag_slots.specs.declared.slots.Slot.TheVariants.{Empty, Removed, Moved, Live}
-use Rattle.hashbag_slots.specs.Slots.{slot_at, holds, is_live, is_removed}
+use Rattle.hashbag_slots.specs.Slots.{path_slot, slot_at, holds, is_live, is_removed, IsFirstFree}
 use Rattle.hashbag_slots.specs.declared.slots.Slot.{Slot}
 use Rattle.hashbag_slots.specs.Columns.{mark_of, IsNextMark, slot_of, slots_of, columns, Agree, IsReached}
+use Rattle.hashbag_slots.proofs.Paths.{path_below}
 use Rattle.hashbag_slots.proofs.Probing.{false_by, holder}
 
 -- a slot without a value is not Live
@@ -106,3 +107,39 @@ module _ {T : Type 0} (ts : List ℕ) (cs : List (Option (T × ℕ))) (agree : A
     live = alive_at ts cs agree p h.2;
     between = λ q a b. dead_at ts cs agree q (h.3 q a b);
   }
+
+-- the first tag on the path of a hash that is no mark
+pub record IsFirstLow (ts : List ℕ) (hash p : ℕ) : Type 0 where
+  pub step : ℕ
+  pub within : step < length ts
+  pub on_path : p ≡ path_slot (length ts) hash step
+  pub bound : p < length ts
+  pub free : get_or ts p 0 < 128
+  pub front : (before : ℕ) → before < step → 128 ≤ get_or ts (path_slot (length ts) hash before) 0
+
+module _ {T : Type 0} (ts : List ℕ) (cs : List (Option (T × ℕ))) (agree : Agree ts cs) (hash p : ℕ) where
+  pub first_free : IsFirstFree hash (slots_of ts cs) p → IsFirstLow ts hash p
+  first_free first =
+      let len : length (slots_of ts cs) ≡ length ts = length-slots_of ts cs agree.same_length in
+      let lt = first.within in
+      let is : p ≡ path_slot (length ts) hash first.step = first.on_path ∙ ap (λ n. path_slot n hash first.step) len in
+      let below = path_below (length ts) hash first.step (omega arith) in
+      record {
+        step = first.step;
+        within = omega arith;
+        on_path = is;
+        bound = omega arith;
+        free = low_at ts cs agree p first.free;
+        front = λ before low. (marked_at ts cs agree (path_slot (length ts) hash before) (subst (λ n. is_live (slot_at (slots_of ts cs) (path_slot n hash before)) ≡ true) len (first.front before low))).0;
+      }
+
+  pub first_low : (step : ℕ) → step < length ts → p ≡ path_slot (length ts) hash step → get_or ts p 0 < 128 → ((before : ℕ) → before < step → 128 ≤ get_or ts (path_slot (length ts) hash before) 0) → IsFirstFree hash (slots_of ts cs) p
+  first_low step lt is low front =
+      let len : length (slots_of ts cs) ≡ length ts = length-slots_of ts cs agree.same_length in
+      record {
+        step = step;
+        within = omega arith;
+        on_path = is ∙ sym (ap (λ n. path_slot n hash step) len);
+        free = dead_at ts cs agree p low;
+        front = λ before lt. subst (λ n. is_live (slot_at (slots_of ts cs) (path_slot n hash before)) ≡ true) (sym len) (alive_at ts cs agree (path_slot (length ts) hash before) (front before lt));
+      }

@@ -11,6 +11,10 @@ path_ahead n h s k lt =
     let e : h + (s + k) ≡ h + s + k = omega arith in
     ap (λ x. x % n) e ∙ sym (mod-add-mod (h + s) n k) ∙ mod-eq_of_lt lt
 
+-- the first places of a path
+pub path_near : (n h k : ℕ) → path_slot n h 0 + k < n → path_slot n h k ≡ path_slot n h 0 + k
+path_near n h k lt = let e : k ≡ 0 + k = omega arith in ap (path_slot n h) e ∙ path_ahead n h 0 k lt
+
 -- what holds at each place that was passed, and at the next r, holds at all of these
 pub further : (Q : ℕ → Type 0) (n h s r : ℕ) → path_slot n h s + r ≤ n → ((k : ℕ) → k < s → Q (path_slot n h k)) → ((p : ℕ) → path_slot n h s ≤ p → p < path_slot n h s + r → Q p) → (k : ℕ) → k < s + r → Q (path_slot n h k)
 further Q n h s r room before run k lt =

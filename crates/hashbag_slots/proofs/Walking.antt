@@ -1,13 +1,15 @@
 -- The pairs that are still to come.
-use Rattle.std.proofs.Common.{◌≡◌, ℕ, zero, suc, ◌+◌, ◌-◌, ◌<◌, ◌≤◌, true, false, cond, List, [], ◌∷◌, length, drop, Option, Some, None, refl, sym, ap, ◌∙◌, arith, slice_set}
-use Rattle.std.proofs.lemmas.List.{get_or-drop}
+use Rattle.std.proofs.Common.{◌≡◌, ℕ, zero, suc, ◌+◌, ◌-◌, ◌<◌, ◌≤◌, true, false, cond, leb, List, [], ◌∷◌, length, drop, Option, Some, None, refl, sym, ap, ◌∙◌, arith, slice_set}
+use Rattle.std.proofs.lemmas.List.{get_or-drop, length-set}
+use Rattle.std.proofs.lemmas.Bool.{le-ltb}
 use Rattle.std.proofs.lemmas.List.Sums.{sum_by-cons}
+use Rattle.std.proofs.lemmas.Nat.Bits.{bit_at-zero}
 use Rattle.core.specs.Iterator.{MakesProgress, at_most}
 use Rattle.hashbag_slots.specs.declared.slots.Slot.{Slot}
 use Rattle.hashbag_slots.specs.declared.slots.Slot.TheVariants.{Empty, Removed, Moved, Live}
 use Rattle.hashbag_slots.specs.Columns.{IsNextMark, Agree, slot_of, slots_of, tag_at}
 use Rattle.hashbag_slots.specs.Cells.{cell_at}
-use Rattle.hashbag_slots.specs.Walks.{entries_from, IsWalk}
+use Rattle.hashbag_slots.specs.Walks.{entries_from, IsWalk, IsAhead}
 use Rattle.hashbag_slots.proofs.Reading.{IsNextLive, next_slot, live_at, dead_at}
 use Rattle.hashbag_slots.proofs.Writing.{set-slots_of, Agree-empty}
 use Rattle.hashbag_slots.specs.Slots.{is_live, live_count, slot_at, entries}
@@ -73,9 +75,17 @@ module _ {T : Type 0} where
         step Moved e m = omega (arith, e, m)
         step (Live v n) e m = omega (arith, e, m)
 
+-- nothing is told
+pub IsAhead-none : (ts : List ℕ) (next : ℕ) → next ≤ length ts → IsAhead ts next next 0
+IsAhead-none ts next within = record {
+  told = λ i. bit_at-zero i ∙ sym (ap (λ b. cond b (cond (leb 128 (tag_at ts (next + i))) 1 0) 0) (le-ltb (next + i) next (omega arith)));
+  from = omega arith;
+  within = within;
+}
+
 -- a walk of a whole table
 pub IsWalk-all : {T : Type 0} (ts : List ℕ) (cs : List (Option (T × ℕ))) (live : ℕ) → Agree ts cs → live ≡ live_count (slots_of ts cs) → IsWalk ts cs 0 live
-IsWalk-all ts cs live agree is = record { agree = agree; count = is ∙ sym (length-entries_live (slots_of ts cs)) }
+IsWalk-all ts cs live agree is = record { agree = agree; count = is ∙ sym (length-entries_live (slots_of ts cs)); within = omega arith }
 
 module _ {T : Type 0} (ts : List ℕ) (cs : List (Option (T × ℕ))) (next left : ℕ) (walk : IsWalk ts cs next left) where
   -- where no tag is a mark, nothing is to come
@@ -91,7 +101,7 @@ module _ {T : Type 0} (ts : List ℕ) (cs : List (Option (T × ℕ))) (next left
     some_left = let l = ap length walk_gives in let i = walk.count in omega arith
 
     pub walk_goes_on : IsWalk ts cs (p + 1) (left - 1)
-    walk_goes_on = record { agree = walk.agree; count = let l = ap length walk_gives in let i = walk.count in omega arith }
+    walk_goes_on = record { agree = walk.agree; count = let l = ap length walk_gives in let i = walk.count in omega arith; within = let w = mark.1 in omega arith }
 
     -- what is taken out changes nothing of what is to come
     pub rest_after_take : entries_from (p + 1) (slice_set ts p 1) (slice_set cs p None) ≡ entries_from (p + 1) ts cs
@@ -101,4 +111,5 @@ module _ {T : Type 0} (ts : List ℕ) (cs : List (Option (T × ℕ))) (next left
     walk_goes_on_after_take = record {
       agree = Agree-empty ts cs walk.agree p (mark.1) 1 (omega arith);
       count = let l = ap length walk_gives in let i = walk.count in let r = ap length rest_after_take in omega arith;
+      within = let w = mark.1 in let l = length-set ts p 1 in omega arith;
     }

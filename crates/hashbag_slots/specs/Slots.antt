@@ -53,6 +53,14 @@ module _ {T : Type 0} where
   abbrev pub IsAbsent : (T → Bool) → List (Slot T) → Type 0
   IsAbsent test ss = (p : ℕ) → p < length ss → holds test (slot_at ss p) ≡ false
 
+  -- the place is the first on the path of a hash whose slot is not Live
+  pub record IsFirstFree (hash : ℕ) (ss : List (Slot T)) (p : ℕ) : Type 0 where
+    pub step : ℕ
+    pub within : step < length ss
+    pub on_path : p ≡ path_slot (length ss) hash step
+    pub free : is_live (slot_at ss p) ≡ false
+    pub front : (before : ℕ) → before < step → is_live (slot_at ss (path_slot (length ss) hash before)) ≡ true
+
   -- the value and the count of a Live slot
   abbrev pub slot_entry : Slot T → Option (T × ℕ)
   slot_entry Empty = None

@@ -1,7 +1,14 @@
 -- What a walk over tags and cells still gives.
-use Rattle.std.specs.Prelude.{◌≡◌, ℕ, List, Option, drop, length}
-use Rattle.hashbag_slots.specs.Columns.{Agree, slots_of}
+use Rattle.std.specs.Prelude.{◌≡◌, ℕ, ◌≤◌, List, Option, drop, length, nat_le}
+use Rattle.hashbag_slots.specs.Columns.{Agree, tag_at, slots_of}
+use Rattle.hashbag_slots.specs.Lanes.{Tells}
 use Rattle.hashbag_slots.specs.Slots.{entries}
+
+-- bits tell which slots are Live from the place `next` on, below `until`
+pub record IsAhead (ts : List ℕ) (next until bits : ℕ) : Type 0 where
+  pub told : Tells (λ p. nat_le 128 (tag_at ts p)) next until bits
+  pub from : next ≤ until
+  pub within : until ≤ length ts
 
 module _ {T : Type 0} where
   -- the entries of the slots from the place `next` on
@@ -12,3 +19,4 @@ module _ {T : Type 0} where
   pub record IsWalk (ts : List ℕ) (cs : List (Option (T × ℕ))) (next left : ℕ) : Type 0 where
     pub agree : Agree ts cs
     pub count : left ≡ length (entries_from next ts cs)
+    pub within : next ≤ length ts

@@ -1,8 +1,9 @@
 //! Sixteen tags at once.
-ghost use Rattle.std.specs.Prelude.{◌≡◌, ◌==◌, ℕ, ◌+◌, ◌≤◌, if◌then◌else◌, length, nat_lt, nat_le};
+ghost use Rattle.std.specs.Prelude.{◌≡◌, ◌==◌, ℕ, ◌+◌, ◌<◌, ◌≤◌, ◌^◌, Bool, true, false, if◌then◌else◌, length, nat_lt, nat_le};
 ghost use Rattle.std.specs.Int.{w64, trailing_zeros};
 ghost use Rattle.std.specs.Slice.Scan.{IsFirstPlace};
 ghost use Rattle.hashbag_slots.specs.Columns.{tag_at};
+ghost use Rattle.hashbag_slots.specs.Lanes.{Tells};
 
 use crate::tags::LEAST_MARK;
 use std::simd::prelude::*;
@@ -50,4 +51,39 @@ pub fn live_before(tags: &[u8], from: usize) -> usize
 {
     let free = u8x16::from_slice(&tags[from..]).simd_lt(u8x16::splat(LEAST_MARK));
     first_set(free.to_bitmask())
+}
+
+/// A bit for each of the 16 tags from a place on, the lowest for the first: whether it is `tag`.
+#[inline(always)]
+pub fn equal_ahead(tags: &[u8], from: usize, tag: u8) -> u64
+    requires { from + 16 ≤ length tags.now }
+    ensures { Tells (λ p. tag_at tags.now p == tag) from (from + 16) result }
+{
+    let equal = u8x16::from_slice(&tags[from..]).simd_eq(u8x16::splat(tag));
+    equal.to_bitmask()
+}
+
+/// A bit for each of the 16 tags from a place on, the lowest for the first: whether its slot is Live.
+#[inline(always)]
+pub fn live_ahead(tags: &[u8], from: usize) -> u64
+    requires { from + 16 ≤ length tags.now }
+    ensures { Tells (λ p. nat_le 128 (tag_at tags.now p)) from (from + 16) result }
+{
+    let live = u8x16::from_slice(&tags[from..]).simd_ge(u8x16::splat(LEAST_MARK));
+    live.to_bitmask()
+}
+
+/// The first place of which bits tell that it passes their test, and the bits of the places behind it.
+#[inline(always)]
+pub fn next_told(bits: u64, from: usize) -> (usize, u64)
+    requires some { 0 < bits }
+    requires fits { from + 64 ≤ 2 ^ 64 }
+    ensures from { from ≤ result.0 }
+    ensures below { (test : ℕ → Bool) → (until : ℕ) → Tells test from until bits → result.0 < until }
+    ensures passes { (test : ℕ → Bool) → (until : ℕ) → Tells test from until bits → test result.0 ≡ true }
+    ensures before { (test : ℕ → Bool) → (until : ℕ) → Tells test from until bits → (p : ℕ) → from ≤ p → p < result.0 → test p ≡ false }
+    ensures rest { (test : ℕ → Bool) → (until : ℕ) → Tells test from until bits → Tells test (result.0 + 1) until result.1 }
+{
+    let lane = bits.trailing_zeros();
+    (from + lane as usize, bits >> lane >> 1)
 }

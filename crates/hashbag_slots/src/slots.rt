@@ -7,16 +7,17 @@
 //!
 //! Costs are told in probes, each of which looks at one slot after another on a value's path, and in hashes. A call hashes
 //! nothing and takes no memory, except where it says so. No order of slots is promised but what the contracts say.
-ghost use Rattle.std.specs.Prelude.{◌≡◌, ℕ, ◌+◌, ◌<◌, ◌≤◌, ◌^◌, length, true, false, IfSome, IfNone, IfOk, IsOk, replicate, slice_set, ◌∷◌, []};
+ghost use Rattle.std.specs.Prelude.{◌≡◌, ℕ, ◌+◌, ◌<◌, ◌≤◌, ◌^◌, length, true, false, IfSome, IfNone, IfOk, IfErr, IsOk, OnErr, replicate, slice_set, ◌∷◌, [], Some};
 ghost use Rattle.std.specs.Map.{lookup_entry};
 ghost use Rattle.std.specs.Option.{option_map};
 ghost use Rattle.hashbag_slots.specs.Hashing.{hash_under};
-ghost use Rattle.hashbag_slots.specs.Slots.{IsSlotCount, is_live, holds, live_count, removed_count, slot_at, HoldsAt, IsAbsent, IsSet, slot_entry, entry_at, entries, recounted, raised, count_in, Places, PlacesAll, carried, Carries, entries_in, AreApart};
+ghost use Rattle.hashbag_slots.specs.Slots.{IsSlotCount, is_live, holds, live_count, removed_count, slot_at, HoldsAt, IsAbsent, IsFirstFree, IsSet, slot_entry, entry_at, entries, recounted, raised, count_in, Places, PlacesAll, carried, Carries, entries_in, AreApart};
 ghost use Rattle.hashbag_slots.specs.Columns.{IsReached, IsAlike};
 
 use crate::cells::Cells;
 use crate::tags::{
-    LEAST_MARK, MOVED, REMOVED, drop_values, empty_tags, find_place, free_place, mark_of,
+    LEAST_MARK, MOVED, REMOVED, drop_values, empty_tags, find_place, first_place, free_place,
+    mark_of, seek_place,
 };
 use crate::walk::{IntoWalk, Walk};
 use std::alloc::{AllocError, Global};
@@ -245,6 +246,8 @@ impl<T: Eq> Slots<T> {
             tags: self.tags.as_slice(),
             cells: &self.cells,
             next: 0,
+            ahead: 0,
+            until: 0,
             left: self.live,
         }
     }
@@ -296,6 +299,38 @@ impl<T: Eq + Hash> Slots<T> {
         find_place(self.tags.as_slice(), &self.cells, state, hash, value)
     }
 
+    /// The place of the Live slot with an equal value where that slot is the first on the path of a hash, as it is for most values
+    /// that are present. `None` says nothing.
+    ///
+    /// It looks at one slot.
+    #[inline(always)]
+    pub fn find_first(&self, hash: u64, value: &T) -> Option<usize>
+        ensures found { IfSome result (HoldsAt (λ v. T.eq v value.now) self.now.slots) }
+        ensures map { IfSome result (λ p. entry_at self.now.slots (Some p) ≡ lookup_entry (λ v. T.eq v value.now) (entries self.now.slots)) }
+    {
+        first_place(self.tags.as_slice(), &self.cells, hash, value)
+    }
+
+    /// As `find_hashed`, but where the value is absent it answers the first place on the path of its hash whose slot is not Live,
+    /// into which `place_at` puts it. Not all slots are Live.
+    #[inline(always)]
+    pub fn seek_hashed<S: BuildHasher>(
+        &self,
+        state: &S,
+        hash: u64,
+        value: &T,
+    ) -> Result<usize, usize>
+        requires hashed { hash ≡ hash_under T.hash_input S.BuildHasher S.Hasher.Hasher state.now value.now }
+        requires reached { IsReached (hash_under T.hash_input S.BuildHasher S.Hasher.Hasher state.now) self.now }
+        requires room { live_count self.now.slots < length self.now.slots }
+        ensures found { IfOk result (HoldsAt (λ v. T.eq v value.now) self.now.slots) }
+        ensures absent { OnErr result (IsAbsent (λ v. T.eq v value.now) self.now.slots) }
+        ensures free { IfErr result (IsFirstFree hash self.now.slots) }
+        ensures map { IfOk result (λ p. entry_at self.now.slots (Some p) ≡ lookup_entry (λ v. T.eq v value.now) (entries self.now.slots)) }
+    {
+        seek_place(self.tags.as_slice(), &self.cells, state, hash, value)
+    }
+
     /// Puts in an absent value with the count `n`. It goes into the first slot on its path that is not Live, and all others
     /// stay as they are.
     ///
@@ -325,6 +360,27 @@ impl<T: Eq + Hash> Slots<T> {
         ensures reached { IsReached (hash_under T.hash_input S.BuildHasher S.Hasher.Hasher state.now) self.new }
     {
         let place = free_place(self.tags.as_slice(), hash);
+        self.place_at(place, state, hash, value, n);
+    }
+
+    /// As `place_hashed`, into a slot that is handed in: the first on the path of the value's hash that is not Live.
+    #[inline(always)]
+    pub fn place_at<S: BuildHasher>(
+        &mut self,
+        place: usize,
+        state: &S,
+        hash: u64,
+        value: T,
+        n: usize,
+    )
+        requires hashed { hash ≡ hash_under T.hash_input S.BuildHasher S.Hasher.Hasher state.now value }
+        requires counted { 0 < n }
+        requires absent { IsAbsent (λ v. T.eq v value) self.old.slots }
+        requires free { IsFirstFree hash self.old.slots place }
+        requires reached { IsReached (hash_under T.hash_input S.BuildHasher S.Hasher.Hasher state.now) self.old }
+        ensures placed { Places value n self.old.slots self.new.slots }
+        ensures reached { IsReached (hash_under T.hash_input S.BuildHasher S.Hasher.Hasher state.now) self.new }
+    {
         if self.tags[place] == REMOVED {
             self.removed -= 1;
         }

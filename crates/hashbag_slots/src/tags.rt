@@ -2,14 +2,17 @@
 //!
 //! A probe reads tags, sixteen at once, and a cell only where the tag is the mark of its own hash. Under a hash that spreads its values, that is
 //! so at one in 128 of the other values on its path.
-ghost use Rattle.std.specs.Prelude.{◌≡◌, ℕ, ◌+◌, ◌<◌, ◌≤◌, ◌^◌, ◌/◌, length, IfSome, IfNone, IfOk, IsOk, replicate, Some, None};
+ghost use Rattle.std.specs.Prelude.{◌≡◌, ◌==◌, ℕ, ◌+◌, ◌<◌, ◌≤◌, ◌^◌, ◌/◌, length, false, nat_le, IfSome, IfNone, IfOk, IfErr, IsOk, replicate, Some, None};
 ghost use Rattle.hashbag_slots.specs.Cells.{cell_at, IsFilled};
 ghost use Rattle.hashbag_slots.specs.Hashing.{hash_under};
-ghost use Rattle.hashbag_slots.specs.Slots.{IsSlotCount, path_slot, HoldsAt, IsAbsent};
+ghost use Rattle.hashbag_slots.specs.Lanes.{Tells};
+ghost use Rattle.hashbag_slots.specs.Slots.{IsSlotCount, path_slot, slot_at, holds, HoldsAt, IsAbsent, live_count, IsFirstFree};
 ghost use Rattle.hashbag_slots.specs.Columns.{mark_of, tag_at, IsNextMark, Agree, columns, slots_of, IsReached};
 
 use crate::cells::Cells;
-use crate::lanes::{LANES, free_before, live_before, others_before};
+use crate::lanes::{
+    LANES, equal_ahead, free_before, live_ahead, live_before, next_told, others_before,
+};
 use std::alloc::{AllocError, Global};
 use std::hash::{BuildHasher, Hash};
 
@@ -68,7 +71,7 @@ fn is_in<T: Eq>(cells: &Cells<(T, usize)>, place: usize, value: &T) -> bool
 
 // Probes for a value until it finds it or an Empty slot, or has looked at all slots, 16 tags at once where so many come before
 // the last one.
-#[inline(always)]
+#[inline(never)]
 fn probe<T: Eq + Hash, S: BuildHasher>(
     tags: &[u8],
     cells: &Cells<(T, usize)>,
@@ -115,11 +118,76 @@ fn probe<T: Eq + Hash, S: BuildHasher>(
     None
 }
 
+// The place of an equal value among the 16 slots from a place on, of those whose tag is its mark.
+//
+// Most values are in the first of them. It is looked at by itself, so that its cell is read without waiting for what the other tags
+// say.
+#[inline(always)]
+fn find_among<T: Eq>(
+    tags: &[u8],
+    cells: &Cells<(T, usize)>,
+    from: usize,
+    mark: u8,
+    value: &T,
+) -> Option<usize>
+    requires within { from + 16 ≤ length tags.now }
+    requires mark { 128 ≤ mark }
+    requires agree { Agree tags.now cells.now }
+    ensures found { IfSome result (HoldsAt (λ v. T.eq v value.now) (slots_of tags.now cells.now)) }
+    ensures absent { IfNone result ((p : ℕ) → from ≤ p → p < from + 16 → tag_at tags.now p ≡ mark → holds (λ v. T.eq v value.now) (slot_at (slots_of tags.now cells.now) p) ≡ false) }
+{
+    let mut at = from;
+    let mut ahead = equal_ahead(tags, from, mark);
+    if ahead & 1 == 1 && is_in(cells, from, value) {
+        return Some(from);
+    }
+    'marks: while ahead != 0 {
+        let (place, rest) = next_told(ahead, at);
+        if is_in(cells, place, value) {
+            return Some(place);
+        }
+        at = place + 1;
+        ahead = rest;
+    }
+    None
+}
+
+// What the first 16 slots of a path tell of a value: its place, or that it is absent. `None` where they don't tell, or the last slot
+// of the table is among them.
+#[inline(always)]
+fn look_near<T: Eq + Hash, S: BuildHasher>(
+    tags: &[u8],
+    cells: &Cells<(T, usize)>,
+    state: &S,
+    hash: u64,
+    value: &T,
+) -> Option<Option<usize>>
+    requires hashed { hash ≡ hash_under T.hash_input S.BuildHasher S.Hasher.Hasher state.now value.now }
+    requires count { IsSlotCount (length tags.now) }
+    requires agree { Agree tags.now cells.now }
+    requires reached { IsReached (hash_under T.hash_input S.BuildHasher S.Hasher.Hasher state.now) (columns tags.now cells.now) }
+    ensures found { IfSome result (λ known. IfSome known (HoldsAt (λ v. T.eq v value.now) (slots_of tags.now cells.now))) }
+    ensures absent { IfSome result (λ known. IfNone known (IsAbsent (λ v. T.eq v value.now) (slots_of tags.now cells.now))) }
+{
+    let count = tags.len();
+    if count == 0 {
+        return Some(None);
+    }
+    let first = place_after(hash, 0, count);
+    if first + LANES > count {
+        return None;
+    }
+    if let Some(place) = find_among(tags, cells, first, mark_of(hash), value) {
+        return Some(Some(place));
+    }
+    if others_before(tags, first, EMPTY) < LANES {
+        return Some(None);
+    }
+    None
+}
+
 /// The place of the Live slot with an equal value, if there is one. The value's hash is handed in. It probes until it finds
 /// the value or an Empty slot, or has looked at all slots, and goes past Removed and Moved ones.
-///
-/// Most values are in the first slot of their path. It is looked at by itself, so that its cell is read without waiting for
-/// what the tags say.
 #[inline(always)]
 pub fn find_place<T: Eq + Hash, S: BuildHasher>(
     tags: &[u8],
@@ -135,6 +203,24 @@ pub fn find_place<T: Eq + Hash, S: BuildHasher>(
     ensures found { IfSome result (HoldsAt (λ v. T.eq v value.now) (slots_of tags.now cells.now)) }
     ensures absent { IfNone result (IsAbsent (λ v. T.eq v value.now) (slots_of tags.now cells.now)) }
 {
+    match look_near(tags, cells, state, hash, value) {
+        Some(known) => known,
+        None => probe(tags, cells, state, hash, value),
+    }
+}
+
+/// The place of the Live slot with an equal value where that slot is the first on the path of a hash. `None` says nothing.
+#[inline(always)]
+pub fn first_place<T: Eq>(
+    tags: &[u8],
+    cells: &Cells<(T, usize)>,
+    hash: u64,
+    value: &T,
+) -> Option<usize>
+    requires count { IsSlotCount (length tags.now) }
+    requires agree { Agree tags.now cells.now }
+    ensures found { IfSome result (HoldsAt (λ v. T.eq v value.now) (slots_of tags.now cells.now)) }
+{
     let count = tags.len();
     if count == 0 {
         return None;
@@ -143,7 +229,7 @@ pub fn find_place<T: Eq + Hash, S: BuildHasher>(
     if tags[first] == mark_of(hash) && is_in(cells, first, value) {
         return Some(first);
     }
-    probe(tags, cells, state, hash, value)
+    None
 }
 
 /// The first place on the path of a hash whose slot is not Live.
@@ -182,6 +268,55 @@ pub fn free_place(tags: &[u8], hash: u64) -> usize
     unreachable!()
 }
 
+// As `free_place`, of a table in which no neighbour of the first slot was written just before: 16 tags are looked at at once.
+#[inline(always)]
+fn free_near(tags: &[u8], hash: u64) -> usize
+    requires count { IsSlotCount (length tags.now) }
+    requires room { (p : ℕ) × (p < length tags.now) × (tag_at tags.now p < 128) }
+    ensures path { (step : ℕ) × (step < length tags.now) × (result ≡ path_slot (length tags.now) hash step) × ((before : ℕ) → before < step → 128 ≤ tag_at tags.now (path_slot (length tags.now) hash before)) }
+    ensures bound { result < length tags.now }
+    ensures free { tag_at tags.now result < 128 }
+{
+    let count = tags.len();
+    let first = place_after(hash, 0, count);
+    if first + LANES <= count {
+        let lane = live_before(tags, first);
+        if lane < LANES {
+            return first + lane;
+        }
+    }
+    free_place(tags, hash)
+}
+
+/// The place of the Live slot with an equal value, or the first place on the value's path whose slot is not Live. Not all slots are
+/// Live.
+#[inline(always)]
+pub fn seek_place<T: Eq + Hash, S: BuildHasher>(
+    tags: &[u8],
+    cells: &Cells<(T, usize)>,
+    state: &S,
+    hash: u64,
+    value: &T,
+) -> Result<usize, usize>
+    requires hashed { hash ≡ hash_under T.hash_input S.BuildHasher S.Hasher.Hasher state.now value.now }
+    requires count { IsSlotCount (length tags.now) }
+    requires agree { Agree tags.now cells.now }
+    requires reached { IsReached (hash_under T.hash_input S.BuildHasher S.Hasher.Hasher state.now) (columns tags.now cells.now) }
+    requires room { live_count (slots_of tags.now cells.now) < length (slots_of tags.now cells.now) }
+    ensures found { IfOk result (HoldsAt (λ v. T.eq v value.now) (slots_of tags.now cells.now)) }
+    ensures absent { IfErr result (λ _. IsAbsent (λ v. T.eq v value.now) (slots_of tags.now cells.now)) }
+    ensures free { IfErr result (IsFirstFree hash (slots_of tags.now cells.now)) }
+{
+    let found = match look_near(tags, cells, state, hash, value) {
+        Some(known) => known,
+        None => probe(tags, cells, state, hash, value),
+    };
+    match found {
+        Some(place) => Ok(place),
+        None => Err(free_near(tags, hash)),
+    }
+}
+
 /// The first place from `from` on whose slot is Live.
 #[inline(always)]
 pub fn next_mark(tags: &[u8], from: usize) -> Option<usize>
@@ -205,6 +340,41 @@ pub fn next_mark(tags: &[u8], from: usize) -> Option<usize>
         }
     }
     None
+}
+
+/// As `next_mark`, where bits tell which slots are Live from `from` on below `until`. It also answers what bits tell of the places
+/// behind the one found, and below which place.
+#[inline(always)]
+pub fn next_mark_ahead(
+    tags: &[u8],
+    from: usize,
+    bits: u64,
+    until: usize,
+) -> Option<(usize, u64, usize)>
+    requires told { Tells (λ p. nat_le 128 (tag_at tags.now p)) from until bits }
+    requires until { from ≤ until }
+    requires within { until ≤ length tags.now }
+    ensures some { IfSome result (λ r. IsNextMark tags.now from r.0) }
+    ensures told { IfSome result (λ r. Tells (λ p. nat_le 128 (tag_at tags.now p)) (r.0 + 1) r.2 r.1) }
+    ensures until { IfSome result (λ r. r.0 + 1 ≤ r.2) }
+    ensures within { IfSome result (λ r. r.2 ≤ length tags.now) }
+    ensures none { IfNone result ((q : ℕ) → from ≤ q → tag_at tags.now q < 128) }
+{
+    if bits != 0 {
+        let (place, rest) = next_told(bits, from);
+        return Some((place, rest, until));
+    }
+    let count = tags.len();
+    match next_mark(tags, until) {
+        Some(place) => {
+            if place + 1 + LANES <= count {
+                let rest = live_ahead(tags, place + 1);
+                return Some((place, rest, place + 1 + LANES));
+            }
+            Some((place, 0, place + 1))
+        }
+        None => None,
+    }
 }
 
 /// Drops the value of each Live slot, and makes each slot Empty.

@@ -7,7 +7,7 @@ ghost use Rattle.std.specs.Iterator.{YieldsFirst, YieldsFirstBy, item_count, at_
 ghost use Rattle.std.specs.Iterator.SizeHint.{IsWithinCount};
 
 use crate::cells::Cells;
-use crate::tags::{REMOVED, drop_values, next_mark};
+use crate::tags::{REMOVED, drop_values, next_mark, next_mark_ahead};
 use std::alloc::AllocError;
 use std::iter::ExactSizeIterator;
 use std::marker::Model;
@@ -18,18 +18,21 @@ pub struct Walk<'a, T> {
     pub(crate) tags: &'a [u8],
     pub(crate) cells: &'a Cells<(T, usize)>,
     pub(crate) next: usize,
+    // A bit for each slot from `next` on, below `until`: whether it is Live.
+    pub(crate) ahead: u64,
+    pub(crate) until: usize,
     pub(crate) left: usize,
 }
 
 impl<'a, T> Model for Walk<'a, T> {
     ghost use Rattle.std.specs.Prelude.{ℕ, List};
-    ghost use Rattle.hashbag_slots.specs.Walks.{entries_from, IsWalk};
+    ghost use Rattle.hashbag_slots.specs.Walks.{entries_from, IsWalk, IsAhead};
 
     ghost Value = { List (T × ℕ) };
 
     ghost view = { λ w. entries_from w.next w.tags.now w.cells.now };
 
-    ghost invariant = { λ w. IsWalk w.tags.now w.cells.now w.next w.left };
+    ghost invariant = { λ w. IsWalk w.tags.now w.cells.now w.next w.left × IsAhead w.tags.now w.next w.until w.ahead };
 }
 
 impl<'a, T> Clone for Walk<'a, T> {
@@ -44,6 +47,8 @@ impl<'a, T> Clone for Walk<'a, T> {
             tags: self.tags,
             cells: self.cells,
             next,
+            ahead: self.ahead,
+            until: self.until,
             left,
         })
     }
@@ -57,10 +62,12 @@ impl<'a, T> Iterator for Walk<'a, T> {
     ghost remaining = { item_count (λ s. s) };
 
     fn next(&mut self) -> Option<(&'a T, usize)> {
-        match next_mark(self.tags, self.next) {
-            Some(place) => {
+        match next_mark_ahead(self.tags, self.next, self.ahead, self.until) {
+            Some((place, ahead, until)) => {
                 let entry = self.cells.get(place);
                 self.next = place + 1;
+                self.ahead = ahead;
+                self.until = until;
                 self.left -= 1;
                 Some((&entry.0, entry.1))
             }
@@ -160,6 +167,8 @@ impl<T> IntoWalk<T> {
             tags: self.tags.as_slice(),
             cells: &self.cells,
             next: self.next,
+            ahead: 0,
+            until: self.next,
             left: self.left,
         }
     }

@@ -1,14 +1,8 @@
-use Rattle.std.proofs.Common.{◌≡◌, ℕ, ◌+◌, ◌-◌, ◌<◌, ◌≤◌, cond, nat_eq, false, length, get_or, Some, sym, ap, subst, ◌∙◌, arith, slice_set}
-use Rattle.std.proofs.lemmas.Bool.{ne_eqb}
-use Rattle.std.proofs.lemmas.List.{get_or_read}
-use Rattle.hashbag_slots.specs.Hashing.{hash_under}
-use Rattle.hashbag_slots.specs.declared.slots.Slot.TheVariants.{Live}
-use Rattle.hashbag_slots.specs.Slots.{IsSlotCount, path_slot, is_live, live_count, slot_at, IsAbsent}
-use Rattle.hashbag_slots.specs.Columns.{mark_of, columns, slots_of, IsColumns, IsReached}
-use Rattle.hashbag_slots.proofs.Reading.{length-slots_of, low_at, dead_at, removed_at}
-use Rattle.hashbag_slots.proofs.Tables.{some_free, some_removed}
-use Rattle.hashbag_slots.proofs.Writing.{set-slots_of, IsColumns-put, IsReached-place}
-use Rattle.hashbag_slots.proofs.slots.Slots.place_hashed.Goals.{then-index-eq-REMOVED, else-index-eq-REMOVED}
+use Rattle.std.proofs.Common.{◌≡◌, ℕ, ◌<◌, ◌≤◌, length, get_or, sym, ap, subst, ◌∙◌, arith}
+use Rattle.hashbag_slots.specs.Slots.{IsSlotCount, path_slot, live_count, IsFirstFree}
+use Rattle.hashbag_slots.specs.Columns.{slots_of}
+use Rattle.hashbag_slots.proofs.Reading.{length-slots_of, low_at, first_low}
+use Rattle.hashbag_slots.proofs.Tables.{some_free}
 use Rattle.hashbag_slots.proofs.slots.Slots.place_hashed.Goals as goal
 
 pub free_place-place-requires-clause-count : goal.free_place-place-requires-clause-count
@@ -23,77 +17,9 @@ free_place-place-requires-clause-room g c =
     let len = length-slots_of ts cs c.self.invariant.agree.same_length in let low = free.1 in
     subst (λ us. (p : ℕ) × (p < length us) × (get_or us p 0 < 128)) (sym c.as_slice.ensures.value) (free.0, omega arith, low_at ts cs c.self.invariant.agree free.0 free.2)
 
-pub overflow_sub-self : goal.overflow_sub-self
-overflow_sub-self g c =
-    let ts = c.self.inside.tags.items in let cs = c.self.inside.cells in let at = c.free_place-place.result in
-    let bound : at < length ts = subst (λ us. at < length us) c.as_slice.ensures.value c.free_place-place.ensures.bound in
-    let free : get_or ts at 0 < 128 = subst (λ us. get_or us at 0 < 128) c.as_slice.ensures.value c.free_place-place.ensures.free in
-    let tag : get_or ts at 0 ≡ 1 = sym (get_or_read ts at c.index.result.now bound c.index.ensures 0) ∙ c.if-index-eq-REMOVED.true in
-    let len = length-slots_of ts cs c.self.invariant.agree.same_length in
-    let some = some_removed (slots_of ts cs) at (omega arith) (removed_at ts cs c.self.invariant.agree at free ∙ ap (λ t. nat_eq t 1) tag) in
-    let is = c.self.invariant.table.removed_is in omega arith
-
-pub invariant_of-self : goal.invariant_of-self
-invariant_of-self g c =
-    let eq = g.T.PartialEq.eq in
-    let ts = c.self.inside.tags.items in let cs = c.self.inside.cells in let at = c.free_place-place.result in
-    let live : ℕ = c.self.inside.live in let removed : ℕ = c.self.inside.removed in let mark = c.mark_of.result in
-    let v = c.args.value in let n : ℕ = c.args.n in let ins = c.if-index-eq-REMOVED.self-inside in
-    let bound : at < length ts = subst (λ us. at < length us) c.as_slice.ensures.value c.free_place-place.ensures.bound in
-    let free : get_or ts at 0 < 128 = subst (λ us. get_or us at 0 < 128) c.as_slice.ensures.value c.free_place-place.ensures.free in
-    let read = get_or_read ts at c.index.result.now bound c.index.ensures 0 in
-    let absent = subst (λ s. IsAbsent (λ w. eq w v) s.slots) (sym c.self.view_is) c.requires.absent in
-    let done = IsColumns-put eq g.met.T.Eq.laws ts cs live removed at c.self.invariant v n mark bound free c.mark_of.ensures.least absent c.requires.counted in
-    let alike : (ins.tags.items ≡ ts) × (ins.cells ≡ cs) × (ins.live ≡ live) × (ins.removed ≡ removed - cond (nat_eq (get_or ts at 0) 1) 1 0) =
-    elim c.if-index-eq-REMOVED.branch [
-      | then-index-eq-REMOVED w ↦
-          let tag : get_or ts at 0 ≡ 1 = sym read ∙ w.if-index-eq-REMOVED.true in
-          (ap (λ i. i.tags.items) w.self-inside-is, ap (λ i. i.cells) w.self-inside-is, ap (λ i. i.live) w.self-inside-is, ap (λ i. i.removed) w.self-inside-is ∙ sym (ap (λ t. removed - cond (nat_eq t 1) 1 0) tag))
-      | else-index-eq-REMOVED w ↦
-          let other : nat_eq (get_or ts at 0) 1 ≡ false = ne_eqb (get_or ts at 0) 1 (λ e. w.if-index-eq-REMOVED.false (read ∙ e)) in
-          let same : removed ≡ removed - 0 = omega arith in
-          (ap (λ i. i.tags.items) w.self-inside-is, ap (λ i. i.cells) w.self-inside-is, ap (λ i. i.live) w.self-inside-is, ap (λ i. i.removed) w.self-inside-is ∙ same ∙ sym (ap (λ b. removed - cond b 1 0) other))
-    ] in
-    subst (λ us. IsColumns eq (slice_set us at mark) c.put.new.self (ins.live + 1) ins.removed) (sym alike.0)
-    (subst (λ ds. IsColumns eq (slice_set ts at mark) ds (ins.live + 1) ins.removed) (sym (c.put.ensures ∙ ap (λ ds. slice_set ds at (Some (v, n))) alike.1))
-    (subst (λ l. IsColumns eq (slice_set ts at mark) (slice_set cs at (Some (v, n))) (l + 1) ins.removed) (sym alike.2)
-    (subst (λ r. IsColumns eq (slice_set ts at mark) (slice_set cs at (Some (v, n))) (live + 1) r) (sym alike.3) done)))
-
-pub returns-clause-placed : goal.returns-clause-placed
-returns-clause-placed g c =
-    let ts = c.self.inside.tags.items in let cs = c.self.inside.cells in let at = c.free_place-place.result in let mark = c.mark_of.result in
-    let v = c.args.value in let n : ℕ = c.args.n in let ins = c.if-index-eq-REMOVED.self-inside in
-    let bound : at < length ts = subst (λ us. at < length us) c.as_slice.ensures.value c.free_place-place.ensures.bound in
-    let free : get_or ts at 0 < 128 = subst (λ us. get_or us at 0 < 128) c.as_slice.ensures.value c.free_place-place.ensures.free in
-    let alike : (ins.tags.items ≡ ts) × (ins.cells ≡ cs) =
-    elim c.if-index-eq-REMOVED.branch [
-      | then-index-eq-REMOVED w ↦ (ap (λ i. i.tags.items) w.self-inside-is, ap (λ i. i.cells) w.self-inside-is)
-      | else-index-eq-REMOVED w ↦ (ap (λ i. i.tags.items) w.self-inside-is, ap (λ i. i.cells) w.self-inside-is)
-    ] in
-    let len = length-slots_of ts cs c.self.invariant.agree.same_length in
-    let cells : c.put.new.self ≡ slice_set cs at (Some (v, n)) = c.put.ensures ∙ ap (λ ds. slice_set ds at (Some (v, n))) alike.1 in
-    record {
-      at = at;
-      within = let l = ap (λ s. length s.slots) c.self.view_is in omega arith;
-      free = sym (ap (λ s. is_live (slot_at s.slots at)) c.self.view_is) ∙ dead_at ts cs c.self.invariant.agree at free;
-      after = (λ i. slots_of (slice_set (alike.0 i) at mark) (cells i)) ∙ set-slots_of ts cs at mark (Some (v, n)) c.self.invariant.agree.same_length ∙ ap (λ s. slice_set s.slots at (Live v n)) c.self.view_is;
-    }
-
-pub returns-clause-reached : goal.returns-clause-reached
-returns-clause-reached g c =
-    let hash : g.row.T.Denot → ℕ = hash_under g.T.Hash.hash_input g.S.BuildHasher g.S.Hasher.Hasher c.args.state.now in
-    let ts = c.self.inside.tags.items in let cs = c.self.inside.cells in let at = c.free_place-place.result in let mark = c.mark_of.result in
-    let v = c.args.value in let n : ℕ = c.args.n in let ins = c.if-index-eq-REMOVED.self-inside in
-    let bound : at < length ts = subst (λ us. at < length us) c.as_slice.ensures.value c.free_place-place.ensures.bound in
-    let alike : (ins.tags.items ≡ ts) × (ins.cells ≡ cs) =
-    elim c.if-index-eq-REMOVED.branch [
-      | then-index-eq-REMOVED w ↦ (ap (λ i. i.tags.items) w.self-inside-is, ap (λ i. i.cells) w.self-inside-is)
-      | else-index-eq-REMOVED w ↦ (ap (λ i. i.tags.items) w.self-inside-is, ap (λ i. i.cells) w.self-inside-is)
-    ] in
-    let cells : c.put.new.self ≡ slice_set cs at (Some (v, n)) = c.put.ensures ∙ ap (λ ds. slice_set ds at (Some (v, n))) alike.1 in
-    let path = subst (λ us. (step : ℕ) × (step < length us) × (at ≡ path_slot (length us) c.args.hash step) × ((before : ℕ) → before < step → 128 ≤ get_or us (path_slot (length us) c.args.hash before) 0)) c.as_slice.ensures.value c.free_place-place.ensures.path in
-    let hashed : c.args.hash ≡ hash v = c.requires.hashed in
-    let reached = subst (IsReached hash) (sym c.self.view_is) c.requires.reached in
-    let done = IsReached-place ts cs c.self.invariant.agree hash reached v n mark at path.0 bound path.1 (path.2 ∙ ap (λ h. path_slot (length ts) h path.0) hashed) (c.mark_of.ensures.mark ∙ ap (λ h. mark_of h) hashed)
-    (λ before lt. subst (λ h. 128 ≤ get_or ts (path_slot (length ts) h before) 0) hashed (path.3 before lt)) in
-    subst (IsReached hash) (sym (λ i. columns (slice_set (alike.0 i) at mark) (cells i))) done
+pub place_at-requires-clause-free : goal.place_at-requires-clause-free
+place_at-requires-clause-free g c =
+    let ts = c.self.inside.tags.items in let cs = c.self.inside.cells in let h = c.args.hash in let at = c.free_place-place.result in
+    let free = subst (λ us. get_or us at 0 < 128) c.as_slice.ensures.value c.free_place-place.ensures.free in
+    let path = subst (λ us. (step : ℕ) × (step < length us) × (at ≡ path_slot (length us) h step) × ((before : ℕ) → before < step → 128 ≤ get_or us (path_slot (length us) h before) 0)) c.as_slice.ensures.value c.free_place-place.ensures.path in
+    subst (λ s. IsFirstFree h s.slots at) c.self.view_is (first_low ts cs c.self.invariant.agree h at path.0 path.1 path.2 free path.3)

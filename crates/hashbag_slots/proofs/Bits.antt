@@ -1,0 +1,60 @@
+-- What bits tell of places.
+use Rattle.std.proofs.Common.{◌≡◌, ℕ, ◌+◌, ◌-◌, ◌/◌, ◌%◌, ◌^◌, ◌<◌, ◌≤◌, Bool, true, false, cond, ltb, bit_and, List, length, get_or, map, refl, sym, ap, ◌∙◌, inl, inr, arith}
+use Rattle.std.proofs.lemmas.Bool.{cases_lt, ltb-true, lt-ltb, le-ltb}
+use Rattle.std.proofs.lemmas.List.{get_or-map, get_or_past, length-map}
+use Rattle.std.proofs.lemmas.Nat.{and_mask, shr-shr}
+use Rattle.std.proofs.lemmas.Nat.Bits.{bit_at_lowest, bit_at-zero}
+use Rattle.std.proofs.lemmas.Simd.{length-chunk, get_or-chunk, bit_mask_l}
+use Rattle.std.specs.Int.{bit_at}
+use Rattle.std.specs.Simd.Lanes.{chunk, mask_l}
+use Rattle.hashbag_slots.specs.Lanes.{Tells}
+
+pub tells_mask : (q : ℕ → Bool) (ts : List ℕ) (from bits : ℕ) → from + 16 ≤ length ts → bits ≡ mask_l (map q (chunk from 16 ts)) → Tells (λ k. q (get_or ts k 0)) from (from + 16) bits
+tells_mask q ts from bits room is i =
+    let cs = chunk from 16 ts in
+    let long = length-chunk from 16 ts room in
+    let lanes = length-map cs q in
+    ap (λ n. bit_at n i) is ∙ bit_mask_l (map q cs) i ∙ elim (cases_lt i 16) [
+      | inl lt ↦
+          (ap (λ b. cond b 1 0) (get_or-map q cs i 0 false (omega arith) ∙ ap q (get_or-chunk from 16 ts i 0 lt)))
+          ∙ sym (ap (λ b. cond b (cond (q (get_or ts (from + i) 0)) 1 0) 0) (lt-ltb (from + i) (from + 16) (omega arith)))
+      | inr ge ↦
+          (ap (λ b. cond b 1 0) (get_or_past (map q cs) i false (omega arith)))
+          ∙ sym (ap (λ b. cond b (cond (q (get_or ts (from + i) 0)) 1 0) 0) (le-ltb (from + i) (from + 16) (omega arith)))
+    ]
+
+both_set : (b c : Bool) → ◌≡◌ {A = ℕ} (cond b (cond c 1 0) 0) 1 → (b ≡ true) × (c ≡ true)
+both_set true true h = (refl, refl)
+both_set true false h = absurd (omega arith)
+both_set false c h = absurd (omega arith)
+
+not_set : (b c : Bool) → ◌≡◌ {A = ℕ} (cond b (cond c 1 0) 0) 0 → b ≡ true → c ≡ false
+not_set true true h e = absurd (omega arith)
+not_set true false h e = refl
+not_set false c h e = absurd (cc)
+
+module _ (test : ℕ → Bool) (from until bits : ℕ) (tells : Tells test from until bits) where
+  -- a bit that is set
+  pub told : (i : ℕ) → bit_at bits i ≡ 1 → (from + i < until) × (test (from + i) ≡ true)
+  told i one = let b = both_set (ltb (from + i) until) (test (from + i)) (sym (tells i) ∙ one) in (ltb-true _ _ b.0, b.1)
+
+  -- the lowest bit
+  pub first_told : bit_and bits 1 ≡ 1 → test from ≡ true
+  first_told one = let e : from + 0 ≡ from = omega arith in sym (ap test e) ∙ (told 0 (bit_at_lowest bits ∙ sym (and_mask bits 1) ∙ one)).1
+
+  -- a bit that is not set
+  pub untold : (i : ℕ) → bit_at bits i ≡ 0 → from + i < until → test (from + i) ≡ false
+  untold i zero below = not_set (ltb (from + i) until) (test (from + i)) (sym (tells i) ∙ zero) (lt-ltb _ _ below)
+
+  pub untold_at : (i p : ℕ) → from + i ≡ p → bit_at bits i ≡ 0 → p < until → test p ≡ false
+  untold_at i p e zero below = sym (ap test e) ∙ untold i zero (omega arith)
+
+  -- the bits behind one
+  pub tells_behind : (k : ℕ) → Tells test (from + k + 1) until (bits / 2 ^ k / 2 ^ 1)
+  tells_behind k i =
+      let place : from + (k + (1 + i)) ≡ from + k + 1 + i = omega arith in
+      ap (λ n. n % 2) (shr-shr (bits / 2 ^ k) 1 i ∙ shr-shr bits k (1 + i)) ∙ tells (k + (1 + i)) ∙ ap (λ p. cond (ltb p until) (cond (test p) 1 0) 0) place
+
+-- no bit is set
+pub none_told : (test : ℕ → Bool) (from until : ℕ) → Tells test from until 0 → (p : ℕ) → from ≤ p → p < until → test p ≡ false
+none_told test from until tells p a b = untold_at test from until 0 tells (p - from) p (omega arith) (bit_at-zero (p - from)) b

@@ -1,0 +1,7 @@
+-- Sixteen tags at once, as bits.
+use Rattle.std.specs.Prelude.{◌≡◌, ℕ, ◌+◌, Bool, nat_lt, if◌then◌else◌}
+use Rattle.std.specs.Int.{bit_at}
+
+-- bit i is 1 where the place from + i is below `until` and passes the test, and 0 elsewhere
+abbrev pub Tells : (ℕ → Bool) → ℕ → ℕ → ℕ → Type 0
+Tells test from until bits = (i : ℕ) → bit_at bits i ≡ (if nat_lt (from + i) until then (if test (from + i) then 1 else 0) else 0)
