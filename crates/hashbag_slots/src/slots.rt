@@ -348,6 +348,15 @@ impl<T: Eq + Hash> Slots<T> {
         self.place_hashed(state, hash, value, n);
     }
 
+    /// The first place on the path of a hash whose slot is not Live. Not all slots are Live.
+    #[inline(always)]
+    pub fn first_free(&self, hash: u64) -> usize
+        requires room { live_count self.now.slots < length self.now.slots }
+        ensures free { IsFirstFree hash self.now.slots result }
+    {
+        free_place(self.tags.as_slice(), hash)
+    }
+
     /// As `place`, of a value whose hash under the state is handed in: it hashes nothing.
     #[inline(always)]
     pub fn place_hashed<S: BuildHasher>(&mut self, state: &S, hash: u64, value: T, n: usize)
@@ -359,7 +368,7 @@ impl<T: Eq + Hash> Slots<T> {
         ensures placed { Places value n self.old.slots self.new.slots }
         ensures reached { IsReached (hash_under T.hash_input S.BuildHasher S.Hasher.Hasher state.now) self.new }
     {
-        let place = free_place(self.tags.as_slice(), hash);
+        let place = self.first_free(hash);
         self.place_at(place, state, hash, value, n);
     }
 

@@ -6,7 +6,7 @@ use Rattle.std.specs.List.{IsDistinct}
 use Rattle.std.specs.List.Sorted.{IsPermutation}
 use Rattle.std.proofs.lemmas.Bool.{cases_lt}
 use Rattle.std.proofs.lemmas.List.{length-drop, length-take, take-append-drop, get_or-drop, drop-drop, drop_all, length-append, get_or_append_left, get_or-append-add, same_lists, get_or_default}
-use Rattle.std.proofs.lemmas.List.Sorted.{IsPermutation-trans, IsPermutation-append_left, IsPermutation-append_comm}
+use Rattle.std.proofs.lemmas.List.Sorted.{IsPermutation-refl, IsPermutation-trans, IsPermutation-append_left, IsPermutation-append_comm}
 use Rattle.hashbag_slots.specs.declared.slots.Slot.{Slot}
 use Rattle.hashbag_slots.specs.declared.slots.Slot.TheVariants.{Empty, Removed, Moved, Live}
 use Rattle.hashbag_slots.specs.Slots.{is_live, is_removed, holds, live_count, removed_count, slot_at, Places, PlacesAll, carried, Carries, entries, entries_in, AreApart}
@@ -398,6 +398,21 @@ module _ {T : Type 0} where
 
   pub live_alone : (newer waiting : List (Slot T)) → waiting ≡ [] → live_count newer ≡ live_count newer + live_count waiting
   live_alone newer waiting e = let z : live_count waiting ≡ 0 = ap live_count e in omega (arith, z)
+
+-- where nothing waits and there is room, nothing is carried
+pub ready_alone : {T : Type 0} (t : Tables T) → t.waiting ≡ [] → 0 < room t → IsReady t t
+ready_alone t alone some = record {
+  kept = λ pos. record {
+    fills = record { same_length = refl; places = []; few = omega arith; each = λ p. inl refl };
+    waits = alone ∙ sym (drop_all 16 t.waiting (let l = ap length alone in omega arith));
+    entries = IsPermutation-refl _;
+    live = refl;
+    removed = omega arith;
+  };
+  grown = λ none. absurd (omega (arith, none, some));
+  some = some;
+  carries = let l = ap length alone in omega arith;
+}
 
 module _ {T : Type 0} (old mid new : Tables T) where
   pub ready_grown : room old ≡ 0 → Carried 16 (fresh old) old.newer new.newer new.waiting → old.waiting ≡ [] → 0 < room new → length new.waiting ≤ 16 * (room new - 1) → IsReady old new

@@ -2,12 +2,12 @@
 //!
 //! The newer table takes what comes. When it has no room left it becomes the older one, and a new one takes its place. Each value
 //! that comes after that takes the next 16 slots of the older table along, so that no insertion moves all values at once.
-ghost use Rattle.std.specs.Prelude.{◌≡◌, ◌++◌, ◌+◌, ◌-◌, ◌*◌, ◌<◌, ◌≤◌, ◌^◌, ℕ, [], ◌∷◌, All, length, replicate, true, Some, None, IfSome, IfOk, OnOk, OnErr, IsOk, IsErr, IsSome, option_map, slice_set};
+ghost use Rattle.std.specs.Prelude.{◌≡◌, ◌++◌, ◌+◌, ◌-◌, ◌*◌, ◌<◌, ◌≤◌, ◌^◌, ℕ, [], ◌∷◌, All, length, replicate, true, Some, None, IfSome, IfNone, IfOk, IfErr, OnOk, OnErr, IsOk, IsErr, IsSome, option_map, slice_set};
 ghost use Rattle.std.specs.Borrow.{sem};
 ghost use Rattle.std.specs.List.Sorted.{IsPermutation};
 ghost use Rattle.std.specs.Map.{lookup_entry};
 ghost use Rattle.hashbag_slots.specs.Hashing.{hash_under};
-ghost use Rattle.hashbag_slots.specs.Slots.{IsSlotCount, entries, entry_at, live_count, is_live, HoldsAt, Places, recounted, holds, slot_at, count_in};
+ghost use Rattle.hashbag_slots.specs.Slots.{IsSlotCount, entries, entry_at, live_count, is_live, HoldsAt, IsFirstFree, Places, recounted, holds, slot_at, count_in};
 ghost use Rattle.hashbag_slots.specs.Columns.{IsReached, IsAlike};
 ghost use Rattle.hashbag_table.specs.Asked.{MayAskInTurn, Retains};
 ghost use Rattle.hashbag_table.specs.Entries.{entry_of, count_of, without, with_count, with_fewer, with_instance, total, IsCounted, HasClones};
@@ -318,9 +318,11 @@ impl<T: Eq + Hash + Drop, S: BuildHasher + Drop> Table<T, S> {
         self.grow()
     }
 
-    // Places an absent value, where way was made for it. It takes no memory.
-    fn settle(&mut self, hash: u64, value: T, count: usize)
+    // Places an absent value in the first slot on its path that is not Live, where way was made for it. It takes no memory.
+    #[inline(always)]
+    fn settle(&mut self, place: usize, hash: u64, value: T, count: usize)
         requires hashed { hash ≡ hash_under T.hash_input S.BuildHasher S.Hasher.Hasher self.old.hasher value }
+        requires free { IsFirstFree hash self.old.tables.newer place }
         requires absent { entry_of T.eq value self.old.entries ≡ None }
         requires some { 0 < count }
         requires room { 0 < room self.old.tables }
@@ -331,7 +333,7 @@ impl<T: Eq + Hash + Drop, S: BuildHasher + Drop> Table<T, S> {
         ensures hasher { self.new.hasher ≡ self.old.hasher }
         ensures counted { IsCounted T.eq self.new.entries }
     {
-        self.newer.place_hashed(&self.hasher, hash, value, count);
+        self.newer.place_at(place, &self.hasher, hash, value, count);
     }
 
     /// Puts in a value that is absent, with a count. It hashes the value once.
@@ -367,7 +369,8 @@ impl<T: Eq + Hash + Drop, S: BuildHasher + Drop> Table<T, S> {
     {
         self.recall();
         self.make_way()?;
-        self.settle(hash, value, count);
+        let place = self.newer.first_free(hash);
+        self.settle(place, hash, value, count);
         Ok(())
     }
 
@@ -386,6 +389,80 @@ impl<T: Eq + Hash + Drop, S: BuildHasher + Drop> Table<T, S> {
             Some(place) => Some(Spot::Waiting(place - self.looked)),
             None => None,
         }
+    }
+
+    // As `locate`, of a value that is in the first slot of its path in the newer table. `None` says nothing.
+    #[inline(always)]
+    fn locate_first(&self, hash: u64, value: &T) -> Option<Spot>
+        ensures map { IfSome result (λ spot. entry_in self.now.tables (Some spot) ≡ entry_of T.eq value.now self.now.entries) }
+        ensures held { IfSome result (HoldsIn (λ w. T.eq w value.now) self.now.tables) }
+        ensures counted { IsCounted T.eq self.now.entries }
+    {
+        self.recall();
+        match self.newer.find_first(hash, value) {
+            Some(place) => Some(Spot::Newer(place)),
+            None => None,
+        }
+    }
+
+    // Where a value is, or the place in the newer table into which it is put, where no slot waits and there is room. `None` where
+    // that isn't so.
+    #[inline(always)]
+    fn seek(&self, hash: u64, value: &T) -> Option<Result<Spot, usize>>
+        requires hashed { hash ≡ hash_under T.hash_input S.BuildHasher S.Hasher.Hasher self.now.hasher value.now }
+        ensures map { IfSome result (λ r. IfOk r (λ spot. entry_in self.now.tables (Some spot) ≡ entry_of T.eq value.now self.now.entries)) }
+        ensures held { IfSome result (λ r. IfOk r (HoldsIn (λ w. T.eq w value.now) self.now.tables)) }
+        ensures absent { IfSome result (λ r. IfErr r (λ _. entry_of T.eq value.now self.now.entries ≡ None)) }
+        ensures free { IfSome result (λ r. IfErr r (IsFirstFree hash self.now.tables.newer)) }
+        ensures room { IsSome result → 0 < room self.now.tables }
+        ensures none_waits { IsSome result → self.now.tables.waiting ≡ [] }
+    {
+        if self.older.slots() > 0 || self.room() == 0 {
+            return None;
+        }
+        match self.newer.seek_hashed(&self.hasher, hash, value) {
+            Ok(place) => Some(Ok(Spot::Newer(place))),
+            Err(place) => Some(Err(place)),
+        }
+    }
+
+    // Where a value is. One that is absent is put in with a count, and is nowhere.
+    #[inline(never)]
+    fn locate_or_insert(
+        &mut self,
+        hash: u64,
+        value: T,
+        n: usize,
+    ) -> Result<Option<Spot>, AllocError>
+        requires hashed { hash ≡ hash_under T.hash_input S.BuildHasher S.Hasher.Hasher self.old.hasher value }
+        requires some { 0 < n }
+        ensures present { IfOk result (λ at. IsSome at → self.new ≡ self.old) }
+        ensures map { IfOk result (λ at. IfSome at (λ spot. entry_in self.old.tables (Some spot) ≡ entry_of T.eq value self.old.entries)) }
+        ensures held { IfOk result (λ at. IfSome at (HoldsIn (λ w. T.eq w value) self.old.tables)) }
+        ensures nowhere { IfOk result (λ at. IfNone at (entry_of T.eq value self.old.entries ≡ None)) }
+        ensures inserted { IfOk result (λ at. IfNone at (IsPermutation (with_instance T.eq value n self.old.entries) self.new.entries)) }
+        ensures arrives { IfOk result (λ at. IfNone at (Arrives self.old.tables self.new.tables)) }
+        ensures hasher { self.new.hasher ≡ self.old.hasher }
+        ensures counted { IsCounted T.eq self.new.entries }
+        ensures absent { OnErr result (entry_of T.eq value self.old.entries ≡ None) }
+        ensures err { OnErr result (self.new ≡ self.old) }
+        ensures takes { 0 < room self.old.tables → IsOk result }
+    {
+        self.recall();
+        if let Some(sought) = self.seek(hash, &value) {
+            return match sought {
+                Ok(spot) => Ok(Some(spot)),
+                Err(place) => {
+                    self.settle(place, hash, value, n);
+                    Ok(None)
+                }
+            };
+        }
+        if let Some(spot) = self.locate(hash, &value) {
+            return Ok(Some(spot));
+        }
+        self.insert_hashed(hash, value, n)?;
+        Ok(None)
     }
 
     // Gives the value at a spot another count.
@@ -491,6 +568,23 @@ impl<T: Eq + Hash + Drop, S: BuildHasher + Drop> Table<T, S> {
         0
     }
 
+    // Adds to the count of the value at a spot, and answers what the count was.
+    #[inline(always)]
+    fn raise_spot(&mut self, spot: Spot, n: usize) -> usize
+        requires live { is_live (slot_in self.old.tables spot) ≡ true }
+        requires some { 0 < n }
+        requires fits { (e : T × ℕ) → entry_in self.old.tables (Some spot) ≡ Some e → e.1 + n < 2 ^ 64 }
+        ensures before { (e : T × ℕ) → entry_in self.old.tables (Some spot) ≡ Some e → result ≡ e.1 }
+        ensures after { Writes spot (recounted (result + n) (slot_in self.old.tables spot)) self.old.tables self.new.tables }
+        ensures map { (e : T × ℕ) → entry_in self.old.tables (Some spot) ≡ Some e → Swaps self.old.entries self.new.entries e ((e.0, result + n) ∷ []) }
+        ensures hasher { self.new.hasher ≡ self.old.hasher }
+        ensures counted { IsCounted T.eq self.new.entries }
+    {
+        let before = self.count_at(spot);
+        self.set_spot(spot, before + n);
+        before
+    }
+
     /// Takes `n` from the count of a value, and answers what the count was, 0 where the value was absent. Where no more
     /// than `n` are there, the value goes, and its stored instance is dropped.
     ///
@@ -553,6 +647,7 @@ impl<T: Eq + Hash + Drop, S: BuildHasher + Drop> Table<T, S> {
     ///
     /// A stored instance stays, and the value handed in is dropped. It is hashed once. A value that is present takes no memory.
     /// One that is absent may be refused for memory where no room is left: the table is then unchanged, and the value is dropped.
+    #[inline(always)]
     pub fn add(&mut self, value: T, n: usize) -> Result<usize, AllocError>
         requires some { 0 < n }
         requires fits { count_of T.eq value self.old.entries + n < 2 ^ 64 }
@@ -571,13 +666,17 @@ impl<T: Eq + Hash + Drop, S: BuildHasher + Drop> Table<T, S> {
         ensures same_room { IfOk result (λ before. 0 < before → room self.old.tables ≤ room self.new.tables) }
     {
         let hash = self.hash(&value);
-        if let Some(spot) = self.locate(hash, &value) {
-            let before = self.count_at(spot);
-            self.set_spot(spot, before + n);
+        if let Some(spot) = self.locate_first(hash, &value) {
+            let before = self.raise_spot(spot, n);
             return Ok(before);
         }
-        self.insert_hashed(hash, value, n)?;
-        Ok(0)
+        match self.locate_or_insert(hash, value, n)? {
+            Some(spot) => {
+                let before = self.raise_spot(spot, n);
+                Ok(before)
+            }
+            None => Ok(0),
+        }
     }
 
     // Stores another equal instance at a spot, with the count 1, and gives the former one back.

@@ -7,8 +7,8 @@ use Rattle.hashbag_table.proofs.SlotLemmas.{absent_both}
 use Rattle.hashbag_table.proofs.CarryLemmas.{IsTables-settled, entries_settled}
 use Rattle.hashbag_table.proofs.table.Table.settle.Goals as goal
 
-pub place_hashed-requires-clause-absent : goal.place_hashed-requires-clause-absent
-place_hashed-requires-clause-absent g c =
+pub place_at-requires-clause-absent : goal.place_at-requires-clause-absent
+place_at-requires-clause-absent g c =
     let eq = g.T.PartialEq.eq in let v = c.args.value in
     let absent = subst (λ t. entry_of eq v t.entries ≡ None) (sym c.self.view_is) c.requires.absent in
     (absent_both eq g.met.T.Eq.laws v c.self.inside.newer.slots (drop c.self.inside.looked c.self.inside.older.slots) absent).0
@@ -20,7 +20,7 @@ invariant_of-self g c =
     let absent = subst (λ t. entry_of eq v t.entries ≡ None) (sym c.self.view_is) c.requires.absent in
     let has_room = subst (λ t. 0 < room t.tables) (sym c.self.view_is) c.requires.room in
     let carries = subst (λ t. length t.tables.waiting ≤ 16 * (room t.tables - 1)) (sym c.self.view_is) c.requires.carries in
-    IsTables-settled eq g.met.T.Eq.laws hash c.self.inside.newer c.self.inside.older c.place_hashed.new.self c.self.inside.looked v c.args.count c.self.invariant absent c.requires.some has_room carries c.place_hashed.ensures.placed c.place_hashed.ensures.reached
+    IsTables-settled eq g.met.T.Eq.laws hash c.self.inside.newer c.self.inside.older c.place_at.new.self c.self.inside.looked v c.args.count c.self.invariant absent c.requires.some has_room carries c.place_at.ensures.placed c.place_at.ensures.reached
 
 pub returns-clause-entries : goal.returns-clause-entries
 returns-clause-entries g c =
@@ -29,8 +29,8 @@ returns-clause-entries g c =
     let absent = subst (λ t. entry_of eq v t.entries ≡ None) (sym c.self.view_is) c.requires.absent in
     let has_room = subst (λ t. 0 < room t.tables) (sym c.self.view_is) c.requires.room in
     let carries = subst (λ t. length t.tables.waiting ≤ 16 * (room t.tables - 1)) (sym c.self.view_is) c.requires.carries in
-    subst (λ t. IsPermutation ((v, c.args.count) ∷ t.entries) (entries_of c.place_hashed.new.self.slots (drop c.self.inside.looked c.self.inside.older.slots))) c.self.view_is
-    (entries_settled eq g.met.T.Eq.laws hash c.self.inside.newer c.self.inside.older c.place_hashed.new.self c.self.inside.looked v c.args.count c.self.invariant absent c.requires.some has_room carries c.place_hashed.ensures.placed c.place_hashed.ensures.reached)
+    subst (λ t. IsPermutation ((v, c.args.count) ∷ t.entries) (entries_of c.place_at.new.self.slots (drop c.self.inside.looked c.self.inside.older.slots))) c.self.view_is
+    (entries_settled eq g.met.T.Eq.laws hash c.self.inside.newer c.self.inside.older c.place_at.new.self c.self.inside.looked v c.args.count c.self.invariant absent c.requires.some has_room carries c.place_at.ensures.placed c.place_at.ensures.reached)
 
 pub returns-clause-counted : goal.returns-clause-counted
 returns-clause-counted g c = (invariant_of-self g c).counted
