@@ -136,6 +136,7 @@ impl<'a, T> Iterator for SetIter<'a, T> {
 
     ghost remaining = { item_count (λ s. s) };
 
+    #[inline(always)]
     fn next(&mut self) -> Option<(&'a T, usize)> {
         self.walk.next()
     }

@@ -143,6 +143,7 @@ impl<'a, T: Eq + Hash + Drop, S: BuildHasher + Drop, S2: BuildHasher + Drop> Ite
 
     ghost remaining = { item_count (λ s. s) };
 
+    #[inline(always)]
     fn next(&mut self) -> Option<(&'a T, usize, usize)> {
         if let Some((value, count)) = self.first.next() {
             return Some((value, count, self.other.contains(value)));

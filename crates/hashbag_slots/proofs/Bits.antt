@@ -1,9 +1,9 @@
 -- What bits tell of places.
-use Rattle.std.proofs.Common.{◌≡◌, ℕ, ◌+◌, ◌-◌, ◌/◌, ◌%◌, ◌^◌, ◌<◌, ◌≤◌, Bool, true, false, cond, ltb, bit_and, List, length, get_or, map, refl, sym, ap, ◌∙◌, inl, inr, arith}
+use Rattle.std.proofs.Common.{◌≡◌, ℕ, ◌+◌, ◌-◌, ◌/◌, ◌%◌, ◌^◌, ◌<◌, ◌≤◌, Bool, true, false, cond, ltb, List, length, get_or, map, refl, sym, ap, ◌∙◌, inl, inr, arith}
 use Rattle.std.proofs.lemmas.Bool.{cases_lt, ltb-true, lt-ltb, le-ltb}
 use Rattle.std.proofs.lemmas.List.{get_or-map, get_or_past, length-map}
-use Rattle.std.proofs.lemmas.Nat.{and_mask, shr-shr}
-use Rattle.std.proofs.lemmas.Nat.Bits.{bit_at_lowest, bit_at-zero}
+use Rattle.std.proofs.lemmas.Nat.{shr-shr}
+use Rattle.std.proofs.lemmas.Nat.Bits.{bit_at-zero}
 use Rattle.std.proofs.lemmas.Simd.{length-chunk, get_or-chunk, bit_mask_l}
 use Rattle.std.specs.Int.{bit_at}
 use Rattle.std.specs.Simd.Lanes.{chunk, mask_l}
@@ -37,10 +37,6 @@ module _ (test : ℕ → Bool) (from until bits : ℕ) (tells : Tells test from 
   -- a bit that is set
   pub told : (i : ℕ) → bit_at bits i ≡ 1 → (from + i < until) × (test (from + i) ≡ true)
   told i one = let b = both_set (ltb (from + i) until) (test (from + i)) (sym (tells i) ∙ one) in (ltb-true _ _ b.0, b.1)
-
-  -- the lowest bit
-  pub first_told : bit_and bits 1 ≡ 1 → test from ≡ true
-  first_told one = let e : from + 0 ≡ from = omega arith in sym (ap test e) ∙ (told 0 (bit_at_lowest bits ∙ sym (and_mask bits 1) ∙ one)).1
 
   -- a bit that is not set
   pub untold : (i : ℕ) → bit_at bits i ≡ 0 → from + i < until → test (from + i) ≡ false

@@ -119,9 +119,6 @@ fn probe<T: Eq + Hash, S: BuildHasher>(
 }
 
 // The place of an equal value among the 16 slots from a place on, of those whose tag is its mark.
-//
-// Most values are in the first of them. It is looked at by itself, so that its cell is read without waiting for what the other tags
-// say.
 #[inline(always)]
 fn find_among<T: Eq>(
     tags: &[u8],
@@ -138,9 +135,6 @@ fn find_among<T: Eq>(
 {
     let mut at = from;
     let mut ahead = equal_ahead(tags, from, mark);
-    if ahead & 1 == 1 && is_in(cells, from, value) {
-        return Some(from);
-    }
     'marks: while ahead != 0 {
         let (place, rest) = next_told(ahead, at);
         if is_in(cells, place, value) {
@@ -186,29 +180,6 @@ fn look_near<T: Eq + Hash, S: BuildHasher>(
     None
 }
 
-/// The place of the Live slot with an equal value, if there is one. The value's hash is handed in. It probes until it finds
-/// the value or an Empty slot, or has looked at all slots, and goes past Removed and Moved ones.
-#[inline(always)]
-pub fn find_place<T: Eq + Hash, S: BuildHasher>(
-    tags: &[u8],
-    cells: &Cells<(T, usize)>,
-    state: &S,
-    hash: u64,
-    value: &T,
-) -> Option<usize>
-    requires hashed { hash ≡ hash_under T.hash_input S.BuildHasher S.Hasher.Hasher state.now value.now }
-    requires count { IsSlotCount (length tags.now) }
-    requires agree { Agree tags.now cells.now }
-    requires reached { IsReached (hash_under T.hash_input S.BuildHasher S.Hasher.Hasher state.now) (columns tags.now cells.now) }
-    ensures found { IfSome result (HoldsAt (λ v. T.eq v value.now) (slots_of tags.now cells.now)) }
-    ensures absent { IfNone result (IsAbsent (λ v. T.eq v value.now) (slots_of tags.now cells.now)) }
-{
-    match look_near(tags, cells, state, hash, value) {
-        Some(known) => known,
-        None => probe(tags, cells, state, hash, value),
-    }
-}
-
 /// The place of the Live slot with an equal value where that slot is the first on the path of a hash. `None` says nothing.
 #[inline(always)]
 pub fn first_place<T: Eq>(
@@ -230,6 +201,35 @@ pub fn first_place<T: Eq>(
         return Some(first);
     }
     None
+}
+
+/// The place of the Live slot with an equal value, if there is one. The value's hash is handed in. It probes until it finds
+/// the value or an Empty slot, or has looked at all slots, and goes past Removed and Moved ones.
+///
+/// Most values are in the first slot of their path. It is looked at by itself, so that its cell is read without waiting for
+/// what the other tags say.
+#[inline(always)]
+pub fn find_place<T: Eq + Hash, S: BuildHasher>(
+    tags: &[u8],
+    cells: &Cells<(T, usize)>,
+    state: &S,
+    hash: u64,
+    value: &T,
+) -> Option<usize>
+    requires hashed { hash ≡ hash_under T.hash_input S.BuildHasher S.Hasher.Hasher state.now value.now }
+    requires count { IsSlotCount (length tags.now) }
+    requires agree { Agree tags.now cells.now }
+    requires reached { IsReached (hash_under T.hash_input S.BuildHasher S.Hasher.Hasher state.now) (columns tags.now cells.now) }
+    ensures found { IfSome result (HoldsAt (λ v. T.eq v value.now) (slots_of tags.now cells.now)) }
+    ensures absent { IfNone result (IsAbsent (λ v. T.eq v value.now) (slots_of tags.now cells.now)) }
+{
+    if let Some(place) = first_place(tags, cells, hash, value) {
+        return Some(place);
+    }
+    match look_near(tags, cells, state, hash, value) {
+        Some(known) => known,
+        None => probe(tags, cells, state, hash, value),
+    }
 }
 
 /// The first place on the path of a hash whose slot is not Live.

@@ -61,6 +61,7 @@ impl<'a, T> Iterator for Walk<'a, T> {
 
     ghost remaining = { item_count (λ s. s) };
 
+    #[inline(always)]
     fn next(&mut self) -> Option<(&'a T, usize)> {
         match next_mark_ahead(self.tags, self.next, self.ahead, self.until) {
             Some((place, ahead, until)) => {

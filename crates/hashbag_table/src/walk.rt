@@ -51,6 +51,7 @@ impl<'a, T> Iterator for Walk<'a, T> {
 
     ghost remaining = { item_count (λ s. s) };
 
+    #[inline(always)]
     fn next(&mut self) -> Option<(&'a T, usize)> {
         if let Some(entry) = self.newer.next() {
             return Some(entry);

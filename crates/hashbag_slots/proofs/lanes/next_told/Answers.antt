@@ -1,4 +1,4 @@
-use Rattle.std.proofs.Common.{◌+◌, ◌-◌, arith, w64}
+use Rattle.std.proofs.Common.{◌-◌, arith, w64}
 use Rattle.std.proofs.lemmas.Nat.Bits.{bit_at-trailing_zeros}
 use Rattle.std.specs.Int.{trailing_zeros}
 use Rattle.hashbag_slots.proofs.Bits.{told, untold_at, tells_behind}

@@ -1,9 +1,9 @@
-use Rattle.std.proofs.Common.{◌≡◌, ℕ, ◌+◌, ◌<◌, ◌≤◌, Bool, List, eqb, length, false, ap, subst, ◌∙◌, inl, inr, arith}
+use Rattle.std.proofs.Common.{◌≡◌, ℕ, ◌+◌, ◌<◌, Bool, List, eqb, length, false, subst, ◌∙◌, inl, inr, arith}
 use Rattle.std.proofs.lemmas.Bool.{cases_lt, eqb-true, eqb-false}
 use Rattle.hashbag_slots.specs.Lanes.{Tells}
 use Rattle.hashbag_slots.specs.Slots.{holds, slot_at}
 use Rattle.hashbag_slots.specs.Columns.{tag_at, slots_of}
-use Rattle.hashbag_slots.proofs.Bits.{first_told, none_told}
+use Rattle.hashbag_slots.proofs.Bits.{none_told}
 use Rattle.hashbag_slots.proofs.Reading.{length-slots_of, holds_at}
 use Rattle.hashbag_slots.proofs.tags.find_among.Goals as goal
 
@@ -12,34 +12,19 @@ is_marked ts mark p = eqb (tag_at ts p) mark
 
 pub is_in-requires : goal.is_in-requires
 is_in-requires g c =
-    let ts = c.args.tags.now in let from = c.args.from in let least = c.requires.mark in
-    let tag = eqb-true _ _ (first_told (is_marked ts c.args.mark) from (from + 16) c.equal_ahead-ahead.result c.equal_ahead-ahead.ensures c.if-ahead-eq1.true) in
-    c.requires.agree.filled from (omega arith)
-
-pub returns-then-is_in-clause-found : goal.returns-then-is_in-clause-found
-returns-then-is_in-clause-found g c =
-    let ts = c.args.tags.now in let cs = c.args.cells.now in let from = c.args.from in let least = c.requires.mark in
-    let len = length-slots_of ts cs c.requires.agree.same_length in let room = c.requires.within in
-    let within : from < length (slots_of ts cs) = omega arith in
-    let tag = eqb-true _ _ (first_told (is_marked ts c.args.mark) from (from + 16) c.equal_ahead-ahead.result c.equal_ahead-ahead.ensures c.if-ahead-eq1.true) in
-    let e = c.requires.agree.filled from (omega arith) in
-    (within, holds_at ts cs c.requires.agree from g.T.PartialEq.eq c.args.value.now e.0 e.1 ∙ c.is_in.ensures e.0 e.1 ∙ c.if-is_in.true)
-
-pub is_in-requires-in-marks : goal.is_in-requires-in-marks
-is_in-requires-in-marks g c =
     let ts = c.args.tags.now in let least = c.requires.mark in
     let tag = eqb-true _ _ (c.next_told-place.ensures.passes (is_marked ts c.args.mark) (c.args.from + 16) c.marks.invariant.2) in
     c.requires.agree.filled c.next_told-place.result.0 (omega arith)
 
-pub returns-then-is_in-2-clause-found : goal.returns-then-is_in-2-clause-found
-returns-then-is_in-2-clause-found g c =
+pub returns-then-is_in-clause-found : goal.returns-then-is_in-clause-found
+returns-then-is_in-clause-found g c =
     let ts = c.args.tags.now in let cs = c.args.cells.now in let place = c.next_told-place.result.0 in let least = c.requires.mark in
     let len = length-slots_of ts cs c.requires.agree.same_length in let room = c.requires.within in
     let below = c.next_told-place.ensures.below (is_marked ts c.args.mark) (c.args.from + 16) c.marks.invariant.2 in
     let within : place < length (slots_of ts cs) = omega arith in
     let tag = eqb-true _ _ (c.next_told-place.ensures.passes (is_marked ts c.args.mark) (c.args.from + 16) c.marks.invariant.2) in
     let e = c.requires.agree.filled place (omega arith) in
-    (within, holds_at ts cs c.requires.agree place g.T.PartialEq.eq c.args.value.now e.0 e.1 ∙ c.is_in-in-marks.ensures e.0 e.1 ∙ c.if-is_in-2.true)
+    (within, holds_at ts cs c.requires.agree place g.T.PartialEq.eq c.args.value.now e.0 e.1 ∙ c.is_in.ensures e.0 e.1 ∙ c.if-is_in.true)
 
 pub marks-preserved : goal.marks-preserved
 marks-preserved g c =
@@ -60,7 +45,7 @@ marks-preserved g c =
               | inr here ↦
                   let same : place ≡ p = omega arith in
                   subst (λ q. holds (λ v. g.T.PartialEq.eq v c.args.value.now) (slot_at (slots_of ts cs) q) ≡ false) same
-                  (holds_at ts cs c.requires.agree place g.T.PartialEq.eq c.args.value.now e.0 e.1 ∙ c.is_in-in-marks.ensures e.0 e.1 ∙ c.if-is_in-2.false)
+                  (holds_at ts cs c.requires.agree place g.T.PartialEq.eq c.args.value.now e.0 e.1 ∙ c.is_in.ensures e.0 e.1 ∙ c.if-is_in.false)
             ]
           ],
     )

@@ -1,10 +1,10 @@
-use Rattle.std.proofs.Common.{◌≡◌, ℕ, ◌+◌, ◌-◌, ◌<◌, ◌≤◌, cond, nat_eq, false, length, get_or, Some, None, sym, ap, subst, ◌∙◌, arith, slice_set}
+use Rattle.std.proofs.Common.{◌≡◌, ℕ, ◌+◌, ◌-◌, ◌≤◌, cond, nat_eq, false, length, get_or, Some, None, sym, ap, subst, ◌∙◌, arith, slice_set}
 use Rattle.std.proofs.lemmas.Bool.{ne_eqb}
 use Rattle.std.proofs.lemmas.List.{get_or_read}
 use Rattle.std.proofs.lemmas.List.Sums.{count_by-le-length}
 use Rattle.hashbag_slots.specs.Hashing.{hash_under}
 use Rattle.hashbag_slots.specs.declared.slots.Slot.TheVariants.{Live}
-use Rattle.hashbag_slots.specs.Slots.{IsSlotCount, path_slot, is_live, slot_at, IsAbsent, IsFirstFree}
+use Rattle.hashbag_slots.specs.Slots.{path_slot, is_live, slot_at, IsAbsent, IsFirstFree}
 use Rattle.hashbag_slots.specs.Columns.{mark_of, columns, slots_of, IsColumns, IsReached}
 use Rattle.hashbag_slots.proofs.Paths.{count_bound}
 use Rattle.hashbag_slots.proofs.Reading.{length-slots_of, dead_at, removed_at, no_cell, first_free}
