@@ -5,7 +5,7 @@
 //! at a Live one with an equal value. So a value is found where no Empty slot lies before its own on that path. Every call keeps
 //! this, and says so by `IsReached`.
 //!
-//! Costs are told in probes, each of which looks at one slot after another on a value's path, and in hashes. A call hashes
+//! Costs are told in probes, each of which goes along a value's path, sixteen slots at once, and in hashes. A call hashes
 //! nothing and takes no memory, except where it says so. No order of slots is promised but what the contracts say.
 ghost use Rattle.std.specs.Prelude.{◌≡◌, ℕ, ◌+◌, ◌<◌, ◌≤◌, ◌^◌, length, true, false, IfSome, IfNone, IfOk, IfErr, IsOk, OnErr, replicate, slice_set, ◌∷◌, [], Some};
 ghost use Rattle.std.specs.Map.{lookup_entry};
@@ -342,6 +342,7 @@ impl<T: Eq + Hash> Slots<T> {
         requires room { live_count self.old.slots < length self.old.slots }
         requires reached { IsReached (hash_under T.hash_input S.BuildHasher S.Hasher.Hasher state.now) self.old }
         ensures placed { Places value n self.old.slots self.new.slots }
+        ensures first { (p : ℕ) × IsFirstFree (hash_under T.hash_input S.BuildHasher S.Hasher.Hasher state.now value) self.old.slots p × (self.new.slots ≡ slice_set self.old.slots p (Slot.Live value n)) }
         ensures reached { IsReached (hash_under T.hash_input S.BuildHasher S.Hasher.Hasher state.now) self.new }
     {
         let hash = hash_of(state, &value);
@@ -366,6 +367,7 @@ impl<T: Eq + Hash> Slots<T> {
         requires room { live_count self.old.slots < length self.old.slots }
         requires reached { IsReached (hash_under T.hash_input S.BuildHasher S.Hasher.Hasher state.now) self.old }
         ensures placed { Places value n self.old.slots self.new.slots }
+        ensures first { (p : ℕ) × IsFirstFree hash self.old.slots p × (self.new.slots ≡ slice_set self.old.slots p (Slot.Live value n)) }
         ensures reached { IsReached (hash_under T.hash_input S.BuildHasher S.Hasher.Hasher state.now) self.new }
     {
         let place = self.first_free(hash);
@@ -388,6 +390,7 @@ impl<T: Eq + Hash> Slots<T> {
         requires free { IsFirstFree hash self.old.slots place }
         requires reached { IsReached (hash_under T.hash_input S.BuildHasher S.Hasher.Hasher state.now) self.old }
         ensures placed { Places value n self.old.slots self.new.slots }
+        ensures after { self.new.slots ≡ slice_set self.old.slots place (Slot.Live value n) }
         ensures reached { IsReached (hash_under T.hash_input S.BuildHasher S.Hasher.Hasher state.now) self.new }
     {
         if self.tags[place] == REMOVED {

@@ -107,8 +107,8 @@ invariant_of-self g c =
     (subst (λ l. IsColumns eq (slice_set ts at mark) (slice_set cs at (Some (v, n))) (l + 1) ins.removed) (sym alike.2)
     (subst (λ r. IsColumns eq (slice_set ts at mark) (slice_set cs at (Some (v, n))) (live + 1) r) (sym alike.3) done)))
 
-pub returns-clause-placed : goal.returns-clause-placed
-returns-clause-placed g c =
+pub returns-clause-after : goal.returns-clause-after
+returns-clause-after g c =
     let ts = c.self.inside.tags.items in let cs = c.self.inside.cells in let at = c.args.place in let mark = c.mark_of.result in
     let v = c.args.value in let n : ℕ = c.args.n in let ins = c.if-index-eq-REMOVED.self-inside in
     let first = first_free ts cs c.self.invariant.agree c.args.hash at (subst (λ s. IsFirstFree c.args.hash s.slots at) (sym c.self.view_is) c.requires.free) in
@@ -120,11 +120,18 @@ returns-clause-placed g c =
     ] in
     let len = length-slots_of ts cs c.self.invariant.agree.same_length in
     let cells : c.put.new.self ≡ slice_set cs at (Some (v, n)) = c.put.ensures ∙ ap (λ ds. slice_set ds at (Some (v, n))) alike.1 in
+    (λ i. slots_of (slice_set (alike.0 i) at mark) (cells i)) ∙ set-slots_of ts cs at mark (Some (v, n)) c.self.invariant.agree.same_length ∙ ap (λ s. slice_set s.slots at (Live v n)) c.self.view_is
+
+pub returns-clause-placed : goal.returns-clause-placed
+returns-clause-placed g c =
+    let ts = c.self.inside.tags.items in let cs = c.self.inside.cells in let at = c.args.place in
+    let first = first_free ts cs c.self.invariant.agree c.args.hash at (subst (λ s. IsFirstFree c.args.hash s.slots at) (sym c.self.view_is) c.requires.free) in
+    let bound = first.bound in let len = length-slots_of ts cs c.self.invariant.agree.same_length in
     record {
       at = at;
       within = let l = ap (λ s. length s.slots) c.self.view_is in omega arith;
-      free = sym (ap (λ s. is_live (slot_at s.slots at)) c.self.view_is) ∙ dead_at ts cs c.self.invariant.agree at free;
-      after = (λ i. slots_of (slice_set (alike.0 i) at mark) (cells i)) ∙ set-slots_of ts cs at mark (Some (v, n)) c.self.invariant.agree.same_length ∙ ap (λ s. slice_set s.slots at (Live v n)) c.self.view_is;
+      free = sym (ap (λ s. is_live (slot_at s.slots at)) c.self.view_is) ∙ dead_at ts cs c.self.invariant.agree at first.free;
+      after = returns-clause-after g c;
     }
 
 pub returns-clause-reached : goal.returns-clause-reached
