@@ -2,7 +2,7 @@
 //!
 //! A probe reads tags, sixteen at once, and a cell only where the tag is the mark of its own hash. Under a hash that spreads its values, that is
 //! so at one in 128 of the other values on its path.
-ghost use Rattle.std.specs.Prelude.{◌≡◌, ◌==◌, ℕ, ◌+◌, ◌<◌, ◌≤◌, ◌^◌, ◌/◌, length, false, nat_le, IfSome, IfNone, IfOk, IfErr, IsOk, replicate, Some, None};
+ghost use Rattle.std.specs.Prelude.{◌≡◌, ◌==◌, ℕ, ◌+◌, ◌<◌, ◌≤◌, ◌^◌, ◌/◌, length, false, nat_le, IfSome, IfNone, IfOk, IfErr, IsOk, OnErr, replicate, Some, None};
 ghost use Rattle.hashbag_slots.specs.Cells.{cell_at, IsFilled};
 ghost use Rattle.hashbag_slots.specs.Hashing.{hash_under};
 ghost use Rattle.hashbag_slots.specs.Lanes.{Tells};
@@ -146,8 +146,8 @@ fn find_among<T: Eq>(
     None
 }
 
-// What the first 16 slots of a path tell of a value: its place, or that it is absent. `None` where they don't tell, or the last slot
-// of the table is among them.
+// What the first 16 slots of a path tell of a value: its place, or that it is absent, and then the first of them that is not Live.
+// `None` where they don't tell, or the last slot of the table is among them.
 #[inline(always)]
 fn look_near<T: Eq + Hash, S: BuildHasher>(
     tags: &[u8],
@@ -155,27 +155,28 @@ fn look_near<T: Eq + Hash, S: BuildHasher>(
     state: &S,
     hash: u64,
     value: &T,
-) -> Option<Option<usize>>
+) -> Option<Result<usize, usize>>
     requires hashed { hash ≡ hash_under T.hash_input S.BuildHasher S.Hasher.Hasher state.now value.now }
     requires count { IsSlotCount (length tags.now) }
     requires agree { Agree tags.now cells.now }
     requires reached { IsReached (hash_under T.hash_input S.BuildHasher S.Hasher.Hasher state.now) (columns tags.now cells.now) }
-    ensures found { IfSome result (λ known. IfSome known (HoldsAt (λ v. T.eq v value.now) (slots_of tags.now cells.now))) }
-    ensures absent { IfSome result (λ known. IfNone known (IsAbsent (λ v. T.eq v value.now) (slots_of tags.now cells.now))) }
+    ensures found { IfSome result (λ known. IfOk known (HoldsAt (λ v. T.eq v value.now) (slots_of tags.now cells.now))) }
+    ensures absent { IfSome result (λ known. OnErr known (IsAbsent (λ v. T.eq v value.now) (slots_of tags.now cells.now))) }
+    ensures free { IfSome result (λ known. IfErr known (IsFirstFree hash (slots_of tags.now cells.now))) }
 {
     let count = tags.len();
     if count == 0 {
-        return Some(None);
+        return None;
     }
     let first = place_after(hash, 0, count);
     if first + LANES > count {
         return None;
     }
     if let Some(place) = find_among(tags, cells, first, mark_of(hash), value) {
-        return Some(Some(place));
+        return Some(Ok(place));
     }
     if others_before(tags, first, EMPTY) < LANES {
-        return Some(None);
+        return Some(Err(first + live_before(tags, first)));
     }
     None
 }
@@ -227,7 +228,8 @@ pub fn find_place<T: Eq + Hash, S: BuildHasher>(
         return Some(place);
     }
     match look_near(tags, cells, state, hash, value) {
-        Some(known) => known,
+        Some(Ok(place)) => Some(place),
+        Some(Err(_)) => None,
         None => probe(tags, cells, state, hash, value),
     }
 }
@@ -268,26 +270,6 @@ pub fn free_place(tags: &[u8], hash: u64) -> usize
     unreachable!()
 }
 
-// As `free_place`, of a table in which no neighbour of the first slot was written just before: 16 tags are looked at at once.
-#[inline(always)]
-fn free_near(tags: &[u8], hash: u64) -> usize
-    requires count { IsSlotCount (length tags.now) }
-    requires room { (p : ℕ) × (p < length tags.now) × (tag_at tags.now p < 128) }
-    ensures path { (step : ℕ) × (step < length tags.now) × (result ≡ path_slot (length tags.now) hash step) × ((before : ℕ) → before < step → 128 ≤ tag_at tags.now (path_slot (length tags.now) hash before)) }
-    ensures bound { result < length tags.now }
-    ensures free { tag_at tags.now result < 128 }
-{
-    let count = tags.len();
-    let first = place_after(hash, 0, count);
-    if first + LANES <= count {
-        let lane = live_before(tags, first);
-        if lane < LANES {
-            return first + lane;
-        }
-    }
-    free_place(tags, hash)
-}
-
 /// The place of the Live slot with an equal value, or the first place on the value's path whose slot is not Live. Not all slots are
 /// Live.
 #[inline(always)]
@@ -307,13 +289,12 @@ pub fn seek_place<T: Eq + Hash, S: BuildHasher>(
     ensures absent { IfErr result (λ _. IsAbsent (λ v. T.eq v value.now) (slots_of tags.now cells.now)) }
     ensures free { IfErr result (IsFirstFree hash (slots_of tags.now cells.now)) }
 {
-    let found = match look_near(tags, cells, state, hash, value) {
-        Some(known) => known,
-        None => probe(tags, cells, state, hash, value),
-    };
-    match found {
+    if let Some(known) = look_near(tags, cells, state, hash, value) {
+        return known;
+    }
+    match probe(tags, cells, state, hash, value) {
         Some(place) => Ok(place),
-        None => Err(free_near(tags, hash)),
+        None => Err(free_place(tags, hash)),
     }
 }
 

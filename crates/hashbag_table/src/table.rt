@@ -427,7 +427,7 @@ impl<T: Eq + Hash + Drop, S: BuildHasher + Drop> Table<T, S> {
     }
 
     // Where a value is. One that is absent is put in with a count, and is nowhere.
-    #[inline(never)]
+    #[inline(always)]
     fn locate_or_insert(
         &mut self,
         hash: u64,
@@ -643,6 +643,37 @@ impl<T: Eq + Hash + Drop, S: BuildHasher + Drop> Table<T, S> {
         Err(0)
     }
 
+    // As `add`, of a value whose hash is handed in, and which isn't in the first slot of its path: look-ups of those that are there are
+    // to be short.
+    #[inline(never)]
+    fn add_far(&mut self, hash: u64, value: T, n: usize) -> Result<usize, AllocError>
+        requires hashed { hash ≡ hash_under T.hash_input S.BuildHasher S.Hasher.Hasher self.old.hasher value }
+        requires some { 0 < n }
+        requires fits { count_of T.eq value self.old.entries + n < 2 ^ 64 }
+        ensures before { IfOk result (λ before. before ≡ count_of T.eq value self.old.entries) }
+        ensures added { OnOk result (IsPermutation (with_count T.eq value (count_of T.eq value self.old.entries + n) self.old.entries) self.new.entries) }
+        ensures hasher { self.new.hasher ≡ self.old.hasher }
+        ensures counted { IsCounted T.eq self.new.entries }
+        ensures absent { OnErr result (entry_of T.eq value self.old.entries ≡ None) }
+        ensures err { OnErr result (self.new ≡ self.old) }
+        ensures takes { 0 < room self.old.tables → IsOk result }
+        ensures slot { IsSome (entry_of T.eq value self.old.entries) → Rewrites (λ w. T.eq w value) (recounted (count_of T.eq value self.old.entries + n)) self.old.tables self.new.tables }
+        ensures arrives { entry_of T.eq value self.old.entries ≡ None → OnOk result (Arrives self.old.tables self.new.tables) }
+        ensures slots { OnOk result (0 < room self.old.tables → length self.new.tables.newer ≡ length self.old.tables.newer) }
+        ensures room { OnOk result (0 < room self.old.tables → room self.old.tables ≤ room self.new.tables + 1) }
+        ensures same_slots { IfOk result (λ before. 0 < before → length self.new.tables.newer ≡ length self.old.tables.newer) }
+        ensures same_room { IfOk result (λ before. 0 < before → room self.old.tables ≤ room self.new.tables) }
+    {
+        self.recall();
+        match self.locate_or_insert(hash, value, n)? {
+            Some(spot) => {
+                let before = self.raise_spot(spot, n);
+                Ok(before)
+            }
+            None => Ok(0),
+        }
+    }
+
     /// Adds `n` to the count of a value, and answers what the count was, 0 where the value was absent.
     ///
     /// A stored instance stays, and the value handed in is dropped. It is hashed once. A value that is present takes no memory.
@@ -670,13 +701,7 @@ impl<T: Eq + Hash + Drop, S: BuildHasher + Drop> Table<T, S> {
             let before = self.raise_spot(spot, n);
             return Ok(before);
         }
-        match self.locate_or_insert(hash, value, n)? {
-            Some(spot) => {
-                let before = self.raise_spot(spot, n);
-                Ok(before)
-            }
-            None => Ok(0),
-        }
+        self.add_far(hash, value, n)
     }
 
     // Stores another equal instance at a spot, with the count 1, and gives the former one back.

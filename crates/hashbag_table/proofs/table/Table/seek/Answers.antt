@@ -1,4 +1,4 @@
-use Rattle.std.proofs.Common.{◌≤◌, ◌≡◌, None, length, sym, ap, ◌∙◌, drop, arith}
+use Rattle.std.proofs.Common.{◌≤◌, None, length, sym, ap, ◌∙◌, drop, arith}
 use Rattle.hashbag_slots.specs.Slots.{IsAbsent, entries, slot_at, slot_entry}
 use Rattle.hashbag_slots.proofs.Maps.{lookup-IsAbsent}
 use Rattle.hashbag_table.specs.Entries.{entry_of}
