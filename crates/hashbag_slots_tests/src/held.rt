@@ -4,7 +4,7 @@ ghost use Rattle.hashbag_slots.specs.Hashing.{hash_under};
 ghost use Rattle.hashbag_slots.specs.Slots.{IsSlotCount};
 ghost use Rattle.hashbag_slots.specs.Columns.{IsReached};
 
-use hashbag_slots::slots::Slots;
+use hashbag_slots::slots::{Slots, hash_of};
 use hashbag_slots::walk::IntoWalk;
 use std::alloc::{AllocError, Global};
 use std::hash::{BuildHasher, Hash};
@@ -65,6 +65,35 @@ impl<T: Eq + Hash + Drop, S: BuildHasher + Drop> Held<T, S> {
     /// The place of a value.
     pub fn find(&self, value: &T) -> Option<usize> {
         self.slots.find(&self.state, value)
+    }
+
+    /// The place of a value that is in the first slot of its path.
+    pub fn find_first(&self, value: &T) -> Option<usize> {
+        self.slots.find_first(hash_of(&self.state, value), value)
+    }
+
+    /// The place of a value, or the one into which it would go. `None` where all slots are Live.
+    pub fn seek(&self, value: &T) -> Option<Result<usize, usize>> {
+        if self.slots.live() >= self.slots.slots() {
+            return None;
+        }
+        let hash = hash_of(&self.state, value);
+        Some(self.slots.seek_hashed(&self.state, hash, value))
+    }
+
+    /// As `place`, by one probe.
+    pub fn place_sought(&mut self, value: T, n: usize) -> bool {
+        if n == 0 || self.slots.live() >= self.slots.slots() {
+            return false;
+        }
+        let hash = hash_of(&self.state, &value);
+        match self.slots.seek_hashed(&self.state, hash, &value) {
+            Ok(_) => false,
+            Err(place) => {
+                self.slots.place_at(place, &self.state, hash, value, n);
+                true
+            }
+        }
     }
 
     /// The count of a value, 0 where it is absent.

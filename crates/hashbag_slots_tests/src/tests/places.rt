@@ -131,6 +131,56 @@ fn past_removed(rt: HostRuntime) -> Result<(), Fail> {
     Ok(())
 }
 
+// Checks where values are, or into which slot they would go.
+fn are_sought(rt: &impl Abort, table: &Numbers, rows: &[(u64, Result<usize, usize>)]) {
+    for (value, place) in rows {
+        assert_eq!(rt; table.seek(value), Some(*place), "of {value}");
+    }
+}
+
+// One probe finds a value, or the first slot on its path that is not Live, a Removed one too.
+#[test]
+fn sought(rt: HostRuntime) -> Result<(), Fail> {
+    let mut table = numbers(&rt, rt.alloc(), 0, 4)?;
+    take(&rt, &mut table, 1, 1);
+    take(&rt, &mut table, 3, 3);
+    are_sought(
+        &rt,
+        &table,
+        &[
+            (1, Err(0)),
+            (2, Ok(1)),
+            (3, Err(0)),
+            (4, Ok(3)),
+            (9, Err(0)),
+        ],
+    );
+    assert_eq!(&rt; table.find_first(&2), None);
+    assert!(&rt; table.place_sought(9, 1));
+    assert_eq!(&rt; table.find_first(&9), Some(0));
+    are_sought(&rt, &table, &[(8, Err(2)), (9, Ok(0))]);
+    assert!(&rt; !table.place_sought(9, 1));
+    has_slots(&rt, &table.slots, (16, 3, 1));
+    Ok(())
+}
+
+// The path goes past the last slot, or no slot is Empty.
+#[test]
+fn sought_past_the_last_slot(rt: HostRuntime) -> Result<(), Fail> {
+    let mut table = numbers(&rt, rt.alloc(), 15, 3)?;
+    are_sought(&rt, &table, &[(1, Ok(15)), (3, Ok(1)), (4, Err(2))]);
+    take(&rt, &mut table, 2, 2);
+    are_sought(&rt, &table, &[(3, Ok(1)), (4, Err(0))]);
+    let mut full = numbers(&rt, rt.alloc(), 0, 16)?;
+    assert_eq!(&rt; full.seek(&1), None);
+    assert_eq!(&rt; full.find_first(&1), Some(0));
+    take(&rt, &mut full, 7, 7);
+    are_sought(&rt, &full, &[(16, Ok(15)), (17, Err(6))]);
+    assert!(&rt; full.place_sought(17, 1));
+    lie_at(&rt, &full, &[(17, Some(6)), (7, None)]);
+    Ok(())
+}
+
 #[test]
 fn twelve_and_six_removed(rt: HostRuntime) -> Result<(), Fail> {
     let mut table = numbers(&rt, rt.alloc(), 0, 12)?;
