@@ -2,19 +2,21 @@
 //!
 //! The newer table takes what comes. When it has no room left it becomes the older one, and a new one takes its place. Each value
 //! that comes after that takes the next 16 slots of the older table along, so that no insertion moves all values at once.
-ghost use Rattle.std.specs.Prelude.{◌≡◌, ◌++◌, ◌+◌, ◌-◌, ◌*◌, ◌<◌, ◌≤◌, ◌^◌, ℕ, [], ◌∷◌, All, length, replicate, true, Some, None, IfSome, IfNone, IfOk, IfErr, OnOk, OnErr, IsOk, IsErr, IsSome, option_map, slice_set};
+ghost use Rattle.std.specs.Prelude.{◌≡◌, ◌+◌, ◌-◌, ◌*◌, ◌<◌, ◌≤◌, ◌^◌, [], ◌∷◌, All, length, replicate, true, Some, None, IfOk, IfErr, OnOk, OnErr, IsOk, IsErr, IsSome, option_map};
 ghost use Rattle.std.specs.Borrow.{sem};
 ghost use Rattle.std.specs.List.Sorted.{IsPermutation};
-ghost use Rattle.std.specs.Map.{lookup_entry};
 ghost use Rattle.hashbag_slots.specs.Hashing.{hash_under};
-ghost use Rattle.hashbag_slots.specs.Slots.{IsSlotCount, entries, entry_at, live_count, is_live, HoldsAt, IsFirstFree, Places, recounted, holds, slot_at, count_in};
-ghost use Rattle.hashbag_slots.specs.Columns.{IsReached, IsAlike};
+ghost use Rattle.hashbag_slots.specs.Slots.{IsSlotCount, entries, IsFirstFree, Places, recounted};
 ghost use Rattle.hashbag_table.specs.Asked.{MayAskInTurn, Retains};
 ghost use Rattle.hashbag_table.specs.Entries.{entry_of, count_of, without, with_count, with_fewer, with_instance, total, IsCounted, HasClones};
-ghost use Rattle.hashbag_table.specs.Tables.{limit, room, values, IsLeast, IsPacked, entries_of, Arrives, Carried, IsReady, MayAdopt, NoneMoved, slot_in, HoldsIn, entry_in, Writes, Rewrites, Swaps};
+ghost use Rattle.hashbag_table.specs.Tables.{room, values, IsLeast, IsPacked, entries_of, Arrives, NoneMoved, Rewrites};
+
+mod room;
+mod spots;
 
 use crate::growth::{carry_next, grown_count, least_count, no_slots};
 use crate::retain::retain_slots;
+use crate::table::spots::find_older;
 use crate::walk::{DrainWalk, IntoWalk, Walk};
 use hashbag_slots::slots::{Slot, Slots, hash_of};
 use std::alloc::{AllocError, Global};
@@ -26,53 +28,6 @@ use std::mem;
 pub const MOST_VALUES: usize = 3 << 57;
 
 const _: () = prove!(MOST_VALUES == 432_345_564_227_567_616);
-
-// Stores another equal instance at a place, with the count 1, and gives the former one back.
-fn put_one<T: Eq>(slots: &mut Slots<T>, place: usize, value: T) -> T
-    requires equal { holds (λ v. T.eq v value) (slot_at slots.old.slots place) ≡ true }
-    ensures given { slot_at slots.old.slots place ≡ Slot.Live result (count_in (slot_at slots.old.slots place)) }
-    ensures after { slots.new.slots ≡ slice_set slots.old.slots place (Slot.Live value 1) }
-    ensures reached { (hash : T → ℕ) → IsAlike T.eq hash → IsReached hash slots.old → IsReached hash slots.new }
-{
-    let former = slots.put_at(place, value);
-    slots.set_at(place, 1);
-    former
-}
-
-// As `find_hashed`, of the older table, which seldom has slots: look-ups of the newer one alone are to be short.
-#[inline(never)]
-fn probe_older<T: Eq + Hash, S: BuildHasher>(
-    older: &Slots<T>,
-    state: &S,
-    hash: u64,
-    value: &T,
-) -> Option<usize>
-    requires hashed { hash ≡ hash_under T.hash_input S.BuildHasher S.Hasher.Hasher state.now value.now }
-    requires reached { IsReached (hash_under T.hash_input S.BuildHasher S.Hasher.Hasher state.now) older.now }
-    ensures found { IfSome result (HoldsAt (λ v. T.eq v value.now) older.now.slots) }
-    ensures map { entry_at older.now.slots result ≡ lookup_entry (λ v. T.eq v value.now) (entries older.now.slots) }
-{
-    older.find_hashed(state, hash, value)
-}
-
-// The place of a value in the older table.
-#[inline(always)]
-fn find_older<T: Eq + Hash, S: BuildHasher>(
-    older: &Slots<T>,
-    state: &S,
-    hash: u64,
-    value: &T,
-) -> Option<usize>
-    requires hashed { hash ≡ hash_under T.hash_input S.BuildHasher S.Hasher.Hasher state.now value.now }
-    requires reached { IsReached (hash_under T.hash_input S.BuildHasher S.Hasher.Hasher state.now) older.now }
-    ensures found { IfSome result (HoldsAt (λ v. T.eq v value.now) older.now.slots) }
-    ensures map { entry_at older.now.slots result ≡ lookup_entry (λ v. T.eq v value.now) (entries older.now.slots) }
-{
-    if older.slots() == 0 {
-        return None;
-    }
-    probe_older(older, state, hash, value)
-}
 
 /// Where a value is: the place of its slot among those of the newer table, or among those that wait.
 #[derive(Clone, Copy)]
@@ -244,80 +199,6 @@ impl<T: Eq + Hash + Drop, S: BuildHasher + Drop> Table<T, S> {
         }
     }
 
-    // Carries the next 16 waiting slots. It takes no memory.
-    #[inline(never)]
-    fn carry(&mut self)
-        requires room { 0 < room self.old.tables }
-        ensures carried { Carried 16 self.old.tables.newer self.old.tables.waiting self.new.tables.newer self.new.tables.waiting }
-        ensures some { 0 < room self.new.tables }
-        ensures carries { length self.new.tables.waiting ≤ 16 * (room self.new.tables - 1) }
-        ensures entries { IsPermutation self.old.entries self.new.entries }
-        ensures hasher { self.new.hasher ≡ self.old.hasher }
-    {
-        self.looked = carry_next(
-            &mut self.newer,
-            &mut self.older,
-            self.looked,
-            16,
-            &self.hasher,
-            self.alloc,
-        );
-    }
-
-    // Takes a table of slots as the newer one: in this function alone a table that stands is given one. The former newer one
-    // waits, save for its first `many` slots, which are carried; the older one, of which none waits, is freed. It takes no memory.
-    fn adopt(&mut self, newer: Slots<T>, many: usize)
-        requires none_waits { self.old.tables.waiting ≡ [] }
-        requires may { MayAdopt T.eq (hash_under T.hash_input S.BuildHasher S.Hasher.Hasher self.old.hasher) newer self.old.tables.newer many }
-        ensures carried { Carried many newer.slots self.old.tables.newer self.new.tables.newer self.new.tables.waiting }
-        ensures entries { IsPermutation (entries newer.slots ++ self.old.entries) self.new.entries }
-        ensures hasher { self.new.hasher ≡ self.old.hasher }
-    {
-        let former = mem::replace(&mut self.newer, newer);
-        let _freed = mem::replace(&mut self.older, former);
-        self.looked = carry_next(
-            &mut self.newer,
-            &mut self.older,
-            0,
-            many,
-            &self.hasher,
-            self.alloc,
-        );
-    }
-
-    // Grows where no room is left: a new table, into which the first 16 slots are carried. Where memory is refused the table is
-    // unchanged.
-    #[inline(never)]
-    fn grow(&mut self) -> Result<(), AllocError>
-        requires full { room self.old.tables ≡ 0 }
-        ensures ready { OnOk result (IsReady self.old.tables self.new.tables) }
-        ensures entries { OnOk result (IsPermutation self.old.entries self.new.entries) }
-        ensures hasher { self.new.hasher ≡ self.old.hasher }
-        ensures err { OnErr result (self.new ≡ self.old) }
-    {
-        let count = grown_count(self.newer.slots(), self.newer.live())?;
-        let newer = Slots::with_slots(self.alloc, count)?;
-        self.adopt(newer, 16);
-        Ok(())
-    }
-
-    // Makes way for an absent value: a growth where no room is left, and else a carry, which takes no memory.
-    fn make_way(&mut self) -> Result<(), AllocError>
-        ensures ready { OnOk result (IsReady self.old.tables self.new.tables) }
-        ensures takes { 0 < room self.old.tables → IsOk result }
-        ensures entries { OnOk result (IsPermutation self.old.entries self.new.entries) }
-        ensures hasher { self.new.hasher ≡ self.old.hasher }
-        ensures err { OnErr result (self.new ≡ self.old) }
-    {
-        if self.room() > 0 {
-            if self.older.slots() > 0 {
-                self.carry();
-            }
-            return Ok(());
-        }
-        self.grow()
-    }
-
     // Places an absent value in the first slot on its path that is not Live, where way was made for it. It takes no memory.
     #[inline(always)]
     fn settle(&mut self, place: usize, hash: u64, value: T, count: usize)
@@ -374,139 +255,6 @@ impl<T: Eq + Hash + Drop, S: BuildHasher + Drop> Table<T, S> {
         Ok(())
     }
 
-    // Where a value is, whose hash is handed in.
-    #[inline(always)]
-    fn locate(&self, hash: u64, value: &T) -> Option<Spot>
-        requires hashed { hash ≡ hash_under T.hash_input S.BuildHasher S.Hasher.Hasher self.now.hasher value.now }
-        ensures map { entry_in self.now.tables result ≡ entry_of T.eq value.now self.now.entries }
-        ensures held { IfSome result (HoldsIn (λ w. T.eq w value.now) self.now.tables) }
-        ensures counted { IsCounted T.eq self.now.entries }
-    {
-        if let Some(place) = self.newer.find_hashed(&self.hasher, hash, value) {
-            return Some(Spot::Newer(place));
-        }
-        match find_older(&self.older, &self.hasher, hash, value) {
-            Some(place) => Some(Spot::Waiting(place - self.looked)),
-            None => None,
-        }
-    }
-
-    // As `locate`, of a value that is in the first slot of its path in the newer table. `None` says nothing.
-    #[inline(always)]
-    fn locate_first(&self, hash: u64, value: &T) -> Option<Spot>
-        ensures map { IfSome result (λ spot. entry_in self.now.tables (Some spot) ≡ entry_of T.eq value.now self.now.entries) }
-        ensures held { IfSome result (HoldsIn (λ w. T.eq w value.now) self.now.tables) }
-        ensures counted { IsCounted T.eq self.now.entries }
-    {
-        self.recall();
-        match self.newer.find_first(hash, value) {
-            Some(place) => Some(Spot::Newer(place)),
-            None => None,
-        }
-    }
-
-    // Where a value is, or the place in the newer table into which it is put, where no slot waits and there is room. `None` where
-    // that isn't so.
-    #[inline(always)]
-    fn seek(&self, hash: u64, value: &T) -> Option<Result<Spot, usize>>
-        requires hashed { hash ≡ hash_under T.hash_input S.BuildHasher S.Hasher.Hasher self.now.hasher value.now }
-        ensures map { IfSome result (λ r. IfOk r (λ spot. entry_in self.now.tables (Some spot) ≡ entry_of T.eq value.now self.now.entries)) }
-        ensures held { IfSome result (λ r. IfOk r (HoldsIn (λ w. T.eq w value.now) self.now.tables)) }
-        ensures absent { IfSome result (λ r. IfErr r (λ _. entry_of T.eq value.now self.now.entries ≡ None)) }
-        ensures free { IfSome result (λ r. IfErr r (IsFirstFree hash self.now.tables.newer)) }
-        ensures room { IsSome result → 0 < room self.now.tables }
-        ensures none_waits { IsSome result → self.now.tables.waiting ≡ [] }
-    {
-        if self.older.slots() > 0 || self.room() == 0 {
-            return None;
-        }
-        match self.newer.seek_hashed(&self.hasher, hash, value) {
-            Ok(place) => Some(Ok(Spot::Newer(place))),
-            Err(place) => Some(Err(place)),
-        }
-    }
-
-    // Where a value is. One that is absent is put in with a count, and is nowhere.
-    #[inline(always)]
-    fn locate_or_insert(
-        &mut self,
-        hash: u64,
-        value: T,
-        n: usize,
-    ) -> Result<Option<Spot>, AllocError>
-        requires hashed { hash ≡ hash_under T.hash_input S.BuildHasher S.Hasher.Hasher self.old.hasher value }
-        requires some { 0 < n }
-        ensures present { IfOk result (λ at. IsSome at → self.new ≡ self.old) }
-        ensures map { IfOk result (λ at. IfSome at (λ spot. entry_in self.old.tables (Some spot) ≡ entry_of T.eq value self.old.entries)) }
-        ensures held { IfOk result (λ at. IfSome at (HoldsIn (λ w. T.eq w value) self.old.tables)) }
-        ensures nowhere { IfOk result (λ at. IfNone at (entry_of T.eq value self.old.entries ≡ None)) }
-        ensures inserted { IfOk result (λ at. IfNone at (IsPermutation (with_instance T.eq value n self.old.entries) self.new.entries)) }
-        ensures arrives { IfOk result (λ at. IfNone at (Arrives self.old.tables self.new.tables)) }
-        ensures hasher { self.new.hasher ≡ self.old.hasher }
-        ensures counted { IsCounted T.eq self.new.entries }
-        ensures absent { OnErr result (entry_of T.eq value self.old.entries ≡ None) }
-        ensures err { OnErr result (self.new ≡ self.old) }
-        ensures takes { 0 < room self.old.tables → IsOk result }
-    {
-        self.recall();
-        if let Some(sought) = self.seek(hash, &value) {
-            return match sought {
-                Ok(spot) => Ok(Some(spot)),
-                Err(place) => {
-                    self.settle(place, hash, value, n);
-                    Ok(None)
-                }
-            };
-        }
-        if let Some(spot) = self.locate(hash, &value) {
-            return Ok(Some(spot));
-        }
-        self.insert_hashed(hash, value, n)?;
-        Ok(None)
-    }
-
-    // Gives the value at a spot another count.
-    #[inline(always)]
-    fn set_spot(&mut self, spot: Spot, n: usize)
-        requires live { is_live (slot_in self.old.tables spot) ≡ true }
-        requires some { 0 < n }
-        ensures after { Writes spot (recounted n (slot_in self.old.tables spot)) self.old.tables self.new.tables }
-        ensures map { (e : T × ℕ) → entry_in self.old.tables (Some spot) ≡ Some e → Swaps self.old.entries self.new.entries e ((e.0, n) ∷ []) }
-        ensures hasher { self.new.hasher ≡ self.old.hasher }
-        ensures counted { IsCounted T.eq self.new.entries }
-    {
-        self.older.recall();
-        if let Spot::Newer(place) = spot {
-            self.newer.set_at(place, n);
-            return;
-        }
-        if let Spot::Waiting(place) = spot {
-            self.older.set_at(self.looked + place, n);
-        }
-    }
-
-    // Takes the value at a spot out, and leaves Removed there.
-    fn take_spot(&mut self, spot: Spot) -> (T, usize)
-        requires live { is_live (slot_in self.old.tables spot) ≡ true }
-        ensures taken { slot_in self.old.tables spot ≡ Slot.Live result.0 result.1 }
-        ensures after { Writes spot Slot.Removed self.old.tables self.new.tables }
-        ensures map { Swaps self.old.entries self.new.entries (result.0, result.1) [] }
-        ensures hasher { self.new.hasher ≡ self.old.hasher }
-        ensures counted { IsCounted T.eq self.new.entries }
-    {
-        self.older.recall();
-        match spot {
-            Spot::Newer(place) => {
-                let entry = self.newer.take_at(place);
-                return entry;
-            }
-            Spot::Waiting(place) => {
-                let entry = self.older.take_at(self.looked + place);
-                return entry;
-            }
-        }
-    }
-
     /// Gives a value that is present another count. It takes no memory.
     pub fn set_count(&mut self, value: &T, n: usize)
         requires present { IsSome (entry_of T.eq value.now self.old.entries) }
@@ -544,45 +292,6 @@ impl<T: Eq + Hash + Drop, S: BuildHasher + Drop> Table<T, S> {
             }
             None => None,
         }
-    }
-
-    // The count of the value at a spot.
-    #[inline(always)]
-    fn count_at(&self, spot: Spot) -> usize
-        requires live { is_live (slot_in self.now.tables spot) ≡ true }
-        ensures count { (e : T × ℕ) → entry_in self.now.tables (Some spot) ≡ Some e → result ≡ e.1 }
-    {
-        self.older.recall();
-        if let Spot::Newer(place) = spot {
-            return match self.newer.at(place) {
-                Some((_, count)) => count,
-                None => 0,
-            };
-        }
-        if let Spot::Waiting(place) = spot {
-            return match self.older.at(self.looked + place) {
-                Some((_, count)) => count,
-                None => 0,
-            };
-        }
-        0
-    }
-
-    // Adds to the count of the value at a spot, and answers what the count was.
-    #[inline(always)]
-    fn raise_spot(&mut self, spot: Spot, n: usize) -> usize
-        requires live { is_live (slot_in self.old.tables spot) ≡ true }
-        requires some { 0 < n }
-        requires fits { (e : T × ℕ) → entry_in self.old.tables (Some spot) ≡ Some e → e.1 + n < 2 ^ 64 }
-        ensures before { (e : T × ℕ) → entry_in self.old.tables (Some spot) ≡ Some e → result ≡ e.1 }
-        ensures after { Writes spot (recounted (result + n) (slot_in self.old.tables spot)) self.old.tables self.new.tables }
-        ensures map { (e : T × ℕ) → entry_in self.old.tables (Some spot) ≡ Some e → Swaps self.old.entries self.new.entries e ((e.0, result + n) ∷ []) }
-        ensures hasher { self.new.hasher ≡ self.old.hasher }
-        ensures counted { IsCounted T.eq self.new.entries }
-    {
-        let before = self.count_at(spot);
-        self.set_spot(spot, before + n);
-        before
     }
 
     /// Takes `n` from the count of a value, and answers what the count was, 0 where the value was absent. Where no more
@@ -704,27 +413,6 @@ impl<T: Eq + Hash + Drop, S: BuildHasher + Drop> Table<T, S> {
         self.add_far(hash, value, n)
     }
 
-    // Stores another equal instance at a spot, with the count 1, and gives the former one back.
-    fn put_spot(&mut self, spot: Spot, value: T) -> T
-        requires equal { holds (λ v. T.eq v value) (slot_in self.old.tables spot) ≡ true }
-        ensures after { Writes spot (Slot.Live value 1) self.old.tables self.new.tables }
-        ensures map { (e : T × ℕ) → entry_in self.old.tables (Some spot) ≡ Some e → Swaps self.old.entries self.new.entries e ((value, 1) ∷ []) }
-        ensures hasher { self.new.hasher ≡ self.old.hasher }
-        ensures counted { IsCounted T.eq self.new.entries }
-    {
-        self.older.recall();
-        match spot {
-            Spot::Newer(place) => {
-                let former = put_one(&mut self.newer, place, value);
-                return former;
-            }
-            Spot::Waiting(place) => {
-                let former = put_one(&mut self.older, self.looked + place, value);
-                return former;
-            }
-        }
-    }
-
     /// Stores a value itself with the count 1, and answers what the count was, 0 where the value was absent. An instance that
     /// was stored is dropped, in whichever table it is.
     ///
@@ -787,86 +475,6 @@ impl<T: Eq + Hash + Drop, S: BuildHasher + Drop> Table<T, S> {
         let newer = retain_slots(&mut self.newer, 0, &mut f);
         let waiting = retain_slots(&mut self.older, self.looked, &mut f);
         newer + waiting
-    }
-
-    // Takes a table of Empty slots in which all values have room as the newer one, moves every value into it, and frees the
-    // others. It takes no memory, and hashes each value once.
-    fn pack(&mut self, newer: Slots<T>)
-        requires empty { newer.slots ≡ replicate (length newer.slots) Slot.Empty }
-        requires reached { (hash : T → ℕ) → IsReached hash newer }
-        requires enough { length self.old.entries ≤ limit (length newer.slots) }
-        ensures slots { length self.new.tables.newer ≡ length newer.slots }
-        ensures packed { IsPacked self.new.tables }
-        ensures values { values self.new.tables ≡ length self.old.entries }
-        ensures entries { IsPermutation self.old.entries self.new.entries }
-        ensures hasher { self.new.hasher ≡ self.old.hasher }
-        ensures counted { IsCounted T.eq self.new.entries }
-    {
-        let mut newer = newer;
-        let waiting = self.older.slots() - self.looked;
-        newer.carry_from(&self.hasher, &mut self.older, self.looked, waiting);
-        let _older = mem::replace(&mut self.older, no_slots(self.alloc));
-        self.looked = 0;
-        let many = self.newer.slots();
-        self.adopt(newer, many);
-    }
-
-    /// Makes room for `n` more distinct values. The entries stay, and so does the table where memory is refused.
-    ///
-    /// Where there is room it takes no memory and does nothing. Else it builds the least table of slots that has the room, and is
-    /// not smaller than the newer one: every value is moved into it and hashed once, and the others are freed. A request with
-    /// which there would be more than [`MOST_VALUES`] is refused before memory is asked for.
-    pub fn reserve(&mut self, n: usize) -> Result<(), AllocError>
-        ensures entries { IsPermutation self.old.entries self.new.entries }
-        ensures hasher { self.new.hasher ≡ self.old.hasher }
-        ensures counted { IsCounted T.eq self.new.entries }
-        ensures none { n ≡ 0 → IsOk result }
-        ensures beyond { 0 < n → MOST_VALUES < length self.old.entries + n → IsErr result }
-        ensures err { OnErr result (self.new ≡ self.old) }
-        ensures enough { n ≤ room self.old.tables → IsOk result }
-        ensures kept { n ≤ room self.old.tables → self.new ≡ self.old }
-        ensures least { room self.old.tables < n → OnOk result (IsLeast (length self.old.tables.newer) (length self.old.entries + n) (length self.new.tables.newer)) }
-        ensures packed { room self.old.tables < n → OnOk result (IsPacked self.new.tables) }
-        ensures room { OnOk result (n ≤ room self.new.tables) }
-    {
-        let slots = self.newer.slots();
-        if n <= self.room() {
-            return Ok(());
-        }
-        let values = self.set_len();
-        if n > MOST_VALUES - values {
-            return Err(AllocError);
-        }
-        let count = least_count(slots, values + n)?;
-        let newer = Slots::with_slots(self.alloc, count)?;
-        self.pack(newer);
-        Ok(())
-    }
-
-    /// Gives memory back that the entries don't need. The entries stay, and so does the table where memory is refused.
-    ///
-    /// It builds the least table of slots in which the entries have room where that one is smaller than the newer one: every
-    /// value is moved into it and hashed once, and the others are freed. Else it takes no memory and does nothing. Where there
-    /// are no entries it takes no memory, and no slots are left.
-    pub fn shrink_to_fit(&mut self) -> Result<(), AllocError>
-        ensures entries { IsPermutation self.old.entries self.new.entries }
-        ensures hasher { self.new.hasher ≡ self.old.hasher }
-        ensures counted { IsCounted T.eq self.new.entries }
-        ensures err { OnErr result (self.new ≡ self.old) }
-        ensures none { self.old.entries ≡ [] → IsOk result }
-        ensures freed { self.old.entries ≡ [] → self.new.tables.newer ≡ [] }
-        ensures enough { (m : ℕ) → IsLeast 0 (length self.old.entries) m → length self.old.tables.newer ≤ m → IsOk result }
-        ensures kept { (m : ℕ) → IsLeast 0 (length self.old.entries) m → length self.old.tables.newer ≤ m → self.new ≡ self.old }
-        ensures least { (m : ℕ) → IsLeast 0 (length self.old.entries) m → m < length self.old.tables.newer → OnOk result (length self.new.tables.newer ≡ m) }
-        ensures packed { (m : ℕ) → IsLeast 0 (length self.old.entries) m → m < length self.old.tables.newer → OnOk result (IsPacked self.new.tables) }
-    {
-        let count = least_count(0, self.set_len())?;
-        if count >= self.newer.slots() {
-            return Ok(());
-        }
-        let newer = Slots::with_slots(self.alloc, count)?;
-        self.pack(newer);
-        Ok(())
     }
 
     /// Walks over the entries, in an open order: each value once, with its count.

@@ -1,0 +1,171 @@
+//! Room: a table that grows, carries what waits, or is given other slots on request.
+ghost use Rattle.std.specs.Prelude.{◌≡◌, ◌++◌, ◌+◌, ◌-◌, ◌*◌, ◌<◌, ◌≤◌, ℕ, [], length, replicate, OnOk, OnErr, IsOk, IsErr};
+ghost use Rattle.std.specs.List.Sorted.{IsPermutation};
+ghost use Rattle.hashbag_slots.specs.Hashing.{hash_under};
+ghost use Rattle.hashbag_slots.specs.Slots.{entries};
+ghost use Rattle.hashbag_slots.specs.Columns.{IsReached};
+ghost use Rattle.hashbag_table.specs.Entries.{IsCounted};
+ghost use Rattle.hashbag_table.specs.Tables.{limit, room, values, IsLeast, IsPacked, Carried, IsReady, MayAdopt};
+
+use crate::growth::{carry_next, grown_count, least_count, no_slots};
+use crate::table::{MOST_VALUES, Table};
+use hashbag_slots::slots::{Slot, Slots};
+use std::alloc::AllocError;
+use std::hash::{BuildHasher, Hash};
+use std::mem;
+
+impl<T: Eq + Hash + Drop, S: BuildHasher + Drop> Table<T, S> {
+    // Carries the next 16 waiting slots. It takes no memory.
+    #[inline(never)]
+    fn carry(&mut self)
+        requires room { 0 < room self.old.tables }
+        ensures carried { Carried 16 self.old.tables.newer self.old.tables.waiting self.new.tables.newer self.new.tables.waiting }
+        ensures some { 0 < room self.new.tables }
+        ensures carries { length self.new.tables.waiting ≤ 16 * (room self.new.tables - 1) }
+        ensures entries { IsPermutation self.old.entries self.new.entries }
+        ensures hasher { self.new.hasher ≡ self.old.hasher }
+    {
+        self.looked = carry_next(
+            &mut self.newer,
+            &mut self.older,
+            self.looked,
+            16,
+            &self.hasher,
+            self.alloc,
+        );
+    }
+
+    // Takes a table of slots as the newer one: in this function alone a table that stands is given one. The former newer one
+    // waits, save for its first `many` slots, which are carried; the older one, of which none waits, is freed. It takes no memory.
+    fn adopt(&mut self, newer: Slots<T>, many: usize)
+        requires none_waits { self.old.tables.waiting ≡ [] }
+        requires may { MayAdopt T.eq (hash_under T.hash_input S.BuildHasher S.Hasher.Hasher self.old.hasher) newer self.old.tables.newer many }
+        ensures carried { Carried many newer.slots self.old.tables.newer self.new.tables.newer self.new.tables.waiting }
+        ensures entries { IsPermutation (entries newer.slots ++ self.old.entries) self.new.entries }
+        ensures hasher { self.new.hasher ≡ self.old.hasher }
+    {
+        let former = mem::replace(&mut self.newer, newer);
+        let _freed = mem::replace(&mut self.older, former);
+        self.looked = carry_next(
+            &mut self.newer,
+            &mut self.older,
+            0,
+            many,
+            &self.hasher,
+            self.alloc,
+        );
+    }
+
+    // Grows where no room is left: a new table, into which the first 16 slots are carried. Where memory is refused the table is
+    // unchanged.
+    #[inline(never)]
+    fn grow(&mut self) -> Result<(), AllocError>
+        requires full { room self.old.tables ≡ 0 }
+        ensures ready { OnOk result (IsReady self.old.tables self.new.tables) }
+        ensures entries { OnOk result (IsPermutation self.old.entries self.new.entries) }
+        ensures hasher { self.new.hasher ≡ self.old.hasher }
+        ensures err { OnErr result (self.new ≡ self.old) }
+    {
+        let count = grown_count(self.newer.slots(), self.newer.live())?;
+        let newer = Slots::with_slots(self.alloc, count)?;
+        self.adopt(newer, 16);
+        Ok(())
+    }
+
+    // Makes way for an absent value: a growth where no room is left, and else a carry, which takes no memory.
+    pub(super) fn make_way(&mut self) -> Result<(), AllocError>
+        ensures ready { OnOk result (IsReady self.old.tables self.new.tables) }
+        ensures takes { 0 < room self.old.tables → IsOk result }
+        ensures entries { OnOk result (IsPermutation self.old.entries self.new.entries) }
+        ensures hasher { self.new.hasher ≡ self.old.hasher }
+        ensures err { OnErr result (self.new ≡ self.old) }
+    {
+        if self.room() > 0 {
+            if self.older.slots() > 0 {
+                self.carry();
+            }
+            return Ok(());
+        }
+        self.grow()
+    }
+
+    // Takes a table of Empty slots in which all values have room as the newer one, moves every value into it, and frees the
+    // others. It takes no memory, and hashes each value once.
+    fn pack(&mut self, newer: Slots<T>)
+        requires empty { newer.slots ≡ replicate (length newer.slots) Slot.Empty }
+        requires reached { (hash : T → ℕ) → IsReached hash newer }
+        requires enough { length self.old.entries ≤ limit (length newer.slots) }
+        ensures slots { length self.new.tables.newer ≡ length newer.slots }
+        ensures packed { IsPacked self.new.tables }
+        ensures values { values self.new.tables ≡ length self.old.entries }
+        ensures entries { IsPermutation self.old.entries self.new.entries }
+        ensures hasher { self.new.hasher ≡ self.old.hasher }
+        ensures counted { IsCounted T.eq self.new.entries }
+    {
+        let mut newer = newer;
+        let waiting = self.older.slots() - self.looked;
+        newer.carry_from(&self.hasher, &mut self.older, self.looked, waiting);
+        let _older = mem::replace(&mut self.older, no_slots(self.alloc));
+        self.looked = 0;
+        let many = self.newer.slots();
+        self.adopt(newer, many);
+    }
+
+    /// Makes room for `n` more distinct values. The entries stay, and so does the table where memory is refused.
+    ///
+    /// Where there is room it takes no memory and does nothing. Else it builds the least table of slots that has the room, and is
+    /// not smaller than the newer one: every value is moved into it and hashed once, and the others are freed. A request with
+    /// which there would be more than [`MOST_VALUES`] is refused before memory is asked for.
+    pub fn reserve(&mut self, n: usize) -> Result<(), AllocError>
+        ensures entries { IsPermutation self.old.entries self.new.entries }
+        ensures hasher { self.new.hasher ≡ self.old.hasher }
+        ensures counted { IsCounted T.eq self.new.entries }
+        ensures none { n ≡ 0 → IsOk result }
+        ensures beyond { 0 < n → MOST_VALUES < length self.old.entries + n → IsErr result }
+        ensures err { OnErr result (self.new ≡ self.old) }
+        ensures enough { n ≤ room self.old.tables → IsOk result }
+        ensures kept { n ≤ room self.old.tables → self.new ≡ self.old }
+        ensures least { room self.old.tables < n → OnOk result (IsLeast (length self.old.tables.newer) (length self.old.entries + n) (length self.new.tables.newer)) }
+        ensures packed { room self.old.tables < n → OnOk result (IsPacked self.new.tables) }
+        ensures room { OnOk result (n ≤ room self.new.tables) }
+    {
+        let slots = self.newer.slots();
+        if n <= self.room() {
+            return Ok(());
+        }
+        let values = self.set_len();
+        if n > MOST_VALUES - values {
+            return Err(AllocError);
+        }
+        let count = least_count(slots, values + n)?;
+        let newer = Slots::with_slots(self.alloc, count)?;
+        self.pack(newer);
+        Ok(())
+    }
+
+    /// Gives memory back that the entries don't need. The entries stay, and so does the table where memory is refused.
+    ///
+    /// It builds the least table of slots in which the entries have room where that one is smaller than the newer one: every
+    /// value is moved into it and hashed once, and the others are freed. Else it takes no memory and does nothing. Where there
+    /// are no entries it takes no memory, and no slots are left.
+    pub fn shrink_to_fit(&mut self) -> Result<(), AllocError>
+        ensures entries { IsPermutation self.old.entries self.new.entries }
+        ensures hasher { self.new.hasher ≡ self.old.hasher }
+        ensures counted { IsCounted T.eq self.new.entries }
+        ensures err { OnErr result (self.new ≡ self.old) }
+        ensures none { self.old.entries ≡ [] → IsOk result }
+        ensures freed { self.old.entries ≡ [] → self.new.tables.newer ≡ [] }
+        ensures enough { (m : ℕ) → IsLeast 0 (length self.old.entries) m → length self.old.tables.newer ≤ m → IsOk result }
+        ensures kept { (m : ℕ) → IsLeast 0 (length self.old.entries) m → length self.old.tables.newer ≤ m → self.new ≡ self.old }
+        ensures least { (m : ℕ) → IsLeast 0 (length self.old.entries) m → m < length self.old.tables.newer → OnOk result (length self.new.tables.newer ≡ m) }
+        ensures packed { (m : ℕ) → IsLeast 0 (length self.old.entries) m → m < length self.old.tables.newer → OnOk result (IsPacked self.new.tables) }
+    {
+        let count = least_count(0, self.set_len())?;
+        if count >= self.newer.slots() {
+            return Ok(());
+        }
+        let newer = Slots::with_slots(self.alloc, count)?;
+        self.pack(newer);
+        Ok(())
+    }
+}

@@ -1,0 +1,256 @@
+//! Spots: where in the two tables of slots a value is, and what is changed there.
+ghost use Rattle.std.specs.Prelude.{◌≡◌, ◌+◌, ◌-◌, ◌<◌, ◌^◌, ℕ, [], ◌∷◌, true, Some, None, IfSome, IfNone, IfOk, IfErr, OnErr, IsOk, IsSome, slice_set};
+ghost use Rattle.std.specs.List.Sorted.{IsPermutation};
+ghost use Rattle.std.specs.Map.{lookup_entry};
+ghost use Rattle.hashbag_slots.specs.Hashing.{hash_under};
+ghost use Rattle.hashbag_slots.specs.Slots.{entries, entry_at, is_live, HoldsAt, IsFirstFree, recounted, holds, slot_at, count_in};
+ghost use Rattle.hashbag_slots.specs.Columns.{IsReached, IsAlike};
+ghost use Rattle.hashbag_table.specs.Entries.{entry_of, with_instance, IsCounted};
+ghost use Rattle.hashbag_table.specs.Tables.{room, Arrives, slot_in, HoldsIn, entry_in, Writes, Swaps};
+
+use crate::table::{Spot, Table};
+use hashbag_slots::slots::{Slot, Slots};
+use std::alloc::AllocError;
+use std::hash::{BuildHasher, Hash};
+
+// Stores another equal instance at a place, with the count 1, and gives the former one back.
+fn put_one<T: Eq>(slots: &mut Slots<T>, place: usize, value: T) -> T
+    requires equal { holds (λ v. T.eq v value) (slot_at slots.old.slots place) ≡ true }
+    ensures given { slot_at slots.old.slots place ≡ Slot.Live result (count_in (slot_at slots.old.slots place)) }
+    ensures after { slots.new.slots ≡ slice_set slots.old.slots place (Slot.Live value 1) }
+    ensures reached { (hash : T → ℕ) → IsAlike T.eq hash → IsReached hash slots.old → IsReached hash slots.new }
+{
+    let former = slots.put_at(place, value);
+    slots.set_at(place, 1);
+    former
+}
+
+// As `find_hashed`, of the older table, which seldom has slots: look-ups of the newer one alone are to be short.
+#[inline(never)]
+fn probe_older<T: Eq + Hash, S: BuildHasher>(
+    older: &Slots<T>,
+    state: &S,
+    hash: u64,
+    value: &T,
+) -> Option<usize>
+    requires hashed { hash ≡ hash_under T.hash_input S.BuildHasher S.Hasher.Hasher state.now value.now }
+    requires reached { IsReached (hash_under T.hash_input S.BuildHasher S.Hasher.Hasher state.now) older.now }
+    ensures found { IfSome result (HoldsAt (λ v. T.eq v value.now) older.now.slots) }
+    ensures map { entry_at older.now.slots result ≡ lookup_entry (λ v. T.eq v value.now) (entries older.now.slots) }
+{
+    older.find_hashed(state, hash, value)
+}
+
+// The place of a value in the older table.
+#[inline(always)]
+pub(super) fn find_older<T: Eq + Hash, S: BuildHasher>(
+    older: &Slots<T>,
+    state: &S,
+    hash: u64,
+    value: &T,
+) -> Option<usize>
+    requires hashed { hash ≡ hash_under T.hash_input S.BuildHasher S.Hasher.Hasher state.now value.now }
+    requires reached { IsReached (hash_under T.hash_input S.BuildHasher S.Hasher.Hasher state.now) older.now }
+    ensures found { IfSome result (HoldsAt (λ v. T.eq v value.now) older.now.slots) }
+    ensures map { entry_at older.now.slots result ≡ lookup_entry (λ v. T.eq v value.now) (entries older.now.slots) }
+{
+    if older.slots() == 0 {
+        return None;
+    }
+    probe_older(older, state, hash, value)
+}
+
+impl<T: Eq + Hash + Drop, S: BuildHasher + Drop> Table<T, S> {
+    // Where a value is, whose hash is handed in.
+    #[inline(always)]
+    pub(super) fn locate(&self, hash: u64, value: &T) -> Option<Spot>
+        requires hashed { hash ≡ hash_under T.hash_input S.BuildHasher S.Hasher.Hasher self.now.hasher value.now }
+        ensures map { entry_in self.now.tables result ≡ entry_of T.eq value.now self.now.entries }
+        ensures held { IfSome result (HoldsIn (λ w. T.eq w value.now) self.now.tables) }
+        ensures counted { IsCounted T.eq self.now.entries }
+    {
+        if let Some(place) = self.newer.find_hashed(&self.hasher, hash, value) {
+            return Some(Spot::Newer(place));
+        }
+        match find_older(&self.older, &self.hasher, hash, value) {
+            Some(place) => Some(Spot::Waiting(place - self.looked)),
+            None => None,
+        }
+    }
+
+    // As `locate`, of a value that is in the first slot of its path in the newer table. `None` says nothing.
+    #[inline(always)]
+    pub(super) fn locate_first(&self, hash: u64, value: &T) -> Option<Spot>
+        ensures map { IfSome result (λ spot. entry_in self.now.tables (Some spot) ≡ entry_of T.eq value.now self.now.entries) }
+        ensures held { IfSome result (HoldsIn (λ w. T.eq w value.now) self.now.tables) }
+        ensures counted { IsCounted T.eq self.now.entries }
+    {
+        self.recall();
+        match self.newer.find_first(hash, value) {
+            Some(place) => Some(Spot::Newer(place)),
+            None => None,
+        }
+    }
+
+    // Where a value is, or the place in the newer table into which it is put, where no slot waits and there is room. `None` where
+    // that isn't so.
+    #[inline(always)]
+    pub(super) fn seek(&self, hash: u64, value: &T) -> Option<Result<Spot, usize>>
+        requires hashed { hash ≡ hash_under T.hash_input S.BuildHasher S.Hasher.Hasher self.now.hasher value.now }
+        ensures map { IfSome result (λ r. IfOk r (λ spot. entry_in self.now.tables (Some spot) ≡ entry_of T.eq value.now self.now.entries)) }
+        ensures held { IfSome result (λ r. IfOk r (HoldsIn (λ w. T.eq w value.now) self.now.tables)) }
+        ensures absent { IfSome result (λ r. IfErr r (λ _. entry_of T.eq value.now self.now.entries ≡ None)) }
+        ensures free { IfSome result (λ r. IfErr r (IsFirstFree hash self.now.tables.newer)) }
+        ensures room { IsSome result → 0 < room self.now.tables }
+        ensures none_waits { IsSome result → self.now.tables.waiting ≡ [] }
+    {
+        if self.older.slots() > 0 || self.room() == 0 {
+            return None;
+        }
+        match self.newer.seek_hashed(&self.hasher, hash, value) {
+            Ok(place) => Some(Ok(Spot::Newer(place))),
+            Err(place) => Some(Err(place)),
+        }
+    }
+
+    // Where a value is. One that is absent is put in with a count, and is nowhere.
+    #[inline(always)]
+    pub(super) fn locate_or_insert(
+        &mut self,
+        hash: u64,
+        value: T,
+        n: usize,
+    ) -> Result<Option<Spot>, AllocError>
+        requires hashed { hash ≡ hash_under T.hash_input S.BuildHasher S.Hasher.Hasher self.old.hasher value }
+        requires some { 0 < n }
+        ensures present { IfOk result (λ at. IsSome at → self.new ≡ self.old) }
+        ensures map { IfOk result (λ at. IfSome at (λ spot. entry_in self.old.tables (Some spot) ≡ entry_of T.eq value self.old.entries)) }
+        ensures held { IfOk result (λ at. IfSome at (HoldsIn (λ w. T.eq w value) self.old.tables)) }
+        ensures nowhere { IfOk result (λ at. IfNone at (entry_of T.eq value self.old.entries ≡ None)) }
+        ensures inserted { IfOk result (λ at. IfNone at (IsPermutation (with_instance T.eq value n self.old.entries) self.new.entries)) }
+        ensures arrives { IfOk result (λ at. IfNone at (Arrives self.old.tables self.new.tables)) }
+        ensures hasher { self.new.hasher ≡ self.old.hasher }
+        ensures counted { IsCounted T.eq self.new.entries }
+        ensures absent { OnErr result (entry_of T.eq value self.old.entries ≡ None) }
+        ensures err { OnErr result (self.new ≡ self.old) }
+        ensures takes { 0 < room self.old.tables → IsOk result }
+    {
+        self.recall();
+        if let Some(sought) = self.seek(hash, &value) {
+            return match sought {
+                Ok(spot) => Ok(Some(spot)),
+                Err(place) => {
+                    self.settle(place, hash, value, n);
+                    Ok(None)
+                }
+            };
+        }
+        if let Some(spot) = self.locate(hash, &value) {
+            return Ok(Some(spot));
+        }
+        self.insert_hashed(hash, value, n)?;
+        Ok(None)
+    }
+
+    // Gives the value at a spot another count.
+    #[inline(always)]
+    pub(super) fn set_spot(&mut self, spot: Spot, n: usize)
+        requires live { is_live (slot_in self.old.tables spot) ≡ true }
+        requires some { 0 < n }
+        ensures after { Writes spot (recounted n (slot_in self.old.tables spot)) self.old.tables self.new.tables }
+        ensures map { (e : T × ℕ) → entry_in self.old.tables (Some spot) ≡ Some e → Swaps self.old.entries self.new.entries e ((e.0, n) ∷ []) }
+        ensures hasher { self.new.hasher ≡ self.old.hasher }
+        ensures counted { IsCounted T.eq self.new.entries }
+    {
+        self.older.recall();
+        if let Spot::Newer(place) = spot {
+            self.newer.set_at(place, n);
+            return;
+        }
+        if let Spot::Waiting(place) = spot {
+            self.older.set_at(self.looked + place, n);
+        }
+    }
+
+    // Takes the value at a spot out, and leaves Removed there.
+    pub(super) fn take_spot(&mut self, spot: Spot) -> (T, usize)
+        requires live { is_live (slot_in self.old.tables spot) ≡ true }
+        ensures taken { slot_in self.old.tables spot ≡ Slot.Live result.0 result.1 }
+        ensures after { Writes spot Slot.Removed self.old.tables self.new.tables }
+        ensures map { Swaps self.old.entries self.new.entries (result.0, result.1) [] }
+        ensures hasher { self.new.hasher ≡ self.old.hasher }
+        ensures counted { IsCounted T.eq self.new.entries }
+    {
+        self.older.recall();
+        match spot {
+            Spot::Newer(place) => {
+                let entry = self.newer.take_at(place);
+                return entry;
+            }
+            Spot::Waiting(place) => {
+                let entry = self.older.take_at(self.looked + place);
+                return entry;
+            }
+        }
+    }
+
+    // The count of the value at a spot.
+    #[inline(always)]
+    pub(super) fn count_at(&self, spot: Spot) -> usize
+        requires live { is_live (slot_in self.now.tables spot) ≡ true }
+        ensures count { (e : T × ℕ) → entry_in self.now.tables (Some spot) ≡ Some e → result ≡ e.1 }
+    {
+        self.older.recall();
+        if let Spot::Newer(place) = spot {
+            return match self.newer.at(place) {
+                Some((_, count)) => count,
+                None => 0,
+            };
+        }
+        if let Spot::Waiting(place) = spot {
+            return match self.older.at(self.looked + place) {
+                Some((_, count)) => count,
+                None => 0,
+            };
+        }
+        0
+    }
+
+    // Adds to the count of the value at a spot, and answers what the count was.
+    #[inline(always)]
+    pub(super) fn raise_spot(&mut self, spot: Spot, n: usize) -> usize
+        requires live { is_live (slot_in self.old.tables spot) ≡ true }
+        requires some { 0 < n }
+        requires fits { (e : T × ℕ) → entry_in self.old.tables (Some spot) ≡ Some e → e.1 + n < 2 ^ 64 }
+        ensures before { (e : T × ℕ) → entry_in self.old.tables (Some spot) ≡ Some e → result ≡ e.1 }
+        ensures after { Writes spot (recounted (result + n) (slot_in self.old.tables spot)) self.old.tables self.new.tables }
+        ensures map { (e : T × ℕ) → entry_in self.old.tables (Some spot) ≡ Some e → Swaps self.old.entries self.new.entries e ((e.0, result + n) ∷ []) }
+        ensures hasher { self.new.hasher ≡ self.old.hasher }
+        ensures counted { IsCounted T.eq self.new.entries }
+    {
+        let before = self.count_at(spot);
+        self.set_spot(spot, before + n);
+        before
+    }
+
+    // Stores another equal instance at a spot, with the count 1, and gives the former one back.
+    pub(super) fn put_spot(&mut self, spot: Spot, value: T) -> T
+        requires equal { holds (λ v. T.eq v value) (slot_in self.old.tables spot) ≡ true }
+        ensures after { Writes spot (Slot.Live value 1) self.old.tables self.new.tables }
+        ensures map { (e : T × ℕ) → entry_in self.old.tables (Some spot) ≡ Some e → Swaps self.old.entries self.new.entries e ((value, 1) ∷ []) }
+        ensures hasher { self.new.hasher ≡ self.old.hasher }
+        ensures counted { IsCounted T.eq self.new.entries }
+    {
+        self.older.recall();
+        match spot {
+            Spot::Newer(place) => {
+                let former = put_one(&mut self.newer, place, value);
+                return former;
+            }
+            Spot::Waiting(place) => {
+                let former = put_one(&mut self.older, self.looked + place, value);
+                return former;
+            }
+        }
+    }
+}
