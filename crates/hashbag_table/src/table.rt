@@ -14,7 +14,7 @@ ghost use Rattle.hashbag_table.specs.Tables.{room, values, IsLeast, IsPacked, en
 mod room;
 mod spots;
 
-use crate::growth::{carry_next, grown_count, least_count, no_slots};
+use crate::growth::{least_count, no_slots};
 use crate::retain::retain_slots;
 use crate::table::spots::find_older;
 use crate::walk::{DrainWalk, IntoWalk, Walk};
