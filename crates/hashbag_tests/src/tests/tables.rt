@@ -2,7 +2,8 @@
 //! each call. Where nothing is said of the hash, these numbers don't depend on it.
 use hashbag::{BagError, FixedState, HashBag};
 use hashbag_bench::{IdentityState, OneState, ParityState};
-use hashbag_rows::calls::{bag_of, clone_of, make_calls, make_rows};
+use hashbag_rows::calls::{clone_of, insert, make_calls, make_rows, remove};
+use hashbag_rows::texts::{debug_of, is_text};
 use std::alloc::Global;
 use std::hash::BuildHasher;
 use std::test::Fail;
@@ -302,7 +303,12 @@ const ONE_ROWS: &str = "\
     insert 3 = 0
     set_len = 1";
 
-// What a clone answers of a bag in the middle of a carry.
+// A bag in the middle of a carry.
+const CLONED: &str = "\
+    insert_each [1, 2, 3, 4, 5, 6, 7, 8, 9, 10, 11, 12, 13, 14, 15, 16, 17, 18, 19, 20, 21, 22, 23, 24, 25] = ()
+    tables = (64, 16, 23)";
+
+// What its clone answers.
 const CLONE: &str = "\
     tables = (64, 0, 23)
     set_len = 25
@@ -314,43 +320,51 @@ fn in_and_out<S: BuildHasher + Drop>(
     bag: &mut HashBag<u64, S>,
     value: u64,
 ) -> Result<usize, BagError> {
-    if bag.len() == usize::MAX {
-        return Err(BagError::TooMany);
-    }
-    let before = bag.insert(value)?;
-    Ok(bag.remove(&value).saturating_add(before))
+    let before = insert(bag, value)?;
+    Ok(remove(bag, value).saturating_add(before))
 }
 
+fn all_in_and_out<S: BuildHasher + Drop>(
+    bag: &mut HashBag<u64, S>,
+    values: u64,
+) -> Result<usize, BagError> {
+    let mut taken = 0usize;
+    for value in 0..values {
+        taken = taken.saturating_add(in_and_out(bag, value)?);
+    }
+    Ok(taken)
+}
+
+// How many were taken out, how many slots there are then, and whether the bag is empty.
 fn thousand_in_and_out<S: BuildHasher + Default + Drop>(
     alloc: Global,
     state: S,
 ) -> Result<(), Fail> {
     let mut bag = HashBag::with_hasher(alloc, state);
-    let mut taken = 0usize;
-    for value in 0..1000 {
-        taken = taken.saturating_add(in_and_out(&mut bag, value)?);
-    }
-    if taken != 1000 || bag.slots() != 16 || !bag.is_empty() {
-        return Err(Fail::new("a thousand values left more than 16 slots"));
-    }
-    Ok(())
+    let taken = all_in_and_out(&mut bag, 1000)?;
+    let got = debug_of(alloc, &(taken, bag.slots(), bag.is_empty()))?;
+    is_text("a thousand values", got.as_str(), "(1000, 16, true)")
+}
+
+// Whether two bags are equal.
+fn equality_of<S: BuildHasher + Drop>(
+    alloc: Global,
+    a: &HashBag<u64, S>,
+    b: &HashBag<u64, S>,
+) -> Result<String, Fail> {
+    debug_of(alloc, &(a == b))
 }
 
 fn cloned_in_a_carry<S: BuildHasher + Default + Copy>(alloc: Global, state: S) -> Result<(), Fail> {
-    let bag = bag_of(
-        alloc,
-        state,
-        &[
-            1, 2, 3, 4, 5, 6, 7, 8, 9, 10, 11, 12, 13, 14, 15, 16, 17, 18, 19, 20, 21, 22, 23, 24,
-            25,
-        ],
-    )?;
+    let mut bag = HashBag::with_hasher(alloc, state);
+    make_calls(alloc, &mut bag, CLONED, 2)?;
     let mut clone = clone_of(&bag)?;
     make_calls(alloc, &mut clone, CLONE, 3)?;
-    if clone != bag {
-        return Err(Fail::new("a clone differs"));
-    }
-    Ok(())
+    is_text(
+        "a clone",
+        equality_of(alloc, &clone, &bag)?.as_str(),
+        "true",
+    )
 }
 
 fn tables_under<S: BuildHasher + Default + Copy>(alloc: Global, state: S) -> Result<(), Fail> {
