@@ -106,22 +106,14 @@ const CLONE_ROWS: &str = "\
     set_len = 3
     take_all 5 = Some((5, 3))";
 
-fn are_equal<S: BuildHasher + Drop>(a: &HashBag<u64, S>, b: &HashBag<u64, S>) -> bool {
-    a == b
-}
-
-fn differ<S: BuildHasher + Drop>(a: &HashBag<u64, S>, b: &HashBag<u64, S>) -> bool {
-    a != b
-}
-
 // Changes of a clone leave its source.
 fn clones<S: BuildHasher + Default + Copy>(rt: &impl Abort, alloc: Global) -> Result<(), Fail> {
     let mut bag: HashBag<u64, S> = HashBag::default_in(alloc);
     make_calls(alloc, &mut bag, "from_iter [5, 6, 5, 7, 6, 5] = ()", 1)?;
     let mut copy = clone_of(&bag)?;
-    assert!(rt; are_equal(&copy, &bag), "a clone is equal");
+    assert!(rt; copy == bag);
     make_calls(alloc, &mut copy, CLONE_ROWS, 4)?;
-    assert!(rt; differ(&copy, &bag), "a changed clone differs");
+    assert!(rt; copy != bag);
     make_calls(alloc, &mut bag, SOURCE_ROWS, 3)
 }
 

@@ -26,11 +26,6 @@ fn has_room<S: BuildHasher + Drop>(rt: &impl Abort, bag: &HashBag<u64, S>, n: us
     );
 }
 
-fn is_empty_with_room<S: BuildHasher + Drop>(rt: &impl Abort, bag: &HashBag<u64, S>, n: usize) {
-    has_room(rt, bag, n);
-    assert!(rt; bag.is_empty(), "with {n}");
-}
-
 // A bag of the numbers below this one.
 fn numbers_below<S: BuildHasher + Drop>(
     alloc: Global,
@@ -50,29 +45,20 @@ fn shrink<S: BuildHasher + Drop>(bag: &mut HashBag<u64, S>) -> Result<(), BagErr
     bag.shrink_to_fit()
 }
 
-// Room for `n` values more, in a bag as it is and in one with no room to spare.
-fn reserves<S: BuildHasher + Drop>(
-    rt: &impl Abort,
-    bag: &mut HashBag<u64, S>,
-    n: usize,
-) -> Result<(), Fail> {
-    reserve(bag, n)?;
-    has_room(rt, bag, n);
-    shrink(bag)?;
-    reserve(bag, n)?;
-    has_room(rt, bag, n);
-    Ok(())
-}
-
-// Room for each number of values more.
-fn reserves_each<S: BuildHasher + Copy>(
+// Room for each number of values more, in a bag as it is and in one with no room to spare.
+fn reserves<S: BuildHasher + Copy>(
     rt: &impl Abort,
     alloc: Global,
     state: S,
     size: u64,
 ) -> Result<(), Fail> {
     for n in 0..=MOST {
-        reserves(rt, &mut numbers_below(alloc, state, size)?, n)?;
+        let mut bag = numbers_below(alloc, state, size)?;
+        reserve(&mut bag, n)?;
+        has_room(rt, &bag, n);
+        shrink(&mut bag)?;
+        reserve(&mut bag, n)?;
+        has_room(rt, &bag, n);
     }
     Ok(())
 }
@@ -92,7 +78,9 @@ fn begins_with_room<S: BuildHasher + Copy>(
     state: S,
 ) -> Result<(), Fail> {
     for n in 0..=MOST {
-        is_empty_with_room(rt, &with_capacity(alloc, state, n)?, n);
+        let bag = with_capacity(alloc, state, n)?;
+        has_room(rt, &bag, n);
+        assert!(rt; bag.is_empty(), "with {n}");
     }
     Ok(())
 }
@@ -112,7 +100,7 @@ fn capacities<S: BuildHasher + Drop>(
 
 fn room_under<S: BuildHasher + Copy>(rt: &impl Abort, alloc: Global, state: S) -> Result<(), Fail> {
     for size in SIZES {
-        reserves_each(rt, alloc, state, size)?;
+        reserves(rt, alloc, state, size)?;
         let (before, after) = capacities(alloc, state, size)?;
         assert!(rt; after < before, "{after} after {before} for {size}");
     }
@@ -149,19 +137,15 @@ fn capacity_of(alloc: Global, n: usize) -> Result<usize, BagError> {
     Ok(of_fixed_state(alloc, n)?.capacity())
 }
 
-// The room of a new bag.
-fn new_capacity(alloc: Global) -> usize {
-    let bag: HashBag<u64> = HashBag::new(alloc);
-    bag.capacity()
-}
-
 #[test]
 fn fixed_state_by_default(rt: HostRuntime) -> Result<(), Fail> {
     let alloc = rt.alloc();
-    let capacity = debug_of(alloc, &new_capacity(alloc))?;
-    is_text("a new bag", capacity.as_str(), "0")?;
+    let bag: HashBag<u64> = HashBag::new(alloc);
+    assert_eq!(rt; bag.capacity(), 0);
     for n in 0..=MOST {
-        is_empty_with_room(&rt, &of_fixed_state(alloc, n)?, n);
+        let bag = of_fixed_state(alloc, n)?;
+        has_room(&rt, &bag, n);
+        assert!(rt; bag.is_empty(), "with {n}");
     }
     Ok(())
 }

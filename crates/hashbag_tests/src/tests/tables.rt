@@ -2,8 +2,7 @@
 //! each call. Where nothing is said of the hash, these numbers don't depend on it.
 use hashbag::{BagError, FixedState, HashBag};
 use hashbag_bench::{IdentityState, OneState, ParityState};
-use hashbag_rows::calls::{clone_of, insert, make_calls, make_rows, remove};
-use hashbag_rows::texts::{debug_of, is_text};
+use hashbag_rows::calls::{bag_of, clone_of, insert, make_calls, make_rows, remove};
 use std::alloc::Global;
 use std::hash::BuildHasher;
 use std::test::Fail;
@@ -303,12 +302,7 @@ const ONE_ROWS: &str = "\
     insert 3 = 0
     set_len = 1";
 
-// A bag in the middle of a carry.
-const CLONED: &str = "\
-    insert_each [1, 2, 3, 4, 5, 6, 7, 8, 9, 10, 11, 12, 13, 14, 15, 16, 17, 18, 19, 20, 21, 22, 23, 24, 25] = ()
-    tables = (64, 16, 23)";
-
-// What its clone answers.
+// What a clone answers of a bag in the middle of a carry.
 const CLONE: &str = "\
     tables = (64, 0, 23)
     set_len = 25
@@ -324,47 +318,36 @@ fn in_and_out<S: BuildHasher + Drop>(
     Ok(remove(bag, value).saturating_add(before))
 }
 
-fn all_in_and_out<S: BuildHasher + Drop>(
-    bag: &mut HashBag<u64, S>,
-    values: u64,
-) -> Result<usize, BagError> {
-    let mut taken = 0usize;
-    for value in 0..values {
-        taken = taken.saturating_add(in_and_out(bag, value)?);
-    }
-    Ok(taken)
-}
-
-// How many were taken out, how many slots there are then, and whether the bag is empty.
 fn thousand_in_and_out<S: BuildHasher + Default + Drop>(
     alloc: Global,
     state: S,
 ) -> Result<(), Fail> {
     let mut bag = HashBag::with_hasher(alloc, state);
-    let taken = all_in_and_out(&mut bag, 1000)?;
-    let got = debug_of(alloc, &(taken, bag.slots(), bag.is_empty()))?;
-    is_text("a thousand values", got.as_str(), "(1000, 16, true)")
-}
-
-// Whether two bags are equal.
-fn equality_of<S: BuildHasher + Drop>(
-    alloc: Global,
-    a: &HashBag<u64, S>,
-    b: &HashBag<u64, S>,
-) -> Result<String, Fail> {
-    debug_of(alloc, &(a == b))
+    let mut taken = 0usize;
+    for value in 0..1000 {
+        taken = taken.saturating_add(in_and_out(&mut bag, value)?);
+    }
+    if taken != 1000 || bag.slots() != 16 || !bag.is_empty() {
+        return Err(Fail::new("a thousand values left more than 16 slots"));
+    }
+    Ok(())
 }
 
 fn cloned_in_a_carry<S: BuildHasher + Default + Copy>(alloc: Global, state: S) -> Result<(), Fail> {
-    let mut bag = HashBag::with_hasher(alloc, state);
-    make_calls(alloc, &mut bag, CLONED, 2)?;
+    let bag = bag_of(
+        alloc,
+        state,
+        &[
+            1, 2, 3, 4, 5, 6, 7, 8, 9, 10, 11, 12, 13, 14, 15, 16, 17, 18, 19, 20, 21, 22, 23, 24,
+            25,
+        ],
+    )?;
     let mut clone = clone_of(&bag)?;
     make_calls(alloc, &mut clone, CLONE, 3)?;
-    is_text(
-        "a clone",
-        equality_of(alloc, &clone, &bag)?.as_str(),
-        "true",
-    )
+    if clone != bag {
+        return Err(Fail::new("a clone differs"));
+    }
+    Ok(())
 }
 
 fn tables_under<S: BuildHasher + Default + Copy>(alloc: Global, state: S) -> Result<(), Fail> {

@@ -1,6 +1,5 @@
 //! How rows of text are read.
 use hashbag_rows::texts::{counts, debug_of, decimal, inside, is_text, values};
-use std::process::Abort;
 use std::test::Fail;
 
 #[test]
@@ -17,20 +16,12 @@ fn lists_are_read(rt: HostRuntime) -> Result<(), Fail> {
     Ok(())
 }
 
-fn is_no_number(rt: &impl Abort, word: &str) {
-    assert!(rt; decimal(word).is_none(), "at {word}");
-}
-
-fn is_no_list(rt: &impl Abort, text: &str) {
-    assert!(rt; inside(text).is_none(), "at {text}");
-}
-
 #[test]
 fn other_words_are_refused(rt: HostRuntime) {
     for word in ["", "+5", "-5", "x", "1 2", "18446744073709551616"] {
-        is_no_number(&rt, word);
+        assert_eq!(rt; decimal(word), None, "at {word}");
     }
     for text in ["", "1, 2", "[1", "1]", " [1]"] {
-        is_no_list(&rt, text);
+        assert_eq!(rt; inside(text), None, "at {text}");
     }
 }
