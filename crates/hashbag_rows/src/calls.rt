@@ -9,7 +9,7 @@ use crate::texts::{count, counts, debug_of, halves, is_text, number, rows_of, va
 use hashbag::{BagError, HashBag};
 use std::alloc::Global;
 use std::fmt::Debug;
-use std::hash::BuildHasher;
+use std::hash::{BuildHasher, Hash};
 use std::test::Fail;
 
 // A value with its count.
@@ -27,9 +27,13 @@ fn no_call(verb: &str) -> Result<String, Fail> {
     Err(Fail::new(format_args!("no such call: {verb}")))
 }
 
-// The bag leaves it to its caller to test the total before these three calls.
+// The bag leaves it to its caller to test the total before these calls.
 
-fn insert<S: BuildHasher + Drop>(bag: &mut HashBag<u64, S>, value: u64) -> Result<usize, BagError> {
+/// Inserts a value.
+pub fn insert<T: Eq + Hash + Drop, S: BuildHasher + Drop>(
+    bag: &mut HashBag<T, S>,
+    value: T,
+) -> Result<usize, BagError> {
     if bag.len() == usize::MAX {
         return Err(BagError::TooMany);
     }
@@ -47,9 +51,21 @@ fn insert_many<S: BuildHasher + Drop>(
     bag.insert_many(value, n)
 }
 
-fn replace<S: BuildHasher + Drop>(
-    bag: &mut HashBag<u64, S>,
-    value: u64,
+/// Replaces a value in a bag that is not full, and looks it up in that call alone.
+pub fn replace_at_once<T: Eq + Hash + Drop, S: BuildHasher + Drop>(
+    bag: &mut HashBag<T, S>,
+    value: T,
+) -> Result<usize, BagError> {
+    if bag.len() == usize::MAX {
+        return Err(BagError::TooMany);
+    }
+    bag.replace(value)
+}
+
+/// Replaces a value, in a full bag too.
+pub fn replace<T: Eq + Hash + Drop, S: BuildHasher + Drop>(
+    bag: &mut HashBag<T, S>,
+    value: T,
 ) -> Result<usize, BagError> {
     if bag.len().saturating_sub(bag.contains(&value)) == usize::MAX {
         return Err(BagError::TooMany);
@@ -57,7 +73,8 @@ fn replace<S: BuildHasher + Drop>(
     bag.replace(value)
 }
 
-fn remove<S: BuildHasher + Drop>(bag: &mut HashBag<u64, S>, value: u64) -> usize {
+/// Takes one of a value out.
+pub fn remove<S: BuildHasher + Drop>(bag: &mut HashBag<u64, S>, value: u64) -> usize {
     bag.remove(&value)
 }
 
@@ -251,6 +268,19 @@ pub fn bag_of<S: BuildHasher + Drop>(
     let mut bag = HashBag::with_hasher(alloc, state);
     for value in values {
         insert(&mut bag, *value)?;
+    }
+    Ok(bag)
+}
+
+/// A bag of these values, each inserted as often as the number beside it.
+pub fn bag_of_counts<S: BuildHasher + Drop>(
+    alloc: Global,
+    state: S,
+    pairs: &[Count],
+) -> Result<HashBag<u64, S>, Fail> {
+    let mut bag = HashBag::with_hasher(alloc, state);
+    for (value, n) in pairs {
+        insert_many(&mut bag, *value, *n)?;
     }
     Ok(bag)
 }

@@ -3,11 +3,10 @@ use crate::tests::joins::bag_of;
 use hashbag::script::joins_of;
 use hashbag::{BagError, HashBag};
 use hashbag_bench::states::CountingState;
-use hashbag_rows::calls::answer;
-use hashbag_rows::texts::{count, halves, is_text, number, rows_of};
+use hashbag_rows::calls::{answer, clone_of, replace_at_once};
+use hashbag_rows::texts::{count, debug_of, halves, is_text, number, rows_of};
 use serde_json::Value;
 use std::alloc::Global;
-use std::process::Abort;
 use std::test::Fail;
 
 // The counts of a bag, a call on it, and how often its state hashes in the call. A call is named as in the rows of calls.
@@ -98,11 +97,6 @@ const CALLS_ON_TWO: &str = "
 
 type CountingBag = HashBag<u64, CountingState>;
 
-fn replace(rt: &impl Abort, bag: &mut CountingBag, value: u64) -> Result<usize, BagError> {
-    assert!(rt; bag.len() < usize::MAX);
-    bag.replace(value)
-}
-
 fn entry_value(bag: &mut CountingBag, value: u64) -> u64 {
     *bag.entry(value).value()
 }
@@ -139,18 +133,20 @@ fn done<T: Drop>(_answer: T) -> Result<(), Fail> {
     Ok(())
 }
 
-// Makes a call, also one that the rows of calls lack. Theirs looks the value up before it is replaced.
-fn make_call(
-    rt: &impl Abort,
-    alloc: Global,
-    bag: &mut CountingBag,
-    call: &str,
-) -> Result<(), Fail> {
+// Makes a call on a value.
+fn call_on_value(alloc: Global, bag: &mut CountingBag, verb: &str, value: u64) -> Result<(), Fail> {
+    match verb {
+        "replace" => done(replace_at_once(bag, value)?),
+        "entry_value" => done(entry_value(bag, value)),
+        _ => done(entry_text(alloc, bag, value)?),
+    }
+}
+
+// Makes a call, also one that the rows of calls lack. Their `replace` looks the value up before it is replaced.
+fn make_call(alloc: Global, bag: &mut CountingBag, call: &str) -> Result<(), Fail> {
     let (verb, rest) = call.split_once(' ').unwrap_or((call, ""));
     match verb {
-        "replace" => done(replace(rt, bag, number(rest)?)?),
-        "entry_value" => done(entry_value(bag, number(rest)?)),
-        "entry_text" => done(entry_text(alloc, bag, number(rest)?)?),
+        "replace" | "entry_value" | "entry_text" => call_on_value(alloc, bag, verb, number(rest)?),
         "set_or_insert" => {
             let (value, n) = halves(rest, " ")?;
             done(set_or_insert(bag, number(value)?, count(n)?)?)
@@ -163,21 +159,20 @@ fn make_call(
 }
 
 // Makes the call of a row.
-fn hashes_so_often(rt: &impl Abort, alloc: Global, row: &str) -> Result<(), Fail> {
+fn hashes_so_often(alloc: Global, row: &str) -> Result<(), Fail> {
     let (before, rest) = halves(row, "|")?;
     let (call, wanted) = halves(rest, "|")?;
-    let mut bag: CountingBag = bag_of(rt, alloc, before)?;
+    let mut bag: CountingBag = bag_of(alloc, before)?;
     let start = bag.hasher().hashed();
-    make_call(rt, alloc, &mut bag, call)?;
+    make_call(alloc, &mut bag, call)?;
     let hashed = bag.hasher().hashed().saturating_sub(start);
-    assert_eq!(rt; hashed, number(wanted)?, "hashes in the row: {row}");
-    Ok(())
+    is_text(row, debug_of(alloc, &hashed)?.as_str(), wanted)
 }
 
 #[test]
 fn calls_hash_so_often(rt: HostRuntime) -> Result<(), Fail> {
     for row in rows_of(rt.alloc(), CALLS, 71)? {
-        hashes_so_often(&rt, rt.alloc(), row)?;
+        hashes_so_often(rt.alloc(), row)?;
     }
     Ok(())
 }
@@ -221,25 +216,35 @@ fn hashed_by(a: &CountingBag, b: &CountingBag) -> (u64, u64) {
     (a.hasher().hashed(), b.hasher().hashed())
 }
 
+// How often each state hashed since.
+fn hashed_since(
+    alloc: Global,
+    start: (u64, u64),
+    a: &CountingBag,
+    b: &CountingBag,
+) -> Result<String, Fail> {
+    let end = hashed_by(a, b);
+    let (first, second) = (end.0.saturating_sub(start.0), end.1.saturating_sub(start.1));
+    Ok(format!(in alloc; "{first} {second}")?)
+}
+
 // Makes the call of a row on two bags.
-fn both_hash_so_often(rt: &impl Abort, alloc: Global, row: &str) -> Result<(), Fail> {
+fn both_hash_so_often(alloc: Global, row: &str) -> Result<(), Fail> {
     let (first, rest) = halves(row, "|")?;
     let (second, rest) = halves(rest, "|")?;
     let (call, wanted) = halves(rest, "|")?;
-    let a: CountingBag = bag_of(rt, alloc, first)?;
-    let b: CountingBag = bag_of(rt, alloc, second)?;
+    let a: CountingBag = bag_of(alloc, first)?;
+    let b: CountingBag = bag_of(alloc, second)?;
     let start = hashed_by(&a, &b);
     make_call_on_two(alloc, &a, &b, call)?;
-    let end = hashed_by(&a, &b);
-    let (first, second) = (end.0.saturating_sub(start.0), end.1.saturating_sub(start.1));
-    let got = format!(in alloc; "{first} {second}")?;
+    let got = hashed_since(alloc, start, &a, &b)?;
     is_text(row, got.as_str(), wanted)
 }
 
 #[test]
 fn calls_on_two_hash_so_often(rt: HostRuntime) -> Result<(), Fail> {
     for row in rows_of(rt.alloc(), CALLS_ON_TWO, 9)? {
-        both_hash_so_often(&rt, rt.alloc(), row)?;
+        both_hash_so_often(rt.alloc(), row)?;
     }
     Ok(())
 }
@@ -247,10 +252,9 @@ fn calls_on_two_hash_so_often(rt: HostRuntime) -> Result<(), Fail> {
 // The state of a clone, which goes on from the number of the first one's, hashes each value once, and the first state nothing.
 #[test]
 fn clones_are_hashed_once(rt: HostRuntime) -> Result<(), Fail> {
-    let bag: CountingBag = bag_of(&rt, rt.alloc(), "1:1 2:5 3:2")?;
-    let start = bag.hasher().hashed();
-    let clone = bag.clone()?;
-    assert_eq!(rt; bag.hasher().hashed(), start);
-    assert_eq!(rt; clone.hasher().hashed().saturating_sub(start), 3);
-    Ok(())
+    let bag: CountingBag = bag_of(rt.alloc(), "1:1 2:5 3:2")?;
+    let start = hashed_by(&bag, &bag);
+    let clone = clone_of(&bag)?;
+    let got = hashed_since(rt.alloc(), start, &bag, &clone)?;
+    is_text("a clone", got.as_str(), "0 3")
 }

@@ -3,11 +3,11 @@ use hashbag::script::{Joins, joins_of};
 use hashbag::{FixedState, HashBag};
 use hashbag_bench::join_uses::excess_of;
 use hashbag_bench::{IdentityState, OneState, ParityState};
-use hashbag_rows::texts::{count, counts, debug_of, halves, is_text, number, rows_of};
+use hashbag_rows::calls::bag_of_counts;
+use hashbag_rows::texts::{counts, debug_of, halves, is_text, number, rows_of};
 use std::alloc::{AllocError, Global};
-use std::fmt::{self, Debug, Display, Formatter, Write};
+use std::fmt::Debug;
 use std::hash::BuildHasher;
-use std::process::Abort;
 use std::test::Fail;
 
 // A join, two bags, and the items of the join, values rising. Bags of 25 values are in the middle of a carry.
@@ -105,39 +105,12 @@ const EXCESSES: &str = "
     8 | 0
     1 | 0";
 
-// What stands in a row.
-#[derive(Clone, Copy)]
-struct Row<'a> {
-    join: &'a str,
-    first: &'a str,
-    second: &'a str,
-    wanted: &'a str,
-}
-
-fn parts_of(row: &str) -> Result<Row<'_>, Fail> {
-    let (join, rest) = halves(row, "|")?;
-    let (first, rest) = halves(rest, "|")?;
-    let (second, wanted) = halves(rest, "|")?;
-    Ok(Row {
-        join,
-        first,
-        second,
-        wanted,
-    })
-}
-
 /// The bag with the counts of a text.
 pub fn bag_of<S: BuildHasher + Default + Drop>(
-    rt: &impl Abort,
     alloc: Global,
     text: &str,
 ) -> Result<HashBag<u64, S>, Fail> {
-    let mut bag = HashBag::default_in(alloc);
-    for (value, count) in counts(alloc, text)? {
-        assert!(rt; count <= usize::MAX - bag.len());
-        bag.insert_many(value, count)?;
-    }
-    Ok(bag)
+    bag_of_counts(alloc, S::default(), counts(alloc, text)?.as_slice())
 }
 
 // The text of some items, rising.
@@ -174,54 +147,56 @@ fn text_of(alloc: Global, joins: Joins<'_, u64>, join: &str) -> Result<String, F
     }
 }
 
+// The text of a join of two bags.
+fn joined<S: BuildHasher + Drop, S2: BuildHasher + Drop>(
+    alloc: Global,
+    join: &str,
+    a: &HashBag<u64, S>,
+    b: &HashBag<u64, S2>,
+) -> Result<String, Fail> {
+    text_of(alloc, joins_of(alloc, a, b)?, join)
+}
+
 fn is_joined<S: BuildHasher + Default + Drop, S2: BuildHasher + Default + Drop>(
-    rt: &impl Abort,
     alloc: Global,
     row: &str,
 ) -> Result<(), Fail> {
-    let parts = parts_of(row)?;
-    let a: HashBag<u64, S> = bag_of(rt, alloc, parts.first)?;
-    let b: HashBag<u64, S2> = bag_of(rt, alloc, parts.second)?;
-    let got = text_of(alloc, joins_of(alloc, &a, &b)?, parts.join)?;
-    is_text(row, got.as_str(), parts.wanted)?;
-    Ok(())
+    let (join, rest) = halves(row, "|")?;
+    let (first, rest) = halves(rest, "|")?;
+    let (second, wanted) = halves(rest, "|")?;
+    let a: HashBag<u64, S> = bag_of(alloc, first)?;
+    let b: HashBag<u64, S2> = bag_of(alloc, second)?;
+    let got = joined(alloc, join, &a, &b)?;
+    is_text(row, got.as_str(), wanted)
 }
 
 // A step of a join: the size hint before it, and whether an item came.
-#[derive(Clone, Copy)]
-struct Step {
+fn step_text(
+    alloc: Global,
     hint: (usize, Option<usize>),
     came: bool,
-}
-
-impl Display for Step {
-    fn fmt<W: Write>(&self, f: &mut Formatter<W>) -> fmt::Result {
-        let fewest = self.hint.0;
-        let mark = if self.came { '+' } else { '-' };
-        match self.hint.1 {
-            Some(most) => write!(f, "{fewest}..{most}{mark} "),
-            None => write!(f, "{fewest}..{mark} "),
-        }
+) -> Result<String, AllocError> {
+    let fewest = hint.0;
+    let mark = if came { '+' } else { '-' };
+    match hint.1 {
+        Some(most) => format!(in alloc; "{fewest}..{most}{mark} "),
+        None => format!(in alloc; "{fewest}..{mark} "),
     }
 }
 
-fn write_step(text: &mut String, hint: (usize, Option<usize>), came: bool) -> Result<(), Fail> {
-    let step = Step { hint, came };
-    write!(text, "{step}")?;
-    Ok(())
-}
-
 // So many steps of a join, which is then dropped.
-fn write_steps<I: Iterator + Drop>(text: &mut String, join: I, steps: usize) -> Result<(), Fail>
+fn text_of_steps<I: Iterator + Drop>(alloc: Global, join: I, steps: usize) -> Result<String, Fail>
 where
     I::Item: Drop,
     requires any { (state : _) → I.can_next state }
 {
     let mut join = join;
+    let mut text = String::new(alloc);
     for _ in 0..steps {
-        write_step(text, join.size_hint(), join.next().is_some())?;
+        let step = step_text(alloc, join.size_hint(), join.next().is_some())?;
+        text.push_str(step.as_str())?;
     }
-    Ok(())
+    Ok(text)
 }
 
 // The first steps of one of the joins.
@@ -232,15 +207,13 @@ fn steps_of<S: BuildHasher + Drop, S2: BuildHasher + Drop>(
     b: &HashBag<u64, S2>,
     steps: usize,
 ) -> Result<String, Fail> {
-    let mut text = String::new(alloc);
     match join {
-        "outer_join" => write_steps(&mut text, a.outer_join(b), steps)?,
-        "difference" => write_steps(&mut text, a.difference(b), steps)?,
-        "signed_difference" => write_steps(&mut text, a.signed_difference(b), steps)?,
-        "not_in" => write_steps(&mut text, a.not_in(b), steps)?,
-        _ => return Err(Fail::new(format_args!("no join: {join}"))),
+        "outer_join" => text_of_steps(alloc, a.outer_join(b), steps),
+        "difference" => text_of_steps(alloc, a.difference(b), steps),
+        "signed_difference" => text_of_steps(alloc, a.signed_difference(b), steps),
+        "not_in" => text_of_steps(alloc, a.not_in(b), steps),
+        _ => Err(Fail::new(format_args!("no join: {join}"))),
     }
-    Ok(text)
 }
 
 fn is_one_of(word: &str, words: &str) -> bool {
@@ -250,6 +223,10 @@ fn is_one_of(word: &str, words: &str) -> bool {
         }
     }
     false
+}
+
+fn number_of_words(text: &str) -> usize {
+    text.split_whitespace().count()
 }
 
 // How many steps are one of those that are wanted at their place.
@@ -263,6 +240,16 @@ fn steps_as_wanted(got: &str, wanted: &str) -> usize {
     as_wanted
 }
 
+// Values with their counts, as `5:2 6:1 `.
+fn text_of_counts(alloc: Global, pairs: &[(u64, usize)]) -> Result<String, Fail> {
+    let mut text = String::new(alloc);
+    for (value, count) in pairs {
+        let pair = format!(in alloc; "{value}:{count} ")?;
+        text.push_str(pair.as_str())?;
+    }
+    Ok(text)
+}
+
 // The text of a bag's counts, values rising.
 fn counts_of<S: BuildHasher + Drop>(alloc: Global, bag: &HashBag<u64, S>) -> Result<String, Fail> {
     let mut pairs: Vec<(u64, usize)> = Vec::new(alloc);
@@ -270,90 +257,115 @@ fn counts_of<S: BuildHasher + Drop>(alloc: Global, bag: &HashBag<u64, S>) -> Res
         pairs.push((*value, count))?;
     }
     pairs.sort_unstable();
-    let mut text = String::new(alloc);
-    for (value, count) in pairs {
-        write!(text, "{value}:{count} ")?;
+    text_of_counts(alloc, pairs.as_slice())
+}
+
+// Checks the first steps of a join.
+fn has_steps(row: &str, got: &str, wanted: &str, steps: usize) -> Result<(), Fail> {
+    let as_wanted = steps_as_wanted(got, wanted);
+    if as_wanted == steps {
+        return Ok(());
     }
-    Ok(text)
+    Err(Fail::new(format_args!("{as_wanted} of {steps} steps as wanted: {got}in the row: {row}")))
+}
+
+// Checks the counts of a bag.
+fn has_counts<S: BuildHasher + Drop>(
+    alloc: Global,
+    row: &str,
+    bag: &HashBag<u64, S>,
+    wanted: &str,
+) -> Result<(), Fail> {
+    is_text(row, counts_of(alloc, bag)?.trim(), wanted)
 }
 
 // A join, dropped after each number of its steps, leaves both bags as they were.
 fn is_stepped<S: BuildHasher + Default + Drop, S2: BuildHasher + Default + Drop>(
-    rt: &impl Abort,
     alloc: Global,
     row: &str,
 ) -> Result<(), Fail> {
-    let parts = parts_of(row)?;
-    let a: HashBag<u64, S> = bag_of(rt, alloc, parts.first)?;
-    let b: HashBag<u64, S2> = bag_of(rt, alloc, parts.second)?;
-    let most = parts.wanted.split_whitespace().count();
-    for steps in 0..=most {
-        let got = steps_of(alloc, parts.join, &a, &b, steps)?;
-        let as_wanted = steps_as_wanted(got.as_str(), parts.wanted);
-        assert_eq!(rt; as_wanted, steps, "steps {got}of the row: {row}");
-        is_text(row, counts_of(alloc, &a)?.trim(), parts.first)?;
-        is_text(row, counts_of(alloc, &b)?.trim(), parts.second)?;
+    let (join, rest) = halves(row, "|")?;
+    let (first, rest) = halves(rest, "|")?;
+    let (second, wanted) = halves(rest, "|")?;
+    let a: HashBag<u64, S> = bag_of(alloc, first)?;
+    let b: HashBag<u64, S2> = bag_of(alloc, second)?;
+    for steps in 0..=number_of_words(wanted) {
+        let got = steps_of(alloc, join, &a, &b, steps)?;
+        has_steps(row, got.as_str(), wanted, steps)?;
+        has_counts(alloc, row, &a, first)?;
+        has_counts(alloc, row, &b, second)?;
     }
     Ok(())
 }
 
 // All rows, under two states.
 fn joins_under<S: BuildHasher + Default + Drop, S2: BuildHasher + Default + Drop>(
-    rt: &impl Abort,
     alloc: Global,
 ) -> Result<(), Fail> {
     for row in rows_of(alloc, JOINS, 65)? {
-        is_joined::<S, S2>(rt, alloc, row)?;
+        is_joined::<S, S2>(alloc, row)?;
     }
     for row in rows_of(alloc, STEPS, 14)? {
-        is_stepped::<S, S2>(rt, alloc, row)?;
+        is_stepped::<S, S2>(alloc, row)?;
     }
     Ok(())
 }
 
 // The first bag under one state, and the second under each.
-fn joins_with_each<S: BuildHasher + Default + Drop>(
-    rt: &impl Abort,
-    alloc: Global,
-) -> Result<(), Fail> {
-    joins_under::<S, FixedState>(rt, alloc)?;
-    joins_under::<S, OneState>(rt, alloc)?;
-    joins_under::<S, ParityState>(rt, alloc)?;
-    joins_under::<S, IdentityState>(rt, alloc)
+fn joins_with_each<S: BuildHasher + Default + Drop>(alloc: Global) -> Result<(), Fail> {
+    joins_under::<S, FixedState>(alloc)?;
+    joins_under::<S, OneState>(alloc)?;
+    joins_under::<S, ParityState>(alloc)?;
+    joins_under::<S, IdentityState>(alloc)
 }
 
 #[test]
 fn joins_of_fixed_state(rt: HostRuntime) -> Result<(), Fail> {
-    joins_with_each::<FixedState>(&rt, rt.alloc())
+    joins_with_each::<FixedState>(rt.alloc())
 }
 
 #[test]
 fn joins_of_one_state(rt: HostRuntime) -> Result<(), Fail> {
-    joins_with_each::<OneState>(&rt, rt.alloc())
+    joins_with_each::<OneState>(rt.alloc())
 }
 
 #[test]
 fn joins_of_parity_state(rt: HostRuntime) -> Result<(), Fail> {
-    joins_with_each::<ParityState>(&rt, rt.alloc())
+    joins_with_each::<ParityState>(rt.alloc())
 }
 
 #[test]
 fn joins_of_identity_state(rt: HostRuntime) -> Result<(), Fail> {
-    joins_with_each::<IdentityState>(&rt, rt.alloc())
+    joins_with_each::<IdentityState>(rt.alloc())
+}
+
+// How many more of a value the first bag has.
+fn excess<S: BuildHasher + Drop, S2: BuildHasher + Drop>(
+    a: &HashBag<u64, S>,
+    b: &HashBag<u64, S2>,
+    value: u64,
+) -> usize {
+    excess_of(a, b, &value)
+}
+
+fn is_excess<S: BuildHasher + Drop, S2: BuildHasher + Drop>(
+    alloc: Global,
+    a: &HashBag<u64, S>,
+    b: &HashBag<u64, S2>,
+    row: &str,
+) -> Result<(), Fail> {
+    let (value, wanted) = halves(row, "|")?;
+    let got = debug_of(alloc, &excess(a, b, number(value)?))?;
+    is_text(row, got.as_str(), wanted)
 }
 
 #[test]
 fn excesses_one_by_one(rt: HostRuntime) -> Result<(), Fail> {
     let alloc = rt.alloc();
-    let a: HashBag<u64, OneState> = bag_of(&rt, alloc, "4:1 5:3 6:2 7:1")?;
-    let b: HashBag<u64, IdentityState> = bag_of(&rt, alloc, "6:1 7:3 8:1 9:2")?;
+    let a: HashBag<u64, OneState> = bag_of(alloc, "4:1 5:3 6:2 7:1")?;
+    let b: HashBag<u64, IdentityState> = bag_of(alloc, "6:1 7:3 8:1 9:2")?;
     for row in rows_of(alloc, EXCESSES, 6)? {
-        let (value, excess) = halves(row, "|")?;
-        assert_eq!(rt;
-            excess_of(&a, &b, &number(value)?),
-            count(excess)?,
-            "in the row: {row}"
-        );
+        is_excess(alloc, &a, &b, row)?;
     }
     Ok(())
 }

@@ -1,5 +1,6 @@
 //! A table against a plain list of counts, through many calls under a hash that spreads its values.
-use crate::held::Held;
+use crate::tests::checks::answers;
+use crate::tests::held::Held;
 use std::hash::{BuildHasherDefault, FoldHasher};
 use std::process::Abort;
 use std::test::Fail;
@@ -19,9 +20,9 @@ fn next_number(number: u64) -> u64 {
 // One more of a value, of which there were so many.
 fn insert(rt: &impl Abort, table: &mut Numbers, value: u64, before: usize) {
     if before == 0 {
-        assert!(rt; table.place(value, 1));
+        answers(rt, "place", value, &table.place(value, 1), &true);
     } else {
-        assert_eq!(rt; table.add(&value, 1), before);
+        answers(rt, "add", value, &table.add(&value, 1), &before);
     }
 }
 
@@ -32,20 +33,36 @@ fn take(rt: &impl Abort, table: &mut Numbers, value: u64, before: usize) {
     } else {
         Some((value, before))
     };
-    assert_eq!(rt; table.take(&value), wanted);
+    answers(rt, "take", value, &table.take(&value), &wanted);
 }
 
-// Checks the counts of all values, by look-ups and by a walk.
-fn agrees(rt: &impl Abort, table: &Numbers, counts: &[usize; VALUES]) {
-    for value in 0..VALUES {
-        assert_eq!(rt; table.count(&(value as u64)), counts[value], "of {value}");
+// How many values have a count.
+fn live_of(counts: &[usize; VALUES]) -> usize {
+    let mut live = 0usize;
+    for count in counts {
+        if *count > 0 {
+            live = live.saturating_add(1);
+        }
     }
-    let live = counts.iter().filter(|count| **count > 0).count();
-    assert_eq!(rt; table.slots.live(), live);
-    assert_eq!(rt; table.slots.walk().len(), live);
+    live
+}
+
+// Checks the counts of all values by look-ups.
+fn finds_all(rt: &impl Abort, table: &Numbers, counts: &[usize; VALUES]) {
+    for value in 0..VALUES {
+        let key = value as u64;
+        answers(rt, "count", key, &table.count(&key), &counts[value]);
+    }
+}
+
+// Checks the counts of all values by a walk.
+fn walks_over_all(rt: &impl Abort, table: &Numbers, counts: &[usize; VALUES]) {
+    let live = live_of(counts);
+    answers(rt, "live", 0, &table.slots.live(), &live);
+    answers(rt, "walk", 0, &table.slots.walk().len(), &live);
     for (value, count) in table.slots.walk() {
-        assert!(rt; *value < VALUES as u64);
-        assert_eq!(rt; counts[*value as usize], count, "of {value}");
+        let wanted = counts.get(*value as usize).copied();
+        answers(rt, "walk", *value, &Some(count), &wanted);
     }
 }
 
@@ -67,6 +84,7 @@ fn with_a_list_of_counts(rt: HostRuntime) -> Result<(), Fail> {
             counts[value] = 0;
         }
     }
-    agrees(&rt, &table, &counts);
+    finds_all(&rt, &table, &counts);
+    walks_over_all(&rt, &table, &counts);
     Ok(())
 }

@@ -1,8 +1,10 @@
 //! Each value is dropped once: by its taker, by a table that is cleared or dropped, or by a walk.
-use crate::constant::Constant;
 use crate::counted::Counted;
-use crate::held::Held;
-use crate::pair::Pair;
+use crate::tests::checks::answers;
+use crate::tests::constant::Constant;
+use crate::tests::held::Held;
+use crate::tests::pair::Pair;
+use hashbag_slots::walk::IntoWalk;
 use std::alloc::{AllocError, Global};
 use std::cell::Cell;
 use std::process::Abort;
@@ -11,8 +13,8 @@ use std::test::Fail;
 type Values<'a> = Held<Counted<'a>, Constant>;
 
 // Checks how many values were dropped.
-fn has_dropped(rt: &impl Abort, drops: &Cell<usize>, wanted: usize) {
-    assert_eq!(rt; drops.get(), wanted);
+fn has_dropped(rt: &impl Abort, call: &str, drops: &Cell<usize>, wanted: usize) {
+    assert_eq!(rt; drops.get(), wanted, "after {call}");
 }
 
 // A table of so many values, which count their drops. Their path goes past the last slot.
@@ -27,24 +29,29 @@ fn values<'a>(
         let value = Counted { key, tag: 1, drops };
         assert!(rt; table.place(value, 2), "{key}");
     }
-    has_dropped(rt, drops, 0);
+    has_dropped(rt, "placing", drops, 0);
     Ok(table)
 }
 
-// What values are looked up by. They count their drops elsewhere.
-fn key<'a>(probes: &'a Cell<usize>, key: u64) -> Counted<'a> {
-    Counted {
+// Takes a value out. What it is looked up by counts its drops elsewhere.
+fn take<'a>(
+    table: &mut Values<'a>,
+    probes: &'a Cell<usize>,
+    key: u64,
+) -> Option<(Counted<'a>, usize)> {
+    let probe = Counted {
         key,
         tag: 0,
         drops: probes,
-    }
+    };
+    table.take(&probe)
 }
 
 #[test]
 fn by_the_table(rt: HostRuntime) -> Result<(), Fail> {
     let drops = Cell::new(0);
     drop(values(&rt, rt.alloc(), &drops, 5)?);
-    has_dropped(&rt, &drops, 5);
+    has_dropped(&rt, "the drop of the table", &drops, 5);
     Ok(())
 }
 
@@ -52,25 +59,46 @@ fn by_the_table(rt: HostRuntime) -> Result<(), Fail> {
 fn none_by_no_values(rt: HostRuntime) -> Result<(), Fail> {
     let drops = Cell::new(0);
     drop(values(&rt, rt.alloc(), &drops, 0)?);
-    has_dropped(&rt, &drops, 0);
+    has_dropped(&rt, "the drop of the table", &drops, 0);
     Ok(())
 }
 
-// What is taken out is dropped by its taker, and what stays by the table.
+// What was taken out, after so many drops, is dropped by its taker.
+fn is_dropped_by_its_taker<'a>(
+    rt: &impl Abort,
+    table: &mut Values<'a>,
+    drops: &Cell<usize>,
+    probes: &'a Cell<usize>,
+    key: u64,
+    before: usize,
+) {
+    let taken = take(table, probes, key);
+    has_dropped(rt, "a take", drops, before);
+    answers(rt, "take", key, &taken.is_some(), &true);
+    drop(taken);
+    has_dropped(
+        rt,
+        "the drop of what was taken",
+        drops,
+        before.saturating_add(1),
+    );
+}
+
+// What stays is dropped by the table.
 #[test]
 fn by_the_taker(rt: HostRuntime) -> Result<(), Fail> {
     let (drops, probes) = (Cell::new(0), Cell::new(0));
     let mut table = values(&rt, rt.alloc(), &drops, 5)?;
-    let taken = table.take(&key(&probes, 0));
-    has_dropped(&rt, &drops, 0);
-    assert!(&rt; taken.is_some());
-    drop(taken);
-    has_dropped(&rt, &drops, 1);
-    drop(table.take(&key(&probes, 3)));
-    has_dropped(&rt, &drops, 2);
+    is_dropped_by_its_taker(&rt, &mut table, &drops, &probes, 0, 0);
+    is_dropped_by_its_taker(&rt, &mut table, &drops, &probes, 3, 1);
     drop(table);
-    has_dropped(&rt, &drops, 5);
+    has_dropped(&rt, "the drop of the table", &drops, 5);
     Ok(())
+}
+
+fn place<'a>(rt: &impl Abort, table: &mut Values<'a>, drops: &'a Cell<usize>, key: u64) {
+    let value = Counted { key, tag: 1, drops };
+    answers(rt, "place", key, &table.place(value, 1), &true);
 }
 
 // A slot that was Removed is used again: its first value was dropped long ago.
@@ -78,41 +106,46 @@ fn by_the_taker(rt: HostRuntime) -> Result<(), Fail> {
 fn after_removal(rt: HostRuntime) -> Result<(), Fail> {
     let (drops, probes) = (Cell::new(0), Cell::new(0));
     let mut table = values(&rt, rt.alloc(), &drops, 3)?;
-    drop(table.take(&key(&probes, 1)));
-    let value = Counted {
-        key: 8,
-        tag: 1,
-        drops: &drops,
-    };
-    assert!(&rt; table.place(value, 1));
-    has_dropped(&rt, &drops, 1);
+    drop(take(&mut table, &probes, 1));
+    place(&rt, &mut table, &drops, 8);
+    has_dropped(&rt, "a placing", &drops, 1);
     drop(table);
-    has_dropped(&rt, &drops, 4);
+    has_dropped(&rt, "the drop of the table", &drops, 4);
     Ok(())
 }
 
-// The instance that is stored stays, and the former one comes back.
+// Another instance of a value is stored, and the former one comes back.
+fn put_gives_former<'a>(rt: &impl Abort, table: &mut Values<'a>, drops: &'a Cell<usize>) {
+    let former = table.put(Counted {
+        key: 2,
+        tag: 7,
+        drops,
+    });
+    answers(rt, "put", 2, &former.tag, &1);
+    has_dropped(rt, "a put", drops, 0);
+    drop(former);
+    has_dropped(rt, "the drop of the former", drops, 1);
+}
+
+// The tag and the count of what was taken out.
+fn tag_and_count(taken: &Option<(Counted<'_>, usize)>) -> Option<(u64, usize)> {
+    match taken {
+        Some((value, count)) => Some((value.tag, *count)),
+        None => None,
+    }
+}
+
+// The instance that is stored stays.
 #[test]
 fn of_another_instance(rt: HostRuntime) -> Result<(), Fail> {
     let (drops, probes) = (Cell::new(0), Cell::new(0));
     let mut table = values(&rt, rt.alloc(), &drops, 3)?;
-    let former = table.put(Counted {
-        key: 2,
-        tag: 7,
-        drops: &drops,
-    });
-    assert_eq!(&rt; former.tag, 1);
-    has_dropped(&rt, &drops, 0);
-    drop(former);
-    has_dropped(&rt, &drops, 1);
-    let taken = table.take(&key(&probes, 2));
-    assert_eq!(&rt;
-        taken.as_ref().map(|entry| (entry.0.tag, entry.1)),
-        Some((7, 2))
-    );
+    put_gives_former(&rt, &mut table, &drops);
+    let taken = take(&mut table, &probes, 2);
+    answers(&rt, "take", 2, &tag_and_count(&taken), &Some((7, 2)));
     drop(taken);
     drop(table);
-    has_dropped(&rt, &drops, 4);
+    has_dropped(&rt, "the drop of the table", &drops, 4);
     Ok(())
 }
 
@@ -120,24 +153,29 @@ fn of_another_instance(rt: HostRuntime) -> Result<(), Fail> {
 fn by_clear(rt: HostRuntime) -> Result<(), Fail> {
     let drops = Cell::new(0);
     let mut table = values(&rt, rt.alloc(), &drops, 16)?;
-    table.slots.clear();
-    has_dropped(&rt, &drops, 16);
+    table.clear();
+    has_dropped(&rt, "clear", &drops, 16);
     drop(table);
-    has_dropped(&rt, &drops, 16);
+    has_dropped(&rt, "the drop of the table", &drops, 16);
     Ok(())
+}
+
+// The next values of a walk, so many, each of which its taker drops.
+fn drop_next(rt: &impl Abort, walk: &mut IntoWalk<Counted<'_>>, drops: &Cell<usize>, taken: usize) {
+    for before in 0..taken {
+        has_dropped(rt, "an item", drops, before);
+        drop(walk.next());
+    }
 }
 
 // A walk that is dropped after so many values.
 fn walk_half_way(rt: &impl Abort, alloc: Global, taken: usize) -> Result<(), AllocError> {
     let drops = Cell::new(0);
     let mut walk = values(rt, alloc, &drops, 4)?.into_walk();
-    for before in 0..taken {
-        has_dropped(rt, &drops, before);
-        drop(walk.next());
-    }
-    has_dropped(rt, &drops, taken.min(4));
+    drop_next(rt, &mut walk, &drops, taken);
+    has_dropped(rt, "the items", &drops, taken.min(4));
     drop(walk);
-    has_dropped(rt, &drops, 4);
+    has_dropped(rt, "the drop of the walk", &drops, 4);
     Ok(())
 }
 
@@ -153,10 +191,10 @@ fn by_walks(rt: HostRuntime) -> Result<(), Fail> {
 fn carry_half_way(rt: &impl Abort, alloc: Global, carried: usize) -> Result<(), AllocError> {
     let drops = Cell::new(0);
     let mut pair = Pair::new(alloc, values(rt, alloc, &drops, 4)?, 5)?;
-    assert_eq!(rt; pair.carry(carried), carried);
-    has_dropped(rt, &drops, 0);
+    answers(rt, "carry", carried as u64, &pair.carry(carried), &carried);
+    has_dropped(rt, "a carry", &drops, 0);
     drop(pair);
-    has_dropped(rt, &drops, 4);
+    has_dropped(rt, "the drop of two tables", &drops, 4);
     Ok(())
 }
 

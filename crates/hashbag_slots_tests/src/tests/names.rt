@@ -1,6 +1,7 @@
 //! Values that own memory.
-use crate::held::Held;
-use crate::pair::Pair;
+use crate::tests::checks::answers;
+use crate::tests::held::Held;
+use crate::tests::pair::Pair;
 use std::alloc::{AllocError, Global};
 use std::hash::{BuildHasherDefault, FoldHasher};
 use std::process::Abort;
@@ -43,7 +44,7 @@ fn has_count(
     wanted: usize,
 ) -> Result<(), AllocError> {
     let owned = String::from_str(alloc, name)?;
-    assert_eq!(rt; table.count(&owned), wanted);
+    answers(rt, name, 0, &table.count(&owned), &wanted);
     Ok(())
 }
 
@@ -56,12 +57,27 @@ fn are_found(rt: HostRuntime) -> Result<(), Fail> {
     Ok(())
 }
 
+// Takes a name out, which is so often there.
+fn take(
+    rt: &impl Abort,
+    alloc: Global,
+    table: &mut Names,
+    name: &str,
+    count: usize,
+) -> Result<(), AllocError> {
+    let owned = String::from_str(alloc, name)?;
+    let is_it = match table.take(&owned) {
+        Some((taken, before)) => taken == owned && before == count,
+        None => false,
+    };
+    assert!(rt; is_it, "{name}");
+    Ok(())
+}
+
 #[test]
 fn are_taken(rt: HostRuntime) -> Result<(), Fail> {
     let mut table = eight_names(&rt, rt.alloc())?;
-    let harald = String::from_str(rt.alloc(), "Harald")?;
-    let taken = table.take(&harald);
-    assert!(&rt; taken.is_some_and(|entry| entry.0 == harald && entry.1 == 7));
+    take(&rt, rt.alloc(), &mut table, "Harald", 7)?;
     for (name, count) in [("Harald", 0), ("Ha", 3), ("Olaf", 5)] {
         has_count(&rt, rt.alloc(), &table, name, count)?;
     }
@@ -73,9 +89,9 @@ fn are_carried(rt: HostRuntime) -> Result<(), Fail> {
     let table = eight_names(&rt, rt.alloc())?;
     let mut pair = Pair::new(rt.alloc(), table, 5)?;
     for looked in [7, 14, 16] {
-        assert_eq!(&rt; pair.carry(7), looked);
+        answers(&rt, "carry", 7, &pair.carry(7), &looked);
         let live = pair.newer.live().saturating_add(pair.older.live());
-        assert_eq!(&rt; live, 8);
+        answers(&rt, "live", 0, &live, &8);
     }
     for (value, count) in pair.newer.walk() {
         assert_eq!(&rt; value.len().min(99) + 1, count, "of {value}");

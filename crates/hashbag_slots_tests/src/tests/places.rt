@@ -1,15 +1,17 @@
 //! In which slots values lie, worked out by hand: every value has one hash, so that its probe begins where all others begin.
-use crate::constant::Constant;
-use crate::held::Held;
-use crate::pair::Pair;
+use crate::tests::checks::answers;
+use crate::tests::constant::Constant;
+use crate::tests::held::Held;
+use crate::tests::pair::Pair;
 use hashbag_slots::slots::Slots;
 use std::alloc::{AllocError, Global};
 use std::process::Abort;
 use std::test::Fail;
 
-type Numbers = Held<u64, Constant>;
+/// Tables of numbers that all have one hash.
+pub type Numbers = Held<u64, Constant>;
 
-// A table of 16 slots with the values from 1 on, each as often as it says. All have the same hash.
+/// A table of 16 slots with the values from 1 on, each as often as it says. All have the same hash.
 pub fn numbers(
     rt: &impl Abort,
     alloc: Global,
@@ -17,25 +19,22 @@ pub fn numbers(
     many: u64,
 ) -> Result<Numbers, AllocError> {
     let mut table = Held::new(alloc, Constant { hash }, 4)?;
-    for value in 0..many {
-        assert!(rt; value < 100);
-        assert!(rt; table.place(value + 1, value as usize + 1), "{value}");
+    for value in 1..=many {
+        place(rt, &mut table, value, value as usize);
     }
     Ok(table)
 }
 
 // Checks how many slots there are, and how many are Live and Removed.
 fn has_slots(rt: &impl Abort, slots: &Slots<u64>, wanted: (usize, usize, usize)) {
-    let (count, live, removed) = wanted;
-    assert_eq!(rt; slots.slots(), count);
-    assert_eq!(rt; slots.live(), live);
-    assert_eq!(rt; slots.removed(), removed);
+    let got = (slots.slots(), slots.live(), slots.removed());
+    answers(rt, "slots", 0, &got, &wanted);
 }
 
 // Checks at which places values lie.
 fn lie_at(rt: &impl Abort, table: &Numbers, rows: &[(u64, Option<usize>)]) {
     for (value, place) in rows {
-        assert_eq!(rt; table.find(value), *place, "of {value}");
+        answers(rt, "find", *value, &table.find(value), place);
     }
 }
 
@@ -46,20 +45,41 @@ fn lie_in(
     rows: &[(u64, Option<usize>, Option<usize>)],
 ) {
     for (value, newer, older) in rows {
-        assert_eq!(rt; pair.find(value), (*newer, *older), "of {value}");
+        answers(rt, "find", *value, &pair.find(value), &(*newer, *older));
     }
 }
 
-// Takes a value out, which has so many.
-fn take(rt: &impl Abort, table: &mut Numbers, value: u64, count: usize) {
-    assert_eq!(rt; table.take(&value), Some((value, count)));
+// Carries so many slots of a pair, and checks how many were looked at in all.
+fn carry(rt: &impl Abort, pair: &mut Pair<u64, Constant>, many: usize, looked: usize) {
+    answers(rt, "carry", many as u64, &pair.carry(many), &looked);
+}
+
+// Places a value that is absent.
+fn place(rt: &impl Abort, table: &mut Numbers, value: u64, count: usize) {
+    answers(rt, "place", value, &table.place(value, count), &true);
+}
+
+// Tries to place a value, which must fail.
+fn is_not_placed(rt: &impl Abort, table: &mut Numbers, value: u64) {
+    answers(rt, "place", value, &table.place(value, 1), &false);
+}
+
+/// Takes a value out, which has so many.
+pub fn take(rt: &impl Abort, table: &mut Numbers, value: u64, count: usize) {
+    answers(
+        rt,
+        "take",
+        value,
+        &table.take(&value),
+        &Some((value, count)),
+    );
 }
 
 #[test]
 fn no_slots(rt: HostRuntime) -> Result<(), Fail> {
     let mut table: Numbers = Held::none(rt.alloc(), Constant { hash: 0 })?;
     has_slots(&rt, &table.slots, (0, 0, 0));
-    assert!(&rt; !table.place(1, 1));
+    is_not_placed(&rt, &mut table, 1);
     lie_at(&rt, &table, &[(1, None)]);
     Ok(())
 }
@@ -104,10 +124,10 @@ fn all_live(rt: HostRuntime) -> Result<(), Fail> {
             (17, None),
         ],
     );
-    assert!(&rt; !table.place(17, 1));
+    is_not_placed(&rt, &mut table, 17);
     take(&rt, &mut table, 16, 16);
     lie_at(&rt, &table, &[(15, Some(12)), (16, None)]);
-    assert!(&rt; table.place(17, 1));
+    place(&rt, &mut table, 17, 1);
     lie_at(&rt, &table, &[(17, Some(13))]);
     has_slots(&rt, &table.slots, (16, 16, 0));
     Ok(())
@@ -125,7 +145,7 @@ fn past_removed(rt: HostRuntime) -> Result<(), Fail> {
         &table,
         &[(1, None), (2, Some(0)), (3, None), (4, Some(2))],
     );
-    assert!(&rt; table.place(5, 1));
+    place(&rt, &mut table, 5, 1);
     has_slots(&rt, &table.slots, (16, 3, 1));
     lie_at(&rt, &table, &[(5, Some(15)), (2, Some(0)), (4, Some(2))]);
     Ok(())
@@ -134,8 +154,24 @@ fn past_removed(rt: HostRuntime) -> Result<(), Fail> {
 // Checks where values are, or into which slot they would go.
 fn are_sought(rt: &impl Abort, table: &Numbers, rows: &[(u64, Result<usize, usize>)]) {
     for (value, place) in rows {
-        assert_eq!(rt; table.seek(value), Some(*place), "of {value}");
+        answers(rt, "seek", *value, &table.seek(value), &Some(*place));
     }
+}
+
+// Checks the place of a value that is in the first slot of its path.
+fn is_first_at(rt: &impl Abort, table: &Numbers, value: u64, place: Option<usize>) {
+    answers(rt, "find_first", value, &table.find_first(&value), &place);
+}
+
+// Checks whether a value could be placed by one probe.
+fn place_sought(rt: &impl Abort, table: &mut Numbers, value: u64, placed: bool) {
+    answers(
+        rt,
+        "place_sought",
+        value,
+        &table.place_sought(value, 1),
+        &placed,
+    );
 }
 
 // One probe finds a value, or the first slot on its path that is not Live, a Removed one too.
@@ -155,30 +191,40 @@ fn sought(rt: HostRuntime) -> Result<(), Fail> {
             (9, Err(0)),
         ],
     );
-    assert_eq!(&rt; table.find_first(&2), None);
-    assert!(&rt; table.place_sought(9, 1));
-    assert_eq!(&rt; table.find_first(&9), Some(0));
+    is_first_at(&rt, &table, 2, None);
+    place_sought(&rt, &mut table, 9, true);
+    is_first_at(&rt, &table, 9, Some(0));
     are_sought(&rt, &table, &[(8, Err(2)), (9, Ok(0))]);
-    assert!(&rt; !table.place_sought(9, 1));
+    place_sought(&rt, &mut table, 9, false);
     has_slots(&rt, &table.slots, (16, 3, 1));
     Ok(())
 }
 
-// The path goes past the last slot, or no slot is Empty.
+// The path goes past the last slot.
 #[test]
 fn sought_past_the_last_slot(rt: HostRuntime) -> Result<(), Fail> {
     let mut table = numbers(&rt, rt.alloc(), 15, 3)?;
     are_sought(&rt, &table, &[(1, Ok(15)), (3, Ok(1)), (4, Err(2))]);
     take(&rt, &mut table, 2, 2);
     are_sought(&rt, &table, &[(3, Ok(1)), (4, Err(0))]);
-    let mut full = numbers(&rt, rt.alloc(), 0, 16)?;
-    assert_eq!(&rt; full.seek(&1), None);
-    assert_eq!(&rt; full.find_first(&1), Some(0));
-    take(&rt, &mut full, 7, 7);
-    are_sought(&rt, &full, &[(16, Ok(15)), (17, Err(6))]);
-    assert!(&rt; full.place_sought(17, 1));
-    lie_at(&rt, &full, &[(17, Some(6)), (7, None)]);
     Ok(())
+}
+
+#[test]
+fn sought_among_all_live(rt: HostRuntime) -> Result<(), Fail> {
+    let mut table = numbers(&rt, rt.alloc(), 0, 16)?;
+    answers(&rt, "seek", 1, &table.seek(&1), &None);
+    is_first_at(&rt, &table, 1, Some(0));
+    take(&rt, &mut table, 7, 7);
+    are_sought(&rt, &table, &[(16, Ok(15)), (17, Err(6))]);
+    place_sought(&rt, &mut table, 17, true);
+    lie_at(&rt, &table, &[(17, Some(6)), (7, None)]);
+    Ok(())
+}
+
+// Checks the count of a value.
+fn has_count(rt: &impl Abort, table: &Numbers, value: u64, wanted: usize) {
+    answers(rt, "count", value, &table.count(&value), &wanted);
 }
 
 #[test]
@@ -189,8 +235,10 @@ fn twelve_and_six_removed(rt: HostRuntime) -> Result<(), Fail> {
     }
     has_slots(&rt, &table.slots, (16, 6, 6));
     for value in [2, 4, 6, 8, 10, 12] {
-        assert_eq!(&rt; table.count(&value), value as usize, "of {value}");
-        assert_eq!(&rt; table.find(&(value - 1)), None, "of {value}");
+        has_count(&rt, &table, value, value as usize);
+    }
+    for value in [1, 3, 5, 7, 9, 11] {
+        lie_at(&rt, &table, &[(value, None)]);
     }
     Ok(())
 }
@@ -201,7 +249,7 @@ fn past_moved(rt: HostRuntime) -> Result<(), Fail> {
     let mut table = numbers(&rt, rt.alloc(), 0, 4)?;
     take(&rt, &mut table, 2, 2);
     let mut pair = Pair::new(rt.alloc(), table, 5)?;
-    assert_eq!(&rt; pair.carry(1), 1);
+    carry(&rt, &mut pair, 1, 1);
     lie_in(
         &rt,
         &pair,
@@ -212,14 +260,14 @@ fn past_moved(rt: HostRuntime) -> Result<(), Fail> {
             (4, None, Some(3)),
         ],
     );
-    assert_eq!(&rt; pair.carry(2), 3);
+    carry(&rt, &mut pair, 2, 3);
     lie_in(
         &rt,
         &pair,
         &[(1, Some(0), None), (3, Some(1), None), (4, None, Some(3))],
     );
     has_slots(&rt, &pair.older, (16, 1, 1));
-    assert_eq!(&rt; pair.carry(20), 16);
+    carry(&rt, &mut pair, 20, 16);
     lie_in(
         &rt,
         &pair,
@@ -235,13 +283,13 @@ fn past_moved(rt: HostRuntime) -> Result<(), Fail> {
 fn carried_past_the_last_slot(rt: HostRuntime) -> Result<(), Fail> {
     let table = numbers(&rt, rt.alloc(), 15, 3)?;
     let mut pair = Pair::new(rt.alloc(), table, 4)?;
-    assert_eq!(&rt; pair.carry(1), 1);
+    carry(&rt, &mut pair, 1, 1);
     lie_in(
         &rt,
         &pair,
         &[(1, None, Some(15)), (2, Some(15), None), (3, None, Some(1))],
     );
-    assert_eq!(&rt; pair.carry(15), 16);
+    carry(&rt, &mut pair, 15, 16);
     lie_in(
         &rt,
         &pair,
@@ -250,16 +298,26 @@ fn carried_past_the_last_slot(rt: HostRuntime) -> Result<(), Fail> {
     Ok(())
 }
 
+// Adds to the count of a value, which was so much before.
+fn add(rt: &impl Abort, table: &mut Numbers, value: u64, n: usize, before: usize) {
+    answers(rt, "add", value, &table.add(&value, n), &before);
+}
+
+// Gives a value another count, which is so much after.
+fn set(rt: &impl Abort, table: &mut Numbers, value: u64, n: usize, after: usize) {
+    answers(rt, "set", value, &table.set(&value, n), &after);
+}
+
 #[test]
 fn counts(rt: HostRuntime) -> Result<(), Fail> {
     let mut table = numbers(&rt, rt.alloc(), 0, 3)?;
-    assert_eq!(&rt; table.add(&2, 5), 2);
-    assert_eq!(&rt; table.count(&2), 7);
-    assert_eq!(&rt; table.add(&2, usize::MAX - 7), 7);
-    assert_eq!(&rt; table.count(&2), usize::MAX);
-    assert_eq!(&rt; table.set(&3, 9), 9);
-    assert_eq!(&rt; table.count(&1), 1);
-    assert_eq!(&rt; table.set(&4, 9), 0);
+    add(&rt, &mut table, 2, 5, 2);
+    has_count(&rt, &table, 2, 7);
+    add(&rt, &mut table, 2, usize::MAX - 7, 7);
+    has_count(&rt, &table, 2, usize::MAX);
+    set(&rt, &mut table, 3, 9, 9);
+    has_count(&rt, &table, 1, 1);
+    set(&rt, &mut table, 4, 9, 0);
     Ok(())
 }
 
@@ -267,7 +325,7 @@ fn counts(rt: HostRuntime) -> Result<(), Fail> {
 fn cleared(rt: HostRuntime) -> Result<(), Fail> {
     let mut table = numbers(&rt, rt.alloc(), 15, 3)?;
     take(&rt, &mut table, 1, 1);
-    table.slots.clear();
+    table.clear();
     has_slots(&rt, &table.slots, (16, 0, 0));
     lie_at(&rt, &table, &[(2, None), (3, None)]);
     Ok(())

@@ -3,8 +3,9 @@
 //! With ample memory nothing is refused here. The script `tests/refused_memory` runs `after_0` with one request of it refused:
 //! first the first, then the second, and so on. After the calls the test makes more spare requests than the script refuses.
 //! Where it is one of these that is refused, the calls have made fewer requests, and the test says so.
-use crate::constant::Constant;
-use crate::held::Held;
+use crate::tests::checks::answers;
+use crate::tests::constant::Constant;
+use crate::tests::held::Held;
 use std::alloc::{AllocError, Global};
 use std::process::Abort;
 
@@ -25,11 +26,11 @@ fn sixteen(rt: &impl Abort, alloc: Global) {
     let table: Result<Held<u64, Constant>, AllocError> = Held::new(alloc, Constant { hash: 15 }, 4);
     if let Ok(mut table) = table {
         for value in 0..16 {
-            assert!(rt; table.place(value, 1), "{value}");
+            answers(rt, "place", value, &table.place(value, 1), &true);
         }
-        assert_eq!(rt; table.take(&3), Some((3, 1)));
-        table.slots.clear();
-        assert_eq!(rt; table.slots.live(), 0);
+        answers(rt, "take", 3, &table.take(&3), &Some((3, 1)));
+        table.clear();
+        answers(rt, "live", 0, &table.slots.live(), &0);
     }
 }
 

@@ -1,48 +1,96 @@
 //! Walks: values with their counts in the order of their places.
-use crate::tests::places::numbers;
-use hashbag_slots::walk::Walk;
+use crate::tests::checks::answers;
+use crate::tests::places::{Numbers, numbers, take};
+use hashbag_slots::walk::{IntoWalk, Walk};
 use std::process::Abort;
 use std::test::Fail;
+
+// The next value of a walk, with its count.
+fn next_of(walk: &mut Walk<'_, u64>) -> Option<(u64, usize)> {
+    match walk.next() {
+        Some((value, count)) => Some((*value, count)),
+        None => None,
+    }
+}
 
 // Checks what a walk gives, one after another, and that it has so many left before each.
 fn gives(rt: &impl Abort, mut walk: Walk<'_, u64>, wanted: &[(u64, usize)]) {
     let mut left = wanted.len();
-    for (value, count) in wanted {
-        assert_eq!(rt; walk.size_hint(), (left, Some(left)));
-        assert_eq!(rt;
-            walk.next().map(|entry| (*entry.0, entry.1)),
-            Some((*value, *count))
+    for entry in wanted {
+        answers(
+            rt,
+            "hint before",
+            entry.0,
+            &walk.size_hint(),
+            &(left, Some(left)),
+        );
+        answers(
+            rt,
+            "next before",
+            entry.0,
+            &next_of(&mut walk),
+            &Some(*entry),
         );
         left = left.saturating_sub(1);
     }
-    assert_eq!(rt; walk.len(), 0);
-    assert!(rt; walk.next().is_none() && walk.next().is_none());
+    answers(rt, "length after", 0, &walk.len(), &0);
+    for again in 0..2 {
+        answers(rt, "next after all", again, &next_of(&mut walk), &None);
+    }
+}
+
+fn table_gives(rt: &impl Abort, table: &Numbers, wanted: &[(u64, usize)]) {
+    gives(rt, table.slots.walk(), wanted);
+}
+
+// A walk whose first value was taken, and its clone.
+fn both_give(rt: &impl Abort, table: &Numbers, wanted: &[(u64, usize)]) -> Result<(), Fail> {
+    let mut walk = table.slots.walk();
+    let _ = walk.next();
+    gives(rt, walk.clone()?, wanted);
+    gives(rt, walk, wanted);
+    Ok(())
 }
 
 // The values go past the last slot: 2 and 3 lie at the places 0 and 1.
 #[test]
 fn lent(rt: HostRuntime) -> Result<(), Fail> {
     let mut table = numbers(&rt, rt.alloc(), 15, 4)?;
-    gives(&rt, table.slots.walk(), &[(2, 2), (3, 3), (4, 4), (1, 1)]);
-    let mut walk = table.slots.walk();
-    let _ = walk.next();
-    gives(&rt, walk.clone()?, &[(3, 3), (4, 4), (1, 1)]);
-    gives(&rt, walk, &[(3, 3), (4, 4), (1, 1)]);
-    assert_eq!(&rt; table.take(&3), Some((3, 3)));
-    gives(&rt, table.slots.walk(), &[(2, 2), (4, 4), (1, 1)]);
+    table_gives(&rt, &table, &[(2, 2), (3, 3), (4, 4), (1, 1)]);
+    both_give(&rt, &table, &[(3, 3), (4, 4), (1, 1)])?;
+    take(&rt, &mut table, 3, 3);
+    table_gives(&rt, &table, &[(2, 2), (4, 4), (1, 1)]);
     Ok(())
+}
+
+// Checks what an owning walk has left, and how many.
+fn rest_gives(rt: &impl Abort, walk: &IntoWalk<u64>, wanted: &[(u64, usize)]) {
+    let left = wanted.len();
+    answers(
+        rt,
+        "hint of the rest",
+        0,
+        &walk.size_hint(),
+        &(left, Some(left)),
+    );
+    answers(rt, "length of the rest", 0, &walk.len(), &left);
+    gives(rt, walk.rest(), wanted);
+}
+
+fn next_is(rt: &impl Abort, walk: &mut IntoWalk<u64>, wanted: Option<(u64, usize)>) {
+    answers(rt, "next of the owning walk", 0, &walk.next(), &wanted);
 }
 
 #[test]
 fn owned(rt: HostRuntime) -> Result<(), Fail> {
     let mut walk = numbers(&rt, rt.alloc(), 15, 3)?.into_walk();
-    gives(&rt, walk.rest(), &[(2, 2), (3, 3), (1, 1)]);
-    assert_eq!(&rt; walk.next(), Some((2, 2)));
-    assert_eq!(&rt; walk.size_hint(), (2, Some(2)));
-    gives(&rt, walk.rest(), &[(3, 3), (1, 1)]);
-    assert_eq!(&rt; walk.next(), Some((3, 3)));
-    assert_eq!(&rt; walk.next(), Some((1, 1)));
-    assert_eq!(&rt; walk.len(), 0);
-    assert!(&rt; walk.next().is_none() && walk.next().is_none());
+    rest_gives(&rt, &walk, &[(2, 2), (3, 3), (1, 1)]);
+    next_is(&rt, &mut walk, Some((2, 2)));
+    rest_gives(&rt, &walk, &[(3, 3), (1, 1)]);
+    next_is(&rt, &mut walk, Some((3, 3)));
+    next_is(&rt, &mut walk, Some((1, 1)));
+    rest_gives(&rt, &walk, &[]);
+    next_is(&rt, &mut walk, None);
+    next_is(&rt, &mut walk, None);
     Ok(())
 }

@@ -211,6 +211,10 @@ fn first_and_all(alloc: Global, words: Vec<u64>) -> Result<(usize, usize), BagEr
     Ok((bag.contains(&first), bag.len()))
 }
 
+fn number_of_two_words(alloc: Global) -> Result<usize, BagError> {
+    Ok(two_words(alloc)?.len())
+}
+
 // Whether a bag of the pairs equals one of the pairs in the order of their values.
 fn equal_when_sorted(alloc: Global, pairs: &[(u64, usize)]) -> Result<bool, BagError> {
     let first = Vec::from_slice(alloc, pairs)?;
@@ -242,7 +246,8 @@ fn callers_of_identity_state(rt: HostRuntime) -> Result<(), Fail> {
 #[test]
 fn words_are_counted(rt: HostRuntime) -> Result<(), Fail> {
     let alloc = rt.alloc();
-    assert_eq!(rt; two_words(alloc)?.len(), 2);
+    let words = debug_of(alloc, &number_of_two_words(alloc))?;
+    is_text("two words", words.as_str(), "Ok(2)")?;
     for row in rows_of(alloc, WORDS, 3)? {
         let (words, want) = halves(row, " = ")?;
         let got = first_and_all(alloc, values(alloc, words)?)?;

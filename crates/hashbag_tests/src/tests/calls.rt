@@ -5,6 +5,7 @@ use hashbag_rows::calls::{clone_of, make_rows};
 use hashbag_rows::texts::is_text;
 use std::alloc::Global;
 use std::hash::BuildHasher;
+use std::process::Abort;
 use std::test::Fail;
 
 // Room changes nothing of what a bag has. It is made for 3 * 2^57 values, which is 432345564227567616, and for no more.
@@ -129,24 +130,34 @@ fn hash_of<S: BuildHasher + Drop>(bag: &HashBag<u64, S>, value: u64) -> u64 {
     bag.hasher().hash_one(value)
 }
 
+fn hashes_to<S: BuildHasher + Drop>(
+    rt: &impl Abort,
+    bag: &HashBag<u64, S>,
+    value: u64,
+    wanted: u64,
+) {
+    assert_eq!(rt; hash_of(bag, value), wanted, "hash of {value}");
+}
+
+fn default_in<S: BuildHasher + Default + Drop>(alloc: Global) -> HashBag<u64, S> {
+    HashBag::default_in(alloc)
+}
+
 #[test]
 fn states_stay(rt: HostRuntime) {
     let alloc = rt.alloc();
-    let identity = HashBag::with_hasher(alloc, IdentityState);
-    assert_eq!(rt; hash_of(&identity, 258), 258);
-    let parity = HashBag::with_hasher(alloc, ParityState);
-    assert_eq!(rt; hash_of(&parity, 259), 1);
+    hashes_to(&rt, &HashBag::with_hasher(alloc, IdentityState), 258, 258);
+    hashes_to(&rt, &HashBag::with_hasher(alloc, ParityState), 259, 1);
 }
 
 #[test]
 fn states_by_default_and_cloned(rt: HostRuntime) -> Result<(), Fail> {
     let alloc = rt.alloc();
-    let identity: HashBag<u64, IdentityState> = HashBag::default_in(alloc);
-    assert_eq!(rt; hash_of(&identity, 258), 258);
-    let copy = clone_of(&identity)?;
-    assert_eq!(rt; hash_of(&copy, 258), 258);
-    let parity: HashBag<u64, ParityState> = HashBag::default_in(alloc);
-    assert_eq!(rt; hash_of(&parity, 259), 1);
+    let identity: HashBag<u64, IdentityState> = default_in(alloc);
+    hashes_to(&rt, &identity, 258, 258);
+    hashes_to(&rt, &clone_of(&identity)?, 258, 258);
+    let parity: HashBag<u64, ParityState> = default_in(alloc);
+    hashes_to(&rt, &parity, 259, 1);
     Ok(())
 }
 

@@ -1,6 +1,7 @@
 //! Each value is dropped once, by the call that takes it out or by the bag, while the tables grow, carry and are built anew.
 use hashbag::{BagError, FixedState, HashBag};
 use hashbag_bench::OneState;
+use hashbag_rows::calls;
 use hashbag_slots_tests::counted::Counted;
 use std::alloc::Global;
 use std::cell::Cell;
@@ -22,10 +23,7 @@ fn insert<'a, S: BuildHasher + Drop>(
     drops: &'a Cell<usize>,
     key: u64,
 ) -> Result<usize, BagError> {
-    if bag.len() == usize::MAX {
-        return Err(BagError::TooMany);
-    }
-    bag.insert(value(drops, key))
+    calls::insert(bag, value(drops, key))
 }
 
 fn replace<'a, S: BuildHasher + Drop>(
@@ -33,10 +31,7 @@ fn replace<'a, S: BuildHasher + Drop>(
     drops: &'a Cell<usize>,
     key: u64,
 ) -> Result<usize, BagError> {
-    if bag.len() == usize::MAX {
-        return Err(BagError::TooMany);
-    }
-    bag.replace(value(drops, key))
+    calls::replace_at_once(bag, value(drops, key))
 }
 
 // The keys below 25, in a bag in the middle of a carry.
@@ -72,6 +67,22 @@ fn equal_values<'a, S: BuildHasher + Drop>(
     Ok(())
 }
 
+fn remove<'a, S: BuildHasher + Drop>(
+    bag: &mut HashBag<Counted<'a>, S>,
+    probes: &'a Cell<usize>,
+    key: u64,
+) {
+    bag.remove(&value(probes, key));
+}
+
+fn take_all<'a, S: BuildHasher + Drop>(
+    bag: &mut HashBag<Counted<'a>, S>,
+    probes: &'a Cell<usize>,
+    key: u64,
+) -> Option<(Counted<'a>, usize)> {
+    bag.take_all(&value(probes, key))
+}
+
 // Of 25 values 24 to 8 are left.
 fn taken_out<'a, S: BuildHasher + Drop>(
     rt: &impl Abort,
@@ -80,13 +91,29 @@ fn taken_out<'a, S: BuildHasher + Drop>(
     probes: &'a Cell<usize>,
 ) {
     for key in 0..8 {
-        bag.remove(&value(probes, key));
+        remove(bag, probes, key);
         has_dropped(rt, "a removal", drops, 51usize.saturating_add(key as usize));
     }
-    let taken = bag.take_all(&value(probes, 8));
+    let taken = take_all(bag, probes, 8);
     has_dropped(rt, "a take", drops, 58);
     drop(taken);
     has_dropped(rt, "the drop of what was taken", drops, 59);
+}
+
+fn reserve<S: BuildHasher + Drop>(bag: &mut HashBag<Counted<'_>, S>) -> Result<(), BagError> {
+    bag.reserve(200)
+}
+
+fn shrink_to_fit<S: BuildHasher + Drop>(bag: &mut HashBag<Counted<'_>, S>) -> Result<(), BagError> {
+    bag.shrink_to_fit()
+}
+
+fn retain_odd<S: BuildHasher + Drop>(bag: &mut HashBag<Counted<'_>, S>) {
+    bag.retain(|value: &Counted, _count: usize| (value.key % 2) as usize);
+}
+
+fn clear<S: BuildHasher + Drop>(bag: &mut HashBag<Counted<'_>, S>) {
+    bag.clear();
 }
 
 // All values move, and none is dropped; then those of even keys go.
@@ -95,11 +122,11 @@ fn moved_and_retained<'a, S: BuildHasher + Drop>(
     bag: &mut HashBag<Counted<'a>, S>,
     drops: &'a Cell<usize>,
 ) -> Result<(), Fail> {
-    bag.reserve(200)?;
+    reserve(bag)?;
     has_dropped(rt, "reserve", drops, 59);
-    bag.shrink_to_fit()?;
+    shrink_to_fit(bag)?;
     has_dropped(rt, "shrink_to_fit", drops, 59);
-    bag.retain(|value: &Counted, _count: usize| (value.key % 2) as usize);
+    retain_odd(bag);
     has_dropped(rt, "retain", drops, 67);
     assert_eq!(rt; bag.set_len(), 8);
     Ok(())
@@ -129,7 +156,7 @@ fn drops_under<S: BuildHasher + Drop>(
     moved_and_retained(rt, &mut bag, &drops)?;
     drained(rt, &mut bag, &drops);
     insert(&mut bag, &drops, 5)?;
-    bag.clear();
+    clear(&mut bag);
     has_dropped(rt, "clear", &drops, 76);
     insert(&mut bag, &drops, 6)?;
     drop(bag);

@@ -3,6 +3,7 @@
 //! A value is written as its key and its tag, as `1:10`. Two values with one key are equal.
 use hashbag::{BagError, FixedState, HashBag};
 use hashbag_bench::{IdentityState, OneState, ParityState, Tagged};
+use hashbag_rows::calls::{insert, replace};
 use hashbag_rows::texts::{count, debug_of, halves, is_text, number, rows_of};
 use std::alloc::Global;
 use std::hash::BuildHasher;
@@ -38,24 +39,6 @@ const ROWS: &str = "\
     stored 1 = Some((10, 2))";
 
 // Each kind of call has a function with no contract, as in `rows`.
-
-fn insert<S: BuildHasher + Drop>(
-    rt: &impl Abort,
-    bag: &mut HashBag<Tagged, S>,
-    value: Tagged,
-) -> Result<usize, BagError> {
-    assert!(rt; bag.len() < usize::MAX);
-    bag.insert(value)
-}
-
-fn replace<S: BuildHasher + Drop>(
-    rt: &impl Abort,
-    bag: &mut HashBag<Tagged, S>,
-    value: Tagged,
-) -> Result<usize, BagError> {
-    assert!(rt; bag.len().saturating_sub(bag.contains(&value)) < usize::MAX);
-    bag.replace(value)
-}
 
 // The tag of the stored instance with this key, and how often it occurs.
 fn stored<S: BuildHasher + Drop>(bag: &HashBag<Tagged, S>, key: u64) -> Option<(u64, usize)> {
@@ -150,8 +133,8 @@ fn with_value<S: BuildHasher + Drop>(
     value: Tagged,
 ) -> Result<String, Fail> {
     match verb {
-        "insert" => debug_of(alloc, &insert(rt, bag, value)?),
-        "replace" => debug_of(alloc, &replace(rt, bag, value)?),
+        "insert" => debug_of(alloc, &insert(bag, value)?),
+        "replace" => debug_of(alloc, &replace(bag, value)?),
         "entry" => debug_of(alloc, &entry(bag, value)),
         "or_insert" => debug_of(alloc, &or_insert(bag, value)?),
         "set_to_none_and_insert" => debug_of(alloc, &set_to_none_and_insert(rt, bag, value)?),
@@ -201,6 +184,19 @@ fn answer<S: BuildHasher + Default + Copy>(
     }
 }
 
+// Makes the call of a row.
+fn make_row<S: BuildHasher + Default + Copy>(
+    rt: &impl Abort,
+    alloc: Global,
+    bag: &mut HashBag<Tagged, S>,
+    row: &str,
+) -> Result<(), Fail> {
+    let (call, want) = halves(row, " = ")?;
+    let got = answer(rt, alloc, bag, call)?;
+    is_text(row, got.as_str(), want)
+}
+
+// A row in brackets names the rows after it, which are on a new bag.
 fn make_rows<S: BuildHasher + Default + Copy>(
     rt: &impl Abort,
     alloc: Global,
@@ -211,9 +207,7 @@ fn make_rows<S: BuildHasher + Default + Copy>(
         if row.starts_with('[') {
             bag = HashBag::with_hasher(alloc, state);
         } else {
-            let (call, want) = halves(row, " = ")?;
-            let got = answer(rt, alloc, &mut bag, call)?;
-            is_text(row, got.as_str(), want)?;
+            make_row(rt, alloc, &mut bag, row)?;
         }
     }
     Ok(())

@@ -110,6 +110,13 @@ fn answer(alloc: Global, bag: &mut PlainBag<Tagged>, call: &str) -> Result<Strin
     }
 }
 
+// Makes the call of a row.
+fn make_row(alloc: Global, bag: &mut PlainBag<Tagged>, row: &str) -> Result<(), Fail> {
+    let (call, want) = halves(row, " = ")?;
+    let got = answer(alloc, bag, call)?;
+    is_text(row, got.as_str(), want)
+}
+
 #[test]
 fn calls_on_the_plain_bag(rt: HostRuntime) -> Result<(), Fail> {
     let alloc = rt.alloc();
@@ -118,9 +125,7 @@ fn calls_on_the_plain_bag(rt: HostRuntime) -> Result<(), Fail> {
         if row.starts_with('[') {
             bag = PlainBag::new(alloc);
         } else {
-            let (call, want) = halves(row, " = ")?;
-            let got = answer(alloc, &mut bag, call)?;
-            is_text(row, got.as_str(), want)?;
+            make_row(alloc, &mut bag, row)?;
         }
     }
     Ok(())

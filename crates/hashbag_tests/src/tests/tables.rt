@@ -2,7 +2,7 @@
 //! each call. Where nothing is said of the hash, these numbers don't depend on it.
 use hashbag::{BagError, FixedState, HashBag};
 use hashbag_bench::{IdentityState, OneState, ParityState};
-use hashbag_rows::calls::{bag_of, clone_of, make_calls, make_rows};
+use hashbag_rows::calls::{bag_of, clone_of, insert, make_calls, make_rows, remove};
 use std::alloc::Global;
 use std::hash::BuildHasher;
 use std::test::Fail;
@@ -314,11 +314,8 @@ fn in_and_out<S: BuildHasher + Drop>(
     bag: &mut HashBag<u64, S>,
     value: u64,
 ) -> Result<usize, BagError> {
-    if bag.len() == usize::MAX {
-        return Err(BagError::TooMany);
-    }
-    let before = bag.insert(value)?;
-    Ok(bag.remove(&value).saturating_add(before))
+    let before = insert(bag, value)?;
+    Ok(remove(bag, value).saturating_add(before))
 }
 
 fn thousand_in_and_out<S: BuildHasher + Default + Drop>(

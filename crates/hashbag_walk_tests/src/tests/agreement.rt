@@ -8,7 +8,6 @@ use hashbag_rows::texts::{debug_of, is_text};
 use std::alloc::{AllocError, Global};
 use std::fmt::Debug;
 use std::hash::{BuildHasher, Hash};
-use std::process::Abort;
 use std::test::Fail;
 
 // The steps are on values of so many keys: of few, so that most steps find a value, and of many, so that the tables grow and carry.
@@ -96,6 +95,10 @@ fn steps_of<T: Sample + Drop>(alloc: Global, keys: u64) -> Result<Vec<Step<T>>, 
     Ok(steps)
 }
 
+fn plain_reply<T: Sample>(plain: &mut PlainBag<T>, step: Step<T>) -> Result<Reply<T>, AllocError> {
+    plain.apply(step)
+}
+
 // What the plain bag replies to the steps.
 fn plain_replies<T: Sample>(
     alloc: Global,
@@ -104,7 +107,7 @@ fn plain_replies<T: Sample>(
 ) -> Result<Vec<Reply<T>>, AllocError> {
     let mut replies = Vec::new(alloc);
     for step in steps {
-        replies.push(plain.apply(step)?)?;
+        replies.push(plain_reply(plain, step)?)?;
     }
     Ok(replies)
 }
@@ -126,18 +129,32 @@ fn is_same<T: Debug>(alloc: Global, place: &str, got: &T, want: &T) -> Result<()
     is_text(place, debug_of(alloc, got)?.as_str(), want.as_str())
 }
 
+fn compare_reply<T: Sample>(
+    alloc: Global,
+    state: &str,
+    at: usize,
+    reply: &Reply<T>,
+    want: &Reply<T>,
+) -> Result<(), Fail> {
+    let place = format!(in alloc; "reply {at} under {state}")?;
+    is_same(alloc, place.as_str(), reply, want)
+}
+
 fn compare_replies<T: Sample>(
-    rt: &impl Abort,
     alloc: Global,
     state: &str,
     replies: &[Reply<T>],
     wanted: &[Reply<T>],
 ) -> Result<(), Fail> {
-    assert_eq!(rt; replies.len(), STEPS as usize, "under {state}");
-    assert_eq!(rt; replies.len(), wanted.len(), "under {state}");
+    let steps = STEPS as usize;
+    is_same(
+        alloc,
+        state,
+        &(replies.len(), wanted.len()),
+        &(steps, steps),
+    )?;
     for (at, (reply, want)) in replies.iter().zip(wanted).enumerate() {
-        let place = format!(in alloc; "reply {at} under {state}")?;
-        is_same(alloc, place.as_str(), reply, want)?;
+        compare_reply(alloc, state, at, reply, want)?;
     }
     Ok(())
 }
@@ -145,16 +162,23 @@ fn compare_replies<T: Sample>(
 // The instance that the plain bag has of a value, and how often it occurs.
 fn plain_found<'a, T: Sample>(plain: &'a PlainBag<T>, value: &T) -> Option<(&'a T, usize)> {
     let count = plain.count(value);
-    match plain.items().iter().find(|item| *item == value) {
-        Some(item) => Some((item, count)),
-        None => None,
+    for item in plain.items() {
+        if item == value {
+            return Some((item, count));
+        }
     }
+    None
 }
 
 // How many distinct values the plain bag has.
 fn plain_set_len<T: Sample>(plain: &PlainBag<T>, keys: u64) -> usize {
-    let present = |key: &u64| plain.count(&T::sample(*key, STEPS)) > 0;
-    (0..keys).filter(present).count()
+    let mut present = 0usize;
+    for key in 0..keys {
+        if plain.count(&T::sample(key, STEPS)) > 0 {
+            present = present.saturating_add(1);
+        }
+    }
+    present
 }
 
 // The count and the instance of a value in both bags.
@@ -198,7 +222,6 @@ fn compare_bags<T: Sample + Drop, S: BuildHasher + Drop>(
 
 // Does the same steps on a bag and on the plain bag.
 fn compare_runs<T: Sample + Drop, S: BuildHasher + Drop>(
-    rt: &impl Abort,
     alloc: Global,
     keys: u64,
     state_name: &str,
@@ -208,25 +231,21 @@ fn compare_runs<T: Sample + Drop, S: BuildHasher + Drop>(
     let wanted = plain_replies(alloc, &mut plain, steps_of::<T>(alloc, keys)?)?;
     let mut bag = HashBag::with_hasher(alloc, state);
     let replies = bag_replies(alloc, &mut bag, steps_of::<T>(alloc, keys)?)?;
-    compare_replies(rt, alloc, state_name, &replies, &wanted)?;
+    compare_replies(alloc, state_name, &replies, &wanted)?;
     compare_bags(alloc, state_name, &bag, &plain, keys)
 }
 
-fn compare_under_each_state<T: Sample + Drop>(
-    rt: &impl Abort,
-    alloc: Global,
-    keys: u64,
-) -> Result<(), Fail> {
-    compare_runs::<T, _>(rt, alloc, keys, "FixedState", FixedState::new())?;
-    compare_runs::<T, _>(rt, alloc, keys, "OneState", OneState)?;
-    compare_runs::<T, _>(rt, alloc, keys, "ParityState", ParityState)?;
-    compare_runs::<T, _>(rt, alloc, keys, "IdentityState", IdentityState)
+fn compare_under_each_state<T: Sample + Drop>(alloc: Global, keys: u64) -> Result<(), Fail> {
+    compare_runs::<T, _>(alloc, keys, "FixedState", FixedState::new())?;
+    compare_runs::<T, _>(alloc, keys, "OneState", OneState)?;
+    compare_runs::<T, _>(alloc, keys, "ParityState", ParityState)?;
+    compare_runs::<T, _>(alloc, keys, "IdentityState", IdentityState)
 }
 
 #[test]
 fn numbers_as_in_the_plain_bag(rt: HostRuntime) -> Result<(), Fail> {
     for keys in KEYS {
-        compare_under_each_state::<u64>(&rt, rt.alloc(), keys)?;
+        compare_under_each_state::<u64>(rt.alloc(), keys)?;
     }
     Ok(())
 }
@@ -234,7 +253,7 @@ fn numbers_as_in_the_plain_bag(rt: HostRuntime) -> Result<(), Fail> {
 #[test]
 fn tagged_as_in_the_plain_bag(rt: HostRuntime) -> Result<(), Fail> {
     for keys in KEYS {
-        compare_under_each_state::<Tagged>(&rt, rt.alloc(), keys)?;
+        compare_under_each_state::<Tagged>(rt.alloc(), keys)?;
     }
     Ok(())
 }

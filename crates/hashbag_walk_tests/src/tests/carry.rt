@@ -1,5 +1,6 @@
 //! Walks over a bag in the middle of a carry, dropped after each number of items.
-use hashbag::{FixedState, HashBag};
+use crate::tests::walks::has_left;
+use hashbag::{BagError, FixedState, HashBag};
 use hashbag_bench::{IdentityState, OneState, ParityState};
 use hashbag_rows::texts::{debug_of, is_text};
 use std::alloc::Global;
@@ -15,13 +16,19 @@ const ALL: &str =
     "[0, 1, 2, 3, 4, 5, 6, 7, 8, 9, 10, 11, 12, 13, 14, 15, 16, 17, 18, 19, 20, 21, 22, 23, 24]";
 
 // The numbers below 25, each once.
+fn numbers<S: BuildHasher + Drop>(alloc: Global, state: S) -> Result<HashBag<u64, S>, BagError> {
+    let mut bag = HashBag::with_hasher(alloc, state);
+    bag.extend(0..25)?;
+    Ok(bag)
+}
+
+// A bag in the middle of a carry.
 fn carrying<S: BuildHasher + Drop>(
     rt: &impl Abort,
     alloc: Global,
     state: S,
 ) -> Result<HashBag<u64, S>, Fail> {
-    let mut bag = HashBag::with_hasher(alloc, state);
-    bag.extend(0..25)?;
+    let bag = numbers(alloc, state)?;
     assert_eq!(rt; (bag.slots(), bag.waiting()), (64, 16));
     Ok(bag)
 }
@@ -30,12 +37,6 @@ fn are_all(alloc: Global, walk: &str, got: Vec<u64>) -> Result<(), Fail> {
     let mut got = got;
     got.sort_unstable();
     is_text(walk, debug_of(alloc, &got)?.as_str(), ALL)
-}
-
-// Checks how many items a walk has left.
-fn has_left<I: ExactSizeIterator>(rt: &impl Abort, walk: &I, taken: usize) {
-    let left = VALUES.saturating_sub(taken);
-    assert_eq!(rt; walk.size_hint(), (left, Some(left)), "after {taken}");
 }
 
 // So many items, and then the others.
@@ -53,7 +54,7 @@ fn items<S: BuildHasher + Drop>(
         };
         got.push(*value)?;
     }
-    has_left(rt, &walk, taken);
+    has_left(rt, &walk, VALUES.saturating_sub(taken));
     let again = walk.clone()?;
     for value in again {
         got.push(*value)?;
@@ -75,7 +76,7 @@ fn values<S: BuildHasher + Drop>(
         };
         got.push(*value)?;
     }
-    has_left(rt, &walk, taken);
+    has_left(rt, &walk, VALUES.saturating_sub(taken));
     for (value, _) in walk {
         got.push(*value)?;
     }
@@ -90,7 +91,7 @@ fn drained<S: BuildHasher + Drop>(rt: &impl Abort, bag: &mut HashBag<u64, S>, ta
         sum = sum.saturating_add(value);
         assert_eq!(rt; count, 1, "of {value}");
     }
-    has_left(rt, &walk, taken);
+    has_left(rt, &walk, VALUES.saturating_sub(taken));
     sum
 }
 
@@ -102,7 +103,7 @@ fn moved<S: BuildHasher + Drop>(rt: &impl Abort, bag: HashBag<u64, S>, taken: us
         sum = sum.saturating_add(value);
         assert_eq!(rt; count, 1, "of {value}");
     }
-    has_left(rt, &walk, taken);
+    has_left(rt, &walk, VALUES.saturating_sub(taken));
     sum
 }
 

@@ -5,9 +5,9 @@ use hashbag_bench::uses::{
     sum_used_up,
 };
 use hashbag_bench::{IdentityState, OneState, ParityState};
-use hashbag_rows::calls::{bag_of, counts_of, make_calls};
+use hashbag_rows::calls::{bag_of, counts_of, insert, make_calls};
 use hashbag_rows::texts::{debug_of, is_text};
-use std::alloc::Global;
+use std::alloc::{AllocError, Global};
 use std::fmt::Debug;
 use std::hash::{BuildHasher, Hash};
 use std::process::Abort;
@@ -19,17 +19,16 @@ const ITEMS: usize = 6;
 // Distinct values of `sample_bag`.
 const VALUES: usize = 3;
 
-// Checks how many items a walk has left.
-fn has_left<I: ExactSizeIterator>(rt: &impl Abort, walk: &I, left: usize) {
-    assert_eq!(rt; walk.len(), left);
-    assert_eq!(rt; walk.size_hint(), (left, Some(left)));
+/// Checks how many items a walk has left.
+pub fn has_left<I: ExactSizeIterator>(rt: &impl Abort, walk: &I, left: usize) {
+    let got = (walk.len(), walk.size_hint());
+    assert_eq!(rt; got, (left, (left, Some(left))));
 }
 
 // Checks that a bag has nothing.
 fn is_empty<T: Eq + Hash + Drop, S: BuildHasher + Drop>(rt: &impl Abort, bag: &HashBag<T, S>) {
-    assert!(rt; bag.is_empty());
-    assert_eq!(rt; bag.len(), 0);
-    assert_eq!(rt; bag.set_len(), 0);
+    let got = (bag.is_empty(), bag.len(), bag.set_len());
+    assert_eq!(rt; got, (true, 0, 0));
 }
 
 // 5 three times, 6 twice and 7 once.
@@ -37,38 +36,34 @@ fn sample_bag<S: BuildHasher + Drop>(alloc: Global, state: S) -> Result<HashBag<
     bag_of(alloc, state, &[5, 6, 5, 7, 6, 5])
 }
 
-fn insert_name<S: BuildHasher + Drop>(
-    rt: &impl Abort,
-    bag: &mut HashBag<String, S>,
-    name: String,
-) -> Result<(), Fail> {
-    assert!(rt; bag.len() < 3);
-    bag.insert(name)?;
-    Ok(())
+// Einar twice and Harald once.
+fn three_names<S: BuildHasher + Drop>(alloc: Global, state: S) -> Result<HashBag<String, S>, Fail> {
+    let mut bag = HashBag::with_hasher(alloc, state);
+    for name in ["Einar", "Harald", "Einar"] {
+        insert(&mut bag, String::from_str(alloc, name)?)?;
+    }
+    Ok(bag)
 }
 
-// Einar twice and Harald once.
-fn three_names<S: BuildHasher + Drop>(
-    rt: &impl Abort,
-    alloc: Global,
-    state: S,
-) -> Result<HashBag<String, S>, Fail> {
-    let mut bag = HashBag::with_hasher(alloc, state);
-    insert_name(rt, &mut bag, String::from_str(alloc, "Einar")?)?;
-    insert_name(rt, &mut bag, String::from_str(alloc, "Harald")?)?;
-    insert_name(rt, &mut bag, String::from_str(alloc, "Einar")?)?;
-    Ok(bag)
+// How often a walk gives Einar.
+fn number_of_einars<S: BuildHasher + Drop>(bag: &HashBag<String, S>) -> usize {
+    let mut einars = 0usize;
+    for name in bag.iter() {
+        if name.as_str() == "Einar" {
+            einars = einars.saturating_add(1);
+        }
+    }
+    einars
 }
 
 fn names_one_by_one<S: BuildHasher + Drop>(rt: &impl Abort, bag: &HashBag<String, S>) {
     has_left(rt, &bag.iter(), 3);
-    let einars = bag.iter().filter(|name| name.as_str() == "Einar").count();
-    assert_eq!(rt; einars, 2);
+    assert_eq!(rt; number_of_einars(bag), 2);
 }
 
 fn all_names<S: BuildHasher + Drop>(rt: &impl Abort, bag: &HashBag<String, S>) {
-    assert_eq!(rt; bag.iter().count(), 3);
-    assert_eq!(rt; bag.set_iter().count(), 2);
+    let got = (bag.iter().count(), bag.set_iter().count());
+    assert_eq!(rt; got, (3, 2));
 }
 
 fn is_count_of(rt: &impl Abort, name: &str, count: usize) {
@@ -95,7 +90,7 @@ fn walks_over_names<S: BuildHasher + Drop>(
     alloc: Global,
     state: S,
 ) -> Result<(), Fail> {
-    let mut bag = three_names(rt, alloc, state)?;
+    let mut bag = three_names(alloc, state)?;
     names_one_by_one(rt, &bag);
     all_names(rt, &bag);
     names_with_counts(rt, &bag);
@@ -247,8 +242,14 @@ fn counts_of_values<S: BuildHasher + Drop>(rt: &impl Abort, bag: &HashBag<u64, S
     }
 }
 
-fn number_of_fives<S: BuildHasher + Drop>(rt: &impl Abort, bag: &HashBag<u64, S>) {
-    assert_eq!(rt; bag.iter().filter(|value| **value == 5).count(), 3);
+fn number_of_fives<S: BuildHasher + Drop>(bag: &HashBag<u64, S>) -> usize {
+    let mut fives = 0usize;
+    for value in bag.iter() {
+        if *value == 5 {
+            fives = fives.saturating_add(1);
+        }
+    }
+    fives
 }
 
 // Checks the number of items that a caller found.
@@ -270,8 +271,8 @@ fn items_of_walks<S: BuildHasher + Drop>(
     state: S,
 ) -> Result<(), Fail> {
     let bag = sample_bag(alloc, state)?;
-    assert_eq!(rt; changes_of_value(&bag), 2);
-    number_of_fives(rt, &bag);
+    let got = (changes_of_value(&bag), number_of_fives(&bag));
+    assert_eq!(rt; got, (2, 3));
     counts_of_values(rt, &bag);
     totals(rt, bag);
     Ok(())
@@ -301,13 +302,18 @@ fn clones_go_on<S: BuildHasher + Drop>(
 }
 
 fn set_clones_go_on<S: BuildHasher + Drop>(
-    rt: &impl Abort,
+    alloc: Global,
     bag: &HashBag<u64, S>,
 ) -> Result<(), Fail> {
     let mut walk = bag.set_iter();
     let _ = walk.next();
-    assert_eq!(rt; walk.clone()?.next(), walk.next());
-    Ok(())
+    let mut again = walk.clone()?;
+    let wanted = debug_of(alloc, &walk.next())?;
+    is_text(
+        "a clone",
+        debug_of(alloc, &again.next())?.as_str(),
+        wanted.as_str(),
+    )
 }
 
 fn all_clones_go_on<S: BuildHasher + Drop>(
@@ -319,23 +325,39 @@ fn all_clones_go_on<S: BuildHasher + Drop>(
     for taken in 0..=ITEMS {
         clones_go_on(rt, &bag, taken)?;
     }
-    set_clones_go_on(rt, &bag)
+    set_clones_go_on(alloc, &bag)
+}
+
+fn all_of<S: BuildHasher + Drop>(
+    alloc: Global,
+    bag: &mut HashBag<u64, S>,
+) -> Result<Vec<(u64, usize)>, AllocError> {
+    moved_out(alloc, bag)
 }
 
 fn list_moved_out<S: BuildHasher + Drop>(
-    rt: &impl Abort,
     alloc: Global,
     bag: &mut HashBag<u64, S>,
 ) -> Result<(), Fail> {
-    let list = moved_out(alloc, bag)?;
-    assert_eq!(rt; list.len(), VALUES);
-    assert!(rt; list.contains(&(5, 3)));
-    Ok(())
+    let mut list = all_of(alloc, bag)?;
+    list.sort_unstable();
+    is_text(
+        "moved out",
+        debug_of(alloc, &list)?.as_str(),
+        "[(5, 3), (6, 2), (7, 1)]",
+    )
 }
 
-fn one_moved_out<S: BuildHasher + Drop>(rt: &impl Abort, bag: &mut HashBag<u64, S>) {
-    assert_eq!(rt; first_moved_out(bag), Some((8, 1)));
-    assert!(rt; first_moved_out(bag).is_none());
+fn first_of<S: BuildHasher + Drop>(bag: &mut HashBag<u64, S>) -> Option<(u64, usize)> {
+    first_moved_out(bag)
+}
+
+fn moves_out_first<S: BuildHasher + Drop>(
+    rt: &impl Abort,
+    bag: &mut HashBag<u64, S>,
+    wanted: Option<(u64, usize)>,
+) {
+    assert_eq!(rt; first_of(bag), wanted);
 }
 
 fn all_moved_out<S: BuildHasher + Default + Drop>(
@@ -344,10 +366,11 @@ fn all_moved_out<S: BuildHasher + Default + Drop>(
     state: S,
 ) -> Result<(), Fail> {
     let mut bag = sample_bag(alloc, state)?;
-    list_moved_out(rt, alloc, &mut bag)?;
+    list_moved_out(alloc, &mut bag)?;
     is_empty(rt, &bag);
     make_calls(alloc, &mut bag, "insert 8 = 0", 1)?;
-    one_moved_out(rt, &mut bag);
+    moves_out_first(rt, &mut bag, Some((8, 1)));
+    moves_out_first(rt, &mut bag, None);
     Ok(())
 }
 
@@ -357,21 +380,50 @@ fn is_shown<T: Debug>(alloc: Global, value: &T, want: &str) -> Result<(), Fail> 
     Ok(())
 }
 
-fn texts_of_walks<S: BuildHasher + Drop>(alloc: Global, bag: &HashBag<u64, S>) -> Result<(), Fail> {
+fn is_walk_shown<S: BuildHasher + Drop>(
+    alloc: Global,
+    bag: &HashBag<u64, S>,
+    want: &str,
+) -> Result<(), Fail> {
+    is_shown(alloc, &bag.iter(), want)
+}
+
+// A walk after its first item.
+fn is_rest_shown<S: BuildHasher + Drop>(
+    alloc: Global,
+    bag: &HashBag<u64, S>,
+    want: &str,
+) -> Result<(), Fail> {
     let mut walk = bag.iter();
-    is_shown(alloc, &walk, "{5, 5, 5}")?;
     let _ = walk.next();
-    is_shown(alloc, &walk, "{5, 5}")?;
-    is_shown(alloc, &bag.set_iter(), "{(5, 3)}")
+    is_shown(alloc, &walk, want)
+}
+
+fn is_set_walk_shown<S: BuildHasher + Drop>(
+    alloc: Global,
+    bag: &HashBag<u64, S>,
+    want: &str,
+) -> Result<(), Fail> {
+    is_shown(alloc, &bag.set_iter(), want)
+}
+
+fn is_drain_shown<S: BuildHasher + Drop>(
+    alloc: Global,
+    bag: &mut HashBag<u64, S>,
+    want: &str,
+) -> Result<(), Fail> {
+    is_shown(alloc, &bag.drain(), want)
 }
 
 fn texts_of_five<S: BuildHasher + Default + Drop>(alloc: Global, state: S) -> Result<(), Fail> {
     let mut bag = bag_of(alloc, state, &[5, 5, 5])?;
     is_shown(alloc, &bag, "{5, 5, 5}")?;
-    texts_of_walks(alloc, &bag)?;
+    is_walk_shown(alloc, &bag, "{5, 5, 5}")?;
+    is_rest_shown(alloc, &bag, "{5, 5}")?;
+    is_set_walk_shown(alloc, &bag, "{(5, 3)}")?;
     is_shown(alloc, &bag.entry(5), "Entry(5, 3)")?;
-    is_shown(alloc, &bag.drain(), "[(5, 3)]")?;
-    is_shown(alloc, &bag.drain(), "[]")?;
+    is_drain_shown(alloc, &mut bag, "[(5, 3)]")?;
+    is_drain_shown(alloc, &mut bag, "[]")?;
     make_calls(alloc, &mut bag, "insert_many 5 3 = 0", 1)?;
     texts_of_owned(alloc, bag)
 }
@@ -387,9 +439,9 @@ fn texts_of_owned<S: BuildHasher + Drop>(alloc: Global, bag: HashBag<u64, S>) ->
 fn texts_of_nothing<S: BuildHasher + Drop>(alloc: Global, state: S) -> Result<(), Fail> {
     let mut bag: HashBag<u64, S> = HashBag::with_hasher(alloc, state);
     is_shown(alloc, &bag, "{}")?;
-    is_shown(alloc, &bag.iter(), "{}")?;
-    is_shown(alloc, &bag.set_iter(), "{}")?;
-    is_shown(alloc, &bag.drain(), "[]")
+    is_walk_shown(alloc, &bag, "{}")?;
+    is_set_walk_shown(alloc, &bag, "{}")?;
+    is_drain_shown(alloc, &mut bag, "[]")
 }
 
 // All of these under one state.

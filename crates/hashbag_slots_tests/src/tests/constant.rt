@@ -2,14 +2,14 @@
 use std::hash::{BuildHasher, Hasher};
 
 /// Hashes every value to `hash`.
-#[derive(Clone, Copy, Debug)]
+#[derive(Clone, Copy)]
 pub struct Constant {
     /// The hash of every value.
     pub hash: u64,
 }
 
 /// Takes in nothing, and answers `hash`.
-#[derive(Clone, Copy, Debug)]
+#[derive(Clone, Copy)]
 pub struct Answer {
     hash: u64,
 }

@@ -148,6 +148,11 @@ impl<T: Eq + Hash + Drop, S: BuildHasher + Drop> Held<T, S> {
         }
     }
 
+    /// Drops all values.
+    pub fn clear(&mut self) {
+        self.slots.clear();
+    }
+
     /// The table as a walk.
     pub fn into_walk(self) -> IntoWalk<T> {
         let Held { slots, state: _ } = self;

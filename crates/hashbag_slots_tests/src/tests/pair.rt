@@ -4,7 +4,7 @@ ghost use Rattle.hashbag_slots.specs.Hashing.{hash_under};
 ghost use Rattle.hashbag_slots.specs.Slots.{AreApart, live_count};
 ghost use Rattle.hashbag_slots.specs.Columns.{IsReached};
 
-use crate::held::{Held, slot_count};
+use crate::tests::held::{Held, slot_count};
 use hashbag_slots::slots::Slots;
 use std::alloc::{AllocError, Global};
 use std::hash::{BuildHasher, Hash};
