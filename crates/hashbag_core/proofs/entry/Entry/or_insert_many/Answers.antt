@@ -18,3 +18,9 @@ returns-then-before-gt0-clause-room g c = search rules
 
 pub insert_new-requires-clause-some : goal.insert_new-requires-clause-some
 insert_new-requires-clause-some g c = omega arith
+
+pub returns-in_err-insert_new-clause-none : goal.returns-in_err-insert_new-clause-none
+returns-in_err-insert_new-clause-none g c = λ none. absurd (omega (arith, none))
+
+pub returns-clause-same : goal.returns-clause-same
+returns-clause-same g c = λ none. absurd (omega (arith, none))
