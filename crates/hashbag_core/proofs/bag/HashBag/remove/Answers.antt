@@ -1,4 +1,3 @@
-use Rattle.std.proofs.Common.{rules}
 use Rattle.hashbag_core.proofs.bag.HashBag.remove.Goals as goal
 
 pub returns-clause-slot : goal.returns-clause-slot
@@ -14,7 +13,7 @@ pub returns-clause-room : goal.returns-clause-room
 returns-clause-room g c = c.take_up_to.ensures.room
 
 pub returns-clause-removed : goal.returns-clause-removed
-returns-clause-removed g c = search rules
+returns-clause-removed g c = c.take_up_to.ensures.removed
 
 pub returns-clause-len : goal.returns-clause-len
-returns-clause-len g c = search rules
+returns-clause-len g c = c.take_up_to.ensures.len
