@@ -1,4 +1,4 @@
-use Rattle.std.proofs.Common.{sym}
+use Rattle.std.proofs.Common.{sym, rules}
 use Rattle.serde_json.specs.View.{view}
 use Rattle.hashbag_core.specs.Occurrences.{greatest_total}
 use Rattle.hashbag_core.proofs.JsonReadLemmas.{good_pair}
@@ -21,3 +21,15 @@ returns-in-Ok-insert_within-clause-read g c = (
   },
   c.in-Ok-insert_within.ensures.added,
 )
+
+pub returns-in_default-as_u64-clause-fault : goal.returns-in_default-as_u64-clause-fault
+returns-in_default-as_u64-clause-fault g c = search rules
+
+pub returns-in_default-as_u64-clause-memory : goal.returns-in_default-as_u64-clause-memory
+returns-in_default-as_u64-clause-memory g c = λ is. absurd (cc)
+
+pub returns-in-Err-NotAnItem-clause-no_fault : goal.returns-in-Err-NotAnItem-clause-no_fault
+returns-in-Err-NotAnItem-clause-no_fault g c = tt
+
+pub returns-in-Err-NotAnItem-clause-read : goal.returns-in-Err-NotAnItem-clause-read
+returns-in-Err-NotAnItem-clause-read g c = tt

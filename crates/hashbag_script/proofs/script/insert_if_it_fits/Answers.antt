@@ -1,4 +1,4 @@
-use Rattle.std.proofs.Common.{◌+◌, ◌≤◌, length, sym, ◌∙◌, ap, arith}
+use Rattle.std.proofs.Common.{◌+◌, ◌≤◌, length, sym, ◌∙◌, ap, arith, rules}
 use Rattle.std.proofs.lemmas.Bool.{false≢true}
 use Rattle.hashbag_core.specs.Occurrences.{greatest_total}
 use Rattle.hashbag_script.proofs.RoomLemmas.{keeps_inserted, one_inserted}
@@ -22,3 +22,6 @@ returns-clause-room g c =
     let done = c.in_ok-insert_many.ensures in
     keeps_inserted c.in_ok-insert_many.field-0 c.args.n _ c.args.bag.now.tables c.insert_many.new.self.tables (λ none. ap (λ b. b.tables) (c.insert_many.ensures.none none)) done.same_slots done.same_room done.slots done.room
     (λ none some. one_inserted g.met.T.Eq.laws c.args.value c.args.n c.args.bag.now.items (sym done.before ∙ none) some fits)
+
+pub returns-then-n-len-clause-reply : goal.returns-then-n-len-clause-reply
+returns-then-n-len-clause-reply g c = search rules

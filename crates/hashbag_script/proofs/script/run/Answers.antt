@@ -114,3 +114,7 @@ returns-in_err-reply-clause-slots g c = λ X means roomy. absurd (not_refused g 
 
 pub returns-in_err-reply-clause-takes : goal.returns-in_err-reply-clause-takes
 returns-in_err-reply-clause-takes g c = λ X means roomy. absurd (not_refused g c X means roomy)
+
+-- no room for the replies: nothing was done
+pub returns-in_err-reserve-clause-stopped : goal.returns-in_err-reserve-clause-stopped
+returns-in_err-reserve-clause-stopped g c = search rules

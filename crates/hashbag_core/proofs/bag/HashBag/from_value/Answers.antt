@@ -63,3 +63,6 @@ pub returns-clause-read : goal.returns-clause-read
 returns-clause-read g c =
     let so = at_end g c in
     (so.pairs, reading_at_end g.met.T.Eq.laws greatest_total g.T.JsonItem.has_item g.T.JsonItem.reads _ _ c.loop-number.number _ (trees _ _ _ c.in-Some.ensures c.deref-pair-items.ensures.value) so, so.means)
+
+pub returns-in_default-clause-memory : goal.returns-in_default-clause-memory
+returns-in_default-clause-memory g c = λ is. absurd (cc)

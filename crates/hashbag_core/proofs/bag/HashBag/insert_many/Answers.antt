@@ -1,4 +1,4 @@
-use Rattle.std.proofs.Common.{◌≡◌, ◌+◌, ◌≤◌, length, arith, sym, ◌∙◌}
+use Rattle.std.proofs.Common.{◌≡◌, ◌+◌, ◌≤◌, length, refl, arith, sym, ◌∙◌}
 use Rattle.hashbag_table.proofs.EntryLemmas.{OnErr-from}
 use Rattle.hashbag_core.specs.Bag.{occurrences}
 use Rattle.hashbag_core.specs.Occurrences.{greatest_total, count}
@@ -73,3 +73,12 @@ returns-clause-same_slots g c = λ some. rw (← c.self.view_is) (c.in_ok-before
 
 pub returns-clause-same_room : goal.returns-clause-same_room
 returns-clause-same_room g c = λ some. rw (← c.self.view_is) (c.in_ok-before.ensures.same_room some)
+
+pub returns-then-n-eq0-clause-absent : goal.returns-then-n-eq0-clause-absent
+returns-then-n-eq0-clause-absent g c = tt
+
+pub returns-then-n-eq0-clause-some : goal.returns-then-n-eq0-clause-some
+returns-then-n-eq0-clause-some g c = tt
+
+pub returns-then-n-eq0-clause-takes : goal.returns-then-n-eq0-clause-takes
+returns-then-n-eq0-clause-takes g c = λ _. refl

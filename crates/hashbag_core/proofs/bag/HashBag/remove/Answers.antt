@@ -11,3 +11,9 @@ returns-clause-slots g c = c.take_up_to.ensures.slots
 
 pub returns-clause-room : goal.returns-clause-room
 returns-clause-room g c = c.take_up_to.ensures.room
+
+pub returns-clause-removed : goal.returns-clause-removed
+returns-clause-removed g c = c.take_up_to.ensures.removed
+
+pub returns-clause-len : goal.returns-clause-len
+returns-clause-len g c = c.take_up_to.ensures.len

@@ -1,3 +1,4 @@
+use Rattle.std.proofs.Common.{rules}
 use Rattle.hashbag_core.proofs.bag.HashBag.remove_up_to.Goals as goal
 
 pub returns-clause-slot : goal.returns-clause-slot
@@ -11,3 +12,9 @@ returns-clause-slots g c = c.take_up_to.ensures.slots
 
 pub returns-clause-room : goal.returns-clause-room
 returns-clause-room g c = c.take_up_to.ensures.room
+
+pub returns-clause-after : goal.returns-clause-after
+returns-clause-after g c = search rules
+
+pub returns-clause-len : goal.returns-clause-len
+returns-clause-len g c = search rules

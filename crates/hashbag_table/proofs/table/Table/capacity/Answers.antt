@@ -13,3 +13,8 @@ overflow_add-result g c =
     let p = length-entries n in let q = length-entries w in let f = t.fits in
     let a = c.set_len.ensures.len ∙ sym (ap (λ m. length m.entries) c.self.view_is) in let b = c.room.ensures ∙ sym (ap (λ t. room t.tables) c.self.view_is) in
     let u = c.recall.ensures.bound in omega arith
+
+pub returns : goal.returns
+returns g c =
+    let held = c.set_len.ensures.len in let room = c.room.ensures in
+    omega (arith, held, room)

@@ -29,3 +29,18 @@ overflow_sub-values g c =
     let s = c.slots-slots.ensures.value in let b = c.slots-slots.ensures.bound in
     let most : MOST_VALUES ≡ 432345564227567616 = refl in
     omega (arith, x, p, q, f, l, v, s, b, most)
+
+pub returns-then-n-room-clause-room : goal.returns-then-n-room-clause-room
+returns-then-n-room-clause-room g c =
+    let few = c.if-n-room.true in let r = c.room.ensures in
+    omega (arith, few, r)
+
+pub returns-then-n-room-clause-least : goal.returns-then-n-room-clause-least
+returns-then-n-room-clause-least g c beyond =
+    let few = c.if-n-room.true in let r = c.room.ensures in
+    absurd (omega (arith, few, r, beyond))
+
+pub returns-then-n-room-clause-packed : goal.returns-then-n-room-clause-packed
+returns-then-n-room-clause-packed g c beyond =
+    let few = c.if-n-room.true in let r = c.room.ensures in
+    absurd (omega (arith, few, r, beyond))

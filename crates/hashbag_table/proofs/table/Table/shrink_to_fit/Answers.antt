@@ -28,3 +28,18 @@ pub returns-clause-least : goal.returns-clause-least
 returns-clause-least g c m least less =
     c.pack.ensures.slots ∙ ap length c.in_ok-newer.ensures.slots ∙ length-replicate c.in_ok-count.count Empty
     ∙ least_unique 0 _ c.in_ok-count.count m (subst (λ k. IsLeast 0 k c.in_ok-count.count) c.set_len.ensures.len c.in_ok-count.ensures.least) least
+
+-- no table is made where the least one isn't smaller
+pub returns-then-count-slots-clause-least : goal.returns-then-count-slots-clause-least
+returns-then-count-slots-clause-least g c m least less =
+    let same = least_unique 0 _ c.in_ok-count.count m (subst (λ k. IsLeast 0 k c.in_ok-count.count) c.set_len.ensures.len c.in_ok-count.ensures.least) least in
+    let few = c.if-count-slots.true in let s = c.slots.ensures.value in
+    let seen = ap (λ t. length t.tables.newer) c.self.view_is in
+    absurd (omega (arith, same, few, s, seen, less))
+
+pub returns-then-count-slots-clause-packed : goal.returns-then-count-slots-clause-packed
+returns-then-count-slots-clause-packed g c m least less =
+    let same = least_unique 0 _ c.in_ok-count.count m (subst (λ k. IsLeast 0 k c.in_ok-count.count) c.set_len.ensures.len c.in_ok-count.ensures.least) least in
+    let few = c.if-count-slots.true in let s = c.slots.ensures.value in
+    let seen = ap (λ t. length t.tables.newer) c.self.view_is in
+    absurd (omega (arith, same, few, s, seen, less))
