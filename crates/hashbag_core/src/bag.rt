@@ -263,6 +263,7 @@ impl<T: Eq + Hash + Drop, S: BuildHasher + Drop> HashBag<T, S> {
     }
 
     /// Adds one occurrence of a value, and answers how many there were: [`HashBag::insert_many`] with 1.
+    #[inline(always)]
     pub fn insert(&mut self, value: T) -> Result<usize, BagError>
         requires { length self.old.items + 1 ≤ greatest_total }
         ensures before { IfOk result (λ before. before ≡ count T.eq value self.old.items) }
@@ -295,6 +296,7 @@ impl<T: Eq + Hash + Drop, S: BuildHasher + Drop> HashBag<T, S> {
     ///
     /// A value that is absent takes no memory while there is room. Else it may be refused for memory: the bag is then unchanged, and
     /// the value is dropped. It carries up to 16 slots of an older table along, and hashes each value in them once.
+    #[inline(always)]
     pub fn insert_many(&mut self, value: T, n: usize) -> Result<usize, BagError>
         requires { length self.old.items + n ≤ greatest_total }
         ensures before { IfOk result (λ before. before ≡ count T.eq value self.old.items) }

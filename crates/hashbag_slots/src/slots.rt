@@ -16,8 +16,8 @@ ghost use Rattle.hashbag_slots.specs.Columns.{IsReached, IsAlike};
 
 use crate::cells::Cells;
 use crate::tags::{
-    LEAST_MARK, MOVED, REMOVED, drop_values, empty_tags, find_place, first_place, free_place,
-    mark_of, seek_place,
+    LEAST_MARK, MOVED, REMOVED, drop_values, empty_tags, find_place, free_place, mark_of,
+    near_place, seek_place,
 };
 use crate::walk::{IntoWalk, Walk};
 use std::alloc::{AllocError, Global};
@@ -149,6 +149,16 @@ impl<T: Eq> Slots<T> {
         }
         let entry = self.cells.get(place);
         Some((&entry.0, entry.1))
+    }
+
+    /// The value at a place, lent, and its count. The slot is Live: its tag isn't looked at.
+    #[inline(always)]
+    pub fn live_at(&self, place: usize) -> (&T, usize)
+        requires { is_live (slot_at self.now.slots place) ≡ true }
+        ensures { Some (result.0.now, result.1) ≡ slot_entry (slot_at self.now.slots place) }
+    {
+        let entry = self.cells.get(place);
+        (&entry.0, entry.1)
     }
 
     /// Gives the value at a place the count `n`. The slot is Live.
@@ -299,16 +309,14 @@ impl<T: Eq + Hash> Slots<T> {
         find_place(self.tags.as_slice(), &self.cells, state, hash, value)
     }
 
-    /// The place of the Live slot with an equal value where that slot is the first on the path of a hash, as it is for most values
-    /// that are present. `None` says nothing.
-    ///
-    /// It looks at one slot.
+    /// The place of the Live slot with an equal value where that slot is among the first 16 on the path of a hash, as it is for nearly
+    /// all values that are present. `None` says nothing.
     #[inline(always)]
-    pub fn find_first(&self, hash: u64, value: &T) -> Option<usize>
+    pub fn find_near(&self, hash: u64, value: &T) -> Option<usize>
         ensures found { IfSome result (HoldsAt (λ v. T.eq v value.now) self.now.slots) }
         ensures map { IfSome result (λ p. entry_at self.now.slots (Some p) ≡ lookup_entry (λ v. T.eq v value.now) (entries self.now.slots)) }
     {
-        first_place(self.tags.as_slice(), &self.cells, hash, value)
+        near_place(self.tags.as_slice(), &self.cells, hash, value)
     }
 
     /// As `find_hashed`, but where the value is absent it answers the first place on the path of its hash whose slot is not Live,

@@ -181,9 +181,27 @@ fn look_near<T: Eq + Hash, S: BuildHasher>(
     None
 }
 
-/// The place of the Live slot with an equal value where that slot is the first on the path of a hash. `None` says nothing.
+// The place of the Live slot with an equal value where that slot is the first on the path of a hash. `None` says nothing.
 #[inline(always)]
-pub fn first_place<T: Eq>(
+fn first_place<T: Eq>(tags: &[u8], cells: &Cells<(T, usize)>, hash: u64, value: &T) -> Option<usize>
+    requires count { IsSlotCount (length tags.now) }
+    requires agree { Agree tags.now cells.now }
+    ensures found { IfSome result (HoldsAt (λ v. T.eq v value.now) (slots_of tags.now cells.now)) }
+{
+    let count = tags.len();
+    if count == 0 {
+        return None;
+    }
+    let first = place_after(hash, 0, count);
+    if tags[first] == mark_of(hash) && is_in(cells, first, value) {
+        return Some(first);
+    }
+    None
+}
+
+/// The place of the Live slot with an equal value where that slot is among the first 16 on the path of a hash. `None` says nothing.
+#[inline(always)]
+pub fn near_place<T: Eq>(
     tags: &[u8],
     cells: &Cells<(T, usize)>,
     hash: u64,
@@ -198,10 +216,10 @@ pub fn first_place<T: Eq>(
         return None;
     }
     let first = place_after(hash, 0, count);
-    if tags[first] == mark_of(hash) && is_in(cells, first, value) {
-        return Some(first);
+    if first + LANES > count {
+        return None;
     }
-    None
+    find_among(tags, cells, first, mark_of(hash), value)
 }
 
 /// The place of the Live slot with an equal value, if there is one. The value's hash is handed in. It probes until it finds

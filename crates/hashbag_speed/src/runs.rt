@@ -4,6 +4,7 @@ use hashbag::{BagError, HashBag};
 use std::time::Instant;
 
 // Inserts a value whose occurrences may be too many.
+#[inline(always)]
 fn put(bag: &mut HashBag<u64>, value: u64) -> Result<(), BagError> {
     if bag.len() == usize::MAX {
         return Err(BagError::TooMany);

@@ -191,10 +191,10 @@ impl<T: Eq + Hash + Drop, S: BuildHasher + Drop> Table<T, S> {
     {
         let hash = self.hash(value);
         if let Some(place) = self.newer.find_hashed(&self.hasher, hash, value) {
-            return self.newer.at(place);
+            return Some(self.newer.live_at(place));
         }
         match find_older(&self.older, &self.hasher, hash, value) {
-            Some(place) => self.older.at(place),
+            Some(place) => Some(self.older.live_at(place)),
             None => None,
         }
     }
@@ -352,8 +352,8 @@ impl<T: Eq + Hash + Drop, S: BuildHasher + Drop> Table<T, S> {
         Err(0)
     }
 
-    // As `add`, of a value whose hash is handed in, and which isn't in the first slot of its path: look-ups of those that are there are
-    // to be short.
+    // As `add`, of a value whose hash is handed in, and which isn't among the first 16 slots of its path: look-ups of those that are
+    // there are to be short.
     #[inline(never)]
     fn add_far(&mut self, hash: u64, value: T, n: usize) -> Result<usize, AllocError>
         requires hashed { hash ≡ hash_under T.hash_input S.BuildHasher S.Hasher.Hasher self.old.hasher value }
@@ -406,7 +406,7 @@ impl<T: Eq + Hash + Drop, S: BuildHasher + Drop> Table<T, S> {
         ensures same_room { IfOk result (λ before. 0 < before → room self.old.tables ≤ room self.new.tables) }
     {
         let hash = self.hash(&value);
-        if let Some(spot) = self.locate_first(hash, &value) {
+        if let Some(spot) = self.locate_near(hash, &value) {
             let before = self.raise_spot(spot, n);
             return Ok(before);
         }

@@ -78,15 +78,15 @@ impl<T: Eq + Hash + Drop, S: BuildHasher + Drop> Table<T, S> {
         }
     }
 
-    // As `locate`, of a value that is in the first slot of its path in the newer table. `None` says nothing.
+    // As `locate`, of a value that is among the first 16 slots of its path in the newer table. `None` says nothing.
     #[inline(always)]
-    pub(super) fn locate_first(&self, hash: u64, value: &T) -> Option<Spot>
+    pub(super) fn locate_near(&self, hash: u64, value: &T) -> Option<Spot>
         ensures map { IfSome result (λ spot. entry_in self.now.tables (Some spot) ≡ entry_of T.eq value.now self.now.entries) }
         ensures held { IfSome result (HoldsIn (λ w. T.eq w value.now) self.now.tables) }
         ensures counted { IsCounted T.eq self.now.entries }
     {
         self.recall();
-        match self.newer.find_first(hash, value) {
+        match self.newer.find_near(hash, value) {
             Some(place) => Some(Spot::Newer(place)),
             None => None,
         }
@@ -201,19 +201,16 @@ impl<T: Eq + Hash + Drop, S: BuildHasher + Drop> Table<T, S> {
         ensures count { (e : T × ℕ) → entry_in self.now.tables (Some spot) ≡ Some e → result ≡ e.1 }
     {
         self.older.recall();
-        if let Spot::Newer(place) = spot {
-            return match self.newer.at(place) {
-                Some((_, count)) => count,
-                None => 0,
-            };
+        match spot {
+            Spot::Newer(place) => {
+                let (_, count) = self.newer.live_at(place);
+                return count;
+            }
+            Spot::Waiting(place) => {
+                let (_, count) = self.older.live_at(self.looked + place);
+                return count;
+            }
         }
-        if let Spot::Waiting(place) = spot {
-            return match self.older.at(self.looked + place) {
-                Some((_, count)) => count,
-                None => 0,
-            };
-        }
-        0
     }
 
     // Adds to the count of the value at a spot, and answers what the count was.

@@ -12,7 +12,7 @@ returns-in-Some-clause-before g c =
 pub returns-in-Some-clause-added : goal.returns-in-Some-clause-added
 returns-in-Some-clause-added g c =
     raised_added g.T.PartialEq.eq c.args.value c.args.n c.args.self.now.entries c.args.self.now.tables c.in-Some.spot c.in-Some.ensures.map c.in-Some.ensures.held c.raise_spot-before.result c.raise_spot-before.ensures.before
-    g.met.T.Eq.laws c.raise_spot-before.new.self.entries c.locate_first.ensures.counted c.raise_spot-before.ensures.map
+    g.met.T.Eq.laws c.raise_spot-before.new.self.entries c.locate_near.ensures.counted c.raise_spot-before.ensures.map
 
 pub returns-in-Some-clause-slot : goal.returns-in-Some-clause-slot
 returns-in-Some-clause-slot g c some =
