@@ -62,10 +62,7 @@ module _ {T : Type 0} (eq : T → T → Bool) (laws : IsEquivalence eq) (ss : Li
       (sym (laws.congr x at_q.0 at_p.0 (laws.symm x at_q.0 ∙ at_q.3)) ∙ laws.symm x at_p.0 ∙ at_p.3)))
 
   -- the same of a place alone
-  pub found-lookup : (r : Option ℕ) → IfSome r (HoldsAt (λ v. eq v x) ss) → IfSome r (λ p. slot_entry (slot_at ss p) ≡ lookup_entry (λ v. eq v x) (entries ss))
-  found-lookup None some = tt
-  found-lookup (Some p) some = entry_at-lookup (Some p) some tt
-
-  pub sought-lookup : {E : Type 0} (r : Result ℕ E) → IfOk r (HoldsAt (λ v. eq v x) ss) → IfOk r (λ p. slot_entry (slot_at ss p) ≡ lookup_entry (λ v. eq v x) (entries ss))
-  sought-lookup (Ok p) some = entry_at-lookup (Some p) some tt
-  sought-lookup (Err e) some = tt
+  pub known-lookup : {E : Type 0} (r : Option (Result ℕ E)) → IfSome r (λ known. IfOk known (HoldsAt (λ v. eq v x) ss)) → IfSome r (λ known. IfOk known (λ p. slot_entry (slot_at ss p) ≡ lookup_entry (λ v. eq v x) (entries ss)))
+  known-lookup None some = tt
+  known-lookup (Some (Ok p)) some = entry_at-lookup (Some p) some tt
+  known-lookup (Some (Err e)) some = tt

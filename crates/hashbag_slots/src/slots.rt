@@ -16,8 +16,7 @@ ghost use Rattle.hashbag_slots.specs.Columns.{IsReached, IsAlike};
 
 use crate::cells::Cells;
 use crate::tags::{
-    LEAST_MARK, MOVED, REMOVED, drop_values, empty_tags, find_place, free_place, mark_of,
-    near_place, seek_place,
+    LEAST_MARK, MOVED, REMOVED, drop_values, empty_tags, find_place, free_place, look_near, mark_of,
 };
 use crate::walk::{IntoWalk, Walk};
 use std::alloc::{AllocError, Global};
@@ -309,34 +308,24 @@ impl<T: Eq + Hash> Slots<T> {
         find_place(self.tags.as_slice(), &self.cells, state, hash, value)
     }
 
-    /// The place of the Live slot with an equal value where that slot is among the first 16 on the path of a hash, as it is for nearly
-    /// all values that are present. `None` says nothing.
+    /// What the first 16 slots on the path of a value's hash tell, which is handed in: in `Ok` the place of the Live slot with an
+    /// equal value, in `Err`, where the value is absent, the first place whose slot is not Live, into which `place_at` puts it.
+    /// `None` where they don't tell, or where the table ends before the sixteenth: `find_hashed` then does.
     #[inline(always)]
-    pub fn find_near(&self, hash: u64, value: &T) -> Option<usize>
-        ensures found { IfSome result (HoldsAt (λ v. T.eq v value.now) self.now.slots) }
-        ensures map { IfSome result (λ p. entry_at self.now.slots (Some p) ≡ lookup_entry (λ v. T.eq v value.now) (entries self.now.slots)) }
-    {
-        near_place(self.tags.as_slice(), &self.cells, hash, value)
-    }
-
-    /// As `find_hashed`, but where the value is absent it answers the first place on the path of its hash whose slot is not Live,
-    /// into which `place_at` puts it. Not all slots are Live.
-    #[inline(always)]
-    pub fn seek_hashed<S: BuildHasher>(
+    pub fn seek_near<S: BuildHasher>(
         &self,
         state: &S,
         hash: u64,
         value: &T,
-    ) -> Result<usize, usize>
+    ) -> Option<Result<usize, usize>>
         requires hashed { hash ≡ hash_under T.hash_input S.BuildHasher S.Hasher.Hasher state.now value.now }
         requires reached { IsReached (hash_under T.hash_input S.BuildHasher S.Hasher.Hasher state.now) self.now }
-        requires room { live_count self.now.slots < length self.now.slots }
-        ensures found { IfOk result (HoldsAt (λ v. T.eq v value.now) self.now.slots) }
-        ensures absent { OnErr result (IsAbsent (λ v. T.eq v value.now) self.now.slots) }
-        ensures free { IfErr result (IsFirstFree hash self.now.slots) }
-        ensures map { IfOk result (λ p. entry_at self.now.slots (Some p) ≡ lookup_entry (λ v. T.eq v value.now) (entries self.now.slots)) }
+        ensures found { IfSome result (λ known. IfOk known (HoldsAt (λ v. T.eq v value.now) self.now.slots)) }
+        ensures absent { IfSome result (λ known. OnErr known (IsAbsent (λ v. T.eq v value.now) self.now.slots)) }
+        ensures free { IfSome result (λ known. IfErr known (IsFirstFree hash self.now.slots)) }
+        ensures map { IfSome result (λ known. IfOk known (λ p. entry_at self.now.slots (Some p) ≡ lookup_entry (λ v. T.eq v value.now) (entries self.now.slots))) }
     {
-        seek_place(self.tags.as_slice(), &self.cells, state, hash, value)
+        look_near(self.tags.as_slice(), &self.cells, state, hash, value)
     }
 
     /// Puts in an absent value with the count `n`. It goes into the first slot on its path that is not Live, and all others

@@ -146,10 +146,10 @@ fn find_among<T: Eq>(
     None
 }
 
-// What the first 16 slots of a path tell of a value: its place, or that it is absent, and then the first of them that is not Live.
-// `None` where they don't tell, or the last slot of the table is among them.
+/// What the first 16 slots of a path tell of a value: its place, or that it is absent, and then the first of them that is not Live.
+/// `None` where they don't tell, or where the table ends before the sixteenth.
 #[inline(always)]
-fn look_near<T: Eq + Hash, S: BuildHasher>(
+pub fn look_near<T: Eq + Hash, S: BuildHasher>(
     tags: &[u8],
     cells: &Cells<(T, usize)>,
     state: &S,
@@ -197,29 +197,6 @@ fn first_place<T: Eq>(tags: &[u8], cells: &Cells<(T, usize)>, hash: u64, value: 
         return Some(first);
     }
     None
-}
-
-/// The place of the Live slot with an equal value where that slot is among the first 16 on the path of a hash. `None` says nothing.
-#[inline(always)]
-pub fn near_place<T: Eq>(
-    tags: &[u8],
-    cells: &Cells<(T, usize)>,
-    hash: u64,
-    value: &T,
-) -> Option<usize>
-    requires count { IsSlotCount (length tags.now) }
-    requires agree { Agree tags.now cells.now }
-    ensures found { IfSome result (HoldsAt (λ v. T.eq v value.now) (slots_of tags.now cells.now)) }
-{
-    let count = tags.len();
-    if count == 0 {
-        return None;
-    }
-    let first = place_after(hash, 0, count);
-    if first + LANES > count {
-        return None;
-    }
-    find_among(tags, cells, first, mark_of(hash), value)
 }
 
 /// The place of the Live slot with an equal value, if there is one. The value's hash is handed in. It probes until it finds
@@ -286,34 +263,6 @@ pub fn free_place(tags: &[u8], hash: u64) -> usize
         }
     }
     unreachable!()
-}
-
-/// The place of the Live slot with an equal value, or the first place on the value's path whose slot is not Live. Not all slots are
-/// Live.
-#[inline(always)]
-pub fn seek_place<T: Eq + Hash, S: BuildHasher>(
-    tags: &[u8],
-    cells: &Cells<(T, usize)>,
-    state: &S,
-    hash: u64,
-    value: &T,
-) -> Result<usize, usize>
-    requires hashed { hash ≡ hash_under T.hash_input S.BuildHasher S.Hasher.Hasher state.now value.now }
-    requires count { IsSlotCount (length tags.now) }
-    requires agree { Agree tags.now cells.now }
-    requires reached { IsReached (hash_under T.hash_input S.BuildHasher S.Hasher.Hasher state.now) (columns tags.now cells.now) }
-    requires room { live_count (slots_of tags.now cells.now) < length (slots_of tags.now cells.now) }
-    ensures found { IfOk result (HoldsAt (λ v. T.eq v value.now) (slots_of tags.now cells.now)) }
-    ensures absent { IfErr result (λ _. IsAbsent (λ v. T.eq v value.now) (slots_of tags.now cells.now)) }
-    ensures free { IfErr result (IsFirstFree hash (slots_of tags.now cells.now)) }
-{
-    if let Some(known) = look_near(tags, cells, state, hash, value) {
-        return known;
-    }
-    match probe(tags, cells, state, hash, value) {
-        Some(place) => Ok(place),
-        None => Err(free_place(tags, hash)),
-    }
 }
 
 /// The first place from `from` on whose slot is Live.

@@ -6,7 +6,7 @@ ghost use Rattle.std.specs.Prelude.{◌≡◌, ◌+◌, ◌-◌, ◌*◌, ◌<�
 ghost use Rattle.std.specs.Borrow.{sem};
 ghost use Rattle.std.specs.List.Sorted.{IsPermutation};
 ghost use Rattle.hashbag_slots.specs.Hashing.{hash_under};
-ghost use Rattle.hashbag_slots.specs.Slots.{IsSlotCount, entries, IsFirstFree, Places, recounted};
+ghost use Rattle.hashbag_slots.specs.Slots.{IsSlotCount, entries, IsAbsent, IsFirstFree, Places, recounted};
 ghost use Rattle.hashbag_table.specs.Asked.{MayAskInTurn, Retains};
 ghost use Rattle.hashbag_table.specs.Entries.{entry_of, count_of, without, with_count, with_fewer, with_instance, total, IsCounted, HasClones};
 ghost use Rattle.hashbag_table.specs.Tables.{room, values, IsLeast, IsPacked, entries_of, Arrives, NoneMoved, Rewrites};
@@ -199,6 +199,16 @@ impl<T: Eq + Hash + Drop, S: BuildHasher + Drop> Table<T, S> {
         }
     }
 
+    // Whether an absent value can be put in with no way made for it: no slot waits, and there is room.
+    #[inline(always)]
+    fn takes_now(&self) -> bool
+        ensures room { result ≡ true → 0 < room self.now.tables }
+        ensures none_waits { result ≡ true → self.now.tables.waiting ≡ [] }
+        ensures entries { result ≡ true → self.now.entries ≡ entries self.now.tables.newer }
+    {
+        self.older.slots() == 0 && self.room() > 0
+    }
+
     // Places an absent value in the first slot on its path that is not Live, where way was made for it. It takes no memory.
     #[inline(always)]
     fn settle(&mut self, place: usize, hash: u64, value: T, count: usize)
@@ -352,8 +362,7 @@ impl<T: Eq + Hash + Drop, S: BuildHasher + Drop> Table<T, S> {
         Err(0)
     }
 
-    // As `add`, of a value whose hash is handed in, and which isn't among the first 16 slots of its path: look-ups of those that are
-    // there are to be short.
+    // As `add`, of a value whose hash is handed in, wherever it is.
     #[inline(never)]
     fn add_far(&mut self, hash: u64, value: T, n: usize) -> Result<usize, AllocError>
         requires hashed { hash ≡ hash_under T.hash_input S.BuildHasher S.Hasher.Hasher self.old.hasher value }
@@ -374,13 +383,49 @@ impl<T: Eq + Hash + Drop, S: BuildHasher + Drop> Table<T, S> {
         ensures same_room { IfOk result (λ before. 0 < before → room self.old.tables ≤ room self.new.tables) }
     {
         self.recall();
-        match self.locate_or_insert(hash, value, n)? {
-            Some(spot) => {
-                let before = self.raise_spot(spot, n);
-                Ok(before)
-            }
-            None => Ok(0),
+        if let Some(spot) = self.locate(hash, &value) {
+            let before = self.raise_spot(spot, n);
+            return Ok(before);
         }
+        self.insert_hashed(hash, value, n)?;
+        Ok(0)
+    }
+
+    // As `add`, of a value whose hash is handed in and which isn't in the newer table, where `place` is the first on its path whose
+    // slot is not Live.
+    #[inline(never)]
+    fn add_beside(
+        &mut self,
+        place: usize,
+        hash: u64,
+        value: T,
+        n: usize,
+    ) -> Result<usize, AllocError>
+        requires hashed { hash ≡ hash_under T.hash_input S.BuildHasher S.Hasher.Hasher self.old.hasher value }
+        requires apart { IsAbsent (λ w. T.eq w value) self.old.tables.newer }
+        requires free { IsFirstFree hash self.old.tables.newer place }
+        requires some { 0 < n }
+        requires fits { count_of T.eq value self.old.entries + n < 2 ^ 64 }
+        ensures before { IfOk result (λ before. before ≡ count_of T.eq value self.old.entries) }
+        ensures added { OnOk result (IsPermutation (with_count T.eq value (count_of T.eq value self.old.entries + n) self.old.entries) self.new.entries) }
+        ensures hasher { self.new.hasher ≡ self.old.hasher }
+        ensures counted { IsCounted T.eq self.new.entries }
+        ensures absent { OnErr result (entry_of T.eq value self.old.entries ≡ None) }
+        ensures err { OnErr result (self.new ≡ self.old) }
+        ensures takes { 0 < room self.old.tables → IsOk result }
+        ensures slot { IsSome (entry_of T.eq value self.old.entries) → Rewrites (λ w. T.eq w value) (recounted (count_of T.eq value self.old.entries + n)) self.old.tables self.new.tables }
+        ensures arrives { entry_of T.eq value self.old.entries ≡ None → OnOk result (Arrives self.old.tables self.new.tables) }
+        ensures slots { OnOk result (0 < room self.old.tables → length self.new.tables.newer ≡ length self.old.tables.newer) }
+        ensures room { OnOk result (0 < room self.old.tables → room self.old.tables ≤ room self.new.tables + 1) }
+        ensures same_slots { IfOk result (λ before. 0 < before → length self.new.tables.newer ≡ length self.old.tables.newer) }
+        ensures same_room { IfOk result (λ before. 0 < before → room self.old.tables ≤ room self.new.tables) }
+    {
+        self.recall();
+        if self.takes_now() {
+            self.settle(place, hash, value, n);
+            return Ok(0);
+        }
+        self.add_far(hash, value, n)
     }
 
     /// Adds `n` to the count of a value, and answers what the count was, 0 where the value was absent.
@@ -406,11 +451,14 @@ impl<T: Eq + Hash + Drop, S: BuildHasher + Drop> Table<T, S> {
         ensures same_room { IfOk result (λ before. 0 < before → room self.old.tables ≤ room self.new.tables) }
     {
         let hash = self.hash(&value);
-        if let Some(spot) = self.locate_near(hash, &value) {
-            let before = self.raise_spot(spot, n);
-            return Ok(before);
+        match self.look_near(hash, &value) {
+            Some(Ok(spot)) => {
+                let before = self.raise_spot(spot, n);
+                Ok(before)
+            }
+            Some(Err(place)) => self.add_beside(place, hash, value, n),
+            None => self.add_far(hash, value, n),
         }
-        self.add_far(hash, value, n)
     }
 
     /// Stores a value itself with the count 1, and answers what the count was, 0 where the value was absent. An instance that

@@ -1,16 +1,15 @@
 //! Spots: where in the two tables of slots a value is, and what is changed there.
-ghost use Rattle.std.specs.Prelude.{◌≡◌, ◌+◌, ◌-◌, ◌<◌, ◌^◌, ℕ, [], ◌∷◌, true, Some, None, IfSome, IfNone, IfOk, IfErr, OnErr, IsOk, IsSome, slice_set};
+ghost use Rattle.std.specs.Prelude.{◌≡◌, ◌+◌, ◌-◌, ◌<◌, ◌^◌, ℕ, [], ◌∷◌, true, Some, None, IfSome, IfNone, IfOk, IfErr, OnErr, IsSome, slice_set};
 ghost use Rattle.std.specs.List.Sorted.{IsPermutation};
 ghost use Rattle.std.specs.Map.{lookup_entry};
 ghost use Rattle.hashbag_slots.specs.Hashing.{hash_under};
-ghost use Rattle.hashbag_slots.specs.Slots.{entries, entry_at, is_live, HoldsAt, IsFirstFree, recounted, holds, slot_at, count_in};
+ghost use Rattle.hashbag_slots.specs.Slots.{entries, entry_at, is_live, HoldsAt, IsAbsent, IsFirstFree, recounted, holds, slot_at, count_in};
 ghost use Rattle.hashbag_slots.specs.Columns.{IsReached, IsAlike};
-ghost use Rattle.hashbag_table.specs.Entries.{entry_of, with_instance, IsCounted};
-ghost use Rattle.hashbag_table.specs.Tables.{room, Arrives, slot_in, HoldsIn, entry_in, Writes, Swaps};
+ghost use Rattle.hashbag_table.specs.Entries.{entry_of, IsCounted};
+ghost use Rattle.hashbag_table.specs.Tables.{slot_in, HoldsIn, entry_in, Writes, Swaps};
 
 use crate::table::{Spot, Table};
 use hashbag_slots::slots::{Slot, Slots};
-use std::alloc::AllocError;
 use std::hash::{BuildHasher, Hash};
 
 // Stores another equal instance at a place, with the count 1, and gives the former one back.
@@ -78,78 +77,23 @@ impl<T: Eq + Hash + Drop, S: BuildHasher + Drop> Table<T, S> {
         }
     }
 
-    // As `locate`, of a value that is among the first 16 slots of its path in the newer table. `None` says nothing.
+    // What the first 16 slots of a value's path in the newer table tell: where the value is, or that it isn't in the newer table, and
+    // then the place there into which it is put. `None` where they don't tell.
     #[inline(always)]
-    pub(super) fn locate_near(&self, hash: u64, value: &T) -> Option<Spot>
-        ensures map { IfSome result (λ spot. entry_in self.now.tables (Some spot) ≡ entry_of T.eq value.now self.now.entries) }
-        ensures held { IfSome result (HoldsIn (λ w. T.eq w value.now) self.now.tables) }
+    pub(super) fn look_near(&self, hash: u64, value: &T) -> Option<Result<Spot, usize>>
+        requires hashed { hash ≡ hash_under T.hash_input S.BuildHasher S.Hasher.Hasher self.now.hasher value.now }
+        ensures map { IfSome result (λ known. IfOk known (λ spot. entry_in self.now.tables (Some spot) ≡ entry_of T.eq value.now self.now.entries)) }
+        ensures held { IfSome result (λ known. IfOk known (HoldsIn (λ w. T.eq w value.now) self.now.tables)) }
+        ensures absent { IfSome result (λ known. OnErr known (IsAbsent (λ w. T.eq w value.now) self.now.tables.newer)) }
+        ensures free { IfSome result (λ known. IfErr known (IsFirstFree hash self.now.tables.newer)) }
         ensures counted { IsCounted T.eq self.now.entries }
     {
         self.recall();
-        match self.newer.find_near(hash, value) {
-            Some(place) => Some(Spot::Newer(place)),
+        match self.newer.seek_near(&self.hasher, hash, value) {
+            Some(Ok(place)) => Some(Ok(Spot::Newer(place))),
+            Some(Err(place)) => Some(Err(place)),
             None => None,
         }
-    }
-
-    // Where a value is, or the place in the newer table into which it is put, where no slot waits and there is room. `None` where
-    // that isn't so.
-    #[inline(always)]
-    pub(super) fn seek(&self, hash: u64, value: &T) -> Option<Result<Spot, usize>>
-        requires hashed { hash ≡ hash_under T.hash_input S.BuildHasher S.Hasher.Hasher self.now.hasher value.now }
-        ensures map { IfSome result (λ r. IfOk r (λ spot. entry_in self.now.tables (Some spot) ≡ entry_of T.eq value.now self.now.entries)) }
-        ensures held { IfSome result (λ r. IfOk r (HoldsIn (λ w. T.eq w value.now) self.now.tables)) }
-        ensures absent { IfSome result (λ r. IfErr r (λ _. entry_of T.eq value.now self.now.entries ≡ None)) }
-        ensures free { IfSome result (λ r. IfErr r (IsFirstFree hash self.now.tables.newer)) }
-        ensures room { IsSome result → 0 < room self.now.tables }
-        ensures none_waits { IsSome result → self.now.tables.waiting ≡ [] }
-    {
-        if self.older.slots() > 0 || self.room() == 0 {
-            return None;
-        }
-        match self.newer.seek_hashed(&self.hasher, hash, value) {
-            Ok(place) => Some(Ok(Spot::Newer(place))),
-            Err(place) => Some(Err(place)),
-        }
-    }
-
-    // Where a value is. One that is absent is put in with a count, and is nowhere.
-    #[inline(always)]
-    pub(super) fn locate_or_insert(
-        &mut self,
-        hash: u64,
-        value: T,
-        n: usize,
-    ) -> Result<Option<Spot>, AllocError>
-        requires hashed { hash ≡ hash_under T.hash_input S.BuildHasher S.Hasher.Hasher self.old.hasher value }
-        requires some { 0 < n }
-        ensures present { IfOk result (λ at. IsSome at → self.new ≡ self.old) }
-        ensures map { IfOk result (λ at. IfSome at (λ spot. entry_in self.old.tables (Some spot) ≡ entry_of T.eq value self.old.entries)) }
-        ensures held { IfOk result (λ at. IfSome at (HoldsIn (λ w. T.eq w value) self.old.tables)) }
-        ensures nowhere { IfOk result (λ at. IfNone at (entry_of T.eq value self.old.entries ≡ None)) }
-        ensures inserted { IfOk result (λ at. IfNone at (IsPermutation (with_instance T.eq value n self.old.entries) self.new.entries)) }
-        ensures arrives { IfOk result (λ at. IfNone at (Arrives self.old.tables self.new.tables)) }
-        ensures hasher { self.new.hasher ≡ self.old.hasher }
-        ensures counted { IsCounted T.eq self.new.entries }
-        ensures absent { OnErr result (entry_of T.eq value self.old.entries ≡ None) }
-        ensures err { OnErr result (self.new ≡ self.old) }
-        ensures takes { 0 < room self.old.tables → IsOk result }
-    {
-        self.recall();
-        if let Some(sought) = self.seek(hash, &value) {
-            return match sought {
-                Ok(spot) => Ok(Some(spot)),
-                Err(place) => {
-                    self.settle(place, hash, value, n);
-                    Ok(None)
-                }
-            };
-        }
-        if let Some(spot) = self.locate(hash, &value) {
-            return Ok(Some(spot));
-        }
-        self.insert_hashed(hash, value, n)?;
-        Ok(None)
     }
 
     // Gives the value at a spot another count.
