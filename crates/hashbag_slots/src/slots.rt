@@ -156,8 +156,8 @@ impl<T: Eq> Slots<T> {
         requires { is_live (slot_at self.now.slots place) ≡ true }
         ensures { Some (result.0.now, result.1) ≡ slot_entry (slot_at self.now.slots place) }
     {
-        let entry = self.cells.get(place);
-        (&entry.0, entry.1)
+        let (value, count) = self.cells.get(place);
+        (value, *count)
     }
 
     /// Gives the value at a place the count `n`. The slot is Live.

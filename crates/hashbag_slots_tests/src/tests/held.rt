@@ -67,31 +67,23 @@ impl<T: Eq + Hash + Drop, S: BuildHasher + Drop> Held<T, S> {
         self.slots.find(&self.state, value)
     }
 
-    /// The place of a value that is in the first slot of its path.
-    pub fn find_first(&self, value: &T) -> Option<usize> {
-        self.slots.find_first(hash_of(&self.state, value), value)
+    /// What the first 16 slots of a value's path tell: its place, or the one into which it would go.
+    pub fn seek(&self, value: &T) -> Option<Result<usize, usize>> {
+        let hash = hash_of(&self.state, value);
+        self.slots.seek_near(&self.state, hash, value)
     }
 
-    /// The place of a value, or the one into which it would go. `None` where all slots are Live.
-    pub fn seek(&self, value: &T) -> Option<Result<usize, usize>> {
-        if self.slots.live() >= self.slots.slots() {
+    /// As `place`, where the first 16 slots of the path tell whether the value is absent.
+    pub fn place_sought(&mut self, value: T, n: usize) -> Option<bool> {
+        if n == 0 {
             return None;
         }
-        let hash = hash_of(&self.state, value);
-        Some(self.slots.seek_hashed(&self.state, hash, value))
-    }
-
-    /// As `place`, by one probe.
-    pub fn place_sought(&mut self, value: T, n: usize) -> bool {
-        if n == 0 || self.slots.live() >= self.slots.slots() {
-            return false;
-        }
         let hash = hash_of(&self.state, &value);
-        match self.slots.seek_hashed(&self.state, hash, &value) {
-            Ok(_) => false,
+        match self.slots.seek_near(&self.state, hash, &value)? {
+            Ok(_) => Some(false),
             Err(place) => {
                 self.slots.place_at(place, &self.state, hash, value, n);
-                true
+                Some(true)
             }
         }
     }
@@ -99,10 +91,10 @@ impl<T: Eq + Hash + Drop, S: BuildHasher + Drop> Held<T, S> {
     /// The count of a value, 0 where it is absent.
     pub fn count(&self, value: &T) -> usize {
         match self.slots.find(&self.state, value) {
-            Some(place) => match self.slots.at(place) {
-                Some((_, n)) => n,
-                None => 0,
-            },
+            Some(place) => {
+                let (_, n) = self.slots.live_at(place);
+                n
+            }
             None => 0,
         }
     }

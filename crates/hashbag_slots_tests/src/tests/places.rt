@@ -151,20 +151,15 @@ fn past_removed(rt: HostRuntime) -> Result<(), Fail> {
     Ok(())
 }
 
-// Checks where values are, or into which slot they would go.
-fn are_sought(rt: &impl Abort, table: &Numbers, rows: &[(u64, Result<usize, usize>)]) {
+// Checks what the first 16 slots of a path tell: where values are, or into which slot they would go.
+fn are_sought(rt: &impl Abort, table: &Numbers, rows: &[(u64, Option<Result<usize, usize>>)]) {
     for (value, place) in rows {
-        answers(rt, "seek", *value, &table.seek(value), &Some(*place));
+        answers(rt, "seek", *value, &table.seek(value), place);
     }
 }
 
-// Checks the place of a value that is in the first slot of its path.
-fn is_first_at(rt: &impl Abort, table: &Numbers, value: u64, place: Option<usize>) {
-    answers(rt, "find_first", value, &table.find_first(&value), &place);
-}
-
-// Checks whether a value could be placed by one probe.
-fn place_sought(rt: &impl Abort, table: &mut Numbers, value: u64, placed: bool) {
+// Checks whether a value could be placed where they tell it.
+fn place_sought(rt: &impl Abort, table: &mut Numbers, value: u64, placed: Option<bool>) {
     answers(
         rt,
         "place_sought",
@@ -174,7 +169,7 @@ fn place_sought(rt: &impl Abort, table: &mut Numbers, value: u64, placed: bool) 
     );
 }
 
-// One probe finds a value, or the first slot on its path that is not Live, a Removed one too.
+// One look finds a value, or the first slot on its path that is not Live, a Removed one too.
 #[test]
 fn sought(rt: HostRuntime) -> Result<(), Fail> {
     let mut table = numbers(&rt, rt.alloc(), 0, 4)?;
@@ -184,41 +179,52 @@ fn sought(rt: HostRuntime) -> Result<(), Fail> {
         &rt,
         &table,
         &[
-            (1, Err(0)),
-            (2, Ok(1)),
-            (3, Err(0)),
-            (4, Ok(3)),
-            (9, Err(0)),
+            (1, Some(Err(0))),
+            (2, Some(Ok(1))),
+            (3, Some(Err(0))),
+            (4, Some(Ok(3))),
+            (9, Some(Err(0))),
         ],
     );
-    is_first_at(&rt, &table, 2, None);
-    place_sought(&rt, &mut table, 9, true);
-    is_first_at(&rt, &table, 9, Some(0));
-    are_sought(&rt, &table, &[(8, Err(2)), (9, Ok(0))]);
-    place_sought(&rt, &mut table, 9, false);
+    place_sought(&rt, &mut table, 9, Some(true));
+    are_sought(&rt, &table, &[(8, Some(Err(2))), (9, Some(Ok(0)))]);
+    place_sought(&rt, &mut table, 9, Some(false));
     has_slots(&rt, &table.slots, (16, 3, 1));
     Ok(())
 }
 
-// The path goes past the last slot.
+// The path goes past the last slot, which is no longer told.
 #[test]
 fn sought_past_the_last_slot(rt: HostRuntime) -> Result<(), Fail> {
     let mut table = numbers(&rt, rt.alloc(), 15, 3)?;
-    are_sought(&rt, &table, &[(1, Ok(15)), (3, Ok(1)), (4, Err(2))]);
-    take(&rt, &mut table, 2, 2);
-    are_sought(&rt, &table, &[(3, Ok(1)), (4, Err(0))]);
+    are_sought(&rt, &table, &[(1, None), (3, None), (4, None)]);
+    place_sought(&rt, &mut table, 4, None);
+    has_slots(&rt, &table.slots, (16, 3, 0));
     Ok(())
 }
 
+// The path ends with the last slot.
+#[test]
+fn sought_up_to_the_last_slot(rt: HostRuntime) -> Result<(), Fail> {
+    let mut table: Numbers = Held::new(rt.alloc(), Constant { hash: 16 }, 5)?;
+    for value in 1..=15 {
+        place(&rt, &mut table, value, 1);
+    }
+    are_sought(&rt, &table, &[(15, Some(Ok(30))), (16, Some(Err(31)))]);
+    place_sought(&rt, &mut table, 16, Some(true));
+    are_sought(&rt, &table, &[(16, Some(Ok(31))), (17, None)]);
+    Ok(())
+}
+
+// That none of 16 slots is Empty doesn't tell whether a value is absent.
 #[test]
 fn sought_among_all_live(rt: HostRuntime) -> Result<(), Fail> {
     let mut table = numbers(&rt, rt.alloc(), 0, 16)?;
-    answers(&rt, "seek", 1, &table.seek(&1), &None);
-    is_first_at(&rt, &table, 1, Some(0));
+    are_sought(&rt, &table, &[(1, Some(Ok(0))), (17, None)]);
     take(&rt, &mut table, 7, 7);
-    are_sought(&rt, &table, &[(16, Ok(15)), (17, Err(6))]);
-    place_sought(&rt, &mut table, 17, true);
-    lie_at(&rt, &table, &[(17, Some(6)), (7, None)]);
+    are_sought(&rt, &table, &[(7, None), (16, Some(Ok(15))), (17, None)]);
+    place_sought(&rt, &mut table, 17, None);
+    lie_at(&rt, &table, &[(17, None), (16, Some(15))]);
     Ok(())
 }
 

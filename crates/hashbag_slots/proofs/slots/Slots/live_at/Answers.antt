@@ -3,12 +3,12 @@ use Rattle.hashbag_slots.specs.Slots.{is_live, slot_entry, slot_at}
 use Rattle.hashbag_slots.proofs.Reading.{marked_at, live_at}
 use Rattle.hashbag_slots.proofs.slots.Slots.live_at.Goals as goal
 
-pub get-entry-requires : goal.get-entry-requires
-get-entry-requires g c =
+pub get-requires : goal.get-requires
+get-requires g c =
     let m = marked_at c.self.inside.tags.items c.self.inside.cells c.self.invariant.agree c.args.place (ap (λ s. is_live (slot_at s.slots c.args.place)) c.self.view_is ∙ c.requires) in
     (m.1, m.2)
 
 pub returns : goal.returns
 returns g c =
     let ts = c.self.inside.tags.items in let cs = c.self.inside.cells in
-    sym (ap (λ s. slot_entry (slot_at s.slots c.args.place)) (sym c.self.view_is) ∙ ap slot_entry (live_at ts cs c.self.invariant.agree c.args.place c.get-entry.result.now c.get-entry.ensures))
+    sym (ap (λ s. slot_entry (slot_at s.slots c.args.place)) (sym c.self.view_is) ∙ ap slot_entry (live_at ts cs c.self.invariant.agree c.args.place c.get.result.now c.get.ensures))
