@@ -210,7 +210,7 @@ impl<T: Eq + Hash + Drop, S: BuildHasher + Drop> Table<T, S> {
     }
 
     // Places an absent value in the first slot on its path that is not Live, where way was made for it. It takes no memory.
-    #[inline(always)]
+    #[inline(never)]
     fn settle(&mut self, place: usize, hash: u64, value: T, count: usize)
         requires hashed { hash ≡ hash_under T.hash_input S.BuildHasher S.Hasher.Hasher self.old.hasher value }
         requires free { IsFirstFree hash self.old.tables.newer place }
@@ -362,7 +362,8 @@ impl<T: Eq + Hash + Drop, S: BuildHasher + Drop> Table<T, S> {
         Err(0)
     }
 
-    // As `add`, of a value whose hash is handed in, wherever it is.
+    // As `add`, of a value whose hash is handed in, wherever it is: look-ups of those near the beginning of their paths are to be
+    // short.
     #[inline(never)]
     fn add_far(&mut self, hash: u64, value: T, n: usize) -> Result<usize, AllocError>
         requires hashed { hash ≡ hash_under T.hash_input S.BuildHasher S.Hasher.Hasher self.old.hasher value }
@@ -391,43 +392,6 @@ impl<T: Eq + Hash + Drop, S: BuildHasher + Drop> Table<T, S> {
         Ok(0)
     }
 
-    // As `add`, of a value whose hash is handed in and which isn't in the newer table, where `place` is the first on its path whose
-    // slot is not Live.
-    #[inline(never)]
-    fn add_beside(
-        &mut self,
-        place: usize,
-        hash: u64,
-        value: T,
-        n: usize,
-    ) -> Result<usize, AllocError>
-        requires hashed { hash ≡ hash_under T.hash_input S.BuildHasher S.Hasher.Hasher self.old.hasher value }
-        requires apart { IsAbsent (λ w. T.eq w value) self.old.tables.newer }
-        requires free { IsFirstFree hash self.old.tables.newer place }
-        requires some { 0 < n }
-        requires fits { count_of T.eq value self.old.entries + n < 2 ^ 64 }
-        ensures before { IfOk result (λ before. before ≡ count_of T.eq value self.old.entries) }
-        ensures added { OnOk result (IsPermutation (with_count T.eq value (count_of T.eq value self.old.entries + n) self.old.entries) self.new.entries) }
-        ensures hasher { self.new.hasher ≡ self.old.hasher }
-        ensures counted { IsCounted T.eq self.new.entries }
-        ensures absent { OnErr result (entry_of T.eq value self.old.entries ≡ None) }
-        ensures err { OnErr result (self.new ≡ self.old) }
-        ensures takes { 0 < room self.old.tables → IsOk result }
-        ensures slot { IsSome (entry_of T.eq value self.old.entries) → Rewrites (λ w. T.eq w value) (recounted (count_of T.eq value self.old.entries + n)) self.old.tables self.new.tables }
-        ensures arrives { entry_of T.eq value self.old.entries ≡ None → OnOk result (Arrives self.old.tables self.new.tables) }
-        ensures slots { OnOk result (0 < room self.old.tables → length self.new.tables.newer ≡ length self.old.tables.newer) }
-        ensures room { OnOk result (0 < room self.old.tables → room self.old.tables ≤ room self.new.tables + 1) }
-        ensures same_slots { IfOk result (λ before. 0 < before → length self.new.tables.newer ≡ length self.old.tables.newer) }
-        ensures same_room { IfOk result (λ before. 0 < before → room self.old.tables ≤ room self.new.tables) }
-    {
-        self.recall();
-        if self.takes_now() {
-            self.settle(place, hash, value, n);
-            return Ok(0);
-        }
-        self.add_far(hash, value, n)
-    }
-
     /// Adds `n` to the count of a value, and answers what the count was, 0 where the value was absent.
     ///
     /// A stored instance stays, and the value handed in is dropped. It is hashed once. A value that is present takes no memory.
@@ -454,11 +418,17 @@ impl<T: Eq + Hash + Drop, S: BuildHasher + Drop> Table<T, S> {
         match self.look_near(hash, &value) {
             Some(Ok(spot)) => {
                 let before = self.raise_spot(spot, n);
-                Ok(before)
+                return Ok(before);
             }
-            Some(Err(place)) => self.add_beside(place, hash, value, n),
-            None => self.add_far(hash, value, n),
+            Some(Err(place)) => {
+                if self.takes_now() {
+                    self.settle(place, hash, value, n);
+                    return Ok(0);
+                }
+            }
+            None => {}
         }
+        self.add_far(hash, value, n)
     }
 
     /// Stores a value itself with the count 1, and answers what the count was, 0 where the value was absent. An instance that

@@ -1,10 +1,24 @@
-use Rattle.std.proofs.Common.{◌≡◌, subst}
-use Rattle.std.specs.Prelude.{IfOk}
-use Rattle.hashbag_slots.specs.Slots.{slot_entry}
+use Rattle.std.proofs.Common.{◌≡◌, ◌∷◌, ℕ, Bool, List, None, refl, sym, ap, subst, ◌∙◌}
+use Rattle.std.specs.Cmp.{IsEquivalence}
+use Rattle.std.specs.Option.{IsSome}
+use Rattle.std.specs.Prelude.{IfOk, OnErr}
+use Rattle.std.specs.List.Sorted.{IsPermutation}
+use Rattle.std.specs.Map.{lookup_entry}
+use Rattle.hashbag_slots.specs.declared.slots.Slot.{Slot}
+use Rattle.hashbag_slots.specs.Slots.{IsAbsent, entries, slot_entry}
+use Rattle.hashbag_slots.proofs.Maps.{lookup-IsAbsent}
 use Rattle.hashbag_table.specs.Entries.{entry_of}
 use Rattle.hashbag_table.specs.Tables.{HoldsIn, slot_in}
+use Rattle.hashbag_table.proofs.CarryLemmas.{arrives_from, ready_alone}
+use Rattle.hashbag_table.proofs.EntryLemmas.{without_absent}
 use Rattle.hashbag_table.proofs.RaisedLemmas.{raised_fits, raised_before, raised_added, raised_slot, raised_kept}
+use Rattle.hashbag_table.proofs.SlotLemmas.{turned}
+use Rattle.hashbag_table.proofs.SpotLemmas.{count_absent, added_absent}
 use Rattle.hashbag_table.proofs.table.Table.add.Goals as goal
+
+-- a value that is in no slot of the one table is absent
+absent : {T : Type 0} (eq : T → T → Bool) (laws : IsEquivalence eq) (v : T) (newer : List (Slot T)) (es : List (T × ℕ)) → es ≡ entries newer → IsAbsent (λ w. eq w v) newer → lookup_entry (eq v) es ≡ None
+absent eq laws v newer es is apart = ap (lookup_entry (eq v)) is ∙ sym (turned eq laws v (entries newer)) ∙ lookup-IsAbsent (λ w. eq w v) newer apart
 
 pub raise_spot-before-requires-clause-fits : goal.raise_spot-before-requires-clause-fits
 raise_spot-before-requires-clause-fits g c =
@@ -37,3 +51,33 @@ returns-in-Some-Ok-clause-slots g c some =
     let held = subst (λ r. IfOk r (HoldsIn (λ w. g.T.PartialEq.eq w c.args.value) c.args.self.now.tables)) c.in-Some-Ok.field-0-is c.in-Some-Ok.ensures.held in
     (raised_kept g.T.PartialEq.eq c.args.value c.args.n c.args.self.now.entries c.args.self.now.tables c.in-Some-Ok.spot is held c.raise_spot-before.result c.raise_spot-before.ensures.before
     c.raise_spot-before.new.self.tables c.raise_spot-before.ensures.after).0
+
+pub settle-requires-clause-absent : goal.settle-requires-clause-absent
+settle-requires-clause-absent g c =
+    let apart = subst (λ r. OnErr r (IsAbsent (λ w. g.T.PartialEq.eq w c.args.value) c.args.self.now.tables.newer)) c.in-Some-Err.field-0-is c.in-Some-Err.ensures.absent in
+    absent g.T.PartialEq.eq g.met.T.Eq.laws c.args.value c.args.self.now.tables.newer c.args.self.now.entries (c.takes_now.ensures.entries c.if-takes_now.true) apart
+
+pub returns-then-takes_now-clause-before : goal.returns-then-takes_now-clause-before
+returns-then-takes_now-clause-before g c =
+    let apart = subst (λ r. OnErr r (IsAbsent (λ w. g.T.PartialEq.eq w c.args.value) c.args.self.now.tables.newer)) c.in-Some-Err.field-0-is c.in-Some-Err.ensures.absent in
+    let eq = g.T.PartialEq.eq in let v = c.args.value in let es = c.args.self.now.entries in
+    sym (count_absent eq v es (absent eq g.met.T.Eq.laws v c.args.self.now.tables.newer es (c.takes_now.ensures.entries c.if-takes_now.true) apart))
+
+pub returns-then-takes_now-clause-added : goal.returns-then-takes_now-clause-added
+returns-then-takes_now-clause-added g c =
+    let apart = subst (λ r. OnErr r (IsAbsent (λ w. g.T.PartialEq.eq w c.args.value) c.args.self.now.tables.newer)) c.in-Some-Err.field-0-is c.in-Some-Err.ensures.absent in
+    let eq = g.T.PartialEq.eq in let v = c.args.value in let es = c.args.self.now.entries in
+    let none = absent eq g.met.T.Eq.laws v c.args.self.now.tables.newer es (c.takes_now.ensures.entries c.if-takes_now.true) apart in
+    added_absent eq v es c.args.n c.settle.new.self.entries none
+    (subst (λ rest. IsPermutation ((v, c.args.n) ∷ rest) c.settle.new.self.entries) (sym (without_absent (eq v) es none)) c.settle.ensures.entries)
+
+pub returns-then-takes_now-clause-slot : goal.returns-then-takes_now-clause-slot
+returns-then-takes_now-clause-slot g c some =
+    let apart = subst (λ r. OnErr r (IsAbsent (λ w. g.T.PartialEq.eq w c.args.value) c.args.self.now.tables.newer)) c.in-Some-Err.field-0-is c.in-Some-Err.ensures.absent in
+    let eq = g.T.PartialEq.eq in let v = c.args.value in let es = c.args.self.now.entries in
+    let no = subst IsSome (absent eq g.met.T.Eq.laws v c.args.self.now.tables.newer es (c.takes_now.ensures.entries c.if-takes_now.true) apart) some in absurd (cc)
+
+pub returns-then-takes_now-clause-arrives : goal.returns-then-takes_now-clause-arrives
+returns-then-takes_now-clause-arrives g c none =
+    let t = c.args.self.now.tables in let is = c.if-takes_now.true in
+    arrives_from t t c.settle.new.self.tables c.args.value c.args.n (ready_alone t (c.takes_now.ensures.none_waits is) (c.takes_now.ensures.room is)) c.settle.ensures.placed c.settle.ensures.waiting
