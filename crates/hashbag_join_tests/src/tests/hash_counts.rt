@@ -1,5 +1,5 @@
 //! How often each call on a bag hashes.
-use crate::tests::joins::bag_of;
+use crate::tests::joins::{bag_of, bags_of, quarters};
 use hashbag::script::joins_of;
 use hashbag::{BagError, HashBag};
 use hashbag_bench::states::CountingState;
@@ -230,11 +230,8 @@ fn hashed_since(
 
 // Makes the call of a row on two bags.
 fn both_hash_so_often(alloc: Global, row: &str) -> Result<(), Fail> {
-    let (first, rest) = halves(row, "|")?;
-    let (second, rest) = halves(rest, "|")?;
-    let (call, wanted) = halves(rest, "|")?;
-    let a: CountingBag = bag_of(alloc, first)?;
-    let b: CountingBag = bag_of(alloc, second)?;
+    let (first, second, call, wanted) = quarters(row)?;
+    let (a, b) = bags_of::<CountingState, CountingState>(alloc, first, second)?;
     let start = hashed_by(&a, &b);
     make_call_on_two(alloc, &a, &b, call)?;
     let got = hashed_since(alloc, start, &a, &b)?;

@@ -113,6 +113,25 @@ pub fn bag_of<S: BuildHasher + Default + Drop>(
     bag_of_counts(alloc, S::default(), counts(alloc, text)?.as_slice())
 }
 
+/// The bags with the counts of two texts.
+pub fn bags_of<S: BuildHasher + Default + Drop, S2: BuildHasher + Default + Drop>(
+    alloc: Global,
+    first: &str,
+    second: &str,
+) -> Result<(HashBag<u64, S>, HashBag<u64, S2>), Fail> {
+    let a = bag_of(alloc, first)?;
+    let b = bag_of(alloc, second)?;
+    Ok((a, b))
+}
+
+/// The four parts of a row.
+pub fn quarters(row: &str) -> Result<(&str, &str, &str, &str), Fail> {
+    let (first, rest) = halves(row, "|")?;
+    let (second, rest) = halves(rest, "|")?;
+    let (third, fourth) = halves(rest, "|")?;
+    Ok((first, second, third, fourth))
+}
+
 // The text of some items, rising.
 fn rising<T: Ord + Debug + Copy>(alloc: Global, items: Vec<T>) -> Result<String, Fail> {
     let mut items = items;
@@ -161,11 +180,8 @@ fn is_joined<S: BuildHasher + Default + Drop, S2: BuildHasher + Default + Drop>(
     alloc: Global,
     row: &str,
 ) -> Result<(), Fail> {
-    let (join, rest) = halves(row, "|")?;
-    let (first, rest) = halves(rest, "|")?;
-    let (second, wanted) = halves(rest, "|")?;
-    let a: HashBag<u64, S> = bag_of(alloc, first)?;
-    let b: HashBag<u64, S2> = bag_of(alloc, second)?;
+    let (join, first, second, wanted) = quarters(row)?;
+    let (a, b) = bags_of::<S, S2>(alloc, first, second)?;
     let got = joined(alloc, join, &a, &b)?;
     is_text(row, got.as_str(), wanted)
 }
@@ -284,11 +300,8 @@ fn is_stepped<S: BuildHasher + Default + Drop, S2: BuildHasher + Default + Drop>
     alloc: Global,
     row: &str,
 ) -> Result<(), Fail> {
-    let (join, rest) = halves(row, "|")?;
-    let (first, rest) = halves(rest, "|")?;
-    let (second, wanted) = halves(rest, "|")?;
-    let a: HashBag<u64, S> = bag_of(alloc, first)?;
-    let b: HashBag<u64, S2> = bag_of(alloc, second)?;
+    let (join, first, second, wanted) = quarters(row)?;
+    let (a, b) = bags_of::<S, S2>(alloc, first, second)?;
     for steps in 0..=number_of_words(wanted) {
         let got = steps_of(alloc, join, &a, &b, steps)?;
         has_steps(row, got.as_str(), wanted, steps)?;
@@ -362,8 +375,7 @@ fn is_excess<S: BuildHasher + Drop, S2: BuildHasher + Drop>(
 #[test]
 fn excesses_one_by_one(rt: HostRuntime) -> Result<(), Fail> {
     let alloc = rt.alloc();
-    let a: HashBag<u64, OneState> = bag_of(alloc, "4:1 5:3 6:2 7:1")?;
-    let b: HashBag<u64, IdentityState> = bag_of(alloc, "6:1 7:3 8:1 9:2")?;
+    let (a, b) = bags_of::<OneState, IdentityState>(alloc, "4:1 5:3 6:2 7:1", "6:1 7:3 8:1 9:2")?;
     for row in rows_of(alloc, EXCESSES, 6)? {
         is_excess(alloc, &a, &b, row)?;
     }

@@ -1,7 +1,7 @@
 //! Each value is dropped once, by the call that takes it out or by the bag, while the tables grow, carry and are built anew.
 use hashbag::{BagError, FixedState, HashBag};
 use hashbag_bench::OneState;
-use hashbag_rows::calls;
+use hashbag_rows::calls::{insert, replace_at_once};
 use hashbag_slots_tests::counted::Counted;
 use std::alloc::Global;
 use std::cell::Cell;
@@ -18,22 +18,6 @@ fn value<'a>(drops: &'a Cell<usize>, key: u64) -> Counted<'a> {
     Counted { key, tag: 1, drops }
 }
 
-fn insert<'a, S: BuildHasher + Drop>(
-    bag: &mut HashBag<Counted<'a>, S>,
-    drops: &'a Cell<usize>,
-    key: u64,
-) -> Result<usize, BagError> {
-    calls::insert(bag, value(drops, key))
-}
-
-fn replace<'a, S: BuildHasher + Drop>(
-    bag: &mut HashBag<Counted<'a>, S>,
-    drops: &'a Cell<usize>,
-    key: u64,
-) -> Result<usize, BagError> {
-    calls::replace_at_once(bag, value(drops, key))
-}
-
 // The keys below 25, in a bag in the middle of a carry.
 fn carrying<'a, S: BuildHasher + Drop>(
     rt: &impl Abort,
@@ -43,7 +27,7 @@ fn carrying<'a, S: BuildHasher + Drop>(
 ) -> Result<HashBag<Counted<'a>, S>, Fail> {
     let mut bag = HashBag::with_hasher(alloc, state);
     for key in 0..25 {
-        insert(&mut bag, drops, key)?;
+        insert(&mut bag, value(drops, key))?;
     }
     assert_eq!(rt; bag.waiting(), 16);
     has_dropped(rt, "insertions", drops, 0);
@@ -57,11 +41,11 @@ fn equal_values<'a, S: BuildHasher + Drop>(
     drops: &'a Cell<usize>,
 ) -> Result<(), Fail> {
     for key in 0..25 {
-        insert(bag, drops, key)?;
+        insert(bag, value(drops, key))?;
     }
     has_dropped(rt, "insertions of equal values", drops, 25);
     for key in 0..25 {
-        replace(bag, drops, key)?;
+        replace_at_once(bag, value(drops, key))?;
     }
     has_dropped(rt, "replacements", drops, 50);
     Ok(())
@@ -155,10 +139,10 @@ fn drops_under<S: BuildHasher + Drop>(
     taken_out(rt, &mut bag, &drops, &probes);
     moved_and_retained(rt, &mut bag, &drops)?;
     drained(rt, &mut bag, &drops);
-    insert(&mut bag, &drops, 5)?;
+    insert(&mut bag, value(&drops, 5))?;
     clear(&mut bag);
     has_dropped(rt, "clear", &drops, 76);
-    insert(&mut bag, &drops, 6)?;
+    insert(&mut bag, value(&drops, 6))?;
     drop(bag);
     has_dropped(rt, "the drop of the bag", &drops, 77);
     Ok(())

@@ -1,9 +1,10 @@
 //! Walks over a bag in the middle of a carry, dropped after each number of items.
-use crate::tests::walks::has_left;
+use crate::tests::walks::{has_left, next_of};
 use hashbag::{BagError, FixedState, HashBag};
 use hashbag_bench::{IdentityState, OneState, ParityState};
 use hashbag_rows::texts::{debug_of, is_text};
 use std::alloc::Global;
+use std::fmt::Debug;
 use std::hash::BuildHasher;
 use std::process::Abort;
 use std::test::Fail;
@@ -33,31 +34,46 @@ fn carrying<S: BuildHasher + Drop>(
     Ok(bag)
 }
 
-fn are_all(alloc: Global, walk: &str, got: Vec<u64>) -> Result<(), Fail> {
+fn are_all<T: Ord + Debug + Copy>(alloc: Global, walk: &str, got: Vec<T>) -> Result<(), Fail> {
     let mut got = got;
     got.sort_unstable();
     is_text(walk, debug_of(alloc, &got)?.as_str(), ALL)
 }
 
-// So many items, and then the others.
+// So many items of a walk.
+fn first_items<I: ExactSizeIterator>(
+    rt: &impl Abort,
+    alloc: Global,
+    name: &str,
+    walk: &mut I,
+    taken: usize,
+) -> Result<Vec<I::Item>, Fail>
+where
+    I::Item: Drop,
+    requires any { (state : _) → I.can_next state }
+{
+    let mut got = Vec::new(alloc);
+    for _ in 0..taken {
+        let Some(item) = next_of(walk) else {
+            return Err(Fail::new(format_args!("{name} ends early")));
+        };
+        got.push(item)?;
+    }
+    has_left(rt, walk, VALUES.saturating_sub(taken));
+    Ok(got)
+}
+
+// So many items, and then the others, of a clone.
 fn items<S: BuildHasher + Drop>(
     rt: &impl Abort,
     alloc: Global,
     bag: &HashBag<u64, S>,
     taken: usize,
 ) -> Result<(), Fail> {
-    let mut got = Vec::new(alloc);
     let mut walk = bag.iter();
-    for _ in 0..taken {
-        let Some(value) = walk.next() else {
-            return Err(Fail::new("the walk ends early"));
-        };
-        got.push(*value)?;
-    }
-    has_left(rt, &walk, VALUES.saturating_sub(taken));
-    let again = walk.clone()?;
-    for value in again {
-        got.push(*value)?;
+    let mut got = first_items(rt, alloc, "iter", &mut walk, taken)?;
+    for value in walk.clone()? {
+        got.push(value)?;
     }
     are_all(alloc, "iter", got)
 }
@@ -68,43 +84,44 @@ fn values<S: BuildHasher + Drop>(
     bag: &HashBag<u64, S>,
     taken: usize,
 ) -> Result<(), Fail> {
-    let mut got = Vec::new(alloc);
     let mut walk = bag.set_iter();
-    for _ in 0..taken {
-        let Some((value, _)) = walk.next() else {
-            return Err(Fail::new("the set walk ends early"));
-        };
+    let mut got = Vec::new(alloc);
+    for (value, _) in first_items(rt, alloc, "set_iter", &mut walk, taken)? {
         got.push(*value)?;
     }
-    has_left(rt, &walk, VALUES.saturating_sub(taken));
     for (value, _) in walk {
         got.push(*value)?;
     }
     are_all(alloc, "set_iter", got)
 }
 
-fn drained<S: BuildHasher + Drop>(rt: &impl Abort, bag: &mut HashBag<u64, S>, taken: usize) -> u64 {
+// The sum of so many values of a walk that owns them.
+fn sum_of_first<I: ExactSizeIterator<Item = (u64, usize)> + Drop>(
+    rt: &impl Abort,
+    name: &str,
+    walk: I,
+    taken: usize,
+) -> u64
+where
+    requires any { (state : _) → I.can_next state }
+{
     let mut sum = 0u64;
-    let mut walk = bag.drain();
+    let mut walk = walk;
     for _ in 0..taken {
-        let (value, count) = walk.next().unwrap_or((0, 0));
+        let (value, count) = next_of(&mut walk).unwrap_or((0, 0));
         sum = sum.saturating_add(value);
-        assert_eq!(rt; count, 1, "of {value}");
+        assert_eq!(rt; count, 1, "of {value} by {name}");
     }
     has_left(rt, &walk, VALUES.saturating_sub(taken));
     sum
 }
 
+fn drained<S: BuildHasher + Drop>(rt: &impl Abort, bag: &mut HashBag<u64, S>, taken: usize) -> u64 {
+    sum_of_first(rt, "drain", bag.drain(), taken)
+}
+
 fn moved<S: BuildHasher + Drop>(rt: &impl Abort, bag: HashBag<u64, S>, taken: usize) -> u64 {
-    let mut sum = 0u64;
-    let mut walk = bag.into_iter();
-    for _ in 0..taken {
-        let (value, count) = walk.next().unwrap_or((0, 0));
-        sum = sum.saturating_add(value);
-        assert_eq!(rt; count, 1, "of {value}");
-    }
-    has_left(rt, &walk, VALUES.saturating_sub(taken));
-    sum
+    sum_of_first(rt, "into_iter", bag.into_iter(), taken)
 }
 
 // The sum of so many different numbers below 25 is at least that of the least ones, and all together have the sum 300.

@@ -1,5 +1,5 @@
 //! Walks over the bag, with the items found by hand, and the texts of `Debug`.
-use hashbag::{FixedState, HashBag, Iter};
+use hashbag::{Drain, FixedState, HashBag, IntoIter, Iter, SetIter};
 use hashbag_bench::uses::{
     first_moved_out, moved_out, number_by_loop, number_of_items, sum_by_loop, sum_of_counts,
     sum_used_up,
@@ -111,53 +111,71 @@ fn is_sample<S: BuildHasher + Drop>(
     Ok(())
 }
 
-// Takes some of the occurrences and drops the walk.
-fn some_items<S: BuildHasher + Drop>(rt: &impl Abort, bag: &HashBag<u64, S>, taken: usize) {
-    let mut walk = bag.iter();
-    for _ in 0..taken {
-        assert!(rt; walk.next().is_some(), "before {taken}");
-    }
-    has_left(rt, &walk, ITEMS.saturating_sub(taken));
+fn walk_of<S: BuildHasher + Drop>(bag: &HashBag<u64, S>) -> Iter<'_, u64> {
+    bag.iter()
 }
 
-fn some_values<S: BuildHasher + Drop>(rt: &impl Abort, bag: &HashBag<u64, S>, taken: usize) {
-    let mut walk = bag.set_iter();
-    for _ in 0..taken {
-        assert!(rt; walk.next().is_some(), "before {taken}");
-    }
-    has_left(rt, &walk, VALUES.saturating_sub(taken));
+fn set_walk_of<S: BuildHasher + Drop>(bag: &HashBag<u64, S>) -> SetIter<'_, u64> {
+    bag.set_iter()
 }
 
-fn some_drained<S: BuildHasher + Drop>(rt: &impl Abort, bag: &mut HashBag<u64, S>, taken: usize) {
-    let mut walk = bag.drain();
-    for _ in 0..taken {
-        assert!(rt; walk.next().is_some(), "before {taken}");
-    }
-    has_left(rt, &walk, VALUES.saturating_sub(taken));
+fn drain_of<S: BuildHasher + Drop>(bag: &mut HashBag<u64, S>) -> Drain<'_, u64> {
+    bag.drain()
 }
 
-fn some_moved<S: BuildHasher + Drop>(rt: &impl Abort, bag: HashBag<u64, S>, taken: usize) {
-    let mut walk = bag.into_iter();
+fn owned_walk_of<S: BuildHasher + Drop>(bag: HashBag<u64, S>) -> IntoIter<u64> {
+    bag.into_iter()
+}
+
+/// The next item of a walk. A loop that calls this counts by itself and not by the walk.
+pub fn next_of<I: Iterator>(walk: &mut I) -> Option<I::Item>
+where
+    requires any { (state : _) → I.can_next state }
+{
+    walk.next()
+}
+
+// Takes so many items of a walk, which has to have them.
+fn take_items<I: Iterator>(rt: &impl Abort, name: &str, walk: &mut I, taken: usize)
+where
+    I::Item: Drop,
+    requires any { (state : _) → I.can_next state }
+{
     for _ in 0..taken {
-        assert!(rt; walk.next().is_some(), "before {taken}");
+        assert!(rt; next_of(walk).is_some(), "before {taken} of {name}");
     }
-    has_left(rt, &walk, VALUES.saturating_sub(taken));
+}
+
+// Takes some of the items that a walk has, and drops the walk.
+fn some_taken<I: ExactSizeIterator + Drop>(
+    rt: &impl Abort,
+    name: &str,
+    walk: I,
+    items: usize,
+    taken: usize,
+)
+where
+    I::Item: Drop,
+    requires any { (state : _) → I.can_next state }
+{
+    let mut walk = walk;
+    take_items(rt, name, &mut walk, taken);
+    has_left(rt, &walk, items.saturating_sub(taken));
 }
 
 // Each walk that borrows the bag, dropped after each number of its items, leaves it as before.
 fn borrowed_walks_dropped<S: BuildHasher + Drop>(
     rt: &impl Abort,
     alloc: Global,
-    state: S,
+    bag: &HashBag<u64, S>,
 ) -> Result<(), Fail> {
-    let bag = sample_bag(alloc, state)?;
     for taken in 0..=ITEMS {
-        some_items(rt, &bag, taken);
-        is_sample(rt, alloc, &bag)?;
+        some_taken(rt, "iter", walk_of(bag), ITEMS, taken);
+        is_sample(rt, alloc, bag)?;
     }
     for taken in 0..=VALUES {
-        some_values(rt, &bag, taken);
-        is_sample(rt, alloc, &bag)?;
+        some_taken(rt, "set_iter", set_walk_of(bag), VALUES, taken);
+        is_sample(rt, alloc, bag)?;
     }
     Ok(())
 }
@@ -174,7 +192,7 @@ fn drained_and_filled<S: BuildHasher + Default + Drop>(
     mut bag: HashBag<u64, S>,
     taken: usize,
 ) -> Result<(), Fail> {
-    some_drained(rt, &mut bag, taken);
+    some_taken(rt, "drain", drain_of(&mut bag), VALUES, taken);
     is_empty(rt, &bag);
     make_calls(alloc, &mut bag, DRAINED_ROWS, 3)
 }
@@ -186,41 +204,23 @@ fn owned_walks_dropped<S: BuildHasher + Default + Copy>(
 ) -> Result<(), Fail> {
     for taken in 0..=VALUES {
         drained_and_filled(rt, alloc, sample_bag(alloc, state)?, taken)?;
-        some_moved(rt, sample_bag(alloc, state)?, taken);
+        let walk = owned_walk_of(sample_bag(alloc, state)?);
+        some_taken(rt, "into_iter", walk, VALUES, taken);
     }
     Ok(())
 }
 
-// After the last item there is none for good.
-fn items_end<S: BuildHasher + Drop>(rt: &impl Abort, bag: &HashBag<u64, S>) {
-    let mut walk = bag.iter();
-    for _ in 0..ITEMS {
-        assert!(rt; walk.next().is_some());
-    }
+// After the last of so many items there is none for good.
+fn ends_after<I: Iterator + Drop>(rt: &impl Abort, name: &str, walk: I, items: usize)
+where
+    I::Item: Drop,
+    requires any { (state : _) → I.can_next state }
+{
+    let mut walk = walk;
+    take_items(rt, name, &mut walk, items);
     for _ in 0..3 {
-        assert!(rt; walk.next().is_none());
+        assert!(rt; next_of(&mut walk).is_none(), "after {items} of {name}");
     }
-}
-
-fn values_end<S: BuildHasher + Drop>(rt: &impl Abort, bag: &HashBag<u64, S>) {
-    let mut walk = bag.set_iter();
-    for _ in 0..VALUES {
-        assert!(rt; walk.next().is_some());
-    }
-    for _ in 0..3 {
-        assert!(rt; walk.next().is_none());
-    }
-}
-
-fn ends_of_walks<S: BuildHasher + Drop>(
-    rt: &impl Abort,
-    alloc: Global,
-    state: S,
-) -> Result<(), Fail> {
-    let bag = sample_bag(alloc, state)?;
-    items_end(rt, &bag);
-    values_end(rt, &bag);
-    Ok(())
 }
 
 // The occurrences of one value stand side by side: the value changes twice over three values.
@@ -265,17 +265,11 @@ fn totals<S: BuildHasher + Drop>(rt: &impl Abort, bag: HashBag<u64, S>) {
     is_total(rt, "sum_used_up", sum_used_up(bag));
 }
 
-fn items_of_walks<S: BuildHasher + Drop>(
-    rt: &impl Abort,
-    alloc: Global,
-    state: S,
-) -> Result<(), Fail> {
-    let bag = sample_bag(alloc, state)?;
+fn items_of_walks<S: BuildHasher + Drop>(rt: &impl Abort, bag: HashBag<u64, S>) {
     let got = (changes_of_value(&bag), number_of_fives(&bag));
     assert_eq!(rt; got, (2, 3));
     counts_of_values(rt, &bag);
     totals(rt, bag);
-    Ok(())
 }
 
 fn gives_the_same(rt: &impl Abort, walk: Iter<u64>, again: Iter<u64>) {
@@ -319,13 +313,26 @@ fn set_clones_go_on<S: BuildHasher + Drop>(
 fn all_clones_go_on<S: BuildHasher + Drop>(
     rt: &impl Abort,
     alloc: Global,
+    bag: &HashBag<u64, S>,
+) -> Result<(), Fail> {
+    for taken in 0..=ITEMS {
+        clones_go_on(rt, bag, taken)?;
+    }
+    set_clones_go_on(alloc, bag)
+}
+
+fn walks_over_sample<S: BuildHasher + Drop>(
+    rt: &impl Abort,
+    alloc: Global,
     state: S,
 ) -> Result<(), Fail> {
     let bag = sample_bag(alloc, state)?;
-    for taken in 0..=ITEMS {
-        clones_go_on(rt, &bag, taken)?;
-    }
-    set_clones_go_on(alloc, &bag)
+    borrowed_walks_dropped(rt, alloc, &bag)?;
+    ends_after(rt, "iter", walk_of(&bag), ITEMS);
+    ends_after(rt, "set_iter", set_walk_of(&bag), VALUES);
+    all_clones_go_on(rt, alloc, &bag)?;
+    items_of_walks(rt, bag);
+    Ok(())
 }
 
 fn all_of<S: BuildHasher + Drop>(
@@ -380,50 +387,22 @@ fn is_shown<T: Debug>(alloc: Global, value: &T, want: &str) -> Result<(), Fail> 
     Ok(())
 }
 
-fn is_walk_shown<S: BuildHasher + Drop>(
-    alloc: Global,
-    bag: &HashBag<u64, S>,
-    want: &str,
-) -> Result<(), Fail> {
-    is_shown(alloc, &bag.iter(), want)
-}
-
 // A walk after its first item.
-fn is_rest_shown<S: BuildHasher + Drop>(
-    alloc: Global,
-    bag: &HashBag<u64, S>,
-    want: &str,
-) -> Result<(), Fail> {
+fn rest_of<S: BuildHasher + Drop>(bag: &HashBag<u64, S>) -> Iter<'_, u64> {
     let mut walk = bag.iter();
     let _ = walk.next();
-    is_shown(alloc, &walk, want)
-}
-
-fn is_set_walk_shown<S: BuildHasher + Drop>(
-    alloc: Global,
-    bag: &HashBag<u64, S>,
-    want: &str,
-) -> Result<(), Fail> {
-    is_shown(alloc, &bag.set_iter(), want)
-}
-
-fn is_drain_shown<S: BuildHasher + Drop>(
-    alloc: Global,
-    bag: &mut HashBag<u64, S>,
-    want: &str,
-) -> Result<(), Fail> {
-    is_shown(alloc, &bag.drain(), want)
+    walk
 }
 
 fn texts_of_five<S: BuildHasher + Default + Drop>(alloc: Global, state: S) -> Result<(), Fail> {
     let mut bag = bag_of(alloc, state, &[5, 5, 5])?;
     is_shown(alloc, &bag, "{5, 5, 5}")?;
-    is_walk_shown(alloc, &bag, "{5, 5, 5}")?;
-    is_rest_shown(alloc, &bag, "{5, 5}")?;
-    is_set_walk_shown(alloc, &bag, "{(5, 3)}")?;
+    is_shown(alloc, &walk_of(&bag), "{5, 5, 5}")?;
+    is_shown(alloc, &rest_of(&bag), "{5, 5}")?;
+    is_shown(alloc, &set_walk_of(&bag), "{(5, 3)}")?;
     is_shown(alloc, &bag.entry(5), "Entry(5, 3)")?;
-    is_drain_shown(alloc, &mut bag, "[(5, 3)]")?;
-    is_drain_shown(alloc, &mut bag, "[]")?;
+    is_shown(alloc, &drain_of(&mut bag), "[(5, 3)]")?;
+    is_shown(alloc, &drain_of(&mut bag), "[]")?;
     make_calls(alloc, &mut bag, "insert_many 5 3 = 0", 1)?;
     texts_of_owned(alloc, bag)
 }
@@ -439,9 +418,9 @@ fn texts_of_owned<S: BuildHasher + Drop>(alloc: Global, bag: HashBag<u64, S>) ->
 fn texts_of_nothing<S: BuildHasher + Drop>(alloc: Global, state: S) -> Result<(), Fail> {
     let mut bag: HashBag<u64, S> = HashBag::with_hasher(alloc, state);
     is_shown(alloc, &bag, "{}")?;
-    is_walk_shown(alloc, &bag, "{}")?;
-    is_set_walk_shown(alloc, &bag, "{}")?;
-    is_drain_shown(alloc, &mut bag, "[]")
+    is_shown(alloc, &walk_of(&bag), "{}")?;
+    is_shown(alloc, &set_walk_of(&bag), "{}")?;
+    is_shown(alloc, &drain_of(&mut bag), "[]")
 }
 
 // All of these under one state.
@@ -451,11 +430,8 @@ fn walks_under<S: BuildHasher + Default + Copy>(
     state: S,
 ) -> Result<(), Fail> {
     walks_over_names(rt, alloc, state)?;
-    borrowed_walks_dropped(rt, alloc, state)?;
+    walks_over_sample(rt, alloc, state)?;
     owned_walks_dropped(rt, alloc, state)?;
-    ends_of_walks(rt, alloc, state)?;
-    items_of_walks(rt, alloc, state)?;
-    all_clones_go_on(rt, alloc, state)?;
     all_moved_out(rt, alloc, state)?;
     texts_of_five(alloc, state)?;
     texts_of_nothing(alloc, state)
