@@ -1,8 +1,9 @@
-use Rattle.std.proofs.Common.{◌≡◌, length, drop, sym, ap, ◌∙◌, arith, refl}
-use Rattle.std.proofs.lemmas.List.{length-append}
+use Rattle.std.proofs.Common.{◌≡◌, ◌+◌, length, drop, sym, ap, subst, ◌∙◌, arith, refl}
+use Rattle.std.proofs.lemmas.List.{length-append, length-replicate}
+use Rattle.hashbag_slots.specs.declared.slots.Slot.TheVariants.{Empty}
 use Rattle.hashbag_slots.specs.Slots.{entries}
 use Rattle.hashbag_table.specs.declared.table.TheConstants.{MOST_VALUES}
-use Rattle.hashbag_table.specs.Tables.{room, entries_of}
+use Rattle.hashbag_table.specs.Tables.{room, entries_of, IsLeast}
 use Rattle.hashbag_table.proofs.SlotLemmas.{length-entries}
 use Rattle.hashbag_table.proofs.table.Table.reserve.Goals as goal
 
@@ -44,3 +45,11 @@ pub returns-then-n-room-clause-packed : goal.returns-then-n-room-clause-packed
 returns-then-n-room-clause-packed g c beyond =
     let few = c.if-n-room.true in let r = c.room.ensures in
     absurd (omega (arith, few, r, beyond))
+
+pub returns-clause-least : goal.returns-clause-least
+returns-clause-least g c beyond =
+    let size = c.pack.ensures.slots ∙ ap length c.in_ok-newer.ensures.slots ∙ length-replicate c.in_ok-count.count Empty in
+    let least = subst (λ from. IsLeast from (c.set_len-values.result + c.args.n) c.in_ok-count.count) c.slots-slots.ensures.value c.in_ok-count.ensures.least in
+    let same = subst (λ many. IsLeast (length c.self.inside.newer.slots) (many + c.args.n) c.in_ok-count.count) c.set_len-values.ensures.len least in
+    subst (λ from. IsLeast from (length c.args.self.now.entries + c.args.n) (length c.pack.new.self.tables.newer)) (ap (λ t. length t.tables.newer) c.self.view_is)
+    (subst (IsLeast (length c.self.inside.newer.slots) (length c.args.self.now.entries + c.args.n)) (sym size) same)
