@@ -1,12 +1,14 @@
 -- Slots of the older table that are carried, and pairs that are placed in the newer one.
 use Rattle.std.proofs.Common.{◌≡◌, ℕ, zero, suc, ◌+◌, ◌-◌, ◌<◌, ◌≤◌, Bool, false, List, [], ◌∷◌, ◌++◌, length, take, drop, get_or, refl, sym, ap, subst, ◌∙◌, inl, inr, arith, slice_set}
 use Rattle.std.proofs.lemmas.Bool.{cases_lt}
-use Rattle.std.proofs.lemmas.List.{length-set, length-drop, length-take, get_or-take, take_more, get_or-drop}
+use Rattle.std.proofs.lemmas.List.{set-get_or, length-set, length-drop, length-take, get_or-take, take_more, get_or-drop}
 use Rattle.hashbag_slots.specs.declared.slots.Slot.{Slot}
 use Rattle.hashbag_slots.specs.declared.slots.Slot.TheVariants.{Empty, Removed, Moved, Live}
 use Rattle.hashbag_slots.specs.Slots.{is_live, holds, live_count, slot_at, IsAbsent, IsSet, entries, Places, PlacesAll, carried, Carries, entries_in, AreApart}
 use Rattle.hashbag_slots.proofs.Probing.{false_by}
 use Rattle.hashbag_slots.proofs.Edits.{set_cases, count-set}
+use Rattle.hashbag_slots.specs.Lanes.{Tells}
+use Rattle.hashbag_slots.proofs.Bits.{tells_same}
 
 module _ {T : Type 0} where
   pub length-Places : (v : T) (n : ℕ) (old new : List (Slot T)) → Places v n old new → length new ≡ length old
@@ -103,6 +105,38 @@ module _ {T : Type 0} where
       let es : entries_in from (at + 1 - from) old ≡ entries_in from (at - from) old ++ entries (slot_at mid at ∷ []) =
       ap (λ m. entries_in from m old) more ∙ entries_in_more from (at - from) old (omega arith) ∙ ap (λ s. entries_in from (at - from) old ++ entries (s ∷ [])) (sym same) in
       subst (λ xs. PlacesAll xs a c) (sym es) (PlacesAll-append (entries_in from (at - from) old) (entries (slot_at mid at ∷ [])) a b c p q)
+
+  skip_dead : (k from at : ℕ) (old mid a b : List (Slot T)) → from ≤ at → at + k ≤ length old → ((q : ℕ) → at ≤ q → q < at + k → is_live (slot_at mid q) ≡ false)
+      → Carries from (at - from) old mid → PlacesAll (entries_in from (at - from) old) a b → Carries from (at + k - from) old mid × PlacesAll (entries_in from (at + k - from) old) a b
+  skip_dead zero from at old mid a b le room dead carry placed =
+      let e : at ≡ at + 0 = omega arith in
+      (subst (λ x. Carries from (x - from) old mid) e carry, subst (λ x. PlacesAll (entries_in from (x - from) old) a b) e placed)
+  skip_dead (suc k) from at old mid a b le room dead carry placed =
+      let e : at + 1 + k ≡ at + suc k = omega arith in
+      let here = dead at (omega arith) (omega arith) in
+      let same : mid ≡ slice_set mid at (carried (slot_at mid at)) = sym (ap (slice_set mid at) (carried_same (slot_at mid at) here) ∙ set-get_or mid at Empty) in
+      let none : PlacesAll (entries (slot_at mid at ∷ [])) b b = subst (λ es. PlacesAll es b b) (sym (no_entries (slot_at mid at) here)) refl in
+      let more = skip_dead k from (at + 1) old mid a b (omega arith) (omega arith) (λ q x y. dead q (omega arith) (omega arith))
+      (Carries-step from at old mid mid le (omega arith) carry same) (PlacesAll-step from at old mid a b b le (omega arith) carry placed none) in
+      (subst (λ x. Carries from (x - from) old mid) e more.0, subst (λ x. PlacesAll (entries_in from (x - from) old) a b) e more.1)
+
+  -- slots that are not Live are carried as they are
+  pub skip_to : (from at to : ℕ) (old mid a b : List (Slot T)) → from ≤ at → at ≤ to → to ≤ length old → ((q : ℕ) → at ≤ q → q < to → is_live (slot_at mid q) ≡ false)
+      → Carries from (at - from) old mid → PlacesAll (entries_in from (at - from) old) a b → Carries from (to - from) old mid × PlacesAll (entries_in from (to - from) old) a b
+  skip_to from at to old mid a b begun le room dead carry placed =
+      let e : at + (to - at) ≡ to = omega arith in
+      subst (λ x. Carries from (x - from) old mid × PlacesAll (entries_in from (x - from) old) a b) e
+      (skip_dead (to - at) from at old mid a b begun (omega arith) (λ q x y. dead q x (omega arith)) carry placed)
+
+  -- what bits tell of the slots behind one that is carried
+  pub tells_behind_carried : (mid new : List (Slot T)) (place until bits : ℕ) → place < length mid → new ≡ slice_set mid place (carried (slot_at mid place))
+      → Tells (λ p. is_live (slot_at mid p)) (place + 1) until bits → Tells (λ p. is_live (slot_at new p)) (place + 1) until bits
+  tells_behind_carried mid new place until bits within after tells =
+      tells_same (λ p. is_live (slot_at mid p)) (λ p. is_live (slot_at new p)) (place + 1) until bits
+      (λ k behind. sym (ap (λ ss. is_live (slot_at ss k)) after ∙ ap is_live (elim (set_cases mid place (carried (slot_at mid place)) within k) [
+        | inl x ↦ absurd (let e = x.0 in omega arith)
+        | inr x ↦ x.1
+      ]))) tells
 
   pub IsAbsent-PlacesAll : (test : T → Bool) (es : List (T × ℕ)) (a b : List (Slot T)) → IsAbsent test a → ((i : ℕ) (e : T × ℕ) → i < length es → get_or es i e ≡ e → test e.0 ≡ false) → PlacesAll es a b → IsAbsent test b
   IsAbsent-PlacesAll test [] a b absent each h = subst (IsAbsent test) (sym h) absent

@@ -58,3 +58,8 @@ count_bound n c =
       | inl z ↦ omega arith
       | inr w ↦ let m : 2 ^ w.0 ≤ 2 ^ 59 = pow_mono {i = w.0} {j = 59} w.2 in omega (arith, m, w.3)
     ]
+
+-- a table that has a slot has sixteen
+pub sixteen_slots : (n p : ℕ) → IsSlotCount n → p < n → 16 ≤ n
+sixteen_slots n p (inl none) lt = absurd (omega arith)
+sixteen_slots n p (inr w) lt = let m : 2 ^ 4 ≤ 2 ^ w.0 = pow_mono {i = 4} {j = w.0} w.1 in omega (arith, m, w.3)

@@ -231,8 +231,8 @@ pub fn find_place<T: Eq + Hash, S: BuildHasher>(
 
 /// The first place on the path of a hash whose slot is not Live.
 ///
-/// Most first slots are free. They are looked at by themselves, since sixteen tags can't be read while one of them is still being
-/// written, as it is where neighbours are placed one after the other.
+/// It goes slot by slot at first, and then by sixteen: most values find room at once, and sixteen tags can't be read while one of
+/// them is still being written, as it is where neighbours are placed one after the other.
 #[inline(always)]
 pub fn free_place(tags: &[u8], hash: u64) -> usize
     requires count { IsSlotCount (length tags.now) }
@@ -242,11 +242,29 @@ pub fn free_place(tags: &[u8], hash: u64) -> usize
     ensures free { tag_at tags.now result < 128 }
 {
     let count = tags.len();
-    let first = place_after(hash, 0, count);
-    if tags[first] < LEAST_MARK {
-        return first;
-    }
     let mut step = 0;
+    'near: while step < LANES {
+        let place = place_after(hash, step, count);
+        if tags[place] < LEAST_MARK {
+            return place;
+        }
+        step += 1;
+    }
+    free_far(tags, hash, step)
+}
+
+// As `free_place`, where so many slots of the path were passed.
+#[inline(never)]
+fn free_far(tags: &[u8], hash: u64, passed: usize) -> usize
+    requires count { IsSlotCount (length tags.now) }
+    requires room { (p : ℕ) × (p < length tags.now) × (tag_at tags.now p < 128) }
+    requires passed { (before : ℕ) → before < passed → 128 ≤ tag_at tags.now (path_slot (length tags.now) hash before) }
+    ensures path { (step : ℕ) × (step < length tags.now) × (result ≡ path_slot (length tags.now) hash step) × ((before : ℕ) → before < step → 128 ≤ tag_at tags.now (path_slot (length tags.now) hash before)) }
+    ensures bound { result < length tags.now }
+    ensures free { tag_at tags.now result < 128 }
+{
+    let count = tags.len();
+    let mut step = passed;
     'steps: while step < count {
         let place = place_after(hash, step, count);
         if place + LANES <= count {
