@@ -1,13 +1,12 @@
 -- What bits tell of places.
-use Rattle.std.proofs.Common.{◌≡◌, ℕ, zero, suc, ◌+◌, ◌-◌, ◌/◌, ◌%◌, ◌^◌, ◌<◌, ◌≤◌, Bool, true, false, cond, ltb, List, length, get_or, map, refl, sym, ap, ◌∙◌, inl, inr, arith}
+use Rattle.std.proofs.Common.{◌≡◌, ℕ, ◌+◌, ◌-◌, ◌/◌, ◌%◌, ◌^◌, ◌<◌, ◌≤◌, Bool, true, false, cond, ltb, List, length, get_or, map, refl, sym, ap, ◌∙◌, inl, inr, arith}
 use Rattle.std.proofs.lemmas.Bool.{cases_lt, ltb-true, lt-ltb, le-ltb}
 use Rattle.std.proofs.lemmas.List.{get_or-map, get_or_past, length-map}
 use Rattle.std.proofs.lemmas.Nat.{shr-shr}
-use Rattle.std.proofs.lemmas.Nat.Bits.{bit_at-zero, bit_at-suc, bit_at_lowest}
+use Rattle.std.proofs.lemmas.Nat.Bits.{bit_at-zero}
 use Rattle.std.proofs.lemmas.Simd.{length-chunk, get_or-chunk, bit_mask_l}
 use Rattle.std.specs.Int.{bit_at}
 use Rattle.std.specs.Simd.Lanes.{chunk, mask_l}
-use mir.Val.{bool_byte}
 use Rattle.hashbag_slots.specs.Lanes.{Tells}
 
 pub tells_mask : (q : ℕ → Bool) (ts : List ℕ) (from bits : ℕ) → from + 16 ≤ length ts → bits ≡ mask_l (map q (chunk from 16 ts)) → Tells (λ k. q (get_or ts k 0)) from (from + 16) bits
@@ -41,10 +40,10 @@ module _ (test : ℕ → Bool) (from until bits : ℕ) (tells : Tells test from 
 
   -- a bit that is not set
   pub untold : (i : ℕ) → bit_at bits i ≡ 0 → from + i < until → test (from + i) ≡ false
-  untold i clear below = not_set (ltb (from + i) until) (test (from + i)) (sym (tells i) ∙ clear) (lt-ltb _ _ below)
+  untold i zero below = not_set (ltb (from + i) until) (test (from + i)) (sym (tells i) ∙ zero) (lt-ltb _ _ below)
 
   pub untold_at : (i p : ℕ) → from + i ≡ p → bit_at bits i ≡ 0 → p < until → test p ≡ false
-  untold_at i p e clear below = sym (ap test e) ∙ untold i clear (omega arith)
+  untold_at i p e zero below = sym (ap test e) ∙ untold i zero (omega arith)
 
   -- the bits behind one
   pub tells_behind : (k : ℕ) → Tells test (from + k + 1) until (bits / 2 ^ k / 2 ^ 1)
@@ -55,27 +54,3 @@ module _ (test : ℕ → Bool) (from until bits : ℕ) (tells : Tells test from 
 -- no bit is set
 pub none_told : (test : ℕ → Bool) (from until : ℕ) → Tells test from until 0 → (p : ℕ) → from ≤ p → p < until → test p ≡ false
 none_told test from until tells p a b = untold_at test from until 0 tells (p - from) p (omega arith) (bit_at-zero (p - from)) b
-
--- of places at which two tests agree, the same bits tell
-pub tells_same : (p q : ℕ → Bool) (from until bits : ℕ) → ((k : ℕ) → from ≤ k → p k ≡ q k) → Tells p from until bits → Tells q from until bits
-tells_same p q from until bits same tells i = tells i ∙ ap (λ b. cond (ltb (from + i) until) (cond b 1 0) 0) (same (from + i) (omega arith))
-
--- of no places, no bit tells
-pub tells_none : (test : ℕ → Bool) (at : ℕ) → Tells test at at 0
-tells_none test at i = bit_at-zero i ∙ sym (ap (λ b. cond b (cond (test (at + i)) 1 0) 0) (le-ltb (at + i) at (omega arith)))
-
-low_of : (b : Bool) → ◌≡◌ {A = ℕ} (bool_byte b % 2) (cond b 1 0)
-low_of true = refl
-low_of false = refl
-
-half_of : (b : Bool) → ◌≡◌ {A = ℕ} (bool_byte b / 2) 0
-half_of true = refl
-half_of false = refl
-
--- of one place, one bit tells
-pub tells_one : (test : ℕ → Bool) (at : ℕ) (b : Bool) → b ≡ test at → Tells test at (at + 1) (bool_byte b)
-tells_one test at b same zero =
-    let here : at ≡ at + 0 = omega arith in
-    bit_at_lowest (bool_byte b) ∙ low_of b ∙ ap (λ x. cond x 1 0) (same ∙ ap test here) ∙ sym (ap (λ x. cond x (cond (test (at + 0)) 1 0) 0) (lt-ltb (at + 0) (at + 1) (omega arith)))
-tells_one test at b same (suc i) =
-    bit_at-suc (bool_byte b) i ∙ ap (λ n. bit_at n i) (half_of b) ∙ bit_at-zero i ∙ sym (ap (λ x. cond x (cond (test (at + suc i)) 1 0) 0) (le-ltb (at + suc i) (at + 1) (omega arith)))

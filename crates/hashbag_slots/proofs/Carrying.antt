@@ -1,14 +1,13 @@
 -- Slots of the older table that are carried, and pairs that are placed in the newer one.
 use Rattle.std.proofs.Common.{◌≡◌, ℕ, zero, suc, ◌+◌, ◌-◌, ◌<◌, ◌≤◌, Bool, false, List, [], ◌∷◌, ◌++◌, length, take, drop, get_or, refl, sym, ap, subst, ◌∙◌, inl, inr, arith, slice_set}
 use Rattle.std.proofs.lemmas.Bool.{cases_lt}
-use Rattle.std.proofs.lemmas.List.{set-get_or, length-set, length-drop, length-take, get_or-take, take_more, get_or-drop}
+use Rattle.std.proofs.Math.Seq.{take-add}
+use Rattle.std.proofs.lemmas.List.{ext_get_or, drop-drop, set-get_or, length-set, length-drop, length-take, get_or-take, take_more, get_or-drop}
 use Rattle.hashbag_slots.specs.declared.slots.Slot.{Slot}
 use Rattle.hashbag_slots.specs.declared.slots.Slot.TheVariants.{Empty, Removed, Moved, Live}
 use Rattle.hashbag_slots.specs.Slots.{is_live, holds, live_count, slot_at, IsAbsent, IsSet, entries, Places, PlacesAll, carried, Carries, entries_in, AreApart}
 use Rattle.hashbag_slots.proofs.Probing.{false_by}
 use Rattle.hashbag_slots.proofs.Edits.{set_cases, count-set}
-use Rattle.hashbag_slots.specs.Lanes.{Tells}
-use Rattle.hashbag_slots.proofs.Bits.{tells_same}
 
 module _ {T : Type 0} where
   pub length-Places : (v : T) (n : ℕ) (old new : List (Slot T)) → Places v n old new → length new ≡ length old
@@ -128,15 +127,31 @@ module _ {T : Type 0} where
       subst (λ x. Carries from (x - from) old mid × PlacesAll (entries_in from (x - from) old) a b) e
       (skip_dead (to - at) from at old mid a b begun (omega arith) (λ q x y. dead q x (omega arith)) carry placed)
 
-  -- what bits tell of the slots behind one that is carried
-  pub tells_behind_carried : (mid new : List (Slot T)) (place until bits : ℕ) → place < length mid → new ≡ slice_set mid place (carried (slot_at mid place))
-      → Tells (λ p. is_live (slot_at mid p)) (place + 1) until bits → Tells (λ p. is_live (slot_at new p)) (place + 1) until bits
-  tells_behind_carried mid new place until bits within after tells =
-      tells_same (λ p. is_live (slot_at mid p)) (λ p. is_live (slot_at new p)) (place + 1) until bits
-      (λ k behind. sym (ap (λ ss. is_live (slot_at ss k)) after ∙ ap is_live (elim (set_cases mid place (carried (slot_at mid place)) within k) [
-        | inl x ↦ absurd (let e = x.0 in omega arith)
-        | inr x ↦ x.1
-      ]))) tells
+  -- a carry goes on where another one ended
+  pub Carries-join : (from at n : ℕ) (old mid new : List (Slot T)) → from ≤ at → Carries from (at - from) old mid → Carries at n mid new → Carries from (at + n - from) old new
+  Carries-join from at n old mid new le a b = record {
+    same_length = b.same_length ∙ a.same_length;
+    inside = λ p x y. elim (cases_lt p at) [
+      | inl before ↦ b.outside p (inl before) ∙ a.inside p x (omega arith)
+      | inr beyond ↦ b.inside p beyond (omega arith) ∙ ap carried (a.outside p (inr (omega arith)))
+    ];
+    outside = λ p h. elim h [
+      | inl before ↦ b.outside p (inl (omega arith)) ∙ a.outside p (inl before)
+      | inr beyond ↦ b.outside p (inr (omega arith)) ∙ a.outside p (inr (omega arith))
+    ];
+  }
+
+  pub PlacesAll-join : (from at n : ℕ) (old mid a b c : List (Slot T)) → from ≤ at → Carries from (at - from) old mid → PlacesAll (entries_in from (at - from) old) a b → PlacesAll (entries_in at n mid) b c → PlacesAll (entries_in from (at + n - from) old) a c
+  PlacesAll-join from at n old mid a b c le carry p q =
+      let k = at - from in let xs = drop from old in
+      let ahead : drop at mid ≡ drop at old =
+      ext_get_or Empty (drop at mid) (drop at old) (let l = length-drop at mid in let m = length-drop at old in let same = carry.same_length in omega arith)
+      (λ i lt. get_or-drop at mid i Empty ∙ carry.outside (at + i) (inr (omega arith)) ∙ sym (get_or-drop at old i Empty)) in
+      let there : drop k xs ≡ drop at old = drop-drop k from old ∙ ap (λ j. drop j old) (let e : from + k ≡ at = omega arith in e) in
+      let more : at + n - from ≡ k + n = omega arith in
+      let es : entries_in from (at + n - from) old ≡ entries_in from k old ++ entries_in at n mid =
+      ap (λ m. entries (take m xs)) more ∙ ap entries (take-add k n xs) ∙ entries-append (take k xs) (take n (drop k xs)) ∙ ap (λ ys. entries (take k xs) ++ entries (take n ys)) (there ∙ sym ahead) in
+      subst (λ ys. PlacesAll ys a c) (sym es) (PlacesAll-append (entries_in from k old) (entries_in at n mid) a b c p q)
 
   pub IsAbsent-PlacesAll : (test : T → Bool) (es : List (T × ℕ)) (a b : List (Slot T)) → IsAbsent test a → ((i : ℕ) (e : T × ℕ) → i < length es → get_or es i e ≡ e → test e.0 ≡ false) → PlacesAll es a b → IsAbsent test b
   IsAbsent-PlacesAll test [] a b absent each h = subst (IsAbsent test) (sym h) absent

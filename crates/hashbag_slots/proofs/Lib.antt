@@ -1,4 +1,5 @@
 pub mod Bits
+pub mod CarriedOver
 pub mod Carrying
 pub mod Edits
 pub mod Hashing

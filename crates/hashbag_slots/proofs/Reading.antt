@@ -1,6 +1,6 @@
 -- Reading the columns.
-use Rattle.std.proofs.Common.{◌≡◌, ◌≢◌, ℕ, zero, suc, ◌<◌, ◌≤◌, inl, inr, Bool, true, false, cond, nat_eq, leb, List, [], ◌∷◌, length, Option, Some, None, get_or, refl, sym, ap, subst, ◌∙◌, arith}
-use Rattle.std.proofs.lemmas.Bool.{cases_lt, le-leb, lt-leb}
+use Rattle.std.proofs.Common.{◌≡◌, ◌≢◌, ℕ, zero, suc, ◌<◌, ◌≤◌, inl, inr, Bool, true, false, cond, nat_eq, List, [], ◌∷◌, length, Option, Some, None, get_or, refl, sym, ap, subst, ◌∙◌, arith}
+use Rattle.std.proofs.lemmas.Bool.{cases_lt}
 use Rattle.hashbag_slots.specs.declared.slots.Slot.TheVariants.{Empty, Removed, Moved, Live}
 use Rattle.hashbag_slots.specs.Slots.{path_slot, slot_at, holds, is_live, is_removed, IsFirstFree}
 use Rattle.hashbag_slots.specs.declared.slots.Slot.{Slot}
@@ -73,13 +73,6 @@ module _ {T : Type 0} (ts : List ℕ) (cs : List (Option (T × ℕ))) (agree : A
 
   pub low_at : is_live (slot_at (slots_of ts cs) p) ≡ false → get_or ts p 0 < 128
   low_at h = elim (cases_lt (get_or ts p 0) 128) [ inl a ↦ a | inr b ↦ absurd (let z = alive_at b in cc) ]
-
-  -- a slot is Live where its tag is a mark
-  pub live_is : leb 128 (get_or ts p 0) ≡ is_live (slot_at (slots_of ts cs) p)
-  live_is = elim (cases_lt (get_or ts p 0) 128) [
-    | inl low ↦ lt-leb _ _ low ∙ sym (dead_at low)
-    | inr high ↦ le-leb _ _ high ∙ sym (alive_at high)
-  ]
 
   -- the byte 0 is an Empty slot
   pub empty_at : get_or ts p 0 ≡ 0 → slot_at (slots_of ts cs) p ≡ Empty

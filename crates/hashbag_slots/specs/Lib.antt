@@ -1,3 +1,4 @@
+pub mod Carry
 pub mod Cells
 pub mod Columns
 pub mod Examples

@@ -5,6 +5,7 @@
 //! design.
 #![tactic(auto)]
 
+mod carry;
 mod cells;
 mod lanes;
 mod room;

@@ -7,16 +7,16 @@
 //!
 //! Costs are told in probes, each of which goes along a value's path, sixteen slots at once, and in hashes. A call hashes
 //! nothing and takes no memory, except where it says so. No order of slots is promised but what the contracts say.
-ghost use Rattle.std.specs.Prelude.{◌≡◌, ℕ, ◌+◌, ◌<◌, ◌≤◌, ◌^◌, length, true, IfSome, IfNone, IfOk, IfErr, IsOk, OnErr, replicate, slice_set, ◌∷◌, [], Some};
+ghost use Rattle.std.specs.Prelude.{◌≡◌, ℕ, ◌+◌, ◌<◌, ◌≤◌, ◌^◌, length, true, false, IfSome, IfNone, IfOk, IfErr, IsOk, OnErr, replicate, slice_set, ◌∷◌, [], Some};
 ghost use Rattle.std.specs.Map.{lookup_entry};
 ghost use Rattle.std.specs.Option.{option_map};
 ghost use Rattle.hashbag_slots.specs.Hashing.{hash_under};
 ghost use Rattle.hashbag_slots.specs.Slots.{IsSlotCount, is_live, holds, live_count, removed_count, slot_at, HoldsAt, IsAbsent, IsFirstFree, IsSet, slot_entry, entry_at, entries, recounted, raised, count_in, Places, PlacesAll, carried, Carries, entries_in, AreApart};
 ghost use Rattle.hashbag_slots.specs.Columns.{IsReached, IsAlike};
-ghost use Rattle.hashbag_slots.specs.Lanes.{Tells};
 
+use crate::carry::carry_lanes;
 use crate::cells::Cells;
-use crate::lanes::{LANES, live_ahead, next_told};
+use crate::lanes::LANES;
 use crate::tags::{
     LEAST_MARK, MOVED, REMOVED, drop_values, empty_tags, find_place, free_place, look_near, mark_of,
 };
@@ -235,15 +235,6 @@ impl<T: Eq> Slots<T> {
         self.tags[place] >= LEAST_MARK
     }
 
-    // A bit for each of the 16 slots from a place on, the lowest for the first: whether it is Live.
-    #[inline(always)]
-    fn live_ahead(&self, from: usize) -> u64
-        requires { from + 16 ≤ length self.now.slots }
-        ensures { Tells (λ p. is_live (slot_at self.now.slots p)) from (from + 16) result }
-    {
-        live_ahead(self.tags.as_slice(), from)
-    }
-
     // Takes the value at a place out, and leaves Moved.
     #[inline(always)]
     fn move_at(&mut self, place: usize) -> (T, usize)
@@ -409,11 +400,10 @@ impl<T: Eq + Hash> Slots<T> {
         self.live += 1;
     }
 
-    // Carries a Live slot of the older table: its value is placed here, and it becomes Moved there.
+    // Carries what is in one slot of the older table: a Live value is placed here, and becomes Moved there.
     #[inline(always)]
     fn carry_one<S: BuildHasher>(&mut self, state: &S, older: &mut Slots<T>, at: usize)
         requires within { at < length older.old.slots }
-        requires live { is_live (slot_at older.old.slots at) ≡ true }
         requires apart { AreApart T.eq older.old.slots self.old.slots }
         requires room { live_count self.old.slots + live_count older.old.slots ≤ length self.old.slots }
         requires reached { IsReached (hash_under T.hash_input S.BuildHasher S.Hasher.Hasher state.now) self.old }
@@ -426,9 +416,43 @@ impl<T: Eq + Hash> Slots<T> {
         ensures reached { IsReached (hash_under T.hash_input S.BuildHasher S.Hasher.Hasher state.now) self.new }
         ensures older_reached { (hash : T → ℕ) → IsReached hash older.old → IsReached hash older.new }
     {
-        older.recall();
-        let (value, n) = older.move_at(at);
-        self.place(state, value, n);
+        if older.is_live_at(at) {
+            let (value, n) = older.move_at(at);
+            self.place(state, value, n);
+        }
+    }
+
+    // Carries 16 slots of an older table, from the place `from` on.
+    #[inline(always)]
+    fn carry_sixteen<S: BuildHasher>(&mut self, state: &S, older: &mut Slots<T>, from: usize)
+        requires within { from + 16 ≤ length older.old.slots }
+        requires apart { AreApart T.eq older.old.slots self.old.slots }
+        requires room { live_count self.old.slots + live_count older.old.slots ≤ length self.old.slots }
+        requires reached { IsReached (hash_under T.hash_input S.BuildHasher S.Hasher.Hasher state.now) self.old }
+        ensures placed { PlacesAll (entries_in from 16 older.old.slots) self.old.slots self.new.slots }
+        ensures left { Carries from 16 older.old.slots older.new.slots }
+        ensures apart { AreApart T.eq older.new.slots self.new.slots }
+        ensures kept { live_count self.new.slots + live_count older.new.slots ≡ live_count self.old.slots + live_count older.old.slots }
+        ensures removed { removed_count self.new.slots ≤ removed_count self.old.slots }
+        ensures slots { length self.new.slots ≡ length self.old.slots }
+        ensures reached { IsReached (hash_under T.hash_input S.BuildHasher S.Hasher.Hasher state.now) self.new }
+        ensures older_reached { (hash : T → ℕ) → IsReached hash older.old → IsReached hash older.new }
+    {
+        let counts = (self.live, self.removed);
+        let waiting = older.live;
+        let (live, removed, left) = carry_lanes(
+            self.tags.as_mut_slice(),
+            &mut self.cells,
+            counts,
+            older.tags.as_mut_slice(),
+            &mut older.cells,
+            waiting,
+            state,
+            from,
+        );
+        self.live = live;
+        self.removed = removed;
+        older.live = left;
     }
 
     /// Carries `many` slots of an older table, from the place `from` on: each Live value is placed here as by `place`, with its
@@ -458,23 +482,13 @@ impl<T: Eq + Hash> Slots<T> {
         older.recall();
         let end = from + many;
         let mut at = from;
-        // What bits tell of the slots from `at` on below `until`: which of them are Live.
-        let mut ahead = 0u64;
-        let mut until = from;
         'places: while at < end {
-            if ahead != 0 {
-                let (place, rest) = next_told(ahead, at);
-                self.carry_one(state, older, place);
-                at = place + 1;
-                ahead = rest;
-            } else if at < until {
-                at = until;
-            } else if end - at >= LANES {
-                until = at + LANES;
-                ahead = older.live_ahead(at);
+            if end - at >= LANES {
+                self.carry_sixteen(state, older, at);
+                at += LANES;
             } else {
-                until = at + 1;
-                ahead = older.is_live_at(at) as u64;
+                self.carry_one(state, older, at);
+                at += 1;
             }
         }
     }

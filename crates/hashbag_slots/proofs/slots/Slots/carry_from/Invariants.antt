@@ -1,17 +1,13 @@
 use Rattle.std.proofs.Common.{◌≡◌, ℕ, ◌+◌, ◌-◌, ◌≤◌, length}
 use Rattle.hashbag_slots.specs.Hashing.{hash_under}
-use Rattle.hashbag_slots.specs.Lanes.{Tells}
-use Rattle.hashbag_slots.specs.Slots.{is_live, slot_at, live_count, removed_count, PlacesAll, Carries, entries_in, AreApart}
+use Rattle.hashbag_slots.specs.Slots.{live_count, removed_count, PlacesAll, Carries, entries_in, AreApart}
 use Rattle.hashbag_slots.specs.Columns.{IsReached}
 use Rattle.hashbag_slots.proofs.slots.Slots.carry_from.Given as goal
 
--- the slots before `at` are carried, and bits tell which of those behind it are Live
 abbrev pub invariant-places : goal.invariant-places
 invariant-places g l = record {
   begun : l.from ≤ l.at;
-  ahead : l.at ≤ l.until;
-  within : l.until ≤ l.end;
-  told : Tells (λ p. is_live (slot_at l.older.slots p)) l.at l.until l.ahead;
+  within : l.at ≤ l.end;
   placed : PlacesAll (entries_in l.from (l.at - l.from) l.initial.older.slots) l.initial.self.slots l.self.slots;
   left : Carries l.from (l.at - l.from) l.initial.older.slots l.older.slots;
   apart : AreApart g.T.PartialEq.eq l.older.slots l.self.slots;
@@ -23,4 +19,4 @@ invariant-places g l = record {
 }
 
 abbrev pub decreases-places : goal.decreases-places
-decreases-places g l = l.end - l.at + (l.end - l.until)
+decreases-places g l = l.end - l.at
