@@ -11,7 +11,7 @@ use Rattle.hashbag_slots.proofs.Edits.{set_cases}
 use Rattle.hashbag_slots.proofs.Reading.{length-slots_of, dead_slot, removed_slot, live_at, dead_at, alive_at, removed_at, marked_at, no_cell}
 use Rattle.hashbag_slots.proofs.Tables.{slot_at-replicate, IsTable-empty, IsTable-put, IsTable-take, IsTable-rewrite, KeepsPaths-empty, KeepsPaths-keep, KeepsPaths-place}
 
-some_cell : {T : Type 0} (e f : T × ℕ) → (let c : Option (T × ℕ) = Some e in c) ≡ Some f → e ≡ f
+pub some_cell : {T : Type 0} (e f : T × ℕ) → (let c : Option (T × ℕ) = Some e in c) ≡ Some f → e ≡ f
 some_cell e f h = cc
 
 pub set_at : {X : Type 0} (xs : List X) (p : ℕ) (x d : X) → p < length xs → (q : ℕ) → ((q ≡ p) × (get_or (slice_set xs p x) q d ≡ x)) ⊎ ((q ≡ p → ⊥) × (get_or (slice_set xs p x) q d ≡ get_or xs q d))

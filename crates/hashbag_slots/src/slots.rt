@@ -438,20 +438,18 @@ impl<T: Eq + Hash> Slots<T> {
         ensures reached { IsReached (hash_under T.hash_input S.BuildHasher S.Hasher.Hasher state.now) self.new }
         ensures older_reached { (hash : T → ℕ) → IsReached hash older.old → IsReached hash older.new }
     {
-        let counts = (self.live, self.removed);
-        let waiting = older.live;
-        let (live, removed, left) = carry_lanes(
+        let counts = (self.live, older.live);
+        let (live, left) = carry_lanes(
             self.tags.as_mut_slice(),
             &mut self.cells,
             counts,
+            &mut self.removed,
             older.tags.as_mut_slice(),
             &mut older.cells,
-            waiting,
             state,
             from,
         );
         self.live = live;
-        self.removed = removed;
         older.live = left;
     }
 

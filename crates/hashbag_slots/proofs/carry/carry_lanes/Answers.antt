@@ -3,7 +3,7 @@ use Rattle.std.proofs.lemmas.Bool.{leb-true, leb-false}
 use Rattle.hashbag_slots.specs.Hashing.{hash_under}
 use Rattle.hashbag_slots.specs.Lanes.{Tells}
 use Rattle.hashbag_slots.specs.Slots.{removed_count}
-use Rattle.hashbag_slots.specs.Columns.{slots_of}
+use Rattle.hashbag_slots.specs.Columns.{slots_of, IsColumns}
 use Rattle.hashbag_slots.specs.Carry.{Kept, kept, IsCarried}
 use Rattle.hashbag_slots.proofs.Bits.{none_told}
 use Rattle.hashbag_slots.proofs.CarriedOver.{tags_same, none_carried, cell_ahead, some_waits, skip_carried, carry_here}
@@ -16,45 +16,37 @@ is_mark ts p = leb 128 (get_or ts p 0)
 
 pub told-init : goal.told-init
 told-init g c =
+    let gone : ℕ = removed_count (slots_of c.args.older_tags.now c.args.older_cells.now) in
+    let newer : Kept g.row.T.Denot = kept c.args.tags.now c.args.cells.now c.args.counts.0 c.args.removed.now in
+    let older : Kept g.row.T.Denot = kept c.args.older_tags.now c.args.older_cells.now c.args.counts.1 gone in
+    let hash : g.row.T.Denot → ℕ = hash_under g.T.Hash.hash_input g.S.BuildHasher g.S.Hasher.Hasher c.args.state.now in
+    let same : c.args.counts.1 ≡ c.args.counts.1 - (c.args.counts.0 - c.args.counts.0) = omega arith in
     (omega arith, omega arith, c.live_ahead-ahead.ensures, c.args.older_tags.now,
-    none_carried g.T.PartialEq.eq (hash_under g.T.Hash.hash_input g.S.BuildHasher g.S.Hasher.Hasher c.args.state.now) c.args.from
-    (kept c.args.tags.now c.args.cells.now c.args.counts.0 c.args.counts.1)
-    (kept c.args.older_tags.now c.args.older_cells.now c.args.older_live (removed_count (slots_of c.args.older_tags.now c.args.older_cells.now)))
-    c.requires.newer c.requires.older c.requires.apart c.requires.reached)
+    subst (λ n. IsCarried g.T.PartialEq.eq hash c.args.from (c.args.from - c.args.from) newer older newer (kept c.args.older_tags.now c.args.older_cells.now n gone)) same
+    (none_carried g.T.PartialEq.eq hash c.args.from newer older c.requires.newer c.requires.older c.requires.apart c.requires.reached))
 
-pub take-value-requires : goal.take-value-requires
-take-value-requires g c =
+pub move_in-live-requires-clause-filled : goal.move_in-live-requires-clause-filled
+move_in-live-requires-clause-filled g c =
     let i = c.told.invariant in let place : ℕ = c.next_told-place.result.0 in
     let high = leb-true 128 _ (c.next_told-place.ensures.passes (is_mark c.args.older_tags.now) (c.args.from + 16) i.2) in
     cell_ahead g.T.PartialEq.eq _ g.met.T.Eq.laws c.args.from c.told.at _ _ _ _ i.0 i.4 place c.next_told-place.ensures.from high
 
-pub place_in-removed-requires-clause-room : goal.place_in-removed-requires-clause-room
-place_in-removed-requires-clause-room g c =
+pub move_in-live-requires-clause-room : goal.move_in-live-requires-clause-room
+move_in-live-requires-clause-room g c =
     let i = c.told.invariant in let place : ℕ = c.next_told-place.result.0 in
     let high = leb-true 128 _ (c.next_told-place.ensures.passes (is_mark c.args.older_tags.now) (c.args.from + 16) i.2) in
     let some = some_waits g.T.PartialEq.eq _ g.met.T.Eq.laws c.args.from c.told.at _ _ _ _ i.0 i.4 place c.next_told-place.ensures.from high in
     let sum = i.4.sum in let same = i.4.same_length in let room = c.requires.room in omega arith
 
-pub place_in-removed-requires-clause-counted : goal.place_in-removed-requires-clause-counted
-place_in-removed-requires-clause-counted g c =
-    let i = c.told.invariant in let place : ℕ = c.next_told-place.result.0 in let e = c.take-value.result in
-    i.4.older_stays.table.distinct.counted place e.0 e.1 (live_at i.3 c.told.older_cells i.4.older_stays.agree place e c.take-value.ensures.value)
-
-pub place_in-removed-requires-clause-absent : goal.place_in-removed-requires-clause-absent
-place_in-removed-requires-clause-absent g c =
-    let i = c.told.invariant in let place : ℕ = c.next_told-place.result.0 in let e = c.take-value.result in
-    i.4.apart place e.0 e.1 (live_at i.3 c.told.older_cells i.4.older_stays.agree place e c.take-value.ensures.value)
-
-pub overflow_sub-waiting : goal.overflow_sub-waiting
-overflow_sub-waiting g c =
+pub move_in-live-requires-clause-counted : goal.move_in-live-requires-clause-counted
+move_in-live-requires-clause-counted g c e cell =
     let i = c.told.invariant in let place : ℕ = c.next_told-place.result.0 in
-    let high = leb-true 128 _ (c.next_told-place.ensures.passes (is_mark c.args.older_tags.now) (c.args.from + 16) i.2) in
-    some_waits g.T.PartialEq.eq _ g.met.T.Eq.laws c.args.from c.told.at _ _ _ _ i.0 i.4 place c.next_told-place.ensures.from high
+    i.4.older_stays.table.distinct.counted place e.0 e.1 (live_at i.3 c.told.older_cells i.4.older_stays.agree place e cell)
 
-pub told-smaller : goal.told-smaller
-told-smaller g c =
-    let i = c.told.invariant in let from = c.next_told-place.ensures.from in
-    let below = c.next_told-place.ensures.below (is_mark c.args.older_tags.now) (c.args.from + 16) i.2 in omega arith
+pub move_in-live-requires-clause-absent : goal.move_in-live-requires-clause-absent
+move_in-live-requires-clause-absent g c e cell =
+    let i = c.told.invariant in let place : ℕ = c.next_told-place.result.0 in
+    i.4.apart place e.0 e.1 (live_at i.3 c.told.older_cells i.4.older_stays.agree place e cell)
 
 pub told-preserved : goal.told-preserved
 told-preserved g c =
@@ -64,20 +56,26 @@ told-preserved g c =
     let place : ℕ = c.next_told-place.result.0 in let until : ℕ = from + 16 in let begun = i.0 in
     let le : at ≤ place = c.next_told-place.ensures.from in
     let below : place < until = c.next_told-place.ensures.below (is_mark ts) until i.2 in
-    let high = leb-true 128 _ (c.next_told-place.ensures.passes (is_mark ts) until i.2) in
+    let high : 128 ≤ get_or ts place 0 = leb-true 128 _ (c.next_told-place.ensures.passes (is_mark ts) until i.2) in
     let room = c.requires.within in
     let gone : ℕ = removed_count (slots_of ts c.args.older_cells.now) in
-    let newer : Kept g.row.T.Denot = kept c.args.tags.now c.args.cells.now c.args.counts.0 c.args.counts.1 in
-    let older : Kept g.row.T.Denot = kept ts c.args.older_cells.now c.args.older_live gone in
+    let newer : Kept g.row.T.Denot = kept c.args.tags.now c.args.cells.now c.args.counts.0 c.args.removed.now in
+    let older : Kept g.row.T.Denot = kept ts c.args.older_cells.now c.args.counts.1 gone in
+    let waiting : ℕ = c.args.counts.1 - (c.told.live - c.args.counts.0) in
     let a : Kept g.row.T.Denot = kept c.told.tags c.told.cells c.told.live c.told.removed in
-    let b : Kept g.row.T.Denot = kept i.3 c.told.older_cells c.told.waiting gone in
+    let b : Kept g.row.T.Denot = kept i.3 c.told.older_cells waiting gone in
     let skipped = skip_carried eq hash laws from at newer older a b begun i.4 place le (omega arith)
     (λ q x y. leb-false 128 _ (c.next_told-place.ensures.before (is_mark ts) until i.2 q x y)) in
-    let put = c.place_in-removed.ensures in
-    let new : Kept g.row.T.Denot = kept c.place_in-removed.new.tags c.place_in-removed.new.cells (c.told.live + 1) c.place_in-removed.result in
-    let done = carry_here eq hash laws from place newer older a b (omega arith) skipped (omega arith) high c.take-value.result c.take-value.ensures.value new put.kept refl put.fewer put.length put.placed put.reached in
+    let put = c.move_in-live.ensures in let now = c.move_in-live.new in
+    let new : Kept g.row.T.Denot = kept now.tags now.cells c.move_in-live.result now.removed in
+    let e = cell_ahead eq hash laws from at newer older a b begun i.4 place le high in
+    let stays = subst (λ n. IsColumns eq now.tags now.cells n now.removed) (sym put.live) put.kept in
+    let done = carry_here eq hash laws from place newer older a b (omega arith) skipped (omega arith) high e.0 e.1 new stays put.live put.fewer put.length (put.placed e.0 e.1) put.reached in
+    let sum = i.4.sum in let some = some_waits eq hash laws from at newer older a b begun i.4 place le high in let one = put.live in
+    let fewer : waiting - 1 ≡ c.args.counts.1 - (c.move_in-live.result - c.args.counts.0) = omega arith in
     (omega arith, omega arith, c.next_told-place.ensures.rest (is_mark ts) until i.2, slice_set i.3 place 2,
-    subst (λ ds. IsCarried eq hash from (place + 1 - from) newer older new (kept (slice_set i.3 place 2) ds (c.told.waiting - 1) gone)) (sym c.take-value.ensures.after) done)
+    subst (λ n. IsCarried eq hash from (place + 1 - from) newer older new (kept (slice_set i.3 place 2) now.older n gone)) fewer
+    (subst (λ ds. IsCarried eq hash from (place + 1 - from) newer older new (kept (slice_set i.3 place 2) ds (waiting - 1) gone)) (sym put.taken) done))
 
 pub returns : goal.returns
 returns g c =
@@ -85,12 +83,12 @@ returns g c =
     let hash : g.row.T.Denot → ℕ = hash_under g.T.Hash.hash_input g.S.BuildHasher g.S.Hasher.Hasher c.args.state.now in
     let i = c.told.invariant in let ts = c.args.older_tags.now in let from = c.args.from in let at = c.told.at in let until : ℕ = from + 16 in
     let gone : ℕ = removed_count (slots_of ts c.args.older_cells.now) in let room = c.requires.within in
-    let newer : Kept g.row.T.Denot = kept c.args.tags.now c.args.cells.now c.args.counts.0 c.args.counts.1 in
-    let older : Kept g.row.T.Denot = kept ts c.args.older_cells.now c.args.older_live gone in
+    let newer : Kept g.row.T.Denot = kept c.args.tags.now c.args.cells.now c.args.counts.0 c.args.removed.now in
+    let older : Kept g.row.T.Denot = kept ts c.args.older_cells.now c.args.counts.1 gone in
     let a : Kept g.row.T.Denot = kept c.told.tags c.told.cells c.told.live c.told.removed in
-    let b : Kept g.row.T.Denot = kept i.3 c.told.older_cells c.told.waiting gone in
+    let b : Kept g.row.T.Denot = kept i.3 c.told.older_cells (c.args.counts.1 - (c.told.live - c.args.counts.0)) gone in
     let none = subst (Tells (is_mark ts) at until) c.told-test.false i.2 in
     let all = skip_carried eq hash laws from at newer older a b i.0 i.4 until i.1 (omega arith) (λ q x y. leb-false 128 _ (none_told (is_mark ts) at until none q x y)) in
     let many : until - from ≡ 16 = omega arith in
     let done = subst (λ k. IsCarried eq hash from k newer older a b) many all in
-    subst (λ us. IsCarried eq hash from 16 newer older a (kept us c.told.older_cells c.told.waiting gone)) (tags_same from 16 ts i.3 c.carry_tags.new.tags done.tags c.carry_tags.ensures) done
+    subst (λ us. IsCarried eq hash from 16 newer older a (kept us c.told.older_cells (c.args.counts.1 - (c.told.live - c.args.counts.0)) gone)) (tags_same from 16 ts i.3 c.carry_tags.new.tags done.tags c.carry_tags.ensures) done

@@ -12,8 +12,8 @@ abbrev pub invariant-told : goal.invariant-told
 invariant-told g l =
     (l.from ≤ l.at) × (l.at ≤ l.from + 16) × Tells (λ p. nat_le 128 (tag_at l.older_tags p)) l.at (l.from + 16) l.ahead
     × (us : List ℕ) × IsCarried g.T.PartialEq.eq (hash_under g.T.Hash.hash_input g.S.BuildHasher g.S.Hasher.Hasher l.state) l.from (l.at - l.from)
-    (kept l.initial.tags l.initial.cells l.initial.live l.initial.removed) (kept l.older_tags l.initial.older_cells l.initial.waiting (removed_count (slots_of l.older_tags l.initial.older_cells)))
-    (kept l.tags l.cells l.live l.removed) (kept us l.older_cells l.waiting (removed_count (slots_of l.older_tags l.initial.older_cells)))
+    (kept l.initial.tags l.initial.cells l.newer_live l.initial.removed) (kept l.older_tags l.initial.older_cells l.older_live (removed_count (slots_of l.older_tags l.initial.older_cells)))
+    (kept l.tags l.cells l.live l.removed) (kept us l.older_cells (l.older_live - (l.live - l.newer_live)) (removed_count (slots_of l.older_tags l.initial.older_cells)))
 
 abbrev pub decreases-told : goal.decreases-told
 decreases-told g l = l.from + 16 - l.at
