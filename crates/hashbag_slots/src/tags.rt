@@ -369,14 +369,17 @@ pub fn next_mark_ahead(
         return Some((place, rest, until));
     }
     let count = tags.len();
-    match next_mark(tags, until) {
-        Some(place) => {
-            if place + 1 + LANES <= count {
-                let rest = live_ahead(tags, place + 1);
-                return Some((place, rest, place + 1 + LANES));
-            }
-            Some((place, 0, place + 1))
+    let mut at = until;
+    'places: while at + LANES <= count {
+        let ahead = live_ahead(tags, at);
+        if ahead != 0 {
+            let (place, rest) = next_told(ahead, at);
+            return Some((place, rest, at + LANES));
         }
+        at += LANES;
+    }
+    match next_mark(tags, at) {
+        Some(place) => Some((place, 0, place + 1)),
         None => None,
     }
 }
