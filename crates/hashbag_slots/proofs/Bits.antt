@@ -1,9 +1,10 @@
 -- What bits tell of places.
-use Rattle.std.proofs.Common.{◌≡◌, ℕ, ◌+◌, ◌-◌, ◌/◌, ◌%◌, ◌^◌, ◌<◌, ◌≤◌, Bool, true, false, cond, ltb, List, length, get_or, map, refl, sym, ap, ◌∙◌, inl, inr, arith}
+use Rattle.std.proofs.Common.{◌≡◌, ℕ, zero, suc, min, bit_and, ◌+◌, ◌-◌, ◌/◌, ◌%◌, ◌^◌, ◌<◌, ◌≤◌, Bool, true, false, cond, ltb, List, length, get_or, map, refl, sym, ap, ◌∙◌, inl, inr, arith}
+use Rattle.std.proofs.Math.Nat.{min-eq_left, min-zero}
 use Rattle.std.proofs.lemmas.Bool.{cases_lt, ltb-true, lt-ltb, le-ltb}
 use Rattle.std.proofs.lemmas.List.{get_or-map, get_or_past, length-map}
 use Rattle.std.proofs.lemmas.Nat.{shr-shr}
-use Rattle.std.proofs.lemmas.Nat.Bits.{bit_at-zero}
+use Rattle.std.proofs.lemmas.Nat.Bits.{bit_at-zero, bit_at-suc, bit_at_lowest, bit_at-lt, bit_at_and, bit_at_ones, bit_at_ones_above}
 use Rattle.std.proofs.lemmas.Simd.{length-chunk, get_or-chunk, bit_mask_l}
 use Rattle.std.specs.Int.{bit_at}
 use Rattle.std.specs.Simd.Lanes.{chunk, mask_l}
@@ -50,6 +51,19 @@ module _ (test : ℕ → Bool) (from until bits : ℕ) (tells : Tells test from 
   tells_behind k i =
       let place : from + (k + (1 + i)) ≡ from + k + 1 + i = omega arith in
       ap (λ n. n % 2) (shr-shr (bits / 2 ^ k) 1 i ∙ shr-shr bits k (1 + i)) ∙ tells (k + (1 + i)) ∙ ap (λ p. cond (ltb p until) (cond (test p) 1 0) 0) place
+
+  -- the bits of the first few places
+  pub tells_first : (few : ℕ) → from + few ≤ until → Tells test from (from + few) (bit_and bits (2 ^ few - 1))
+  tells_first few within i =
+      bit_at_and bits (2 ^ few - 1) i ∙ elim (cases_lt i few) [
+        | inl lt ↦
+            let small = bit_at-lt bits i in
+            ap (min (bit_at bits i)) (bit_at_ones few i lt) ∙ min-eq_left (omega arith) ∙ tells i
+            ∙ ap (λ b. cond b (cond (test (from + i)) 1 0) 0) (lt-ltb (from + i) until (omega arith) ∙ sym (lt-ltb (from + i) (from + few) (omega arith)))
+        | inr ge ↦
+            ap (min (bit_at bits i)) (bit_at_ones_above few i ge) ∙ min-zero (bit_at bits i)
+            ∙ sym (ap (λ b. cond b (cond (test (from + i)) 1 0) 0) (le-ltb (from + i) (from + few) (omega arith)))
+      ]
 
 -- no bit is set
 pub none_told : (test : ℕ → Bool) (from until : ℕ) → Tells test from until 0 → (p : ℕ) → from ≤ p → p < until → test p ≡ false

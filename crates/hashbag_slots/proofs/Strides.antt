@@ -1,10 +1,11 @@
 -- A probe that goes on by several slots at once, none of which wraps.
-use Rattle.std.proofs.Common.{◌≡◌, ℕ, ◌+◌, ◌-◌, ◌%◌, ◌<◌, ◌≤◌, Bool, true, false, List, Option, nat_eq, sym, ap, subst, ◌∙◌, inl, inr, arith}
+use Rattle.std.proofs.Common.{◌≡◌, ℕ, ◌+◌, ◌-◌, ◌%◌, ◌<◌, ◌≤◌, Bool, true, false, List, Option, length, nat_eq, sym, ap, subst, ◌∙◌, inl, inr, arith}
 use Rattle.std.proofs.Math.Nat.{mod-add-mod, mod-eq_of_lt}
-use Rattle.std.proofs.lemmas.Bool.{cases_lt, eqb-false}
-use Rattle.hashbag_slots.specs.Slots.{path_slot, holds, slot_at}
+use Rattle.std.proofs.lemmas.Bool.{cases_eq, cases_lt, eqb-false}
+use Rattle.hashbag_slots.specs.Slots.{path_slot, holds, slot_at, IsAbsent}
 use Rattle.hashbag_slots.specs.Columns.{mark_of, tag_at, slots_of, columns, Agree, IsReached}
-use Rattle.hashbag_slots.proofs.Reading.{holds_other}
+use Rattle.hashbag_slots.proofs.Probing.{absent_at_stop}
+use Rattle.hashbag_slots.proofs.Reading.{length-slots_of, holds_other, empty_at}
 
 pub path_ahead : (n h s k : ℕ) → path_slot n h s + k < n → path_slot n h (s + k) ≡ path_slot n h s + k
 path_ahead n h s k lt =
@@ -30,3 +31,19 @@ module _ {T : Type 0} (eq : T → T → Bool) (x : T) (hash : T → ℕ) (alike 
   -- slots whose tags are not the value's mark hold other values
   pub others : (mark : ℕ) → mark ≡ mark_of (hash x) → (from r : ℕ) → ((p : ℕ) → from ≤ p → p < r → nat_eq (tag_at ts p) mark ≡ false) → (p : ℕ) → from ≤ p → p < r → holds (λ v. eq v x) (slot_at (slots_of ts cs) p) ≡ false
   others mark is from r differ p a b = holds_other ts cs agree p eq x hash alike reached (λ e. eqb-false (tag_at ts p) mark (differ p a b) (e ∙ sym is))
+
+  -- an Empty slot is at `first + stop`, and no slot with the mark that comes before it on the path holds the value
+  pub absent_near : (mark : ℕ) → mark ≡ mark_of (hash x) → (first stop : ℕ) → first ≡ path_slot (length ts) (hash x) 0 → first + stop < length ts → tag_at ts (first + stop) ≡ 0
+      → ((p : ℕ) → first ≤ p → p < first + stop → tag_at ts p ≡ mark → holds (λ v. eq v x) (slot_at (slots_of ts cs) p) ≡ false) → IsAbsent (λ v. eq v x) (slots_of ts cs)
+  absent_near mark is first stop at within empty same =
+      let ss = slots_of ts cs in
+      let there : (k : ℕ) → k ≤ stop → path_slot (length ss) (hash x) k ≡ first + k = λ k le.
+      ap (λ n. path_slot n (hash x) k) (length-slots_of ts cs agree.same_length) ∙ path_near (length ts) (hash x) k (omega arith) ∙ ap (λ p. p + k) (sym at) in
+      let other : (p : ℕ) → first ≤ p → p < first + stop → holds (λ v. eq v x) (slot_at ss p) ≡ false = λ p a b.
+      elim (cases_eq (tag_at ts p) mark) [
+        | inl equal ↦ same p a b equal
+        | inr differs ↦ holds_other ts cs agree p eq x hash alike reached (λ e. differs (e ∙ sym is))
+      ] in
+      absent_at_stop eq hash alike ss x reached.paths stop
+      (λ k lt. subst (λ p. holds (λ v. eq v x) (slot_at ss p) ≡ false) (sym (there k (omega arith))) (other (first + k) (omega arith) (omega arith)))
+      (ap (slot_at ss) (there stop (omega arith)) ∙ empty_at ts cs agree (first + stop) empty)

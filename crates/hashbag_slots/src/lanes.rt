@@ -87,3 +87,12 @@ pub fn next_told(bits: u64, from: usize) -> (usize, u64)
     let lane = bits.trailing_zeros();
     (from + lane as usize, bits >> lane >> 1)
 }
+
+/// Of bits that tell of places, those of the first few places. All others are 0.
+#[inline(always)]
+pub fn below(bits: u64, few: usize) -> u64
+    requires few { few ≤ 16 }
+    ensures { (test : ℕ → Bool) → (from until : ℕ) → from + few ≤ until → Tells test from until bits → Tells test from (from + few) result }
+{
+    bits & ((1 << few) - 1)
+}

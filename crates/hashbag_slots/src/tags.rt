@@ -11,7 +11,7 @@ ghost use Rattle.hashbag_slots.specs.Columns.{mark_of, tag_at, IsNextMark, Agree
 
 use crate::cells::Cells;
 use crate::lanes::{
-    LANES, equal_ahead, free_before, live_ahead, live_before, next_told, others_before,
+    LANES, below, equal_ahead, free_before, live_ahead, live_before, next_told, others_before,
 };
 use std::alloc::{AllocError, Global};
 use std::hash::{BuildHasher, Hash};
@@ -118,23 +118,25 @@ fn probe<T: Eq + Hash, S: BuildHasher>(
     None
 }
 
-// The place of an equal value among the 16 slots from a place on, of those whose tag is its mark.
+// The place of an equal value among the first few slots from a place on, at most 16, of those whose tag is its mark.
 #[inline(always)]
 fn find_among<T: Eq>(
     tags: &[u8],
     cells: &Cells<(T, usize)>,
     from: usize,
+    few: usize,
     mark: u8,
     value: &T,
 ) -> Option<usize>
+    requires few { few ≤ 16 }
     requires within { from + 16 ≤ length tags.now }
     requires mark { 128 ≤ mark }
     requires agree { Agree tags.now cells.now }
     ensures found { IfSome result (HoldsAt (λ v. T.eq v value.now) (slots_of tags.now cells.now)) }
-    ensures absent { IfNone result ((p : ℕ) → from ≤ p → p < from + 16 → tag_at tags.now p ≡ mark → holds (λ v. T.eq v value.now) (slot_at (slots_of tags.now cells.now) p) ≡ false) }
+    ensures absent { IfNone result ((p : ℕ) → from ≤ p → p < from + few → tag_at tags.now p ≡ mark → holds (λ v. T.eq v value.now) (slot_at (slots_of tags.now cells.now) p) ≡ false) }
 {
     let mut at = from;
-    let mut ahead = equal_ahead(tags, from, mark);
+    let mut ahead = below(equal_ahead(tags, from, mark), few);
     'marks: while ahead != 0 {
         let (place, rest) = next_told(ahead, at);
         if is_in(cells, place, value) {
@@ -172,11 +174,48 @@ pub fn look_near<T: Eq + Hash, S: BuildHasher>(
     if first + LANES > count {
         return None;
     }
-    if let Some(place) = find_among(tags, cells, first, mark_of(hash), value) {
+    if let Some(place) = find_among(tags, cells, first, LANES, mark_of(hash), value) {
         return Some(Ok(place));
     }
     if others_before(tags, first, EMPTY) < LANES {
         return Some(Err(first + live_before(tags, first)));
+    }
+    None
+}
+
+// What the first 16 slots of a path tell of a value: its place, or `Some(None)` where it is absent. `None` as in `look_near`.
+//
+// Only slots before the first Empty one are looked at. None behind it holds the value, and a cell there, where a tag is the mark by
+// chance, would be read for nothing: cells are far from their tags.
+#[inline(always)]
+fn find_near<T: Eq + Hash, S: BuildHasher>(
+    tags: &[u8],
+    cells: &Cells<(T, usize)>,
+    state: &S,
+    hash: u64,
+    value: &T,
+) -> Option<Option<usize>>
+    requires hashed { hash ≡ hash_under T.hash_input S.BuildHasher S.Hasher.Hasher state.now value.now }
+    requires count { IsSlotCount (length tags.now) }
+    requires agree { Agree tags.now cells.now }
+    requires reached { IsReached (hash_under T.hash_input S.BuildHasher S.Hasher.Hasher state.now) (columns tags.now cells.now) }
+    ensures found { IfSome result (λ known. IfSome known (HoldsAt (λ v. T.eq v value.now) (slots_of tags.now cells.now))) }
+    ensures absent { IfSome result (λ known. IfNone known (IsAbsent (λ v. T.eq v value.now) (slots_of tags.now cells.now))) }
+{
+    let count = tags.len();
+    if count == 0 {
+        return None;
+    }
+    let first = place_after(hash, 0, count);
+    if first + LANES > count {
+        return None;
+    }
+    let stop = others_before(tags, first, EMPTY);
+    if let Some(place) = find_among(tags, cells, first, stop, mark_of(hash), value) {
+        return Some(Some(place));
+    }
+    if stop < LANES {
+        return Some(None);
     }
     None
 }
@@ -222,9 +261,8 @@ pub fn find_place<T: Eq + Hash, S: BuildHasher>(
     if let Some(place) = first_place(tags, cells, hash, value) {
         return Some(place);
     }
-    match look_near(tags, cells, state, hash, value) {
-        Some(Ok(place)) => Some(place),
-        Some(Err(_)) => None,
+    match find_near(tags, cells, state, hash, value) {
+        Some(known) => known,
         None => probe(tags, cells, state, hash, value),
     }
 }
@@ -331,14 +369,17 @@ pub fn next_mark_ahead(
         return Some((place, rest, until));
     }
     let count = tags.len();
-    match next_mark(tags, until) {
-        Some(place) => {
-            if place + 1 + LANES <= count {
-                let rest = live_ahead(tags, place + 1);
-                return Some((place, rest, place + 1 + LANES));
-            }
-            Some((place, 0, place + 1))
+    let mut at = until;
+    'places: while at + LANES <= count {
+        let ahead = live_ahead(tags, at);
+        if ahead != 0 {
+            let (place, rest) = next_told(ahead, at);
+            return Some((place, rest, at + LANES));
         }
+        at += LANES;
+    }
+    match next_mark(tags, at) {
+        Some(place) => Some((place, 0, place + 1)),
         None => None,
     }
 }

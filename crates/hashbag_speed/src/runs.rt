@@ -13,9 +13,14 @@ fn put(bag: &mut HashBag<u64>, value: u64) -> Result<(), BagError> {
     Ok(())
 }
 
+// Inserts all of them. That the total fits is asked once.
 fn fill(bag: &mut HashBag<u64>, values: &[u64]) -> Result<(), BagError> {
-    for value in values {
-        put(bag, *value)?;
+    let many = values.len();
+    if many > usize::MAX - bag.len() {
+        return Err(BagError::TooMany);
+    }
+    for at in 0..many {
+        bag.insert(values[at])?;
     }
     Ok(())
 }

@@ -10,26 +10,35 @@ use Rattle.hashbag_slots.proofs.tags.find_among.Goals as goal
 abbrev is_marked : List ℕ → ℕ → ℕ → Bool
 is_marked ts mark p = eqb (tag_at ts p) mark
 
+pub marks-init : goal.marks-init
+marks-init g c =
+    let few = c.requires.few in (
+      omega arith,
+      omega arith,
+      c.below-ahead.ensures (is_marked c.args.tags.now c.args.mark) c.args.from (c.args.from + 16) (omega arith) c.equal_ahead.ensures,
+      λ p a b is. absurd (omega arith),
+    )
+
 pub is_in-requires : goal.is_in-requires
 is_in-requires g c =
     let ts = c.args.tags.now in let least = c.requires.mark in
-    let tag = eqb-true _ _ (c.next_told-place.ensures.passes (is_marked ts c.args.mark) (c.args.from + 16) c.marks.invariant.2) in
+    let tag = eqb-true _ _ (c.next_told-place.ensures.passes (is_marked ts c.args.mark) (c.args.from + c.args.few) c.marks.invariant.2) in
     c.requires.agree.filled c.next_told-place.result.0 (omega arith)
 
 pub returns-then-is_in-clause-found : goal.returns-then-is_in-clause-found
 returns-then-is_in-clause-found g c =
     let ts = c.args.tags.now in let cs = c.args.cells.now in let place = c.next_told-place.result.0 in let least = c.requires.mark in
     let len = length-slots_of ts cs c.requires.agree.same_length in let room = c.requires.within in
-    let below = c.next_told-place.ensures.below (is_marked ts c.args.mark) (c.args.from + 16) c.marks.invariant.2 in
+    let below = c.next_told-place.ensures.below (is_marked ts c.args.mark) (c.args.from + c.args.few) c.marks.invariant.2 in
     let within : place < length (slots_of ts cs) = omega arith in
-    let tag = eqb-true _ _ (c.next_told-place.ensures.passes (is_marked ts c.args.mark) (c.args.from + 16) c.marks.invariant.2) in
+    let tag = eqb-true _ _ (c.next_told-place.ensures.passes (is_marked ts c.args.mark) (c.args.from + c.args.few) c.marks.invariant.2) in
     let e = c.requires.agree.filled place (omega arith) in
     (within, holds_at ts cs c.requires.agree place g.T.PartialEq.eq c.args.value.now e.0 e.1 ∙ c.is_in.ensures e.0 e.1 ∙ c.if-is_in.true)
 
 pub marks-preserved : goal.marks-preserved
 marks-preserved g c =
     let ts = c.args.tags.now in let cs = c.args.cells.now in let place = c.next_told-place.result.0 in let least = c.requires.mark in
-    let test : ℕ → Bool = is_marked ts c.args.mark in let until : ℕ = c.args.from + 16 in let told = c.marks.invariant.2 in
+    let test : ℕ → Bool = is_marked ts c.args.mark in let until : ℕ = c.args.from + c.args.few in let told = c.marks.invariant.2 in
     let from = c.next_told-place.ensures.from in let start = c.marks.invariant.0 in
     let below = c.next_told-place.ensures.below test until told in
     let tag = eqb-true _ _ (c.next_told-place.ensures.passes test until told) in
@@ -52,7 +61,7 @@ marks-preserved g c =
 
 pub returns-clause-absent : goal.returns-clause-absent
 returns-clause-absent g c p a b is =
-    let test : ℕ → Bool = is_marked c.args.tags.now c.args.mark in let until : ℕ = c.args.from + 16 in
+    let test : ℕ → Bool = is_marked c.args.tags.now c.args.mark in let until : ℕ = c.args.from + c.args.few in
     elim (cases_lt p c.marks.at) [
       | inl before ↦ c.marks.invariant.3 p a before is
       | inr beyond ↦ absurd (eqb-false _ _ (none_told test c.marks.at until (subst (Tells test c.marks.at until) c.marks-test.false c.marks.invariant.2) p beyond b) is)
