@@ -1,9 +1,5 @@
--- A row of cells, each empty or with a value, and the memory in which it lies.
-use Rattle.std.specs.Prelude.{◌≡◌, ℕ, Bool, List, [], ◌∷◌, replicate, slice_index_or, if◌then◌else◌, Option, Some, None, ⊤}
-use Rattle.core.specs.Mem.Slots.{slots_items, slots_filled, slots_ptr, slots_len}
-use Rattle.std.specs.declared.alloc.Global.{Global}
-use Rattle.hashbag_slots.specs.declared.cells.Store.{Store}
-use Rattle.hashbag_slots.specs.declared.cells.Store.TheVariants.{Nothing, Bare, Open}
+-- A row of cells, each empty or with a value.
+use Rattle.std.specs.Prelude.{◌≡◌, ℕ, Bool, List, [], ◌∷◌, slice_index_or, if◌then◌else◌, Option, Some, None}
 
 module _ {T : Type 0} where
   -- the cell at a place, and an empty one past the end
@@ -23,15 +19,3 @@ module _ {T : Type 0} where
   filled_values [] fs = []
   filled_values (x ∷ xs) [] = []
   filled_values (x ∷ xs) (f ∷ fs) = (if f then Some x else None) ∷ filled_values xs fs
-
-  -- the cells that a store means
-  abbrev pub cells_of : Store T → List (Option T)
-  cells_of Nothing = []
-  cells_of (Bare room claim) = replicate room.len None
-  cells_of (Open row claim) = filled_values (slots_items row) (slots_filled row)
-
-  -- the claim of a store is the one to its own memory, at that allocator
-  abbrev pub IsStore : Global → Store T → Type 0
-  IsStore alloc Nothing = ⊤
-  IsStore alloc (Bare room claim) = (claim.at ≡ room.ptr) × (claim.len ≡ room.len) × (claim.alloc ≡ alloc)
-  IsStore alloc (Open row claim) = (claim.at ≡ slots_ptr row) × (claim.len ≡ slots_len row) × (claim.alloc ≡ alloc)

@@ -6,4 +6,5 @@ pub mod Hashing
 pub mod Lanes
 pub mod Owning
 pub mod Slots
+pub mod Stores
 pub mod Walks

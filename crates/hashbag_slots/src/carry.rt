@@ -6,8 +6,8 @@ ghost use Rattle.hashbag_slots.specs.Slots.{removed_count, IsAbsent, Places, Are
 ghost use Rattle.hashbag_slots.specs.Columns.{columns, slots_of, IsReached, IsColumns};
 ghost use Rattle.hashbag_slots.specs.Carry.{CarriesTags, kept, IsCarried};
 
-use crate::cells::Cells;
 use crate::lanes::{LANES, live_ahead, next_told};
+use crate::opened::Opened;
 use crate::slots::hash_of;
 use crate::tags::{LEAST_MARK, MOVED, REMOVED, free_place, mark_of};
 use std::hash::{BuildHasher, Hash};
@@ -17,10 +17,10 @@ use std::hash::{BuildHasher, Hash};
 #[inline(always)]
 fn move_in<T: Eq + Hash, S: BuildHasher>(
     tags: &mut [u8],
-    cells: &mut Cells<(T, usize)>,
+    cells: &mut Opened<(T, usize)>,
     live: usize,
     removed: &mut usize,
-    older: &mut Cells<(T, usize)>,
+    older: &mut Opened<(T, usize)>,
     place: usize,
     state: &S,
 ) -> usize
@@ -66,11 +66,11 @@ pub fn carry_tags(tags: &mut [u8], from: usize)
 #[inline(always)]
 pub fn carry_lanes<T: Eq + Hash, S: BuildHasher>(
     tags: &mut [u8],
-    cells: &mut Cells<(T, usize)>,
+    cells: &mut Opened<(T, usize)>,
     counts: (usize, usize),
     removed: &mut usize,
     older_tags: &mut [u8],
-    older_cells: &mut Cells<(T, usize)>,
+    older_cells: &mut Opened<(T, usize)>,
     state: &S,
     from: usize,
 ) -> (usize, usize)

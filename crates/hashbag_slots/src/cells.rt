@@ -2,13 +2,14 @@
 //!
 //! So cells for many values cost no more than their allocation, however many there are: their memory is first touched where
 //! values are put.
-ghost use Rattle.std.specs.Prelude.{◌≡◌, ℕ, ◌<◌, length, replicate, slice_set, Some, None, IfOk, IsOk};
+ghost use Rattle.std.specs.Prelude.{◌≡◌, ℕ, ◌<◌, length, replicate, slice_set, [], Some, None, IfOk, IsOk};
 ghost use Rattle.std.specs.declared.alloc.Global.{Global as Heap};
-ghost use Rattle.hashbag_slots.specs.Cells.{cell_at, IsFilled, IsBlank, cells_of, IsStore};
+ghost use Rattle.hashbag_slots.specs.Cells.{cell_at, IsFilled, IsBlank};
+ghost use Rattle.hashbag_slots.specs.Stores.{cells_of, IsStore};
 
+use crate::opened::Opened;
 use crate::room::{Claim, Room, release, reserve};
-use core::mem::replace_with;
-use core::slots::Slots as Row;
+use core::mem::{replace, replace_with};
 use std::alloc::{AllocError, Global};
 use std::marker::Model;
 use std_alloc::room::may_hold;
@@ -18,7 +19,7 @@ use std_alloc::room::may_hold;
 pub enum Store<T> {
     Nothing,
     Bare(Room<T>, Claim<T, Global>),
-    Open(Row<T>, Claim<T, Global>),
+    Open(Opened<T>),
 }
 
 /// A row of cells. Contracts see the list of them: each cell's value, or `None` where it is empty.
@@ -33,7 +34,7 @@ impl<T> Model for Cells<T> {
     ghost Value = { List (Option T) };
 
     ghost use Rattle.std.specs.declared.alloc.Global.{Global as Heap};
-    ghost use Rattle.hashbag_slots.specs.Cells.{cells_of, IsStore};
+    ghost use Rattle.hashbag_slots.specs.Stores.{cells_of, IsStore};
 
     ghost view = { λ c. cells_of c.store };
 
@@ -41,19 +42,21 @@ impl<T> Model for Cells<T> {
 }
 
 // Puts a value into an empty cell. Room becomes a row of places here.
-fn put_into<T>(store: Store<T>, cell: (usize, T)) -> (Store<T>, ())
+fn put_into<T>(store: Store<T>, cell: (usize, T, Global)) -> (Store<T>, ())
     requires within { cell.0 < length (cells_of store) }
+    requires empty { cell_at (cells_of store) cell.0 ≡ None }
+    requires store { IsStore cell.2 store }
     ensures cells { cells_of result.0 ≡ slice_set (cells_of store) cell.0 (Some cell.1) }
-    ensures store { (alloc : Heap) → IsStore alloc store → IsStore alloc result.0 }
+    ensures store { (alloc : Heap) → IsStore alloc result.0 }
 {
-    let (place, value) = cell;
-    let (mut row, claim) = match store {
-        Store::Bare(room, claim) => (room.open(&value), claim),
-        Store::Open(row, claim) => (row, claim),
+    let (place, value, alloc) = cell;
+    let mut opened = match store {
+        Store::Bare(room, claim) => Opened::new(room.open(&value), claim, alloc),
+        Store::Open(opened) => opened,
         Store::Nothing => unreachable!(),
     };
-    row.put(place, value);
-    (Store::Open(row, claim), ())
+    opened.put(place, value);
+    (Store::Open(opened), ())
 }
 
 impl<T> Cells<T> {
@@ -86,7 +89,7 @@ impl<T> Cells<T> {
         ensures { cell_at self.now place ≡ Some result.now }
     {
         match &self.store {
-            Store::Open(row, _) => row.get(place),
+            Store::Open(opened) => opened.get(place),
             Store::Nothing | Store::Bare(_, _) => unreachable!(),
         }
     }
@@ -98,11 +101,11 @@ impl<T> Cells<T> {
         requires empty { cell_at self.old place ≡ None }
         ensures { self.new ≡ slice_set self.old place (Some value) }
     {
-        if let Store::Open(row, _) = &mut self.store {
-            row.put(place, value);
+        if let Store::Open(opened) = &mut self.store {
+            opened.put(place, value);
             return;
         }
-        replace_with(&mut self.store, (place, value), put_into);
+        replace_with(&mut self.store, (place, value, self.alloc), put_into);
     }
 
     /// Takes the value out of a cell.
@@ -113,9 +116,33 @@ impl<T> Cells<T> {
         ensures after { self.new ≡ slice_set self.old place None }
     {
         match &mut self.store {
-            Store::Open(row, _) => row.take(place),
+            Store::Open(opened) => opened.take(place),
             Store::Nothing | Store::Bare(_, _) => unreachable!(),
         }
+    }
+
+    /// Takes the row of cells into hand, where a value is in one of them. None are left here.
+    #[inline(always)]
+    pub fn open(&mut self) -> Opened<T>
+        requires { (p : ℕ) × IsFilled self.old p }
+        ensures value { result ≡ self.old }
+        ensures after { self.new ≡ [] }
+    {
+        match replace(&mut self.store, Store::Nothing) {
+            Store::Open(opened) => opened,
+            _store => unreachable!(),
+        }
+    }
+
+    /// Puts cells that were in hand in the place of these, of which each is empty.
+    #[inline(always)]
+    pub fn close(&mut self, opened: Opened<T>)
+        requires { IsBlank self.old }
+        ensures { self.new ≡ opened }
+    {
+        let alloc = self.alloc;
+        let store = Store::Open(opened);
+        replace(self, Cells { store, alloc }).free();
     }
 
     /// Gives back the memory of cells that are all empty: no value is dropped here, and none is forgotten.
@@ -126,7 +153,7 @@ impl<T> Cells<T> {
         match store {
             Store::Nothing => {}
             Store::Bare(room, claim) => release(&alloc, room, claim),
-            Store::Open(row, claim) => release(&alloc, Room::close(row), claim),
+            Store::Open(opened) => opened.free(),
         }
     }
 }

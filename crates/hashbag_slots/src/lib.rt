@@ -8,6 +8,7 @@
 mod carry;
 mod cells;
 mod lanes;
+mod opened;
 mod room;
 pub mod slots;
 mod tags;

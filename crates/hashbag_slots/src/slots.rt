@@ -426,6 +426,8 @@ impl<T: Eq + Hash> Slots<T> {
     #[inline(always)]
     fn carry_sixteen<S: BuildHasher>(&mut self, state: &S, older: &mut Slots<T>, from: usize)
         requires within { from + 16 ≤ length older.old.slots }
+        requires some { 0 < live_count self.old.slots }
+        requires waiting { 0 < live_count older.old.slots }
         requires apart { AreApart T.eq older.old.slots self.old.slots }
         requires room { live_count self.old.slots + live_count older.old.slots ≤ length self.old.slots }
         requires reached { IsReached (hash_under T.hash_input S.BuildHasher S.Hasher.Hasher state.now) self.old }
@@ -438,19 +440,23 @@ impl<T: Eq + Hash> Slots<T> {
         ensures reached { IsReached (hash_under T.hash_input S.BuildHasher S.Hasher.Hasher state.now) self.new }
         ensures older_reached { (hash : T → ℕ) → IsReached hash older.old → IsReached hash older.new }
     {
+        let mut cells = self.cells.open();
+        let mut older_cells = older.cells.open();
         let counts = (self.live, older.live);
         let (live, left) = carry_lanes(
             self.tags.as_mut_slice(),
-            &mut self.cells,
+            &mut cells,
             counts,
             &mut self.removed,
             older.tags.as_mut_slice(),
-            &mut older.cells,
+            &mut older_cells,
             state,
             from,
         );
         self.live = live;
         older.live = left;
+        self.cells.close(cells);
+        older.cells.close(older_cells);
     }
 
     /// Carries `many` slots of an older table, from the place `from` on: each Live value is placed here as by `place`, with its
@@ -481,7 +487,7 @@ impl<T: Eq + Hash> Slots<T> {
         let end = from + many;
         let mut at = from;
         'places: while at < end {
-            if end - at >= LANES {
+            if end - at >= LANES && self.live > 0 && older.live > 0 {
                 self.carry_sixteen(state, older, at);
                 at += LANES;
             } else {

@@ -1,10 +1,10 @@
 use Rattle.std.proofs.Common.{◌≡◌, sym, ap, subst, ◌∙◌}
-use Rattle.hashbag_slots.specs.Cells.{IsBlank, filled_values, cells_of}
+use Rattle.hashbag_slots.specs.Cells.{IsBlank, filled_values}
 use Rattle.hashbag_slots.proofs.Values.{blank_places}
-use Rattle.hashbag_slots.proofs.cells.Cells.free.Goals as goal
+use Rattle.hashbag_slots.proofs.opened.Opened.free.Goals as goal
 
 pub close-requires : goal.close-requires
 close-requires g c k lt =
-    let row = c.in-Open.row in
-    let seen : filled_values row.items row.filled ≡ c.args.self = sym (ap cells_of c.in-Open.is) ∙ c.self.view_is in
+    let row = c.self.inside.row in
+    let seen : filled_values row.items row.filled ≡ c.args.self = c.self.view_is in
     blank_places row.items row.filled (sym row.ok.0 ∙ row.ok.1) (subst IsBlank (sym seen) c.requires) k
