@@ -41,10 +41,10 @@ module _ (test : ℕ → Bool) (from until bits : ℕ) (tells : Tells test from 
 
   -- a bit that is not set
   pub untold : (i : ℕ) → bit_at bits i ≡ 0 → from + i < until → test (from + i) ≡ false
-  untold i zero below = not_set (ltb (from + i) until) (test (from + i)) (sym (tells i) ∙ zero) (lt-ltb _ _ below)
+  untold i clear below = not_set (ltb (from + i) until) (test (from + i)) (sym (tells i) ∙ clear) (lt-ltb _ _ below)
 
   pub untold_at : (i p : ℕ) → from + i ≡ p → bit_at bits i ≡ 0 → p < until → test p ≡ false
-  untold_at i p e zero below = sym (ap test e) ∙ untold i zero (omega arith)
+  untold_at i p e clear below = sym (ap test e) ∙ untold i clear (omega arith)
 
   -- the bits behind one
   pub tells_behind : (k : ℕ) → Tells test (from + k + 1) until (bits / 2 ^ k / 2 ^ 1)
