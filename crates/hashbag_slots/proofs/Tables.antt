@@ -161,6 +161,14 @@ some_free (Removed ∷ ss) h = (0, omega arith, refl)
 some_free (Moved ∷ ss) h = (0, omega arith, refl)
 some_free (Live v n ∷ ss) h = let more : live_count (Live v n ∷ ss) ≡ 1 + live_count ss = sum_by-cons (λ x. cond (is_live x) 1 0) (Live v n) ss in let r = some_free ss (omega (arith, more, h)) in let l = r.1 in (suc r.0, omega arith, r.2)
 
+-- one is Live
+pub some_alive : {T : Type 0} (ss : List (Slot T)) → 0 < live_count ss → (p : ℕ) × (is_live (slot_at ss p) ≡ true)
+some_alive [] h = absurd (omega arith)
+some_alive (Empty ∷ ss) h = let r = some_alive ss h in (suc r.0, r.1)
+some_alive (Removed ∷ ss) h = let r = some_alive ss h in (suc r.0, r.1)
+some_alive (Moved ∷ ss) h = let r = some_alive ss h in (suc r.0, r.1)
+some_alive (Live v n ∷ ss) h = (0, refl)
+
 -- none is
 pub none_live : {T : Type 0} (ss : List (Slot T)) → live_count ss ≡ 0 → (p : ℕ) → is_live (slot_at ss p) ≡ false
 none_live [] h p = refl
