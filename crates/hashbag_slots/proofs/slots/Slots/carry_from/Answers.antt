@@ -2,8 +2,8 @@ use Rattle.std.proofs.Common.{ℕ, ◌+◌, ◌-◌, ◌<◌, ◌≤◌, length,
 use Rattle.hashbag_slots.proofs.Carrying.{PlacesAll-step, Carries-step, PlacesAll-join, Carries-join}
 use Rattle.hashbag_slots.proofs.slots.Slots.carry_from.Goals as goal
 
-pub places-preserved-then-end-at-ge-LANES : goal.places-preserved-then-end-at-ge-LANES
-places-preserved-then-end-at-ge-LANES g c =
+pub places-preserved-then-older-gt0 : goal.places-preserved-then-older-gt0
+places-preserved-then-older-gt0 g c =
     let from = c.args.from in let at = c.places.at in let i = c.places.invariant in let all = c.carry_sixteen.ensures in
     let old = c.args.older.now.slots in let mid = c.places.older.slots in
     let begun : from ≤ at = i.begun in let many = c.if-end-at-ge-LANES.true in let before = c.places-test.true in
