@@ -49,8 +49,8 @@ tags_step from at ts us begun within high c = record {
     | inr other ↦ get_or-set_other us at p 2 0 other ∙ c.inside p a (omega arith)
   ];
   outside = λ p h.
-      let other : p ≡ at → ⊥ = λ e. elim h [ inl a ↦ absurd (omega arith) | inr b ↦ absurd (omega arith) ] in
-      get_or-set_other us at p 2 0 other ∙ c.outside p (elim h [ inl a ↦ inl a | inr b ↦ inr (omega arith) ]);
+    let other : p ≡ at → ⊥ = λ e. elim h [ inl a ↦ absurd (omega arith) | inr b ↦ absurd (omega arith) ] in
+    get_or-set_other us at p 2 0 other ∙ c.outside p (elim h [ inl a ↦ inl a | inr b ↦ inr (omega arith) ]);
 }
 
 module _ {T : Type 0} (eq : T → T → Bool) (hash : T → ℕ) where
