@@ -1,5 +1,5 @@
 -- What bits tell of places.
-use Rattle.std.proofs.Common.{◌≡◌, ℕ, zero, suc, min, bit_and, ◌+◌, ◌-◌, ◌/◌, ◌%◌, ◌^◌, ◌<◌, ◌≤◌, Bool, true, false, cond, ltb, List, length, get_or, map, refl, sym, ap, ◌∙◌, inl, inr, arith}
+use Rattle.std.proofs.Common.{◌≡◌, ℕ, zero, suc, min, bit_and, ◌+◌, ◌-◌, ◌/◌, ◌%◌, ◌^◌, ◌<◌, ◌≤◌, ◌&&◌, Bool, true, false, cond, ltb, List, length, get_or, map, refl, sym, ap, ◌∙◌, inl, inr, arith}
 use Rattle.std.proofs.Math.Nat.{min-eq_left, min-zero}
 use Rattle.std.proofs.lemmas.Bool.{cases_lt, ltb-true, lt-ltb, le-ltb}
 use Rattle.std.proofs.lemmas.List.{get_or-map, get_or_past, length-map}
@@ -24,6 +24,39 @@ tells_mask q ts from bits room is i =
           ∙ sym (ap (λ b. cond b (cond (q (get_or ts (from + i) 0)) 1 0) 0) (le-ltb (from + i) (from + 16) (omega arith)))
     ]
 
+-- one less than an even number, and than an odd one
+half_even : (n : ℕ) → 0 < n → n % 2 ≡ 0 → (n - 1) / 2 ≡ n / 2 - 1
+half_even n some even = omega arith
+
+half_odd : (n : ℕ) → n % 2 ≡ 1 → (n - 1) / 2 ≡ n / 2
+half_odd n odd = omega arith
+
+-- one less than a number, at its lowest bit and above it
+less_at : (n t : ℕ) → 0 < n → bit_at n t ≡ 1 → ((i : ℕ) → i < t → bit_at n i ≡ 0) → bit_at (n - 1) t ≡ 0
+less_at n zero some one low = let odd : n % 2 ≡ 1 = sym (bit_at_lowest n) ∙ one in bit_at_lowest (n - 1) ∙ omega arith
+less_at n (suc t) some one low =
+    let even : n % 2 ≡ 0 = sym (bit_at_lowest n) ∙ low 0 (omega arith) in
+    bit_at-suc (n - 1) t ∙ ap (λ m. bit_at m t) (half_even n some even)
+    ∙ less_at (n / 2) t (omega arith) (sym (bit_at-suc n t) ∙ one) (λ i l. sym (bit_at-suc n i) ∙ low (suc i) (omega arith))
+
+less_above : (n t i : ℕ) → 0 < n → bit_at n t ≡ 1 → ((j : ℕ) → j < t → bit_at n j ≡ 0) → t < i → bit_at (n - 1) i ≡ bit_at n i
+less_above n t zero some one low above = absurd (omega arith)
+less_above n zero (suc i) some one low above =
+    let odd : n % 2 ≡ 1 = sym (bit_at_lowest n) ∙ one in bit_at-suc (n - 1) i ∙ ap (λ m. bit_at m i) (half_odd n odd) ∙ sym (bit_at-suc n i)
+less_above n (suc t) (suc i) some one low above =
+    let even : n % 2 ≡ 0 = sym (bit_at_lowest n) ∙ low 0 (omega arith) in
+    bit_at-suc (n - 1) i ∙ ap (λ m. bit_at m i) (half_even n some even)
+    ∙ less_above (n / 2) t i (omega arith) (sym (bit_at-suc n t) ∙ one) (λ j l. sym (bit_at-suc n j) ∙ low (suc j) (omega arith)) (omega arith)
+    ∙ sym (bit_at-suc n i)
+
+pub no_bit : (b : Bool) → ◌≡◌ {A = ℕ} (cond b 0 0) 0
+no_bit true = refl
+no_bit false = refl
+
+-- another test that says the same of the places from `from` on
+pub tells_same : (test other : ℕ → Bool) (from until bits : ℕ) → ((p : ℕ) → from ≤ p → test p ≡ other p) → Tells test from until bits → Tells other from until bits
+tells_same test other from until bits same tells i = tells i ∙ ap (λ b. cond (ltb (from + i) until) (cond b 1 0) 0) (same (from + i) (omega arith))
+
 both_set : (b c : Bool) → ◌≡◌ {A = ℕ} (cond b (cond c 1 0) 0) 1 → (b ≡ true) × (c ≡ true)
 both_set true true h = (refl, refl)
 both_set true false h = absurd (omega arith)
@@ -41,16 +74,35 @@ module _ (test : ℕ → Bool) (from until bits : ℕ) (tells : Tells test from 
 
   -- a bit that is not set
   pub untold : (i : ℕ) → bit_at bits i ≡ 0 → from + i < until → test (from + i) ≡ false
-  untold i clear below = not_set (ltb (from + i) until) (test (from + i)) (sym (tells i) ∙ clear) (lt-ltb _ _ below)
+  untold i unset below = not_set (ltb (from + i) until) (test (from + i)) (sym (tells i) ∙ unset) (lt-ltb _ _ below)
 
   pub untold_at : (i p : ℕ) → from + i ≡ p → bit_at bits i ≡ 0 → p < until → test p ≡ false
-  untold_at i p e clear below = sym (ap test e) ∙ untold i clear (omega arith)
+  untold_at i p e unset below = sym (ap test e) ∙ untold i unset (omega arith)
 
   -- the bits behind one
   pub tells_behind : (k : ℕ) → Tells test (from + k + 1) until (bits / 2 ^ k / 2 ^ 1)
   tells_behind k i =
       let place : from + (k + (1 + i)) ≡ from + k + 1 + i = omega arith in
       ap (λ n. n % 2) (shr-shr (bits / 2 ^ k) 1 i ∙ shr-shr bits k (1 + i)) ∙ tells (k + (1 + i)) ∙ ap (λ p. cond (ltb p until) (cond (test p) 1 0) 0) place
+
+  -- the bits with the lowest cleared
+  pub tells_cleared : (t : ℕ) → 0 < bits → bit_at bits t ≡ 1 → ((i : ℕ) → i < t → bit_at bits i ≡ 0)
+      → Tells (λ p. ltb (from + t) p && test p) from until (bit_and bits (bits - 1))
+  tells_cleared t some one low i =
+      let here : Bool = ltb (from + i) until in
+      let behind : Bool → ℕ = λ b. cond here (cond (b && test (from + i)) 1 0) 0 in
+      bit_at_and bits (bits - 1) i ∙ elim (cases_lt t i) [
+        | inl above ↦
+            ap (min (bit_at bits i)) (less_above bits t i some one low above) ∙ min-eq_left (omega arith) ∙ tells i
+            ∙ sym (ap behind (lt-ltb (from + t) (from + i) (omega arith)))
+        | inr upto ↦
+            elim (cases_lt i t) [
+              | inl under ↦ ap (λ b. min b (bit_at (bits - 1) i)) (low i under) ∙ omega arith
+              | inr beyond ↦
+                  let same : i ≡ t = omega arith in
+                  ap (min (bit_at bits i)) (ap (bit_at (bits - 1)) same ∙ less_at bits t some one low) ∙ min-zero (bit_at bits i)
+            ] ∙ sym (ap behind (le-ltb (from + t) (from + i) (omega arith)) ∙ no_bit here)
+      ]
 
   -- the bits of the first few places
   pub tells_first : (few : ℕ) → from + few ≤ until → Tells test from (from + few) (bit_and bits (2 ^ few - 1))

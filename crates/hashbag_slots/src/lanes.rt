@@ -1,5 +1,5 @@
 //! Sixteen tags at once.
-ghost use Rattle.std.specs.Prelude.{◌≡◌, ◌==◌, ℕ, ◌+◌, ◌<◌, ◌≤◌, ◌^◌, Bool, true, false, if◌then◌else◌, length, nat_lt, nat_le};
+ghost use Rattle.std.specs.Prelude.{◌≡◌, ◌==◌, ℕ, ◌+◌, ◌<◌, ◌≤◌, ◌^◌, ◌&&◌, Bool, true, false, if◌then◌else◌, length, nat_lt, nat_le};
 ghost use Rattle.std.specs.Int.{w64, trailing_zeros};
 ghost use Rattle.std.specs.Slice.Scan.{IsFirstPlace};
 ghost use Rattle.hashbag_slots.specs.Columns.{tag_at};
@@ -86,6 +86,20 @@ pub fn next_told(bits: u64, from: usize) -> (usize, u64)
 {
     let lane = bits.trailing_zeros();
     (from + lane as usize, bits >> lane >> 1)
+}
+
+/// As `next_told`, but the bits that it answers keep their places: they begin at `from` still, and the bit of the place found is cleared.
+#[inline(always)]
+pub fn lowest_told(bits: u64, from: usize) -> (usize, u64)
+    requires some { 0 < bits }
+    requires fits { from + 64 ≤ 2 ^ 64 }
+    ensures from { from ≤ result.0 }
+    ensures below { (test : ℕ → Bool) → (until : ℕ) → Tells test from until bits → result.0 < until }
+    ensures passes { (test : ℕ → Bool) → (until : ℕ) → Tells test from until bits → test result.0 ≡ true }
+    ensures before { (test : ℕ → Bool) → (until : ℕ) → Tells test from until bits → (p : ℕ) → from ≤ p → p < result.0 → test p ≡ false }
+    ensures rest { (test : ℕ → Bool) → (until : ℕ) → Tells test from until bits → Tells (λ p. nat_lt result.0 p && test p) from until result.1 }
+{
+    (from + bits.trailing_zeros() as usize, bits & (bits - 1))
 }
 
 /// Of bits that tell of places, those of the first few places. All others are 0.

@@ -2,16 +2,17 @@
 //!
 //! A probe reads tags, sixteen at once, and a cell only where the tag is the mark of its own hash. Under a hash that spreads its values, that is
 //! so at one in 128 of the other values on its path.
-ghost use Rattle.std.specs.Prelude.{◌≡◌, ◌==◌, ℕ, ◌+◌, ◌<◌, ◌≤◌, ◌^◌, ◌/◌, length, false, nat_le, IfSome, IfNone, IfOk, IfErr, IsOk, OnErr, replicate, Some, None};
+ghost use Rattle.std.specs.Prelude.{◌≡◌, ◌==◌, ℕ, ◌+◌, ◌<◌, ◌≤◌, ◌^◌, ◌/◌, length, false, IfSome, IfNone, IfOk, IfErr, IsOk, OnErr, replicate, Some, None};
 ghost use Rattle.hashbag_slots.specs.Cells.{cell_at, IsFilled};
 ghost use Rattle.hashbag_slots.specs.Hashing.{hash_under};
-ghost use Rattle.hashbag_slots.specs.Lanes.{Tells};
+ghost use Rattle.hashbag_slots.specs.Walks.{IsAhead};
 ghost use Rattle.hashbag_slots.specs.Slots.{IsSlotCount, path_slot, slot_at, holds, HoldsAt, IsAbsent, live_count, IsFirstFree};
 ghost use Rattle.hashbag_slots.specs.Columns.{mark_of, tag_at, IsNextMark, Agree, columns, slots_of, IsReached};
 
 use crate::cells::Cells;
 use crate::lanes::{
-    LANES, below, equal_ahead, free_before, live_ahead, live_before, next_told, others_before,
+    LANES, below, equal_ahead, free_before, live_ahead, live_before, lowest_told, next_told,
+    others_before,
 };
 use std::alloc::{AllocError, Global};
 use std::hash::{BuildHasher, Hash};
@@ -346,8 +347,8 @@ pub fn next_mark(tags: &[u8], from: usize) -> Option<usize>
     None
 }
 
-/// As `next_mark`, where bits tell which slots are Live from `from` on below `until`. It also answers what bits tell of the places
-/// behind the one found, and below which place.
+/// As `next_mark`, where bits tell which slots are Live from `from` on, of the 16 below `until`. It also answers the bits that tell so
+/// of the places behind the one found, and the place below which they do.
 #[inline(always)]
 pub fn next_mark_ahead(
     tags: &[u8],
@@ -355,17 +356,13 @@ pub fn next_mark_ahead(
     bits: u64,
     until: usize,
 ) -> Option<(usize, u64, usize)>
-    requires told { Tells (λ p. nat_le 128 (tag_at tags.now p)) from until bits }
-    requires until { from ≤ until }
-    requires within { until ≤ length tags.now }
+    requires ahead { IsAhead tags.now from until bits }
     ensures some { IfSome result (λ r. IsNextMark tags.now from r.0) }
-    ensures told { IfSome result (λ r. Tells (λ p. nat_le 128 (tag_at tags.now p)) (r.0 + 1) r.2 r.1) }
-    ensures until { IfSome result (λ r. r.0 + 1 ≤ r.2) }
-    ensures within { IfSome result (λ r. r.2 ≤ length tags.now) }
+    ensures ahead { IfSome result (λ r. IsAhead tags.now (r.0 + 1) r.2 r.1) }
     ensures none { IfNone result ((q : ℕ) → from ≤ q → tag_at tags.now q < 128) }
 {
     if bits != 0 {
-        let (place, rest) = next_told(bits, from);
+        let (place, rest) = lowest_told(bits, until - LANES);
         return Some((place, rest, until));
     }
     let count = tags.len();
@@ -373,7 +370,7 @@ pub fn next_mark_ahead(
     'places: while at + LANES <= count {
         let ahead = live_ahead(tags, at);
         if ahead != 0 {
-            let (place, rest) = next_told(ahead, at);
+            let (place, rest) = lowest_told(ahead, at);
             return Some((place, rest, at + LANES));
         }
         at += LANES;

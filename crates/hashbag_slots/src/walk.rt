@@ -18,7 +18,7 @@ pub struct Walk<'a, T> {
     pub(crate) tags: &'a [u8],
     pub(crate) cells: &'a Cells<(T, usize)>,
     pub(crate) next: usize,
-    // A bit for each slot from `next` on, below `until`: whether it is Live.
+    // A bit for each of the 16 slots below `until`: whether it is Live and not before `next`.
     pub(crate) ahead: u64,
     pub(crate) until: usize,
     pub(crate) left: usize,

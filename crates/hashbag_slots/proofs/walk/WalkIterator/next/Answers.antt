@@ -13,7 +13,7 @@ overflow_sub-self g c =
 pub invariant_of-self : goal.invariant_of-self
 invariant_of-self g c = (
   walk_goes_on c.self.inside.tags.now c.self.inside.cells.now c.self.inside.next c.self.inside.left c.self.invariant.0 c.in-Some.place c.in-Some.ensures.some c.get-entry.result.now c.get-entry.ensures,
-  record { told = c.in-Some.ensures.told; from = c.in-Some.ensures.until; within = c.in-Some.ensures.within },
+  c.in-Some.ensures.ahead,
 )
 
 pub returns-in-Some-clause-steps : goal.returns-in-Some-clause-steps
