@@ -1,14 +1,13 @@
 -- A carry, slot by slot, over what both tables keep.
-use Rattle.std.proofs.Common.{◌≡◌, ℕ, zero, suc, ◌+◌, ◌-◌, ◌<◌, ◌≤◌, ◌⊎◌, Bool, true, false, cond, leb, nat_eq, List, [], ◌∷◌, length, Option, Some, None, get_or, refl, sym, ap, subst, ◌∙◌, inl, inr, arith, slice_set}
+use Rattle.std.proofs.Common.{◌≡◌, ℕ, ◌+◌, ◌-◌, ◌<◌, ◌≤◌, Bool, cond, List, [], ◌∷◌, length, Some, None, get_or, refl, sym, ap, subst, ◌∙◌, inl, inr, arith, slice_set}
 use Rattle.std.proofs.lemmas.Bool.{cases_lt, cases_eq, le-leb, lt-leb}
 use Rattle.std.proofs.lemmas.List.{ext_get_or, get_or-set_same, get_or-set_other, length-set}
 use Rattle.std.specs.Cmp.{IsEquivalence}
-use Rattle.hashbag_slots.specs.declared.slots.Slot.{Slot}
-use Rattle.hashbag_slots.specs.declared.slots.Slot.TheVariants.{Empty, Removed, Moved, Live}
-use Rattle.hashbag_slots.specs.Slots.{is_live, slot_at, live_count, entries, entries_in, Places, PlacesAll, carried, Carries, AreApart}
+use Rattle.hashbag_slots.specs.declared.slots.Slot.TheVariants.{Moved, Live}
+use Rattle.hashbag_slots.specs.Slots.{is_live, slot_at, entries, Places, PlacesAll, carried, AreApart}
 use Rattle.hashbag_slots.specs.Columns.{slots_of, columns, IsColumns, IsReached}
 use Rattle.hashbag_slots.specs.Carry.{carried_tag, CarriesTags, Kept, kept, is_kept, IsCarried}
-use Rattle.hashbag_slots.proofs.Carrying.{PlacesAll-step, Carries-step, Carries-none, skip_to, AreApart-carry, live-Places}
+use Rattle.hashbag_slots.proofs.Carrying.{PlacesAll-step, Carries-step, Carries-none, skip_to, AreApart-carry}
 use Rattle.hashbag_slots.proofs.Reading.{length-slots_of, live_at, dead_at, alive_at}
 use Rattle.hashbag_slots.proofs.Tables.{some_live}
 use Rattle.hashbag_slots.proofs.Writing.{set-slots_of, in_tags, IsColumns-take, IsReached-take}
@@ -49,8 +48,8 @@ tags_step from at ts us begun within high c = record {
     | inr other ↦ get_or-set_other us at p 2 0 other ∙ c.inside p a (omega arith)
   ];
   outside = λ p h.
-    let other : p ≡ at → ⊥ = λ e. elim h [ inl a ↦ absurd (omega arith) | inr b ↦ absurd (omega arith) ] in
-    get_or-set_other us at p 2 0 other ∙ c.outside p (elim h [ inl a ↦ inl a | inr b ↦ inr (omega arith) ]);
+      let other : p ≡ at → ⊥ = λ e. elim h [ inl a ↦ absurd (omega arith) | inr b ↦ absurd (omega arith) ] in
+      get_or-set_other us at p 2 0 other ∙ c.outside p (elim h [ inl a ↦ inl a | inr b ↦ inr (omega arith) ]);
 }
 
 module _ {T : Type 0} (eq : T → T → Bool) (hash : T → ℕ) where

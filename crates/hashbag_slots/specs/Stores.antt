@@ -1,5 +1,5 @@
 -- The memory in which a row of cells lies.
-use Rattle.std.specs.Prelude.{◌≡◌, ℕ, List, [], replicate, Option, Some, None, ⊤}
+use Rattle.std.specs.Prelude.{◌≡◌, List, [], replicate, Option, None, ⊤}
 use Rattle.std.specs.declared.alloc.Global.{Global}
 use Rattle.hashbag_slots.specs.declared.cells.Store.{Store}
 use Rattle.hashbag_slots.specs.declared.cells.Store.TheVariants.{Nothing, Bare, Open}

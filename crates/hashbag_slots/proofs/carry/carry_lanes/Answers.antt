@@ -1,4 +1,4 @@
-use Rattle.std.proofs.Common.{◌≡◌, ℕ, ◌+◌, ◌-◌, ◌<◌, ◌≤◌, Bool, leb, length, get_or, List, refl, sym, subst, arith, slice_set}
+use Rattle.std.proofs.Common.{◌≡◌, ℕ, ◌+◌, ◌-◌, ◌<◌, ◌≤◌, Bool, leb, get_or, List, sym, subst, arith, slice_set}
 use Rattle.std.proofs.lemmas.Bool.{leb-true, leb-false}
 use Rattle.hashbag_slots.specs.Hashing.{hash_under}
 use Rattle.hashbag_slots.specs.Lanes.{Tells}
@@ -20,10 +20,14 @@ told-init g c =
     let newer : Kept g.row.T.Denot = kept c.args.tags.now c.args.cells.now c.args.counts.0 c.args.removed.now in
     let older : Kept g.row.T.Denot = kept c.args.older_tags.now c.args.older_cells.now c.args.counts.1 gone in
     let hash : g.row.T.Denot → ℕ = hash_under g.T.Hash.hash_input g.S.BuildHasher g.S.Hasher.Hasher c.args.state.now in
-    let same : c.args.counts.1 ≡ c.args.counts.1 - (c.args.counts.0 - c.args.counts.0) = omega arith in
-    (omega arith, omega arith, c.live_ahead-ahead.ensures, c.args.older_tags.now,
-    subst (λ n. IsCarried g.T.PartialEq.eq hash c.args.from (c.args.from - c.args.from) newer older newer (kept c.args.older_tags.now c.args.older_cells.now n gone)) same
-    (none_carried g.T.PartialEq.eq hash c.args.from newer older c.requires.newer c.requires.older c.requires.apart c.requires.reached))
+    let same : c.args.counts.1 ≡ c.args.counts.1 - (c.args.counts.0 - c.args.counts.0) = omega arith in (
+      omega arith,
+      omega arith,
+      c.live_ahead-ahead.ensures,
+      c.args.older_tags.now,
+      subst (λ n. IsCarried g.T.PartialEq.eq hash c.args.from (c.args.from - c.args.from) newer older newer (kept c.args.older_tags.now c.args.older_cells.now n gone)) same
+          (none_carried g.T.PartialEq.eq hash c.args.from newer older c.requires.newer c.requires.older c.requires.apart c.requires.reached),
+    )
 
 pub move_in-live-requires-clause-filled : goal.move_in-live-requires-clause-filled
 move_in-live-requires-clause-filled g c =
@@ -72,10 +76,14 @@ told-preserved g c =
     let stays = subst (λ n. IsColumns eq now.tags now.cells n now.removed) (sym put.live) put.kept in
     let done = carry_here eq hash laws from place newer older a b (omega arith) skipped (omega arith) high e.0 e.1 new stays put.live put.fewer put.length (put.placed e.0 e.1) put.reached in
     let sum = i.4.sum in let some = some_waits eq hash laws from at newer older a b begun i.4 place le high in let one = put.live in
-    let fewer : waiting - 1 ≡ c.args.counts.1 - (c.move_in-live.result - c.args.counts.0) = omega arith in
-    (omega arith, omega arith, c.next_told-place.ensures.rest (is_mark ts) until i.2, slice_set i.3 place 2,
-    subst (λ n. IsCarried eq hash from (place + 1 - from) newer older new (kept (slice_set i.3 place 2) now.older n gone)) fewer
-    (subst (λ ds. IsCarried eq hash from (place + 1 - from) newer older new (kept (slice_set i.3 place 2) ds (waiting - 1) gone)) (sym put.taken) done))
+    let fewer : waiting - 1 ≡ c.args.counts.1 - (c.move_in-live.result - c.args.counts.0) = omega arith in (
+      omega arith,
+      omega arith,
+      c.next_told-place.ensures.rest (is_mark ts) until i.2,
+      slice_set i.3 place 2,
+      subst (λ n. IsCarried eq hash from (place + 1 - from) newer older new (kept (slice_set i.3 place 2) now.older n gone)) fewer
+          (subst (λ ds. IsCarried eq hash from (place + 1 - from) newer older new (kept (slice_set i.3 place 2) ds (waiting - 1) gone)) (sym put.taken) done),
+    )
 
 pub returns : goal.returns
 returns g c =

@@ -1,4 +1,4 @@
-use Rattle.std.specs.Prelude.{◌≡◌, ℕ, ◌+◌, ◌≤◌, List, nat_le}
+use Rattle.std.specs.Prelude.{ℕ, ◌+◌, ◌≤◌, List, nat_le}
 use Rattle.std.proofs.Common.{◌-◌}
 use Rattle.hashbag_slots.specs.Hashing.{hash_under}
 use Rattle.hashbag_slots.specs.Lanes.{Tells}

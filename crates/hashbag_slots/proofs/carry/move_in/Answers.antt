@@ -1,10 +1,9 @@
 use Rattle.std.proofs.Common.{◌≡◌, ℕ, ◌+◌, ◌-◌, ◌<◌, ◌≤◌, cond, nat_eq, false, length, get_or, Some, sym, ap, subst, ◌∙◌, arith, slice_set}
 use Rattle.std.proofs.lemmas.Bool.{ne_eqb}
 use Rattle.hashbag_slots.specs.Hashing.{hash_under}
-use Rattle.hashbag_slots.specs.declared.slots.Slot.TheVariants.{Live}
 use Rattle.hashbag_slots.specs.Slots.{IsSlotCount, path_slot, live_count, Places}
 use Rattle.hashbag_slots.specs.Columns.{mark_of, columns, slots_of, IsColumns, IsReached}
-use Rattle.hashbag_slots.proofs.Reading.{length-slots_of, low_at, dead_at, removed_at, no_cell}
+use Rattle.hashbag_slots.proofs.Reading.{length-slots_of, low_at, dead_at, removed_at}
 use Rattle.hashbag_slots.proofs.Tables.{some_free, some_removed}
 use Rattle.hashbag_slots.proofs.Writing.{some_cell, set-slots_of, IsColumns-put, IsReached-place}
 use Rattle.hashbag_slots.proofs.carry.move_in.Goals.{then-tags-to-eq-REMOVED, else-tags-to-eq-REMOVED}

@@ -1,5 +1,4 @@
-use Rattle.std.proofs.Common.{ℕ, ◌<◌, ◌≤◌, length, get_or, subst, arith, below_more}
-use Rattle.hashbag_slots.specs.Slots.{path_slot}
+use Rattle.std.proofs.Common.{◌≤◌, length, get_or, subst, arith, below_more}
 use Rattle.hashbag_slots.proofs.Paths.{sixteen_slots}
 use Rattle.hashbag_slots.proofs.tags.free_place.Goals as goal
 

@@ -1,4 +1,4 @@
-use Rattle.std.proofs.Common.{◌≡◌, sym, ap, subst, ◌∙◌}
+use Rattle.std.proofs.Common.{◌≡◌, sym, subst, ◌∙◌}
 use Rattle.hashbag_slots.specs.Cells.{IsBlank, filled_values}
 use Rattle.hashbag_slots.proofs.Values.{blank_places}
 use Rattle.hashbag_slots.proofs.opened.Opened.free.Goals as goal

@@ -1,4 +1,4 @@
-use Rattle.std.proofs.Common.{ℕ, ◌+◌, ◌-◌, ◌<◌, ◌≤◌, length, ◌∙◌, arith}
+use Rattle.std.proofs.Common.{◌+◌, ◌<◌, ◌≤◌, length, ◌∙◌, arith}
 use Rattle.hashbag_slots.proofs.Carrying.{PlacesAll-step, Carries-step, PlacesAll-join, Carries-join}
 use Rattle.hashbag_slots.proofs.slots.Slots.carry_from.Goals as goal
 

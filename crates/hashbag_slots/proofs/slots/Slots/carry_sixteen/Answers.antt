@@ -1,4 +1,4 @@
-use Rattle.std.proofs.Common.{◌≡◌, ℕ, ◌++◌, length, take, drop, refl, sym, ap, subst, ◌∙◌, arith}
+use Rattle.std.proofs.Common.{◌++◌, length, take, drop, refl, sym, ap, subst, ◌∙◌, arith}
 use Rattle.hashbag_slots.specs.Slots.{live_count, AreApart}
 use Rattle.hashbag_slots.specs.Columns.{slots_of}
 use Rattle.hashbag_slots.proofs.Reading.{length-slots_of, marked_at}

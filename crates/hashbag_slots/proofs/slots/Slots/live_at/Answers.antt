@@ -1,4 +1,4 @@
-use Rattle.std.proofs.Common.{◌≡◌, sym, ap, ◌∙◌}
+use Rattle.std.proofs.Common.{sym, ap, ◌∙◌}
 use Rattle.hashbag_slots.specs.Slots.{is_live, slot_entry, slot_at}
 use Rattle.hashbag_slots.proofs.Reading.{marked_at, live_at}
 use Rattle.hashbag_slots.proofs.slots.Slots.live_at.Goals as goal
