@@ -362,11 +362,12 @@ impl<T: Eq + Hash + Drop, S: BuildHasher + Drop> Table<T, S> {
         Err(0)
     }
 
-    // As `add`, of a value whose hash is handed in, wherever it is: look-ups of those near the beginning of their paths are to be
-    // short.
+    // As `add`, of a value whose hash is handed in, wherever it is, or of one that is known to be absent from the newer table:
+    // look-ups of those near the beginning of their paths are to be short.
     #[inline(never)]
-    fn add_far(&mut self, hash: u64, value: T, n: usize) -> Result<usize, AllocError>
+    fn add_far(&mut self, hash: u64, value: T, n: usize, absent: bool) -> Result<usize, AllocError>
         requires hashed { hash ≡ hash_under T.hash_input S.BuildHasher S.Hasher.Hasher self.old.hasher value }
+        requires told { absent ≡ true → IsAbsent (λ w. T.eq w value) self.old.tables.newer }
         requires some { 0 < n }
         requires fits { count_of T.eq value self.old.entries + n < 2 ^ 64 }
         ensures before { IfOk result (λ before. before ≡ count_of T.eq value self.old.entries) }
@@ -384,7 +385,7 @@ impl<T: Eq + Hash + Drop, S: BuildHasher + Drop> Table<T, S> {
         ensures same_room { IfOk result (λ before. 0 < before → room self.old.tables ≤ room self.new.tables) }
     {
         self.recall();
-        if let Some(spot) = self.locate(hash, &value) {
+        if let Some(spot) = self.locate_told(hash, &value, absent) {
             let before = self.raise_spot(spot, n);
             return Ok(before);
         }
@@ -415,7 +416,7 @@ impl<T: Eq + Hash + Drop, S: BuildHasher + Drop> Table<T, S> {
         ensures same_room { IfOk result (λ before. 0 < before → room self.old.tables ≤ room self.new.tables) }
     {
         let hash = self.hash(&value);
-        match self.look_near(hash, &value) {
+        let absent = match self.look_near(hash, &value) {
             Some(Ok(spot)) => {
                 let before = self.raise_spot(spot, n);
                 return Ok(before);
@@ -425,10 +426,11 @@ impl<T: Eq + Hash + Drop, S: BuildHasher + Drop> Table<T, S> {
                     self.settle(place, hash, value, n);
                     return Ok(0);
                 }
+                true
             }
-            None => {}
-        }
-        self.add_far(hash, value, n)
+            None => false,
+        };
+        self.add_far(hash, value, n, absent)
     }
 
     /// Stores a value itself with the count 1, and answers what the count was, 0 where the value was absent. An instance that

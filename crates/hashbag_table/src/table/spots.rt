@@ -60,6 +60,20 @@ pub(super) fn find_older<T: Eq + Hash, S: BuildHasher>(
 }
 
 impl<T: Eq + Hash + Drop, S: BuildHasher + Drop> Table<T, S> {
+    // Where a value is that the newer table doesn't have, whose hash is handed in.
+    #[inline(always)]
+    fn locate_older(&self, hash: u64, value: &T) -> Option<Spot>
+        requires hashed { hash ≡ hash_under T.hash_input S.BuildHasher S.Hasher.Hasher self.now.hasher value.now }
+        requires absent { IsAbsent (λ w. T.eq w value.now) self.now.tables.newer }
+        ensures map { entry_in self.now.tables result ≡ entry_of T.eq value.now self.now.entries }
+        ensures held { IfSome result (HoldsIn (λ w. T.eq w value.now) self.now.tables) }
+    {
+        match find_older(&self.older, &self.hasher, hash, value) {
+            Some(place) => Some(Spot::Waiting(place - self.looked)),
+            None => None,
+        }
+    }
+
     // Where a value is, whose hash is handed in.
     #[inline(always)]
     pub(super) fn locate(&self, hash: u64, value: &T) -> Option<Spot>
@@ -68,13 +82,25 @@ impl<T: Eq + Hash + Drop, S: BuildHasher + Drop> Table<T, S> {
         ensures held { IfSome result (HoldsIn (λ w. T.eq w value.now) self.now.tables) }
         ensures counted { IsCounted T.eq self.now.entries }
     {
+        self.recall();
         if let Some(place) = self.newer.find_hashed(&self.hasher, hash, value) {
             return Some(Spot::Newer(place));
         }
-        match find_older(&self.older, &self.hasher, hash, value) {
-            Some(place) => Some(Spot::Waiting(place - self.looked)),
-            None => None,
+        self.locate_older(hash, value)
+    }
+
+    // As `locate`, where it may be known already that the newer table doesn't have the value: then it isn't asked again.
+    #[inline(always)]
+    pub(super) fn locate_told(&self, hash: u64, value: &T, absent: bool) -> Option<Spot>
+        requires hashed { hash ≡ hash_under T.hash_input S.BuildHasher S.Hasher.Hasher self.now.hasher value.now }
+        requires told { absent ≡ true → IsAbsent (λ w. T.eq w value.now) self.now.tables.newer }
+        ensures map { entry_in self.now.tables result ≡ entry_of T.eq value.now self.now.entries }
+        ensures held { IfSome result (HoldsIn (λ w. T.eq w value.now) self.now.tables) }
+    {
+        if absent {
+            return self.locate_older(hash, value);
         }
+        self.locate(hash, value)
     }
 
     // What the first 16 slots of a value's path in the newer table tell: where the value is, or that it isn't in the newer table, and

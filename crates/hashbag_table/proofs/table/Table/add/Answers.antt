@@ -1,4 +1,4 @@
-use Rattle.std.proofs.Common.{◌≡◌, ◌∷◌, ℕ, Bool, List, None, refl, sym, ap, subst, ◌∙◌}
+use Rattle.std.proofs.Common.{◌≡◌, ◌∷◌, ℕ, Bool, List, None, sym, ap, subst, ◌∙◌}
 use Rattle.std.specs.Cmp.{IsEquivalence}
 use Rattle.std.specs.Option.{IsSome}
 use Rattle.std.specs.Prelude.{IfOk, OnErr}
