@@ -3,7 +3,7 @@ use Rattle.std.proofs.Common.{◌≡◌, ℕ, ◌<◌, Bool, true, false, List, 
 use Rattle.std.proofs.lemmas.Bool.{cases_lt}
 use Rattle.hashbag_slots.specs.declared.slots.Slot.{Slot}
 use Rattle.hashbag_slots.specs.declared.slots.Slot.TheVariants.{Empty, Removed, Moved, Live}
-use Rattle.hashbag_slots.specs.Slots.{path_slot, holds, slot_at, IsAbsent, KeepsPaths}
+use Rattle.hashbag_slots.specs.Slots.{path_slot, is_live, holds, slot_at, IsAbsent, KeepsPaths}
 use Rattle.hashbag_slots.proofs.Paths.{path_to}
 
 pub false_by : (b : Bool) → (b ≡ true → b ≡ false) → b ≡ false
@@ -16,6 +16,12 @@ module _ {T : Type 0} where
   holder test Removed h = cc
   holder test Moved h = cc
   holder test (Live v n) h = (v, n, refl, h)
+
+  pub holds_dead : (test : T → Bool) (s : Slot T) → is_live s ≡ false → holds test s ≡ false
+  holds_dead test Empty h = refl
+  holds_dead test Removed h = refl
+  holds_dead test Moved h = refl
+  holds_dead test (Live v n) h = absurd (cc)
 
 module _ {T : Type 0} (eq : T → T → Bool) (hash : T → ℕ) (alike : (v w : T) → eq v w ≡ true → hash v ≡ hash w) (ss : List (Slot T)) (x : T) where
   abbrev Passed : ℕ → Type 0

@@ -1,10 +1,10 @@
 -- A probe that goes on by several slots at once, none of which wraps.
-use Rattle.std.proofs.Common.{◌≡◌, ℕ, ◌+◌, ◌-◌, ◌%◌, ◌<◌, ◌≤◌, Bool, true, false, List, Option, length, nat_eq, sym, ap, subst, ◌∙◌, inl, inr, arith}
+use Rattle.std.proofs.Common.{◌≡◌, ℕ, ◌+◌, ◌-◌, ◌%◌, ◌<◌, ◌≤◌, Bool, true, false, List, Option, length, nat_eq, refl, sym, ap, subst, ◌∙◌, inl, inr, arith}
 use Rattle.std.proofs.Math.Nat.{mod-add-mod, mod-eq_of_lt}
 use Rattle.std.proofs.lemmas.Bool.{cases_eq, cases_lt, eqb-false}
-use Rattle.hashbag_slots.specs.Slots.{path_slot, holds, slot_at, IsAbsent}
+use Rattle.hashbag_slots.specs.Slots.{path_slot, is_live, holds, slot_at, IsAbsent}
 use Rattle.hashbag_slots.specs.Columns.{mark_of, tag_at, slots_of, columns, Agree, IsReached}
-use Rattle.hashbag_slots.proofs.Probing.{absent_at_stop}
+use Rattle.hashbag_slots.proofs.Probing.{absent_at_stop, holds_dead}
 use Rattle.hashbag_slots.proofs.Reading.{length-slots_of, holds_other, empty_at}
 
 pub path_ahead : (n h s k : ℕ) → path_slot n h s + k < n → path_slot n h (s + k) ≡ path_slot n h s + k
@@ -47,3 +47,9 @@ module _ {T : Type 0} (eq : T → T → Bool) (x : T) (hash : T → ℕ) (alike 
       absent_at_stop eq hash alike ss x reached.paths stop
       (λ k lt. subst (λ p. holds (λ v. eq v x) (slot_at ss p) ≡ false) (sym (there k (omega arith))) (other (first + k) (omega arith) (omega arith)))
       (ap (slot_at ss) (there stop (omega arith)) ∙ empty_at ts cs agree (first + stop) empty)
+
+  -- an Empty slot is at p on the path, and no slot before that place is Live
+  pub absent_behind : (first p from : ℕ) → first ≡ path_slot (length ts) (hash x) 0 → first ≤ p → p < from → p < length ts → tag_at ts p ≡ 0 → ((q : ℕ) → q < from → is_live (slot_at (slots_of ts cs) q) ≡ false) → IsAbsent (λ v. eq v x) (slots_of ts cs)
+  absent_behind first p from at le before within empty dead =
+      let there : p ≡ first + (p - first) = omega arith in
+      absent_near (mark_of (hash x)) refl first (p - first) at (omega arith) (ap (tag_at ts) (sym there) ∙ empty) (λ q a b same. holds_dead (λ v. eq v x) (slot_at (slots_of ts cs) q) (dead q (omega arith)))

@@ -18,7 +18,8 @@ use crate::carry::carry_lanes;
 use crate::cells::Cells;
 use crate::lanes::LANES;
 use crate::tags::{
-    LEAST_MARK, MOVED, REMOVED, drop_values, empty_tags, find_place, free_place, look_near, mark_of,
+    LEAST_MARK, MOVED, REMOVED, drop_values, empty_tags, ends_before, find_place, free_place,
+    look_near, mark_of,
 };
 use crate::walk::{IntoWalk, Walk};
 use std::alloc::{AllocError, Global};
@@ -308,6 +309,30 @@ impl<T: Eq + Hash> Slots<T> {
         ensures map { entry_at self.now.slots result ≡ lookup_entry (λ v. T.eq v value.now) (entries self.now.slots) }
     {
         find_place(self.tags.as_slice(), &self.cells, state, hash, value)
+    }
+
+    /// As `find_hashed`, where no slot before the place `from` is Live: a path that meets an Empty slot before that place ends there,
+    /// so that most paths that begin before it are not gone along.
+    #[inline(always)]
+    pub fn find_behind<S: BuildHasher>(
+        &self,
+        state: &S,
+        hash: u64,
+        value: &T,
+        from: usize,
+    ) -> Option<usize>
+        requires hashed { hash ≡ hash_under T.hash_input S.BuildHasher S.Hasher.Hasher state.now value.now }
+        requires within { from ≤ length self.now.slots }
+        requires dead { (p : ℕ) → p < from → is_live (slot_at self.now.slots p) ≡ false }
+        requires reached { IsReached (hash_under T.hash_input S.BuildHasher S.Hasher.Hasher state.now) self.now }
+        ensures found { IfSome result (HoldsAt (λ v. T.eq v value.now) self.now.slots) }
+        ensures absent { IfNone result (IsAbsent (λ v. T.eq v value.now) self.now.slots) }
+        ensures map { entry_at self.now.slots result ≡ lookup_entry (λ v. T.eq v value.now) (entries self.now.slots) }
+    {
+        if ends_before(self.tags.as_slice(), hash, from) {
+            return None;
+        }
+        self.find_hashed(state, hash, value)
     }
 
     /// What the first 16 slots on the path of a value's hash tell, which is handed in: in `Ok` the place of the Live slot with an

@@ -2,7 +2,7 @@
 //!
 //! A probe reads tags, sixteen at once, and a cell only where the tag is the mark of its own hash. Under a hash that spreads its values, that is
 //! so at one in 128 of the other values on its path.
-ghost use Rattle.std.specs.Prelude.{◌≡◌, ◌==◌, ℕ, ◌+◌, ◌<◌, ◌≤◌, ◌^◌, ◌/◌, length, false, IfSome, IfNone, IfOk, IfErr, IsOk, OnErr, replicate, Some, None};
+ghost use Rattle.std.specs.Prelude.{◌≡◌, ◌==◌, ℕ, ◌+◌, ◌<◌, ◌≤◌, ◌^◌, ◌/◌, length, true, false, IfSome, IfNone, IfOk, IfErr, IsOk, OnErr, replicate, Some, None};
 ghost use Rattle.hashbag_slots.specs.Cells.{cell_at, IsFilled};
 ghost use Rattle.hashbag_slots.specs.Hashing.{hash_under};
 ghost use Rattle.hashbag_slots.specs.Walks.{IsAhead};
@@ -147,6 +147,30 @@ fn find_among<T: Eq>(
         ahead = rest;
     }
     None
+}
+
+/// Whether an Empty slot lies between the first slot of a hash's path and a place behind that, so that a probe for it ends before
+/// it comes there. It looks at sixteen slots at once, from the place backwards, and may miss one that is nearer than sixteen to
+/// the first slot.
+#[inline(always)]
+pub fn ends_before(tags: &[u8], hash: u64, place: usize) -> bool
+    requires count { IsSlotCount (length tags.now) }
+    requires within { place ≤ length tags.now }
+    ensures { result ≡ true → (p : ℕ) × (path_slot (length tags.now) hash 0 ≤ p) × (p < place) × (tag_at tags.now p ≡ 0) }
+{
+    let count = tags.len();
+    if count == 0 {
+        return false;
+    }
+    let first = place_after(hash, 0, count);
+    let mut at = place;
+    'sixteens: while at >= first + LANES {
+        at -= LANES;
+        if others_before(tags, at, EMPTY) < LANES {
+            return true;
+        }
+    }
+    false
 }
 
 /// What the first 16 slots of a path tell of a value: its place, or that it is absent, and then the first of them that is not Live.

@@ -193,7 +193,7 @@ impl<T: Eq + Hash + Drop, S: BuildHasher + Drop> Table<T, S> {
         if let Some(place) = self.newer.find_hashed(&self.hasher, hash, value) {
             return Some(self.newer.live_at(place));
         }
-        match find_older(&self.older, &self.hasher, hash, value) {
+        match find_older(&self.older, self.looked, &self.hasher, hash, value) {
             Some(place) => Some(self.older.live_at(place)),
             None => None,
         }

@@ -1,5 +1,5 @@
 //! Spots: where in the two tables of slots a value is, and what is changed there.
-ghost use Rattle.std.specs.Prelude.{◌≡◌, ◌+◌, ◌-◌, ◌<◌, ◌^◌, ℕ, [], ◌∷◌, true, Some, None, IfSome, IfNone, IfOk, IfErr, OnErr, IsSome, slice_set};
+ghost use Rattle.std.specs.Prelude.{◌≡◌, ◌+◌, ◌-◌, ◌<◌, ◌≤◌, ◌^◌, ℕ, [], ◌∷◌, true, false, length, Some, None, IfSome, IfNone, IfOk, IfErr, OnErr, IsSome, slice_set};
 ghost use Rattle.std.specs.List.Sorted.{IsPermutation};
 ghost use Rattle.std.specs.Map.{lookup_entry};
 ghost use Rattle.hashbag_slots.specs.Hashing.{hash_under};
@@ -24,30 +24,36 @@ fn put_one<T: Eq>(slots: &mut Slots<T>, place: usize, value: T) -> T
     former
 }
 
-// As `find_hashed`, of the older table, which seldom has slots: look-ups of the newer one alone are to be short.
+// As `find_behind`, of the older table, which seldom has slots: look-ups of the newer one alone are to be short.
 #[inline(never)]
 fn probe_older<T: Eq + Hash, S: BuildHasher>(
     older: &Slots<T>,
+    looked: usize,
     state: &S,
     hash: u64,
     value: &T,
 ) -> Option<usize>
+    requires within { looked ≤ length older.now.slots }
+    requires dead { (p : ℕ) → p < looked → is_live (slot_at older.now.slots p) ≡ false }
     requires hashed { hash ≡ hash_under T.hash_input S.BuildHasher S.Hasher.Hasher state.now value.now }
     requires reached { IsReached (hash_under T.hash_input S.BuildHasher S.Hasher.Hasher state.now) older.now }
     ensures found { IfSome result (HoldsAt (λ v. T.eq v value.now) older.now.slots) }
     ensures map { entry_at older.now.slots result ≡ lookup_entry (λ v. T.eq v value.now) (entries older.now.slots) }
 {
-    older.find_hashed(state, hash, value)
+    older.find_behind(state, hash, value, looked)
 }
 
-// The place of a value in the older table.
+// The place of a value in the older table, of which so many slots were looked at.
 #[inline(always)]
 pub(super) fn find_older<T: Eq + Hash, S: BuildHasher>(
     older: &Slots<T>,
+    looked: usize,
     state: &S,
     hash: u64,
     value: &T,
 ) -> Option<usize>
+    requires within { looked ≤ length older.now.slots }
+    requires dead { (p : ℕ) → p < looked → is_live (slot_at older.now.slots p) ≡ false }
     requires hashed { hash ≡ hash_under T.hash_input S.BuildHasher S.Hasher.Hasher state.now value.now }
     requires reached { IsReached (hash_under T.hash_input S.BuildHasher S.Hasher.Hasher state.now) older.now }
     ensures found { IfSome result (HoldsAt (λ v. T.eq v value.now) older.now.slots) }
@@ -56,7 +62,7 @@ pub(super) fn find_older<T: Eq + Hash, S: BuildHasher>(
     if older.slots() == 0 {
         return None;
     }
-    probe_older(older, state, hash, value)
+    probe_older(older, looked, state, hash, value)
 }
 
 impl<T: Eq + Hash + Drop, S: BuildHasher + Drop> Table<T, S> {
@@ -68,7 +74,7 @@ impl<T: Eq + Hash + Drop, S: BuildHasher + Drop> Table<T, S> {
         ensures map { entry_in self.now.tables result ≡ entry_of T.eq value.now self.now.entries }
         ensures held { IfSome result (HoldsIn (λ w. T.eq w value.now) self.now.tables) }
     {
-        match find_older(&self.older, &self.hasher, hash, value) {
+        match find_older(&self.older, self.looked, &self.hasher, hash, value) {
             Some(place) => Some(Spot::Waiting(place - self.looked)),
             None => None,
         }
