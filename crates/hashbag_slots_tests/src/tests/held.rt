@@ -67,6 +67,20 @@ impl<T: Eq + Hash + Drop, S: BuildHasher + Drop> Held<T, S> {
         self.slots.find(&self.state, value)
     }
 
+    /// The place of a value, where no slot before a place is Live. `None` where one is, and where there are fewer slots.
+    pub fn find_behind(&self, value: &T, from: usize) -> Option<usize> {
+        if from > self.slots.slots() {
+            return None;
+        }
+        for place in 0..from {
+            if self.slots.at(place).is_some() {
+                return None;
+            }
+        }
+        let hash = hash_of(&self.state, value);
+        self.slots.find_behind(&self.state, hash, value, from)
+    }
+
     /// What the first 16 slots of a value's path tell: its place, or the one into which it would go.
     pub fn seek(&self, value: &T) -> Option<Result<usize, usize>> {
         let hash = hash_of(&self.state, value);

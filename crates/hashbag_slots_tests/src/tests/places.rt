@@ -228,6 +228,49 @@ fn sought_among_all_live(rt: HostRuntime) -> Result<(), Fail> {
     Ok(())
 }
 
+// Checks at which places values lie, where no slot before a place is Live.
+fn lie_behind(rt: &impl Abort, table: &Numbers, rows: &[(u64, usize, Option<usize>)]) {
+    for (value, from, place) in rows {
+        answers(
+            rt,
+            "find_behind",
+            *value,
+            &table.find_behind(value, *from),
+            place,
+        );
+    }
+}
+
+// A path is gone along through Removed slots to what lies behind them, and ends at an Empty one.
+#[test]
+fn behind(rt: HostRuntime) -> Result<(), Fail> {
+    let mut table: Numbers = Held::new(rt.alloc(), Constant { hash: 2 }, 6)?;
+    lie_behind(&rt, &table, &[(1, 0, None), (1, 40, None), (1, 64, None)]);
+    for value in 1..=40 {
+        place(&rt, &mut table, value, 1);
+    }
+    lie_behind(&rt, &table, &[(1, 2, Some(2)), (40, 0, Some(41))]);
+    for value in 1..=30 {
+        take(&rt, &mut table, value, 1);
+    }
+    lie_behind(
+        &rt,
+        &table,
+        &[
+            (31, 32, Some(32)),
+            (35, 32, Some(36)),
+            (40, 17, Some(41)),
+            (30, 32, None),
+            (41, 32, None),
+        ],
+    );
+    for value in 31..=40 {
+        take(&rt, &mut table, value, 1);
+    }
+    lie_behind(&rt, &table, &[(35, 41, None), (35, 64, None)]);
+    Ok(())
+}
+
 // Checks the count of a value.
 fn has_count(rt: &impl Abort, table: &Numbers, value: u64, wanted: usize) {
     answers(rt, "count", value, &table.count(&value), &wanted);
