@@ -1,14 +1,14 @@
 -- What bits tell of places.
 use Rattle.std.proofs.Common.{◌≡◌, ℕ, zero, suc, min, bit_and, ◌+◌, ◌-◌, ◌/◌, ◌%◌, ◌^◌, ◌<◌, ◌≤◌, ◌&&◌, Bool, true, false, cond, ltb, List, length, get_or, map, refl, sym, ap, ◌∙◌, inl, inr, arith}
 use Rattle.std.proofs.Math.Nat.{min-eq_left, min-zero}
-use Rattle.std.proofs.lemmas.Bool.{cases_lt, ltb-true, lt-ltb, le-ltb}
+use Rattle.std.proofs.lemmas.Bool.{cases_lt, ltb-true, lt-ltb, le-ltb, leb-true, lt-leb, le-leb, and_parts}
 use Rattle.std.proofs.lemmas.List.{get_or-map, get_or_past, length-map}
-use Rattle.std.proofs.lemmas.Nat.{shr-shr}
 use Rattle.std.proofs.lemmas.Nat.Bits.{bit_at-zero, bit_at-suc, bit_at_lowest, bit_at-lt, bit_at_and, bit_at_ones, bit_at_ones_above}
 use Rattle.std.proofs.lemmas.Simd.{length-chunk, get_or-chunk, bit_mask_l}
 use Rattle.std.specs.Int.{bit_at}
 use Rattle.std.specs.Simd.Lanes.{chunk, mask_l}
-use Rattle.hashbag_slots.specs.Lanes.{Tells}
+use Rattle.std.specs.Slice.Scan.{IsFirstPlace, HoldsNowhere}
+use Rattle.hashbag_slots.specs.Lanes.{Tells, from_on}
 
 pub tells_mask : (q : ℕ → Bool) (ts : List ℕ) (from bits : ℕ) → from + 16 ≤ length ts → bits ≡ mask_l (map q (chunk from 16 ts)) → Tells (λ k. q (get_or ts k 0)) from (from + 16) bits
 tells_mask q ts from bits room is i =
@@ -53,9 +53,26 @@ pub no_bit : (b : Bool) → ◌≡◌ {A = ℕ} (cond b 0 0) 0
 no_bit true = refl
 no_bit false = refl
 
+-- a test from a place on
+pub from_on-behind : (test : ℕ → Bool) (at p : ℕ) → at ≤ p → from_on test at p ≡ test p
+from_on-behind test at p le = ap (λ b. b && test p) (le-leb at p le)
+
+pub from_on-before : (test : ℕ → Bool) (at p : ℕ) → p < at → from_on test at p ≡ false
+from_on-before test at p lt = ap (λ b. b && test p) (lt-leb at p lt)
+
+from_on-twice : (test : ℕ → Bool) (at to p : ℕ) → at ≤ to → from_on (from_on test at) to p ≡ from_on test to p
+from_on-twice test at to p le = elim (cases_lt p to) [
+  | inl lt ↦ from_on-before (from_on test at) to p lt ∙ sym (from_on-before test to p lt)
+  | inr ge ↦ from_on-behind (from_on test at) to p ge ∙ from_on-behind test at p (omega arith) ∙ sym (from_on-behind test to p ge)
+]
+
 -- another test that says the same of the places from `from` on
-pub tells_same : (test other : ℕ → Bool) (from until bits : ℕ) → ((p : ℕ) → from ≤ p → test p ≡ other p) → Tells test from until bits → Tells other from until bits
+tells_same : (test other : ℕ → Bool) (from until bits : ℕ) → ((p : ℕ) → from ≤ p → test p ≡ other p) → Tells test from until bits → Tells other from until bits
 tells_same test other from until bits same tells i = tells i ∙ ap (λ b. cond (ltb (from + i) until) (cond b 1 0) 0) (same (from + i) (omega arith))
+
+-- of places that were just looked at
+pub tells_fresh : (test : ℕ → Bool) (from until bits : ℕ) → Tells test from until bits → Tells (from_on test from) from until bits
+tells_fresh test from until bits = tells_same test (from_on test from) from until bits (λ p le. sym (from_on-behind test from p le))
 
 both_set : (b c : Bool) → ◌≡◌ {A = ℕ} (cond b (cond c 1 0) 0) 1 → (b ≡ true) × (c ≡ true)
 both_set true true h = (refl, refl)
@@ -79,29 +96,23 @@ module _ (test : ℕ → Bool) (from until bits : ℕ) (tells : Tells test from 
   pub untold_at : (i p : ℕ) → from + i ≡ p → bit_at bits i ≡ 0 → p < until → test p ≡ false
   untold_at i p e unset below = sym (ap test e) ∙ untold i unset (omega arith)
 
-  -- the bits behind one
-  pub tells_behind : (k : ℕ) → Tells test (from + k + 1) until (bits / 2 ^ k / 2 ^ 1)
-  tells_behind k i =
-      let place : from + (k + (1 + i)) ≡ from + k + 1 + i = omega arith in
-      ap (λ n. n % 2) (shr-shr (bits / 2 ^ k) 1 i ∙ shr-shr bits k (1 + i)) ∙ tells (k + (1 + i)) ∙ ap (λ p. cond (ltb p until) (cond (test p) 1 0) 0) place
-
   -- the bits with the lowest cleared
   pub tells_cleared : (t : ℕ) → 0 < bits → bit_at bits t ≡ 1 → ((i : ℕ) → i < t → bit_at bits i ≡ 0)
-      → Tells (λ p. ltb (from + t) p && test p) from until (bit_and bits (bits - 1))
+      → Tells (from_on test (from + t + 1)) from until (bit_and bits (bits - 1))
   tells_cleared t some one low i =
       let here : Bool = ltb (from + i) until in
       let behind : Bool → ℕ = λ b. cond here (cond (b && test (from + i)) 1 0) 0 in
       bit_at_and bits (bits - 1) i ∙ elim (cases_lt t i) [
         | inl above ↦
             ap (min (bit_at bits i)) (less_above bits t i some one low above) ∙ min-eq_left (omega arith) ∙ tells i
-            ∙ sym (ap behind (lt-ltb (from + t) (from + i) (omega arith)))
+            ∙ sym (ap behind (le-leb (from + t + 1) (from + i) (omega arith)))
         | inr upto ↦
             elim (cases_lt i t) [
               | inl under ↦ ap (λ b. min b (bit_at (bits - 1) i)) (low i under) ∙ omega arith
               | inr beyond ↦
                   let same : i ≡ t = omega arith in
                   ap (min (bit_at bits i)) (ap (bit_at (bits - 1)) same ∙ less_at bits t some one low) ∙ min-zero (bit_at bits i)
-            ] ∙ sym (ap behind (le-ltb (from + t) (from + i) (omega arith)) ∙ no_bit here)
+            ] ∙ sym (ap behind (lt-leb (from + t + 1) (from + i) (omega arith)) ∙ no_bit here)
       ]
 
   -- the bits of the first few places
@@ -117,6 +128,32 @@ module _ (test : ℕ → Bool) (from until bits : ℕ) (tells : Tells test from 
             ∙ sym (ap (λ b. cond b (cond (test (from + i)) 1 0) 0) (le-ltb (from + i) (from + few) (omega arith)))
       ]
 
--- no bit is set
-pub none_told : (test : ℕ → Bool) (from until : ℕ) → Tells test from until 0 → (p : ℕ) → from ≤ p → p < until → test p ≡ false
-none_told test from until tells p a b = untold_at test from until 0 tells (p - from) p (omega arith) (bit_at-zero (p - from)) b
+module _ (test : ℕ → Bool) (from at until bits : ℕ) (tells : Tells (from_on test at) from until bits) where
+  -- no bit is set
+  pub none_told : from ≤ at → bits ≡ 0 → HoldsNowhere test at until
+  none_told le none p a b =
+      let unset : bit_at bits (p - from) ≡ 0 = ap (λ n. bit_at n (p - from)) none ∙ bit_at-zero (p - from) in
+      sym (from_on-behind test at p a) ∙ untold_at (from_on test at) from until bits tells (p - from) p (omega arith) unset b
+
+  module _ (t : ℕ) (one : bit_at bits t ≡ 1) (low : (i : ℕ) → i < t → bit_at bits i ≡ 0) where
+    pub first_below : from + t < until
+    first_below = (told (from_on test at) from until bits tells t one).0
+
+    first_passes : (at ≤ from + t) × (test (from + t) ≡ true)
+    first_passes = let both = and_parts _ _ (told (from_on test at) from until bits tells t one).1 in (leb-true at (from + t) both.0, both.1)
+
+    -- the lowest bit is that of the first place
+    pub first_told : from ≤ at → IsFirstPlace test at until (from + t)
+    first_told le =
+        let below = first_below in record {
+          low = first_passes.0;
+          high = omega arith;
+          before = λ p a b. sym (from_on-behind test at p a) ∙ untold_at (from_on test at) from until bits tells (p - from) p (omega arith) (low (p - from) (omega arith)) (omega arith);
+          hit = λ _. first_passes.1;
+        }
+
+    pub rest_told : 0 < bits → Tells (from_on test (from + t + 1)) from until (bit_and bits (bits - 1))
+    rest_told some =
+        let passed = first_passes.0 in
+        tells_same (from_on (from_on test at) (from + t + 1)) (from_on test (from + t + 1)) from until (bit_and bits (bits - 1))
+        (λ p _. from_on-twice test at (from + t + 1) p (omega arith)) (tells_cleared (from_on test at) from until bits tells t some one low)

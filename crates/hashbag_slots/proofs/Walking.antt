@@ -1,17 +1,18 @@
 -- The pairs that are still to come.
-use Rattle.std.proofs.Common.{◌≡◌, ℕ, zero, suc, ◌+◌, ◌-◌, ◌<◌, ◌≤◌, ◌&&◌, true, false, cond, leb, ltb, List, [], ◌∷◌, length, drop, Option, Some, None, refl, sym, ap, subst, ◌∙◌, inl, inr, arith, slice_set}
+use Rattle.std.proofs.Common.{◌≡◌, ℕ, zero, suc, ◌+◌, ◌-◌, ◌<◌, ◌≤◌, Bool, true, false, cond, leb, ltb, List, [], ◌∷◌, length, drop, Option, Some, None, refl, sym, ap, subst, ◌∙◌, inl, inr, arith, slice_set}
 use Rattle.std.proofs.lemmas.List.{get_or-drop, length-set}
-use Rattle.std.proofs.lemmas.Bool.{cases_lt, le-ltb, lt-ltb, le-leb, lt-leb, leb-true, leb-false, and_parts}
+use Rattle.std.proofs.lemmas.Bool.{cases_lt, le-ltb, leb-true, leb-false}
 use Rattle.std.proofs.lemmas.List.Sums.{sum_by-cons}
 use Rattle.std.proofs.lemmas.Nat.Bits.{bit_at-zero}
+use Rattle.std.specs.Slice.Scan.{IsFirstPlace}
 use Rattle.core.specs.Iterator.{MakesProgress, at_most}
 use Rattle.hashbag_slots.specs.declared.slots.Slot.{Slot}
 use Rattle.hashbag_slots.specs.declared.slots.Slot.TheVariants.{Empty, Removed, Moved, Live}
-use Rattle.hashbag_slots.specs.Columns.{IsNextMark, Agree, is_mark_from, slot_of, slots_of, tag_at}
+use Rattle.hashbag_slots.specs.Columns.{IsNextMark, Agree, slot_of, slots_of, tag_at}
 use Rattle.hashbag_slots.specs.Cells.{cell_at}
-use Rattle.hashbag_slots.specs.Lanes.{Tells}
+use Rattle.hashbag_slots.specs.Lanes.{Tells, from_on}
 use Rattle.hashbag_slots.specs.Walks.{entries_from, IsWalk, IsAhead}
-use Rattle.hashbag_slots.proofs.Bits.{no_bit, tells_same}
+use Rattle.hashbag_slots.proofs.Bits.{no_bit, from_on-before}
 use Rattle.hashbag_slots.proofs.Reading.{IsNextLive, next_slot, live_at, dead_at}
 use Rattle.hashbag_slots.proofs.Writing.{set-slots_of, Agree-empty}
 use Rattle.hashbag_slots.specs.Slots.{is_live, live_count, slot_at, entries}
@@ -77,29 +78,16 @@ module _ {T : Type 0} where
         step Moved e m = omega (arith, e, m)
         step (Live v n) e m = omega (arith, e, m)
 
--- from the place `next` on
-mark_here : (ts : List ℕ) (next p : ℕ) → next ≤ p → is_mark_from ts next p ≡ leb 128 (tag_at ts p)
-mark_here ts next p le = ap (λ b. b && leb 128 (tag_at ts p)) (le-leb next p le)
-
-mark_before : (ts : List ℕ) (next p : ℕ) → p < next → is_mark_from ts next p ≡ false
-mark_before ts next p lt = ap (λ b. b && leb 128 (tag_at ts p)) (lt-leb next p lt)
-
-pub unmarked : (ts : List ℕ) (next p : ℕ) → next ≤ p → is_mark_from ts next p ≡ false → tag_at ts p < 128
-unmarked ts next p le is = leb-false 128 (tag_at ts p) (sym (mark_here ts next p le) ∙ is)
-
--- a mark behind one is a mark from the place after it on
-mark_behind : (ts : List ℕ) (next place p : ℕ) → next ≤ place → (ltb place p && is_mark_from ts next p) ≡ is_mark_from ts (place + 1) p
-mark_behind ts next place p le = elim (cases_lt place p) [
-  | inl lt ↦ ap (λ b. b && is_mark_from ts next p) (lt-ltb place p lt) ∙ mark_here ts next p (omega arith) ∙ sym (mark_here ts (place + 1) p (omega arith))
-  | inr ge ↦ ap (λ b. b && is_mark_from ts next p) (le-ltb place p ge) ∙ sym (mark_before ts (place + 1) p (omega arith))
-]
+-- whether the slot at a place is Live
+abbrev pub is_mark : List ℕ → ℕ → Bool
+is_mark ts p = leb 128 (tag_at ts p)
 
 -- nothing is told
 pub IsAhead-none : (ts : List ℕ) (next : ℕ) → next ≤ length ts → IsAhead ts next next 0
 IsAhead-none ts next within = record {
   told = λ i. bit_at-zero i ∙ sym (elim (cases_lt (next - 16 + i) next) [
-    | inl lt ↦ ap (λ b. cond (ltb (next - 16 + i) next) (cond b 1 0) 0) (mark_before ts next (next - 16 + i) lt) ∙ no_bit (ltb (next - 16 + i) next)
-    | inr ge ↦ ap (λ b. cond b (cond (is_mark_from ts next (next - 16 + i)) 1 0) 0) (le-ltb (next - 16 + i) next ge)
+    | inl lt ↦ ap (λ b. cond (ltb (next - 16 + i) next) (cond b 1 0) 0) (from_on-before (is_mark ts) next (next - 16 + i) lt) ∙ no_bit (ltb (next - 16 + i) next)
+    | inr ge ↦ ap (λ b. cond b (cond (from_on (is_mark ts) next (next - 16 + i)) 1 0) 0) (le-ltb (next - 16 + i) next ge)
   ]);
   whole = λ some. absurd (omega arith);
   from = omega arith;
@@ -107,23 +95,15 @@ IsAhead-none ts next within = record {
   within = within;
 }
 
--- sixteen places that were just looked at
-pub tells_marks : (ts : List ℕ) (at bits : ℕ) → Tells (λ p. leb 128 (tag_at ts p)) at (at + 16) bits → Tells (is_mark_from ts at) at (at + 16) bits
-tells_marks ts at bits = tells_same (λ p. leb 128 (tag_at ts p)) (is_mark_from ts at) at (at + 16) bits (λ p le. sym (mark_here ts at p le))
-
 -- a walk comes to a place, of the 16 from `base` on
-module _ (ts : List ℕ) (next base until place : ℕ) (sixteen : base + 16 ≡ until) (begun : base ≤ next) (within : until ≤ length ts) (below : place < until) (mark : is_mark_from ts next place ≡ true) where
-  at_mark : (next ≤ place) × (128 ≤ tag_at ts place)
-  at_mark = let both = and_parts _ _ mark in (leb-true next place both.0, leb-true 128 (tag_at ts place) both.1)
+module _ (ts : List ℕ) (next base until place : ℕ) (sixteen : base + 16 ≡ until) (begun : base ≤ next) (within : until ≤ length ts) (below : place < until) (first : IsFirstPlace (is_mark ts) next until place) where
+  pub IsNextMark-told : IsNextMark ts next place
+  IsNextMark-told = (first.low, omega arith, leb-true 128 (tag_at ts place) (first.hit below), λ q a b. leb-false 128 (tag_at ts q) (first.before q a b))
 
-  pub IsNextMark-told : ((p : ℕ) → base ≤ p → p < place → is_mark_from ts next p ≡ false) → IsNextMark ts next place
-  IsNextMark-told before = (at_mark.0, omega arith, at_mark.1, λ q a b. unmarked ts next q a (before q (omega arith) b))
-
-  pub IsAhead-behind : (rest : ℕ) → Tells (λ p. ltb place p && is_mark_from ts next p) base until rest → IsAhead ts (place + 1) until rest
+  pub IsAhead-behind : (rest : ℕ) → Tells (from_on (is_mark ts) (place + 1)) base until rest → IsAhead ts (place + 1) until rest
   IsAhead-behind rest tells =
-      let from = at_mark.0 in let back : base ≡ until - 16 = omega arith in record {
-        told = subst (λ b. Tells (is_mark_from ts (place + 1)) b until rest) back
-            (tells_same (λ p. ltb place p && is_mark_from ts next p) (is_mark_from ts (place + 1)) base until rest (λ p _. mark_behind ts next place p from) tells);
+      let low = first.low in let back : base ≡ until - 16 = omega arith in record {
+        told = subst (λ b. Tells (from_on (is_mark ts) (place + 1)) b until rest) back tells;
         whole = λ some. omega arith;
         from = omega arith;
         near = omega arith;

@@ -1,6 +1,6 @@
 -- A table of slots as it is kept: a tag for each slot, which is a byte, beside a row of cells. How the two mean slots, and
 -- what a probe rests on.
-use Rattle.std.specs.Prelude.{◌≡◌, ℕ, ◌+◌, ◌/◌, ◌^◌, ◌<◌, ◌≤◌, ◌&&◌, Bool, true, List, [], ◌∷◌, length, Option, Some, None, if◌then◌else◌, nat_eq, nat_le, slice_index_or}
+use Rattle.std.specs.Prelude.{◌≡◌, ℕ, ◌+◌, ◌/◌, ◌^◌, ◌<◌, ◌≤◌, Bool, true, List, [], ◌∷◌, length, Option, Some, None, if◌then◌else◌, nat_eq, slice_index_or}
 use Rattle.hashbag_slots.specs.declared.slots.Slot.{Slot}
 use Rattle.hashbag_slots.specs.declared.slots.Slot.TheVariants.{Empty, Removed, Moved, Live}
 use Rattle.hashbag_slots.specs.Cells.{cell_at}
@@ -13,10 +13,6 @@ mark_of hash = hash / 2 ^ 57 + 128
 -- the tag at a place, and 0 past the end
 abbrev pub tag_at : List ℕ → ℕ → ℕ
 tag_at ts p = slice_index_or ts p 0
-
--- the tag at p is a mark, and p is not before the place `from`
-abbrev pub is_mark_from : List ℕ → ℕ → ℕ → Bool
-is_mark_from ts from p = nat_le from p && nat_le 128 (tag_at ts p)
 
 -- the first tag of a Live slot from the place `from` on is at p
 abbrev pub IsNextMark : List ℕ → ℕ → ℕ → Type 0

@@ -1,6 +1,10 @@
 -- Sixteen tags at once, as bits.
-use Rattle.std.specs.Prelude.{◌≡◌, ℕ, ◌+◌, Bool, nat_lt, if◌then◌else◌}
+use Rattle.std.specs.Prelude.{◌≡◌, ℕ, ◌+◌, ◌&&◌, Bool, nat_le, nat_lt, if◌then◌else◌}
 use Rattle.std.specs.Int.{bit_at}
+
+-- p passes the test, and is not before the place `from`
+abbrev pub from_on : (ℕ → Bool) → ℕ → ℕ → Bool
+from_on test from p = nat_le from p && test p
 
 -- bit i is 1 where the place from + i is below `until` and passes the test, and 0 elsewhere
 abbrev pub Tells : (ℕ → Bool) → ℕ → ℕ → ℕ → Type 0

@@ -6,7 +6,7 @@ ghost use Rattle.hashbag_slots.specs.Slots.{removed_count, IsAbsent, Places, Are
 ghost use Rattle.hashbag_slots.specs.Columns.{columns, slots_of, IsReached, IsColumns};
 ghost use Rattle.hashbag_slots.specs.Carry.{CarriesTags, kept, IsCarried};
 
-use crate::lanes::{LANES, live_ahead, next_told};
+use crate::lanes::{LANES, live_ahead, lowest_told};
 use crate::opened::Opened;
 use crate::slots::hash_of;
 use crate::tags::{LEAST_MARK, MOVED, REMOVED, free_place, mark_of};
@@ -84,12 +84,10 @@ pub fn carry_lanes<T: Eq + Hash, S: BuildHasher>(
 {
     let (newer_live, older_live) = counts;
     let mut live = newer_live;
-    let mut at = from;
     let mut ahead = live_ahead(older_tags, from);
     'told: while ahead != 0 {
-        let (place, rest) = next_told(ahead, at);
+        let (place, rest) = lowest_told(ahead, from);
         live = move_in(tags, cells, live, removed, older_cells, place, state);
-        at = place + 1;
         ahead = rest;
     }
     carry_tags(older_tags, from);

@@ -3,7 +3,7 @@ ghost use Rattle.std.specs.Prelude.{◌≡◌, ◌==◌, ℕ, ◌+◌, ◌<◌, 
 ghost use Rattle.std.specs.Int.{w64, trailing_zeros};
 ghost use Rattle.std.specs.Slice.Scan.{IsFirstPlace};
 ghost use Rattle.hashbag_slots.specs.Columns.{tag_at};
-ghost use Rattle.hashbag_slots.specs.Lanes.{Tells};
+ghost use Rattle.hashbag_slots.specs.Lanes.{Tells, from_on};
 
 use crate::tags::LEAST_MARK;
 use std::simd::prelude::*;
@@ -73,31 +73,16 @@ pub fn live_ahead(tags: &[u8], from: usize) -> u64
     live.to_bitmask()
 }
 
-/// The first place of which bits tell that it passes their test, and the bits of the places behind it.
-#[inline(always)]
-pub fn next_told(bits: u64, from: usize) -> (usize, u64)
-    requires some { 0 < bits }
-    requires fits { from + 64 ≤ 2 ^ 64 }
-    ensures from { from ≤ result.0 }
-    ensures below { (test : ℕ → Bool) → (until : ℕ) → Tells test from until bits → result.0 < until }
-    ensures passes { (test : ℕ → Bool) → (until : ℕ) → Tells test from until bits → test result.0 ≡ true }
-    ensures before { (test : ℕ → Bool) → (until : ℕ) → Tells test from until bits → (p : ℕ) → from ≤ p → p < result.0 → test p ≡ false }
-    ensures rest { (test : ℕ → Bool) → (until : ℕ) → Tells test from until bits → Tells test (result.0 + 1) until result.1 }
-{
-    let lane = bits.trailing_zeros();
-    (from + lane as usize, bits >> lane >> 1)
-}
-
-/// As `next_told`, but the bits that it answers keep their places: they begin at `from` still, and the bit of the place found is cleared.
+/// The first place of which bits tell that it passes their test, and the bits with its own cleared. The bits begin at the place `from`,
+/// and tell of no place before `at`. What is left tells of none up to the place found.
 #[inline(always)]
 pub fn lowest_told(bits: u64, from: usize) -> (usize, u64)
     requires some { 0 < bits }
     requires fits { from + 64 ≤ 2 ^ 64 }
-    ensures from { from ≤ result.0 }
-    ensures below { (test : ℕ → Bool) → (until : ℕ) → Tells test from until bits → result.0 < until }
-    ensures passes { (test : ℕ → Bool) → (until : ℕ) → Tells test from until bits → test result.0 ≡ true }
-    ensures before { (test : ℕ → Bool) → (until : ℕ) → Tells test from until bits → (p : ℕ) → from ≤ p → p < result.0 → test p ≡ false }
-    ensures rest { (test : ℕ → Bool) → (until : ℕ) → Tells test from until bits → Tells (λ p. nat_lt result.0 p && test p) from until result.1 }
+    ensures first { (test : ℕ → Bool) → (at until : ℕ) → from ≤ at → Tells (from_on test at) from until bits → IsFirstPlace test at until result.0 }
+    ensures below { (test : ℕ → Bool) → (at until : ℕ) → Tells (from_on test at) from until bits → result.0 < until }
+    ensures rest { (test : ℕ → Bool) → (at until : ℕ) → Tells (from_on test at) from until bits → Tells (from_on test (result.0 + 1)) from until result.1 }
+    ensures fewer { result.1 < bits }
 {
     (from + bits.trailing_zeros() as usize, bits & (bits - 1))
 }

@@ -11,8 +11,7 @@ ghost use Rattle.hashbag_slots.specs.Columns.{mark_of, tag_at, IsNextMark, Agree
 
 use crate::cells::Cells;
 use crate::lanes::{
-    LANES, below, equal_ahead, free_before, live_ahead, live_before, lowest_told, next_told,
-    others_before,
+    LANES, below, equal_ahead, free_before, live_ahead, live_before, lowest_told, others_before,
 };
 use std::alloc::{AllocError, Global};
 use std::hash::{BuildHasher, Hash};
@@ -136,14 +135,12 @@ fn find_among<T: Eq>(
     ensures found { IfSome result (HoldsAt (λ v. T.eq v value.now) (slots_of tags.now cells.now)) }
     ensures absent { IfNone result ((p : ℕ) → from ≤ p → p < from + few → tag_at tags.now p ≡ mark → holds (λ v. T.eq v value.now) (slot_at (slots_of tags.now cells.now) p) ≡ false) }
 {
-    let mut at = from;
     let mut ahead = below(equal_ahead(tags, from, mark), few);
     'marks: while ahead != 0 {
-        let (place, rest) = next_told(ahead, at);
+        let (place, rest) = lowest_told(ahead, from);
         if is_in(cells, place, value) {
             return Some(place);
         }
-        at = place + 1;
         ahead = rest;
     }
     None

@@ -1,9 +1,8 @@
 use Rattle.std.proofs.Common.{◌≡◌, ℕ, ◌+◌, ◌<◌, Bool, List, eqb, length, false, subst, ◌∙◌, inl, inr, arith}
 use Rattle.std.proofs.lemmas.Bool.{cases_lt, eqb-true, eqb-false}
-use Rattle.hashbag_slots.specs.Lanes.{Tells}
 use Rattle.hashbag_slots.specs.Slots.{holds, slot_at}
 use Rattle.hashbag_slots.specs.Columns.{tag_at, slots_of}
-use Rattle.hashbag_slots.proofs.Bits.{none_told}
+use Rattle.hashbag_slots.proofs.Bits.{none_told, tells_fresh}
 use Rattle.hashbag_slots.proofs.Reading.{length-slots_of, holds_at}
 use Rattle.hashbag_slots.proofs.tags.find_among.Goals as goal
 
@@ -12,45 +11,46 @@ is_marked ts mark p = eqb (tag_at ts p) mark
 
 pub marks-init : goal.marks-init
 marks-init g c =
-    let few = c.requires.few in (
+    let test : ℕ → Bool = is_marked c.args.tags.now c.args.mark in let from = c.args.from in let few = c.requires.few in (
+      from,
       omega arith,
-      omega arith,
-      c.below-ahead.ensures (is_marked c.args.tags.now c.args.mark) c.args.from (c.args.from + 16) (omega arith) c.equal_ahead.ensures,
+      tells_fresh test from (from + c.args.few) c.below-ahead.result (c.below-ahead.ensures test from (from + 16) (omega arith) c.equal_ahead.ensures),
       λ p a b is. absurd (omega arith),
     )
 
 pub is_in-requires : goal.is_in-requires
 is_in-requires g c =
-    let ts = c.args.tags.now in let least = c.requires.mark in
-    let tag = eqb-true _ _ (c.next_told-place.ensures.passes (is_marked ts c.args.mark) (c.args.from + c.args.few) c.marks.invariant.2) in
-    c.requires.agree.filled c.next_told-place.result.0 (omega arith)
+    let ts = c.args.tags.now in let least = c.requires.mark in let i = c.marks.invariant in let test : ℕ → Bool = is_marked ts c.args.mark in
+    let told = c.lowest_told-place.ensures in let until : ℕ = c.args.from + c.args.few in
+    let tag = eqb-true _ _ ((told.first test i.0 until i.1 i.2).hit (told.below test i.0 until i.2)) in
+    c.requires.agree.filled c.lowest_told-place.result.0 (omega arith)
 
 pub returns-then-is_in-clause-found : goal.returns-then-is_in-clause-found
 returns-then-is_in-clause-found g c =
-    let ts = c.args.tags.now in let cs = c.args.cells.now in let place = c.next_told-place.result.0 in let least = c.requires.mark in
-    let len = length-slots_of ts cs c.requires.agree.same_length in let room = c.requires.within in
-    let below = c.next_told-place.ensures.below (is_marked ts c.args.mark) (c.args.from + c.args.few) c.marks.invariant.2 in
+    let ts = c.args.tags.now in let cs = c.args.cells.now in let place = c.lowest_told-place.result.0 in let least = c.requires.mark in
+    let i = c.marks.invariant in let test : ℕ → Bool = is_marked ts c.args.mark in let told = c.lowest_told-place.ensures in let until : ℕ = c.args.from + c.args.few in
+    let len = length-slots_of ts cs c.requires.agree.same_length in let room = c.requires.within in let few = c.requires.few in
+    let below = told.below test i.0 until i.2 in
     let within : place < length (slots_of ts cs) = omega arith in
-    let tag = eqb-true _ _ (c.next_told-place.ensures.passes (is_marked ts c.args.mark) (c.args.from + c.args.few) c.marks.invariant.2) in
+    let tag = eqb-true _ _ ((told.first test i.0 until i.1 i.2).hit below) in
     let e = c.requires.agree.filled place (omega arith) in
     (within, holds_at ts cs c.requires.agree place g.T.PartialEq.eq c.args.value.now e.0 e.1 ∙ c.is_in.ensures e.0 e.1 ∙ c.if-is_in.true)
 
 pub marks-preserved : goal.marks-preserved
 marks-preserved g c =
-    let ts = c.args.tags.now in let cs = c.args.cells.now in let place = c.next_told-place.result.0 in let least = c.requires.mark in
-    let test : ℕ → Bool = is_marked ts c.args.mark in let until : ℕ = c.args.from + c.args.few in let told = c.marks.invariant.2 in
-    let from = c.next_told-place.ensures.from in let start = c.marks.invariant.0 in
-    let below = c.next_told-place.ensures.below test until told in
-    let tag = eqb-true _ _ (c.next_told-place.ensures.passes test until told) in
+    let ts = c.args.tags.now in let cs = c.args.cells.now in let place = c.lowest_told-place.result.0 in let least = c.requires.mark in
+    let i = c.marks.invariant in let test : ℕ → Bool = is_marked ts c.args.mark in let told = c.lowest_told-place.ensures in let until : ℕ = c.args.from + c.args.few in
+    let first = told.first test i.0 until i.1 i.2 in
+    let tag = eqb-true _ _ (first.hit (told.below test i.0 until i.2)) in let low = first.low in let start = i.1 in
     let e = c.requires.agree.filled place (omega arith) in (
+      place + 1,
       omega arith,
-      omega arith,
-      c.next_told-place.ensures.rest test until told,
+      told.rest test i.0 until i.2,
       λ p a b is.
-          elim (cases_lt p c.marks.at) [
-            | inl before ↦ c.marks.invariant.3 p a before is
+          elim (cases_lt p i.0) [
+            | inl before ↦ i.3 p a before is
             | inr beyond ↦ elim (cases_lt p place) [
-              | inl between ↦ absurd (eqb-false _ _ (c.next_told-place.ensures.before test until told p beyond between) is)
+              | inl between ↦ absurd (eqb-false _ _ (first.before p beyond between) is)
               | inr here ↦
                   let same : place ≡ p = omega arith in
                   subst (λ q. holds (λ v. g.T.PartialEq.eq v c.args.value.now) (slot_at (slots_of ts cs) q) ≡ false) same
@@ -59,10 +59,13 @@ marks-preserved g c =
           ],
     )
 
+pub marks-smaller : goal.marks-smaller
+marks-smaller g c = c.lowest_told-place.ensures.fewer
+
 pub returns-clause-absent : goal.returns-clause-absent
 returns-clause-absent g c p a b is =
-    let test : ℕ → Bool = is_marked c.args.tags.now c.args.mark in let until : ℕ = c.args.from + c.args.few in
-    elim (cases_lt p c.marks.at) [
-      | inl before ↦ c.marks.invariant.3 p a before is
-      | inr beyond ↦ absurd (eqb-false _ _ (none_told test c.marks.at until (subst (Tells test c.marks.at until) c.marks-test.false c.marks.invariant.2) p beyond b) is)
+    let i = c.marks.invariant in
+    elim (cases_lt p i.0) [
+      | inl before ↦ i.3 p a before is
+      | inr beyond ↦ absurd (eqb-false _ _ (none_told (is_marked c.args.tags.now c.args.mark) c.args.from i.0 (c.args.from + c.args.few) c.marks.ahead i.2 i.1 c.marks-test.false p beyond b) is)
     ]
