@@ -1,11 +1,11 @@
 -- What bits tell of places.
-use Rattle.std.proofs.Common.{◌≡◌, ℕ, zero, suc, min, bit_and, ◌+◌, ◌-◌, ◌/◌, ◌%◌, ◌^◌, ◌<◌, ◌≤◌, ◌&&◌, Bool, true, false, cond, ltb, List, length, get_or, map, refl, sym, ap, ◌∙◌, inl, inr, arith}
+use Rattle.std.proofs.Common.{◌≡◌, ℕ, zero, suc, min, bit_and, ◌+◌, ◌-◌, ◌/◌, ◌%◌, ◌^◌, ◌<◌, ◌≤◌, ◌&&◌, Bool, true, false, cond, not, eqb, ltb, List, length, get_or, map, refl, sym, ap, subst, ◌∙◌, inl, inr, arith, w64}
 use Rattle.std.proofs.Math.Nat.{min-eq_left, min-zero}
-use Rattle.std.proofs.lemmas.Bool.{cases_lt, ltb-true, lt-ltb, le-ltb, leb-true, lt-leb, le-leb, and_parts}
+use Rattle.std.proofs.lemmas.Bool.{cases_lt, ltb-true, lt-ltb, le-ltb, leb-true, lt-leb, le-leb, and_parts, ne_eqb, eq-eqb}
 use Rattle.std.proofs.lemmas.List.{get_or-map, get_or_past, length-map}
-use Rattle.std.proofs.lemmas.Nat.Bits.{bit_at-zero, bit_at-suc, bit_at_lowest, bit_at-lt, bit_at_and, bit_at_ones, bit_at_ones_above}
+use Rattle.std.proofs.lemmas.Nat.Bits.{bit_at-zero, bit_at-trailing_zeros, bit_at-suc, bit_at_lowest, bit_at-lt, bit_at_and, bit_at_ones, bit_at_ones_above}
 use Rattle.std.proofs.lemmas.Simd.{length-chunk, get_or-chunk, bit_mask_l}
-use Rattle.std.specs.Int.{bit_at}
+use Rattle.std.specs.Int.{bit_at, trailing_zeros}
 use Rattle.std.specs.Simd.Lanes.{chunk, mask_l}
 use Rattle.std.specs.Slice.Scan.{IsFirstPlace, HoldsNowhere}
 use Rattle.hashbag_slots.specs.Lanes.{Tells, from_on}
@@ -31,7 +31,7 @@ half_even n some even = omega arith
 half_odd : (n : ℕ) → n % 2 ≡ 1 → (n - 1) / 2 ≡ n / 2
 half_odd n odd = omega arith
 
--- one less than a number, at its lowest bit and above it
+-- one less than a number, at its lowest bit, above it and below it
 less_at : (n t : ℕ) → 0 < n → bit_at n t ≡ 1 → ((i : ℕ) → i < t → bit_at n i ≡ 0) → bit_at (n - 1) t ≡ 0
 less_at n zero some one low = let odd : n % 2 ≡ 1 = sym (bit_at_lowest n) ∙ one in bit_at_lowest (n - 1) ∙ omega arith
 less_at n (suc t) some one low =
@@ -48,6 +48,15 @@ less_above n (suc t) (suc i) some one low above =
     bit_at-suc (n - 1) i ∙ ap (λ m. bit_at m i) (half_even n some even)
     ∙ less_above (n / 2) t i (omega arith) (sym (bit_at-suc n t) ∙ one) (λ j l. sym (bit_at-suc n j) ∙ low (suc j) (omega arith)) (omega arith)
     ∙ sym (bit_at-suc n i)
+
+less_below : (n t i : ℕ) → 0 < n → bit_at n t ≡ 1 → ((j : ℕ) → j < t → bit_at n j ≡ 0) → i < t → bit_at (n - 1) i ≡ 1
+less_below n zero i some one low under = absurd (omega arith)
+less_below n (suc t) zero some one low under =
+    let even : n % 2 ≡ 0 = sym (bit_at_lowest n) ∙ low 0 (omega arith) in bit_at_lowest (n - 1) ∙ omega arith
+less_below n (suc t) (suc i) some one low under =
+    let even : n % 2 ≡ 0 = sym (bit_at_lowest n) ∙ low 0 (omega arith) in
+    bit_at-suc (n - 1) i ∙ ap (λ m. bit_at m i) (half_even n some even)
+    ∙ less_below (n / 2) t i (omega arith) (sym (bit_at-suc n t) ∙ one) (λ j l. sym (bit_at-suc n j) ∙ low (suc j) (omega arith)) (omega arith)
 
 pub no_bit : (b : Bool) → ◌≡◌ {A = ℕ} (cond b 0 0) 0
 no_bit true = refl
@@ -115,19 +124,6 @@ module _ (test : ℕ → Bool) (from until bits : ℕ) (tells : Tells test from 
             ] ∙ sym (ap behind (lt-leb (from + t + 1) (from + i) (omega arith)) ∙ no_bit here)
       ]
 
-  -- the bits of the first few places
-  pub tells_first : (few : ℕ) → from + few ≤ until → Tells test from (from + few) (bit_and bits (2 ^ few - 1))
-  tells_first few within i =
-      bit_at_and bits (2 ^ few - 1) i ∙ elim (cases_lt i few) [
-        | inl lt ↦
-            let small = bit_at-lt bits i in
-            ap (min (bit_at bits i)) (bit_at_ones few i lt) ∙ min-eq_left (omega arith) ∙ tells i
-            ∙ ap (λ b. cond b (cond (test (from + i)) 1 0) 0) (lt-ltb (from + i) until (omega arith) ∙ sym (lt-ltb (from + i) (from + few) (omega arith)))
-        | inr ge ↦
-            ap (min (bit_at bits i)) (bit_at_ones_above few i ge) ∙ min-zero (bit_at bits i)
-            ∙ sym (ap (λ b. cond b (cond (test (from + i)) 1 0) 0) (le-ltb (from + i) (from + few) (omega arith)))
-      ]
-
 module _ (test : ℕ → Bool) (from at until bits : ℕ) (tells : Tells (from_on test at) from until bits) where
   -- no bit is set
   pub none_told : from ≤ at → bits ≡ 0 → HoldsNowhere test at until
@@ -157,3 +153,70 @@ module _ (test : ℕ → Bool) (from at until bits : ℕ) (tells : Tells (from_o
         let passed = first_passes.0 in
         tells_same (from_on (from_on test at) (from + t + 1)) (from_on test (from + t + 1)) from until (bit_and bits (bits - 1))
         (λ p _. from_on-twice test at (from + t + 1) p (omega arith)) (tells_cleared (from_on test at) from until bits tells t some one low)
+
+-- the bits before the first place of which other bits tell, and of which these don't
+module _ (test stop : ℕ → Bool) (from until bits : ℕ) (tells : Tells test from until bits) (apart : (p : ℕ) → test p ≡ true → stop p ≡ false) where
+  abbrev shown : ℕ → Bool → ℕ
+  shown i b = cond b (cond (test (from + i)) 1 0) 0
+
+  never_both : (stops : ℕ) → Tells stop from until stops → (i : ℕ) → min (bit_at bits i) (bit_at stops i) ≡ 0
+  never_both stops ends i =
+      let small = bit_at-lt bits i in
+      elim (cases_lt (bit_at bits i) 1) [
+        | inl unset ↦ omega arith
+        | inr set ↦
+            let is = told test from until bits tells i (omega arith) in
+            ap (min (bit_at bits i)) (ends i ∙ ap (λ b. cond (ltb (from + i) until) (cond b 1 0) 0) (apart (from + i) is.1) ∙ no_bit (ltb (from + i) until)) ∙ min-zero (bit_at bits i)
+      ]
+
+  tells_before : (stops t : ℕ) → Tells stop from until stops → 0 < stops → bit_at stops t ≡ 1 → ((i : ℕ) → i < t → bit_at stops i ≡ 0) → Tells test from (from + t) (bit_and bits (stops - 1))
+  tells_before stops t ends some one low i =
+      let within = (told stop from until stops ends t one).0 in
+      bit_at_and bits (stops - 1) i ∙ elim (cases_lt i t) [
+        | inl under ↦
+            let small = bit_at-lt bits i in
+            ap (min (bit_at bits i)) (less_below stops t i some one low under) ∙ min-eq_left (omega arith) ∙ tells i
+            ∙ ap (shown i) (lt-ltb (from + i) until (omega arith) ∙ sym (lt-ltb (from + i) (from + t) (omega arith)))
+        | inr beyond ↦
+            elim (cases_lt t i) [
+              | inl above ↦ ap (min (bit_at bits i)) (less_above stops t i some one low above) ∙ never_both stops ends i
+              | inr here ↦
+                  let same : i ≡ t = omega arith in
+                  ap (min (bit_at bits i)) (ap (bit_at (stops - 1)) same ∙ less_at stops t some one low) ∙ min-zero (bit_at bits i)
+            ] ∙ sym (ap (shown i) (le-ltb (from + i) (from + t) (omega arith)))
+      ]
+
+  tells_all : until ≤ from + 64 → Tells test from until (bit_and bits (2 ^ 64 - 1))
+  tells_all near i =
+      bit_at_and bits (2 ^ 64 - 1) i ∙ elim (cases_lt i 64) [
+        | inl lt ↦ let small = bit_at-lt bits i in ap (min (bit_at bits i)) (bit_at_ones 64 i lt) ∙ min-eq_left (omega arith) ∙ tells i
+        | inr ge ↦ ap (min (bit_at bits i)) (bit_at_ones_above 64 i ge) ∙ min-zero (bit_at bits i) ∙ sym (ap (shown i) (le-ltb (from + i) until (omega arith)))
+      ]
+
+  pub before_stop : (stops : ℕ) → Tells stop from until stops → stops < 2 ^ 64 → from ≤ until → until ≤ from + 64
+      → (x : ℕ) × IsFirstPlace stop from until x × Tells test from x (bit_and bits ((stops + 18446744073709551615) % 18446744073709551616)) × (not (eqb stops 0) ≡ ltb x until)
+  before_stop stops ends fits le near =
+      let fresh = tells_fresh stop from until stops ends in
+      elim (cases_lt 0 stops) [
+        | inl some ↦
+            let t = trailing_zeros w64 stops in let lowest = bit_at-trailing_zeros w64 stops some fits in
+            let less : stops - 1 ≡ (stops + 18446744073709551615) % 18446744073709551616 = omega arith in (
+              from + t,
+              first_told stop from from until stops fresh t lowest.1 lowest.2 (omega arith),
+              subst (λ n. Tells test from (from + t) (bit_and bits n)) less (tells_before stops t ends some lowest.1 lowest.2),
+              ap not (ne_eqb stops 0 (λ none. absurd (omega arith))) ∙ sym (lt-ltb (from + t) until (first_below stop from from until stops fresh t lowest.1 lowest.2)),
+            )
+        | inr none ↦
+            let zero : stops ≡ 0 = omega arith in
+            let ones : 2 ^ 64 - 1 ≡ (stops + 18446744073709551615) % 18446744073709551616 = omega arith in (
+              until,
+              record {
+                low = le;
+                high = omega arith;
+                before = none_told stop from from until stops fresh (omega arith) zero;
+                hit = λ lt. absurd (omega arith);
+              },
+              subst (λ n. Tells test from until (bit_and bits n)) ones (tells_all near),
+              ap not (eq-eqb stops 0 zero) ∙ sym (le-ltb until until (omega arith)),
+            )
+      ]

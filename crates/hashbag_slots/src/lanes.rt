@@ -5,7 +5,7 @@ ghost use Rattle.std.specs.Slice.Scan.{IsFirstPlace};
 ghost use Rattle.hashbag_slots.specs.Columns.{tag_at};
 ghost use Rattle.hashbag_slots.specs.Lanes.{Tells, from_on};
 
-use crate::tags::LEAST_MARK;
+use crate::tags::{EMPTY, LEAST_MARK};
 use std::simd::prelude::*;
 
 /// How many tags are looked at at once.
@@ -87,11 +87,16 @@ pub fn lowest_told(bits: u64, from: usize) -> (usize, u64)
     (from + bits.trailing_zeros() as usize, bits & (bits - 1))
 }
 
-/// Of bits that tell of places, those of the first few places. All others are 0.
+/// A bit for each of the 16 tags from a place on that come before the first Empty one, the lowest for the first: whether it is `tag`.
+/// And whether one of the 16 is Empty.
 #[inline(always)]
-pub fn below(bits: u64, few: usize) -> u64
-    requires few { few ≤ 16 }
-    ensures { (test : ℕ → Bool) → (from until : ℕ) → from + few ≤ until → Tells test from until bits → Tells test from (from + few) result }
+pub fn equal_before_empty(tags: &[u8], from: usize, tag: u8) -> (u64, bool)
+    requires room { from + 16 ≤ length tags.now }
+    requires other { 0 < tag }
+    ensures { (stop : ℕ) × IsFirstPlace (λ p. tag_at tags.now p == 0) from (from + 16) stop × Tells (λ p. tag_at tags.now p == tag) from stop result.0 × (result.1 ≡ nat_lt stop (from + 16)) }
 {
-    bits & ((1 << few) - 1)
+    let empty = equal_ahead(tags, from, EMPTY);
+    let equal = equal_ahead(tags, from, tag);
+    // One less than a number has a bit below its lowest, none at it, and the same ones above, where tags are Empty and can't be `tag`.
+    (equal & empty.wrapping_sub(1), empty != 0)
 }

@@ -5,13 +5,15 @@
 ghost use Rattle.std.specs.Prelude.{◌≡◌, ◌==◌, ℕ, ◌+◌, ◌<◌, ◌≤◌, ◌^◌, ◌/◌, length, true, false, IfSome, IfNone, IfOk, IfErr, IsOk, OnErr, replicate, Some, None};
 ghost use Rattle.hashbag_slots.specs.Cells.{cell_at, IsFilled};
 ghost use Rattle.hashbag_slots.specs.Hashing.{hash_under};
+ghost use Rattle.hashbag_slots.specs.Lanes.{Tells};
 ghost use Rattle.hashbag_slots.specs.Walks.{IsAhead};
 ghost use Rattle.hashbag_slots.specs.Slots.{IsSlotCount, path_slot, slot_at, holds, HoldsAt, IsAbsent, live_count, IsFirstFree};
 ghost use Rattle.hashbag_slots.specs.Columns.{mark_of, tag_at, IsNextMark, Agree, columns, slots_of, IsReached};
 
 use crate::cells::Cells;
 use crate::lanes::{
-    LANES, below, equal_ahead, free_before, live_ahead, live_before, lowest_told, others_before,
+    LANES, equal_ahead, equal_before_empty, free_before, live_ahead, live_before, lowest_told,
+    others_before,
 };
 use std::alloc::{AllocError, Global};
 use std::hash::{BuildHasher, Hash};
@@ -118,24 +120,24 @@ fn probe<T: Eq + Hash, S: BuildHasher>(
     None
 }
 
-// The place of an equal value among the first few slots from a place on, at most 16, of those whose tag is its mark.
+// The place of an equal value among slots, at most 16 from a place on, of which bits tell whether the tag is the value's mark.
 #[inline(always)]
 fn find_among<T: Eq>(
     tags: &[u8],
     cells: &Cells<(T, usize)>,
     from: usize,
-    few: usize,
+    bits: u64,
     mark: u8,
     value: &T,
 ) -> Option<usize>
-    requires few { few ≤ 16 }
     requires within { from + 16 ≤ length tags.now }
+    requires told { (until : ℕ) × (until ≤ from + 16) × Tells (λ p. tag_at tags.now p == mark) from until bits }
     requires mark { 128 ≤ mark }
     requires agree { Agree tags.now cells.now }
     ensures found { IfSome result (HoldsAt (λ v. T.eq v value.now) (slots_of tags.now cells.now)) }
-    ensures absent { IfNone result ((p : ℕ) → from ≤ p → p < from + few → tag_at tags.now p ≡ mark → holds (λ v. T.eq v value.now) (slot_at (slots_of tags.now cells.now) p) ≡ false) }
+    ensures absent { IfNone result ((until : ℕ) → Tells (λ p. tag_at tags.now p == mark) from until bits → (p : ℕ) → from ≤ p → p < until → tag_at tags.now p ≡ mark → holds (λ v. T.eq v value.now) (slot_at (slots_of tags.now cells.now) p) ≡ false) }
 {
-    let mut ahead = below(equal_ahead(tags, from, mark), few);
+    let mut ahead = bits;
     'marks: while ahead != 0 {
         let (place, rest) = lowest_told(ahead, from);
         if is_in(cells, place, value) {
@@ -196,7 +198,9 @@ pub fn look_near<T: Eq + Hash, S: BuildHasher>(
     if first + LANES > count {
         return None;
     }
-    if let Some(place) = find_among(tags, cells, first, LANES, mark_of(hash), value) {
+    let mark = mark_of(hash);
+    let marked = equal_ahead(tags, first, mark);
+    if let Some(place) = find_among(tags, cells, first, marked, mark, value) {
         return Some(Ok(place));
     }
     if others_before(tags, first, EMPTY) < LANES {
@@ -232,11 +236,12 @@ fn find_near<T: Eq + Hash, S: BuildHasher>(
     if first + LANES > count {
         return None;
     }
-    let stop = others_before(tags, first, EMPTY);
-    if let Some(place) = find_among(tags, cells, first, stop, mark_of(hash), value) {
+    let mark = mark_of(hash);
+    let (marked, ends) = equal_before_empty(tags, first, mark);
+    if let Some(place) = find_among(tags, cells, first, marked, mark, value) {
         return Some(Some(place));
     }
-    if stop < LANES {
+    if ends {
         return Some(None);
     }
     None

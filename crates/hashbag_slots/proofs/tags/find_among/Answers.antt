@@ -10,42 +10,43 @@ abbrev is_marked : List ℕ → ℕ → ℕ → Bool
 is_marked ts mark p = eqb (tag_at ts p) mark
 
 pub marks-init : goal.marks-init
-marks-init g c =
-    let test : ℕ → Bool = is_marked c.args.tags.now c.args.mark in let from = c.args.from in let few = c.requires.few in (
-      from,
-      omega arith,
-      tells_fresh test from (from + c.args.few) c.below-ahead.result (c.below-ahead.ensures test from (from + 16) (omega arith) c.equal_ahead.ensures),
-      λ p a b is. absurd (omega arith),
-    )
+marks-init g c = (
+  c.args.from,
+  omega arith,
+  λ until tells. tells_fresh (is_marked c.args.tags.now c.args.mark) c.args.from until c.args.bits tells,
+  λ p a b is. absurd (omega arith),
+)
 
 pub is_in-requires : goal.is_in-requires
 is_in-requires g c =
     let ts = c.args.tags.now in let least = c.requires.mark in let i = c.marks.invariant in let test : ℕ → Bool = is_marked ts c.args.mark in
-    let told = c.lowest_told-place.ensures in let until : ℕ = c.args.from + c.args.few in
-    let tag = eqb-true _ _ ((told.first test i.0 until i.1 i.2).hit (told.below test i.0 until i.2)) in
+    let told = c.lowest_told-place.ensures in let until : ℕ = c.requires.told.0 in let tells = i.2 until c.requires.told.2 in
+    let tag = eqb-true _ _ ((told.first test i.0 until i.1 tells).hit (told.below test i.0 until tells)) in
     c.requires.agree.filled c.lowest_told-place.result.0 (omega arith)
 
 pub returns-then-is_in-clause-found : goal.returns-then-is_in-clause-found
 returns-then-is_in-clause-found g c =
     let ts = c.args.tags.now in let cs = c.args.cells.now in let place = c.lowest_told-place.result.0 in let least = c.requires.mark in
-    let i = c.marks.invariant in let test : ℕ → Bool = is_marked ts c.args.mark in let told = c.lowest_told-place.ensures in let until : ℕ = c.args.from + c.args.few in
-    let len = length-slots_of ts cs c.requires.agree.same_length in let room = c.requires.within in let few = c.requires.few in
-    let below = told.below test i.0 until i.2 in
+    let i = c.marks.invariant in let test : ℕ → Bool = is_marked ts c.args.mark in let told = c.lowest_told-place.ensures in
+    let until : ℕ = c.requires.told.0 in let tells = i.2 until c.requires.told.2 in
+    let len = length-slots_of ts cs c.requires.agree.same_length in let room = c.requires.within in let near = c.requires.told.1 in
+    let below = told.below test i.0 until tells in
     let within : place < length (slots_of ts cs) = omega arith in
-    let tag = eqb-true _ _ ((told.first test i.0 until i.1 i.2).hit below) in
+    let tag = eqb-true _ _ ((told.first test i.0 until i.1 tells).hit below) in
     let e = c.requires.agree.filled place (omega arith) in
     (within, holds_at ts cs c.requires.agree place g.T.PartialEq.eq c.args.value.now e.0 e.1 ∙ c.is_in.ensures e.0 e.1 ∙ c.if-is_in.true)
 
 pub marks-preserved : goal.marks-preserved
 marks-preserved g c =
     let ts = c.args.tags.now in let cs = c.args.cells.now in let place = c.lowest_told-place.result.0 in let least = c.requires.mark in
-    let i = c.marks.invariant in let test : ℕ → Bool = is_marked ts c.args.mark in let told = c.lowest_told-place.ensures in let until : ℕ = c.args.from + c.args.few in
-    let first = told.first test i.0 until i.1 i.2 in
-    let tag = eqb-true _ _ (first.hit (told.below test i.0 until i.2)) in let low = first.low in let start = i.1 in
+    let i = c.marks.invariant in let test : ℕ → Bool = is_marked ts c.args.mark in let told = c.lowest_told-place.ensures in
+    let until : ℕ = c.requires.told.0 in let tells = i.2 until c.requires.told.2 in
+    let first = told.first test i.0 until i.1 tells in
+    let tag = eqb-true _ _ (first.hit (told.below test i.0 until tells)) in let low = first.low in let start = i.1 in
     let e = c.requires.agree.filled place (omega arith) in (
       place + 1,
       omega arith,
-      told.rest test i.0 until i.2,
+      λ end tell. told.rest test i.0 end (i.2 end tell),
       λ p a b is.
           elim (cases_lt p i.0) [
             | inl before ↦ i.3 p a before is
@@ -63,9 +64,9 @@ pub marks-smaller : goal.marks-smaller
 marks-smaller g c = c.lowest_told-place.ensures.fewer
 
 pub returns-clause-absent : goal.returns-clause-absent
-returns-clause-absent g c p a b is =
+returns-clause-absent g c until tells p a b is =
     let i = c.marks.invariant in
     elim (cases_lt p i.0) [
       | inl before ↦ i.3 p a before is
-      | inr beyond ↦ absurd (eqb-false _ _ (none_told (is_marked c.args.tags.now c.args.mark) c.args.from i.0 (c.args.from + c.args.few) c.marks.ahead i.2 i.1 c.marks-test.false p beyond b) is)
+      | inr beyond ↦ absurd (eqb-false _ _ (none_told (is_marked c.args.tags.now c.args.mark) c.args.from i.0 until c.marks.ahead (i.2 until tells) i.1 c.marks-test.false p beyond b) is)
     ]

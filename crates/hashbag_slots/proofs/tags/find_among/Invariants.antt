@@ -1,13 +1,14 @@
-use Rattle.std.specs.Prelude.{◌≡◌, ◌==◌, ℕ, ◌+◌, ◌<◌, ◌≤◌, false}
+use Rattle.std.specs.Prelude.{◌≡◌, ◌==◌, ℕ, ◌<◌, ◌≤◌, false}
 use Rattle.hashbag_slots.specs.Lanes.{Tells, from_on}
 use Rattle.hashbag_slots.specs.Slots.{holds, slot_at}
 use Rattle.hashbag_slots.specs.Columns.{tag_at, slots_of}
 use Rattle.hashbag_slots.proofs.tags.find_among.Given as goal
 
--- bits tell of the places from `at` on, and no slot with the mark that was passed holds the value
+-- what is left of the bits tells of the places from `at` on, and no slot with the mark that was passed holds the value
 abbrev pub invariant-marks : goal.invariant-marks
 invariant-marks g l =
-    (at : ℕ) × (l.from ≤ at) × Tells (from_on (λ p. tag_at l.tags p == l.mark) at) l.from (l.from + l.few) l.ahead
+    (at : ℕ) × (l.from ≤ at)
+    × ((until : ℕ) → Tells (λ p. tag_at l.tags p == l.mark) l.from until l.bits → Tells (from_on (λ p. tag_at l.tags p == l.mark) at) l.from until l.ahead)
     × ((p : ℕ) → l.from ≤ p → p < at → tag_at l.tags p ≡ l.mark → holds (λ v. g.T.PartialEq.eq v l.value) (slot_at (slots_of l.tags l.cells) p) ≡ false)
 
 abbrev pub decreases-marks : goal.decreases-marks

@@ -15,10 +15,10 @@ returns-then-others_before-lt-LANES-clause-absent g c =
     let alike : (v w : g.row.T.Denot) → g.T.PartialEq.eq v w ≡ true → hash v ≡ hash w = λ v w e. hash_alike g.T.Hash.hash_input g.S.BuildHasher g.S.Hasher.Hasher c.args.state.now v w (g.met.T.Hash.respects_eq v w e) in
     let ts = c.args.tags.now in let room = c.if-first-count.false in let short = c.if-others_before-lt-LANES.true in
     absent_near g.T.PartialEq.eq c.args.value.now hash alike ts c.args.cells.now c.requires.agree c.requires.reached
-    c.mark_of.result (c.mark_of.ensures.mark ∙ ap (λ h. mark_of h) c.requires.hashed)
+    c.mark_of-mark.result (c.mark_of-mark.ensures.mark ∙ ap (λ h. mark_of h) c.requires.hashed)
     c.place_after-first.result c.others_before.result (c.place_after-first.ensures.value ∙ ap (λ h. path_slot (length ts) h 0) c.requires.hashed)
     (omega arith) (eqb-true _ _ (c.others_before.ensures.first.hit (omega arith)))
-    (λ p a b same. c.in_default.ensures.absent p a (omega arith) same)
+    (λ p a b same. c.in_default.ensures.absent (c.place_after-first.result + 16) c.equal_ahead-marked.ensures p a (omega arith) same)
 
 pub returns-then-others_before-lt-LANES-clause-free :
     goal.returns-then-others_before-lt-LANES-clause-free
