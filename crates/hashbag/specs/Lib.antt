@@ -22,5 +22,6 @@ pub use Rattle.hashbag_script.specs.Script
 pub use Rattle.hashbag_table.specs.Asked
 pub use Rattle.hashbag_table.specs.DrainWalk
 pub use Rattle.hashbag_table.specs.Entries
+pub use Rattle.hashbag_table.specs.Slots
 pub use Rattle.hashbag_table.specs.Table
 pub use Rattle.hashbag_table.specs.Tables

@@ -3,7 +3,7 @@
 //! Each clause follows from the contracts of the calls alone, by the lemmas of `CallerLemmas`.
 ghost use Rattle.std.specs.Prelude.{◌≡◌, ◌+◌, ◌<◌, ◌≤◌, ◌↔◌, min, false, length, IsTrue, OnOk, OnErr, IfOk, IfSome};
 ghost use Rattle.std.specs.Bool.{OnTrue, OnFalse};
-ghost use Rattle.hashbag.specs.Occurrences.{greatest_total, count, instance_or_itself};
+ghost use Rattle.hashbag.specs.Occurrences.{count, instance_or_itself};
 ghost use Rattle.hashbag_bench.specs.Ledger.{ChangesOnly};
 
 use hashbag::{BagError, HashBag};
@@ -18,12 +18,9 @@ pub fn deliver<T: Eq + Hash + Drop, S: BuildHasher + Drop>(
     ensures entered { OnOk result (count T.eq article stock.new.items ≡ count T.eq article stock.old.items + n) }
     ensures others { (v : T) → T.eq v article ≡ false → count T.eq v stock.new.items ≡ count T.eq v stock.old.items }
     ensures len { OnOk result (length stock.new.items ≡ length stock.old.items + n) }
-    ensures too_many { result ≡ Err BagError.TooMany → greatest_total < length stock.old.items + n }
+    ensures too_many { result ≡ Err BagError.TooMany → stock.old.most < length stock.old.items + n }
     ensures err { OnErr result (stock.new ≡ stock.old) }
 {
-    if n > usize::MAX - stock.len() {
-        return Err(BagError::TooMany);
-    }
     stock.insert_many(article, n)?;
     Ok(())
 }

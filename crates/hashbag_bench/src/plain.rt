@@ -1,6 +1,6 @@
 //! `PlainBag`: the plain, slow program that a bag is compared with.
 ghost use Rattle.std.specs.Prelude.{◌≡◌, ◌↔◌, [], length, IsTrue, IfOk, OnOk, OnErr};
-ghost use Rattle.hashbag.specs.Occurrences.{others, count, add, less, put, instance};
+ghost use Rattle.hashbag.specs.Occurrences.{greatest_total, others, count, add, less, put, instance};
 ghost use Rattle.hashbag.specs.Rows.{insert_row, replace_row, remove_row, remove_up_to_row, try_take_row, take_all_row, entry_set_row, entry_or_row, quota as quota_of, retained, retain_row, clear_row, count_row};
 ghost use Rattle.hashbag.specs.Script.{step as step_of};
 
@@ -159,7 +159,7 @@ impl<T: Eq + Copy> PlainBag<T> {
 
     // What `insert` and `insert_many` do.
     fn insert_row(&mut self, value: T, n: usize) -> Result<Reply<T>, AllocError>
-        ensures done { IfOk result (λ reply. (self.new, reply) ≡ insert_row T.eq value n self.old) }
+        ensures done { IfOk result (λ reply. (self.new, reply) ≡ insert_row T.eq greatest_total value n self.old) }
         ensures err { OnErr result (self.new ≡ self.old) }
     {
         if n > usize::MAX - self.len() {
@@ -172,7 +172,7 @@ impl<T: Eq + Copy> PlainBag<T> {
 
     // What `replace` does.
     fn replace_row(&mut self, value: T) -> Result<Reply<T>, AllocError>
-        ensures done { IfOk result (λ reply. (self.new, reply) ≡ replace_row T.eq value self.old) }
+        ensures done { IfOk result (λ reply. (self.new, reply) ≡ replace_row T.eq greatest_total value self.old) }
         ensures err { OnErr result (self.new ≡ self.old) }
     {
         let before = self.count(&value);
@@ -238,7 +238,7 @@ impl<T: Eq + Copy> PlainBag<T> {
 
     // What an entry's `and_modify` does where it sets the count.
     fn entry_set_row(&mut self, value: &T, n: usize) -> Result<Reply<T>, AllocError>
-        ensures done { IfOk result (λ reply. (self.new, reply) ≡ entry_set_row T.eq value.now n self.old) }
+        ensures done { IfOk result (λ reply. (self.new, reply) ≡ entry_set_row T.eq greatest_total value.now n self.old) }
         ensures err { OnErr result (self.new ≡ self.old) }
     {
         let instance = self.instance(value).unwrap_or(*value);
@@ -255,7 +255,7 @@ impl<T: Eq + Copy> PlainBag<T> {
 
     // What an entry's `or_insert_many` does.
     fn entry_or_row(&mut self, value: T, quantity: usize) -> Result<Reply<T>, AllocError>
-        ensures done { IfOk result (λ reply. (self.new, reply) ≡ entry_or_row T.eq value quantity self.old) }
+        ensures done { IfOk result (λ reply. (self.new, reply) ≡ entry_or_row T.eq greatest_total value quantity self.old) }
         ensures err { OnErr result (self.new ≡ self.old) }
     {
         let before = self.count(&value);
@@ -288,7 +288,7 @@ impl<T: Eq + Copy> PlainBag<T> {
     /// Does one step, and answers it. Where memory is refused, nothing changes. The steps that make or give room change
     /// nothing here.
     pub fn apply(&mut self, step: Step<T>) -> Result<Reply<T>, AllocError>
-        ensures done { IfOk result (λ reply. (self.new, reply) ≡ step_of T.eq self.old step) }
+        ensures done { IfOk result (λ reply. (self.new, reply) ≡ step_of T.eq greatest_total self.old step) }
         ensures err { OnErr result (self.new ≡ self.old) }
     {
         match step {
@@ -308,6 +308,8 @@ impl<T: Eq + Copy> PlainBag<T> {
             }
             Step::Count(value) => Ok(self.count_row(&value)),
             Step::Reserve(_) | Step::ShrinkToFit => Ok(Reply::Done),
+            Step::Limit(most) if most < self.len() => Ok(Reply::BelowTotal),
+            Step::Limit(_) => Ok(Reply::Done),
         }
     }
 }

@@ -1,6 +1,6 @@
 //! Callers to copy: room is made once, and what is inserted after that can't be refused.
 ghost use Rattle.std.specs.Prelude.{◌≡◌, ◌+◌, ◌<◌, ◌≤◌, length, OnOk, OnErr};
-ghost use Rattle.hashbag.specs.Occurrences.{greatest_total, count};
+ghost use Rattle.hashbag.specs.Occurrences.{count};
 ghost use Rattle.hashbag.specs.Tables.{room};
 
 use hashbag::{BagError, HashBag};
@@ -18,10 +18,10 @@ pub fn insert_all<T: Eq + Hash + Drop, S: BuildHasher + Drop>(
     ensures len { OnOk result (length bag.new.items ≡ length bag.old.items + length values.items) }
     ensures slots { OnOk result (length values.items ≤ room bag.old.tables → length bag.new.tables.newer ≡ length bag.old.tables.newer) }
     ensures err { OnErr result (bag.new ≡ bag.old) }
-    ensures too_many { result ≡ Err BagError.TooMany → greatest_total < length bag.old.items + length values.items }
+    ensures too_many { result ≡ Err BagError.TooMany → bag.old.most < length bag.old.items + length values.items }
     ensures memory { result ≡ Err BagError.Memory → room bag.old.tables < length values.items }
 {
-    if values.len() > usize::MAX - bag.len() {
+    if values.len() > bag.limit() - bag.len() {
         return Err(BagError::TooMany);
     }
     bag.reserve(values.len())?;

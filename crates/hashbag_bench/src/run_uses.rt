@@ -1,7 +1,7 @@
 //! Callers to copy: a run of steps, and what it replies.
 ghost use Rattle.std.specs.Prelude.{◌≡◌, ◌+◌, ◌≤◌, [], ◌∷◌, length, OnOk, IfOk};
 ghost use Rattle.hashbag.specs.Bag.{Means};
-ghost use Rattle.hashbag.specs.Occurrences.{greatest_total, count, add};
+ghost use Rattle.hashbag.specs.Occurrences.{count, add};
 
 use hashbag::script::{Reply, Step, run};
 use hashbag::{BagError, HashBag};
@@ -24,7 +24,7 @@ pub fn insert_and_count<T: Eq + Hash + Copy, S: BuildHasher + Drop>(
     bag: &mut HashBag<T, S>,
     value: T,
 ) -> Result<Vec<Reply<T>>, BagError>
-    requires { length bag.old.items + 1 ≤ greatest_total }
+    requires { length bag.old.items + 1 ≤ bag.old.most }
     ensures replies { IfOk result (λ replies. replies.items ≡ Reply.Count (count T.eq value bag.old.items) ∷ Reply.Count (count T.eq value bag.old.items + 1) ∷ []) }
     ensures left { OnOk result (Means bag.new (add T.eq value 1 bag.old.items)) }
 {

@@ -22,7 +22,7 @@ pub fn insert_each<S: BuildHasher + Drop>(
     bag: &mut HashBag<u64, S>,
     words: &[u64],
 ) -> Result<(), BagError>
-    requires { length bag.old.items + length words.now ≤ greatest_total }
+    requires { length bag.old.items + length words.now ≤ bag.old.most }
     ensures counts { OnOk result ((v : ℕ) → count nat_eq v bag.new.items ≡ count nat_eq v bag.old.items + count nat_eq v words.now) }
     ensures len { OnOk result (length bag.new.items ≡ length bag.old.items + length words.now) }
     ensures memory { IfErr result (λ e. e ≡ BagError.Memory) }

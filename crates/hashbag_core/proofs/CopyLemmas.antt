@@ -67,12 +67,13 @@ module _ {T : Type 0} {eq : T → T → Bool} (laws : IsEquivalence eq) (is_clon
       sym (length-filter (eq v) X) ∙ zip_count v X h.clones (all_to_recursion (λ x. (y : T) → is_clone x y → eq x y ≡ true) X equal) h.each
       ∙ length-filter (eq v) h.clones ∙ count_rearranged laws v h.clones Y h.all
 
-  pub tally_cloned : (es fs : List (T × ℕ)) (total : ℕ) → IsTallied eq es total → IsCounted eq fs → HasClones (IsCopy laws is_clone) es fs → IsTallied eq fs total
+  pub tally_cloned : {most : ℕ} → (es fs : List (T × ℕ)) (total : ℕ) → IsTallied eq es total most → IsCounted eq fs → HasClones (IsCopy laws is_clone) es fs → IsTallied eq fs total most
   tally_cloned es fs total tally counted h =
       let copies = clones_occurrences es fs h in
       record {
         sum = tally.sum ∙ zip_length is_clone (occurrences es) copies.clones copies.each ∙ sym (length_permutation copies.clones (occurrences fs) copies.all);
         fits = tally.fits;
+        limit = tally.limit;
         counted = counted;
       }
 

@@ -1,5 +1,5 @@
 -- Adding the items that come, one after another.
-use Rattle.std.proofs.Common.{◌≡◌, ℕ, ◌+◌, ◌≤◌, Bool, List, [], ◌∷◌, ◌++◌, length, sum_by, Result, Ok, Err, IfErr, IsErrAnd, refl, sym, ◌∙◌, subst, arith}
+use Rattle.std.proofs.Common.{◌≡◌, ℕ, ◌+◌, ◌<◌, ◌≤◌, Bool, List, [], ◌∷◌, ◌++◌, length, sum_by, Result, Ok, Err, IfErr, IsErrAnd, refl, sym, ◌∙◌, subst, arith}
 use Rattle.std.specs.Cmp.{IsEquivalence}
 use Rattle.std.specs.List.{AllZip}
 use Rattle.std.specs.List.Sorted.{IsPermutation}
@@ -7,9 +7,9 @@ use Rattle.std.proofs.lemmas.List.Sorted.{IsPermutation-refl, IsPermutation-sym,
 use Rattle.std.proofs.lemmas.List.Sums.{sum_by-cons}
 use Rattle.hashbag_table.proofs.CloneLemmas.{zip_more}
 use Rattle.hashbag_core.specs.declared.bag.BagError.{BagError}
-use Rattle.hashbag_core.specs.declared.bag.BagError.TheVariants.{Memory, TooMany}
+use Rattle.hashbag_core.specs.declared.bag.BagError.TheVariants.{Memory, TooMany, BelowTotal}
 use Rattle.hashbag_core.specs.Bag.{Bag, IsBagOf}
-use Rattle.hashbag_core.specs.Occurrences.{add, IsBag}
+use Rattle.hashbag_core.specs.Occurrences.{count, add, IsBag}
 use Rattle.hashbag_core.specs.Extends.{add_all, Refuses, RefusesClones}
 use Rattle.hashbag_core.proofs.OccurrenceLemmas.{add_rearranged, bag_rearranged, count_rearranged, length_added}
 
@@ -74,8 +74,8 @@ module _ {T : Type 0} {eq : T → T → Bool} (laws : IsEquivalence eq) where
     pub grown : (before now : Bag T S) (items : List A) → SoFar before now items → length before.items ≤ length now.items
     grown before now items so_far = let sum = longer before now items so_far in omega arith
 
-    pub none_yet : (bag : Bag T S) → IsBag eq bag.items → SoFar bag bag []
-    none_yet bag is = record { pairs = []; went = tt; left = record { means = IsPermutation-refl _; hasher = refl; bag = is } }
+    pub none_yet : (bag : Bag T S) → IsBag eq bag.most bag.items → SoFar bag bag []
+    none_yet bag is = record { pairs = []; went = tt; left = record { means = IsPermutation-refl _; hasher = refl; limit = refl; bag = is } }
 
     pub one_more : (before now after : Bag T S) (items : List A) (x : A) (p : T × ℕ) → SoFar before now items → Goes x p → IsBagOf eq now (add eq p.0 p.1 now.items) after → SoFar before after (items ++ x ∷ [])
     one_more before now after items x p so_far goes added = record {
@@ -87,21 +87,28 @@ module _ {T : Type 0} {eq : T → T → Bool} (laws : IsEquivalence eq) where
             let bag = bag_rearranged laws _ _ (IsPermutation-sym _ _ was.means) was.bag in
             rw (add_all_last before.items so_far.pairs p) (IsPermutation-trans _ _ _ (add_rearranged laws p.0 p.1 (add_all eq before.items so_far.pairs) now.items bag was.means) added.means);
         hasher = added.hasher ∙ so_far.left.hasher;
+        limit = added.limit ∙ so_far.left.limit;
         bag = added.bag;
       };
     }
 
+  -- what memory is refused to
+  pub refuses_memory : (most : ℕ) (X : List T) (v : T) (n : ℕ) (e : BagError) → e ≡ Memory → Refuses eq most X v n e → (length X + n ≤ most) × (0 < n) × (count eq v X ≡ 0)
+  refuses_memory most X v n e is h = subst (λ (x : BagError). Refuses eq most X v n x) is h
+
   -- why an item is refused doesn't depend on the order of the list
-  pub refuses_rearranged : (X Y : List T) (v : T) (n : ℕ) (e : BagError) → IsPermutation X Y → Refuses eq Y v n e → Refuses eq X v n e
-  refuses_rearranged X Y v n TooMany h over = let long = length_permutation X Y h in omega arith
-  refuses_rearranged X Y v n Memory h asks =
+  pub refuses_rearranged : (m most : ℕ) → m ≡ most → (X Y : List T) (v : T) (n : ℕ) (e : BagError) → IsPermutation X Y → Refuses eq m Y v n e → Refuses eq most X v n e
+  refuses_rearranged m most same X Y v n TooMany h over = let long = length_permutation X Y h in omega arith
+  refuses_rearranged m most same X Y v n BelowTotal h never = never
+  refuses_rearranged m most same X Y v n Memory h asks =
       let long = length_permutation X Y h in
       let fits = asks.0 in
       (omega arith, asks.1, count_rearranged laws v X Y h ∙ asks.2)
 
-pub refuses_clones_rearranged : {T : Type 0} (X Y : List T) (n : ℕ) (e : BagError) → IsPermutation X Y → RefusesClones Y n e → RefusesClones X n e
-refuses_clones_rearranged X Y n TooMany h over = let long = length_permutation X Y h in omega arith
-refuses_clones_rearranged X Y n Memory h asks =
+pub refuses_clones_rearranged : {T : Type 0} (m most : ℕ) → m ≡ most → (X Y : List T) (n : ℕ) (e : BagError) → IsPermutation X Y → RefusesClones m Y n e → RefusesClones most X n e
+refuses_clones_rearranged m most same X Y n TooMany h over = let long = length_permutation X Y h in omega arith
+refuses_clones_rearranged m most same X Y n BelowTotal h never = never
+refuses_clones_rearranged m most same X Y n Memory h asks =
     let long = length_permutation X Y h in
     let fits = asks.0 in
     (omega arith, asks.1)

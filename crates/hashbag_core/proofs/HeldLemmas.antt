@@ -9,6 +9,8 @@ use Rattle.hashbag_slots.specs.Slots.{recounted, live_count}
 use Rattle.hashbag_table.specs.Table.{Table}
 use Rattle.hashbag_table.specs.Entries.{entry_of, IsCounted}
 use Rattle.hashbag_table.specs.Tables.{Tables, limit, room, IsLeast, IsPacked, Writes, Rewrites, slot_in}
+use Rattle.hashbag_table.specs.declared.table.Spot.{Spot}
+use Rattle.hashbag_table.specs.declared.table.Spot.TheVariants.{Newer, Waiting}
 use Rattle.hashbag_table.proofs.CarryLemmas.{live_fresh, live_empty, removed_empty}
 use Rattle.hashbag_core.specs.Bag.{Bag, occurrences}
 use Rattle.hashbag_core.specs.Occurrences.{count}
@@ -16,9 +18,9 @@ use Rattle.hashbag_core.specs.Held.{no_slots, cleared, left_in, Recounts}
 use Rattle.hashbag_core.proofs.OccurrenceLemmas.{count_occurrences, absent_from_count, present_from_count}
 use Rattle.hashbag_core.proofs.WalkLemmas.{length_occurrences, length_le_total}
 
--- what a bag shows of its table
-abbrev pub shown : {T S : Type 0} → Table T S → Bag T S
-shown t = record { items = occurrences t.entries; hasher = t.hasher; tables = t.tables }
+-- what a bag with a limit shows of its table
+abbrev pub shown : {T S : Type 0} → ℕ → Table T S → Bag T S
+shown most t = record { items = occurrences t.entries; hasher = t.hasher; tables = t.tables; most = most }
 
 pub none_left : (k : ℕ) → (0 < k → ⊥) → k ≡ 0
 none_left zero h = refl
@@ -35,14 +37,21 @@ err_from (Ok a) Q p = tt
 err_from (Err e) Q p = λ _. p
 
 module _ {T : Type 0} where
-  pub tables_from : (t u : Tables T) → t.newer ≡ u.newer → t.waiting ≡ u.waiting → t ≡ u
-  tables_from t u p q = λ i. record { newer = p i; waiting = q i }
+  pub tables_from : (t u : Tables T) → t.newer ≡ u.newer → t.waiting ≡ u.waiting → t.built ≡ u.built → t ≡ u
+  tables_from t u p q r = λ i. record { newer = p i; waiting = q i; built = r i }
+
+  -- no table is made where one slot is rewritten
+  pub rewritten_built : (test : T → Bool) (change : Slot T → Slot T) (old new : Tables T) → Rewrites test change old new → new.built ≡ old.built
+  rewritten_built test change old new r = at r.spot _ r.after where
+    at : (spot : Spot) (s : Slot T) → Writes spot s old new → new.built ≡ old.built
+    at (Newer p) s h = h.2
+    at (Waiting p) s h = h.2
 
   -- where there are no slots, none waits
-  pub none_from_newer : (t : Tables T) (w : ℕ) → t.newer ≡ [] → w ≡ length t.waiting → (0 < w → w + 16 ≤ length t.newer) → t ≡ no_slots
-  none_from_newer t w newer is smaller =
+  pub none_from_newer : (t : Tables T) (w k : ℕ) → t.newer ≡ [] → w ≡ length t.waiting → (0 < w → w + 16 ≤ length t.newer) → t.built ≡ k → t ≡ no_slots k
+  none_from_newer t w k newer is smaller built =
       let none : length t.newer ≡ 0 = ap (λ (ss : List (Slot T)). length ss) newer in
-      tables_from t no_slots newer (nil_from_length t.waiting (sym is ∙ none_left w (λ some. let more = smaller some in omega (arith, more, none))))
+      tables_from t (no_slots k) newer (nil_from_length t.waiting (sym is ∙ none_left w (λ some. let more = smaller some in omega (arith, more, none)))) built
 
   -- the least table for n values that is made of Empty slots has room for them
   pub room_made : (n : ℕ) (t : Tables T) → t.newer ≡ replicate (length t.newer) Empty → IsLeast 0 n (length t.newer) → IsPacked t → n ≤ room t

@@ -57,7 +57,7 @@ module _ {T : Type 0} {eq : T → T → Bool} (laws : IsEquivalence eq) (end : �
     pub parts : ds ≡ done ++ rest
     pub each : AllZip (IsPair reads) done pairs
     pub means : IsPermutation (add_all eq [] pairs) X
-    pub bag : IsBag eq X
+    pub bag : IsBag eq end X
     pub fault : (others : List Data) → first_fault end has_item 0 0 (done ++ others) ≡ first_fault end has_item i (length X) others
 
   pub read_to_start : (ds : List Data) → IsReadTo ds ds 0 []
@@ -92,9 +92,9 @@ module _ {T : Type 0} {eq : T → T → Bool} (laws : IsEquivalence eq) (end : �
       ∙ ap (λ (o : Option ℕ). first_fault end has_item (i + 1) (total + unwrap_or o 0) rest) count
 
   pub read_to_next : (ds rest : List Data) (d : Data) (i : ℕ) (X Y : List T) (p : T × ℕ) → IsReadTo ds (d ∷ rest) i X
-      → pair_fault end has_item i (length X) (pair_of d) ≡ None → IsPair reads d p → IsPermutation (add eq p.0 p.1 X) Y → IsBag eq Y → IsReadTo ds rest (i + 1) Y
+      → pair_fault end has_item i (length X) (pair_of d) ≡ None → IsPair reads d p → IsPermutation (add eq p.0 p.1 X) Y → IsBag eq end Y → IsReadTo ds rest (i + 1) Y
   read_to_next ds rest d i X Y p so good is means bag =
-      let before : IsBag eq (add_all eq [] so.pairs) = bag_rearranged laws _ _ (IsPermutation-sym _ _ so.means) so.bag in
+      let before : IsBag eq end (add_all eq [] so.pairs) = bag_rearranged laws _ _ (IsPermutation-sym _ _ so.means) so.bag in
       record {
         done = so.done ++ d ∷ [];
         pairs = so.pairs ++ p ∷ [];

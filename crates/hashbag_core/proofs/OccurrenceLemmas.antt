@@ -29,7 +29,7 @@ module _ {T : Type 0} {eq : T → T → Bool} (laws : IsEquivalence eq) where
   -- ---- lists up to their order
 
   -- the items of a bag that are equal to v are all the same
-  pub alike_same_instance : (v : T) (X : List T) → IsBag eq X → All (λ x. All (λ y. x ≡ y) (alike eq v X)) (alike eq v X)
+  pub alike_same_instance : {most : ℕ} → (v : T) (X : List T) → IsBag eq most X → All (λ x. All (λ y. x ≡ y) (alike eq v X)) (alike eq v X)
   alike_same_instance v X bag = λ k d at.
       let x = slice_index_or (alike eq v X) k d in
       let passes : eq v x ≡ true = filter_passes (eq v) X k d at in
@@ -37,27 +37,27 @@ module _ {T : Type 0} {eq : T → T → Bool} (laws : IsEquivalence eq) where
       λ j e under. one j e under (sym (laws.congr v x (slice_index_or (alike eq v X) j e) passes) ∙ filter_passes (eq v) X j e under)
 
   -- they are the same list whatever the order of the bag's list
-  pub alike_rearranged : (v : T) (X Y : List T) → IsBag eq X → IsPermutation X Y → alike eq v X ≡ alike eq v Y
+  pub alike_rearranged : {most : ℕ} → (v : T) (X Y : List T) → IsBag eq most X → IsPermutation X Y → alike eq v X ≡ alike eq v Y
   alike_rearranged v X Y bag h = all_same_rearranged _ _ (alike_same_instance v X bag) (IsPermutation-filter (eq v) X Y h)
 
   pub count_rearranged : (v : T) (X Y : List T) → IsPermutation X Y → count eq v X ≡ count eq v Y
   count_rearranged v X Y h = sym (sum_by-IsPermutation _ X Y h)
 
-  pub instance_rearranged : (v : T) (X Y : List T) → IsBag eq X → IsPermutation X Y → instance eq v X ≡ instance eq v Y
+  pub instance_rearranged : {most : ℕ} → (v : T) (X Y : List T) → IsBag eq most X → IsPermutation X Y → instance eq v X ≡ instance eq v Y
   instance_rearranged v X Y bag h = find-filter (eq v) X ∙ ap (λ l. slice_get l 0) (alike_rearranged v X Y bag h) ∙ sym (find-filter (eq v) Y)
 
-  pub add_rearranged : (v : T) (n : ℕ) (X Y : List T) → IsBag eq X → IsPermutation X Y → IsPermutation (add eq v n X) (add eq v n Y)
+  pub add_rearranged : {most : ℕ} → (v : T) (n : ℕ) (X Y : List T) → IsBag eq most X → IsPermutation X Y → IsPermutation (add eq v n X) (add eq v n Y)
   add_rearranged v n X Y bag h =
       subst (λ (i : Option T). IsPermutation (add eq v n X) (Y ++ replicate n (unwrap_or i v))) (instance_rearranged v X Y bag h) (IsPermutation-append_left _ _ _ h)
 
-  pub less_rearranged : (v : T) (n : ℕ) (X Y : List T) → IsBag eq X → IsPermutation X Y → IsPermutation (less eq v n X) (less eq v n Y)
+  pub less_rearranged : {most : ℕ} → (v : T) (n : ℕ) (X Y : List T) → IsBag eq most X → IsPermutation X Y → IsPermutation (less eq v n X) (less eq v n Y)
   less_rearranged v n X Y bag h =
       subst (λ (l : List T). IsPermutation (less eq v n X) (others eq v Y ++ drop n l)) (alike_rearranged v X Y bag h) (IsPermutation-append_left _ _ _ (IsPermutation-filter _ X Y h))
 
   pub put_rearranged : (v : T) (n : ℕ) (X Y : List T) → IsPermutation X Y → IsPermutation (put eq v n X) (put eq v n Y)
   put_rearranged v n X Y h = IsPermutation-append_left _ _ _ (IsPermutation-filter _ X Y h)
 
-  pub bag_rearranged : (X Y : List T) → IsPermutation X Y → IsBag eq X → IsBag eq Y
+  pub bag_rearranged : {most : ℕ} → (X Y : List T) → IsPermutation X Y → IsBag eq most X → IsBag eq most Y
   bag_rearranged X Y h bag = record {
     one_instance = All-permutation (λ x. All (λ y. eq x y ≡ true → x ≡ y) Y) X Y h (All-weaker (λ x. All (λ y. eq x y ≡ true → x ≡ y) X) (λ x. All (λ y. eq x y ≡ true → x ≡ y) Y) (λ x one. All-permutation (λ y. eq x y ≡ true → x ≡ y) X Y h one) X bag.one_instance);
     fits = rw (length_permutation X Y h) bag.fits;
@@ -191,7 +191,7 @@ module _ {T : Type 0} {eq : T → T → Bool} (laws : IsEquivalence eq) where
       All-append (λ x. All (λ y. eq x y ≡ true → x ≡ y) (copies ++ rest)) copies rest (All-replicate (λ x. All (λ y. eq x y ≡ true → x ≡ y) (copies ++ rest)) e.1 k of_copies) of_rest
 
   -- the occurrences of a map are a list that a bag may mean
-  pub bag_occurrences : (es : List (T × ℕ)) → IsCounted eq es → length (occurrences es) ≤ greatest_total → IsBag eq (occurrences es)
+  pub bag_occurrences : {most : ℕ} → (es : List (T × ℕ)) → IsCounted eq es → length (occurrences es) ≤ most → IsBag eq most (occurrences es)
   bag_occurrences es counted fits = record { one_instance = one_instance_occurrences es counted.distinct; fits = fits }
 
   -- ---- lengths
@@ -269,25 +269,29 @@ module _ {T : Type 0} {eq : T → T → Bool} (laws : IsEquivalence eq) where
       let same : less eq v n X ≡ others eq v X = ap (λ (l : List T). others eq v X ++ drop n l) empty ∙ ap (λ (l : List T). others eq v X ++ l) (drop_all n [] (omega arith)) ∙ append-nil _ in
       subst (λ (l : List T). IsPermutation l X) (sym same) (IsPermutation-sym _ _ left)
 
-  pub bag_from_tally : (es : List (T × ℕ)) (total : ℕ) → IsTallied eq es total → IsBag eq (occurrences es)
+  pub bag_from_tally : {most : ℕ} → (es : List (T × ℕ)) (total : ℕ) → IsTallied eq es total most → IsBag eq most (occurrences es)
   bag_from_tally es total tally = bag_occurrences es tally.counted (let same = tally.sum in let fits = tally.fits in omega arith)
 
+  pub fits_from_tally : {most : ℕ} → (es : List (T × ℕ)) (total : ℕ) → IsTallied eq es total most → length (occurrences es) ≤ greatest_total
+  fits_from_tally es total tally = let same = tally.sum in let fits = tally.fits in let limit = tally.limit in omega arith
+
   -- n more in the map and in the total
-  pub tally_added : (v : T) (n : ℕ) (es fs : List (T × ℕ)) (total : ℕ) → IsTallied eq es total → IsCounted eq fs → total + n ≤ greatest_total → IsPermutation (add eq v n (occurrences es)) (occurrences fs) → IsTallied eq fs (total + n)
+  pub tally_added : {most : ℕ} → (v : T) (n : ℕ) (es fs : List (T × ℕ)) (total : ℕ) → IsTallied eq es total most → IsCounted eq fs → total + n ≤ most → IsPermutation (add eq v n (occurrences es)) (occurrences fs) → IsTallied eq fs (total + n) most
   tally_added v n es fs total tally counted fits h = record {
     sum = ap (λ (k : ℕ). k + n) tally.sum ∙ sym (length_added v n (occurrences es) (occurrences fs) h);
     fits = fits;
+    limit = tally.limit;
     counted = counted;
   }
 
   -- n fewer in the map and in the total, or as many as there are
-  pub tally_less : (v : T) (n taken : ℕ) (es fs : List (T × ℕ)) (total : ℕ) → IsTallied eq es total → taken ≡ min n (count_of eq v es) → IsCounted eq fs → IsPermutation (less eq v n (occurrences es)) (occurrences fs) → IsTallied eq fs (total - taken)
+  pub tally_less : {most : ℕ} → (v : T) (n taken : ℕ) (es fs : List (T × ℕ)) (total : ℕ) → IsTallied eq es total most → taken ≡ min n (count_of eq v es) → IsCounted eq fs → IsPermutation (less eq v n (occurrences es)) (occurrences fs) → IsTallied eq fs (total - taken) most
   tally_less v n taken es fs total tally number counted h =
       let same = count_occurrences v es tally.counted.distinct in
       let fewer = length_less v n (occurrences es) (occurrences fs) h in
       let was = tally.sum in
       let fits = tally.fits in
-      record { sum = omega arith; fits = omega arith; counted = counted }
+      record { sum = omega arith; fits = omega arith; limit = tally.limit; counted = counted }
 
   -- what is equal to an item of a value's own is equal to the value
   others_alike : (v w : T) (X : List T) → eq v w ≡ true → others eq w X ≡ others eq v X
@@ -321,7 +325,7 @@ module _ {T : Type 0} {eq : T → T → Bool} (laws : IsEquivalence eq) where
       (occurrences_rearranged _ _ h)
 
   -- n of the stored instance, in the map and in the total
-  pub tally_set : (v : T) (n : ℕ) (es fs : List (T × ℕ)) (total : ℕ) → IsTallied eq es total → IsCounted eq fs → 0 < count_of eq v es → total - count_of eq v es + n ≤ greatest_total → IsPermutation (put eq (instance_or_itself eq v (occurrences es)) n (occurrences es)) (occurrences fs) → IsTallied eq fs (total - count_of eq v es + n)
+  pub tally_set : {most : ℕ} → (v : T) (n : ℕ) (es fs : List (T × ℕ)) (total : ℕ) → IsTallied eq es total most → IsCounted eq fs → 0 < count_of eq v es → total - count_of eq v es + n ≤ most → IsPermutation (put eq (instance_or_itself eq v (occurrences es)) n (occurrences es)) (occurrences fs) → IsTallied eq fs (total - count_of eq v es + n) most
   tally_set v n es fs total tally counted some fits h =
       let i = stored_or_itself eq v es in
       let same = count_occurrences v es tally.counted.distinct in
@@ -332,10 +336,10 @@ module _ {T : Type 0} {eq : T → T → Bool} (laws : IsEquivalence eq) where
       let parts : length (occurrences fs) ≡ length (occurrences (without eq v es)) + length (replicate n i) =
       length_permutation _ _ h ∙ ap (λ (l : List T). length l) (set_is v n es tally.counted some) ∙ length-append (occurrences (without eq v es)) (replicate n i) in
       let was = tally.sum in
-      record { sum = omega arith; fits = fits; counted = counted }
+      record { sum = omega arith; fits = fits; limit = tally.limit; counted = counted }
 
   -- n of v in the place of all that are equal to it, in the map and in the total
-  pub tally_put : (v : T) (n : ℕ) (es fs : List (T × ℕ)) (total : ℕ) → IsTallied eq es total → IsCounted eq fs → total - count_of eq v es + n ≤ greatest_total → IsPermutation (put eq v n (occurrences es)) (occurrences fs) → IsTallied eq fs (total - count_of eq v es + n)
+  pub tally_put : {most : ℕ} → (v : T) (n : ℕ) (es fs : List (T × ℕ)) (total : ℕ) → IsTallied eq es total most → IsCounted eq fs → total - count_of eq v es + n ≤ most → IsPermutation (put eq v n (occurrences es)) (occurrences fs) → IsTallied eq fs (total - count_of eq v es + n) most
   tally_put v n es fs total tally counted fits h =
       let same = count_occurrences v es tally.counted.distinct in
       let whole = length_split v (occurrences es) in
@@ -343,23 +347,24 @@ module _ {T : Type 0} {eq : T → T → Bool} (laws : IsEquivalence eq) where
       let copies = length-replicate n v in
       let parts : length (occurrences fs) ≡ length (others eq v (occurrences es)) + length (replicate n v) = length_permutation _ _ h ∙ length-append (others eq v (occurrences es)) (replicate n v) in
       let was = tally.sum in
-      record { sum = omega arith; fits = fits; counted = counted }
+      record { sum = omega arith; fits = fits; limit = tally.limit; counted = counted }
 
   -- the same entries in another order
-  pub tally_rearranged : (es fs : List (T × ℕ)) (total : ℕ) → IsTallied eq es total → IsCounted eq fs → IsPermutation es fs → IsTallied eq fs total
+  pub tally_rearranged : {most : ℕ} → (es fs : List (T × ℕ)) (total : ℕ) → IsTallied eq es total most → IsCounted eq fs → IsPermutation es fs → IsTallied eq fs total most
   tally_rearranged es fs total tally counted h = record {
     sum = tally.sum ∙ sym (length_permutation _ _ (occurrences_rearranged es fs h));
     fits = tally.fits;
+    limit = tally.limit;
     counted = counted;
   }
 
   -- no entries
-  pub tally_none : IsTallied eq [] 0
+  pub tally_none : (most : ℕ) → most ≤ greatest_total → IsTallied eq [] 0 most
   unfolding IsDistinct
-  tally_none = record { sum = refl; fits = omega arith; counted = record { distinct = tt; positive = All-nil _ } }
+  tally_none most limit = record { sum = refl; fits = omega arith; limit = limit; counted = record { distinct = tt; positive = All-nil _ } }
 
   -- a count is at most the total
-  pub count_in_tally : (v : T) (es : List (T × ℕ)) (total : ℕ) → IsTallied eq es total → count_of eq v es ≤ total
+  pub count_in_tally : {most : ℕ} → (v : T) (es : List (T × ℕ)) (total : ℕ) → IsTallied eq es total most → count_of eq v es ≤ total
   count_in_tally v es total tally =
       let same = count_occurrences v es tally.counted.distinct in
       let few = count_le v (occurrences es) in

@@ -14,12 +14,13 @@ use Rattle.hashbag_core.specs.Retain.{IsRetained}
 use Rattle.hashbag_core.proofs.OccurrenceLemmas.{occurrences_rearranged, bag_from_tally}
 use Rattle.hashbag_core.proofs.WalkLemmas.{length_occurrences, set_walk_of_bag}
 
-module _ {F T : Type 0} {eq : T → T → Bool} (laws : IsEquivalence eq) (g : Mut F (Bor T × (ℕ × Unit {0})) ℕ) (f : F) (es fs : List (T × ℕ)) (len : ℕ) (tally : IsTallied eq es len) where
+module _ {F T : Type 0} {eq : T → T → Bool} (laws : IsEquivalence eq) (g : Mut F (Bor T × (ℕ × Unit {0})) ℕ) (f : F) (es fs : List (T × ℕ)) (len : ℕ) {most : ℕ} (tally : IsTallied eq es len most) where
   pub total_fits : total es < 2 ^ 64
   total_fits =
       let sum = length_occurrences es in
       let len_sum = tally.sum in
       let fits = tally.fits in
+      let limit = tally.limit in
       omega arith
 
   module _ (counted : IsCounted eq fs) (retains : Retains g f es fs) where
@@ -33,15 +34,15 @@ module _ {F T : Type 0} {eq : T → T → Bool} (laws : IsEquivalence eq) (g : M
         let kept_sum = sum_by-IsPermutation (λ e. e.1) (kept retains.walk retains.answers) fs retains.kept in
         omega arith
 
-    pub tally_retained : (left : ℕ) → left ≡ total fs → IsTallied eq fs left
+    pub tally_retained : (left : ℕ) → left ≡ total fs → IsTallied eq fs left most
     tally_retained left is =
         let sum = length_occurrences fs in
         let len_sum = tally.sum in
         let fits = tally.fits in
         let fewer = fewer_retained in
-        record { sum = is ∙ sym sum; fits = omega arith; counted = counted }
+        record { sum = is ∙ sym sum; fits = omega arith; limit = tally.limit; counted = counted }
 
-    pub is_retained : {S : Type 0} (hasher after : S) (tables tables_after : Tables T) (left : ℕ) → left ≡ total fs → after ≡ hasher → IsRetained eq g f (record { items = occurrences es; hasher = hasher; tables = tables }) (record { items = occurrences fs; hasher = after; tables = tables_after })
+    pub is_retained : {S : Type 0} (hasher after : S) (tables tables_after : Tables T) (left : ℕ) → left ≡ total fs → after ≡ hasher → IsRetained eq g f (record { items = occurrences es; hasher = hasher; tables = tables; most = most }) (record { items = occurrences fs; hasher = after; tables = tables_after; most = most })
     is_retained hasher after tables tables_after left is same = record {
       walk = retains.walk;
       set_walk = set_walk_of_bag laws hasher tables es retains.walk len tally retains.order;
@@ -51,6 +52,7 @@ module _ {F T : Type 0} {eq : T → T → Bool} (laws : IsEquivalence eq) (g : M
       left = record {
         means = occurrences_rearranged (kept retains.walk retains.answers) fs retains.kept;
         hasher = same;
+        limit = refl;
         bag = bag_from_tally laws fs left (tally_retained left is);
       };
     }

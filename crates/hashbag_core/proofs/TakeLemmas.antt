@@ -42,7 +42,7 @@ module _ {T : Type 0} {eq : T → T → Bool} (laws : IsEquivalence eq) where
       ∙ all_kept (eq v) (drop n (alike eq v X)) (All-drop (λ x. eq v x ≡ true) n _ (filter_passes (eq v) X))
 
   -- where some are left, the instance is what it was
-  pub instance_less : (v : T) (X Y : List T) → IsBag eq X → IsBag eq Y → 1 < count eq v X → IsPermutation (less eq v 1 X) Y → instance eq v Y ≡ instance eq v X
+  pub instance_less : {most end : ℕ} → (v : T) (X Y : List T) → IsBag eq most X → IsBag eq end Y → 1 < count eq v X → IsPermutation (less eq v 1 X) Y → instance eq v Y ≡ instance eq v X
   instance_less v X Y bag after some h =
       let long = length-filter (eq v) X in
       instance_rearranged laws v Y (less eq v 1 X) after (IsPermutation-sym _ _ h) ∙ find-filter (eq v) (less eq v 1 X)
@@ -105,7 +105,7 @@ module _ {T : Type 0} {eq : T → T → Bool} (laws : IsEquivalence eq) where
       by_count (suc k) h = omega arith
 
   -- what `try_take` answers, from what was taken of X, which left Y
-  pub answer_of : {F : Type 0} (shown : F → T × ℕ) (v : T) (X Y : List T) → IsBag eq X → IsBag eq Y → IsPermutation (less eq v 1 X) Y → (taken : Result T ℕ) (answer : Result T (Option F))
+  pub answer_of : {most end : ℕ} {F : Type 0} (shown : F → T × ℕ) (v : T) (X Y : List T) → IsBag eq most X → IsBag eq end Y → IsPermutation (less eq v 1 X) Y → (taken : Result T ℕ) (answer : Result T (Option F))
       → IfOk taken (λ i. stored eq v X ≡ Some (i, 1)) → IfErr taken (λ before. (before ≡ count eq v X) × (before ≢ 1))
       → IfOk taken (λ i. answer ≡ Ok i) → IfErr taken (λ before. before ≡ 0 → answer ≡ Err None) → IfErr taken (λ before. before ≢ 0 → IsErrAnd answer (λ found. option_map shown found ≡ counted eq v before Y))
       → IfOk answer (λ i. stored eq v X ≡ Some (i, 1)) × IfErr answer (λ found. (option_map shown found ≡ stored eq v X) × (count eq v X ≢ 1))

@@ -21,7 +21,7 @@ use Rattle.hashbag_core.specs.Occurrences.{count}
 use Rattle.hashbag_core.specs.Walks.{IsEach, IsSetWalk, IsSetWalkOf, IsWalk, IsWalkOf}
 use Rattle.hashbag_core.proofs.DistinctLemmas.{distinct_count-occurrences}
 use Rattle.hashbag_core.proofs.MemberLemmas.{Contains-head, map_ext, map-map}
-use Rattle.hashbag_core.proofs.OccurrenceLemmas.{count_rearranged, count_occurrences, all_occurrences, bag_from_tally, occurrences_rearranged}
+use Rattle.hashbag_core.proofs.OccurrenceLemmas.{count_rearranged, count_occurrences, all_occurrences, fits_from_tally, occurrences_rearranged}
 
 -- the occurrences of entries are as many as their counts together
 pub length_occurrences : {T : Type 0} (es : List (T × ℕ)) → length (occurrences es) ≡ sum_by (λ e. e.1) es
@@ -118,7 +118,7 @@ module _ {T : Type 0} {eq : T → T → Bool} (laws : IsEquivalence eq) where
       (IsPermutation-sym _ _ (IsPermutation-trans _ _ _ means (occurrences_rearranged es W p)))
       (set_walk_occurrences W (counted_rearranged laws es W p counted))
 
-  pub set_walk_of_bag : {S : Type 0} (hasher : S) (tables : Tables T) (es W : List (T × ℕ)) (total : ℕ) → IsTallied eq es total → IsPermutation es W → IsSetWalkOf eq (record { items = occurrences es; hasher = hasher; tables = tables }) W
+  pub set_walk_of_bag : {S : Type 0} {most : ℕ} (hasher : S) (tables : Tables T) (es W : List (T × ℕ)) (total : ℕ) → IsTallied eq es total most → IsPermutation es W → IsSetWalkOf eq (record { items = occurrences es; hasher = hasher; tables = tables; most = most }) W
   set_walk_of_bag hasher tables es W total tally p =
       let sum : sum_by (λ e. e.1) W ≡ length (occurrences es) = sym (length_occurrences W) ∙ length_permutation _ _ (occurrences_rearranged es W p) in
       let few = length_le_total W (counted_rearranged laws es W p tally.counted).positive in
@@ -128,19 +128,19 @@ module _ {T : Type 0} {eq : T → T → Bool} (laws : IsEquivalence eq) where
         total = sum;
         distinct = length_permutation es W p ∙ sym (distinct_count-occurrences laws es tally.counted);
         few = omega arith;
-        fits = (bag_from_tally laws es total tally).fits;
+        fits = fits_from_tally laws es total tally;
       }
 
-  pub walk_of_bag : {S : Type 0} (hasher : S) (tables : Tables T) (es W : List (T × ℕ)) (total : ℕ) → IsTallied eq es total → IsPermutation es W → IsWalkOf eq (record { items = occurrences es; hasher = hasher; tables = tables }) (occurrences W)
+  pub walk_of_bag : {S : Type 0} {most : ℕ} (hasher : S) (tables : Tables T) (es W : List (T × ℕ)) (total : ℕ) → IsTallied eq es total most → IsPermutation es W → IsWalkOf eq (record { items = occurrences es; hasher = hasher; tables = tables; most = most }) (occurrences W)
   walk_of_bag hasher tables es W total tally p = record {
     walk = λ X means. walk_from_set_walk X W (set_walk_of_table es W X tally.counted p means);
     means = IsPermutation-sym _ _ (occurrences_rearranged es W p);
     len = length_permutation _ _ (occurrences_rearranged es W p);
-    fits = (bag_from_tally laws es total tally).fits;
+    fits = fits_from_tally laws es total tally;
   }
 
   -- an `Iter` that begins has all of the bag's occurrences to come
-  pub pending_from_tally : (es W : List (T × ℕ)) (total : ℕ) → IsTallied eq es total → IsPermutation es W → IsPending None W total
+  pub pending_from_tally : {most : ℕ} → (es W : List (T × ℕ)) (total : ℕ) → IsTallied eq es total most → IsPermutation es W → IsPending None W total
   pending_from_tally es W total tally p = record {
     sum = tally.sum ∙ sym (length_permutation _ _ (occurrences_rearranged es W p));
     positive = (counted_rearranged laws es W p tally.counted).positive;

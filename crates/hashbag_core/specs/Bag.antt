@@ -5,28 +5,37 @@ use Rattle.hashbag_table.specs.Entries.{IsCounted}
 use Rattle.hashbag_table.specs.Tables.{Tables}
 use Rattle.hashbag_core.specs.Occurrences.{greatest_total, IsBag}
 
--- its occurrences, in an order that means nothing, the state that hashes its values, and the two tables of slots that hold them
+-- its occurrences, in an order that means nothing, the state that hashes its values, the two tables of slots that hold them, and
+-- its limit, the number of occurrences that it has at most
 pub record Bag (T S : Type 0) : Type 0 where
   pub items : List T
   pub hasher : S
   pub tables : Tables T
+  pub most : ℕ
 
 -- the bag means the list X: its occurrences are a rearrangement of X
 abbrev pub Means : {T S : Type 0} → Bag T S → List T → Type 0
 Means bag X = IsPermutation X bag.items
 
--- `after` means X, under the state of `before`
+-- the same bag with another limit
+abbrev pub limited : {T S : Type 0} → ℕ → Bag T S → Bag T S
+limited most bag = record { items = bag.items; hasher = bag.hasher; tables = bag.tables; most = most }
+
+-- `after` means X, under the state of `before` and with its limit
 pub record IsBagOf {T S : Type 0} (eq : T → T → Bool) (before : Bag T S) (X : List T) (after : Bag T S) : Type 0 where
   pub means : Means after X
   pub hasher : after.hasher ≡ before.hasher
-  pub bag : IsBag eq after.items
+  pub limit : after.most ≡ before.most
+  pub bag : IsBag eq after.most after.items
 
 -- the occurrences of a map of counts: each entry's instance as often as its count
 abbrev pub occurrences : {T : Type 0} → List (T × ℕ) → List T
 occurrences es = flat_map (λ e. replicate e.1 e.0) es
 
--- what every bag keeps: its total is the sum of its counts and fits, and its entries are a map of counts
-pub record IsTallied {T : Type 0} (eq : T → T → Bool) (es : List (T × ℕ)) (total : ℕ) : Type 0 where
+-- what every bag keeps: its total is the sum of its counts and at most its limit, which is a `usize`, and its entries are a map of
+-- counts
+pub record IsTallied {T : Type 0} (eq : T → T → Bool) (es : List (T × ℕ)) (total most : ℕ) : Type 0 where
   pub sum : total ≡ length (occurrences es)
-  pub fits : total ≤ greatest_total
+  pub fits : total ≤ most
+  pub limit : most ≤ greatest_total
   pub counted : IsCounted eq es

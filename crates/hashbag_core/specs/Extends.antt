@@ -4,8 +4,8 @@ use denote.Ref.{Bor}
 use Rattle.std.specs.List.{AllZip}
 use Rattle.std.specs.Iterator.{Drains, YieldsThen}
 use Rattle.hashbag_core.specs.declared.bag.BagError.{BagError}
-use Rattle.hashbag_core.specs.declared.bag.BagError.TheVariants.{Memory, TooMany}
-use Rattle.hashbag_core.specs.Occurrences.{greatest_total, count, add}
+use Rattle.hashbag_core.specs.declared.bag.BagError.TheVariants.{Memory, TooMany, BelowTotal}
+use Rattle.hashbag_core.specs.Occurrences.{count, add}
 
 -- the pair of a value and a number as which an item goes in: a value by itself once, and a pair as it is
 abbrev pub Once : {T : Type 0} → T → T × ℕ → Type 0
@@ -21,10 +21,11 @@ CloneOnce is_clone x p = is_clone x.now p.0 × (p.1 ≡ 1)
 abbrev pub CloneAsOften : {T : Type 0} → (T → T → Type 0) → Bor T × ℕ → T × ℕ → Type 0
 CloneAsOften is_clone e p = (0 < e.1 → is_clone e.0.now p.0) × (p.1 ≡ e.1)
 
--- n clones may be refused to a bag that means X: the total would pass its end, or else memory is asked for
-abbrev pub RefusesClones : {T : Type 0} → List T → ℕ → BagError → Type 0
-RefusesClones X n TooMany = greatest_total < length X + n
-RefusesClones X n Memory = (length X + n ≤ greatest_total) × (0 < n)
+-- n clones may be refused to a bag that means X: the total would pass its limit `most`, or else memory is asked for
+abbrev pub RefusesClones : {T : Type 0} → ℕ → List T → ℕ → BagError → Type 0
+RefusesClones most X n TooMany = most < length X + n
+RefusesClones most X n Memory = (length X + n ≤ most) × (0 < n)
+RefusesClones most X n BelowTotal = ⊥
 
 module _ {T : Type 0} (eq : T → T → Bool) where
   -- X with each value added in turn, as often as the number beside it
@@ -33,9 +34,10 @@ module _ {T : Type 0} (eq : T → T → Bool) where
   add_all X (p ∷ pairs) = add_all (add eq p.0 p.1 X) pairs
 
   -- n of v may be: then memory is asked for only by a value that is absent
-  abbrev pub Refuses : List T → T → ℕ → BagError → Type 0
-  Refuses X v n TooMany = greatest_total < length X + n
-  Refuses X v n Memory = (length X + n ≤ greatest_total) × (0 < n) × (count eq v X ≡ 0)
+  abbrev pub Refuses : ℕ → List T → T → ℕ → BagError → Type 0
+  Refuses most X v n TooMany = most < length X + n
+  Refuses most X v n Memory = (length X + n ≤ most) × (0 < n) × (count eq v X ≡ 0)
+  Refuses most X v n BelowTotal = ⊥
 
   module _ {I A : Type 0} (steps : I → Option A → I → Type 0) (Goes : A → T × ℕ → Type 0) where
     -- all items that an iterator gave went in, one after another, and what X became of it is what is left

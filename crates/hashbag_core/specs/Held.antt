@@ -8,13 +8,13 @@ use Rattle.hashbag_table.specs.Tables.{Tables, entries_of, Rewrites}
 use Rattle.hashbag_core.specs.Bag.{occurrences}
 
 module _ {T : Type 0} where
-  -- no slots, in either table
-  abbrev pub no_slots : Tables T
-  no_slots = record { newer = []; waiting = [] }
+  -- no slots in either table, after so many were built
+  abbrev pub no_slots : ℕ → Tables T
+  no_slots k = record { newer = []; waiting = []; built = k }
 
-  -- so many slots as before, all of them Empty, and none that waits
+  -- so many slots as before, all of them Empty, none that waits, and none built
   abbrev pub cleared : Tables T → Tables T
-  cleared t = record { newer = replicate (length t.newer) Empty; waiting = [] }
+  cleared t = record { newer = replicate (length t.newer) Empty; waiting = []; built = t.built }
 
   -- the slot of a value of which n are left: with that count, and Removed where it is 0
   abbrev pub left_in : ℕ → Slot T → Slot T

@@ -7,7 +7,7 @@
 -- `IsPermutation`.
 use Rattle.std.specs.Prelude.{◌≡◌, ℕ, ◌+◌, ◌-◌, ◌≤◌, ◌^◌, ◌==◌, if◌then◌else◌, Bool, true, not, List, [], ◌∷◌, ◌++◌, length, drop, replicate, filter, count_by, find, All, Option, option_map, unwrap_or}
 
--- the greatest total that a bag may have, `usize::MAX`
+-- the limit of a bag for which no other is set, `usize::MAX`: no total can be greater
 abbrev pub greatest_total : ℕ
 greatest_total = 2 ^ 64 - 1
 
@@ -64,7 +64,7 @@ module _ {T : Type 0} (eq : T → T → Bool) where
   abbrev pub IsOneInstanceEach : List T → Type 0
   IsOneInstanceEach X = All (λ x. All (λ y. eq x y ≡ true → x ≡ y) X) X
 
-  -- a list that a bag may mean
-  pub record IsBag (X : List T) : Type 0 where
+  -- a list that a bag may mean whose total is at most `most`
+  pub record IsBag (most : ℕ) (X : List T) : Type 0 where
     pub one_instance : IsOneInstanceEach X
-    pub fits : length X ≤ greatest_total
+    pub fits : length X ≤ most

@@ -5,8 +5,8 @@ ghost use Rattle.std.specs.List.Sorted.{IsPermutation};
 ghost use Rattle.hashbag_table.specs.Asked.{MayAskInTurn};
 ghost use Rattle.hashbag_slots.specs.Slots.{IsSlotCount};
 ghost use Rattle.hashbag_table.specs.Entries.{count_of, IsCounted, HasClones};
-ghost use Rattle.hashbag_table.specs.Tables.{room, IsLeast, IsPacked, Arrives, NoneMoved};
-ghost use Rattle.hashbag_core.specs.Bag.{occurrences};
+ghost use Rattle.hashbag_table.specs.Tables.{limit, room, values, IsLeast, IsPacked, Arrives, NoneMoved};
+ghost use Rattle.hashbag_core.specs.Bag.{occurrences, limited};
 ghost use Rattle.hashbag_core.specs.Occurrences.{greatest_total, count, counted, stored, add, less, put, instance_or_itself, distinct_count, IsBag, SameCounts};
 ghost use Rattle.hashbag_core.specs.Extends.{Refuses};
 ghost use Rattle.hashbag_core.specs.Held.{no_slots, cleared, AreHeld, Recounts, Restores};
@@ -30,20 +30,25 @@ pub enum BagError {
     /// Memory was refused.
     #[error("no memory")]
     Memory,
-    /// The total would pass `usize::MAX`.
+    /// The total would pass the bag's limit.
     #[error("total past its end")]
     TooMany,
+    /// The limit would be below the total.
+    #[error("limit below total")]
+    BelowTotal,
 }
 
 impl BagError {
-    /// The number by which programs report the error: 1 for `Memory`, 2 for `TooMany`.
+    /// The number by which programs report the error: 1 for `Memory`, 2 for `TooMany`, 9 for `BelowTotal`.
     pub fn number(&self) -> u8
         ensures memory { self.now ≡ BagError.Memory → result ≡ 1 }
         ensures too_many { self.now ≡ BagError.TooMany → result ≡ 2 }
+        ensures below_total { self.now ≡ BagError.BelowTotal → result ≡ 9 }
     {
         match self {
             BagError::Memory => 1,
             BagError::TooMany => 2,
+            BagError::BelowTotal => 9,
         }
     }
 }
@@ -63,14 +68,16 @@ pub type FixedState = BuildHasherDefault<FoldHasher>;
 /// A bag of values, also called a counted multiset: how often each distinct value occurs.
 ///
 /// Values that `==` calls equal are one value, stored once, as the instance that came first. A count is a `usize` of
-/// occurrences and at least 1 for a value that is there, and the total of all counts is a `usize` too.
+/// occurrences and at least 1 for a value that is there, and the total of all counts is at most the bag's limit, which is
+/// `usize::MAX` where no other is set.
 ///
 /// Contracts see a bag as the plain list of its occurrences, in an order that means nothing, and the state that hashes
-/// its values; beside it the slots of its newer table, and those of its older one that wait to be carried.
+/// its values; beside it the slots of its newer table, those of its older one that wait to be carried, and the limit.
 #[derive(Drop)]
 pub struct HashBag<T: Eq + Hash + Drop, S: BuildHasher + Drop = FixedState> {
     pub(crate) table: Table<T, S>,
     pub(crate) len: usize,
+    most: usize,
 }
 
 impl<T: Eq + Hash + Drop, S: BuildHasher + Drop> Model for HashBag<T, S> {
@@ -78,9 +85,9 @@ impl<T: Eq + Hash + Drop, S: BuildHasher + Drop> Model for HashBag<T, S> {
 
     ghost Value = { Bag T S };
 
-    ghost view = { λ a. record { items = occurrences a.table.entries; hasher = a.table.hasher; tables = a.table.tables } };
+    ghost view = { λ a. record { items = occurrences a.table.entries; hasher = a.table.hasher; tables = a.table.tables; most = a.most } };
 
-    ghost invariant = { λ a. IsTallied T.eq a.table.entries a.len };
+    ghost invariant = { λ a. IsTallied T.eq a.table.entries a.len a.most };
 }
 
 // Gives a value that is there another count, and takes it out where that is 0.
@@ -110,7 +117,8 @@ impl<T: Eq + Hash + Drop> HashBag<T, FixedState> {
     pub fn new(alloc: Global) -> HashBag<T, FixedState>
         ensures empty { result.items ≡ [] }
         ensures hasher { ⟦<FixedState as Default>⟧.is_default result.hasher }
-        ensures slots { result.tables ≡ no_slots }
+        ensures slots { result.tables ≡ no_slots 0 }
+        ensures limit { result.most ≡ greatest_total }
     {
         HashBag::with_hasher(alloc, FixedState::new())
     }
@@ -131,6 +139,8 @@ impl<T: Eq + Hash + Drop> HashBag<T, FixedState> {
         ensures least { IfOk result (λ bag. IsLeast 0 n (length bag.tables.newer)) }
         ensures packed { IfOk result (λ bag. IsPacked bag.tables) }
         ensures room { IfOk result (λ bag. n ≤ room bag.tables) }
+        ensures built { IfOk result (λ bag. bag.tables.built ≡ length bag.tables.newer) }
+        ensures limit { IfOk result (λ bag. bag.most ≡ greatest_total) }
     {
         HashBag::with_capacity_and_hasher(alloc, n, FixedState::new())
     }
@@ -144,12 +154,49 @@ impl<T: Eq + Hash + Drop, S: BuildHasher + Drop> HashBag<T, S> {
     pub fn with_hasher(alloc: Global, hasher: S) -> HashBag<T, S>
         ensures empty { result.items ≡ [] }
         ensures hasher { result.hasher ≡ hasher }
-        ensures slots { result.tables ≡ no_slots }
+        ensures slots { result.tables ≡ no_slots 0 }
+        ensures limit { result.most ≡ greatest_total }
+    {
+        HashBag::with_limit(alloc, hasher, usize::MAX)
+    }
+
+    /// An empty bag of no slots, whose values `hasher` hashes, and whose total is never above `most`. It takes no memory.
+    pub fn with_limit(alloc: Global, hasher: S, most: usize) -> HashBag<T, S>
+        ensures empty { result.items ≡ [] }
+        ensures hasher { result.hasher ≡ hasher }
+        ensures slots { result.tables ≡ no_slots 0 }
+        ensures limit { result.most ≡ most }
     {
         HashBag {
             table: Table::new(alloc, hasher),
             len: 0,
+            most,
         }
+    }
+
+    /// The limit: the greatest total that the bag may have.
+    #[inline(always)]
+    pub fn limit(&self) -> usize
+        ensures limit { result ≡ self.now.most }
+        ensures within { length self.now.items ≤ result }
+    {
+        self.most
+    }
+
+    /// Sets the limit. Nothing else changes.
+    ///
+    /// It answers `BelowTotal` where `most` is below the total: the bag is then unchanged. It takes no memory.
+    pub fn set_limit(&mut self, most: usize) -> Result<(), BagError>
+        ensures set { OnOk result (self.new ≡ limited most self.old) }
+        ensures below { most < length self.old.items → result ≡ Err BagError.BelowTotal }
+        ensures refused { OnErr result ((result ≡ Err BagError.BelowTotal) × (most < length self.old.items)) }
+        ensures err { OnErr result (self.new ≡ self.old) }
+    {
+        if most < self.len {
+            return Err(BagError::BelowTotal);
+        }
+        self.most = most;
+        Ok(())
     }
 
     /// An empty bag with room for `n` distinct values, which `hasher` hashes: `n` insertions of absent values take no memory then.
@@ -172,9 +219,15 @@ impl<T: Eq + Hash + Drop, S: BuildHasher + Drop> HashBag<T, S> {
         ensures least { IfOk result (λ bag. IsLeast 0 n (length bag.tables.newer)) }
         ensures packed { IfOk result (λ bag. IsPacked bag.tables) }
         ensures room { IfOk result (λ bag. n ≤ room bag.tables) }
+        ensures built { IfOk result (λ bag. bag.tables.built ≡ length bag.tables.newer) }
+        ensures limit { IfOk result (λ bag. bag.most ≡ greatest_total) }
     {
         let table = Table::with_room(alloc, hasher, n)?;
-        Ok(HashBag { table, len: 0 })
+        Ok(HashBag {
+            table,
+            len: 0,
+            most: usize::MAX,
+        })
     }
 
     /// How many distinct values the bag can have before it grows: [`HashBag::set_len`] and [`HashBag::room`] together.
@@ -191,6 +244,8 @@ impl<T: Eq + Hash + Drop, S: BuildHasher + Drop> HashBag<T, S> {
         ensures count { IsSlotCount result }
         ensures held { AreHeld T.eq self.now.items self.now.tables }
         ensures unmoved { NoneMoved self.now.tables.newer }
+        ensures fits { values self.now.tables ≤ limit (length self.now.tables.newer) }
+        ensures values { values self.now.tables ≡ distinct_count T.eq self.now.items }
     {
         self.table.slots()
     }
@@ -215,7 +270,7 @@ impl<T: Eq + Hash + Drop, S: BuildHasher + Drop> HashBag<T, S> {
     /// The number of occurrences: the sum of all counts.
     pub fn len(&self) -> usize
         ensures len { result ≡ length self.now.items }
-        ensures bag { IsBag T.eq self.now.items }
+        ensures bag { IsBag T.eq self.now.most self.now.items }
     {
         self.len
     }
@@ -245,7 +300,7 @@ impl<T: Eq + Hash + Drop, S: BuildHasher + Drop> HashBag<T, S> {
     #[inline(always)]
     pub fn contains(&self, value: &T) -> usize
         ensures count { result ≡ count T.eq value.now self.now.items }
-        ensures bag { IsBag T.eq self.now.items }
+        ensures bag { IsBag T.eq self.now.most self.now.items }
     {
         match self.table.get(value) {
             Some((_, count)) => count,
@@ -257,7 +312,7 @@ impl<T: Eq + Hash + Drop, S: BuildHasher + Drop> HashBag<T, S> {
     #[inline(always)]
     pub fn get(&self, value: &T) -> Option<(&T, usize)>
         ensures found { option_map (λ e. (e.0.now, e.1)) result ≡ stored T.eq value.now self.now.items }
-        ensures bag { IsBag T.eq self.now.items }
+        ensures bag { IsBag T.eq self.now.most self.now.items }
     {
         self.table.get(value)
     }
@@ -265,18 +320,18 @@ impl<T: Eq + Hash + Drop, S: BuildHasher + Drop> HashBag<T, S> {
     /// Adds one occurrence of a value, and answers how many there were: [`HashBag::insert_many`] with 1.
     #[inline(always)]
     pub fn insert(&mut self, value: T) -> Result<usize, BagError>
-        requires { length self.old.items + 1 ≤ greatest_total }
         ensures before { IfOk result (λ before. before ≡ count T.eq value self.old.items) }
         ensures added { OnOk result (IsBagOf T.eq self.old (add T.eq value 1 self.old.items) self.new) }
         ensures len { OnOk result (length self.new.items ≡ length self.old.items + 1) }
         ensures set_len { OnOk result (distinct_count T.eq self.new.items ≤ distinct_count T.eq self.old.items + 1) }
         ensures same_set { 0 < count T.eq value self.old.items → distinct_count T.eq self.new.items ≡ distinct_count T.eq self.old.items }
 
-        // Only memory can be refused, and only to a value that is absent where there is no room.
-        ensures memory { OnErr result (result ≡ Err BagError.Memory) }
-        ensures absent { OnErr result (count T.eq value self.old.items ≡ 0) }
+        // The total is tested first; then only memory can be refused, and only to a value that is absent where there is no room.
+        ensures too_many { self.old.most < length self.old.items + 1 → result ≡ Err BagError.TooMany }
+        ensures refused { IfErr result (Refuses T.eq self.old.most self.old.items value 1) }
+        ensures memory { length self.old.items + 1 ≤ self.old.most → OnErr result (result ≡ Err BagError.Memory) }
         ensures err { OnErr result (self.new ≡ self.old) }
-        ensures takes { 0 < room self.old.tables → IsOk result }
+        ensures takes { length self.old.items + 1 ≤ self.old.most → 0 < room self.old.tables → IsOk result }
 
         // What becomes of the slots: a value that is there is changed in its own.
         ensures arrives { OnOk result (count T.eq value self.old.items ≡ 0 → Arrives self.old.tables self.new.tables) }
@@ -291,14 +346,14 @@ impl<T: Eq + Hash + Drop, S: BuildHasher + Drop> HashBag<T, S> {
 
     /// Adds `n` occurrences of a value, and answers how many there were.
     ///
-    /// The caller sees to it that the total fits. A stored instance stays, and the value handed in is dropped. It is hashed once.
-    /// A value that is there takes no memory and is never refused, and neither is an insertion of 0, which changes nothing.
+    /// A stored instance stays, and the value handed in is dropped. It is hashed once. It answers `TooMany` exactly where the total
+    /// would pass the limit, before anything grows: the bag is then unchanged. An insertion of 0 changes nothing and is never refused.
+    /// A value that is there takes no memory.
     ///
     /// A value that is absent takes no memory while there is room. Else it may be refused for memory: the bag is then unchanged, and
     /// the value is dropped. It carries up to 16 slots of an older table along, and hashes each value in them once.
     #[inline(always)]
     pub fn insert_many(&mut self, value: T, n: usize) -> Result<usize, BagError>
-        requires { length self.old.items + n ≤ greatest_total }
         ensures before { IfOk result (λ before. before ≡ count T.eq value self.old.items) }
         ensures added { OnOk result (IsBagOf T.eq self.old (add T.eq value n self.old.items) self.new) }
         ensures none { n ≡ 0 → self.new ≡ self.old }
@@ -306,12 +361,13 @@ impl<T: Eq + Hash + Drop, S: BuildHasher + Drop> HashBag<T, S> {
         ensures set_len { OnOk result (distinct_count T.eq self.new.items ≤ distinct_count T.eq self.old.items + 1) }
         ensures same_set { 0 < count T.eq value self.old.items → distinct_count T.eq self.new.items ≡ distinct_count T.eq self.old.items }
 
-        // Only memory can be refused, and only to some occurrences of a value that is absent where there is no room.
-        ensures memory { OnErr result (result ≡ Err BagError.Memory) }
-        ensures absent { OnErr result (count T.eq value self.old.items ≡ 0) }
-        ensures some { OnErr result (0 < n) }
+        // The total is tested first; then only memory can be refused, and only to some occurrences of a value that is absent where
+        // there is no room.
+        ensures too_many { self.old.most < length self.old.items + n → result ≡ Err BagError.TooMany }
+        ensures refused { IfErr result (Refuses T.eq self.old.most self.old.items value n) }
+        ensures memory { length self.old.items + n ≤ self.old.most → OnErr result (result ≡ Err BagError.Memory) }
         ensures err { OnErr result (self.new ≡ self.old) }
-        ensures takes { 0 < room self.old.tables → IsOk result }
+        ensures takes { length self.old.items + n ≤ self.old.most → 0 < room self.old.tables → IsOk result }
 
         // What becomes of the slots: a value that is there is changed in its own.
         ensures arrives { OnOk result (0 < n → count T.eq value self.old.items ≡ 0 → Arrives self.old.tables self.new.tables) }
@@ -321,6 +377,9 @@ impl<T: Eq + Hash + Drop, S: BuildHasher + Drop> HashBag<T, S> {
         ensures same_slots { IfOk result (λ before. 0 < before → length self.new.tables.newer ≡ length self.old.tables.newer) }
         ensures same_room { IfOk result (λ before. 0 < before → room self.old.tables ≤ room self.new.tables) }
     {
+        if n > self.most - self.len {
+            return Err(BagError::TooMany);
+        }
         if n == 0 {
             return Ok(self.contains(&value));
         }
@@ -332,21 +391,22 @@ impl<T: Eq + Hash + Drop, S: BuildHasher + Drop> HashBag<T, S> {
     /// Stores a value with the count 1 in the place of all occurrences that equal it, and answers how many there were. The
     /// instance that was stored is dropped.
     ///
-    /// The caller sees to it that the total fits. The value is hashed once. One that is there takes no memory and is never refused.
+    /// It answers `TooMany` exactly where the total would pass the limit, before anything grows: the bag is then unchanged. The value
+    /// is hashed once, and twice where the total is at the limit. One that is there takes no memory and is never refused.
     ///
     /// A value that is absent takes no memory while there is room. Else it may be refused for memory: the bag is then unchanged, and
     /// the value is dropped. It carries up to 16 slots of an older table along, and hashes each value in them once.
     pub fn replace(&mut self, value: T) -> Result<usize, BagError>
-        requires { length self.old.items - count T.eq value self.old.items + 1 ≤ greatest_total }
         ensures before { IfOk result (λ before. before ≡ count T.eq value self.old.items) }
         ensures put { OnOk result (IsBagOf T.eq self.old (put T.eq value 1 self.old.items) self.new) }
         ensures len { IfOk result (λ before. length self.new.items + before ≡ length self.old.items + 1) }
 
-        // Only memory can be refused, and only to a value that is absent where there is no room.
-        ensures memory { OnErr result (result ≡ Err BagError.Memory) }
+        // The total is tested first; then only memory can be refused, and only where there is no room; to a value that is there nothing.
+        ensures too_many { self.old.most < length self.old.items - count T.eq value self.old.items + 1 → result ≡ Err BagError.TooMany }
+        ensures refused { IfErr result (Refuses T.eq self.old.most self.old.items value 1) }
         ensures absent { OnErr result (count T.eq value self.old.items ≡ 0) }
         ensures err { OnErr result (self.new ≡ self.old) }
-        ensures takes { 0 < room self.old.tables → IsOk result }
+        ensures takes { length self.old.items - count T.eq value self.old.items + 1 ≤ self.old.most → 0 < room self.old.tables → IsOk result }
 
         // What becomes of the slots: a value that is there is replaced in its own.
         ensures arrives { OnOk result (count T.eq value self.old.items ≡ 0 → Arrives self.old.tables self.new.tables) }
@@ -356,6 +416,9 @@ impl<T: Eq + Hash + Drop, S: BuildHasher + Drop> HashBag<T, S> {
         ensures same_slots { IfOk result (λ before. 0 < before → length self.new.tables.newer ≡ length self.old.tables.newer) }
         ensures same_room { IfOk result (λ before. 0 < before → room self.old.tables ≤ room self.new.tables) }
     {
+        if self.len == self.most && self.contains(&value) == 0 {
+            return Err(BagError::TooMany);
+        }
         let before = self.table.put_instance(value)?;
         self.len = self.len - before + 1;
         Ok(before)
@@ -454,7 +517,7 @@ impl<T: Eq + Hash + Drop, S: BuildHasher + Drop> HashBag<T, S> {
         ensures len { MatchResult result (λ _. length self.new.items + 1 ≡ length self.old.items) (λ before. length self.new.items + min before 1 ≡ length self.old.items) }
         ensures last { IfOk result (λ instance. stored T.eq value.now self.old.items ≡ Some (instance, 1)) }
         ensures others { IfErr result (λ before. (before ≡ count T.eq value.now self.old.items) × (before ≢ 1)) }
-        ensures bag { IsBag T.eq self.old.items }
+        ensures bag { IsBag T.eq self.old.most self.old.items }
         ensures slot { 0 < count T.eq value.now self.old.items → Recounts T.eq value.now (count T.eq value.now self.old.items - 1) self.old.tables self.new.tables }
         ensures none { count T.eq value.now self.old.items ≡ 0 → self.new ≡ self.old }
         ensures slots { length self.new.tables.newer ≡ length self.old.tables.newer }
@@ -492,6 +555,7 @@ impl<T: Eq + Hash + Drop, S: BuildHasher + Drop> HashBag<T, S> {
     pub fn clear(&mut self)
         ensures empty { self.new.items ≡ [] }
         ensures hasher { self.new.hasher ≡ self.old.hasher }
+        ensures limit { self.new.most ≡ self.old.most }
         ensures cleared { self.new.tables ≡ cleared self.old.tables }
         ensures slots { length self.new.tables.newer ≡ length self.old.tables.newer }
         ensures room { room self.old.tables ≤ room self.new.tables }
@@ -510,6 +574,7 @@ impl<T: Eq + Hash + Drop, S: BuildHasher + Drop> HashBag<T, S> {
         ensures len { length self.new.items ≤ length self.old.items }
         ensures slots { length self.new.tables.newer ≡ length self.old.tables.newer }
         ensures waiting { length self.new.tables.waiting ≡ length self.old.tables.waiting }
+        ensures built { self.new.tables.built ≡ self.old.tables.built }
         ensures room { room self.old.tables ≤ room self.new.tables }
     {
         self.len = self.table.retain(f);
@@ -535,6 +600,7 @@ impl<T: Eq + Hash + Drop, S: BuildHasher + Drop> HashBag<T, S> {
         ensures same { n ≤ room self.old.tables → self.new ≡ self.old }
         ensures least { OnOk result (room self.old.tables < n → IsLeast (length self.old.tables.newer) (distinct_count T.eq self.old.items + n) (length self.new.tables.newer)) }
         ensures packed { OnOk result (room self.old.tables < n → IsPacked self.new.tables) }
+        ensures built { OnOk result (room self.old.tables < n → self.new.tables.built ≡ self.old.tables.built + length self.new.tables.newer) }
     {
         self.table.reserve(n)?;
         Ok(())
@@ -553,11 +619,13 @@ impl<T: Eq + Hash + Drop, S: BuildHasher + Drop> HashBag<T, S> {
 
         // An empty bag is left with no slots. Where the least table, of m slots, isn't smaller, nothing is done; else it was made.
         ensures none { self.old.items ≡ [] → IsOk result }
-        ensures freed { OnOk result (self.old.items ≡ [] → self.new.tables ≡ no_slots) }
+        ensures freed { OnOk result (self.old.items ≡ [] → self.new.tables ≡ no_slots self.old.tables.built) }
+        ensures fewer { length self.new.tables.newer ≤ length self.old.tables.newer }
         ensures enough { (m : ℕ) → IsLeast 0 (distinct_count T.eq self.old.items) m → length self.old.tables.newer ≤ m → IsOk result }
         ensures same { (m : ℕ) → IsLeast 0 (distinct_count T.eq self.old.items) m → length self.old.tables.newer ≤ m → self.new ≡ self.old }
         ensures least { OnOk result ((m : ℕ) → IsLeast 0 (distinct_count T.eq self.old.items) m → m < length self.old.tables.newer → length self.new.tables.newer ≡ m) }
         ensures packed { OnOk result ((m : ℕ) → IsLeast 0 (distinct_count T.eq self.old.items) m → m < length self.old.tables.newer → IsPacked self.new.tables) }
+        ensures built { OnOk result ((m : ℕ) → IsLeast 0 (distinct_count T.eq self.old.items) m → m < length self.old.tables.newer → self.new.tables.built ≡ self.old.tables.built + m) }
     {
         self.table.shrink_to_fit()?;
         let _waiting = self.table.waiting();
@@ -578,20 +646,23 @@ impl<T: Eq + Hash + Drop, S: BuildHasher + Drop> HashBag<T, S> {
         ensures counts { IfOk result (λ bag. SameCounts T.eq self.now.items bag.items) }
         ensures len { IfOk result (λ bag. length bag.items ≡ length self.now.items) }
         ensures hasher { IfOk result (λ bag. S.is_clone self.now.hasher bag.hasher) }
+        ensures limit { IfOk result (λ bag. bag.most ≡ self.now.most) }
         ensures memory { OnErr result (result ≡ Err BagError.Memory) }
         ensures least { IfOk result (λ bag. IsLeast 0 (distinct_count T.eq self.now.items) (length bag.tables.newer)) }
         ensures packed { IfOk result (λ bag. IsPacked bag.tables) }
+        ensures built { IfOk result (λ bag. bag.tables.built ≡ length bag.tables.newer) }
     {
         let table = self.table.clone_in()?;
         Ok(HashBag {
             table,
             len: self.len,
+            most: self.most,
         })
     }
 
     // For the prover alone, which learns here from the invariant that the list is a bag's. It does nothing when it runs.
     pub(crate) fn recall_bag(&self)
-        ensures { IsBag T.eq self.now.items }
+        ensures { IsBag T.eq self.now.most self.now.items }
     {
         let _ = self.len();
     }
@@ -599,13 +670,10 @@ impl<T: Eq + Hash + Drop, S: BuildHasher + Drop> HashBag<T, S> {
     // Adds occurrences of a value if the total can have them.
     pub(crate) fn insert_within(&mut self, value: T, n: usize) -> Result<(), BagError>
         ensures added { OnOk result (IsBagOf T.eq self.old (add T.eq value n self.old.items) self.new) }
-        ensures refused { IfErr result (Refuses T.eq self.old.items value n) }
+        ensures refused { IfErr result (Refuses T.eq self.old.most self.old.items value n) }
         ensures err { OnErr result (self.new ≡ self.old) }
         ensures full { IfErr result (λ e. e ≡ BagError.Memory → room self.new.tables ≡ 0) }
     {
-        if n > usize::MAX - self.len() {
-            return Err(BagError::TooMany);
-        }
         self.insert_many(value, n)?;
         Ok(())
     }
@@ -614,7 +682,7 @@ impl<T: Eq + Hash + Drop, S: BuildHasher + Drop> HashBag<T, S> {
     pub(crate) fn insert_new(&mut self, value: T, quantity: usize) -> Result<(), BagError>
         requires absent { count T.eq value self.old.items ≡ 0 }
         requires some { 0 < quantity }
-        requires fits { length self.old.items + quantity ≤ greatest_total }
+        requires fits { length self.old.items + quantity ≤ self.old.most }
         ensures added { OnOk result (IsBagOf T.eq self.old (add T.eq value quantity self.old.items) self.new) }
         ensures len { OnOk result (length self.new.items ≡ length self.old.items + quantity) }
         ensures memory { OnErr result (result ≡ Err BagError.Memory) }
@@ -633,7 +701,7 @@ impl<T: Eq + Hash + Drop, S: BuildHasher + Drop> HashBag<T, S> {
     pub(crate) fn set_count(&mut self, value: &T, before: usize, n: usize)
         requires before { before ≡ count T.eq value.now self.old.items }
         requires present { 0 < before }
-        requires fits { length self.old.items - before + n ≤ greatest_total }
+        requires fits { length self.old.items - before + n ≤ self.old.most }
         ensures put { IsBagOf T.eq self.old (put T.eq (instance_or_itself T.eq value.now self.old.items) n self.old.items) self.new }
         ensures after { count T.eq value.now self.new.items ≡ n }
         ensures slot { Recounts T.eq value.now n self.old.tables self.new.tables }

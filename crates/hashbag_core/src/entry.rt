@@ -1,10 +1,11 @@
 //! `Entry`: the place of a value in a bag.
-ghost use Rattle.std.specs.Prelude.{◌≡◌, ◌+◌, ◌<◌, ◌≤◌, ℕ, length, IsOk, IfOk, OnOk, OnErr};
+ghost use Rattle.std.specs.Prelude.{◌≡◌, ◌+◌, ◌<◌, ◌≤◌, ℕ, length, IsOk, IfOk, IfErr, OnOk, OnErr};
 ghost use Rattle.hashbag_table.specs.Tables.{room, Arrives};
 ghost use Rattle.hashbag_core.specs.Held.{Recounts};
 ghost use Rattle.std.specs.Borrow.{sem, MutBor, RestsIfErr};
 ghost use Rattle.hashbag_core.specs.Bag.{IsBagOf};
-ghost use Rattle.hashbag_core.specs.Occurrences.{greatest_total, count, instance_or_itself, add};
+ghost use Rattle.hashbag_core.specs.Extends.{Refuses};
+ghost use Rattle.hashbag_core.specs.Occurrences.{count, instance_or_itself, add};
 
 use crate::bag::{BagError, FixedState, HashBag};
 use std::fmt::{self, Debug, Formatter, Write};
@@ -57,7 +58,7 @@ impl<'a, T: Eq + Hash + Drop, S: BuildHasher + Drop> Entry<'a, T, S> {
     ///
     /// Where `f` leaves 0, the value is taken out, its stored instance is dropped, and the entry is vacant with the value
     /// handed in. The old count leaves the total before the new one comes, so `TooMany` is answered exactly where the new
-    /// total passes `usize::MAX`: the bag is then as before the call, and the entry is gone. It takes no memory, and hashes the value
+    /// total passes the bag's limit: the bag is then as before the call, and the entry is gone. It takes no memory, and hashes the value
     /// twice where the count is set, and else once.
     pub fn and_modify<F: FnOnce(&mut usize) + Drop>(self, f: F) -> Result<Entry<'a, T, S>, BagError>
         requires { (p : MutBor ℕ) → p.now ≡ count T.eq self.value self.bag.now.items → 0 < p.now → F.pre f p }
@@ -80,7 +81,7 @@ impl<'a, T: Eq + Hash + Drop, S: BuildHasher + Drop> Entry<'a, T, S> {
         }
         let mut n = before;
         f(&mut n);
-        if n > usize::MAX - (bag.len() - before) {
+        if n > bag.limit() - (bag.len() - before) {
             return Err(BagError::TooMany);
         }
         bag.set_count(&value, before, n);
@@ -92,10 +93,11 @@ impl<'a, T: Eq + Hash + Drop, S: BuildHasher + Drop> Entry<'a, T, S> {
         ensures occupied { 0 < count T.eq self.entry.value self.entry.bag.now.items → (result ≡ Ok (count T.eq self.entry.value self.entry.bag.now.items)) × (self.exit.0.now ≡ self.entry.bag.now) }
         ensures vacant { count T.eq self.entry.value self.entry.bag.now.items ≡ 0 → IfOk result (λ after. (after ≡ 1) × IsBagOf T.eq self.entry.bag.now (add T.eq self.entry.value 1 self.entry.bag.now.items) self.exit.0.now) }
         ensures len { IfOk result (λ after. length self.exit.0.now.items + count T.eq self.entry.value self.entry.bag.now.items ≡ length self.entry.bag.now.items + after) }
-        ensures too_many { result ≡ Err BagError.TooMany → greatest_total < length self.entry.bag.now.items + 1 }
-        ensures memory { result ≡ Err BagError.Memory → length self.entry.bag.now.items + 1 ≤ greatest_total }
+        ensures too_many { result ≡ Err BagError.TooMany → self.entry.bag.now.most < length self.entry.bag.now.items + 1 }
+        ensures memory { result ≡ Err BagError.Memory → length self.entry.bag.now.items + 1 ≤ self.entry.bag.now.most }
+        ensures refused { IfErr result (Refuses T.eq self.entry.bag.now.most self.entry.bag.now.items self.entry.value 1) }
         ensures err { OnErr result (self.exit.0.now ≡ self.entry.bag.now) }
-        ensures takes { length self.entry.bag.now.items + 1 ≤ greatest_total → 0 < room self.entry.bag.now.tables → IsOk result }
+        ensures takes { length self.entry.bag.now.items + 1 ≤ self.entry.bag.now.most → 0 < room self.entry.bag.now.tables → IsOk result }
         ensures arrives { OnOk result (count T.eq self.entry.value self.entry.bag.now.items ≡ 0 → Arrives self.entry.bag.now.tables self.exit.0.now.tables) }
         ensures slots { OnOk result (0 < room self.entry.bag.now.tables → length self.exit.0.now.tables.newer ≡ length self.entry.bag.now.tables.newer) }
         ensures room { OnOk result (0 < room self.entry.bag.now.tables → room self.entry.bag.now.tables ≤ room self.exit.0.now.tables + 1) }
@@ -107,18 +109,19 @@ impl<'a, T: Eq + Hash + Drop, S: BuildHasher + Drop> Entry<'a, T, S> {
     ///
     /// Where the entry is occupied, it answers the count that is there, ignores `quantity`, drops the value handed in and is
     /// never refused. A `quantity` of 0 adds nothing, and is never refused either. Else `TooMany` is answered where the total
-    /// would pass `usize::MAX`, and only then memory is asked for where there is no room, which may be refused: the bag is then
+    /// would pass the bag's limit, and only then memory is asked for where there is no room, which may be refused: the bag is then
     /// as before the call, the value is dropped and the entry is gone. It hashes the value twice where it goes in, and else once.
     pub fn or_insert_many(self, quantity: usize) -> Result<usize, BagError>
         ensures occupied { 0 < count T.eq self.entry.value self.entry.bag.now.items → (result ≡ Ok (count T.eq self.entry.value self.entry.bag.now.items)) × (self.exit.0.now ≡ self.entry.bag.now) }
         ensures vacant { count T.eq self.entry.value self.entry.bag.now.items ≡ 0 → IfOk result (λ after. (after ≡ quantity) × IsBagOf T.eq self.entry.bag.now (add T.eq self.entry.value quantity self.entry.bag.now.items) self.exit.0.now) }
         ensures none { quantity ≡ 0 → IsOk result }
         ensures len { IfOk result (λ after. length self.exit.0.now.items + count T.eq self.entry.value self.entry.bag.now.items ≡ length self.entry.bag.now.items + after) }
-        ensures too_many { result ≡ Err BagError.TooMany → greatest_total < length self.entry.bag.now.items + quantity }
-        ensures memory { result ≡ Err BagError.Memory → length self.entry.bag.now.items + quantity ≤ greatest_total }
+        ensures too_many { result ≡ Err BagError.TooMany → self.entry.bag.now.most < length self.entry.bag.now.items + quantity }
+        ensures memory { result ≡ Err BagError.Memory → length self.entry.bag.now.items + quantity ≤ self.entry.bag.now.most }
+        ensures refused { IfErr result (Refuses T.eq self.entry.bag.now.most self.entry.bag.now.items self.entry.value quantity) }
         ensures err { OnErr result (self.exit.0.now ≡ self.entry.bag.now) }
         ensures same { quantity ≡ 0 → self.exit.0.now ≡ self.entry.bag.now }
-        ensures takes { length self.entry.bag.now.items + quantity ≤ greatest_total → 0 < room self.entry.bag.now.tables → IsOk result }
+        ensures takes { length self.entry.bag.now.items + quantity ≤ self.entry.bag.now.most → 0 < room self.entry.bag.now.tables → IsOk result }
         ensures arrives { OnOk result (0 < quantity → count T.eq self.entry.value self.entry.bag.now.items ≡ 0 → Arrives self.entry.bag.now.tables self.exit.0.now.tables) }
         ensures slots { OnOk result (0 < room self.entry.bag.now.tables → length self.exit.0.now.tables.newer ≡ length self.entry.bag.now.tables.newer) }
         ensures room { OnOk result (0 < room self.entry.bag.now.tables → room self.entry.bag.now.tables ≤ room self.exit.0.now.tables + 1) }
@@ -131,7 +134,7 @@ impl<'a, T: Eq + Hash + Drop, S: BuildHasher + Drop> Entry<'a, T, S> {
         if quantity == 0 {
             return Ok(0);
         }
-        if quantity > usize::MAX - bag.len() {
+        if quantity > bag.limit() - bag.len() {
             return Err(BagError::TooMany);
         }
         bag.insert_new(value, quantity)?;

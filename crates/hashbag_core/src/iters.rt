@@ -356,7 +356,7 @@ impl<T: Eq + Hash + Drop, S: BuildHasher + Drop> IntoIterator for HashBag<T, S> 
     ///
     /// Values that are not taken are dropped with the walk. It takes no memory and hashes nothing, here and at each step.
     fn into_iter(self) -> IntoIter<T> {
-        let HashBag { table, len: _ } = self;
+        let HashBag { table, .. } = self;
         IntoIter {
             owned: table.into_walk(),
         }

@@ -175,9 +175,9 @@ fn read_pair<T: JsonItem + Hash + Drop, S: BuildHasher + Drop>(
     pair: &Value,
     number: usize,
 ) -> Result<(), JsonError>
-    ensures no_fault { OnOk result (pair_fault greatest_total T.has_item number (length bag.old.items) (pair_of (view pair.now)) ≡ None) }
+    ensures no_fault { OnOk result (pair_fault bag.old.most T.has_item number (length bag.old.items) (pair_of (view pair.now)) ≡ None) }
     ensures read { OnOk result ((p : T × ℕ) × IsPair T.reads (view pair.now) p × IsBagOf T.eq bag.old (add T.eq p.0 p.1 bag.old.items) bag.new) }
-    ensures fault { IfErr result (λ e. e ≢ JsonError.Memory → pair_fault greatest_total T.has_item number (length bag.old.items) (pair_of (view pair.now)) ≡ Some e) }
+    ensures fault { IfErr result (λ e. e ≢ JsonError.Memory → pair_fault bag.old.most T.has_item number (length bag.old.items) (pair_of (view pair.now)) ≡ Some e) }
     ensures memory { IfErr result (λ e. e ≡ JsonError.Memory → IsCountedItem T.has_item (view pair.now)) }
 {
     let Some((tree, count)) = parts_of(pair) else {
@@ -194,7 +194,7 @@ fn read_pair<T: JsonItem + Hash + Drop, S: BuildHasher + Drop>(
     match bag.insert_within(item, count as usize) {
         Ok(()) => Ok(()),
         Err(BagError::TooMany) => Err(JsonError::TooMany(number)),
-        Err(BagError::Memory) => Err(JsonError::Memory),
+        Err(_) => Err(JsonError::Memory),
     }
 }
 
@@ -212,30 +212,50 @@ fn pair_value<T: JsonItem>(alloc: Global, item: &T, count: usize) -> Result<Valu
 }
 
 impl<T: JsonItem + Hash + Drop, S: BuildHasher + Drop> HashBag<T, S> {
-    /// The bag of a tree, under the default state: its pairs are read and inserted in turn.
+    /// The bag of a tree, under the default state, with the limit `most`: its pairs are read and inserted in turn.
     ///
     /// Of each pair it checks that it is an array of two, then its count, then its item, then that the total stays within
-    /// `usize::MAX`, and the first pair with a fault decides. A pair with the count 0 is checked and adds nothing. Equal items add up,
+    /// `most`, and the first pair with a fault decides. A pair with the count 0 is checked and adds nothing. Equal items add up,
     /// and the first instance stays. It answers `Memory` where memory is refused, which it asks for at no pair after the
     /// first with a fault, and at that one for its item alone. Where it is refused there is no bag.
+    pub fn from_value_within(
+        alloc: Global,
+        most: usize,
+        tree: &Value,
+    ) -> Result<HashBag<T, S>, JsonError>
+    where
+        S: Default,
+        ensures no_fault { OnOk result (fault most T.has_item (view tree.now) ≡ None) }
+        ensures read { IfOk result (λ bag. (pairs : List (T × ℕ)) × IsReading T.reads (view tree.now) pairs × Means bag (add_all T.eq [] pairs)) }
+        ensures limit { IfOk result (λ bag. bag.most ≡ most) }
+        ensures bag { IfOk result (λ bag. IsBag T.eq bag.most bag.items) }
+        ensures hasher { IfOk result (λ bag. S.is_default bag.hasher) }
+        ensures fault { IfErr result (λ e. e ≢ JsonError.Memory → fault most T.has_item (view tree.now) ≡ Some e) }
+        ensures memory { IfErr result (λ e. e ≡ JsonError.Memory → MayEnd most T.has_item (view tree.now)) }
+    {
+        let Some(list) = tree.as_array() else {
+            return Err(JsonError::NotAnArray);
+        };
+        let mut bag = HashBag::with_limit(alloc, S::default(), most);
+        for (number, pair) in list.iter().enumerate() {
+            read_pair(alloc, &mut bag, pair, number)?;
+        }
+        Ok(bag)
+    }
+
+    /// The bag of a tree, under the default state, with the limit `usize::MAX`: [`HashBag::from_value_within`] with that.
     pub fn from_value(alloc: Global, tree: &Value) -> Result<HashBag<T, S>, JsonError>
     where
         S: Default,
         ensures no_fault { OnOk result (fault greatest_total T.has_item (view tree.now) ≡ None) }
         ensures read { IfOk result (λ bag. (pairs : List (T × ℕ)) × IsReading T.reads (view tree.now) pairs × Means bag (add_all T.eq [] pairs)) }
-        ensures bag { IfOk result (λ bag. IsBag T.eq bag.items) }
+        ensures limit { IfOk result (λ bag. bag.most ≡ greatest_total) }
+        ensures bag { IfOk result (λ bag. IsBag T.eq bag.most bag.items) }
         ensures hasher { IfOk result (λ bag. S.is_default bag.hasher) }
         ensures fault { IfErr result (λ e. e ≢ JsonError.Memory → fault greatest_total T.has_item (view tree.now) ≡ Some e) }
         ensures memory { IfErr result (λ e. e ≡ JsonError.Memory → MayEnd greatest_total T.has_item (view tree.now)) }
     {
-        let Some(list) = tree.as_array() else {
-            return Err(JsonError::NotAnArray);
-        };
-        let mut bag = HashBag::default_in(alloc);
-        for (number, pair) in list.iter().enumerate() {
-            read_pair(alloc, &mut bag, pair, number)?;
-        }
-        Ok(bag)
+        HashBag::from_value_within(alloc, usize::MAX, tree)
     }
 
     // The distinct values with their counts, values rising. Room for all of them is taken at once.

@@ -146,12 +146,13 @@ module _ {T : Type 0} {eq : T → T → Bool} (laws : IsEquivalence eq) where
         subst (λ (l : List T). IsDistinct eq l) (sym keys) walk.each.once
 
     -- what is left of a bag of which each value keeps at most so many
-    pub retained_of_bag : {S : Type 0} (before after : Bag T S) (W : List (T × ℕ)) (answers : List ℕ) → IsBag eq before.items → IsSetWalkOf eq before W → answers ≡ map (λ e. many e.0) W
+    pub retained_of_bag : {S : Type 0} (before after : Bag T S) (W : List (T × ℕ)) (answers : List ℕ) → IsBag eq before.most before.items → IsSetWalkOf eq before W → answers ≡ map (λ e. many e.0) W
         → IsBagOf eq before (occurrences (kept W answers)) after → IsBagOf eq before (retained eq many before.items) after
     retained_of_bag before after W answers bag walk are left = record {
       means =
           IsPermutation-trans _ _ _ (retained_rearranged before.items (occurrences W) (IsPermutation-sym _ _ walk.means) bag.one_instance)
           (IsPermutation-trans _ _ _ (IsPermutation-same _ _ (retained_occurrences W (walk_distinct before.items W (walk.walk before.items (IsPermutation-refl _))) ∙ ap (λ (a : List ℕ). occurrences (kept W a)) (sym are))) left.means);
       hasher = left.hasher;
+      limit = left.limit;
       bag = left.bag;
     }

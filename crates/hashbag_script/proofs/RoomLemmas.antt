@@ -1,20 +1,24 @@
 -- Room along a run: what a step leaves of it, and which steps bring in a value.
-use Rattle.std.proofs.Common.{◌≡◌, ℕ, zero, suc, ◌+◌, ◌-◌, ◌<◌, ◌≤◌, ◌==◌, Bool, true, false, cond, ◌||◌, List, [], ◌∷◌, ◌++◌, length, replicate, Result, Ok, Err, OnOk, refl, sym, ap, subst, ◌∙◌, arith}
+use Rattle.std.proofs.Common.{◌≡◌, ℕ, zero, suc, ◌+◌, ◌-◌, ◌<◌, ◌≤◌, ◌==◌, Bool, true, false, cond, ◌||◌, List, [], ◌∷◌, ◌++◌, length, replicate, Result, Ok, Err, OnOk, refl, sym, ap, subst, ◌∙◌, inl, inr, arith}
 use Rattle.std.specs.Cmp.{IsEquivalence}
 use Rattle.std.specs.List.{list_any}
 use Rattle.std.specs.List.Sorted.{IsPermutation}
 use Rattle.std.proofs.lemmas.List.Folds.{list_any-append}
 use Rattle.std.proofs.lemmas.List.Sorted.{list_any-IsPermutation, IsPermutation-refl}
-use Rattle.hashbag_table.specs.Tables.{Tables, room}
-use Rattle.hashbag_core.specs.Occurrences.{greatest_total, count, others, add, put}
+use Rattle.hashbag_table.specs.Tables.{Tables, limit, room, values, grown_slots, Arrives}
+use Rattle.std.proofs.lemmas.Bool.{cases_lt}
+use Rattle.std.proofs.lemmas.List.{length-replicate}
+use Rattle.hashbag_core.specs.Held.{Recounts}
+use Rattle.hashbag_core.specs.Occurrences.{count, others, add, put}
+use Rattle.hashbag_core.proofs.HeldLemmas.{rewritten_built}
 use Rattle.hashbag_core.proofs.OccurrenceLemmas.{count_rearranged, put_absent}
 use Rattle.hashbag_script.specs.declared.script.Step.{Step}
 use Rattle.hashbag_script.specs.declared.script.Reply.{Reply}
 use Rattle.hashbag_script.specs.declared.script.Reply.TheVariants.{Count, TooMany}
-use Rattle.hashbag_script.specs.Script.{step, run, arrivals, newcomers, has_newcomer, is_about_room, IsRoomy, KeepsRoom}
+use Rattle.hashbag_script.specs.Script.{step, limit_after, limit_left, run, arrivals, newcomers, has_newcomer, is_about_room, IsRoomy, KeepsRoom, Outgrows, Moves}
 use Rattle.hashbag_script.specs.Rows.{insert_row, replace_row, entry_or_row}
 use Rattle.hashbag_script.proofs.RowLemmas.{not_above, entry_or_row-vacant}
-use Rattle.hashbag_script.proofs.ScriptLemmas.{run_none, run_more}
+use Rattle.hashbag_script.proofs.ScriptLemmas.{run_none, run_more, limit_none, limit_more}
 
 abbrev one_if : Bool → ℕ
 one_if b = cond b 1 0
@@ -40,35 +44,59 @@ pub on_ok_also : {X E : Type 0} (A P : Type 0) (r : Result X E) → OnOk r P →
 on_ok_also A P (Ok x) p = λ _. p
 on_ok_also A P (Err e) p = tt
 
+-- ---- what is built
+
+module _ {T : Type 0} where
+  pub recounted_built : (eq : T → T → Bool) (v : T) (c m : ℕ) (old new : Tables T) → (0 < c → Recounts eq v m old new) → (c ≡ 0 → new ≡ old) → new.built ≡ old.built
+  recounted_built eq v zero m old new some none = ap (λ (t : Tables T). t.built) (none refl)
+  recounted_built eq v (suc c) m old new some none = rewritten_built _ _ old new (some (omega arith))
+
+  -- what an absent value leaves where there was no room
+  pub outgrown : (old new : Tables T) → room old ≡ 0 → Arrives old new → Outgrows old new
+  outgrown old new full h = record {
+    slots = (h.grown full).fills.same_length ∙ length-replicate (grown_slots (length old.newer) (values old)) _;
+    room = h.room_grown full;
+    built = h.built.grown full;
+  }
+
 -- ---- what is kept
 
 module _ {T : Type 0} where
   pub keeps_same : (k : ℕ) (t : Tables T) → KeepsRoom k t t
-  keeps_same k t = record { slots = refl; room = omega arith }
+  keeps_same k t = record { slots = refl; room = omega arith; built = refl }
 
   pub keeps_more : (k : ℕ) (old new : Tables T) → KeepsRoom 0 old new → KeepsRoom k old new
-  keeps_more k old new h = let r = h.room in record { slots = h.slots; room = omega (arith, r) }
+  keeps_more k old new h = let r = h.room in record { slots = h.slots; room = omega (arith, r); built = h.built }
 
   pub keeps_as : (k : ℕ) (old new : Tables T) → new ≡ old → KeepsRoom k old new
   keeps_as k old new e = subst (λ t. KeepsRoom k old t) (sym e) (keeps_same k old)
 
-  -- n of a value that occurs c times: with none nothing changes, and where it occurs its slot alone does
-  pub keeps_inserted : (c n k : ℕ) (old new : Tables T) → (n ≡ 0 → new ≡ old) → (0 < c → length new.newer ≡ length old.newer) → (0 < c → room old ≤ room new)
-      → (0 < room old → length new.newer ≡ length old.newer) → (0 < room old → room old ≤ room new + 1) → (c ≡ 0 → 0 < n → k ≡ 1) → k ≤ room old → KeepsRoom k old new
-  keeps_inserted (suc c) n k old new none same_slots same_room slots fewer arrives enough = let r = same_room (omega arith) in record { slots = same_slots (omega arith); room = omega (arith, r) }
-  keeps_inserted zero zero k old new none same_slots same_room slots fewer arrives enough = keeps_as k old new (none refl)
-  keeps_inserted zero (suc n) k old new none same_slots same_room slots fewer arrives enough =
-      let one = arrives refl (omega arith) in
-      let some : 0 < room old = omega (arith, one, enough) in
-      let r = fewer some in
-      record { slots = slots some; room = omega (arith, one, r) }
+  -- n of a value that occurs c times: with none nothing changes, and where it occurs no room is taken
+  pub moves_inserted : (c n k : ℕ) (old new : Tables T) → (n ≡ 0 → new ≡ old) → (0 < n → 0 < c → KeepsRoom 0 old new) → (0 < n → c ≡ 0 → Arrives old new) → (c ≡ 0 → 0 < n → k ≡ 1) → Moves k old new
+  moves_inserted c zero k old new none stays arrives newcomer = inl (keeps_as k old new (none refl))
+  moves_inserted (suc c) (suc n) k old new none stays arrives newcomer = inl (keeps_more k old new (stays (omega arith) (omega arith)))
+  moves_inserted zero (suc n) k old new none stays arrives newcomer =
+      let one = newcomer refl (omega arith) in
+      let came = arrives (omega arith) refl in
+      elim (cases_lt 0 (room old)) [
+        | inl some ↦ inl (record { slots = (came.kept some).fills.same_length; room = let r = came.room_kept some in omega (arith, r, one); built = came.built.kept some })
+        | inr full ↦ let none_left : room old ≡ 0 = omega (arith, full) in inr (one, none_left, outgrown old new none_left came)
+      ]
 
   -- the same where a value that occurs leaves all as it is
-  pub keeps_entered : (c q k : ℕ) (old new : Tables T) → (q ≡ 0 → new ≡ old) → (0 < c → new ≡ old) → (0 < room old → length new.newer ≡ length old.newer) → (0 < room old → room old ≤ room new + 1)
-      → (c ≡ 0 → 0 < q → k ≡ 1) → k ≤ room old → KeepsRoom k old new
-  keeps_entered (suc c) q k old new none same slots fewer arrives enough = keeps_as k old new (same (omega arith))
-  keeps_entered zero q k old new none same slots fewer arrives enough =
-      keeps_inserted zero q k old new none (λ some. absurd (omega (arith, some))) (λ some. absurd (omega (arith, some))) slots fewer arrives enough
+  pub moves_entered : (c q k : ℕ) (old new : Tables T) → (q ≡ 0 → new ≡ old) → (0 < c → new ≡ old) → (0 < q → c ≡ 0 → Arrives old new) → (c ≡ 0 → 0 < q → k ≡ 1) → Moves k old new
+  moves_entered c q k old new none same arrives newcomer = moves_inserted c q k old new none (λ more some. keeps_as 0 old new (same some)) arrives newcomer
+
+  -- where there is room, no table is made
+  pub moves_within : (k : ℕ) (old new : Tables T) → Moves k old new → k ≤ room old → KeepsRoom k old new
+  moves_within k old new h enough = elim h [
+    | inl kept ↦ kept
+    | inr grown ↦ absurd (let one = grown.0 in let full = grown.1 in omega (arith, one, full, enough))
+  ]
+
+  -- what leaves all room moves nothing
+  pub moves_kept : (k : ℕ) (old new : Tables T) → KeepsRoom 0 old new → Moves k old new
+  moves_kept k old new h = inl (keeps_more k old new h)
 
 -- no step of a run is about room, so neither is the next one, nor are those after it
 module _ {T : Type 0} where
@@ -78,8 +106,8 @@ module _ {T : Type 0} where
 
 module _ {T : Type 0} (eq : T → T → Bool) where
   -- after the steps that were done there is room for what the others bring in, and there are as many slots
-  pub record IsStillRoomy (X : List T) (done rest : List (Step T)) (before now : Tables T) : Type 0 where
-    pub enough : arrivals eq (run eq X done).0 rest ≤ room now
+  pub record IsStillRoomy (most : ℕ) (X : List T) (done rest : List (Step T)) (before now : Tables T) : Type 0 where
+    pub enough : arrivals eq (limit_left eq most X done) (run eq most X done).0 rest ≤ room now
     pub slots : length now.newer ≡ length before.newer
 
 module _ {T : Type 0} {eq : T → T → Bool} (laws : IsEquivalence eq) where
@@ -113,45 +141,45 @@ module _ {T : Type 0} {eq : T → T → Bool} (laws : IsEquivalence eq) where
 
   -- ---- the rows that bring in a value
 
-  pub one_inserted : (v : T) (n : ℕ) (X : List T) → count eq v X ≡ 0 → 0 < n → length X + n ≤ greatest_total → newcomers eq X (insert_row eq v n X).0 ≡ 1
-  one_inserted v n X none some fits =
-      let row : insert_row eq v n X ≡ (add eq v n X, Count (count eq v X)) = ap (λ (b : Bool). cond b (X, TooMany) (add eq v n X, Count (count eq v X))) (not_above greatest_total (length X + n) fits) in
+  pub one_inserted : (most : ℕ) (v : T) (n : ℕ) (X : List T) → count eq v X ≡ 0 → 0 < n → length X + n ≤ most → newcomers eq X (insert_row eq most v n X).0 ≡ 1
+  one_inserted most v n X none some fits =
+      let row : insert_row eq most v n X ≡ (add eq v n X, Count (count eq v X)) = ap (λ (b : Bool). cond b (X, TooMany) (add eq v n X, Count (count eq v X))) (not_above most (length X + n) fits) in
       ap (λ (p : List T × Reply T). newcomers eq X p.0) row ∙ one_added v n X none some
 
-  pub one_replaced : (v : T) (X : List T) → count eq v X ≡ 0 → length X + 1 ≤ greatest_total → newcomers eq X (replace_row eq v X).0 ≡ 1
-  one_replaced v X none fits =
-      let row : replace_row eq v X ≡ (put eq v 1 X, Count (count eq v X)) = ap (λ (b : Bool). cond b (X, TooMany) (put eq v 1 X, Count (count eq v X))) (not_above greatest_total (length X - count eq v X + 1) (omega (arith, none, fits))) in
+  pub one_replaced : (most : ℕ) (v : T) (X : List T) → count eq v X ≡ 0 → length X + 1 ≤ most → newcomers eq X (replace_row eq most v X).0 ≡ 1
+  one_replaced most v X none fits =
+      let row : replace_row eq most v X ≡ (put eq v 1 X, Count (count eq v X)) = ap (λ (b : Bool). cond b (X, TooMany) (put eq v 1 X, Count (count eq v X))) (not_above most (length X - count eq v X + 1) (omega (arith, none, fits))) in
       ap (λ (p : List T × Reply T). newcomers eq X p.0) row ∙ one_put v 1 X none (omega arith)
 
-  pub one_entered : (v : T) (q : ℕ) (X : List T) → count eq v X ≡ 0 → 0 < q → length X + q ≤ greatest_total → newcomers eq X (entry_or_row eq v q X).0 ≡ 1
-  one_entered v q X none some fits = ap (λ (p : List T × Reply T). newcomers eq X p.0) (entry_or_row-vacant laws v q X none fits) ∙ one_added v q X none some
+  pub one_entered : (most : ℕ) (v : T) (q : ℕ) (X : List T) → count eq v X ≡ 0 → 0 < q → length X + q ≤ most → newcomers eq X (entry_or_row eq most v q X).0 ≡ 1
+  one_entered most v q X none some fits = ap (λ (p : List T × Reply T). newcomers eq X p.0) (entry_or_row-vacant laws most v q X none fits) ∙ one_added v q X none some
 
   -- ---- room along a run
 
-  pub roomy_first : (X : List T) (steps : List (Step T)) (t : Tables T) → IsRoomy eq X steps t → IsStillRoomy eq X [] steps t t
-  roomy_first X steps t h = record { enough = rw (run_none eq X).0 h.enough; slots = refl }
+  pub roomy_first : (most : ℕ) (X : List T) (steps : List (Step T)) (t : Tables T) → IsRoomy eq most X steps t → IsStillRoomy eq most X [] steps t t
+  roomy_first most X steps t h = record { enough = rw ((run_none eq most X).0, limit_none eq most X) h.enough; slots = refl }
 
-  arrivals_more : (X : List T) (s : Step T) (rest : List (Step T)) → arrivals eq X (s ∷ rest) ≡ newcomers eq X (step eq X s).0 + arrivals eq (step eq X s).0 rest
+  arrivals_more : (most : ℕ) (X : List T) (s : Step T) (rest : List (Step T)) → arrivals eq most X (s ∷ rest) ≡ newcomers eq X (step eq most X s).0 + arrivals eq (limit_after eq most X s) (step eq most X s).0 rest
   unfolding arrivals
-  arrivals_more X s rest = refl
+  arrivals_more most X s rest = refl
 
   -- what the next step may bring in has room
-  pub next_enough : (X B : List T) (done rest : List (Step T)) (s : Step T) (before now : Tables T) → IsStillRoomy eq X done (s ∷ rest) before now → IsPermutation (run eq X done).0 B → IsPermutation (step eq (run eq X done).0 s).0 (step eq B s).0
-      → newcomers eq B (step eq B s).0 ≤ room now
-  next_enough X B done rest s before now h means left =
-      let more = arrivals_more (run eq X done).0 s rest in
-      let same = newcomers_rearranged (run eq X done).0 B (step eq (run eq X done).0 s).0 (step eq B s).0 means left in
+  pub next_enough : (most m : ℕ) (X B : List T) (done rest : List (Step T)) (s : Step T) (before now : Tables T) → IsStillRoomy eq most X done (s ∷ rest) before now → IsPermutation (run eq most X done).0 B → IsPermutation (step eq (limit_left eq most X done) (run eq most X done).0 s).0 (step eq m B s).0
+      → newcomers eq B (step eq m B s).0 ≤ room now
+  next_enough most m X B done rest s before now h means left =
+      let more = arrivals_more (limit_left eq most X done) (run eq most X done).0 s rest in
+      let same = newcomers_rearranged (run eq most X done).0 B (step eq (limit_left eq most X done) (run eq most X done).0 s).0 (step eq m B s).0 means left in
       let enough = h.enough in
       omega (arith, more, same, enough)
 
-  pub roomy_next : (X B : List T) (done rest : List (Step T)) (s : Step T) (before now after : Tables T) → IsStillRoomy eq X done (s ∷ rest) before now → IsPermutation (run eq X done).0 B → IsPermutation (step eq (run eq X done).0 s).0 (step eq B s).0
-      → KeepsRoom (newcomers eq B (step eq B s).0) now after → IsStillRoomy eq X (done ++ s ∷ []) rest before after
-  roomy_next X B done rest s before now after h means left kept =
-      let more = arrivals_more (run eq X done).0 s rest in
-      let same = newcomers_rearranged (run eq X done).0 B (step eq (run eq X done).0 s).0 (step eq B s).0 means left in
+  pub roomy_next : (most m : ℕ) (X B : List T) (done rest : List (Step T)) (s : Step T) (before now after : Tables T) → IsStillRoomy eq most X done (s ∷ rest) before now → IsPermutation (run eq most X done).0 B → IsPermutation (step eq (limit_left eq most X done) (run eq most X done).0 s).0 (step eq m B s).0
+      → KeepsRoom (newcomers eq B (step eq m B s).0) now after → IsStillRoomy eq most X (done ++ s ∷ []) rest before after
+  roomy_next most m X B done rest s before now after h means left kept =
+      let more = arrivals_more (limit_left eq most X done) (run eq most X done).0 s rest in
+      let same = newcomers_rearranged (run eq most X done).0 B (step eq (limit_left eq most X done) (run eq most X done).0 s).0 (step eq m B s).0 means left in
       let enough = h.enough in
       let kept_room = kept.room in
       record {
-        enough = rw (run_more eq X done s).0 (omega (arith, more, same, enough, kept_room));
+        enough = rw ((run_more eq most X done s).0, limit_more eq most X done s) (omega (arith, more, same, enough, kept_room));
         slots = kept.slots ∙ h.slots;
       }

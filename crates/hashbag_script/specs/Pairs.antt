@@ -3,7 +3,7 @@ use Rattle.std.specs.Prelude.{◌≡◌, ◌+◌, ◌<◌, Bool, List, ◌++◌,
 use Rattle.hashbag_script.specs.declared.script.Step.{Step}
 use Rattle.hashbag_script.specs.declared.script.Reply.{Reply}
 use Rattle.hashbag_core.specs.Bag.{Bag, Means}
-use Rattle.hashbag_script.specs.Script.{run, IsStopped}
+use Rattle.hashbag_script.specs.Script.{run, limit_left, IsStopped}
 
 -- what a run of steps on a bag began with, and what it left
 pub record Ran (T S : Type 0) : Type 0 where
@@ -28,8 +28,9 @@ pub record IsUntouched {T S : Type 0} (r : Ran T S) : Type 0 where
 module _ {T : Type 0} (eq : T → T → Bool) where
   -- every step was done, from the list X on: the replies of that run were appended, and the bag means what it left
   pub record IsDoneFrom {S : Type 0} (X : List T) (r : Ran T S) : Type 0 where
-    pub replies : r.replies_after ≡ r.replies_before ++ (run eq X r.steps).1
-    pub means : Means r.after (run eq X r.steps).0
+    pub replies : r.replies_after ≡ r.replies_before ++ (run eq r.before.most X r.steps).1
+    pub means : Means r.after (run eq r.before.most X r.steps).0
+    pub limit : r.after.most ≡ limit_left eq r.before.most X r.steps
 
   -- every step was done, whichever list the bag meant
   abbrev pub IsDone : {S : Type 0} → Ran T S → Type 0
@@ -37,7 +38,7 @@ module _ {T : Type 0} (eq : T → T → Bool) where
 
   -- memory stopped the run, whichever list the bag meant
   abbrev pub IsCutOff : {S : Type 0} → Ran T S → Type 0
-  IsCutOff r = (X : List T) → Means r.before X → IsStopped eq X r.steps r.replies_before r.replies_after r.after
+  IsCutOff r = (X : List T) → Means r.before X → IsStopped eq r.before.most X r.steps r.replies_before r.replies_after r.after
 
   -- memory stopped the runs of two bags: before the first step, since there was no room for the replies; or in the first
   -- run, and the second bag is untouched; or in the second run, and the first was done

@@ -2,20 +2,20 @@
 -- replies.
 use Rattle.std.specs.Prelude.{ℕ, ◌+◌, ◌-◌, min, nat_lt, ◌==◌, if◌then◌else◌, Bool, List, [], ◌∷◌, length, unwrap_or, find, option_map}
 use Rattle.hashbag_script.specs.declared.script.Reply.{Reply}
-use Rattle.hashbag_script.specs.declared.script.Reply.TheVariants.{Count, Left, Taken, Absent, Done, TooMany}
-use Rattle.hashbag_core.specs.Occurrences.{greatest_total, count, instance_or_itself, add, less, put}
+use Rattle.hashbag_script.specs.declared.script.Reply.TheVariants.{Count, Left, Taken, Absent, Done, TooMany, BelowTotal}
+use Rattle.hashbag_core.specs.Occurrences.{count, instance_or_itself, add, less, put}
 
 module _ {T : Type 0} (eq : T → T → Bool) where
-  -- insert, and insert_many: n more of v, unless the total would pass its end; the count before
-  abbrev pub insert_row : T → ℕ → List T → List T × Reply T
-  insert_row v n X =
-      if nat_lt greatest_total (length X + n) then (X, TooMany)
+  -- insert, and insert_many: n more of v, unless the total would pass the limit `most`; the count before
+  abbrev pub insert_row : ℕ → T → ℕ → List T → List T × Reply T
+  insert_row most v n X =
+      if nat_lt most (length X + n) then (X, TooMany)
       else (add eq v n X, Count (count eq v X))
 
-  -- replace: v itself, once, for all that are equal to it, unless the total would pass its end; the count before
-  abbrev pub replace_row : T → List T → List T × Reply T
-  replace_row v X =
-      if nat_lt greatest_total (length X - count eq v X + 1) then (X, TooMany)
+  -- replace: v itself, once, for all that are equal to it, unless the total would pass the limit `most`; the count before
+  abbrev pub replace_row : ℕ → T → List T → List T × Reply T
+  replace_row most v X =
+      if nat_lt most (length X - count eq v X + 1) then (X, TooMany)
       else (put eq v 1 X, Count (count eq v X))
 
   -- remove: one fewer of v; the count before
@@ -39,18 +39,18 @@ module _ {T : Type 0} (eq : T → T → Bool) where
       if count eq v X == 0 then (X, Absent)
       else (less eq v (count eq v X) X, Taken (instance_or_itself eq v X) (count eq v X))
 
-  -- the entry's and_modify, where the closure sets n: n of v's instance where v occurs, unless the total would pass its end
-  abbrev pub entry_set_row : T → ℕ → List T → List T × Reply T
-  entry_set_row v n X =
+  -- the entry's and_modify, where the closure sets n: n of v's instance where v occurs, unless the total would pass the limit `most`
+  abbrev pub entry_set_row : ℕ → T → ℕ → List T → List T × Reply T
+  entry_set_row most v n X =
       if count eq v X == 0 then (X, Absent)
-      else (if nat_lt greatest_total (length X - count eq v X + n) then (X, TooMany)
+      else (if nat_lt most (length X - count eq v X + n) then (X, TooMany)
       else (put eq (instance_or_itself eq v X) n X, Done))
 
-  -- the entry's or_insert_many: q of v where v doesn't occur, unless the total would pass its end; the count after
-  abbrev pub entry_or_row : T → ℕ → List T → List T × Reply T
-  entry_or_row v q X =
+  -- the entry's or_insert_many: q of v where v doesn't occur, unless the total would pass the limit `most`; the count after
+  abbrev pub entry_or_row : ℕ → T → ℕ → List T → List T × Reply T
+  entry_or_row most v q X =
       if nat_lt 0 (count eq v X) then (X, Count (count eq v X))
-      else (if nat_lt greatest_total (length X + q) then (X, TooMany)
+      else (if nat_lt most (length X + q) then (X, TooMany)
       else (add eq v q X, Count q))
 
   -- the number beside the first value of the list that is equal to u, 0 where there is none
@@ -80,3 +80,7 @@ module _ {T : Type 0} (eq : T → T → Bool) where
 
   abbrev pub shrink_to_fit_row : List T → List T × Reply T
   shrink_to_fit_row X = (X, Done)
+
+  -- set_limit: what occurs stays as it is; the limit can't go below the total
+  abbrev pub limit_row : ℕ → List T → List T × Reply T
+  limit_row n X = (X, if nat_lt n (length X) then BelowTotal else Done)

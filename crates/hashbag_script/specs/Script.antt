@@ -1,13 +1,13 @@
 -- What whole runs of steps reply and leave, on the plain list of a bag's occurrences.
-use Rattle.std.specs.Prelude.{◌≡◌, ℕ, ◌+◌, ◌<◌, ◌≤◌, ◌==◌, max, if◌then◌else◌, Bool, true, false, List, [], ◌∷◌, ◌++◌, length}
+use Rattle.std.specs.Prelude.{◌≡◌, ℕ, ◌+◌, ◌-◌, ◌*◌, ◌<◌, ◌≤◌, ◌⊎◌, ◌==◌, max, nat_lt, if◌then◌else◌, Bool, true, false, List, [], ◌∷◌, ◌++◌, length}
 use Rattle.std.specs.List.{list_any}
-use Rattle.hashbag_table.specs.Tables.{Tables, room}
+use Rattle.hashbag_table.specs.Tables.{Tables, limit, room, values, grown_slots}
 use Rattle.hashbag_script.specs.declared.script.Step.{Step}
-use Rattle.hashbag_script.specs.declared.script.Step.TheVariants.{Insert, InsertMany, Replace, Remove, RemoveUpTo, TryTake, TakeAll, EntrySet, EntryOr, Retain, Clear, Count, Reserve, ShrinkToFit}
+use Rattle.hashbag_script.specs.declared.script.Step.TheVariants.{Insert, InsertMany, Replace, Remove, RemoveUpTo, TryTake, TakeAll, EntrySet, EntryOr, Retain, Clear, Count, Reserve, ShrinkToFit, Limit}
 use Rattle.hashbag_script.specs.declared.script.Reply.{Reply}
 use Rattle.hashbag_core.specs.Bag.{Bag, Means}
 use Rattle.hashbag_core.specs.Occurrences.{greatest_total, count, distinct_count}
-use Rattle.hashbag_script.specs.Rows.{insert_row, replace_row, remove_row, remove_up_to_row, try_take_row, take_all_row, entry_set_row, entry_or_row, retain_row, clear_row, count_row, reserve_row, shrink_to_fit_row}
+use Rattle.hashbag_script.specs.Rows.{insert_row, replace_row, remove_row, remove_up_to_row, try_take_row, take_all_row, entry_set_row, entry_or_row, retain_row, clear_row, count_row, reserve_row, shrink_to_fit_row, limit_row}
 
 abbrev pub Steps : Type 0 → Type 0
 Steps T = List (Step T)
@@ -29,49 +29,103 @@ module _ {T : Type 0} where
   is_about_room (Count v) = false
   is_about_room (Reserve n) = true
   is_about_room ShrinkToFit = true
+  is_about_room (Limit n) = false
 
-  -- as many slots are left, and room but for k values
+  -- whether the step asks for room
+  abbrev pub is_reserve : Step T → Bool
+  is_reserve (Insert v) = false
+  is_reserve (InsertMany v n) = false
+  is_reserve (Replace v) = false
+  is_reserve (Remove v) = false
+  is_reserve (RemoveUpTo v q) = false
+  is_reserve (TryTake v) = false
+  is_reserve (TakeAll v) = false
+  is_reserve (EntrySet v n) = false
+  is_reserve (EntryOr v q) = false
+  is_reserve (Retain list) = false
+  is_reserve Clear = false
+  is_reserve (Count v) = false
+  is_reserve (Reserve n) = true
+  is_reserve ShrinkToFit = false
+  is_reserve (Limit n) = false
+
+  -- as many slots are left, none were built, and there is room but for k values
   pub record KeepsRoom (k : ℕ) (old new : Tables T) : Type 0 where
     pub slots : length new.newer ≡ length old.newer
     pub room : room old ≤ room new + k
+    pub built : new.built ≡ old.built
+
+  -- a new table took the place of one that had no room, for one value more
+  pub record Outgrows (old new : Tables T) : Type 0 where
+    pub slots : length new.newer ≡ grown_slots (length old.newer) (values old)
+    pub room : room new ≡ limit (length new.newer) - values old - 1
+    pub built : new.built ≡ old.built + length new.newer
+
+  -- k values came: into the slots that there were, or the one value that came for which there was no room into a new table
+  abbrev pub Moves : ℕ → Tables T → Tables T → Type 0
+  Moves k old new = KeepsRoom k old new ⊎ ((k ≡ 1) × (room old ≡ 0) × Outgrows old new)
 
 module _ {T : Type 0} (eq : T → T → Bool) where
-  -- the list that a step leaves of X, and its reply
-  abbrev pub step : List T → Step T → List T × Reply T
-  step X (Insert v) = insert_row eq v 1 X
-  step X (InsertMany v n) = insert_row eq v n X
-  step X (Replace v) = replace_row eq v X
-  step X (Remove v) = remove_row eq v X
-  step X (RemoveUpTo v q) = remove_up_to_row eq v q X
-  step X (TryTake v) = try_take_row eq v X
-  step X (TakeAll v) = take_all_row eq v X
-  step X (EntrySet v n) = entry_set_row eq v n X
-  step X (EntryOr v q) = entry_or_row eq v q X
-  step X (Retain list) = retain_row eq list.items X
-  step X Clear = clear_row eq X
-  step X (Count v) = count_row eq v X
-  step X (Reserve n) = reserve_row eq n X
-  step X ShrinkToFit = shrink_to_fit_row eq X
+  -- the list that a step leaves of X, in a bag with the limit `most`, and its reply
+  abbrev pub step : ℕ → List T → Step T → List T × Reply T
+  step most X (Insert v) = insert_row eq most v 1 X
+  step most X (InsertMany v n) = insert_row eq most v n X
+  step most X (Replace v) = replace_row eq most v X
+  step most X (Remove v) = remove_row eq v X
+  step most X (RemoveUpTo v q) = remove_up_to_row eq v q X
+  step most X (TryTake v) = try_take_row eq v X
+  step most X (TakeAll v) = take_all_row eq v X
+  step most X (EntrySet v n) = entry_set_row eq most v n X
+  step most X (EntryOr v q) = entry_or_row eq most v q X
+  step most X (Retain list) = retain_row eq list.items X
+  step most X Clear = clear_row eq X
+  step most X (Count v) = count_row eq v X
+  step most X (Reserve n) = reserve_row eq n X
+  step most X ShrinkToFit = shrink_to_fit_row eq X
+  step most X (Limit n) = limit_row eq n X
 
-  -- the list that the steps leave, applied in order to X, and their replies
-  unfoldable pub run : List T → List (Step T) → List T × List (Reply T)
-  run X [] = (X, [])
-  run X (s ∷ steps) =
-      let one = step X s in
-      let rest = run one.0 steps in
+  -- the limit that a step leaves: n where `Limit n` isn't below the total, else as it was
+  abbrev pub limit_after : ℕ → List T → Step T → ℕ
+  limit_after most X (Insert v) = most
+  limit_after most X (InsertMany v n) = most
+  limit_after most X (Replace v) = most
+  limit_after most X (Remove v) = most
+  limit_after most X (RemoveUpTo v q) = most
+  limit_after most X (TryTake v) = most
+  limit_after most X (TakeAll v) = most
+  limit_after most X (EntrySet v n) = most
+  limit_after most X (EntryOr v q) = most
+  limit_after most X (Retain list) = most
+  limit_after most X Clear = most
+  limit_after most X (Count v) = most
+  limit_after most X (Reserve n) = most
+  limit_after most X ShrinkToFit = most
+  limit_after most X (Limit n) = if nat_lt n (length X) then most else n
+
+  -- the list that the steps leave, applied in order to X, in a bag with the limit `most`, and their replies
+  unfoldable pub run : ℕ → List T → List (Step T) → List T × List (Reply T)
+  run most X [] = (X, [])
+  run most X (s ∷ steps) =
+      let one = step most X s in
+      let rest = run (limit_after most X s) one.0 steps in
       (rest.0, one.1 ∷ rest.1)
 
-  -- what the steps leave of an empty list, and what they reply on it
+  -- the limit that they leave
+  unfoldable pub limit_left : ℕ → List T → List (Step T) → ℕ
+  limit_left most X [] = most
+  limit_left most X (s ∷ steps) = limit_left (limit_after most X s) (step most X s).0 steps
+
+  -- what the steps leave of an empty list, in a bag for which no limit is set, and what they reply on it
   abbrev pub left_by : Steps T → List T
-  left_by steps = (run [] steps).0
+  left_by steps = (run greatest_total [] steps).0
 
   abbrev pub replies_to : Steps T → List (Reply T)
-  replies_to steps = (run [] steps).1
+  replies_to steps = (run greatest_total [] steps).1
 
   -- the greatest number of distinct values in any list that the run passes through, X included
-  unfoldable pub peak : List T → List (Step T) → ℕ
-  peak X [] = distinct_count eq X
-  peak X (s ∷ steps) = max (distinct_count eq X) (peak (step X s).0 steps)
+  unfoldable pub peak : ℕ → List T → List (Step T) → ℕ
+  peak most X [] = distinct_count eq X
+  peak most X (s ∷ steps) = max (distinct_count eq X) (peak (limit_after most X s) (step most X s).0 steps)
 
   -- whether some value occurs in Y that doesn't occur in X
   abbrev pub has_newcomer : List T → List T → Bool
@@ -82,48 +136,57 @@ module _ {T : Type 0} (eq : T → T → Bool) where
   newcomers X Y = if has_newcomer X Y then 1 else 0
 
   -- the number of steps of the run that bring in a value which didn't occur before them
-  unfoldable pub arrivals : List T → List (Step T) → ℕ
-  arrivals X [] = 0
-  arrivals X (s ∷ steps) =
-      let Y = (step X s).0 in
-      newcomers X Y + arrivals Y steps
+  unfoldable pub arrivals : ℕ → List T → List (Step T) → ℕ
+  arrivals most X [] = 0
+  arrivals most X (s ∷ steps) =
+      let Y = (step most X s).0 in
+      newcomers X Y + arrivals (limit_after most X s) Y steps
 
   -- no step is about room, and the tables have room for all values that the run brings in
-  pub record IsRoomy (X : List T) (steps : List (Step T)) (tables : Tables T) : Type 0 where
+  pub record IsRoomy (most : ℕ) (X : List T) (steps : List (Step T)) (tables : Tables T) : Type 0 where
     pub calls : list_any is_about_room steps ≡ false
-    pub enough : arrivals X steps ≤ room tables
+    pub enough : arrivals most X steps ≤ room tables
+
+  -- What a run from no slots leaves. With no `Reserve` the slots are bounded by the most distinct values that there were. The older
+  -- table is smaller than the newer one. With no `ShrinkToFit` either, the values that came pay for the slots of all tables made.
+  pub record IsBounded (most : ℕ) (steps : List (Step T)) (old new : Tables T) : Type 0 where
+    pub slots : list_any is_reserve steps ≡ false → 3 * length new.newer ≤ max 48 (16 * peak most [] steps)
+    pub smaller : 0 < length new.waiting → length new.waiting + 16 ≤ length new.newer
+    pub built : list_any is_about_room steps ≡ false → (b : ℕ) × (new.built ≡ old.built + b) × (3 * b ≤ 48 + 16 * arrivals most [] steps)
 
   -- some occurrences of a value that is absent, with a total that fits
-  pub record IsRefusedInsertion (v : T) (n : ℕ) (X : List T) : Type 0 where
+  pub record IsRefusedInsertion (most : ℕ) (v : T) (n : ℕ) (X : List T) : Type 0 where
     pub absent : count eq v X ≡ 0
     pub some : 0 < n
-    pub fits : length X + n ≤ greatest_total
+    pub fits : length X + n ≤ most
 
   -- a step that may be refused for memory: such an insertion, or a replacement that is one, and what asks for room
-  abbrev pub AsksForMemory : List T → Step T → Type 0
-  AsksForMemory X (Insert v) = IsRefusedInsertion v 1 X
-  AsksForMemory X (InsertMany v n) = IsRefusedInsertion v n X
-  AsksForMemory X (Replace v) = IsRefusedInsertion v 1 X
-  AsksForMemory X (Remove v) = ⊥
-  AsksForMemory X (RemoveUpTo v q) = ⊥
-  AsksForMemory X (TryTake v) = ⊥
-  AsksForMemory X (TakeAll v) = ⊥
-  AsksForMemory X (EntrySet v n) = ⊥
-  AsksForMemory X (EntryOr v q) = IsRefusedInsertion v q X
-  AsksForMemory X (Retain list) = ⊥
-  AsksForMemory X Clear = ⊥
-  AsksForMemory X (Count v) = ⊥
-  AsksForMemory X (Reserve n) = Unit {0}
-  AsksForMemory X ShrinkToFit = Unit {0}
+  abbrev pub AsksForMemory : ℕ → List T → Step T → Type 0
+  AsksForMemory most X (Insert v) = IsRefusedInsertion most v 1 X
+  AsksForMemory most X (InsertMany v n) = IsRefusedInsertion most v n X
+  AsksForMemory most X (Replace v) = IsRefusedInsertion most v 1 X
+  AsksForMemory most X (Remove v) = ⊥
+  AsksForMemory most X (RemoveUpTo v q) = ⊥
+  AsksForMemory most X (TryTake v) = ⊥
+  AsksForMemory most X (TakeAll v) = ⊥
+  AsksForMemory most X (EntrySet v n) = ⊥
+  AsksForMemory most X (EntryOr v q) = IsRefusedInsertion most v q X
+  AsksForMemory most X (Retain list) = ⊥
+  AsksForMemory most X Clear = ⊥
+  AsksForMemory most X (Count v) = ⊥
+  AsksForMemory most X (Reserve n) = Unit {0}
+  AsksForMemory most X ShrinkToFit = Unit {0}
+  AsksForMemory most X (Limit n) = ⊥
 
   -- a run that memory stopped: the steps that have replies are the run, the bag means what they left, and the next step
   -- asked for memory, which a value asks for only where there is no room
-  pub record IsStopped {S : Type 0} (X : List T) (steps : List (Step T)) (before after : List (Reply T)) (bag : Bag T S) : Type 0 where
+  pub record IsStopped {S : Type 0} (most : ℕ) (X : List T) (steps : List (Step T)) (before after : List (Reply T)) (bag : Bag T S) : Type 0 where
     pub done : List (Step T)
     pub stopped_at : Step T
     pub dropped : List (Step T)
     pub parts : steps ≡ done ++ stopped_at ∷ dropped
-    pub replies : after ≡ before ++ (run X done).1
-    pub means : Means bag (run X done).0
-    pub refused : AsksForMemory (run X done).0 stopped_at
+    pub replies : after ≡ before ++ (run most X done).1
+    pub means : Means bag (run most X done).0
+    pub limit : bag.most ≡ limit_left most X done
+    pub refused : AsksForMemory (limit_left most X done) (run most X done).0 stopped_at
     pub full : is_about_room stopped_at ≡ false → room bag.tables ≡ 0

@@ -1,10 +1,11 @@
 //! Whole runs of steps on a bag.
-ghost use Rattle.std.specs.Prelude.{◌≡◌, ◌+◌, ◌-◌, ◌<◌, ◌≤◌, ◌++◌, ◌⊎◌, List, false, length, vec_len, vec_capacity, IsOk, IfOk, OnOk, OnErr};
-ghost use Rattle.hashbag_core.specs.Bag.{Means, IsBagOf};
-ghost use Rattle.hashbag_core.specs.Occurrences.{greatest_total, count, IsBag};
-ghost use Rattle.hashbag_script.specs.Rows.{insert_row, replace_row, try_take_row, take_all_row, entry_set_row, entry_or_row, retain_row, quota as quota_of};
-ghost use Rattle.hashbag_table.specs.Tables.{room};
-ghost use Rattle.hashbag_script.specs.Script.{step as step_of, run as run_of, newcomers, is_about_room, KeepsRoom, IsRoomy, IsRefusedInsertion, AsksForMemory, IsStopped};
+ghost use Rattle.std.specs.Prelude.{◌≡◌, ◌+◌, ◌-◌, ◌<◌, ◌≤◌, ◌++◌, ◌⊎◌, List, [], true, false, length, take, vec_len, vec_capacity, IsOk, IfOk, OnOk, OnErr};
+ghost use Rattle.hashbag_core.specs.Bag.{Means, IsBagOf, limited};
+ghost use Rattle.hashbag_core.specs.Occurrences.{count, distinct_count, IsBag};
+ghost use Rattle.hashbag_script.specs.Rows.{insert_row, replace_row, try_take_row, take_all_row, entry_set_row, entry_or_row, retain_row, limit_row, quota as quota_of};
+ghost use Rattle.hashbag_table.specs.Tables.{limit, room, values};
+ghost use Rattle.hashbag_table.specs.Slots.{IsSlotCount};
+ghost use Rattle.hashbag_script.specs.Script.{step as step_of, run as run_of, newcomers, is_about_room, is_reserve, KeepsRoom, Moves, IsRoomy, IsBounded, IsRefusedInsertion, AsksForMemory, IsStopped, limit_after, limit_left};
 ghost use Rattle.std.specs.Prelude.{map};
 ghost use Rattle.hashbag_core.specs.Joins.{IsOuterJoin, IsDifference, IsNotIn, IsSignedDifference};
 ghost use Rattle.hashbag_core.specs.JoinsLeft.{exceeding, subtracted, unmatched};
@@ -18,11 +19,11 @@ use std::hash::{BuildHasher, Hash};
 /// A call on a bag.
 #[derive(Debug, PartialEq, Eq, Drop)]
 pub enum Step<T> {
-    /// [`HashBag::insert`], or `TooMany` where the total would pass `usize::MAX`.
+    /// [`HashBag::insert`], or `TooMany` where the total would pass the limit.
     Insert(T),
-    /// [`HashBag::insert_many`], or `TooMany` where the total would pass `usize::MAX`.
+    /// [`HashBag::insert_many`], or `TooMany` where the total would pass the limit.
     InsertMany(T, usize),
-    /// [`HashBag::replace`], or `TooMany` where the total would pass `usize::MAX`.
+    /// [`HashBag::replace`], or `TooMany` where the total would pass the limit.
     Replace(T),
     /// [`HashBag::remove`].
     Remove(T),
@@ -33,9 +34,9 @@ pub enum Step<T> {
     /// [`HashBag::take_all`].
     TakeAll(T),
     /// [`HashBag::entry`] with `and_modify` that sets the count: `Absent` where the value isn't there, `TooMany` where the total
-    /// would pass `usize::MAX`.
+    /// would pass the limit.
     EntrySet(T, usize),
-    /// [`HashBag::entry`] with `or_insert_many`, or `TooMany` where the total would pass `usize::MAX`.
+    /// [`HashBag::entry`] with `or_insert_many`, or `TooMany` where the total would pass the limit.
     EntryOr(T, usize),
     /// [`HashBag::retain`]: a value keeps at most as many as the number beside the first value of the list that is equal to it, and
     /// goes where there is none.
@@ -48,6 +49,8 @@ pub enum Step<T> {
     Reserve(usize),
     /// [`HashBag::shrink_to_fit`].
     ShrinkToFit,
+    /// [`HashBag::set_limit`]: `Done`, or `BelowTotal` where that is below the total.
+    Limit(usize),
 }
 
 /// What a step answers.
@@ -63,54 +66,73 @@ pub enum Reply<T> {
     Absent,
     /// The call answers nothing.
     Done,
-    /// The total would have passed `usize::MAX`, and nothing changed.
+    /// The total would have passed the limit, and nothing changed.
     TooMany,
+    /// The limit would have been below the total, and nothing changed.
+    BelowTotal,
 }
 
 // Tells the proof what every bag keeps: its total fits, and equal items are one instance. It does nothing else.
 fn recall_what_bags_keep<T: Eq + Hash + Drop, S: BuildHasher + Drop>(bag: &HashBag<T, S>)
-    ensures { IsBag T.eq bag.now.items }
+    ensures { IsBag T.eq bag.now.most bag.now.items }
 {
     let _ = bag.len();
 }
 
-// Adds occurrences if the total can have them.
-fn insert_if_it_fits<T: Eq + Hash + Drop, S: BuildHasher + Drop>(
+// Tells the proof what every bag keeps of its tables. It does nothing else.
+fn recall_what_tables_keep<T: Eq + Hash + Drop, S: BuildHasher + Drop>(bag: &HashBag<T, S>)
+    ensures count { IsSlotCount (length bag.now.tables.newer) }
+    ensures values { values bag.now.tables ≡ distinct_count T.eq bag.now.items }
+    ensures fits { values bag.now.tables ≤ limit (length bag.now.tables.newer) }
+    ensures smaller { 0 < length bag.now.tables.waiting → length bag.now.tables.waiting + 16 ≤ length bag.now.tables.newer }
+{
+    let _slots = bag.slots();
+    let _waiting = bag.waiting();
+}
+
+// Adds occurrences, if the bag can have them.
+fn insert<T: Eq + Hash + Drop, S: BuildHasher + Drop>(
     bag: &mut HashBag<T, S>,
     value: T,
     n: usize,
 ) -> Result<Reply<T>, BagError>
-    ensures reply { IfOk result (λ reply. reply ≡ (insert_row T.eq value n bag.old.items).1) }
-    ensures left { OnOk result (IsBagOf T.eq bag.old (insert_row T.eq value n bag.old.items).0 bag.new) }
+    ensures reply { IfOk result (λ reply. reply ≡ (insert_row T.eq bag.old.most value n bag.old.items).1) }
+    ensures left { OnOk result (IsBagOf T.eq bag.old (insert_row T.eq bag.old.most value n bag.old.items).0 bag.new) }
     ensures memory { OnErr result (result ≡ Err BagError.Memory) }
-    ensures refused { OnErr result (IsRefusedInsertion T.eq value n bag.old.items) }
+    ensures refused { OnErr result (IsRefusedInsertion T.eq bag.old.most value n bag.old.items) }
     ensures err { OnErr result (bag.new ≡ bag.old) }
-    ensures takes { newcomers T.eq bag.old.items (insert_row T.eq value n bag.old.items).0 ≤ room bag.old.tables → IsOk result }
-    ensures room { OnOk result (newcomers T.eq bag.old.items (insert_row T.eq value n bag.old.items).0 ≤ room bag.old.tables → KeepsRoom (newcomers T.eq bag.old.items (insert_row T.eq value n bag.old.items).0) bag.old.tables bag.new.tables) }
+    ensures takes { newcomers T.eq bag.old.items (insert_row T.eq bag.old.most value n bag.old.items).0 ≤ room bag.old.tables → IsOk result }
+    ensures room { OnOk result (Moves (newcomers T.eq bag.old.items (insert_row T.eq bag.old.most value n bag.old.items).0) bag.old.tables bag.new.tables) }
 {
-    if n > usize::MAX - bag.len() {
-        return Ok(Reply::TooMany);
+    recall_what_bags_keep(bag);
+    match bag.insert_many(value, n) {
+        Ok(before) => Ok(Reply::Count(before)),
+        Err(BagError::TooMany) => Ok(Reply::TooMany),
+        Err(BagError::Memory) => Err(BagError::Memory),
+        Err(BagError::BelowTotal) => Ok(Reply::BelowTotal),
     }
-    Ok(Reply::Count(bag.insert_many(value, n)?))
 }
 
 // Replaces a value if the total can have it.
-fn replace_if_it_fits<T: Eq + Hash + Drop, S: BuildHasher + Drop>(
+fn replace<T: Eq + Hash + Drop, S: BuildHasher + Drop>(
     bag: &mut HashBag<T, S>,
     value: T,
 ) -> Result<Reply<T>, BagError>
-    ensures reply { IfOk result (λ reply. reply ≡ (replace_row T.eq value bag.old.items).1) }
-    ensures left { OnOk result (IsBagOf T.eq bag.old (replace_row T.eq value bag.old.items).0 bag.new) }
+    ensures reply { IfOk result (λ reply. reply ≡ (replace_row T.eq bag.old.most value bag.old.items).1) }
+    ensures left { OnOk result (IsBagOf T.eq bag.old (replace_row T.eq bag.old.most value bag.old.items).0 bag.new) }
     ensures memory { OnErr result (result ≡ Err BagError.Memory) }
-    ensures refused { OnErr result (IsRefusedInsertion T.eq value 1 bag.old.items) }
+    ensures refused { OnErr result (IsRefusedInsertion T.eq bag.old.most value 1 bag.old.items) }
     ensures err { OnErr result (bag.new ≡ bag.old) }
-    ensures takes { newcomers T.eq bag.old.items (replace_row T.eq value bag.old.items).0 ≤ room bag.old.tables → IsOk result }
-    ensures room { OnOk result (newcomers T.eq bag.old.items (replace_row T.eq value bag.old.items).0 ≤ room bag.old.tables → KeepsRoom (newcomers T.eq bag.old.items (replace_row T.eq value bag.old.items).0) bag.old.tables bag.new.tables) }
+    ensures takes { newcomers T.eq bag.old.items (replace_row T.eq bag.old.most value bag.old.items).0 ≤ room bag.old.tables → IsOk result }
+    ensures room { OnOk result (Moves (newcomers T.eq bag.old.items (replace_row T.eq bag.old.most value bag.old.items).0) bag.old.tables bag.new.tables) }
 {
-    if bag.len() == usize::MAX && bag.contains(&value) == 0 {
-        return Ok(Reply::TooMany);
+    recall_what_bags_keep(bag);
+    match bag.replace(value) {
+        Ok(before) => Ok(Reply::Count(before)),
+        Err(BagError::TooMany) => Ok(Reply::TooMany),
+        Err(BagError::Memory) => Err(BagError::Memory),
+        Err(BagError::BelowTotal) => Ok(Reply::BelowTotal),
     }
-    Ok(Reply::Count(bag.replace(value)?))
 }
 
 // Takes one occurrence, and answers it where it was the last.
@@ -150,8 +172,8 @@ fn entry_set<T: Eq + Hash + Drop, S: BuildHasher + Drop>(
     value: T,
     n: usize,
 ) -> Reply<T>
-    ensures reply { result ≡ (entry_set_row T.eq value n bag.old.items).1 }
-    ensures left { IsBagOf T.eq bag.old (entry_set_row T.eq value n bag.old.items).0 bag.new }
+    ensures reply { result ≡ (entry_set_row T.eq bag.old.most value n bag.old.items).1 }
+    ensures left { IsBagOf T.eq bag.old (entry_set_row T.eq bag.old.most value n bag.old.items).0 bag.new }
     ensures room { KeepsRoom 0 bag.old.tables bag.new.tables }
 {
     if bag.contains(&value) == 0 {
@@ -177,19 +199,20 @@ fn entry_or<T: Eq + Hash + Drop, S: BuildHasher + Drop>(
     value: T,
     quantity: usize,
 ) -> Result<Reply<T>, BagError>
-    ensures reply { IfOk result (λ reply. reply ≡ (entry_or_row T.eq value quantity bag.old.items).1) }
-    ensures left { OnOk result (IsBagOf T.eq bag.old (entry_or_row T.eq value quantity bag.old.items).0 bag.new) }
+    ensures reply { IfOk result (λ reply. reply ≡ (entry_or_row T.eq bag.old.most value quantity bag.old.items).1) }
+    ensures left { OnOk result (IsBagOf T.eq bag.old (entry_or_row T.eq bag.old.most value quantity bag.old.items).0 bag.new) }
     ensures memory { OnErr result (result ≡ Err BagError.Memory) }
-    ensures refused { OnErr result (IsRefusedInsertion T.eq value quantity bag.old.items) }
+    ensures refused { OnErr result (IsRefusedInsertion T.eq bag.old.most value quantity bag.old.items) }
     ensures err { OnErr result (bag.new ≡ bag.old) }
-    ensures takes { newcomers T.eq bag.old.items (entry_or_row T.eq value quantity bag.old.items).0 ≤ room bag.old.tables → IsOk result }
-    ensures room { OnOk result (newcomers T.eq bag.old.items (entry_or_row T.eq value quantity bag.old.items).0 ≤ room bag.old.tables → KeepsRoom (newcomers T.eq bag.old.items (entry_or_row T.eq value quantity bag.old.items).0) bag.old.tables bag.new.tables) }
+    ensures takes { newcomers T.eq bag.old.items (entry_or_row T.eq bag.old.most value quantity bag.old.items).0 ≤ room bag.old.tables → IsOk result }
+    ensures room { OnOk result (Moves (newcomers T.eq bag.old.items (entry_or_row T.eq bag.old.most value quantity bag.old.items).0) bag.old.tables bag.new.tables) }
 {
     recall_what_bags_keep(bag);
     match bag.entry(value).or_insert_many(quantity) {
         Ok(count) => Ok(Reply::Count(count)),
         Err(BagError::TooMany) => Ok(Reply::TooMany),
         Err(BagError::Memory) => Err(BagError::Memory),
+        Err(BagError::BelowTotal) => Ok(Reply::BelowTotal),
     }
 }
 
@@ -217,29 +240,47 @@ fn retain<T: Eq + Hash + Drop, S: BuildHasher + Drop>(bag: &mut HashBag<T, S>, l
     );
 }
 
+// Sets the limit, if the total is within it.
+fn set_limit<T: Eq + Hash + Drop, S: BuildHasher + Drop>(
+    bag: &mut HashBag<T, S>,
+    most: usize,
+) -> Reply<T>
+    ensures reply { result ≡ (limit_row T.eq most bag.old.items).1 }
+    ensures left { bag.new ≡ limited (limit_after T.eq bag.old.most bag.old.items (Step.Limit most)) bag.old }
+{
+    match bag.set_limit(most) {
+        Ok(()) => Reply::Done,
+        Err(_) => Reply::BelowTotal,
+    }
+}
+
 // Does one step, and answers it.
 fn apply<T: Eq + Hash + Drop, S: BuildHasher + Drop>(
     bag: &mut HashBag<T, S>,
     step: Step<T>,
 ) -> Result<Reply<T>, BagError>
-    ensures reply { IfOk result (λ reply. reply ≡ (step_of T.eq bag.old.items step).1) }
-    ensures left { OnOk result (IsBagOf T.eq bag.old (step_of T.eq bag.old.items step).0 bag.new) }
-    ensures bag { IsBag T.eq bag.old.items }
+    ensures reply { IfOk result (λ reply. reply ≡ (step_of T.eq bag.old.most bag.old.items step).1) }
+    ensures left { OnOk result (Means bag.new (step_of T.eq bag.old.most bag.old.items step).0) }
+    ensures limit { OnOk result (bag.new.most ≡ limit_after T.eq bag.old.most bag.old.items step) }
+    ensures hasher { OnOk result (bag.new.hasher ≡ bag.old.hasher) }
+    ensures bag { IsBag T.eq bag.old.most bag.old.items }
 
     // Only memory can be refused, and only to a step that asks for it.
     ensures memory { OnErr result (result ≡ Err BagError.Memory) }
-    ensures refused { OnErr result (AsksForMemory T.eq bag.old.items step) }
+    ensures refused { OnErr result (AsksForMemory T.eq bag.old.most bag.old.items step) }
     ensures err { OnErr result (bag.new ≡ bag.old) }
 
-    // A step that isn't about room keeps it but for the value that it brings in.
-    ensures takes { is_about_room step ≡ false → newcomers T.eq bag.old.items (step_of T.eq bag.old.items step).0 ≤ room bag.old.tables → IsOk result }
-    ensures room { OnOk result (is_about_room step ≡ false → newcomers T.eq bag.old.items (step_of T.eq bag.old.items step).0 ≤ room bag.old.tables → KeepsRoom (newcomers T.eq bag.old.items (step_of T.eq bag.old.items step).0) bag.old.tables bag.new.tables) }
+    // A step that isn't about room keeps it but for the value that it brings in, for which a new table is made where there is none.
+    // Only one that asks for room makes a larger table for other reasons.
+    ensures takes { is_about_room step ≡ false → newcomers T.eq bag.old.items (step_of T.eq bag.old.most bag.old.items step).0 ≤ room bag.old.tables → IsOk result }
+    ensures room { OnOk result (is_about_room step ≡ false → Moves (newcomers T.eq bag.old.items (step_of T.eq bag.old.most bag.old.items step).0) bag.old.tables bag.new.tables) }
+    ensures fewer { OnOk result (is_about_room step ≡ true → is_reserve step ≡ false → length bag.new.tables.newer ≤ length bag.old.tables.newer) }
 {
     recall_what_bags_keep(bag);
     match step {
-        Step::Insert(value) => insert_if_it_fits(bag, value, 1),
-        Step::InsertMany(value, n) => insert_if_it_fits(bag, value, n),
-        Step::Replace(value) => replace_if_it_fits(bag, value),
+        Step::Insert(value) => insert(bag, value, 1),
+        Step::InsertMany(value, n) => insert(bag, value, n),
+        Step::Replace(value) => replace(bag, value),
         Step::Remove(value) => Ok(Reply::Count(bag.remove(&value))),
         Step::RemoveUpTo(value, quantity) => Ok(Reply::Count(bag.remove_up_to(&value, quantity))),
         Step::TryTake(value) => Ok(try_take(bag, &value)),
@@ -263,6 +304,7 @@ fn apply<T: Eq + Hash + Drop, S: BuildHasher + Drop>(
             bag.shrink_to_fit()?;
             Ok(Reply::Done)
         }
+        Step::Limit(most) => Ok(set_limit(bag, most)),
     }
 }
 
@@ -279,24 +321,31 @@ pub fn run<T: Eq + Hash + Drop, S: BuildHasher + Drop>(
 ) -> Result<(), BagError>
     // Each step replies as the plain list of occurrences replies, whichever list the bag means, and the bag then means
     // what that list has become.
-    ensures replies { OnOk result ((X : List T) → Means bag.old X → replies.new.items ≡ replies.old.items ++ (run_of T.eq X steps.items).1) }
-    ensures means { OnOk result ((X : List T) → Means bag.old X → Means bag.new (run_of T.eq X steps.items).0) }
+    ensures replies { OnOk result ((X : List T) → Means bag.old X → replies.new.items ≡ replies.old.items ++ (run_of T.eq bag.old.most X steps.items).1) }
+    ensures means { OnOk result ((X : List T) → Means bag.old X → Means bag.new (run_of T.eq bag.old.most X steps.items).0) }
+    ensures limit { OnOk result ((X : List T) → Means bag.old X → bag.new.most ≡ limit_left T.eq bag.old.most X steps.items) }
     ensures hasher { bag.new.hasher ≡ bag.old.hasher }
 
     // Only memory stops a run: either nothing was done, since there was no room for the replies, or the steps that have
     // replies are the run.
     ensures memory { OnErr result (result ≡ Err BagError.Memory) }
-    ensures stopped { OnErr result (((vec_capacity replies.old < vec_len replies.old + vec_len steps) × (bag.new ≡ bag.old) × (replies.new.items ≡ replies.old.items)) ⊎ ((X : List T) → Means bag.old X → IsStopped T.eq X steps.items replies.old.items replies.new.items bag.new)) }
+    ensures stopped { OnErr result (((vec_capacity replies.old < vec_len replies.old + vec_len steps) × (bag.new ≡ bag.old) × (replies.new.items ≡ replies.old.items)) ⊎ ((X : List T) → Means bag.old X → IsStopped T.eq bag.old.most X steps.items replies.old.items replies.new.items bag.new)) }
 
     // Where the tables have room for all values that it brings in, and no step is about room, a run keeps its slots, and nothing
     // but the room for the replies can be refused.
-    ensures slots { (X : List T) → Means bag.old X → IsRoomy T.eq X steps.items bag.old.tables → length bag.new.tables.newer ≡ length bag.old.tables.newer }
-    ensures takes { (X : List T) → Means bag.old X → IsRoomy T.eq X steps.items bag.old.tables → OnErr result ((vec_capacity replies.old < vec_len replies.old + vec_len steps) × (bag.new ≡ bag.old) × (replies.new.items ≡ replies.old.items)) }
+    ensures slots { (X : List T) → Means bag.old X → IsRoomy T.eq bag.old.most X steps.items bag.old.tables → length bag.new.tables.newer ≡ length bag.old.tables.newer }
+    ensures takes { (X : List T) → Means bag.old X → IsRoomy T.eq bag.old.most X steps.items bag.old.tables → OnErr result ((vec_capacity replies.old < vec_len replies.old + vec_len steps) × (bag.new ≡ bag.old) × (replies.new.items ≡ replies.old.items)) }
+
+    // What the steps that have replies leave of an empty bag with no slots, whether or not the run was stopped: as many slots as their
+    // most distinct values need, and as many built as the values that came pay for.
+    ensures bounded { bag.old.items ≡ [] → bag.old.tables.newer ≡ [] → IsBounded T.eq bag.old.most (take (length replies.new.items - length replies.old.items) steps.items) bag.old.tables bag.new.tables }
 {
+    recall_what_tables_keep(bag);
     replies.reserve(steps.len())?;
     for step in steps {
         let reply = apply(bag, step)?;
         replies.push_reserved(reply);
+        recall_what_tables_keep(bag);
     }
     Ok(())
 }
@@ -328,9 +377,9 @@ pub fn run_pair<T: Eq + Hash + Drop, S: BuildHasher + Drop, S2: BuildHasher + Dr
 
     // Where the tables have room for all values that come, each run keeps its slots, and nothing but the room for the replies can be
     // refused.
-    ensures first_slots { (X : List T) → Means a.old X → IsRoomy T.eq X steps_a.items a.old.tables → length a.new.tables.newer ≡ length a.old.tables.newer }
-    ensures second_slots { (Y : List T) → Means b.old Y → IsRoomy T.eq Y steps_b.items b.old.tables → length b.new.tables.newer ≡ length b.old.tables.newer }
-    ensures takes { (X Y : List T) → Means a.old X → Means b.old Y → IsRoomy T.eq X steps_a.items a.old.tables → IsRoomy T.eq Y steps_b.items b.old.tables → OnErr result (HasNoRoom replies_a.old steps_a ⊎ HasNoRoom replies_b.old steps_b) }
+    ensures first_slots { (X : List T) → Means a.old X → IsRoomy T.eq a.old.most X steps_a.items a.old.tables → length a.new.tables.newer ≡ length a.old.tables.newer }
+    ensures second_slots { (Y : List T) → Means b.old Y → IsRoomy T.eq b.old.most Y steps_b.items b.old.tables → length b.new.tables.newer ≡ length b.old.tables.newer }
+    ensures takes { (X Y : List T) → Means a.old X → Means b.old Y → IsRoomy T.eq a.old.most X steps_a.items a.old.tables → IsRoomy T.eq b.old.most Y steps_b.items b.old.tables → OnErr result (HasNoRoom replies_a.old steps_a ⊎ HasNoRoom replies_b.old steps_b) }
 {
     replies_a.reserve(steps_a.len())?;
     replies_b.reserve(steps_b.len())?;

@@ -412,19 +412,21 @@ ready_alone t alone some = record {
   grown = λ none. absurd (omega (arith, none, some));
   some = some;
   carries = let l = ap length alone in omega arith;
+  built = record { kept = λ pos. refl; grown = λ none. absurd (omega (arith, none, some)) };
 }
 
 module _ {T : Type 0} (old mid new : Tables T) where
-  pub ready_grown : room old ≡ 0 → Carried 16 (fresh old) old.newer new.newer new.waiting → old.waiting ≡ [] → 0 < room new → length new.waiting ≤ 16 * (room new - 1) → IsReady old new
-  ready_grown full carried alone some carries = record {
+  pub ready_grown : room old ≡ 0 → Carried 16 (fresh old) old.newer new.newer new.waiting → old.waiting ≡ [] → 0 < room new → length new.waiting ≤ 16 * (room new - 1) → new.built ≡ old.built + length new.newer → IsReady old new
+  ready_grown full carried alone some carries built = record {
     kept = λ pos. absurd (omega (arith, pos, full));
     grown = λ none. (carried, alone);
     some = some;
     carries = carries;
+    built = record { kept = λ pos. absurd (omega (arith, pos, full)); grown = λ none. built };
   }
 
-  pub arrives_from : (v : T) (n : ℕ) → IsReady old mid → Places v n mid.newer new.newer → new.waiting ≡ mid.waiting → Arrives old new
-  arrives_from v n ready put same =
+  pub arrives_from : (v : T) (n : ℕ) → IsReady old mid → Places v n mid.newer new.newer → new.waiting ≡ mid.waiting → new.built ≡ mid.built → Arrives old new
+  arrives_from v n ready put same built =
       let live = live-Places v n mid.newer new.newer put in
       let fewer = removed-Places v n mid.newer new.newer put in
       let len = length-Places v n mid.newer new.newer put in
@@ -444,4 +446,5 @@ module _ {T : Type 0} (old mid new : Tables T) where
             let x = live_empty T (grown_slots (length old.newer) (values old)) in
             let y = removed_empty T (grown_slots (length old.newer) (values old)) in
             omega (arith, e, a, b, x, y, live, fewer, limits, waits);
+        built = record { kept = λ pos. built ∙ ready.built.kept pos; grown = λ none. built ∙ ready.built.grown none ∙ ap (λ k. old.built + k) (sym len) };
       }

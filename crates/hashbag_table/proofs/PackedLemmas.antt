@@ -48,8 +48,8 @@ module _ {T : Type 0} where
   fresh_length ss n e = e ∙ ap (λ m. replicate m Empty) (sym (ap length e ∙ length-replicate n Empty))
 
   -- a table of Empty slots
-  pub packed_fresh : (newer waiting : List (Slot T)) (n : ℕ) → newer ≡ replicate n Empty → waiting ≡ [] → IsPacked (record { newer = newer; waiting = waiting })
-  packed_fresh newer waiting n empty none =
+  pub packed_fresh : (newer waiting : List (Slot T)) (n built : ℕ) → newer ≡ replicate n Empty → waiting ≡ [] → IsPacked (record { newer = newer; waiting = waiting; built = built })
+  packed_fresh newer waiting n built empty none =
       let r = removed_fresh newer (fresh_length newer n empty) in
       record { waiting = none; room = omega (arith, r) }
 
@@ -59,6 +59,7 @@ module _ {T : Type 0} where
     pub waiting : t.waiting ≡ []
     pub removed : removed_count t.newer ≡ 0
     pub room : limit (length first.newer) ≤ room t + k
+    pub built : t.built ≡ first.built
 
   pub filled_first : (t : Tables T) → t.newer ≡ replicate (length t.newer) Empty → IsPacked t → IsFilled t t 0
   filled_first t empty packed = record {
@@ -66,6 +67,7 @@ module _ {T : Type 0} where
     waiting = packed.waiting;
     removed = removed_fresh t.newer empty;
     room = let a = live_fresh t.newer empty in let b = removed_fresh t.newer empty in let w : live_count t.waiting ≡ 0 = ap live_count packed.waiting in omega (arith, a, b, w);
+    built = refl;
   }
 
   -- while fewer came than its limit, there is room for another
@@ -79,6 +81,7 @@ module _ {T : Type 0} where
         waiting = kept.waits ∙ ap (drop 16) before.waiting;
         removed = let z = before.removed in omega (arith, z, fewer);
         room = let r = before.room in let s = came.room_kept some in omega (arith, r, s);
+        built = came.built.kept some ∙ before.built;
       }
 
   pub filled_packed : (t first : Tables T) (k : ℕ) → IsFilled t first k → IsPacked t

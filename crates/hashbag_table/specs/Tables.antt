@@ -9,10 +9,12 @@ use Rattle.hashbag_table.specs.declared.table.Spot.{Spot}
 use Rattle.hashbag_table.specs.declared.table.Spot.TheVariants.{Newer, Waiting}
 use Rattle.hashbag_table.specs.Entries.{IsCounted}
 
--- the slots of the newer table in place order, and those of the older one that wait to be carried
+-- the slots of the newer table in place order, those of the older one that wait to be carried, and how many slots all tables
+-- had that were the newer one
 pub record Tables (T : Type 0) : Type 0 where
   pub newer : List (Slot T)
   pub waiting : List (Slot T)
+  pub built : ℕ
 
 -- how many of n slots may be Live or Removed before a table grows
 abbrev pub limit : ℕ → ℕ
@@ -117,22 +119,29 @@ module _ {T : Type 0} where
   abbrev pub fresh : Tables T → List (Slot T)
   fresh t = replicate (grown_slots (length t.newer) (values t)) Empty
 
+  -- where there was room no table was built, and where there was none the one that is the newer now
+  pub record Builds (old new : Tables T) : Type 0 where
+    pub kept : 0 < room old → new.built ≡ old.built
+    pub grown : room old ≡ 0 → new.built ≡ old.built + length new.newer
+
   -- what an absent value finds in the place of the tables that were: carried as far as it carries, and with room
   pub record IsReady (old new : Tables T) : Type 0 where
     pub kept : 0 < room old → Carried 16 old.newer old.waiting new.newer new.waiting
     pub grown : room old ≡ 0 → Carried 16 (fresh old) old.newer new.newer new.waiting × (old.waiting ≡ [])
     pub some : 0 < room new
     pub carries : length new.waiting ≤ 16 * (room new - 1)
+    pub built : Builds old new
 
   -- What an absent value leaves. Where there was room: the same slots but for at most 17, which became Live; what waited,
   -- without its first 16; and room lower by at most 1. Where there was none: the grown number of slots, Empty but for at
-  -- most 17, which became Live; what was the newer table waits, without its first 16; and room is three quarters of the
-  -- slots without all values.
+  -- most 17, which became Live; what was the newer table waits, without its first 16; room is three quarters of the
+  -- slots without all values; and their number is added to what was built.
   pub record Arrives (old new : Tables T) : Type 0 where
     pub kept : 0 < room old → Settles 17 old.newer old.waiting new
     pub grown : room old ≡ 0 → Settles 17 (fresh old) old.newer new
     pub room_kept : 0 < room old → room old ≤ room new + 1
     pub room_grown : room old ≡ 0 → room new ≡ limit (length new.newer) - values old - 1
+    pub built : Builds old new
 
   -- one table of slots: nothing waits, and what values don't take of the limit is room
   pub record IsPacked (t : Tables T) : Type 0 where
@@ -156,8 +165,8 @@ module _ {T : Type 0} where
 
   -- the slot at the spot is this one now, and all others are as they were
   abbrev pub Writes : Spot → Slot T → Tables T → Tables T → Type 0
-  Writes (Newer p) s old new = (new.newer ≡ slice_set old.newer p s) × (new.waiting ≡ old.waiting)
-  Writes (Waiting p) s old new = (new.newer ≡ old.newer) × (new.waiting ≡ slice_set old.waiting p s)
+  Writes (Newer p) s old new = (new.newer ≡ slice_set old.newer p s) × (new.waiting ≡ old.waiting) × (new.built ≡ old.built)
+  Writes (Waiting p) s old new = (new.newer ≡ old.newer) × (new.waiting ≡ slice_set old.waiting p s) × (new.built ≡ old.built)
 
   -- one slot in which a value that passes is Live, in whichever table it is, is changed, and all others are as they were
   pub record Rewrites (test : T → Bool) (change : Slot T → Slot T) (old new : Tables T) : Type 0 where

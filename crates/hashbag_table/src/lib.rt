@@ -4,6 +4,7 @@
 //! keeps them in two tables of [`slots`].
 #![tactic(auto)]
 
+mod built;
 mod growth;
 mod retain;
 pub mod table;

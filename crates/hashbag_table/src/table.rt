@@ -9,11 +9,12 @@ ghost use Rattle.hashbag_slots.specs.Hashing.{hash_under};
 ghost use Rattle.hashbag_slots.specs.Slots.{IsSlotCount, entries, IsAbsent, IsFirstFree, Places, recounted};
 ghost use Rattle.hashbag_table.specs.Asked.{MayAskInTurn, Retains};
 ghost use Rattle.hashbag_table.specs.Entries.{entry_of, count_of, without, with_count, with_fewer, with_instance, total, IsCounted, HasClones};
-ghost use Rattle.hashbag_table.specs.Tables.{room, values, IsLeast, IsPacked, entries_of, Arrives, NoneMoved, Rewrites};
+ghost use Rattle.hashbag_table.specs.Tables.{limit, room, values, IsLeast, IsPacked, entries_of, Arrives, NoneMoved, Rewrites};
 
 mod room;
 mod spots;
 
+use crate::built::Built;
 use crate::growth::{least_count, no_slots};
 use crate::retain::retain_slots;
 use crate::table::spots::find_older;
@@ -52,6 +53,8 @@ pub struct Table<T: Eq + Hash + Drop, S: BuildHasher + Drop> {
     hasher: S,
     // What the table grows on. Its copies are made on it too.
     alloc: Global,
+    // The slots of all tables that were the newer one, for contracts alone.
+    built: Built,
     // What a drain borrows.
     lent: [usize; 0],
 }
@@ -64,7 +67,7 @@ impl<T: Eq + Hash + Drop, S: BuildHasher + Drop> Model for Table<T, S> {
 
     ghost Value = { Entries T S };
 
-    ghost view = { λ t. record { entries = entries_of t.newer.slots (drop t.looked t.older.slots); hasher = t.hasher; tables = record { newer = t.newer.slots; waiting = drop t.looked t.older.slots } } };
+    ghost view = { λ t. record { entries = entries_of t.newer.slots (drop t.looked t.older.slots); hasher = t.hasher; tables = record { newer = t.newer.slots; waiting = drop t.looked t.older.slots; built = t.built } } };
 
     ghost invariant = { λ t. IsTables T.eq (hash_under T.hash_input S.BuildHasher S.Hasher.Hasher t.hasher) t.newer t.older t.looked };
 }
@@ -79,6 +82,7 @@ impl<T: Eq + Hash + Drop, S: BuildHasher + Drop> Table<T, S> {
         ensures hasher { result.hasher ≡ hasher }
         ensures newer { result.tables.newer ≡ [] }
         ensures waiting { result.tables.waiting ≡ [] }
+        ensures built { result.tables.built ≡ 0 }
     {
         let newer = no_slots(alloc);
         let older = no_slots(alloc);
@@ -88,6 +92,7 @@ impl<T: Eq + Hash + Drop, S: BuildHasher + Drop> Table<T, S> {
             looked: 0,
             hasher,
             alloc,
+            built: Built::first(0),
             lent: [],
         }
     }
@@ -103,6 +108,7 @@ impl<T: Eq + Hash + Drop, S: BuildHasher + Drop> Table<T, S> {
         ensures fresh { IfOk result (λ table. table.tables.newer ≡ replicate (length table.tables.newer) Slot.Empty) }
         ensures least { IfOk result (λ table. IsLeast 0 n (length table.tables.newer)) }
         ensures packed { IfOk result (λ table. IsPacked table.tables) }
+        ensures built { IfOk result (λ table. table.tables.built ≡ length table.tables.newer) }
     {
         let count = least_count(0, n)?;
         let newer = Slots::with_slots(alloc, count)?;
@@ -113,6 +119,7 @@ impl<T: Eq + Hash + Drop, S: BuildHasher + Drop> Table<T, S> {
             looked: 0,
             hasher,
             alloc,
+            built: Built::first(count),
             lent: [],
         })
     }
@@ -123,6 +130,7 @@ impl<T: Eq + Hash + Drop, S: BuildHasher + Drop> Table<T, S> {
         ensures count { IsSlotCount result }
         ensures entries { self.now.entries ≡ entries_of self.now.tables.newer self.now.tables.waiting }
         ensures unmoved { NoneMoved self.now.tables.newer }
+        ensures fits { values self.now.tables ≤ limit (length self.now.tables.newer) }
     {
         self.newer.slots()
     }
@@ -220,6 +228,7 @@ impl<T: Eq + Hash + Drop, S: BuildHasher + Drop> Table<T, S> {
         requires carries { length self.old.tables.waiting ≤ 16 * (room self.old.tables - 1) }
         ensures placed { Places value count self.old.tables.newer self.new.tables.newer }
         ensures waiting { self.new.tables.waiting ≡ self.old.tables.waiting }
+        ensures built { self.new.tables.built ≡ self.old.tables.built }
         ensures entries { IsPermutation ((value, count) ∷ self.old.entries) self.new.entries }
         ensures hasher { self.new.hasher ≡ self.old.hasher }
         ensures counted { IsCounted T.eq self.new.entries }
@@ -470,6 +479,7 @@ impl<T: Eq + Hash + Drop, S: BuildHasher + Drop> Table<T, S> {
         ensures hasher { self.new.hasher ≡ self.old.hasher }
         ensures newer { self.new.tables.newer ≡ replicate (length self.old.tables.newer) Slot.Empty }
         ensures waiting { self.new.tables.waiting ≡ [] }
+        ensures built { self.new.tables.built ≡ self.old.tables.built }
     {
         self.newer.clear();
         let _freed = mem::replace(&mut self.older, no_slots(self.alloc));
@@ -490,6 +500,7 @@ impl<T: Eq + Hash + Drop, S: BuildHasher + Drop> Table<T, S> {
         ensures counted { IsCounted T.eq self.new.entries }
         ensures newer { length self.new.tables.newer ≡ length self.old.tables.newer }
         ensures waiting { length self.new.tables.waiting ≡ length self.old.tables.waiting }
+        ensures built { self.new.tables.built ≡ self.old.tables.built }
         ensures room { room self.old.tables ≤ room self.new.tables }
     {
         let newer = retain_slots(&mut self.newer, 0, &mut f);
@@ -528,6 +539,7 @@ impl<T: Eq + Hash + Drop, S: BuildHasher + Drop> Table<T, S> {
             looked: _,
             hasher: _,
             alloc: _,
+            built: _,
             lent: _,
         } = self;
         let first = newer.into_walk();
@@ -578,6 +590,7 @@ impl<T: Eq + Hash + Drop, S: BuildHasher + Drop> Table<T, S> {
         ensures counted { IfOk result (λ table. IsCounted T.eq table.entries) }
         ensures least { IfOk result (λ table. IsLeast 0 (length self.now.entries) (length table.tables.newer)) }
         ensures packed { IfOk result (λ table. IsPacked table.tables) }
+        ensures built { IfOk result (λ table. table.tables.built ≡ length table.tables.newer) }
     {
         let hasher = self.hasher().clone()?;
         let mut table = Table::with_room(self.alloc, hasher, self.set_len())?;

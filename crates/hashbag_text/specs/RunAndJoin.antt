@@ -12,8 +12,8 @@ use Rattle.hashbag.specs.Script.{run}
 pub record IsRunAndJoined {T S S2 : Type 0} (eq : T → T → Bool) (r : Ran T S) (q : Ran T S2) (outer_list : List (T × ℕ × ℕ)) (difference_list : List (T × ℕ)) (signed_list : List (T × ℤ)) (not_in_list : List (T × ℕ)) : Type 0 where
   pub first : IsDone eq r
   pub second : IsDone eq q
-  pub outer : (X Y : List T) → Means r.before X → Means q.before Y → IsOuterJoin eq (run eq X r.steps).0 (run eq Y q.steps).0 outer_list
+  pub outer : (X Y : List T) → Means r.before X → Means q.before Y → IsOuterJoin eq (run eq r.before.most X r.steps).0 (run eq q.before.most Y q.steps).0 outer_list
   pub none_zero : All (λ j. 0 < j.1 + j.2) outer_list
-  pub difference : (X Y : List T) → Means r.before X → Means q.before Y → IsDifference eq (run eq X r.steps).0 (run eq Y q.steps).0 difference_list
-  pub signed : (X Y : List T) → Means r.before X → Means q.before Y → IsSignedDifference eq (run eq X r.steps).0 (run eq Y q.steps).0 signed_list
-  pub not_in : (X Y : List T) → Means r.before X → Means q.before Y → IsNotIn eq (run eq X r.steps).0 (run eq Y q.steps).0 not_in_list
+  pub difference : (X Y : List T) → Means r.before X → Means q.before Y → IsDifference eq (run eq r.before.most X r.steps).0 (run eq q.before.most Y q.steps).0 difference_list
+  pub signed : (X Y : List T) → Means r.before X → Means q.before Y → IsSignedDifference eq (run eq r.before.most X r.steps).0 (run eq q.before.most Y q.steps).0 signed_list
+  pub not_in : (X Y : List T) → Means r.before X → Means q.before Y → IsNotIn eq (run eq r.before.most X r.steps).0 (run eq q.before.most Y q.steps).0 not_in_list

@@ -14,6 +14,7 @@ fn print_reply(text: &mut String, bag: &str, reply: &Reply<u64>) -> Result<(), A
         Reply::Absent => writeln!(text, "{bag} absent"),
         Reply::Done => writeln!(text, "{bag} done"),
         Reply::TooMany => writeln!(text, "{bag} too many"),
+        Reply::BelowTotal => writeln!(text, "{bag} below total"),
     }
 }
 

@@ -2,7 +2,7 @@
 ghost use Rattle.std.specs.Prelude.{◌≡◌, ◌+◌, ◌<◌, ◌≤◌, ⊤, [], length, sum_by, OnOk, IfOk, IfErr, OnErr};
 ghost use Rattle.std.specs.Iterator.{IsFinite, Drains};
 ghost use Rattle.hashbag_core.specs.Bag.{Means, IsBagOf};
-ghost use Rattle.hashbag_core.specs.Occurrences.{add, IsBag};
+ghost use Rattle.hashbag_core.specs.Occurrences.{greatest_total, add, IsBag};
 ghost use Rattle.hashbag_core.specs.Held.{no_slots};
 ghost use Rattle.hashbag_table.specs.Tables.{room};
 ghost use Rattle.hashbag_core.specs.Extends.{Extends, ExtendsUpTo, Refuses, RefusesClones, Once, AsItIs, CloneOnce, CloneAsOften};
@@ -18,7 +18,8 @@ impl<T: Eq + Hash + Drop, S: BuildHasher + Drop> HashBag<T, S> {
         S: Default,
         ensures empty { result.items ≡ [] }
         ensures hasher { S.is_default result.hasher }
-        ensures slots { result.tables ≡ no_slots }
+        ensures slots { result.tables ≡ no_slots 0 }
+        ensures limit { result.most ≡ greatest_total }
     {
         HashBag::with_hasher(alloc, S::default())
     }
@@ -36,7 +37,8 @@ impl<T: Eq + Hash + Drop, S: BuildHasher + Drop> HashBag<T, S> {
         ensures all { IfOk result (λ bag. Extends T.eq I.next_gives Once items [] (Means bag)) }
         ensures len { IfOk result (λ bag. (came : _) × Drains I.next_gives items came × (length bag.items ≡ length came)) }
         ensures hasher { IfOk result (λ bag. S.is_default bag.hasher) }
-        ensures refused { IfErr result (λ e. ExtendsUpTo T.eq I.next_gives Once items [] (λ _. ⊤) (λ X v. Refuses T.eq X v 1 e)) }
+        ensures limit { IfOk result (λ bag. bag.most ≡ greatest_total) }
+        ensures refused { IfErr result (λ e. ExtendsUpTo T.eq I.next_gives Once items [] (λ _. ⊤) (λ X v. Refuses T.eq greatest_total X v 1 e)) }
     {
         let mut bag = HashBag::default_in(alloc);
         bag.extend(items)?;
@@ -56,7 +58,8 @@ impl<T: Eq + Hash + Drop, S: BuildHasher + Drop> HashBag<T, S> {
         ensures all { IfOk result (λ bag. Extends T.eq I.next_gives AsItIs pairs [] (Means bag)) }
         ensures len { IfOk result (λ bag. (came : _) × Drains I.next_gives pairs came × (length bag.items ≡ sum_by (λ p. p.1) came)) }
         ensures hasher { IfOk result (λ bag. S.is_default bag.hasher) }
-        ensures refused { IfErr result (λ e. ExtendsUpTo T.eq I.next_gives AsItIs pairs [] (λ _. ⊤) (λ X p. Refuses T.eq X p.0 p.1 e)) }
+        ensures limit { IfOk result (λ bag. bag.most ≡ greatest_total) }
+        ensures refused { IfErr result (λ e. ExtendsUpTo T.eq I.next_gives AsItIs pairs [] (λ _. ⊤) (λ X p. Refuses T.eq greatest_total X p.0 p.1 e)) }
     {
         let mut bag = HashBag::default_in(alloc);
         bag.extend_many(pairs)?;
@@ -66,7 +69,7 @@ impl<T: Eq + Hash + Drop, S: BuildHasher + Drop> HashBag<T, S> {
     /// Inserts each item in turn, as [`HashBag::insert`] does, until the iterator ends or an item is refused. The caller sees to it
     /// that the items end.
     ///
-    /// An item is refused with `TooMany` where the total would pass `usize::MAX`, which is tested before anything grows, and with
+    /// An item is refused with `TooMany` where the total would pass the limit, which is tested before anything grows, and with
     /// `Memory` where the value is absent, there is no room and memory is refused. The items before it stay inserted. It is dropped
     /// itself, and so is the iterator with what is still to come. Each item is hashed once.
     pub fn extend<I: Iterator<Item = T> + Drop>(&mut self, items: I) -> Result<(), BagError>
@@ -75,7 +78,7 @@ impl<T: Eq + Hash + Drop, S: BuildHasher + Drop> HashBag<T, S> {
         ensures all { OnOk result (Extends T.eq I.next_gives Once items self.old.items (λ X. IsBagOf T.eq self.old X self.new)) }
         ensures len { OnOk result ((came : _) × Drains I.next_gives items came × (length self.new.items ≡ length self.old.items + length came)) }
         ensures grown { length self.old.items ≤ length self.new.items }
-        ensures refused { IfErr result (λ e. ExtendsUpTo T.eq I.next_gives Once items self.old.items (λ X. IsBagOf T.eq self.old X self.new) (λ X v. Refuses T.eq X v 1 e)) }
+        ensures refused { IfErr result (λ e. ExtendsUpTo T.eq I.next_gives Once items self.old.items (λ X. IsBagOf T.eq self.old X self.new) (λ X v. Refuses T.eq self.old.most X v 1 e)) }
         ensures full { IfErr result (λ e. e ≡ BagError.Memory → room self.new.tables ≡ 0) }
     {
         self.recall_bag();
@@ -97,7 +100,7 @@ impl<T: Eq + Hash + Drop, S: BuildHasher + Drop> HashBag<T, S> {
         ensures all { OnOk result (Extends T.eq I.next_gives AsItIs pairs self.old.items (λ X. IsBagOf T.eq self.old X self.new)) }
         ensures len { OnOk result ((came : _) × Drains I.next_gives pairs came × (length self.new.items ≡ length self.old.items + sum_by (λ p. p.1) came)) }
         ensures grown { length self.old.items ≤ length self.new.items }
-        ensures refused { IfErr result (λ e. ExtendsUpTo T.eq I.next_gives AsItIs pairs self.old.items (λ X. IsBagOf T.eq self.old X self.new) (λ X p. Refuses T.eq X p.0 p.1 e)) }
+        ensures refused { IfErr result (λ e. ExtendsUpTo T.eq I.next_gives AsItIs pairs self.old.items (λ X. IsBagOf T.eq self.old X self.new) (λ X p. Refuses T.eq self.old.most X p.0 p.1 e)) }
         ensures full { IfErr result (λ e. e ≡ BagError.Memory → room self.new.tables ≡ 0) }
     {
         self.recall_bag();
@@ -122,7 +125,7 @@ impl<T: Eq + Hash + Drop, S: BuildHasher + Drop> HashBag<T, S> {
         ensures all { OnOk result (Extends T.eq I.next_gives (CloneOnce T.is_clone) items self.old.items (λ X. IsBagOf T.eq self.old X self.new)) }
         ensures len { OnOk result ((came : _) × Drains I.next_gives items came × (length self.new.items ≡ length self.old.items + length came)) }
         ensures grown { length self.old.items ≤ length self.new.items }
-        ensures refused { IfErr result (λ e. ExtendsUpTo T.eq I.next_gives (CloneOnce T.is_clone) items self.old.items (λ X. IsBagOf T.eq self.old X self.new) (λ X _. RefusesClones X 1 e)) }
+        ensures refused { IfErr result (λ e. ExtendsUpTo T.eq I.next_gives (CloneOnce T.is_clone) items self.old.items (λ X. IsBagOf T.eq self.old X self.new) (λ X _. RefusesClones self.old.most X 1 e)) }
     {
         self.recall_bag();
         for item in items {
@@ -146,7 +149,7 @@ impl<T: Eq + Hash + Drop, S: BuildHasher + Drop> HashBag<T, S> {
         ensures all { OnOk result (Extends T.eq I.next_gives (CloneAsOften T.is_clone) pairs self.old.items (λ X. IsBagOf T.eq self.old X self.new)) }
         ensures len { OnOk result ((came : _) × Drains I.next_gives pairs came × (length self.new.items ≡ length self.old.items + sum_by (λ p. p.1) came)) }
         ensures grown { length self.old.items ≤ length self.new.items }
-        ensures refused { IfErr result (λ e. ExtendsUpTo T.eq I.next_gives (CloneAsOften T.is_clone) pairs self.old.items (λ X. IsBagOf T.eq self.old X self.new) (λ X p. RefusesClones X p.1 e)) }
+        ensures refused { IfErr result (λ e. ExtendsUpTo T.eq I.next_gives (CloneAsOften T.is_clone) pairs self.old.items (λ X. IsBagOf T.eq self.old X self.new) (λ X p. RefusesClones self.old.most X p.1 e)) }
     {
         self.recall_bag();
         for (value, n) in pairs {
@@ -160,10 +163,10 @@ impl<T: Eq + Hash + Drop, S: BuildHasher + Drop> HashBag<T, S> {
     where
         T: Clone,
         ensures added { OnOk result ((x : _) × (0 < n → T.is_clone value.now x) × IsBagOf T.eq self.old (add T.eq x n self.old.items) self.new) }
-        ensures refused { IfErr result (RefusesClones self.old.items n) }
+        ensures refused { IfErr result (RefusesClones self.old.most self.old.items n) }
         ensures err { OnErr result (self.new ≡ self.old) }
     {
-        if n > usize::MAX - self.len() {
+        if n > self.limit() - self.len() {
             return Err(BagError::TooMany);
         }
         if n == 0 {

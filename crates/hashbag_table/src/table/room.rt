@@ -22,6 +22,7 @@ impl<T: Eq + Hash + Drop, S: BuildHasher + Drop> Table<T, S> {
         ensures carried { Carried 16 self.old.tables.newer self.old.tables.waiting self.new.tables.newer self.new.tables.waiting }
         ensures some { 0 < room self.new.tables }
         ensures carries { length self.new.tables.waiting ≤ 16 * (room self.new.tables - 1) }
+        ensures built { self.new.tables.built ≡ self.old.tables.built }
         ensures entries { IsPermutation self.old.entries self.new.entries }
         ensures hasher { self.new.hasher ≡ self.old.hasher }
     {
@@ -36,14 +37,17 @@ impl<T: Eq + Hash + Drop, S: BuildHasher + Drop> Table<T, S> {
     }
 
     // Takes a table of slots as the newer one: in this function alone a table that stands is given one. The former newer one
-    // waits, save for its first `many` slots, which are carried; the older one, of which none waits, is freed. It takes no memory.
+    // waits, save for its first `many` slots, which are carried; the older one, of which none waits, is freed. The slots of the new one
+    // count as built. It takes no memory.
     fn adopt(&mut self, newer: Slots<T>, many: usize)
         requires none_waits { self.old.tables.waiting ≡ [] }
         requires may { MayAdopt T.eq (hash_under T.hash_input S.BuildHasher S.Hasher.Hasher self.old.hasher) newer self.old.tables.newer many }
         ensures carried { Carried many newer.slots self.old.tables.newer self.new.tables.newer self.new.tables.waiting }
+        ensures built { self.new.tables.built ≡ self.old.tables.built + length newer.slots }
         ensures entries { IsPermutation (entries newer.slots ++ self.old.entries) self.new.entries }
         ensures hasher { self.new.hasher ≡ self.old.hasher }
     {
+        self.built.raise(newer.slots());
         let former = mem::replace(&mut self.newer, newer);
         let _freed = mem::replace(&mut self.older, former);
         self.looked = carry_next(
@@ -97,6 +101,7 @@ impl<T: Eq + Hash + Drop, S: BuildHasher + Drop> Table<T, S> {
         requires enough { length self.old.entries ≤ limit (length newer.slots) }
         ensures slots { length self.new.tables.newer ≡ length newer.slots }
         ensures packed { IsPacked self.new.tables }
+        ensures built { self.new.tables.built ≡ self.old.tables.built + length newer.slots }
         ensures values { values self.new.tables ≡ length self.old.entries }
         ensures entries { IsPermutation self.old.entries self.new.entries }
         ensures hasher { self.new.hasher ≡ self.old.hasher }
@@ -127,6 +132,7 @@ impl<T: Eq + Hash + Drop, S: BuildHasher + Drop> Table<T, S> {
         ensures kept { n ≤ room self.old.tables → self.new ≡ self.old }
         ensures least { room self.old.tables < n → OnOk result (IsLeast (length self.old.tables.newer) (length self.old.entries + n) (length self.new.tables.newer)) }
         ensures packed { room self.old.tables < n → OnOk result (IsPacked self.new.tables) }
+        ensures built { room self.old.tables < n → OnOk result (self.new.tables.built ≡ self.old.tables.built + length self.new.tables.newer) }
         ensures room { OnOk result (n ≤ room self.new.tables) }
     {
         let slots = self.newer.slots();
@@ -155,10 +161,13 @@ impl<T: Eq + Hash + Drop, S: BuildHasher + Drop> Table<T, S> {
         ensures err { OnErr result (self.new ≡ self.old) }
         ensures none { self.old.entries ≡ [] → IsOk result }
         ensures freed { self.old.entries ≡ [] → self.new.tables.newer ≡ [] }
+        ensures freed_built { self.old.entries ≡ [] → self.new.tables.built ≡ self.old.tables.built }
+        ensures fewer { length self.new.tables.newer ≤ length self.old.tables.newer }
         ensures enough { (m : ℕ) → IsLeast 0 (length self.old.entries) m → length self.old.tables.newer ≤ m → IsOk result }
         ensures kept { (m : ℕ) → IsLeast 0 (length self.old.entries) m → length self.old.tables.newer ≤ m → self.new ≡ self.old }
         ensures least { (m : ℕ) → IsLeast 0 (length self.old.entries) m → m < length self.old.tables.newer → OnOk result (length self.new.tables.newer ≡ m) }
         ensures packed { (m : ℕ) → IsLeast 0 (length self.old.entries) m → m < length self.old.tables.newer → OnOk result (IsPacked self.new.tables) }
+        ensures built { (m : ℕ) → IsLeast 0 (length self.old.entries) m → m < length self.old.tables.newer → OnOk result (self.new.tables.built ≡ self.old.tables.built + m) }
     {
         let count = least_count(0, self.set_len())?;
         if count >= self.newer.slots() {

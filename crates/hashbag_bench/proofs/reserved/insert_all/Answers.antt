@@ -28,11 +28,14 @@ loop-value-preserved g c =
     let more = rw c.unwrap.ensures at c.insert.ensures.len in
     let now = left some in
     let whole = at.invariant.len in
+    let within = at.invariant.fits in
+    let limit = added.limit in
     record {
       long = omega arith;
       room = omega arith;
       slots = slots some ∙ at.invariant.slots;
       len = omega arith;
+      fits = omega arith;
       counts = λ v.
           let before = at.invariant.counts v in
           let one = count_inserted_any g.met.T.Eq.laws at.bag c.insert.new.self v x 1 added in

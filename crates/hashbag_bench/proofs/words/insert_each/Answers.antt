@@ -8,6 +8,7 @@ use Rattle.hashbag_bench.proofs.words.insert_each.Goals as goal
 pub loop-word-preserved : goal.loop-word-preserved
 loop-word-preserved g c = record {
   len = omega (arith, c.in_ok-insert.ensures.len);
+  limit = c.in_ok-insert.ensures.added.limit ∙ c.loop-word.invariant.limit;
   counts = λ v.
       let before = c.loop-word.invariant.counts v in
       let one = count_inserted_any nat_eq_equiv c.loop-word.bag c.insert.new.self v _ 1 c.in_ok-insert.ensures.added in

@@ -1,13 +1,14 @@
-use Rattle.std.proofs.Common.{sym, rules}
+use Rattle.std.proofs.Common.{sym, arith, rules}
 use Rattle.serde_json.specs.View.{view}
-use Rattle.hashbag_core.specs.Occurrences.{greatest_total}
 use Rattle.hashbag_core.proofs.JsonReadLemmas.{good_pair}
 use Rattle.hashbag_core.proofs.json.read_pair.Goals as goal
 
 pub returns-in-Ok-insert_within-clause-no_fault : goal.returns-in-Ok-insert_within-clause-no_fault
 returns-in-Ok-insert_within-clause-no_fault g c =
-    good_pair g.met.T.Eq.laws greatest_total g.T.JsonItem.has_item g.T.JsonItem.reads _ _ _ c.args.number c.args.bag.now.items c.insert_within.new.self.items c.in-Ok.item c.in-Some-as_u64.count
-    (sym c.in-Some.ensures) (sym c.in-Some-as_u64.ensures) (g.met.T.JsonItem.read_has_item _ c.in-Ok.item c.in-Ok.ensures.item.1) c.in-Ok-insert_within.ensures.added.means c.in-Ok-insert_within.ensures.added.bag.fits
+    let within = c.in-Ok-insert_within.ensures.added.bag.fits in
+    let same = c.in-Ok-insert_within.ensures.added.limit in
+    good_pair g.met.T.Eq.laws c.args.bag.now.most g.T.JsonItem.has_item g.T.JsonItem.reads _ _ _ c.args.number c.args.bag.now.items c.insert_within.new.self.items c.in-Ok.item c.in-Some-as_u64.count
+    (sym c.in-Some.ensures) (sym c.in-Some-as_u64.ensures) (g.met.T.JsonItem.read_has_item _ c.in-Ok.item c.in-Ok.ensures.item.1) c.in-Ok-insert_within.ensures.added.means (omega (arith, within, same))
 
 pub returns-in-Ok-insert_within-clause-read : goal.returns-in-Ok-insert_within-clause-read
 returns-in-Ok-insert_within-clause-read g c = (

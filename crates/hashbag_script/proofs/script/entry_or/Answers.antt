@@ -4,8 +4,8 @@ use Rattle.hashbag_core.specs.Occurrences.{count}
 use Rattle.hashbag_core.proofs.HeldLemmas.{none_left}
 use Rattle.hashbag_table.specs.Tables.{Tables}
 use Rattle.hashbag_script.specs.Rows.{entry_or_row}
-use Rattle.hashbag_script.specs.Script.{newcomers, KeepsRoom}
-use Rattle.hashbag_script.proofs.RoomLemmas.{keeps_entered, one_entered}
+use Rattle.hashbag_script.specs.Script.{newcomers, Moves}
+use Rattle.hashbag_script.proofs.RoomLemmas.{moves_entered, one_entered}
 use Rattle.hashbag_core.specs.declared.bag.BagError.{BagError}
 use Rattle.hashbag_core.specs.declared.bag.BagError.TheVariants.{Memory}
 use Rattle.hashbag_core.specs.Bag.{Bag, IsBagOf}
@@ -39,27 +39,27 @@ returns-in-Ok-clause-left g c =
     let vacant = rw (c.entry.ensures.value, c.entry.ensures.unchanged) at c.in-Ok.ensures.vacant in
     came_back _ c.or_insert_many.new.self.0 (search rules) (entry_or_done g.met.T.Eq.laws c.args.value c.args.quantity c.in-Ok.count c.args.bag.now c.or_insert_many.new.self.0 c.recall_what_bags_keep.ensures (λ some. (ok_is _ _ (occupied some).0, (occupied some).1)) vacant).left
 
--- room is kept where the tables that came back are those that the entry left
-kept_back : {T : Type 0} (k : ℕ) (before after left : Tables T) → after ≡ left → KeepsRoom k before left → KeepsRoom k before after
-kept_back k before after left e h = subst (λ t. KeepsRoom k before t) (sym e) h
+-- room is as it is left where the tables that came back are those that the entry left
+kept_back : {T : Type 0} (k : ℕ) (before after left : Tables T) → after ≡ left → Moves k before left → Moves k before after
+kept_back k before after left e h = subst (λ t. Moves k before t) (sym e) h
 
 pub returns-in-Ok-clause-room : goal.returns-in-Ok-clause-room
-returns-in-Ok-clause-room g c = λ enough.
+returns-in-Ok-clause-room g c =
     let before = c.args.bag.now in
     let left = c.or_insert_many.new.self.0 in
     let occupied = rw (c.entry.ensures.value, c.entry.ensures.unchanged) at c.in-Ok.ensures.occupied in
     let same = rw c.entry.ensures.unchanged at c.in-Ok.ensures.same in
-    let slots = rw c.entry.ensures.unchanged at c.in-Ok.ensures.slots in
-    let room = rw c.entry.ensures.unchanged at c.in-Ok.ensures.room in
+    let came = rw (c.entry.ensures.value, c.entry.ensures.unchanged) at c.in-Ok.ensures.arrives in
     let vacant = rw (c.entry.ensures.value, c.entry.ensures.unchanged) at c.in-Ok.ensures.vacant in
     let long = rw (c.entry.ensures.value, c.entry.ensures.unchanged) at c.in-Ok.ensures.len in
-    let arrives : count g.T.PartialEq.eq c.args.value before.items ≡ 0 → 0 < c.args.quantity → newcomers g.T.PartialEq.eq before.items (entry_or_row g.T.PartialEq.eq c.args.value c.args.quantity before.items).0 ≡ 1 = λ none some.
+    let arrives : count g.T.PartialEq.eq c.args.value before.items ≡ 0 → 0 < c.args.quantity → newcomers g.T.PartialEq.eq before.items (entry_or_row g.T.PartialEq.eq c.args.bag.now.most c.args.value c.args.quantity before.items).0 ≡ 1 = λ none some.
     let put = vacant none in
     let within = put.1.bag.fits in
+    let limit = put.1.limit in
     let is = put.0 in
-    one_entered g.met.T.Eq.laws c.args.value c.args.quantity before.items none some (omega (arith, within, is, long, none)) in
+    one_entered g.met.T.Eq.laws c.args.bag.now.most c.args.value c.args.quantity before.items none some (omega (arith, within, limit, is, long, none)) in
     kept_back _ before.tables _ left.tables (search rules)
-    (keeps_entered (count g.T.PartialEq.eq c.args.value before.items) c.args.quantity _ before.tables left.tables (λ none. ap (λ b. b.tables) (same none)) (λ some. ap (λ b. b.tables) (occupied some).1) slots room arrives enough)
+    (moves_entered (count g.T.PartialEq.eq c.args.value before.items) c.args.quantity _ before.tables left.tables (λ none. ap (λ b. b.tables) (same none)) (λ some. ap (λ b. b.tables) (occupied some).1) came arrives)
 
 pub returns-in-Err-Memory-clause-takes : goal.returns-in-Err-Memory-clause-takes
 returns-in-Err-Memory-clause-takes g c = λ enough.
@@ -72,5 +72,5 @@ returns-in-Err-Memory-clause-takes g c = λ enough.
     let takes = rw c.entry.ensures.unchanged at c.in-Err-Memory.ensures.takes in
     let none : count eq c.args.value X ≡ 0 = none_left (count eq c.args.value X) (λ some. absurd (is_no_ok (occupied some).0)) in
     let some : 0 < c.args.quantity = some_unless c.args.quantity (λ zero_is. false≢true (c.in-Err-Memory.ensures.none zero_is)) in
-    let one = one_entered g.met.T.Eq.laws c.args.value c.args.quantity X none some fits in
+    let one = one_entered g.met.T.Eq.laws c.args.bag.now.most c.args.value c.args.quantity X none some fits in
     absurd (false≢true (takes fits (omega (arith, one, enough))))

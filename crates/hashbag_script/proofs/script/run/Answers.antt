@@ -1,19 +1,20 @@
-use Rattle.std.proofs.Common.{◌≡◌, ◌<◌, ◌+◌, ◌≤◌, ◌++◌, ◌∷◌, [], ◌⊎◌, inr, Bool, List, length, vec_len, vec_capacity, refl, sym, ◌∙◌, ap, subst, append_assoc, arith, rules}
+use Rattle.std.proofs.Common.{◌≡◌, ◌<◌, ◌+◌, ◌≤◌, ◌++◌, ◌∷◌, [], ◌⊎◌, inr, ℕ, Bool, List, length, vec_len, vec_capacity, refl, sym, ◌∙◌, ap, subst, append_assoc, arith, rules}
 use Rattle.std.specs.Vec.Iter.{into_iter_items, into_iter_len}
-use Rattle.std.proofs.lemmas.List.{append-nil}
+use Rattle.std.proofs.lemmas.List.{append-nil, nil_from_length}
 use Rattle.std.proofs.lemmas.List.Sorted.{IsPermutation-sym, IsPermutation-trans}
 use Rattle.hashbag_table.proofs.EntryLemmas.{OnErr-from}
 use Rattle.hashbag_core.specs.Bag.{Means}
-use Rattle.hashbag_script.specs.Script.{step as step_of, run as run_of, is_about_room, IsRoomy, IsStopped}
+use Rattle.hashbag_script.specs.Script.{step as step_of, run as run_of, limit_left, AsksForMemory, is_about_room, IsRoomy, IsStopped}
 use Rattle.hashbag_core.proofs.OccurrenceLemmas.{bag_rearranged}
-use Rattle.hashbag_script.proofs.RowLemmas.{IsSameRow, step_rearranged, asks_rearranged}
-use Rattle.hashbag_script.proofs.ScriptLemmas.{run_none, run_more}
+use Rattle.hashbag_script.proofs.RowLemmas.{IsSameRow, same_step, limit_same, asks_rearranged}
+use Rattle.hashbag_script.proofs.ScriptLemmas.{run_none, run_more, limit_none, limit_more}
 use Rattle.std.proofs.lemmas.Bool.{false≢true}
 use Rattle.std.specs.List.{list_any}
 use Rattle.hashbag_table.specs.Tables.{Tables, room}
 use Rattle.hashbag_script.specs.declared.script.Step.{Step}
 use Rattle.hashbag_core.proofs.HeldLemmas.{none_left}
-use Rattle.hashbag_script.proofs.RoomLemmas.{first_not_about, few_newcomers, roomy_first, next_enough, roomy_next}
+use Rattle.hashbag_script.proofs.RoomLemmas.{first_not_about, few_newcomers, roomy_first, next_enough, roomy_next, moves_within}
+use Rattle.hashbag_script.proofs.BoundLemmas.{no_slots_paid, paid_next, means_none, bounded_from, unanswered}
 use Rattle.hashbag_script.proofs.script.run.Goals as goal
 
 pub loop-step-init : goal.loop-step-init
@@ -21,10 +22,13 @@ loop-step-init g c = record {
   taken = refl;
   long = search rules;
   room = search rules;
-  replies = λ X means. rw (run_none g.T.PartialEq.eq X).1 (sym (append-nil _));
-  means = λ X means. rw (run_none g.T.PartialEq.eq X).0 means;
+  replies = λ X means. rw (run_none g.T.PartialEq.eq c.args.bag.now.most X).1 (sym (append-nil _));
+  means = λ X means. rw (run_none g.T.PartialEq.eq c.args.bag.now.most X).0 means;
+  limit = λ X means. sym (limit_none g.T.PartialEq.eq c.args.bag.now.most X);
   hasher = refl;
-  roomy = λ X means roomy. roomy_first g.met.T.Eq.laws X _ c.args.bag.now.tables roomy;
+  roomy = λ X means roomy. roomy_first g.met.T.Eq.laws c.args.bag.now.most X _ c.args.bag.now.tables roomy;
+  shaped = let h = c.recall_what_tables_keep.ensures in record { count = h.count; known = h.values; fits = h.fits; smaller = h.smaller };
+  paid = λ empty none. no_slots_paid g.T.PartialEq.eq c.args.bag.now.most c.args.bag.now.tables none;
 }
 
 pub loop-step-preserved : goal.loop-step-preserved
@@ -32,6 +36,7 @@ loop-step-preserved g c =
     let at = c.loop-step in
     let x = c.in-Some.step in
     let eq = g.T.PartialEq.eq in
+    let most = c.args.bag.now.most in
     let steps : into_iter_items at.step-iterator ≡ x ∷ into_iter_items c.next.new.self = c.in-Some.ensures.steps.0 in
     let shorter : into_iter_len c.next.new.self + 1 ≡ into_iter_len at.step-iterator = c.in-Some.ensures.steps.1 in
     let was : into_iter_len at.step-iterator ≡ length (into_iter_items at.step-iterator) = at.invariant.long in
@@ -39,9 +44,9 @@ loop-step-preserved g c =
     let room : vec_len at.replies + into_iter_len at.step-iterator ≤ vec_capacity at.replies = at.invariant.room in
     let longer = c.push_reserved.ensures.len in
     let capacity = c.push_reserved.ensures.capacity in
-    let same : (X : List g.row.T.Denot) → Means c.args.bag.now X → IsSameRow (step_of eq (run_of eq X at.yielded).0 x) (step_of eq at.bag.items x) = λ X means.
+    let same : (X : List g.row.T.Denot) → Means c.args.bag.now X → IsSameRow (step_of eq (limit_left eq most X at.yielded) (run_of eq most X at.yielded).0 x) (step_of eq at.bag.most at.bag.items x) = λ X means.
     let before = at.invariant.means X means in
-    step_rearranged g.met.T.Eq.laws (run_of eq X at.yielded).0 at.bag.items before (bag_rearranged g.met.T.Eq.laws _ _ (IsPermutation-sym _ _ before) c.apply.ensures.bag) x in
+    same_step g.met.T.Eq.laws at.bag.most (limit_left eq most X at.yielded) (run_of eq most X at.yielded).0 at.bag.items x (at.invariant.limit X means) before c.apply.ensures.bag in
     record {
       taken = append_assoc at.yielded (x ∷ []) _ ∙ rw steps at at.invariant.taken;
       long = omega arith;
@@ -49,44 +54,53 @@ loop-step-preserved g c =
       replies = λ X means.
           let reply = c.in_ok-reply.ensures.reply ∙ sym (same X means).reply in
           let before = at.invariant.replies X means in
-          let more = (run_more eq X at.yielded x).1 in
-          c.push_reserved.ensures.items ∙ rw (before, reply, more) (append_assoc _ (run_of eq X at.yielded).1 _);
-      means = λ X means. rw (run_more eq X at.yielded x).0 (IsPermutation-trans _ _ _ (same X means).left c.in_ok-reply.ensures.left.means);
-      hasher = c.in_ok-reply.ensures.left.hasher ∙ at.invariant.hasher;
+          let more = (run_more eq most X at.yielded x).1 in
+          c.push_reserved.ensures.items ∙ rw (before, reply, more) (append_assoc _ (run_of eq most X at.yielded).1 _);
+      means = λ X means. rw (run_more eq most X at.yielded x).0 (IsPermutation-trans _ _ _ (same X means).left c.in_ok-reply.ensures.left);
+      limit = λ X means. c.in_ok-reply.ensures.limit ∙ sym (limit_same g.met.T.Eq.laws at.bag.most (limit_left eq most X at.yielded) (run_of eq most X at.yielded).0 at.bag.items x (at.invariant.limit X means) (at.invariant.means X means) c.apply.ensures.bag) ∙ sym (limit_more eq most X at.yielded x);
+      hasher = c.in_ok-reply.ensures.hasher ∙ at.invariant.hasher;
       roomy = λ X means roomy.
           let so_far = rw steps at (at.invariant.roomy X means roomy) in
           let whole : at.yielded ++ x ∷ into_iter_items c.next.new.self ≡ into_iter_items c.into_iter-step-iterator.result = rw steps at at.invariant.taken in
           let quiet = first_not_about at.yielded (into_iter_items c.next.new.self) x (ap (list_any is_about_room) whole ∙ roomy.calls) in
-          let enough = next_enough g.met.T.Eq.laws X at.bag.items at.yielded (into_iter_items c.next.new.self) x _ at.bag.tables so_far (at.invariant.means X means) (same X means).left in
-          roomy_next g.met.T.Eq.laws X at.bag.items at.yielded (into_iter_items c.next.new.self) x _ at.bag.tables _ so_far (at.invariant.means X means) (same X means).left (c.in_ok-reply.ensures.room quiet enough);
+          let enough = next_enough g.met.T.Eq.laws most at.bag.most X at.bag.items at.yielded (into_iter_items c.next.new.self) x _ at.bag.tables so_far (at.invariant.means X means) (same X means).left in
+          roomy_next g.met.T.Eq.laws most at.bag.most X at.bag.items at.yielded (into_iter_items c.next.new.self) x _ at.bag.tables _ so_far (at.invariant.means X means) (same X means).left (moves_within _ _ _ (c.in_ok-reply.ensures.room quiet) enough);
+      shaped = let h = c.recall_what_tables_keep-in-loop-step.ensures in record { count = h.count; known = h.values; fits = h.fits; smaller = h.smaller };
+      paid = λ empty none.
+          let nothing = means_none g.T.PartialEq.eq c.args.bag.now empty in
+          paid_next g.met.T.Eq.laws most at.bag.most at.bag.items at.yielded x c.args.bag.now.tables at.bag.tables c.apply.new.bag.tables (at.invariant.means [] nothing) (same [] nothing).left at.invariant.shaped
+          c.in_ok-reply.ensures.room c.in_ok-reply.ensures.fewer (at.invariant.paid empty none);
     }
 
 pub returns-in_err-reply-clause-stopped : goal.returns-in_err-reply-clause-stopped
 returns-in_err-reply-clause-stopped g c =
     let at = c.loop-step in
     let eq = g.T.PartialEq.eq in
+    let most = c.args.bag.now.most in
     let steps : into_iter_items at.step-iterator ≡ c.in-Some.step ∷ into_iter_items c.next.new.self = c.in-Some.ensures.steps.0 in
     let whole : at.yielded ++ c.in-Some.step ∷ into_iter_items c.next.new.self ≡ c.args.steps.items = (rw steps at at.invariant.taken) ∙ c.into_iter-step-iterator.ensures.into_iter_gives.0 in
-    let stopped : (X : List g.row.T.Denot) → Means c.args.bag.now X → IsStopped eq X c.args.steps.items c.args.replies.now.items at.replies.items c.apply.new.bag = λ X means. record {
+    let stopped : (X : List g.row.T.Denot) → Means c.args.bag.now X → IsStopped eq c.args.bag.now.most X c.args.steps.items c.args.replies.now.items at.replies.items c.apply.new.bag = λ X means. record {
       done = at.yielded;
       stopped_at = c.in-Some.step;
       dropped = into_iter_items c.next.new.self;
       parts = sym whole;
       replies = rw (← c.in_ok-reserve.ensures.items) (at.invariant.replies X means);
       means = rw c.in_err-reply.ensures.err (at.invariant.means X means);
+      limit = rw c.in_err-reply.ensures.err (at.invariant.limit X means);
       refused =
           let before = at.invariant.means X means in
-          asks_rearranged g.met.T.Eq.laws (run_of eq X at.yielded).0 at.bag.items before (bag_rearranged g.met.T.Eq.laws _ _ (IsPermutation-sym _ _ before) c.apply.ensures.bag) c.in-Some.step c.in_err-reply.ensures.refused;
+          subst (λ (m : ℕ). AsksForMemory eq m (run_of eq most X at.yielded).0 c.in-Some.step) (at.invariant.limit X means)
+          (asks_rearranged g.met.T.Eq.laws (run_of eq most X at.yielded).0 at.bag.items before (bag_rearranged g.met.T.Eq.laws _ _ (IsPermutation-sym _ _ before) c.apply.ensures.bag) c.in-Some.step c.in_err-reply.ensures.refused);
       full = λ about.
-          let few = few_newcomers g.met.T.Eq.laws at.bag.items (step_of eq at.bag.items c.in-Some.step).0 in
+          let few = few_newcomers g.met.T.Eq.laws at.bag.items (step_of eq at.bag.most at.bag.items c.in-Some.step).0 in
           ap (λ b. room b.tables) c.in_err-reply.ensures.err ∙ none_left (room at.bag.tables) (λ some. false≢true (c.in_err-reply.ensures.takes about (omega (arith, few, some))));
     } in
-    let or_unchanged : ((vec_capacity c.args.replies.now < vec_len c.args.replies.now + vec_len c.args.steps) × (c.apply.new.bag ≡ c.args.bag.now) × (at.replies.items ≡ c.args.replies.now.items)) ⊎ ((X : List g.row.T.Denot) → Means c.args.bag.now X → IsStopped eq X c.args.steps.items c.args.replies.now.items at.replies.items c.apply.new.bag) = inr stopped in
+    let or_unchanged : ((vec_capacity c.args.replies.now < vec_len c.args.replies.now + vec_len c.args.steps) × (c.apply.new.bag ≡ c.args.bag.now) × (at.replies.items ≡ c.args.replies.now.items)) ⊎ ((X : List g.row.T.Denot) → Means c.args.bag.now X → IsStopped eq c.args.bag.now.most X c.args.steps.items c.args.replies.now.items at.replies.items c.apply.new.bag) = inr stopped in
     OnErr-from _ or_unchanged
 
 -- the steps that the loop begins with are those of the run
-from_start : {T : Type 0} {eq : T → T → Bool} (X : List T) (steps all : List (Step T)) (t : Tables T) → all ≡ steps → IsRoomy eq X steps t → IsRoomy eq X all t
-from_start {eq = eq} X steps all t e h = subst (λ l. IsRoomy eq X l t) (sym e) h
+from_start : {T : Type 0} {eq : T → T → Bool} {most : ℕ} (X : List T) (steps all : List (Step T)) (t : Tables T) → all ≡ steps → IsRoomy eq most X steps t → IsRoomy eq most X all t
+from_start {eq = eq} {most = most} X steps all t e h = subst (λ l. IsRoomy eq most X l t) (sym e) h
 
 pub returns-clause-slots : goal.returns-clause-slots
 returns-clause-slots g c = λ X means roomy. (c.loop-step.invariant.roomy X means (from_start X _ _ c.args.bag.now.tables c.into_iter-step-iterator.ensures.into_iter_gives.0 roomy)).slots
@@ -95,19 +109,20 @@ pub returns-clause-takes : goal.returns-clause-takes
 returns-clause-takes g c = λ X means roomy. tt
 
 -- a step that isn't about room is not refused where there is room
-not_refused : (g : _) (c : goal.After-drop-step-iterator g) (X : List g.row.T.Denot) → Means c.args.bag.now X → IsRoomy g.T.PartialEq.eq X c.args.steps.items c.args.bag.now.tables → ⊥
+not_refused : (g : _) (c : goal.After-drop-step-iterator g) (X : List g.row.T.Denot) → Means c.args.bag.now X → IsRoomy g.T.PartialEq.eq c.args.bag.now.most X c.args.steps.items c.args.bag.now.tables → ⊥
 not_refused g c X means roomy =
     let at = c.loop-step in
     let eq = g.T.PartialEq.eq in
+    let most = c.args.bag.now.most in
     let start = from_start X _ _ c.args.bag.now.tables c.into_iter-step-iterator.ensures.into_iter_gives.0 roomy in
     let steps : into_iter_items at.step-iterator ≡ c.in-Some.step ∷ into_iter_items c.next.new.self = c.in-Some.ensures.steps.0 in
     let whole : at.yielded ++ c.in-Some.step ∷ into_iter_items c.next.new.self ≡ c.args.steps.items = (rw steps at at.invariant.taken) ∙ c.into_iter-step-iterator.ensures.into_iter_gives.0 in
     let so_far = rw steps at (at.invariant.roomy X means start) in
     let before = at.invariant.means X means in
-    let same = step_rearranged g.met.T.Eq.laws (run_of eq X at.yielded).0 at.bag.items before (bag_rearranged g.met.T.Eq.laws _ _ (IsPermutation-sym _ _ before) c.apply.ensures.bag) c.in-Some.step in
+    let same = same_step g.met.T.Eq.laws at.bag.most (limit_left eq most X at.yielded) (run_of eq most X at.yielded).0 at.bag.items c.in-Some.step (at.invariant.limit X means) before c.apply.ensures.bag in
     false≢true (c.in_err-reply.ensures.takes
     (first_not_about at.yielded (into_iter_items c.next.new.self) c.in-Some.step (ap (list_any is_about_room) whole ∙ roomy.calls))
-    (next_enough g.met.T.Eq.laws X at.bag.items at.yielded (into_iter_items c.next.new.self) c.in-Some.step _ at.bag.tables so_far before same.left))
+    (next_enough g.met.T.Eq.laws most at.bag.most X at.bag.items at.yielded (into_iter_items c.next.new.self) c.in-Some.step _ at.bag.tables so_far before same.left))
 
 pub returns-in_err-reply-clause-slots : goal.returns-in_err-reply-clause-slots
 returns-in_err-reply-clause-slots g c = λ X means roomy. absurd (not_refused g c X means roomy)
@@ -118,3 +133,36 @@ returns-in_err-reply-clause-takes g c = λ X means roomy. absurd (not_refused g 
 -- no room for the replies: nothing was done
 pub returns-in_err-reserve-clause-stopped : goal.returns-in_err-reserve-clause-stopped
 returns-in_err-reserve-clause-stopped g c = search rules
+
+-- ---- what the steps with replies leave of no slots
+
+pub returns-clause-bounded : goal.returns-clause-bounded
+returns-clause-bounded g c = λ empty none.
+    let at = c.loop-step in
+    bounded_from g.T.PartialEq.eq c.args.bag.now.most at.yielded (into_iter_items at.step-iterator) c.args.steps.items c.args.replies.now.items at.replies.items c.args.bag.now.tables at.bag.tables
+    (at.invariant.taken ∙ c.into_iter-step-iterator.ensures.into_iter_gives.0)
+    (rw (← c.in_ok-reserve.ensures.items) (at.invariant.replies [] (means_none g.T.PartialEq.eq c.args.bag.now empty)))
+    (at.invariant.paid empty none) at.invariant.shaped.smaller
+
+pub returns-in_err-reply-clause-bounded : goal.returns-in_err-reply-clause-bounded
+returns-in_err-reply-clause-bounded g c = λ empty none.
+    let at = c.loop-step in
+    let steps : into_iter_items at.step-iterator ≡ c.in-Some.step ∷ into_iter_items c.next.new.self = c.in-Some.ensures.steps.0 in
+    rw c.in_err-reply.ensures.err
+    (bounded_from g.T.PartialEq.eq c.args.bag.now.most at.yielded (into_iter_items at.step-iterator) c.args.steps.items c.args.replies.now.items at.replies.items c.args.bag.now.tables at.bag.tables
+    (at.invariant.taken ∙ c.into_iter-step-iterator.ensures.into_iter_gives.0)
+    (rw (← c.in_ok-reserve.ensures.items) (at.invariant.replies [] (means_none g.T.PartialEq.eq c.args.bag.now empty)))
+    (at.invariant.paid empty none) at.invariant.shaped.smaller)
+
+pub returns-in_err-reserve-clause-bounded : goal.returns-in_err-reserve-clause-bounded
+returns-in_err-reserve-clause-bounded g c = λ empty none.
+    bounded_from g.T.PartialEq.eq c.args.bag.now.most [] c.args.steps.items c.args.steps.items c.args.replies.now.items _ c.args.bag.now.tables c.args.bag.now.tables
+    refl (unanswered g.T.PartialEq.eq c.args.bag.now.most _ _ (search rules)) (no_slots_paid g.T.PartialEq.eq c.args.bag.now.most c.args.bag.now.tables none) c.recall_what_tables_keep.ensures.smaller
+
+-- all steps were done
+pub returns-clause-means : goal.returns-clause-means
+returns-clause-means g c = λ X means.
+    let at = c.loop-step in
+    let gone : into_iter_items at.step-iterator ≡ [] = nil_from_length (into_iter_items at.step-iterator) (sym at.invariant.long ∙ c.in-None.ensures.steps.0) in
+    let all : at.yielded ≡ c.args.steps.items = sym (append-nil at.yielded) ∙ ap (λ (l : List (Step g.row.T.Denot)). at.yielded ++ l) (sym gone) ∙ at.invariant.taken ∙ c.into_iter-step-iterator.ensures.into_iter_gives.0 in
+    subst (λ l. Means at.bag (run_of g.T.PartialEq.eq c.args.bag.now.most X l).0) all (at.invariant.means X means)

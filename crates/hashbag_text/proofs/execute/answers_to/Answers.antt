@@ -22,12 +22,12 @@ returns c =
     let left_a = whole.first [] empty_a in
     let left_b = whole.second [] empty_b in
     record {
-      replies_a = rw c.new-replies_a.ensures.items at left_a.replies;
-      replies_b = rw c.new-replies_b.ensures.items at left_b.replies;
-      outer = whole.outer [] [] empty_a empty_b;
-      difference = whole.difference [] [] empty_a empty_b;
-      signed = whole.signed [] [] empty_a empty_b;
-      not_in = whole.not_in [] [] empty_a empty_b;
-      tree_a = c.in_ok-to_value.ensures.tree _ (one_each _) (λ v. count_rearranged nat_eq_equiv v _ _ left_a.means);
-      tree_b = c.in_ok-to_value-2.ensures.tree _ (one_each _) (λ v. count_rearranged nat_eq_equiv v _ _ left_b.means);
+      replies_a = rw (c.new-replies_a.ensures.items, c.new-a.ensures.limit) at left_a.replies;
+      replies_b = rw (c.new-replies_b.ensures.items, c.new-b.ensures.limit) at left_b.replies;
+      outer = rw (c.new-a.ensures.limit, c.new-b.ensures.limit) at (whole.outer [] [] empty_a empty_b);
+      difference = rw (c.new-a.ensures.limit, c.new-b.ensures.limit) at (whole.difference [] [] empty_a empty_b);
+      signed = rw (c.new-a.ensures.limit, c.new-b.ensures.limit) at (whole.signed [] [] empty_a empty_b);
+      not_in = rw (c.new-a.ensures.limit, c.new-b.ensures.limit) at (whole.not_in [] [] empty_a empty_b);
+      tree_a = c.in_ok-to_value.ensures.tree _ (one_each _) (λ v. count_rearranged nat_eq_equiv v _ _ (rw c.new-a.ensures.limit at left_a.means));
+      tree_b = c.in_ok-to_value-2.ensures.tree _ (one_each _) (λ v. count_rearranged nat_eq_equiv v _ _ (rw c.new-b.ensures.limit at left_b.means));
     }

@@ -17,9 +17,9 @@ returns-clause-whole g c =
     record {
       first = first;
       second = second;
-      outer = λ X Y in_a in_b. rw copies.outer (joins.outer (run eq X steps_a).0 (run eq Y steps_b).0 (first X in_a).means (second Y in_b).means);
+      outer = λ X Y in_a in_b. rw copies.outer (joins.outer (run eq c.args.a.now.most X steps_a).0 (run eq c.args.b.now.most Y steps_b).0 (first X in_a).means (second Y in_b).means);
       none_zero = rw copies.outer (outer_none_zero g.met.T.Eq.laws a b _ (joins.outer a b (IsPermutation-refl a) (IsPermutation-refl b)));
-      difference = λ X Y in_a in_b. rw copies.difference (joins.difference (run eq X steps_a).0 (run eq Y steps_b).0 (first X in_a).means (second Y in_b).means);
-      signed = λ X Y in_a in_b. rw copies.signed (joins.signed (run eq X steps_a).0 (run eq Y steps_b).0 (first X in_a).means (second Y in_b).means);
-      not_in = λ X Y in_a in_b. rw copies.not_in (joins.not_in (run eq X steps_a).0 (run eq Y steps_b).0 (first X in_a).means (second Y in_b).means);
+      difference = λ X Y in_a in_b. rw copies.difference (joins.difference (run eq c.args.a.now.most X steps_a).0 (run eq c.args.b.now.most Y steps_b).0 (first X in_a).means (second Y in_b).means);
+      signed = λ X Y in_a in_b. rw copies.signed (joins.signed (run eq c.args.a.now.most X steps_a).0 (run eq c.args.b.now.most Y steps_b).0 (first X in_a).means (second Y in_b).means);
+      not_in = λ X Y in_a in_b. rw copies.not_in (joins.not_in (run eq c.args.a.now.most X steps_a).0 (run eq c.args.b.now.most Y steps_b).0 (first X in_a).means (second Y in_b).means);
     }

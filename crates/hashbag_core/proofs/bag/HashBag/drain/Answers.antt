@@ -11,6 +11,7 @@ unfolding IsDistinct
 invariant_of-self-lent g c = λ w. record {
   sum = refl;
   fits = omega arith;
+  limit = c.self.invariant.limit;
   counted = record { distinct = tt; positive = All-nil (λ n. 0 < n) };
 }
 

@@ -21,7 +21,7 @@ returns-in_err-insert_within-clause-refused g c = handed_on c.from_residual.resu
   pairs = c.loop-item.invariant.pairs;
   went = c.loop-item.invariant.went;
   left = rw c.in_err-insert_within.ensures.err c.loop-item.invariant.left;
-  why = refuses_rearranged g.met.T.Eq.laws _ _ c.in-Some.item 1 c.in_err-insert_within.field-0.0 c.loop-item.invariant.left.means c.in_err-insert_within.ensures.refused;
+  why = refuses_rearranged g.met.T.Eq.laws _ _ c.loop-item.invariant.left.limit _ _ c.in-Some.item 1 c.in_err-insert_within.field-0.0 c.loop-item.invariant.left.means c.in_err-insert_within.ensures.refused;
 })
 
 pub returns-clause-all : goal.returns-clause-all

@@ -21,7 +21,7 @@ returns-in_err-insert_within-clause-refused g c = handed_on c.from_residual.resu
   pairs = c.loop-value.invariant.pairs;
   went = c.loop-value.invariant.went;
   left = rw c.in_err-insert_within.ensures.err c.loop-value.invariant.left;
-  why = refuses_rearranged g.met.T.Eq.laws _ _ c.in-Some.value c.in-Some.n c.in_err-insert_within.field-0.0 c.loop-value.invariant.left.means c.in_err-insert_within.ensures.refused;
+  why = refuses_rearranged g.met.T.Eq.laws _ _ c.loop-value.invariant.left.limit _ _ c.in-Some.value c.in-Some.n c.in_err-insert_within.field-0.0 c.loop-value.invariant.left.means c.in_err-insert_within.ensures.refused;
 })
 
 pub returns-clause-all : goal.returns-clause-all

@@ -19,7 +19,7 @@ returns-in_err-insert_clone-clause-refused g c = handed_on c.from_residual.resul
   pairs = c.loop-item.invariant.pairs;
   went = c.loop-item.invariant.went;
   left = rw c.in_err-insert_clone.ensures.err c.loop-item.invariant.left;
-  why = refuses_clones_rearranged _ _ 1 c.in_err-insert_clone.field-0.0 c.loop-item.invariant.left.means c.in_err-insert_clone.ensures.refused;
+  why = refuses_clones_rearranged _ _ c.loop-item.invariant.left.limit _ _ 1 c.in_err-insert_clone.field-0.0 c.loop-item.invariant.left.means c.in_err-insert_clone.ensures.refused;
 })
 
 pub returns-clause-all : goal.returns-clause-all

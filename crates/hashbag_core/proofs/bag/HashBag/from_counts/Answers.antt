@@ -1,4 +1,4 @@
-use Rattle.std.proofs.Common.{◌≡◌, List, length, ap, subst, arith}
+use Rattle.std.proofs.Common.{◌≡◌, ℕ, [], List, length, ap, subst, arith}
 use Rattle.hashbag_core.specs.Extends.{add_all, Refuses}
 use Rattle.hashbag_core.proofs.ExtendLemmas.{handed_on}
 use Rattle.hashbag_core.proofs.bag.HashBag.from_counts.Goals as goal
@@ -14,7 +14,8 @@ returns-in_err-extend_many-clause-refused g c =
       pairs = r.pairs;
       went = r.went;
       left = tt;
-      why = subst (λ (X : List g.row.T.Denot). Refuses g.T.PartialEq.eq (add_all g.T.PartialEq.eq X r.pairs) r.refused.0 r.refused.1 c.in_err-extend_many.field-0.0) c.default_in-bag.ensures.empty r.why;
+      why = subst (λ (m : ℕ). Refuses g.T.PartialEq.eq m (add_all g.T.PartialEq.eq [] r.pairs) r.refused.0 r.refused.1 c.in_err-extend_many.field-0.0) c.default_in-bag.ensures.limit
+          (subst (λ (X : List g.row.T.Denot). Refuses g.T.PartialEq.eq c.default_in-bag.result.most (add_all g.T.PartialEq.eq X r.pairs) r.refused.0 r.refused.1 c.in_err-extend_many.field-0.0) c.default_in-bag.ensures.empty r.why);
     })
 
 pub returns-clause-len : goal.returns-clause-len

@@ -1,7 +1,7 @@
 use Rattle.std.proofs.Common.{◌≡◌, ◌+◌, ◌≤◌, length, refl, arith, sym, ◌∙◌}
-use Rattle.hashbag_table.proofs.EntryLemmas.{OnErr-from}
+use Rattle.std.proofs.lemmas.Result.{err_from_is_err_and}
 use Rattle.hashbag_core.specs.Bag.{occurrences}
-use Rattle.hashbag_core.specs.Occurrences.{greatest_total, count}
+use Rattle.hashbag_core.specs.Occurrences.{count}
 use Rattle.hashbag_core.proofs.DistinctLemmas.{distinct_added, distinct_same}
 use Rattle.hashbag_core.proofs.OccurrenceLemmas.{add_occurrences, bag_from_tally, tally_added, count_occurrences, count_of_entry, count_in_tally}
 use Rattle.std.proofs.lemmas.Bool.{false≢true}
@@ -12,19 +12,27 @@ pub add-requires-clause-fits : goal.add-requires-clause-fits
 add-requires-clause-fits g c =
     let few = count_in_tally g.met.T.Eq.laws c.args.value _ _ c.self.invariant in
     let sum = c.self.invariant.sum in
-    let fits : length (occurrences c.self.inside.table.entries) + c.args.n ≤ greatest_total = rw (← c.self.view_is) at c.requires in
+    let within = c.self.invariant.fits in
+    let small = c.self.invariant.limit in
+    let fits = c.if-n-self.false in
     omega arith
 
-pub returns-in_err-before-clause-absent : goal.returns-in_err-before-clause-absent
-returns-in_err-before-clause-absent g c =
-    let absent : count g.T.PartialEq.eq c.args.value c.args.self.now.items ≡ 0 =
-    rw (← c.self.view_is) (count_occurrences g.met.T.Eq.laws c.args.value _ c.self.invariant.counted.distinct ∙ count_of_entry g.met.T.Eq.laws c.args.value _ _ (sym c.in_err-before.ensures.absent)) in
-    OnErr-from _ absent
+pub returns-in_err-before-clause-refused : goal.returns-in_err-before-clause-refused
+returns-in_err-before-clause-refused g c =
+    let error = err_from_is_err_and c.from_residual.result c.from_residual.ensures.1 in
+    let absent : count g.T.PartialEq.eq c.args.value (occurrences c.self.inside.table.entries) ≡ 0 =
+    count_occurrences g.met.T.Eq.laws c.args.value _ c.self.invariant.counted.distinct ∙ count_of_entry g.met.T.Eq.laws c.args.value _ _ (sym c.in_err-before.ensures.absent) in
+    let sum = c.self.invariant.sum in
+    let within = c.self.invariant.fits in
+    let fits = c.if-n-self.false in
+    let some = c.if-n-eq0.false in
+    rw (error.1, error.2, ← c.self.view_is) (omega (arith, sum, within, fits), omega (arith, some), absent)
 
 -- the total with n more
 pub invariant_of-self-2 : goal.invariant_of-self-2
 invariant_of-self-2 g c =
-    let fits : length (occurrences c.self.inside.table.entries) + c.args.n ≤ greatest_total = rw (← c.self.view_is) at c.requires in
+    let within = c.self.invariant.fits in
+    let fits = c.if-n-self.false in
     let sum = c.self.invariant.sum in
     tally_added g.met.T.Eq.laws c.args.value c.args.n _ c.add.new.self.entries c.self.inside.len c.self.invariant c.add.ensures.counted (omega arith) (add_occurrences g.met.T.Eq.laws c.args.value c.args.n _ _ c.self.invariant.counted c.in_ok-before.ensures.added)
 
@@ -35,6 +43,7 @@ pub returns-clause-added : goal.returns-clause-added
 returns-clause-added g c = rw (← c.self.view_is) (record {
   means = add_occurrences g.met.T.Eq.laws c.args.value c.args.n _ _ c.self.invariant.counted c.in_ok-before.ensures.added;
   hasher = c.add.ensures.hasher;
+  limit = refl;
   bag = bag_from_tally g.met.T.Eq.laws _ _ (invariant_of-self-2 g c);
 })
 
@@ -51,7 +60,7 @@ pub returns-clause-same_set : goal.returns-clause-same_set
 returns-clause-same_set g c = rw (← c.self.view_is) (distinct_same g.met.T.Eq.laws c.args.value _ _ _ c.self.invariant.counted c.add.ensures.counted c.in_ok-before.ensures.added)
 
 pub returns-in_err-before-clause-takes : goal.returns-in_err-before-clause-takes
-returns-in_err-before-clause-takes g c = λ some. absurd (false≢true (c.in_err-before.ensures.takes (rw (← c.self.view_is) at some)))
+returns-in_err-before-clause-takes g c = λ fits some. absurd (false≢true (c.in_err-before.ensures.takes (rw (← c.self.view_is) at some)))
 
 pub returns-clause-arrives : goal.returns-clause-arrives
 returns-clause-arrives g c = λ some none. rw (← c.self.view_is) (c.in_ok-before.ensures.arrives (absent_in_table g.met.T.Eq.laws c.args.value _ c.self.invariant.counted (rw (← c.self.view_is) at none)))
@@ -73,12 +82,3 @@ returns-clause-same_slots g c = λ some. rw (← c.self.view_is) (c.in_ok-before
 
 pub returns-clause-same_room : goal.returns-clause-same_room
 returns-clause-same_room g c = λ some. rw (← c.self.view_is) (c.in_ok-before.ensures.same_room some)
-
-pub returns-then-n-eq0-clause-absent : goal.returns-then-n-eq0-clause-absent
-returns-then-n-eq0-clause-absent g c = tt
-
-pub returns-then-n-eq0-clause-some : goal.returns-then-n-eq0-clause-some
-returns-then-n-eq0-clause-some g c = tt
-
-pub returns-then-n-eq0-clause-takes : goal.returns-then-n-eq0-clause-takes
-returns-then-n-eq0-clause-takes g c = λ _. refl

@@ -1,7 +1,7 @@
-use Rattle.std.proofs.Common.{◌≡◌, ◌+◌, ◌≤◌, length, arith, sym, ◌∙◌}
+use Rattle.std.proofs.Common.{◌≡◌, ◌+◌, ◌≤◌, length, arith, sym, ◌∙◌, refl}
 use Rattle.hashbag_table.specs.Entries.{count_of}
 use Rattle.hashbag_core.specs.Bag.{occurrences}
-use Rattle.hashbag_core.specs.Occurrences.{greatest_total, count}
+use Rattle.hashbag_core.specs.Occurrences.{count}
 use Rattle.hashbag_core.proofs.OccurrenceLemmas.{bag_from_tally, count_occurrences, absent_from_count, new_occurrences, tally_added}
 use Rattle.std.proofs.lemmas.Bool.{false≢true}
 use Rattle.hashbag_core.proofs.bag.HashBag.insert_new.Goals as goal
@@ -13,7 +13,7 @@ insert_new-requires-clause-absent g c =
 
 pub invariant_of-self-2 : goal.invariant_of-self-2
 invariant_of-self-2 g c =
-    let fits : length (occurrences c.self.inside.table.entries) + c.args.quantity ≤ greatest_total = rw (← c.self.view_is) at c.requires.fits in
+    let fits : length (occurrences c.self.inside.table.entries) + c.args.quantity ≤ c.self.inside.most = rw (← c.self.view_is) at c.requires.fits in
     let sum = c.self.invariant.sum in
     let none : count g.T.PartialEq.eq c.args.value (occurrences c.self.inside.table.entries) ≡ 0 = rw (← c.self.view_is) at c.requires.absent in
     tally_added g.met.T.Eq.laws c.args.value c.args.quantity c.self.inside.table.entries c.insert_new.new.self.entries c.self.inside.len c.self.invariant c.insert_new.ensures.counted (omega arith)
@@ -25,6 +25,7 @@ returns-clause-added g c =
     rw (← c.self.view_is) (record {
       means = new_occurrences g.met.T.Eq.laws c.args.value c.args.quantity c.self.inside.table.entries c.insert_new.new.self.entries c.self.invariant.counted none c.in_ok-insert_new.ensures.inserted;
       hasher = c.insert_new.ensures.hasher;
+      limit = refl;
       bag = bag_from_tally g.met.T.Eq.laws _ _ (invariant_of-self-2 g c);
     })
 

@@ -1,12 +1,14 @@
-use Rattle.std.proofs.Common.{◌+◌, ◌-◌, ◌≤◌, length, arith, sym, ◌∙◌, subst, ℕ}
+use Rattle.std.proofs.Common.{◌+◌, ◌-◌, ◌≤◌, length, arith, sym, ◌∙◌, subst, ℕ, refl}
 use Rattle.hashbag_core.specs.Bag.{occurrences, IsTallied}
 use Rattle.hashbag_core.specs.Occurrences.{greatest_total, count}
-use Rattle.hashbag_core.proofs.OccurrenceLemmas.{bag_from_tally, count_occurrences, count_in_tally, put_occurrences, tally_put}
+use Rattle.hashbag_core.proofs.OccurrenceLemmas.{bag_from_tally, count_occurrences, count_in_tally, count_le, put_occurrences, tally_put}
 use Rattle.std.proofs.Common.{◌≡◌}
 use Rattle.std.proofs.lemmas.Bool.{false≢true}
+use Rattle.std.proofs.lemmas.Result.{err_from_is_err_and}
 use Rattle.hashbag_table.proofs.EntryLemmas.{OnErr-from}
 use Rattle.hashbag_core.proofs.OccurrenceLemmas.{count_of_entry}
 use Rattle.hashbag_core.proofs.HeldLemmas.{absent_in_table, present_in_table}
+use Rattle.hashbag_core.proofs.bag.HashBag.replace.Goals.{else-self-via-then-self+else-contains-eq0, else-self-via-else-self}
 use Rattle.hashbag_core.proofs.bag.HashBag.replace.Goals as goal
 
 pub overflow_sub-self : goal.overflow_sub-self
@@ -21,7 +23,14 @@ overflow_add-self g c =
     let before = c.in_ok-before.ensures.before in
     let same = count_occurrences g.met.T.Eq.laws c.args.value es c.self.invariant.counted.distinct in
     let sum = c.self.invariant.sum in
-    let fits : length (occurrences es) - count g.T.PartialEq.eq c.args.value (occurrences es) + 1 ≤ greatest_total = rw (← c.self.view_is) at c.requires in
+    let within = c.self.invariant.fits in
+    let fits : length (occurrences es) - count g.T.PartialEq.eq c.args.value (occurrences es) + 1 ≤ c.self.inside.most = elim c.else-self.branch [
+      | else-self-via-then-self+else-contains-eq0 w ↦
+          let often : w.contains.result ≡ count g.T.PartialEq.eq c.args.value (occurrences c.self.inside.table.entries) = rw (← c.self.view_is) at w.contains.ensures.count in
+          let some = w.if-contains-eq0.false in
+          let few = count_le g.met.T.Eq.laws c.args.value (occurrences c.self.inside.table.entries) in omega (arith, sum, within, often, some, few)
+      | else-self-via-else-self w ↦ let fewer = w.if-self.false in omega (arith, sum, within, fewer)
+    ] in
     omega arith
 
 pub invariant_of-self-2 : goal.invariant_of-self-2
@@ -31,8 +40,15 @@ invariant_of-self-2 g c =
     let es = c.self.inside.table.entries in
     let same = count_occurrences g.met.T.Eq.laws v es c.self.invariant.counted.distinct in
     let sum = c.self.invariant.sum in
-    let fits : length (occurrences es) - count eq v (occurrences es) + 1 ≤ greatest_total = rw (← c.self.view_is) at c.requires in
-    subst (λ (k : ℕ). IsTallied eq c.put_instance.new.self.entries (c.self.inside.len - k + 1)) (sym c.in_ok-before.ensures.before)
+    let within = c.self.invariant.fits in
+    let fits : length (occurrences es) - count eq v (occurrences es) + 1 ≤ c.self.inside.most = elim c.else-self.branch [
+      | else-self-via-then-self+else-contains-eq0 w ↦
+          let often : w.contains.result ≡ count g.T.PartialEq.eq c.args.value (occurrences c.self.inside.table.entries) = rw (← c.self.view_is) at w.contains.ensures.count in
+          let some = w.if-contains-eq0.false in
+          let few = count_le g.met.T.Eq.laws c.args.value (occurrences c.self.inside.table.entries) in omega (arith, sum, within, often, some, few)
+      | else-self-via-else-self w ↦ let fewer = w.if-self.false in omega (arith, sum, within, fewer)
+    ] in
+    subst (λ (k : ℕ). IsTallied eq c.put_instance.new.self.entries (c.self.inside.len - k + 1) c.self.inside.most) (sym c.in_ok-before.ensures.before)
     (tally_put g.met.T.Eq.laws v 1 es c.put_instance.new.self.entries c.self.inside.len c.self.invariant c.put_instance.ensures.counted (omega arith)
     (put_occurrences g.met.T.Eq.laws v 1 es c.put_instance.new.self.entries c.self.invariant.counted c.in_ok-before.ensures.put))
 
@@ -43,6 +59,7 @@ pub returns-clause-put : goal.returns-clause-put
 returns-clause-put g c = rw (← c.self.view_is) (record {
   means = put_occurrences g.met.T.Eq.laws c.args.value 1 _ _ c.self.invariant.counted c.in_ok-before.ensures.put;
   hasher = c.put_instance.ensures.hasher;
+  limit = refl;
   bag = bag_from_tally g.met.T.Eq.laws _ _ (invariant_of-self-2 g c);
 })
 
@@ -61,8 +78,24 @@ returns-in_err-before-clause-absent g c =
     rw (← c.self.view_is) (count_occurrences g.met.T.Eq.laws c.args.value _ c.self.invariant.counted.distinct ∙ count_of_entry g.met.T.Eq.laws c.args.value _ _ (sym c.in_err-before.ensures.absent)) in
     OnErr-from _ absent
 
+pub returns-in_err-before-clause-refused : goal.returns-in_err-before-clause-refused
+returns-in_err-before-clause-refused g c =
+    let error = err_from_is_err_and c.from_residual.result c.from_residual.ensures.1 in
+    let absent : count g.T.PartialEq.eq c.args.value (occurrences c.self.inside.table.entries) ≡ 0 =
+    count_occurrences g.met.T.Eq.laws c.args.value _ c.self.invariant.counted.distinct ∙ count_of_entry g.met.T.Eq.laws c.args.value _ _ (sym c.in_err-before.ensures.absent) in
+    let sum = c.self.invariant.sum in
+    let within = c.self.invariant.fits in
+    let fits : length (occurrences c.self.inside.table.entries) - count g.T.PartialEq.eq c.args.value (occurrences c.self.inside.table.entries) + 1 ≤ c.self.inside.most = elim c.else-self.branch [
+      | else-self-via-then-self+else-contains-eq0 w ↦
+          let often : w.contains.result ≡ count g.T.PartialEq.eq c.args.value (occurrences c.self.inside.table.entries) = rw (← c.self.view_is) at w.contains.ensures.count in
+          let some = w.if-contains-eq0.false in
+          let few = count_le g.met.T.Eq.laws c.args.value (occurrences c.self.inside.table.entries) in omega (arith, sum, within, often, some, few)
+      | else-self-via-else-self w ↦ let fewer = w.if-self.false in omega (arith, sum, within, fewer)
+    ] in
+    rw (error.1, error.2, ← c.self.view_is) (omega (arith, absent, fits), omega arith, absent)
+
 pub returns-in_err-before-clause-takes : goal.returns-in_err-before-clause-takes
-returns-in_err-before-clause-takes g c = λ some. absurd (false≢true (c.in_err-before.ensures.takes (rw (← c.self.view_is) at some)))
+returns-in_err-before-clause-takes g c = λ fits some. absurd (false≢true (c.in_err-before.ensures.takes (rw (← c.self.view_is) at some)))
 
 pub returns-clause-arrives : goal.returns-clause-arrives
 returns-clause-arrives g c = λ none. rw (← c.self.view_is) (c.in_ok-before.ensures.arrives (absent_in_table g.met.T.Eq.laws c.args.value _ c.self.invariant.counted (rw (← c.self.view_is) at none)))

@@ -1,4 +1,4 @@
-use Rattle.std.proofs.Common.{◌+◌, ◌<◌, length, sym, ◌∙◌, arith}
+use Rattle.std.proofs.Common.{◌+◌, ◌<◌, length, sym, ◌∙◌, arith, refl}
 use Rattle.std.proofs.lemmas.Bool.{false≢true}
 use Rattle.hashbag_table.specs.declared.table.TheConstants.{MOST_VALUES}
 use Rattle.hashbag_core.specs.Bag.{occurrences}
@@ -13,6 +13,7 @@ pub returns-in_err-reserve-clause-kept : goal.returns-in_err-reserve-clause-kept
 returns-in_err-reserve-clause-kept g c = rw (← c.self.view_is) (record {
   means = occurrences_rearranged _ _ c.reserve.ensures.entries;
   hasher = c.reserve.ensures.hasher;
+  limit = refl;
   bag = bag_from_tally g.met.T.Eq.laws _ _ (tally_rearranged g.met.T.Eq.laws _ _ _ c.self.invariant c.reserve.ensures.counted c.reserve.ensures.entries);
 })
 
@@ -23,6 +24,7 @@ pub returns-clause-kept : goal.returns-clause-kept
 returns-clause-kept g c = rw (← c.self.view_is) (record {
   means = occurrences_rearranged _ _ c.reserve.ensures.entries;
   hasher = c.reserve.ensures.hasher;
+  limit = refl;
   bag = bag_from_tally g.met.T.Eq.laws _ _ (invariant_of-self-2 g c);
 })
 
@@ -43,13 +45,16 @@ pub returns-in_err-reserve-clause-enough : goal.returns-in_err-reserve-clause-en
 returns-in_err-reserve-clause-enough g c = λ enough. absurd (false≢true (c.in_err-reserve.ensures.enough (rw (← c.self.view_is) at enough)))
 
 pub returns-in_err-reserve-clause-same : goal.returns-in_err-reserve-clause-same
-returns-in_err-reserve-clause-same g c = λ enough. rw (← c.self.view_is) (ap shown (c.reserve.ensures.kept (rw (← c.self.view_is) at enough)))
+returns-in_err-reserve-clause-same g c = λ enough. rw (← c.self.view_is) (ap (shown c.self.inside.most) (c.reserve.ensures.kept (rw (← c.self.view_is) at enough)))
 
 pub returns-clause-same : goal.returns-clause-same
-returns-clause-same g c = λ enough. rw (← c.self.view_is) (ap shown (c.reserve.ensures.kept (rw (← c.self.view_is) at enough)))
+returns-clause-same g c = λ enough. rw (← c.self.view_is) (ap (shown c.self.inside.most) (c.reserve.ensures.kept (rw (← c.self.view_is) at enough)))
 
 pub returns-clause-least : goal.returns-clause-least
 returns-clause-least g c = λ more. rw (← c.self.view_is, distinct_count-occurrences g.met.T.Eq.laws c.self.inside.table.entries c.self.invariant.counted) (c.in_ok-reserve.ensures.least (rw (← c.self.view_is) at more))
 
 pub returns-clause-packed : goal.returns-clause-packed
 returns-clause-packed g c = λ more. c.in_ok-reserve.ensures.packed (rw (← c.self.view_is) at more)
+
+pub returns-clause-built : goal.returns-clause-built
+returns-clause-built g c = λ more. rw (← c.self.view_is) (c.in_ok-reserve.ensures.built (rw (← c.self.view_is) at more))

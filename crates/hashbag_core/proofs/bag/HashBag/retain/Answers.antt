@@ -34,3 +34,6 @@ returns-clause-waiting g c = rw (← c.self.view_is) c.retain-self-inside.ensure
 
 pub returns-clause-room : goal.returns-clause-room
 returns-clause-room g c = rw (← c.self.view_is) c.retain-self-inside.ensures.room
+
+pub returns-clause-built : goal.returns-clause-built
+returns-clause-built g c = rw (← c.self.view_is) c.retain-self-inside.ensures.built

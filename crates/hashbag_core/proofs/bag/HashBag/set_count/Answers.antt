@@ -1,6 +1,6 @@
-use Rattle.std.proofs.Common.{◌+◌, ◌-◌, ◌≤◌, ℕ, Bool, cond, length, arith, sym, ◌∙◌, ap, subst}
+use Rattle.std.proofs.Common.{◌+◌, ◌-◌, ◌≤◌, ℕ, Bool, cond, length, arith, sym, ◌∙◌, ap, subst, refl}
 use Rattle.hashbag_core.specs.Bag.{occurrences, IsTallied}
-use Rattle.hashbag_core.specs.Occurrences.{greatest_total, count}
+use Rattle.hashbag_core.specs.Occurrences.{count}
 use Rattle.hashbag_core.proofs.CallerLemmas.{count_put_instance}
 use Rattle.hashbag_core.proofs.OccurrenceLemmas.{bag_from_tally, count_in_tally, count_occurrences, count_rearranged, tally_set}
 use Rattle.hashbag_core.proofs.bag.HashBag.set_count.Goals as goal
@@ -18,14 +18,15 @@ invariant_of-self g c =
     let before = (rw (← c.self.view_is) at c.requires.before) ∙ count_occurrences g.met.T.Eq.laws v es c.self.invariant.counted.distinct in
     let some = c.requires.present in
     let sum = c.self.invariant.sum in
-    let fits : length (occurrences es) - c.args.before + c.args.n ≤ greatest_total = rw (← c.self.view_is) at c.requires.fits in
-    subst (λ (k : ℕ). IsTallied g.T.PartialEq.eq c.set_or_remove.new.table.entries (c.self.inside.len - k + c.args.n)) (sym before)
+    let fits : length (occurrences es) - c.args.before + c.args.n ≤ c.self.inside.most = rw (← c.self.view_is) at c.requires.fits in
+    subst (λ (k : ℕ). IsTallied g.T.PartialEq.eq c.set_or_remove.new.table.entries (c.self.inside.len - k + c.args.n) c.self.inside.most) (sym before)
     (tally_set g.met.T.Eq.laws v c.args.n es c.set_or_remove.new.table.entries c.self.inside.len c.self.invariant c.set_or_remove.ensures.counted (omega arith) (omega arith) c.set_or_remove.ensures.set)
 
 pub returns-clause-put : goal.returns-clause-put
 returns-clause-put g c = rw (← c.self.view_is) (record {
   means = c.set_or_remove.ensures.set;
   hasher = c.set_or_remove.ensures.hasher;
+  limit = refl;
   bag = bag_from_tally g.met.T.Eq.laws _ _ (invariant_of-self g c);
 })
 

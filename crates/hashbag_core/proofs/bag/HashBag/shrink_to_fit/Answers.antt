@@ -1,4 +1,4 @@
-use Rattle.std.proofs.Common.{sym, ◌∙◌}
+use Rattle.std.proofs.Common.{sym, ◌∙◌, refl}
 use Rattle.hashbag_core.proofs.OccurrenceLemmas.{bag_from_tally, occurrences_rearranged, tally_rearranged}
 use Rattle.std.proofs.Common.{ap}
 use Rattle.std.proofs.lemmas.Bool.{false≢true}
@@ -10,6 +10,7 @@ pub returns-in_err-shrink_to_fit-clause-kept : goal.returns-in_err-shrink_to_fit
 returns-in_err-shrink_to_fit-clause-kept g c = rw (← c.self.view_is) (record {
   means = occurrences_rearranged _ _ c.shrink_to_fit.ensures.entries;
   hasher = c.shrink_to_fit.ensures.hasher;
+  limit = refl;
   bag = bag_from_tally g.met.T.Eq.laws _ _ (tally_rearranged g.met.T.Eq.laws _ _ _ c.self.invariant c.shrink_to_fit.ensures.counted c.shrink_to_fit.ensures.entries);
 })
 
@@ -20,6 +21,7 @@ pub returns-clause-kept : goal.returns-clause-kept
 returns-clause-kept g c = rw (← c.self.view_is) (record {
   means = occurrences_rearranged _ _ c.shrink_to_fit.ensures.entries;
   hasher = c.shrink_to_fit.ensures.hasher;
+  limit = refl;
   bag = bag_from_tally g.met.T.Eq.laws _ _ (invariant_of-self-2 g c);
 })
 
@@ -38,16 +40,27 @@ returns-in_err-shrink_to_fit-clause-enough g c = λ m least enough.
 
 pub returns-in_err-shrink_to_fit-clause-same : goal.returns-in_err-shrink_to_fit-clause-same
 returns-in_err-shrink_to_fit-clause-same g c = λ m least enough.
-    rw (← c.self.view_is) (ap shown (c.shrink_to_fit.ensures.kept m (rw (← c.self.view_is, distinct_count-occurrences g.met.T.Eq.laws c.self.inside.table.entries c.self.invariant.counted) at least) (rw (← c.self.view_is) at enough)))
+    rw (← c.self.view_is) (ap (shown c.self.inside.most) (c.shrink_to_fit.ensures.kept m (rw (← c.self.view_is, distinct_count-occurrences g.met.T.Eq.laws c.self.inside.table.entries c.self.invariant.counted) at least) (rw (← c.self.view_is) at enough)))
 
 pub returns-clause-same : goal.returns-clause-same
 returns-clause-same g c = λ m least enough.
-    rw (← c.self.view_is) (ap shown (c.shrink_to_fit.ensures.kept m (rw (← c.self.view_is, distinct_count-occurrences g.met.T.Eq.laws c.self.inside.table.entries c.self.invariant.counted) at least) (rw (← c.self.view_is) at enough)))
+    rw (← c.self.view_is) (ap (shown c.self.inside.most) (c.shrink_to_fit.ensures.kept m (rw (← c.self.view_is, distinct_count-occurrences g.met.T.Eq.laws c.self.inside.table.entries c.self.invariant.counted) at least) (rw (← c.self.view_is) at enough)))
 
 pub returns-clause-freed : goal.returns-clause-freed
 returns-clause-freed g c = λ empty.
-    none_from_newer c.shrink_to_fit.new.self.tables c.waiting-waiting.result
-    (c.shrink_to_fit.ensures.freed (no_entries g.met.T.Eq.laws _ c.self.invariant.counted (rw (← c.self.view_is) at empty))) c.waiting-waiting.ensures.waiting c.waiting-waiting.ensures.smaller
+    let none = no_entries g.met.T.Eq.laws _ c.self.invariant.counted (rw (← c.self.view_is) at empty) in
+    rw (← c.self.view_is) (none_from_newer c.shrink_to_fit.new.self.tables c.waiting-waiting.result c.self.inside.table.tables.built
+    (c.shrink_to_fit.ensures.freed none) c.waiting-waiting.ensures.waiting c.waiting-waiting.ensures.smaller (c.shrink_to_fit.ensures.freed_built none))
+
+pub returns-in_err-shrink_to_fit-clause-fewer : goal.returns-in_err-shrink_to_fit-clause-fewer
+returns-in_err-shrink_to_fit-clause-fewer g c = rw (← c.self.view_is) c.shrink_to_fit.ensures.fewer
+
+pub returns-clause-fewer : goal.returns-clause-fewer
+returns-clause-fewer g c = rw (← c.self.view_is) c.shrink_to_fit.ensures.fewer
+
+pub returns-clause-built : goal.returns-clause-built
+returns-clause-built g c = λ m least more.
+    rw (← c.self.view_is) (c.in_ok-shrink_to_fit.ensures.built m (rw (← c.self.view_is, distinct_count-occurrences g.met.T.Eq.laws c.self.inside.table.entries c.self.invariant.counted) at least) (rw (← c.self.view_is) at more))
 
 pub returns-clause-least : goal.returns-clause-least
 returns-clause-least g c = λ m least more.

@@ -1,4 +1,10 @@
-use Rattle.std.proofs.Common.{ap, subst}
+use Rattle.std.proofs.Common.{◌≡◌, length, ap, subst, arith}
+use Rattle.std.proofs.lemmas.List.{length-append}
+use Rattle.hashbag_slots.specs.Slots.{entries}
+use Rattle.hashbag_table.specs.Tables.{values}
+use Rattle.hashbag_table.proofs.SlotLemmas.{length-entries}
+use Rattle.hashbag_core.specs.Occurrences.{distinct_count}
+use Rattle.hashbag_core.proofs.DistinctLemmas.{distinct_count-occurrences}
 use Rattle.hashbag_table.specs.Entries.{IsCounted}
 use Rattle.hashbag_core.specs.Bag.{occurrences}
 use Rattle.hashbag_core.proofs.bag.HashBag.slots.Goals as goal
@@ -11,3 +17,17 @@ returns-clause-held g c = rw (← c.self.view_is) (record {
 
 pub returns-clause-unmoved : goal.returns-clause-unmoved
 returns-clause-unmoved g c = rw (← c.self.view_is) c.slots.ensures.unmoved
+
+pub returns-clause-fits : goal.returns-clause-fits
+returns-clause-fits g c = rw (← c.self.view_is) c.slots.ensures.fits
+
+pub returns-clause-values : goal.returns-clause-values
+returns-clause-values g c =
+    let t = c.self.inside.table in
+    let both = length-append (entries t.tables.newer) (entries t.tables.waiting) in
+    let newer = length-entries t.tables.newer in
+    let waiting = length-entries t.tables.waiting in
+    let all = ap length c.slots.ensures.entries in
+    let distinct = distinct_count-occurrences g.met.T.Eq.laws t.entries c.self.invariant.counted in
+    let is : values t.tables ≡ distinct_count g.T.PartialEq.eq (occurrences t.entries) = omega (arith, both, newer, waiting, all, distinct) in
+    rw (← c.self.view_is) is

@@ -14,7 +14,7 @@ invariant_of-self g c =
     let es = c.self.inside.table.entries in
     let v = c.args.value.now in
     let none = count_of_entry g.met.T.Eq.laws v es None c.in_err-instance.ensures.taken in
-    subst (λ (k : ℕ). IsTallied g.T.PartialEq.eq c.remove.new.self.entries k) (let same : c.self.inside.len - 0 ≡ c.self.inside.len = omega arith in same)
+    subst (λ (k : ℕ). IsTallied g.T.PartialEq.eq c.remove.new.self.entries k c.self.inside.most) (let same : c.self.inside.len - 0 ≡ c.self.inside.len = omega arith in same)
     (tally_less g.met.T.Eq.laws v (count g.T.PartialEq.eq v (occurrences es)) 0 es c.remove.new.self.entries c.self.inside.len c.self.invariant (omega arith) c.remove.ensures.counted
     (less_all_occurrences g.met.T.Eq.laws v _ es _ c.self.invariant.counted (omega arith) c.remove.ensures.left))
 
@@ -29,6 +29,7 @@ returns-in_err-instance-clause-left g c =
     rw (← c.self.view_is) (record {
       means = less_all_occurrences g.met.T.Eq.laws v _ es _ c.self.invariant.counted (omega arith) c.remove.ensures.left;
       hasher = c.remove.ensures.hasher;
+      limit = refl;
       bag = bag_from_tally g.met.T.Eq.laws _ _ (invariant_of-self g c);
     })
 
@@ -58,6 +59,7 @@ returns-clause-left g c =
     rw (← c.self.view_is) (record {
       means = less_all_occurrences g.met.T.Eq.laws v _ es _ c.self.invariant.counted (omega arith) c.remove.ensures.left;
       hasher = c.remove.ensures.hasher;
+      limit = refl;
       bag = bag_from_tally g.met.T.Eq.laws _ _ (invariant_of-self-2 g c);
     })
 
@@ -80,7 +82,7 @@ returns-in_err-instance-clause-slot g c = λ there.
     absurd (omega (arith, is_there, none, same))
 
 pub returns-in_err-instance-clause-none : goal.returns-in_err-instance-clause-none
-returns-in_err-instance-clause-none g c = λ _. rw (← c.self.view_is) (ap shown (c.in_err-instance.ensures.none refl))
+returns-in_err-instance-clause-none g c = λ _. rw (← c.self.view_is) (ap (shown c.self.inside.most) (c.in_err-instance.ensures.none refl))
 
 pub returns-clause-slot : goal.returns-clause-slot
 returns-clause-slot g c = λ _. rw (← c.self.view_is) (recounts_none g.T.PartialEq.eq c.args.value.now 0 _ _ refl (c.in_ok-instance.ensures.slot refl))

@@ -1,4 +1,4 @@
-use Rattle.std.proofs.Common.{◌≡◌, arith, sym, ◌∙◌, ap}
+use Rattle.std.proofs.Common.{◌≡◌, arith, sym, ◌∙◌, ap, refl}
 use Rattle.hashbag_core.specs.Bag.{occurrences}
 use Rattle.hashbag_core.specs.Occurrences.{count}
 use Rattle.hashbag_core.proofs.OccurrenceLemmas.{bag_from_tally, tally_less, count_occurrences, count_of_entry, count_in_tally, fewer_occurrences}
@@ -25,6 +25,7 @@ pub returns-in-Ok-clause-taken : goal.returns-in-Ok-clause-taken
 returns-in-Ok-clause-taken g c = rw (← c.self.view_is) (record {
   means = fewer_occurrences g.met.T.Eq.laws c.args.value.now 1 _ _ c.self.invariant.counted c.take_one.ensures.taken;
   hasher = c.take_one.ensures.hasher;
+  limit = refl;
   bag = bag_from_tally g.met.T.Eq.laws _ _ (invariant_of-self g c);
 })
 
@@ -76,6 +77,7 @@ pub returns-in-Err-clause-taken : goal.returns-in-Err-clause-taken
 returns-in-Err-clause-taken g c = rw (← c.self.view_is) (record {
   means = fewer_occurrences g.met.T.Eq.laws c.args.value.now 1 _ _ c.self.invariant.counted c.take_one.ensures.taken;
   hasher = c.take_one.ensures.hasher;
+  limit = refl;
   bag = bag_from_tally g.met.T.Eq.laws _ _ (invariant_of-self-in-Err g c);
 })
 
@@ -105,7 +107,7 @@ pub returns-in-Err-clause-none : goal.returns-in-Err-clause-none
 returns-in-Err-clause-none g c = λ none.
     let is_none = rw (← c.self.view_is) at none in
     let before : c.in-Err.before ≡ count g.T.PartialEq.eq c.args.value.now (occurrences c.self.inside.table.entries) = c.in-Err.ensures.others.0 ∙ sym (count_occurrences g.met.T.Eq.laws c.args.value.now _ c.self.invariant.counted.distinct) in
-    rw (← c.self.view_is) (ap shown (c.in-Err.ensures.none (before ∙ is_none)))
+    rw (← c.self.view_is) (ap (shown c.self.inside.most) (c.in-Err.ensures.none (before ∙ is_none)))
 
 pub returns-in-Ok-clause-slots : goal.returns-in-Ok-clause-slots
 returns-in-Ok-clause-slots g c = rw (← c.self.view_is) c.take_one.ensures.slots

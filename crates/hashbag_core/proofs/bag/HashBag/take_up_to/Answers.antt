@@ -1,4 +1,4 @@
-use Rattle.std.proofs.Common.{arith, sym, ◌∙◌}
+use Rattle.std.proofs.Common.{arith, sym, ◌∙◌, refl}
 use Rattle.hashbag_core.proofs.OccurrenceLemmas.{bag_from_tally, tally_less, count_in_tally, count_occurrences, fewer_occurrences}
 use Rattle.std.proofs.Common.{◌≡◌, ap}
 use Rattle.hashbag_core.specs.Bag.{occurrences}
@@ -26,6 +26,7 @@ pub returns-clause-removed : goal.returns-clause-removed
 returns-clause-removed g c = rw (← c.self.view_is) (record {
   means = fewer_occurrences g.met.T.Eq.laws c.args.value.now c.args.quantity _ _ c.self.invariant.counted c.take-before.ensures.taken;
   hasher = c.take-before.ensures.hasher;
+  limit = refl;
   bag = bag_from_tally g.met.T.Eq.laws _ _ (invariant_of-self g c);
 })
 
@@ -48,7 +49,7 @@ pub returns-clause-none : goal.returns-clause-none
 returns-clause-none g c = λ none.
     let is_none = rw (← c.self.view_is) at none in
     let before : c.take-before.result ≡ count g.T.PartialEq.eq c.args.value.now (occurrences c.self.inside.table.entries) = c.take-before.ensures.before ∙ sym (count_occurrences g.met.T.Eq.laws c.args.value.now _ c.self.invariant.counted.distinct) in
-    rw (← c.self.view_is) (ap shown (c.take-before.ensures.none (before ∙ is_none)))
+    rw (← c.self.view_is) (ap (shown c.self.inside.most) (c.take-before.ensures.none (before ∙ is_none)))
 
 pub returns-clause-slots : goal.returns-clause-slots
 returns-clause-slots g c = rw (← c.self.view_is) c.take-before.ensures.slots

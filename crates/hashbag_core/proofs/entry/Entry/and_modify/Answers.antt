@@ -3,13 +3,15 @@ use Rattle.hashbag_core.specs.Held.{Recounts}
 use Rattle.hashbag_core.proofs.OccurrenceLemmas.{count_le}
 use Rattle.hashbag_core.proofs.entry.Entry.and_modify.Goals as goal
 
-pub returns-then-n-len : goal.returns-then-n-len
-returns-then-n-len g c =
+pub returns-then-n-limit : goal.returns-then-n-limit
+returns-then-n-limit g c =
     let before = c.contains-before.ensures.count in
     let some = c.if-before-eq0.false in
     let long = c.len.ensures.len in
-    let past = c.if-n-len.true in
+    let past = c.if-n-limit.true in
     let few = count_le g.met.T.Eq.laws c.args.self.value c.args.self.bag.now.items in
+    let most = c.limit.ensures.limit in
+    let within = c.limit.ensures.within in
     let fits = c.len.type_inv in (
       (refl, λ _. tt, refl),
       record {
@@ -36,8 +38,10 @@ returns g c =
     let before = c.contains-before.ensures.count in
     let some = c.if-before-eq0.false in
     let long = c.len.ensures.len in
-    let past = c.if-n-len.false in
+    let past = c.if-n-limit.false in
     let few = count_le g.met.T.Eq.laws c.args.self.value c.args.self.bag.now.items in
+    let most = c.limit.ensures.limit in
+    let within = c.limit.ensures.within in
     let fits = c.len.type_inv in (
       (refl, λ w. refl, tt),
       record {

@@ -1,4 +1,7 @@
-use Rattle.std.proofs.Common.{arith, refl}
+use Rattle.std.proofs.Common.{◌≡◌, sym, ◌∙◌, arith, refl}
+use Rattle.std.proofs.lemmas.Result.{err_from_is_err_and}
+use Rattle.hashbag_core.specs.Occurrences.{count}
+use Rattle.hashbag_core.specs.declared.bag.BagError.TheVariants.{Memory}
 use Rattle.hashbag_core.proofs.entry.Entry.or_insert_many.Goals as goal
 
 pub returns-then-before-gt0-clause-occupied : goal.returns-then-before-gt0-clause-occupied
@@ -24,3 +27,11 @@ returns-in_err-insert_new-clause-none g c = λ none. absurd (omega (arith, none)
 
 pub returns-clause-same : goal.returns-clause-same
 returns-clause-same g c = λ none. absurd (omega (arith, none))
+
+pub returns-in_err-insert_new-clause-refused : goal.returns-in_err-insert_new-clause-refused
+returns-in_err-insert_new-clause-refused g c =
+    let error = err_from_is_err_and c.from_residual.result c.from_residual.ensures.1 in
+    let is : c.in_err-insert_new.field-0.0 ≡ Memory = cc (c.in_err-insert_new.ensures.memory) in
+    let often = c.contains-before.ensures.count in
+    let none : count g.T.PartialEq.eq c.args.self.value c.args.self.bag.now.items ≡ 0 = omega (arith, often) in
+    rw (error.1, error.2, is) (omega arith, omega arith, none)

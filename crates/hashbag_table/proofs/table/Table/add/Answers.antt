@@ -80,4 +80,4 @@ returns-then-takes_now-clause-slot g c some =
 pub returns-then-takes_now-clause-arrives : goal.returns-then-takes_now-clause-arrives
 returns-then-takes_now-clause-arrives g c none =
     let t = c.args.self.now.tables in let is = c.if-takes_now.true in
-    arrives_from t t c.settle.new.self.tables c.args.value c.args.n (ready_alone t (c.takes_now.ensures.none_waits is) (c.takes_now.ensures.room is)) c.settle.ensures.placed c.settle.ensures.waiting
+    arrives_from t t c.settle.new.self.tables c.args.value c.args.n (ready_alone t (c.takes_now.ensures.none_waits is) (c.takes_now.ensures.room is)) c.settle.ensures.placed c.settle.ensures.waiting c.settle.ensures.built

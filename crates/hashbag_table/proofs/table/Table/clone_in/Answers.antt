@@ -77,3 +77,8 @@ pub returns-clause-packed : goal.returns-clause-packed
 returns-clause-packed g c =
     let so_far = c.loop-value.invariant.0 in
     filled_packed c.loop-value.table.tables c.in_ok-table.table.tables (length so_far.0) so_far.3
+
+pub returns-clause-built : goal.returns-clause-built
+returns-clause-built g c =
+    let so_far = c.loop-value.invariant.0 in
+    so_far.3.built ∙ c.in_ok-table.ensures.built ∙ sym so_far.3.slots

@@ -1,4 +1,4 @@
-use Rattle.std.proofs.Common.{◌≡◌, ◌++◌, [], List, length, drop, refl, ap, sym, subst, ◌∙◌, arith}
+use Rattle.std.proofs.Common.{◌≡◌, ◌++◌, ℕ, [], List, length, drop, refl, ap, sym, subst, ◌∙◌, arith}
 use Rattle.std.specs.List.Sorted.{IsPermutation}
 use Rattle.std.proofs.lemmas.List.{length-append}
 use Rattle.hashbag_slots.specs.declared.slots.Slot.{Slot}
@@ -15,8 +15,8 @@ use Rattle.hashbag_table.proofs.SlotLemmas.{entries-drop, entries_few}
 use Rattle.hashbag_table.proofs.table.Table.drain.Goals as goal
 
 -- what contracts see of a table of no slots
-none_left : {T S : Type 0} (h : S) (newer older : List (Slot T)) → newer ≡ [] → older ≡ [] → (let t : Table T S = record { entries = entries_of newer older; hasher = h; tables = record { newer = newer; waiting = older } } in t) ≡ record { entries = []; hasher = h; tables = record { newer = []; waiting = [] } }
-none_left h newer older e f i = record { entries = entries_of (e i) (f i); hasher = h; tables = record { newer = e i; waiting = f i } }
+none_left : {T S : Type 0} (h : S) (newer older : List (Slot T)) (built : ℕ) → newer ≡ [] → older ≡ [] → (let t : Table T S = record { entries = entries_of newer older; hasher = h; tables = record { newer = newer; waiting = older; built = built } } in t) ≡ record { entries = []; hasher = h; tables = record { newer = []; waiting = []; built = built } }
+none_left h newer older built e f i = record { entries = entries_of (e i) (f i); hasher = h; tables = record { newer = e i; waiting = f i; built = built } }
 
 pub invariant_of-result : goal.invariant_of-result
 invariant_of-result g c =
@@ -46,7 +46,7 @@ returns g c =
     let l = length-append c.into_walk-first.result c.into_walk-second.result in let a = entries_few i.newer.slots in let b = entries_few i.older.slots in
     let d = ap length first in let k = ap length second in
     let p = c.recall.ensures.bound in let q = c.recall-2.ensures.bound in (
-      (refl, λ w. none_left i.hasher _ _ e f ∙ ap emptied c.self.view_is),
+      (refl, λ w. none_left i.hasher _ _ i.built e f ∙ ap emptied c.self.view_is),
       record {
         writes_back = tt;
         entries = subst (λ m. IsPermutation m.entries (c.into_walk-first.result ++ c.into_walk-second.result)) c.self.view_is (IsPermutation-same _ _ same);

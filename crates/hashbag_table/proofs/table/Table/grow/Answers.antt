@@ -55,6 +55,7 @@ returns-clause-ready g c =
     ready_grown c.args.self.now.tables now now c.requires.full
     (subst (λ ss. Carried 16 ss c.args.self.now.tables.newer now.newer now.waiting) (slots ∙ ap (λ t. fresh t.tables) c.self.view_is) c.adopt.ensures.carried)
     (subst (λ t. t.tables.waiting ≡ []) c.self.view_is alone) first.0 first.1
+    (c.adopt.ensures.built ∙ ap (λ k. c.args.self.now.tables.built + k) (sym c.adopt.ensures.carried.fills.same_length))
 
 pub returns-clause-entries : goal.returns-clause-entries
 returns-clause-entries g c =

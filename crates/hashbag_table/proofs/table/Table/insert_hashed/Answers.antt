@@ -23,4 +23,4 @@ returns-clause-inserted g c =
 
 pub returns-clause-arrives : goal.returns-clause-arrives
 returns-clause-arrives g c =
-    arrives_from c.args.self.now.tables c.make_way.new.self.tables c.settle.new.self.tables c.args.value c.args.count c.in_ok-make_way.ensures.ready c.settle.ensures.placed c.settle.ensures.waiting
+    arrives_from c.args.self.now.tables c.make_way.new.self.tables c.settle.new.self.tables c.args.value c.args.count c.in_ok-make_way.ensures.ready c.settle.ensures.placed c.settle.ensures.waiting c.settle.ensures.built

@@ -1,4 +1,4 @@
-use Rattle.std.proofs.Common.{◌≤◌, ◌-◌, ◌++◌, length, sym, ap, subst, ◌∙◌, arith}
+use Rattle.std.proofs.Common.{◌≤◌, ◌+◌, ◌-◌, ◌++◌, length, sym, ap, subst, ◌∙◌, arith}
 use Rattle.std.specs.List.Sorted.{IsPermutation}
 use Rattle.std.proofs.lemmas.List.{append-nil}
 use Rattle.std.proofs.lemmas.List.Sorted.{IsPermutation-trans}
@@ -89,3 +89,8 @@ returns-clause-entries g c =
 pub returns-clause-counted : goal.returns-clause-counted
 returns-clause-counted g c =
     counted_rearranged g.met.T.Eq.laws _ _ (returns-clause-entries g c) (subst (λ t. IsCounted g.T.PartialEq.eq t.entries) c.self.view_is c.self.invariant.counted)
+
+pub returns-clause-built : goal.returns-clause-built
+returns-clause-built g c =
+    let seen = ap (λ t. t.tables.built) c.self.view_is in
+    c.adopt.ensures.built ∙ (λ i. seen i + c.carry_from.ensures.slots i)

@@ -53,3 +53,11 @@ returns-clause-least g c beyond =
     let same = subst (λ many. IsLeast (length c.self.inside.newer.slots) (many + c.args.n) c.in_ok-count.count) c.set_len-values.ensures.len least in
     subst (λ from. IsLeast from (length c.args.self.now.entries + c.args.n) (length c.pack.new.self.tables.newer)) (ap (λ t. length t.tables.newer) c.self.view_is)
     (subst (IsLeast (length c.self.inside.newer.slots) (length c.args.self.now.entries + c.args.n)) (sym size) same)
+
+pub returns-then-n-room-clause-built : goal.returns-then-n-room-clause-built
+returns-then-n-room-clause-built g c beyond =
+    let few = c.if-n-room.true in let r = c.room.ensures in
+    absurd (omega (arith, few, r, beyond))
+
+pub returns-clause-built : goal.returns-clause-built
+returns-clause-built g c beyond = c.pack.ensures.built ∙ ap (λ k. c.args.self.now.tables.built + k) (sym c.pack.ensures.slots)

@@ -1,4 +1,4 @@
-use Rattle.std.proofs.Common.{◌≡◌, [], length, ap, subst, ◌∙◌, refl, arith}
+use Rattle.std.proofs.Common.{◌≡◌, ◌+◌, [], length, ap, subst, ◌∙◌, refl, arith}
 use Rattle.std.proofs.lemmas.List.{length-replicate, drop_all}
 use Rattle.hashbag_slots.specs.declared.slots.Slot.TheVariants.{Empty}
 use Rattle.hashbag_table.specs.Tables.{IsLeast}
@@ -39,6 +39,33 @@ returns-then-count-slots-clause-least g c m least less =
 
 pub returns-then-count-slots-clause-packed : goal.returns-then-count-slots-clause-packed
 returns-then-count-slots-clause-packed g c m least less =
+    let same = least_unique 0 _ c.in_ok-count.count m (subst (λ k. IsLeast 0 k c.in_ok-count.count) c.set_len.ensures.len c.in_ok-count.ensures.least) least in
+    let few = c.if-count-slots.true in let s = c.slots.ensures.value in
+    let seen = ap (λ t. length t.tables.newer) c.self.view_is in
+    absurd (omega (arith, same, few, s, seen, less))
+
+pub returns-clause-freed_built : goal.returns-clause-freed_built
+returns-clause-freed_built g c none =
+    let zero : c.set_len.result ≡ 0 = c.set_len.ensures.len ∙ ap length none in
+    let count = least_none c.in_ok-count.count (subst (λ k. IsLeast 0 k c.in_ok-count.count) zero c.in_ok-count.ensures.least) in
+    let size : length c.in_ok-newer.newer.slots ≡ c.in_ok-count.count = ap length c.in_ok-newer.ensures.slots ∙ length-replicate c.in_ok-count.count Empty in
+    let sum = c.pack.ensures.built in
+    omega (arith, count, size, sum)
+
+pub returns-clause-fewer : goal.returns-clause-fewer
+returns-clause-fewer g c =
+    let size : length c.pack.new.self.tables.newer ≡ c.in_ok-count.count = c.pack.ensures.slots ∙ ap length c.in_ok-newer.ensures.slots ∙ length-replicate c.in_ok-count.count Empty in
+    let less = c.if-count-slots.false in let s = c.slots.ensures.value in
+    let seen = ap (λ t. length t.tables.newer) c.self.view_is in
+    omega (arith, size, less, s, seen)
+
+pub returns-clause-built : goal.returns-clause-built
+returns-clause-built g c m least less =
+    c.pack.ensures.built ∙ ap (λ k. c.args.self.now.tables.built + k) (ap length c.in_ok-newer.ensures.slots ∙ length-replicate c.in_ok-count.count Empty
+    ∙ least_unique 0 _ c.in_ok-count.count m (subst (λ k. IsLeast 0 k c.in_ok-count.count) c.set_len.ensures.len c.in_ok-count.ensures.least) least)
+
+pub returns-then-count-slots-clause-built : goal.returns-then-count-slots-clause-built
+returns-then-count-slots-clause-built g c m least less =
     let same = least_unique 0 _ c.in_ok-count.count m (subst (λ k. IsLeast 0 k c.in_ok-count.count) c.set_len.ensures.len c.in_ok-count.ensures.least) least in
     let few = c.if-count-slots.true in let s = c.slots.ensures.value in
     let seen = ap (λ t. length t.tables.newer) c.self.view_is in

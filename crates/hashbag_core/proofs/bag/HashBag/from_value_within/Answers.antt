@@ -6,9 +6,8 @@ use Rattle.serde_json.specs.Find.{as_array}
 use Rattle.serde_json.specs.View.{view, items_view}
 use Rattle.serde_json.specs.declared.value.Value.{Value}
 use Rattle.hashbag_core.specs.JsonFaults.{array_of}
-use Rattle.hashbag_core.specs.Occurrences.{greatest_total}
 use Rattle.hashbag_core.proofs.JsonReadLemmas.{IsReadTo, array_of_found, left_at, read_to_start, read_to_next, fault_at, may_end_at, no_fault_at_end, reading_at_end}
-use Rattle.hashbag_core.proofs.bag.HashBag.from_value.Goals as goal
+use Rattle.hashbag_core.proofs.bag.HashBag.from_value_within.Goals as goal
 
 -- the trees of the array
 trees : (d : Data) (items lent : List Value) → Some (items_view items) ≡ as_array d → lent ≡ items → array_of d ≡ Some (map view lent)
@@ -16,7 +15,8 @@ trees d items lent found same = array_of_found d items found ∙ ap (λ vs. Some
 
 pub loop-number-init : goal.loop-number-init
 loop-number-init g c = record {
-  read = rw c.default_in-bag.ensures.empty (read_to_start g.met.T.Eq.laws greatest_total g.T.JsonItem.has_item g.T.JsonItem.reads _);
+  read = rw c.with_limit-bag.ensures.empty (read_to_start g.met.T.Eq.laws c.args.most g.T.JsonItem.has_item g.T.JsonItem.reads _);
+  limit = c.with_limit-bag.ensures.limit;
   hasher = refl;
 }
 
@@ -24,10 +24,11 @@ pub loop-number-preserved : goal.loop-number-preserved
 loop-number-preserved g c =
     let inside = c.loop-number-test.true in
     let left = left_at c.deref-pair-items.result.now c.loop-number.number c.pair-item.result c.pair-item.is (omega arith) in
-    let so = subst (λ (l : List Data). IsReadTo g.met.T.Eq.laws greatest_total g.T.JsonItem.has_item g.T.JsonItem.reads (map view c.deref-pair-items.result.now) l c.loop-number.number c.loop-number.bag.items) left c.loop-number.invariant.read in
+    let so = subst (λ (l : List Data). IsReadTo g.met.T.Eq.laws c.args.most g.T.JsonItem.has_item g.T.JsonItem.reads (map view c.deref-pair-items.result.now) l c.loop-number.number c.loop-number.bag.items) left c.loop-number.invariant.read in
     let one = c.in_ok-read_pair.ensures.read in
     record {
-      read = read_to_next g.met.T.Eq.laws greatest_total g.T.JsonItem.has_item g.T.JsonItem.reads _ _ (view c.pair-item.result) c.loop-number.number _ _ one.0 so c.in_ok-read_pair.ensures.no_fault one.1 one.2.means one.2.bag;
+      read = read_to_next g.met.T.Eq.laws c.args.most g.T.JsonItem.has_item g.T.JsonItem.reads _ _ (view c.pair-item.result) c.loop-number.number _ _ one.0 so (rw c.loop-number.invariant.limit at c.in_ok-read_pair.ensures.no_fault) one.1 one.2.means (rw (one.2.limit, c.loop-number.invariant.limit) at one.2.bag);
+      limit = one.2.limit ∙ c.loop-number.invariant.limit;
       hasher = one.2.hasher ∙ c.loop-number.invariant.hasher;
     }
 
@@ -37,8 +38,8 @@ returns-in_err-read_pair-clause-fault g c =
     rw (error.1, error.2) (λ other.
     let inside = c.loop-number-test.true in
     let left = left_at c.deref-pair-items.result.now c.loop-number.number c.pair-item.result c.pair-item.is (omega arith) in
-    let so = subst (λ (l : List Data). IsReadTo g.met.T.Eq.laws greatest_total g.T.JsonItem.has_item g.T.JsonItem.reads (map view c.deref-pair-items.result.now) l c.loop-number.number c.loop-number.bag.items) left c.loop-number.invariant.read in
-    fault_at g.met.T.Eq.laws greatest_total g.T.JsonItem.has_item g.T.JsonItem.reads _ _ _ (view c.pair-item.result) c.loop-number.number _ _ (trees _ _ _ c.in-Some.ensures c.deref-pair-items.ensures.value) so (c.in_err-read_pair.ensures.fault other))
+    let so = subst (λ (l : List Data). IsReadTo g.met.T.Eq.laws c.args.most g.T.JsonItem.has_item g.T.JsonItem.reads (map view c.deref-pair-items.result.now) l c.loop-number.number c.loop-number.bag.items) left c.loop-number.invariant.read in
+    fault_at g.met.T.Eq.laws c.args.most g.T.JsonItem.has_item g.T.JsonItem.reads _ _ _ (view c.pair-item.result) c.loop-number.number _ _ (trees _ _ _ c.in-Some.ensures c.deref-pair-items.ensures.value) so (rw c.loop-number.invariant.limit at (c.in_err-read_pair.ensures.fault other)))
 
 pub returns-in_err-read_pair-clause-memory : goal.returns-in_err-read_pair-clause-memory
 returns-in_err-read_pair-clause-memory g c =
@@ -46,23 +47,23 @@ returns-in_err-read_pair-clause-memory g c =
     rw (error.1, error.2) (λ memory.
     let inside = c.loop-number-test.true in
     let left = left_at c.deref-pair-items.result.now c.loop-number.number c.pair-item.result c.pair-item.is (omega arith) in
-    let so = subst (λ (l : List Data). IsReadTo g.met.T.Eq.laws greatest_total g.T.JsonItem.has_item g.T.JsonItem.reads (map view c.deref-pair-items.result.now) l c.loop-number.number c.loop-number.bag.items) left c.loop-number.invariant.read in
-    may_end_at g.met.T.Eq.laws greatest_total g.T.JsonItem.has_item g.T.JsonItem.reads _ _ _ (view c.pair-item.result) c.loop-number.number _ (trees _ _ _ c.in-Some.ensures c.deref-pair-items.ensures.value) so (c.in_err-read_pair.ensures.memory memory))
+    let so = subst (λ (l : List Data). IsReadTo g.met.T.Eq.laws c.args.most g.T.JsonItem.has_item g.T.JsonItem.reads (map view c.deref-pair-items.result.now) l c.loop-number.number c.loop-number.bag.items) left c.loop-number.invariant.read in
+    may_end_at g.met.T.Eq.laws c.args.most g.T.JsonItem.has_item g.T.JsonItem.reads _ _ _ (view c.pair-item.result) c.loop-number.number _ (trees _ _ _ c.in-Some.ensures c.deref-pair-items.ensures.value) so (c.in_err-read_pair.ensures.memory memory))
 
 -- all pairs were read
-at_end : (g : _) (c : goal.After-loop-number g) → IsReadTo g.met.T.Eq.laws greatest_total g.T.JsonItem.has_item g.T.JsonItem.reads (map view c.deref-pair-items.result.now) [] c.loop-number.number c.loop-number.bag.items
+at_end : (g : _) (c : goal.After-loop-number g) → IsReadTo g.met.T.Eq.laws c.args.most g.T.JsonItem.has_item g.T.JsonItem.reads (map view c.deref-pair-items.result.now) [] c.loop-number.number c.loop-number.bag.items
 at_end g c =
     let past = c.loop-number-test.false in
     let none : drop c.loop-number.number c.deref-pair-items.result.now ≡ [] = drop_all c.loop-number.number c.deref-pair-items.result.now (omega arith) in
-    subst (λ l. IsReadTo g.met.T.Eq.laws greatest_total g.T.JsonItem.has_item g.T.JsonItem.reads (map view c.deref-pair-items.result.now) (map view l) c.loop-number.number c.loop-number.bag.items) none c.loop-number.invariant.read
+    subst (λ l. IsReadTo g.met.T.Eq.laws c.args.most g.T.JsonItem.has_item g.T.JsonItem.reads (map view c.deref-pair-items.result.now) (map view l) c.loop-number.number c.loop-number.bag.items) none c.loop-number.invariant.read
 
 pub returns-clause-no_fault : goal.returns-clause-no_fault
-returns-clause-no_fault g c = no_fault_at_end g.met.T.Eq.laws greatest_total g.T.JsonItem.has_item g.T.JsonItem.reads _ _ c.loop-number.number _ (trees _ _ _ c.in-Some.ensures c.deref-pair-items.ensures.value) (at_end g c)
+returns-clause-no_fault g c = no_fault_at_end g.met.T.Eq.laws c.args.most g.T.JsonItem.has_item g.T.JsonItem.reads _ _ c.loop-number.number _ (trees _ _ _ c.in-Some.ensures c.deref-pair-items.ensures.value) (at_end g c)
 
 pub returns-clause-read : goal.returns-clause-read
 returns-clause-read g c =
     let so = at_end g c in
-    (so.pairs, reading_at_end g.met.T.Eq.laws greatest_total g.T.JsonItem.has_item g.T.JsonItem.reads _ _ c.loop-number.number _ (trees _ _ _ c.in-Some.ensures c.deref-pair-items.ensures.value) so, so.means)
+    (so.pairs, reading_at_end g.met.T.Eq.laws c.args.most g.T.JsonItem.has_item g.T.JsonItem.reads _ _ c.loop-number.number _ (trees _ _ _ c.in-Some.ensures c.deref-pair-items.ensures.value) so, so.means)
 
 pub returns-in_default-clause-memory : goal.returns-in_default-clause-memory
 returns-in_default-clause-memory g c = λ is. absurd (cc)

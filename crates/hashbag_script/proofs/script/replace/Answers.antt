@@ -1,0 +1,39 @@
+use Rattle.std.proofs.Common.{◌≡◌, ◌+◌, ◌-◌, ◌<◌, ◌≤◌, length, sym, ◌∙◌, ap, subst, arith}
+use Rattle.std.proofs.lemmas.Bool.{false≢true}
+use Rattle.hashbag_core.proofs.ExtendLemmas.{refuses_memory}
+use Rattle.hashbag_core.specs.declared.bag.BagError.{BagError}
+use Rattle.hashbag_core.specs.Extends.{Refuses}
+use Rattle.hashbag_core.proofs.HeldLemmas.{rewritten_built}
+use Rattle.hashbag_script.proofs.RoomLemmas.{moves_inserted, one_replaced}
+use Rattle.hashbag_script.proofs.RowLemmas.{row_kept, replace_row-passes}
+use Rattle.hashbag_script.proofs.script.replace.Goals as goal
+
+pub returns-in-Ok-clause-room : goal.returns-in-Ok-clause-room
+returns-in-Ok-clause-room g c =
+    let done = c.in-Ok.ensures in
+    let long = done.len in
+    let before = done.before in
+    let within = done.put.bag.fits in
+    let same = done.put.limit in
+    moves_inserted c.in-Ok.before 1 _ c.args.bag.now.tables c.replace.new.self.tables (λ none. absurd (omega (arith, none)))
+    (λ more some. record { slots = done.same_slots some; room = let r = done.same_room some in omega (arith, r); built = rewritten_built _ _ _ _ (done.slot (subst (λ k. 0 < k) done.before some)) })
+    (λ more none. done.arrives (sym done.before ∙ none))
+    (λ none some. one_replaced g.met.T.Eq.laws c.args.bag.now.most c.args.value c.args.bag.now.items (sym done.before ∙ none) (omega (arith, none, long, within, same)))
+
+pub returns-in-Err-TooMany-clause-left : goal.returns-in-Err-TooMany-clause-left
+returns-in-Err-TooMany-clause-left g c =
+    let passes : c.args.bag.now.most < length c.args.bag.now.items + 1 = subst (λ (e : BagError). Refuses g.T.PartialEq.eq c.args.bag.now.most c.args.bag.now.items c.args.value 1 e) c.in-Err-TooMany.field-0-is c.in-Err-TooMany.ensures.refused in
+    row_kept g.met.T.Eq.laws _ _ c.args.bag.now c.replace.new.self c.recall_what_bags_keep.ensures (replace_row-passes g.met.T.Eq.laws c.args.bag.now.most c.args.value c.args.bag.now.items c.in-Err-TooMany.ensures.absent passes) c.in-Err-TooMany.ensures.err
+
+pub returns-in-Err-Memory-clause-refused : goal.returns-in-Err-Memory-clause-refused
+returns-in-Err-Memory-clause-refused g c =
+    let asks = refuses_memory g.met.T.Eq.laws c.args.bag.now.most c.args.bag.now.items c.args.value 1 c.in-Err-Memory.field-0 c.in-Err-Memory.field-0-is c.in-Err-Memory.ensures.refused in
+    record { absent = asks.2; some = asks.1; fits = asks.0 }
+
+pub returns-in-Err-Memory-clause-takes : goal.returns-in-Err-Memory-clause-takes
+returns-in-Err-Memory-clause-takes g c = λ enough.
+    let asks = refuses_memory g.met.T.Eq.laws c.args.bag.now.most c.args.bag.now.items c.args.value 1 c.in-Err-Memory.field-0 c.in-Err-Memory.field-0-is c.in-Err-Memory.ensures.refused in
+    let one = one_replaced g.met.T.Eq.laws c.args.bag.now.most c.args.value c.args.bag.now.items asks.2 asks.0 in
+    let none = asks.2 in
+    let fits = asks.0 in
+    absurd (false≢true (c.in-Err-Memory.ensures.takes (omega (arith, none, fits)) (omega (arith, one, enough))))

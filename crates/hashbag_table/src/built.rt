@@ -1,0 +1,57 @@
+//! A whole number for contracts alone, which takes no bytes.
+ghost use Rattle.std.specs.Prelude.{◌≡◌, ◌+◌};
+
+use std::marker::Model;
+use std::mem;
+use std::snapshot::Snapshot;
+
+// What was counted before, and one number more.
+#[derive(Drop)]
+struct Sum {
+    before: Option<Snapshot<Sum>>,
+    more: usize,
+}
+
+/// How many slots were built: a whole number without end, that has no bytes. Contracts see it as that number.
+#[derive(Drop)]
+pub struct Built {
+    sum: Snapshot<Sum>,
+}
+
+impl Model for Built {
+    ghost use Rattle.std.specs.Prelude.{ℕ};
+    ghost use Rattle.hashbag_table.specs.Built.{sum_of};
+
+    ghost Value = { ℕ };
+
+    ghost view = { λ b. sum_of b.sum.value };
+}
+
+impl Built {
+    /// Begins at a number.
+    pub fn first(slots: usize) -> Built
+        ensures { result ≡ slots }
+    {
+        Built {
+            sum: Snapshot::of(&Sum {
+                before: None,
+                more: slots,
+            }),
+        }
+    }
+
+    /// Adds a number.
+    pub fn raise(&mut self, slots: usize)
+        ensures { self.new ≡ self.old + slots }
+    {
+        let blank = Snapshot::of(&Sum {
+            before: None,
+            more: 0,
+        });
+        let before = mem::replace(&mut self.sum, blank);
+        self.sum = Snapshot::of(&Sum {
+            before: Some(before),
+            more: slots,
+        });
+    }
+}
