@@ -407,17 +407,37 @@ pub fn next_mark_ahead(
     }
 }
 
+// Drops the value of each Live slot. The tag of each is Empty then, and all others are as they were.
+fn drop_live<T: Drop>(tags: &mut [u8], cells: &mut Cells<(T, usize)>)
+    requires { Agree tags.old cells.old }
+    ensures length { length tags.new ≡ length tags.old }
+    ensures cells { cells.new ≡ replicate (length tags.old) None }
+{
+    let mut from = 0;
+    'values: while let Some(place) = next_mark(tags, from) {
+        drop(cells.take(place));
+        tags[place] = EMPTY;
+        from = place + 1;
+    }
+}
+
 /// Drops the value of each Live slot, and makes each slot Empty.
+///
+/// Live slots are looked for sixteen at once, and the tags are then written in one go, whatever they were.
 pub fn drop_values<T: Drop>(tags: &mut [u8], cells: &mut Cells<(T, usize)>)
     requires { Agree tags.old cells.old }
     ensures tags { tags.new ≡ replicate (length tags.old) 0 }
     ensures cells { cells.new ≡ replicate (length tags.old) None }
 {
-    let count = tags.len();
-    for place in 0..count {
-        if tags[place] >= LEAST_MARK {
-            drop(cells.take(place));
-        }
+    drop_live(tags, cells);
+    empty(tags);
+}
+
+// Makes each tag Empty.
+fn empty(tags: &mut [u8])
+    ensures { tags.new ≡ replicate (length tags.old) 0 }
+{
+    for place in 0..tags.len() {
         tags[place] = EMPTY;
     }
 }
