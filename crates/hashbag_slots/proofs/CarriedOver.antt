@@ -4,7 +4,7 @@ use Rattle.std.proofs.lemmas.Bool.{cases_lt, cases_eq, le-leb, lt-leb}
 use Rattle.std.proofs.lemmas.List.{ext_get_or, get_or-set_same, get_or-set_other, length-set}
 use Rattle.std.specs.Cmp.{IsEquivalence}
 use Rattle.hashbag_slots.specs.declared.slots.Slot.TheVariants.{Moved, Live}
-use Rattle.hashbag_slots.specs.Slots.{is_live, slot_at, entries, Places, PlacesAll, carried, AreApart}
+use Rattle.hashbag_slots.specs.Slots.{is_live, slot_at, entries, PlacesFirst, PlacesAll, carried, AreApart}
 use Rattle.hashbag_slots.specs.Columns.{slots_of, columns, IsColumns, IsReached}
 use Rattle.hashbag_slots.specs.Carry.{carried_tag, CarriesTags, Kept, kept, is_kept, IsCarried}
 use Rattle.hashbag_slots.proofs.Carrying.{PlacesAll-step, Carries-step, Carries-none, skip_to, AreApart-carry}
@@ -98,7 +98,7 @@ module _ {T : Type 0} (eq : T → T → Bool) (hash : T → ℕ) where
     -- slots that are not Live are passed
     pub skip_carried : (to : ℕ) → at ≤ to → to ≤ length older.tags → ((q : ℕ) → at ≤ q → q < to → get_or older.tags q 0 < 128) → IsCarried eq hash from (to - from) newer older a b
     skip_carried to le within dead =
-        let passed = skip_to from at to (slots_of older.tags older.cells) (slots_of b.tags b.cells) (slots_of newer.tags newer.cells) (slots_of a.tags a.cells) begun le
+        let passed = skip_to hash from at to (slots_of older.tags older.cells) (slots_of b.tags b.cells) (slots_of newer.tags newer.cells) (slots_of a.tags a.cells) begun le
         (let l = old_length in let k = c.tags.same_length in omega arith)
         (λ q x y. dead_at b.tags b.cells c.older_stays.agree q (let t = tag_ahead q x in let d = dead q x y in omega arith)) c.left c.placed in
         record {
@@ -119,7 +119,7 @@ module _ {T : Type 0} (eq : T → T → Bool) (hash : T → ℕ) where
     -- a Live slot is carried
     pub carry_here : at < length older.tags → 128 ≤ get_or older.tags at 0 → (e : T × ℕ) → get_or b.cells at None ≡ Some e
         → (new : Kept T) → is_kept eq new → new.live ≡ a.live + 1 → new.removed ≤ a.removed → length new.tags ≡ length a.tags
-        → Places e.0 e.1 (slots_of a.tags a.cells) (slots_of new.tags new.cells) → IsReached hash (columns new.tags new.cells)
+        → PlacesFirst hash e.0 e.1 (slots_of a.tags a.cells) (slots_of new.tags new.cells) → IsReached hash (columns new.tags new.cells)
         → IsCarried eq hash from (at + 1 - from) newer older new (kept (slice_set b.tags at 2) (slice_set b.cells at None) (b.live - 1) b.removed)
     carry_here within high e cell new stays one fewer same put reached =
         let ss = slots_of older.tags older.cells in let mid = slots_of b.tags b.cells in
@@ -135,11 +135,11 @@ module _ {T : Type 0} (eq : T → T → Bool) (hash : T → ℕ) where
           stays = stays;
           older_stays = taken;
           tags = tags_step from at older.tags b.tags begun (omega arith) high c.tags;
-          placed = PlacesAll-step from at ss mid (slots_of newer.tags newer.cells) (slots_of a.tags a.cells) (slots_of new.tags new.cells) begun (omega arith) c.left c.placed
-              (subst (λ s. PlacesAll (entries (s ∷ [])) (slots_of a.tags a.cells) (slots_of new.tags new.cells)) (sym here) (slots_of new.tags new.cells, put, refl));
+          placed = PlacesAll-step hash from at ss mid (slots_of newer.tags newer.cells) (slots_of a.tags a.cells) (slots_of new.tags new.cells) begun (omega arith) c.left c.placed
+              (subst (λ s. PlacesAll hash (entries (s ∷ [])) (slots_of a.tags a.cells) (slots_of new.tags new.cells)) (sym here) (slots_of new.tags new.cells, put, refl));
           left = Carries-step from at ss mid (slots_of (slice_set b.tags at 2) (slice_set b.cells at None)) begun (omega arith) c.left (after ∙ sym (ap (λ s. slice_set mid at (carried s)) here));
           apart = subst (λ ms. AreApart eq ms (slots_of new.tags new.cells)) (sym after)
-              (AreApart-carry eq mid (slots_of a.tags a.cells) (slots_of new.tags new.cells) at e.0 e.1 c.older_stays.table.distinct c.apart (omega arith) here put);
+              (AreApart-carry eq mid (slots_of a.tags a.cells) (slots_of new.tags new.cells) at e.0 e.1 c.older_stays.table.distinct c.apart (omega arith) here put.places);
           sum = let s = c.sum in omega arith;
           removed = let r = c.removed in omega arith;
           older_removed = c.older_removed;

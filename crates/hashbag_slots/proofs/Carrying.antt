@@ -38,9 +38,9 @@ module _ {T : Type 0} where
             (false_by (eq v w) (λ yes. absurd (x.0 (sym (set.apart at p v w n m was there yes)))))
       ]
 
-  pub PlacesAll-append : (es fs : List (T × ℕ)) (a b c : List (Slot T)) → PlacesAll es a b → PlacesAll fs b c → PlacesAll (es ++ fs) a c
-  PlacesAll-append [] fs a b c p q = subst (λ x. PlacesAll fs x c) p q
-  PlacesAll-append (e ∷ es) fs a b c p q = (p.0, p.1, PlacesAll-append es fs p.0 b c p.2 q)
+  pub PlacesAll-append : (hash : T → ℕ) (es fs : List (T × ℕ)) (a b c : List (Slot T)) → PlacesAll hash es a b → PlacesAll hash fs b c → PlacesAll hash (es ++ fs) a c
+  PlacesAll-append hash [] fs a b c p q = subst (λ x. PlacesAll hash fs x c) p q
+  PlacesAll-append hash (e ∷ es) fs a b c p q = (p.0, p.1, PlacesAll-append hash es fs p.0 b c p.2 q)
 
   entries-append : (xs ys : List (Slot T)) → entries (xs ++ ys) ≡ entries xs ++ entries ys
   entries-append [] ys = refl
@@ -96,36 +96,36 @@ module _ {T : Type 0} where
       let more : at - from + 1 ≡ at + 1 - from = omega arith in
       subst (λ m. Carries from m old new) more (Carries-more from (at - from) old mid new (omega arith) carry (subst (λ a. new ≡ slice_set mid a (carried (slot_at mid a))) e after))
 
-  pub PlacesAll-step : (from at : ℕ) (old mid a b c : List (Slot T)) → from ≤ at → at < length old → Carries from (at - from) old mid → PlacesAll (entries_in from (at - from) old) a b → PlacesAll (entries (slot_at mid at ∷ [])) b c → PlacesAll (entries_in from (at + 1 - from) old) a c
-  PlacesAll-step from at old mid a b c le lt carry p q =
+  pub PlacesAll-step : (hash : T → ℕ) (from at : ℕ) (old mid a b c : List (Slot T)) → from ≤ at → at < length old → Carries from (at - from) old mid → PlacesAll hash (entries_in from (at - from) old) a b → PlacesAll hash (entries (slot_at mid at ∷ [])) b c → PlacesAll hash (entries_in from (at + 1 - from) old) a c
+  PlacesAll-step hash from at old mid a b c le lt carry p q =
       let e : at ≡ from + (at - from) = omega arith in
       let more : at + 1 - from ≡ at - from + 1 = omega arith in
       let same : slot_at mid at ≡ slot_at old (from + (at - from)) = carry.outside at (inr (omega arith)) ∙ ap (slot_at old) e in
       let es : entries_in from (at + 1 - from) old ≡ entries_in from (at - from) old ++ entries (slot_at mid at ∷ []) =
       ap (λ m. entries_in from m old) more ∙ entries_in_more from (at - from) old (omega arith) ∙ ap (λ s. entries_in from (at - from) old ++ entries (s ∷ [])) (sym same) in
-      subst (λ xs. PlacesAll xs a c) (sym es) (PlacesAll-append (entries_in from (at - from) old) (entries (slot_at mid at ∷ [])) a b c p q)
+      subst (λ xs. PlacesAll hash xs a c) (sym es) (PlacesAll-append hash (entries_in from (at - from) old) (entries (slot_at mid at ∷ [])) a b c p q)
 
-  skip_dead : (k from at : ℕ) (old mid a b : List (Slot T)) → from ≤ at → at + k ≤ length old → ((q : ℕ) → at ≤ q → q < at + k → is_live (slot_at mid q) ≡ false)
-      → Carries from (at - from) old mid → PlacesAll (entries_in from (at - from) old) a b → Carries from (at + k - from) old mid × PlacesAll (entries_in from (at + k - from) old) a b
-  skip_dead zero from at old mid a b le room dead carry placed =
+  skip_dead : (hash : T → ℕ) (k from at : ℕ) (old mid a b : List (Slot T)) → from ≤ at → at + k ≤ length old → ((q : ℕ) → at ≤ q → q < at + k → is_live (slot_at mid q) ≡ false)
+      → Carries from (at - from) old mid → PlacesAll hash (entries_in from (at - from) old) a b → Carries from (at + k - from) old mid × PlacesAll hash (entries_in from (at + k - from) old) a b
+  skip_dead hash zero from at old mid a b le room dead carry placed =
       let e : at ≡ at + 0 = omega arith in
-      (subst (λ x. Carries from (x - from) old mid) e carry, subst (λ x. PlacesAll (entries_in from (x - from) old) a b) e placed)
-  skip_dead (suc k) from at old mid a b le room dead carry placed =
+      (subst (λ x. Carries from (x - from) old mid) e carry, subst (λ x. PlacesAll hash (entries_in from (x - from) old) a b) e placed)
+  skip_dead hash (suc k) from at old mid a b le room dead carry placed =
       let e : at + 1 + k ≡ at + suc k = omega arith in
       let here = dead at (omega arith) (omega arith) in
       let same : mid ≡ slice_set mid at (carried (slot_at mid at)) = sym (ap (slice_set mid at) (carried_same (slot_at mid at) here) ∙ set-get_or mid at Empty) in
-      let none : PlacesAll (entries (slot_at mid at ∷ [])) b b = subst (λ es. PlacesAll es b b) (sym (no_entries (slot_at mid at) here)) refl in
-      let more = skip_dead k from (at + 1) old mid a b (omega arith) (omega arith) (λ q x y. dead q (omega arith) (omega arith))
-      (Carries-step from at old mid mid le (omega arith) carry same) (PlacesAll-step from at old mid a b b le (omega arith) carry placed none) in
-      (subst (λ x. Carries from (x - from) old mid) e more.0, subst (λ x. PlacesAll (entries_in from (x - from) old) a b) e more.1)
+      let none : PlacesAll hash (entries (slot_at mid at ∷ [])) b b = subst (λ es. PlacesAll hash es b b) (sym (no_entries (slot_at mid at) here)) refl in
+      let more = skip_dead hash k from (at + 1) old mid a b (omega arith) (omega arith) (λ q x y. dead q (omega arith) (omega arith))
+      (Carries-step from at old mid mid le (omega arith) carry same) (PlacesAll-step hash from at old mid a b b le (omega arith) carry placed none) in
+      (subst (λ x. Carries from (x - from) old mid) e more.0, subst (λ x. PlacesAll hash (entries_in from (x - from) old) a b) e more.1)
 
   -- slots that are not Live are carried as they are
-  pub skip_to : (from at to : ℕ) (old mid a b : List (Slot T)) → from ≤ at → at ≤ to → to ≤ length old → ((q : ℕ) → at ≤ q → q < to → is_live (slot_at mid q) ≡ false)
-      → Carries from (at - from) old mid → PlacesAll (entries_in from (at - from) old) a b → Carries from (to - from) old mid × PlacesAll (entries_in from (to - from) old) a b
-  skip_to from at to old mid a b begun le room dead carry placed =
+  pub skip_to : (hash : T → ℕ) (from at to : ℕ) (old mid a b : List (Slot T)) → from ≤ at → at ≤ to → to ≤ length old → ((q : ℕ) → at ≤ q → q < to → is_live (slot_at mid q) ≡ false)
+      → Carries from (at - from) old mid → PlacesAll hash (entries_in from (at - from) old) a b → Carries from (to - from) old mid × PlacesAll hash (entries_in from (to - from) old) a b
+  skip_to hash from at to old mid a b begun le room dead carry placed =
       let e : at + (to - at) ≡ to = omega arith in
-      subst (λ x. Carries from (x - from) old mid × PlacesAll (entries_in from (x - from) old) a b) e
-      (skip_dead (to - at) from at old mid a b begun (omega arith) (λ q x y. dead q x (omega arith)) carry placed)
+      subst (λ x. Carries from (x - from) old mid × PlacesAll hash (entries_in from (x - from) old) a b) e
+      (skip_dead hash (to - at) from at old mid a b begun (omega arith) (λ q x y. dead q x (omega arith)) carry placed)
 
   -- a carry goes on where another one ended
   pub Carries-join : (from at n : ℕ) (old mid new : List (Slot T)) → from ≤ at → Carries from (at - from) old mid → Carries at n mid new → Carries from (at + n - from) old new
@@ -141,8 +141,8 @@ module _ {T : Type 0} where
     ];
   }
 
-  pub PlacesAll-join : (from at n : ℕ) (old mid a b c : List (Slot T)) → from ≤ at → Carries from (at - from) old mid → PlacesAll (entries_in from (at - from) old) a b → PlacesAll (entries_in at n mid) b c → PlacesAll (entries_in from (at + n - from) old) a c
-  PlacesAll-join from at n old mid a b c le carry p q =
+  pub PlacesAll-join : (hash : T → ℕ) (from at n : ℕ) (old mid a b c : List (Slot T)) → from ≤ at → Carries from (at - from) old mid → PlacesAll hash (entries_in from (at - from) old) a b → PlacesAll hash (entries_in at n mid) b c → PlacesAll hash (entries_in from (at + n - from) old) a c
+  PlacesAll-join hash from at n old mid a b c le carry p q =
       let k = at - from in let xs = drop from old in
       let ahead : drop at mid ≡ drop at old =
       ext_get_or Empty (drop at mid) (drop at old) (let l = length-drop at mid in let m = length-drop at old in let same = carry.same_length in omega arith)
@@ -151,12 +151,12 @@ module _ {T : Type 0} where
       let more : at + n - from ≡ k + n = omega arith in
       let es : entries_in from (at + n - from) old ≡ entries_in from k old ++ entries_in at n mid =
       ap (λ m. entries (take m xs)) more ∙ ap entries (take-add k n xs) ∙ entries-append (take k xs) (take n (drop k xs)) ∙ ap (λ ys. entries (take k xs) ++ entries (take n ys)) (there ∙ sym ahead) in
-      subst (λ ys. PlacesAll ys a c) (sym es) (PlacesAll-append (entries_in from k old) (entries_in at n mid) a b c p q)
+      subst (λ ys. PlacesAll hash ys a c) (sym es) (PlacesAll-append hash (entries_in from k old) (entries_in at n mid) a b c p q)
 
-  pub IsAbsent-PlacesAll : (test : T → Bool) (es : List (T × ℕ)) (a b : List (Slot T)) → IsAbsent test a → ((i : ℕ) (e : T × ℕ) → i < length es → get_or es i e ≡ e → test e.0 ≡ false) → PlacesAll es a b → IsAbsent test b
-  IsAbsent-PlacesAll test [] a b absent each h = subst (IsAbsent test) (sym h) absent
-  IsAbsent-PlacesAll test (e ∷ es) a b absent each h =
-      IsAbsent-PlacesAll test es h.0 b (IsAbsent-Places test e.0 e.1 a h.0 absent h.1 (each 0 e (omega arith) refl)) (λ i f lt at. each (suc i) f (omega arith) at) h.2
+  pub IsAbsent-PlacesAll : (hash : T → ℕ) (test : T → Bool) (es : List (T × ℕ)) (a b : List (Slot T)) → IsAbsent test a → ((i : ℕ) (e : T × ℕ) → i < length es → get_or es i e ≡ e → test e.0 ≡ false) → PlacesAll hash es a b → IsAbsent test b
+  IsAbsent-PlacesAll hash test [] a b absent each h = subst (IsAbsent test) (sym h) absent
+  IsAbsent-PlacesAll hash test (e ∷ es) a b absent each h =
+      IsAbsent-PlacesAll hash test es h.0 b (IsAbsent-Places test e.0 e.1 a h.0 absent h.1.places (each 0 e (omega arith) refl)) (λ i f lt at. each (suc i) f (omega arith) at) h.2
 
   -- the pairs of slots that do not hold the value do not have it
   pub entries-apart : (test : T → Bool) (ss : List (Slot T)) → IsAbsent test ss → (i : ℕ) (e : T × ℕ) → i < length (entries ss) → get_or (entries ss) i e ≡ e → test e.0 ≡ false

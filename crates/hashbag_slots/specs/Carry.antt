@@ -32,7 +32,7 @@ module _ {T : Type 0} where
     pub stays : is_kept eq newer'
     pub older_stays : is_kept eq older'
     pub tags : CarriesTags from many older.tags older'.tags
-    pub placed : PlacesAll (entries_in from many (slots_of older.tags older.cells)) (slots_of newer.tags newer.cells) (slots_of newer'.tags newer'.cells)
+    pub placed : PlacesAll hash (entries_in from many (slots_of older.tags older.cells)) (slots_of newer.tags newer.cells) (slots_of newer'.tags newer'.cells)
     pub left : Carries from many (slots_of older.tags older.cells) (slots_of older'.tags older'.cells)
     pub apart : AreApart eq (slots_of older'.tags older'.cells) (slots_of newer'.tags newer'.cells)
     pub sum : newer'.live + older'.live ≡ newer.live + older.live

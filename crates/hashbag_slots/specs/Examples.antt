@@ -1,11 +1,11 @@
 -- The definitions compute. Values are numbers here, and so are their hashes: `hash` is the value itself.
-use Rattle.std.specs.Prelude.{◌≡◌, ℕ, ◌==◌, true, false, List, [], ◌∷◌, ◌++◌, replicate, Some, None, refl}
-use Rattle.std.proofs.Common.{lit<, inl, inr}
+use Rattle.std.specs.Prelude.{◌≡◌, ℕ, ◌<◌, ◌==◌, true, false, List, [], ◌∷◌, ◌++◌, replicate, Some, None, refl}
+use Rattle.std.proofs.Common.{zero, suc, lit<, inl, inr, arith}
 use Rattle.hashbag_slots.specs.declared.slots.Slot.{Slot}
 use Rattle.hashbag_slots.specs.declared.slots.Slot.TheVariants.{Empty, Removed, Moved, Live}
 use Rattle.hashbag_slots.specs.Cells.{cell_at, filled_values}
 use Rattle.hashbag_slots.specs.Columns.{mark_of, tag_at, slots_of}
-use Rattle.hashbag_slots.specs.Slots.{IsSlotCount, path_slot, holds, live_count, removed_count, slot_at, HoldsAt, entry_at, entries, recounted, raised, count_in, Places, PlacesAll, carried, entries_in}
+use Rattle.hashbag_slots.specs.Slots.{IsSlotCount, path_slot, is_live, holds, live_count, removed_count, slot_at, HoldsAt, entry_at, entries, recounted, raised, count_in, Places, PlacesAll, carried, entries_in}
 
 -- 16 slots: 31 begins at the last one, which 15 has, and so it lies in slot 0. In slot 1 there was a value, and in slot 2
 -- there was one that was carried
@@ -89,11 +89,17 @@ stays_removed = refl
 abbrev after : List (Slot ℕ)
 after = Live 31 2 ∷ Live 47 1 ∷ Moved ∷ replicate 12 Empty ++ Live 15 7 ∷ []
 
-placed : Places 47 1 table after
+abbrev placed : Places 47 1 table after
 placed = record { at = 1; within = lit< tt; free = refl; after = refl }
 
-all_placed : PlacesAll ((47, 1) ∷ []) table after
-all_placed = (after, placed, refl)
+-- what 47 goes past
+passed : (step : ℕ) → step < 2 → is_live (slot_at table (path_slot 16 47 step)) ≡ true
+passed zero within = refl
+passed (suc zero) within = refl
+passed (suc (suc step)) within = absurd (omega arith)
+
+all_placed : PlacesAll (λ v. v) ((47, 1) ∷ []) table after
+all_placed = (after, record { places = placed; first = record { step = 2; within = lit< tt; on_path = refl; free = refl; front = passed } }, refl)
 
 -- ---- tags and cells
 

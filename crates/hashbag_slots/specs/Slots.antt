@@ -126,10 +126,15 @@ module _ {T : Type 0} where
     pub free : is_live (slot_at old at) ≡ false
     pub after : new ≡ slice_set old at (Live v n)
 
-  -- each of these values, with its count, is put in turn into a slot that was not Live
-  abbrev pub PlacesAll : List (T × ℕ) → List (Slot T) → List (Slot T) → Type 0
-  PlacesAll [] old new = new ≡ old
-  PlacesAll (e ∷ es) old new = (next : List (Slot T)) × Places e.0 e.1 old next × PlacesAll es next new
+  -- as `Places`, and the slot is the first on the path of the value's hash that was not Live
+  pub record PlacesFirst (hash : T → ℕ) (v : T) (n : ℕ) (old new : List (Slot T)) : Type 0 where
+    pub places : Places v n old new
+    pub first : IsFirstFree (hash v) old places.at
+
+  -- each of these values, with its count, is put in turn into the first slot on its path that was not Live
+  abbrev pub PlacesAll : (T → ℕ) → List (T × ℕ) → List (Slot T) → List (Slot T) → Type 0
+  PlacesAll hash [] old new = new ≡ old
+  PlacesAll hash (e ∷ es) old new = (next : List (Slot T)) × PlacesFirst hash e.0 e.1 old next × PlacesAll hash es next new
 
   -- what a carry leaves of a slot
   abbrev pub carried : Slot T → Slot T

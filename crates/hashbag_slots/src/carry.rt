@@ -2,7 +2,7 @@
 ghost use Rattle.std.specs.Prelude.{◌≡◌, ℕ, ◌+◌, ◌<◌, ◌≤◌, ◌^◌, length, slice_set, Some, None};
 ghost use Rattle.hashbag_slots.specs.Cells.{cell_at, IsFilled};
 ghost use Rattle.hashbag_slots.specs.Hashing.{hash_under};
-ghost use Rattle.hashbag_slots.specs.Slots.{removed_count, IsAbsent, Places, AreApart};
+ghost use Rattle.hashbag_slots.specs.Slots.{removed_count, IsAbsent, PlacesFirst, AreApart};
 ghost use Rattle.hashbag_slots.specs.Columns.{columns, slots_of, IsReached, IsColumns};
 ghost use Rattle.hashbag_slots.specs.Carry.{CarriesTags, kept, IsCarried};
 
@@ -36,7 +36,7 @@ fn move_in<T: Eq + Hash, S: BuildHasher>(
     ensures fewer { removed.new ≤ removed.old }
     ensures length { length tags.new ≡ length tags.old }
     ensures taken { older.new ≡ slice_set older.old place None }
-    ensures placed { (e : T × ℕ) → cell_at older.old place ≡ Some e → Places e.0 e.1 (slots_of tags.old cells.old) (slots_of tags.new cells.new) }
+    ensures placed { (e : T × ℕ) → cell_at older.old place ≡ Some e → PlacesFirst (hash_under T.hash_input S.BuildHasher S.Hasher.Hasher state.now) e.0 e.1 (slots_of tags.old cells.old) (slots_of tags.new cells.new) }
     ensures reached { IsReached (hash_under T.hash_input S.BuildHasher S.Hasher.Hasher state.now) (columns tags.new cells.new) }
 {
     let hash = hash_of(state, &older.get(place).0);

@@ -432,7 +432,7 @@ impl<T: Eq + Hash> Slots<T> {
         requires apart { AreApart T.eq older.old.slots self.old.slots }
         requires room { live_count self.old.slots + live_count older.old.slots ≤ length self.old.slots }
         requires reached { IsReached (hash_under T.hash_input S.BuildHasher S.Hasher.Hasher state.now) self.old }
-        ensures placed { PlacesAll (entries (slot_at older.old.slots at ∷ [])) self.old.slots self.new.slots }
+        ensures placed { PlacesAll (hash_under T.hash_input S.BuildHasher S.Hasher.Hasher state.now) (entries (slot_at older.old.slots at ∷ [])) self.old.slots self.new.slots }
         ensures left { older.new.slots ≡ slice_set older.old.slots at (carried (slot_at older.old.slots at)) }
         ensures apart { AreApart T.eq older.new.slots self.new.slots }
         ensures kept { live_count self.new.slots + live_count older.new.slots ≡ live_count self.old.slots + live_count older.old.slots }
@@ -456,7 +456,7 @@ impl<T: Eq + Hash> Slots<T> {
         requires apart { AreApart T.eq older.old.slots self.old.slots }
         requires room { live_count self.old.slots + live_count older.old.slots ≤ length self.old.slots }
         requires reached { IsReached (hash_under T.hash_input S.BuildHasher S.Hasher.Hasher state.now) self.old }
-        ensures placed { PlacesAll (entries_in from 16 older.old.slots) self.old.slots self.new.slots }
+        ensures placed { PlacesAll (hash_under T.hash_input S.BuildHasher S.Hasher.Hasher state.now) (entries_in from 16 older.old.slots) self.old.slots self.new.slots }
         ensures left { Carries from 16 older.old.slots older.new.slots }
         ensures apart { AreApart T.eq older.new.slots self.new.slots }
         ensures kept { live_count self.new.slots + live_count older.new.slots ≡ live_count self.old.slots + live_count older.old.slots }
@@ -499,7 +499,7 @@ impl<T: Eq + Hash> Slots<T> {
         requires apart { AreApart T.eq older.old.slots self.old.slots }
         requires room { live_count self.old.slots + live_count older.old.slots ≤ length self.old.slots }
         requires reached { IsReached (hash_under T.hash_input S.BuildHasher S.Hasher.Hasher state.now) self.old }
-        ensures placed { PlacesAll (entries_in from many older.old.slots) self.old.slots self.new.slots }
+        ensures placed { PlacesAll (hash_under T.hash_input S.BuildHasher S.Hasher.Hasher state.now) (entries_in from many older.old.slots) self.old.slots self.new.slots }
         ensures left { Carries from many older.old.slots older.new.slots }
         ensures apart { AreApart T.eq older.new.slots self.new.slots }
         ensures kept { live_count self.new.slots + live_count older.new.slots ≡ live_count self.old.slots + live_count older.old.slots }

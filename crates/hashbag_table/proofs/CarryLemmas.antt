@@ -43,6 +43,7 @@ module _ {T : Type 0} (eq : T → T → Bool) (hash : T → ℕ) where
         counted = subst (λ ss. IsCounted eq (entries ss ++ entries (drop 0 older.slots))) (sym e) (subst (λ ss. IsCounted eq (entries ss)) (sym f) (IsCounted-nil T eq));
         carries = omega arith;
         smaller = inl f;
+        freed = λ _. ap length f;
       }
 
 module _ {T : Type 0} where
@@ -87,23 +88,23 @@ module _ {T : Type 0} where
         ];
   }
 
-  pub Fills-PlacesAll : (es : List (T × ℕ)) (a b : List (Slot T)) → PlacesAll es a b → Fills (length es) a b
-  Fills-PlacesAll [] a b h = subst (Fills 0 a) (sym h) (Fills-none a)
-  Fills-PlacesAll (e ∷ es) a b h =
+  pub Fills-PlacesAll : (hash : T → ℕ) (es : List (T × ℕ)) (a b : List (Slot T)) → PlacesAll hash es a b → Fills (length es) a b
+  Fills-PlacesAll hash [] a b h = subst (Fills 0 a) (sym h) (Fills-none a)
+  Fills-PlacesAll hash (e ∷ es) a b h =
       let k : 1 + length es ≡ suc (length es) = omega arith in
-      subst (λ n. Fills n a b) k (Fills-then 1 (length es) a h.0 b (Fills-Places e.0 e.1 a h.0 h.1) (Fills-PlacesAll es h.0 b h.2))
+      subst (λ n. Fills n a b) k (Fills-then 1 (length es) a h.0 b (Fills-Places e.0 e.1 a h.0 h.1.places) (Fills-PlacesAll hash es h.0 b h.2))
 
   pub Fills-more : (j k : ℕ) (a b : List (Slot T)) → j ≤ k → Fills j a b → Fills k a b
   Fills-more j k a b le f = record { same_length = f.same_length; places = f.places; few = let x = f.few in omega arith; each = f.each }
 
   -- a carry: so many slots of the older table are looked at, at most k
-  pub Fills-carry : (k from many : ℕ) (older a b : List (Slot T)) → many ≤ k → PlacesAll (entries_in from many older) a b → Fills k a b
-  Fills-carry k from many older a b few all =
+  pub Fills-carry : (hash : T → ℕ) (k from many : ℕ) (older a b : List (Slot T)) → many ≤ k → PlacesAll hash (entries_in from many older) a b → Fills k a b
+  Fills-carry hash k from many older a b few all =
       let es = entries_in from many older in
       let l = entries_few (take many (drop from older)) in
       let t = length-take many (drop from older) in
       let le : length es ≤ k = omega arith in
-      Fills-more (length es) k a b le (Fills-PlacesAll es a b all)
+      Fills-more (length es) k a b le (Fills-PlacesAll hash es a b all)
 
   -- what waits after a carry is what waited, without the slots that were looked at
   pub drop-Carries : (from many : ℕ) (old new : List (Slot T)) → Carries from many old new → drop (from + many) new ≡ drop (from + many) old
@@ -131,7 +132,7 @@ module _ {T : Type 0} where
 
 module _ {T : Type 0} (eq : T → T → Bool) (hash : T → ℕ) (newer older newer1 older1 : Columns T) (looked many : ℕ)
     (tables : AreTables eq hash newer older looked) (within : looked + many ≤ length older.slots)
-    (placed : PlacesAll (entries_in looked many older.slots) newer.slots newer1.slots) (left : Carries looked many older.slots older1.slots) (apart : AreApart eq older1.slots newer1.slots)
+    (placed : PlacesAll hash (entries_in looked many older.slots) newer.slots newer1.slots) (left : Carries looked many older.slots older1.slots) (apart : AreApart eq older1.slots newer1.slots)
     (kept : live_count newer1.slots + live_count older1.slots ≡ live_count newer.slots + live_count older.slots) (removed : removed_count newer1.slots ≤ removed_count newer.slots) (slots : length newer1.slots ≡ length newer.slots)
     (newer_reached : IsReached hash newer1) (older_reached : IsReached hash older1) where
   dead : (p : ℕ) → p < looked + many → is_live (slot_at older1.slots p) ≡ false
@@ -152,7 +153,7 @@ module _ {T : Type 0} (eq : T → T → Bool) (hash : T → ℕ) (newer older ne
     newer_reached = newer_reached;
     older_reached = older_reached;
     apart = apart;
-    unmoved = unmoved_filled _ newer.slots newer1.slots (Fills-PlacesAll _ newer.slots newer1.slots placed) tables.unmoved;
+    unmoved = unmoved_filled _ newer.slots newer1.slots (Fills-PlacesAll hash _ newer.slots newer1.slots placed) tables.unmoved;
     looked_within = let same = left.same_length in omega (arith, within, same);
     looked_dead = dead;
     fits = let k = kept_after in let f = tables.fits in let l : limit (length newer1.slots) ≡ limit (length newer.slots) = ap limit slots in omega (arith, k, f, l, removed);
@@ -179,13 +180,13 @@ module _ {T : Type 0} (eq : T → T → Bool) (hash : T → ℕ) (newer older ne
       let split : entries w ≡ es ++ rest = ap entries (sym (take-append-drop many w)) ∙ entries-append (take many w) (drop many w) ∙ ap (λ ss. es ++ entries ss) (drop-drop many looked older.slots) in
       let moved : IsPermutation (entries newer.slots ++ (es ++ rest)) (entries newer1.slots ++ rest) =
       subst (λ l. IsPermutation l (entries newer1.slots ++ rest)) (append_assoc (entries newer.slots) es rest)
-      (IsPermutation-append_left rest _ _ (IsPermutation-trans _ _ _ (IsPermutation-append_comm (entries newer.slots) es) (entries-PlacesAll es newer.slots newer1.slots placed))) in
+      (IsPermutation-append_left rest _ _ (IsPermutation-trans _ _ _ (IsPermutation-append_comm (entries newer.slots) es) (entries-PlacesAll hash es newer.slots newer1.slots placed))) in
       subst (λ l. IsPermutation (entries newer.slots ++ l) (entries_of newer1.slots (drop (looked + many) older1.slots))) (sym split)
       (subst (λ ss. IsPermutation (entries newer.slots ++ (es ++ rest)) (entries newer1.slots ++ entries ss)) (sym (drop-Carries looked many older.slots older1.slots left)) moved)
 
   pub carried_after : (most : ℕ) → many ≡ min (length older.slots - looked) most → Carried most newer.slots (drop looked older.slots) newer1.slots (drop (looked + many) older1.slots)
   carried_after most least = record {
-    fills = Fills-carry most looked many older.slots newer.slots newer1.slots (omega (arith, least)) placed;
+    fills = Fills-carry hash most looked many older.slots newer.slots newer1.slots (omega (arith, least)) placed;
     waits = waiting_after most least;
     entries = entries_after;
     live = kept_after;
@@ -218,8 +219,8 @@ module _ {T : Type 0} (eq : T → T → Bool) (hash : T → ℕ) where
 
   -- a carry keeps what holds between two calls
   pub IsTables-carried : IsEquivalence eq → (newer older newer1 older1 : Columns T) (looked looked1 : ℕ) → IsTables eq hash newer older looked → AreTables eq hash newer1 older1 looked1
-      → Carried 16 newer.slots (drop looked older.slots) newer1.slots (drop looked1 older1.slots) → IsTables eq hash newer1 older1 looked1
-  IsTables-carried laws newer older newer1 older1 looked looked1 before tables h =
+      → Carried 16 newer.slots (drop looked older.slots) newer1.slots (drop looked1 older1.slots) → (length older1.slots ≤ looked1 → length older1.slots ≡ 0) → IsTables eq hash newer1 older1 looked1
+  IsTables-carried laws newer older newer1 older1 looked looked1 before tables h freed =
       let w = drop looked older.slots in
       let w1 = drop looked1 older1.slots in
       let r = room_carried 16 newer.slots w newer1.slots w1 h in
@@ -232,6 +233,7 @@ module _ {T : Type 0} (eq : T → T → Bool) (hash : T → ℕ) where
           | inl none ↦ inl (h.waits ∙ ap (drop 16) none)
           | inr some ↦ inr (let same = h.fills.same_length in omega (arith, len, same, some))
         ];
+        freed = freed;
       }
 
   -- a carry out of the older table leaves what another insertion needs
@@ -271,6 +273,7 @@ IsTables-blank {T = T} eq hash newer older n e f r s =
       counted = subst (λ es. IsCounted eq (es ++ entries (drop 0 older.slots))) (sym (ap entries e ∙ entries_empty T n)) (subst (λ ss. IsCounted eq (entries ss)) (sym f) (IsCounted-nil T eq));
       carries = omega arith;
       smaller = inl f;
+      freed = λ _. ap length f;
     }
 
 pub entries_blank : {T : Type 0} (newer older : List (Slot T)) (n : ℕ) → newer ≡ replicate n Empty → older ≡ [] → entries_of newer (drop 0 older) ≡ []
@@ -300,8 +303,8 @@ module _ {T : Type 0} (eq : T → T → Bool) (hash : T → ℕ) (newer fresh : 
   }
 
   pub IsTables-adopted : IsEquivalence eq → (newer1 older1 : Columns T) (looked1 : ℕ) → AreTables eq hash newer1 older1 looked1 → Carried many fresh.slots newer.slots newer1.slots (drop looked1 older1.slots)
-      → IsTables eq hash newer1 older1 looked1
-  IsTables-adopted laws newer1 older1 looked1 tables h =
+      → (length older1.slots ≤ looked1 → length older1.slots ≡ 0) → IsTables eq hash newer1 older1 looked1
+  IsTables-adopted laws newer1 older1 looked1 tables h freed =
       let w1 = drop looked1 older1.slots in
       let r = room_carried eq hash many fresh.slots newer.slots newer1.slots w1 h in
       let len : length w1 ≡ length newer.slots - many = ap length h.waits ∙ length-drop many newer.slots in
@@ -313,6 +316,7 @@ module _ {T : Type 0} (eq : T → T → Bool) (hash : T → ℕ) (newer fresh : 
           | inl all ↦ inl (h.waits ∙ drop_all many newer.slots all)
           | inr some ↦ inr (let same = h.fills.same_length in omega (arith, len, same, some))
         ];
+        freed = freed;
       }
 
 -- a table of Empty slots with room enough takes the place of one that is full
@@ -389,6 +393,7 @@ module _ {T : Type 0} (eq : T → T → Bool) (laws : IsEquivalence eq) (hash : 
             | inl none ↦ inl none
             | inr more ↦ inr (omega (arith, len, more))
           ];
+          freed = before.freed;
         }
 
 module _ {T : Type 0} where

@@ -157,6 +157,7 @@ module _ {F T : Type 0} (g : Mut F (Bor T × (ℕ × Unit {0})) ℕ) where
               | inl none ↦ inl (let z : length (drop looked older1.slots) ≡ 0 = len ∙ ap length none in nil_is (drop looked older1.slots) z)
               | inr some ↦ inr (let same = first.same_length in omega (arith, len, same, some))
             ];
+            freed = λ all. let same = second.same_length in same ∙ before.freed (omega (arith, same, all));
           }
         where
           nil_is : {X : Type 0} (xs : List X) → length xs ≡ 0 → xs ≡ []

@@ -59,6 +59,7 @@ module _ {T : Type 0} (eq : T → T → Bool) (laws : IsEquivalence eq) where
         counted = subst (λ ss. IsCounted eq (entries newer.slots ++ entries ss)) (sym empty) (subst (IsCounted eq) (sym (append-nil (entries newer.slots))) counted);
         carries = omega (arith, l);
         smaller = inl empty;
+        freed = λ _. l;
       }
 
 -- the values that wait move into a table of Empty slots in which all have room
@@ -79,7 +80,7 @@ module _ {T : Type 0} (eq : T → T → Bool) (laws : IsEquivalence eq) (hash : 
       let b = live-drop older.slots looked before.tables.looked_within before.tables.looked_dead in
       let c = all_values in let d = limit_few (length blank.slots) in omega (arith, a, b, c, d, enough)
 
-  module _ (blank1 : Columns T) (placed : PlacesAll (entries_in looked many older.slots) blank.slots blank1.slots) (removed : removed_count blank1.slots ≤ removed_count blank.slots) (slots : length blank1.slots ≡ length blank.slots)
+  module _ (blank1 : Columns T) (placed : PlacesAll hash (entries_in looked many older.slots) blank.slots blank1.slots) (removed : removed_count blank1.slots ≤ removed_count blank.slots) (slots : length blank1.slots ≡ length blank.slots)
       (reached : IsReached hash blank1) where
     moved_in : IsPermutation (entries (drop looked older.slots)) (entries blank1.slots)
     moved_in =
@@ -87,7 +88,7 @@ module _ {T : Type 0} (eq : T → T → Bool) (laws : IsEquivalence eq) (hash : 
         let l = length-drop looked older.slots in
         let whole : entries_in looked many older.slots ++ entries blank.slots ≡ entries w =
         ap (λ es. entries_in looked many older.slots ++ es) (entries_fresh blank.slots empty) ∙ append-nil (entries_in looked many older.slots) ∙ ap entries (take_all many w (omega (arith, l, all))) in
-        subst (λ es. IsPermutation es (entries blank1.slots)) whole (entries-PlacesAll (entries_in looked many older.slots) blank.slots blank1.slots placed)
+        subst (λ es. IsPermutation es (entries blank1.slots)) whole (entries-PlacesAll hash (entries_in looked many older.slots) blank.slots blank1.slots placed)
 
     -- the map of both tables is that of the former newer one beside the one that has what waited
     pub beside : IsPermutation (entries_of newer.slots (drop looked older.slots)) (entries_of blank1.slots newer.slots)
@@ -112,7 +113,7 @@ module _ {T : Type 0} (eq : T → T → Bool) (laws : IsEquivalence eq) (hash : 
         record {
           reached = reached;
           apart = apart_counted eq laws blank1.slots newer.slots counted_beside;
-          unmoved = unmoved_filled _ blank.slots blank1.slots (Fills-PlacesAll _ blank.slots blank1.slots placed) (unmoved_blank blank.slots (length blank.slots) empty);
+          unmoved = unmoved_filled _ blank.slots blank1.slots (Fills-PlacesAll hash _ blank.slots blank1.slots placed) (unmoved_blank blank.slots (length blank.slots) empty);
           counted = counted_beside;
           fits = omega (arith, live, none, sum, limits, enough);
           carries = omega (arith, most);

@@ -48,8 +48,8 @@ module _ {T : Type 0} where
   fresh_length ss n e = e ∙ ap (λ m. replicate m Empty) (sym (ap length e ∙ length-replicate n Empty))
 
   -- a table of Empty slots
-  pub packed_fresh : (newer waiting : List (Slot T)) (n built : ℕ) → newer ≡ replicate n Empty → waiting ≡ [] → IsPacked (record { newer = newer; waiting = waiting; built = built })
-  packed_fresh newer waiting n built empty none =
+  pub packed_fresh : (newer waiting : List (Slot T)) (n older built : ℕ) → newer ≡ replicate n Empty → waiting ≡ [] → IsPacked (record { newer = newer; waiting = waiting; older = older; built = built })
+  packed_fresh newer waiting n older built empty none =
       let r = removed_fresh newer (fresh_length newer n empty) in
       record { waiting = none; room = omega (arith, r) }
 

@@ -4,14 +4,14 @@ use borrow.Author.Tests.{lt-ltb}
 use denote.Ref.{Bor}
 use denote.Param.Members.{Mut}
 use Rattle.std.proofs.lemmas.Bool.{cases_lt}
-use Rattle.std.proofs.lemmas.List.{drop_all, drop_more, drop-set-lt, get_or-set_same, get_or-set_other, get_or-drop, length-set}
+use Rattle.std.proofs.lemmas.List.{drop_all, drop_more, drop-set-lt, get_or-set_same, get_or-set_other, get_or-drop, length-set, length-drop}
 use Rattle.std.proofs.lemmas.List.Sums.{sum_by-cons}
 use Rattle.hashbag_slots.specs.declared.slots.Slot.{Slot}
 use Rattle.hashbag_slots.specs.declared.slots.Slot.TheVariants.{Empty, Removed, Moved, Live}
 use Rattle.hashbag_slots.specs.Slots.{is_live, is_removed, holds, live_count, removed_count, slot_at, slot_entry, count_in, entries, IsAbsent}
 use Rattle.hashbag_table.specs.Asked.{MayAsk, MayAnswer, MayAskInTurn, AnswersInTurn, kept}
 use Rattle.hashbag_table.specs.Entries.{total}
-use Rattle.hashbag_table.specs.Retained.{slot_left, LeavesSlot, LeavesSlots, RetainsFrom}
+use Rattle.hashbag_table.specs.Retained.{slot_left, slot_kept, LeavesSlot, LeavesSlots, RetainsFrom, RetainsSlots}
 use Rattle.hashbag_table.proofs.AskedLemmas.{lesser}
 
 module _ {T : Type 0} where
@@ -113,6 +113,26 @@ module _ {F T : Type 0} (g : Mut F (Bor T × (ℕ × Unit {0})) ℕ) where
   count_left f f' Removed t h = let e = ap count_in h.0 in omega (arith, e)
   count_left f f' Moved t h = let e = ap count_in h.0 in omega (arith, e)
   count_left f f' (Live w m) t h = subst (λ x. count_in x ≤ m) (sym h.2) (left_count _ w _ m (lesser h.0 m))
+
+  slot_some : (f f' : F) (s t : Slot T) → LeavesSlot g f s t f' → (a : ℕ) × (t ≡ slot_kept a s)
+  slot_some f f' Empty t h = (0, h.0)
+  slot_some f f' Removed t h = (0, h.0)
+  slot_some f f' Moved t h = (0, h.0)
+  slot_some f f' (Live v n) t h = (h.0, h.2)
+
+  slots_some : (f f' : F) (ss ts : List (Slot T)) → LeavesSlots g f ss ts f' → (p : ℕ) → (a : ℕ) × (slot_at ts p ≡ slot_kept a (slot_at ss p))
+  slots_some f f' [] [] h p = (0, refl)
+  slots_some f f' [] (t ∷ ts) h p = absurd h
+  slots_some f f' (s ∷ ss) [] h p = absurd h
+  slots_some f f' (s ∷ ss) (t ∷ ts) h zero = slot_some f h.0 s t h.1
+  slots_some f f' (s ∷ ss) (t ∷ ts) h (suc p) = slots_some h.0 f' ss ts h.2 p
+
+  -- the slots from a place on, each at its own place
+  pub slots_kept : (from : ℕ) (f f' : F) (old new : List (Slot T)) → RetainsFrom g from f old new f' → RetainsSlots (drop from old) (drop from new)
+  slots_kept from f f' old new h = record {
+    same_length = let a = length-drop from old in let b = length-drop from new in let same = h.same_length in omega (arith, a, b, same);
+    each = slots_some f f' (drop from old) (drop from new) h.left;
+  }
 
   -- what may be asked
   asks_later : (f f' : F) (e : T × ℕ) (walk : List (T × ℕ)) (a : ℕ) → MayAskInTurn g f (e ∷ walk) → MayAnswer g f e a f' → MayAskInTurn g f' walk

@@ -68,11 +68,11 @@ module _ {T : Type 0} where
   pub entries-Places : (v : T) (n : ℕ) (old new : List (Slot T)) → Places v n old new → IsPermutation ((v, n) ∷ entries old) (entries new)
   entries-Places v n old new put = subst (λ ss. IsPermutation ((v, n) ∷ entries old) (entries ss)) (sym put.after) (entries_put old put.at v n put.within put.free)
 
-  pub entries-PlacesAll : (es : List (T × ℕ)) (a b : List (Slot T)) → PlacesAll es a b → IsPermutation (es ++ entries a) (entries b)
-  entries-PlacesAll [] a b h = subst (λ ss. IsPermutation (entries a) (entries ss)) (sym h) (IsPermutation-refl _)
-  entries-PlacesAll (e ∷ es) a b h =
+  pub entries-PlacesAll : (hash : T → ℕ) (es : List (T × ℕ)) (a b : List (Slot T)) → PlacesAll hash es a b → IsPermutation (es ++ entries a) (entries b)
+  entries-PlacesAll hash [] a b h = subst (λ ss. IsPermutation (entries a) (entries ss)) (sym h) (IsPermutation-refl _)
+  entries-PlacesAll hash (e ∷ es) a b h =
       IsPermutation-trans _ _ _ (IsPermutation-sym _ _ (IsPermutation-middle es e (entries a)))
-      (IsPermutation-trans _ _ _ (IsPermutation-append_right es _ _ (entries-Places e.0 e.1 a h.0 h.1)) (entries-PlacesAll es h.0 b h.2))
+      (IsPermutation-trans _ _ _ (IsPermutation-append_right es _ _ (entries-Places e.0 e.1 a h.0 h.1.places)) (entries-PlacesAll hash es h.0 b h.2))
 
   some_first : (b : Bool) (e x : T × ℕ) (r s : Option (T × ℕ)) → (r ≡ Some x → s ≡ Some x) → cond b (Some e) r ≡ Some x → cond b (Some e) s ≡ Some x
   some_first true e x r s f h = h

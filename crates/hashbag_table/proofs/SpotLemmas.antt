@@ -173,6 +173,7 @@ module _ {T : Type 0} (eq : T → T → Bool) (hash : T → ℕ) (newer older : 
             | inl none ↦ inl none
             | inr more ↦ inr (omega (arith, len, more))
           ];
+          freed = before.freed;
         }
 
     pub IsTables-older : (older1 : Columns T) → looked + p < length older.slots → slot_at older.slots (looked + p) ≡ Live v m → older1.slots ≡ slice_set older.slots (looked + p) s → IsReached hash older1
@@ -213,6 +214,7 @@ module _ {T : Type 0} (eq : T → T → Bool) (hash : T → ℕ) (newer older : 
             | inl none ↦ absurd (let z : length w ≡ 0 = ap length none in omega (arith, within, z))
             | inr more ↦ inr (omega (arith, waits, more))
           ];
+          freed = λ all. absurd (omega (arith, lt, len, all));
         }
 
 live_is : {T : Type 0} (s : Slot T) → is_live s ≡ true → (v : T) × (n : ℕ) × (s ≡ Live v n)

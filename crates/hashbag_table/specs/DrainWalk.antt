@@ -18,7 +18,7 @@ module _ {T : Type 0} where
 
 -- the table with no entries and no slots, under the same state
 abbrev pub emptied : {T S : Type 0} → Table T S → Table T S
-emptied t = record { entries = []; hasher = t.hasher; tables = record { newer = []; waiting = []; built = t.tables.built } }
+emptied t = record { entries = []; hasher = t.hasher; tables = record { newer = []; waiting = []; older = 0; built = t.tables.built } }
 
 -- once the loan named r has ended, the table behind t is empty
 abbrev pub follows_drain : (T S H : RattleType) (g : record { eq : T.Denot → T.Denot → Bool; hash_input : T.Denot → List (List ℕ) }) (b : builder.Ghosts S.Denot H.Denot) (w : hasher.Ghosts H.Denot) → MutBor (Table T.Denot S.Denot) → GName → Fml

@@ -6,10 +6,30 @@ use Rattle.hashbag_slots.specs.declared.slots.Slot.{Slot}
 use Rattle.hashbag_slots.specs.declared.slots.Slot.TheVariants.{Empty, Removed, Moved, Live}
 use Rattle.hashbag_slots.specs.Slots.{slot_at}
 use Rattle.hashbag_table.specs.Asked.{MayAnswer}
+use Rattle.hashbag_table.specs.Tables.{Tables}
 
 -- what the answer a leaves of a Live slot: the lesser of its count and the answer, and Removed where that is 0
 abbrev pub slot_left : {T : Type 0} → T → ℕ → ℕ → Slot T
 slot_left v n a = if nat_lt 0 (min a n) then Live v (min a n) else Removed
+
+module _ {T : Type 0} where
+  -- what the answer a leaves of a slot: one that is not Live stays as it is
+  abbrev pub slot_kept : ℕ → Slot T → Slot T
+  slot_kept a Empty = Empty
+  slot_kept a Removed = Removed
+  slot_kept a Moved = Moved
+  slot_kept a (Live v n) = slot_left v n a
+
+  -- each slot is, at its own place, what some answer leaves of it: no value comes to another slot
+  pub record RetainsSlots (old new : List (Slot T)) : Type 0 where
+    pub same_length : length new ≡ length old
+    pub each : (p : ℕ) → (a : ℕ) × (slot_at new p ≡ slot_kept a (slot_at old p))
+
+  -- so it is with the slots of the newer table and with those that wait, and no table is built
+  pub record RetainsTables (old new : Tables T) : Type 0 where
+    pub newer : RetainsSlots old.newer new.newer
+    pub waiting : RetainsSlots old.waiting new.waiting
+    pub built : new.built ≡ old.built
 
 module _ {F T : Type 0} (g : Mut F (Bor T × (ℕ × Unit {0})) ℕ) where
   -- f, asked at the slot s where that is Live, may leave the slot t and be left as f'

@@ -5,7 +5,7 @@ use denote.Param.Members.{Mut}
 use Rattle.hashbag_slots.specs.declared.slots.Slot.{Slot}
 use Rattle.hashbag_slots.specs.declared.slots.Slot.TheVariants.{Empty, Removed, Moved, Live}
 use Rattle.hashbag_table.specs.Asked.{MayAnswer, kept}
-use Rattle.hashbag_table.specs.Retained.{slot_left, LeavesSlots}
+use Rattle.hashbag_table.specs.Retained.{slot_left, slot_kept, LeavesSlots}
 
 -- the value 7 with the count 5, and a lesser, a greater and no answer
 lesser_answer : slot_left {T = ℕ} 7 5 3 ≡ Live 7 3
@@ -16,6 +16,9 @@ greater_answer = refl
 
 answer_of_0 : slot_left {T = ℕ} 7 5 0 ≡ Removed
 answer_of_0 = refl
+
+stays_removed : slot_kept {T = ℕ} 3 Removed ≡ Removed
+stays_removed = refl
 
 -- 5 keeps its count, 15 the answer, and 31 goes
 abbrev walk : List (ℕ × ℕ)

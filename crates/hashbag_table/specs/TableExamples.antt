@@ -16,7 +16,7 @@ abbrev waiting : List (Slot ℕ)
 waiting = Empty ∷ Live 15 7 ∷ []
 
 abbrev tables : Tables ℕ
-tables = record { newer = newer; waiting = waiting; built = 48 }
+tables = record { newer = newer; waiting = waiting; older = 16; built = 48 }
 
 -- ---- numbers of slots
 
@@ -117,5 +117,5 @@ no_spot : entry_in tables None ≡ None
 no_spot = refl
 
 -- both values in one table, without a Removed slot
-packed : IsPacked {T = ℕ} (record { newer = Live 15 7 ∷ replicate 4 Empty ++ Live 5 2 ∷ replicate 26 Empty; waiting = []; built = 32 })
+packed : IsPacked {T = ℕ} (record { newer = Live 15 7 ∷ replicate 4 Empty ++ Live 5 2 ∷ replicate 26 Empty; waiting = []; older = 0; built = 32 })
 packed = record { waiting = refl; room = refl }

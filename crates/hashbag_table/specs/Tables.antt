@@ -9,11 +9,12 @@ use Rattle.hashbag_table.specs.declared.table.Spot.{Spot}
 use Rattle.hashbag_table.specs.declared.table.Spot.TheVariants.{Newer, Waiting}
 use Rattle.hashbag_table.specs.Entries.{IsCounted}
 
--- the slots of the newer table in place order, those of the older one that wait to be carried, and how many slots all tables
--- had that were the newer one
+-- the slots of the newer table in place order, those of the older one that wait to be carried, how many slots the older one
+-- has, and how many all tables had that were the newer one
 pub record Tables (T : Type 0) : Type 0 where
   pub newer : List (Slot T)
   pub waiting : List (Slot T)
+  pub older : ℕ
   pub built : ℕ
 
 -- how many of n slots may be Live or Removed before a table grows
@@ -76,12 +77,14 @@ module _ {T : Type 0} where
     pub looked_dead : (p : ℕ) → p < looked → is_live (slot_at older.slots p) ≡ false
     pub fits : live_count newer.slots + removed_count newer.slots + live_count (drop looked older.slots) ≤ limit (length newer.slots)
 
-  -- what holds between two calls: what waits is at most 16 times the room, and at least 16 fewer than the newer slots
+  -- what holds between two calls: what waits is at most 16 times the room, and at least 16 fewer than the newer slots; and where
+  -- nothing waits the older table has no slots
   pub record IsTables (eq : T → T → Bool) (hash : T → ℕ) (newer older : Columns T) (looked : ℕ) : Type 0 where
     pub tables : AreTables eq hash newer older looked
     pub counted : IsCounted eq (entries_of newer.slots (drop looked older.slots))
     pub carries : length (drop looked older.slots) ≤ 16 * room_of newer.slots (drop looked older.slots)
     pub smaller : (drop looked older.slots ≡ []) ⊎ (16 + length (drop looked older.slots) ≤ length newer.slots)
+    pub freed : length older.slots ≤ looked → length older.slots ≡ 0
 
   -- a table may take the place of these newer slots, so many of which are carried at once: values are found in it, all are
   -- within its limit, and those that wait are few enough for its room
@@ -147,6 +150,22 @@ module _ {T : Type 0} where
   pub record IsPacked (t : Tables T) : Type 0 where
     pub waiting : t.waiting ≡ []
     pub room : room t ≡ limit (length t.newer) - values t
+
+  -- the least table from n slots on with room for k values took the place of both, and its slots count as built
+  pub record Packs (n k : ℕ) (old new : Tables T) : Type 0 where
+    pub least : IsLeast n k (length new.newer)
+    pub packed : IsPacked new
+    pub built : new.built ≡ old.built + length new.newer
+
+  -- room for n more than k values: there was room and the tables stay, or there wasn't and the least table that has it took
+  -- their place
+  abbrev pub ReservesOrStays : ℕ → ℕ → Tables T → Tables T → Type 0
+  ReservesOrStays n k old new = ((n ≤ room old) × (new ≡ old)) ⊎ ((room old < n) × Packs (length old.newer) (k + n) old new)
+
+  -- no more than k values need: the newer table is no larger than the least one for them and the tables stay, or it was larger
+  -- and that one took their place
+  abbrev pub ShrinksOrStays : ℕ → Tables T → Tables T → Type 0
+  ShrinksOrStays k old new = (((m : ℕ) → IsLeast 0 k m → length old.newer ≤ m) × (new ≡ old)) ⊎ ((length new.newer < length old.newer) × Packs 0 k old new)
 
   -- the slot at a spot
   abbrev pub slot_in : Tables T → Spot → Slot T

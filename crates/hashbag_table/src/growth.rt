@@ -1,5 +1,5 @@
 //! Numbers of slots, and the carry from an older table of slots to a newer one.
-ghost use Rattle.std.specs.Prelude.{◌≡◌, ℕ, ◌*◌, ◌<◌, ◌≤◌, ◌^◌, [], drop, IfOk, IsErr};
+ghost use Rattle.std.specs.Prelude.{◌≡◌, ℕ, ◌*◌, ◌<◌, ◌≤◌, ◌^◌, [], drop, length, IfOk, IsErr};
 ghost use Rattle.hashbag_slots.specs.Hashing.{hash_under};
 ghost use Rattle.hashbag_slots.specs.Slots.{IsSlotCount};
 ghost use Rattle.hashbag_slots.specs.Columns.{IsReached};
@@ -74,6 +74,7 @@ pub fn carry_next<T: Eq + Hash + Drop, S: BuildHasher>(
     requires tables { AreTables T.eq (hash_under T.hash_input S.BuildHasher S.Hasher.Hasher hasher.now) newer.old older.old looked }
     ensures tables { AreTables T.eq (hash_under T.hash_input S.BuildHasher S.Hasher.Hasher hasher.now) newer.new older.new result }
     ensures carried { Carried most newer.old.slots (drop looked older.old.slots) newer.new.slots (drop result older.new.slots) }
+    ensures freed { length older.new.slots ≤ result → length older.new.slots ≡ 0 }
 {
     let count = older.slots();
     if count == 0 {

@@ -9,6 +9,7 @@ ghost use Rattle.hashbag_slots.specs.Hashing.{hash_under};
 ghost use Rattle.hashbag_slots.specs.Slots.{IsSlotCount, entries, IsAbsent, IsFirstFree, Places, recounted};
 ghost use Rattle.hashbag_table.specs.Asked.{MayAskInTurn, Retains};
 ghost use Rattle.hashbag_table.specs.Entries.{entry_of, count_of, without, with_count, with_fewer, with_instance, total, IsCounted, HasClones};
+ghost use Rattle.hashbag_table.specs.Retained.{RetainsTables};
 ghost use Rattle.hashbag_table.specs.Tables.{limit, room, values, IsLeast, IsPacked, entries_of, Arrives, NoneMoved, Rewrites};
 
 mod room;
@@ -60,14 +61,14 @@ pub struct Table<T: Eq + Hash + Drop, S: BuildHasher + Drop> {
 }
 
 impl<T: Eq + Hash + Drop, S: BuildHasher + Drop> Model for Table<T, S> {
-    ghost use Rattle.std.specs.Prelude.{drop};
+    ghost use Rattle.std.specs.Prelude.{drop, length};
     ghost use Rattle.hashbag_slots.specs.Hashing.{hash_under};
     ghost use Rattle.hashbag_table.specs.Table.{Table as Entries};
     ghost use Rattle.hashbag_table.specs.Tables.{IsTables, entries_of};
 
     ghost Value = { Entries T S };
 
-    ghost view = { λ t. record { entries = entries_of t.newer.slots (drop t.looked t.older.slots); hasher = t.hasher; tables = record { newer = t.newer.slots; waiting = drop t.looked t.older.slots; built = t.built } } };
+    ghost view = { λ t. record { entries = entries_of t.newer.slots (drop t.looked t.older.slots); hasher = t.hasher; tables = record { newer = t.newer.slots; waiting = drop t.looked t.older.slots; older = length t.older.slots; built = t.built } } };
 
     ghost invariant = { λ t. IsTables T.eq (hash_under T.hash_input S.BuildHasher S.Hasher.Hasher t.hasher) t.newer t.older t.looked };
 }
@@ -82,6 +83,7 @@ impl<T: Eq + Hash + Drop, S: BuildHasher + Drop> Table<T, S> {
         ensures hasher { result.hasher ≡ hasher }
         ensures newer { result.tables.newer ≡ [] }
         ensures waiting { result.tables.waiting ≡ [] }
+        ensures older { result.tables.older ≡ 0 }
         ensures built { result.tables.built ≡ 0 }
     {
         let newer = no_slots(alloc);
@@ -135,11 +137,12 @@ impl<T: Eq + Hash + Drop, S: BuildHasher + Drop> Table<T, S> {
         self.newer.slots()
     }
 
-    /// The number of slots that wait to be carried.
+    /// The number of slots that wait to be carried. Where none does, the older table has no slots: its memory is given back.
     pub fn waiting(&self) -> usize
         ensures waiting { result ≡ length self.now.tables.waiting }
         ensures carries { result ≤ 16 * room self.now.tables }
         ensures smaller { 0 < result → result + 16 ≤ length self.now.tables.newer }
+        ensures freed { result ≡ 0 → self.now.tables.older ≡ 0 }
     {
         self.older.slots() - self.looked
     }
@@ -243,6 +246,7 @@ impl<T: Eq + Hash + Drop, S: BuildHasher + Drop> Table<T, S> {
         requires absent { entry_of T.eq value self.old.entries ≡ None }
         requires some { 0 < count }
         ensures inserted { OnOk result (IsPermutation (with_instance T.eq value count self.old.entries) self.new.entries) }
+        ensures new_set { OnOk result (length self.new.entries ≡ length self.old.entries + 1) }
         ensures hasher { self.new.hasher ≡ self.old.hasher }
         ensures counted { IsCounted T.eq self.new.entries }
         ensures err { OnErr result (self.new ≡ self.old) }
@@ -261,6 +265,7 @@ impl<T: Eq + Hash + Drop, S: BuildHasher + Drop> Table<T, S> {
         requires absent { entry_of T.eq value self.old.entries ≡ None }
         requires some { 0 < count }
         ensures inserted { OnOk result (IsPermutation (with_instance T.eq value count self.old.entries) self.new.entries) }
+        ensures new_set { OnOk result (length self.new.entries ≡ length self.old.entries + 1) }
         ensures hasher { self.new.hasher ≡ self.old.hasher }
         ensures counted { IsCounted T.eq self.new.entries }
         ensures err { OnErr result (self.new ≡ self.old) }
@@ -381,6 +386,7 @@ impl<T: Eq + Hash + Drop, S: BuildHasher + Drop> Table<T, S> {
         requires fits { count_of T.eq value self.old.entries + n < 2 ^ 64 }
         ensures before { IfOk result (λ before. before ≡ count_of T.eq value self.old.entries) }
         ensures added { OnOk result (IsPermutation (with_count T.eq value (count_of T.eq value self.old.entries + n) self.old.entries) self.new.entries) }
+        ensures new_set { entry_of T.eq value self.old.entries ≡ None → OnOk result (length self.new.entries ≡ length self.old.entries + 1) }
         ensures hasher { self.new.hasher ≡ self.old.hasher }
         ensures counted { IsCounted T.eq self.new.entries }
         ensures absent { OnErr result (entry_of T.eq value self.old.entries ≡ None) }
@@ -412,6 +418,7 @@ impl<T: Eq + Hash + Drop, S: BuildHasher + Drop> Table<T, S> {
         requires fits { count_of T.eq value self.old.entries + n < 2 ^ 64 }
         ensures before { IfOk result (λ before. before ≡ count_of T.eq value self.old.entries) }
         ensures added { OnOk result (IsPermutation (with_count T.eq value (count_of T.eq value self.old.entries + n) self.old.entries) self.new.entries) }
+        ensures new_set { entry_of T.eq value self.old.entries ≡ None → OnOk result (length self.new.entries ≡ length self.old.entries + 1) }
         ensures hasher { self.new.hasher ≡ self.old.hasher }
         ensures counted { IsCounted T.eq self.new.entries }
         ensures absent { OnErr result (entry_of T.eq value self.old.entries ≡ None) }
@@ -450,6 +457,7 @@ impl<T: Eq + Hash + Drop, S: BuildHasher + Drop> Table<T, S> {
     pub fn put_instance(&mut self, value: T) -> Result<usize, AllocError>
         ensures before { IfOk result (λ before. before ≡ count_of T.eq value self.old.entries) }
         ensures put { OnOk result (IsPermutation (with_instance T.eq value 1 self.old.entries) self.new.entries) }
+        ensures new_set { entry_of T.eq value self.old.entries ≡ None → OnOk result (length self.new.entries ≡ length self.old.entries + 1) }
         ensures hasher { self.new.hasher ≡ self.old.hasher }
         ensures counted { IsCounted T.eq self.new.entries }
         ensures absent { OnErr result (entry_of T.eq value self.old.entries ≡ None) }
@@ -479,6 +487,7 @@ impl<T: Eq + Hash + Drop, S: BuildHasher + Drop> Table<T, S> {
         ensures hasher { self.new.hasher ≡ self.old.hasher }
         ensures newer { self.new.tables.newer ≡ replicate (length self.old.tables.newer) Slot.Empty }
         ensures waiting { self.new.tables.waiting ≡ [] }
+        ensures older { self.new.tables.older ≡ 0 }
         ensures built { self.new.tables.built ≡ self.old.tables.built }
     {
         self.newer.clear();
@@ -490,7 +499,7 @@ impl<T: Eq + Hash + Drop, S: BuildHasher + Drop> Table<T, S> {
     /// and goes where that is 0: its slot, in whichever table it is, becomes Removed. It answers the total of the counts that
     /// are left.
     ///
-    /// It takes no memory and hashes nothing. The caller sees to it that the total fits.
+    /// It takes no memory and hashes nothing, and no value comes to another slot. The caller sees to it that the total fits.
     pub fn retain<F: FnMut(&T, usize) -> usize + Drop>(&mut self, mut f: F) -> usize
         requires asks { (walk : _) → IsPermutation self.old.entries walk → MayAskInTurn F.FnMut f walk }
         requires fits { total self.old.entries < 2 ^ 64 }
@@ -500,6 +509,7 @@ impl<T: Eq + Hash + Drop, S: BuildHasher + Drop> Table<T, S> {
         ensures counted { IsCounted T.eq self.new.entries }
         ensures newer { length self.new.tables.newer ≡ length self.old.tables.newer }
         ensures waiting { length self.new.tables.waiting ≡ length self.old.tables.waiting }
+        ensures in_place { RetainsTables self.old.tables self.new.tables }
         ensures built { self.new.tables.built ≡ self.old.tables.built }
         ensures room { room self.old.tables ≤ room self.new.tables }
     {

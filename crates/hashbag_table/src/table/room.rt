@@ -5,7 +5,7 @@ ghost use Rattle.hashbag_slots.specs.Hashing.{hash_under};
 ghost use Rattle.hashbag_slots.specs.Slots.{entries};
 ghost use Rattle.hashbag_slots.specs.Columns.{IsReached};
 ghost use Rattle.hashbag_table.specs.Entries.{IsCounted};
-ghost use Rattle.hashbag_table.specs.Tables.{limit, room, values, IsLeast, IsPacked, Carried, IsReady, MayAdopt};
+ghost use Rattle.hashbag_table.specs.Tables.{limit, room, values, IsLeast, IsPacked, ReservesOrStays, ShrinksOrStays, Carried, IsReady, MayAdopt};
 
 use crate::growth::{carry_next, grown_count, least_count, no_slots};
 use crate::table::{MOST_VALUES, Table};
@@ -134,6 +134,7 @@ impl<T: Eq + Hash + Drop, S: BuildHasher + Drop> Table<T, S> {
         ensures packed { room self.old.tables < n → OnOk result (IsPacked self.new.tables) }
         ensures built { room self.old.tables < n → OnOk result (self.new.tables.built ≡ self.old.tables.built + length self.new.tables.newer) }
         ensures room { OnOk result (n ≤ room self.new.tables) }
+        ensures reserves { OnOk result (ReservesOrStays n (length self.old.entries) self.old.tables self.new.tables) }
     {
         let slots = self.newer.slots();
         if n <= self.room() {
@@ -163,6 +164,7 @@ impl<T: Eq + Hash + Drop, S: BuildHasher + Drop> Table<T, S> {
         ensures freed { self.old.entries ≡ [] → self.new.tables.newer ≡ [] }
         ensures freed_built { self.old.entries ≡ [] → self.new.tables.built ≡ self.old.tables.built }
         ensures fewer { length self.new.tables.newer ≤ length self.old.tables.newer }
+        ensures shrinks { OnOk result (ShrinksOrStays (length self.old.entries) self.old.tables self.new.tables) }
         ensures enough { (m : ℕ) → IsLeast 0 (length self.old.entries) m → length self.old.tables.newer ≤ m → IsOk result }
         ensures kept { (m : ℕ) → IsLeast 0 (length self.old.entries) m → length self.old.tables.newer ≤ m → self.new ≡ self.old }
         ensures least { (m : ℕ) → IsLeast 0 (length self.old.entries) m → m < length self.old.tables.newer → OnOk result (length self.new.tables.newer ≡ m) }

@@ -1,9 +1,9 @@
 use Rattle.std.proofs.Common.{◌≡◌, ℕ, ◌+◌, ◌-◌, ◌<◌, ◌≤◌, cond, nat_eq, false, length, get_or, Some, sym, ap, subst, ◌∙◌, arith, slice_set}
 use Rattle.std.proofs.lemmas.Bool.{ne_eqb}
 use Rattle.hashbag_slots.specs.Hashing.{hash_under}
-use Rattle.hashbag_slots.specs.Slots.{IsSlotCount, path_slot, live_count, Places}
+use Rattle.hashbag_slots.specs.Slots.{IsSlotCount, path_slot, live_count, IsFirstFree, PlacesFirst}
 use Rattle.hashbag_slots.specs.Columns.{mark_of, columns, slots_of, IsColumns, IsReached}
-use Rattle.hashbag_slots.proofs.Reading.{length-slots_of, low_at, dead_at, removed_at}
+use Rattle.hashbag_slots.proofs.Reading.{length-slots_of, low_at, dead_at, removed_at, first_low}
 use Rattle.hashbag_slots.proofs.Tables.{some_free, some_removed}
 use Rattle.hashbag_slots.proofs.Writing.{some_cell, set-slots_of, IsColumns-put, IsReached-place}
 use Rattle.hashbag_slots.proofs.carry.move_in.Goals.{then-tags-to-eq-REMOVED, else-tags-to-eq-REMOVED}
@@ -46,13 +46,19 @@ returns-clause-kept g c =
 
 pub returns-clause-placed : goal.returns-clause-placed
 returns-clause-placed g c f here =
+    let hash : g.row.T.Denot → ℕ = hash_under g.T.Hash.hash_input g.S.BuildHasher g.S.Hasher.Hasher c.args.state.now in
     let ts = c.args.tags.now in let cs = c.args.cells.now in let at = c.free_place-to.result in let mark = c.mark_of.result in let e = c.take.result in
     let bound = c.free_place-to.ensures.bound in let len = length-slots_of ts cs c.requires.kept.agree.same_length in
-    subst (λ x. Places x.0 x.1 (slots_of ts cs) (slots_of (slice_set ts at mark) c.put.new.self)) (some_cell e f (sym c.take.ensures.value ∙ here)) (record {
-      at = at;
-      within = omega arith;
-      free = dead_at ts cs c.requires.kept.agree at c.free_place-to.ensures.free;
-      after = ap (slots_of (slice_set ts at mark)) c.put.ensures ∙ set-slots_of ts cs at mark (Some e) c.requires.kept.agree.same_length;
+    let path = c.free_place-to.ensures.path in
+    let hashed : c.hash_of-hash.result ≡ hash e.0 = c.hash_of-hash.ensures ∙ ap (λ x. hash x.0) (some_cell c.get.result.now e (sym c.get.ensures ∙ c.take.ensures.value)) in
+    subst (λ x. PlacesFirst hash x.0 x.1 (slots_of ts cs) (slots_of (slice_set ts at mark) c.put.new.self)) (some_cell e f (sym c.take.ensures.value ∙ here)) (record {
+      places = record {
+        at = at;
+        within = omega arith;
+        free = dead_at ts cs c.requires.kept.agree at c.free_place-to.ensures.free;
+        after = ap (slots_of (slice_set ts at mark)) c.put.ensures ∙ set-slots_of ts cs at mark (Some e) c.requires.kept.agree.same_length;
+      };
+      first = subst (λ h. IsFirstFree h (slots_of ts cs) at) hashed (first_low ts cs c.requires.kept.agree c.hash_of-hash.result at path.0 path.1 path.2 c.free_place-to.ensures.free path.3);
     })
 
 pub returns-clause-reached : goal.returns-clause-reached

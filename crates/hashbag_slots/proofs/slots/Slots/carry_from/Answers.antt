@@ -10,7 +10,7 @@ places-preserved-then-older-gt0 g c =
     record {
       begun = omega arith;
       within = omega arith;
-      placed = PlacesAll-join from at 16 old mid c.args.self.now.slots c.places.self.slots c.carry_sixteen.new.self.slots begun i.left i.placed all.placed;
+      placed = PlacesAll-join _ from at 16 old mid c.args.self.now.slots c.places.self.slots c.carry_sixteen.new.self.slots begun i.left i.placed all.placed;
       left = Carries-join from at 16 old mid c.carry_sixteen.new.older.slots begun i.left all.left;
       apart = all.apart;
       kept = all.kept ∙ i.kept;
@@ -29,7 +29,7 @@ places-preserved g c =
     record {
       begun = omega arith;
       within = omega arith;
-      placed = PlacesAll-step from at old mid c.args.self.now.slots c.places.self.slots c.carry_one.new.self.slots begun lt i.left i.placed one.placed;
+      placed = PlacesAll-step _ from at old mid c.args.self.now.slots c.places.self.slots c.carry_one.new.self.slots begun lt i.left i.placed one.placed;
       left = Carries-step from at old mid c.carry_one.new.older.slots begun lt i.left one.left;
       apart = one.apart;
       kept = one.kept ∙ i.kept;

@@ -8,7 +8,7 @@ abbrev pub invariant-places : goal.invariant-places
 invariant-places g l = record {
   begun : l.from ≤ l.at;
   within : l.at ≤ l.end;
-  placed : PlacesAll (entries_in l.from (l.at - l.from) l.initial.older.slots) l.initial.self.slots l.self.slots;
+  placed : PlacesAll (hash_under g.T.Hash.hash_input g.S.BuildHasher g.S.Hasher.Hasher l.state) (entries_in l.from (l.at - l.from) l.initial.older.slots) l.initial.self.slots l.self.slots;
   left : Carries l.from (l.at - l.from) l.initial.older.slots l.older.slots;
   apart : AreApart g.T.PartialEq.eq l.older.slots l.self.slots;
   kept : live_count l.self.slots + live_count l.older.slots ≡ live_count l.initial.self.slots + live_count l.initial.older.slots;

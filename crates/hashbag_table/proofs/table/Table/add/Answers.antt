@@ -1,4 +1,5 @@
-use Rattle.std.proofs.Common.{◌≡◌, ◌∷◌, ℕ, Bool, List, None, sym, ap, subst, ◌∙◌}
+use Rattle.std.proofs.Common.{◌≡◌, ◌∷◌, ◌+◌, ℕ, Bool, List, None, length, sym, ap, subst, ◌∙◌, arith}
+use Rattle.std.proofs.lemmas.List.Sorted.{length_permutation}
 use Rattle.std.specs.Cmp.{IsEquivalence}
 use Rattle.std.specs.Option.{IsSome}
 use Rattle.std.specs.Prelude.{IfOk, OnErr}
@@ -81,3 +82,6 @@ pub returns-then-takes_now-clause-arrives : goal.returns-then-takes_now-clause-a
 returns-then-takes_now-clause-arrives g c none =
     let t = c.args.self.now.tables in let is = c.if-takes_now.true in
     arrives_from t t c.settle.new.self.tables c.args.value c.args.n (ready_alone t (c.takes_now.ensures.none_waits is) (c.takes_now.ensures.room is)) c.settle.ensures.placed c.settle.ensures.waiting c.settle.ensures.built
+
+pub returns-then-takes_now-clause-new_set : goal.returns-then-takes_now-clause-new_set
+returns-then-takes_now-clause-new_set g c none = let more = length_permutation _ _ c.settle.ensures.entries in omega (arith, more)

@@ -15,7 +15,7 @@ invariant_of-self g c =
     let carried = subst (λ (x : _). Carried c.args.many x.slots c.self.inside.newer.slots new_newer new_waiting) c.replace-former.ensures.after
     (subst (λ (y : _). Carried c.args.many c.replace-former.new.dest.slots y.slots new_newer new_waiting) (c.replace-freed.ensures.after ∙ c.replace-former.ensures.value) c.carry_next-self-inside.ensures.carried) in
     IsTables-adopted g.T.PartialEq.eq hash c.self.inside.newer c.args.newer c.args.many c.self.invariant.tables.newer_reached may g.met.T.Eq.laws
-    c.carry_next-self-inside.new.newer c.carry_next-self-inside.new.older c.carry_next-self-inside.result c.carry_next-self-inside.ensures.tables carried
+    c.carry_next-self-inside.new.newer c.carry_next-self-inside.new.older c.carry_next-self-inside.result c.carry_next-self-inside.ensures.tables carried c.carry_next-self-inside.ensures.freed
 
 pub returns-clause-carried : goal.returns-clause-carried
 returns-clause-carried g c =

@@ -7,7 +7,7 @@ use Rattle.hashbag_table.proofs.table.Table.carry.Goals as goal
 pub invariant_of-self : goal.invariant_of-self
 invariant_of-self g c =
     let hash = hash_under g.T.Hash.hash_input g.S.BuildHasher g.S.Hasher.Hasher c.self.inside.hasher in
-    IsTables-carried g.T.PartialEq.eq hash g.met.T.Eq.laws c.self.inside.newer c.self.inside.older c.carry_next-self-inside.new.newer c.carry_next-self-inside.new.older c.self.inside.looked c.carry_next-self-inside.result c.self.invariant c.carry_next-self-inside.ensures.tables c.carry_next-self-inside.ensures.carried
+    IsTables-carried g.T.PartialEq.eq hash g.met.T.Eq.laws c.self.inside.newer c.self.inside.older c.carry_next-self-inside.new.newer c.carry_next-self-inside.new.older c.self.inside.looked c.carry_next-self-inside.result c.self.invariant c.carry_next-self-inside.ensures.tables c.carry_next-self-inside.ensures.carried c.carry_next-self-inside.ensures.freed
 
 pub returns-clause-carries : goal.returns-clause-carries
 returns-clause-carries g c =

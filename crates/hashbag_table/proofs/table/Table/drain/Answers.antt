@@ -15,8 +15,8 @@ use Rattle.hashbag_table.proofs.SlotLemmas.{entries-drop, entries_few}
 use Rattle.hashbag_table.proofs.table.Table.drain.Goals as goal
 
 -- what contracts see of a table of no slots
-none_left : {T S : Type 0} (h : S) (newer older : List (Slot T)) (built : ℕ) → newer ≡ [] → older ≡ [] → (let t : Table T S = record { entries = entries_of newer older; hasher = h; tables = record { newer = newer; waiting = older; built = built } } in t) ≡ record { entries = []; hasher = h; tables = record { newer = []; waiting = []; built = built } }
-none_left h newer older built e f i = record { entries = entries_of (e i) (f i); hasher = h; tables = record { newer = e i; waiting = f i; built = built } }
+none_left : {T S : Type 0} (h : S) (newer older : List (Slot T)) (built : ℕ) → newer ≡ [] → older ≡ [] → (let t : Table T S = record { entries = entries_of newer older; hasher = h; tables = record { newer = newer; waiting = older; older = length older; built = built } } in t) ≡ record { entries = []; hasher = h; tables = record { newer = []; waiting = []; older = 0; built = built } }
+none_left h newer older built e f i = record { entries = entries_of (e i) (f i); hasher = h; tables = record { newer = e i; waiting = f i; older = length (f i); built = built } }
 
 pub invariant_of-result : goal.invariant_of-result
 invariant_of-result g c =

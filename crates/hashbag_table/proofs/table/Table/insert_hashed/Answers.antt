@@ -1,6 +1,6 @@
-use Rattle.std.proofs.Common.{◌∷◌, sym, subst}
+use Rattle.std.proofs.Common.{◌∷◌, ◌+◌, length, sym, subst, arith}
 use Rattle.std.specs.List.Sorted.{IsPermutation}
-use Rattle.std.proofs.lemmas.List.Sorted.{IsPermutation-trans, IsPermutation-cons}
+use Rattle.std.proofs.lemmas.List.Sorted.{IsPermutation-trans, IsPermutation-cons, length_permutation}
 use Rattle.hashbag_table.specs.Entries.{IsCounted}
 use Rattle.hashbag_table.proofs.EntryLemmas.{without_absent}
 use Rattle.hashbag_table.proofs.SlotLemmas.{absent_rearranged}
@@ -24,3 +24,9 @@ returns-clause-inserted g c =
 pub returns-clause-arrives : goal.returns-clause-arrives
 returns-clause-arrives g c =
     arrives_from c.args.self.now.tables c.make_way.new.self.tables c.settle.new.self.tables c.args.value c.args.count c.in_ok-make_way.ensures.ready c.settle.ensures.placed c.settle.ensures.waiting c.settle.ensures.built
+
+pub returns-clause-new_set : goal.returns-clause-new_set
+returns-clause-new_set g c =
+    let way = length_permutation _ _ c.in_ok-make_way.ensures.entries in
+    let more = length_permutation _ _ c.settle.ensures.entries in
+    omega (arith, way, more)

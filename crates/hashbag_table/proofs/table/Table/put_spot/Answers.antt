@@ -1,4 +1,4 @@
-use Rattle.std.proofs.Common.{◌≡◌, ◌+◌, ◌∷◌, [], true, sym, ap, ◌∙◌, drop, subst, slice_set}
+use Rattle.std.proofs.Common.{◌≡◌, ◌+◌, ◌∷◌, [], true, sym, ap, ◌∙◌, drop, length, subst, slice_set}
 use Rattle.std.proofs.lemmas.List.{get_or-drop}
 use Rattle.hashbag_slots.specs.declared.slots.Slot.TheVariants.{Empty, Live}
 use Rattle.hashbag_slots.specs.Hashing.{hash_under}
@@ -59,7 +59,7 @@ returns-in-Waiting-clause-after g c =
     let equal : eq v x ≡ true = sym (ap (holds (λ w. eq w x)) given) ∙ sym (ap (holds (λ w. eq w x)) (get_or-drop i.looked i.older.slots p Empty)) ∙ ap (λ t. holds (λ w. eq w x) (slot_at t.tables.waiting p)) c.self.view_is ∙ ap (λ q. holds (λ w. eq w x) (slot_in c.args.self.now.tables q)) (sym c.in-Waiting.is) ∙ c.requires.equal in
     let reached = c.put_one-former-in-Waiting.ensures.reached hash (λ a b e. hash_alike _ _ _ _ a b (g.met.T.Hash.respects_eq a b e)) c.self.invariant.tables.older_reached in
     let new = c.put_one-former-in-Waiting.new.slots.slots in
-    subst (λ q. Writes q (Live x 1) c.args.self.now.tables (record { newer = i.newer.slots; waiting = drop i.looked new; built = i.built })) (sym c.in-Waiting.is)
+    subst (λ q. Writes q (Live x 1) c.args.self.now.tables (record { newer = i.newer.slots; waiting = drop i.looked new; older = length new; built = i.built })) (sym c.in-Waiting.is)
     (ap (λ t. t.tables.newer) c.self.view_is, put_waiting_slots eq g.met.T.Eq.laws v x equal hash i.newer i.older i.looked c.self.invariant p (count_in (slot_at i.older.slots (i.looked + p))) c.put_one-former-in-Waiting.new.slots given c.put_one-former-in-Waiting.ensures.after reached ∙ ap (λ t. slice_set t.tables.waiting p (Live x 1)) c.self.view_is, ap (λ t. t.tables.built) c.self.view_is)
 
 pub returns-in-Waiting-clause-counted : goal.returns-in-Waiting-clause-counted

@@ -1,4 +1,4 @@
-use Rattle.std.proofs.Common.{◌≡◌, ◌+◌, length, drop, sym, ap, subst, ◌∙◌, arith, refl}
+use Rattle.std.proofs.Common.{◌≡◌, ◌+◌, ◌<◌, length, drop, sym, ap, subst, ◌∙◌, inl, inr, arith, refl}
 use Rattle.std.proofs.lemmas.List.{length-append, length-replicate}
 use Rattle.hashbag_slots.specs.declared.slots.Slot.TheVariants.{Empty}
 use Rattle.hashbag_slots.specs.Slots.{entries}
@@ -61,3 +61,14 @@ returns-then-n-room-clause-built g c beyond =
 
 pub returns-clause-built : goal.returns-clause-built
 returns-clause-built g c beyond = c.pack.ensures.built ∙ ap (λ k. c.args.self.now.tables.built + k) (sym c.pack.ensures.slots)
+
+pub returns-then-n-room-clause-reserves : goal.returns-then-n-room-clause-reserves
+returns-then-n-room-clause-reserves g c =
+    let few = c.if-n-room.true in let r = c.room.ensures in
+    inl (omega (arith, few, r), refl)
+
+pub returns-clause-reserves : goal.returns-clause-reserves
+returns-clause-reserves g c =
+    let more = c.if-n-room.false in let r = c.room.ensures in
+    let beyond : room c.args.self.now.tables < c.args.n = omega (arith, more, r) in
+    inr (beyond, record { least = returns-clause-least g c beyond; packed = c.pack.ensures.packed; built = returns-clause-built g c beyond })

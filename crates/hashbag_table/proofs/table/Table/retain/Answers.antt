@@ -4,8 +4,10 @@ use Rattle.hashbag_slots.specs.Hashing.{hash_under}
 use Rattle.hashbag_slots.specs.Slots.{entries}
 use Rattle.hashbag_table.specs.Asked.{MayAskInTurn, Retains}
 use Rattle.hashbag_table.specs.Entries.{total}
+use Rattle.hashbag_table.specs.Retained.{RetainsSlots}
 use Rattle.hashbag_table.specs.Tables.{entries_of, room}
 use Rattle.hashbag_table.proofs.KeptLemmas.{asks_first, asks_waiting, total_both, total_left, retains_both, room_left, length_waiting, IsTables-left}
+use Rattle.hashbag_table.proofs.RetainLemmas.{slots_kept}
 use Rattle.hashbag_table.proofs.table.Table.retain.Goals as goal
 
 pub retain_slots-newer-requires-clause-asks : goal.retain_slots-newer-requires-clause-asks
@@ -85,3 +87,13 @@ returns-clause-room g c =
     let more = room_left g.F.FnMut g.T.PartialEq.eq i.newer i.older a.new.slots b.new.slots i.looked c.args.f a.new.f b.new.f a.ensures.kept b.ensures.kept in
     let was = ap (λ t. room t.tables) c.self.view_is in
     omega (arith, more, was)
+
+pub returns-clause-in_place : goal.returns-clause-in_place
+returns-clause-in_place g c =
+    let i = c.self.inside in
+    let a = c.retain_slots-newer in let b = c.retain_slots-waiting in
+    record {
+      newer = subst (λ t. RetainsSlots t.tables.newer a.new.slots.slots) c.self.view_is (slots_kept g.F.FnMut 0 c.args.f a.new.f i.newer.slots a.new.slots.slots a.ensures.kept);
+      waiting = subst (λ t. RetainsSlots t.tables.waiting (drop i.looked b.new.slots.slots)) c.self.view_is (slots_kept g.F.FnMut i.looked a.new.f b.new.f i.older.slots b.new.slots.slots b.ensures.kept);
+      built = ap (λ t. t.tables.built) c.self.view_is;
+    }

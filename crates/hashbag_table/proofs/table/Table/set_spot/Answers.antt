@@ -1,4 +1,4 @@
-use Rattle.std.proofs.Common.{◌≡◌, ◌∷◌, [], true, sym, ap, ◌∙◌, drop, subst, slice_set}
+use Rattle.std.proofs.Common.{◌≡◌, ◌∷◌, [], true, sym, ap, ◌∙◌, drop, length, subst, slice_set}
 use Rattle.hashbag_slots.specs.Hashing.{hash_under}
 use Rattle.hashbag_slots.specs.Slots.{slot_at, is_live, slot_entry, recounted}
 use Rattle.hashbag_table.specs.Tables.{entries_of, slot_in, Swaps, Writes}
@@ -50,7 +50,7 @@ returns-in-Waiting-clause-after g c =
     let p = c.in-Waiting.place in
     let live : is_live (slot_at (drop c.self.inside.looked c.self.inside.older.slots) p) ≡ true = ap (λ t. is_live (slot_at t.tables.waiting p)) c.self.view_is ∙ ap (λ q. is_live (slot_in c.args.self.now.tables q)) (sym c.in-Waiting.is) ∙ c.requires.live in
     let now = c.args.self.now.tables in
-    subst (λ q. Writes q (recounted c.args.n (slot_in now q)) now (record { newer = i.newer.slots; waiting = drop i.looked c.set_at-in-Waiting.new.self.slots; built = i.built })) (sym c.in-Waiting.is)
+    subst (λ q. Writes q (recounted c.args.n (slot_in now q)) now (record { newer = i.newer.slots; waiting = drop i.looked c.set_at-in-Waiting.new.self.slots; older = length c.set_at-in-Waiting.new.self.slots; built = i.built })) (sym c.in-Waiting.is)
     (ap (λ t. t.tables.newer) c.self.view_is, set_waiting_slots eq g.met.T.Eq.laws hash i.newer i.older i.looked c.self.invariant p c.args.n c.requires.some c.set_at-in-Waiting.new.self live c.set_at-in-Waiting.ensures.after (c.set_at-in-Waiting.ensures.reached hash c.self.invariant.tables.older_reached) ∙ ap (λ t. slice_set t.tables.waiting p (recounted c.args.n (slot_at t.tables.waiting p))) c.self.view_is, ap (λ t. t.tables.built) c.self.view_is)
 
 pub returns-in-Waiting-clause-counted : goal.returns-in-Waiting-clause-counted

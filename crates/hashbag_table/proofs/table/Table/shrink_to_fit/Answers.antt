@@ -1,4 +1,4 @@
-use Rattle.std.proofs.Common.{◌≡◌, ◌+◌, [], length, ap, subst, ◌∙◌, refl, arith}
+use Rattle.std.proofs.Common.{◌≡◌, ◌+◌, [], length, sym, ap, subst, ◌∙◌, refl, inl, inr, arith}
 use Rattle.std.proofs.lemmas.List.{length-replicate, drop_all}
 use Rattle.hashbag_slots.specs.declared.slots.Slot.TheVariants.{Empty}
 use Rattle.hashbag_table.specs.Tables.{IsLeast}
@@ -70,3 +70,29 @@ returns-then-count-slots-clause-built g c m least less =
     let few = c.if-count-slots.true in let s = c.slots.ensures.value in
     let seen = ap (λ t. length t.tables.newer) c.self.view_is in
     absurd (omega (arith, same, few, s, seen, less))
+
+pub returns-then-count-slots-clause-shrinks : goal.returns-then-count-slots-clause-shrinks
+returns-then-count-slots-clause-shrinks g c =
+    let few = c.if-count-slots.true in let s = c.slots.ensures.value in
+    let seen = ap (λ t. length t.tables.newer) c.self.view_is in
+    inl (
+      λ m least.
+          let same = least_unique 0 _ c.in_ok-count.count m (subst (λ k. IsLeast 0 k c.in_ok-count.count) c.set_len.ensures.len c.in_ok-count.ensures.least) least in
+          omega (arith, same, few, s, seen),
+      refl,
+    )
+
+pub returns-clause-shrinks : goal.returns-clause-shrinks
+returns-clause-shrinks g c =
+    let size : length c.pack.new.self.tables.newer ≡ c.in_ok-count.count = c.pack.ensures.slots ∙ ap length c.in_ok-newer.ensures.slots ∙ length-replicate c.in_ok-count.count Empty in
+    let less = c.if-count-slots.false in let s = c.slots.ensures.value in
+    let seen = ap (λ t. length t.tables.newer) c.self.view_is in
+    let is = subst (λ k. IsLeast 0 k c.in_ok-count.count) c.set_len.ensures.len c.in_ok-count.ensures.least in
+    inr (
+      omega (arith, size, less, s, seen),
+      record {
+        least = subst (IsLeast 0 (length c.args.self.now.entries)) (sym size) is;
+        packed = c.pack.ensures.packed;
+        built = c.pack.ensures.built ∙ ap (λ k. c.args.self.now.tables.built + k) (sym c.pack.ensures.slots);
+      },
+    )

@@ -1,4 +1,4 @@
-use Rattle.std.proofs.Common.{[], sym, ap, ◌∙◌, drop, subst, slice_set}
+use Rattle.std.proofs.Common.{[], sym, ap, ◌∙◌, drop, length, subst, slice_set}
 use Rattle.hashbag_slots.specs.Hashing.{hash_under}
 use Rattle.hashbag_slots.specs.declared.slots.Slot.TheVariants.{Removed}
 use Rattle.hashbag_table.specs.Tables.{entries_of, Swaps, Writes}
@@ -37,7 +37,7 @@ pub returns-in-Waiting-clause-after : goal.returns-in-Waiting-clause-after
 returns-in-Waiting-clause-after g c =
     let eq = g.T.PartialEq.eq in let i = c.self.inside in
     let hash = hash_under g.T.Hash.hash_input g.S.BuildHasher g.S.Hasher.Hasher c.self.inside.hasher in
-    subst (λ q. Writes q Removed c.args.self.now.tables (record { newer = i.newer.slots; waiting = drop i.looked c.take_at-entry-in-Waiting.new.self.slots; built = i.built })) (sym c.in-Waiting.is)
+    subst (λ q. Writes q Removed c.args.self.now.tables (record { newer = i.newer.slots; waiting = drop i.looked c.take_at-entry-in-Waiting.new.self.slots; older = length c.take_at-entry-in-Waiting.new.self.slots; built = i.built })) (sym c.in-Waiting.is)
     (ap (λ t. t.tables.newer) c.self.view_is, take_waiting_slots eq g.met.T.Eq.laws hash i.newer i.older i.looked c.self.invariant c.in-Waiting.place c.take_at-entry-in-Waiting.result.0 c.take_at-entry-in-Waiting.result.1 c.take_at-entry-in-Waiting.new.self c.take_at-entry-in-Waiting.ensures.taken c.take_at-entry-in-Waiting.ensures.after (c.take_at-entry-in-Waiting.ensures.reached hash c.self.invariant.tables.older_reached) ∙ ap (λ t. slice_set t.tables.waiting c.in-Waiting.place Removed) c.self.view_is, ap (λ t. t.tables.built) c.self.view_is)
 
 pub returns-in-Waiting-clause-counted : goal.returns-in-Waiting-clause-counted

@@ -38,7 +38,7 @@ returns-clause-least g c =
     subst (IsLeast 0 c.args.n) (sym (ap length c.in_ok-newer.ensures.slots ∙ length-replicate c.in_ok-count.count Empty)) c.in_ok-count.ensures.least
 
 pub returns-clause-packed : goal.returns-clause-packed
-returns-clause-packed g c = packed_fresh c.in_ok-newer.newer.slots (drop 0 c.no_slots-older.result.slots) c.in_ok-count.count _ c.in_ok-newer.ensures.slots c.no_slots-older.ensures.slots
+returns-clause-packed g c = packed_fresh c.in_ok-newer.newer.slots (drop 0 c.no_slots-older.result.slots) c.in_ok-count.count _ _ c.in_ok-newer.ensures.slots c.no_slots-older.ensures.slots
 
 pub returns-clause-built : goal.returns-clause-built
 returns-clause-built g c = c.first.ensures ∙ sym (ap length c.in_ok-newer.ensures.slots ∙ length-replicate c.in_ok-count.count Empty)
