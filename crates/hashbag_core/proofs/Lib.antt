@@ -6,6 +6,7 @@ pub mod EqualityLemmas
 pub mod ExcessLemmas
 pub mod ExtendLemmas
 pub mod HeldLemmas
+pub mod InsertLemmas
 pub mod JoinLemmas
 pub mod JsonReadLemmas
 pub mod JsonSameLemmas

@@ -9,6 +9,7 @@ ghost use Rattle.hashbag_table.specs.Tables.{limit, room, values, IsLeast, IsPac
 ghost use Rattle.hashbag_core.specs.Bag.{occurrences, limited};
 ghost use Rattle.hashbag_core.specs.Occurrences.{greatest_total, count, counted, stored, add, less, put, instance_or_itself, distinct_count, IsBag, SameCounts};
 ghost use Rattle.hashbag_core.specs.Extends.{Refuses};
+ghost use Rattle.hashbag_core.specs.Inserts.{Inserted, IsRefused};
 ghost use Rattle.hashbag_core.specs.Held.{no_slots, cleared, AreHeld, Recounts, Restores};
 ghost use Rattle.hashbag_core.specs.Retain.{IsRetained};
 ghost use Rattle.hashbag_core.specs.Walks.{IsSetWalkOf};
@@ -356,6 +357,7 @@ impl<T: Eq + Hash + Drop, S: BuildHasher + Drop> HashBag<T, S> {
     pub fn insert_many(&mut self, value: T, n: usize) -> Result<usize, BagError>
         ensures before { IfOk result (λ before. before ≡ count T.eq value self.old.items) }
         ensures added { OnOk result (IsBagOf T.eq self.old (add T.eq value n self.old.items) self.new) }
+        ensures inserted { OnOk result (Inserted T.eq value n self.old self.new) }
         ensures none { n ≡ 0 → self.new ≡ self.old }
         ensures len { OnOk result (length self.new.items ≡ length self.old.items + n) }
         ensures set_len { OnOk result (distinct_count T.eq self.new.items ≤ distinct_count T.eq self.old.items + 1) }
@@ -669,10 +671,9 @@ impl<T: Eq + Hash + Drop, S: BuildHasher + Drop> HashBag<T, S> {
 
     // Adds occurrences of a value if the total can have them.
     pub(crate) fn insert_within(&mut self, value: T, n: usize) -> Result<(), BagError>
-        ensures added { OnOk result (IsBagOf T.eq self.old (add T.eq value n self.old.items) self.new) }
-        ensures refused { IfErr result (Refuses T.eq self.old.most self.old.items value n) }
+        ensures inserted { OnOk result (Inserted T.eq value n self.old self.new) }
+        ensures refused { IfErr result (IsRefused T.eq self.old value n) }
         ensures err { OnErr result (self.new ≡ self.old) }
-        ensures full { IfErr result (λ e. e ≡ BagError.Memory → room self.new.tables ≡ 0) }
     {
         self.insert_many(value, n)?;
         Ok(())

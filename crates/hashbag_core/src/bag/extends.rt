@@ -5,6 +5,7 @@ ghost use Rattle.hashbag_core.specs.Bag.{Means, IsBagOf};
 ghost use Rattle.hashbag_core.specs.Occurrences.{greatest_total, add, IsBag};
 ghost use Rattle.hashbag_core.specs.Held.{no_slots};
 ghost use Rattle.hashbag_table.specs.Tables.{room};
+ghost use Rattle.hashbag_core.specs.Inserts.{InsertsAll, InsertsUpTo, IsRefused};
 ghost use Rattle.hashbag_core.specs.Extends.{Extends, ExtendsUpTo, Refuses, RefusesClones, Once, AsItIs, CloneOnce, CloneAsOften};
 
 use crate::bag::{BagError, HashBag};
@@ -34,6 +35,7 @@ impl<T: Eq + Hash + Drop, S: BuildHasher + Drop> HashBag<T, S> {
         S: Default,
         requires can { I.can_next items }
         requires ends { IsFinite (I.remaining items) }
+        ensures in_turn { IfOk result (λ bag. (empty : _) × (empty.items ≡ []) × (empty.tables ≡ no_slots) × (empty.most ≡ greatest_total) × InsertsAll T.eq I.next_gives Once items empty bag) }
         ensures all { IfOk result (λ bag. Extends T.eq I.next_gives Once items [] (Means bag)) }
         ensures len { IfOk result (λ bag. (came : _) × Drains I.next_gives items came × (length bag.items ≡ length came)) }
         ensures hasher { IfOk result (λ bag. S.is_default bag.hasher) }
@@ -55,6 +57,7 @@ impl<T: Eq + Hash + Drop, S: BuildHasher + Drop> HashBag<T, S> {
         S: Default,
         requires can { I.can_next pairs }
         requires ends { IsFinite (I.remaining pairs) }
+        ensures in_turn { IfOk result (λ bag. (empty : _) × (empty.items ≡ []) × (empty.tables ≡ no_slots) × (empty.most ≡ greatest_total) × InsertsAll T.eq I.next_gives AsItIs pairs empty bag) }
         ensures all { IfOk result (λ bag. Extends T.eq I.next_gives AsItIs pairs [] (Means bag)) }
         ensures len { IfOk result (λ bag. (came : _) × Drains I.next_gives pairs came × (length bag.items ≡ sum_by (λ p. p.1) came)) }
         ensures hasher { IfOk result (λ bag. S.is_default bag.hasher) }
@@ -75,6 +78,8 @@ impl<T: Eq + Hash + Drop, S: BuildHasher + Drop> HashBag<T, S> {
     pub fn extend<I: Iterator<Item = T> + Drop>(&mut self, items: I) -> Result<(), BagError>
         requires can { I.can_next items }
         requires ends { IsFinite (I.remaining items) }
+        ensures in_turn { OnOk result (InsertsAll T.eq I.next_gives Once items self.old self.new) }
+        ensures stopped { IfErr result (λ e. InsertsUpTo T.eq I.next_gives Once items self.old self.new (λ v. IsRefused T.eq self.new v 1 e)) }
         ensures all { OnOk result (Extends T.eq I.next_gives Once items self.old.items (λ X. IsBagOf T.eq self.old X self.new)) }
         ensures len { OnOk result ((came : _) × Drains I.next_gives items came × (length self.new.items ≡ length self.old.items + length came)) }
         ensures grown { length self.old.items ≤ length self.new.items }
@@ -97,6 +102,8 @@ impl<T: Eq + Hash + Drop, S: BuildHasher + Drop> HashBag<T, S> {
     ) -> Result<(), BagError>
         requires can { I.can_next pairs }
         requires ends { IsFinite (I.remaining pairs) }
+        ensures in_turn { OnOk result (InsertsAll T.eq I.next_gives AsItIs pairs self.old self.new) }
+        ensures stopped { IfErr result (λ e. InsertsUpTo T.eq I.next_gives AsItIs pairs self.old self.new (λ p. IsRefused T.eq self.new p.0 p.1 e)) }
         ensures all { OnOk result (Extends T.eq I.next_gives AsItIs pairs self.old.items (λ X. IsBagOf T.eq self.old X self.new)) }
         ensures len { OnOk result ((came : _) × Drains I.next_gives pairs came × (length self.new.items ≡ length self.old.items + sum_by (λ p. p.1) came)) }
         ensures grown { length self.old.items ≤ length self.new.items }

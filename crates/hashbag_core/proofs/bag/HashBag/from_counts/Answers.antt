@@ -24,3 +24,17 @@ returns-clause-len g c =
     let long = grew.2 in
     let none : length c.default_in-bag.result.items ≡ 0 = ap (λ (X : List g.row.T.Denot). length X) c.default_in-bag.ensures.empty in
     (grew.0, grew.1, omega arith)
+
+pub returns-clause-in_turn : goal.returns-clause-in_turn
+returns-clause-in_turn g c = (c.default_in-bag.result, c.default_in-bag.ensures.empty, c.default_in-bag.ensures.slots, c.default_in-bag.ensures.limit, c.in_ok-extend_many.ensures.in_turn)
+
+pub returns-clause-all : goal.returns-clause-all
+returns-clause-all g c =
+    let r = c.in_ok-extend_many.ensures.all in
+    record {
+      items = r.items;
+      came = r.came;
+      pairs = r.pairs;
+      went = r.went;
+      left = rw c.default_in-bag.ensures.empty at r.left.means;
+    }

@@ -1,8 +1,9 @@
-use Rattle.std.proofs.Common.{◌≡◌, ◌+◌, ◌≤◌, length, refl, arith, sym, ◌∙◌}
+use Rattle.std.proofs.Common.{◌≡◌, ◌+◌, ◌<◌, ◌≤◌, length, refl, arith, sym, ◌∙◌}
 use Rattle.std.proofs.lemmas.Result.{err_from_is_err_and}
 use Rattle.hashbag_core.specs.Bag.{occurrences}
 use Rattle.hashbag_core.specs.Occurrences.{count}
-use Rattle.hashbag_core.proofs.DistinctLemmas.{distinct_added, distinct_same}
+use Rattle.hashbag_core.proofs.DistinctLemmas.{distinct_added, distinct_same, distinct_one_more}
+use Rattle.hashbag_core.proofs.InsertLemmas.{inserted_none}
 use Rattle.hashbag_core.proofs.OccurrenceLemmas.{add_occurrences, bag_from_tally, tally_added, count_occurrences, count_of_entry, count_in_tally}
 use Rattle.std.proofs.lemmas.Bool.{false≢true}
 use Rattle.hashbag_core.proofs.HeldLemmas.{absent_in_table, present_in_table, recounts_some}
@@ -82,3 +83,25 @@ returns-clause-same_slots g c = λ some. rw (← c.self.view_is) (c.in_ok-before
 
 pub returns-clause-same_room : goal.returns-clause-same_room
 returns-clause-same_room g c = λ some. rw (← c.self.view_is) (c.in_ok-before.ensures.same_room some)
+
+pub returns-clause-inserted : goal.returns-clause-inserted
+returns-clause-inserted g c =
+    let some : 0 < c.args.n = let not_none = c.if-n-eq0.false in omega arith in
+    let before = returns-clause-before g c in
+    record {
+      added = returns-clause-added g c;
+      none = λ is. absurd (omega (arith, some, is));
+      len = returns-clause-len g c;
+      set_len = returns-clause-set_len g c;
+      same_set = returns-clause-same_set g c;
+      new_set = λ _ none. rw (← c.self.view_is) (distinct_one_more g.met.T.Eq.laws c.args.value _ _ _ c.self.invariant.counted c.add.ensures.counted c.in_ok-before.ensures.added (rw (← c.self.view_is) at none));
+      arrives = returns-clause-arrives g c;
+      slot = returns-clause-slot g c;
+      slots = returns-clause-slots g c;
+      less_room = returns-clause-room g c;
+      same_slots = λ there. returns-clause-same_slots g c (omega (arith, before, there));
+      same_room = λ there. returns-clause-same_room g c (omega (arith, before, there));
+    }
+
+pub returns-then-n-eq0-clause-inserted : goal.returns-then-n-eq0-clause-inserted
+returns-then-n-eq0-clause-inserted g c = inserted_none g.met.T.Eq.laws c.args.value c.args.n c.args.self.now (let none = c.if-n-eq0.true in omega arith) c.contains.ensures.bag
