@@ -1,10 +1,12 @@
 //! Bags made of the items that an iterator gives, and bags to which they are added.
 ghost use Rattle.std.specs.Prelude.{◌≡◌, ◌<◌, [], OnOk, IfOk, IfErr, OnErr};
 ghost use Rattle.std.specs.Iterator.{IsFinite};
+ghost use Rattle.hashbag_core.specs.Bag.{Bag};
 ghost use Rattle.hashbag_core.specs.Occurrences.{greatest_total};
 ghost use Rattle.hashbag_core.specs.Held.{no_slots};
 ghost use Rattle.hashbag_core.specs.Extends.{Once, AsItIs, CloneOnce, CloneAsOften};
-ghost use Rattle.hashbag_core.specs.Inserts.{empty_bag, Inserts, InsertsAll, InsertsUpTo, RefusesOne, RefusesPair, IsCloneRefused, ClonesUpTo, ClonesManyUpTo};
+ghost use Rattle.hashbag_core.specs.Inserts.{empty_bag, Inserts, InsertsAll, InsertsUpTo, RefusesOne, RefusesPair};
+ghost use Rattle.hashbag_core.specs.Inserts.{IsCloneRefused, ClonesUpTo, ClonesManyUpTo};
 
 use crate::bag::{BagError, HashBag};
 use std::alloc::Global;
@@ -36,7 +38,7 @@ impl<T: Eq + Hash + Drop, S: BuildHasher + Drop> HashBag<T, S> {
         ensures all { IfOk result (λ bag. InsertsAll T.eq I.next_gives Once items (empty_bag bag.hasher) bag) }
         ensures hasher { IfOk result (λ bag. S.is_default bag.hasher) }
         ensures limit { IfOk result (λ bag. bag.most ≡ greatest_total) }
-        ensures refused { IfErr result (λ e. (last : _) × InsertsUpTo T.eq I.next_gives Once (RefusesOne T.eq) items (empty_bag last.hasher) last e) }
+        ensures refused { IfErr result (λ e. (bag : Bag T S) × InsertsUpTo T.eq I.next_gives Once (RefusesOne T.eq) items (empty_bag bag.hasher) bag e) }
     {
         let mut bag = HashBag::default_in(alloc);
         bag.extend(items)?;
@@ -56,7 +58,7 @@ impl<T: Eq + Hash + Drop, S: BuildHasher + Drop> HashBag<T, S> {
         ensures all { IfOk result (λ bag. InsertsAll T.eq I.next_gives AsItIs pairs (empty_bag bag.hasher) bag) }
         ensures hasher { IfOk result (λ bag. S.is_default bag.hasher) }
         ensures limit { IfOk result (λ bag. bag.most ≡ greatest_total) }
-        ensures refused { IfErr result (λ e. (last : _) × InsertsUpTo T.eq I.next_gives AsItIs (RefusesPair T.eq) pairs (empty_bag last.hasher) last e) }
+        ensures refused { IfErr result (λ e. (bag : Bag T S) × InsertsUpTo T.eq I.next_gives AsItIs (RefusesPair T.eq) pairs (empty_bag bag.hasher) bag e) }
     {
         let mut bag = HashBag::default_in(alloc);
         bag.extend_many(pairs)?;

@@ -12,7 +12,7 @@ returns-then-n-eq0-clause-inserted g c =
 pub returns-in_err-clone-clause-refused : goal.returns-in_err-clone-clause-refused
 returns-in_err-clone-clause-refused g c =
     let error = err_from_is_err_and c.from_residual.result c.from_residual.ensures.1 in
-    let fits = c.if-n-self.false in
+    let fits = c.if-n-limit.false in
     let some = c.if-n-eq0.false in
     let within = c.len.ensures.bag.fits in
     rw (error.1, error.2) (record { why = (omega (arith, fits, within), omega (arith, some)); memory = λ _. inl c.in_err-clone.ensures.cases })
