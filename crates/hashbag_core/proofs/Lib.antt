@@ -7,6 +7,7 @@ pub mod ExcessLemmas
 pub mod ExtendLemmas
 pub mod HeldLemmas
 pub mod JoinLemmas
+pub mod JsonLimitLemmas
 pub mod JsonReadLemmas
 pub mod JsonSameLemmas
 pub mod JsonTripLemmas
