@@ -171,7 +171,7 @@ module _ {T : Type 0} {eq : T → T → Bool} (laws : IsEquivalence eq) (cmp : T
     (read_has_item : (d : Data) (x : T) → reads d x → has_item d ≡ true)
     (reads_back : (x y : T) → is_item x → reads (tree_of x) y → eq x y ≡ true) where
   pub bag_tree : (X : List T) (most limit : ℕ) (p d : Data) → limit ≡ most → IsTree eq cmp tree_of X p → d ≡ written limit p → IsBagTree eq cmp tree_of X most d
-  bag_tree X most limit p d same array is = record { pairs = p; array = array; is = is ∙ ap (λ (n : ℕ). written n p) same }
+  bag_tree X most limit p d same tree is = record { pairs = p; array = tree; is = is ∙ ap (λ (n : ℕ). written n p) same }
 
   abbrev trees : (X : List T) (most : ℕ) (d : Data) → IsBagTree eq cmp tree_of X most d → List Data
   trees X most d tree = map (pair_tree tree_of) tree.array.pairs

@@ -15,6 +15,7 @@ returns-clause-tree g c = λ Y one same.
     c.args.self.now.items Y c.args.self.now.most _ tree c.in_ok-pairs.ensures.items one same
 
 pub returns-clause-no_fault : goal.returns-clause-no_fault
+unfolding bag_tree
 returns-clause-no_fault g c =
     let tree = bag_tree g.met.T.Eq.laws g.T.Ord.cmp g.T.JsonItem.is_item g.T.JsonItem.tree_of g.T.JsonItem.has_item g.T.JsonItem.reads g.met.T.JsonItem.tree_is_read g.met.T.JsonItem.read_has_item g.met.T.JsonItem.reads_back
         c.args.self.now.items c.args.self.now.most c.limit.result (view c.in_ok-pairs.pairs) _ c.limit.ensures.limit c.in_ok-pairs.ensures.tree c.in_ok-with_limit.ensures.tree in
