@@ -16,9 +16,9 @@ use Rattle.hashbag_table.proofs.CloneLemmas.{zip_more}
 use Rattle.hashbag_core.specs.declared.json.JsonError.{JsonError}
 use Rattle.hashbag_core.specs.declared.json.JsonError.TheVariants.{BadItem, TooMany}
 use Rattle.hashbag_core.specs.Extends.{add_all}
-use Rattle.hashbag_core.specs.JsonFaults.{list_of, array_of, two_of, pair_of, pair_count, part_fault, pair_fault, first_fault, fault, array_fault, IsCountedItem, MayEnd}
+use Rattle.hashbag_core.specs.JsonFaults.{list_of, array_of, two_of, pair_of, pair_count, part_fault, pair_fault, first_fault, IsCountedItem, MayEndAmong}
 use Rattle.hashbag_core.specs.JsonItems.{u64_of}
-use Rattle.hashbag_core.specs.JsonTrees.{IsPair, IsReading}
+use Rattle.hashbag_core.specs.JsonTrees.{IsPair}
 use Rattle.hashbag_core.specs.Occurrences.{add, IsBag}
 use Rattle.hashbag_core.proofs.ExtendLemmas.{add_all_last}
 use Rattle.hashbag_core.proofs.OccurrenceLemmas.{add_rearranged, bag_rearranged, length_added}
@@ -117,28 +117,24 @@ module _ {T : Type 0} {eq : T → T → Bool} (laws : IsEquivalence eq) (end : �
   whole_fault : (ds rest : List Data) (i : ℕ) (X : List T) → (so : IsReadTo ds rest i X) → first_fault end has_item 0 0 ds ≡ first_fault end has_item i (length X) rest
   whole_fault ds rest i X so = ap (λ (l : List Data). first_fault end has_item 0 0 l) so.parts ∙ so.fault rest
 
-  -- the fault of a tree is that of the pair at which the reading stopped
-  pub fault_at : (t : Data) (ds rest : List Data) (d : Data) (i : ℕ) (X : List T) (e : JsonError) → array_of t ≡ Some ds → IsReadTo ds (d ∷ rest) i X
-      → pair_fault end has_item i (length X) (pair_of d) ≡ Some e → fault end has_item t ≡ Some e
-  fault_at t ds rest d i X e is so bad = ap (array_fault end has_item) is ∙ whole_fault ds (d ∷ rest) i X so ∙ at_pair d rest i (length X) e bad
+  -- the fault of the pairs is that of the one at which the reading stopped
+  pub fault_at : (ds rest : List Data) (d : Data) (i : ℕ) (X : List T) (e : JsonError) → IsReadTo ds (d ∷ rest) i X
+      → pair_fault end has_item i (length X) (pair_of d) ≡ Some e → first_fault end has_item 0 0 ds ≡ Some e
+  fault_at ds rest d i X e so bad = whole_fault ds (d ∷ rest) i X so ∙ at_pair d rest i (length X) e bad
 
   -- memory may have ended it there
-  pub may_end_at : (t : Data) (ds rest : List Data) (d : Data) (i : ℕ) (X : List T) → array_of t ≡ Some ds → IsReadTo ds (d ∷ rest) i X → IsCountedItem has_item d → MayEnd end has_item t
-  may_end_at t ds rest d i X is so asks = record {
+  pub may_end_at : (ds rest : List Data) (d : Data) (i : ℕ) (X : List T) → IsReadTo ds (d ∷ rest) i X → IsCountedItem has_item d → MayEndAmong end has_item ds
+  may_end_at ds rest d i X so asks = record {
     before = so.done;
     pair = d;
     after = rest;
-    array = is ∙ ap (λ (l : List Data). Some l) so.parts;
+    parts = so.parts;
     good = ap (λ (l : List Data). first_fault end has_item 0 0 l) (sym (append-nil so.done)) ∙ so.fault [] ∙ none_left i (length X);
     asks = asks;
   }
 
-  pub no_fault_at_end : (t : Data) (ds : List Data) (i : ℕ) (X : List T) → array_of t ≡ Some ds → IsReadTo ds [] i X → fault end has_item t ≡ None
-  no_fault_at_end t ds i X is so = ap (array_fault end has_item) is ∙ whole_fault ds [] i X so ∙ none_left i (length X)
+  pub no_fault_at_end : (ds : List Data) (i : ℕ) (X : List T) → IsReadTo ds [] i X → first_fault end has_item 0 0 ds ≡ None
+  no_fault_at_end ds i X so = whole_fault ds [] i X so ∙ none_left i (length X)
 
-  pub reading_at_end : (t : Data) (ds : List Data) (i : ℕ) (X : List T) → array_of t ≡ Some ds → (so : IsReadTo ds [] i X) → IsReading reads t so.pairs
-  reading_at_end t ds i X is so = record {
-    trees = so.done;
-    array = is ∙ ap (λ (l : List Data). Some l) (so.parts ∙ append-nil so.done);
-    each = so.each;
-  }
+  pub pairs_at_end : (ds : List Data) (i : ℕ) (X : List T) → (so : IsReadTo ds [] i X) → AllZip (IsPair reads) ds so.pairs
+  pairs_at_end ds i X so = subst (λ (l : List Data). AllZip (IsPair reads) l so.pairs) (sym (so.parts ∙ append-nil so.done)) so.each

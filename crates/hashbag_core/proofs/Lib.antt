@@ -8,6 +8,7 @@ pub mod ExtendLemmas
 pub mod HeldLemmas
 pub mod InsertLemmas
 pub mod JoinLemmas
+pub mod JsonLimitLemmas
 pub mod JsonReadLemmas
 pub mod JsonSameLemmas
 pub mod JsonTripLemmas

@@ -1,7 +1,7 @@
 use Rattle.std.proofs.Common.{◌≡◌, drop, map}
 use Rattle.serde_json.specs.View.{view}
 use Rattle.hashbag_core.proofs.JsonReadLemmas.{IsReadTo}
-use Rattle.hashbag_core.proofs.bag.HashBag.from_value_within.Given as goal
+use Rattle.hashbag_core.proofs.bag.HashBag.from_pairs.Given as goal
 
 -- the pairs before this one were read, and added in turn
 abbrev pub invariant-loop-number : goal.invariant-loop-number
