@@ -8,6 +8,7 @@ use Rattle.std.proofs.lemmas.Bool.{cases_lt}
 use Rattle.std.proofs.lemmas.Iterator.{YieldsList}
 use Rattle.std.proofs.lemmas.Iterator.Consumers.{YieldsList-turn}
 use Rattle.std.proofs.lemmas.List.{append-nil}
+use Rattle.std.proofs.lemmas.List.Elements.{All-nil}
 use Rattle.std.proofs.lemmas.List.Sums.{sum_by-cons}
 use Rattle.std.proofs.lemmas.List.Sorted.{IsPermutation-refl, IsPermutation-sym, IsPermutation-trans}
 use Rattle.std.proofs.lemmas.Slice.Zip.{AllZip-long}
@@ -15,11 +16,11 @@ use Rattle.hashbag_table.specs.Tables.{room}
 use Rattle.hashbag_table.proofs.CloneLemmas.{zip_more}
 use Rattle.hashbag_core.specs.declared.bag.BagError.{BagError}
 use Rattle.hashbag_core.specs.declared.bag.BagError.TheVariants.{Memory, TooMany, BelowTotal}
-use Rattle.hashbag_core.specs.Bag.{Bag, IsBagOf}
+use Rattle.hashbag_core.specs.Bag.{Bag, Means, IsBagOf, limited}
 use Rattle.hashbag_core.specs.Occurrences.{greatest_total, count, add, distinct_count, IsBag}
 use Rattle.hashbag_core.specs.Extends.{Once, add_all, Refuses}
 use Rattle.hashbag_core.specs.Held.{no_slots}
-use Rattle.hashbag_core.specs.Inserts.{empty_bag, Inserts, IsRefused, InTurn, InsertsAll, InsertsUpTo, RefusesOne, IsCloneRefused}
+use Rattle.hashbag_core.specs.Inserts.{empty_bag, Inserts, IsRefused, InTurn, IsMadeOf, InsertsAll, InsertsUpTo, RefusesOne, IsCloneRefused}
 use Rattle.hashbag_core.proofs.ExtendLemmas.{add_all_last, refuses_clones, sum_went, sum_went_once}
 use Rattle.hashbag_core.proofs.HeldLemmas.{rewritten_built}
 use Rattle.hashbag_core.proofs.OccurrenceLemmas.{add_rearranged, bag_rearranged}
@@ -196,6 +197,15 @@ module _ {T S : Type 0} {eq : T → T → Bool} (laws : IsEquivalence eq) where
       → made.items ≡ [] → made.tables ≡ no_slots 0 → made.most ≡ greatest_total → InsertsUpTo eq steps Goes Why it made after e → InsertsUpTo eq steps Goes Why it (empty_bag after.hasher) after e
   some_made {steps = steps} {Goes = Goes} {Why = Why} {it = it} {made = made} {after = after} {e = e} none slots limit h =
       subst (λ (b : Bag T S). InsertsUpTo eq steps Goes Why it b after e) (empty_before made after none slots limit (some_added h).hasher) h
+
+  -- a bag that was read
+  pub made_of : (start bag : Bag T S) (pairs : List (T × ℕ)) → start.items ≡ [] → start.tables ≡ no_slots 0 → bag.most ≡ start.most → bag.hasher ≡ start.hasher → InTurn eq pairs start bag → IsMadeOf eq pairs bag
+  made_of start bag pairs none slots limit same h =
+      let empty : start ≡ limited bag.most (empty_bag bag.hasher) = λ i. record { items = none i; hasher = sym same i; tables = slots i; most = sym limit i } in
+      subst (λ (b : Bag T S). InTurn eq pairs b bag) empty h
+
+  pub made_means : (pairs : List (T × ℕ)) (bag : Bag T S) → IsMadeOf eq pairs bag → Means bag (add_all eq [] pairs)
+  made_means pairs bag h = (left_in_turn pairs (limited bag.most (empty_bag bag.hasher)) bag (record { one_instance = All-nil _; fits = omega arith }) h).means
 
   -- ---- clones
 

@@ -6,7 +6,7 @@ use Rattle.std.specs.Iterator.{Drains, YieldsThen}
 use Rattle.hashbag_table.specs.Tables.{room, Arrives}
 use Rattle.hashbag_core.specs.declared.bag.BagError.{BagError}
 use Rattle.hashbag_core.specs.declared.bag.BagError.TheVariants.{Memory}
-use Rattle.hashbag_core.specs.Bag.{Bag, IsBagOf}
+use Rattle.hashbag_core.specs.Bag.{Bag, IsBagOf, limited}
 use Rattle.hashbag_core.specs.Extends.{CloneOnce, CloneAsOften, Refuses, RefusesClones}
 use Rattle.hashbag_core.specs.Held.{Recounts, no_slots}
 use Rattle.hashbag_core.specs.Occurrences.{greatest_total, count, add, distinct_count, IsBag}
@@ -41,6 +41,10 @@ module _ {T S : Type 0} (eq : T → T → Bool) where
   abbrev pub InTurn : List (T × ℕ) → Bag T S → Bag T S → Type 0
   InTurn [] before after = after ≡ before
   InTurn (p ∷ pairs) before after = (middle : Bag T S) × Inserts p.0 p.1 before middle × InTurn pairs middle after
+
+  -- the bag is what these pairs made in turn of an empty one of no slots, under its state and with its limit
+  abbrev pub IsMadeOf : List (T × ℕ) → Bag T S → Type 0
+  IsMadeOf pairs bag = InTurn pairs (limited bag.most (empty_bag bag.hasher)) bag
 
   module _ {I A : Type 0} (steps : I → Option A → I → Type 0) (Goes : A → T × ℕ → Type 0) where
     -- all items that an iterator gave went in in turn

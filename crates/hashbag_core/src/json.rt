@@ -8,11 +8,11 @@ ghost use Rattle.serde_json.specs.Data.{Data};
 ghost use Rattle.serde_json.specs.View.{view, members_view};
 ghost use Rattle.serde_json.specs.declared.value.Value.{Value};
 ghost use Rattle.serde_json.specs.Written.{has_float};
-ghost use Rattle.hashbag_core.specs.Bag.{Means, IsBagOf};
 ghost use Rattle.hashbag_core.specs.Extends.{add_all};
+ghost use Rattle.hashbag_core.specs.Inserts.{Inserts, IsMadeOf};
 ghost use Rattle.hashbag_core.specs.JsonFaults.{array_of, has_no_other, opened, limit_of, pair_of, pair_fault, first_fault, fault, IsCountedItem, MayEnd, MayEndAmong};
 ghost use Rattle.hashbag_core.specs.JsonTrees.{IsPair, IsReading, IsTree, IsBagTree, TellsApart, pair_tree, seen, written};
-ghost use Rattle.hashbag_core.specs.Occurrences.{greatest_total, add, IsBag, IsOneInstanceEach, SameCounts};
+ghost use Rattle.hashbag_core.specs.Occurrences.{greatest_total, IsBag, IsOneInstanceEach, SameCounts};
 ghost use Rattle.hashbag_core.specs.Walks.{IsSetWalkOf};
 
 mod items;
@@ -218,7 +218,7 @@ fn read_pair<T: JsonItem + Hash + Drop, S: BuildHasher + Drop>(
     number: usize,
 ) -> Result<(), JsonError>
     ensures no_fault { OnOk result (pair_fault bag.old.most T.has_item number (length bag.old.items) (pair_of (view pair.now)) ≡ None) }
-    ensures read { OnOk result ((p : T × ℕ) × IsPair T.reads (view pair.now) p × IsBagOf T.eq bag.old (add T.eq p.0 p.1 bag.old.items) bag.new) }
+    ensures read { OnOk result ((p : T × ℕ) × IsPair T.reads (view pair.now) p × Inserts T.eq p.0 p.1 bag.old bag.new) }
     ensures fault { IfErr result (λ e. e ≢ JsonError.Memory → pair_fault bag.old.most T.has_item number (length bag.old.items) (pair_of (view pair.now)) ≡ Some e) }
     ensures memory { IfErr result (λ e. e ≡ JsonError.Memory → IsCountedItem T.has_item (view pair.now)) }
 {
@@ -273,7 +273,7 @@ impl<T: JsonItem + Hash + Drop, S: BuildHasher + Drop> HashBag<T, S> {
     where
         S: Default,
         ensures no_fault { OnOk result (first_fault most T.has_item 0 0 (map view list.now.items) ≡ None) }
-        ensures read { IfOk result (λ bag. (pairs : List (T × ℕ)) × AllZip (IsPair T.reads) (map view list.now.items) pairs × Means bag (add_all T.eq [] pairs)) }
+        ensures read { IfOk result (λ bag. (pairs : List (T × ℕ)) × AllZip (IsPair T.reads) (map view list.now.items) pairs × IsMadeOf T.eq pairs bag) }
         ensures limit { IfOk result (λ bag. bag.most ≡ most) }
         ensures bag { IfOk result (λ bag. IsBag T.eq bag.most bag.items) }
         ensures hasher { IfOk result (λ bag. S.is_default bag.hasher) }
@@ -304,7 +304,7 @@ impl<T: JsonItem + Hash + Drop, S: BuildHasher + Drop> HashBag<T, S> {
     where
         S: Default,
         ensures no_fault { OnOk result (fault most T.has_item (view tree.now) ≡ None) }
-        ensures read { IfOk result (λ bag. (pairs : List (T × ℕ)) × IsReading T.reads (view tree.now) pairs × Means bag (add_all T.eq [] pairs)) }
+        ensures read { IfOk result (λ bag. (pairs : List (T × ℕ)) × IsReading T.reads (view tree.now) pairs × IsMadeOf T.eq pairs bag) }
         ensures limit { IfOk result (λ bag. bag.most ≡ min most (limit_of (view tree.now))) }
         ensures bag { IfOk result (λ bag. IsBag T.eq bag.most bag.items) }
         ensures hasher { IfOk result (λ bag. S.is_default bag.hasher) }
@@ -322,7 +322,7 @@ impl<T: JsonItem + Hash + Drop, S: BuildHasher + Drop> HashBag<T, S> {
     where
         S: Default,
         ensures no_fault { OnOk result (fault greatest_total T.has_item (view tree.now) ≡ None) }
-        ensures read { IfOk result (λ bag. (pairs : List (T × ℕ)) × IsReading T.reads (view tree.now) pairs × Means bag (add_all T.eq [] pairs)) }
+        ensures read { IfOk result (λ bag. (pairs : List (T × ℕ)) × IsReading T.reads (view tree.now) pairs × IsMadeOf T.eq pairs bag) }
         ensures limit { IfOk result (λ bag. bag.most ≡ limit_of (view tree.now)) }
         ensures bag { IfOk result (λ bag. IsBag T.eq bag.most bag.items) }
         ensures hasher { IfOk result (λ bag. S.is_default bag.hasher) }

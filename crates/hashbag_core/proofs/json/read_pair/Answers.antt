@@ -20,7 +20,7 @@ returns-in-Ok-insert_within-clause-read g c = (
     item = c.in-Ok.ensures.item.1;
     count = sym c.in-Some-as_u64.ensures;
   },
-  c.in-Ok-insert_within.ensures.inserted.added,
+  c.in-Ok-insert_within.ensures.inserted,
 )
 
 pub returns-in_default-as_u64-clause-fault : goal.returns-in_default-as_u64-clause-fault

@@ -1,9 +1,8 @@
-use Rattle.std.proofs.Common.{◌≡◌, ℕ, List, [], map, min, None, Some, sym, ◌∙◌, ap}
+use Rattle.std.proofs.Common.{◌≡◌, ℕ, List, map, min, None, Some, sym, ◌∙◌, ap}
 use Rattle.std.specs.List.{AllZip}
 use Rattle.std.proofs.lemmas.Result.{IfOk-weaker, IfErr-weaker}
 use Rattle.serde_json.specs.View.{view}
-use Rattle.hashbag_core.specs.Bag.{Means}
-use Rattle.hashbag_core.specs.Extends.{add_all}
+use Rattle.hashbag_core.specs.Inserts.{IsMadeOf}
 use Rattle.hashbag_core.specs.JsonFaults.{first_fault, opened_fault, fault, limit_of, limit_opened, MayEnd, MayEndAmong}
 use Rattle.hashbag_core.specs.JsonTrees.{IsPair, IsReading}
 use Rattle.hashbag_core.specs.declared.json.JsonError.TheVariants.{Memory}
@@ -17,8 +16,8 @@ returns-in-Ok-clause-no_fault g c =
 
 pub returns-in-Ok-clause-read : goal.returns-in-Ok-clause-read
 returns-in-Ok-clause-read g c =
-    IfOk-weaker c.from_pairs.result (λ bag. (pairs : List (g.row.T.Denot × ℕ)) × AllZip (IsPair g.T.JsonItem.reads) (map view c.in-Ok.pairs.now.items) pairs × Means bag (add_all g.T.PartialEq.eq [] pairs))
-    (λ bag. (pairs : List (g.row.T.Denot × ℕ)) × IsReading g.T.JsonItem.reads (view c.args.tree.now) pairs × Means bag (add_all g.T.PartialEq.eq [] pairs))
+    IfOk-weaker c.from_pairs.result (λ bag. (pairs : List (g.row.T.Denot × ℕ)) × AllZip (IsPair g.T.JsonItem.reads) (map view c.in-Ok.pairs.now.items) pairs × IsMadeOf g.T.PartialEq.eq pairs bag)
+    (λ bag. (pairs : List (g.row.T.Denot × ℕ)) × IsReading g.T.JsonItem.reads (view c.args.tree.now) pairs × IsMadeOf g.T.PartialEq.eq pairs bag)
     (λ bag h. (h.0, record { limit = c.in-Ok.limit; trees = map view c.in-Ok.pairs.now.items; inside = sym c.in-Ok.ensures; each = h.1 }, h.2)) c.from_pairs.ensures.read
 
 pub returns-in-Ok-clause-limit : goal.returns-in-Ok-clause-limit
