@@ -5,6 +5,7 @@ pub use Rattle.hashbag_core.specs.Equality
 pub use Rattle.hashbag_core.specs.EqualityLaws
 pub use Rattle.hashbag_core.specs.Extends
 pub use Rattle.hashbag_core.specs.Held
+pub use Rattle.hashbag_core.specs.Inserts
 pub use Rattle.hashbag_core.specs.Iter
 pub use Rattle.hashbag_core.specs.Joins
 pub use Rattle.hashbag_core.specs.JoinsLeft

@@ -8,13 +8,14 @@ use serde_json::Value;
 use std::alloc::Global;
 use std::hash::{BuildHasher, Hash};
 
-/// Writes a bag as a tree and reads that back. Only memory is refused, and what is read has the counts of the bag.
+/// Writes a bag as a tree and reads that back. Only memory is refused, and what is read has the counts and the limit of the bag.
 pub fn read_again<
     T: JsonItem + Ord + Hash + Drop,
     S: BuildHasher + Drop,
     S2: BuildHasher + Default + Drop,
 >(alloc: Global, bag: &HashBag<T, S>) -> Result<HashBag<T, S2>, JsonError>
     ensures equal { IfOk result (λ again. same_counts T.eq again.items bag.now.items ≡ true) }
+    ensures limit { IfOk result (λ again. again.most ≡ bag.now.most) }
     ensures memory { IfErr result (λ e. e ≡ JsonError.Memory) }
 {
     match bag.to_value(alloc) {
@@ -23,13 +24,13 @@ pub fn read_again<
     }
 }
 
-/// The trees of two bags: they are the same exactly if the bags are equal.
+/// The trees of two bags: they are the same exactly if the bags are equal and have the same limit.
 pub fn both_trees<T: JsonItem + Ord + Hash + Drop, S: BuildHasher + Drop>(
     alloc: Global,
     a: &HashBag<T, S>,
     b: &HashBag<T, S>,
 ) -> Result<(Value, Value), BagError>
-    ensures same { IfOk result (λ trees. (bag_eq T.eq a.now b.now ≡ true) ↔ (view trees.0 ≡ view trees.1)) }
+    ensures same { IfOk result (λ trees. ((bag_eq T.eq a.now b.now ≡ true) × (a.now.most ≡ b.now.most)) ↔ (view trees.0 ≡ view trees.1)) }
     ensures memory { IfErr result (λ e. e ≡ BagError.Memory) }
 {
     // By the contract of `len`, b is a bag, of which the clauses of `a.to_value` speak.

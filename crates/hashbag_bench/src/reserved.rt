@@ -30,3 +30,25 @@ pub fn insert_all<T: Eq + Hash + Drop, S: BuildHasher + Drop>(
     }
     Ok(())
 }
+
+/// Inserts all values by one extend, or none: [`insert_all`] without a loop.
+///
+/// With the room made and the total within the limit, the extend is refused nothing and builds no table, which is proved.
+pub fn extend_all<T: Eq + Hash + Drop, S: BuildHasher + Drop>(
+    bag: &mut HashBag<T, S>,
+    values: Vec<T>,
+) -> Result<(), BagError>
+    ensures len { OnOk result (length bag.new.items ≡ length bag.old.items + length values.items) }
+    ensures slots { OnOk result (length values.items ≤ room bag.old.tables → length bag.new.tables.newer ≡ length bag.old.tables.newer) }
+    ensures built { OnOk result (length values.items ≤ room bag.old.tables → bag.new.tables.built ≡ bag.old.tables.built) }
+    ensures err { OnErr result (bag.new ≡ bag.old) }
+    ensures too_many { result ≡ Err BagError.TooMany → bag.old.most < length bag.old.items + length values.items }
+    ensures memory { result ≡ Err BagError.Memory → room bag.old.tables < length values.items }
+{
+    if values.len() > bag.limit() - bag.len() {
+        return Err(BagError::TooMany);
+    }
+    bag.reserve(values.len())?;
+    bag.extend(values.into_iter()).unwrap();
+    Ok(())
+}

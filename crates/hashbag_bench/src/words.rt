@@ -1,13 +1,13 @@
 //! Callers to copy: words that are counted, one by one or all at once, and bags that are equal whatever the order in which the words came.
 ghost use Rattle.std.specs.Prelude.{◌≡◌, ◌+◌, ◌≤◌, ℕ, nat_eq, length, IsTrue, OnOk, IfOk, IfErr};
 ghost use Rattle.std.specs.List.Sorted.{IsPermutation};
-ghost use Rattle.hashbag.specs.Occurrences.{greatest_total, count};
+ghost use Rattle.hashbag.specs.Occurrences.{count};
 
 use hashbag::{BagError, HashBag};
 use std::alloc::Global;
 use std::hash::{BuildHasher, Hash};
 
-/// Two words in a new bag: each call says the length that the next one needs.
+/// Two words in a new bag: each call says the length that it leaves.
 pub fn two_words(alloc: Global) -> Result<HashBag<u64>, BagError>
     ensures { IfOk result (λ bag. length bag.items ≡ 2) }
 {
@@ -17,15 +17,14 @@ pub fn two_words(alloc: Global) -> Result<HashBag<u64>, BagError>
     Ok(bag)
 }
 
-/// Inserts words one by one, each a number here. The caller sees to it that all of them fit, so that only memory is refused.
+/// Inserts words one by one, each a number here. Where the total stays within the limit, only memory is refused.
 pub fn insert_each<S: BuildHasher + Drop>(
     bag: &mut HashBag<u64, S>,
     words: &[u64],
 ) -> Result<(), BagError>
-    requires { length bag.old.items + length words.now ≤ bag.old.most }
     ensures counts { OnOk result ((v : ℕ) → count nat_eq v bag.new.items ≡ count nat_eq v bag.old.items + count nat_eq v words.now) }
     ensures len { OnOk result (length bag.new.items ≡ length bag.old.items + length words.now) }
-    ensures memory { IfErr result (λ e. e ≡ BagError.Memory) }
+    ensures memory { length bag.old.items + length words.now ≤ bag.old.most → IfErr result (λ e. e ≡ BagError.Memory) }
 {
     for word in words {
         bag.insert(*word)?;

@@ -7,7 +7,6 @@ use Rattle.std.specs.Cmp.{IsEquivalence}
 use Rattle.std.proofs.lemmas.Bool.{le-ltb}
 use Rattle.std.proofs.lemmas.List.{append-nil}
 use Rattle.std.proofs.lemmas.List.Elements.{All-nil}
-use Rattle.std.proofs.lemmas.List.Sorted.{IsPermutation-refl, IsPermutation-trans, IsPermutation-sym}
 use Rattle.serde_json.specs.Data.{Data}
 use Rattle.serde_json.specs.Find.{as_array}
 use Rattle.serde_json.specs.View.{view, items_of, items_view}
@@ -15,13 +14,14 @@ use Rattle.serde_json.specs.declared.value.Value.{Value}
 use Rattle.hashbag_table.proofs.CloneLemmas.{zip_more}
 use Rattle.hashbag_core.specs.declared.json.JsonError.{JsonError}
 use Rattle.hashbag_core.specs.declared.json.JsonError.TheVariants.{BadItem, TooMany}
-use Rattle.hashbag_core.specs.Extends.{add_all}
-use Rattle.hashbag_core.specs.JsonFaults.{list_of, array_of, two_of, pair_of, pair_count, part_fault, pair_fault, first_fault, fault, array_fault, IsCountedItem, MayEnd}
+use Rattle.hashbag_core.specs.Bag.{Bag}
+use Rattle.hashbag_core.specs.Inserts.{Inserts, InTurn}
+use Rattle.hashbag_core.specs.JsonFaults.{list_of, array_of, two_of, pair_of, pair_count, part_fault, pair_fault, first_fault, IsCountedItem, MayEndAmong}
 use Rattle.hashbag_core.specs.JsonItems.{u64_of}
-use Rattle.hashbag_core.specs.JsonTrees.{IsPair, IsReading}
+use Rattle.hashbag_core.specs.JsonTrees.{IsPair}
 use Rattle.hashbag_core.specs.Occurrences.{add, IsBag}
-use Rattle.hashbag_core.proofs.ExtendLemmas.{add_all_last}
-use Rattle.hashbag_core.proofs.OccurrenceLemmas.{add_rearranged, bag_rearranged, length_added}
+use Rattle.hashbag_core.proofs.InsertLemmas.{turn_last}
+use Rattle.hashbag_core.proofs.OccurrenceLemmas.{length_added}
 
 pub list_of-items_of : (ds : List Data) → list_of (items_of ds) ≡ ds
 list_of-items_of [] = refl
@@ -50,27 +50,6 @@ pub left_at : (vs : List Value) (i : ℕ) (d : Value) → d ≡ get_or vs i d �
 left_at vs i d is h = rw add-one (drop_map vs i d h ∙ ap (λ (e : Value). view e ∷ map view (drop (suc i) vs)) (sym is))
 
 module _ {T : Type 0} {eq : T → T → Bool} (laws : IsEquivalence eq) (end : ℕ) (has_item : Data → Bool) (reads : Data → T → Type 0) where
-  -- `rest` is left of the pairs `ds`, and the first i were added to nothing, which gave a rearrangement of X
-  pub record IsReadTo (ds rest : List Data) (i : ℕ) (X : List T) : Type 0 where
-    pub done : List Data
-    pub pairs : List (T × ℕ)
-    pub parts : ds ≡ done ++ rest
-    pub each : AllZip (IsPair reads) done pairs
-    pub means : IsPermutation (add_all eq [] pairs) X
-    pub bag : IsBag eq end X
-    pub fault : (others : List Data) → first_fault end has_item 0 0 (done ++ others) ≡ first_fault end has_item i (length X) others
-
-  pub read_to_start : (ds : List Data) → IsReadTo ds ds 0 []
-  read_to_start ds = record {
-    done = [];
-    pairs = [];
-    parts = refl;
-    each = tt;
-    means = IsPermutation-refl [];
-    bag = record { one_instance = All-nil _; fits = omega arith };
-    fault = λ others. refl;
-  }
-
   pair_counted : (d : Data) (p : T × ℕ) → IsPair reads d p → pair_count d ≡ Some p.1
   pair_counted d p is = ap (option_and_then (λ (q : Data × Data). u64_of q.1)) is.parts ∙ is.count
 
@@ -91,21 +70,6 @@ module _ {T : Type 0} {eq : T → T → Bool} (laws : IsEquivalence eq) (end : �
       ap (λ (o : Option JsonError). option_or o (first_fault end has_item (i + 1) (total + unwrap_or (pair_count d) 0) rest)) good
       ∙ ap (λ (o : Option ℕ). first_fault end has_item (i + 1) (total + unwrap_or o 0) rest) count
 
-  pub read_to_next : (ds rest : List Data) (d : Data) (i : ℕ) (X Y : List T) (p : T × ℕ) → IsReadTo ds (d ∷ rest) i X
-      → pair_fault end has_item i (length X) (pair_of d) ≡ None → IsPair reads d p → IsPermutation (add eq p.0 p.1 X) Y → IsBag eq end Y → IsReadTo ds rest (i + 1) Y
-  read_to_next ds rest d i X Y p so good is means bag =
-      let before : IsBag eq end (add_all eq [] so.pairs) = bag_rearranged laws _ _ (IsPermutation-sym _ _ so.means) so.bag in
-      record {
-        done = so.done ++ d ∷ [];
-        pairs = so.pairs ++ p ∷ [];
-        parts = so.parts ∙ sym (append_assoc so.done (d ∷ []) rest);
-        each = zip_more (IsPair reads) so.done so.pairs d p so.each is;
-        means = subst (λ (l : List T). IsPermutation l Y) (sym (add_all_last laws [] so.pairs p)) (IsPermutation-trans _ _ _ (add_rearranged laws p.0 p.1 _ X before so.means) means);
-        bag = bag;
-        fault = λ others. ap (λ (l : List Data). first_fault end has_item 0 0 l) (append_assoc so.done (d ∷ []) others) ∙ so.fault (d ∷ others)
-            ∙ past_pair d others i (length X) p.1 good (pair_counted d p is) ∙ ap (λ (n : ℕ). first_fault end has_item (i + 1) n others) (sym (length_added laws p.0 p.1 X Y means));
-      }
-
   at_pair : (d : Data) (rest : List Data) (i total : ℕ) (e : JsonError) → pair_fault end has_item i total (pair_of d) ≡ Some e → first_fault end has_item i total (d ∷ rest) ≡ Some e
   unfolding first_fault
   at_pair d rest i total e bad = ap (λ (o : Option JsonError). option_or o (first_fault end has_item (i + 1) (total + unwrap_or (pair_count d) 0) rest)) bad
@@ -114,31 +78,62 @@ module _ {T : Type 0} {eq : T → T → Bool} (laws : IsEquivalence eq) (end : �
   unfolding first_fault
   none_left i total = refl
 
-  whole_fault : (ds rest : List Data) (i : ℕ) (X : List T) → (so : IsReadTo ds rest i X) → first_fault end has_item 0 0 ds ≡ first_fault end has_item i (length X) rest
-  whole_fault ds rest i X so = ap (λ (l : List Data). first_fault end has_item 0 0 l) so.parts ∙ so.fault rest
+module _ {T S : Type 0} {eq : T → T → Bool} (laws : IsEquivalence eq) (end : ℕ) (has_item : Data → Bool) (reads : Data → T → Type 0) (start : Bag T S) where
+  -- `rest` is left of the pairs `ds`, and the first i went into `start` in turn, which left `now`
+  pub record IsReadTo (ds rest : List Data) (i : ℕ) (now : Bag T S) : Type 0 where
+    pub done : List Data
+    pub pairs : List (T × ℕ)
+    pub parts : ds ≡ done ++ rest
+    pub each : AllZip (IsPair reads) done pairs
+    pub turn : InTurn eq pairs start now
+    pub bag : IsBag eq end now.items
+    pub fault : (others : List Data) → first_fault end has_item 0 0 (done ++ others) ≡ first_fault end has_item i (length now.items) others
 
-  -- the fault of a tree is that of the pair at which the reading stopped
-  pub fault_at : (t : Data) (ds rest : List Data) (d : Data) (i : ℕ) (X : List T) (e : JsonError) → array_of t ≡ Some ds → IsReadTo ds (d ∷ rest) i X
-      → pair_fault end has_item i (length X) (pair_of d) ≡ Some e → fault end has_item t ≡ Some e
-  fault_at t ds rest d i X e is so bad = ap (array_fault end has_item) is ∙ whole_fault ds (d ∷ rest) i X so ∙ at_pair d rest i (length X) e bad
+  pub read_to_start : (ds : List Data) → start.items ≡ [] → IsReadTo ds ds 0 start
+  read_to_start ds none = record {
+    done = [];
+    pairs = [];
+    parts = refl;
+    each = tt;
+    turn = refl;
+    bag = subst (λ (X : List T). IsBag eq end X) (sym none) (record { one_instance = All-nil _; fits = omega arith });
+    fault = λ others. ap (λ (X : List T). first_fault end has_item 0 (length X) others) (sym none);
+  }
+
+  pub read_to_next : (ds rest : List Data) (d : Data) (i : ℕ) (now after : Bag T S) (p : T × ℕ) → IsReadTo ds (d ∷ rest) i now
+      → pair_fault end has_item i (length now.items) (pair_of d) ≡ None → IsPair reads d p → Inserts eq p.0 p.1 now after → IsBag eq end after.items → IsReadTo ds rest (i + 1) after
+  read_to_next ds rest d i now after p so good is went bag = record {
+    done = so.done ++ d ∷ [];
+    pairs = so.pairs ++ p ∷ [];
+    parts = so.parts ∙ sym (append_assoc so.done (d ∷ []) rest);
+    each = zip_more (IsPair reads) so.done so.pairs d p so.each is;
+    turn = turn_last eq so.pairs p start now after so.turn went;
+    bag = bag;
+    fault = λ others. ap (λ (l : List Data). first_fault end has_item 0 0 l) (append_assoc so.done (d ∷ []) others) ∙ so.fault (d ∷ others)
+        ∙ past_pair laws end has_item reads d others i (length now.items) p.1 good (pair_counted laws end has_item reads d p is) ∙ ap (λ (n : ℕ). first_fault end has_item (i + 1) n others) (sym went.len);
+  }
+
+  whole_fault : (ds rest : List Data) (i : ℕ) (now : Bag T S) → (so : IsReadTo ds rest i now) → first_fault end has_item 0 0 ds ≡ first_fault end has_item i (length now.items) rest
+  whole_fault ds rest i now so = ap (λ (l : List Data). first_fault end has_item 0 0 l) so.parts ∙ so.fault rest
+
+  -- the fault of the pairs is that of the one at which the reading stopped
+  pub fault_at : (ds rest : List Data) (d : Data) (i : ℕ) (now : Bag T S) (e : JsonError) → IsReadTo ds (d ∷ rest) i now
+      → pair_fault end has_item i (length now.items) (pair_of d) ≡ Some e → first_fault end has_item 0 0 ds ≡ Some e
+  fault_at ds rest d i now e so bad = whole_fault ds (d ∷ rest) i now so ∙ at_pair laws end has_item reads d rest i (length now.items) e bad
 
   -- memory may have ended it there
-  pub may_end_at : (t : Data) (ds rest : List Data) (d : Data) (i : ℕ) (X : List T) → array_of t ≡ Some ds → IsReadTo ds (d ∷ rest) i X → IsCountedItem has_item d → MayEnd end has_item t
-  may_end_at t ds rest d i X is so asks = record {
+  pub may_end_at : (ds rest : List Data) (d : Data) (i : ℕ) (now : Bag T S) → IsReadTo ds (d ∷ rest) i now → IsCountedItem has_item d → MayEndAmong end has_item ds
+  may_end_at ds rest d i now so asks = record {
     before = so.done;
     pair = d;
     after = rest;
-    array = is ∙ ap (λ (l : List Data). Some l) so.parts;
-    good = ap (λ (l : List Data). first_fault end has_item 0 0 l) (sym (append-nil so.done)) ∙ so.fault [] ∙ none_left i (length X);
+    parts = so.parts;
+    good = ap (λ (l : List Data). first_fault end has_item 0 0 l) (sym (append-nil so.done)) ∙ so.fault [] ∙ none_left laws end has_item reads i (length now.items);
     asks = asks;
   }
 
-  pub no_fault_at_end : (t : Data) (ds : List Data) (i : ℕ) (X : List T) → array_of t ≡ Some ds → IsReadTo ds [] i X → fault end has_item t ≡ None
-  no_fault_at_end t ds i X is so = ap (array_fault end has_item) is ∙ whole_fault ds [] i X so ∙ none_left i (length X)
+  pub no_fault_at_end : (ds : List Data) (i : ℕ) (now : Bag T S) → IsReadTo ds [] i now → first_fault end has_item 0 0 ds ≡ None
+  no_fault_at_end ds i now so = whole_fault ds [] i now so ∙ none_left laws end has_item reads i (length now.items)
 
-  pub reading_at_end : (t : Data) (ds : List Data) (i : ℕ) (X : List T) → array_of t ≡ Some ds → (so : IsReadTo ds [] i X) → IsReading reads t so.pairs
-  reading_at_end t ds i X is so = record {
-    trees = so.done;
-    array = is ∙ ap (λ (l : List Data). Some l) (so.parts ∙ append-nil so.done);
-    each = so.each;
-  }
+  pub pairs_at_end : (ds : List Data) (i : ℕ) (now : Bag T S) → (so : IsReadTo ds [] i now) → AllZip (IsPair reads) ds so.pairs
+  pairs_at_end ds i now so = subst (λ (l : List Data). AllZip (IsPair reads) l so.pairs) (sym (so.parts ∙ append-nil so.done)) so.each

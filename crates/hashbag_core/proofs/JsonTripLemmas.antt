@@ -13,9 +13,9 @@ use Rattle.serde_json.specs.Written.{has_float, items_have_float}
 use Rattle.hashbag_core.specs.declared.json.JsonError.TheVariants.{BadItem, TooMany}
 use Rattle.hashbag_core.specs.EqualityLaws.{count_congr}
 use Rattle.hashbag_core.specs.Extends.{add_all}
-use Rattle.hashbag_core.specs.JsonFaults.{array_of, pair_of, pair_fault, first_fault, fault, array_fault}
+use Rattle.hashbag_core.specs.JsonFaults.{array_of, pair_of, pair_fault, first_fault}
 use Rattle.hashbag_core.specs.JsonItems.{u64_of}
-use Rattle.hashbag_core.specs.JsonTrees.{IsPair, IsReading, IsTree, pair_tree}
+use Rattle.hashbag_core.specs.JsonTrees.{IsPair, IsTree, pair_tree}
 use Rattle.hashbag_core.specs.Occurrences.{count, add, SameCounts}
 use Rattle.hashbag_core.specs.Walks.{IsSetWalk}
 use Rattle.hashbag_core.proofs.ContainsLemmas.{All-from_Contains, Contains-cases, not_in_nil}
@@ -162,10 +162,10 @@ module _ {T : Type 0} {eq : T → T → Bool} (laws : IsEquivalence eq) (cmp : T
     (tree_is_read : (x : T) → is_item x → (y : T) × is_item y × reads (tree_of x) y)
     (read_has_item : (d : Data) (x : T) → reads d x → has_item d ≡ true)
     (reads_back : (x y : T) → is_item x → reads (tree_of x) y → eq x y ≡ true) where
-  pub no_fault_in_tree : (end : ℕ) (d : Data) (es : List (T × ℕ)) → d ≡ array (items_of (map (pair_tree tree_of) es)) → AllByRecursion is_item (keys_of es) → sum_by (λ e. e.1) es ≤ end → fault end has_item d ≡ None
-  no_fault_in_tree end d es is items fits =
+  pub no_fault_in_pairs : (end : ℕ) (es : List (T × ℕ)) → AllByRecursion is_item (keys_of es) → sum_by (λ e. e.1) es ≤ end → first_fault end has_item 0 0 (map (pair_tree tree_of) es) ≡ None
+  no_fault_in_pairs end es items fits =
       let good = all_weaker is_item (λ x. has_item (tree_of x) ≡ true) (λ x h. let y = tree_is_read x h in read_has_item (tree_of x) y.0 y.2) (keys_of es) items in
-      ap (array_fault end has_item) (trees_of tree_of d es is) ∙ no_first_fault end has_item tree_of es 0 0 good (omega arith)
+      no_first_fault end has_item tree_of es 0 0 good (omega arith)
 
   read_pair_of : (e p : T × ℕ) → is_item e.0 → IsPair reads (pair_tree tree_of e) p → (eq e.0 p.0 ≡ true) × (p.1 ≡ e.1)
   read_pair_of e p item is =
@@ -180,10 +180,10 @@ module _ {T : Type 0} {eq : T → T → Bool} (laws : IsEquivalence eq) (cmp : T
   read_pairs_of (e ∷ es) [] items h = h
   read_pairs_of (e ∷ es) (p ∷ ps) items h = (read_pair_of e p items.0 h.0, read_pairs_of es ps items.1 h.1)
 
-  pub counts_read_back : (X : List T) (d : Data) (pairs : List (T × ℕ)) → IsTree eq cmp tree_of X d → All is_item X → IsReading reads d pairs → SameCounts eq (add_all eq [] pairs) X
-  counts_read_back X d pairs tree items reading = λ v.
-      let trees : reading.trees ≡ map (pair_tree tree_of) tree.pairs = same_some _ _ (sym reading.array ∙ trees_of tree_of d tree.pairs tree.is) in
-      let each = subst (λ (l : List Data). AllZip (IsPair reads) l pairs) trees reading.each in
+  pub counts_read_back : (X : List T) (d : Data) (ds : List Data) (pairs : List (T × ℕ)) → (tree : IsTree eq cmp tree_of X d) → All is_item X → ds ≡ map (pair_tree tree_of) tree.pairs → AllZip (IsPair reads) ds pairs
+      → SameCounts eq (add_all eq [] pairs) X
+  counts_read_back X d ds pairs tree items trees zip = λ v.
+      let each = subst (λ (l : List Data). AllZip (IsPair reads) l pairs) trees zip in
       let keys = keys_walked laws is_item X tree.pairs tree.walk items in
       let none : count eq v [] + tally laws v pairs ≡ tally laws v pairs = zero-add (tally laws v pairs) in
       count_added_pairs laws v [] pairs ∙ none ∙ sym (same_tally laws v tree.pairs pairs (read_pairs_of tree.pairs pairs keys each)) ∙ sym (count_walk laws v X tree.pairs tree.walk)

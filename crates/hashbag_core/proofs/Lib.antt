@@ -6,7 +6,9 @@ pub mod EqualityLemmas
 pub mod ExcessLemmas
 pub mod ExtendLemmas
 pub mod HeldLemmas
+pub mod InsertLemmas
 pub mod JoinLemmas
+pub mod JsonLimitLemmas
 pub mod JsonReadLemmas
 pub mod JsonSameLemmas
 pub mod JsonTripLemmas

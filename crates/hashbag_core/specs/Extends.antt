@@ -1,8 +1,6 @@
--- What the extends and collections make of the items that come.
-use Rattle.std.specs.Prelude.{◌≡◌, ℕ, ◌+◌, ◌<◌, ◌≤◌, Bool, List, [], ◌∷◌, length, Option, Some}
+-- As what the items that come go into a bag, and why one may be refused. `Inserts` has what is left.
+use Rattle.std.specs.Prelude.{◌≡◌, ℕ, ◌+◌, ◌<◌, ◌≤◌, Bool, List, [], ◌∷◌, length}
 use denote.Ref.{Bor}
-use Rattle.std.specs.List.{AllZip}
-use Rattle.std.specs.Iterator.{Drains, YieldsThen}
 use Rattle.hashbag_core.specs.declared.bag.BagError.{BagError}
 use Rattle.hashbag_core.specs.declared.bag.BagError.TheVariants.{Memory, TooMany, BelowTotal}
 use Rattle.hashbag_core.specs.Occurrences.{count, add}
@@ -38,23 +36,3 @@ module _ {T : Type 0} (eq : T → T → Bool) where
   Refuses most X v n TooMany = most < length X + n
   Refuses most X v n Memory = (length X + n ≤ most) × (0 < n) × (count eq v X ≡ 0)
   Refuses most X v n BelowTotal = ⊥
-
-  module _ {I A : Type 0} (steps : I → Option A → I → Type 0) (Goes : A → T × ℕ → Type 0) where
-    -- all items that an iterator gave went in, one after another, and what X became of it is what is left
-    pub record Extends (it : I) (X : List T) (Left : List T → Type 0) : Type 0 where
-      pub items : List A
-      pub came : Drains steps it items
-      pub pairs : List (T × ℕ)
-      pub went : AllZip Goes items pairs
-      pub left : Left (add_all X pairs)
-
-    -- the items before one that was refused went in, and what X became of them is what is left
-    pub record ExtendsUpTo (it : I) (X : List T) (Left : List T → Type 0) (Why : List T → A → Type 0) : Type 0 where
-      pub items : List A
-      pub refused : A
-      pub rest : I
-      pub came : YieldsThen steps it items (Some refused) rest
-      pub pairs : List (T × ℕ)
-      pub went : AllZip Goes items pairs
-      pub left : Left (add_all X pairs)
-      pub why : Why (add_all X pairs) refused

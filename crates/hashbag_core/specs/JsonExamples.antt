@@ -1,18 +1,19 @@
--- The definitions of trees compute. Items here are whole numbers below 2 ^ 64, with the end of the total at 9.
-use Rattle.std.specs.Prelude.{◌≡◌, ℕ, ◌==◌, ℤ, Bool, List, [], ◌∷◌, codes, Option, Some, None, is_some, refl}
+-- The definitions of trees compute. Items here are whole numbers below 2 ^ 64, and `most` is 9.
+use Rattle.std.specs.Prelude.{◌≡◌, ℕ, ◌==◌, ℤ, Bool, List, [], ◌∷◌, codes, Option, Some, None, is_some, Ok, refl}
 use Rattle.std.proofs.Common.{lit<}
 use Rattle.std.proofs.lemmas.List.Elements.{All-from_recursion}
 use Rattle.std.specs.Ordering.{nat_cmp}
 use Rattle.std.specs.List.{IsDistinct, Contains}
 use Rattle.std.specs.List.Sorted.{IsStrictlySortedBy}
-use Rattle.serde_json.specs.Data.{Data, null, number, unsigned, negative, string, array}
+use Rattle.serde_json.specs.Data.{Data, null, number, unsigned, negative, string, array, object, member, no_members}
 use Rattle.serde_json.specs.View.{items_of}
 use Rattle.hashbag_core.specs.declared.json.JsonError.{JsonError}
-use Rattle.hashbag_core.specs.declared.json.JsonError.TheVariants.{NotAnArray, NotAPair, BadCount, BadItem, TooMany}
+use Rattle.hashbag_core.specs.declared.json.JsonError.TheVariants.{NotAnArray, NotAPair, BadCount, BadItem, TooMany, BadLimit}
 use Rattle.hashbag_core.specs.Extends.{add_all}
-use Rattle.hashbag_core.specs.JsonFaults.{fault, MayEnd, first_fault}
+use Rattle.hashbag_core.specs.JsonFaults.{limit_name, pairs_name, opened, limit_of, fault, MayEnd, first_fault}
 use Rattle.hashbag_core.specs.JsonItems.{u64_of, i64_of}
-use Rattle.hashbag_core.specs.JsonTrees.{IsPair, IsReading, IsTree}
+use Rattle.hashbag_core.specs.JsonTrees.{IsPair, IsReading, IsTree, written}
+use Rattle.hashbag_core.specs.Occurrences.{greatest_total}
 
 abbrev same : ℕ → ℕ → Bool
 same a b = a == b
@@ -92,13 +93,59 @@ just_enough = refl
 may_end : MayEnd 9 has_item (list (pair (tree_of 1) (tree_of 9) ∷ pair (tree_of 2) (tree_of 1) ∷ []))
 unfolding first_fault
 may_end = record {
-  before = pair (tree_of 1) (tree_of 9) ∷ [];
-  pair = pair (tree_of 2) (tree_of 1);
-  after = [];
-  array = refl;
-  good = refl;
-  asks = record { tree = tree_of 2; number = tree_of 1; count = 1; parts = refl; counted = refl; item = refl };
+  limit = greatest_total;
+  trees = pair (tree_of 1) (tree_of 9) ∷ pair (tree_of 2) (tree_of 1) ∷ [];
+  inside = refl;
+  among = record {
+    before = pair (tree_of 1) (tree_of 9) ∷ [];
+    pair = pair (tree_of 2) (tree_of 1);
+    after = [];
+    parts = refl;
+    good = refl;
+    asks = record { tree = tree_of 2; number = tree_of 1; count = 1; parts = refl; counted = refl; item = refl };
+  };
 }
+
+-- ---- limits
+
+-- the object of a limit and pairs
+abbrev limited : Data → List Data → Data
+limited limit ds = object (member limit_name limit (member pairs_name (list ds) no_members))
+
+array_has_the_greatest : limit_of (list []) ≡ greatest_total
+array_has_the_greatest = refl
+
+limit_is_read : opened (limited (tree_of 5) (null ∷ [])) ≡ Ok (5, null ∷ [])
+limit_is_read = refl
+
+-- the lesser of both limits holds
+lesser_limit : fault 9 has_item (limited (tree_of 5) (pair (tree_of 1) (tree_of 6) ∷ [])) ≡ Some (TooMany 0)
+unfolding first_fault
+lesser_limit = refl
+
+lesser_given : fault 5 has_item (limited (tree_of 9) (pair (tree_of 1) (tree_of 6) ∷ [])) ≡ Some (TooMany 0)
+unfolding first_fault
+lesser_given = refl
+
+-- a bad limit is told before a pair is judged
+negative_limit : fault 9 has_item (limited (number (negative (ℤ.negsuc 0))) (null ∷ [])) ≡ Some BadLimit
+negative_limit = refl
+
+no_limit : fault 9 has_item (object (member pairs_name (list []) no_members)) ≡ Some BadLimit
+no_limit = refl
+
+-- and after a member that is missing, or one too many
+no_pairs : fault 9 has_item (object (member limit_name (tree_of 1) no_members)) ≡ Some NotAnArray
+no_pairs = refl
+
+third_member : fault 9 has_item (object (member pairs_name (list []) (member (codes "x") null no_members))) ≡ Some NotAnArray
+third_member = refl
+
+written_without_limit : written greatest_total (list []) ≡ list []
+written_without_limit = refl
+
+written_with_limit : written 0 (list []) ≡ limited (tree_of 0) []
+written_with_limit = refl
 
 -- ---- readings and trees
 
@@ -106,7 +153,7 @@ one_pair : IsPair reads (pair (tree_of 7) (tree_of 2)) (7, 2)
 one_pair = record { tree = tree_of 7; number = tree_of 2; parts = refl; item = refl; count = refl }
 
 reading : IsReading reads (list (pair (tree_of 7) (tree_of 2) ∷ [])) ((7, 2) ∷ [])
-reading = record { trees = pair (tree_of 7) (tree_of 2) ∷ []; array = refl; each = (one_pair, tt) }
+reading = record { limit = greatest_total; trees = pair (tree_of 7) (tree_of 2) ∷ []; inside = refl; each = (one_pair, tt) }
 
 -- equal items add up, and a pair with the count 0 adds nothing
 read_in_turn : add_all same [] ((7, 2) ∷ (8, 0) ∷ (7, 1) ∷ []) ≡ 7 ∷ 7 ∷ 7 ∷ []

@@ -1,11 +1,13 @@
 -- Why a tree isn't read as a bag. Pairs are numbered from 0.
-use Rattle.std.specs.Prelude.{◌≡◌, ℕ, ◌+◌, nat_lt, if◌then◌else◌, Bool, true, List, [], ◌∷◌, ◌++◌, Option, Some, None, option_map, option_and_then, unwrap_or}
+use Rattle.std.specs.Prelude.{◌≡◌, ℕ, ◌+◌, ◌&&◌, ◌||◌, nat_lt, min, if◌then◌else◌, Bool, true, List, [], ◌∷◌, ◌++◌, Option, Some, None, option_map, option_and_then, unwrap_or, Result, Ok, Err, codes}
 use Rattle.std.specs.Option.{option_or}
-use Rattle.serde_json.specs.Data.{Data, Items, no_items, item}
-use Rattle.serde_json.specs.Find.{as_array}
-use Rattle.hashbag_core.specs.JsonItems.{u64_of}
+use Rattle.std.specs.Str.{bytes_eq}
+use Rattle.serde_json.specs.Data.{Data, null, boolean, number, string, array, object, Items, no_items, item, Members, no_members, member}
+use Rattle.serde_json.specs.Find.{as_array, get_member}
+use Rattle.hashbag_core.specs.JsonItems.{u64_of, u64_item}
+use Rattle.hashbag_core.specs.Occurrences.{greatest_total}
 use Rattle.hashbag_core.specs.declared.json.JsonError.{JsonError}
-use Rattle.hashbag_core.specs.declared.json.JsonError.TheVariants.{NotAnArray, NotAPair, BadCount, BadItem, TooMany}
+use Rattle.hashbag_core.specs.declared.json.JsonError.TheVariants.{NotAnArray, NotAPair, BadCount, BadItem, TooMany, BadLimit}
 
 -- the trees in an array, none where a tree is no array
 abbrev pub list_of : Items → List Data
@@ -14,6 +16,54 @@ list_of (item d ds) = d ∷ list_of ds
 
 abbrev pub array_of : Data → Option (List Data)
 array_of d = option_map list_of (as_array d)
+
+-- ---- the limit of a tree, and the trees of its pairs
+
+-- the names of the two members that an object has
+abbrev pub limit_name : List ℕ
+limit_name = codes "limit"
+
+abbrev pub pairs_name : List ℕ
+pairs_name = codes "pairs"
+
+-- each member has one of the two names
+abbrev pub has_no_other : Members → Bool
+has_no_other no_members = true
+has_no_other (member name d ms) = (bytes_eq name limit_name || bytes_eq name pairs_name) && has_no_other ms
+
+-- the member `pairs`, where it is an array and no member has a third name
+abbrev pub pairs_in : Members → Option (List Data)
+pairs_in ms = if has_no_other ms then option_and_then array_of (get_member pairs_name ms) else None
+
+-- the member `limit`, where it is a whole number from 0 to `usize::MAX`
+abbrev pub limit_in : Members → Option ℕ
+limit_in ms = option_and_then u64_item (get_member limit_name ms)
+
+-- the pairs are asked for before the limit
+abbrev pub opened_object : Option (List Data) → Option ℕ → Result (ℕ × List Data) JsonError
+opened_object None limit = Err NotAnArray
+opened_object (Some ds) None = Err BadLimit
+opened_object (Some ds) (Some limit) = Ok (limit, ds)
+
+-- the limit of a tree and the trees of its pairs, or why it is refused before any pair is judged: an array has the greatest limit
+-- and its own trees, and an object names both
+abbrev pub opened : Data → Result (ℕ × List Data) JsonError
+opened null = Err NotAnArray
+opened (boolean b) = Err NotAnArray
+opened (number n) = Err NotAnArray
+opened (string s) = Err NotAnArray
+opened (array ds) = Ok (greatest_total, list_of ds)
+opened (object ms) = opened_object (pairs_in ms) (limit_in ms)
+
+abbrev pub limit_opened : Result (ℕ × List Data) JsonError → ℕ
+limit_opened (Ok p) = p.0
+limit_opened (Err e) = 0
+
+-- the limit of a tree that isn't refused so
+abbrev pub limit_of : Data → ℕ
+limit_of d = limit_opened (opened d)
+
+-- ---- pairs
 
 -- the two trees of an array of exactly two
 abbrev pub two_of : List Data → Option (Data × Data)
@@ -55,20 +105,29 @@ module _ (end : ℕ) (has_item : Data → Bool) where
   first_fault i total [] = None
   first_fault i total (d ∷ ds) = option_or (pair_fault i total (pair_of d)) (first_fault (i + 1) (total + unwrap_or (pair_count d) 0) ds)
 
-  abbrev pub array_fault : Option (List Data) → Option JsonError
-  array_fault None = Some NotAnArray
-  array_fault (Some ds) = first_fault 0 0 ds
-
-  -- the first fault of a tree, none where it is read
-  abbrev pub fault : Data → Option JsonError
-  fault d = array_fault (array_of d)
-
-  -- memory may end a reading of d: at a pair with a count and an item, so that no more than the total can be its fault, and no
-  -- pair before it has one
-  pub record MayEnd (d : Data) : Type 0 where
+  -- memory may end a reading of these pairs: at one with a count and an item, so that no more than the total can be its fault, and
+  -- no pair before it has one
+  pub record MayEndAmong (ds : List Data) : Type 0 where
     pub before : List Data
     pub pair : Data
     pub after : List Data
-    pub array : array_of d ≡ Some (before ++ pair ∷ after)
+    pub parts : ds ≡ before ++ pair ∷ after
     pub good : first_fault 0 0 before ≡ None
     pub asks : IsCountedItem has_item pair
+
+-- `most` is the greatest limit that the bag may have: a tree with a greater one is read under `most`
+module _ (most : ℕ) (has_item : Data → Bool) where
+  abbrev pub opened_fault : Result (ℕ × List Data) JsonError → Option JsonError
+  opened_fault (Err e) = Some e
+  opened_fault (Ok p) = first_fault (min most p.0) has_item 0 0 p.1
+
+  -- the first fault of a tree, none where it is read
+  abbrev pub fault : Data → Option JsonError
+  fault d = opened_fault (opened d)
+
+  -- memory may end a reading of d
+  pub record MayEnd (d : Data) : Type 0 where
+    pub limit : ℕ
+    pub trees : List Data
+    pub inside : opened d ≡ Ok (limit, trees)
+    pub among : MayEndAmong (min most limit) has_item trees

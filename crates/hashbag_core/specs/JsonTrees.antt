@@ -1,14 +1,16 @@
 -- Bags as JSON trees: which pairs a tree is read as, and which tree is written.
-use Rattle.std.specs.Prelude.{◌≡◌, ℕ, Bool, List, [], ◌∷◌, map, Some}
+use Rattle.std.specs.Prelude.{◌≡◌, ◌↔◌, ℕ, ◌==◌, if◌then◌else◌, Bool, true, List, [], ◌∷◌, map, All, Some, Ok}
 use Rattle.std.specs.Borrow.{Bor}
 use Rattle.std.specs.List.{AllZip}
 use Rattle.std.specs.List.Sorted.{IsStrictlySortedBy}
 use Rattle.std.specs.Map.{keys_of}
 use Rattle.std.specs.declared.cmp.Ordering.{Ordering}
-use Rattle.serde_json.specs.Data.{Data, number, unsigned, array}
+use Rattle.serde_json.specs.Data.{Data, number, unsigned, array, object, member, no_members}
 use Rattle.serde_json.specs.View.{items_of}
-use Rattle.hashbag_core.specs.JsonFaults.{array_of, pair_of}
+use Rattle.hashbag_core.specs.JsonFaults.{limit_name, pairs_name, opened, pair_of}
+use Rattle.hashbag_core.specs.Equality.{same_counts}
 use Rattle.hashbag_core.specs.JsonItems.{u64_of}
+use Rattle.hashbag_core.specs.Occurrences.{greatest_total}
 use Rattle.hashbag_core.specs.Walks.{IsSetWalk}
 
 -- ---- what a tree is read as
@@ -22,10 +24,11 @@ module _ {T : Type 0} (reads : Data → T → Type 0) where
     pub item : reads tree p.0
     pub count : u64_of number ≡ Some p.1
 
-  -- d is an array of these pairs, in this order
+  -- d has a limit and these pairs, in this order
   pub record IsReading (d : Data) (pairs : List (T × ℕ)) : Type 0 where
+    pub limit : ℕ
     pub trees : List Data
-    pub array : array_of d ≡ Some trees
+    pub inside : opened d ≡ Ok (limit, trees)
     pub each : AllZip IsPair trees pairs
 
 -- ---- which tree is written
@@ -38,9 +41,25 @@ pair_tree tree_of e = array (items_of (tree_of e.0 ∷ number (unsigned e.1) ∷
 abbrev pub seen : {T : Type 0} → Bor T × ℕ → T × ℕ
 seen e = (e.0.now, e.1)
 
--- d is the tree of X: the array of the pairs of a set walk of X, items rising
-pub record IsTree {T : Type 0} (eq : T → T → Bool) (cmp : T → T → Ordering) (tree_of : T → Data) (X : List T) (d : Data) : Type 0 where
-  pub pairs : List (T × ℕ)
-  pub walk : IsSetWalk eq X pairs
-  pub rising : IsStrictlySortedBy cmp (keys_of pairs)
-  pub is : d ≡ array (items_of (map (pair_tree tree_of) pairs))
+-- the tree of a bag with the limit `most` whose pairs are the array p: that array where `most` is the greatest limit, else an
+-- object with the limit and the array
+abbrev pub written : ℕ → Data → Data
+written most p = if most == greatest_total then p else object (member limit_name (number (unsigned most)) (member pairs_name p no_members))
+
+module _ {T : Type 0} (eq : T → T → Bool) (cmp : T → T → Ordering) (tree_of : T → Data) where
+  -- d is the array of the pairs of a set walk of X, items rising
+  pub record IsTree (X : List T) (d : Data) : Type 0 where
+    pub pairs : List (T × ℕ)
+    pub walk : IsSetWalk eq X pairs
+    pub rising : IsStrictlySortedBy cmp (keys_of pairs)
+    pub is : d ≡ array (items_of (map (pair_tree tree_of) pairs))
+
+  -- d is the tree of a bag that means X and has the limit `most`
+  pub record IsBagTree (X : List T) (most : ℕ) (d : Data) : Type 0 where
+    pub pairs : Data
+    pub array : IsTree X pairs
+    pub is : d ≡ written most pairs
+
+  -- d is the tree of a bag exactly where that bag has the counts of X and the limit `most`
+  abbrev pub TellsApart : (T → Type 0) → List T → ℕ → Data → Type 0
+  TellsApart is_item X most d = (Y : List T) (n : ℕ) (e : Data) → All is_item Y → IsBagTree Y n e → ((same_counts eq X Y ≡ true) × (most ≡ n)) ↔ (d ≡ e)

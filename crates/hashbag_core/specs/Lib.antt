@@ -6,6 +6,7 @@ pub mod EqualityLaws
 pub mod Examples
 pub mod Extends
 pub mod Held
+pub mod Inserts
 pub mod Iter
 pub mod JoinExamples
 pub mod Joins

@@ -9,6 +9,7 @@ ghost use Rattle.hashbag_table.specs.Tables.{limit, room, values, IsLeast, IsPac
 ghost use Rattle.hashbag_core.specs.Bag.{occurrences, limited};
 ghost use Rattle.hashbag_core.specs.Occurrences.{greatest_total, count, counted, stored, add, less, put, instance_or_itself, distinct_count, IsBag, SameCounts};
 ghost use Rattle.hashbag_core.specs.Extends.{Refuses};
+ghost use Rattle.hashbag_core.specs.Inserts.{Inserts, IsRefused};
 ghost use Rattle.hashbag_core.specs.Held.{no_slots, cleared, AreHeld, Recounts, Restores};
 ghost use Rattle.hashbag_core.specs.Retain.{IsRetained};
 ghost use Rattle.hashbag_core.specs.Walks.{IsSetWalkOf};
@@ -321,10 +322,7 @@ impl<T: Eq + Hash + Drop, S: BuildHasher + Drop> HashBag<T, S> {
     #[inline(always)]
     pub fn insert(&mut self, value: T) -> Result<usize, BagError>
         ensures before { IfOk result (λ before. before ≡ count T.eq value self.old.items) }
-        ensures added { OnOk result (IsBagOf T.eq self.old (add T.eq value 1 self.old.items) self.new) }
-        ensures len { OnOk result (length self.new.items ≡ length self.old.items + 1) }
-        ensures set_len { OnOk result (distinct_count T.eq self.new.items ≤ distinct_count T.eq self.old.items + 1) }
-        ensures same_set { 0 < count T.eq value self.old.items → distinct_count T.eq self.new.items ≡ distinct_count T.eq self.old.items }
+        ensures inserted { OnOk result (Inserts T.eq value 1 self.old self.new) }
 
         // The total is tested first; then only memory can be refused, and only to a value that is absent where there is no room.
         ensures too_many { self.old.most < length self.old.items + 1 → result ≡ Err BagError.TooMany }
@@ -332,14 +330,6 @@ impl<T: Eq + Hash + Drop, S: BuildHasher + Drop> HashBag<T, S> {
         ensures memory { length self.old.items + 1 ≤ self.old.most → OnErr result (result ≡ Err BagError.Memory) }
         ensures err { OnErr result (self.new ≡ self.old) }
         ensures takes { length self.old.items + 1 ≤ self.old.most → 0 < room self.old.tables → IsOk result }
-
-        // What becomes of the slots: a value that is there is changed in its own.
-        ensures arrives { OnOk result (count T.eq value self.old.items ≡ 0 → Arrives self.old.tables self.new.tables) }
-        ensures slot { OnOk result (0 < count T.eq value self.old.items → Recounts T.eq value (count T.eq value self.old.items + 1) self.old.tables self.new.tables) }
-        ensures slots { OnOk result (0 < room self.old.tables → length self.new.tables.newer ≡ length self.old.tables.newer) }
-        ensures room { OnOk result (0 < room self.old.tables → room self.old.tables ≤ room self.new.tables + 1) }
-        ensures same_slots { IfOk result (λ before. 0 < before → length self.new.tables.newer ≡ length self.old.tables.newer) }
-        ensures same_room { IfOk result (λ before. 0 < before → room self.old.tables ≤ room self.new.tables) }
     {
         self.insert_many(value, 1)
     }
@@ -355,11 +345,7 @@ impl<T: Eq + Hash + Drop, S: BuildHasher + Drop> HashBag<T, S> {
     #[inline(always)]
     pub fn insert_many(&mut self, value: T, n: usize) -> Result<usize, BagError>
         ensures before { IfOk result (λ before. before ≡ count T.eq value self.old.items) }
-        ensures added { OnOk result (IsBagOf T.eq self.old (add T.eq value n self.old.items) self.new) }
-        ensures none { n ≡ 0 → self.new ≡ self.old }
-        ensures len { OnOk result (length self.new.items ≡ length self.old.items + n) }
-        ensures set_len { OnOk result (distinct_count T.eq self.new.items ≤ distinct_count T.eq self.old.items + 1) }
-        ensures same_set { 0 < count T.eq value self.old.items → distinct_count T.eq self.new.items ≡ distinct_count T.eq self.old.items }
+        ensures inserted { OnOk result (Inserts T.eq value n self.old self.new) }
 
         // The total is tested first; then only memory can be refused, and only to some occurrences of a value that is absent where
         // there is no room.
@@ -368,14 +354,6 @@ impl<T: Eq + Hash + Drop, S: BuildHasher + Drop> HashBag<T, S> {
         ensures memory { length self.old.items + n ≤ self.old.most → OnErr result (result ≡ Err BagError.Memory) }
         ensures err { OnErr result (self.new ≡ self.old) }
         ensures takes { length self.old.items + n ≤ self.old.most → 0 < room self.old.tables → IsOk result }
-
-        // What becomes of the slots: a value that is there is changed in its own.
-        ensures arrives { OnOk result (0 < n → count T.eq value self.old.items ≡ 0 → Arrives self.old.tables self.new.tables) }
-        ensures slot { OnOk result (0 < n → 0 < count T.eq value self.old.items → Recounts T.eq value (count T.eq value self.old.items + n) self.old.tables self.new.tables) }
-        ensures slots { OnOk result (0 < room self.old.tables → length self.new.tables.newer ≡ length self.old.tables.newer) }
-        ensures room { OnOk result (0 < room self.old.tables → room self.old.tables ≤ room self.new.tables + 1) }
-        ensures same_slots { IfOk result (λ before. 0 < before → length self.new.tables.newer ≡ length self.old.tables.newer) }
-        ensures same_room { IfOk result (λ before. 0 < before → room self.old.tables ≤ room self.new.tables) }
     {
         if n > self.most - self.len {
             return Err(BagError::TooMany);
@@ -669,10 +647,9 @@ impl<T: Eq + Hash + Drop, S: BuildHasher + Drop> HashBag<T, S> {
 
     // Adds occurrences of a value if the total can have them.
     pub(crate) fn insert_within(&mut self, value: T, n: usize) -> Result<(), BagError>
-        ensures added { OnOk result (IsBagOf T.eq self.old (add T.eq value n self.old.items) self.new) }
-        ensures refused { IfErr result (Refuses T.eq self.old.most self.old.items value n) }
+        ensures inserted { OnOk result (Inserts T.eq value n self.old self.new) }
+        ensures refused { IfErr result (IsRefused T.eq self.old value n) }
         ensures err { OnErr result (self.new ≡ self.old) }
-        ensures full { IfErr result (λ e. e ≡ BagError.Memory → room self.new.tables ≡ 0) }
     {
         self.insert_many(value, n)?;
         Ok(())

@@ -1,23 +1,24 @@
-//! Bags as JSON trees: an array of pairs, each of an item and its count.
-ghost use Rattle.std.specs.Prelude.{◌≡◌, ◌≢◌, ◌↔◌, ℕ, List, [], length, map, All, Bool, true, false, None, option_map, IfOk, OnOk, IfErr};
+//! Bags as JSON trees: an array of pairs, each of an item and its count, and beside it the limit where one was set.
+ghost use Rattle.std.specs.Prelude.{◌≡◌, ◌≢◌, ◌↔◌, ℕ, ◌≤◌, List, [], length, map, min, All, Bool, true, false, None, Some, option_map, IfOk, OnOk, IfErr};
+ghost use Rattle.std.specs.List.{AllZip};
 ghost use Rattle.std.specs.List.Sorted.{IsStrictlySortedBy};
 ghost use Rattle.std.specs.Map.{keys_of};
+ghost use Rattle.std.specs.Result.{result_map_both};
 ghost use Rattle.serde_json.specs.Data.{Data};
-ghost use Rattle.serde_json.specs.View.{view};
+ghost use Rattle.serde_json.specs.View.{view, members_view};
 ghost use Rattle.serde_json.specs.declared.value.Value.{Value};
 ghost use Rattle.serde_json.specs.Written.{has_float};
-ghost use Rattle.hashbag_core.specs.Bag.{Means, IsBagOf};
-ghost use Rattle.hashbag_core.specs.Equality.{same_counts};
 ghost use Rattle.hashbag_core.specs.Extends.{add_all};
-ghost use Rattle.hashbag_core.specs.JsonFaults.{pair_of, pair_fault, fault, IsCountedItem, MayEnd};
-ghost use Rattle.hashbag_core.specs.JsonTrees.{IsPair, IsReading, IsTree, pair_tree, seen};
-ghost use Rattle.hashbag_core.specs.Occurrences.{greatest_total, add, IsBag, IsOneInstanceEach, SameCounts};
+ghost use Rattle.hashbag_core.specs.Inserts.{Inserts, IsMadeOf};
+ghost use Rattle.hashbag_core.specs.JsonFaults.{array_of, has_no_other, opened, limit_of, pair_of, pair_fault, first_fault, fault, IsCountedItem, MayEnd, MayEndAmong};
+ghost use Rattle.hashbag_core.specs.JsonTrees.{IsPair, IsReading, IsTree, IsBagTree, TellsApart, pair_tree, seen, written};
+ghost use Rattle.hashbag_core.specs.Occurrences.{greatest_total, IsBag, IsOneInstanceEach, SameCounts};
 ghost use Rattle.hashbag_core.specs.Walks.{IsSetWalkOf};
 
 mod items;
 
 use crate::bag::{BagError, HashBag};
-use serde_json::Value;
+use serde_json::{Map, Value};
 use std::alloc::{AllocError, Global};
 use std::hash::{BuildHasher, Hash};
 use thiserror::Error;
@@ -59,7 +60,8 @@ impl From<AllocError> for ItemError {
 /// Why a tree was not read as a bag. Pairs are numbered from 0.
 #[derive(Clone, Copy, Debug, PartialEq, Eq, Error)]
 pub enum JsonError {
-    /// The tree is no array.
+    /// The tree is no array and no object, or an object without a member `pairs` that is an array, or one with a member besides
+    /// `limit` and `pairs`.
     #[error("not an array")]
     NotAnArray,
     /// The pair is no array of exactly two.
@@ -71,16 +73,19 @@ pub enum JsonError {
     /// The first part of the pair is no item's tree.
     #[error("pair {0}: bad item")]
     BadItem(usize),
-    /// The total would pass `usize::MAX` with the pair.
+    /// The total would pass the limit with the pair.
     #[error("pair {0}: total past its end")]
     TooMany(usize),
     /// Memory was refused.
     #[error("no memory")]
     Memory,
+    /// The member `limit` of an object is absent, or no whole number from 0 to `usize::MAX`. A float is none, 1.0 neither.
+    #[error("bad limit")]
+    BadLimit,
 }
 
 impl JsonError {
-    /// The number by which programs report the error: 3 to 8, in the order of the names.
+    /// The number by which programs report the error: 3 to 8 in the order of the names, and 10 for `BadLimit`.
     pub fn number(&self) -> u8
         ensures not_an_array { self.now ≡ JsonError.NotAnArray → result ≡ 3 }
         ensures not_a_pair { (i : ℕ) → self.now ≡ JsonError.NotAPair i → result ≡ 4 }
@@ -88,6 +93,7 @@ impl JsonError {
         ensures bad_item { (i : ℕ) → self.now ≡ JsonError.BadItem i → result ≡ 6 }
         ensures too_many { (i : ℕ) → self.now ≡ JsonError.TooMany i → result ≡ 7 }
         ensures memory { self.now ≡ JsonError.Memory → result ≡ 8 }
+        ensures bad_limit { self.now ≡ JsonError.BadLimit → result ≡ 10 }
     {
         match self {
             JsonError::NotAnArray => 3,
@@ -96,6 +102,7 @@ impl JsonError {
             JsonError::BadItem(_) => 6,
             JsonError::TooMany(_) => 7,
             JsonError::Memory => 8,
+            JsonError::BadLimit => 10,
         }
     }
 }
@@ -157,6 +164,41 @@ pub trait JsonItem: Eq + Sized {
     ghost no_float: { (x : Self) → is_item x → has_float (tree_of x) ≡ false };
 }
 
+// Whether no member has another name than `limit` or `pairs`.
+fn has_two_names(members: &Map<String, Value>) -> bool
+    ensures { result ≡ has_no_other (members_view members.now.entries) }
+{
+    for (name, _) in members.iter() {
+        let name = name.as_str();
+        if name != "limit" && name != "pairs" {
+            return false;
+        }
+    }
+    true
+}
+
+// The limit of a tree and its pairs.
+fn limit_and_pairs(tree: &Value) -> Result<(usize, &Vec<Value>), JsonError>
+    ensures { result_map_both (λ p. (p.0, map view p.1.now.items)) (λ e. e) result ≡ opened (view tree.now) }
+{
+    if let Some(pairs) = tree.as_array() {
+        return Ok((usize::MAX, pairs));
+    }
+    let Some(members) = tree.as_object() else {
+        return Err(JsonError::NotAnArray);
+    };
+    if !has_two_names(members) {
+        return Err(JsonError::NotAnArray);
+    }
+    let Some(pairs) = tree.get("pairs").and_then(Value::as_array) else {
+        return Err(JsonError::NotAnArray);
+    };
+    let Some(limit) = tree.get("limit").and_then(Value::as_u64) else {
+        return Err(JsonError::BadLimit);
+    };
+    Ok((limit as usize, pairs))
+}
+
 // The two parts of an array of exactly two.
 fn parts_of(pair: &Value) -> Option<(&Value, &Value)>
     ensures { option_map (λ p. (view p.0.now, view p.1.now)) result ≡ pair_of (view pair.now) }
@@ -176,7 +218,7 @@ fn read_pair<T: JsonItem + Hash + Drop, S: BuildHasher + Drop>(
     number: usize,
 ) -> Result<(), JsonError>
     ensures no_fault { OnOk result (pair_fault bag.old.most T.has_item number (length bag.old.items) (pair_of (view pair.now)) ≡ None) }
-    ensures read { OnOk result ((p : T × ℕ) × IsPair T.reads (view pair.now) p × IsBagOf T.eq bag.old (add T.eq p.0 p.1 bag.old.items) bag.new) }
+    ensures read { OnOk result ((p : T × ℕ) × IsPair T.reads (view pair.now) p × Inserts T.eq p.0 p.1 bag.old bag.new) }
     ensures fault { IfErr result (λ e. e ≢ JsonError.Memory → pair_fault bag.old.most T.has_item number (length bag.old.items) (pair_of (view pair.now)) ≡ Some e) }
     ensures memory { IfErr result (λ e. e ≡ JsonError.Memory → IsCountedItem T.has_item (view pair.now)) }
 {
@@ -211,13 +253,49 @@ fn pair_value<T: JsonItem>(alloc: Global, item: &T, count: usize) -> Result<Valu
     Ok(Value::Array(pair))
 }
 
+// The tree of a bag whose pairs are an array, and which has that limit.
+fn with_limit(alloc: Global, limit: usize, pairs: Value) -> Result<Value, BagError>
+    ensures tree { IfOk result (λ v. view v ≡ written limit (view pairs)) }
+    ensures memory { IfErr result (λ e. e ≡ BagError.Memory) }
+{
+    if limit == usize::MAX {
+        return Ok(pairs);
+    }
+    let mut members = Map::new(alloc);
+    serde_json::put(&mut members, alloc, "limit", Value::from(limit))?;
+    serde_json::put(&mut members, alloc, "pairs", pairs)?;
+    Ok(Value::Object(members))
+}
+
 impl<T: JsonItem + Hash + Drop, S: BuildHasher + Drop> HashBag<T, S> {
-    /// The bag of a tree, under the default state, with the limit `most`: its pairs are read and inserted in turn.
+    // The bag of an array's pairs, under the default state, with the limit `most`.
+    fn from_pairs(alloc: Global, most: usize, list: &Vec<Value>) -> Result<HashBag<T, S>, JsonError>
+    where
+        S: Default,
+        ensures no_fault { OnOk result (first_fault most T.has_item 0 0 (map view list.now.items) ≡ None) }
+        ensures read { IfOk result (λ bag. (pairs : List (T × ℕ)) × AllZip (IsPair T.reads) (map view list.now.items) pairs × IsMadeOf T.eq pairs bag) }
+        ensures limit { IfOk result (λ bag. bag.most ≡ most) }
+        ensures bag { IfOk result (λ bag. IsBag T.eq bag.most bag.items) }
+        ensures hasher { IfOk result (λ bag. S.is_default bag.hasher) }
+        ensures fault { IfErr result (λ e. e ≢ JsonError.Memory → first_fault most T.has_item 0 0 (map view list.now.items) ≡ Some e) }
+        ensures memory { IfErr result (λ e. e ≡ JsonError.Memory → MayEndAmong most T.has_item (map view list.now.items)) }
+    {
+        let mut bag = HashBag::with_limit(alloc, S::default(), most);
+        for (number, pair) in list.iter().enumerate() {
+            read_pair(alloc, &mut bag, pair, number)?;
+        }
+        Ok(bag)
+    }
+
+    /// The bag of a tree, under the default state, with the limit of the tree or `most`, whichever is less: its pairs are read
+    /// and inserted in turn. An array of pairs has the limit `usize::MAX`; an object has a member `limit` and a member `pairs`,
+    /// which is such an array.
     ///
-    /// Of each pair it checks that it is an array of two, then its count, then its item, then that the total stays within
-    /// `most`, and the first pair with a fault decides. A pair with the count 0 is checked and adds nothing. Equal items add up,
-    /// and the first instance stays. It answers `Memory` where memory is refused, which it asks for at no pair after the
-    /// first with a fault, and at that one for its item alone. Where it is refused there is no bag.
+    /// A tree that is neither is `NotAnArray`, and an object with a bad limit `BadLimit`. Of each pair it checks then that it is
+    /// an array of two, then its count, then its item, then that the total stays within the limit, and the first pair with a
+    /// fault decides. A pair with the count 0 is checked and adds nothing. Equal items add up, and the first instance stays. It
+    /// answers `Memory` where memory is refused, which it asks for at no pair after the first with a fault, and at that one
+    /// for its item alone. Where it is refused there is no bag.
     pub fn from_value_within(
         alloc: Global,
         most: usize,
@@ -226,30 +304,26 @@ impl<T: JsonItem + Hash + Drop, S: BuildHasher + Drop> HashBag<T, S> {
     where
         S: Default,
         ensures no_fault { OnOk result (fault most T.has_item (view tree.now) ≡ None) }
-        ensures read { IfOk result (λ bag. (pairs : List (T × ℕ)) × IsReading T.reads (view tree.now) pairs × Means bag (add_all T.eq [] pairs)) }
-        ensures limit { IfOk result (λ bag. bag.most ≡ most) }
+        ensures read { IfOk result (λ bag. (pairs : List (T × ℕ)) × IsReading T.reads (view tree.now) pairs × IsMadeOf T.eq pairs bag) }
+        ensures limit { IfOk result (λ bag. bag.most ≡ min most (limit_of (view tree.now))) }
         ensures bag { IfOk result (λ bag. IsBag T.eq bag.most bag.items) }
         ensures hasher { IfOk result (λ bag. S.is_default bag.hasher) }
         ensures fault { IfErr result (λ e. e ≢ JsonError.Memory → fault most T.has_item (view tree.now) ≡ Some e) }
         ensures memory { IfErr result (λ e. e ≡ JsonError.Memory → MayEnd most T.has_item (view tree.now)) }
     {
-        let Some(list) = tree.as_array() else {
-            return Err(JsonError::NotAnArray);
-        };
-        let mut bag = HashBag::with_limit(alloc, S::default(), most);
-        for (number, pair) in list.iter().enumerate() {
-            read_pair(alloc, &mut bag, pair, number)?;
+        match limit_and_pairs(tree) {
+            Ok((limit, pairs)) => HashBag::from_pairs(alloc, most.min(limit), pairs),
+            Err(error) => Err(error),
         }
-        Ok(bag)
     }
 
-    /// The bag of a tree, under the default state, with the limit `usize::MAX`: [`HashBag::from_value_within`] with that.
+    /// The bag of a tree, under the default state, with the limit of the tree: [`HashBag::from_value_within`] with `usize::MAX`.
     pub fn from_value(alloc: Global, tree: &Value) -> Result<HashBag<T, S>, JsonError>
     where
         S: Default,
         ensures no_fault { OnOk result (fault greatest_total T.has_item (view tree.now) ≡ None) }
-        ensures read { IfOk result (λ bag. (pairs : List (T × ℕ)) × IsReading T.reads (view tree.now) pairs × Means bag (add_all T.eq [] pairs)) }
-        ensures limit { IfOk result (λ bag. bag.most ≡ greatest_total) }
+        ensures read { IfOk result (λ bag. (pairs : List (T × ℕ)) × IsReading T.reads (view tree.now) pairs × IsMadeOf T.eq pairs bag) }
+        ensures limit { IfOk result (λ bag. bag.most ≡ limit_of (view tree.now)) }
         ensures bag { IfOk result (λ bag. IsBag T.eq bag.most bag.items) }
         ensures hasher { IfOk result (λ bag. S.is_default bag.hasher) }
         ensures fault { IfErr result (λ e. e ≢ JsonError.Memory → fault greatest_total T.has_item (view tree.now) ≡ Some e) }
@@ -276,24 +350,13 @@ impl<T: JsonItem + Hash + Drop, S: BuildHasher + Drop> HashBag<T, S> {
         Ok(pairs)
     }
 
-    /// The tree of the bag: an array with an array `[item, count]` for each distinct value, items rising.
-    ///
-    /// Equal bags have equal trees, whatever their instances, states and history. What is written is read back as an equal bag,
-    /// where there is memory for it. It answers `Memory` where memory is refused.
-    pub fn to_value(&self, alloc: Global) -> Result<Value, BagError>
+    // The array of pairs, items rising.
+    fn pairs_value(&self, alloc: Global) -> Result<Value, BagError>
     where
         T: Ord,
-        // Of every list with the counts of the bag.
-        ensures tree { IfOk result (λ v. (Y : List T) → IsOneInstanceEach T.eq Y → SameCounts T.eq Y self.now.items → IsTree T.eq T.cmp T.tree_of Y (view v)) }
+        ensures tree { IfOk result (λ v. IsTree T.eq T.cmp T.tree_of self.now.items (view v)) }
         ensures items { OnOk result (All T.is_item self.now.items) }
-
-        // The tree has no fault, and is read as a list with the counts of the bag.
-        ensures no_fault { IfOk result (λ v. fault greatest_total T.has_item (view v) ≡ None) }
-        ensures counts { IfOk result (λ v. (pairs : List (T × ℕ)) → IsReading T.reads (view v) pairs → SameCounts T.eq (add_all T.eq [] pairs) self.now.items) }
-
-        // A bag equals this one exactly if its tree is this one.
-        ensures same { IfOk result (λ v. (Y : List T) (d : Data) → All T.is_item Y → IsTree T.eq T.cmp T.tree_of Y d → (same_counts T.eq self.now.items Y ≡ true) ↔ (view v ≡ d)) }
-        ensures no_float { IfOk result (λ v. has_float (view v) ≡ false) }
+        ensures no_fault { IfOk result (λ v. (ds : List Data) (n : ℕ) → array_of (view v) ≡ Some ds → length self.now.items ≤ n → first_fault n T.has_item 0 0 ds ≡ None) }
         ensures memory { IfErr result (λ e. e ≡ BagError.Memory) }
     {
         let pairs = self.sorted_pairs(alloc)?;
@@ -302,5 +365,31 @@ impl<T: JsonItem + Hash + Drop, S: BuildHasher + Drop> HashBag<T, S> {
             serde_json::push(&mut list, pair_value(alloc, item, count)?)?;
         }
         Ok(Value::Array(list))
+    }
+
+    /// The tree of the bag: an array with an array `[item, count]` for each distinct value, items rising. Where the limit is not
+    /// `usize::MAX`, it is an object with two members: `limit`, and `pairs`, which is that array.
+    ///
+    /// Equal bags with the same limit have equal trees, whatever their instances, states and history. What is written is read
+    /// back as an equal bag with the same limit, where there is memory for it. It answers `Memory` where memory is refused.
+    pub fn to_value(&self, alloc: Global) -> Result<Value, BagError>
+    where
+        T: Ord,
+        // Of every list with the counts of the bag.
+        ensures tree { IfOk result (λ v. (Y : List T) → IsOneInstanceEach T.eq Y → SameCounts T.eq Y self.now.items → IsBagTree T.eq T.cmp T.tree_of Y self.now.most (view v)) }
+        ensures items { OnOk result (All T.is_item self.now.items) }
+
+        // The tree has no fault, and is read as a list with the counts of the bag, with its limit.
+        ensures no_fault { IfOk result (λ v. fault greatest_total T.has_item (view v) ≡ None) }
+        ensures counts { IfOk result (λ v. (pairs : List (T × ℕ)) → IsReading T.reads (view v) pairs → SameCounts T.eq (add_all T.eq [] pairs) self.now.items) }
+        ensures limit { IfOk result (λ v. limit_of (view v) ≡ self.now.most) }
+
+        // A bag has the same counts and the same limit exactly if its tree is this one.
+        ensures same { IfOk result (λ v. TellsApart T.eq T.cmp T.tree_of T.is_item self.now.items self.now.most (view v)) }
+        ensures no_float { IfOk result (λ v. has_float (view v) ≡ false) }
+        ensures memory { IfErr result (λ e. e ≡ BagError.Memory) }
+    {
+        let pairs = self.pairs_value(alloc)?;
+        Ok(with_limit(alloc, self.limit(), pairs)?)
     }
 }

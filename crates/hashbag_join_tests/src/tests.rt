@@ -3,3 +3,4 @@
 mod hash_counts;
 mod joins;
 mod json;
+mod limits;

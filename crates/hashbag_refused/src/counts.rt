@@ -23,9 +23,6 @@ pub fn insert_two(
     before: usize,
     refusals: &mut Refusals,
 ) -> Result<bool, Wrong> {
-    if bag.len() >= usize::MAX - 1 {
-        return Err(Wrong("insert_many: the total before it"));
-    }
     let Some(answer) = refusals.answer(bag.insert_many(value, 2))? else {
         return Ok(false);
     };

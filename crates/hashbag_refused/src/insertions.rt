@@ -68,9 +68,6 @@ fn replace(
     before: usize,
     refusals: &mut Refusals,
 ) -> Result<bool, Wrong> {
-    if bag.len() == usize::MAX {
-        return Err(Wrong("replace: the total before it"));
-    }
     let Some(answer) = refusals.answer(bag.replace(value))? else {
         return Ok(false);
     };

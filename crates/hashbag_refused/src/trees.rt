@@ -23,21 +23,25 @@ fn written(
 ) -> Result<(), Wrong> {
     match refusals.answer(bag.to_value(alloc))? {
         Some(tree) => check(
-            tree.as_array().is_some_and(|pairs| pairs.len() == 2),
+            tree.get("pairs")
+                .and_then(Value::as_array)
+                .is_some_and(|pairs| pairs.len() == 2),
             "to_value: the pairs",
         ),
         None => Ok(()),
     }
 }
 
-/// A tree of texts is read, with equal ones in it, and the bag is written: each is done, or refused for memory.
+/// A tree of texts with a limit is read, with equal ones in it, and the bag is written: each is done, or refused for memory.
 pub fn trees(alloc: Global, refusals: &mut Refusals) -> Result<(), Wrong> {
-    let Some(tree) = tree_of(alloc, "[[\"b\",2],[\"a\",1],[\"b\",1]]", refusals) else {
+    let text = "{\"limit\":9,\"pairs\":[[\"b\",2],[\"a\",1],[\"b\",1]]}";
+    let Some(tree) = tree_of(alloc, text, refusals) else {
         return Ok(());
     };
     match HashBag::from_value(alloc, &tree) {
         Ok(bag) => {
             check(bag.len() == 4, "from_value: the total")?;
+            check(bag.limit() == 9, "from_value: the limit")?;
             written(alloc, &bag, refusals)
         }
         Err(error) => {

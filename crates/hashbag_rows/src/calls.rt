@@ -27,16 +27,11 @@ fn no_call(verb: &str) -> Result<String, Fail> {
     Err(Fail::new(format_args!("no such call: {verb}")))
 }
 
-// The bag leaves it to its caller to test the total before these calls.
-
 /// Inserts a value.
 pub fn insert<T: Eq + Hash + Drop, S: BuildHasher + Drop>(
     bag: &mut HashBag<T, S>,
     value: T,
 ) -> Result<usize, BagError> {
-    if bag.len() == usize::MAX {
-        return Err(BagError::TooMany);
-    }
     bag.insert(value)
 }
 
@@ -45,32 +40,22 @@ fn insert_many<S: BuildHasher + Drop>(
     value: u64,
     n: usize,
 ) -> Result<usize, BagError> {
-    if n > usize::MAX - bag.len() {
-        return Err(BagError::TooMany);
-    }
     bag.insert_many(value, n)
 }
 
-/// Replaces a value in a bag that is not full, and looks it up in that call alone.
-pub fn replace_at_once<T: Eq + Hash + Drop, S: BuildHasher + Drop>(
-    bag: &mut HashBag<T, S>,
-    value: T,
-) -> Result<usize, BagError> {
-    if bag.len() == usize::MAX {
-        return Err(BagError::TooMany);
-    }
-    bag.replace(value)
-}
-
-/// Replaces a value, in a full bag too.
+/// Replaces a value.
 pub fn replace<T: Eq + Hash + Drop, S: BuildHasher + Drop>(
     bag: &mut HashBag<T, S>,
     value: T,
 ) -> Result<usize, BagError> {
-    if bag.len().saturating_sub(bag.contains(&value)) == usize::MAX {
-        return Err(BagError::TooMany);
-    }
     bag.replace(value)
+}
+
+fn set_limit<S: BuildHasher + Drop>(
+    bag: &mut HashBag<u64, S>,
+    most: usize,
+) -> Result<(), BagError> {
+    bag.set_limit(most)
 }
 
 /// Takes one of a value out.
@@ -194,6 +179,15 @@ fn default_in<S: BuildHasher + Default + Drop>(alloc: Global, bag: &mut HashBag<
     *bag = HashBag::default_in(alloc);
 }
 
+// Puts an empty bag with that limit in the place of this one.
+fn with_limit<S: BuildHasher + Default + Drop>(
+    alloc: Global,
+    bag: &mut HashBag<u64, S>,
+    most: usize,
+) {
+    *bag = HashBag::with_limit(alloc, S::default(), most);
+}
+
 fn with_capacity<S: BuildHasher + Default + Drop>(
     alloc: Global,
     bag: &mut HashBag<u64, S>,
@@ -313,6 +307,7 @@ fn with_nothing<S: BuildHasher + Default + Drop>(
         "len" => debug_of(alloc, &bag.len()),
         "set_len" => debug_of(alloc, &bag.set_len()),
         "is_empty" => debug_of(alloc, &bag.is_empty()),
+        "limit" => debug_of(alloc, &bag.limit()),
         "capacity" => debug_of(alloc, &bag.capacity()),
         "tables" => debug_of(alloc, &tables(bag)),
         "iter.count" => debug_of(alloc, &bag.iter().count()),
@@ -343,6 +338,8 @@ fn with_number<S: BuildHasher + Default + Drop>(
         "entry" => debug_of(alloc, &entry(bag, value)),
         "or_insert" => text_of(alloc, or_insert(bag, value)),
         "with_capacity" => text_of(alloc, with_capacity(alloc, bag, value as usize)),
+        "with_limit" => debug_of(alloc, &with_limit(alloc, bag, value as usize)),
+        "set_limit" => text_of(alloc, set_limit(bag, value as usize)),
         "reserve" => text_of(alloc, reserve(bag, value as usize)),
         "has_room" => debug_of(alloc, &has_room(bag, value as usize)),
         _ => no_call(verb),

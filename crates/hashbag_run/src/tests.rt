@@ -172,6 +172,12 @@ fn answers_two_bags(rt: HostRuntime) {
             a json []\nb json [[7,18446744073709551615]]\n",
         ),
         (
+            "a limit 3\na many 5 2\na many 6 2\na limit 1\nb limit 0\nb insert 5\n",
+            "a done\na count 0\na too many\na below total\nb done\nb too many\n\
+            outer 5 2 0\ndifference 5 2\nsigned 5 2\nnot_in 5 2\n\
+            a json {\"limit\":3,\"pairs\":[[5,2]]}\nb json {\"limit\":0,\"pairs\":[]}\n",
+        ),
+        (
             "b insert 10\nb many 2 3\na insert 9\na many 2 1\na many 100 2\nb insert 9\n",
             "a count 0\na count 0\na count 0\nb count 0\nb count 0\nb count 0\n\
             outer 2 1 3\nouter 9 1 1\nouter 10 0 1\nouter 100 2 0\ndifference 100 2\n\
@@ -236,7 +242,8 @@ const HOSTILE: &str = "a  insert 5\n a insert 5\nA insert 5\na insert 5 \na inse
     a insert\na insert \na insert -5\na insert +5\na insert 5 5\na insert 1.0\na insert five\n\
     a \u{e4} 5\na\tinsert 5\na Insert 5\na many 5\na many 5 1 1\na clear 5\na reserve\na upto 5 -1\n\
     a retain 1\na retain 1 2 3\na retain 1 -2\na retain 1  2\na set 5\na or\n\
-    insert 5\na\nb\nB insert 5\nab insert 5\n ";
+    insert 5\na\nb\nB insert 5\nab insert 5\n \n\
+    a limit\na limit 1 2\na limit -1\na limit 18446744073709551616";
 
 #[test]
 fn refuses_hostile_lines(rt: HostRuntime) {
@@ -245,7 +252,7 @@ fn refuses_hostile_lines(rt: HostRuntime) {
         answers(rt.alloc(), &rt, line, 2, "bad line 1\n");
         lines = lines.saturating_add(1);
     }
-    assert_eq!(rt; lines, 32);
+    assert_eq!(rt; lines, 36);
 }
 
 #[test]

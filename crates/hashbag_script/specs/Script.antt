@@ -115,9 +115,12 @@ module _ {T : Type 0} (eq : T → T → Bool) where
   limit_left most X [] = most
   limit_left most X (s ∷ steps) = limit_left (limit_after most X s) (step most X s).0 steps
 
-  -- what the steps leave of an empty list, in a bag for which no limit is set, and what they reply on it
+  -- what the steps leave of an empty list, in a bag for which no limit is set, the limit then, and what they reply on it
   abbrev pub left_by : Steps T → List T
   left_by steps = (run greatest_total [] steps).0
+
+  abbrev pub limit_by : Steps T → ℕ
+  limit_by steps = limit_left greatest_total [] steps
 
   abbrev pub replies_to : Steps T → List (Reply T)
   replies_to steps = (run greatest_total [] steps).1

@@ -3,24 +3,10 @@ use crate::values::{distinct, words};
 use hashbag::{BagError, HashBag};
 use std::time::Instant;
 
-// Inserts a value whose occurrences may be too many.
-#[inline(always)]
-fn put(bag: &mut HashBag<u64>, value: u64) -> Result<(), BagError> {
-    if bag.len() == usize::MAX {
-        return Err(BagError::TooMany);
-    }
-    bag.insert(value)?;
-    Ok(())
-}
-
-// Inserts all of them. That the total fits is asked once.
+// Inserts all of them.
 fn fill(bag: &mut HashBag<u64>, values: &[u64]) -> Result<(), BagError> {
-    let many = values.len();
-    if many > usize::MAX - bag.len() {
-        return Err(BagError::TooMany);
-    }
-    for at in 0..many {
-        bag.insert(values[at])?;
+    for value in values {
+        bag.insert(*value)?;
     }
     Ok(())
 }
@@ -141,7 +127,7 @@ fn growth(rt: &HostRuntime, many: u64) -> anyhow::Result<()> {
     let mut worst_at = 0;
     let mut before = Instant::now(rt)?;
     for value in &mut times {
-        put(&mut bag, *value)?;
+        bag.insert(*value)?;
         let now = Instant::now(rt)?;
         *value = now.duration_since(before).subsec_nanos() as u64;
         before = now;

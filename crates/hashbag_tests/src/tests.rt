@@ -8,6 +8,7 @@ mod drops;
 mod entries;
 mod hashes;
 mod instances;
+mod limits;
 mod plain_calls;
 mod room;
 mod tables;

@@ -53,6 +53,7 @@ fn step_of(verb: &str, first: Option<u64>, second: Option<u64>) -> Option<Step<u
         ("count", Some(value), None) => Some(Step::Count(value)),
         ("reserve", Some(n), None) => Some(Step::Reserve(n as usize)),
         ("shrink", None, None) => Some(Step::ShrinkToFit),
+        ("limit", Some(n), None) => Some(Step::Limit(n as usize)),
         _ => None,
     }
 }

@@ -1,11 +1,12 @@
 //! Bags made of the items that an iterator gives, and bags to which they are added.
-ghost use Rattle.std.specs.Prelude.{◌≡◌, ◌+◌, ◌<◌, ◌≤◌, ⊤, [], length, sum_by, OnOk, IfOk, IfErr, OnErr};
-ghost use Rattle.std.specs.Iterator.{IsFinite, Drains};
-ghost use Rattle.hashbag_core.specs.Bag.{Means, IsBagOf};
-ghost use Rattle.hashbag_core.specs.Occurrences.{greatest_total, add, IsBag};
+ghost use Rattle.std.specs.Prelude.{◌≡◌, ◌<◌, [], OnOk, IfOk, IfErr, OnErr};
+ghost use Rattle.std.specs.Iterator.{IsFinite};
+ghost use Rattle.hashbag_core.specs.Bag.{Bag};
+ghost use Rattle.hashbag_core.specs.Occurrences.{greatest_total};
 ghost use Rattle.hashbag_core.specs.Held.{no_slots};
-ghost use Rattle.hashbag_table.specs.Tables.{room};
-ghost use Rattle.hashbag_core.specs.Extends.{Extends, ExtendsUpTo, Refuses, RefusesClones, Once, AsItIs, CloneOnce, CloneAsOften};
+ghost use Rattle.hashbag_core.specs.Extends.{Once, AsItIs, CloneOnce, CloneAsOften};
+ghost use Rattle.hashbag_core.specs.Inserts.{empty_bag, Inserts, InsertsAll, InsertsUpTo, RefusesOne, RefusesPair};
+ghost use Rattle.hashbag_core.specs.Inserts.{IsCloneRefused, ClonesUpTo, ClonesManyUpTo};
 
 use crate::bag::{BagError, HashBag};
 use std::alloc::Global;
@@ -34,11 +35,10 @@ impl<T: Eq + Hash + Drop, S: BuildHasher + Drop> HashBag<T, S> {
         S: Default,
         requires can { I.can_next items }
         requires ends { IsFinite (I.remaining items) }
-        ensures all { IfOk result (λ bag. Extends T.eq I.next_gives Once items [] (Means bag)) }
-        ensures len { IfOk result (λ bag. (came : _) × Drains I.next_gives items came × (length bag.items ≡ length came)) }
+        ensures all { IfOk result (λ bag. InsertsAll T.eq I.next_gives Once items (empty_bag bag.hasher) bag) }
         ensures hasher { IfOk result (λ bag. S.is_default bag.hasher) }
         ensures limit { IfOk result (λ bag. bag.most ≡ greatest_total) }
-        ensures refused { IfErr result (λ e. ExtendsUpTo T.eq I.next_gives Once items [] (λ _. ⊤) (λ X v. Refuses T.eq greatest_total X v 1 e)) }
+        ensures refused { IfErr result (λ e. (bag : Bag T S) × InsertsUpTo T.eq I.next_gives Once (RefusesOne T.eq) items (empty_bag bag.hasher) bag e) }
     {
         let mut bag = HashBag::default_in(alloc);
         bag.extend(items)?;
@@ -55,11 +55,10 @@ impl<T: Eq + Hash + Drop, S: BuildHasher + Drop> HashBag<T, S> {
         S: Default,
         requires can { I.can_next pairs }
         requires ends { IsFinite (I.remaining pairs) }
-        ensures all { IfOk result (λ bag. Extends T.eq I.next_gives AsItIs pairs [] (Means bag)) }
-        ensures len { IfOk result (λ bag. (came : _) × Drains I.next_gives pairs came × (length bag.items ≡ sum_by (λ p. p.1) came)) }
+        ensures all { IfOk result (λ bag. InsertsAll T.eq I.next_gives AsItIs pairs (empty_bag bag.hasher) bag) }
         ensures hasher { IfOk result (λ bag. S.is_default bag.hasher) }
         ensures limit { IfOk result (λ bag. bag.most ≡ greatest_total) }
-        ensures refused { IfErr result (λ e. ExtendsUpTo T.eq I.next_gives AsItIs pairs [] (λ _. ⊤) (λ X p. Refuses T.eq greatest_total X p.0 p.1 e)) }
+        ensures refused { IfErr result (λ e. (bag : Bag T S) × InsertsUpTo T.eq I.next_gives AsItIs (RefusesPair T.eq) pairs (empty_bag bag.hasher) bag e) }
     {
         let mut bag = HashBag::default_in(alloc);
         bag.extend_many(pairs)?;
@@ -75,11 +74,8 @@ impl<T: Eq + Hash + Drop, S: BuildHasher + Drop> HashBag<T, S> {
     pub fn extend<I: Iterator<Item = T> + Drop>(&mut self, items: I) -> Result<(), BagError>
         requires can { I.can_next items }
         requires ends { IsFinite (I.remaining items) }
-        ensures all { OnOk result (Extends T.eq I.next_gives Once items self.old.items (λ X. IsBagOf T.eq self.old X self.new)) }
-        ensures len { OnOk result ((came : _) × Drains I.next_gives items came × (length self.new.items ≡ length self.old.items + length came)) }
-        ensures grown { length self.old.items ≤ length self.new.items }
-        ensures refused { IfErr result (λ e. ExtendsUpTo T.eq I.next_gives Once items self.old.items (λ X. IsBagOf T.eq self.old X self.new) (λ X v. Refuses T.eq self.old.most X v 1 e)) }
-        ensures full { IfErr result (λ e. e ≡ BagError.Memory → room self.new.tables ≡ 0) }
+        ensures all { OnOk result (InsertsAll T.eq I.next_gives Once items self.old self.new) }
+        ensures refused { IfErr result (InsertsUpTo T.eq I.next_gives Once (RefusesOne T.eq) items self.old self.new) }
     {
         self.recall_bag();
         for item in items {
@@ -97,11 +93,8 @@ impl<T: Eq + Hash + Drop, S: BuildHasher + Drop> HashBag<T, S> {
     ) -> Result<(), BagError>
         requires can { I.can_next pairs }
         requires ends { IsFinite (I.remaining pairs) }
-        ensures all { OnOk result (Extends T.eq I.next_gives AsItIs pairs self.old.items (λ X. IsBagOf T.eq self.old X self.new)) }
-        ensures len { OnOk result ((came : _) × Drains I.next_gives pairs came × (length self.new.items ≡ length self.old.items + sum_by (λ p. p.1) came)) }
-        ensures grown { length self.old.items ≤ length self.new.items }
-        ensures refused { IfErr result (λ e. ExtendsUpTo T.eq I.next_gives AsItIs pairs self.old.items (λ X. IsBagOf T.eq self.old X self.new) (λ X p. Refuses T.eq self.old.most X p.0 p.1 e)) }
-        ensures full { IfErr result (λ e. e ≡ BagError.Memory → room self.new.tables ≡ 0) }
+        ensures all { OnOk result (InsertsAll T.eq I.next_gives AsItIs pairs self.old self.new) }
+        ensures refused { IfErr result (InsertsUpTo T.eq I.next_gives AsItIs (RefusesPair T.eq) pairs self.old self.new) }
     {
         self.recall_bag();
         for (value, n) in pairs {
@@ -122,10 +115,8 @@ impl<T: Eq + Hash + Drop, S: BuildHasher + Drop> HashBag<T, S> {
         T: Clone + 'a,
         requires can { I.can_next items }
         requires ends { IsFinite (I.remaining items) }
-        ensures all { OnOk result (Extends T.eq I.next_gives (CloneOnce T.is_clone) items self.old.items (λ X. IsBagOf T.eq self.old X self.new)) }
-        ensures len { OnOk result ((came : _) × Drains I.next_gives items came × (length self.new.items ≡ length self.old.items + length came)) }
-        ensures grown { length self.old.items ≤ length self.new.items }
-        ensures refused { IfErr result (λ e. ExtendsUpTo T.eq I.next_gives (CloneOnce T.is_clone) items self.old.items (λ X. IsBagOf T.eq self.old X self.new) (λ X _. RefusesClones self.old.most X 1 e)) }
+        ensures all { OnOk result (InsertsAll T.eq I.next_gives (CloneOnce T.is_clone) items self.old self.new) }
+        ensures refused { IfErr result (ClonesUpTo T.eq T.is_clone T.is_infallible I.next_gives items self.old self.new) }
     {
         self.recall_bag();
         for item in items {
@@ -146,10 +137,8 @@ impl<T: Eq + Hash + Drop, S: BuildHasher + Drop> HashBag<T, S> {
         T: Clone + 'a,
         requires can { I.can_next pairs }
         requires ends { IsFinite (I.remaining pairs) }
-        ensures all { OnOk result (Extends T.eq I.next_gives (CloneAsOften T.is_clone) pairs self.old.items (λ X. IsBagOf T.eq self.old X self.new)) }
-        ensures len { OnOk result ((came : _) × Drains I.next_gives pairs came × (length self.new.items ≡ length self.old.items + sum_by (λ p. p.1) came)) }
-        ensures grown { length self.old.items ≤ length self.new.items }
-        ensures refused { IfErr result (λ e. ExtendsUpTo T.eq I.next_gives (CloneAsOften T.is_clone) pairs self.old.items (λ X. IsBagOf T.eq self.old X self.new) (λ X p. RefusesClones self.old.most X p.1 e)) }
+        ensures all { OnOk result (InsertsAll T.eq I.next_gives (CloneAsOften T.is_clone) pairs self.old self.new) }
+        ensures refused { IfErr result (ClonesManyUpTo T.eq T.is_clone T.is_infallible I.next_gives pairs self.old self.new) }
     {
         self.recall_bag();
         for (value, n) in pairs {
@@ -162,8 +151,8 @@ impl<T: Eq + Hash + Drop, S: BuildHasher + Drop> HashBag<T, S> {
     fn insert_clone(&mut self, value: &T, n: usize) -> Result<(), BagError>
     where
         T: Clone,
-        ensures added { OnOk result ((x : _) × (0 < n → T.is_clone value.now x) × IsBagOf T.eq self.old (add T.eq x n self.old.items) self.new) }
-        ensures refused { IfErr result (RefusesClones self.old.most self.old.items n) }
+        ensures inserted { OnOk result ((x : _) × (0 < n → T.is_clone value.now x) × Inserts T.eq x n self.old self.new) }
+        ensures refused { IfErr result (IsCloneRefused T.eq T.is_clone T.is_infallible self.old value.now n) }
         ensures err { OnErr result (self.new ≡ self.old) }
     {
         if n > self.limit() - self.len() {

@@ -3,7 +3,7 @@ use crate::tests::joins::{bag_of, bags_of, quarters};
 use hashbag::script::joins_of;
 use hashbag::{BagError, HashBag};
 use hashbag_bench::states::CountingState;
-use hashbag_rows::calls::{answer, clone_of, replace_at_once};
+use hashbag_rows::calls::{answer, clone_of, replace};
 use hashbag_rows::texts::{count, debug_of, halves, is_text, number, rows_of};
 use serde_json::Value;
 use std::alloc::Global;
@@ -136,7 +136,7 @@ fn done<T: Drop>(_answer: T) -> Result<(), Fail> {
 // Makes a call on a value.
 fn call_on_value(alloc: Global, bag: &mut CountingBag, verb: &str, value: u64) -> Result<(), Fail> {
     match verb {
-        "replace" => done(replace_at_once(bag, value)?),
+        "replace" => done(replace(bag, value)?),
         "entry_value" => done(entry_value(bag, value)),
         _ => done(entry_text(alloc, bag, value)?),
     }

@@ -54,6 +54,35 @@ const TREES: &str = r#"
     String | [["Einar",1],["Olaf",2],["Harald",3]] | 6 3 [["Einar",1],["Harald",3],["Olaf",2]]
     Named | [[{"name":"Einar"},1],[{"name":"Olaf"},2],[{"name":"Harald"},3]] | 6 3 [[{"name":"Einar"},1],[{"name":"Harald"},3],[{"name":"Olaf"},2]]"#;
 
+// The same of trees with a limit, and of what is no such tree.
+const LIMITED_TREES: &str = r#"
+    String | {"limit":5,"pairs":[["b",3],["a",2]]} | 5 2 {"limit":5,"pairs":[["a",2],["b",3]]}
+    String | {"pairs":[["b",3],["a",2]],"limit":6} | 5 2 {"limit":6,"pairs":[["a",2],["b",3]]}
+    String | {"limit":4,"pairs":[["a",2],["b",3]]} | TooMany(1)
+    String | {"limit":-1,"pairs":[]} | BadLimit
+    String | {"limit":2.0,"pairs":[]} | BadLimit
+    String | {"limit":18446744073709551616,"pairs":[]} | BadLimit
+    String | {"limit":"5","pairs":[]} | BadLimit
+    String | {"limit":null,"pairs":[null]} | BadLimit
+    String | {"pairs":[]} | BadLimit
+    String | {"pairs":["a"]} | BadLimit
+    String | {"limit":1} | NotAnArray
+    String | {"limit":1,"pairs":{}} | NotAnArray
+    String | {"limit":1,"pairs":null} | NotAnArray
+    String | {"limit":1,"pairs":[],"x":0} | NotAnArray
+    String | {"limit":-1,"next":0,"pairs":[]} | NotAnArray
+    String | {"counts":1,"pairs":[]} | NotAnArray
+    String | {"limits":1,"pairs":[]} | NotAnArray
+    String | {"limit":0,"pairs":["a"]} | NotAPair(0)
+    String | {"limit":0,"pairs":[["a",-1]]} | BadCount(0)
+    String | {"limit":0,"pairs":[[5,1]]} | BadItem(0)
+    String | {"limit":0,"pairs":[["a",1]]} | TooMany(0)
+    String | {"limit":0,"pairs":[["a",0]]} | 0 0 {"limit":0,"pairs":[]}
+    String | {"limit":18446744073709551615,"pairs":[["a",1]]} | 1 1 [["a",1]]
+    String | {"limit":18446744073709551614,"pairs":[["a",18446744073709551614],["b",0]]} | 18446744073709551614 1 {"limit":18446744073709551614,"pairs":[["a",18446744073709551614]]}
+    u64 | {"limit":3,"pairs":[[7,2],[6,1]]} | 3 2 {"limit":3,"pairs":[[6,1],[7,2]]}
+    Named | {"limit":2,"pairs":[[{"name":"Olaf"},2]]} | 2 1 {"limit":2,"pairs":[[{"name":"Olaf"},2]]}"#;
+
 // Each error, its number and its text.
 const JSON_ERRORS: &str = "
     NotAnArray | 3 | not an array
@@ -61,21 +90,22 @@ const JSON_ERRORS: &str = "
     BadCount(1) | 5 | pair 1: bad count
     BadItem(2) | 6 | pair 2: bad item
     TooMany(3) | 7 | pair 3: total past its end
-    Memory | 8 | no memory";
+    Memory | 8 | no memory
+    BadLimit | 10 | bad limit";
 
 const ITEM_ERRORS: &str = "
     NotAnItem | 11 | not an item
     Memory | 12 | no memory";
 
-fn tree_of(alloc: Global, text: &str) -> Result<Value, Fail> {
+pub fn tree_of(alloc: Global, text: &str) -> Result<Value, Fail> {
     match Value::from_str(alloc, text) {
         Ok(tree) => Ok(tree),
         Err(_) => Err(Fail::new(format_args!("no tree: {text}"))),
     }
 }
 
-// The total of a bag, the number of its distinct values, and its tree.
-fn written<T: JsonItem + Ord + Hash + Drop, S: BuildHasher + Drop>(
+/// The total of a bag, the number of its distinct values, and its tree.
+pub fn written<T: JsonItem + Ord + Hash + Drop, S: BuildHasher + Drop>(
     alloc: Global,
     bag: &HashBag<T, S>,
 ) -> Result<String, Fail> {
@@ -103,7 +133,7 @@ fn are_equal<T: JsonItem + Hash + Drop, S: BuildHasher + Drop>(
     a == b
 }
 
-// What a bag is written as is read back as an equal bag.
+// What a bag is written as is read back as an equal bag with the same limit.
 fn is_read_again<T: JsonItem + Ord + Hash + Drop, S: BuildHasher + Default + Drop>(
     rt: &impl Abort,
     alloc: Global,
@@ -112,6 +142,7 @@ fn is_read_again<T: JsonItem + Ord + Hash + Drop, S: BuildHasher + Default + Dro
 ) -> Result<(), Fail> {
     let again: HashBag<T, S> = read_again(alloc, bag).ok().ok_or("a bag")?;
     assert!(rt; are_equal(&again, bag), "read again: {row}");
+    assert_eq!(rt; again.limit(), bag.limit(), "read again: {row}");
     assert!(rt; have_one_text(alloc, &again, bag)?, "written again: {row}");
     Ok(())
 }
@@ -182,10 +213,12 @@ fn is_answered_as(
 
 #[test]
 fn trees_are_answered(rt: HostRuntime) -> Result<(), Fail> {
-    for row in rows_of(rt.alloc(), TREES, 40)? {
-        let (items, rest) = halves(row, "|")?;
-        let (text, wanted) = halves(rest, "|")?;
-        is_answered_as(&rt, rt.alloc(), items, text, wanted)?;
+    for (rows, wanted) in [(TREES, 40), (LIMITED_TREES, 26)] {
+        for row in rows_of(rt.alloc(), rows, wanted)? {
+            let (items, rest) = halves(row, "|")?;
+            let (text, answer) = halves(rest, "|")?;
+            is_answered_as(&rt, rt.alloc(), items, text, answer)?;
+        }
     }
     Ok(())
 }
@@ -276,6 +309,7 @@ fn json_errors_are_told(rt: HostRuntime) -> Result<(), Fail> {
         JsonError::BadItem(2),
         JsonError::TooMany(3),
         JsonError::Memory,
+        JsonError::BadLimit,
     ];
     let rows = rows_of(rt.alloc(), JSON_ERRORS, errors.len())?;
     for (row, error) in rows.into_iter().zip(errors) {

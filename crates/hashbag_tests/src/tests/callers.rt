@@ -90,24 +90,20 @@ fn kept<S: BuildHasher + Drop>(stock: &mut HashBag<u64, S>, most: usize) {
     keep_at_most(stock, most);
 }
 
-// These two callers leave it to their own to test the total.
-
 fn words_added<S: BuildHasher + Drop>(
     bag: &mut HashBag<u64, S>,
     words: &[u64],
 ) -> Result<(), BagError> {
-    if words.len() > usize::MAX - bag.len() {
-        return Err(BagError::TooMany);
-    }
     insert_each(bag, words)
 }
 
+// The caller leaves it to its own to test the total.
 fn replies<S: BuildHasher + Drop>(
     alloc: Global,
     bag: &mut HashBag<u64, S>,
     value: u64,
 ) -> Result<Vec<Reply<u64>>, BagError> {
-    if bag.len() == usize::MAX {
+    if bag.len() == bag.limit() {
         return Err(BagError::TooMany);
     }
     insert_and_count(alloc, bag, value)

@@ -1,7 +1,7 @@
 //! Each value is dropped once, by the call that takes it out or by the bag, while the tables grow, carry and are built anew.
 use hashbag::{BagError, FixedState, HashBag};
 use hashbag_bench::OneState;
-use hashbag_rows::calls::{insert, replace_at_once};
+use hashbag_rows::calls::{insert, replace};
 use hashbag_slots_tests::counted::Counted;
 use std::alloc::Global;
 use std::cell::Cell;
@@ -45,7 +45,7 @@ fn equal_values<'a, S: BuildHasher + Drop>(
     }
     has_dropped(rt, "insertions of equal values", drops, 25);
     for key in 0..25 {
-        replace_at_once(bag, value(drops, key))?;
+        replace(bag, value(drops, key))?;
     }
     has_dropped(rt, "replacements", drops, 50);
     Ok(())

@@ -7,11 +7,11 @@ use Rattle.hashbag_bench.proofs.words.insert_each.Goals as goal
 
 pub loop-word-preserved : goal.loop-word-preserved
 loop-word-preserved g c = record {
-  len = omega (arith, c.in_ok-insert.ensures.len);
-  limit = c.in_ok-insert.ensures.added.limit ∙ c.loop-word.invariant.limit;
+  len = omega (arith, c.in_ok-insert.ensures.inserted.len);
+  limit = c.in_ok-insert.ensures.inserted.added.limit ∙ c.loop-word.invariant.limit;
   counts = λ v.
       let before = c.loop-word.invariant.counts v in
-      let one = count_inserted_any nat_eq_equiv c.loop-word.bag c.insert.new.self v _ 1 c.in_ok-insert.ensures.added in
+      let one = count_inserted_any nat_eq_equiv c.loop-word.bag c.insert.new.self v _ 1 c.in_ok-insert.ensures.inserted.added in
       let next = count_take_next nat_eq_equiv v c.args.words.now c.loop-word.word-index 0 c.loop-word-test.true in
       omega arith;
 }

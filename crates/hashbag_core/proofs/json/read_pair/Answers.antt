@@ -5,10 +5,10 @@ use Rattle.hashbag_core.proofs.json.read_pair.Goals as goal
 
 pub returns-in-Ok-insert_within-clause-no_fault : goal.returns-in-Ok-insert_within-clause-no_fault
 returns-in-Ok-insert_within-clause-no_fault g c =
-    let within = c.in-Ok-insert_within.ensures.added.bag.fits in
-    let same = c.in-Ok-insert_within.ensures.added.limit in
+    let within = c.in-Ok-insert_within.ensures.inserted.added.bag.fits in
+    let same = c.in-Ok-insert_within.ensures.inserted.added.limit in
     good_pair g.met.T.Eq.laws c.args.bag.now.most g.T.JsonItem.has_item g.T.JsonItem.reads _ _ _ c.args.number c.args.bag.now.items c.insert_within.new.self.items c.in-Ok.item c.in-Some-as_u64.count
-    (sym c.in-Some.ensures) (sym c.in-Some-as_u64.ensures) (g.met.T.JsonItem.read_has_item _ c.in-Ok.item c.in-Ok.ensures.item.1) c.in-Ok-insert_within.ensures.added.means (omega (arith, within, same))
+    (sym c.in-Some.ensures) (sym c.in-Some-as_u64.ensures) (g.met.T.JsonItem.read_has_item _ c.in-Ok.item c.in-Ok.ensures.item.1) c.in-Ok-insert_within.ensures.inserted.added.means (omega (arith, within, same))
 
 pub returns-in-Ok-insert_within-clause-read : goal.returns-in-Ok-insert_within-clause-read
 returns-in-Ok-insert_within-clause-read g c = (
@@ -20,7 +20,7 @@ returns-in-Ok-insert_within-clause-read g c = (
     item = c.in-Ok.ensures.item.1;
     count = sym c.in-Some-as_u64.ensures;
   },
-  c.in-Ok-insert_within.ensures.added,
+  c.in-Ok-insert_within.ensures.inserted,
 )
 
 pub returns-in_default-as_u64-clause-fault : goal.returns-in_default-as_u64-clause-fault

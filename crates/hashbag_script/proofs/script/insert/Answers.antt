@@ -11,15 +11,18 @@ use Rattle.hashbag_script.proofs.script.insert.Goals as goal
 
 pub returns-in-Ok-clause-room : goal.returns-in-Ok-clause-room
 returns-in-Ok-clause-room g c =
-    let done = c.in-Ok.ensures in
+    let before = c.in-Ok.ensures.before in
+    let done = c.in-Ok.ensures.inserted in
     let long = done.len in
     let within = done.added.bag.fits in
     let same = done.added.limit in
     let fits : length c.args.bag.now.items + c.args.n ≤ c.args.bag.now.most = omega (arith, long, within, same) in
-    moves_inserted c.in-Ok.before c.args.n _ c.args.bag.now.tables c.insert_many.new.self.tables (λ none. ap (λ b. b.tables) (c.insert_many.ensures.none none))
-    (λ more some. record { slots = done.same_slots some; room = let r = done.same_room some in omega (arith, r); built = rewritten_built _ _ _ _ (done.slot more (subst (λ k. 0 < k) done.before some)) })
-    (λ more none. done.arrives more (sym done.before ∙ none))
-    (λ none some. one_inserted g.met.T.Eq.laws c.args.bag.now.most c.args.value c.args.n c.args.bag.now.items (sym done.before ∙ none) some fits)
+    moves_inserted c.in-Ok.before c.args.n _ c.args.bag.now.tables c.insert_many.new.self.tables (λ none. ap (λ b. b.tables) (done.none none))
+    (λ more some.
+    let there = subst (λ k. 0 < k) before some in
+    record { slots = done.same_slots there; room = let r = done.same_room there in omega (arith, r); built = rewritten_built _ _ _ _ (done.slot more there) })
+    (λ more none. done.arrives more (sym before ∙ none))
+    (λ none some. one_inserted g.met.T.Eq.laws c.args.bag.now.most c.args.value c.args.n c.args.bag.now.items (sym before ∙ none) some fits)
 
 pub returns-in-Err-TooMany-clause-left : goal.returns-in-Err-TooMany-clause-left
 returns-in-Err-TooMany-clause-left g c =

@@ -28,6 +28,6 @@ returns c =
       difference = rw (c.new-a.ensures.limit, c.new-b.ensures.limit) at (whole.difference [] [] empty_a empty_b);
       signed = rw (c.new-a.ensures.limit, c.new-b.ensures.limit) at (whole.signed [] [] empty_a empty_b);
       not_in = rw (c.new-a.ensures.limit, c.new-b.ensures.limit) at (whole.not_in [] [] empty_a empty_b);
-      tree_a = c.in_ok-to_value.ensures.tree _ (one_each _) (λ v. count_rearranged nat_eq_equiv v _ _ (rw c.new-a.ensures.limit at left_a.means));
-      tree_b = c.in_ok-to_value-2.ensures.tree _ (one_each _) (λ v. count_rearranged nat_eq_equiv v _ _ (rw c.new-b.ensures.limit at left_b.means));
+      tree_a = rw (left_a.limit, c.new-a.ensures.limit) at (c.in_ok-to_value.ensures.tree _ (one_each _) (λ v. count_rearranged nat_eq_equiv v _ _ left_a.means));
+      tree_b = rw (left_b.limit, c.new-b.ensures.limit) at (c.in_ok-to_value-2.ensures.tree _ (one_each _) (λ v. count_rearranged nat_eq_equiv v _ _ left_b.means));
     }

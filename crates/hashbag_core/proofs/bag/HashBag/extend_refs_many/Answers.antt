@@ -1,44 +1,22 @@
-use Rattle.std.proofs.Common.{refl, arith}
+use Rattle.std.proofs.Common.{refl}
 use Rattle.hashbag_core.specs.Extends.{CloneAsOften}
-use Rattle.hashbag_core.proofs.ExtendLemmas.{handed_on, none_yet, one_more, longer, grown, sum_went, refuses_clones_rearranged}
+use Rattle.hashbag_core.proofs.ExtendLemmas.{handed_on}
+use Rattle.hashbag_core.proofs.InsertLemmas.{none_yet, one_more, all_went, some_went}
 use Rattle.hashbag_core.proofs.bag.HashBag.extend_refs_many.Goals as goal
 
 pub loop-value-init : goal.loop-value-init
-loop-value-init g c = none_yet g.met.T.Eq.laws (CloneAsOften g.T.Clone.is_clone) c.args.self.now c.recall_bag.ensures
+loop-value-init g c = none_yet g.T.PartialEq.eq (CloneAsOften g.T.Clone.is_clone) c.args.self.now c.recall_bag.ensures
 
 pub loop-value-preserved : goal.loop-value-preserved
 loop-value-preserved g c =
-    one_more g.met.T.Eq.laws (CloneAsOften g.T.Clone.is_clone) c.args.self.now c.loop-value.self c.insert_clone.new.self c.loop-value.yielded (c.in-Some.value, c.in-Some.n) (c.in_ok-insert_clone.ensures.added.0, c.in-Some.n) c.loop-value.invariant (c.in_ok-insert_clone.ensures.added.1, refl) c.in_ok-insert_clone.ensures.added.2
-
-pub returns-in_err-insert_clone-clause-refused : goal.returns-in_err-insert_clone-clause-refused
-returns-in_err-insert_clone-clause-refused g c = handed_on c.from_residual.result c.in_err-insert_clone.field-0.0 _ _ (λ x is. cc) c.from_residual.ensures.1 (record {
-  items = c.loop-value.yielded;
-  refused = (c.in-Some.value, c.in-Some.n);
-  rest = c.next.new.self;
-  came = (c.loop-value.value-iterator, rw (← c.into_iter-value-iterator.ensures.into_iter_gives) c.loop-value.yielded_by, c.in-Some.ensures.steps);
-  pairs = c.loop-value.invariant.pairs;
-  went = c.loop-value.invariant.went;
-  left = rw c.in_err-insert_clone.ensures.err c.loop-value.invariant.left;
-  why = refuses_clones_rearranged _ _ c.loop-value.invariant.left.limit _ _ c.in-Some.n c.in_err-insert_clone.field-0.0 c.loop-value.invariant.left.means c.in_err-insert_clone.ensures.refused;
-})
+    let inserted = c.in_ok-insert_clone.ensures.inserted in
+    one_more g.T.PartialEq.eq (CloneAsOften g.T.Clone.is_clone) c.args.self.now c.loop-value.self c.insert_clone.new.self c.loop-value.yielded (c.in-Some.value, c.in-Some.n) (inserted.0, c.in-Some.n) c.loop-value.invariant (inserted.1, refl) inserted.2
 
 pub returns-clause-all : goal.returns-clause-all
-returns-clause-all g c = record {
-  items = c.loop-value.yielded;
-  came = (c.next.new.self, (c.loop-value.value-iterator, rw (← c.into_iter-value-iterator.ensures.into_iter_gives) c.loop-value.yielded_by, c.in-None.ensures.steps));
-  pairs = c.loop-value.invariant.pairs;
-  went = c.loop-value.invariant.went;
-  left = c.loop-value.invariant.left;
-}
+returns-clause-all g c =
+    all_went g.T.PartialEq.eq (CloneAsOften g.T.Clone.is_clone) c.loop-value.yielded c.loop-value.invariant (c.next.new.self, (c.loop-value.value-iterator, rw (← c.into_iter-value-iterator.ensures.into_iter_gives) c.loop-value.yielded_by, c.in-None.ensures.steps))
 
-pub returns-in_err-insert_clone-clause-grown : goal.returns-in_err-insert_clone-clause-grown
-returns-in_err-insert_clone-clause-grown g c = rw c.in_err-insert_clone.ensures.err (grown g.met.T.Eq.laws (CloneAsOften g.T.Clone.is_clone) c.args.self.now c.loop-value.self c.loop-value.yielded c.loop-value.invariant)
-
-pub returns-clause-grown : goal.returns-clause-grown
-returns-clause-grown g c = grown g.met.T.Eq.laws (CloneAsOften g.T.Clone.is_clone) c.args.self.now c.loop-value.self c.loop-value.yielded c.loop-value.invariant
-
-pub returns-clause-len : goal.returns-clause-len
-returns-clause-len g c =
-    let long = longer g.met.T.Eq.laws (CloneAsOften g.T.Clone.is_clone) c.args.self.now c.loop-value.self c.loop-value.yielded c.loop-value.invariant in
-    let numbers = sum_went (CloneAsOften g.T.Clone.is_clone) (λ e. e.1) (λ x p is. is.1) c.loop-value.yielded c.loop-value.invariant.pairs c.loop-value.invariant.went in
-    (c.loop-value.yielded, (c.next.new.self, (c.loop-value.value-iterator, rw (← c.into_iter-value-iterator.ensures.into_iter_gives) c.loop-value.yielded_by, c.in-None.ensures.steps)), omega arith)
+pub returns-in_err-insert_clone-clause-refused : goal.returns-in_err-insert_clone-clause-refused
+returns-in_err-insert_clone-clause-refused g c = handed_on c.from_residual.result c.in_err-insert_clone.field-0.0 _ _ (λ x is. cc) c.from_residual.ensures.1
+    (some_went g.T.PartialEq.eq (CloneAsOften g.T.Clone.is_clone) c.loop-value.self c.loop-value.yielded (c.in-Some.value, c.in-Some.n) c.next.new.self c.loop-value.invariant
+    (c.loop-value.value-iterator, rw (← c.into_iter-value-iterator.ensures.into_iter_gives) c.loop-value.yielded_by, c.in-Some.ensures.steps) c.in_err-insert_clone.ensures.err c.in_err-insert_clone.ensures.refused)

@@ -1,26 +1,17 @@
-use Rattle.std.proofs.Common.{◌≡◌, ℕ, [], List, length, ap, subst, arith}
-use Rattle.hashbag_core.specs.Extends.{add_all, Refuses}
+use Rattle.std.proofs.Common.{◌∙◌, subst}
 use Rattle.hashbag_core.proofs.ExtendLemmas.{handed_on}
+use Rattle.hashbag_core.proofs.InsertLemmas.{all_added, all_made, some_made}
 use Rattle.hashbag_core.proofs.bag.HashBag.from_counts.Goals as goal
 
-pub returns-in_err-extend_many-clause-refused : goal.returns-in_err-extend_many-clause-refused
-returns-in_err-extend_many-clause-refused g c =
-    let r = c.in_err-extend_many.ensures.refused in
-    handed_on c.from_residual.result c.in_err-extend_many.field-0.0 _ _ (λ x is. cc) c.from_residual.ensures.1 (record {
-      items = r.items;
-      refused = r.refused;
-      rest = r.rest;
-      came = r.came;
-      pairs = r.pairs;
-      went = r.went;
-      left = tt;
-      why = subst (λ (m : ℕ). Refuses g.T.PartialEq.eq m (add_all g.T.PartialEq.eq [] r.pairs) r.refused.0 r.refused.1 c.in_err-extend_many.field-0.0) c.default_in-bag.ensures.limit
-          (subst (λ (X : List g.row.T.Denot). Refuses g.T.PartialEq.eq c.default_in-bag.result.most (add_all g.T.PartialEq.eq X r.pairs) r.refused.0 r.refused.1 c.in_err-extend_many.field-0.0) c.default_in-bag.ensures.empty r.why);
-    })
+pub returns-clause-all : goal.returns-clause-all
+returns-clause-all g c = all_made g.met.T.Eq.laws c.default_in-bag.ensures.empty c.default_in-bag.ensures.slots c.default_in-bag.ensures.limit c.in_ok-extend_many.ensures.all
 
-pub returns-clause-len : goal.returns-clause-len
-returns-clause-len g c =
-    let grew = c.in_ok-extend_many.ensures.len in
-    let long = grew.2 in
-    let none : length c.default_in-bag.result.items ≡ 0 = ap (λ (X : List g.row.T.Denot). length X) c.default_in-bag.ensures.empty in
-    (grew.0, grew.1, omega arith)
+pub returns-clause-hasher : goal.returns-clause-hasher
+returns-clause-hasher g c = rw ((all_added g.met.T.Eq.laws c.in_ok-extend_many.ensures.all).hasher) c.default_in-bag.ensures.hasher
+
+pub returns-clause-limit : goal.returns-clause-limit
+returns-clause-limit g c = (all_added g.met.T.Eq.laws c.in_ok-extend_many.ensures.all).limit ∙ c.default_in-bag.ensures.limit
+
+pub returns-in_err-extend_many-clause-refused : goal.returns-in_err-extend_many-clause-refused
+returns-in_err-extend_many-clause-refused g c = handed_on c.from_residual.result c.in_err-extend_many.field-0.0 _ _ (λ x is. cc) c.from_residual.ensures.1
+    (c.extend_many.new.self, some_made g.met.T.Eq.laws c.default_in-bag.ensures.empty c.default_in-bag.ensures.slots c.default_in-bag.ensures.limit c.in_err-extend_many.ensures.refused)

@@ -1,69 +1,40 @@
-use Rattle.std.proofs.Common.{◌≡◌, List, [], map, drop, Some, refl, sym, ◌∙◌, ap, subst, arith}
-use Rattle.std.proofs.lemmas.List.{drop_all}
-use Rattle.std.proofs.lemmas.Result.{err_from_is_err_and}
-use Rattle.serde_json.specs.Data.{Data}
-use Rattle.serde_json.specs.Find.{as_array}
-use Rattle.serde_json.specs.View.{view, items_view}
-use Rattle.serde_json.specs.declared.value.Value.{Value}
-use Rattle.hashbag_core.specs.JsonFaults.{array_of}
-use Rattle.hashbag_core.proofs.JsonReadLemmas.{IsReadTo, array_of_found, left_at, read_to_start, read_to_next, fault_at, may_end_at, no_fault_at_end, reading_at_end}
+use Rattle.std.proofs.Common.{◌≡◌, ℕ, List, map, min, None, Some, sym, ◌∙◌, ap}
+use Rattle.std.specs.List.{AllZip}
+use Rattle.std.proofs.lemmas.Result.{IfOk-weaker, IfErr-weaker}
+use Rattle.serde_json.specs.View.{view}
+use Rattle.hashbag_core.specs.Inserts.{IsMadeOf}
+use Rattle.hashbag_core.specs.JsonFaults.{first_fault, opened_fault, fault, limit_of, limit_opened, MayEnd, MayEndAmong}
+use Rattle.hashbag_core.specs.JsonTrees.{IsPair, IsReading}
+use Rattle.hashbag_core.specs.declared.json.JsonError.TheVariants.{Memory}
+use Rattle.hashbag_core.proofs.JsonLimitLemmas.{not_memory}
 use Rattle.hashbag_core.proofs.bag.HashBag.from_value_within.Goals as goal
 
--- the trees of the array
-trees : (d : Data) (items lent : List Value) → Some (items_view items) ≡ as_array d → lent ≡ items → array_of d ≡ Some (map view lent)
-trees d items lent found same = array_of_found d items found ∙ ap (λ vs. Some (map view vs)) (sym same)
+pub returns-in-Ok-clause-no_fault : goal.returns-in-Ok-clause-no_fault
+returns-in-Ok-clause-no_fault g c =
+    IfOk-weaker c.from_pairs.result (λ _. first_fault (min c.args.most c.in-Ok.limit) g.T.JsonItem.has_item 0 0 (map view c.in-Ok.pairs.now.items) ≡ None) (λ _. fault c.args.most g.T.JsonItem.has_item (view c.args.tree.now) ≡ None)
+    (λ _ good. ap (opened_fault c.args.most g.T.JsonItem.has_item) (sym c.in-Ok.ensures) ∙ good) (rw c.min.ensures at c.from_pairs.ensures.no_fault)
 
-pub loop-number-init : goal.loop-number-init
-loop-number-init g c = record {
-  read = rw c.with_limit-bag.ensures.empty (read_to_start g.met.T.Eq.laws c.args.most g.T.JsonItem.has_item g.T.JsonItem.reads _);
-  limit = c.with_limit-bag.ensures.limit;
-  hasher = refl;
-}
+pub returns-in-Ok-clause-read : goal.returns-in-Ok-clause-read
+returns-in-Ok-clause-read g c =
+    IfOk-weaker c.from_pairs.result (λ bag. (pairs : List (g.row.T.Denot × ℕ)) × AllZip (IsPair g.T.JsonItem.reads) (map view c.in-Ok.pairs.now.items) pairs × IsMadeOf g.T.PartialEq.eq pairs bag)
+    (λ bag. (pairs : List (g.row.T.Denot × ℕ)) × IsReading g.T.JsonItem.reads (view c.args.tree.now) pairs × IsMadeOf g.T.PartialEq.eq pairs bag)
+    (λ bag h. (h.0, record { limit = c.in-Ok.limit; trees = map view c.in-Ok.pairs.now.items; inside = sym c.in-Ok.ensures; each = h.1 }, h.2)) c.from_pairs.ensures.read
 
-pub loop-number-preserved : goal.loop-number-preserved
-loop-number-preserved g c =
-    let inside = c.loop-number-test.true in
-    let left = left_at c.deref-pair-items.result.now c.loop-number.number c.pair-item.result c.pair-item.is (omega arith) in
-    let so = subst (λ (l : List Data). IsReadTo g.met.T.Eq.laws c.args.most g.T.JsonItem.has_item g.T.JsonItem.reads (map view c.deref-pair-items.result.now) l c.loop-number.number c.loop-number.bag.items) left c.loop-number.invariant.read in
-    let one = c.in_ok-read_pair.ensures.read in
-    record {
-      read = read_to_next g.met.T.Eq.laws c.args.most g.T.JsonItem.has_item g.T.JsonItem.reads _ _ (view c.pair-item.result) c.loop-number.number _ _ one.0 so (rw c.loop-number.invariant.limit at c.in_ok-read_pair.ensures.no_fault) one.1 one.2.means (rw (one.2.limit, c.loop-number.invariant.limit) at one.2.bag);
-      limit = one.2.limit ∙ c.loop-number.invariant.limit;
-      hasher = one.2.hasher ∙ c.loop-number.invariant.hasher;
-    }
+pub returns-in-Ok-clause-limit : goal.returns-in-Ok-clause-limit
+returns-in-Ok-clause-limit g c =
+    IfOk-weaker c.from_pairs.result (λ bag. bag.most ≡ c.min.result) (λ bag. bag.most ≡ min c.args.most (limit_of (view c.args.tree.now)))
+    (λ bag same. same ∙ c.min.ensures ∙ ap (λ n. min c.args.most n) (ap limit_opened c.in-Ok.ensures)) c.from_pairs.ensures.limit
 
-pub returns-in_err-read_pair-clause-fault : goal.returns-in_err-read_pair-clause-fault
-returns-in_err-read_pair-clause-fault g c =
-    let error = err_from_is_err_and c.from_residual.result c.from_residual.ensures.1 in
-    rw (error.1, error.2) (λ other.
-    let inside = c.loop-number-test.true in
-    let left = left_at c.deref-pair-items.result.now c.loop-number.number c.pair-item.result c.pair-item.is (omega arith) in
-    let so = subst (λ (l : List Data). IsReadTo g.met.T.Eq.laws c.args.most g.T.JsonItem.has_item g.T.JsonItem.reads (map view c.deref-pair-items.result.now) l c.loop-number.number c.loop-number.bag.items) left c.loop-number.invariant.read in
-    fault_at g.met.T.Eq.laws c.args.most g.T.JsonItem.has_item g.T.JsonItem.reads _ _ _ (view c.pair-item.result) c.loop-number.number _ _ (trees _ _ _ c.in-Some.ensures c.deref-pair-items.ensures.value) so (rw c.loop-number.invariant.limit at (c.in_err-read_pair.ensures.fault other)))
+pub returns-in-Ok-clause-fault : goal.returns-in-Ok-clause-fault
+returns-in-Ok-clause-fault g c =
+    IfErr-weaker c.from_pairs.result _ _ (λ e found other. ap (opened_fault c.args.most g.T.JsonItem.has_item) (sym c.in-Ok.ensures) ∙ (rw c.min.ensures at (found other))) c.from_pairs.ensures.fault
 
-pub returns-in_err-read_pair-clause-memory : goal.returns-in_err-read_pair-clause-memory
-returns-in_err-read_pair-clause-memory g c =
-    let error = err_from_is_err_and c.from_residual.result c.from_residual.ensures.1 in
-    rw (error.1, error.2) (λ memory.
-    let inside = c.loop-number-test.true in
-    let left = left_at c.deref-pair-items.result.now c.loop-number.number c.pair-item.result c.pair-item.is (omega arith) in
-    let so = subst (λ (l : List Data). IsReadTo g.met.T.Eq.laws c.args.most g.T.JsonItem.has_item g.T.JsonItem.reads (map view c.deref-pair-items.result.now) l c.loop-number.number c.loop-number.bag.items) left c.loop-number.invariant.read in
-    may_end_at g.met.T.Eq.laws c.args.most g.T.JsonItem.has_item g.T.JsonItem.reads _ _ _ (view c.pair-item.result) c.loop-number.number _ (trees _ _ _ c.in-Some.ensures c.deref-pair-items.ensures.value) so (c.in_err-read_pair.ensures.memory memory))
+pub returns-in-Ok-clause-memory : goal.returns-in-Ok-clause-memory
+returns-in-Ok-clause-memory g c =
+    IfErr-weaker c.from_pairs.result _ _ (λ e ends memory. record { limit = c.in-Ok.limit; trees = map view c.in-Ok.pairs.now.items; inside = sym c.in-Ok.ensures; among = rw c.min.ensures at (ends memory) }) c.from_pairs.ensures.memory
 
--- all pairs were read
-at_end : (g : _) (c : goal.After-loop-number g) → IsReadTo g.met.T.Eq.laws c.args.most g.T.JsonItem.has_item g.T.JsonItem.reads (map view c.deref-pair-items.result.now) [] c.loop-number.number c.loop-number.bag.items
-at_end g c =
-    let past = c.loop-number-test.false in
-    let none : drop c.loop-number.number c.deref-pair-items.result.now ≡ [] = drop_all c.loop-number.number c.deref-pair-items.result.now (omega arith) in
-    subst (λ l. IsReadTo g.met.T.Eq.laws c.args.most g.T.JsonItem.has_item g.T.JsonItem.reads (map view c.deref-pair-items.result.now) (map view l) c.loop-number.number c.loop-number.bag.items) none c.loop-number.invariant.read
+pub returns-in-Err-clause-fault : goal.returns-in-Err-clause-fault
+returns-in-Err-clause-fault g c = λ other. ap (opened_fault c.args.most g.T.JsonItem.has_item) (sym c.in-Err.ensures)
 
-pub returns-clause-no_fault : goal.returns-clause-no_fault
-returns-clause-no_fault g c = no_fault_at_end g.met.T.Eq.laws c.args.most g.T.JsonItem.has_item g.T.JsonItem.reads _ _ c.loop-number.number _ (trees _ _ _ c.in-Some.ensures c.deref-pair-items.ensures.value) (at_end g c)
-
-pub returns-clause-read : goal.returns-clause-read
-returns-clause-read g c =
-    let so = at_end g c in
-    (so.pairs, reading_at_end g.met.T.Eq.laws c.args.most g.T.JsonItem.has_item g.T.JsonItem.reads _ _ c.loop-number.number _ (trees _ _ _ c.in-Some.ensures c.deref-pair-items.ensures.value) so, so.means)
-
-pub returns-in_default-clause-memory : goal.returns-in_default-clause-memory
-returns-in_default-clause-memory g c = λ is. absurd (cc)
+pub returns-in-Err-clause-memory : goal.returns-in-Err-clause-memory
+returns-in-Err-clause-memory g c = λ memory. absurd (not_memory (view c.args.tree.now) (rw memory at c.in-Err.ensures))

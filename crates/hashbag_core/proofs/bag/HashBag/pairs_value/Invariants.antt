@@ -4,7 +4,7 @@ use Rattle.std.specs.Map.{keys_of}
 use Rattle.std.specs.Vec.Iter.{into_iter_items}
 use Rattle.serde_json.specs.View.{view}
 use Rattle.hashbag_core.specs.JsonTrees.{pair_tree, seen}
-use Rattle.hashbag_core.proofs.bag.HashBag.to_value.Given as goal
+use Rattle.hashbag_core.proofs.bag.HashBag.pairs_value.Given as goal
 
 -- the pairs before this one were written, and their values are items
 abbrev pub invariant-loop-item : goal.invariant-loop-item

@@ -1,0 +1,91 @@
+-- What one insertion leaves of a whole bag, and what insertions in turn leave.
+use Rattle.std.specs.Prelude.{◌≡◌, ℕ, ◌+◌, ◌<◌, ◌≤◌, ◌⊎◌, Bool, List, [], ◌∷◌, length, Option, Some}
+use denote.Ref.{Bor}
+use Rattle.std.specs.List.{AllZip}
+use Rattle.std.specs.Iterator.{Drains, YieldsThen}
+use Rattle.hashbag_table.specs.Tables.{room, Arrives}
+use Rattle.hashbag_core.specs.declared.bag.BagError.{BagError}
+use Rattle.hashbag_core.specs.declared.bag.BagError.TheVariants.{Memory}
+use Rattle.hashbag_core.specs.Bag.{Bag, IsBagOf, limited}
+use Rattle.hashbag_core.specs.Extends.{CloneOnce, CloneAsOften, Refuses, RefusesClones}
+use Rattle.hashbag_core.specs.Held.{Recounts, no_slots}
+use Rattle.hashbag_core.specs.Occurrences.{greatest_total, count, add, distinct_count, IsBag}
+
+-- an empty bag of no slots under this state, for which no limit is set
+abbrev pub empty_bag : {T S : Type 0} → S → Bag T S
+empty_bag hasher = record { items = []; hasher = hasher; tables = no_slots 0; most = greatest_total }
+
+module _ {T S : Type 0} (eq : T → T → Bool) where
+  -- n of v went into the bag `before`, and `after` is what is left. The occurrences; how many distinct values there are; the
+  -- slots, where v was absent and where it was there; and how many slots and how much room there are
+  pub record Inserts (v : T) (n : ℕ) (before after : Bag T S) : Type 0 where
+    pub added : IsBagOf eq before (add eq v n before.items) after
+    pub none : n ≡ 0 → after ≡ before
+    pub len : length after.items ≡ length before.items + n
+    pub set_len : distinct_count eq after.items ≤ distinct_count eq before.items + 1
+    pub same_set : 0 < count eq v before.items → distinct_count eq after.items ≡ distinct_count eq before.items
+    pub new_set : 0 < n → count eq v before.items ≡ 0 → distinct_count eq after.items ≡ distinct_count eq before.items + 1
+    pub arrives : 0 < n → count eq v before.items ≡ 0 → Arrives before.tables after.tables
+    pub slot : 0 < n → 0 < count eq v before.items → Recounts eq v (count eq v before.items + n) before.tables after.tables
+    pub slots : 0 < room before.tables → length after.tables.newer ≡ length before.tables.newer
+    pub less_room : 0 < room before.tables → room before.tables ≤ room after.tables + 1
+    pub same_slots : 0 < count eq v before.items → length after.tables.newer ≡ length before.tables.newer
+    pub same_room : 0 < count eq v before.items → room before.tables ≤ room after.tables
+
+  -- n of v may be refused to a bag, for this reason: for memory only where no room is left
+  pub record IsRefused (bag : Bag T S) (v : T) (n : ℕ) (e : BagError) : Type 0 where
+    pub why : Refuses eq bag.most bag.items v n e
+    pub full : e ≡ Memory → room bag.tables ≡ 0
+
+  -- these values went into `before` in turn, each as often as the number beside it, and `after` is what is left
+  abbrev pub InTurn : List (T × ℕ) → Bag T S → Bag T S → Type 0
+  InTurn [] before after = after ≡ before
+  InTurn (p ∷ pairs) before after = (middle : Bag T S) × Inserts p.0 p.1 before middle × InTurn pairs middle after
+
+  -- the bag is what these pairs made in turn of an empty one of no slots, under its state and with its limit
+  abbrev pub IsMadeOf : List (T × ℕ) → Bag T S → Type 0
+  IsMadeOf pairs bag = InTurn pairs (limited bag.most (empty_bag bag.hasher)) bag
+
+  module _ {I A : Type 0} (steps : I → Option A → I → Type 0) (Goes : A → T × ℕ → Type 0) where
+    -- all items that an iterator gave went in in turn
+    pub record InsertsAll (it : I) (before after : Bag T S) : Type 0 where
+      pub bag : IsBag eq before.most before.items
+      pub items : List A
+      pub came : Drains steps it items
+      pub pairs : List (T × ℕ)
+      pub went : AllZip Goes items pairs
+      pub turn : InTurn pairs before after
+
+    -- the items before one went in in turn, and that one was refused to what is left
+    pub record InsertsUpTo (Why : Bag T S → A → BagError → Type 0) (it : I) (before after : Bag T S) (e : BagError) : Type 0 where
+      pub bag : IsBag eq before.most before.items
+      pub items : List A
+      pub refused : A
+      pub rest : I
+      pub came : YieldsThen steps it items (Some refused) rest
+      pub pairs : List (T × ℕ)
+      pub went : AllZip Goes items pairs
+      pub turn : InTurn pairs before after
+      pub why : Why after refused e
+
+  -- an item may be refused that goes in once, or as often as the number beside it
+  abbrev pub RefusesOne : Bag T S → T → BagError → Type 0
+  RefusesOne bag v e = IsRefused bag v 1 e
+
+  abbrev pub RefusesPair : Bag T S → T × ℕ → BagError → Type 0
+  RefusesPair bag p e = IsRefused bag p.0 p.1 e
+
+  -- n clones of v may be: for memory only where a clone of v may be refused it, or where n of a clone may
+  module _ (is_clone : T → T → Type 0) (is_infallible : T → Type 0) where
+    pub record IsCloneRefused (bag : Bag T S) (v : T) (n : ℕ) (e : BagError) : Type 0 where
+      pub why : RefusesClones bag.most bag.items n e
+      pub memory : e ≡ Memory → (¬ (is_infallible v)) ⊎ ((x : T) × is_clone v x × IsRefused bag x n e)
+
+    module _ {I : Type 0} where
+      -- clones of the values before one that is lent went in in turn, and a clone of that one was refused
+      abbrev pub ClonesUpTo : (I → Option (Bor T) → I → Type 0) → I → Bag T S → Bag T S → BagError → Type 0
+      ClonesUpTo steps it before after e = InsertsUpTo steps (CloneOnce is_clone) (λ bag v e. IsCloneRefused bag v.now 1 e) it before after e
+
+      -- the same of pairs
+      abbrev pub ClonesManyUpTo : (I → Option (Bor T × ℕ) → I → Type 0) → I → Bag T S → Bag T S → BagError → Type 0
+      ClonesManyUpTo steps it before after e = InsertsUpTo steps (CloneAsOften is_clone) (λ bag p e. IsCloneRefused bag p.0.now p.1 e) it before after e

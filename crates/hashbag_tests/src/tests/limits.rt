@@ -1,0 +1,208 @@
+//! Bags with a limit, with the answers found by hand, and what a refused call leaves.
+use hashbag::{FixedState, HashBag};
+use hashbag_bench::{IdentityState, OneState, ParityState};
+use hashbag_rows::calls::{answer, make_calls, make_rows};
+use hashbag_rows::texts::is_text;
+use std::alloc::Global;
+use std::hash::BuildHasher;
+use std::test::Fail;
+
+// `set` is `and_modify` that sets the count.
+const ROWS: &str = "\
+    [a limit of five]
+    with_limit 5 = ()
+    insert_many 1 3 = 0
+    insert_many 2 3 = TooMany
+    len = 3
+    insert_many 2 2 = 0
+    insert 1 = TooMany
+    insert_many 1 0 = 3
+    len = 5
+    replace 1 = 3
+    len = 3
+    replace 9 = 0
+    len = 4
+    set 2 3 = ()
+    len = 5
+    set 2 4 = TooMany
+    contains 2 = 3
+    or_insert 8 = TooMany
+    or_insert_many 8 0 = 0
+    set_limit 4 = BelowTotal
+    limit = 5
+    set_limit 5 = ()
+    limit = 5
+    set_limit 18446744073709551615 = ()
+    limit = 18446744073709551615
+
+    [a limit of none]
+    with_limit 0 = ()
+    insert 1 = TooMany
+    replace 1 = TooMany
+    insert_many 1 0 = 0
+    tables = (0, 0, 0)
+
+    [an extend up to the limit]
+    with_limit 4 = ()
+    extend_many 1:2 2:0 3:3 1:1 = TooMany
+    contains 1 = 2
+    contains 3 = 0
+    len = 2
+
+    [no limit set]
+    limit = 18446744073709551615
+    insert 1 = 0
+    insert_many 2 18446744073709551615 = TooMany
+    len = 1";
+
+// What leaves the limit of a bag, and what ends it.
+const KEPT: &str = "\
+    [calls leave the limit]
+    with_limit 9 = ()
+    insert_many 1 3 = 0
+    remove 1 = 3
+    retain_none = ()
+    limit = 9
+    insert_many 2 4 = 0
+    clear = ()
+    limit = 9
+    extend_many 1:2 2:3 = ()
+    reserve 40 = ()
+    shrink_to_fit = ()
+    limit = 9
+    insert_many 7 5 = TooMany
+    insert_many 7 4 = 0
+    default_in = ()
+    limit = 18446744073709551615";
+
+// Calls that would pass a limit by one. The number that does so stands at the end.
+const BY_NUMBER: [&str; 5] = [
+    "insert_many 100 ",
+    "insert_many 1 ",
+    "or_insert_many 100 ",
+    "extend_many 100:",
+    "extend_refs_many 1:",
+];
+
+// Those that would pass it in a full bag.
+const BY_ONE: [&str; 7] = [
+    "insert 100",
+    "insert 1",
+    "replace 100",
+    "or_insert 100",
+    "extend [100, 1]",
+    "extend_refs [1, 100]",
+    "extend_many 100:0 1:1",
+];
+
+// The bag, its limit and its two tables.
+fn state_of<S: BuildHasher + Drop>(
+    alloc: Global,
+    bag: &HashBag<u64, S>,
+) -> Result<String, Fail> {
+    let (len, limit) = (bag.len(), bag.limit());
+    let tables = (bag.slots(), bag.waiting(), bag.room());
+    Ok(format!(in alloc; "{bag:?} of {len} below {limit} in {tables:?}")?)
+}
+
+// The call answers that, and leaves the bag and its tables.
+fn changes_nothing<S: BuildHasher + Default + Drop>(
+    alloc: Global,
+    bag: &mut HashBag<u64, S>,
+    call: &str,
+    wanted: &str,
+) -> Result<(), Fail> {
+    let before = state_of(alloc, bag)?;
+    is_text(call, answer(alloc, bag, call)?.as_str(), wanted)?;
+    is_text(call, state_of(alloc, bag)?.as_str(), before.as_str())?;
+    Ok(())
+}
+
+// Each call that would pass the limit of the bag is refused.
+fn refuses_past<S: BuildHasher + Default + Drop>(
+    alloc: Global,
+    bag: &mut HashBag<u64, S>,
+) -> Result<(), Fail> {
+    let left = bag.limit() - bag.len();
+    if left == usize::MAX {
+        return Ok(());
+    }
+    let past = left + 1;
+    for call in BY_NUMBER {
+        let call = format!(in alloc; "{call}{past}")?;
+        changes_nothing(alloc, bag, call.as_str(), "TooMany")?;
+    }
+    // The value 1 is there once where it is there.
+    if let (1, Some(n)) = (bag.contains(&1), past.checked_add(1)) {
+        let call = format!(in alloc; "set 1 {n}")?;
+        changes_nothing(alloc, bag, call.as_str(), "TooMany")?;
+    }
+    if left == 0 {
+        for call in BY_ONE {
+            changes_nothing(alloc, bag, call, "TooMany")?;
+        }
+    }
+    Ok(())
+}
+
+// A bag of the values from 1 to `last`, with each limit: a limit below the total is refused, and so is what would pass one.
+fn refuses_each<S: BuildHasher + Default + Drop>(alloc: Global, last: u64) -> Result<(), Fail> {
+    let mut bag: HashBag<u64, S> = HashBag::default_in(alloc);
+    for value in 1..=last {
+        bag.insert(value)?;
+    }
+    let len = bag.len();
+    for limit in [0, 1, len, len.saturating_add(1), usize::MAX] {
+        let call = format!(in alloc; "set_limit {limit}")?;
+        if limit < len {
+            changes_nothing(alloc, &mut bag, call.as_str(), "BelowTotal")?;
+        } else {
+            make_limited(alloc, &mut bag, limit)?;
+        }
+    }
+    Ok(())
+}
+
+// Sets the limit, and tries what passes it and what asks for nothing.
+fn make_limited<S: BuildHasher + Default + Drop>(
+    alloc: Global,
+    bag: &mut HashBag<u64, S>,
+    limit: usize,
+) -> Result<(), Fail> {
+    bag.set_limit(limit)?;
+    refuses_past(alloc, bag)?;
+    changes_nothing(alloc, bag, "insert_many 100 0", "0")?;
+    changes_nothing(alloc, bag, "or_insert_many 100 0", "0")?;
+    changes_nothing(alloc, bag, "extend []", "()")
+}
+
+// No values, one, as many as fill the first table, and as many as leave sixteen slots of the older table waiting.
+fn limits_under<S: BuildHasher + Default + Copy>(alloc: Global, state: S) -> Result<(), Fail> {
+    make_rows(alloc, state, ROWS, 42)?;
+    make_rows(alloc, state, KEPT, 17)?;
+    for last in [0, 1, 12, 25] {
+        refuses_each::<S>(alloc, last)?;
+    }
+    let mut bag: HashBag<u64, S> = HashBag::default_in(alloc);
+    make_calls(alloc, &mut bag, "tables = (0, 0, 0)", 1)
+}
+
+#[test]
+fn limits_of_fixed_state(rt: HostRuntime) -> Result<(), Fail> {
+    limits_under(rt.alloc(), FixedState::new())
+}
+
+#[test]
+fn limits_of_one_state(rt: HostRuntime) -> Result<(), Fail> {
+    limits_under(rt.alloc(), OneState)
+}
+
+#[test]
+fn limits_of_parity_state(rt: HostRuntime) -> Result<(), Fail> {
+    limits_under(rt.alloc(), ParityState)
+}
+
+#[test]
+fn limits_of_identity_state(rt: HostRuntime) -> Result<(), Fail> {
+    limits_under(rt.alloc(), IdentityState)
+}
