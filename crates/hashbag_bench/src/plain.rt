@@ -103,6 +103,15 @@ impl<T: Eq + Copy> PlainBag<T> {
         others.copied().collect(self.alloc)
     }
 
+    // All occurrences but `n` of a value, or all of it where they are fewer, in a list of their own.
+    fn fewer(&self, value: &T, n: usize) -> Result<Vec<T>, AllocError>
+        ensures { IfOk result (λ items. items.items ≡ less T.eq value.now n self.now.items) }
+    {
+        let others = self.items.iter().filter(|item| *value != **item);
+        let alike = self.items.iter().filter(|item| *value == **item);
+        others.chain(alike.skip(n)).copied().collect(self.alloc)
+    }
+
     /// Adds `n` occurrences of a value at the end of the list: of the instance that is there, or else of the value handed
     /// in. Where memory is refused, nothing changes.
     pub fn add(&mut self, value: T, n: usize) -> Result<(), AllocError>
@@ -122,9 +131,7 @@ impl<T: Eq + Copy> PlainBag<T> {
         ensures taken { OnOk result (self.new ≡ holding (less T.eq value.now n self.old.items) self.old) }
         ensures err { OnErr result (self.new ≡ self.old) }
     {
-        let others = self.items.iter().filter(|item| *value != **item);
-        let alike = self.items.iter().filter(|item| *value == **item);
-        self.items = others.chain(alike.skip(n)).copied().collect(self.alloc)?;
+        self.items = self.fewer(value, n)?;
         Ok(())
     }
 

@@ -199,10 +199,10 @@ fn two_insertions<'a>(
     alloc: Global,
     values: &'a Values,
 ) -> Result<Vec<Step<Counted<'a>>>, AllocError> {
-    vec![in alloc;
+    Ok(vec![in alloc;
         Step::Insert(values.value(9)),
         Step::Insert(values.value(13)),
-    ]
+    ]?)
 }
 
 // A run of two steps on a bag with no room, of which the second asks for memory. Where the replies have no room, neither is done.
