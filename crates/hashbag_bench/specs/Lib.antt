@@ -2,3 +2,4 @@ pub mod Deliveries
 pub mod LastNumber
 pub mod Ledger
 pub mod Named
+pub mod Plain

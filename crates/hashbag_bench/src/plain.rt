@@ -1,30 +1,33 @@
 //! `PlainBag`: the plain, slow program that a bag is compared with.
-ghost use Rattle.std.specs.Prelude.{◌≡◌, ◌↔◌, [], length, IsTrue, IfOk, OnOk, OnErr};
+ghost use Rattle.std.specs.Prelude.{◌≡◌, ◌+◌, ◌<◌, ◌↔◌, [], length, IsTrue, IfOk, OnOk, OnErr};
 ghost use Rattle.hashbag.specs.Occurrences.{greatest_total, others, count, add, less, put, instance};
-ghost use Rattle.hashbag.specs.Rows.{insert_row, replace_row, remove_row, remove_up_to_row, try_take_row, take_all_row, entry_set_row, entry_or_row, quota as quota_of, retained, retain_row, clear_row, count_row};
-ghost use Rattle.hashbag.specs.Script.{step as step_of};
+ghost use Rattle.hashbag.specs.Rows.{insert_row, replace_row, remove_row, remove_up_to_row, try_take_row, take_all_row, entry_set_row, entry_or_row, quota as quota_of, retained, retain_row, count_row, limit_row};
+ghost use Rattle.hashbag.specs.Script.{step as step_of, limit_after};
+ghost use Rattle.hashbag_bench.specs.Plain.{holding};
 
 use hashbag::script::{Reply, Step};
 use std::alloc::{AllocError, Global};
 use std::marker::Model;
 
-/// A bag of values as the plain list of its occurrences, in an order that means nothing.
+/// A bag of values as the plain list of its occurrences, in an order that means nothing, and a limit: the steps don't make the list
+/// longer than that.
 ///
 /// It needs no hash and no order of the values, and is slow: most calls look at each occurrence. Contracts see a plain bag
-/// as that list.
+/// as that list and that limit.
 #[derive(Drop)]
 pub struct PlainBag<T: Eq + Copy> {
     items: Vec<T>,
+    most: usize,
     // What a list that is made anew lies on.
     alloc: Global,
 }
 
 impl<T: Eq + Copy> Model for PlainBag<T> {
-    ghost use Rattle.std.specs.Prelude.{List};
+    ghost use Rattle.hashbag_bench.specs.Plain.{Plain};
 
-    ghost Value = { List T };
+    ghost Value = { Plain T };
 
-    ghost view = { λ a. a.items.items };
+    ghost view = { λ a. record { items = a.items.items; most = a.most } };
 }
 
 // The number beside the first value of the list that is equal to this one, 0 where there is none.
@@ -38,63 +41,81 @@ fn quota<T: Eq>(list: &[(T, usize)], value: &T) -> usize
 }
 
 impl<T: Eq + Copy> PlainBag<T> {
-    /// An empty bag. It takes no memory.
+    /// An empty bag whose limit is `usize::MAX`. It takes no memory.
     pub fn new(alloc: Global) -> PlainBag<T>
-        ensures { result ≡ [] }
+        ensures empty { result.items ≡ [] }
+        ensures limit { result.most ≡ greatest_total }
     {
         PlainBag {
             items: Vec::new(alloc),
+            most: usize::MAX,
             alloc,
         }
     }
 
+    // Whether the list would be longer than the limit if it had so many items and `n` more.
+    fn passes(&self, len: usize, n: usize) -> bool
+        ensures { IsTrue result ↔ (self.now.most < len + n) }
+    {
+        self.most < len || n > self.most - len
+    }
+
     /// The occurrences, each with its instance, in the list's order.
     pub fn items(&self) -> &[T]
-        ensures { result.now ≡ self.now }
+        ensures { result.now ≡ self.now.items }
     {
         &self.items
     }
 
     /// The number of occurrences: the sum of all counts.
     pub fn len(&self) -> usize
-        ensures { result ≡ length self.now }
+        ensures { result ≡ length self.now.items }
     {
         self.items.len()
     }
 
     /// Whether there are no occurrences.
     pub fn is_empty(&self) -> bool
-        ensures { IsTrue result ↔ (self.now ≡ []) }
+        ensures { IsTrue result ↔ (self.now.items ≡ []) }
     {
         self.items.is_empty()
     }
 
     /// How often a value occurs, 0 where it is absent. It looks at each occurrence.
     pub fn count(&self, value: &T) -> usize
-        ensures { result ≡ count T.eq value.now self.now }
+        ensures { result ≡ count T.eq value.now self.now.items }
     {
         self.items.iter().filter(|item| *value == **item).count()
     }
 
     // The instance that is there of a value, or `None` where the value is absent.
     fn instance(&self, value: &T) -> Option<T>
-        ensures { result ≡ instance T.eq value.now self.now }
+        ensures { result ≡ instance T.eq value.now self.now.items }
     {
         self.items.iter().copied().find(|item| *value == *item)
     }
 
     // The occurrences of all other values, in a list of their own.
     fn others(&self, value: &T) -> Result<Vec<T>, AllocError>
-        ensures { IfOk result (λ items. items.items ≡ others T.eq value.now self.now) }
+        ensures { IfOk result (λ items. items.items ≡ others T.eq value.now self.now.items) }
     {
         let others = self.items.iter().filter(|item| *value != **item);
         others.copied().collect(self.alloc)
     }
 
+    // All occurrences but `n` of a value, or all of it where they are fewer, in a list of their own.
+    fn fewer(&self, value: &T, n: usize) -> Result<Vec<T>, AllocError>
+        ensures { IfOk result (λ items. items.items ≡ less T.eq value.now n self.now.items) }
+    {
+        let others = self.items.iter().filter(|item| *value != **item);
+        let alike = self.items.iter().filter(|item| *value == **item);
+        others.chain(alike.skip(n)).copied().collect(self.alloc)
+    }
+
     /// Adds `n` occurrences of a value at the end of the list: of the instance that is there, or else of the value handed
     /// in. Where memory is refused, nothing changes.
     pub fn add(&mut self, value: T, n: usize) -> Result<(), AllocError>
-        ensures added { OnOk result (self.new ≡ add T.eq value n self.old) }
+        ensures added { OnOk result (self.new ≡ holding (add T.eq value n self.old.items) self.old) }
         ensures err { OnErr result (self.new ≡ self.old) }
     {
         let instance = self.instance(&value).unwrap_or(value);
@@ -107,12 +128,10 @@ impl<T: Eq + Copy> PlainBag<T> {
     ///
     /// The list is made anew. Where memory for it is refused, nothing changes.
     pub fn less(&mut self, value: &T, n: usize) -> Result<(), AllocError>
-        ensures taken { OnOk result (self.new ≡ less T.eq value.now n self.old) }
+        ensures taken { OnOk result (self.new ≡ holding (less T.eq value.now n self.old.items) self.old) }
         ensures err { OnErr result (self.new ≡ self.old) }
     {
-        let others = self.items.iter().filter(|item| *value != **item);
-        let alike = self.items.iter().filter(|item| *value == **item);
-        self.items = others.chain(alike.skip(n)).copied().collect(self.alloc)?;
+        self.items = self.fewer(value, n)?;
         Ok(())
     }
 
@@ -120,7 +139,7 @@ impl<T: Eq + Copy> PlainBag<T> {
     ///
     /// The list is made anew. Where memory for it is refused, nothing changes.
     pub fn put(&mut self, value: T, n: usize) -> Result<(), AllocError>
-        ensures put { OnOk result (self.new ≡ put T.eq value n self.old) }
+        ensures put { OnOk result (self.new ≡ holding (put T.eq value n self.old.items) self.old) }
         ensures err { OnErr result (self.new ≡ self.old) }
     {
         let mut items = self.others(&value)?;
@@ -135,7 +154,7 @@ impl<T: Eq + Copy> PlainBag<T> {
     ///
     /// The list of occurrences is made anew. Where memory for it is refused, nothing changes.
     pub fn retain(&mut self, list: &[(T, usize)]) -> Result<(), AllocError>
-        ensures kept { OnOk result (self.new ≡ retained T.eq (quota_of T.eq list.now) self.old) }
+        ensures kept { OnOk result (self.new ≡ holding (retained T.eq (quota_of T.eq list.now) self.old.items) self.old) }
         ensures err { OnErr result (self.new ≡ self.old) }
     {
         let mut kept = Vec::new(self.alloc);
@@ -152,17 +171,18 @@ impl<T: Eq + Copy> PlainBag<T> {
 
     /// Takes all occurrences out. It takes no memory.
     pub fn clear(&mut self)
-        ensures { self.new ≡ [] }
+        ensures { self.new ≡ holding [] self.old }
     {
         self.items.clear();
     }
 
     // What `insert` and `insert_many` do.
     fn insert_row(&mut self, value: T, n: usize) -> Result<Reply<T>, AllocError>
-        ensures done { IfOk result (λ reply. (self.new, reply) ≡ insert_row T.eq greatest_total value n self.old) }
+        ensures done { IfOk result (λ reply. (self.new.items, reply) ≡ insert_row T.eq self.old.most value n self.old.items) }
+        ensures limit { self.new.most ≡ self.old.most }
         ensures err { OnErr result (self.new ≡ self.old) }
     {
-        if n > usize::MAX - self.len() {
+        if self.passes(self.len(), n) {
             return Ok(Reply::TooMany);
         }
         let before = self.count(&value);
@@ -172,11 +192,12 @@ impl<T: Eq + Copy> PlainBag<T> {
 
     // What `replace` does.
     fn replace_row(&mut self, value: T) -> Result<Reply<T>, AllocError>
-        ensures done { IfOk result (λ reply. (self.new, reply) ≡ replace_row T.eq greatest_total value self.old) }
+        ensures done { IfOk result (λ reply. (self.new.items, reply) ≡ replace_row T.eq self.old.most value self.old.items) }
+        ensures limit { self.new.most ≡ self.old.most }
         ensures err { OnErr result (self.new ≡ self.old) }
     {
         let before = self.count(&value);
-        if self.len().saturating_sub(before) == usize::MAX {
+        if self.passes(self.len().saturating_sub(before), 1) {
             return Ok(Reply::TooMany);
         }
         self.put(value, 1)?;
@@ -185,7 +206,8 @@ impl<T: Eq + Copy> PlainBag<T> {
 
     // What `remove` does.
     fn remove_row(&mut self, value: &T) -> Result<Reply<T>, AllocError>
-        ensures done { IfOk result (λ reply. (self.new, reply) ≡ remove_row T.eq value.now self.old) }
+        ensures done { IfOk result (λ reply. (self.new.items, reply) ≡ remove_row T.eq value.now self.old.items) }
+        ensures limit { self.new.most ≡ self.old.most }
         ensures err { OnErr result (self.new ≡ self.old) }
     {
         let before = self.count(value);
@@ -195,7 +217,8 @@ impl<T: Eq + Copy> PlainBag<T> {
 
     // What `remove_up_to` does.
     fn remove_up_to_row(&mut self, value: &T, quantity: usize) -> Result<Reply<T>, AllocError>
-        ensures done { IfOk result (λ reply. (self.new, reply) ≡ remove_up_to_row T.eq value.now quantity self.old) }
+        ensures done { IfOk result (λ reply. (self.new.items, reply) ≡ remove_up_to_row T.eq value.now quantity self.old.items) }
+        ensures limit { self.new.most ≡ self.old.most }
         ensures err { OnErr result (self.new ≡ self.old) }
     {
         let before = self.count(value);
@@ -205,7 +228,8 @@ impl<T: Eq + Copy> PlainBag<T> {
 
     // What `try_take` does.
     fn try_take_row(&mut self, value: &T) -> Result<Reply<T>, AllocError>
-        ensures done { IfOk result (λ reply. (self.new, reply) ≡ try_take_row T.eq value.now self.old) }
+        ensures done { IfOk result (λ reply. (self.new.items, reply) ≡ try_take_row T.eq value.now self.old.items) }
+        ensures limit { self.new.most ≡ self.old.most }
         ensures err { OnErr result (self.new ≡ self.old) }
     {
         let instance = self.instance(value).unwrap_or(*value);
@@ -224,7 +248,8 @@ impl<T: Eq + Copy> PlainBag<T> {
 
     // What `take_all` does.
     fn take_all_row(&mut self, value: &T) -> Result<Reply<T>, AllocError>
-        ensures done { IfOk result (λ reply. (self.new, reply) ≡ take_all_row T.eq value.now self.old) }
+        ensures done { IfOk result (λ reply. (self.new.items, reply) ≡ take_all_row T.eq value.now self.old.items) }
+        ensures limit { self.new.most ≡ self.old.most }
         ensures err { OnErr result (self.new ≡ self.old) }
     {
         let instance = self.instance(value).unwrap_or(*value);
@@ -238,7 +263,8 @@ impl<T: Eq + Copy> PlainBag<T> {
 
     // What an entry's `and_modify` does where it sets the count.
     fn entry_set_row(&mut self, value: &T, n: usize) -> Result<Reply<T>, AllocError>
-        ensures done { IfOk result (λ reply. (self.new, reply) ≡ entry_set_row T.eq greatest_total value.now n self.old) }
+        ensures done { IfOk result (λ reply. (self.new.items, reply) ≡ entry_set_row T.eq self.old.most value.now n self.old.items) }
+        ensures limit { self.new.most ≡ self.old.most }
         ensures err { OnErr result (self.new ≡ self.old) }
     {
         let instance = self.instance(value).unwrap_or(*value);
@@ -246,7 +272,7 @@ impl<T: Eq + Copy> PlainBag<T> {
         if before == 0 {
             return Ok(Reply::Absent);
         }
-        if n > usize::MAX - self.len().saturating_sub(before) {
+        if self.passes(self.len().saturating_sub(before), n) {
             return Ok(Reply::TooMany);
         }
         self.put(instance, n)?;
@@ -255,14 +281,15 @@ impl<T: Eq + Copy> PlainBag<T> {
 
     // What an entry's `or_insert_many` does.
     fn entry_or_row(&mut self, value: T, quantity: usize) -> Result<Reply<T>, AllocError>
-        ensures done { IfOk result (λ reply. (self.new, reply) ≡ entry_or_row T.eq greatest_total value quantity self.old) }
+        ensures done { IfOk result (λ reply. (self.new.items, reply) ≡ entry_or_row T.eq self.old.most value quantity self.old.items) }
+        ensures limit { self.new.most ≡ self.old.most }
         ensures err { OnErr result (self.new ≡ self.old) }
     {
         let before = self.count(&value);
         if before > 0 {
             return Ok(Reply::Count(before));
         }
-        if quantity > usize::MAX - self.len() {
+        if self.passes(self.len(), quantity) {
             return Ok(Reply::TooMany);
         }
         self.add(value, quantity)?;
@@ -271,16 +298,29 @@ impl<T: Eq + Copy> PlainBag<T> {
 
     // What `retain` does.
     fn retain_row(&mut self, list: &[(T, usize)]) -> Result<Reply<T>, AllocError>
-        ensures done { IfOk result (λ reply. (self.new, reply) ≡ retain_row T.eq list.now self.old) }
+        ensures done { IfOk result (λ reply. (self.new.items, reply) ≡ retain_row T.eq list.now self.old.items) }
+        ensures limit { self.new.most ≡ self.old.most }
         ensures err { OnErr result (self.new ≡ self.old) }
     {
         self.retain(list)?;
         Ok(Reply::Done)
     }
 
+    // What `set_limit` does.
+    fn limit_row(&mut self, most: usize) -> Reply<T>
+        ensures done { (self.new.items, result) ≡ limit_row T.eq most self.old.items }
+        ensures limit { self.new.most ≡ limit_after T.eq self.old.most self.old.items (Step.Limit most) }
+    {
+        if most < self.len() {
+            return Reply::BelowTotal;
+        }
+        self.most = most;
+        Reply::Done
+    }
+
     // What `contains` does.
     fn count_row(&self, value: &T) -> Reply<T>
-        ensures { (self.now, result) ≡ count_row T.eq value.now self.now }
+        ensures { (self.now.items, result) ≡ count_row T.eq value.now self.now.items }
     {
         Reply::Count(self.count(value))
     }
@@ -288,7 +328,8 @@ impl<T: Eq + Copy> PlainBag<T> {
     /// Does one step, and answers it. Where memory is refused, nothing changes. The steps that make or give room change
     /// nothing here.
     pub fn apply(&mut self, step: Step<T>) -> Result<Reply<T>, AllocError>
-        ensures done { IfOk result (λ reply. (self.new, reply) ≡ step_of T.eq greatest_total self.old step) }
+        ensures done { IfOk result (λ reply. (self.new.items, reply) ≡ step_of T.eq self.old.most self.old.items step) }
+        ensures limit { OnOk result (self.new.most ≡ limit_after T.eq self.old.most self.old.items step) }
         ensures err { OnErr result (self.new ≡ self.old) }
     {
         match step {
@@ -308,8 +349,7 @@ impl<T: Eq + Copy> PlainBag<T> {
             }
             Step::Count(value) => Ok(self.count_row(&value)),
             Step::Reserve(_) | Step::ShrinkToFit => Ok(Reply::Done),
-            Step::Limit(most) if most < self.len() => Ok(Reply::BelowTotal),
-            Step::Limit(_) => Ok(Reply::Done),
+            Step::Limit(most) => Ok(self.limit_row(most)),
         }
     }
 }

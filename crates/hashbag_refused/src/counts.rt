@@ -2,6 +2,7 @@
 use crate::checks::{Refusals, Wrong, check};
 use hashbag::HashBag;
 use std::alloc::Global;
+use std::hash::{BuildHasher, Hash};
 
 /// Counts of 5, 6 and 7.
 pub type Counts = (usize, usize, usize);
@@ -17,8 +18,8 @@ pub fn has_counts(bag: &HashBag<u64>, counts: Counts, wrong: &'static str) -> Re
 }
 
 /// Inserts two of a value, of which there must be so many, and answers whether they went in.
-pub fn insert_two(
-    bag: &mut HashBag<u64>,
+pub fn insert_two<S: BuildHasher + Drop>(
+    bag: &mut HashBag<u64, S>,
     value: u64,
     before: usize,
     refusals: &mut Refusals,
@@ -31,7 +32,9 @@ pub fn insert_two(
 }
 
 /// The slots of a bag's newer table, those of the older one that wait, and the room.
-pub fn tables_of(bag: &HashBag<u64>) -> (usize, usize, usize) {
+pub fn tables_of<T: Eq + Hash + Drop, S: BuildHasher + Drop>(
+    bag: &HashBag<T, S>,
+) -> (usize, usize, usize) {
     (bag.slots(), bag.waiting(), bag.room())
 }
 

@@ -75,16 +75,13 @@ fn replace(
     Ok(true)
 }
 
-/// Replaces a value that is there, and one that isn't.
+/// Replaces a value that is there, and one that isn't, for which there is room: neither asks for memory.
 pub fn replacements(alloc: Global, refusals: &mut Refusals) -> Result<(), Wrong> {
     let mut bag = two_fives(alloc, refusals)?;
     let done = replace(&mut bag, 5, 2, refusals)?;
     check(done, "replace: of a value that is there, refused")?;
     has_counts(&bag, (1, 0, 0), "replace: of a value that is there")?;
-    let six = if replace(&mut bag, 6, 0, refusals)? {
-        1
-    } else {
-        0
-    };
-    has_counts(&bag, (1, six, 0), "replace: of an absent value")
+    let done = replace(&mut bag, 6, 0, refusals)?;
+    check(done, "replace: of an absent value, refused with room")?;
+    has_counts(&bag, (1, 1, 0), "replace: of an absent value")
 }

@@ -9,6 +9,7 @@
 mod checks;
 mod counts;
 mod extends;
+mod full;
 mod insertions;
 mod pairs;
 mod room;
@@ -26,7 +27,7 @@ use std::process::ExitCode;
 use std::str;
 
 // More requests than the script refuses of the calls.
-const SPARE: usize = 300;
+const SPARE: usize = 600;
 
 // What to do.
 #[derive(Clone, Copy)]
@@ -56,12 +57,13 @@ fn strict_calls(alloc: Global, refusals: &mut Refusals) -> Result<(), Wrong> {
     room::room_from_the_start(alloc, refusals)?;
     room::room_given_back(alloc, refusals)?;
     room::reserved_room(alloc, refusals)?;
-    room::room_in_a_carry(alloc, refusals)?;
+    full::full_bags(alloc, refusals)?;
     extends::extends(alloc, refusals)?;
     extends::collections(alloc, refusals)?;
     texts::cloned_names(alloc, refusals)?;
     trees::trees(alloc, refusals)?;
     trees::faulty_trees(alloc, refusals)?;
+    trees::trees_without_memory(alloc, refusals)?;
     runs::runs(alloc, refusals)
 }
 

@@ -1,6 +1,6 @@
 //! Runs on two bags, and their joins.
 use crate::checks::{Refusals, Wrong, check};
-use crate::room::has_room;
+use crate::counts::tables_of;
 use hashbag::HashBag;
 use hashbag::script::{Reply, Step, joins_of, run_pair};
 use std::alloc::{AllocFailed, Global};
@@ -35,17 +35,36 @@ const AFTER_A: [(usize, usize); 5] = [(0, 0), (3, 0), (3, 1), (1, 1), (1, 1)];
 
 const AFTER_B: [(usize, usize); 5] = [(0, 0), (0, 1), (2, 1), (2, 0), (2, 0)];
 
+// The slots of each bag, those that wait, and the room, after each number of its steps.
+const TABLES_AFTER_A: [(usize, usize, usize); 5] = [
+    (0, 0, 0),
+    (16, 0, 11),
+    (16, 0, 10),
+    (16, 0, 10),
+    (64, 0, 46),
+];
+
+const TABLES_AFTER_B: [(usize, usize, usize); 5] = [
+    (0, 0, 0),
+    (16, 0, 11),
+    (16, 0, 10),
+    (16, 0, 10),
+    (16, 0, 10),
+];
+
 // Checks that the replies are the first of these, and that the bag has the counts that go with as many.
 fn is_at(
     bag: &HashBag<u64>,
     replies: &[Reply<u64>],
     wanted: &[Reply<u64>],
     after: &[(usize, usize); 5],
+    tables: &[(usize, usize, usize); 5],
     wrong: &'static str,
 ) -> Result<(), Wrong> {
     if replies.len() >= after.len() {
         return Err(Wrong(wrong));
     }
+    check(tables_of(bag) == tables[replies.len()], wrong)?;
     let (five, six) = after[replies.len()];
     check((bag.contains(&5), bag.contains(&6)) == (five, six), wrong)?;
     check(bag.len() == five.saturating_add(six), wrong)?;
@@ -68,14 +87,28 @@ fn are_at(
         Reply::Count(3),
         Reply::Done,
     ];
-    is_at(a, replies_a, &wanted, &AFTER_A, "run_pair: the first bag")?;
+    is_at(
+        a,
+        replies_a,
+        &wanted,
+        &AFTER_A,
+        &TABLES_AFTER_A,
+        "run_pair: the first bag",
+    )?;
     let wanted = [
         Reply::Count(0),
         Reply::Count(0),
         Reply::Count(1),
         Reply::Done,
     ];
-    is_at(b, replies_b, &wanted, &AFTER_B, "run_pair: the second bag")?;
+    is_at(
+        b,
+        replies_b,
+        &wanted,
+        &AFTER_B,
+        &TABLES_AFTER_B,
+        "run_pair: the second bag",
+    )?;
     check(
         replies_b.is_empty() || replies_a.len() == STEPS,
         "run_pair: the second bag before the first was done",
@@ -102,6 +135,11 @@ fn joins(
     check(
         (b.contains(&5), b.contains(&6)) == (2, 0),
         "joins_of: the second bag",
+    )?;
+    let tables = (tables_of(a), tables_of(b));
+    check(
+        tables == (TABLES_AFTER_A[4], TABLES_AFTER_B[4]),
+        "joins_of: the slots",
     )
 }
 
@@ -119,9 +157,6 @@ fn runs(
     let done = run_pair(a, b, steps_a, steps_b, &mut replies_a, &mut replies_b);
     let done = refusals.is_done(done)?;
     are_at(a, b, replies_a.as_slice(), replies_b.as_slice())?;
-    if replies_a.len() == STEPS {
-        has_room(a, 40, "run_pair: the room")?;
-    }
     check(
         !done || replies_b.len() == STEPS,
         "run_pair: the number of replies",

@@ -1,8 +1,10 @@
 //! Room for values.
 use crate::checks::{Refusals, Wrong, check};
 use crate::counts::{has_counts, insert_two, tables_of, two_fives};
-use hashbag::HashBag;
+use hashbag::{BagError, FixedState, HashBag};
+use hashbag_bench::{IdentityState, OneState, ParityState};
 use std::alloc::Global;
+use std::hash::BuildHasher;
 
 /// Checks that a bag has room for so many values beside those that are there.
 pub fn has_room(bag: &HashBag<u64>, n: usize, wrong: &'static str) -> Result<(), Wrong> {
@@ -60,8 +62,12 @@ pub fn room_from_the_start(alloc: Global, refusals: &mut Refusals) -> Result<(),
 }
 
 // A new bag with room for 13 values.
-fn thirteen(alloc: Global, refusals: &mut Refusals) -> Result<HashBag<u64>, Wrong> {
-    let mut bag = HashBag::new(alloc);
+fn thirteen<S: BuildHasher + Drop>(
+    alloc: Global,
+    state: S,
+    refusals: &mut Refusals,
+) -> Result<HashBag<u64, S>, Wrong> {
+    let mut bag = HashBag::with_hasher(alloc, state);
     if !refusals.is_done(bag.reserve(13))? {
         check(
             tables_of(&bag) == (0, 0, 0),
@@ -73,52 +79,30 @@ fn thirteen(alloc: Global, refusals: &mut Refusals) -> Result<HashBag<u64>, Wron
     Ok(bag)
 }
 
-/// Makes room for 13 values, which then go in without a request for memory: none of them is refused, whichever request is.
-pub fn reserved_room(alloc: Global, refusals: &mut Refusals) -> Result<(), Wrong> {
-    let mut bag = thirteen(alloc, refusals)?;
+// Makes room for 13 values, which then go in without a request for memory: none of them is refused, whichever request is. For more
+// values than there may be it answers `Memory`, and changes nothing.
+fn reserved_under<S: BuildHasher + Drop>(
+    alloc: Global,
+    state: S,
+    refusals: &mut Refusals,
+) -> Result<(), Wrong> {
+    let mut bag = thirteen(alloc, state, refusals)?;
     for value in 0..13 {
         let done = insert_two(&mut bag, value, 0, refusals)?;
         check(done, "reserve: a value that it has room for, refused")?;
     }
+    let answer = bag.reserve(usize::MAX);
+    check(
+        answer == Err(BagError::Memory),
+        "reserve: for too many values",
+    )?;
     check(tables_of(&bag) == (32, 0, 11), "reserve: the slots")
 }
 
-// The numbers below 25, each twice, in a bag in the middle of a carry. `None` where an insertion was refused.
-fn carrying(alloc: Global, refusals: &mut Refusals) -> Result<Option<HashBag<u64>>, Wrong> {
-    let mut bag = HashBag::new(alloc);
-    for value in 0..25 {
-        if !insert_two(&mut bag, value, 0, refusals)? {
-            return Ok(None);
-        }
-    }
-    check(tables_of(&bag) == (64, 16, 23), "carry: the slots")?;
-    Ok(Some(bag))
-}
-
-fn has_25(bag: &HashBag<u64>, wrong: &'static str) -> Result<(), Wrong> {
-    for value in 0..25 {
-        check(bag.contains(&value) == 2, wrong)?;
-    }
-    check(bag.set_len() == 25, wrong)
-}
-
-/// Makes room, gives it back and makes a clone in the middle of a carry: a refusal leaves all slots and all values.
-pub fn room_in_a_carry(alloc: Global, refusals: &mut Refusals) -> Result<(), Wrong> {
-    let Some(mut bag) = carrying(alloc, refusals)? else {
-        return Ok(());
-    };
-    drop(refusals.answer(bag.clone())?);
-    check(tables_of(&bag) == (64, 16, 23), "carry: after a clone")?;
-    let done = refusals.is_done(bag.reserve(100))?;
-    let wanted = if done { (256, 0, 167) } else { (64, 16, 23) };
-    check(tables_of(&bag) == wanted, "carry: after reserve")?;
-    has_25(&bag, "carry: the values after reserve")?;
-    let done = refusals.is_done(bag.shrink_to_fit())?;
-    let wanted = if done && wanted.0 == 256 {
-        (64, 0, 23)
-    } else {
-        wanted
-    };
-    check(tables_of(&bag) == wanted, "carry: after shrink_to_fit")?;
-    has_25(&bag, "carry: the values after shrink_to_fit")
+/// Room for 13 values under each state.
+pub fn reserved_room(alloc: Global, refusals: &mut Refusals) -> Result<(), Wrong> {
+    reserved_under(alloc, FixedState::new(), refusals)?;
+    reserved_under(alloc, OneState, refusals)?;
+    reserved_under(alloc, ParityState, refusals)?;
+    reserved_under(alloc, IdentityState, refusals)
 }

@@ -1,7 +1,6 @@
 //! A run with a step of each kind.
 use crate::checks::{Refusals, Wrong, check};
-use crate::counts::{Counts, has_counts};
-use crate::room::has_room;
+use crate::counts::{Counts, has_counts, tables_of};
 use hashbag::HashBag;
 use hashbag::script::{Reply, Step, run};
 use std::alloc::{AllocError, Global};
@@ -50,8 +49,26 @@ const AFTER: [Counts; 17] = [
     (0, 5, 0),
 ];
 
-// After how many steps the room that the fourth one made is still there, with 5 alone in the bag.
-const ROOMY: usize = 5;
+// The slots, those that wait, and the room after each number of these steps.
+const TABLES_AFTER: [(usize, usize, usize); 17] = [
+    (0, 0, 0),
+    (16, 0, 11),
+    (16, 0, 10),
+    (16, 0, 10),
+    (64, 0, 46),
+    (64, 0, 46),
+    (16, 0, 11),
+    (16, 0, 10),
+    (16, 0, 10),
+    (16, 0, 9),
+    (16, 0, 9),
+    (16, 0, 9),
+    (16, 0, 9),
+    (16, 0, 9),
+    (16, 0, 9),
+    (16, 0, 12),
+    (16, 0, 11),
+];
 
 // What a run leaves is what the steps with replies leave.
 fn runs_of(alloc: Global, steps: Vec<Step<u64>>, refusals: &mut Refusals) -> Result<(), Wrong> {
@@ -63,9 +80,7 @@ fn runs_of(alloc: Global, steps: Vec<Step<u64>>, refusals: &mut Refusals) -> Res
         return Err(Wrong("run: more replies than steps"));
     }
     has_counts(&bag, AFTER[number], "run: the counts")?;
-    if number == ROOMY {
-        has_room(&bag, 40, "run: the room")?;
-    }
+    check(tables_of(&bag) == TABLES_AFTER[number], "run: the slots")?;
     check(!done || number == 16, "run: the number of replies")
 }
 

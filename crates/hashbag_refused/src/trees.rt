@@ -1,5 +1,6 @@
 //! Trees that are read as bags, and bags that are written as trees.
 use crate::checks::{Refusals, Wrong, check};
+use crate::counts::tables_of;
 use hashbag::{FixedState, HashBag, JsonError};
 use serde_json::Value;
 use std::alloc::Global;
@@ -21,7 +22,10 @@ fn written(
     bag: &HashBag<String, FixedState>,
     refusals: &mut Refusals,
 ) -> Result<(), Wrong> {
-    match refusals.answer(bag.to_value(alloc))? {
+    let written = refusals.answer(bag.to_value(alloc))?;
+    let state = (bag.len(), bag.set_len(), tables_of(bag));
+    check(state == (4, 2, (16, 0, 10)), "to_value: the bag")?;
+    match written {
         Some(tree) => check(
             tree.get("pairs")
                 .and_then(Value::as_array)
@@ -69,4 +73,35 @@ pub fn faulty_trees(alloc: Global, refusals: &mut Refusals) -> Result<(), Wrong>
         Some(_) => Err(Wrong("from_value: another fault")),
         None => Err(Wrong("from_value: no fault")),
     }
+}
+
+// Trees that are read without a request for memory, with their faults. The last one is read as an empty bag.
+const WITHOUT_MEMORY: [(&str, Option<JsonError>); 4] = [
+    ("{}", Some(JsonError::NotAnArray)),
+    ("[[\"a\"]]", Some(JsonError::NotAPair(0))),
+    ("[[\"a\",-1]]", Some(JsonError::BadCount(0))),
+    ("[]", None),
+];
+
+// What is wrong with a tree. `None` where its bag is empty.
+fn fault_of(alloc: Global, tree: &Value) -> Result<Option<JsonError>, Wrong> {
+    let read: Result<HashBag<String, FixedState>, JsonError> = HashBag::from_value(alloc, tree);
+    match read {
+        Ok(bag) => {
+            check(bag.is_empty(), "from_value: an empty bag")?;
+            Ok(None)
+        }
+        Err(error) => Ok(Some(error)),
+    }
+}
+
+/// Trees that are read without a request for memory: they answer the same whichever request is refused.
+pub fn trees_without_memory(alloc: Global, refusals: &mut Refusals) -> Result<(), Wrong> {
+    for (text, fault) in WITHOUT_MEMORY {
+        let Some(tree) = tree_of(alloc, text, refusals) else {
+            return Ok(());
+        };
+        check(fault_of(alloc, &tree)? == fault, "from_value: the fault")?;
+    }
+    Ok(())
 }

@@ -164,6 +164,11 @@ fn retain_none<S: BuildHasher + Drop>(bag: &mut HashBag<u64, S>) {
     bag.retain(|_value: &u64, _count: usize| 0);
 }
 
+// Keeps the odd values, with all that they occur.
+fn retain_odd<S: BuildHasher + Drop>(bag: &mut HashBag<u64, S>) {
+    bag.retain(|value: &u64, _count: usize| if *value % 2 == 0 { 0 } else { usize::MAX });
+}
+
 // Keeps of each value as many as it is, and answers how often the closure was called.
 fn retain_itself<S: BuildHasher + Drop>(bag: &mut HashBag<u64, S>) -> usize {
     let mut calls = 0usize;
@@ -310,11 +315,13 @@ fn with_nothing<S: BuildHasher + Default + Drop>(
         "limit" => debug_of(alloc, &bag.limit()),
         "capacity" => debug_of(alloc, &bag.capacity()),
         "tables" => debug_of(alloc, &tables(bag)),
+        "waiting" => debug_of(alloc, &bag.waiting()),
         "iter.count" => debug_of(alloc, &bag.iter().count()),
         "set_iter.count" => debug_of(alloc, &bag.set_iter().count()),
         "clear" => debug_of(alloc, &clear(bag)),
         "shrink_to_fit" => text_of(alloc, shrink_to_fit(bag)),
         "retain_none" => debug_of(alloc, &retain_none(bag)),
+        "retain_odd" => debug_of(alloc, &retain_odd(bag)),
         "retain_itself" => debug_of(alloc, &retain_itself(bag)),
         _ => no_call(verb),
     }

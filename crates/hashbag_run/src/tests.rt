@@ -13,6 +13,14 @@ const STEPS: &str = "a insert 5\na insert 5\na remove 5\na count 5\n";
 const OUTPUT: &str = "a count 0\na count 1\na count 2\na count 1\n\
     outer 5 1 0\ndifference 5 1\nsigned 5 1\nnot_in 5 1\na json [[5,1]]\nb json []\n";
 
+// Steps on two bags, with an empty line among them.
+const TWO_BAGS: &str = "a many 2 1\na many 2 2\nb insert 2\na many 2 4\n\n\
+    b insert 9\na count 2\nb try 9\nb try 9\n";
+
+const TWO_BAGS_OUTPUT: &str = "a count 0\na count 1\na count 3\na count 7\n\
+    b count 0\nb count 0\nb taken 9 1\nb absent\n\
+    outer 2 7 1\ndifference 2 6\nsigned 2 6\na json [[2,7]]\nb json [[2,1]]\n";
+
 // The trees of two empty bags.
 const EMPTY: &str = "a json []\nb json []\n";
 
@@ -96,8 +104,12 @@ impl Write for Sink {
 
 // Runs the program on an input, and compares its status and all that it writes.
 fn answers(alloc: Global, rt: &impl Abort, input: &str, status: u8, wanted: &str) {
+    answers_bytes(alloc, rt, input.as_bytes(), status, wanted);
+}
+
+fn answers_bytes(alloc: Global, rt: &impl Abort, input: &[u8], status: u8, wanted: &str) {
     let mut output = Sink::new(alloc, 0, false);
-    let got = execute(alloc, &mut Pieces::new(input.as_bytes(), 0), &mut output);
+    let got = execute(alloc, &mut Pieces::new(input, 0), &mut output);
     assert_eq!(rt; got, status, "at {input:?}");
     assert_eq!(rt; output.text(), wanted, "at {input:?}");
 }
@@ -143,13 +155,7 @@ fn answers_steps(rt: HostRuntime) -> Result<(), Fail> {
 #[test]
 fn answers_two_bags(rt: HostRuntime) {
     let rows = [
-        (
-            "a many 2 1\na many 2 2\nb insert 2\na many 2 4\n\n\
-            b insert 9\na count 2\nb try 9\nb try 9\n",
-            "a count 0\na count 1\na count 3\na count 7\n\
-            b count 0\nb count 0\nb taken 9 1\nb absent\n\
-            outer 2 7 1\ndifference 2 6\nsigned 2 6\na json [[2,7]]\nb json [[2,1]]\n",
-        ),
+        (TWO_BAGS, TWO_BAGS_OUTPUT),
         (
             "a or 4 3\na or 4 9\na set 4 0\na set 4 1\nb retain\nb or 6 0\n",
             "a count 3\na count 3\na done\na absent\nb done\nb count 0\n\
@@ -237,30 +243,28 @@ fn counts_lines_to_the_bad_one(rt: HostRuntime) {
     }
 }
 
-// Each line is no step.
-const HOSTILE: &str = "a  insert 5\n a insert 5\nA insert 5\na insert 5 \na insert 5\r\n\
+// Each line is no step. One has a byte that is no text, and one a number of 21 digits.
+const HOSTILE: &[u8] = b"a  insert 5\n a insert 5\nA insert 5\na insert 5 \na insert 5\r\n\
     a insert\na insert \na insert -5\na insert +5\na insert 5 5\na insert 1.0\na insert five\n\
-    a \u{e4} 5\na\tinsert 5\na Insert 5\na many 5\na many 5 1 1\na clear 5\na reserve\na upto 5 -1\n\
+    a \xc3\xa4 5\na\tinsert 5\na Insert 5\na many 5\na many 5 1 1\na clear 5\na reserve\na upto 5 -1\n\
     a retain 1\na retain 1 2 3\na retain 1 -2\na retain 1  2\na set 5\na or\n\
     insert 5\na\nb\nB insert 5\nab insert 5\n \n\
-    a limit\na limit 1 2\na limit -1\na limit 18446744073709551616";
+     a limit\na limit 1 2\na limit -1\na limit 18446744073709551616\n\
+    a insert 000000000000000000005\na insert 18446744073709551616\na insert \xff\na insert 5\xff";
 
+// Each hostile line alone, and behind an empty line.
 #[test]
-fn refuses_hostile_lines(rt: HostRuntime) {
+fn refuses_hostile_lines(rt: HostRuntime) -> Result<(), Fail> {
     let mut lines = 0usize;
-    for line in HOSTILE.split('\n') {
-        answers(rt.alloc(), &rt, line, 2, "bad line 1\n");
+    for line in HOSTILE.split(|byte| *byte == b'\n') {
+        answers_bytes(rt.alloc(), &rt, line, 2, "bad line 1\n");
+        let mut second = vec![in rt.alloc(); b'\n']?;
+        second.extend_from_slice(line)?;
+        answers_bytes(rt.alloc(), &rt, second.as_slice(), 2, "bad line 2\n");
         lines = lines.saturating_add(1);
     }
-    assert_eq!(rt; lines, 36);
-}
-
-#[test]
-fn refuses_what_is_no_text(rt: HostRuntime) {
-    let mut output = Sink::new(rt.alloc(), 0, false);
-    let mut input = Pieces::new(b"a insert \xff", 0);
-    assert_eq!(rt; execute(rt.alloc(), &mut input, &mut output), 2);
-    assert_eq!(rt; output.text(), "bad line 1\n");
+    assert_eq!(rt; lines, 40);
+    Ok(())
 }
 
 // So many insertions of 7, eleven bytes each, and what they answer.
@@ -327,12 +331,13 @@ fn fails_at_write(
 
 #[test]
 fn fails_at_each_write(rt: HostRuntime) {
-    // The output has 114 bytes and takes seventeen writes, and what is said of a bad line has 11 and takes two.
-    for fails_at in 1..18 {
-        fails_at_write(rt.alloc(), &rt, STEPS, OUTPUT, fails_at, false);
-        fails_at_write(rt.alloc(), &rt, STEPS, OUTPUT, fails_at, true);
+    // The output has 149 bytes and takes 22 writes, and what is said of a bad line has 11 and takes two.
+    for fails_at in 1..23 {
+        fails_at_write(rt.alloc(), &rt, TWO_BAGS, TWO_BAGS_OUTPUT, fails_at, false);
+        fails_at_write(rt.alloc(), &rt, TWO_BAGS, TWO_BAGS_OUTPUT, fails_at, true);
     }
     for fails_at in 1..3 {
         fails_at_write(rt.alloc(), &rt, "x\n", "bad line 1\n", fails_at, false);
+        fails_at_write(rt.alloc(), &rt, "x\n", "bad line 1\n", fails_at, true);
     }
 }

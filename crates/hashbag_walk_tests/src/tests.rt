@@ -1,5 +1,9 @@
-//! What no clause says of walks and whole runs: that what they give and reply is what was found by hand, and what the plain
-//! bag gives, under each hash state.
+//! What no clause says of walks, joins and whole runs: that what they give and reply is what was found by hand, and what plain lists
+//! of occurrences give, under each hash state.
 mod agreement;
 mod carry;
+mod definitions;
+mod met;
+mod prints;
+mod steps;
 mod walks;

@@ -47,9 +47,7 @@ const ROWS: &str = "\
     remove_up_to 6 1 = 0
 
     [removes up to]
-    insert 42 = 0
-    insert 42 = 1
-    insert 42 = 2
+    insert_many 42 3 = 0
     remove_up_to 0 1 = 0
     len = 3
     remove_up_to 42 1 = 2
@@ -58,10 +56,7 @@ const ROWS: &str = "\
     len = 0
 
     [tries takes]
-    insert 1 = 0
-    insert 2 = 0
-    insert 3 = 0
-    insert 3 = 1
+    from_iter [1, 2, 3, 3] = ()
     try_take 2 = Ok(2)
     len = 3
     try_take 3 = Err(Some((3, 2)))
@@ -72,10 +67,7 @@ const ROWS: &str = "\
     contains 3 = 0
 
     [takes all]
-    insert 1 = 0
-    insert 2 = 0
-    insert 3 = 0
-    insert 3 = 1
+    from_iter [1, 2, 3, 3] = ()
     take_all 2 = Some((2, 1))
     take_all 3 = Some((3, 2))
     take_all 2 = None
@@ -107,22 +99,22 @@ const ROWS: &str = "\
 
 #[test]
 fn calls_of_fixed_state(rt: HostRuntime) -> Result<(), Fail> {
-    make_rows(rt.alloc(), FixedState::new(), ROWS, 87)
+    make_rows(rt.alloc(), FixedState::new(), ROWS, 79)
 }
 
 #[test]
 fn calls_of_one_state(rt: HostRuntime) -> Result<(), Fail> {
-    make_rows(rt.alloc(), OneState, ROWS, 87)
+    make_rows(rt.alloc(), OneState, ROWS, 79)
 }
 
 #[test]
 fn calls_of_parity_state(rt: HostRuntime) -> Result<(), Fail> {
-    make_rows(rt.alloc(), ParityState, ROWS, 87)
+    make_rows(rt.alloc(), ParityState, ROWS, 79)
 }
 
 #[test]
 fn calls_of_identity_state(rt: HostRuntime) -> Result<(), Fail> {
-    make_rows(rt.alloc(), IdentityState, ROWS, 87)
+    make_rows(rt.alloc(), IdentityState, ROWS, 79)
 }
 
 // The state that a bag has hashes its values.

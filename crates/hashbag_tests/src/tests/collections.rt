@@ -42,7 +42,11 @@ const ROWS: &str = "\
     set_len = 3
 
     [retains]
-    from_counts 0:5 1:4 2:3 3:2 4:1 = ()
+    insert_many 0 5 = 0
+    insert_many 1 4 = 0
+    insert_many 2 3 = 0
+    insert_many 3 2 = 0
+    insert_many 4 1 = 0
     counts [0, 1, 2, 3, 4] = [5, 4, 3, 2, 1]
     len = 15
     set_len = 5
@@ -140,10 +144,28 @@ const RUN_ROWS: &str = "\
     retain none = Done
     count 1 = Count(0)";
 
-// The step that inserts as `5:2` says.
-fn insert_many(pair: &str) -> Result<Step<u64>, Fail> {
+// The rows of a run at the end of a `usize`.
+const FULL_ROWS: &str = "\
+    insert_many 1:18446744073709551615 = Count(0)
+    or 2:0 = Count(0)
+    or 2:1 = TooMany
+    insert_many 1:0 = Count(18446744073709551615)
+    set 1:18446744073709551615 = Done
+    replace 2 = TooMany
+    replace 1 = Count(18446744073709551615)
+    insert_many 2:18446744073709551614 = Count(0)
+    count 1 = Count(1)
+    insert_many 3:1 = TooMany";
+
+// The step with a value and a number, as `5:2`.
+fn step_with_number(verb: &str, pair: &str) -> Result<Step<u64>, Fail> {
     let (value, n) = halves(pair, ":")?;
-    Ok(Step::InsertMany(number(value)?, count(n)?))
+    let (value, n) = (number(value)?, count(n)?);
+    match verb {
+        "insert_many" => Ok(Step::InsertMany(value, n)),
+        "or" => Ok(Step::EntryOr(value, n)),
+        _ => Ok(Step::EntrySet(value, n)),
+    }
 }
 
 // The step of a call.
@@ -153,7 +175,8 @@ fn step_of(alloc: Global, call: &str) -> Result<Step<u64>, Fail> {
     }
     let (verb, rest) = halves(call, " ")?;
     match verb {
-        "insert_many" => insert_many(rest),
+        "insert_many" | "or" | "set" => step_with_number(verb, rest),
+        "replace" => Ok(Step::Replace(number(rest)?)),
         "retain" => Ok(Step::Retain(counts(alloc, rest)?)),
         "count" => Ok(Step::Count(number(rest)?)),
         _ => Err(Fail::new(format_args!("no such step: {verb}"))),
@@ -180,12 +203,14 @@ fn replies_of<S: BuildHasher + Drop>(
     Ok(replies)
 }
 
-fn retains_in_a_run<S: BuildHasher + Drop>(
+fn replies_in_a_run<S: BuildHasher + Drop>(
     rt: &impl Abort,
     alloc: Global,
     state: S,
+    text: &str,
+    wanted: usize,
 ) -> Result<(), Fail> {
-    let rows = rows_of(alloc, RUN_ROWS, 19)?;
+    let rows = rows_of(alloc, text, wanted)?;
     let replies = replies_of(alloc, state, steps_of(alloc, rows.as_slice())?)?;
     assert_eq!(rt; replies.len(), rows.len());
     for (row, reply) in rows.iter().zip(&replies) {
@@ -200,10 +225,11 @@ fn collections_under<S: BuildHasher + Default + Copy>(
     alloc: Global,
     state: S,
 ) -> Result<(), Fail> {
-    make_rows(alloc, state, ROWS, 50)?;
+    make_rows(alloc, state, ROWS, 54)?;
     make_rows(alloc, state, EQUAL_ROWS, 22)?;
     clones::<S>(rt, alloc)?;
-    retains_in_a_run(rt, alloc, state)
+    replies_in_a_run(rt, alloc, state, RUN_ROWS, 19)?;
+    replies_in_a_run(rt, alloc, state, FULL_ROWS, 10)
 }
 
 #[test]

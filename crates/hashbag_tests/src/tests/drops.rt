@@ -159,14 +159,63 @@ fn bag_dropped_in_a_carry<S: BuildHasher + Drop>(
     Ok(())
 }
 
+// The first items of a walk that owns its values, which their taker drops.
+fn drop_items<'a, I: Iterator<Item = (Counted<'a>, usize)>>(walk: &mut I, taken: usize)
+where
+    requires any { (state : _) → I.can_next state }
+{
+    for _ in 0..taken {
+        drop(walk.next());
+    }
+}
+
+// Walks over a bag in the middle of a carry that are dropped after so many items. A drained bag takes a value in again.
+fn walks_dropped<S: BuildHasher + Copy>(
+    rt: &impl Abort,
+    alloc: Global,
+    state: S,
+    taken: usize,
+) -> Result<(), Fail> {
+    let drops = Cell::new(0);
+    let mut bag = carrying(rt, alloc, state, &drops)?;
+    let mut drain = bag.drain();
+    drop_items(&mut drain, taken);
+    has_dropped(rt, "the items of a drain", &drops, taken);
+    drop(drain);
+    has_dropped(rt, "the drop of a drain", &drops, 25);
+    insert(&mut bag, value(&drops, 3))?;
+    drop(bag);
+    has_dropped(rt, "the drop of a drained bag", &drops, 26);
+    drops.set(0);
+    let mut walk = carrying(rt, alloc, state, &drops)?.into_iter();
+    drop_items(&mut walk, taken);
+    has_dropped(rt, "the items of an owning walk", &drops, taken);
+    drop(walk);
+    has_dropped(rt, "the drop of an owning walk", &drops, 25);
+    Ok(())
+}
+
+fn each_walk_dropped<S: BuildHasher + Copy>(
+    rt: &impl Abort,
+    alloc: Global,
+    state: S,
+) -> Result<(), Fail> {
+    for taken in 0..=25 {
+        walks_dropped(rt, alloc, state, taken)?;
+    }
+    Ok(())
+}
+
 #[test]
 fn drops_of_fixed_state(rt: HostRuntime) -> Result<(), Fail> {
     drops_under(&rt, rt.alloc(), FixedState::new())?;
+    each_walk_dropped(&rt, rt.alloc(), FixedState::new())?;
     bag_dropped_in_a_carry(&rt, rt.alloc(), FixedState::new())
 }
 
 #[test]
 fn drops_of_one_state(rt: HostRuntime) -> Result<(), Fail> {
     drops_under(&rt, rt.alloc(), OneState)?;
+    each_walk_dropped(&rt, rt.alloc(), OneState)?;
     bag_dropped_in_a_carry(&rt, rt.alloc(), OneState)
 }

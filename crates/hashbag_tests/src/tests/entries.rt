@@ -45,29 +45,36 @@ const ROWS: &str = "\
     len = 5
 
     [totals past their end]
-    or_insert 1 = 1
-    or_insert_many 2 18446744073709551614 = 18446744073709551614
+    insert 1 = 0
+    insert_many 2 18446744073709551614 = 0
     set 1 2 = TooMany
     contains 1 = 1
     contains 2 = 18446744073709551614
-    len = 18446744073709551615";
+    len = 18446744073709551615
+
+    [sets to the end: none of another value still goes in]
+    insert_many 1 3 = 0
+    set 1 18446744073709551615 = ()
+    len = 18446744073709551615
+    insert_many 2 0 = 0
+    contains 2 = 0";
 
 #[test]
 fn entries_of_fixed_state(rt: HostRuntime) -> Result<(), Fail> {
-    make_rows(rt.alloc(), FixedState::new(), ROWS, 41)
+    make_rows(rt.alloc(), FixedState::new(), ROWS, 47)
 }
 
 #[test]
 fn entries_of_one_state(rt: HostRuntime) -> Result<(), Fail> {
-    make_rows(rt.alloc(), OneState, ROWS, 41)
+    make_rows(rt.alloc(), OneState, ROWS, 47)
 }
 
 #[test]
 fn entries_of_parity_state(rt: HostRuntime) -> Result<(), Fail> {
-    make_rows(rt.alloc(), ParityState, ROWS, 41)
+    make_rows(rt.alloc(), ParityState, ROWS, 47)
 }
 
 #[test]
 fn entries_of_identity_state(rt: HostRuntime) -> Result<(), Fail> {
-    make_rows(rt.alloc(), IdentityState, ROWS, 41)
+    make_rows(rt.alloc(), IdentityState, ROWS, 47)
 }

@@ -19,6 +19,9 @@ const ROWS: &str = "\
     stored 1 = Some((10, 2))
     replace 1:30 = 2
     stored 1 = Some((30, 1))
+    entry 1:40 = 30
+    set_to_none_and_insert 1:50 = 1
+    stored 1 = Some((50, 1))
     stored 2 = None
 
     [entries]
@@ -27,8 +30,11 @@ const ROWS: &str = "\
     entry 1:40 = 30
     or_insert 1:40 = 2
     stored 1 = Some((30, 2))
-    set_to_none_and_insert 1:50 = 1
-    stored 1 = Some((50, 1))
+
+    [sets to none, and inserts the value handed in]
+    insert_many 5:1 3 = 0
+    set_to_none_and_insert 5:2 = 1
+    stored 5 = Some((2, 1))
 
     [collections]
     from_iter 1:10 1:20 = ()
@@ -58,6 +64,14 @@ fn or_insert<S: BuildHasher + Drop>(
     value: Tagged,
 ) -> Result<usize, BagError> {
     bag.entry(value).or_insert()
+}
+
+fn insert_many<S: BuildHasher + Drop>(
+    bag: &mut HashBag<Tagged, S>,
+    value: Tagged,
+    n: usize,
+) -> Result<usize, BagError> {
+    bag.insert_many(value, n)
 }
 
 fn or_insert_many<S: BuildHasher + Drop>(
@@ -142,6 +156,21 @@ fn with_value<S: BuildHasher + Drop>(
     }
 }
 
+// What a call on a value with a count answers.
+fn with_count<S: BuildHasher + Drop>(
+    alloc: Global,
+    bag: &mut HashBag<Tagged, S>,
+    verb: &str,
+    rest: &str,
+) -> Result<String, Fail> {
+    let (value, n) = halves(rest, " ")?;
+    let (value, n) = (tagged(value)?, count(n)?);
+    match verb {
+        "insert_many" => debug_of(alloc, &insert_many(bag, value, n)?),
+        _ => debug_of(alloc, &or_insert_many(bag, value, n)?),
+    }
+}
+
 // What a call on several values answers.
 fn with_values<S: BuildHasher + Default + Drop>(
     alloc: Global,
@@ -173,10 +202,7 @@ fn answer<S: BuildHasher + Default + Copy>(
     let (verb, rest) = halves(call, " ")?;
     match verb {
         "stored" => debug_of(alloc, &stored(bag, number(rest)?)),
-        "or_insert_many" => {
-            let (value, n) = halves(rest, " ")?;
-            debug_of(alloc, &or_insert_many(bag, tagged(value)?, count(n)?)?)
-        }
+        "insert_many" | "or_insert_many" => with_count(alloc, bag, verb, rest),
         "from_iter" | "equals" => {
             with_values(alloc, bag, verb, tagged_values(alloc, rest)?.as_slice())
         }
@@ -203,7 +229,7 @@ fn make_rows<S: BuildHasher + Default + Copy>(
     state: S,
 ) -> Result<(), Fail> {
     let mut bag = HashBag::with_hasher(alloc, state);
-    for row in rows_of(alloc, ROWS, 22)? {
+    for row in rows_of(alloc, ROWS, 27)? {
         if row.starts_with('[') {
             bag = HashBag::with_hasher(alloc, state);
         } else {

@@ -10,6 +10,15 @@ use std::test::Fail;
 // How many distinct values the bags have for which room is made.
 const SIZES: [u64; 8] = [0, 1, 5, 12, 13, 24, 25, 100];
 
+// Numbers of values that room is made for at the start, with the slots and the capacity of the bag.
+const BEGINNINGS: [(usize, usize, usize); 5] = [
+    (0, 0, 0),
+    (10, 16, 12),
+    (12, 16, 12),
+    (13, 32, 24),
+    (100, 256, 192),
+];
+
 // Room is made for up to so many values more.
 const MOST: usize = 40;
 
@@ -132,6 +141,16 @@ fn of_fixed_state(alloc: Global, n: usize) -> Result<HashBag<u64>, BagError> {
     HashBag::with_capacity(alloc, n)
 }
 
+// The slots and the capacity of a bag that was just made.
+fn begins_as<S: BuildHasher + Drop>(
+    rt: &impl Abort,
+    bag: &HashBag<u64, S>,
+    slots: usize,
+    capacity: usize,
+) {
+    assert_eq!(rt; (bag.slots(), bag.capacity()), (slots, capacity));
+}
+
 // The room of a bag with room for `n` values.
 fn capacity_of(alloc: Global, n: usize) -> Result<usize, BagError> {
     Ok(of_fixed_state(alloc, n)?.capacity())
@@ -146,6 +165,10 @@ fn fixed_state_by_default(rt: HostRuntime) -> Result<(), Fail> {
         let bag = of_fixed_state(alloc, n)?;
         has_room(&rt, &bag, n);
         assert!(rt; bag.is_empty(), "with {n}");
+    }
+    for (n, slots, capacity) in BEGINNINGS {
+        begins_as(&rt, &of_fixed_state(alloc, n)?, slots, capacity);
+        begins_as(&rt, &with_capacity(alloc, OneState, n)?, slots, capacity);
     }
     Ok(())
 }

@@ -144,6 +144,28 @@ const ROWS: &str = "\
     insert 3 = 0
     set_len = 1
 
+    [retains the odd values in the middle of a carry]
+    insert_each [1, 2, 3, 4, 5, 6, 7, 8, 9, 10, 11, 12, 13, 14, 15, 16, 17, 18, 19, 20, 21, 22, 23, 24, 25] = ()
+    tables = (64, 16, 23)
+    retain_odd = ()
+    waiting = 16
+    set_len = 13
+    len = 13
+    insert 100 = 0
+    waiting = 0
+    set_len = 14
+
+    [half of twelve is taken out, and the others are found]
+    insert_each [1, 2, 3, 4, 5, 6, 7, 8, 9, 10, 11, 12] = ()
+    remove 1 = 1
+    remove 3 = 1
+    remove 5 = 1
+    remove 7 = 1
+    remove 9 = 1
+    remove 11 = 1
+    counts [1, 2, 3, 4, 5, 6, 7, 8, 9, 10, 11, 12] = [0, 1, 0, 1, 0, 1, 0, 1, 0, 1, 0, 1]
+    set_len = 6
+
     [clears]
     insert_each [1, 2, 3, 4, 5, 6, 7, 8, 9, 10, 11, 12, 13, 14, 15, 16, 17, 18, 19, 20, 21, 22, 23, 24, 25] = ()
     clear = ()
@@ -152,7 +174,7 @@ const ROWS: &str = "\
     tables = (64, 0, 47)
 
     [room is spent, and the table keeps its size]
-    extend [0, 1, 2, 3, 4, 5, 6, 7, 8, 9, 10, 11] = ()
+    insert_each [0, 1, 2, 3, 4, 5, 6, 7, 8, 9, 10, 11] = ()
     remove 0 = 1
     remove 1 = 1
     remove 2 = 1
@@ -351,7 +373,7 @@ fn cloned_in_a_carry<S: BuildHasher + Default + Copy>(alloc: Global, state: S) -
 }
 
 fn tables_under<S: BuildHasher + Default + Copy>(alloc: Global, state: S) -> Result<(), Fail> {
-    make_rows(alloc, state, ROWS, 237)?;
+    make_rows(alloc, state, ROWS, 257)?;
     thousand_in_and_out(alloc, state)?;
     cloned_in_a_carry(alloc, state)
 }

@@ -1,126 +1,67 @@
-//! Whole runs of steps on the bag, against the plain bag.
+//! Whole runs of steps on two bags side by side, against plain lists of occurrences.
 //!
-//! What both answer is compared as `Debug` writes it, which tells equal instances apart.
-use hashbag::script::{Reply, Step, run};
+//! What both answer is compared as `Debug` writes it, which tells equal instances apart. After every fifty steps the totals and the
+//! joins of the two bags are compared too.
+use crate::tests::definitions::{Plain, joins_one_by_one, plain_joins, text_of_joins};
+use crate::tests::met::{Met, state_of};
+use crate::tests::steps::{MOST, STEPS, Sample, ballast, next_number, step_of, with_ballast};
+use hashbag::script::{Reply, Step, joins_of, run};
 use hashbag::{FixedState, HashBag};
-use hashbag_bench::{IdentityState, OneState, ParityState, PlainBag, Tagged};
+use hashbag_bench::{IdentityState, OneState, ParityState, Tagged};
 use hashbag_rows::texts::{debug_of, is_text};
 use std::alloc::{AllocError, Global};
 use std::fmt::Debug;
-use std::hash::{BuildHasher, Hash};
+use std::hash::BuildHasher;
 use std::test::Fail;
 
-// The steps are on values of so many keys: of few, so that most steps find a value, and of many, so that the tables grow and carry.
-const KEYS: [u64; 2] = [8, 64];
+// How often the ballast occurs in the first bag and in the second: never, or so often that totals come to the end of a `usize`, or that
+// the signed difference does.
+const BALLASTS: [(usize, usize); 3] = [
+    (0, 0),
+    (usize::MAX - MOST, usize::MAX - MOST),
+    (7, usize::MAX - MOST),
+];
 
-// How many steps a run has.
-const STEPS: u64 = 500;
-
-// Values that the steps are on. What `Debug` writes of them says which instance they are.
-trait Sample: Eq + Hash + Copy + Debug {
-    // A value with this key. Which instance it is, is up to the number of the step.
-    fn sample(key: u64, step: u64) -> Self;
+// A bag, and what it is compared with.
+#[derive(Drop)]
+struct Pair<T: Sample + Drop, S: BuildHasher + Drop> {
+    bag: HashBag<T, S>,
+    plain: Plain<T>,
 }
 
-impl Sample for u64 {
-    fn sample(key: u64, _step: u64) -> u64 {
-        key
-    }
-}
-
-impl Sample for Tagged {
-    fn sample(key: u64, step: u64) -> Tagged {
-        Tagged { key, tag: step }
-    }
-}
-
-// The number after this one in a sequence whose high bits look random.
-fn next_number(number: u64) -> u64 {
-    number
-        .wrapping_mul(6364136223846793005)
-        .wrapping_add(1442695040888963407)
-}
-
-// How many of each value but the last are to stay. The first value stands there a second time, which is not looked at.
-fn quotas<T: Sample + Drop>(
+fn new_pair<T: Sample + Drop, S: BuildHasher + Drop>(
     alloc: Global,
-    keys: u64,
-    amount: usize,
-    step: u64,
-) -> Result<Vec<(T, usize)>, AllocError> {
-    let mut list = Vec::new(alloc);
-    for key in 1..keys {
-        list.push((
-            T::sample(key - 1, step),
-            (key as usize).saturating_add(amount) % 5,
-        ))?;
-    }
-    list.push((T::sample(0, step), 9))?;
-    Ok(list)
+    state: S,
+    times: usize,
+) -> Result<Pair<T, S>, Fail> {
+    let mut bag = HashBag::with_hasher(alloc, state);
+    bag.insert_many(ballast(), times)?;
+    Ok(Pair {
+        bag,
+        plain: Plain::new(alloc, times),
+    })
 }
 
-// A step on the value, or on all values. `amount` is at most 3.
-fn step_on<T: Drop>(choice: u64, value: T, amount: usize) -> Step<T> {
-    match choice % 28 {
-        0..=4 => Step::Insert(value),
-        5..=8 => Step::InsertMany(value, amount),
-        9 => Step::Replace(value),
-        10..=12 => Step::Remove(value),
-        13 | 14 => Step::RemoveUpTo(value, amount),
-        15..=17 => Step::TryTake(value),
-        18 => Step::TakeAll(value),
-        19 => Step::Reserve(amount),
-        20 => Step::ShrinkToFit,
-        21 if amount == 0 => Step::Clear,
-        22 | 23 => Step::EntrySet(value, amount),
-        24..=26 => Step::EntryOr(value, amount),
-        _ => Step::Count(value),
-    }
+// What the plain list replies to a step.
+fn plain_reply<T: Sample + Drop>(
+    plain: &mut Plain<T>,
+    step: Step<T>,
+) -> Result<Reply<T>, AllocError> {
+    plain.list.apply(step)
 }
 
-// The steps of a run, the same ones at each call.
-fn steps_of<T: Sample + Drop>(alloc: Global, keys: u64) -> Result<Vec<Step<T>>, AllocError> {
-    let mut steps = Vec::new(alloc);
-    let mut number = 1;
-    for step in 0..STEPS {
-        number = next_number(number);
-        let value = T::sample((number >> 40) % keys.max(1), step);
-        let amount = ((number >> 30) % 4) as usize;
-        if step % 25 == 24 {
-            steps.push(Step::Retain(quotas(alloc, keys, amount, step)?))?;
-            continue;
-        }
-        steps.push(step_on(number >> 50, value, amount))?;
-    }
-    Ok(steps)
-}
-
-fn plain_reply<T: Sample>(plain: &mut PlainBag<T>, step: Step<T>) -> Result<Reply<T>, AllocError> {
-    plain.apply(step)
-}
-
-// What the plain bag replies to the steps.
-fn plain_replies<T: Sample>(
-    alloc: Global,
-    plain: &mut PlainBag<T>,
-    steps: Vec<Step<T>>,
-) -> Result<Vec<Reply<T>>, AllocError> {
-    let mut replies = Vec::new(alloc);
-    for step in steps {
-        replies.push(plain_reply(plain, step)?)?;
-    }
-    Ok(replies)
-}
-
-// What a bag replies to the steps.
-fn bag_replies<T: Sample + Drop, S: BuildHasher + Drop>(
+// What a bag replies to a step.
+fn bag_reply<T: Sample + Drop, S: BuildHasher + Drop>(
     alloc: Global,
     bag: &mut HashBag<T, S>,
-    steps: Vec<Step<T>>,
-) -> Result<Vec<Reply<T>>, Fail> {
+    step: Step<T>,
+) -> Result<Reply<T>, Fail> {
     let mut replies = Vec::new(alloc);
-    run(bag, steps, &mut replies)?;
-    Ok(replies)
+    run(bag, vec![in alloc; step]?, &mut replies)?;
+    match replies.pop() {
+        Some(reply) => Ok(reply),
+        None => Err(Fail::new("a step with no reply")),
+    }
 }
 
 // Checks that `Debug` writes the same of two values.
@@ -129,128 +70,131 @@ fn is_same<T: Debug>(alloc: Global, place: &str, got: &T, want: &T) -> Result<()
     is_text(place, debug_of(alloc, got)?.as_str(), want.as_str())
 }
 
-fn compare_reply<T: Sample>(
+// Does the step of this number on both sides.
+fn compare_step<T: Sample + Drop, S: BuildHasher + Drop>(
     alloc: Global,
-    state: &str,
-    at: usize,
-    reply: &Reply<T>,
-    want: &Reply<T>,
+    place: &str,
+    pair: &mut Pair<T, S>,
+    met: &mut Met,
+    number: u64,
+    step: u64,
 ) -> Result<(), Fail> {
-    let place = format!(in alloc; "reply {at} under {state}")?;
-    is_same(alloc, place.as_str(), reply, want)
+    let before = state_of(&pair.bag);
+    let plain_step = step_of(alloc, number, step)?;
+    met.count(&plain_step);
+    let want = plain_reply(&mut pair.plain, plain_step)?;
+    let bag_step = with_ballast(alloc, step_of(alloc, number, step)?, pair.plain.times)?;
+    let got = bag_reply(alloc, &mut pair.bag, bag_step)?;
+    met.note(before, state_of(&pair.bag), &got);
+    is_same(alloc, place, &got, &want)
 }
 
-fn compare_replies<T: Sample>(
+// The totals and the distinct values of both sides.
+fn compare_lens<T: Sample + Drop, S: BuildHasher + Drop>(
     alloc: Global,
-    state: &str,
-    replies: &[Reply<T>],
-    wanted: &[Reply<T>],
+    place: &str,
+    pair: &Pair<T, S>,
 ) -> Result<(), Fail> {
-    let steps = STEPS as usize;
-    is_same(
-        alloc,
-        state,
-        &(replies.len(), wanted.len()),
-        &(steps, steps),
-    )?;
-    for (at, (reply, want)) in replies.iter().zip(wanted).enumerate() {
-        compare_reply(alloc, state, at, reply, want)?;
+    let got = (pair.bag.len(), pair.bag.set_len());
+    let want = (pair.plain.len(), pair.plain.set_len(alloc)?);
+    is_same(alloc, place, &got, &want)
+}
+
+// The joins of the first bag with the second, each by its own call and all at once.
+fn compare_joins<T: Sample + Drop, S: BuildHasher + Drop, S2: BuildHasher + Drop>(
+    alloc: Global,
+    place: &str,
+    a: &Pair<T, S>,
+    b: &Pair<T, S2>,
+) -> Result<(), Fail> {
+    let want = text_of_joins(alloc, &plain_joins(alloc, &a.plain, &b.plain)?)?;
+    let got = text_of_joins(alloc, &joins_one_by_one(alloc, &a.bag, &b.bag)?)?;
+    is_text(place, got.as_str(), want.as_str())?;
+    let got = text_of_joins(alloc, &joins_of(alloc, &a.bag, &b.bag)?)?;
+    is_text(place, got.as_str(), want.as_str())
+}
+
+fn compare_both<T: Sample + Drop, S: BuildHasher + Drop, S2: BuildHasher + Drop>(
+    alloc: Global,
+    place: &str,
+    a: &Pair<T, S>,
+    b: &Pair<T, S2>,
+) -> Result<(), Fail> {
+    compare_lens(alloc, place, a)?;
+    compare_lens(alloc, place, b)?;
+    compare_joins(alloc, place, a, b)?;
+    compare_joins(alloc, place, b, a)
+}
+
+// The steps of two bags and of what they are compared with.
+fn compare_runs<T: Sample + Drop, S: BuildHasher + Drop, S2: BuildHasher + Drop>(
+    alloc: Global,
+    a: &mut Pair<T, S>,
+    b: &mut Pair<T, S2>,
+    met: &mut Met,
+) -> Result<(), Fail> {
+    let (mut first, mut second) = (1, 2);
+    for step in 0..STEPS {
+        let place = format!(in alloc; "step {step}")?;
+        first = next_number(first);
+        compare_step(alloc, place.as_str(), a, met, first, step)?;
+        second = next_number(second);
+        compare_step(alloc, place.as_str(), b, met, second, step)?;
+        if step % 50 == 49 {
+            compare_both(alloc, place.as_str(), a, b)?;
+        }
     }
     Ok(())
 }
 
-// The instance that the plain bag has of a value, and how often it occurs.
-fn plain_found<'a, T: Sample>(plain: &'a PlainBag<T>, value: &T) -> Option<(&'a T, usize)> {
-    let count = plain.count(value);
-    for item in plain.items() {
-        if item == value {
-            return Some((item, count));
-        }
+// Checks that the steps of two lists met each of these so often at least.
+fn met_enough(alloc: Global, met: &Met) -> Result<(), Fail> {
+    let seen = [
+        (met.growths, 30),
+        (met.carries, 10),
+        (met.removed, 300),
+        (met.reused, 80),
+        (met.too_many, 100),
+        (met.full, 100),
+        (met.below_total, 10),
+    ];
+    let kinds = met.kinds.iter().all(|count| *count >= 8);
+    if kinds && seen.iter().all(|(count, least)| count >= least) {
+        return Ok(());
     }
-    None
+    let met = debug_of(alloc, met)?;
+    Err(Fail::new(format_args!("too little was met: {met}")))
 }
 
-// How many distinct values the plain bag has.
-fn plain_set_len<T: Sample>(plain: &PlainBag<T>, keys: u64) -> usize {
-    let mut present = 0usize;
-    for key in 0..keys {
-        if plain.count(&T::sample(key, STEPS)) > 0 {
-            present = present.saturating_add(1);
-        }
-    }
-    present
-}
-
-// The count and the instance of a value in both bags.
-fn compare_value<T: Sample + Drop, S: BuildHasher + Drop>(
+fn compare_under<T: Sample + Drop, S: BuildHasher + Copy, S2: BuildHasher + Copy>(
     alloc: Global,
-    state: &str,
-    bag: &HashBag<T, S>,
-    plain: &PlainBag<T>,
-    value: &T,
+    first: S,
+    second: S2,
 ) -> Result<(), Fail> {
-    let got = (bag.contains(value), bag.get(value));
-    let want = (plain.count(value), plain_found(plain, value));
-    is_same(alloc, state, &got, &want)
-}
-
-// The occurrences of a bag, whether it has none, and its distinct values.
-fn lens<T: Sample + Drop, S: BuildHasher + Drop>(bag: &HashBag<T, S>) -> (usize, bool, usize) {
-    (bag.len(), bag.is_empty(), bag.set_len())
-}
-
-fn plain_lens<T: Sample>(plain: &PlainBag<T>, keys: u64) -> (usize, bool, usize) {
-    (plain.len(), plain.is_empty(), plain_set_len(plain, keys))
-}
-
-fn compare_bags<T: Sample + Drop, S: BuildHasher + Drop>(
-    alloc: Global,
-    state: &str,
-    bag: &HashBag<T, S>,
-    plain: &PlainBag<T>,
-    keys: u64,
-) -> Result<(), Fail> {
-    is_same(alloc, state, &lens(bag), &plain_lens(plain, keys))?;
-    for key in 0..keys {
-        compare_value(alloc, state, bag, plain, &T::sample(key, STEPS))?;
+    for (times, other_times) in BALLASTS {
+        let mut a = new_pair::<T, S>(alloc, first, times)?;
+        let mut b = new_pair::<T, S2>(alloc, second, other_times)?;
+        let mut met = Met::new();
+        compare_runs(alloc, &mut a, &mut b, &mut met)?;
+        met_enough(alloc, &met)?;
     }
     Ok(())
 }
 
-// Does the same steps on a bag and on the plain bag.
-fn compare_runs<T: Sample + Drop, S: BuildHasher + Drop>(
-    alloc: Global,
-    keys: u64,
-    state_name: &str,
-    state: S,
-) -> Result<(), Fail> {
-    let mut plain = PlainBag::new(alloc);
-    let wanted = plain_replies(alloc, &mut plain, steps_of::<T>(alloc, keys)?)?;
-    let mut bag = HashBag::with_hasher(alloc, state);
-    let replies = bag_replies(alloc, &mut bag, steps_of::<T>(alloc, keys)?)?;
-    compare_replies(alloc, state_name, &replies, &wanted)?;
-    compare_bags(alloc, state_name, &bag, &plain, keys)
-}
-
-fn compare_under_each_state<T: Sample + Drop>(alloc: Global, keys: u64) -> Result<(), Fail> {
-    compare_runs::<T, _>(alloc, keys, "FixedState", FixedState::new())?;
-    compare_runs::<T, _>(alloc, keys, "OneState", OneState)?;
-    compare_runs::<T, _>(alloc, keys, "ParityState", ParityState)?;
-    compare_runs::<T, _>(alloc, keys, "IdentityState", IdentityState)
+// Each state in turn beside the next.
+fn compare_under_each_state<T: Sample + Drop>(alloc: Global) -> Result<(), Fail> {
+    compare_under::<T, _, _>(alloc, FixedState::new(), OneState)?;
+    compare_under::<T, _, _>(alloc, OneState, ParityState)?;
+    compare_under::<T, _, _>(alloc, ParityState, IdentityState)?;
+    compare_under::<T, _, _>(alloc, IdentityState, FixedState::new())
 }
 
 #[test]
-fn numbers_as_in_the_plain_bag(rt: HostRuntime) -> Result<(), Fail> {
-    for keys in KEYS {
-        compare_under_each_state::<u64>(rt.alloc(), keys)?;
-    }
-    Ok(())
+fn numbers_as_in_plain_lists(rt: HostRuntime) -> Result<(), Fail> {
+    compare_under_each_state::<u64>(rt.alloc())
 }
 
 #[test]
-fn tagged_as_in_the_plain_bag(rt: HostRuntime) -> Result<(), Fail> {
-    for keys in KEYS {
-        compare_under_each_state::<Tagged>(rt.alloc(), keys)?;
-    }
-    Ok(())
+fn tagged_as_in_plain_lists(rt: HostRuntime) -> Result<(), Fail> {
+    compare_under_each_state::<Tagged>(rt.alloc())
 }

@@ -1,7 +1,8 @@
-//! Walks over a bag in the middle of a carry, dropped after each number of items.
+//! Walks over a bag in the middle of a carry, dropped after each number of items. The bag is asked again after each.
 use crate::tests::walks::{has_left, next_of};
 use hashbag::{BagError, FixedState, HashBag};
 use hashbag_bench::{IdentityState, OneState, ParityState};
+use hashbag_rows::calls::{insert, make_calls};
 use hashbag_rows::texts::{debug_of, is_text};
 use std::alloc::Global;
 use std::fmt::Debug;
@@ -14,12 +15,34 @@ const VALUES: usize = 25;
 
 // The values that the walks give, rising.
 const ALL: &str =
-    "[0, 1, 2, 3, 4, 5, 6, 7, 8, 9, 10, 11, 12, 13, 14, 15, 16, 17, 18, 19, 20, 21, 22, 23, 24]";
+    "[1, 2, 3, 4, 5, 6, 7, 8, 9, 10, 11, 12, 13, 14, 15, 16, 17, 18, 19, 20, 21, 22, 23, 24, 25]";
 
-// The numbers below 25, each once.
+// What a bag answers that is as it was before a walk.
+const AS_BEFORE: &str = "\
+    counts [0, 1, 2, 3, 4, 5, 6, 7, 8, 9, 10, 11, 12, 13, 14, 15, 16, 17, 18, 19, 20, 21, 22, 23, 24, 25] = [0, 1, 1, 1, 1, 1, 1, 1, 1, 1, 1, 1, 1, 1, 1, 1, 1, 1, 1, 1, 1, 1, 1, 1, 1, 1]
+    len = 25
+    set_len = 25
+    tables = (64, 16, 23)
+    insert 100 = 0
+    tables = (64, 0, 22)
+    contains 100 = 1
+    contains 25 = 1";
+
+// What a bag answers that was drained.
+const DRAINED: &str = "\
+    counts [0, 1, 2, 3, 4, 5, 6, 7, 8, 9, 10, 11, 12, 13, 14, 15, 16, 17, 18, 19, 20, 21, 22, 23, 24, 25] = [0, 0, 0, 0, 0, 0, 0, 0, 0, 0, 0, 0, 0, 0, 0, 0, 0, 0, 0, 0, 0, 0, 0, 0, 0, 0]
+    is_empty = true
+    set_len = 0
+    waiting = 0
+    insert 100 = 0
+    contains 100 = 1";
+
+// The numbers from 1 to 25, each inserted once.
 fn numbers<S: BuildHasher + Drop>(alloc: Global, state: S) -> Result<HashBag<u64, S>, BagError> {
     let mut bag = HashBag::with_hasher(alloc, state);
-    bag.extend(0..25)?;
+    for value in 1..=25 {
+        insert(&mut bag, value)?;
+    }
     Ok(bag)
 }
 
@@ -124,14 +147,15 @@ fn moved<S: BuildHasher + Drop>(rt: &impl Abort, bag: HashBag<u64, S>, taken: us
     sum_of_first(rt, "into_iter", bag.into_iter(), taken)
 }
 
-// The sum of so many different numbers below 25 is at least that of the least ones, and all together have the sum 300.
+// The sum of so many different numbers from 1 on is at least that of the least ones, and all together have the sum 325.
 fn is_sum(rt: &impl Abort, sum: u64, taken: usize) {
-    let least = (taken as u64).saturating_mul((taken as u64).saturating_sub(1)) / 2;
-    assert!(rt; sum >= least && sum <= 300, "{sum} after {taken}");
-    assert!(rt; taken < VALUES || sum == 300, "{sum} in all");
+    let least = (taken as u64).saturating_mul((taken as u64).saturating_add(1)) / 2;
+    assert!(rt; sum >= least && sum <= 325, "{sum} after {taken}");
+    assert!(rt; taken < VALUES || sum == 325, "{sum} in all");
 }
 
-fn walks_after<S: BuildHasher + Copy>(
+// Each walk on a bag of its own.
+fn walks_after<S: BuildHasher + Default + Copy>(
     rt: &impl Abort,
     alloc: Global,
     state: S,
@@ -139,14 +163,18 @@ fn walks_after<S: BuildHasher + Copy>(
 ) -> Result<(), Fail> {
     let mut bag = carrying(rt, alloc, state)?;
     items(rt, alloc, &bag, taken)?;
+    make_calls(alloc, &mut bag, AS_BEFORE, 8)?;
+    bag = carrying(rt, alloc, state)?;
     values(rt, alloc, &bag, taken)?;
+    make_calls(alloc, &mut bag, AS_BEFORE, 8)?;
+    bag = carrying(rt, alloc, state)?;
     is_sum(rt, drained(rt, &mut bag, taken), taken);
-    assert!(rt; bag.is_empty() && bag.set_len() == 0, "after {taken}");
+    make_calls(alloc, &mut bag, DRAINED, 6)?;
     is_sum(rt, moved(rt, carrying(rt, alloc, state)?, taken), taken);
     Ok(())
 }
 
-fn walks_under<S: BuildHasher + Copy>(
+fn walks_under<S: BuildHasher + Default + Copy>(
     rt: &impl Abort,
     alloc: Global,
     state: S,

@@ -5,7 +5,7 @@ use hashbag_bench::uses::{
     sum_used_up,
 };
 use hashbag_bench::{IdentityState, OneState, ParityState};
-use hashbag_rows::calls::{bag_of, counts_of, insert, make_calls};
+use hashbag_rows::calls::{bag_of, bag_of_counts, counts_of, make_calls};
 use hashbag_rows::texts::{debug_of, is_text};
 use std::alloc::{AllocError, Global};
 use std::fmt::Debug;
@@ -36,13 +36,16 @@ fn sample_bag<S: BuildHasher + Drop>(alloc: Global, state: S) -> Result<HashBag<
     bag_of(alloc, state, &[5, 6, 5, 7, 6, 5])
 }
 
-// Einar twice and Harald once.
-fn three_names<S: BuildHasher + Drop>(alloc: Global, state: S) -> Result<HashBag<String, S>, Fail> {
-    let mut bag = HashBag::with_hasher(alloc, state);
-    for name in ["Einar", "Harald", "Einar"] {
-        insert(&mut bag, String::from_str(alloc, name)?)?;
+/// The names, each in a text of its own, collected.
+pub fn bag_of_names<S: BuildHasher + Default + Drop>(
+    alloc: Global,
+    names: &[&str],
+) -> Result<HashBag<String, S>, Fail> {
+    let mut texts = Vec::new(alloc);
+    for name in names {
+        texts.push(String::from_str(alloc, name)?)?;
     }
-    Ok(bag)
+    Ok(HashBag::from_iter(alloc, texts.into_iter())?)
 }
 
 // How often a walk gives Einar.
@@ -85,12 +88,11 @@ fn one_name_taken_out<S: BuildHasher + Drop>(rt: &impl Abort, bag: &mut HashBag<
     has_left(rt, &drain, 1);
 }
 
-fn walks_over_names<S: BuildHasher + Drop>(
+fn walks_over_names<S: BuildHasher + Default + Drop>(
     rt: &impl Abort,
     alloc: Global,
-    state: S,
 ) -> Result<(), Fail> {
-    let mut bag = three_names(alloc, state)?;
+    let mut bag: HashBag<String, S> = bag_of_names(alloc, &["Einar", "Einar", "Harald"])?;
     names_one_by_one(rt, &bag);
     all_names(rt, &bag);
     names_with_counts(rt, &bag);
@@ -395,7 +397,7 @@ fn rest_of<S: BuildHasher + Drop>(bag: &HashBag<u64, S>) -> Iter<'_, u64> {
 }
 
 fn texts_of_five<S: BuildHasher + Default + Drop>(alloc: Global, state: S) -> Result<(), Fail> {
-    let mut bag = bag_of(alloc, state, &[5, 5, 5])?;
+    let mut bag = bag_of_counts(alloc, state, &[(5, 3)])?;
     is_shown(alloc, &bag, "{5, 5, 5}")?;
     is_shown(alloc, &walk_of(&bag), "{5, 5, 5}")?;
     is_shown(alloc, &rest_of(&bag), "{5, 5}")?;
@@ -429,7 +431,7 @@ fn walks_under<S: BuildHasher + Default + Copy>(
     alloc: Global,
     state: S,
 ) -> Result<(), Fail> {
-    walks_over_names(rt, alloc, state)?;
+    walks_over_names::<S>(rt, alloc)?;
     walks_over_sample(rt, alloc, state)?;
     owned_walks_dropped(rt, alloc, state)?;
     all_moved_out(rt, alloc, state)?;

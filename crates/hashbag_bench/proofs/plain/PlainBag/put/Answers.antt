@@ -1,6 +1,7 @@
 use Rattle.std.proofs.Common.{◌≡◌, ◌+◌, ◌-◌, ◌++◌, length, take, replicate, ◌∙◌, ap, arith, rules}
 use Rattle.std.proofs.lemmas.List.{take_all}
 use Rattle.hashbag.specs.Occurrences.{others}
+use Rattle.hashbag_bench.specs.Plain.{holding}
 use Rattle.hashbag_bench.proofs.plain.PlainBag.put.Goals as goal
 
 pub returns-clause-put : goal.returns-clause-put
@@ -11,5 +12,6 @@ returns-clause-put g c =
     let long : len ≡ length items = search rules in
     let whole : take (len + n) items ≡ items = take_all (len + n) items (omega arith) in
     let more : len + n - len ≡ n = omega arith in
-    let kept : items ≡ others g.T.PartialEq.eq c.args.value c.args.self.now = c.reserve.ensures.items ∙ c.in_ok-items.ensures in
-    (rw (← c.len.ensures) at c.in_ok-resize.ensures.items) ∙ ap (λ l. l ++ replicate (len + n - len) c.args.value) whole ∙ ap (λ k. items ++ replicate k c.args.value) more ∙ ap (λ l. l ++ replicate n c.args.value) kept
+    let kept : items ≡ others g.T.PartialEq.eq c.args.value c.args.self.now.items = c.reserve.ensures.items ∙ c.in_ok-items.ensures in
+    let list = (rw (← c.len.ensures) at c.in_ok-resize.ensures.items) ∙ ap (λ l. l ++ replicate (len + n - len) c.args.value) whole ∙ ap (λ k. items ++ replicate k c.args.value) more ∙ ap (λ l. l ++ replicate n c.args.value) kept in
+    ap (λ l. holding l c.args.self.now) list

@@ -4,7 +4,7 @@ use Rattle.hashbag_bench.proofs.plain.PlainBag.retain.Given as goal
 
 -- what was kept, and what will be of the rest
 abbrev pub invariant-loop-item : goal.invariant-loop-item
-invariant-loop-item g l = l.kept.items ++ retained g.T.PartialEq.eq (quota g.T.PartialEq.eq l.list) l.rest ≡ retained g.T.PartialEq.eq (quota g.T.PartialEq.eq l.list) l.fn.self
+invariant-loop-item g l = l.kept.items ++ retained g.T.PartialEq.eq (quota g.T.PartialEq.eq l.list) l.rest ≡ retained g.T.PartialEq.eq (quota g.T.PartialEq.eq l.list) l.fn.self.items
 
 abbrev pub decreases-loop-item : goal.decreases-loop-item
 decreases-loop-item g l = length l.rest

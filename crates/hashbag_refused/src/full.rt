@@ -1,0 +1,295 @@
+//! Bags of values that count their drops and whose hashes are all alike: calls that find no room, and a bag in the middle of a carry.
+use crate::checks::{Refusals, Wrong, check};
+use crate::counts::tables_of;
+use hashbag::script::{Step, run};
+use hashbag::{BagError, HashBag};
+use hashbag_bench::OneState;
+use hashbag_slots_tests::counted::Counted;
+use std::alloc::{AllocError, Global};
+use std::cell::Cell;
+
+// A bag of such values.
+type Bag<'a> = HashBag<Counted<'a>, OneState>;
+
+// Makes values. It knows how many it made and how many of them were dropped.
+#[derive(Drop)]
+struct Values {
+    made: Cell<usize>,
+    dropped: Cell<usize>,
+}
+
+impl Values {
+    fn new() -> Values {
+        Values {
+            made: Cell::new(0),
+            dropped: Cell::new(0),
+        }
+    }
+
+    fn value(&self, key: u64) -> Counted<'_> {
+        self.made.set(self.made.get().wrapping_add(1));
+        Counted {
+            key,
+            tag: 0,
+            drops: &self.dropped,
+        }
+    }
+
+    // Each value that was made was dropped once.
+    fn are_gone(&self) -> Result<(), Wrong> {
+        check(
+            self.made.get() == self.dropped.get(),
+            "full bags: a value that wasn't dropped once",
+        )
+    }
+}
+
+// Inserts a value, and answers how many there were. `None` where it was refused.
+fn insert<'a>(
+    bag: &mut Bag<'a>,
+    values: &'a Values,
+    key: u64,
+    refusals: &mut Refusals,
+) -> Result<Option<usize>, Wrong> {
+    refusals.answer(bag.insert(values.value(key)))
+}
+
+fn count<'a>(bag: &Bag<'a>, values: &'a Values, key: u64) -> usize {
+    bag.contains(&values.value(key))
+}
+
+// The bag has the values from 1 to `last` once each, and no other.
+fn has_first<'a>(
+    bag: &Bag<'a>,
+    values: &'a Values,
+    last: u64,
+    wrong: &'static str,
+) -> Result<(), Wrong> {
+    for key in 1..=last {
+        check(count(bag, values, key) == 1, wrong)?;
+    }
+    let number = last as usize;
+    check((bag.len(), bag.set_len()) == (number, number), wrong)
+}
+
+// A bag of the values from 1 to `last`, each inserted once. `None` where one was refused: the bag then had those before it.
+fn filled<'a>(
+    alloc: Global,
+    values: &'a Values,
+    last: u64,
+    refusals: &mut Refusals,
+) -> Result<Option<Bag<'a>>, Wrong> {
+    let mut bag = HashBag::with_hasher(alloc, OneState);
+    for key in 1..=last {
+        if insert(&mut bag, values, key, refusals)?.is_none() {
+            has_first(&bag, values, key - 1, "full bags: while they are filled")?;
+            return Ok(None);
+        }
+    }
+    Ok(Some(bag))
+}
+
+// The thirteenth value finds no room in 16 slots. Where it is refused the others stay, are counted up and down, and it goes in with
+// memory again.
+fn thirteenth(alloc: Global, values: &Values, refusals: &mut Refusals) -> Result<(), Wrong> {
+    let Some(mut bag) = filled(alloc, values, 12, refusals)? else {
+        return Ok(());
+    };
+    check(tables_of(&bag) == (16, 0, 0), "12 values: the slots")?;
+    if insert(&mut bag, values, 13, refusals)?.is_none() {
+        check(tables_of(&bag) == (16, 0, 0), "the thirteenth: the slots")?;
+        has_first(&bag, values, 12, "the thirteenth: those before it")?;
+        let again = insert(&mut bag, values, 5, refusals)?;
+        check(again == Some(1), "the thirteenth: one more of another")?;
+        let removed = bag.remove(&values.value(5));
+        check(removed == 2, "the thirteenth: one fewer of another")?;
+        let done = insert(&mut bag, values, 13, refusals)?;
+        check(done == Some(0), "the thirteenth: with memory again")?;
+    }
+    check(tables_of(&bag) == (32, 0, 11), "13 values: the slots")?;
+    has_first(&bag, values, 13, "13 values")
+}
+
+// In the middle of a carry values go in without a request for memory, until there is no room.
+fn in_a_carry(alloc: Global, values: &Values, refusals: &mut Refusals) -> Result<(), Wrong> {
+    let Some(mut bag) = filled(alloc, values, 25, refusals)? else {
+        return Ok(());
+    };
+    check(tables_of(&bag) == (64, 16, 23), "25 values: the slots")?;
+    for key in 26..=48 {
+        let done = insert(&mut bag, values, key, refusals)?;
+        check(done == Some(0), "a carry: a value for which there is room")?;
+        check(bag.waiting() == 0, "a carry: the slots that wait")?;
+    }
+    check(tables_of(&bag) == (64, 0, 0), "48 values: the slots")?;
+    if insert(&mut bag, values, 49, refusals)?.is_none() {
+        check(tables_of(&bag) == (64, 0, 0), "the 49th: the slots")?;
+        return has_first(&bag, values, 48, "the 49th: those before it");
+    }
+    check(tables_of(&bag) == (128, 48, 47), "49 values: the slots")?;
+    has_first(&bag, values, 49, "49 values")
+}
+
+// What a bag has after a call by which 13 may come in: the counts of 9 and 13, and the total.
+type After = (usize, usize, usize);
+
+// Calls that ask for memory on a bag with no room, with what it has where they are refused and where they are done.
+const CALLS: [(&str, After, After); 6] = [
+    ("insert_many", (1, 0, 12), (1, 2, 14)),
+    ("replace", (1, 0, 12), (1, 1, 13)),
+    ("or_insert_many", (1, 0, 12), (1, 3, 15)),
+    ("extend", (2, 0, 13), (3, 1, 16)),
+    ("extend_many", (3, 0, 14), (3, 4, 18)),
+    ("reserve", (1, 0, 12), (1, 0, 12)),
+];
+
+// Whether a call was done, and not what it answers.
+fn done(answer: Result<usize, BagError>) -> Result<(), BagError> {
+    match answer {
+        Ok(_) => Ok(()),
+        Err(error) => Err(error),
+    }
+}
+
+// Makes a call.
+fn made<'a>(bag: &mut Bag<'a>, values: &'a Values, call: &str) -> Result<(), BagError> {
+    let (nine, thirteen) = (values.value(9), values.value(13));
+    match call {
+        "insert_many" => done(bag.insert_many(thirteen, 2)),
+        "replace" => done(bag.replace(thirteen)),
+        "or_insert_many" => done(bag.entry(thirteen).or_insert_many(3)),
+        "extend" => bag.extend([nine, thirteen, values.value(9), values.value(14)].into_iter()),
+        "extend_many" => bag.extend_many([(nine, 2), (thirteen, 4)].into_iter()),
+        _ => bag.reserve(40),
+    }
+}
+
+// The counts of 9 and 13, and the total.
+fn state_of<'a>(bag: &Bag<'a>, values: &'a Values) -> After {
+    (count(bag, values, 9), count(bag, values, 13), bag.len())
+}
+
+// A call on a bag with no room. Where it is refused no slot changes, and 13 goes in with memory again.
+fn without_room(
+    alloc: Global,
+    values: &Values,
+    call: (&str, After, After),
+    refusals: &mut Refusals,
+) -> Result<(), Wrong> {
+    let Some(mut bag) = filled(alloc, values, 12, refusals)? else {
+        return Ok(());
+    };
+    let (name, refused, done) = call;
+    if refusals.is_done(made(&mut bag, values, name))? {
+        return check(state_of(&bag, values) == done, "a call without room: done");
+    }
+    check(
+        state_of(&bag, values) == refused,
+        "a call without room: refused",
+    )?;
+    check(
+        (tables_of(&bag), bag.set_len()) == ((16, 0, 0), 12),
+        "a call without room: the slots",
+    )?;
+    let again = insert(&mut bag, values, 13, refusals)?;
+    check(again == Some(0), "a call without room: with memory again")
+}
+
+fn two_insertions<'a>(
+    alloc: Global,
+    values: &'a Values,
+) -> Result<Vec<Step<Counted<'a>>>, AllocError> {
+    Ok(vec![in alloc;
+        Step::Insert(values.value(9)),
+        Step::Insert(values.value(13)),
+    ]?)
+}
+
+// A run of two steps on a bag with no room, of which the second asks for memory. Where the replies have no room, neither is done.
+fn run_without_room(alloc: Global, values: &Values, refusals: &mut Refusals) -> Result<(), Wrong> {
+    let Some(mut bag) = filled(alloc, values, 12, refusals)? else {
+        return Ok(());
+    };
+    let Ok(steps) = two_insertions(alloc, values) else {
+        refusals.count();
+        return Ok(());
+    };
+    let mut replies = Vec::new(alloc);
+    let done = refusals.is_done(run(&mut bag, steps, &mut replies))?;
+    let (wanted, slots) = match replies.len() {
+        0 => ((1, 0, 12), (16, 0, 0)),
+        1 => ((2, 0, 13), (16, 0, 0)),
+        _ => ((2, 1, 14), (32, 0, 11)),
+    };
+    check(state_of(&bag, values) == wanted, "a run without room")?;
+    check(tables_of(&bag) == slots, "a run without room: the slots")?;
+    check(
+        done == (replies.len() == 2),
+        "a run without room: its replies",
+    )
+}
+
+// A bag of 9 twice and of 13, or none.
+fn collected(alloc: Global, values: &Values, refusals: &mut Refusals) -> Result<(), Wrong> {
+    let items = [values.value(9), values.value(13), values.value(9)];
+    let made: Result<Bag<'_>, BagError> = HashBag::from_iter(alloc, items.into_iter());
+    if let Some(bag) = refusals.answer(made)? {
+        check(state_of(&bag, values) == (2, 1, 3), "from_iter")?;
+    }
+    let pairs = [(values.value(9), 2), (values.value(13), 3)];
+    let made: Result<Bag<'_>, BagError> = HashBag::from_counts(alloc, pairs.into_iter());
+    if let Some(bag) = refusals.answer(made)? {
+        check(state_of(&bag, values) == (2, 3, 5), "from_counts")?;
+    }
+    Ok(())
+}
+
+// Room is made and given back in the middle of a carry: all values move, or none.
+fn moved_in_a_carry(alloc: Global, values: &Values, refusals: &mut Refusals) -> Result<(), Wrong> {
+    let Some(mut bag) = filled(alloc, values, 25, refusals)? else {
+        return Ok(());
+    };
+    let done = refusals.is_done(bag.reserve(100))?;
+    let wanted = if done { (256, 0, 167) } else { (64, 16, 23) };
+    check(tables_of(&bag) == wanted, "a carry: after reserve")?;
+    has_first(&bag, values, 25, "a carry: the values after reserve")?;
+    let fits = refusals.is_done(bag.shrink_to_fit())?;
+    let wanted = if done && fits { (64, 0, 23) } else { wanted };
+    check(tables_of(&bag) == wanted, "a carry: after shrink_to_fit")?;
+    has_first(&bag, values, 25, "a carry: the values after shrink_to_fit")
+}
+
+// The numbers from 1 to 25 are cloned in the middle of a carry: the source stays as it is.
+fn cloned_in_a_carry(alloc: Global, refusals: &mut Refusals) -> Result<(), Wrong> {
+    let mut bag: HashBag<u64, OneState> = HashBag::with_hasher(alloc, OneState);
+    for value in 1..=25 {
+        if refusals.answer(bag.insert(value))?.is_none() {
+            return Ok(());
+        }
+    }
+    if let Some(clone) = refusals.answer(bag.clone())? {
+        check(clone == bag, "a carry: a clone")?;
+        check(tables_of(&clone) == (64, 0, 23), "a carry: a clone's slots")?;
+    }
+    check(tables_of(&bag) == (64, 16, 23), "a carry: after a clone")
+}
+
+/// All of these. After each of them every value that was made is dropped, and was dropped once.
+pub fn full_bags(alloc: Global, refusals: &mut Refusals) -> Result<(), Wrong> {
+    let values = Values::new();
+    thirteenth(alloc, &values, refusals)?;
+    values.are_gone()?;
+    in_a_carry(alloc, &values, refusals)?;
+    values.are_gone()?;
+    moved_in_a_carry(alloc, &values, refusals)?;
+    values.are_gone()?;
+    for call in CALLS {
+        without_room(alloc, &values, call, refusals)?;
+        values.are_gone()?;
+    }
+    run_without_room(alloc, &values, refusals)?;
+    values.are_gone()?;
+    collected(alloc, &values, refusals)?;
+    values.are_gone()?;
+    cloned_in_a_carry(alloc, refusals)
+}

@@ -1,0 +1,117 @@
+//! What steps met, so that a list of steps that meets little fails.
+use hashbag::HashBag;
+use hashbag::script::{Reply, Step};
+use std::hash::{BuildHasher, Hash};
+
+/// How many kinds of steps there are.
+pub const KINDS: usize = 15;
+
+/// What a bag's tables are like.
+#[derive(Clone, Copy)]
+pub struct State {
+    values: usize,
+    waiting: usize,
+    room: usize,
+    // The Removed slots of the newer table. Those of its slots that hold no value and leave no room are such ones.
+    removed: usize,
+    // How many occurrences more the limit allows.
+    left: usize,
+}
+
+/// The tables of a bag.
+pub fn state_of<T: Eq + Hash + Drop, S: BuildHasher + Drop>(bag: &HashBag<T, S>) -> State {
+    let (values, room) = (bag.set_len(), bag.room());
+    let most = bag.slots() / 4 * 3;
+    State {
+        values,
+        waiting: bag.waiting(),
+        room,
+        removed: most.saturating_sub(room).saturating_sub(values),
+        left: bag.limit() - bag.len(),
+    }
+}
+
+/// How many steps met what.
+#[derive(Debug, Drop)]
+pub struct Met {
+    /// New values where there was no room, for which a table was made.
+    pub growths: usize,
+    /// New values that left fewer slots waiting.
+    pub carries: usize,
+    /// Steps that left a Removed slot.
+    pub removed: usize,
+    /// New values that went into a Removed slot.
+    pub reused: usize,
+    /// Steps after which the total is the limit.
+    pub full: usize,
+    /// `TooMany`.
+    pub too_many: usize,
+    /// `BelowTotal`.
+    pub below_total: usize,
+    /// Steps of each kind.
+    pub kinds: [usize; KINDS],
+}
+
+// The place of a kind of step.
+fn kind_of<T>(step: &Step<T>) -> usize {
+    match step {
+        Step::Insert(_) => 0,
+        Step::InsertMany(_, _) => 1,
+        Step::Replace(_) => 2,
+        Step::Remove(_) => 3,
+        Step::RemoveUpTo(_, _) => 4,
+        Step::TryTake(_) => 5,
+        Step::TakeAll(_) => 6,
+        Step::EntrySet(_, _) => 7,
+        Step::EntryOr(_, _) => 8,
+        Step::Retain(_) => 9,
+        Step::Clear => 10,
+        Step::Count(_) => 11,
+        Step::Reserve(_) => 12,
+        Step::ShrinkToFit => 13,
+        Step::Limit(_) => 14,
+    }
+}
+
+fn raise(count: &mut usize, met: bool) {
+    if met {
+        *count = count.saturating_add(1);
+    }
+}
+
+impl Met {
+    /// Nothing yet.
+    pub fn new() -> Met {
+        Met {
+            growths: 0,
+            carries: 0,
+            removed: 0,
+            reused: 0,
+            full: 0,
+            too_many: 0,
+            below_total: 0,
+            kinds: [0; KINDS],
+        }
+    }
+
+    /// Counts a step.
+    pub fn count<T>(&mut self, step: &Step<T>) {
+        if let Some(count) = self.kinds.get_mut(kind_of(step)) {
+            raise(count, true);
+        }
+    }
+
+    /// Counts what a step replied and did to the tables.
+    pub fn note<T: PartialEq>(&mut self, before: State, after: State, reply: &Reply<T>) {
+        let came = after.values > before.values;
+        let grew = came && before.room == 0;
+        let reused = came && !grew && before.waiting == 0 && after.removed < before.removed;
+        raise(&mut self.growths, grew);
+        raise(&mut self.carries, came && after.waiting < before.waiting);
+        raise(&mut self.removed, after.removed > before.removed);
+        raise(&mut self.reused, reused);
+        raise(&mut self.full, after.left == 0);
+        raise(&mut self.too_many, *reply == Reply::TooMany);
+        raise(&mut self.below_total, *reply == Reply::BelowTotal);
+    }
+}
