@@ -249,7 +249,7 @@ const HOSTILE: &[u8] = b"a  insert 5\n a insert 5\nA insert 5\na insert 5 \na in
     a \xc3\xa4 5\na\tinsert 5\na Insert 5\na many 5\na many 5 1 1\na clear 5\na reserve\na upto 5 -1\n\
     a retain 1\na retain 1 2 3\na retain 1 -2\na retain 1  2\na set 5\na or\n\
     insert 5\na\nb\nB insert 5\nab insert 5\n \n\
-     a limit\na limit 1 2\na limit -1\na limit 18446744073709551616\n\
+    a limit\na limit 1 2\na limit -1\na limit 18446744073709551616\n\
     a insert 000000000000000000005\na insert 18446744073709551616\na insert \xff\na insert 5\xff";
 
 // Each hostile line alone, and behind an empty line.
