@@ -27,7 +27,7 @@ use std::process::ExitCode;
 use std::str;
 
 // More requests than the script refuses of the calls.
-const SPARE: usize = 600;
+const SPARE: usize = 300;
 
 // What to do.
 #[derive(Clone, Copy)]
