@@ -1,5 +1,6 @@
 //! What no clause says of calls on one bag: that they succeed, and that their answers are those found by hand, under each hash
 //! state.
+mod bounds;
 mod callers;
 mod calls;
 mod clones;
@@ -10,5 +11,6 @@ mod hashes;
 mod instances;
 mod plain_calls;
 mod room;
+mod sizes;
 mod tables;
 mod texts;
