@@ -1,5 +1,7 @@
 //! What no clause says of calls on one bag: that they succeed, and that their answers are those found by hand, under each hash
 //! state.
+mod bounds;
+mod bytes;
 mod callers;
 mod calls;
 mod clones;

@@ -83,6 +83,54 @@ const CALLS: &str = "
     | default_in | 0
     | with_capacity 10 | 0";
 
+// In the middle of a carry: 17 to 24 wait in the older table, and an absent value takes these eight along. A call on such a bag, and
+// how often its state hashes in the call.
+const CARRYING: &str =
+    "1:1 2:1 3:1 4:1 5:1 6:1 7:1 8:1 9:1 10:1 11:1 12:1 13:1 14:1 15:1 16:1 17:1 18:1 19:1 20:1 21:1 22:1 23:1 24:1 25:1";
+
+const CALLS_IN_A_CARRY: &str = "
+    tables | 0
+    contains 5 | 1
+    contains 20 | 1
+    contains 26 | 1
+    get 20 | 1
+    insert 5 | 1
+    insert 20 | 1
+    insert 26 | 9
+    insert_many 20 3 | 1
+    insert_many 26 3 | 9
+    insert_many 26 0 | 1
+    remove 20 | 1
+    remove 26 | 1
+    remove_up_to 20 1 | 1
+    take_all 20 | 1
+    try_take 20 | 1
+    replace 5 | 1
+    replace 20 | 1
+    replace 26 | 9
+    entry 20 | 0
+    entry_value 20 | 1
+    or_insert 20 | 1
+    or_insert 26 | 10
+    or_insert_many 26 3 | 10
+    set 20 3 | 2
+    set 20 0 | 2
+    set 26 3 | 1
+    extend [20, 26] | 10
+    extend_many 20:2 26:1 | 10
+    extend_refs [20, 26] | 10
+    extend_refs_many 20:2 26:1 | 10
+    to_value | 0
+    retain_itself | 0
+    retain_none | 0
+    iter.count | 0
+    set_iter.count | 0
+    drain | 0
+    clear | 0
+    reserve 23 | 0
+    reserve 1000 | 25
+    shrink_to_fit | 0";
+
 // The counts of two bags, a call on both, and how often the state of each hashes.
 const CALLS_ON_TWO: &str = "
     1:1 2:5 3:2 | 2:1 4:1 5:3 6:1 | outer_join | 4 3
@@ -158,10 +206,9 @@ fn make_call(alloc: Global, bag: &mut CountingBag, call: &str) -> Result<(), Fai
     }
 }
 
-// Makes the call of a row.
-fn hashes_so_often(alloc: Global, row: &str) -> Result<(), Fail> {
-    let (before, rest) = halves(row, "|")?;
-    let (call, wanted) = halves(rest, "|")?;
+// Makes the call of a row on a bag with these counts.
+fn hashes_so_often(alloc: Global, before: &str, row: &str) -> Result<(), Fail> {
+    let (call, wanted) = halves(row, "|")?;
     let mut bag: CountingBag = bag_of(alloc, before)?;
     let start = bag.hasher().hashed();
     make_call(alloc, &mut bag, call)?;
@@ -172,7 +219,11 @@ fn hashes_so_often(alloc: Global, row: &str) -> Result<(), Fail> {
 #[test]
 fn calls_hash_so_often(rt: HostRuntime) -> Result<(), Fail> {
     for row in rows_of(rt.alloc(), CALLS, 71)? {
-        hashes_so_often(rt.alloc(), row)?;
+        let (before, call) = halves(row, "|")?;
+        hashes_so_often(rt.alloc(), before, call)?;
+    }
+    for row in rows_of(rt.alloc(), CALLS_IN_A_CARRY, 41)? {
+        hashes_so_often(rt.alloc(), CARRYING, row)?;
     }
     Ok(())
 }
@@ -249,9 +300,12 @@ fn calls_on_two_hash_so_often(rt: HostRuntime) -> Result<(), Fail> {
 // The state of a clone, which goes on from the number of the first one's, hashes each value once, and the first state nothing.
 #[test]
 fn clones_are_hashed_once(rt: HostRuntime) -> Result<(), Fail> {
-    let bag: CountingBag = bag_of(rt.alloc(), "1:1 2:5 3:2")?;
-    let start = hashed_by(&bag, &bag);
-    let clone = clone_of(&bag)?;
-    let got = hashed_since(rt.alloc(), start, &bag, &clone)?;
-    is_text("a clone", got.as_str(), "0 3")
+    for (counts, wanted) in [("1:1 2:5 3:2", "0 3"), (CARRYING, "0 25")] {
+        let bag: CountingBag = bag_of(rt.alloc(), counts)?;
+        let start = hashed_by(&bag, &bag);
+        let clone = clone_of(&bag)?;
+        let got = hashed_since(rt.alloc(), start, &bag, &clone)?;
+        is_text("a clone", got.as_str(), wanted)?;
+    }
+    Ok(())
 }
