@@ -1,7 +1,6 @@
 //! What no clause says of calls on one bag: that they succeed, and that their answers are those found by hand, under each hash
 //! state.
 mod bounds;
-mod bytes;
 mod callers;
 mod calls;
 mod clones;
@@ -12,6 +11,7 @@ mod hashes;
 mod instances;
 mod limits;
 mod owning_states;
+mod own_bytes;
 mod plain_calls;
 mod refused_clones;
 mod room;
