@@ -1,125 +1,25 @@
-//! Values of no size, and of two hundred bytes.
-use hashbag::{BagError, FixedState, HashBag};
+//! How many bytes a bag and its walks have themselves.
+use hashbag::{Drain, FixedState, HashBag, IntoIter, Iter, SetIter};
 use hashbag_bench::OneState;
-use hashbag_rows::calls::insert;
-use hashbag_rows::texts::is_text;
-use std::alloc::Global;
-use std::hash::{BuildHasher, Hash};
 use std::test::Fail;
 
-// Values made of numbers.
-trait Made: Eq + Hash + Copy {
-    fn of(number: u64) -> Self;
-}
-
-// There is one value of this type.
-#[derive(Clone, Copy, PartialEq, Eq, Hash)]
-struct Nothing;
-
-impl Made for Nothing {
-    fn of(_number: u64) -> Nothing {
-        Nothing
-    }
-}
-
-// Twenty-five words. Only the last one differs from value to value.
-#[derive(Clone, Copy, PartialEq, Eq, Hash)]
-struct Wide {
-    words: [u64; 25],
-}
-
-impl Made for Wide {
-    fn of(number: u64) -> Wide {
-        let mut words = [7; 25];
-        words[24] = number;
-        Wide { words }
-    }
-}
-
-fn remove<T: Made + Drop, S: BuildHasher + Drop>(bag: &mut HashBag<T, S>, number: u64) -> usize {
-    bag.remove(&T::of(number))
-}
-
-fn taken<T: Made + Drop, S: BuildHasher + Drop>(bag: &mut HashBag<T, S>, number: u64) -> usize {
-    match bag.take_all(&T::of(number)) {
-        Some((_, count)) => count,
-        None => 0,
-    }
-}
-
-// How many of the numbers from 1 to 40 are found.
-fn found<T: Made + Drop, S: BuildHasher + Drop>(bag: &HashBag<T, S>) -> usize {
-    let mut found = 0usize;
-    for number in 1..=40 {
-        if bag.contains(&T::of(number)) > 0 {
-            found = found.saturating_add(1);
+#[test]
+fn sizes_of_bags_and_walks(_rt: HostRuntime) -> Result<(), Fail> {
+    for (name, size, want) in [
+        ("HashBag<u64>", size_of::<HashBag<u64, FixedState>>(), 160),
+        (
+            "HashBag<u64, OneState>",
+            size_of::<HashBag<u64, OneState>>(),
+            152,
+        ),
+        ("Iter<u64>", size_of::<Iter<u64>>(), 144),
+        ("SetIter<u64>", size_of::<SetIter<u64>>(), 112),
+        ("IntoIter<u64>", size_of::<IntoIter<u64>>(), 128),
+        ("Drain<u64>", size_of::<Drain<u64>>(), 136),
+    ] {
+        if size != want {
+            return Err(Fail::new(format_args!("{name} has {size} bytes")));
         }
     }
-    found
-}
-
-// Forty values, and the tables that they are in.
-fn filled<T: Made + Drop, S: BuildHasher + Drop>(
-    alloc: Global,
-    bag: &mut HashBag<T, S>,
-) -> Result<String, Fail> {
-    for number in 1..=40 {
-        insert(bag, T::of(number))?;
-    }
-    let found = found(bag);
-    let (len, set_len) = (bag.len(), bag.set_len());
-    let tables = (bag.slots(), bag.waiting(), bag.room());
-    Ok(format!(in alloc; "{len} of {set_len} in {tables:?}, {found} found")?)
-}
-
-// What stands after a removal, a take and an insertion: the numbers of items of the walks, and of a clone.
-fn walked<T: Made + Drop, S: BuildHasher + Copy>(
-    bag: &HashBag<T, S>,
-) -> Result<(usize, usize, usize, usize), BagError> {
-    let copy = clone(bag)?;
-    Ok((
-        bag.iter().count(),
-        bag.set_iter().count(),
-        found(&copy),
-        copy.into_iter().count(),
-    ))
-}
-
-fn clone<T: Made + Drop, S: BuildHasher + Copy>(
-    bag: &HashBag<T, S>,
-) -> Result<HashBag<T, S>, BagError> {
-    bag.clone()
-}
-
-fn sized<T: Made + Drop, S: BuildHasher + Copy>(
-    alloc: Global,
-    state: S,
-    wanted: &str,
-) -> Result<(), Fail> {
-    let mut bag: HashBag<T, S> = HashBag::with_hasher(alloc, state);
-    let first = filled(alloc, &mut bag)?;
-    let (removed, taken) = (remove(&mut bag, 7), taken(&mut bag, 8));
-    insert(&mut bag, T::of(9))?;
-    let walked = walked(&bag)?;
-    let drained = bag.drain().count();
-    let got = format!(in alloc;
-        "{first}, removed {removed}, taken {taken}, walked {walked:?}, drained {drained}"
-    )?;
-    is_text("sizes", got.as_str(), wanted)
-}
-
-const OF_NOTHING: &str =
-    "40 of 1 in (16, 0, 11), 40 found, removed 40, taken 39, walked (1, 1, 40, 1), drained 1";
-
-const OF_WIDE: &str =
-    "40 of 40 in (64, 0, 8), 40 found, removed 1, taken 1, walked (39, 38, 38, 38), drained 38";
-
-#[test]
-fn of_no_size_and_of_many_bytes(rt: HostRuntime) -> Result<(), Fail> {
-    let alloc = rt.alloc();
-    assert_eq!(rt; (size_of::<Nothing>(), size_of::<Wide>()), (0, 200));
-    sized::<Nothing, _>(alloc, FixedState::new(), OF_NOTHING)?;
-    sized::<Nothing, _>(alloc, OneState, OF_NOTHING)?;
-    sized::<Wide, _>(alloc, FixedState::new(), OF_WIDE)?;
-    sized::<Wide, _>(alloc, OneState, OF_WIDE)
+    Ok(())
 }
