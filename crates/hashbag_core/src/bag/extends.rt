@@ -105,8 +105,8 @@ impl<T: Eq + Hash + Drop, S: BuildHasher + Drop> HashBag<T, S> {
 
     /// Inserts a clone of each item.
     ///
-    /// It answers as [`HashBag::extend`] does, and `Memory` also where the clone is refused it. The total is tested before an item is
-    /// cloned.
+    /// It answers as [`HashBag::extend`] does, and `Memory` also where the clone is refused it, which clones of numbers never are. The
+    /// total is tested before an item is cloned.
     pub fn extend_refs<'a, I: Iterator<Item = &'a T> + Drop>(
         &mut self,
         items: I,
