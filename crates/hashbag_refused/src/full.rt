@@ -82,7 +82,12 @@ fn filled<'a>(
     let mut bag = HashBag::with_hasher(alloc, OneState);
     for key in 1..=last {
         if insert(&mut bag, values, key, refusals)?.is_none() {
-            has_first(&bag, values, key - 1, "full bags: while they are filled")?;
+            has_first(
+                &bag,
+                values,
+                key.saturating_sub(1),
+                "full bags: while they are filled",
+            )?;
             return Ok(None);
         }
     }

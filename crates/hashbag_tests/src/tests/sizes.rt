@@ -8,8 +8,12 @@ use std::hash::{BuildHasher, Hash};
 use std::test::Fail;
 
 // Values made of numbers.
-trait Made: Eq + Hash + Copy {
+trait Made: Eq + Hash + Copy + Drop {
     fn of(number: u64) -> Self;
+
+    fn clone_of<S: BuildHasher + Copy>(
+        bag: &HashBag<Self, S>,
+    ) -> Result<HashBag<Self, S>, BagError>;
 }
 
 // There is one value of this type.
@@ -19,6 +23,12 @@ struct Nothing;
 impl Made for Nothing {
     fn of(_number: u64) -> Nothing {
         Nothing
+    }
+
+    fn clone_of<S: BuildHasher + Copy>(
+        bag: &HashBag<Nothing, S>,
+    ) -> Result<HashBag<Nothing, S>, BagError> {
+        bag.clone()
     }
 }
 
@@ -34,13 +44,19 @@ impl Made for Wide {
         words[24] = number;
         Wide { words }
     }
+
+    fn clone_of<S: BuildHasher + Copy>(
+        bag: &HashBag<Wide, S>,
+    ) -> Result<HashBag<Wide, S>, BagError> {
+        bag.clone()
+    }
 }
 
-fn remove<T: Made + Drop, S: BuildHasher + Drop>(bag: &mut HashBag<T, S>, number: u64) -> usize {
+fn remove<T: Made, S: BuildHasher + Drop>(bag: &mut HashBag<T, S>, number: u64) -> usize {
     bag.remove(&T::of(number))
 }
 
-fn taken<T: Made + Drop, S: BuildHasher + Drop>(bag: &mut HashBag<T, S>, number: u64) -> usize {
+fn taken<T: Made, S: BuildHasher + Drop>(bag: &mut HashBag<T, S>, number: u64) -> usize {
     match bag.take_all(&T::of(number)) {
         Some((_, count)) => count,
         None => 0,
@@ -48,7 +64,7 @@ fn taken<T: Made + Drop, S: BuildHasher + Drop>(bag: &mut HashBag<T, S>, number:
 }
 
 // How many of the numbers from 1 to 40 are found.
-fn found<T: Made + Drop, S: BuildHasher + Drop>(bag: &HashBag<T, S>) -> usize {
+fn found<T: Made, S: BuildHasher + Drop>(bag: &HashBag<T, S>) -> usize {
     let mut found = 0usize;
     for number in 1..=40 {
         if bag.contains(&T::of(number)) > 0 {
@@ -59,7 +75,7 @@ fn found<T: Made + Drop, S: BuildHasher + Drop>(bag: &HashBag<T, S>) -> usize {
 }
 
 // Forty values, and the tables that they are in.
-fn filled<T: Made + Drop, S: BuildHasher + Drop>(
+fn filled<T: Made, S: BuildHasher + Drop>(
     alloc: Global,
     bag: &mut HashBag<T, S>,
 ) -> Result<String, Fail> {
@@ -73,10 +89,10 @@ fn filled<T: Made + Drop, S: BuildHasher + Drop>(
 }
 
 // What stands after a removal, a take and an insertion: the numbers of items of the walks, and of a clone.
-fn walked<T: Made + Drop, S: BuildHasher + Copy>(
+fn walked<T: Made, S: BuildHasher + Copy>(
     bag: &HashBag<T, S>,
 ) -> Result<(usize, usize, usize, usize), BagError> {
-    let copy = clone(bag)?;
+    let copy = T::clone_of(bag)?;
     Ok((
         bag.iter().count(),
         bag.set_iter().count(),
@@ -85,13 +101,7 @@ fn walked<T: Made + Drop, S: BuildHasher + Copy>(
     ))
 }
 
-fn clone<T: Made + Drop, S: BuildHasher + Copy>(
-    bag: &HashBag<T, S>,
-) -> Result<HashBag<T, S>, BagError> {
-    bag.clone()
-}
-
-fn sized<T: Made + Drop, S: BuildHasher + Copy>(
+fn sized<T: Made, S: BuildHasher + Copy>(
     alloc: Global,
     state: S,
     wanted: &str,
