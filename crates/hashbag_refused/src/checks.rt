@@ -41,6 +41,7 @@ impl Refusals {
                 Ok(None)
             }
             Err(BagError::TooMany) => Err(Wrong("a call answered TooMany")),
+            Err(BagError::BelowTotal) => Err(Wrong("a call answered BelowTotal")),
         }
     }
 

@@ -1,7 +1,8 @@
 //! Goes through calls that ask for memory, of which the script `tests/refused_memory` has one request refused, and says
 //! whether a call answered so and whether all is then as it must be.
 //!
-//! Standard input is `strict`, `lenient` or `all`, which names the calls, and how many spare requests are made before them: so
+//! Standard input is `strict`, `lenient` or `all`, or a single call such as `clone-25`, which names the calls, and how many spare requests
+//! are made before them: so
 //! where request N is refused, it is request N less that number of the calls. After the calls more spare requests are made than
 //! the script refuses: where it is one of these, the calls have made fewer. With ample memory nothing is refused.
 #![tactic(auto)]
@@ -11,6 +12,7 @@ mod counts;
 mod extends;
 mod insertions;
 mod pairs;
+mod requests;
 mod room;
 mod runs;
 mod spare;
@@ -19,6 +21,7 @@ mod trees;
 mod whole;
 
 use crate::checks::{Refusals, Wrong, check};
+use crate::requests::Single;
 use crate::spare::refused_of;
 use std::alloc::Global;
 use std::io::Read;
@@ -34,6 +37,8 @@ struct Order {
     // Whether to go through the strict calls, and through the lenient ones.
     strict: bool,
     lenient: bool,
+    // A single call.
+    single: Option<Single>,
     // How many spare requests to make first.
     spare: usize,
 }
@@ -83,6 +88,9 @@ fn outcome_of(alloc: Global, order: Order) -> Result<Outcome, Wrong> {
     if order.lenient {
         lenient_calls(alloc, &mut refusals)?;
     }
+    if let Some(single) = order.single {
+        single.make(alloc, &mut refusals)?;
+    }
     match (refusals.seen(), refused_of(alloc, SPARE)) {
         (0, None) => Ok(Outcome::None),
         (1, None) => Ok(Outcome::InCalls),
@@ -93,18 +101,24 @@ fn outcome_of(alloc: Global, order: Order) -> Result<Outcome, Wrong> {
 
 // The order that is read, which is short enough for one read.
 fn read_order<R: Read>(input: &mut R) -> Option<Order> {
-    let mut text = [0u8; 16];
+    let mut text = [0u8; 32];
     let n = input.read(&mut text).ok()?;
     let (calls, spare) = str::from_utf8(&text[..n]).ok()?.trim_end().split_once(' ')?;
     let (strict, lenient) = match calls {
         "strict" => (true, false),
         "lenient" => (false, true),
         "all" => (true, true),
-        _ => return None,
+        _ => (false, false),
+    };
+    let single = if strict || lenient {
+        None
+    } else {
+        Some(Single::of(calls)?)
     };
     Some(Order {
         strict,
         lenient,
+        single,
         spare: spare.parse().ok()?,
     })
 }

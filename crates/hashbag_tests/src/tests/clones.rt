@@ -1,5 +1,5 @@
-//! How many clones are made of values that are extended with.
-ghost use Rattle.std.specs.Prelude.{◌==◌};
+//! How many clones are made of values: of those that are extended with, and of those in a bag that is cloned.
+ghost use Rattle.std.specs.Prelude.{◌≡◌, ◌==◌};
 ghost use Rattle.std.proofs.Common.{rules};
 ghost use Rattle.std.specs.Cmp.Rules.{comparing, hashing};
 ghost use Rattle.std.specs.Hash as fed;
@@ -52,6 +52,8 @@ impl<'a> Hash for Watched<'a> {
 }
 
 impl<'a> Clone for Watched<'a> {
+    ghost is_clone = { λ a b. b.number ≡ a.number };
+
     fn clone(&self) -> Result<Watched<'a>, AllocError> {
         self.clones.set(self.clones.get().saturating_add(1));
         Ok(Watched {
@@ -97,6 +99,48 @@ fn clones_under<S: BuildHasher + Copy>(alloc: Global, state: S) -> Result<(), Fa
         is_text(row, answer(alloc, state, text)?.as_str(), want)?;
     }
     Ok(())
+}
+
+// How many distinct values a bag has, with no table, with one, and with a second one that still waits.
+const SIZES: [u64; 4] = [0, 1, 12, 25];
+
+fn bag_of<'a, S: BuildHasher + Drop>(
+    alloc: Global,
+    state: S,
+    size: u64,
+    clones: &'a Cell<u64>,
+) -> Result<HashBag<Watched<'a>, S>, Fail> {
+    let mut bag = HashBag::with_hasher(alloc, state);
+    for number in 0..size {
+        let _ = bag.insert_many(Watched { number, clones }, 3)?;
+    }
+    Ok(bag)
+}
+
+fn clone_of<'a, S: BuildHasher + Clone + Drop>(
+    bag: &HashBag<Watched<'a>, S>,
+) -> Result<HashBag<Watched<'a>, S>, BagError> {
+    bag.clone()
+}
+
+// A clone of a bag makes one clone of each distinct value, also of those that wait.
+fn bags_under<S: BuildHasher + Copy + Clone>(alloc: Global, state: S) -> Result<(), Fail> {
+    for size in SIZES {
+        let clones = Cell::new(0);
+        let bag = bag_of(alloc, state, size, &clones)?;
+        let before = clones.get();
+        let clone = clone_of(&bag)?;
+        if (before, clones.get()) != (0, size) || clone.len() != bag.len() {
+            return Err(Fail::new(format_args!("other clones for {size} values")));
+        }
+    }
+    Ok(())
+}
+
+#[test]
+fn clones_of_bags_are_counted(rt: HostRuntime) -> Result<(), Fail> {
+    bags_under(rt.alloc(), FixedState::new())?;
+    bags_under(rt.alloc(), OneState)
 }
 
 #[test]
