@@ -19,9 +19,12 @@ pub use Rattle.hashbag_core.specs.Walks
 pub use Rattle.hashbag_script.specs.Pairs
 pub use Rattle.hashbag_script.specs.Rows
 pub use Rattle.hashbag_script.specs.Script
+pub use Rattle.hashbag_script.specs.Turns
 pub use Rattle.hashbag_table.specs.Asked
 pub use Rattle.hashbag_table.specs.DrainWalk
 pub use Rattle.hashbag_table.specs.Entries
+pub use Rattle.hashbag_table.specs.Retained
+pub use Rattle.hashbag_table.specs.SlotWords
 pub use Rattle.hashbag_table.specs.Slots
 pub use Rattle.hashbag_table.specs.Table
 pub use Rattle.hashbag_table.specs.Tables

@@ -1,2 +1,3 @@
 pub mod DeliveryLemmas
 pub mod LastNumberLemmas
+pub mod SlotUseLemmas

@@ -11,6 +11,7 @@ pub mod named;
 pub mod plain;
 pub mod reserved;
 pub mod run_uses;
+pub mod slot_uses;
 pub mod states;
 pub mod tagged;
 pub mod uses;

@@ -1,5 +1,5 @@
 -- How many distinct values the occurrences of a map have.
-use Rattle.std.proofs.Common.{◌≡◌, ℕ, zero, suc, ◌+◌, ◌<◌, ◌≤◌, ◌==◌, Bool, true, false, cond, List, [], ◌∷◌, ◌++◌, length, replicate, filter, Option, Some, unwrap_or, IsSome, refl, ◌∙◌, ap, arith}
+use Rattle.std.proofs.Common.{◌≡◌, ℕ, zero, suc, ◌+◌, ◌<◌, ◌≤◌, ◌==◌, Bool, true, false, cond, List, [], ◌∷◌, ◌++◌, length, replicate, filter, Option, Some, unwrap_or, IsSome, refl, sym, ◌∙◌, ap, arith}
 use Rattle.std.specs.Cmp.{IsEquivalence}
 use Rattle.std.proofs.lemmas.Bool.Decides.{nat_tests}
 use Rattle.std.specs.List.{IsDistinct}
@@ -10,10 +10,11 @@ use Rattle.std.proofs.lemmas.Map.{lookup-none}
 use Rattle.std.proofs.lemmas.Map.Entries.{none_past_head}
 use Rattle.std.proofs.lemmas.Map.Keys.{IsDistinct-tail}
 use Rattle.std.proofs.lemmas.List.Sorted.{length_permutation}
-use Rattle.hashbag_table.specs.Entries.{with_count, IsCounted}
+use Rattle.hashbag_table.specs.Entries.{with_count, with_instance, IsCounted}
+use Rattle.hashbag_table.proofs.EntryLemmas.{without_absent}
 use Rattle.hashbag_core.specs.Bag.{occurrences}
 use Rattle.hashbag_core.specs.Occurrences.{count, distinct_count}
-use Rattle.hashbag_core.proofs.OccurrenceLemmas.{count_occurrences, present_from_count}
+use Rattle.hashbag_core.proofs.OccurrenceLemmas.{absent_from_count, count_occurrences, present_from_count}
 
 -- without one of its values a map is no longer, and shorter by one where the value was there
 module _ {T : Type 0} (test : T → Bool) where
@@ -86,4 +87,15 @@ module _ {T : Type 0} {eq : T → T → Bool} (laws : IsEquivalence eq) where
       let same = count_occurrences laws v es counted.distinct in
       let long = length_permutation (with_count eq v n es) fs h in
       let fewer = length_without_one (eq v) es (present_from_count laws v es (omega arith)) in
+      omega arith
+
+  -- a map that a value which it hadn't was put into has one value more
+  pub distinct_put : (v : T) (n : ℕ) (es fs : List (T × ℕ)) → IsCounted eq es → IsCounted eq fs → count eq v (occurrences es) ≡ 0 → IsPermutation (with_instance eq v n es) fs
+      → distinct_count eq (occurrences fs) ≡ distinct_count eq (occurrences es) + 1
+  distinct_put v n es fs counted after none h =
+      let before = distinct_count-occurrences es counted in
+      let now = distinct_count-occurrences fs after in
+      let long = length_permutation (with_instance eq v n es) fs h in
+      let absent = absent_from_count laws v es counted (sym (count_occurrences laws v es counted.distinct) ∙ none) in
+      let same = ap (λ (l : List (T × ℕ)). length l) (without_absent (eq v) es absent) in
       omega arith

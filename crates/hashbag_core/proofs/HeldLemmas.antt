@@ -37,8 +37,8 @@ err_from (Ok a) Q p = tt
 err_from (Err e) Q p = λ _. p
 
 module _ {T : Type 0} where
-  pub tables_from : (t u : Tables T) → t.newer ≡ u.newer → t.waiting ≡ u.waiting → t.built ≡ u.built → t ≡ u
-  tables_from t u p q r = λ i. record { newer = p i; waiting = q i; built = r i }
+  pub tables_from : (t u : Tables T) → t.newer ≡ u.newer → t.waiting ≡ u.waiting → t.older ≡ u.older → t.built ≡ u.built → t ≡ u
+  tables_from t u p q o r = λ i. record { newer = p i; waiting = q i; older = o i; built = r i }
 
   -- no table is made where one slot is rewritten
   pub rewritten_built : (test : T → Bool) (change : Slot T → Slot T) (old new : Tables T) → Rewrites test change old new → new.built ≡ old.built
@@ -48,10 +48,11 @@ module _ {T : Type 0} where
     at (Waiting p) s h = h.2
 
   -- where there are no slots, none waits
-  pub none_from_newer : (t : Tables T) (w k : ℕ) → t.newer ≡ [] → w ≡ length t.waiting → (0 < w → w + 16 ≤ length t.newer) → t.built ≡ k → t ≡ no_slots k
-  none_from_newer t w k newer is smaller built =
+  pub none_from_newer : (t : Tables T) (w k : ℕ) → t.newer ≡ [] → w ≡ length t.waiting → (0 < w → w + 16 ≤ length t.newer) → (w ≡ 0 → t.older ≡ 0) → t.built ≡ k → t ≡ no_slots k
+  none_from_newer t w k newer is smaller freed built =
       let none : length t.newer ≡ 0 = ap (λ (ss : List (Slot T)). length ss) newer in
-      tables_from t (no_slots k) newer (nil_from_length t.waiting (sym is ∙ none_left w (λ some. let more = smaller some in omega (arith, more, none)))) built
+      let idle : w ≡ 0 = none_left w (λ some. let more = smaller some in omega (arith, more, none)) in
+      tables_from t (no_slots k) newer (nil_from_length t.waiting (sym is ∙ idle)) (freed idle) built
 
   -- the least table for n values that is made of Empty slots has room for them
   pub room_made : (n : ℕ) (t : Tables T) → t.newer ≡ replicate (length t.newer) Empty → IsLeast 0 n (length t.newer) → IsPacked t → n ≤ room t

@@ -19,7 +19,7 @@ module _ {T : Type 0} where
 
 -- the bag with no occurrences and no slots, under the same state and with the same limit
 abbrev pub emptied : {T S : Type 0} → Bag T S → Bag T S
-emptied b = record { items = []; hasher = b.hasher; tables = record { newer = []; waiting = []; built = b.tables.built }; most = b.most }
+emptied b = record { items = []; hasher = b.hasher; tables = record { newer = []; waiting = []; older = 0; built = b.tables.built }; most = b.most }
 
 -- once the loan named r has ended, the bag behind b is empty
 abbrev pub follows_drain : (T S H : RattleType) (g : record { eq : T.Denot → T.Denot → Bool; hash_input : T.Denot → List (List ℕ) }) (s : builder.Ghosts S.Denot H.Denot) (w : hasher.Ghosts H.Denot) → MutBor (Bag T.Denot S.Denot) → GName → Fml

@@ -10,11 +10,11 @@ use Rattle.hashbag_core.specs.Bag.{occurrences}
 module _ {T : Type 0} where
   -- no slots in either table, after so many were built
   abbrev pub no_slots : ℕ → Tables T
-  no_slots k = record { newer = []; waiting = []; built = k }
+  no_slots k = record { newer = []; waiting = []; older = 0; built = k }
 
   -- so many slots as before, all of them Empty, none that waits, and none built
   abbrev pub cleared : Tables T → Tables T
-  cleared t = record { newer = replicate (length t.newer) Empty; waiting = []; built = t.built }
+  cleared t = record { newer = replicate (length t.newer) Empty; waiting = []; older = 0; built = t.built }
 
   -- the slot of a value of which n are left: with that count, and Removed where it is 0
   abbrev pub left_in : ℕ → Slot T → Slot T

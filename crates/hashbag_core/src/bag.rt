@@ -5,7 +5,8 @@ ghost use Rattle.std.specs.List.Sorted.{IsPermutation};
 ghost use Rattle.hashbag_table.specs.Asked.{MayAskInTurn};
 ghost use Rattle.hashbag_slots.specs.Slots.{IsSlotCount};
 ghost use Rattle.hashbag_table.specs.Entries.{count_of, IsCounted, HasClones};
-ghost use Rattle.hashbag_table.specs.Tables.{limit, room, values, IsLeast, IsPacked, Arrives, NoneMoved};
+ghost use Rattle.hashbag_table.specs.Tables.{limit, room, values, IsLeast, IsPacked, ReservesOrStays, ShrinksOrStays, Arrives, NoneMoved};
+ghost use Rattle.hashbag_table.specs.Retained.{RetainsTables};
 ghost use Rattle.hashbag_core.specs.Bag.{occurrences, limited};
 ghost use Rattle.hashbag_core.specs.Occurrences.{greatest_total, count, counted, stored, add, less, put, instance_or_itself, distinct_count, IsBag, SameCounts};
 ghost use Rattle.hashbag_core.specs.Extends.{Refuses};
@@ -256,6 +257,7 @@ impl<T: Eq + Hash + Drop, S: BuildHasher + Drop> HashBag<T, S> {
         ensures waiting { result ≡ length self.now.tables.waiting }
         ensures carries { result ≤ 16 * room self.now.tables }
         ensures smaller { 0 < result → result + 16 ≤ length self.now.tables.newer }
+        ensures freed { result ≡ 0 → self.now.tables.older ≡ 0 }
     {
         self.table.waiting()
     }
@@ -400,6 +402,7 @@ impl<T: Eq + Hash + Drop, S: BuildHasher + Drop> HashBag<T, S> {
         ensures before { IfOk result (λ before. before ≡ count T.eq value self.old.items) }
         ensures put { OnOk result (IsBagOf T.eq self.old (put T.eq value 1 self.old.items) self.new) }
         ensures len { IfOk result (λ before. length self.new.items + before ≡ length self.old.items + 1) }
+        ensures new_set { OnOk result (count T.eq value self.old.items ≡ 0 → distinct_count T.eq self.new.items ≡ distinct_count T.eq self.old.items + 1) }
 
         // The total is tested first; then only memory can be refused, and only where there is no room; to a value that is there nothing.
         ensures too_many { self.old.most < length self.old.items - count T.eq value self.old.items + 1 → result ≡ Err BagError.TooMany }
@@ -574,6 +577,7 @@ impl<T: Eq + Hash + Drop, S: BuildHasher + Drop> HashBag<T, S> {
         ensures len { length self.new.items ≤ length self.old.items }
         ensures slots { length self.new.tables.newer ≡ length self.old.tables.newer }
         ensures waiting { length self.new.tables.waiting ≡ length self.old.tables.waiting }
+        ensures in_place { RetainsTables self.old.tables self.new.tables }
         ensures built { self.new.tables.built ≡ self.old.tables.built }
         ensures room { room self.old.tables ≤ room self.new.tables }
     {
@@ -601,6 +605,7 @@ impl<T: Eq + Hash + Drop, S: BuildHasher + Drop> HashBag<T, S> {
         ensures least { OnOk result (room self.old.tables < n → IsLeast (length self.old.tables.newer) (distinct_count T.eq self.old.items + n) (length self.new.tables.newer)) }
         ensures packed { OnOk result (room self.old.tables < n → IsPacked self.new.tables) }
         ensures built { OnOk result (room self.old.tables < n → self.new.tables.built ≡ self.old.tables.built + length self.new.tables.newer) }
+        ensures reserves { OnOk result (ReservesOrStays n (distinct_count T.eq self.old.items) self.old.tables self.new.tables) }
     {
         self.table.reserve(n)?;
         Ok(())
@@ -621,6 +626,7 @@ impl<T: Eq + Hash + Drop, S: BuildHasher + Drop> HashBag<T, S> {
         ensures none { self.old.items ≡ [] → IsOk result }
         ensures freed { OnOk result (self.old.items ≡ [] → self.new.tables ≡ no_slots self.old.tables.built) }
         ensures fewer { length self.new.tables.newer ≤ length self.old.tables.newer }
+        ensures shrinks { OnOk result (ShrinksOrStays (distinct_count T.eq self.old.items) self.old.tables self.new.tables) }
         ensures enough { (m : ℕ) → IsLeast 0 (distinct_count T.eq self.old.items) m → length self.old.tables.newer ≤ m → IsOk result }
         ensures same { (m : ℕ) → IsLeast 0 (distinct_count T.eq self.old.items) m → length self.old.tables.newer ≤ m → self.new ≡ self.old }
         ensures least { OnOk result ((m : ℕ) → IsLeast 0 (distinct_count T.eq self.old.items) m → m < length self.old.tables.newer → length self.new.tables.newer ≡ m) }
@@ -685,6 +691,7 @@ impl<T: Eq + Hash + Drop, S: BuildHasher + Drop> HashBag<T, S> {
         requires fits { length self.old.items + quantity ≤ self.old.most }
         ensures added { OnOk result (IsBagOf T.eq self.old (add T.eq value quantity self.old.items) self.new) }
         ensures len { OnOk result (length self.new.items ≡ length self.old.items + quantity) }
+        ensures new_set { OnOk result (distinct_count T.eq self.new.items ≡ distinct_count T.eq self.old.items + 1) }
         ensures memory { OnErr result (result ≡ Err BagError.Memory) }
         ensures err { OnErr result (self.new ≡ self.old) }
         ensures takes { 0 < room self.old.tables → IsOk result }

@@ -5,7 +5,7 @@ ghost use Rattle.hashbag_core.specs.Held.{Recounts};
 ghost use Rattle.std.specs.Borrow.{sem, MutBor, RestsIfErr};
 ghost use Rattle.hashbag_core.specs.Bag.{IsBagOf};
 ghost use Rattle.hashbag_core.specs.Extends.{Refuses};
-ghost use Rattle.hashbag_core.specs.Occurrences.{count, instance_or_itself, add};
+ghost use Rattle.hashbag_core.specs.Occurrences.{count, distinct_count, instance_or_itself, add};
 
 use crate::bag::{BagError, FixedState, HashBag};
 use std::fmt::{self, Debug, Formatter, Write};
@@ -93,6 +93,7 @@ impl<'a, T: Eq + Hash + Drop, S: BuildHasher + Drop> Entry<'a, T, S> {
         ensures occupied { 0 < count T.eq self.entry.value self.entry.bag.now.items → (result ≡ Ok (count T.eq self.entry.value self.entry.bag.now.items)) × (self.exit.0.now ≡ self.entry.bag.now) }
         ensures vacant { count T.eq self.entry.value self.entry.bag.now.items ≡ 0 → IfOk result (λ after. (after ≡ 1) × IsBagOf T.eq self.entry.bag.now (add T.eq self.entry.value 1 self.entry.bag.now.items) self.exit.0.now) }
         ensures len { IfOk result (λ after. length self.exit.0.now.items + count T.eq self.entry.value self.entry.bag.now.items ≡ length self.entry.bag.now.items + after) }
+        ensures new_set { OnOk result (count T.eq self.entry.value self.entry.bag.now.items ≡ 0 → distinct_count T.eq self.exit.0.now.items ≡ distinct_count T.eq self.entry.bag.now.items + 1) }
         ensures too_many { result ≡ Err BagError.TooMany → self.entry.bag.now.most < length self.entry.bag.now.items + 1 }
         ensures memory { result ≡ Err BagError.Memory → length self.entry.bag.now.items + 1 ≤ self.entry.bag.now.most }
         ensures refused { IfErr result (Refuses T.eq self.entry.bag.now.most self.entry.bag.now.items self.entry.value 1) }
@@ -116,6 +117,7 @@ impl<'a, T: Eq + Hash + Drop, S: BuildHasher + Drop> Entry<'a, T, S> {
         ensures vacant { count T.eq self.entry.value self.entry.bag.now.items ≡ 0 → IfOk result (λ after. (after ≡ quantity) × IsBagOf T.eq self.entry.bag.now (add T.eq self.entry.value quantity self.entry.bag.now.items) self.exit.0.now) }
         ensures none { quantity ≡ 0 → IsOk result }
         ensures len { IfOk result (λ after. length self.exit.0.now.items + count T.eq self.entry.value self.entry.bag.now.items ≡ length self.entry.bag.now.items + after) }
+        ensures new_set { OnOk result (0 < quantity → count T.eq self.entry.value self.entry.bag.now.items ≡ 0 → distinct_count T.eq self.exit.0.now.items ≡ distinct_count T.eq self.entry.bag.now.items + 1) }
         ensures too_many { result ≡ Err BagError.TooMany → self.entry.bag.now.most < length self.entry.bag.now.items + quantity }
         ensures memory { result ≡ Err BagError.Memory → length self.entry.bag.now.items + quantity ≤ self.entry.bag.now.most }
         ensures refused { IfErr result (Refuses T.eq self.entry.bag.now.most self.entry.bag.now.items self.entry.value quantity) }

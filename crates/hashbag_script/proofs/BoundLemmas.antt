@@ -198,17 +198,21 @@ module _ {T : Type 0} (eq : T → T → Bool) where
   take_done [] rest = refl
   take_done (s ∷ done) rest = ap (λ (l : List _). s ∷ l) (take_done done rest)
 
-  pub unanswered : (most : ℕ) (before after : List (Reply T)) → after ≡ before → after ≡ before ++ (run eq most [] []).1
+  pub unanswered : (most : ℕ) (X : List T) (before after : List (Reply T)) → after ≡ before → after ≡ before ++ (run eq most X []).1
   unfolding run
-  unanswered most before after e = e ∙ sym (append-nil before)
+  unanswered most X before after e = e ∙ sym (append-nil before)
+
+  pub are_answered : (most : ℕ) (X : List T) (done rest steps : List (Step T)) (before after : List (Reply T)) → done ++ rest ≡ steps → after ≡ before ++ (run eq most X done).1 → take (length after - length before) steps ≡ done
+  are_answered most X done rest steps before after parts replied =
+      let long : length after ≡ length before + length (run eq most X done).1 = ap (λ (l : List (Reply T)). length l) replied ∙ length-append before (run eq most X done).1 in
+      let each = run_replies most X done in
+      let count : length after - length before ≡ length done = omega (arith, long, each) in
+      ap (λ k. take k steps) count ∙ ap (λ (l : List (Step T)). take (length done) l) (sym parts) ∙ take_done done rest
 
   pub bounded_from : (most : ℕ) (done rest steps : List (Step T)) (before after : List (Reply T)) (old new : Tables T) → done ++ rest ≡ steps → after ≡ before ++ (run eq most [] done).1 → IsPaid eq most done old new
       → (0 < length new.waiting → length new.waiting + 16 ≤ length new.newer) → IsBounded eq most (take (length after - length before) steps) old new
   bounded_from most done rest steps before after old new parts replied paid smaller =
-      let long : length after ≡ length before + length (run eq most [] done).1 = ap (λ (l : List (Reply T)). length l) replied ∙ length-append before (run eq most [] done).1 in
-      let each = run_replies most [] done in
-      let count : length after - length before ≡ length done = omega (arith, long, each) in
-      let are : take (length after - length before) steps ≡ done = ap (λ k. take k steps) count ∙ ap (λ (l : List (Step T)). take (length done) l) (sym parts) ∙ take_done done rest in
+      let are : take (length after - length before) steps ≡ done = are_answered most [] done rest steps before after parts replied in
       subst (λ (l : List (Step T)). IsBounded eq most l old new) (sym are) (record {
         slots = paid.slots;
         smaller = smaller;

@@ -1,5 +1,5 @@
 -- Room along a run: what a step leaves of it, and which steps bring in a value.
-use Rattle.std.proofs.Common.{◌≡◌, ℕ, zero, suc, ◌+◌, ◌-◌, ◌<◌, ◌≤◌, ◌==◌, Bool, true, false, cond, ◌||◌, List, [], ◌∷◌, ◌++◌, length, replicate, Result, Ok, Err, OnOk, refl, sym, ap, subst, ◌∙◌, inl, inr, arith}
+use Rattle.std.proofs.Common.{◌≡◌, ℕ, zero, suc, ◌+◌, ◌-◌, ◌<◌, ◌≤◌, ◌==◌, Bool, true, false, cond, ◌||◌, List, [], ◌∷◌, ◌++◌, length, replicate, refl, sym, ap, subst, ◌∙◌, inl, inr, arith}
 use Rattle.std.specs.Cmp.{IsEquivalence}
 use Rattle.std.specs.List.{list_any}
 use Rattle.std.specs.List.Sorted.{IsPermutation}
@@ -38,11 +38,6 @@ or_false_left false b h = refl
 or_false_right : (a b : Bool) → (a || b) ≡ false → b ≡ false
 or_false_right true b h = absurd (cc)
 or_false_right false b h = h
-
--- what holds of an answer holds under whatever condition
-pub on_ok_also : {X E : Type 0} (A P : Type 0) (r : Result X E) → OnOk r P → OnOk r (A → P)
-on_ok_also A P (Ok x) p = λ _. p
-on_ok_also A P (Err e) p = tt
 
 -- ---- what is built
 

@@ -116,7 +116,7 @@ no_room_asked = refl
 
 -- 16 slots, all of them Empty, as the first value finds them: room for 12
 abbrev sixteen : Tables (ℕ × ℕ)
-sixteen = record { newer = fresh (no_slots 0); waiting = []; built = 16 }
+sixteen = record { newer = fresh (no_slots 0); waiting = []; older = 0; built = 16 }
 
 room_for_twelve : room sixteen ≡ 12
 room_for_twelve = refl

@@ -2,3 +2,4 @@ pub mod Examples
 pub mod Pairs
 pub mod Rows
 pub mod Script
+pub mod Turns

@@ -1,45 +1,59 @@
-use Rattle.std.proofs.Common.{ap, arith}
-use Rattle.hashbag_script.proofs.RoomLemmas.{on_ok_also, moves_kept, keeps_same, keeps_as, recounted_built}
+use Rattle.std.proofs.Common.{ap, refl, arith}
+use Rattle.hashbag_script.proofs.RoomLemmas.{moves_kept, keeps_same, keeps_as, recounted_built}
+use Rattle.hashbag_script.specs.Script.{is_about_room}
+use Rattle.hashbag_script.proofs.TurnLemmas.{on_ok_quiet, turns_quiet, turns_reserved, turns_shrunk}
 use Rattle.hashbag_script.proofs.script.apply.Goals as goal
 
-pub returns-in-Insert-clause-room : goal.returns-in-Insert-clause-room
-returns-in-Insert-clause-room g c = rw (c.in-Insert.is) (on_ok_also _ _ _ c.insert.ensures.room)
+pub returns-in-Insert-clause-turns : goal.returns-in-Insert-clause-turns
+returns-in-Insert-clause-turns g c = rw (c.in-Insert.is) (on_ok_quiet g.T.PartialEq.eq _ _ _ _ _ _ refl c.insert.ensures.room)
 
-pub returns-in-InsertMany-clause-room : goal.returns-in-InsertMany-clause-room
-returns-in-InsertMany-clause-room g c = rw (c.in-InsertMany.is) (on_ok_also _ _ _ c.insert-in-InsertMany.ensures.room)
+pub returns-in-InsertMany-clause-turns : goal.returns-in-InsertMany-clause-turns
+returns-in-InsertMany-clause-turns g c = rw (c.in-InsertMany.is) (on_ok_quiet g.T.PartialEq.eq _ _ _ _ _ _ refl c.insert-in-InsertMany.ensures.room)
 
-pub returns-in-Replace-clause-room : goal.returns-in-Replace-clause-room
-returns-in-Replace-clause-room g c = rw (c.in-Replace.is) (on_ok_also _ _ _ c.replace.ensures.room)
+pub returns-in-Replace-clause-turns : goal.returns-in-Replace-clause-turns
+returns-in-Replace-clause-turns g c = rw (c.in-Replace.is) (on_ok_quiet g.T.PartialEq.eq _ _ _ _ _ _ refl c.replace.ensures.room)
 
-pub returns-in-EntryOr-clause-room : goal.returns-in-EntryOr-clause-room
-returns-in-EntryOr-clause-room g c = rw (c.in-EntryOr.is) (on_ok_also _ _ _ c.entry_or.ensures.room)
+pub returns-in-EntryOr-clause-turns : goal.returns-in-EntryOr-clause-turns
+returns-in-EntryOr-clause-turns g c = rw (c.in-EntryOr.is) (on_ok_quiet g.T.PartialEq.eq _ _ _ _ _ _ refl c.entry_or.ensures.room)
 
-pub returns-in-Remove-clause-room : goal.returns-in-Remove-clause-room
-returns-in-Remove-clause-room g c = λ about.
-    moves_kept _ _ _ (record { slots = c.remove.ensures.slots; room = let r = c.remove.ensures.room in omega (arith, r); built = recounted_built g.T.PartialEq.eq _ _ _ _ _ c.remove.ensures.slot (λ none. ap (λ b. b.tables) (c.remove.ensures.none none)) })
+pub returns-in-Remove-clause-turns : goal.returns-in-Remove-clause-turns
+returns-in-Remove-clause-turns g c =
+    turns_quiet g.T.PartialEq.eq _ _ _ _ _ (ap is_about_room c.in-Remove.is) (moves_kept _ _ _ (record { slots = c.remove.ensures.slots; room = let r = c.remove.ensures.room in omega (arith, r); built = recounted_built g.T.PartialEq.eq _ _ _ _ _ c.remove.ensures.slot (λ none. ap (λ b. b.tables) (c.remove.ensures.none none)) }))
 
-pub returns-in-RemoveUpTo-clause-room : goal.returns-in-RemoveUpTo-clause-room
-returns-in-RemoveUpTo-clause-room g c = λ about.
-    moves_kept _ _ _ (record { slots = c.remove_up_to.ensures.slots; room = let r = c.remove_up_to.ensures.room in omega (arith, r); built = recounted_built g.T.PartialEq.eq _ _ _ _ _ c.remove_up_to.ensures.slot (λ none. ap (λ b. b.tables) (c.remove_up_to.ensures.none none)) })
+pub returns-in-RemoveUpTo-clause-turns : goal.returns-in-RemoveUpTo-clause-turns
+returns-in-RemoveUpTo-clause-turns g c =
+    turns_quiet g.T.PartialEq.eq _ _ _ _ _ (ap is_about_room c.in-RemoveUpTo.is) (moves_kept _ _ _ (record { slots = c.remove_up_to.ensures.slots; room = let r = c.remove_up_to.ensures.room in omega (arith, r); built = recounted_built g.T.PartialEq.eq _ _ _ _ _ c.remove_up_to.ensures.slot (λ none. ap (λ b. b.tables) (c.remove_up_to.ensures.none none)) }))
 
-pub returns-in-TryTake-clause-room : goal.returns-in-TryTake-clause-room
-returns-in-TryTake-clause-room g c = λ about. moves_kept _ _ _ c.try_take.ensures.room
+pub returns-in-TryTake-clause-turns : goal.returns-in-TryTake-clause-turns
+returns-in-TryTake-clause-turns g c =
+    turns_quiet g.T.PartialEq.eq _ _ _ _ _ (ap is_about_room c.in-TryTake.is) (moves_kept _ _ _ c.try_take.ensures.room)
 
-pub returns-in-TakeAll-clause-room : goal.returns-in-TakeAll-clause-room
-returns-in-TakeAll-clause-room g c = λ about. moves_kept _ _ _ c.take_all.ensures.room
+pub returns-in-TakeAll-clause-turns : goal.returns-in-TakeAll-clause-turns
+returns-in-TakeAll-clause-turns g c =
+    turns_quiet g.T.PartialEq.eq _ _ _ _ _ (ap is_about_room c.in-TakeAll.is) (moves_kept _ _ _ c.take_all.ensures.room)
 
-pub returns-in-EntrySet-clause-room : goal.returns-in-EntrySet-clause-room
-returns-in-EntrySet-clause-room g c = λ about. moves_kept _ _ _ c.entry_set.ensures.room
+pub returns-in-EntrySet-clause-turns : goal.returns-in-EntrySet-clause-turns
+returns-in-EntrySet-clause-turns g c =
+    turns_quiet g.T.PartialEq.eq _ _ _ _ _ (ap is_about_room c.in-EntrySet.is) (moves_kept _ _ _ c.entry_set.ensures.room)
 
-pub returns-in-Retain-clause-room : goal.returns-in-Retain-clause-room
-returns-in-Retain-clause-room g c = λ about. moves_kept _ _ _ c.retain.ensures.room
+pub returns-in-Retain-clause-turns : goal.returns-in-Retain-clause-turns
+returns-in-Retain-clause-turns g c =
+    turns_quiet g.T.PartialEq.eq _ _ _ _ _ (ap is_about_room c.in-Retain.is) (moves_kept _ _ _ c.retain.ensures.room)
 
-pub returns-in-Clear-clause-room : goal.returns-in-Clear-clause-room
-returns-in-Clear-clause-room g c = λ about.
-    moves_kept _ _ _ (record { slots = c.clear.ensures.slots; room = let r = c.clear.ensures.room in omega (arith, r); built = ap (λ t. t.built) c.clear.ensures.cleared })
+pub returns-in-Clear-clause-turns : goal.returns-in-Clear-clause-turns
+returns-in-Clear-clause-turns g c =
+    turns_quiet g.T.PartialEq.eq _ _ _ _ _ (ap is_about_room c.in-Clear.is) (moves_kept _ _ _ (record { slots = c.clear.ensures.slots; room = let r = c.clear.ensures.room in omega (arith, r); built = ap (λ t. t.built) c.clear.ensures.cleared }))
 
-pub returns-in-Count-clause-room : goal.returns-in-Count-clause-room
-returns-in-Count-clause-room g c = λ about. moves_kept _ _ _ (keeps_same 0 _)
+pub returns-in-Count-clause-turns : goal.returns-in-Count-clause-turns
+returns-in-Count-clause-turns g c =
+    turns_quiet g.T.PartialEq.eq _ _ _ _ _ (ap is_about_room c.in-Count.is) (moves_kept _ _ _ (keeps_same 0 _))
 
-pub returns-in-Limit-clause-room : goal.returns-in-Limit-clause-room
-returns-in-Limit-clause-room g c = λ about. moves_kept _ _ _ (keeps_as 0 _ _ (ap (λ b. b.tables) c.set_limit.ensures.left))
+pub returns-in-Limit-clause-turns : goal.returns-in-Limit-clause-turns
+returns-in-Limit-clause-turns g c =
+    turns_quiet g.T.PartialEq.eq _ _ _ _ _ (ap is_about_room c.in-Limit.is) (moves_kept _ _ _ (keeps_as 0 _ _ (ap (λ b. b.tables) c.set_limit.ensures.left)))
+
+pub returns-in-Reserve-clause-turns : goal.returns-in-Reserve-clause-turns
+returns-in-Reserve-clause-turns g c = turns_reserved g.T.PartialEq.eq _ _ _ _ _ _ c.in-Reserve.is c.in_ok-reserve.ensures.reserves
+
+pub returns-in-ShrinkToFit-clause-turns : goal.returns-in-ShrinkToFit-clause-turns
+returns-in-ShrinkToFit-clause-turns g c = turns_shrunk g.T.PartialEq.eq _ _ _ _ _ c.in-ShrinkToFit.is c.in_ok-shrink_to_fit.ensures.shrinks

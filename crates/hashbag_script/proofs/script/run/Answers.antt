@@ -15,6 +15,7 @@ use Rattle.hashbag_script.specs.declared.script.Step.{Step}
 use Rattle.hashbag_core.proofs.HeldLemmas.{none_left}
 use Rattle.hashbag_script.proofs.RoomLemmas.{first_not_about, few_newcomers, roomy_first, next_enough, roomy_next, moves_within}
 use Rattle.hashbag_script.proofs.BoundLemmas.{no_slots_paid, paid_next, means_none, bounded_from, unanswered}
+use Rattle.hashbag_script.proofs.TurnLemmas.{in_turn_more, in_turn_from, turns_rearranged}
 use Rattle.hashbag_script.proofs.script.run.Goals as goal
 
 pub loop-step-init : goal.loop-step-init
@@ -29,6 +30,7 @@ loop-step-init g c = record {
   roomy = λ X means roomy. roomy_first g.met.T.Eq.laws c.args.bag.now.most X _ c.args.bag.now.tables roomy;
   shaped = let h = c.recall_what_tables_keep.ensures in record { count = h.count; known = h.values; fits = h.fits; smaller = h.smaller };
   paid = λ empty none. no_slots_paid g.T.PartialEq.eq c.args.bag.now.most c.args.bag.now.tables none;
+  turned = λ X means. refl;
 }
 
 pub loop-step-preserved : goal.loop-step-preserved
@@ -64,12 +66,15 @@ loop-step-preserved g c =
           let whole : at.yielded ++ x ∷ into_iter_items c.next.new.self ≡ into_iter_items c.into_iter-step-iterator.result = rw steps at at.invariant.taken in
           let quiet = first_not_about at.yielded (into_iter_items c.next.new.self) x (ap (list_any is_about_room) whole ∙ roomy.calls) in
           let enough = next_enough g.met.T.Eq.laws most at.bag.most X at.bag.items at.yielded (into_iter_items c.next.new.self) x _ at.bag.tables so_far (at.invariant.means X means) (same X means).left in
-          roomy_next g.met.T.Eq.laws most at.bag.most X at.bag.items at.yielded (into_iter_items c.next.new.self) x _ at.bag.tables _ so_far (at.invariant.means X means) (same X means).left (moves_within _ _ _ (c.in_ok-reply.ensures.room quiet) enough);
+          roomy_next g.met.T.Eq.laws most at.bag.most X at.bag.items at.yielded (into_iter_items c.next.new.self) x _ at.bag.tables _ so_far (at.invariant.means X means) (same X means).left (moves_within _ _ _ (c.in_ok-reply.ensures.turns.moves quiet) enough);
       shaped = let h = c.recall_what_tables_keep-in-loop-step.ensures in record { count = h.count; known = h.values; fits = h.fits; smaller = h.smaller };
       paid = λ empty none.
           let nothing = means_none g.T.PartialEq.eq c.args.bag.now empty in
           paid_next g.met.T.Eq.laws most at.bag.most at.bag.items at.yielded x c.args.bag.now.tables at.bag.tables c.apply.new.bag.tables (at.invariant.means [] nothing) (same [] nothing).left at.invariant.shaped
-          c.in_ok-reply.ensures.room c.in_ok-reply.ensures.fewer (at.invariant.paid empty none);
+          c.in_ok-reply.ensures.turns.moves c.in_ok-reply.ensures.fewer (at.invariant.paid empty none);
+      turned = λ X means.
+          in_turn_more eq most X at.yielded x c.args.bag.now.tables at.bag.tables c.apply.new.bag.tables (at.invariant.turned X means)
+          (turns_rearranged g.met.T.Eq.laws at.bag.most (limit_left eq most X at.yielded) (run_of eq most X at.yielded).0 at.bag.items x at.bag.tables c.apply.new.bag.tables (at.invariant.means X means) (same X means).left c.in_ok-reply.ensures.turns);
     }
 
 pub returns-in_err-reply-clause-stopped : goal.returns-in_err-reply-clause-stopped
@@ -157,7 +162,28 @@ returns-in_err-reply-clause-bounded g c = λ empty none.
 pub returns-in_err-reserve-clause-bounded : goal.returns-in_err-reserve-clause-bounded
 returns-in_err-reserve-clause-bounded g c = λ empty none.
     bounded_from g.T.PartialEq.eq c.args.bag.now.most [] c.args.steps.items c.args.steps.items c.args.replies.now.items _ c.args.bag.now.tables c.args.bag.now.tables
-    refl (unanswered g.T.PartialEq.eq c.args.bag.now.most _ _ (search rules)) (no_slots_paid g.T.PartialEq.eq c.args.bag.now.most c.args.bag.now.tables none) c.recall_what_tables_keep.ensures.smaller
+    refl (unanswered g.T.PartialEq.eq c.args.bag.now.most [] _ _ (search rules)) (no_slots_paid g.T.PartialEq.eq c.args.bag.now.most c.args.bag.now.tables none) c.recall_what_tables_keep.ensures.smaller
+
+-- ---- what the steps with replies leave of the tables
+
+pub returns-clause-tables : goal.returns-clause-tables
+returns-clause-tables g c = λ X means.
+    let at = c.loop-step in
+    in_turn_from g.T.PartialEq.eq c.args.bag.now.most X at.yielded (into_iter_items at.step-iterator) c.args.steps.items c.args.replies.now.items at.replies.items c.args.bag.now.tables at.bag.tables
+    (at.invariant.taken ∙ c.into_iter-step-iterator.ensures.into_iter_gives.0) (rw (← c.in_ok-reserve.ensures.items) (at.invariant.replies X means)) (at.invariant.turned X means)
+
+pub returns-in_err-reply-clause-tables : goal.returns-in_err-reply-clause-tables
+returns-in_err-reply-clause-tables g c = λ X means.
+    let at = c.loop-step in
+    let steps : into_iter_items at.step-iterator ≡ c.in-Some.step ∷ into_iter_items c.next.new.self = c.in-Some.ensures.steps.0 in
+    rw c.in_err-reply.ensures.err
+    (in_turn_from g.T.PartialEq.eq c.args.bag.now.most X at.yielded (into_iter_items at.step-iterator) c.args.steps.items c.args.replies.now.items at.replies.items c.args.bag.now.tables at.bag.tables
+    (at.invariant.taken ∙ c.into_iter-step-iterator.ensures.into_iter_gives.0) (rw (← c.in_ok-reserve.ensures.items) (at.invariant.replies X means)) (at.invariant.turned X means))
+
+pub returns-in_err-reserve-clause-tables : goal.returns-in_err-reserve-clause-tables
+returns-in_err-reserve-clause-tables g c = λ X means.
+    in_turn_from g.T.PartialEq.eq c.args.bag.now.most X [] c.args.steps.items c.args.steps.items c.args.replies.now.items _ c.args.bag.now.tables c.args.bag.now.tables
+    refl (unanswered g.T.PartialEq.eq c.args.bag.now.most X _ _ (search rules)) refl
 
 -- all steps were done
 pub returns-clause-means : goal.returns-clause-means

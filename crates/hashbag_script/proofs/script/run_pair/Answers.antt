@@ -1,5 +1,6 @@
-use Rattle.std.proofs.Common.{vec_len, vec_capacity, ◌+◌, ◌<◌, inl, inr, arith}
+use Rattle.std.proofs.Common.{vec_len, vec_capacity, ◌+◌, ◌<◌, inl, inr, refl, arith, rules}
 use Rattle.std.proofs.lemmas.Result.{on_err_weaker}
+use Rattle.hashbag_script.proofs.TurnLemmas.{untouched_tables, untouched_bounded}
 use Rattle.hashbag_script.proofs.script.run_pair.Goals as goal
 
 pub returns-clause-takes : goal.returns-clause-takes
@@ -21,3 +22,53 @@ returns-clause-stopped g c =
         λ Y means. rw (← c.in_ok-reserve-2.ensures.items) (stopped Y means),
       ))
     ]) c.run-2.ensures.stopped
+
+-- ---- the tables of each bag
+
+pub returns-clause-first_tables : goal.returns-clause-first_tables
+returns-clause-first_tables g c = rw (← c.in_ok-reserve.ensures.items) c.run.ensures.tables
+
+pub returns-clause-second_tables : goal.returns-clause-second_tables
+returns-clause-second_tables g c = rw (← c.in_ok-reserve-2.ensures.items) c.run-2.ensures.tables
+
+pub returns-in_err-run-clause-first_tables : goal.returns-in_err-run-clause-first_tables
+returns-in_err-run-clause-first_tables g c = rw (← c.in_ok-reserve.ensures.items) c.run.ensures.tables
+
+pub returns-in_err-run-clause-second_tables : goal.returns-in_err-run-clause-second_tables
+returns-in_err-run-clause-second_tables g c = untouched_tables g.T.PartialEq.eq c.args.b.now c.args.steps_b.items _ _ c.in_ok-reserve-2.ensures.items
+
+pub returns-in_err-reserve-2-clause-first_tables : goal.returns-in_err-reserve-2-clause-first_tables
+returns-in_err-reserve-2-clause-first_tables g c = untouched_tables g.T.PartialEq.eq c.args.a.now c.args.steps_a.items _ _ c.in_ok-reserve.ensures.items
+
+pub returns-in_err-reserve-2-clause-second_tables : goal.returns-in_err-reserve-2-clause-second_tables
+returns-in_err-reserve-2-clause-second_tables g c = untouched_tables g.T.PartialEq.eq c.args.b.now c.args.steps_b.items _ _ (search rules)
+
+pub returns-in_err-reserve-clause-first_tables : goal.returns-in_err-reserve-clause-first_tables
+returns-in_err-reserve-clause-first_tables g c = untouched_tables g.T.PartialEq.eq c.args.a.now c.args.steps_a.items _ _ (search rules)
+
+pub returns-in_err-reserve-clause-second_tables : goal.returns-in_err-reserve-clause-second_tables
+returns-in_err-reserve-clause-second_tables g c = untouched_tables g.T.PartialEq.eq c.args.b.now c.args.steps_b.items _ _ refl
+
+pub returns-clause-first_bounded : goal.returns-clause-first_bounded
+returns-clause-first_bounded g c = rw (← c.in_ok-reserve.ensures.items) c.run.ensures.bounded
+
+pub returns-clause-second_bounded : goal.returns-clause-second_bounded
+returns-clause-second_bounded g c = rw (← c.in_ok-reserve-2.ensures.items) c.run-2.ensures.bounded
+
+pub returns-in_err-run-clause-first_bounded : goal.returns-in_err-run-clause-first_bounded
+returns-in_err-run-clause-first_bounded g c = rw (← c.in_ok-reserve.ensures.items) c.run.ensures.bounded
+
+pub returns-in_err-run-clause-second_bounded : goal.returns-in_err-run-clause-second_bounded
+returns-in_err-run-clause-second_bounded g c = untouched_bounded g.T.PartialEq.eq c.args.b.now c.args.steps_b.items _ _ c.in_ok-reserve-2.ensures.items c.recall_what_tables_keep-2.ensures.smaller
+
+pub returns-in_err-reserve-2-clause-first_bounded : goal.returns-in_err-reserve-2-clause-first_bounded
+returns-in_err-reserve-2-clause-first_bounded g c = untouched_bounded g.T.PartialEq.eq c.args.a.now c.args.steps_a.items _ _ c.in_ok-reserve.ensures.items c.recall_what_tables_keep.ensures.smaller
+
+pub returns-in_err-reserve-2-clause-second_bounded : goal.returns-in_err-reserve-2-clause-second_bounded
+returns-in_err-reserve-2-clause-second_bounded g c = untouched_bounded g.T.PartialEq.eq c.args.b.now c.args.steps_b.items _ _ (search rules) c.recall_what_tables_keep-2.ensures.smaller
+
+pub returns-in_err-reserve-clause-first_bounded : goal.returns-in_err-reserve-clause-first_bounded
+returns-in_err-reserve-clause-first_bounded g c = untouched_bounded g.T.PartialEq.eq c.args.a.now c.args.steps_a.items _ _ (search rules) c.recall_what_tables_keep.ensures.smaller
+
+pub returns-in_err-reserve-clause-second_bounded : goal.returns-in_err-reserve-clause-second_bounded
+returns-in_err-reserve-clause-second_bounded g c = untouched_bounded g.T.PartialEq.eq c.args.b.now c.args.steps_b.items _ _ refl c.recall_what_tables_keep-2.ensures.smaller

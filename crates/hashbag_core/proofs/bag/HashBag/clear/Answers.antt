@@ -11,10 +11,10 @@ pub invariant_of-self : goal.invariant_of-self
 invariant_of-self g c = rw c.clear.ensures.empty (tally_none g.met.T.Eq.laws c.self.inside.most c.self.invariant.limit)
 
 pub returns-clause-cleared : goal.returns-clause-cleared
-returns-clause-cleared g c = rw (← c.self.view_is) (tables_from c.clear.new.self.tables (cleared c.self.inside.table.tables) c.clear.ensures.newer c.clear.ensures.waiting c.clear.ensures.built)
+returns-clause-cleared g c = rw (← c.self.view_is) (tables_from c.clear.new.self.tables (cleared c.self.inside.table.tables) c.clear.ensures.newer c.clear.ensures.waiting c.clear.ensures.older c.clear.ensures.built)
 
 pub returns-clause-slots : goal.returns-clause-slots
 returns-clause-slots g c = rw (← c.self.view_is) (ap (λ (ss : List (Slot g.row.T.Denot)). length ss) c.clear.ensures.newer ∙ length-replicate _ _)
 
 pub returns-clause-room : goal.returns-clause-room
-returns-clause-room g c = rw (← c.self.view_is) (subst (λ (t : Tables g.row.T.Denot). room c.self.inside.table.tables ≤ room t) (sym (tables_from c.clear.new.self.tables (cleared c.self.inside.table.tables) c.clear.ensures.newer c.clear.ensures.waiting c.clear.ensures.built)) (room_cleared c.self.inside.table.tables))
+returns-clause-room g c = rw (← c.self.view_is) (subst (λ (t : Tables g.row.T.Denot). room c.self.inside.table.tables ≤ room t) (sym (tables_from c.clear.new.self.tables (cleared c.self.inside.table.tables) c.clear.ensures.newer c.clear.ensures.waiting c.clear.ensures.older c.clear.ensures.built)) (room_cleared c.self.inside.table.tables))

@@ -46,3 +46,6 @@ returns-clause-slots g c = λ some. rw (← c.self.view_is) (c.in_ok-insert_new.
 
 pub returns-clause-room : goal.returns-clause-room
 returns-clause-room g c = λ some. rw (← c.self.view_is) (c.in_ok-insert_new.ensures.room (rw (← c.self.view_is) at some))
+
+pub returns-clause-new_set : goal.returns-clause-new_set
+returns-clause-new_set g c = rw (← c.self.view_is) (distinct_put g.met.T.Eq.laws c.args.value c.args.quantity _ _ c.self.invariant.counted c.insert_new.ensures.counted (rw (← c.self.view_is) at c.requires.absent) c.in_ok-insert_new.ensures.inserted)

@@ -7,6 +7,7 @@ use Rattle.std.proofs.lemmas.Bool.{false≢true}
 use Rattle.std.proofs.lemmas.Result.{err_from_is_err_and}
 use Rattle.hashbag_table.proofs.EntryLemmas.{OnErr-from}
 use Rattle.hashbag_core.proofs.OccurrenceLemmas.{count_of_entry}
+use Rattle.hashbag_core.proofs.DistinctLemmas.{distinct_put}
 use Rattle.hashbag_core.proofs.HeldLemmas.{absent_in_table, present_in_table}
 use Rattle.hashbag_core.proofs.bag.HashBag.replace.Goals.{else-self-via-then-self+else-contains-eq0, else-self-via-else-self}
 use Rattle.hashbag_core.proofs.bag.HashBag.replace.Goals as goal
@@ -114,3 +115,6 @@ returns-clause-same_slots g c = λ some. rw (← c.self.view_is) (c.in_ok-before
 
 pub returns-clause-same_room : goal.returns-clause-same_room
 returns-clause-same_room g c = λ some. rw (← c.self.view_is) (c.in_ok-before.ensures.same_room some)
+
+pub returns-clause-new_set : goal.returns-clause-new_set
+returns-clause-new_set g c = λ none. rw (← c.self.view_is) (distinct_put g.met.T.Eq.laws c.args.value 1 _ _ c.self.invariant.counted c.put_instance.ensures.counted (rw (← c.self.view_is) at none) c.in_ok-before.ensures.put)

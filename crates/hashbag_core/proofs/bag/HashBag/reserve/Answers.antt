@@ -58,3 +58,6 @@ returns-clause-packed g c = λ more. c.in_ok-reserve.ensures.packed (rw (← c.s
 
 pub returns-clause-built : goal.returns-clause-built
 returns-clause-built g c = λ more. rw (← c.self.view_is) (c.in_ok-reserve.ensures.built (rw (← c.self.view_is) at more))
+
+pub returns-clause-reserves : goal.returns-clause-reserves
+returns-clause-reserves g c = rw (← c.self.view_is, distinct_count-occurrences g.met.T.Eq.laws c.self.inside.table.entries c.self.invariant.counted) c.in_ok-reserve.ensures.reserves

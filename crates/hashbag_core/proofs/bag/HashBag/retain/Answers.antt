@@ -37,3 +37,6 @@ returns-clause-room g c = rw (← c.self.view_is) c.retain-self-inside.ensures.r
 
 pub returns-clause-built : goal.returns-clause-built
 returns-clause-built g c = rw (← c.self.view_is) c.retain-self-inside.ensures.built
+
+pub returns-clause-in_place : goal.returns-clause-in_place
+returns-clause-in_place g c = rw (← c.self.view_is) c.retain-self-inside.ensures.in_place

@@ -50,7 +50,7 @@ pub returns-clause-freed : goal.returns-clause-freed
 returns-clause-freed g c = λ empty.
     let none = no_entries g.met.T.Eq.laws _ c.self.invariant.counted (rw (← c.self.view_is) at empty) in
     rw (← c.self.view_is) (none_from_newer c.shrink_to_fit.new.self.tables c.waiting-waiting.result c.self.inside.table.tables.built
-    (c.shrink_to_fit.ensures.freed none) c.waiting-waiting.ensures.waiting c.waiting-waiting.ensures.smaller (c.shrink_to_fit.ensures.freed_built none))
+    (c.shrink_to_fit.ensures.freed none) c.waiting-waiting.ensures.waiting c.waiting-waiting.ensures.smaller c.waiting-waiting.ensures.freed (c.shrink_to_fit.ensures.freed_built none))
 
 pub returns-in_err-shrink_to_fit-clause-fewer : goal.returns-in_err-shrink_to_fit-clause-fewer
 returns-in_err-shrink_to_fit-clause-fewer g c = rw (← c.self.view_is) c.shrink_to_fit.ensures.fewer
@@ -69,3 +69,6 @@ returns-clause-least g c = λ m least more.
 pub returns-clause-packed : goal.returns-clause-packed
 returns-clause-packed g c = λ m least more.
     c.in_ok-shrink_to_fit.ensures.packed m (rw (← c.self.view_is, distinct_count-occurrences g.met.T.Eq.laws c.self.inside.table.entries c.self.invariant.counted) at least) (rw (← c.self.view_is) at more)
+
+pub returns-clause-shrinks : goal.returns-clause-shrinks
+returns-clause-shrinks g c = rw (← c.self.view_is, distinct_count-occurrences g.met.T.Eq.laws c.self.inside.table.entries c.self.invariant.counted) c.in_ok-shrink_to_fit.ensures.shrinks

@@ -1,0 +1,19 @@
+//! A caller that speaks of the slots behind a bag, in words that `hashbag` passes on.
+ghost use Rattle.std.specs.Prelude.{◌≡◌, ◌+◌, ℕ, false, length};
+ghost use Rattle.hashbag.specs.Slots.{IsSlotCount, is_live, live_count, slot_at};
+ghost use Rattle.hashbag.specs.SlotWords.{Slot};
+
+use hashbag::HashBag;
+use std::hash::{BuildHasher, Hash};
+
+/// Keeps one of each value, and answers how many there are: one in each Live slot of the two tables. A slot of the newer table that has
+/// no value stays as it is, so no value came to another slot.
+pub fn keep_one_of_each<T: Eq + Hash + Drop, S: BuildHasher + Drop>(bag: &mut HashBag<T, S>) -> usize
+    ensures count { IsSlotCount (length bag.new.tables.newer) }
+    ensures live { result ≡ live_count bag.new.tables.newer + live_count bag.new.tables.waiting }
+    ensures dead { (p : ℕ) (s : Slot T) → slot_at bag.old.tables.newer p ≡ s → is_live s ≡ false → slot_at bag.new.tables.newer p ≡ s }
+{
+    bag.retain(|_value: &T, _count: usize| 1);
+    let _slots = bag.slots();
+    bag.set_len()
+}
