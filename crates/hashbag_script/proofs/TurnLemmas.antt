@@ -10,11 +10,14 @@ use Rattle.hashbag_script.specs.declared.script.Step.{Step}
 use Rattle.hashbag_script.specs.declared.script.Step.TheVariants.{Reserve, ShrinkToFit}
 use Rattle.hashbag_script.specs.declared.script.Reply.{Reply}
 use Rattle.hashbag_script.specs.Pairs.{ran}
-use Rattle.hashbag_script.specs.Script.{step, limit_after, limit_left, run, newcomers, is_about_room, Moves}
+use Rattle.hashbag_script.specs.Script.{step, limit_after, limit_left, run, newcomers, is_about_room, is_reserve, Moves}
 use Rattle.hashbag_script.specs.Turns.{Turns, InTurn, AreInTurn, IsBoundedRun}
 use Rattle.hashbag_script.proofs.BoundLemmas.{are_answered, bounded_from, no_slots_paid, unanswered}
 use Rattle.hashbag_script.proofs.DistinctOrder.{distinct_rearranged}
 use Rattle.hashbag_script.proofs.RoomLemmas.{newcomers_rearranged}
+
+same_number : {T : Type 0} (n m : ℕ) (s : Step T) → s ≡ Reserve n → s ≡ Reserve m → n ≡ m
+same_number n m s p q = cc
 
 module _ {T : Type 0} (eq : T → T → Bool) (most : ℕ) (X : List T) (s : Step T) (old new : Tables T) where
   -- a step that isn't about room
@@ -32,16 +35,14 @@ module _ {T : Type 0} (eq : T → T → Bool) (most : ℕ) (X : List T) (s : Ste
   pub turns_reserved : (n : ℕ) → s ≡ Reserve n → ReservesOrStays n (distinct_count eq X) old new → Turns eq most X s old new
   turns_reserved n is done = record {
     moves = λ quiet. absurd (false≢true (sym quiet ∙ ap is_about_room is));
-    reserves = λ m as. subst (λ k. ReservesOrStays k (distinct_count eq X) old new) (same m (sym is ∙ as)) done;
-    shrinks = λ as. absurd (let clash : Reserve n ≡ ShrinkToFit = sym is ∙ as in cc);
-  } where
-    same : (m : ℕ) → Reserve {T = T} n ≡ Reserve m → n ≡ m
-    same m e = cc
+    reserves = λ m as. subst (λ k. ReservesOrStays k (distinct_count eq X) old new) (same_number n m s is as) done;
+    shrinks = λ as. absurd (false≢true (sym (ap is_reserve as) ∙ ap is_reserve is));
+  }
 
   pub turns_shrunk : s ≡ ShrinkToFit → ShrinksOrStays (distinct_count eq X) old new → Turns eq most X s old new
   turns_shrunk is done = record {
     moves = λ quiet. absurd (false≢true (sym quiet ∙ ap is_about_room is));
-    reserves = λ n as. absurd (let clash : ShrinkToFit ≡ Reserve n = sym is ∙ as in cc);
+    reserves = λ n as. absurd (false≢true (sym (ap is_reserve is) ∙ ap is_reserve as));
     shrinks = λ _. done;
   }
 
