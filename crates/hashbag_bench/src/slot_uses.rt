@@ -8,7 +8,9 @@ use std::hash::{BuildHasher, Hash};
 
 /// Keeps one of each value, and answers how many there are: one in each Live slot of the two tables. A slot of the newer table that has
 /// no value stays as it is, so no value came to another slot.
-pub fn keep_one_of_each<T: Eq + Hash + Drop, S: BuildHasher + Drop>(bag: &mut HashBag<T, S>) -> usize
+pub fn keep_one_of_each<T: Eq + Hash + Drop, S: BuildHasher + Drop>(
+    bag: &mut HashBag<T, S>,
+) -> usize
     ensures count { IsSlotCount (length bag.new.tables.newer) }
     ensures live { result ≡ live_count bag.new.tables.newer + live_count bag.new.tables.waiting }
     ensures dead { (p : ℕ) (s : Slot T) → slot_at bag.old.tables.newer p ≡ s → is_live s ≡ false → slot_at bag.new.tables.newer p ≡ s }

@@ -10,57 +10,58 @@ use Rattle.hashbag_script.specs.declared.script.Step.{Step}
 use Rattle.hashbag_script.specs.declared.script.Step.TheVariants.{Reserve, ShrinkToFit}
 use Rattle.hashbag_script.specs.declared.script.Reply.{Reply}
 use Rattle.hashbag_script.specs.Pairs.{ran}
-use Rattle.hashbag_script.specs.Script.{step, limit_after, limit_left, run, newcomers, is_about_room, Moves}
-use Rattle.hashbag_script.specs.Turns.{Turns, InTurn, AreInTurn, IsBoundedRun}
+use Rattle.hashbag_script.specs.Script.{step, limit_after, limit_left, run, newcomers, is_about_room, is_reserve, Moves}
+use Rattle.hashbag_script.specs.Turns.{LeavesTables, TablesInTurn, AreTablesInTurn, IsBoundedRun}
 use Rattle.hashbag_script.proofs.BoundLemmas.{are_answered, bounded_from, no_slots_paid, unanswered}
 use Rattle.hashbag_script.proofs.DistinctOrder.{distinct_rearranged}
 use Rattle.hashbag_script.proofs.RoomLemmas.{newcomers_rearranged}
 
+same_number : {T : Type 0} (n m : ℕ) (s : Step T) → s ≡ Reserve n → s ≡ Reserve m → n ≡ m
+same_number n m s p q = cc
+
 module _ {T : Type 0} (eq : T → T → Bool) (most : ℕ) (X : List T) (s : Step T) (old new : Tables T) where
   -- a step that isn't about room
-  pub turns_quiet : is_about_room s ≡ false → Moves (newcomers eq X (step eq most X s).0) old new → Turns eq most X s old new
+  pub turns_quiet : is_about_room s ≡ false → Moves (newcomers eq X (step eq most X s).0) old new → LeavesTables eq most X s old new
   turns_quiet quiet moves = record {
     moves = λ _. moves;
     reserves = λ n is. absurd (false≢true (sym quiet ∙ ap is_about_room is));
     shrinks = λ is. absurd (false≢true (sym quiet ∙ ap is_about_room is));
   }
 
-  pub on_ok_quiet : {A E : Type 0} (r : Result A E) → is_about_room s ≡ false → OnOk r (Moves (newcomers eq X (step eq most X s).0) old new) → OnOk r (Turns eq most X s old new)
+  pub on_ok_quiet : {A E : Type 0} (r : Result A E) → is_about_room s ≡ false → OnOk r (Moves (newcomers eq X (step eq most X s).0) old new) → OnOk r (LeavesTables eq most X s old new)
   on_ok_quiet (Ok x) quiet moves = turns_quiet quiet moves
   on_ok_quiet (Err e) quiet moves = tt
 
-  pub turns_reserved : (n : ℕ) → s ≡ Reserve n → ReservesOrStays n (distinct_count eq X) old new → Turns eq most X s old new
+  pub turns_reserved : (n : ℕ) → s ≡ Reserve n → ReservesOrStays n (distinct_count eq X) old new → LeavesTables eq most X s old new
   turns_reserved n is done = record {
     moves = λ quiet. absurd (false≢true (sym quiet ∙ ap is_about_room is));
-    reserves = λ m as. subst (λ k. ReservesOrStays k (distinct_count eq X) old new) (same m (sym is ∙ as)) done;
-    shrinks = λ as. absurd (let clash : Reserve n ≡ ShrinkToFit = sym is ∙ as in cc);
-  } where
-    same : (m : ℕ) → Reserve {T = T} n ≡ Reserve m → n ≡ m
-    same m e = cc
+    reserves = λ m too. subst (λ k. ReservesOrStays k (distinct_count eq X) old new) (same_number n m s is too) done;
+    shrinks = λ too. absurd (false≢true (sym (ap is_reserve too) ∙ ap is_reserve is));
+  }
 
-  pub turns_shrunk : s ≡ ShrinkToFit → ShrinksOrStays (distinct_count eq X) old new → Turns eq most X s old new
+  pub turns_shrunk : s ≡ ShrinkToFit → ShrinksOrStays (distinct_count eq X) old new → LeavesTables eq most X s old new
   turns_shrunk is done = record {
     moves = λ quiet. absurd (false≢true (sym quiet ∙ ap is_about_room is));
-    reserves = λ n as. absurd (let clash : ShrinkToFit ≡ Reserve n = sym is ∙ as in cc);
+    reserves = λ n too. absurd (false≢true (sym (ap is_reserve is) ∙ ap is_reserve too));
     shrinks = λ _. done;
   }
 
 module _ {T : Type 0} (eq : T → T → Bool) where
   -- one more step at the end of a run
-  pub in_turn_more : (most : ℕ) (X : List T) (done : List (Step T)) (s : Step T) (old now new : Tables T) → InTurn eq most X done old now
-      → Turns eq (limit_left eq most X done) (run eq most X done).0 s now new → InTurn eq most X (done ++ s ∷ []) old new
+  pub in_turn_more : (most : ℕ) (X : List T) (done : List (Step T)) (s : Step T) (old now new : Tables T) → TablesInTurn eq most X done old now
+      → LeavesTables eq (limit_left eq most X done) (run eq most X done).0 s now new → TablesInTurn eq most X (done ++ s ∷ []) old new
   unfolding run limit_left
-  in_turn_more most X [] s old now new before turns = (new, subst (λ t. Turns eq most X s t new) before turns, refl)
+  in_turn_more most X [] s old now new before turns = (new, subst (λ t. LeavesTables eq most X s t new) before turns, refl)
   in_turn_more most X (r ∷ done) s old now new before turns = (before.0, before.1, in_turn_more (limit_after eq most X r) (step eq most X r).0 done s before.0 now new before.2 turns)
 
   -- the steps that have replies are those that were done
   pub in_turn_from : (most : ℕ) (X : List T) (done rest steps : List (Step T)) (before after : List (Reply T)) (old new : Tables T) → done ++ rest ≡ steps → after ≡ before ++ (run eq most X done).1
-      → InTurn eq most X done old new → InTurn eq most X (take (length after - length before) steps) old new
+      → TablesInTurn eq most X done old new → TablesInTurn eq most X (take (length after - length before) steps) old new
   in_turn_from most X done rest steps before after old new parts replied turned =
-      subst (λ (l : List (Step T)). InTurn eq most X l old new) (sym (are_answered eq most X done rest steps before after parts replied)) turned
+      subst (λ (l : List (Step T)). TablesInTurn eq most X l old new) (sym (are_answered eq most X done rest steps before after parts replied)) turned
 
   -- no step has a reply, and the bag is as it was
-  pub untouched_tables : {S : Type 0} (bag : Bag T S) (steps : List (Step T)) (before after : List (Reply T)) → after ≡ before → AreInTurn eq (ran bag bag steps before after)
+  pub untouched_tables : {S : Type 0} (bag : Bag T S) (steps : List (Step T)) (before after : List (Reply T)) → after ≡ before → AreTablesInTurn eq (ran bag bag steps before after)
   untouched_tables bag steps before after same X means = in_turn_from bag.most X [] steps steps before after bag.tables bag.tables refl (unanswered eq bag.most X before after same) refl
 
   pub untouched_bounded : {S : Type 0} (bag : Bag T S) (steps : List (Step T)) (before after : List (Reply T)) → after ≡ before
@@ -70,7 +71,7 @@ module _ {T : Type 0} (eq : T → T → Bool) where
 
 module _ {T : Type 0} {eq : T → T → Bool} (laws : IsEquivalence eq) where
   -- whatever the order of the list
-  pub turns_rearranged : (m n : ℕ) (X B : List T) (s : Step T) (old new : Tables T) → IsPermutation X B → IsPermutation (step eq n X s).0 (step eq m B s).0 → Turns eq m B s old new → Turns eq n X s old new
+  pub turns_rearranged : (m n : ℕ) (X B : List T) (s : Step T) (old new : Tables T) → IsPermutation X B → IsPermutation (step eq n X s).0 (step eq m B s).0 → LeavesTables eq m B s old new → LeavesTables eq n X s old new
   turns_rearranged m n X B s old new means left h = record {
     moves = λ quiet. subst (λ k. Moves k old new) (sym (newcomers_rearranged laws X B _ _ means left)) (h.moves quiet);
     reserves = λ k is. subst (λ d. ReservesOrStays k d old new) (sym (distinct_rearranged laws X B means)) (h.reserves k is);

@@ -16,19 +16,19 @@ module _ {T : Type 0} (eq : T → T → Bool) where
   -- What a step on the list X leaves of the tables. One that isn't about room keeps them, or makes a new one for the value that
   -- came and had no room. `Reserve n` makes room for n more values where there isn't that room, `ShrinkToFit` a smaller table where
   -- that is enough, and else both leave the tables as they were.
-  pub record Turns (most : ℕ) (X : List T) (s : Step T) (old new : Tables T) : Type 0 where
+  pub record LeavesTables (most : ℕ) (X : List T) (s : Step T) (old new : Tables T) : Type 0 where
     pub moves : is_about_room s ≡ false → Moves (newcomers eq X (step eq most X s).0) old new
     pub reserves : (n : ℕ) → s ≡ Reserve n → ReservesOrStays n (distinct_count eq X) old new
     pub shrinks : s ≡ ShrinkToFit → ShrinksOrStays (distinct_count eq X) old new
 
   -- each step leaves of the tables what it owes, and the next one begins with those
-  abbrev pub InTurn : ℕ → List T → List (Step T) → Tables T → Tables T → Type 0
-  InTurn most X [] old new = new ≡ old
-  InTurn most X (s ∷ steps) old new = (next : Tables T) × Turns most X s old next × InTurn (limit_after eq most X s) (step eq most X s).0 steps next new
+  abbrev pub TablesInTurn : ℕ → List T → List (Step T) → Tables T → Tables T → Type 0
+  TablesInTurn most X [] old new = new ≡ old
+  TablesInTurn most X (s ∷ steps) old new = (next : Tables T) × LeavesTables most X s old next × TablesInTurn (limit_after eq most X s) (step eq most X s).0 steps next new
 
   -- so do the steps that have replies, whichever list the bag meant
-  abbrev pub AreInTurn : {S : Type 0} → Ran T S → Type 0
-  AreInTurn r = (X : List T) → Means r.before X → InTurn r.before.most X (answered r) r.before.tables r.after.tables
+  abbrev pub AreTablesInTurn : {S : Type 0} → Ran T S → Type 0
+  AreTablesInTurn r = (X : List T) → Means r.before X → TablesInTurn r.before.most X (answered r) r.before.tables r.after.tables
 
   -- from an empty bag with no slots they leave no more slots than `IsBounded` says
   abbrev pub IsBoundedRun : {S : Type 0} → Ran T S → Type 0

@@ -10,7 +10,7 @@ ghost use Rattle.std.specs.Prelude.{map};
 ghost use Rattle.hashbag_core.specs.Joins.{IsOuterJoin, IsDifference, IsNotIn, IsSignedDifference};
 ghost use Rattle.hashbag_core.specs.JoinsLeft.{exceeding, subtracted, unmatched};
 ghost use Rattle.hashbag_script.specs.Pairs.{ran, HasNoRoom, IsDone, IsPairCutOff};
-ghost use Rattle.hashbag_script.specs.Turns.{Turns, AreInTurn, IsBoundedRun};
+ghost use Rattle.hashbag_script.specs.Turns.{LeavesTables, AreTablesInTurn, IsBoundedRun};
 
 use hashbag_core::joins::limited_difference;
 use hashbag_core::{BagError, HashBag};
@@ -274,7 +274,7 @@ fn apply<T: Eq + Hash + Drop, S: BuildHasher + Drop>(
     // What it leaves of the tables: a step that isn't about room keeps them but for the value that it brings in, for which a new table is
     // made where there is no room. Only one that asks for room makes a larger table for other reasons.
     ensures takes { is_about_room step ≡ false → newcomers T.eq bag.old.items (step_of T.eq bag.old.most bag.old.items step).0 ≤ room bag.old.tables → IsOk result }
-    ensures turns { OnOk result (Turns T.eq bag.old.most bag.old.items step bag.old.tables bag.new.tables) }
+    ensures turns { OnOk result (LeavesTables T.eq bag.old.most bag.old.items step bag.old.tables bag.new.tables) }
     ensures fewer { OnOk result (is_about_room step ≡ true → is_reserve step ≡ false → length bag.new.tables.newer ≤ length bag.old.tables.newer) }
 {
     recall_what_bags_keep(bag);
@@ -343,7 +343,7 @@ pub fn run<T: Eq + Hash + Drop, S: BuildHasher + Drop>(
 
     // The tables follow from those before by what each step with a reply owes to them, in turn: what asked for room got it, and what gave
     // it back left a smaller table, or all stayed.
-    ensures tables { AreInTurn T.eq (ran bag.old bag.new steps.items replies.old.items replies.new.items) }
+    ensures tables { AreTablesInTurn T.eq (ran bag.old bag.new steps.items replies.old.items replies.new.items) }
 {
     recall_what_tables_keep(bag);
     replies.reserve(steps.len())?;
@@ -387,8 +387,8 @@ pub fn run_pair<T: Eq + Hash + Drop, S: BuildHasher + Drop, S2: BuildHasher + Dr
     ensures takes { (X Y : List T) → Means a.old X → Means b.old Y → IsRoomy T.eq a.old.most X steps_a.items a.old.tables → IsRoomy T.eq b.old.most Y steps_b.items b.old.tables → OnErr result (HasNoRoom replies_a.old steps_a ⊎ HasNoRoom replies_b.old steps_b) }
 
     // The tables of each bag follow from those before, and are bounded where it was empty and had no slots, as in one run.
-    ensures first_tables { AreInTurn T.eq (ran a.old a.new steps_a.items replies_a.old.items replies_a.new.items) }
-    ensures second_tables { AreInTurn T.eq (ran b.old b.new steps_b.items replies_b.old.items replies_b.new.items) }
+    ensures first_tables { AreTablesInTurn T.eq (ran a.old a.new steps_a.items replies_a.old.items replies_a.new.items) }
+    ensures second_tables { AreTablesInTurn T.eq (ran b.old b.new steps_b.items replies_b.old.items replies_b.new.items) }
     ensures first_bounded { IsBoundedRun T.eq (ran a.old a.new steps_a.items replies_a.old.items replies_a.new.items) }
     ensures second_bounded { IsBoundedRun T.eq (ran b.old b.new steps_b.items replies_b.old.items replies_b.new.items) }
 {

@@ -8,10 +8,12 @@ use std::hash::BuildHasher;
 use std::test::Fail;
 
 // A run and what it leaves. `in 100` inserts 1 to 100; `in_and_out` takes each value out at once; `window` takes out, from the ninth on,
-// the value that came eight before. `clear` and `shrink` are the last steps. `built` is the sum of the slots of all tables made.
+// the value that came eight before; `limited` sets the limit to each number before it comes. `clear` and `shrink` are the last steps.
+// `built` is the sum of the slots of all tables made.
 const ALL_ROWS: &str = "\
     in_and_out 1000 = slots 16
     in 100 = slots 256, waiting 64, room 92, built 496
+    limited 100 = slots 256, waiting 64, room 92, built 496
     in 100 clear = slots 256, waiting 0, room 192
     in 100 clear shrink = slots 0, room 0";
 
@@ -65,6 +67,9 @@ struct Paid {
 
 // The steps for one value of a run.
 fn push_steps(steps: &mut Vec<Step<u64>>, course: &str, value: u64) -> Result<(), AllocError> {
+    if course == "limited" {
+        steps.push(Step::Limit(value as usize))?;
+    }
     steps.push(Step::Insert(value))?;
     match course {
         "in_and_out" => steps.push(Step::Remove(value))?,
@@ -187,10 +192,10 @@ fn bounded_under<S: BuildHasher + Copy>(
 #[test]
 fn runs_are_bounded(rt: HostRuntime) -> Result<(), Fail> {
     let alloc = rt.alloc();
-    bounded_under(alloc, FixedState::new(), ALL_ROWS, 4)?;
-    bounded_under(alloc, OneState, ALL_ROWS, 4)?;
-    bounded_under(alloc, ParityState, ALL_ROWS, 4)?;
-    bounded_under(alloc, IdentityState, ALL_ROWS, 4)?;
+    bounded_under(alloc, FixedState::new(), ALL_ROWS, 5)?;
+    bounded_under(alloc, OneState, ALL_ROWS, 5)?;
+    bounded_under(alloc, ParityState, ALL_ROWS, 5)?;
+    bounded_under(alloc, IdentityState, ALL_ROWS, 5)?;
     bounded_under(alloc, OneState, ONE_ROWS, 1)?;
     bounded_under(alloc, IdentityState, IDENTITY_ROWS, 1)?;
     bounded_under(alloc, FixedState::new(), MANY_ROWS, 1)
