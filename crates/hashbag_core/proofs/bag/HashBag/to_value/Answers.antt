@@ -15,14 +15,10 @@ returns-clause-tree g c = λ Y one same.
     c.args.self.now.items Y c.args.self.now.most _ tree c.in_ok-pairs.ensures.items one same
 
 pub returns-clause-no_fault : goal.returns-clause-no_fault
-unfolding bag_tree
 returns-clause-no_fault g c =
-    let tree = bag_tree g.met.T.Eq.laws g.T.Ord.cmp g.T.JsonItem.is_item g.T.JsonItem.tree_of g.T.JsonItem.has_item g.T.JsonItem.reads g.met.T.JsonItem.tree_is_read g.met.T.JsonItem.read_has_item g.met.T.JsonItem.reads_back
-    c.args.self.now.items c.args.self.now.most c.limit.result (view c.in_ok-pairs.pairs) _ c.limit.ensures.limit c.in_ok-pairs.ensures.tree c.in_ok-tree_with_limit.ensures.tree in
-    let limit = c.limit.ensures.limit in
     let within = c.limit.ensures.within in
     none_at_fault g.met.T.Eq.laws g.T.Ord.cmp g.T.JsonItem.is_item g.T.JsonItem.tree_of g.T.JsonItem.has_item g.T.JsonItem.reads g.met.T.JsonItem.tree_is_read g.met.T.JsonItem.read_has_item g.met.T.JsonItem.reads_back
-    c.args.self.now.items c.args.self.now.most greatest_total _ (omega arith) tree (λ ds read. c.in_ok-pairs.ensures.no_fault ds (min greatest_total c.args.self.now.most) read (omega (arith, clamps)))
+    c.args.self.now.items c.limit.result greatest_total (view c.in_ok-pairs.pairs) _ (omega arith) c.in_ok-pairs.ensures.tree c.in_ok-tree_with_limit.ensures.tree (λ ds read. c.in_ok-pairs.ensures.no_fault ds (min greatest_total c.limit.result) read (omega (arith, clamps)))
 
 pub returns-clause-counts : goal.returns-clause-counts
 returns-clause-counts g c = λ pairs reading.
