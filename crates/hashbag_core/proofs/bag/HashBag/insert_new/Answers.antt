@@ -4,6 +4,7 @@ use Rattle.hashbag_core.specs.Bag.{occurrences}
 use Rattle.hashbag_core.specs.Occurrences.{count}
 use Rattle.hashbag_core.proofs.OccurrenceLemmas.{bag_from_tally, count_occurrences, absent_from_count, new_occurrences, tally_added}
 use Rattle.std.proofs.lemmas.Bool.{false≢true}
+use Rattle.hashbag_core.proofs.DistinctLemmas.{distinct_put}
 use Rattle.hashbag_core.proofs.bag.HashBag.insert_new.Goals as goal
 
 pub insert_new-requires-clause-absent : goal.insert_new-requires-clause-absent
