@@ -187,5 +187,7 @@ module _ {T : Type 0} {eq : T → T → Bool} (laws : IsEquivalence eq) (cmp : T
       let same = same_ok (reading.limit, reading.trees) (most, trees X most d tree) (sym reading.inside ∙ tree_opened X most d fits tree) in
       counts_read_back laws cmp is_item tree_of has_item reads tree_is_read read_has_item reads_back X tree.pairs reading.trees pairs tree.array items (ap (λ (p : ℕ × List Data). p.1) same) reading.each
 
-  pub none_at_fault : (X : List T) (most end : ℕ) (d : Data) → most ≤ greatest_total → (tree : IsBagTree eq cmp tree_of X most d) → ((ds : List Data) → array_of tree.pairs ≡ Some ds → first_fault (min end most) has_item 0 0 ds ≡ None) → fault end has_item d ≡ None
-  none_at_fault X most end d fits tree good = ap (opened_fault end has_item) (tree_opened X most d fits tree) ∙ good (trees X most d tree) (trees_of tree_of tree.pairs tree.array.pairs tree.array.is)
+  pub none_at_fault : (X : List T) (limit end : ℕ) (p d : Data) → limit ≤ greatest_total → IsTree eq cmp tree_of X p → d ≡ written limit p → ((ds : List Data) → array_of p ≡ Some ds → first_fault (min end limit) has_item 0 0 ds ≡ None) → fault end has_item d ≡ None
+  none_at_fault X limit end p d fits tree is good =
+      let trees = map (pair_tree tree_of) tree.pairs in
+      ap (opened_fault end has_item) (written_opened limit p d trees fits tree.is is) ∙ good trees (trees_of tree_of p tree.pairs tree.is)

@@ -254,7 +254,7 @@ fn pair_value<T: JsonItem>(alloc: Global, item: &T, count: usize) -> Result<Valu
 }
 
 // The tree of a bag whose pairs are an array, and which has that limit.
-fn with_limit(alloc: Global, limit: usize, pairs: Value) -> Result<Value, BagError>
+fn tree_with_limit(alloc: Global, limit: usize, pairs: Value) -> Result<Value, BagError>
     ensures tree { IfOk result (λ v. view v ≡ written limit (view pairs)) }
     ensures memory { IfErr result (λ e. e ≡ BagError.Memory) }
 {
@@ -390,6 +390,6 @@ impl<T: JsonItem + Hash + Drop, S: BuildHasher + Drop> HashBag<T, S> {
         ensures memory { IfErr result (λ e. e ≡ BagError.Memory) }
     {
         let pairs = self.pairs_value(alloc)?;
-        Ok(with_limit(alloc, self.limit(), pairs)?)
+        Ok(tree_with_limit(alloc, self.limit(), pairs)?)
     }
 }

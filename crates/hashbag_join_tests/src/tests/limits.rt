@@ -32,8 +32,9 @@ fn answer_of<S: BuildHasher + Default + Drop>(
     text: &str,
 ) -> Result<String, Fail> {
     let tree = tree_of(alloc, text)?;
-    let read: Result<HashBag<String, S>, JsonError> =
-        HashBag::from_value_within(alloc, most, &tree);
+    let read: Result<HashBag<String, S>, JsonError> = HashBag::from_value_within(
+        alloc, most, &tree,
+    );
     match read {
         Ok(bag) => {
             let limit = bag.limit();

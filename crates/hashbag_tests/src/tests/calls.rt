@@ -173,5 +173,7 @@ fn errors_as_text_and_number(rt: HostRuntime) -> Result<(), Fail> {
     is_text("refused", memory.as_str(), "Memory is 1: no memory")?;
     let many = report_of(rt.alloc(), BagError::TooMany)?;
     is_text("full", many.as_str(), "TooMany is 2: total past its end")?;
+    let below = report_of(rt.alloc(), BagError::BelowTotal)?;
+    is_text("low", below.as_str(), "BelowTotal is 9: limit below total")?;
     Ok(())
 }

@@ -1,7 +1,7 @@
 //! Bags with a limit, with the answers found by hand, and what a refused call leaves.
 use hashbag::{FixedState, HashBag};
 use hashbag_bench::{IdentityState, OneState, ParityState};
-use hashbag_rows::calls::{answer, make_calls, make_rows};
+use hashbag_rows::calls::{answer, clone_of, make_calls, make_rows};
 use hashbag_rows::texts::is_text;
 use std::alloc::Global;
 use std::hash::BuildHasher;
@@ -60,6 +60,7 @@ const KEPT: &str = "\
     [calls leave the limit]
     with_limit 9 = ()
     insert_many 1 3 = 0
+    equals [1, 1, 1] = (true, true)
     remove 1 = 3
     retain_none = ()
     limit = 9
@@ -96,10 +97,7 @@ const BY_ONE: [&str; 7] = [
 ];
 
 // The bag, its limit and its two tables.
-fn state_of<S: BuildHasher + Drop>(
-    alloc: Global,
-    bag: &HashBag<u64, S>,
-) -> Result<String, Fail> {
+fn state_of<S: BuildHasher + Drop>(alloc: Global, bag: &HashBag<u64, S>) -> Result<String, Fail> {
     let (len, limit) = (bag.len(), bag.limit());
     let tables = (bag.slots(), bag.waiting(), bag.room());
     Ok(format!(in alloc; "{bag:?} of {len} below {limit} in {tables:?}")?)
@@ -176,15 +174,24 @@ fn make_limited<S: BuildHasher + Default + Drop>(
     changes_nothing(alloc, bag, "extend []", "()")
 }
 
+fn clone_keeps<S: BuildHasher + Default + Copy>(alloc: Global, state: S) -> Result<(), Fail> {
+    let mut bag = HashBag::with_limit(alloc, state, 3);
+    bag.insert_many(1, 3)?;
+    let mut copy = clone_of(&bag)?;
+    let rows = "limit = 3\ninsert 1 = TooMany\nset_limit 4 = ()\ninsert 1 = 3";
+    make_calls(alloc, &mut copy, rows, 4)?;
+    make_calls(alloc, &mut bag, "limit = 3\ninsert 1 = TooMany", 2)
+}
+
 // No values, one, as many as fill the first table, and as many as leave sixteen slots of the older table waiting.
 fn limits_under<S: BuildHasher + Default + Copy>(alloc: Global, state: S) -> Result<(), Fail> {
     make_rows(alloc, state, ROWS, 42)?;
-    make_rows(alloc, state, KEPT, 17)?;
+    make_rows(alloc, state, KEPT, 18)?;
+    clone_keeps(alloc, state)?;
     for last in [0, 1, 12, 25] {
         refuses_each::<S>(alloc, last)?;
     }
-    let mut bag: HashBag<u64, S> = HashBag::default_in(alloc);
-    make_calls(alloc, &mut bag, "tables = (0, 0, 0)", 1)
+    Ok(())
 }
 
 #[test]
