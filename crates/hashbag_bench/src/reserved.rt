@@ -45,10 +45,11 @@ pub fn extend_all<T: Eq + Hash + Drop, S: BuildHasher + Drop>(
     ensures too_many { result ≡ Err BagError.TooMany → bag.old.most < length bag.old.items + length values.items }
     ensures memory { result ≡ Err BagError.Memory → room bag.old.tables < length values.items }
 {
-    if values.len() > bag.limit() - bag.len() {
+    let many = values.len();
+    if many > bag.limit() - bag.len() {
         return Err(BagError::TooMany);
     }
-    bag.reserve(values.len())?;
+    bag.reserve(many)?;
     bag.extend(values.into_iter()).unwrap();
     Ok(())
 }

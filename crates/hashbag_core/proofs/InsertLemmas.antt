@@ -71,24 +71,24 @@ module _ {T S : Type 0} (eq : T → T → Bool) where
   spends_inserted v n old new went = elim (cases_lt 0 n) [
     | inr fewer ↦ subst (λ (b : Bag T S). Spends old b) (sym (went.none (omega (arith, fewer)))) (spends_none old)
     | inl some ↦ elim (cases_lt 0 (count eq v old.items)) [
-        | inl there ↦
-            let d = went.same_set there in
-            let r = went.same_room there in
-            record {
-              more = omega (arith, d);
-              within = λ p. record { slots = went.same_slots there; built = rewritten_built _ _ _ _ (went.slot some there); left = omega (arith, d, r) };
-            }
-        | inr absent ↦
-            let none : count eq v old.items ≡ 0 = omega (arith, absent) in
-            let d = went.new_set some none in
-            record {
-              more = omega (arith, d);
-              within = λ p.
-                  let left : 0 < room old.tables = omega (arith, d, p) in
-                  let r = went.less_room left in
-                  record { slots = went.slots left; built = (went.arrives some none).built.kept left; left = omega (arith, d, r) };
-            }
-      ]
+      | inl there ↦
+          let d = went.same_set there in
+          let r = went.same_room there in
+          record {
+            more = omega (arith, d);
+            within = λ p. record { slots = went.same_slots there; built = rewritten_built _ _ _ _ (went.slot some there); left = omega (arith, d, r) };
+          }
+      | inr absent ↦
+          let none : count eq v old.items ≡ 0 = omega (arith, absent) in
+          let d = went.new_set some none in
+          record {
+            more = omega (arith, d);
+            within = λ p.
+                let left : 0 < room old.tables = omega (arith, d, p) in
+                let r = went.less_room left in
+                record { slots = went.slots left; built = (went.arrives some none).built.kept left; left = omega (arith, d, r) };
+          }
+    ]
   ]
 
   pub spends_in_turn : (pairs : List (T × ℕ)) (before after : Bag T S) → InTurn eq pairs before after → Spends before after
@@ -168,7 +168,7 @@ module _ {T S : Type 0} {eq : T → T → Bool} (laws : IsEquivalence eq) where
       rw (append-nil first) (subst (λ (b : Bag T S). IsBagOf eq before (add_all eq before.items first) b) (sym same) left)
   left_later first (p ∷ later) before now after left h =
       subst (λ (l : List (T × ℕ)). IsBagOf eq before (add_all eq before.items l) after) (append_assoc first (p ∷ []) later)
-          (left_later (first ++ p ∷ []) later before h.0 after (left_last before now h.0 first p left h.1.added) h.2)
+      (left_later (first ++ p ∷ []) later before h.0 after (left_last before now h.0 first p left h.1.added) h.2)
 
   -- all of them were added
   pub left_in_turn : (pairs : List (T × ℕ)) (before after : Bag T S) → IsBag eq before.most before.items → InTurn eq pairs before after → IsBagOf eq before (add_all eq before.items pairs) after

@@ -57,5 +57,8 @@ returns-clause-no_fault g c = rw (← c.deref-pair-items.ensures.value) (no_faul
 pub returns-clause-read : goal.returns-clause-read
 returns-clause-read g c =
     let so = at_end g c in
-    rw (← c.deref-pair-items.ensures.value) (so.pairs, pairs_at_end g.met.T.Eq.laws c.args.most g.T.JsonItem.has_item g.T.JsonItem.reads c.with_limit-bag.result _ c.loop-number.number _ so,
-    made_of g.met.T.Eq.laws c.with_limit-bag.result c.loop-number.bag so.pairs c.with_limit-bag.ensures.empty c.with_limit-bag.ensures.slots (c.loop-number.invariant.limit ∙ sym c.with_limit-bag.ensures.limit) c.loop-number.invariant.hasher so.turn)
+    rw (← c.deref-pair-items.ensures.value) (
+      so.pairs,
+      pairs_at_end g.met.T.Eq.laws c.args.most g.T.JsonItem.has_item g.T.JsonItem.reads c.with_limit-bag.result _ c.loop-number.number _ so,
+      made_of g.met.T.Eq.laws c.with_limit-bag.result c.loop-number.bag so.pairs c.with_limit-bag.ensures.empty c.with_limit-bag.ensures.slots (c.loop-number.invariant.limit ∙ sym c.with_limit-bag.ensures.limit) c.loop-number.invariant.hasher so.turn,
+    )
