@@ -16,6 +16,15 @@ use Rattle.hashbag_script.proofs.BoundLemmas.{are_answered, bounded_from, no_slo
 use Rattle.hashbag_script.proofs.DistinctOrder.{distinct_rearranged}
 use Rattle.hashbag_script.proofs.RoomLemmas.{newcomers_rearranged}
 
+-- what holds whatever is answered, and what follows where three things hold of an answer
+pub on_ok_from : {A E : Type 0} (P : Type 0) (r : Result A E) → P → OnOk r P
+on_ok_from P (Ok x) p = p
+on_ok_from P (Err e) p = tt
+
+pub on_ok_all : {A E : Type 0} (P Q R W : Type 0) (r : Result A E) → OnOk r P → OnOk r Q → OnOk r R → (P → Q → R → W) → OnOk r W
+on_ok_all P Q R W (Ok x) p q h all = all p q h
+on_ok_all P Q R W (Err e) p q h all = tt
+
 same_number : {T : Type 0} (n m : ℕ) (s : Step T) → s ≡ Reserve n → s ≡ Reserve m → n ≡ m
 same_number n m s p q = cc
 

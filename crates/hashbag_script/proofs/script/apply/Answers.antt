@@ -51,9 +51,3 @@ returns-in-Count-clause-turns g c =
 pub returns-in-Limit-clause-turns : goal.returns-in-Limit-clause-turns
 returns-in-Limit-clause-turns g c =
     turns_quiet g.T.PartialEq.eq _ _ _ _ _ (ap is_about_room c.in-Limit.is) (moves_kept _ _ _ (keeps_as 0 _ _ (ap (λ b. b.tables) c.set_limit.ensures.left)))
-
-pub returns-in-Reserve-clause-turns : goal.returns-in-Reserve-clause-turns
-returns-in-Reserve-clause-turns g c = turns_reserved g.T.PartialEq.eq _ _ _ _ _ _ c.in-Reserve.is c.in_ok-reserve.ensures.reserves
-
-pub returns-in-ShrinkToFit-clause-turns : goal.returns-in-ShrinkToFit-clause-turns
-returns-in-ShrinkToFit-clause-turns g c = turns_shrunk g.T.PartialEq.eq _ _ _ _ _ c.in-ShrinkToFit.is c.in_ok-shrink_to_fit.ensures.shrinks

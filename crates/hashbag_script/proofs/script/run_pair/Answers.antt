@@ -1,6 +1,8 @@
-use Rattle.std.proofs.Common.{vec_len, vec_capacity, ◌+◌, ◌<◌, inl, inr, refl, arith, rules}
+use Rattle.std.proofs.Common.{◌⊎◌, vec_len, vec_capacity, ◌+◌, ◌<◌, inl, inr, refl, arith, rules}
 use Rattle.std.proofs.lemmas.Result.{on_err_weaker}
-use Rattle.hashbag_script.proofs.TurnLemmas.{untouched_tables, untouched_bounded}
+use Rattle.hashbag_table.proofs.EntryLemmas.{OnErr-from}
+use Rattle.hashbag_script.specs.Pairs.{ran, HasNoRoom, IsPairCutOff}
+use Rattle.hashbag_script.proofs.TurnLemmas.{on_ok_from, on_ok_all, untouched_tables, untouched_bounded}
 use Rattle.hashbag_script.proofs.script.run_pair.Goals as goal
 
 pub returns-clause-takes : goal.returns-clause-takes
@@ -72,3 +74,27 @@ returns-in_err-reserve-clause-first_bounded g c = untouched_bounded g.T.PartialE
 
 pub returns-in_err-reserve-clause-second_bounded : goal.returns-in_err-reserve-clause-second_bounded
 returns-in_err-reserve-clause-second_bounded g c = untouched_bounded g.T.PartialEq.eq c.args.b.now c.args.steps_b.items _ _ refl c.recall_what_tables_keep-2.ensures.smaller
+
+-- ---- what search no longer finds beside them
+
+pub returns-clause-first : goal.returns-clause-first
+returns-clause-first g c =
+    on_ok_from _ c.run-2.result
+    (λ X means. record { replies = rw (← c.in_ok-reserve.ensures.items) (c.in_ok-run.ensures.replies X means); means = c.in_ok-run.ensures.means X means; limit = c.in_ok-run.ensures.limit X means })
+
+pub returns-clause-second : goal.returns-clause-second
+returns-clause-second g c =
+    on_ok_all _ _ _ _ c.run-2.result c.run-2.ensures.replies c.run-2.ensures.means c.run-2.ensures.limit
+    (λ replies means limit Y is. record { replies = rw (← c.in_ok-reserve-2.ensures.items) (replies Y is); means = means Y is; limit = limit Y is })
+
+pub returns-in_err-run-clause-stopped : goal.returns-in_err-run-clause-stopped
+returns-in_err-run-clause-stopped g c =
+    let cut : IsPairCutOff g.T.PartialEq.eq (HasNoRoom c.args.replies_a.now c.args.steps_a ⊎ HasNoRoom c.args.replies_b.now c.args.steps_b) (ran c.args.a.now c.run.new.bag c.args.steps_a.items c.args.replies_a.now.items c.run.new.replies.items)
+    (ran c.args.b.now c.args.b.now c.args.steps_b.items c.args.replies_b.now.items c.reserve-2.new.self.items) = elim c.in_err-run.ensures.stopped [
+      | inl none ↦
+          let short : vec_capacity c.reserve.new.self < vec_len c.reserve.new.self + vec_len c.args.steps_a = none.0 in
+          let room = c.in_ok-reserve.ensures.ok in let many = c.len.ensures in
+          absurd (omega arith)
+      | inr stopped ↦ inr (inl (λ X means. rw (← c.in_ok-reserve.ensures.items) (stopped X means), record { bag = refl; replies = c.in_ok-reserve-2.ensures.items }))
+    ] in
+    OnErr-from _ cut
