@@ -26,6 +26,8 @@ pub returns-clause-len : goal.returns-clause-len
 returns-clause-len g c =
     let eq = g.T.PartialEq.eq in
     IfOk-weaker c.from_iter.result (λ bag. InsertsAll eq into_iter_steps Once c.into_iter.result (empty_bag bag.hasher) bag) (λ bag. length bag.items ≡ length c.args.words.items)
-    (λ bag h. longer_by_items h (λ x p is. ap (λ (q : g.row.T.Denot × ℕ). q.1) is)
-    ∙ ap (λ (l : List g.row.T.Denot). length l) (sym (map-id h.items) ∙ items_that_came h.items h.came (YieldsList-from_vec {s = c.into_iter.result} c.args.words.items (search rules) (search rules))))
+    (λ bag h.
+    let long : length bag.items ≡ 0 + length h.items = longer_by_items h (λ x p is. ap (λ (q : g.row.T.Denot × ℕ). q.1) is) in
+    let came = ap (λ (l : List g.row.T.Denot). length l) (sym (map-id h.items) ∙ items_that_came h.items h.came (YieldsList-from_vec {s = c.into_iter.result} c.args.words.items (search rules) (search rules))) in
+    omega (arith, long, came))
     c.from_iter.ensures.all
