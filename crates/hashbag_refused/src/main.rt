@@ -7,6 +7,7 @@
 //! the script refuses: where it is one of these, the calls have made fewer. With ample memory nothing is refused.
 #![tactic(auto)]
 
+mod carried;
 mod checks;
 mod counts;
 mod extends;
@@ -69,6 +70,8 @@ fn strict_calls(alloc: Global, refusals: &mut Refusals) -> Result<(), Wrong> {
     trees::trees(alloc, refusals)?;
     trees::faulty_trees(alloc, refusals)?;
     trees::trees_without_memory(alloc, refusals)?;
+    carried::written(alloc, refusals)?;
+    carried::runs(alloc, refusals)?;
     runs::runs(alloc, refusals)
 }
 
@@ -76,6 +79,7 @@ fn strict_calls(alloc: Global, refusals: &mut Refusals) -> Result<(), Wrong> {
 // the same.
 fn lenient_calls(alloc: Global, refusals: &mut Refusals) -> Result<(), Wrong> {
     pairs::pairs_of_runs(alloc, refusals)?;
+    carried::joined(alloc, refusals)?;
     whole::executions(alloc, refusals)
 }
 

@@ -5,6 +5,7 @@ use Rattle.std.specs.List.Sorted.{IsPermutation}
 use Rattle.std.proofs.lemmas.List.Sorted.{IsPermutation-refl}
 use Rattle.hashbag.specs.Occurrences.{IsOneInstanceEach}
 use Rattle.hashbag.proofs.OccurrenceLemmas.{count_rearranged}
+use Rattle.hashbag_text.specs.Answers.{IsTreeOfNumbers}
 use Rattle.hashbag_text.proofs.execute.answers_to.Goals as goal
 
 empty_means : (items : List ℕ) → items ≡ [] → IsPermutation [] items
@@ -28,6 +29,6 @@ returns c =
       difference = rw (c.new-a.ensures.limit, c.new-b.ensures.limit) at (whole.difference [] [] empty_a empty_b);
       signed = rw (c.new-a.ensures.limit, c.new-b.ensures.limit) at (whole.signed [] [] empty_a empty_b);
       not_in = rw (c.new-a.ensures.limit, c.new-b.ensures.limit) at (whole.not_in [] [] empty_a empty_b);
-      tree_a = rw (left_a.limit, c.new-a.ensures.limit) at (c.in_ok-to_value.ensures.tree _ (one_each _) (λ v. count_rearranged nat_eq_equiv v _ _ left_a.means));
-      tree_b = rw (left_b.limit, c.new-b.ensures.limit) at (c.in_ok-to_value-2.ensures.tree _ (one_each _) (λ v. count_rearranged nat_eq_equiv v _ _ left_b.means));
+      tree_a = subst (λ (n : ℕ). IsTreeOfNumbers _ n _) (rw c.new-a.ensures.limit at left_a.limit) (c.in_ok-to_value.ensures.tree _ (one_each _) (λ v. count_rearranged nat_eq_equiv v _ _ (rw c.new-a.ensures.limit at left_a.means)));
+      tree_b = subst (λ (n : ℕ). IsTreeOfNumbers _ n _) (rw c.new-b.ensures.limit at left_b.limit) (c.in_ok-to_value-2.ensures.tree _ (one_each _) (λ v. count_rearranged nat_eq_equiv v _ _ (rw c.new-b.ensures.limit at left_b.means)));
     }

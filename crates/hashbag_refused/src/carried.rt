@@ -1,0 +1,123 @@
+//! Bags in the middle of a carry: trees, joins and runs of two.
+use crate::checks::{Refusals, Wrong, check};
+use crate::counts::tables_of;
+use hashbag::HashBag;
+use hashbag::script::{Reply, Step, joins_of, run_pair};
+use hashbag_bench::OneState;
+use serde_json::Value;
+use std::alloc::Global;
+
+// A bag of numbers whose hashes are all alike.
+type Bag = HashBag<u64, OneState>;
+
+// The slots, those that wait, and the room.
+const TABLES: (usize, usize, usize) = (64, 16, 23);
+
+// The same once there is room for 60 more.
+const TABLES_WITH_ROOM: (usize, usize, usize) = (128, 0, 71);
+
+// A bag of the values from 1 to 25, once each. `None` where one was refused.
+fn in_a_carry(alloc: Global, refusals: &mut Refusals) -> Result<Option<Bag>, Wrong> {
+    let mut bag = HashBag::with_hasher(alloc, OneState);
+    for value in 1..=25 {
+        if refusals.answer(bag.insert(value))?.is_none() {
+            return Ok(None);
+        }
+    }
+    stands(&bag, TABLES, "in a carry: 25 values")?;
+    Ok(Some(bag))
+}
+
+// The bag has these tables, and its 25 values once each.
+fn stands(bag: &Bag, tables: (usize, usize, usize), wrong: &'static str) -> Result<(), Wrong> {
+    check(tables_of(bag) == tables, wrong)?;
+    check((bag.len(), bag.set_len()) == (25, 25), wrong)?;
+    for value in 1..=25 {
+        check(bag.contains(&value) == 1, wrong)?;
+    }
+    Ok(())
+}
+
+/// The tree is written, or memory was refused: the bag stays as it is.
+pub fn written(alloc: Global, refusals: &mut Refusals) -> Result<(), Wrong> {
+    let Some(bag) = in_a_carry(alloc, refusals)? else {
+        return Ok(());
+    };
+    if let Some(tree) = refusals.answer(bag.to_value(alloc))? {
+        check(
+            tree.as_array().map(Vec::len) == Some(25),
+            "in a carry: the tree's pairs",
+        )?;
+    }
+    stands(&bag, TABLES, "in a carry: to_value")
+}
+
+/// The joins with an empty bag are collected, or memory was refused: the bag stays as it is.
+pub fn joined(alloc: Global, refusals: &mut Refusals) -> Result<(), Wrong> {
+    let Some(bag) = in_a_carry(alloc, refusals)? else {
+        return Ok(());
+    };
+    let empty: Bag = HashBag::with_hasher(alloc, OneState);
+    if let Some(joins) = refusals.answer(joins_of(alloc, &bag, &empty))? {
+        for length in [
+            joins.outer.len(),
+            joins.difference.len(),
+            joins.signed.len(),
+            joins.not_in.len(),
+        ] {
+            check(length == 25, "in a carry: a join")?;
+        }
+    }
+    stands(&bag, TABLES, "in a carry: joins_of")
+}
+
+// The step of each bag. `None` where its list was refused.
+fn steps(alloc: Global, refusals: &mut Refusals) -> Option<Vec<Step<u64>>> {
+    match Vec::from_array(alloc, [Step::Reserve(60)]) {
+        Ok(steps) => Some(steps),
+        Err(_) => {
+            refusals.count();
+            None
+        }
+    }
+}
+
+// The tables that a bag has where these are its replies.
+fn tables_after(replies: &[Reply<u64>]) -> (usize, usize, usize) {
+    if replies.is_empty() {
+        TABLES
+    } else {
+        TABLES_WITH_ROOM
+    }
+}
+
+/// Each of two bags is asked for room by a run, or memory was refused: one whose step has no reply stays as it is.
+pub fn runs(alloc: Global, refusals: &mut Refusals) -> Result<(), Wrong> {
+    let Some(mut a) = in_a_carry(alloc, refusals)? else {
+        return Ok(());
+    };
+    let Some(mut b) = in_a_carry(alloc, refusals)? else {
+        return Ok(());
+    };
+    let Some(steps_a) = steps(alloc, refusals) else {
+        return Ok(());
+    };
+    let Some(steps_b) = steps(alloc, refusals) else {
+        return Ok(());
+    };
+    let mut first = Vec::new(alloc);
+    let mut second = Vec::new(alloc);
+    let done = run_pair(&mut a, &mut b, steps_a, steps_b, &mut first, &mut second);
+    let done = refusals.is_done(done)?;
+    check(done == !second.is_empty(), "in a carry: the replies")?;
+    stands(
+        &a,
+        tables_after(first.as_slice()),
+        "in a carry: the first bag of a run",
+    )?;
+    stands(
+        &b,
+        tables_after(second.as_slice()),
+        "in a carry: the second bag of a run",
+    )
+}
