@@ -3,7 +3,8 @@ use borrow.Author.Tests.{eqb-true}
 use Rattle.std.specs.Cmp.{nat_eq_equiv}
 use Rattle.std.specs.List.Sorted.{IsPermutation}
 use Rattle.std.proofs.lemmas.List.Sorted.{IsPermutation-refl}
-use Rattle.hashbag.specs.Occurrences.{IsOneInstanceEach}
+use Rattle.serde_json.specs.Data.{Data}
+use Rattle.hashbag.specs.Occurrences.{IsOneInstanceEach, SameCounts}
 use Rattle.hashbag.proofs.OccurrenceLemmas.{count_rearranged}
 use Rattle.hashbag_text.specs.Answers.{IsTreeOfNumbers}
 use Rattle.hashbag_text.proofs.execute.answers_to.Goals as goal
@@ -14,6 +15,11 @@ empty_means items none = subst (λ (l : List ℕ). IsPermutation [] l) (sym none
 -- equal numbers are the same
 one_each : (X : List ℕ) → IsOneInstanceEach nat_eq X
 one_each X k d below m f lower same = eqb-true _ _ same
+
+-- the tree of a bag that means a list and has a limit
+tree_of : (X items : List ℕ) (most limit : ℕ) (d : Data) → ((Y : List ℕ) → IsOneInstanceEach nat_eq Y → SameCounts nat_eq Y items → IsTreeOfNumbers Y most d) → IsPermutation X items → most ≡ limit → IsTreeOfNumbers X limit d
+tree_of X items most limit d tree means same =
+    subst (λ (n : ℕ). IsTreeOfNumbers X n d) same (tree X (one_each X) (λ v. count_rearranged nat_eq_equiv v X items means))
 
 pub returns : goal.returns
 returns c =
@@ -29,6 +35,6 @@ returns c =
       difference = rw (c.new-a.ensures.limit, c.new-b.ensures.limit) at (whole.difference [] [] empty_a empty_b);
       signed = rw (c.new-a.ensures.limit, c.new-b.ensures.limit) at (whole.signed [] [] empty_a empty_b);
       not_in = rw (c.new-a.ensures.limit, c.new-b.ensures.limit) at (whole.not_in [] [] empty_a empty_b);
-      tree_a = subst (λ (n : ℕ). IsTreeOfNumbers _ n _) (rw c.new-a.ensures.limit at left_a.limit) (c.in_ok-to_value.ensures.tree _ (one_each _) (λ v. count_rearranged nat_eq_equiv v _ _ (rw c.new-a.ensures.limit at left_a.means)));
-      tree_b = subst (λ (n : ℕ). IsTreeOfNumbers _ n _) (rw c.new-b.ensures.limit at left_b.limit) (c.in_ok-to_value-2.ensures.tree _ (one_each _) (λ v. count_rearranged nat_eq_equiv v _ _ (rw c.new-b.ensures.limit at left_b.means)));
+      tree_a = tree_of _ _ _ _ _ c.in_ok-to_value.ensures.tree (rw c.new-a.ensures.limit at left_a.means) (rw c.new-a.ensures.limit at left_a.limit);
+      tree_b = tree_of _ _ _ _ _ c.in_ok-to_value-2.ensures.tree (rw c.new-b.ensures.limit at left_b.means) (rw c.new-b.ensures.limit at left_b.limit);
     }
