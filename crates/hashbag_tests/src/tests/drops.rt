@@ -159,13 +159,23 @@ fn bag_dropped_in_a_carry<S: BuildHasher + Drop>(
     Ok(())
 }
 
+// The next item of a walk. A loop that calls this counts by itself and not by the walk.
+fn next_of<'a, I: Iterator<Item = (Counted<'a>, usize)>>(
+    walk: &mut I,
+) -> Option<(Counted<'a>, usize)>
+where
+    requires any { (state : _) → I.can_next state }
+{
+    walk.next()
+}
+
 // The first items of a walk that owns its values, which their taker drops.
 fn drop_items<'a, I: Iterator<Item = (Counted<'a>, usize)>>(walk: &mut I, taken: usize)
 where
     requires any { (state : _) → I.can_next state }
 {
     for _ in 0..taken {
-        drop(walk.next());
+        drop(next_of(walk));
     }
 }
 
