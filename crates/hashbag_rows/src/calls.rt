@@ -82,6 +82,10 @@ fn try_take<S: BuildHasher + Drop>(
     }
 }
 
+fn take_one<S: BuildHasher + Drop>(bag: &mut HashBag<u64, S>, value: u64) -> Result<u64, usize> {
+    bag.take_one(&value)
+}
+
 fn take_all<S: BuildHasher + Drop>(bag: &mut HashBag<u64, S>, value: u64) -> Option<Count> {
     bag.take_all(&value)
 }
@@ -95,6 +99,11 @@ fn get<S: BuildHasher + Drop>(bag: &HashBag<u64, S>, value: u64) -> Option<Count
 
 fn clear<S: BuildHasher + Drop>(bag: &mut HashBag<u64, S>) {
     bag.clear();
+}
+
+// How many values a drain gives.
+fn drain<S: BuildHasher + Drop>(bag: &mut HashBag<u64, S>) -> usize {
+    bag.drain().count()
 }
 
 fn reserve<S: BuildHasher + Drop>(bag: &mut HashBag<u64, S>, n: usize) -> Result<(), BagError> {
@@ -319,6 +328,7 @@ fn with_nothing<S: BuildHasher + Default + Drop>(
         "iter.count" => debug_of(alloc, &bag.iter().count()),
         "set_iter.count" => debug_of(alloc, &bag.set_iter().count()),
         "clear" => debug_of(alloc, &clear(bag)),
+        "drain" => debug_of(alloc, &drain(bag)),
         "shrink_to_fit" => text_of(alloc, shrink_to_fit(bag)),
         "retain_none" => debug_of(alloc, &retain_none(bag)),
         "retain_odd" => debug_of(alloc, &retain_odd(bag)),
@@ -339,6 +349,7 @@ fn with_number<S: BuildHasher + Default + Drop>(
         "replace" => text_of(alloc, replace(bag, value)),
         "remove" => debug_of(alloc, &remove(bag, value)),
         "try_take" => debug_of(alloc, &try_take(bag, value)),
+        "take_one" => debug_of(alloc, &take_one(bag, value)),
         "take_all" => debug_of(alloc, &take_all(bag, value)),
         "contains" => debug_of(alloc, &bag.contains(&value)),
         "get" => debug_of(alloc, &get(bag, value)),

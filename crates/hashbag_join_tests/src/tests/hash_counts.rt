@@ -3,7 +3,7 @@ use crate::tests::joins::{bag_of, bags_of, quarters};
 use hashbag::script::joins_of;
 use hashbag::{BagError, HashBag};
 use hashbag_bench::states::CountingState;
-use hashbag_rows::calls::{answer, clone_of, replace};
+use hashbag_rows::calls::{answer, clone_of};
 use hashbag_rows::texts::{count, debug_of, halves, is_text, number, rows_of};
 use serde_json::Value;
 use std::alloc::Global;
@@ -39,8 +39,21 @@ const CALLS: &str = "
     5:2 6:1 | try_take 5 | 2
     5:2 6:1 | try_take 6 | 1
     5:2 6:1 | try_take 7 | 1
+    5:2 6:1 | take_one 5 | 1
+    5:2 6:1 | take_one 6 | 1
+    5:2 6:1 | take_one 7 | 1
     5:2 6:1 | replace 5 | 1
     5:2 6:1 | replace 7 | 1
+    5:18446744073709551615 | replace 5 | 2
+    5:18446744073709551615 | replace 7 | 1
+    5:2 6:1 | insert_many 5 18446744073709551615 | 0
+    5:2 6:1 | insert_many 7 18446744073709551615 | 0
+    5:2 6:1 | extend_many 7:18446744073709551615 | 0
+    5:2 6:1 | extend_refs_many 7:18446744073709551615 | 0
+    5:2 6:1 | limit | 0
+    5:2 6:1 | set_limit 2 | 0
+    5:2 6:1 | set_limit 3 | 0
+    5:2 6:1 | with_limit 3 | 0
     5:2 6:1 | entry 5 | 0
     5:2 6:1 | entry_value 5 | 1
     5:2 6:1 | entry_value 7 | 1
@@ -93,30 +106,50 @@ const CALLS_IN_A_CARRY: &str = "
     contains 5 | 1
     contains 20 | 1
     contains 26 | 1
+    get 5 | 1
     get 20 | 1
+    get 26 | 1
     insert 5 | 1
     insert 20 | 1
     insert 26 | 9
+    insert_many 5 3 | 1
     insert_many 20 3 | 1
     insert_many 26 3 | 9
     insert_many 26 0 | 1
+    insert_many 26 18446744073709551615 | 0
+    remove 5 | 1
     remove 20 | 1
     remove 26 | 1
+    remove_up_to 5 1 | 1
     remove_up_to 20 1 | 1
+    remove_up_to 26 1 | 1
+    take_all 5 | 1
     take_all 20 | 1
+    take_all 26 | 1
+    try_take 5 | 1
     try_take 20 | 1
+    try_take 26 | 1
+    take_one 5 | 1
+    take_one 20 | 1
+    take_one 26 | 1
     replace 5 | 1
     replace 20 | 1
     replace 26 | 9
     entry 20 | 0
+    entry_value 5 | 1
     entry_value 20 | 1
+    entry_value 26 | 1
+    or_insert 5 | 1
     or_insert 20 | 1
     or_insert 26 | 10
     or_insert_many 26 3 | 10
+    or_insert_many 26 0 | 1
+    set 5 3 | 2
     set 20 3 | 2
     set 20 0 | 2
     set 26 3 | 1
     extend [20, 26] | 10
+    extend [26, 27] | 10
     extend_many 20:2 26:1 | 10
     extend_refs [20, 26] | 10
     extend_refs_many 20:2 26:1 | 10
@@ -129,9 +162,11 @@ const CALLS_IN_A_CARRY: &str = "
     clear | 0
     reserve 23 | 0
     reserve 1000 | 25
-    shrink_to_fit | 0";
+    shrink_to_fit | 0
+    set_limit 25 | 0";
 
-// The counts of two bags, a call on both, and how often the state of each hashes.
+// The counts of two bags, a call on both, and how often the state of each hashes. The word `carrying` stands for the counts of a bag in the
+// middle of a carry.
 const CALLS_ON_TWO: &str = "
     1:1 2:5 3:2 | 2:1 4:1 5:3 6:1 | outer_join | 4 3
     1:1 2:5 3:2 | 2:1 4:1 5:3 6:1 | difference | 0 3
@@ -141,7 +176,17 @@ const CALLS_ON_TWO: &str = "
     1:1 2:5 3:2 | 2:5 3:2 1:1 | equal | 0 3
     1:1 | 1:2 | equal | 0 0
     1:1 | 2:1 | equal | 0 1
-    | | equal | 0 0";
+    | | equal | 0 0
+    carrying | 20:1 26:1 | outer_join | 2 25
+    carrying | 20:1 26:1 | difference | 0 25
+    carrying | 20:1 26:1 | signed_difference | 2 25
+    carrying | 20:1 26:1 | not_in | 0 25
+    carrying | 20:1 26:1 | joins_of | 2 25
+    20:1 26:1 | carrying | outer_join | 25 2
+    20:1 26:1 | carrying | difference | 0 2
+    20:1 26:1 | carrying | signed_difference | 25 2
+    20:1 26:1 | carrying | not_in | 0 2
+    carrying | carrying | equal | 0 25";
 
 type CountingBag = HashBag<u64, CountingState>;
 
@@ -161,10 +206,6 @@ fn set_or_insert(bag: &mut CountingBag, value: u64, n: usize) -> Result<usize, B
         .or_insert()
 }
 
-fn drain(bag: &mut CountingBag) -> usize {
-    bag.drain().count()
-}
-
 // Puts the bag of a tree in the place of an empty one.
 fn from_value(alloc: Global, bag: &mut CountingBag, text: &str) -> Result<(), Fail> {
     let tree = Value::from_str(alloc, text).ok().ok_or("a tree")?;
@@ -181,25 +222,16 @@ fn done<T: Drop>(_answer: T) -> Result<(), Fail> {
     Ok(())
 }
 
-// Makes a call on a value.
-fn call_on_value(alloc: Global, bag: &mut CountingBag, verb: &str, value: u64) -> Result<(), Fail> {
-    match verb {
-        "replace" => done(replace(bag, value)?),
-        "entry_value" => done(entry_value(bag, value)),
-        _ => done(entry_text(alloc, bag, value)?),
-    }
-}
-
-// Makes a call, also one that the rows of calls lack. Their `replace` looks the value up before it is replaced.
+// Makes a call, also one that the rows of calls lack.
 fn make_call(alloc: Global, bag: &mut CountingBag, call: &str) -> Result<(), Fail> {
     let (verb, rest) = call.split_once(' ').unwrap_or((call, ""));
     match verb {
-        "replace" | "entry_value" | "entry_text" => call_on_value(alloc, bag, verb, number(rest)?),
+        "entry_value" => done(entry_value(bag, number(rest)?)),
+        "entry_text" => done(entry_text(alloc, bag, number(rest)?)?),
         "set_or_insert" => {
             let (value, n) = halves(rest, " ")?;
             done(set_or_insert(bag, number(value)?, count(n)?)?)
         }
-        "drain" => done(drain(bag)),
         "from_value" => from_value(alloc, bag, rest),
         "to_value" => done(to_value(alloc, bag)),
         _ => done(answer(alloc, bag, call)?),
@@ -218,11 +250,11 @@ fn hashes_so_often(alloc: Global, before: &str, row: &str) -> Result<(), Fail> {
 
 #[test]
 fn calls_hash_so_often(rt: HostRuntime) -> Result<(), Fail> {
-    for row in rows_of(rt.alloc(), CALLS, 71)? {
+    for row in rows_of(rt.alloc(), CALLS, 84)? {
         let (before, call) = halves(row, "|")?;
         hashes_so_often(rt.alloc(), before, call)?;
     }
-    for row in rows_of(rt.alloc(), CALLS_IN_A_CARRY, 41)? {
+    for row in rows_of(rt.alloc(), CALLS_IN_A_CARRY, 62)? {
         hashes_so_often(rt.alloc(), CARRYING, row)?;
     }
     Ok(())
@@ -279,10 +311,19 @@ fn hashed_since(
     Ok(format!(in alloc; "{first} {second}")?)
 }
 
+// The counts that stand in a row.
+fn counts_of(text: &str) -> &str {
+    if text == "carrying" { CARRYING } else { text }
+}
+
 // Makes the call of a row on two bags.
 fn both_hash_so_often(alloc: Global, row: &str) -> Result<(), Fail> {
     let (first, second, call, wanted) = quarters(row)?;
-    let (a, b) = bags_of::<CountingState, CountingState>(alloc, first, second)?;
+    let (a, b) = bags_of::<CountingState, CountingState>(
+        alloc,
+        counts_of(first),
+        counts_of(second),
+    )?;
     let start = hashed_by(&a, &b);
     make_call_on_two(alloc, &a, &b, call)?;
     let got = hashed_since(alloc, start, &a, &b)?;
@@ -291,7 +332,7 @@ fn both_hash_so_often(alloc: Global, row: &str) -> Result<(), Fail> {
 
 #[test]
 fn calls_on_two_hash_so_often(rt: HostRuntime) -> Result<(), Fail> {
-    for row in rows_of(rt.alloc(), CALLS_ON_TWO, 9)? {
+    for row in rows_of(rt.alloc(), CALLS_ON_TWO, 19)? {
         both_hash_so_often(rt.alloc(), row)?;
     }
     Ok(())

@@ -17,10 +17,15 @@ const ALL_ROWS: &str = "\
     in 100 clear = slots 256, waiting 0, room 192
     in 100 clear shrink = slots 0, room 0";
 
-// Under a state by which all values collide, and under one by which none do.
-const ONE_ROWS: &str = "window 1000 = slots 16, set_len 8";
+// Under a state by which all values collide, Removed slots are used again, and one table is made.
+const ONE_ROWS: &str = "\
+    in_and_out 1000 = slots 16, built 16
+    window 1000 = slots 16, set_len 8, built 16";
 
-const IDENTITY_ROWS: &str = "window 1000 = slots 32, set_len 8";
+// Under one by which none do they aren't, and a table is made for each twelve values that come and go.
+const IDENTITY_ROWS: &str = "\
+    in_and_out 1000 = slots 16, built 1344
+    window 1000 = slots 32, set_len 8, built 1936";
 
 // Of many values: 16 slots and all powers of two after it up to 16384 were built.
 const MANY_ROWS: &str = "in 10000 = slots 16384, waiting 0, room 2288, built 32752";
@@ -196,7 +201,7 @@ fn runs_are_bounded(rt: HostRuntime) -> Result<(), Fail> {
     bounded_under(alloc, OneState, ALL_ROWS, 5)?;
     bounded_under(alloc, ParityState, ALL_ROWS, 5)?;
     bounded_under(alloc, IdentityState, ALL_ROWS, 5)?;
-    bounded_under(alloc, OneState, ONE_ROWS, 1)?;
-    bounded_under(alloc, IdentityState, IDENTITY_ROWS, 1)?;
+    bounded_under(alloc, OneState, ONE_ROWS, 2)?;
+    bounded_under(alloc, IdentityState, IDENTITY_ROWS, 2)?;
     bounded_under(alloc, FixedState::new(), MANY_ROWS, 1)
 }

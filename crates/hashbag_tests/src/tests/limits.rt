@@ -1,9 +1,10 @@
 //! Bags with a limit, with the answers found by hand, and what a refused call leaves.
+use hashbag::script::{Step, run};
 use hashbag::{FixedState, HashBag};
 use hashbag_bench::{IdentityState, OneState, ParityState};
 use hashbag_rows::calls::{answer, clone_of, make_calls, make_rows};
-use hashbag_rows::texts::is_text;
-use std::alloc::Global;
+use hashbag_rows::texts::{debug_of, is_text};
+use std::alloc::{AllocError, Global};
 use std::hash::BuildHasher;
 use std::test::Fail;
 
@@ -67,6 +68,14 @@ const KEPT: &str = "\
     insert_many 2 4 = 0
     clear = ()
     limit = 9
+    insert_many 3 9 = 0
+    take_one 3 = Err(9)
+    replace 3 = 8
+    set 3 2 = ()
+    or_insert 4 = 1
+    take_all 3 = Some((3, 2))
+    drain = 1
+    limit = 9
     extend_many 1:2 2:3 = ()
     reserve 40 = ()
     shrink_to_fit = ()
@@ -77,9 +86,10 @@ const KEPT: &str = "\
     limit = 18446744073709551615";
 
 // Calls that would pass a limit by one. The number that does so stands at the end.
-const BY_NUMBER: [&str; 5] = [
+const BY_NUMBER: [&str; 6] = [
     "insert_many 100 ",
     "insert_many 1 ",
+    "insert_many 20 ",
     "or_insert_many 100 ",
     "extend_many 100:",
     "extend_refs_many 1:",
@@ -95,6 +105,20 @@ const BY_ONE: [&str; 7] = [
     "extend_refs [1, 100]",
     "extend_many 100:0 1:1",
 ];
+
+// Steps that do so in a bag that has the value 1 once.
+fn steps_past(alloc: Global) -> Result<Vec<Step<u64>>, AllocError> {
+    Ok(vec![in alloc;
+        Step::Insert(100),
+        Step::InsertMany(1, 1),
+        Step::Replace(100),
+        Step::EntrySet(1, 2),
+        Step::EntryOr(100, 1),
+        Step::Limit(0),
+    ]?)
+}
+
+const REPLIES_PAST: &str = "[TooMany, TooMany, TooMany, TooMany, TooMany, BelowTotal]";
 
 // The bag, its limit and its two tables.
 fn state_of<S: BuildHasher + Drop>(alloc: Global, bag: &HashBag<u64, S>) -> Result<String, Fail> {
@@ -130,17 +154,36 @@ fn refuses_past<S: BuildHasher + Default + Drop>(
         let call = format!(in alloc; "{call}{past}")?;
         changes_nothing(alloc, bag, call.as_str(), "TooMany")?;
     }
-    // The value 1 is there once where it is there.
-    if let (1, Some(n)) = (bag.contains(&1), past.checked_add(1)) {
-        let call = format!(in alloc; "set 1 {n}")?;
-        changes_nothing(alloc, bag, call.as_str(), "TooMany")?;
-    }
-    if left == 0 {
-        for call in BY_ONE {
-            changes_nothing(alloc, bag, call, "TooMany")?;
+    // These are there once where they are there.
+    for value in [1u64, 20] {
+        if let (1, Some(n)) = (bag.contains(&value), past.checked_add(1)) {
+            let call = format!(in alloc; "set {value} {n}")?;
+            changes_nothing(alloc, bag, call.as_str(), "TooMany")?;
         }
     }
-    Ok(())
+    if left == 0 {
+        refuses_all(alloc, bag)
+    } else {
+        Ok(())
+    }
+}
+
+// Each call that brings something into a full bag is refused, and so is each step.
+fn refuses_all<S: BuildHasher + Default + Drop>(
+    alloc: Global,
+    bag: &mut HashBag<u64, S>,
+) -> Result<(), Fail> {
+    for call in BY_ONE {
+        changes_nothing(alloc, bag, call, "TooMany")?;
+    }
+    if bag.contains(&1) == 0 {
+        return Ok(());
+    }
+    let before = state_of(alloc, bag)?;
+    let mut replies = Vec::new(alloc);
+    run(bag, steps_past(alloc)?, &mut replies)?;
+    is_text("a run", debug_of(alloc, &replies)?.as_str(), REPLIES_PAST)?;
+    is_text("a run", state_of(alloc, bag)?.as_str(), before.as_str())
 }
 
 // A bag of the values from 1 to `last`, with each limit: a limit below the total is refused, and so is what would pass one.
@@ -186,7 +229,7 @@ fn clone_keeps<S: BuildHasher + Default + Copy>(alloc: Global, state: S) -> Resu
 // No values, one, as many as fill the first table, and as many as leave sixteen slots of the older table waiting.
 fn limits_under<S: BuildHasher + Default + Copy>(alloc: Global, state: S) -> Result<(), Fail> {
     make_rows(alloc, state, ROWS, 42)?;
-    make_rows(alloc, state, KEPT, 18)?;
+    make_rows(alloc, state, KEPT, 26)?;
     clone_keeps(alloc, state)?;
     for last in [0, 1, 12, 25] {
         refuses_each::<S>(alloc, last)?;
