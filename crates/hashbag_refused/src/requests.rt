@@ -1,6 +1,6 @@
 //! Calls by themselves. The script `tests/refused_memory` knows how many requests for memory each makes, with those that make its bag.
 use crate::checks::{Refusals, Wrong, check};
-use hashbag::{BagError, HashBag};
+use hashbag::{BagError, FixedState, HashBag};
 use std::alloc::Global;
 
 // Values that are lent.
@@ -19,6 +19,14 @@ enum Verb {
     Insert,
     // All calls that take no memory.
     Quiet,
+    // Calls on the limit, and those that are refused by it.
+    Limits,
+    // A bag that stands is emptied, or used up.
+    Clear,
+    IntoIter,
+    // An absent value, by other calls than `insert`.
+    Replace,
+    OrInsert,
     // Joins with a bag of three values, and whether the two are equal.
     Joins,
     Clone,
@@ -30,7 +38,9 @@ enum Verb {
     RoomyShrink,
     WithCapacity,
     Extend,
+    ExtendMany,
     ExtendRefs,
+    ExtendRefsMany,
     FromIter,
     FromCounts,
 }
@@ -42,6 +52,11 @@ impl Single {
         let verb = match verb {
             "insert" => Verb::Insert,
             "quiet" => Verb::Quiet,
+            "limits" => Verb::Limits,
+            "clear" => Verb::Clear,
+            "into_iter" => Verb::IntoIter,
+            "replace" => Verb::Replace,
+            "or_insert" => Verb::OrInsert,
             "joins" => Verb::Joins,
             "clone" => Verb::Clone,
             "within" => Verb::Within,
@@ -50,7 +65,9 @@ impl Single {
             "roomy_shrink" => Verb::RoomyShrink,
             "with_capacity" => Verb::WithCapacity,
             "extend" => Verb::Extend,
+            "extend_many" => Verb::ExtendMany,
             "extend_refs" => Verb::ExtendRefs,
+            "extend_refs_many" => Verb::ExtendRefsMany,
             "from_iter" => Verb::FromIter,
             "from_counts" => Verb::FromCounts,
             _ => return None,
@@ -70,15 +87,9 @@ impl Single {
                 let counts = (0..self.size).map(|value| (value, 2));
                 made(HashBag::from_counts(alloc, counts), refusals)
             }
-            Verb::Extend => {
-                let mut bag: HashBag<u64> = HashBag::new(alloc);
-                drop(refusals.is_done(bag.extend(0..self.size))?);
-                Ok(())
-            }
-            Verb::ExtendRefs => {
-                let mut bag: HashBag<u64> = HashBag::new(alloc);
-                drop(refusals.is_done(bag.extend_refs(NUMBERS.iter()))?);
-                Ok(())
+            Verb::Extend | Verb::ExtendMany | Verb::ExtendRefs | Verb::ExtendRefsMany => {
+                let mut bag = HashBag::new(alloc);
+                done(extended(&mut bag, self), refusals)
             }
             _ => match inserted(alloc, self.size, refusals)? {
                 Some(bag) => make_on(alloc, bag, self.verb, refusals),
@@ -91,6 +102,16 @@ impl Single {
 fn made(answer: Result<HashBag<u64>, BagError>, refusals: &mut Refusals) -> Result<(), Wrong> {
     drop(refusals.answer(answer)?);
     Ok(())
+}
+
+// Extends a bag by the numbers below a size, or by those that are lent.
+fn extended(bag: &mut HashBag<u64>, single: Single) -> Result<(), BagError> {
+    match single.verb {
+        Verb::Extend => bag.extend(0..single.size),
+        Verb::ExtendMany => bag.extend_many((0..single.size).map(|value| (value, 2))),
+        Verb::ExtendRefs => bag.extend_refs(NUMBERS.iter()),
+        _ => bag.extend_refs_many(NUMBERS.iter().map(|value| (value, 2))),
+    }
 }
 
 // The numbers below `size`, inserted one after another. `None` where one was refused.
@@ -118,6 +139,11 @@ fn make_on(
     let mut bag = bag;
     match verb {
         Verb::Quiet => quiet(&mut bag, refusals),
+        Verb::Limits => limits(alloc, &mut bag),
+        Verb::Clear => cleared(&mut bag),
+        Verb::IntoIter => used_up(bag),
+        Verb::Replace => brought(bag.replace(1000), refusals),
+        Verb::OrInsert => brought(bag.entry(1000).or_insert(), refusals),
         Verb::Joins => match inserted(alloc, 3, refusals)? {
             Some(other) => joined(&bag, &other),
             None => Ok(()),
@@ -141,6 +167,63 @@ fn done(answer: Result<(), BagError>, refusals: &mut Refusals) -> Result<(), Wro
     Ok(())
 }
 
+// A call that brought an absent value in.
+fn brought(answer: Result<usize, BagError>, refusals: &mut Refusals) -> Result<(), Wrong> {
+    drop(refusals.answer(answer)?);
+    Ok(())
+}
+
+// The slots of a bag that is emptied stay.
+fn cleared(bag: &mut HashBag<u64>) -> Result<(), Wrong> {
+    let slots = bag.slots();
+    bag.clear();
+    check((bag.len(), bag.slots()) == (0, slots), "clear")
+}
+
+fn used_up(bag: HashBag<u64>) -> Result<(), Wrong> {
+    let values = bag.set_len();
+    check(bag.into_iter().count() == values, "into_iter")
+}
+
+// A bag at its limit, whether or not it has room: nothing is asked for before the total is tested.
+fn limits(alloc: Global, bag: &mut HashBag<u64>) -> Result<(), Wrong> {
+    let other: HashBag<u64> = HashBag::with_limit(alloc, FixedState::new(), 5);
+    check((other.limit(), other.slots()) == (5, 0), "with_limit")?;
+    let len = bag.len();
+    check(bag.set_limit(len) == Ok(()), "set_limit")?;
+    let below = bag.set_limit(0).is_err();
+    check(below == (len > 0), "set_limit: below the total")?;
+    refuse_all(bag)?;
+    let kept = (bag.len(), bag.set_len(), bag.limit());
+    check(kept == (len, len, len), "what is past the limit")
+}
+
+// Each of these would bring in an absent value, or one that is there once more.
+fn refuse_all(bag: &mut HashBag<u64>) -> Result<(), Wrong> {
+    is_past(bag.insert(1000))?;
+    is_past(bag.insert_many(1, 1))?;
+    is_past(bag.replace(1000))?;
+    is_past(bag.entry(1000).or_insert())?;
+    is_past(bag.entry(1000).or_insert_many(7))?;
+    for verb in [
+        Verb::Extend,
+        Verb::ExtendMany,
+        Verb::ExtendRefs,
+        Verb::ExtendRefsMany,
+    ] {
+        let answer = extended(bag, Single { verb, size: 1 });
+        check(answer == Err(BagError::TooMany), "an extend past the limit")?;
+    }
+    Ok(())
+}
+
+fn is_past(answer: Result<usize, BagError>) -> Result<(), Wrong> {
+    check(
+        answer == Err(BagError::TooMany),
+        "an insertion past the limit",
+    )
+}
+
 // Walks over the joins of two bags, of which the second has three values of the first.
 fn joined(bag: &HashBag<u64>, other: &HashBag<u64>) -> Result<(), Wrong> {
     let more = bag.set_len().saturating_sub(3);
@@ -161,6 +244,11 @@ fn quiet(bag: &mut HashBag<u64>, refusals: &mut Refusals) -> Result<(), Wrong> {
     }
     check(bag.iter().count() == bag.len(), "iter")?;
     check(bag.set_iter().count() == bag.set_len(), "set_iter")?;
+    check(bag.set_iter().clone().is_ok(), "a clone of a walk")?;
+    check(
+        bag.capacity() == bag.set_len().saturating_add(bag.room()),
+        "capacity",
+    )?;
     bag.retain(|_value: &u64, _count: usize| 1);
     check(bag.len() == 23, "retain")?;
     check(bag.drain().count() == 23, "drain")?;
@@ -185,7 +273,20 @@ fn quiet_on(bag: &mut HashBag<u64>, value: u64, refusals: &mut Refusals) -> Resu
         refusals.answer(bag.entry(value).or_insert())? == Some(1),
         "or_insert",
     )?;
+    check(
+        refusals.answer(bag.entry(99).or_insert_many(0))? == Some(0),
+        "or_insert_many of 0",
+    )?;
+    check(
+        bag.entry(value)
+            .and_modify(|count: &mut usize| *count = 4)
+            .is_ok(),
+        "and_modify",
+    )?;
+    check(bag.take_one(&value) == Err(4), "take_one")?;
+    check(bag.try_take(&value).is_err(), "try_take")?;
+    check(bag.remove(&value) == 2, "remove")?;
     check(bag.remove_up_to(&value, 0) == 1, "remove_up_to")?;
     check(bag.take_all(&value).is_some(), "take_all")?;
-    check(bag.remove(&value) == 0, "remove")
+    check(bag.remove(&value) == 0, "remove of an absent value")
 }
