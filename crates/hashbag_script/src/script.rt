@@ -314,7 +314,7 @@ fn apply<T: Eq + Hash + Drop, S: BuildHasher + Drop>(
 /// Room for all replies is taken first: where it is refused, nothing changes. Then only an insertion of a value that is
 /// absent (`Replace` and `EntryOr` too), `Reserve` and `ShrinkToFit` can be refused for memory. The run stops there with `Memory`: the
 /// steps before it have their replies and are done, that step left the bag as it was, and the rest of the steps is
-/// dropped. A total that would pass its end is the reply `TooMany`, and no error. No value is copied.
+/// dropped. A total that would pass the limit is the reply `TooMany`, and no error. No value is copied.
 pub fn run<T: Eq + Hash + Drop, S: BuildHasher + Drop>(
     bag: &mut HashBag<T, S>,
     steps: Vec<Step<T>>,

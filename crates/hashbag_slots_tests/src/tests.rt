@@ -1,6 +1,6 @@
 //! What no clause says: that calls succeed and lie as the table of steps has them, that memory is given back and each value is
-//! dropped once, and what stands after refused memory. Beside that what the tests need: a state under which all values collide
-//! where a test wants them to, and tables that know that their values are found.
+//! dropped once. Beside that what the tests need: a state under which all values collide where a test wants them to, and tables
+//! that know that their values are found.
 //!
 //! A test is proved before it runs, and carries on what each of its calls promises. So calls are made and compared in functions
 //! with no contract.
@@ -8,9 +8,9 @@ mod agreement;
 mod checks;
 mod constant;
 mod drops;
+mod full;
 mod held;
 mod names;
 mod pair;
 mod places;
-mod refusals;
 mod walks;
