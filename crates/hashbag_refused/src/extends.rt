@@ -1,5 +1,6 @@
 //! Extends, collections and clones of bags of numbers.
 use crate::checks::{Refusals, Wrong, check};
+use crate::counts::tables_of;
 use hashbag::{BagError, HashBag};
 use std::alloc::Global;
 
@@ -40,9 +41,16 @@ fn has_new(
     check(bag.len() == total, wrong)
 }
 
+// The slots, those that wait, and the room of a filled bag after such an extend.
+fn has_tables(bag: &HashBag<u64>, is_done: bool) -> Result<(), Wrong> {
+    let wanted = if is_done { (32, 0, 9) } else { (16, 0, 0) };
+    check(tables_of(bag) == wanted, "an extend: the slots")
+}
+
 fn extend(mut bag: HashBag<u64>, refusals: &mut Refusals) -> Result<(), Wrong> {
     let before = bag.len();
     let done = refusals.is_done(bag.extend(NEW.iter().copied()))?;
+    has_tables(&bag, done)?;
     has_new(&bag, done, before, 1, "extend")
 }
 
@@ -50,12 +58,14 @@ fn extend_many(mut bag: HashBag<u64>, refusals: &mut Refusals) -> Result<(), Wro
     let before = bag.len();
     let pairs = NEW.iter().map(|value| (*value, 2usize));
     let done = refusals.is_done(bag.extend_many(pairs))?;
+    has_tables(&bag, done)?;
     has_new(&bag, done, before, 2, "extend_many")
 }
 
 fn extend_refs(mut bag: HashBag<u64>, refusals: &mut Refusals) -> Result<(), Wrong> {
     let before = bag.len();
     let done = refusals.is_done(bag.extend_refs(NEW.iter()))?;
+    has_tables(&bag, done)?;
     has_new(&bag, done, before, 1, "extend_refs")
 }
 
@@ -63,6 +73,7 @@ fn extend_refs_many(mut bag: HashBag<u64>, refusals: &mut Refusals) -> Result<()
     let before = bag.len();
     let pairs = NEW.iter().map(|value| (value, 3usize));
     let done = refusals.is_done(bag.extend_refs_many(pairs))?;
+    has_tables(&bag, done)?;
     has_new(&bag, done, before, 3, "extend_refs_many")
 }
 
@@ -111,6 +122,10 @@ fn clone(alloc: Global, refusals: &mut Refusals) -> Result<(), Wrong> {
     }
     check(bag.len() == before, "clone: the total of its source")?;
     check(bag.set_len() == before, "clone: the values of its source")?;
+    check(
+        tables_of(&bag) == (16, 0, 2),
+        "clone: the slots of its source",
+    )?;
     check(bag.contains(&100) == 1, "clone: a count of its source")
 }
 

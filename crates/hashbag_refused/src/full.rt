@@ -1,48 +1,14 @@
 //! Bags of values that count their drops and whose hashes are all alike: calls that find no room, and a bag in the middle of a carry.
 use crate::checks::{Refusals, Wrong, check};
+use crate::counted::{Counted, Values};
 use crate::counts::tables_of;
 use hashbag::script::{Step, run};
 use hashbag::{BagError, HashBag};
 use hashbag_bench::OneState;
-use hashbag_slots_tests::counted::Counted;
 use std::alloc::{AllocError, Global};
-use std::cell::Cell;
 
 // A bag of such values.
 type Bag<'a> = HashBag<Counted<'a>, OneState>;
-
-// Makes values. It knows how many it made and how many of them were dropped.
-#[derive(Drop)]
-struct Values {
-    made: Cell<usize>,
-    dropped: Cell<usize>,
-}
-
-impl Values {
-    fn new() -> Values {
-        Values {
-            made: Cell::new(0),
-            dropped: Cell::new(0),
-        }
-    }
-
-    fn value(&self, key: u64) -> Counted<'_> {
-        self.made.set(self.made.get().wrapping_add(1));
-        Counted {
-            key,
-            tag: 0,
-            drops: &self.dropped,
-        }
-    }
-
-    // Each value that was made was dropped once.
-    fn are_gone(&self) -> Result<(), Wrong> {
-        check(
-            self.made.get() == self.dropped.get(),
-            "full bags: a value that wasn't dropped once",
-        )
-    }
-}
 
 // Inserts a value, and answers how many there were. `None` where it was refused.
 fn insert<'a>(
@@ -139,12 +105,14 @@ fn in_a_carry(alloc: Global, values: &Values, refusals: &mut Refusals) -> Result
 type After = (usize, usize, usize);
 
 // Calls that ask for memory on a bag with no room, with what it has where they are refused and where they are done.
-const CALLS: [(&str, After, After); 6] = [
+const CALLS: [(&str, After, After); 8] = [
     ("insert_many", (1, 0, 12), (1, 2, 14)),
     ("replace", (1, 0, 12), (1, 1, 13)),
     ("or_insert_many", (1, 0, 12), (1, 3, 15)),
     ("extend", (2, 0, 13), (3, 1, 16)),
     ("extend_many", (3, 0, 14), (3, 4, 18)),
+    ("extend_refs", (2, 0, 13), (3, 1, 16)),
+    ("extend_refs_many", (3, 0, 14), (3, 4, 18)),
     ("reserve", (1, 0, 12), (1, 0, 12)),
 ];
 
@@ -156,8 +124,20 @@ fn done(answer: Result<usize, BagError>) -> Result<(), BagError> {
     }
 }
 
+// Makes an extend by values that are lent.
+fn lent<'a>(bag: &mut Bag<'a>, values: &'a Values, call: &str) -> Result<(), BagError> {
+    let (nine, thirteen, last) = (values.value(9), values.value(13), values.value(14));
+    match call {
+        "extend_refs" => bag.extend_refs([&nine, &thirteen, &nine, &last].into_iter()),
+        _ => bag.extend_refs_many([(&nine, 2), (&thirteen, 4)].into_iter()),
+    }
+}
+
 // Makes a call.
 fn made<'a>(bag: &mut Bag<'a>, values: &'a Values, call: &str) -> Result<(), BagError> {
+    if call.starts_with("extend_refs") {
+        return lent(bag, values, call);
+    }
     let (nine, thirteen) = (values.value(9), values.value(13));
     match call {
         "insert_many" => done(bag.insert_many(thirteen, 2)),
@@ -264,19 +244,32 @@ fn moved_in_a_carry(alloc: Global, values: &Values, refusals: &mut Refusals) -> 
     has_first(&bag, values, 25, "a carry: the values after shrink_to_fit")
 }
 
-// The numbers from 1 to 25 are cloned in the middle of a carry: the source stays as it is.
-fn cloned_in_a_carry(alloc: Global, refusals: &mut Refusals) -> Result<(), Wrong> {
-    let mut bag: HashBag<u64, OneState> = HashBag::with_hasher(alloc, OneState);
-    for value in 1..=25 {
-        if refusals.answer(bag.insert(value))?.is_none() {
-            return Ok(());
-        }
+// With two values fewer there is room in half of the slots: all values move there, or none.
+fn shrunk_in_a_carry(alloc: Global, values: &Values, refusals: &mut Refusals) -> Result<(), Wrong> {
+    let Some(mut bag) = filled(alloc, values, 25, refusals)? else {
+        return Ok(());
+    };
+    for key in [24, 25] {
+        bag.remove(&values.value(key));
     }
+    check(tables_of(&bag) == (64, 16, 24), "a carry: 23 values")?;
+    let done = refusals.is_done(bag.shrink_to_fit())?;
+    let wanted = if done { (32, 0, 1) } else { (64, 16, 24) };
+    check(tables_of(&bag) == wanted, "a carry: 23 values, shrunk")?;
+    has_first(&bag, values, 23, "a carry: the 23 values, shrunk")
+}
+
+// The values from 1 to 25 are cloned in the middle of a carry: the source stays as it is.
+fn cloned_in_a_carry(alloc: Global, values: &Values, refusals: &mut Refusals) -> Result<(), Wrong> {
+    let Some(bag) = filled(alloc, values, 25, refusals)? else {
+        return Ok(());
+    };
     if let Some(clone) = refusals.answer(bag.clone())? {
         check(clone == bag, "a carry: a clone")?;
         check(tables_of(&clone) == (64, 0, 23), "a carry: a clone's slots")?;
     }
-    check(tables_of(&bag) == (64, 16, 23), "a carry: after a clone")
+    check(tables_of(&bag) == (64, 16, 23), "a carry: after a clone")?;
+    has_first(&bag, values, 25, "a carry: the values after a clone")
 }
 
 /// All of these. After each of them every value that was made is dropped, and was dropped once.
@@ -296,5 +289,8 @@ pub fn full_bags(alloc: Global, refusals: &mut Refusals) -> Result<(), Wrong> {
     values.are_gone()?;
     collected(alloc, &values, refusals)?;
     values.are_gone()?;
-    cloned_in_a_carry(alloc, refusals)
+    shrunk_in_a_carry(alloc, &values, refusals)?;
+    values.are_gone()?;
+    cloned_in_a_carry(alloc, &values, refusals)?;
+    values.are_gone()
 }

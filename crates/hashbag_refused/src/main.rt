@@ -9,6 +9,7 @@
 
 mod carried;
 mod checks;
+mod counted;
 mod counts;
 mod extends;
 mod full;
@@ -68,7 +69,7 @@ fn strict_calls(alloc: Global, refusals: &mut Refusals) -> Result<(), Wrong> {
     extends::collections(alloc, refusals)?;
     texts::cloned_names(alloc, refusals)?;
     trees::trees(alloc, refusals)?;
-    trees::faulty_trees(alloc, refusals)?;
+    trees::pairs(alloc, refusals)?;
     trees::trees_without_memory(alloc, refusals)?;
     carried::written(alloc, refusals)?;
     carried::runs(alloc, refusals)?;

@@ -17,6 +17,8 @@ fn reserve(bag: &mut HashBag<u64>, n: usize, refusals: &mut Refusals) -> Result<
     has_counts(bag, (2, 0, 0), "reserve: the counts")?;
     if done {
         has_room(bag, n, "reserve: the room")?;
+    } else {
+        check(tables_of(bag) == (16, 0, 11), "reserve: refused")?;
     }
     Ok(done)
 }
@@ -40,14 +42,10 @@ pub fn room(alloc: Global, refusals: &mut Refusals) -> Result<(), Wrong> {
 /// Makes room in a small bag and gives it back: then there is less, or as much where that is refused.
 pub fn room_given_back(alloc: Global, refusals: &mut Refusals) -> Result<(), Wrong> {
     let mut bag = roomy(alloc, refusals)?;
-    let before = bag.capacity();
     let done = refusals.is_done(bag.shrink_to_fit())?;
     has_counts(&bag, (2, 0, 0), "shrink_to_fit: the counts")?;
-    if done {
-        check(bag.capacity() < before, "shrink_to_fit: the room")
-    } else {
-        has_room(&bag, 100, "shrink_to_fit: the room where it is refused")
-    }
+    let wanted = if done { (16, 0, 11) } else { (256, 0, 191) };
+    check(tables_of(&bag) == wanted, "shrink_to_fit: the slots")
 }
 
 /// Makes a bag with room.

@@ -58,21 +58,42 @@ pub fn trees(alloc: Global, refusals: &mut Refusals) -> Result<(), Wrong> {
     }
 }
 
-/// A tree with a fault after its first pair: the fault is answered, or memory was refused.
-pub fn faulty_trees(alloc: Global, refusals: &mut Refusals) -> Result<(), Wrong> {
-    let Some(tree) = tree_of(alloc, "[[\"b\",2],[5,1]]", refusals) else {
-        return Ok(());
-    };
-    let read: Result<HashBag<String, FixedState>, JsonError> = HashBag::from_value(alloc, &tree);
-    match read.err() {
-        Some(JsonError::BadItem(1)) => Ok(()),
-        Some(JsonError::Memory) => {
+// Trees whose reading asks for memory, each with its fault. The first one has none, and is read as a bag of one value.
+const PAIRS: [(&str, Option<JsonError>); 2] = [
+    ("[[\"a\",1]]", None),
+    ("[[\"b\",2],[5,1]]", Some(JsonError::BadItem(1))),
+];
+
+// A tree that is read is a bag of one value, or it has this fault, or memory was refused.
+fn is_read(
+    alloc: Global,
+    tree: &Value,
+    fault: Option<JsonError>,
+    refusals: &mut Refusals,
+) -> Result<(), Wrong> {
+    let read: Result<HashBag<String, FixedState>, JsonError> = HashBag::from_value(alloc, tree);
+    match read {
+        Ok(bag) => check(
+            fault.is_none() && (bag.len(), tables_of(&bag)) == (1, (16, 0, 11)),
+            "from_value: the bag of a pair",
+        ),
+        Err(JsonError::Memory) => {
             refusals.count();
             Ok(())
         }
-        Some(_) => Err(Wrong("from_value: another fault")),
-        None => Err(Wrong("from_value: no fault")),
+        Err(error) => check(fault == Some(error), "from_value: another fault"),
     }
+}
+
+/// One pair, and a fault after a first pair: the bag or the fault is answered, or memory was refused.
+pub fn pairs(alloc: Global, refusals: &mut Refusals) -> Result<(), Wrong> {
+    for (text, fault) in PAIRS {
+        let Some(tree) = tree_of(alloc, text, refusals) else {
+            return Ok(());
+        };
+        is_read(alloc, &tree, fault, refusals)?;
+    }
+    Ok(())
 }
 
 // Trees that are read without a request for memory, with their faults. The last one is read as an empty bag.

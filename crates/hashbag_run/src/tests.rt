@@ -250,7 +250,7 @@ const HOSTILE: &[u8] = b"a  insert 5\n a insert 5\nA insert 5\na insert 5 \na in
     a retain 1\na retain 1 2 3\na retain 1 -2\na retain 1  2\na set 5\na or\n\
     insert 5\na\nb\nB insert 5\nab insert 5\n \n\
     a limit\na limit 1 2\na limit -1\na limit 18446744073709551616\n\
-    a insert 000000000000000000005\na insert 18446744073709551616\na insert \xff\na insert 5\xff";
+    a insert 000000000000000000005\na insert 18446744073709551616\na insert \xff\na insert 5\xff\n\xff";
 
 // Each hostile line alone, and behind an empty line.
 #[test]
@@ -263,7 +263,7 @@ fn refuses_hostile_lines(rt: HostRuntime) -> Result<(), Fail> {
         answers_bytes(rt.alloc(), &rt, second.as_slice(), 2, "bad line 2\n");
         lines = lines.saturating_add(1);
     }
-    assert_eq!(rt; lines, 40);
+    assert_eq!(rt; lines, 41);
     Ok(())
 }
 
@@ -332,6 +332,7 @@ fn fails_at_write(
 #[test]
 fn fails_at_each_write(rt: HostRuntime) {
     // The output has 149 bytes and takes 22 writes, and what is said of a bad line has 11 and takes two.
+    assert_eq!(rt; TWO_BAGS_OUTPUT.len().div_ceil(7), 22);
     for fails_at in 1..23 {
         fails_at_write(rt.alloc(), &rt, TWO_BAGS, TWO_BAGS_OUTPUT, fails_at, false);
         fails_at_write(rt.alloc(), &rt, TWO_BAGS, TWO_BAGS_OUTPUT, fails_at, true);

@@ -6,15 +6,15 @@ use std::alloc::Global;
 use std::hash::BuildHasher;
 use std::test::Fail;
 
-// A bag of values with these keys and tags.
+// A bag of values with these keys and tags, each so often.
 fn tagged<S: BuildHasher + Default + Drop>(
     alloc: Global,
-    values: &[(u64, u64)],
+    values: &[(u64, u64, usize)],
 ) -> Result<HashBag<Tagged, S>, Fail> {
     let mut bag = HashBag::default_in(alloc);
-    for (key, tag) in values {
+    for (key, tag, n) in values {
         let (key, tag) = (*key, *tag);
-        bag.insert(Tagged { key, tag })?;
+        bag.insert_many(Tagged { key, tag }, *n)?;
     }
     Ok(bag)
 }
@@ -36,8 +36,8 @@ fn joined<S: BuildHasher + Drop, S2: BuildHasher + Drop>(
 #[test]
 fn instances_of_outer_joins(rt: HostRuntime) -> Result<(), Fail> {
     let alloc = rt.alloc();
-    let a: HashBag<Tagged, OneState> = tagged(alloc, &[(1, 10), (1, 10)])?;
-    let b: HashBag<Tagged, IdentityState> = tagged(alloc, &[(1, 20), (2, 21)])?;
+    let a: HashBag<Tagged, OneState> = tagged(alloc, &[(1, 10, 2)])?;
+    let b: HashBag<Tagged, IdentityState> = tagged(alloc, &[(1, 20, 1), (2, 21, 1)])?;
     let items = joined(alloc, &a, &b)?;
     is_text(
         "a with b",

@@ -95,7 +95,11 @@ const STEPS: &str = "
     difference | 1:1 2:1 3:1 4:1 5:1 6:1 7:1 8:1 9:1 10:1 11:1 12:1 13:1 14:1 15:1 16:1 17:1 18:1 19:1 20:1 21:1 22:1 23:1 24:1 25:1 |  | 0..25+ 0..24+ 0..23+ 0..22+ 0..21+ 0..20+ 0..19+ 0..18+ 0..17+ 0..16+ 0..15+ 0..14+ 0..13+ 0..12+ 0..11+ 0..10+ 0..9+ 0..8+ 0..7+ 0..6+ 0..5+ 0..4+ 0..3+ 0..2+ 0..1+ 0..0- 0..0-
     not_in | 1:1 2:1 3:1 4:1 5:1 6:1 7:1 8:1 9:1 10:1 11:1 12:1 13:1 14:1 15:1 16:1 17:1 18:1 19:1 20:1 21:1 22:1 23:1 24:1 25:1 |  | 0..25+ 0..24+ 0..23+ 0..22+ 0..21+ 0..20+ 0..19+ 0..18+ 0..17+ 0..16+ 0..15+ 0..14+ 0..13+ 0..12+ 0..11+ 0..10+ 0..9+ 0..8+ 0..7+ 0..6+ 0..5+ 0..4+ 0..3+ 0..2+ 0..1+ 0..0- 0..0-
     outer_join | 1:1 2:1 3:1 4:1 5:1 6:1 7:1 8:1 9:1 10:1 11:1 12:1 13:1 14:1 15:1 16:1 17:1 18:1 19:1 20:1 21:1 22:1 23:1 24:1 25:1 | 40:1 | 25..26+ 24..25+ 23..24+ 22..23+ 21..22+ 20..21+ 19..20+ 18..19+ 17..18+ 16..17+ 15..16+ 14..15+ 13..14+ 12..13+ 11..12+ 10..11+ 9..10+ 8..9+ 7..8+ 6..7+ 5..6+ 4..5+ 3..4+ 2..3+ 1..2+ 0..1+ 0..0- 0..0-
-    signed_difference | 1:1 2:1 3:1 4:1 5:1 6:1 7:1 8:1 9:1 10:1 11:1 12:1 13:1 14:1 15:1 16:1 17:1 18:1 19:1 20:1 21:1 22:1 23:1 24:1 25:1 | 40:1 | 25..26+ 24..25+ 23..24+ 22..23+ 21..22+ 20..21+ 19..20+ 18..19+ 17..18+ 16..17+ 15..16+ 14..15+ 13..14+ 12..13+ 11..12+ 10..11+ 9..10+ 8..9+ 7..8+ 6..7+ 5..6+ 4..5+ 3..4+ 2..3+ 1..2+ 0..1+ 0..0- 0..0-";
+    signed_difference | 1:1 2:1 3:1 4:1 5:1 6:1 7:1 8:1 9:1 10:1 11:1 12:1 13:1 14:1 15:1 16:1 17:1 18:1 19:1 20:1 21:1 22:1 23:1 24:1 25:1 | 40:1 | 25..26+ 24..25+ 23..24+ 22..23+ 21..22+ 20..21+ 19..20+ 18..19+ 17..18+ 16..17+ 15..16+ 14..15+ 13..14+ 12..13+ 11..12+ 10..11+ 9..10+ 8..9+ 7..8+ 6..7+ 5..6+ 4..5+ 3..4+ 2..3+ 1..2+ 0..1+ 0..0- 0..0-
+    outer_join | 40:1 | 1:1 2:1 3:1 4:1 5:1 6:1 7:1 8:1 9:1 10:1 11:1 12:1 13:1 14:1 15:1 16:1 17:1 18:1 19:1 20:1 21:1 22:1 23:1 24:1 25:1 | 1..26+ 0..25+ 0..24+ 0..23+ 0..22+ 0..21+ 0..20+ 0..19+ 0..18+ 0..17+ 0..16+ 0..15+ 0..14+ 0..13+ 0..12+ 0..11+ 0..10+ 0..9+ 0..8+ 0..7+ 0..6+ 0..5+ 0..4+ 0..3+ 0..2+ 0..1+ 0..0- 0..0-
+    signed_difference | 40:1 | 1:1 2:1 3:1 4:1 5:1 6:1 7:1 8:1 9:1 10:1 11:1 12:1 13:1 14:1 15:1 16:1 17:1 18:1 19:1 20:1 21:1 22:1 23:1 24:1 25:1 | 1..26+ 0..25+ 0..24+ 0..23+ 0..22+ 0..21+ 0..20+ 0..19+ 0..18+ 0..17+ 0..16+ 0..15+ 0..14+ 0..13+ 0..12+ 0..11+ 0..10+ 0..9+ 0..8+ 0..7+ 0..6+ 0..5+ 0..4+ 0..3+ 0..2+ 0..1+ 0..0- 0..0-
+    difference | 40:1 | 1:1 2:1 3:1 4:1 5:1 6:1 7:1 8:1 9:1 10:1 11:1 12:1 13:1 14:1 15:1 16:1 17:1 18:1 19:1 20:1 21:1 22:1 23:1 24:1 25:1 | 0..1+ 0..0- 0..0-
+    not_in | 40:1 | 1:1 2:1 3:1 4:1 5:1 6:1 7:1 8:1 9:1 10:1 11:1 12:1 13:1 14:1 15:1 16:1 17:1 18:1 19:1 20:1 21:1 22:1 23:1 24:1 25:1 | 0..1+ 0..0- 0..0-";
 
 // A value, and how many more of it one bag has than another.
 const EXCESSES: &str = "
@@ -143,11 +147,11 @@ fn rising<T: Ord + Debug + Copy>(alloc: Global, items: Vec<T>) -> Result<String,
     debug_of(alloc, &items)
 }
 
-// Whether the values that the first bag has come before all others.
-fn is_first_before(joins: &[(&u64, usize, usize)]) -> bool {
+// Whether the values that a bag has come before all others.
+fn is_first_before<S: BuildHasher + Drop>(bag: &HashBag<u64, S>, values: &[&u64]) -> bool {
     let mut ended = false;
-    for join in joins {
-        if join.1 == 0 {
+    for value in values {
+        if bag.contains(value) == 0 {
             ended = true;
         } else if ended {
             return false;
@@ -159,9 +163,6 @@ fn is_first_before(joins: &[(&u64, usize, usize)]) -> bool {
 // The text of one of the four joins.
 fn text_of(alloc: Global, joins: Joins<'_, u64>, join: &str) -> Result<String, Fail> {
     match join {
-        "outer_join" if !is_first_before(joins.outer.as_slice()) => {
-            Err(Fail::new("a value of the first bag comes late"))
-        }
         "outer_join" => rising(alloc, joins.outer),
         "difference" => rising(alloc, joins.difference),
         "signed_difference" => rising(alloc, joins.signed),
@@ -177,7 +178,13 @@ fn joined<S: BuildHasher + Drop, S2: BuildHasher + Drop>(
     a: &HashBag<u64, S>,
     b: &HashBag<u64, S2>,
 ) -> Result<String, Fail> {
-    text_of(alloc, joins_of(alloc, a, b)?, join)
+    let joins = joins_of(alloc, a, b)?;
+    let outer: Vec<&u64> = joins.outer.iter().map(|item| item.0).collect(alloc)?;
+    let signed: Vec<&u64> = joins.signed.iter().map(|item| item.0).collect(alloc)?;
+    if is_first_before(a, outer.as_slice()) && is_first_before(a, signed.as_slice()) {
+        return text_of(alloc, joins, join);
+    }
+    Err(Fail::new("a value of the first bag comes late"))
 }
 
 fn is_joined<S: BuildHasher + Default + Drop, S2: BuildHasher + Default + Drop>(
@@ -326,6 +333,7 @@ fn is_stepped<S: BuildHasher + Default + Drop, S2: BuildHasher + Default + Drop>
     let (mut a, mut b) = bags_of::<S, S2>(alloc, first, second)?;
     let before = (state_of(alloc, &a)?, state_of(alloc, &b)?);
     carries(row, first, before.0.as_str())?;
+    carries(row, second, before.1.as_str())?;
     let got = steps_of(alloc, join, &a, &b, steps)?;
     has_steps(row, got.as_str(), wanted, steps)?;
     is_as_before(alloc, row, &mut a, before.0.as_str())?;
@@ -351,7 +359,7 @@ fn joins_under<S: BuildHasher + Default + Drop, S2: BuildHasher + Default + Drop
     for row in rows_of(alloc, JOINS, 65)? {
         is_joined::<S, S2>(alloc, row)?;
     }
-    for row in rows_of(alloc, STEPS, 14)? {
+    for row in rows_of(alloc, STEPS, 18)? {
         is_dropped_after_each::<S, S2>(alloc, row)?;
     }
     Ok(())

@@ -83,6 +83,11 @@ const LIMITED_TREES: &str = r#"
     u64 | {"limit":3,"pairs":[[7,2],[6,1]]} | 3 2 {"limit":3,"pairs":[[6,1],[7,2]]}
     Named | {"limit":2,"pairs":[[{"name":"Olaf"},2]]} | 2 1 {"limit":2,"pairs":[[{"name":"Olaf"},2]]}"#;
 
+// What bags of inserted texts and names are written as.
+const TEXTS: &str = r#"6 3 [["Einar",1],["Harald",3],["Olaf",2]]"#;
+
+const NAMES: &str = r#"6 3 [[{"name":"Einar"},1],[{"name":"Harald"},3],[{"name":"Olaf"},2]]"#;
+
 // Each error, its number and its text.
 const JSON_ERRORS: &str = "
     NotAnArray | 3 | not an array
@@ -221,6 +226,57 @@ fn trees_are_answered(rt: HostRuntime) -> Result<(), Fail> {
         }
     }
     Ok(())
+}
+
+// A bag of values inserted so often is written so, and read back as an equal one.
+fn inserted_are_written<T: JsonItem + Ord + Hash + Drop, S: BuildHasher + Default + Drop>(
+    rt: &impl Abort,
+    alloc: Global,
+    pairs: Vec<(T, usize)>,
+    wanted: &str,
+) -> Result<(), Fail> {
+    let mut bag: HashBag<T, S> = HashBag::default_in(alloc);
+    for (value, n) in pairs {
+        bag.insert_many(value, n)?;
+    }
+    is_text("inserted", written(alloc, &bag)?.as_str(), wanted)?;
+    is_read_again(rt, alloc, wanted, &bag)
+}
+
+fn text(alloc: Global, name: &str) -> Result<String, AllocError> {
+    String::from_str(alloc, name)
+}
+
+fn named(alloc: Global, name: &str) -> Result<Named, AllocError> {
+    Ok(Named {
+        name: text(alloc, name)?,
+    })
+}
+
+fn all_inserted_are_written<S: BuildHasher + Default + Drop>(
+    rt: &impl Abort,
+    alloc: Global,
+) -> Result<(), Fail> {
+    let numbers: Vec<(i64, usize)> = vec![in alloc; (-3, 2), (4, 1)]?;
+    inserted_are_written::<i64, S>(rt, alloc, numbers, "3 2 [[-3,2],[4,1]]")?;
+    let texts = vec![in alloc;
+        (text(alloc, "Einar")?, 1),
+        (text(alloc, "Olaf")?, 2),
+        (text(alloc, "Harald")?, 3),
+    ]?;
+    inserted_are_written::<String, S>(rt, alloc, texts, TEXTS)?;
+    let names = vec![in alloc;
+        (named(alloc, "Einar")?, 1),
+        (named(alloc, "Olaf")?, 2),
+        (named(alloc, "Harald")?, 3),
+    ]?;
+    inserted_are_written::<Named, S>(rt, alloc, names, NAMES)
+}
+
+#[test]
+fn inserted_values_are_written(rt: HostRuntime) -> Result<(), Fail> {
+    all_inserted_are_written::<FixedState>(&rt, rt.alloc())?;
+    all_inserted_are_written::<OneState>(&rt, rt.alloc())
 }
 
 fn push_often(text: &mut String, mark: char, times: usize) -> Result<(), AllocError> {

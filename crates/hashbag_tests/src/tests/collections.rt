@@ -144,7 +144,7 @@ const RUN_ROWS: &str = "\
     retain none = Done
     count 1 = Count(0)";
 
-// The rows of a run at the end of a `usize`.
+// The rows of a run at the end of a `usize`, which leaves one occurrence.
 const FULL_ROWS: &str = "\
     insert_many 1:18446744073709551615 = Count(0)
     or 2:0 = Count(0)
@@ -152,10 +152,7 @@ const FULL_ROWS: &str = "\
     insert_many 1:0 = Count(18446744073709551615)
     set 1:18446744073709551615 = Done
     replace 2 = TooMany
-    replace 1 = Count(18446744073709551615)
-    insert_many 2:18446744073709551614 = Count(0)
-    count 1 = Count(1)
-    insert_many 3:1 = TooMany";
+    replace 1 = Count(18446744073709551615)";
 
 // The step with a value and a number, as `5:2`.
 fn step_with_number(verb: &str, pair: &str) -> Result<Step<u64>, Fail> {
@@ -192,15 +189,16 @@ fn steps_of(alloc: Global, rows: &[&str]) -> Result<Vec<Step<u64>>, Fail> {
     Ok(steps)
 }
 
+// What a run on a new bag replies, and the total that it leaves.
 fn replies_of<S: BuildHasher + Drop>(
     alloc: Global,
     state: S,
     steps: Vec<Step<u64>>,
-) -> Result<Vec<Reply<u64>>, Fail> {
+) -> Result<(Vec<Reply<u64>>, usize), Fail> {
     let mut bag = HashBag::with_hasher(alloc, state);
     let mut replies = Vec::new(alloc);
     run(&mut bag, steps, &mut replies)?;
-    Ok(replies)
+    Ok((replies, bag.len()))
 }
 
 fn replies_in_a_run<S: BuildHasher + Drop>(
@@ -209,10 +207,11 @@ fn replies_in_a_run<S: BuildHasher + Drop>(
     state: S,
     text: &str,
     wanted: usize,
+    total: usize,
 ) -> Result<(), Fail> {
     let rows = rows_of(alloc, text, wanted)?;
-    let replies = replies_of(alloc, state, steps_of(alloc, rows.as_slice())?)?;
-    assert_eq!(rt; replies.len(), rows.len());
+    let (replies, len) = replies_of(alloc, state, steps_of(alloc, rows.as_slice())?)?;
+    assert_eq!(rt; (replies.len(), len), (rows.len(), total));
     for (row, reply) in rows.iter().zip(&replies) {
         let (_, want) = halves(row, " = ")?;
         is_text(row, debug_of(alloc, reply)?.as_str(), want)?;
@@ -228,8 +227,8 @@ fn collections_under<S: BuildHasher + Default + Copy>(
     make_rows(alloc, state, ROWS, 54)?;
     make_rows(alloc, state, EQUAL_ROWS, 22)?;
     clones::<S>(rt, alloc)?;
-    replies_in_a_run(rt, alloc, state, RUN_ROWS, 19)?;
-    replies_in_a_run(rt, alloc, state, FULL_ROWS, 10)
+    replies_in_a_run(rt, alloc, state, RUN_ROWS, 19, 0)?;
+    replies_in_a_run(rt, alloc, state, FULL_ROWS, 7, 1)
 }
 
 #[test]

@@ -143,8 +143,8 @@ fn compare_runs<T: Sample + Drop, S: BuildHasher + Drop, S2: BuildHasher + Drop>
     Ok(())
 }
 
-// Checks that the steps of two lists met each of these so often at least.
-fn met_enough(alloc: Global, met: &Met) -> Result<(), Fail> {
+// Checks that the steps of two lists met each of these so often at least, and the end of a `usize` so often.
+fn met_enough(alloc: Global, met: &Met, at_end: usize) -> Result<(), Fail> {
     let seen = [
         (met.growths, 30),
         (met.carries, 10),
@@ -152,6 +152,7 @@ fn met_enough(alloc: Global, met: &Met) -> Result<(), Fail> {
         (met.reused, 80),
         (met.too_many, 100),
         (met.full, 100),
+        (met.at_end, at_end),
         (met.below_total, 10),
     ];
     let kinds = met.kinds.iter().all(|count| *count >= 8);
@@ -172,7 +173,7 @@ fn compare_under<T: Sample + Drop, S: BuildHasher + Copy, S2: BuildHasher + Copy
         let mut b = new_pair::<T, S2>(alloc, second, other_times)?;
         let mut met = Met::new();
         compare_runs(alloc, &mut a, &mut b, &mut met)?;
-        met_enough(alloc, &met)?;
+        met_enough(alloc, &met, if times == 0 { 0 } else { 100 })?;
     }
     Ok(())
 }

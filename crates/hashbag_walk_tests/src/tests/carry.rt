@@ -101,6 +101,7 @@ fn items<S: BuildHasher + Drop>(
     are_all(alloc, "iter", got)
 }
 
+// So many values, and then the others, of a clone.
 fn values<S: BuildHasher + Drop>(
     rt: &impl Abort,
     alloc: Global,
@@ -112,7 +113,7 @@ fn values<S: BuildHasher + Drop>(
     for (value, _) in first_items(rt, alloc, "set_iter", &mut walk, taken)? {
         got.push(*value)?;
     }
-    for (value, _) in walk {
+    for (value, _) in walk.clone()? {
         got.push(*value)?;
     }
     are_all(alloc, "set_iter", got)

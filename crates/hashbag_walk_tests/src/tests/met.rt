@@ -16,6 +16,8 @@ pub struct State {
     removed: usize,
     // How many occurrences more the limit allows.
     left: usize,
+    // How many more a `usize` allows.
+    to_end: usize,
 }
 
 /// The tables of a bag.
@@ -28,6 +30,7 @@ pub fn state_of<T: Eq + Hash + Drop, S: BuildHasher + Drop>(bag: &HashBag<T, S>)
         room,
         removed: most.saturating_sub(room).saturating_sub(values),
         left: bag.limit() - bag.len(),
+        to_end: usize::MAX - bag.len(),
     }
 }
 
@@ -44,6 +47,8 @@ pub struct Met {
     pub reused: usize,
     /// Steps after which the total is the limit.
     pub full: usize,
+    /// Steps after which the total is at the end of a `usize`.
+    pub at_end: usize,
     /// `TooMany`.
     pub too_many: usize,
     /// `BelowTotal`.
@@ -88,6 +93,7 @@ impl Met {
             removed: 0,
             reused: 0,
             full: 0,
+            at_end: 0,
             too_many: 0,
             below_total: 0,
             kinds: [0; KINDS],
@@ -111,6 +117,7 @@ impl Met {
         raise(&mut self.removed, after.removed > before.removed);
         raise(&mut self.reused, reused);
         raise(&mut self.full, after.left == 0);
+        raise(&mut self.at_end, after.to_end == 0);
         raise(&mut self.too_many, *reply == Reply::TooMany);
         raise(&mut self.below_total, *reply == Reply::BelowTotal);
     }
