@@ -1,6 +1,7 @@
 //! How many bytes a bag and its walks have themselves.
 use hashbag::{Drain, FixedState, HashBag, IntoIter, Iter, SetIter};
 use hashbag_bench::OneState;
+use std::fs;
 use std::test::Fail;
 
 #[test]
@@ -20,6 +21,31 @@ fn sizes_of_bags_and_walks(_rt: HostRuntime) -> Result<(), Fail> {
         if size != want {
             return Err(Fail::new(format_args!("{name} has {size} bytes")));
         }
+    }
+    Ok(())
+}
+
+// How many pages the process may address. Where that is past all memory, as where each access is checked, nothing is answered.
+fn pages(rt: &HostRuntime) -> Result<Option<usize>, Fail> {
+    let text = fs::read_to_string(rt, "/proc/self/statm")?;
+    let number = text.split_whitespace().next().unwrap_or("");
+    let pages: usize = number.parse().unwrap_or(0);
+    Ok(Some(pages).filter(|pages| *pages < 1 << 30))
+}
+
+// A table of 2^20 slots has a byte for each slot, and room for a number with its count: 17 bytes.
+#[test]
+fn bytes_of_a_table(rt: HostRuntime) -> Result<(), Fail> {
+    let before = pages(&rt)?;
+    let bag: HashBag<u64> = HashBag::with_capacity(rt.alloc(), 700_000)?;
+    let after = pages(&rt)?;
+    let (Some(before), Some(after)) = (before, after) else {
+        return Ok(());
+    };
+    let bytes = after.saturating_sub(before).saturating_mul(4096);
+    let each = bytes.saturating_add(bag.slots() / 2) / bag.slots().max(1);
+    if each != 17 {
+        return Err(Fail::new(format_args!("{each} bytes a slot")));
     }
     Ok(())
 }
