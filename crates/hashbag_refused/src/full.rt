@@ -105,14 +105,13 @@ fn in_a_carry(alloc: Global, values: &Values, refusals: &mut Refusals) -> Result
 type After = (usize, usize, usize);
 
 // Calls that ask for memory on a bag with no room, with what it has where they are refused and where they are done.
-const CALLS: [(&str, After, After); 8] = [
+const CALLS: [(&str, After, After); 7] = [
     ("insert_many", (1, 0, 12), (1, 2, 14)),
     ("replace", (1, 0, 12), (1, 1, 13)),
-    ("or_insert_many", (1, 0, 12), (1, 3, 15)),
     ("extend", (2, 0, 13), (3, 1, 16)),
     ("extend_many", (3, 0, 14), (3, 4, 18)),
     ("extend_refs", (2, 0, 13), (3, 1, 16)),
-    ("extend_refs_many", (3, 0, 14), (3, 4, 18)),
+    ("extend_refs_many", (3, 0, 14), (5, 2, 20)),
     ("reserve", (1, 0, 12), (1, 0, 12)),
 ];
 
@@ -126,11 +125,24 @@ fn done(answer: Result<usize, BagError>) -> Result<(), BagError> {
 
 // Makes an extend by values that are lent.
 fn lent<'a>(bag: &mut Bag<'a>, values: &'a Values, call: &str) -> Result<(), BagError> {
-    let (nine, thirteen, last) = (values.value(9), values.value(13), values.value(14));
+    let items = [
+        values.value(9),
+        values.value(13),
+        values.value(9),
+        values.value(14),
+    ];
     match call {
-        "extend_refs" => bag.extend_refs([&nine, &thirteen, &nine, &last].into_iter()),
-        _ => bag.extend_refs_many([(&nine, 2), (&thirteen, 4)].into_iter()),
+        "extend_refs" => by_each(bag, &items),
+        _ => by_two_of_each(bag, &items),
     }
+}
+
+fn by_each<'a>(bag: &mut Bag<'a>, items: &[Counted<'a>]) -> Result<(), BagError> {
+    bag.extend_refs(items.iter())
+}
+
+fn by_two_of_each<'a>(bag: &mut Bag<'a>, items: &[Counted<'a>]) -> Result<(), BagError> {
+    bag.extend_refs_many(items.iter().map(|item| (item, 2)))
 }
 
 // Makes a call.
@@ -142,7 +154,6 @@ fn made<'a>(bag: &mut Bag<'a>, values: &'a Values, call: &str) -> Result<(), Bag
     match call {
         "insert_many" => done(bag.insert_many(thirteen, 2)),
         "replace" => done(bag.replace(thirteen)),
-        "or_insert_many" => done(bag.entry(thirteen).or_insert_many(3)),
         "extend" => bag.extend([nine, thirteen, values.value(9), values.value(14)].into_iter()),
         "extend_many" => bag.extend_many([(nine, 2), (thirteen, 4)].into_iter()),
         _ => bag.reserve(40),
@@ -178,6 +189,26 @@ fn without_room(
     )?;
     let again = insert(&mut bag, values, 13, refusals)?;
     check(again == Some(0), "a call without room: with memory again")
+}
+
+// An entry on a bag of numbers with no room. Where it is refused no slot changes.
+fn entry_without_room(alloc: Global, refusals: &mut Refusals) -> Result<(), Wrong> {
+    let mut bag: HashBag<u64, OneState> = HashBag::with_hasher(alloc, OneState);
+    for value in 1..=12 {
+        if refusals.answer(bag.insert(value))?.is_none() {
+            return Ok(());
+        }
+    }
+    let answer = refusals.answer(bag.entry(13).or_insert_many(3))?;
+    let wanted = if answer == Some(3) {
+        ((32, 0, 11), 3, 15)
+    } else {
+        ((16, 0, 0), 0, 12)
+    };
+    check(
+        (tables_of(&bag), bag.contains(&13), bag.len()) == wanted,
+        "an entry without room",
+    )
 }
 
 fn two_insertions<'a>(
@@ -285,6 +316,7 @@ pub fn full_bags(alloc: Global, refusals: &mut Refusals) -> Result<(), Wrong> {
         without_room(alloc, &values, call, refusals)?;
         values.are_gone()?;
     }
+    entry_without_room(alloc, refusals)?;
     run_without_room(alloc, &values, refusals)?;
     values.are_gone()?;
     collected(alloc, &values, refusals)?;
