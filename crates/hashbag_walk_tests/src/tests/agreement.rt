@@ -52,8 +52,10 @@ fn bag_reply<T: Sample + Drop, S: BuildHasher + Drop>(
     bag: &mut HashBag<T, S>,
     step: Step<T>,
 ) -> Result<Reply<T>, Fail> {
+    let mut steps = Vec::new(alloc);
+    steps.push(step)?;
     let mut replies = Vec::new(alloc);
-    run(bag, vec![in alloc; step]?, &mut replies)?;
+    run(bag, steps, &mut replies)?;
     match replies.pop() {
         Some(reply) => Ok(reply),
         None => Err(Fail::new("a step with no reply")),

@@ -148,7 +148,11 @@ pub fn with_ballast<T: Sample + Drop>(
     }
     Ok(match step {
         Step::Limit(most) => Step::Limit(most.saturating_add(count)),
-        Step::Clear => Step::Retain(vec![in alloc; (ballast(), usize::MAX)]?),
+        Step::Clear => {
+            let mut list = Vec::new(alloc);
+            list.push((ballast(), usize::MAX))?;
+            Step::Retain(list)
+        }
         Step::Retain(mut list) => {
             list.push((ballast(), usize::MAX))?;
             Step::Retain(list)
