@@ -6,10 +6,10 @@ ghost use Rattle.hashbag.specs.Tables.{room};
 use hashbag::{BagError, HashBag};
 use std::hash::{BuildHasher, Hash};
 
-/// Inserts all values, or none.
+/// Inserts the values in turn, up to the first that the limit refuses.
 ///
-/// It makes room for all of them before the first, and sees to it that the total fits: no insertion is refused then, which is
-/// proved, and where there was room before the number of slots stays. Where it is refused the bag is unchanged.
+/// It makes room for all of them before the first: memory is refused there, where nothing has changed yet, or not at all. No total
+/// is tested here. Where the limit refuses a value the bag is full: the values before it are in, and nothing is lost.
 pub fn insert_all<T: Eq + Hash + Drop, S: BuildHasher + Drop>(
     bag: &mut HashBag<T, S>,
     values: Vec<T>,
@@ -17,23 +17,22 @@ pub fn insert_all<T: Eq + Hash + Drop, S: BuildHasher + Drop>(
     ensures counts { OnOk result ((v : T) → count T.eq v bag.new.items ≡ count T.eq v bag.old.items + count T.eq v values.items) }
     ensures len { OnOk result (length bag.new.items ≡ length bag.old.items + length values.items) }
     ensures slots { OnOk result (length values.items ≤ room bag.old.tables → length bag.new.tables.newer ≡ length bag.old.tables.newer) }
-    ensures err { OnErr result (bag.new ≡ bag.old) }
+    ensures none_lost { OnErr result ((v : T) → count T.eq v bag.old.items ≤ count T.eq v bag.new.items) }
+    ensures full { result ≡ Err BagError.TooMany → length bag.new.items ≡ bag.old.most }
     ensures too_many { result ≡ Err BagError.TooMany → bag.old.most < length bag.old.items + length values.items }
+    ensures err { result ≡ Err BagError.Memory → bag.new ≡ bag.old }
     ensures memory { result ≡ Err BagError.Memory → room bag.old.tables < length values.items }
 {
-    if values.len() > bag.limit() - bag.len() {
-        return Err(BagError::TooMany);
-    }
     bag.reserve(values.len())?;
     for value in values {
-        let _ = bag.insert(value).unwrap();
+        bag.insert(value)?;
     }
     Ok(())
 }
 
-/// Inserts all values by one extend, or none: [`insert_all`] without a loop.
+/// Inserts all values, or none, by one extend.
 ///
-/// With the room made and the total within the limit, the extend is refused nothing and builds no table, which is proved.
+/// With the room made and the total seen to fit, the extend is refused nothing and builds no table, which is proved.
 pub fn extend_all<T: Eq + Hash + Drop, S: BuildHasher + Drop>(
     bag: &mut HashBag<T, S>,
     values: Vec<T>,

@@ -22,18 +22,23 @@ loop-value-preserved g c =
     let was = at.invariant.long in
     let enough = at.invariant.room in
     let some : 0 < room at.bag.tables = omega arith in
-    let inserted = rw c.unwrap.ensures at c.insert.ensures.inserted in
+    let inserted = c.in_ok-insert.ensures.inserted in
     let now = inserted.less_room some in
     let more = inserted.len in
     let whole = at.invariant.len in
-    let within = at.invariant.fits in
     let limit = inserted.added.limit in
+    let is_bag = inserted.added.bag in
     record {
       long = omega arith;
       room = omega arith;
       slots = inserted.slots some ∙ at.invariant.slots;
       len = omega arith;
-      fits = omega arith;
+      limit = limit ∙ at.invariant.limit;
+      within = omega (arith, is_bag.fits);
+      none_lost = λ v.
+          let one = count_inserted_any g.met.T.Eq.laws at.bag c.insert.new.self v x 1 inserted.added in
+          let before = at.invariant.none_lost v in
+          omega arith;
       counts = λ v.
           let before = at.invariant.counts v in
           let one = count_inserted_any g.met.T.Eq.laws at.bag c.insert.new.self v x 1 inserted.added in

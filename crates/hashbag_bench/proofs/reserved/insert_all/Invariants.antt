@@ -11,6 +11,8 @@ invariant-loop-value g l = record {
   room : into_iter_len l.value-iterator ≤ room l.bag.tables;
   slots : length l.bag.tables.newer ≡ length l.initial.bag.tables.newer;
   len : length l.bag.items + length (into_iter_items l.value-iterator) ≡ length l.initial.bag.items + length (into_iter_items l.initial.value-iterator);
-  fits : length l.bag.items + length (into_iter_items l.value-iterator) ≤ l.bag.most;
+  limit : l.bag.most ≡ l.initial.bag.most;
+  within : length l.bag.items ≤ l.bag.most;
+  none_lost : (v : g.row.T.Denot) → count g.T.PartialEq.eq v l.initial.bag.items ≤ count g.T.PartialEq.eq v l.bag.items;
   counts : (v : g.row.T.Denot) → count g.T.PartialEq.eq v l.bag.items + count g.T.PartialEq.eq v (into_iter_items l.value-iterator) ≡ count g.T.PartialEq.eq v l.initial.bag.items + count g.T.PartialEq.eq v (into_iter_items l.initial.value-iterator);
 }
