@@ -1,4 +1,4 @@
-use Rattle.std.proofs.Common.{◌≡◌, ◌+◌, ◌≤◌, ℕ, List, length, sym, ◌∙◌, ap, arith, rules}
+use Rattle.std.proofs.Common.{ℕ, List, length, sym, ◌∙◌, ap, arith, rules}
 use Rattle.std.proofs.lemmas.Iterator.Adapters.{YieldsList-from_vec}
 use Rattle.std.proofs.lemmas.List.{map-id}
 use Rattle.hashbag.proofs.CallerLemmas.{items_that_came}

@@ -1,6 +1,8 @@
-use Rattle.std.proofs.Common.{◌≡◌, ◌+◌, ◌≤◌, ◌<◌, ◌∷◌, [], ℕ, Bool, List, cond, length, refl, sym, ◌∙◌, ap, arith}
+use Rattle.std.proofs.Common.{◌≡◌, ◌+◌, ◌<◌, ◌∷◌, [], ℕ, List, cond, length, sym, ◌∙◌, ap, arith}
 use Rattle.std.specs.Vec.Iter.{into_iter_items, into_iter_len}
 use Rattle.std.proofs.lemmas.List.{nil_from_length}
+use Rattle.std.proofs.lemmas.Result.{err_from_is_err_and}
+use Rattle.hashbag.specs.Bag.{Bag}
 use Rattle.hashbag.specs.Occurrences.{count}
 use Rattle.hashbag.specs.EqualityLaws.{count_append}
 use Rattle.hashbag.specs.Tables.{room}
@@ -56,3 +58,13 @@ returns-clause-counts g c = λ v.
     let values = ap (λ (l : List _). count eq v l) c.into_iter-value-iterator.ensures.into_iter_gives.0 in
     let kept = count_kept g.met.T.Eq.laws c.args.bag.now c.reserve.new.self v c.in_ok-reserve.ensures.kept in
     omega arith
+
+pub returns-in_err-insert-clause-none_lost : goal.returns-in_err-insert-clause-none_lost
+returns-in_err-insert-clause-none_lost g c =
+    let error = err_from_is_err_and c.from_residual-in_err-insert.result c.from_residual-in_err-insert.ensures.1 in
+    rw error.1
+    (λ v.
+    let so_far = c.loop-value.invariant.none_lost v in
+    let kept = count_kept g.met.T.Eq.laws c.args.bag.now c.reserve.new.self v c.in_ok-reserve.ensures.kept in
+    let same = ap (λ (bag : Bag g.row.T.Denot g.row.S.Denot). count g.T.PartialEq.eq v bag.items) c.in_err-insert.ensures.err in
+    omega arith)

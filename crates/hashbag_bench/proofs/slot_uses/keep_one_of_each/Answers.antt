@@ -1,6 +1,5 @@
-use Rattle.std.proofs.Common.{◌≡◌, false, sym, ap, subst, ◌∙◌}
+use Rattle.std.proofs.Common.{ap, ◌∙◌}
 use Rattle.hashbag.specs.Retained.{slot_kept}
-use Rattle.hashbag.specs.Slots.{is_live}
 use Rattle.hashbag_bench.proofs.SlotUseLemmas.{dead_kept}
 use Rattle.hashbag_bench.proofs.slot_uses.keep_one_of_each.Goals as goal
 

@@ -1,7 +1,6 @@
 use Rattle.std.proofs.Common.{◌≡◌, ◌+◌, ◌-◌, ◌++◌, length, take, replicate, ◌∙◌, ap, arith, rules}
 use Rattle.std.proofs.lemmas.List.{take_all}
 use Rattle.hashbag.specs.Occurrences.{others}
-use Rattle.hashbag_bench.specs.Plain.{Plain}
 use Rattle.hashbag_bench.proofs.plain.PlainBag.put.Goals as goal
 
 pub returns-clause-put : goal.returns-clause-put
