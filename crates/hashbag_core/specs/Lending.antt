@@ -5,7 +5,7 @@ use Rattle.std.specs.HashMap.Lent.{HashMembers}
 use Rattle.std.specs.declared.hash.Hasher as hasher
 use Rattle.std.specs.declared.hash.BuildHasher as builder
 use mathlib.Core.Option.{none}
-use Rattle.hashbag_table.specs.Tables.{room}
+use Rattle.hashbag_table.specs.Tables.{KeepsRoom}
 use Rattle.hashbag_core.specs.Bag.{Bag, IsBagOf}
 use Rattle.hashbag_core.specs.Held.{Recounts}
 use Rattle.hashbag_core.specs.Occurrences.{count, less}
@@ -16,8 +16,7 @@ pub record HasOneFewer {T S : Type 0} (eq : T → T → Bool) (v : T) (before af
   pub left : IsBagOf eq before (less eq v 1 before.items) after
   pub slot : 0 < count eq v before.items → Recounts eq v (count eq v before.items - 1) before.tables after.tables
   pub none : count eq v before.items ≡ 0 → after ≡ before
-  pub slots : length after.tables.newer ≡ length before.tables.newer
-  pub room : room before.tables ≤ room after.tables
+  pub room : KeepsRoom 0 before.tables after.tables
 
 module _ (T S H : RattleType) (key : HashMembers T.Denot) (build : builder.Ghosts S.Denot H.Denot) (hash : hasher.Ghosts H.Denot) where
   -- the bag's type, as the logic holds it

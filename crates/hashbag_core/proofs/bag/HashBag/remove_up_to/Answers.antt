@@ -7,9 +7,6 @@ returns-clause-slot g c = c.take_up_to.ensures.slot
 pub returns-clause-none : goal.returns-clause-none
 returns-clause-none g c = c.take_up_to.ensures.none
 
-pub returns-clause-slots : goal.returns-clause-slots
-returns-clause-slots g c = c.take_up_to.ensures.slots
-
 pub returns-clause-room : goal.returns-clause-room
 returns-clause-room g c = c.take_up_to.ensures.room
 

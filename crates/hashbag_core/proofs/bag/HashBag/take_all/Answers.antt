@@ -93,14 +93,8 @@ returns-clause-none g c = λ none.
     let some = stored_some g.met.T.Eq.laws c.args.value.now (occurrences c.self.inside.table.entries) _ (c.in_ok-instance.ensures.taken ∙ sym (stored_occurrences g.met.T.Eq.laws c.args.value.now _ c.self.invariant.counted)) in
     absurd (omega (arith, is_none, some))
 
-pub returns-in_err-instance-clause-slots : goal.returns-in_err-instance-clause-slots
-returns-in_err-instance-clause-slots g c = rw (← c.self.view_is) c.remove.ensures.slots
-
 pub returns-in_err-instance-clause-room : goal.returns-in_err-instance-clause-room
 returns-in_err-instance-clause-room g c = rw (← c.self.view_is) c.remove.ensures.room
-
-pub returns-clause-slots : goal.returns-clause-slots
-returns-clause-slots g c = rw (← c.self.view_is) c.remove.ensures.slots
 
 pub returns-clause-room : goal.returns-clause-room
 returns-clause-room g c = rw (← c.self.view_is) c.remove.ensures.room

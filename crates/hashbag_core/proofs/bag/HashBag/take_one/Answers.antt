@@ -109,14 +109,8 @@ returns-in-Err-clause-none g c = λ none.
     let before : c.in-Err.before ≡ count g.T.PartialEq.eq c.args.value.now (occurrences c.self.inside.table.entries) = c.in-Err.ensures.others.0 ∙ sym (count_occurrences g.met.T.Eq.laws c.args.value.now _ c.self.invariant.counted.distinct) in
     rw (← c.self.view_is) (ap (shown c.self.inside.most) (c.in-Err.ensures.none (before ∙ is_none)))
 
-pub returns-in-Ok-clause-slots : goal.returns-in-Ok-clause-slots
-returns-in-Ok-clause-slots g c = rw (← c.self.view_is) c.take_one.ensures.slots
-
 pub returns-in-Ok-clause-room : goal.returns-in-Ok-clause-room
 returns-in-Ok-clause-room g c = rw (← c.self.view_is) c.take_one.ensures.room
-
-pub returns-in-Err-clause-slots : goal.returns-in-Err-clause-slots
-returns-in-Err-clause-slots g c = rw (← c.self.view_is) c.take_one.ensures.slots
 
 pub returns-in-Err-clause-room : goal.returns-in-Err-clause-room
 returns-in-Err-clause-room g c = rw (← c.self.view_is) c.take_one.ensures.room

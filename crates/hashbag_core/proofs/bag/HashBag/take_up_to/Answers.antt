@@ -51,8 +51,5 @@ returns-clause-none g c = λ none.
     let before : c.take-before.result ≡ count g.T.PartialEq.eq c.args.value.now (occurrences c.self.inside.table.entries) = c.take-before.ensures.before ∙ sym (count_occurrences g.met.T.Eq.laws c.args.value.now _ c.self.invariant.counted.distinct) in
     rw (← c.self.view_is) (ap (shown c.self.inside.most) (c.take-before.ensures.none (before ∙ is_none)))
 
-pub returns-clause-slots : goal.returns-clause-slots
-returns-clause-slots g c = rw (← c.self.view_is) c.take-before.ensures.slots
-
 pub returns-clause-room : goal.returns-clause-room
 returns-clause-room g c = rw (← c.self.view_is) c.take-before.ensures.room

@@ -698,7 +698,7 @@ module _ (T S H : RattleType) (lT : Laws T) (lS : Laws S) (lH : Laws H) (e : EqG
               let several = one.1.1.1.0 in
               let bag = one.1.1.1.1.0 in
               let rest = answered.5 in
-              let fewer : HasOneFewer (read PartialEqGhosts.eq p) a.1.0.now a.0.now taken.2.0 = record { left = left; slot = one.1.1.1.1.1.0; none = one.1.1.1.1.1.1.0; slots = one.1.1.1.1.1.1.1.0; room = one.1.1.1.1.1.1.1.1 } in
+              let fewer : HasOneFewer (read PartialEqGhosts.eq p) a.1.0.now a.0.now taken.2.0 = record { left = left; slot = one.1.1.1.1.1.0; none = one.1.1.1.1.1.1.0; room = one.1.1.1.1.1.1.1 } in
               (fewer, answer_of laws (λ f. (f.0.now, f.1)) a.1.0.now a.0.now.items taken.2.0.items bag left.bag left.means taken.1 answered.1 last several rest.0 rest.1.0 rest.1.1),
         ),
       ),
