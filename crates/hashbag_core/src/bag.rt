@@ -8,10 +8,10 @@ ghost use Rattle.hashbag_table.specs.Entries.{count_of, IsCounted, HasClones};
 ghost use Rattle.hashbag_table.specs.Tables.{limit, room, values, IsLeast, IsPacked, ReservesOrStays, ShrinksOrStays, Arrives, KeepsRoom, NoneMoved};
 ghost use Rattle.hashbag_table.specs.Retained.{RetainsTables};
 ghost use Rattle.hashbag_core.specs.Bag.{occurrences, limited};
-ghost use Rattle.hashbag_core.specs.Occurrences.{greatest_total, count, counted, stored, add, less, put, instance_or_itself, distinct_count, IsBag, SameCounts};
+ghost use Rattle.hashbag_core.specs.Occurrences.{greatest_total, count, counted, stored, add, put, instance_or_itself, distinct_count, IsBag, SameCounts};
 ghost use Rattle.hashbag_core.specs.Extends.{Refuses};
 ghost use Rattle.hashbag_core.specs.Inserts.{Inserts, IsRefused};
-ghost use Rattle.hashbag_core.specs.Held.{no_slots, cleared, AreHeld, Recounts, Restores};
+ghost use Rattle.hashbag_core.specs.Held.{no_slots, cleared, AreHeld, HasFewer, Recounts, Restores};
 ghost use Rattle.hashbag_core.specs.Retain.{IsRetained};
 ghost use Rattle.hashbag_core.specs.Walks.{IsSetWalkOf};
 ghost use Rattle.hashbag_table.specs.declared.table.TheConstants.{MOST_VALUES};
@@ -408,11 +408,8 @@ impl<T: Eq + Hash + Drop, S: BuildHasher + Drop> HashBag<T, S> {
     /// It takes no memory, and hashes the value once.
     pub fn remove(&mut self, value: &T) -> usize
         ensures before { result ≡ count T.eq value.now self.old.items }
-        ensures removed { IsBagOf T.eq self.old (less T.eq value.now 1 self.old.items) self.new }
+        ensures fewer { HasFewer T.eq value.now 1 self.old self.new }
         ensures len { length self.new.items + min result 1 ≡ length self.old.items }
-        ensures slot { 0 < count T.eq value.now self.old.items → Recounts T.eq value.now (count T.eq value.now self.old.items - 1) self.old.tables self.new.tables }
-        ensures none { count T.eq value.now self.old.items ≡ 0 → self.new ≡ self.old }
-        ensures room { KeepsRoom 0 self.old.tables self.new.tables }
     {
         self.take_up_to(value, 1)
     }
@@ -423,11 +420,8 @@ impl<T: Eq + Hash + Drop, S: BuildHasher + Drop> HashBag<T, S> {
     /// It takes no memory, and hashes the value once.
     pub fn remove_up_to(&mut self, value: &T, quantity: usize) -> usize
         ensures after { result ≡ count T.eq value.now self.old.items - quantity }
-        ensures removed { IsBagOf T.eq self.old (less T.eq value.now quantity self.old.items) self.new }
+        ensures fewer { HasFewer T.eq value.now quantity self.old self.new }
         ensures len { length self.new.items + count T.eq value.now self.old.items ≡ length self.old.items + result }
-        ensures slot { 0 < count T.eq value.now self.old.items → Recounts T.eq value.now (count T.eq value.now self.old.items - quantity) self.old.tables self.new.tables }
-        ensures none { count T.eq value.now self.old.items ≡ 0 → self.new ≡ self.old }
-        ensures room { KeepsRoom 0 self.old.tables self.new.tables }
     {
         self.take_up_to(value, quantity).saturating_sub(quantity)
     }
@@ -435,11 +429,8 @@ impl<T: Eq + Hash + Drop, S: BuildHasher + Drop> HashBag<T, S> {
     // Takes `quantity` occurrences of a value, or all where they are fewer, and answers how many there were.
     fn take_up_to(&mut self, value: &T, quantity: usize) -> usize
         ensures before { result ≡ count T.eq value.now self.old.items }
-        ensures removed { IsBagOf T.eq self.old (less T.eq value.now quantity self.old.items) self.new }
+        ensures fewer { HasFewer T.eq value.now quantity self.old self.new }
         ensures len { length self.new.items + min result quantity ≡ length self.old.items }
-        ensures slot { 0 < count T.eq value.now self.old.items → Recounts T.eq value.now (count T.eq value.now self.old.items - quantity) self.old.tables self.new.tables }
-        ensures none { count T.eq value.now self.old.items ≡ 0 → self.new ≡ self.old }
-        ensures room { KeepsRoom 0 self.old.tables self.new.tables }
     {
         let before = self.table.take(value, quantity);
         self.len -= before.min(quantity);
@@ -488,14 +479,11 @@ impl<T: Eq + Hash + Drop, S: BuildHasher + Drop> HashBag<T, S> {
     /// It is [`HashBag::try_take`] without the loan of the instance that stays, so its contract says what the bag means
     /// afterwards. It takes no memory, and hashes the value once.
     pub fn take_one(&mut self, value: &T) -> Result<T, usize>
-        ensures taken { IsBagOf T.eq self.old (less T.eq value.now 1 self.old.items) self.new }
+        ensures fewer { HasFewer T.eq value.now 1 self.old self.new }
         ensures len { MatchResult result (λ _. length self.new.items + 1 ≡ length self.old.items) (λ before. length self.new.items + min before 1 ≡ length self.old.items) }
         ensures last { IfOk result (λ instance. stored T.eq value.now self.old.items ≡ Some (instance, 1)) }
         ensures others { IfErr result (λ before. (before ≡ count T.eq value.now self.old.items) × (before ≢ 1)) }
         ensures bag { IsBag T.eq self.old.most self.old.items }
-        ensures slot { 0 < count T.eq value.now self.old.items → Recounts T.eq value.now (count T.eq value.now self.old.items - 1) self.old.tables self.new.tables }
-        ensures none { count T.eq value.now self.old.items ≡ 0 → self.new ≡ self.old }
-        ensures room { KeepsRoom 0 self.old.tables self.new.tables }
     {
         match self.table.take_one(value) {
             Ok(instance) => {
@@ -513,11 +501,8 @@ impl<T: Eq + Hash + Drop, S: BuildHasher + Drop> HashBag<T, S> {
     /// memory, and hashes the value once.
     pub fn take_all(&mut self, value: &T) -> Option<(T, usize)>
         ensures taken { result ≡ stored T.eq value.now self.old.items }
-        ensures left { IsBagOf T.eq self.old (less T.eq value.now (count T.eq value.now self.old.items) self.old.items) self.new }
+        ensures fewer { HasFewer T.eq value.now (count T.eq value.now self.old.items) self.old self.new }
         ensures len { MatchOption result (length self.new.items ≡ length self.old.items) (λ taken. length self.new.items + taken.1 ≡ length self.old.items) }
-        ensures slot { 0 < count T.eq value.now self.old.items → Recounts T.eq value.now 0 self.old.tables self.new.tables }
-        ensures none { count T.eq value.now self.old.items ≡ 0 → self.new ≡ self.old }
-        ensures room { KeepsRoom 0 self.old.tables self.new.tables }
     {
         let (instance, count) = self.table.remove(value)?;
         self.len -= count;

@@ -5,7 +5,7 @@ use Rattle.std.specs.List.{list_any}
 use Rattle.std.specs.List.Sorted.{IsPermutation}
 use Rattle.std.proofs.lemmas.List.Folds.{list_any-append}
 use Rattle.std.proofs.lemmas.List.Sorted.{list_any-IsPermutation, IsPermutation-refl}
-use Rattle.hashbag_table.specs.Tables.{Tables, limit, room, values, grown_slots, Arrives, KeepsRoom}
+use Rattle.hashbag_table.specs.Tables.{Tables, room, values, grown_slots, Arrives, KeepsRoom}
 use Rattle.hashbag_table.proofs.RoomKeptLemmas.{keeps_as, keeps_more, keeps_Arrives}
 use Rattle.std.proofs.lemmas.Bool.{cases_lt}
 use Rattle.std.proofs.lemmas.List.{length-replicate}

@@ -1,8 +1,7 @@
-use Rattle.std.proofs.Common.{◌≡◌, ◌+◌, ◌<◌, ◌≤◌, length, sym, ◌∙◌, ap, subst, arith}
+use Rattle.std.proofs.Common.{◌+◌, ◌<◌, ◌≤◌, length, sym, ◌∙◌, ap, subst, arith}
 use Rattle.std.proofs.lemmas.Bool.{false≢true}
 use Rattle.hashbag_core.proofs.ExtendLemmas.{refuses_memory}
 use Rattle.hashbag_core.specs.declared.bag.BagError.{BagError}
-use Rattle.hashbag_core.specs.declared.bag.BagError.TheVariants.{TooMany}
 use Rattle.hashbag_core.specs.Extends.{Refuses}
 use Rattle.hashbag_script.proofs.RoomLemmas.{moves_inserted, one_inserted}
 use Rattle.hashbag_script.proofs.RowLemmas.{row_kept, insert_row-passes}

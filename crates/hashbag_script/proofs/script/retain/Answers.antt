@@ -1,4 +1,4 @@
-use Rattle.std.proofs.Common.{◌≡◌, refl, rules, arith}
+use Rattle.std.proofs.Common.{◌≡◌, refl, rules}
 use Rattle.hashbag_script.specs.Rows.{quota}
 use Rattle.hashbag_script.proofs.QuotaLemmas.{quota_congr, retained_of_bag}
 use Rattle.hashbag_core.proofs.RetainLemmas.{answers_are}
