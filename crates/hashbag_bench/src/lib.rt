@@ -9,6 +9,7 @@ pub mod json_uses;
 pub mod ledger;
 pub mod named;
 pub mod plain;
+pub mod record_uses;
 pub mod reserved;
 pub mod run_uses;
 pub mod slot_uses;

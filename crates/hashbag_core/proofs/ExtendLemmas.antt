@@ -1,17 +1,12 @@
 -- Adding the items that come, one after another.
-use Rattle.std.proofs.Common.{◌≡◌, ℕ, ◌+◌, ◌<◌, ◌≤◌, Bool, List, [], ◌∷◌, ◌++◌, length, sum_by, Result, Ok, Err, IfErr, IsErrAnd, refl, sym, ◌∙◌, subst, arith}
+use Rattle.std.proofs.Common.{◌≡◌, ℕ, ◌+◌, ◌<◌, ◌≤◌, Bool, List, [], ◌∷◌, ◌++◌, length, sum_by, Result, Ok, Err, IfErr, IsErrAnd, refl, sym, subst, arith}
 use Rattle.std.specs.Cmp.{IsEquivalence}
 use Rattle.std.specs.List.{AllZip}
-use Rattle.std.specs.List.Sorted.{IsPermutation}
-use Rattle.std.proofs.lemmas.List.Sorted.{IsPermutation-refl, IsPermutation-sym, IsPermutation-trans, length_permutation}
 use Rattle.std.proofs.lemmas.List.Sums.{sum_by-cons}
-use Rattle.hashbag_table.proofs.CloneLemmas.{zip_more}
 use Rattle.hashbag_core.specs.declared.bag.BagError.{BagError}
 use Rattle.hashbag_core.specs.declared.bag.BagError.TheVariants.{Memory, TooMany, BelowTotal}
-use Rattle.hashbag_core.specs.Bag.{Bag, IsBagOf}
-use Rattle.hashbag_core.specs.Occurrences.{count, add, IsBag}
+use Rattle.hashbag_core.specs.Occurrences.{count, add}
 use Rattle.hashbag_core.specs.Extends.{add_all, Refuses, RefusesClones}
-use Rattle.hashbag_core.proofs.OccurrenceLemmas.{add_rearranged, bag_rearranged, count_rearranged, length_added}
 
 -- an error that `?` hands on
 pub handed_on : {A E : Type 0} (r : Result A E) (e : E) (Q P : E → Type 0) → ((x : E) → Q x → x ≡ e) → IsErrAnd r Q → P e → IfErr r P

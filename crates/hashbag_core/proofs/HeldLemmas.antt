@@ -8,9 +8,7 @@ use Rattle.hashbag_slots.specs.declared.slots.Slot.TheVariants.{Empty, Removed}
 use Rattle.hashbag_slots.specs.Slots.{recounted, live_count}
 use Rattle.hashbag_table.specs.Table.{Table}
 use Rattle.hashbag_table.specs.Entries.{entry_of, IsCounted}
-use Rattle.hashbag_table.specs.Tables.{Tables, limit, room, IsLeast, IsPacked, Writes, Rewrites, slot_in}
-use Rattle.hashbag_table.specs.declared.table.Spot.{Spot}
-use Rattle.hashbag_table.specs.declared.table.Spot.TheVariants.{Newer, Waiting}
+use Rattle.hashbag_table.specs.Tables.{Tables, limit, room, IsLeast, IsPacked, KeepsRoom, Writes, Rewrites, slot_in}
 use Rattle.hashbag_table.proofs.CarryLemmas.{live_fresh, live_empty, removed_empty}
 use Rattle.hashbag_core.specs.Bag.{Bag, occurrences}
 use Rattle.hashbag_core.specs.Occurrences.{count}
@@ -40,13 +38,6 @@ module _ {T : Type 0} where
   pub tables_from : (t u : Tables T) → t.newer ≡ u.newer → t.waiting ≡ u.waiting → t.older ≡ u.older → t.built ≡ u.built → t ≡ u
   tables_from t u p q o r = λ i. record { newer = p i; waiting = q i; older = o i; built = r i }
 
-  -- no table is made where one slot is rewritten
-  pub rewritten_built : (test : T → Bool) (change : Slot T → Slot T) (old new : Tables T) → Rewrites test change old new → new.built ≡ old.built
-  rewritten_built test change old new r = at r.spot _ r.after where
-    at : (spot : Spot) (s : Slot T) → Writes spot s old new → new.built ≡ old.built
-    at (Newer p) s h = h.2
-    at (Waiting p) s h = h.2
-
   -- where there are no slots, none waits
   pub none_from_newer : (t : Tables T) (w k : ℕ) → t.newer ≡ [] → w ≡ length t.waiting → (0 < w → w + 16 ≤ length t.newer) → (w ≡ 0 → t.older ≡ 0) → t.built ≡ k → t ≡ no_slots k
   none_from_newer t w k newer is smaller freed built =
@@ -73,13 +64,13 @@ module _ {T : Type 0} where
   rewrites_by test f h old new same r = record { spot = r.spot; held = r.held; after = subst (λ s. Writes r.spot s old new) (same (slot_in old r.spot)) r.after }
 
   -- cleared slots have as much room as their number allows
-  pub room_cleared : (t : Tables T) → room t ≤ room (cleared t)
+  pub room_cleared : (t : Tables T) → KeepsRoom 0 t (cleared t)
   room_cleared t =
       let live = live_empty T (length t.newer) in
       let removed = removed_empty T (length t.newer) in
       let empty : Slot T = Empty in
       let long = ap limit (length-replicate (length t.newer) empty) in
-      omega (arith, live, removed, long)
+      record { slots = length-replicate (length t.newer) empty; room = omega (arith, live, removed, long); built = refl }
 
 module _ {T : Type 0} (eq : T → T → Bool) where
   -- some of a value are left, or none

@@ -3,7 +3,6 @@ use Rattle.std.proofs.Common.{◌≡◌, ℕ, ◌+◌, ◌<◌, ◌≤◌, Bool,
 use Rattle.std.specs.Cmp.{IsEquivalence}
 use Rattle.std.specs.Iterator.{Drains, YieldsThen}
 use Rattle.std.specs.List.{AllZip}
-use Rattle.std.specs.List.Sorted.{IsPermutation}
 use Rattle.std.proofs.lemmas.Bool.{cases_lt}
 use Rattle.std.proofs.lemmas.Iterator.{YieldsList}
 use Rattle.std.proofs.lemmas.Iterator.Consumers.{YieldsList-turn}
@@ -14,6 +13,7 @@ use Rattle.std.proofs.lemmas.List.Sorted.{IsPermutation-refl, IsPermutation-sym,
 use Rattle.std.proofs.lemmas.Slice.Zip.{AllZip-long}
 use Rattle.hashbag_table.specs.Tables.{room}
 use Rattle.hashbag_table.proofs.CloneLemmas.{zip_more}
+use Rattle.hashbag_table.proofs.RoomKeptLemmas.{keeps_same}
 use Rattle.hashbag_core.specs.declared.bag.BagError.{BagError}
 use Rattle.hashbag_core.specs.declared.bag.BagError.TheVariants.{Memory, TooMany, BelowTotal}
 use Rattle.hashbag_core.specs.Bag.{Bag, Means, IsBagOf, limited}
@@ -22,7 +22,6 @@ use Rattle.hashbag_core.specs.Extends.{Once, add_all, Refuses}
 use Rattle.hashbag_core.specs.Held.{no_slots}
 use Rattle.hashbag_core.specs.Inserts.{empty_bag, Inserts, IsRefused, InTurn, IsMadeOf, InsertsAll, InsertsUpTo, RefusesOne, IsCloneRefused}
 use Rattle.hashbag_core.proofs.ExtendLemmas.{add_all_last, refuses_clones, sum_went, sum_went_once}
-use Rattle.hashbag_core.proofs.HeldLemmas.{rewritten_built}
 use Rattle.hashbag_core.proofs.OccurrenceLemmas.{add_rearranged, bag_rearranged}
 
 module _ {T S : Type 0} (eq : T → T → Bool) where
@@ -73,10 +72,11 @@ module _ {T S : Type 0} (eq : T → T → Bool) where
     | inl some ↦ elim (cases_lt 0 (count eq v old.items)) [
       | inl there ↦
           let d = went.same_set there in
-          let r = went.same_room there in
+          let kept = went.same_room there in
+          let r = kept.room in
           record {
             more = omega (arith, d);
-            within = λ p. record { slots = went.same_slots there; built = rewritten_built _ _ _ _ (went.slot some there); left = omega (arith, d, r) };
+            within = λ p. record { slots = kept.slots; built = kept.built; left = omega (arith, d, r) };
           }
       | inr absent ↦
           let none : count eq v old.items ≡ 0 = omega (arith, absent) in
@@ -85,8 +85,9 @@ module _ {T S : Type 0} (eq : T → T → Bool) where
             more = omega (arith, d);
             within = λ p.
                 let left : 0 < room old.tables = omega (arith, d, p) in
-                let r = went.less_room left in
-                record { slots = went.slots left; built = (went.arrives some none).built.kept left; left = omega (arith, d, r) };
+                let kept = went.less_room left in
+                let r = kept.room in
+                record { slots = kept.slots; built = kept.built; left = omega (arith, d, r) };
           }
     ]
   ]
@@ -143,10 +144,8 @@ module _ {T S : Type 0} {eq : T → T → Bool} (laws : IsEquivalence eq) where
     new_set = λ some _. absurd (omega (arith, some));
     arrives = λ some _. absurd (omega (arith, some));
     slot = λ some _. absurd (omega (arith, some));
-    slots = λ _. refl;
-    less_room = λ _. omega arith;
-    same_slots = λ _. refl;
-    same_room = λ _. omega arith;
+    less_room = λ _. keeps_same 1 bag.tables;
+    same_room = λ _. keeps_same 0 bag.tables;
   })
 
   -- ---- what they make of the occurrences

@@ -1,5 +1,5 @@
 -- Trees with a limit: what they open as, and which bag's tree they are.
-use Rattle.std.proofs.Common.{◌≡◌, ℕ, ◌<◌, ◌≤◌, ◌^◌, ◌==◌, eqb, ltb, min, Bool, true, false, cond, List, [], ◌∷◌, map, length, All, Ordering, is_eq, Option, Some, None, option_and_then, Result, Ok, Err, refl, sym, ◌∙◌, ap, arith}
+use Rattle.std.proofs.Common.{◌≡◌, ℕ, ◌≤◌, ◌^◌, eqb, ltb, min, Bool, true, false, cond, List, [], map, All, Ordering, is_eq, Option, Some, None, option_and_then, Result, Ok, Err, refl, sym, ◌∙◌, ap, arith}
 use borrow.Author.Tests.{eqb-true, ltb-true}
 use Rattle.std.specs.Cmp.{IsEquivalence, IsTotalOrder}
 use Rattle.serde_json.specs.Data.{Data, null, boolean, number, string, array, object, unsigned, Items, Members, member, no_members}

@@ -1,11 +1,12 @@
 -- What the two tables of slots of a bag have to do with its occurrences, and what calls leave of them.
-use Rattle.std.specs.Prelude.{◌≡◌, ℕ, ◌==◌, if◌then◌else◌, Bool, List, [], length, replicate}
+use Rattle.std.specs.Prelude.{◌≡◌, ℕ, ◌-◌, ◌<◌, ◌==◌, if◌then◌else◌, Bool, List, [], length, replicate}
 use Rattle.hashbag_slots.specs.declared.slots.Slot.{Slot}
 use Rattle.hashbag_slots.specs.declared.slots.Slot.TheVariants.{Empty, Removed, Live}
 use Rattle.hashbag_slots.specs.Slots.{recounted}
 use Rattle.hashbag_table.specs.Entries.{IsCounted}
-use Rattle.hashbag_table.specs.Tables.{Tables, entries_of, Rewrites}
-use Rattle.hashbag_core.specs.Bag.{occurrences}
+use Rattle.hashbag_table.specs.Tables.{Tables, entries_of, Rewrites, KeepsRoom}
+use Rattle.hashbag_core.specs.Bag.{Bag, IsBagOf, occurrences}
+use Rattle.hashbag_core.specs.Occurrences.{count, less}
 
 module _ {T : Type 0} where
   -- no slots in either table, after so many were built
@@ -33,3 +34,11 @@ module _ {T : Type 0} (eq : T → T → Bool) where
   -- v itself is stored, once, in the slot of the value that is equal to it, and no other slot is changed
   abbrev pub Restores : T → Tables T → Tables T → Type 0
   Restores v old new = Rewrites (λ w. eq w v) (λ _. Live v 1) old new
+
+-- the bag `after` is the bag `before` less n occurrences of v, or less all where they were fewer: its list; the slot of v, where v
+-- was there; and as many slots, and no less room
+pub record HasFewer {T S : Type 0} (eq : T → T → Bool) (v : T) (n : ℕ) (before after : Bag T S) : Type 0 where
+  pub left : IsBagOf eq before (less eq v n before.items) after
+  pub slot : 0 < count eq v before.items → Recounts eq v (count eq v before.items - n) before.tables after.tables
+  pub none : count eq v before.items ≡ 0 → after ≡ before
+  pub room : KeepsRoom 0 before.tables after.tables

@@ -3,7 +3,7 @@ use Rattle.std.specs.Prelude.{◌≡◌, ℕ, ◌+◌, ◌<◌, ◌≤◌, ◌�
 use denote.Ref.{Bor}
 use Rattle.std.specs.List.{AllZip}
 use Rattle.std.specs.Iterator.{Drains, YieldsThen}
-use Rattle.hashbag_table.specs.Tables.{room, Arrives}
+use Rattle.hashbag_table.specs.Tables.{room, Arrives, KeepsRoom}
 use Rattle.hashbag_core.specs.declared.bag.BagError.{BagError}
 use Rattle.hashbag_core.specs.declared.bag.BagError.TheVariants.{Memory}
 use Rattle.hashbag_core.specs.Bag.{Bag, IsBagOf, limited}
@@ -27,10 +27,8 @@ module _ {T S : Type 0} (eq : T → T → Bool) where
     pub new_set : 0 < n → count eq v before.items ≡ 0 → distinct_count eq after.items ≡ distinct_count eq before.items + 1
     pub arrives : 0 < n → count eq v before.items ≡ 0 → Arrives before.tables after.tables
     pub slot : 0 < n → 0 < count eq v before.items → Recounts eq v (count eq v before.items + n) before.tables after.tables
-    pub slots : 0 < room before.tables → length after.tables.newer ≡ length before.tables.newer
-    pub less_room : 0 < room before.tables → room before.tables ≤ room after.tables + 1
-    pub same_slots : 0 < count eq v before.items → length after.tables.newer ≡ length before.tables.newer
-    pub same_room : 0 < count eq v before.items → room before.tables ≤ room after.tables
+    pub less_room : 0 < room before.tables → KeepsRoom 1 before.tables after.tables
+    pub same_room : 0 < count eq v before.items → KeepsRoom 0 before.tables after.tables
 
   -- n of v may be refused to a bag, for this reason: for memory only where no room is left
   pub record IsRefused (bag : Bag T S) (v : T) (n : ℕ) (e : BagError) : Type 0 where

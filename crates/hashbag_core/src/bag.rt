@@ -5,13 +5,13 @@ ghost use Rattle.std.specs.List.Sorted.{IsPermutation};
 ghost use Rattle.hashbag_table.specs.Asked.{MayAskInTurn};
 ghost use Rattle.hashbag_slots.specs.Slots.{IsSlotCount};
 ghost use Rattle.hashbag_table.specs.Entries.{count_of, IsCounted, HasClones};
-ghost use Rattle.hashbag_table.specs.Tables.{limit, room, values, IsLeast, IsPacked, ReservesOrStays, ShrinksOrStays, Arrives, NoneMoved};
+ghost use Rattle.hashbag_table.specs.Tables.{limit, room, values, IsLeast, IsPacked, ReservesOrStays, ShrinksOrStays, Arrives, KeepsRoom, NoneMoved};
 ghost use Rattle.hashbag_table.specs.Retained.{RetainsTables};
 ghost use Rattle.hashbag_core.specs.Bag.{occurrences, limited};
-ghost use Rattle.hashbag_core.specs.Occurrences.{greatest_total, count, counted, stored, add, less, put, instance_or_itself, distinct_count, IsBag, SameCounts};
+ghost use Rattle.hashbag_core.specs.Occurrences.{greatest_total, count, counted, stored, add, put, instance_or_itself, distinct_count, IsBag, SameCounts};
 ghost use Rattle.hashbag_core.specs.Extends.{Refuses};
 ghost use Rattle.hashbag_core.specs.Inserts.{Inserts, IsRefused};
-ghost use Rattle.hashbag_core.specs.Held.{no_slots, cleared, AreHeld, Recounts, Restores};
+ghost use Rattle.hashbag_core.specs.Held.{no_slots, cleared, AreHeld, HasFewer, Recounts, Restores};
 ghost use Rattle.hashbag_core.specs.Retain.{IsRetained};
 ghost use Rattle.hashbag_core.specs.Walks.{IsSetWalkOf};
 ghost use Rattle.hashbag_table.specs.declared.table.TheConstants.{MOST_VALUES};
@@ -104,8 +104,7 @@ fn set_or_remove<T: Eq + Hash + Drop, S: BuildHasher + Drop>(
     ensures hasher { table.new.hasher ≡ table.old.hasher }
     ensures counted { IsCounted T.eq table.new.entries }
     ensures slot { Recounts T.eq value.now n table.old.tables table.new.tables }
-    ensures slots { length table.new.tables.newer ≡ length table.old.tables.newer }
-    ensures room { room table.old.tables ≤ room table.new.tables }
+    ensures room { KeepsRoom 0 table.old.tables table.new.tables }
 {
     if n == 0 {
         let _ = table.remove(value);
@@ -392,10 +391,8 @@ impl<T: Eq + Hash + Drop, S: BuildHasher + Drop> HashBag<T, S> {
         // What becomes of the slots: a value that is there is replaced in its own.
         ensures arrives { OnOk result (count T.eq value self.old.items ≡ 0 → Arrives self.old.tables self.new.tables) }
         ensures slot { OnOk result (0 < count T.eq value self.old.items → Restores T.eq value self.old.tables self.new.tables) }
-        ensures slots { OnOk result (0 < room self.old.tables → length self.new.tables.newer ≡ length self.old.tables.newer) }
-        ensures room { OnOk result (0 < room self.old.tables → room self.old.tables ≤ room self.new.tables + 1) }
-        ensures same_slots { IfOk result (λ before. 0 < before → length self.new.tables.newer ≡ length self.old.tables.newer) }
-        ensures same_room { IfOk result (λ before. 0 < before → room self.old.tables ≤ room self.new.tables) }
+        ensures room { OnOk result (0 < room self.old.tables → KeepsRoom 1 self.old.tables self.new.tables) }
+        ensures same_room { IfOk result (λ before. 0 < before → KeepsRoom 0 self.old.tables self.new.tables) }
     {
         if self.len == self.most && self.contains(&value) == 0 {
             return Err(BagError::TooMany);
@@ -411,12 +408,8 @@ impl<T: Eq + Hash + Drop, S: BuildHasher + Drop> HashBag<T, S> {
     /// It takes no memory, and hashes the value once.
     pub fn remove(&mut self, value: &T) -> usize
         ensures before { result ≡ count T.eq value.now self.old.items }
-        ensures removed { IsBagOf T.eq self.old (less T.eq value.now 1 self.old.items) self.new }
+        ensures fewer { HasFewer T.eq value.now 1 self.old self.new }
         ensures len { length self.new.items + min result 1 ≡ length self.old.items }
-        ensures slot { 0 < count T.eq value.now self.old.items → Recounts T.eq value.now (count T.eq value.now self.old.items - 1) self.old.tables self.new.tables }
-        ensures none { count T.eq value.now self.old.items ≡ 0 → self.new ≡ self.old }
-        ensures slots { length self.new.tables.newer ≡ length self.old.tables.newer }
-        ensures room { room self.old.tables ≤ room self.new.tables }
     {
         self.take_up_to(value, 1)
     }
@@ -427,12 +420,8 @@ impl<T: Eq + Hash + Drop, S: BuildHasher + Drop> HashBag<T, S> {
     /// It takes no memory, and hashes the value once.
     pub fn remove_up_to(&mut self, value: &T, quantity: usize) -> usize
         ensures after { result ≡ count T.eq value.now self.old.items - quantity }
-        ensures removed { IsBagOf T.eq self.old (less T.eq value.now quantity self.old.items) self.new }
+        ensures fewer { HasFewer T.eq value.now quantity self.old self.new }
         ensures len { length self.new.items + count T.eq value.now self.old.items ≡ length self.old.items + result }
-        ensures slot { 0 < count T.eq value.now self.old.items → Recounts T.eq value.now (count T.eq value.now self.old.items - quantity) self.old.tables self.new.tables }
-        ensures none { count T.eq value.now self.old.items ≡ 0 → self.new ≡ self.old }
-        ensures slots { length self.new.tables.newer ≡ length self.old.tables.newer }
-        ensures room { room self.old.tables ≤ room self.new.tables }
     {
         self.take_up_to(value, quantity).saturating_sub(quantity)
     }
@@ -440,12 +429,8 @@ impl<T: Eq + Hash + Drop, S: BuildHasher + Drop> HashBag<T, S> {
     // Takes `quantity` occurrences of a value, or all where they are fewer, and answers how many there were.
     fn take_up_to(&mut self, value: &T, quantity: usize) -> usize
         ensures before { result ≡ count T.eq value.now self.old.items }
-        ensures removed { IsBagOf T.eq self.old (less T.eq value.now quantity self.old.items) self.new }
+        ensures fewer { HasFewer T.eq value.now quantity self.old self.new }
         ensures len { length self.new.items + min result quantity ≡ length self.old.items }
-        ensures slot { 0 < count T.eq value.now self.old.items → Recounts T.eq value.now (count T.eq value.now self.old.items - quantity) self.old.tables self.new.tables }
-        ensures none { count T.eq value.now self.old.items ≡ 0 → self.new ≡ self.old }
-        ensures slots { length self.new.tables.newer ≡ length self.old.tables.newer }
-        ensures room { room self.old.tables ≤ room self.new.tables }
     {
         let before = self.table.take(value, quantity);
         self.len -= before.min(quantity);
@@ -494,15 +479,11 @@ impl<T: Eq + Hash + Drop, S: BuildHasher + Drop> HashBag<T, S> {
     /// It is [`HashBag::try_take`] without the loan of the instance that stays, so its contract says what the bag means
     /// afterwards. It takes no memory, and hashes the value once.
     pub fn take_one(&mut self, value: &T) -> Result<T, usize>
-        ensures taken { IsBagOf T.eq self.old (less T.eq value.now 1 self.old.items) self.new }
+        ensures fewer { HasFewer T.eq value.now 1 self.old self.new }
         ensures len { MatchResult result (λ _. length self.new.items + 1 ≡ length self.old.items) (λ before. length self.new.items + min before 1 ≡ length self.old.items) }
         ensures last { IfOk result (λ instance. stored T.eq value.now self.old.items ≡ Some (instance, 1)) }
         ensures others { IfErr result (λ before. (before ≡ count T.eq value.now self.old.items) × (before ≢ 1)) }
         ensures bag { IsBag T.eq self.old.most self.old.items }
-        ensures slot { 0 < count T.eq value.now self.old.items → Recounts T.eq value.now (count T.eq value.now self.old.items - 1) self.old.tables self.new.tables }
-        ensures none { count T.eq value.now self.old.items ≡ 0 → self.new ≡ self.old }
-        ensures slots { length self.new.tables.newer ≡ length self.old.tables.newer }
-        ensures room { room self.old.tables ≤ room self.new.tables }
     {
         match self.table.take_one(value) {
             Ok(instance) => {
@@ -520,12 +501,8 @@ impl<T: Eq + Hash + Drop, S: BuildHasher + Drop> HashBag<T, S> {
     /// memory, and hashes the value once.
     pub fn take_all(&mut self, value: &T) -> Option<(T, usize)>
         ensures taken { result ≡ stored T.eq value.now self.old.items }
-        ensures left { IsBagOf T.eq self.old (less T.eq value.now (count T.eq value.now self.old.items) self.old.items) self.new }
+        ensures fewer { HasFewer T.eq value.now (count T.eq value.now self.old.items) self.old self.new }
         ensures len { MatchOption result (length self.new.items ≡ length self.old.items) (λ taken. length self.new.items + taken.1 ≡ length self.old.items) }
-        ensures slot { 0 < count T.eq value.now self.old.items → Recounts T.eq value.now 0 self.old.tables self.new.tables }
-        ensures none { count T.eq value.now self.old.items ≡ 0 → self.new ≡ self.old }
-        ensures slots { length self.new.tables.newer ≡ length self.old.tables.newer }
-        ensures room { room self.old.tables ≤ room self.new.tables }
     {
         let (instance, count) = self.table.remove(value)?;
         self.len -= count;
@@ -538,8 +515,7 @@ impl<T: Eq + Hash + Drop, S: BuildHasher + Drop> HashBag<T, S> {
         ensures hasher { self.new.hasher ≡ self.old.hasher }
         ensures limit { self.new.most ≡ self.old.most }
         ensures cleared { self.new.tables ≡ cleared self.old.tables }
-        ensures slots { length self.new.tables.newer ≡ length self.old.tables.newer }
-        ensures room { room self.old.tables ≤ room self.new.tables }
+        ensures room { KeepsRoom 0 self.old.tables self.new.tables }
     {
         self.table.clear();
         self.len = 0;
@@ -553,11 +529,9 @@ impl<T: Eq + Hash + Drop, S: BuildHasher + Drop> HashBag<T, S> {
         requires asks { (walk : _) → IsSetWalkOf T.eq self.old walk → MayAskInTurn F.FnMut f walk }
         ensures retained { IsRetained T.eq F.FnMut f self.old self.new }
         ensures len { length self.new.items ≤ length self.old.items }
-        ensures slots { length self.new.tables.newer ≡ length self.old.tables.newer }
         ensures waiting { length self.new.tables.waiting ≡ length self.old.tables.waiting }
         ensures in_place { RetainsTables self.old.tables self.new.tables }
-        ensures built { self.new.tables.built ≡ self.old.tables.built }
-        ensures room { room self.old.tables ≤ room self.new.tables }
+        ensures room { KeepsRoom 0 self.old.tables self.new.tables }
     {
         self.len = self.table.retain(f);
     }
@@ -673,8 +647,7 @@ impl<T: Eq + Hash + Drop, S: BuildHasher + Drop> HashBag<T, S> {
         ensures err { OnErr result (self.new ≡ self.old) }
         ensures takes { 0 < room self.old.tables → IsOk result }
         ensures arrives { OnOk result (Arrives self.old.tables self.new.tables) }
-        ensures slots { OnOk result (0 < room self.old.tables → length self.new.tables.newer ≡ length self.old.tables.newer) }
-        ensures room { OnOk result (0 < room self.old.tables → room self.old.tables ≤ room self.new.tables + 1) }
+        ensures room { OnOk result (0 < room self.old.tables → KeepsRoom 1 self.old.tables self.new.tables) }
     {
         self.table.insert_new(value, quantity)?;
         self.len += quantity;
@@ -689,8 +662,7 @@ impl<T: Eq + Hash + Drop, S: BuildHasher + Drop> HashBag<T, S> {
         ensures put { IsBagOf T.eq self.old (put T.eq (instance_or_itself T.eq value.now self.old.items) n self.old.items) self.new }
         ensures after { count T.eq value.now self.new.items ≡ n }
         ensures slot { Recounts T.eq value.now n self.old.tables self.new.tables }
-        ensures slots { length self.new.tables.newer ≡ length self.old.tables.newer }
-        ensures room { room self.old.tables ≤ room self.new.tables }
+        ensures room { KeepsRoom 0 self.old.tables self.new.tables }
         ensures len { length self.new.items + before ≡ length self.old.items + n }
     {
         set_or_remove(&mut self.table, value, n);

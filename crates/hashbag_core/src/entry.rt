@@ -1,6 +1,6 @@
 //! `Entry`: the place of a value in a bag.
 ghost use Rattle.std.specs.Prelude.{◌≡◌, ◌+◌, ◌<◌, ◌≤◌, ℕ, length, IsOk, IfOk, IfErr, OnOk, OnErr};
-ghost use Rattle.hashbag_table.specs.Tables.{room, Arrives};
+ghost use Rattle.hashbag_table.specs.Tables.{room, Arrives, KeepsRoom};
 ghost use Rattle.hashbag_core.specs.Held.{Recounts};
 ghost use Rattle.std.specs.Borrow.{sem, MutBor, RestsIfErr};
 ghost use Rattle.hashbag_core.specs.Bag.{IsBagOf};
@@ -69,8 +69,7 @@ impl<'a, T: Eq + Hash + Drop, S: BuildHasher + Drop> Entry<'a, T, S> {
         ensures passes { OnErr result (PassesEnd T.eq F.FnOnce f self.entry.value self.entry.bag.now) }
         ensures len { IfOk result (λ e. length e.bag.now.items + count T.eq self.entry.value self.entry.bag.now.items ≡ length self.entry.bag.now.items + count T.eq self.entry.value e.bag.now.items) }
         ensures slot { IfOk result (λ e. 0 < count T.eq self.entry.value self.entry.bag.now.items → Recounts T.eq self.entry.value (count T.eq self.entry.value e.bag.now.items) self.entry.bag.now.tables e.bag.now.tables) }
-        ensures slots { IfOk result (λ e. length e.bag.now.tables.newer ≡ length self.entry.bag.now.tables.newer) }
-        ensures room { IfOk result (λ e. room self.entry.bag.now.tables ≤ room e.bag.now.tables) }
+        ensures room { IfOk result (λ e. KeepsRoom 0 self.entry.bag.now.tables e.bag.now.tables) }
         ensures* stays { sem 𝓛 (RestsIfErr (bag_row T.row S.row S.Hasher.row T.Hash S.BuildHasher S.Hasher.Hasher) self.entry.bag (λ e. e.bag.ghost_name) result (λ n. n ≡ self.entry.bag.now)) }
     {
         let Entry { bag, value } = self;
@@ -100,8 +99,7 @@ impl<'a, T: Eq + Hash + Drop, S: BuildHasher + Drop> Entry<'a, T, S> {
         ensures err { OnErr result (self.exit.0.now ≡ self.entry.bag.now) }
         ensures takes { length self.entry.bag.now.items + 1 ≤ self.entry.bag.now.most → 0 < room self.entry.bag.now.tables → IsOk result }
         ensures arrives { OnOk result (count T.eq self.entry.value self.entry.bag.now.items ≡ 0 → Arrives self.entry.bag.now.tables self.exit.0.now.tables) }
-        ensures slots { OnOk result (0 < room self.entry.bag.now.tables → length self.exit.0.now.tables.newer ≡ length self.entry.bag.now.tables.newer) }
-        ensures room { OnOk result (0 < room self.entry.bag.now.tables → room self.entry.bag.now.tables ≤ room self.exit.0.now.tables + 1) }
+        ensures room { OnOk result (0 < room self.entry.bag.now.tables → KeepsRoom 1 self.entry.bag.now.tables self.exit.0.now.tables) }
     {
         self.or_insert_many(1)
     }
@@ -125,8 +123,7 @@ impl<'a, T: Eq + Hash + Drop, S: BuildHasher + Drop> Entry<'a, T, S> {
         ensures same { quantity ≡ 0 → self.exit.0.now ≡ self.entry.bag.now }
         ensures takes { length self.entry.bag.now.items + quantity ≤ self.entry.bag.now.most → 0 < room self.entry.bag.now.tables → IsOk result }
         ensures arrives { OnOk result (0 < quantity → count T.eq self.entry.value self.entry.bag.now.items ≡ 0 → Arrives self.entry.bag.now.tables self.exit.0.now.tables) }
-        ensures slots { OnOk result (0 < room self.entry.bag.now.tables → length self.exit.0.now.tables.newer ≡ length self.entry.bag.now.tables.newer) }
-        ensures room { OnOk result (0 < room self.entry.bag.now.tables → room self.entry.bag.now.tables ≤ room self.exit.0.now.tables + 1) }
+        ensures room { OnOk result (0 < room self.entry.bag.now.tables → KeepsRoom 1 self.entry.bag.now.tables self.exit.0.now.tables) }
     {
         let Entry { bag, value } = self;
         let before = bag.contains(&value);

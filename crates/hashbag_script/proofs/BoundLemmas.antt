@@ -1,5 +1,5 @@
 -- How many slots a run from none leaves, and how many all its tables had.
-use Rattle.std.proofs.Common.{◌≡◌, ℕ, zero, suc, ◌+◌, ◌-◌, ◌*◌, ◌^◌, ◌<◌, ◌≤◌, ◌⊎◌, max, Bool, true, false, ◌||◌, List, [], ◌∷◌, ◌++◌, length, take, Result, Ok, Err, OnOk, refl, sym, ap, subst, ◌∙◌, inl, inr, arith, pow-suc}
+use Rattle.std.proofs.Common.{◌≡◌, ℕ, zero, suc, ◌+◌, ◌-◌, ◌*◌, ◌^◌, ◌<◌, ◌≤◌, max, Bool, true, false, ◌||◌, List, [], ◌∷◌, ◌++◌, length, take, refl, sym, ap, subst, ◌∙◌, inl, inr, arith, pow-suc}
 use Rattle.std.specs.Cmp.{IsEquivalence}
 use Rattle.std.specs.List.{list_any}
 use Rattle.std.specs.List.Sorted.{IsPermutation}
@@ -14,7 +14,7 @@ use Rattle.hashbag_script.specs.declared.script.Reply.{Reply}
 use Rattle.hashbag_core.specs.Occurrences.{distinct_count}
 use Rattle.hashbag_core.specs.Bag.{Bag, Means}
 use Rattle.hashbag_script.specs.declared.script.Step.{Step}
-use Rattle.hashbag_script.specs.Script.{step, limit_after, limit_left, run, peak, arrivals, newcomers, is_about_room, is_reserve, KeepsRoom, Outgrows, Moves, IsBounded}
+use Rattle.hashbag_script.specs.Script.{step, limit_after, limit_left, run, peak, arrivals, newcomers, is_about_room, is_reserve, Moves, IsBounded}
 use Rattle.hashbag_script.proofs.DistinctOrder.{distinct_rearranged}
 use Rattle.hashbag_script.proofs.RoomLemmas.{newcomers_rearranged}
 

@@ -5,17 +5,16 @@ use Rattle.std.specs.List.{list_any}
 use Rattle.std.specs.List.Sorted.{IsPermutation}
 use Rattle.std.proofs.lemmas.List.Folds.{list_any-append}
 use Rattle.std.proofs.lemmas.List.Sorted.{list_any-IsPermutation, IsPermutation-refl}
-use Rattle.hashbag_table.specs.Tables.{Tables, limit, room, values, grown_slots, Arrives}
+use Rattle.hashbag_table.specs.Tables.{Tables, room, values, grown_slots, Arrives, KeepsRoom}
+use Rattle.hashbag_table.proofs.RoomKeptLemmas.{keeps_as, keeps_more, keeps_Arrives}
 use Rattle.std.proofs.lemmas.Bool.{cases_lt}
 use Rattle.std.proofs.lemmas.List.{length-replicate}
-use Rattle.hashbag_core.specs.Held.{Recounts}
 use Rattle.hashbag_core.specs.Occurrences.{count, others, add, put}
-use Rattle.hashbag_core.proofs.HeldLemmas.{rewritten_built}
 use Rattle.hashbag_core.proofs.OccurrenceLemmas.{count_rearranged, put_absent}
 use Rattle.hashbag_script.specs.declared.script.Step.{Step}
 use Rattle.hashbag_script.specs.declared.script.Reply.{Reply}
 use Rattle.hashbag_script.specs.declared.script.Reply.TheVariants.{Count, TooMany}
-use Rattle.hashbag_script.specs.Script.{step, limit_after, limit_left, run, arrivals, newcomers, has_newcomer, is_about_room, IsRoomy, KeepsRoom, Outgrows, Moves}
+use Rattle.hashbag_script.specs.Script.{step, limit_after, limit_left, run, arrivals, newcomers, has_newcomer, is_about_room, IsRoomy, Outgrows, Moves}
 use Rattle.hashbag_script.specs.Rows.{insert_row, replace_row, entry_or_row}
 use Rattle.hashbag_script.proofs.RowLemmas.{not_above, entry_or_row-vacant}
 use Rattle.hashbag_script.proofs.ScriptLemmas.{run_none, run_more, limit_none, limit_more}
@@ -42,10 +41,6 @@ or_false_right false b h = h
 -- ---- what is built
 
 module _ {T : Type 0} where
-  pub recounted_built : (eq : T → T → Bool) (v : T) (c m : ℕ) (old new : Tables T) → (0 < c → Recounts eq v m old new) → (c ≡ 0 → new ≡ old) → new.built ≡ old.built
-  recounted_built eq v zero m old new some none = ap (λ (t : Tables T). t.built) (none refl)
-  recounted_built eq v (suc c) m old new some none = rewritten_built _ _ old new (some (omega arith))
-
   -- what an absent value leaves where there was no room
   pub outgrown : (old new : Tables T) → room old ≡ 0 → Arrives old new → Outgrows old new
   outgrown old new full h = record {
@@ -57,15 +52,6 @@ module _ {T : Type 0} where
 -- ---- what is kept
 
 module _ {T : Type 0} where
-  pub keeps_same : (k : ℕ) (t : Tables T) → KeepsRoom k t t
-  keeps_same k t = record { slots = refl; room = omega arith; built = refl }
-
-  pub keeps_more : (k : ℕ) (old new : Tables T) → KeepsRoom 0 old new → KeepsRoom k old new
-  keeps_more k old new h = let r = h.room in record { slots = h.slots; room = omega (arith, r); built = h.built }
-
-  pub keeps_as : (k : ℕ) (old new : Tables T) → new ≡ old → KeepsRoom k old new
-  keeps_as k old new e = subst (λ t. KeepsRoom k old t) (sym e) (keeps_same k old)
-
   -- n of a value that occurs c times: with none nothing changes, and where it occurs no room is taken
   pub moves_inserted : (c n k : ℕ) (old new : Tables T) → (n ≡ 0 → new ≡ old) → (0 < n → 0 < c → KeepsRoom 0 old new) → (0 < n → c ≡ 0 → Arrives old new) → (c ≡ 0 → 0 < n → k ≡ 1) → Moves k old new
   moves_inserted c zero k old new none stays arrives newcomer = inl (keeps_as k old new (none refl))
@@ -74,7 +60,7 @@ module _ {T : Type 0} where
       let one = newcomer refl (omega arith) in
       let came = arrives (omega arith) refl in
       elim (cases_lt 0 (room old)) [
-        | inl some ↦ inl (record { slots = (came.kept some).fills.same_length; room = let r = came.room_kept some in omega (arith, r, one); built = came.built.kept some })
+        | inl some ↦ inl (subst (λ k. KeepsRoom k old new) (sym one) (keeps_Arrives old new came some))
         | inr full ↦ let none_left : room old ≡ 0 = omega (arith, full) in inr (one, none_left, outgrown old new none_left came)
       ]
 

@@ -2,6 +2,7 @@
 use Rattle.std.specs.Prelude.{◌≡◌, ℕ, ◌+◌, ◌-◌, ◌*◌, ◌<◌, ◌≤◌, ◌⊎◌, ◌==◌, max, nat_lt, if◌then◌else◌, Bool, true, false, List, [], ◌∷◌, ◌++◌, length}
 use Rattle.std.specs.List.{list_any}
 use Rattle.hashbag_table.specs.Tables.{Tables, limit, room, values, grown_slots}
+pub use Rattle.hashbag_table.specs.Tables.{KeepsRoom}
 use Rattle.hashbag_script.specs.declared.script.Step.{Step}
 use Rattle.hashbag_script.specs.declared.script.Step.TheVariants.{Insert, InsertMany, Replace, Remove, RemoveUpTo, TryTake, TakeAll, EntrySet, EntryOr, Retain, Clear, Count, Reserve, ShrinkToFit, Limit}
 use Rattle.hashbag_script.specs.declared.script.Reply.{Reply}
@@ -48,12 +49,6 @@ module _ {T : Type 0} where
   is_reserve (Reserve n) = true
   is_reserve ShrinkToFit = false
   is_reserve (Limit n) = false
-
-  -- as many slots are left, none were built, and there is room but for k values
-  pub record KeepsRoom (k : ℕ) (old new : Tables T) : Type 0 where
-    pub slots : length new.newer ≡ length old.newer
-    pub room : room old ≤ room new + k
-    pub built : new.built ≡ old.built
 
   -- a new table took the place of one that had no room, for one value more
   pub record Outgrows (old new : Tables T) : Type 0 where

@@ -3,9 +3,9 @@ ghost use Rattle.std.specs.Prelude.{◌≡◌, ◌+◌, ◌-◌, ◌<◌, ◌≤
 ghost use Rattle.hashbag_core.specs.Bag.{Means, IsBagOf, limited};
 ghost use Rattle.hashbag_core.specs.Occurrences.{count, distinct_count, IsBag};
 ghost use Rattle.hashbag_script.specs.Rows.{insert_row, replace_row, try_take_row, take_all_row, entry_set_row, entry_or_row, retain_row, limit_row, quota as quota_of};
-ghost use Rattle.hashbag_table.specs.Tables.{limit, room, values};
+ghost use Rattle.hashbag_table.specs.Tables.{limit, room, values, KeepsRoom};
 ghost use Rattle.hashbag_table.specs.Slots.{IsSlotCount};
-ghost use Rattle.hashbag_script.specs.Script.{step as step_of, run as run_of, newcomers, is_about_room, is_reserve, KeepsRoom, Moves, IsRoomy, IsBounded, IsRefusedInsertion, AsksForMemory, IsStopped, limit_after, limit_left};
+ghost use Rattle.hashbag_script.specs.Script.{step as step_of, run as run_of, newcomers, is_about_room, is_reserve, Moves, IsRoomy, IsBounded, IsRefusedInsertion, AsksForMemory, IsStopped, limit_after, limit_left};
 ghost use Rattle.std.specs.Prelude.{map};
 ghost use Rattle.hashbag_core.specs.Joins.{IsOuterJoin, IsDifference, IsNotIn, IsSignedDifference};
 ghost use Rattle.hashbag_core.specs.JoinsLeft.{exceeding, subtracted, unmatched};

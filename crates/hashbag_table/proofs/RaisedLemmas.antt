@@ -1,12 +1,12 @@
 -- More of a value that is present.
-use Rattle.std.proofs.Common.{◌≡◌, ℕ, ◌+◌, ◌<◌, ◌≤◌, ◌^◌, Bool, List, [], ◌∷◌, length, Some, refl, sym, subst, ◌∙◌, arith}
+use Rattle.std.proofs.Common.{◌≡◌, ℕ, ◌+◌, ◌<◌, ◌^◌, Bool, List, [], ◌∷◌, Some, refl, sym, subst, ◌∙◌, arith}
 use Rattle.std.specs.Cmp.{IsEquivalence}
 use Rattle.std.specs.Map.{lookup_entry}
 use Rattle.std.specs.List.Sorted.{IsPermutation}
 use Rattle.hashbag_slots.specs.Slots.{recounted, slot_entry}
 use Rattle.hashbag_table.specs.declared.table.Spot.{Spot}
 use Rattle.hashbag_table.specs.Entries.{IsCounted, with_count, count_of}
-use Rattle.hashbag_table.specs.Tables.{Tables, room, HoldsIn, slot_in, Writes, Rewrites, Swaps}
+use Rattle.hashbag_table.specs.Tables.{Tables, KeepsRoom, HoldsIn, slot_in, Writes, Rewrites, Swaps}
 use Rattle.hashbag_table.proofs.SpotLemmas.{held_entry, count_present, added_swapped}
 use Rattle.hashbag_table.proofs.RoomKeptLemmas.{kept_Rewrites}
 
@@ -31,5 +31,5 @@ module _ {T : Type 0} (eq : T → T → Bool) (x : T) (n : ℕ) (es : List (T ×
         after = subst (λ b. Writes spot (recounted (b + n) (slot_in old spot)) old new) raised_before after;
       }
 
-      pub raised_kept : (length new.newer ≡ length old.newer) × (length new.waiting ≡ length old.waiting) × (room old ≤ room new)
+      pub raised_kept : KeepsRoom 0 old new
       raised_kept = kept_Rewrites (λ w. eq w x) (recounted (count_of eq x es + n)) old new (λ v m. refl) raised_slot

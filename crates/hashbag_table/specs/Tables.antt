@@ -113,6 +113,12 @@ module _ {T : Type 0} where
   abbrev pub room : Tables T → ℕ
   room t = room_of t.newer t.waiting
 
+  -- as many slots are left, none were built, and there is room but for k values
+  pub record KeepsRoom (k : ℕ) (old new : Tables T) : Type 0 where
+    pub slots : length new.newer ≡ length old.newer
+    pub room : room old ≤ room new + k
+    pub built : new.built ≡ old.built
+
   -- from these newer slots at most so many became Live, and from these waiting ones the first 16 wait no more
   pub record Settles (k : ℕ) (newer waiting : List (Slot T)) (new : Tables T) : Type 0 where
     pub fills : Fills k newer new.newer

@@ -10,7 +10,7 @@ ghost use Rattle.hashbag_slots.specs.Slots.{IsSlotCount, entries, IsAbsent, IsFi
 ghost use Rattle.hashbag_table.specs.Asked.{MayAskInTurn, Retains};
 ghost use Rattle.hashbag_table.specs.Entries.{entry_of, count_of, without, with_count, with_fewer, with_instance, total, IsCounted, HasClones};
 ghost use Rattle.hashbag_table.specs.Retained.{RetainsTables};
-ghost use Rattle.hashbag_table.specs.Tables.{limit, room, values, IsLeast, IsPacked, entries_of, Arrives, NoneMoved, Rewrites};
+ghost use Rattle.hashbag_table.specs.Tables.{limit, room, values, IsLeast, IsPacked, entries_of, Arrives, KeepsRoom, NoneMoved, Rewrites};
 
 mod room;
 mod spots;
@@ -252,8 +252,7 @@ impl<T: Eq + Hash + Drop, S: BuildHasher + Drop> Table<T, S> {
         ensures err { OnErr result (self.new ≡ self.old) }
         ensures takes { 0 < room self.old.tables → IsOk result }
         ensures arrives { OnOk result (Arrives self.old.tables self.new.tables) }
-        ensures slots { OnOk result (0 < room self.old.tables → length self.new.tables.newer ≡ length self.old.tables.newer) }
-        ensures room { OnOk result (0 < room self.old.tables → room self.old.tables ≤ room self.new.tables + 1) }
+        ensures room { OnOk result (0 < room self.old.tables → KeepsRoom 1 self.old.tables self.new.tables) }
     {
         let hash = self.hash(&value);
         self.insert_hashed(hash, value, count)
@@ -287,8 +286,7 @@ impl<T: Eq + Hash + Drop, S: BuildHasher + Drop> Table<T, S> {
         ensures hasher { self.new.hasher ≡ self.old.hasher }
         ensures counted { IsCounted T.eq self.new.entries }
         ensures slot { Rewrites (λ w. T.eq w value.now) (recounted n) self.old.tables self.new.tables }
-        ensures slots { length self.new.tables.newer ≡ length self.old.tables.newer }
-        ensures room { room self.old.tables ≤ room self.new.tables }
+        ensures room { KeepsRoom 0 self.old.tables self.new.tables }
     {
         let hash = self.hash(value);
         if let Some(spot) = self.locate(hash, value) {
@@ -305,8 +303,7 @@ impl<T: Eq + Hash + Drop, S: BuildHasher + Drop> Table<T, S> {
         ensures counted { IsCounted T.eq self.new.entries }
         ensures slot { IsSome result → Rewrites (λ w. T.eq w value.now) (λ _. Slot.Removed) self.old.tables self.new.tables }
         ensures none { result ≡ None → self.new ≡ self.old }
-        ensures slots { length self.new.tables.newer ≡ length self.old.tables.newer }
-        ensures room { room self.old.tables ≤ room self.new.tables }
+        ensures room { KeepsRoom 0 self.old.tables self.new.tables }
     {
         let hash = self.hash(value);
         match self.locate(hash, value) {
@@ -330,8 +327,7 @@ impl<T: Eq + Hash + Drop, S: BuildHasher + Drop> Table<T, S> {
         ensures fewer { n < result → Rewrites (λ w. T.eq w value.now) (recounted (result - n)) self.old.tables self.new.tables }
         ensures gone { 0 < result → result ≤ n → Rewrites (λ w. T.eq w value.now) (λ _. Slot.Removed) self.old.tables self.new.tables }
         ensures none { result ≡ 0 → self.new ≡ self.old }
-        ensures slots { length self.new.tables.newer ≡ length self.old.tables.newer }
-        ensures room { room self.old.tables ≤ room self.new.tables }
+        ensures room { KeepsRoom 0 self.old.tables self.new.tables }
     {
         let hash = self.hash(value);
         if let Some(spot) = self.locate(hash, value) {
@@ -360,8 +356,7 @@ impl<T: Eq + Hash + Drop, S: BuildHasher + Drop> Table<T, S> {
         ensures fewer { IfErr result (λ before. 0 < before → Rewrites (λ w. T.eq w value.now) (recounted (before - 1)) self.old.tables self.new.tables) }
         ensures gone { IfOk result (λ _. Rewrites (λ w. T.eq w value.now) (λ _. Slot.Removed) self.old.tables self.new.tables) }
         ensures none { IfErr result (λ before. before ≡ 0 → self.new ≡ self.old) }
-        ensures slots { length self.new.tables.newer ≡ length self.old.tables.newer }
-        ensures room { room self.old.tables ≤ room self.new.tables }
+        ensures room { KeepsRoom 0 self.old.tables self.new.tables }
     {
         let hash = self.hash(value);
         if let Some(spot) = self.locate(hash, value) {
@@ -394,10 +389,8 @@ impl<T: Eq + Hash + Drop, S: BuildHasher + Drop> Table<T, S> {
         ensures takes { 0 < room self.old.tables → IsOk result }
         ensures slot { IsSome (entry_of T.eq value self.old.entries) → Rewrites (λ w. T.eq w value) (recounted (count_of T.eq value self.old.entries + n)) self.old.tables self.new.tables }
         ensures arrives { entry_of T.eq value self.old.entries ≡ None → OnOk result (Arrives self.old.tables self.new.tables) }
-        ensures slots { OnOk result (0 < room self.old.tables → length self.new.tables.newer ≡ length self.old.tables.newer) }
-        ensures room { OnOk result (0 < room self.old.tables → room self.old.tables ≤ room self.new.tables + 1) }
-        ensures same_slots { IfOk result (λ before. 0 < before → length self.new.tables.newer ≡ length self.old.tables.newer) }
-        ensures same_room { IfOk result (λ before. 0 < before → room self.old.tables ≤ room self.new.tables) }
+        ensures room { OnOk result (0 < room self.old.tables → KeepsRoom 1 self.old.tables self.new.tables) }
+        ensures same_room { IfOk result (λ before. 0 < before → KeepsRoom 0 self.old.tables self.new.tables) }
     {
         self.recall();
         if let Some(spot) = self.locate_told(hash, &value, absent) {
@@ -426,10 +419,8 @@ impl<T: Eq + Hash + Drop, S: BuildHasher + Drop> Table<T, S> {
         ensures takes { 0 < room self.old.tables → IsOk result }
         ensures slot { IsSome (entry_of T.eq value self.old.entries) → Rewrites (λ w. T.eq w value) (recounted (count_of T.eq value self.old.entries + n)) self.old.tables self.new.tables }
         ensures arrives { entry_of T.eq value self.old.entries ≡ None → OnOk result (Arrives self.old.tables self.new.tables) }
-        ensures slots { OnOk result (0 < room self.old.tables → length self.new.tables.newer ≡ length self.old.tables.newer) }
-        ensures room { OnOk result (0 < room self.old.tables → room self.old.tables ≤ room self.new.tables + 1) }
-        ensures same_slots { IfOk result (λ before. 0 < before → length self.new.tables.newer ≡ length self.old.tables.newer) }
-        ensures same_room { IfOk result (λ before. 0 < before → room self.old.tables ≤ room self.new.tables) }
+        ensures room { OnOk result (0 < room self.old.tables → KeepsRoom 1 self.old.tables self.new.tables) }
+        ensures same_room { IfOk result (λ before. 0 < before → KeepsRoom 0 self.old.tables self.new.tables) }
     {
         let hash = self.hash(&value);
         let absent = match self.look_near(hash, &value) {
@@ -465,10 +456,8 @@ impl<T: Eq + Hash + Drop, S: BuildHasher + Drop> Table<T, S> {
         ensures takes { 0 < room self.old.tables → IsOk result }
         ensures slot { IsSome (entry_of T.eq value self.old.entries) → Rewrites (λ w. T.eq w value) (λ _. Slot.Live value 1) self.old.tables self.new.tables }
         ensures arrives { entry_of T.eq value self.old.entries ≡ None → OnOk result (Arrives self.old.tables self.new.tables) }
-        ensures slots { OnOk result (0 < room self.old.tables → length self.new.tables.newer ≡ length self.old.tables.newer) }
-        ensures room { OnOk result (0 < room self.old.tables → room self.old.tables ≤ room self.new.tables + 1) }
-        ensures same_slots { IfOk result (λ before. 0 < before → length self.new.tables.newer ≡ length self.old.tables.newer) }
-        ensures same_room { IfOk result (λ before. 0 < before → room self.old.tables ≤ room self.new.tables) }
+        ensures room { OnOk result (0 < room self.old.tables → KeepsRoom 1 self.old.tables self.new.tables) }
+        ensures same_room { IfOk result (λ before. 0 < before → KeepsRoom 0 self.old.tables self.new.tables) }
     {
         let hash = self.hash(&value);
         if let Some(spot) = self.locate(hash, &value) {
@@ -507,11 +496,9 @@ impl<T: Eq + Hash + Drop, S: BuildHasher + Drop> Table<T, S> {
         ensures total { result ≡ total self.new.entries }
         ensures hasher { self.new.hasher ≡ self.old.hasher }
         ensures counted { IsCounted T.eq self.new.entries }
-        ensures newer { length self.new.tables.newer ≡ length self.old.tables.newer }
         ensures waiting { length self.new.tables.waiting ≡ length self.old.tables.waiting }
         ensures in_place { RetainsTables self.old.tables self.new.tables }
-        ensures built { self.new.tables.built ≡ self.old.tables.built }
-        ensures room { room self.old.tables ≤ room self.new.tables }
+        ensures room { KeepsRoom 0 self.old.tables self.new.tables }
     {
         let newer = retain_slots(&mut self.newer, 0, &mut f);
         let waiting = retain_slots(&mut self.older, self.looked, &mut f);

@@ -10,7 +10,7 @@ none_there (suc a) b some none = let there = some (omega arith) in absurd (omega
 
 pub loop-last-preserved : goal.loop-last-preserved
 loop-last-preserved g c =
-    let left = count_removed g.met.T.Eq.laws c.loop-last.stock c.take_one.new.self c.args.article.now 1 c.take_one.ensures.taken in
+    let left = count_removed g.met.T.Eq.laws c.loop-last.stock c.take_one.new.self c.args.article.now 1 c.take_one.ensures.fewer.left in
     let before = c.in-Err.ensures.others.0 in
     let long = c.in-Err.ensures.len in
     let so_far = c.loop-last.invariant.len in
@@ -21,19 +21,19 @@ loop-last-preserved g c =
       len = omega arith;
       fewer = omega arith;
       some = λ some. omega arith;
-      same = instance_less g.met.T.Eq.laws c.args.article.now c.loop-last.stock.items c.take_one.new.self.items c.take_one.ensures.bag c.take_one.ensures.taken.bag many c.take_one.ensures.taken.means ∙ c.loop-last.invariant.same;
+      same = instance_less g.met.T.Eq.laws c.args.article.now c.loop-last.stock.items c.take_one.new.self.items c.take_one.ensures.bag c.take_one.ensures.fewer.left.bag many c.take_one.ensures.fewer.left.means ∙ c.loop-last.invariant.same;
     }
 
 -- the last was the only one
 pub returns-in-Ok-clause-none_left : goal.returns-in-Ok-clause-none_left
 returns-in-Ok-clause-none_left g c =
-    let left = count_removed g.met.T.Eq.laws c.loop-last.stock c.take_one.new.self c.args.article.now 1 c.take_one.ensures.taken in
+    let left = count_removed g.met.T.Eq.laws c.loop-last.stock c.take_one.new.self c.args.article.now 1 c.take_one.ensures.fewer.left in
     let one = stored_count g.met.T.Eq.laws c.args.article.now c.loop-last.stock.items c.in-Ok.last 1 (sym c.in-Ok.ensures.last) in
     omega arith
 
 pub returns-in-Err-eq0-clause-none_left : goal.returns-in-Err-eq0-clause-none_left
 returns-in-Err-eq0-clause-none_left g c =
-    let left = count_removed g.met.T.Eq.laws c.loop-last.stock c.take_one.new.self c.args.article.now 1 c.take_one.ensures.taken in
+    let left = count_removed g.met.T.Eq.laws c.loop-last.stock c.take_one.new.self c.args.article.now 1 c.take_one.ensures.fewer.left in
     let before = c.in-Err-eq0.ensures.others.0 in
     omega arith
 

@@ -1,7 +1,8 @@
-use Rattle.std.proofs.Common.{ap, refl, arith}
-use Rattle.hashbag_script.proofs.RoomLemmas.{moves_kept, keeps_same, keeps_as, recounted_built}
+use Rattle.std.proofs.Common.{ap, refl}
+use Rattle.hashbag_table.proofs.RoomKeptLemmas.{keeps_same, keeps_as}
+use Rattle.hashbag_script.proofs.RoomLemmas.{moves_kept}
 use Rattle.hashbag_script.specs.Script.{is_about_room}
-use Rattle.hashbag_script.proofs.TurnLemmas.{on_ok_quiet, turns_quiet, turns_reserved, turns_shrunk}
+use Rattle.hashbag_script.proofs.TurnLemmas.{on_ok_quiet, turns_quiet}
 use Rattle.hashbag_script.proofs.script.apply.Goals as goal
 
 pub returns-in-Insert-clause-turns : goal.returns-in-Insert-clause-turns
@@ -18,11 +19,11 @@ returns-in-EntryOr-clause-turns g c = rw (c.in-EntryOr.is) (on_ok_quiet g.T.Part
 
 pub returns-in-Remove-clause-turns : goal.returns-in-Remove-clause-turns
 returns-in-Remove-clause-turns g c =
-    turns_quiet g.T.PartialEq.eq _ _ _ _ _ (ap is_about_room c.in-Remove.is) (moves_kept _ _ _ (record { slots = c.remove.ensures.slots; room = let r = c.remove.ensures.room in omega (arith, r); built = recounted_built g.T.PartialEq.eq _ _ _ _ _ c.remove.ensures.slot (λ none. ap (λ b. b.tables) (c.remove.ensures.none none)) }))
+    turns_quiet g.T.PartialEq.eq _ _ _ _ _ (ap is_about_room c.in-Remove.is) (moves_kept _ _ _ c.remove.ensures.fewer.room)
 
 pub returns-in-RemoveUpTo-clause-turns : goal.returns-in-RemoveUpTo-clause-turns
 returns-in-RemoveUpTo-clause-turns g c =
-    turns_quiet g.T.PartialEq.eq _ _ _ _ _ (ap is_about_room c.in-RemoveUpTo.is) (moves_kept _ _ _ (record { slots = c.remove_up_to.ensures.slots; room = let r = c.remove_up_to.ensures.room in omega (arith, r); built = recounted_built g.T.PartialEq.eq _ _ _ _ _ c.remove_up_to.ensures.slot (λ none. ap (λ b. b.tables) (c.remove_up_to.ensures.none none)) }))
+    turns_quiet g.T.PartialEq.eq _ _ _ _ _ (ap is_about_room c.in-RemoveUpTo.is) (moves_kept _ _ _ c.remove_up_to.ensures.fewer.room)
 
 pub returns-in-TryTake-clause-turns : goal.returns-in-TryTake-clause-turns
 returns-in-TryTake-clause-turns g c =
@@ -42,7 +43,7 @@ returns-in-Retain-clause-turns g c =
 
 pub returns-in-Clear-clause-turns : goal.returns-in-Clear-clause-turns
 returns-in-Clear-clause-turns g c =
-    turns_quiet g.T.PartialEq.eq _ _ _ _ _ (ap is_about_room c.in-Clear.is) (moves_kept _ _ _ (record { slots = c.clear.ensures.slots; room = let r = c.clear.ensures.room in omega (arith, r); built = ap (λ t. t.built) c.clear.ensures.cleared }))
+    turns_quiet g.T.PartialEq.eq _ _ _ _ _ (ap is_about_room c.in-Clear.is) (moves_kept _ _ _ c.clear.ensures.room)
 
 pub returns-in-Count-clause-turns : goal.returns-in-Count-clause-turns
 returns-in-Count-clause-turns g c =

@@ -1,10 +1,8 @@
-use Rattle.std.proofs.Common.{◌≡◌, ◌+◌, ◌<◌, ◌≤◌, length, sym, ◌∙◌, ap, subst, arith}
+use Rattle.std.proofs.Common.{◌+◌, ◌<◌, ◌≤◌, length, sym, ◌∙◌, ap, subst, arith}
 use Rattle.std.proofs.lemmas.Bool.{false≢true}
 use Rattle.hashbag_core.proofs.ExtendLemmas.{refuses_memory}
 use Rattle.hashbag_core.specs.declared.bag.BagError.{BagError}
-use Rattle.hashbag_core.specs.declared.bag.BagError.TheVariants.{TooMany}
 use Rattle.hashbag_core.specs.Extends.{Refuses}
-use Rattle.hashbag_core.proofs.HeldLemmas.{rewritten_built}
 use Rattle.hashbag_script.proofs.RoomLemmas.{moves_inserted, one_inserted}
 use Rattle.hashbag_script.proofs.RowLemmas.{row_kept, insert_row-passes}
 use Rattle.hashbag_script.proofs.script.insert.Goals as goal
@@ -18,9 +16,7 @@ returns-in-Ok-clause-room g c =
     let same = done.added.limit in
     let fits : length c.args.bag.now.items + c.args.n ≤ c.args.bag.now.most = omega (arith, long, within, same) in
     moves_inserted c.in-Ok.before c.args.n _ c.args.bag.now.tables c.insert_many.new.self.tables (λ none. ap (λ b. b.tables) (done.none none))
-    (λ more some.
-    let there = subst (λ k. 0 < k) before some in
-    record { slots = done.same_slots there; room = let r = done.same_room there in omega (arith, r); built = rewritten_built _ _ _ _ (done.slot more there) })
+    (λ more some. done.same_room (subst (λ k. 0 < k) before some))
     (λ more none. done.arrives more (sym before ∙ none))
     (λ none some. one_inserted g.met.T.Eq.laws c.args.bag.now.most c.args.value c.args.n c.args.bag.now.items (sym before ∙ none) some fits)
 

@@ -1,9 +1,8 @@
-use Rattle.std.proofs.Common.{◌≡◌, ◌+◌, ◌-◌, ◌<◌, ◌≤◌, length, sym, ◌∙◌, ap, subst, arith}
+use Rattle.std.proofs.Common.{◌+◌, ◌<◌, length, sym, ◌∙◌, subst, arith}
 use Rattle.std.proofs.lemmas.Bool.{false≢true}
 use Rattle.hashbag_core.proofs.ExtendLemmas.{refuses_memory}
 use Rattle.hashbag_core.specs.declared.bag.BagError.{BagError}
 use Rattle.hashbag_core.specs.Extends.{Refuses}
-use Rattle.hashbag_core.proofs.HeldLemmas.{rewritten_built}
 use Rattle.hashbag_script.proofs.RoomLemmas.{moves_inserted, one_replaced}
 use Rattle.hashbag_script.proofs.RowLemmas.{row_kept, replace_row-passes}
 use Rattle.hashbag_script.proofs.script.replace.Goals as goal
@@ -16,7 +15,7 @@ returns-in-Ok-clause-room g c =
     let within = done.put.bag.fits in
     let same = done.put.limit in
     moves_inserted c.in-Ok.before 1 _ c.args.bag.now.tables c.replace.new.self.tables (λ none. absurd (omega (arith, none)))
-    (λ more some. record { slots = done.same_slots some; room = let r = done.same_room some in omega (arith, r); built = rewritten_built _ _ _ _ (done.slot (subst (λ k. 0 < k) done.before some)) })
+    (λ more some. done.same_room some)
     (λ more none. done.arrives (sym done.before ∙ none))
     (λ none some. one_replaced g.met.T.Eq.laws c.args.bag.now.most c.args.value c.args.bag.now.items (sym done.before ∙ none) (omega (arith, none, long, within, same)))
 

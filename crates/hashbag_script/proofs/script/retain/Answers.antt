@@ -1,4 +1,4 @@
-use Rattle.std.proofs.Common.{◌≡◌, refl, rules, arith}
+use Rattle.std.proofs.Common.{◌≡◌, refl, rules}
 use Rattle.hashbag_script.specs.Rows.{quota}
 use Rattle.hashbag_script.proofs.QuotaLemmas.{quota_congr, retained_of_bag}
 use Rattle.hashbag_core.proofs.RetainLemmas.{answers_are}
@@ -12,5 +12,5 @@ returns g c =
     let answers = answers_are _ (λ p. p.0.now ≡ list) (quota eq list) (λ p q x n a same t. search rules) _ done.walk done.answers done.last refl done.asked in
     record {
       left = retained_of_bag g.met.T.Eq.laws (quota eq list) (quota_congr g.met.T.Eq.laws list) c.args.bag.now c.retain.new.self done.walk done.answers c.recall_what_bags_keep.ensures done.set_walk answers done.left;
-      room = let more = c.retain.ensures.room in record { slots = c.retain.ensures.slots; room = omega (arith, more); built = c.retain.ensures.built };
+      room = c.retain.ensures.room;
     }

@@ -8,7 +8,7 @@ returns-in-Some-clause-reply g c = ap (λ p. p.1) (sym (take_all_row-some g.met.
 
 pub returns-in-Some-clause-left : goal.returns-in-Some-clause-left
 returns-in-Some-clause-left g c =
-    subst (λ p. IsBagOf g.T.PartialEq.eq c.args.bag.now p.0 c.take_all.new.self) (sym (take_all_row-some g.met.T.Eq.laws c.args.value.now c.args.bag.now.items c.in-Some.instance c.in-Some.count c.in-Some.ensures.taken)) c.take_all.ensures.left
+    subst (λ p. IsBagOf g.T.PartialEq.eq c.args.bag.now p.0 c.take_all.new.self) (sym (take_all_row-some g.met.T.Eq.laws c.args.value.now c.args.bag.now.items c.in-Some.instance c.in-Some.count c.in-Some.ensures.taken)) c.take_all.ensures.fewer.left
 
 pub returns-in-None-clause-reply : goal.returns-in-None-clause-reply
 returns-in-None-clause-reply g c =
@@ -19,4 +19,4 @@ pub returns-in-None-clause-left : goal.returns-in-None-clause-left
 returns-in-None-clause-left g c =
     let none = none_from_stored g.met.T.Eq.laws c.args.value.now c.args.bag.now.items c.in-None.ensures.taken in
     subst (λ p. IsBagOf g.T.PartialEq.eq c.args.bag.now p.0 c.take_all.new.self) (sym (take_all_row-absent g.met.T.Eq.laws c.args.value.now c.args.bag.now.items none))
-    (bag_of_absent g.met.T.Eq.laws c.args.value.now _ c.args.bag.now c.take_all.new.self none c.take_all.ensures.left)
+    (bag_of_absent g.met.T.Eq.laws c.args.value.now _ c.args.bag.now c.take_all.new.self none c.take_all.ensures.fewer.left)

@@ -8,4 +8,4 @@ pub returns-in-Err-eq0-clause-left : goal.returns-in-Err-eq0-clause-left
 returns-in-Err-eq0-clause-left g c =
     let none : count g.T.PartialEq.eq c.args.value.now c.args.bag.now.items ≡ 0 = sym c.in-Err-eq0.ensures.others.0 ∙ c.in-Err-eq0.field-0-test in
     subst (λ p. IsBagOf g.T.PartialEq.eq c.args.bag.now p.0 c.take_one.new.self) (sym (try_take_row-absent g.met.T.Eq.laws c.args.value.now c.args.bag.now.items none))
-    (bag_of_absent g.met.T.Eq.laws c.args.value.now 1 c.args.bag.now c.take_one.new.self none c.take_one.ensures.taken)
+    (bag_of_absent g.met.T.Eq.laws c.args.value.now 1 c.args.bag.now c.take_one.new.self none c.take_one.ensures.fewer.left)

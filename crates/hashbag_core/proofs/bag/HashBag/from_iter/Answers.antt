@@ -1,4 +1,4 @@
-use Rattle.std.proofs.Common.{◌∙◌, subst}
+use Rattle.std.proofs.Common.{◌∙◌}
 use Rattle.hashbag_core.proofs.ExtendLemmas.{handed_on}
 use Rattle.hashbag_core.proofs.InsertLemmas.{all_added, all_made, some_made}
 use Rattle.hashbag_core.proofs.bag.HashBag.from_iter.Goals as goal

@@ -1,11 +1,10 @@
-use Rattle.std.proofs.Common.{◌≡◌, ℕ, List, map, min, None, Some, sym, ◌∙◌, ap}
+use Rattle.std.proofs.Common.{◌≡◌, ℕ, List, map, min, None, sym, ◌∙◌, ap}
 use Rattle.std.specs.List.{AllZip}
 use Rattle.std.proofs.lemmas.Result.{IfOk-weaker, IfErr-weaker}
 use Rattle.serde_json.specs.View.{view}
 use Rattle.hashbag_core.specs.Inserts.{IsMadeOf}
-use Rattle.hashbag_core.specs.JsonFaults.{first_fault, opened_fault, fault, limit_of, limit_opened, MayEnd, MayEndAmong}
+use Rattle.hashbag_core.specs.JsonFaults.{first_fault, opened_fault, fault, limit_of, limit_opened}
 use Rattle.hashbag_core.specs.JsonTrees.{IsPair, IsReading}
-use Rattle.hashbag_core.specs.declared.json.JsonError.TheVariants.{Memory}
 use Rattle.hashbag_core.proofs.JsonLimitLemmas.{not_memory}
 use Rattle.hashbag_core.proofs.bag.HashBag.from_value_within.Goals as goal
 

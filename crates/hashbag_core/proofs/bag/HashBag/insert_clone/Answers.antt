@@ -1,4 +1,4 @@
-use Rattle.std.proofs.Common.{◌≡◌, ◌<◌, inl, arith}
+use Rattle.std.proofs.Common.{◌≡◌, inl, arith}
 use Rattle.std.proofs.lemmas.Result.{err_from_is_err_and, on_ok_weaker, IfErr-weaker}
 use Rattle.hashbag_core.specs.Inserts.{IsRefused, IsCloneRefused}
 use Rattle.hashbag_core.proofs.InsertLemmas.{inserts_none, clone_refused}

@@ -1,4 +1,4 @@
-use Rattle.std.proofs.Common.{◌≡◌, ◌+◌, ◌<◌, ◌≤◌, length, refl, arith, sym, ◌∙◌}
+use Rattle.std.proofs.Common.{◌≡◌, ◌<◌, refl, arith, sym, ◌∙◌}
 use Rattle.std.proofs.lemmas.Result.{err_from_is_err_and}
 use Rattle.hashbag_core.specs.Bag.{occurrences}
 use Rattle.hashbag_core.specs.Occurrences.{count}
@@ -64,8 +64,6 @@ returns-clause-inserted g c =
       new_set = λ _ none. distinct_one_more laws c.args.value _ _ _ was.counted c.add.ensures.counted done.added none;
       arrives = λ _ none. done.arrives (absent_in_table laws c.args.value _ was.counted none);
       slot = λ _ there. rw same (recounts_some g.T.PartialEq.eq c.args.value _ _ _ (omega (arith, some)) (c.add.ensures.slot (present_in_table laws c.args.value _ was.counted there)));
-      slots = done.slots;
       less_room = done.room;
-      same_slots = λ there. done.same_slots (omega (arith, same, before, there));
       same_room = λ there. done.same_room (omega (arith, same, before, there));
     })

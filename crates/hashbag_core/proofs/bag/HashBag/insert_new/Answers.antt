@@ -42,9 +42,6 @@ returns-in_err-insert_new-clause-takes g c = λ some. absurd (false≢true (c.in
 pub returns-clause-arrives : goal.returns-clause-arrives
 returns-clause-arrives g c = rw (← c.self.view_is) c.in_ok-insert_new.ensures.arrives
 
-pub returns-clause-slots : goal.returns-clause-slots
-returns-clause-slots g c = λ some. rw (← c.self.view_is) (c.in_ok-insert_new.ensures.slots (rw (← c.self.view_is) at some))
-
 pub returns-clause-room : goal.returns-clause-room
 returns-clause-room g c = λ some. rw (← c.self.view_is) (c.in_ok-insert_new.ensures.room (rw (← c.self.view_is) at some))
 

@@ -1,19 +1,7 @@
 use Rattle.hashbag_core.proofs.bag.HashBag.remove.Goals as goal
 
-pub returns-clause-slot : goal.returns-clause-slot
-returns-clause-slot g c = c.take_up_to.ensures.slot
-
-pub returns-clause-none : goal.returns-clause-none
-returns-clause-none g c = c.take_up_to.ensures.none
-
-pub returns-clause-slots : goal.returns-clause-slots
-returns-clause-slots g c = c.take_up_to.ensures.slots
-
-pub returns-clause-room : goal.returns-clause-room
-returns-clause-room g c = c.take_up_to.ensures.room
-
-pub returns-clause-removed : goal.returns-clause-removed
-returns-clause-removed g c = c.take_up_to.ensures.removed
+pub returns-clause-fewer : goal.returns-clause-fewer
+returns-clause-fewer g c = c.take_up_to.ensures.fewer
 
 pub returns-clause-len : goal.returns-clause-len
 returns-clause-len g c = c.take_up_to.ensures.len

@@ -1,6 +1,6 @@
 use Rattle.std.proofs.Common.{◌+◌, ◌-◌, ◌≤◌, length, arith, sym, ◌∙◌, subst, ℕ, refl}
 use Rattle.hashbag_core.specs.Bag.{occurrences, IsTallied}
-use Rattle.hashbag_core.specs.Occurrences.{greatest_total, count}
+use Rattle.hashbag_core.specs.Occurrences.{count}
 use Rattle.hashbag_core.proofs.OccurrenceLemmas.{bag_from_tally, count_occurrences, count_in_tally, count_le, put_occurrences, tally_put}
 use Rattle.std.proofs.Common.{◌≡◌}
 use Rattle.std.proofs.lemmas.Bool.{false≢true}
@@ -104,14 +104,8 @@ returns-clause-arrives g c = λ none. rw (← c.self.view_is) (c.in_ok-before.en
 pub returns-clause-slot : goal.returns-clause-slot
 returns-clause-slot g c = λ there. rw (← c.self.view_is) (c.put_instance.ensures.slot (present_in_table g.met.T.Eq.laws c.args.value _ c.self.invariant.counted (rw (← c.self.view_is) at there)))
 
-pub returns-clause-slots : goal.returns-clause-slots
-returns-clause-slots g c = λ some. rw (← c.self.view_is) (c.in_ok-before.ensures.slots (rw (← c.self.view_is) at some))
-
 pub returns-clause-room : goal.returns-clause-room
 returns-clause-room g c = λ some. rw (← c.self.view_is) (c.in_ok-before.ensures.room (rw (← c.self.view_is) at some))
-
-pub returns-clause-same_slots : goal.returns-clause-same_slots
-returns-clause-same_slots g c = λ some. rw (← c.self.view_is) (c.in_ok-before.ensures.same_slots some)
 
 pub returns-clause-same_room : goal.returns-clause-same_room
 returns-clause-same_room g c = λ some. rw (← c.self.view_is) (c.in_ok-before.ensures.same_room some)

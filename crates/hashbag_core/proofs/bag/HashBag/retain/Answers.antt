@@ -26,17 +26,11 @@ returns-clause-len g c =
     let done = c.retain-self-inside.ensures in
     rw (← c.self.view_is) (fewer_retained g.met.T.Eq.laws g.F.FnMut c.args.f c.self.inside.table.entries c.retain-self-inside.new.self.entries c.self.inside.len c.self.invariant done.counted done.kept)
 
-pub returns-clause-slots : goal.returns-clause-slots
-returns-clause-slots g c = rw (← c.self.view_is) c.retain-self-inside.ensures.newer
-
 pub returns-clause-waiting : goal.returns-clause-waiting
 returns-clause-waiting g c = rw (← c.self.view_is) c.retain-self-inside.ensures.waiting
 
 pub returns-clause-room : goal.returns-clause-room
 returns-clause-room g c = rw (← c.self.view_is) c.retain-self-inside.ensures.room
-
-pub returns-clause-built : goal.returns-clause-built
-returns-clause-built g c = rw (← c.self.view_is) c.retain-self-inside.ensures.built
 
 pub returns-clause-in_place : goal.returns-clause-in_place
 returns-clause-in_place g c = rw (← c.self.view_is) c.retain-self-inside.ensures.in_place

@@ -48,8 +48,5 @@ returns-clause-len g c =
 pub returns-clause-slot : goal.returns-clause-slot
 returns-clause-slot g c = rw (← c.self.view_is) c.set_or_remove.ensures.slot
 
-pub returns-clause-slots : goal.returns-clause-slots
-returns-clause-slots g c = rw (← c.self.view_is) c.set_or_remove.ensures.slots
-
 pub returns-clause-room : goal.returns-clause-room
 returns-clause-room g c = rw (← c.self.view_is) c.set_or_remove.ensures.room

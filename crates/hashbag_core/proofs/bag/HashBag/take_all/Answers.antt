@@ -21,16 +21,22 @@ invariant_of-self g c =
 pub returns-in_err-instance-clause-taken : goal.returns-in_err-instance-clause-taken
 returns-in_err-instance-clause-taken g c = rw (← c.self.view_is) (c.from_residual.ensures ∙ c.in_err-instance.ensures.taken ∙ sym (stored_occurrences g.met.T.Eq.laws c.args.value.now _ c.self.invariant.counted))
 
-pub returns-in_err-instance-clause-left : goal.returns-in_err-instance-clause-left
-returns-in_err-instance-clause-left g c =
+pub returns-in_err-instance-clause-fewer : goal.returns-in_err-instance-clause-fewer
+returns-in_err-instance-clause-fewer g c =
     let es = c.self.inside.table.entries in
     let v = c.args.value.now in
+    let none = count_of_entry g.met.T.Eq.laws v es None c.in_err-instance.ensures.taken in
     let same = count_occurrences g.met.T.Eq.laws v es c.self.invariant.counted.distinct in
     rw (← c.self.view_is) (record {
-      means = less_all_occurrences g.met.T.Eq.laws v _ es _ c.self.invariant.counted (omega arith) c.remove.ensures.left;
-      hasher = c.remove.ensures.hasher;
-      limit = refl;
-      bag = bag_from_tally g.met.T.Eq.laws _ _ (invariant_of-self g c);
+      left = record {
+        means = less_all_occurrences g.met.T.Eq.laws v _ es _ c.self.invariant.counted (omega arith) c.remove.ensures.left;
+        hasher = c.remove.ensures.hasher;
+        limit = refl;
+        bag = bag_from_tally g.met.T.Eq.laws _ _ (invariant_of-self g c);
+      };
+      slot = λ there. absurd (omega (arith, there, none, same));
+      none = λ _. ap (shown c.self.inside.most) (c.in_err-instance.ensures.none refl);
+      room = c.remove.ensures.room;
     })
 
 pub overflow_sub-self : goal.overflow_sub-self
@@ -51,16 +57,22 @@ invariant_of-self-2 g c =
 pub returns-clause-taken : goal.returns-clause-taken
 returns-clause-taken g c = rw (← c.self.view_is) (c.in_ok-instance.ensures.taken ∙ sym (stored_occurrences g.met.T.Eq.laws c.args.value.now _ c.self.invariant.counted))
 
-pub returns-clause-left : goal.returns-clause-left
-returns-clause-left g c =
+pub returns-clause-fewer : goal.returns-clause-fewer
+returns-clause-fewer g c =
     let es = c.self.inside.table.entries in
     let v = c.args.value.now in
     let same = count_occurrences g.met.T.Eq.laws v es c.self.invariant.counted.distinct in
+    let some = stored_some g.met.T.Eq.laws v (occurrences es) _ (c.in_ok-instance.ensures.taken ∙ sym (stored_occurrences g.met.T.Eq.laws v _ c.self.invariant.counted)) in
     rw (← c.self.view_is) (record {
-      means = less_all_occurrences g.met.T.Eq.laws v _ es _ c.self.invariant.counted (omega arith) c.remove.ensures.left;
-      hasher = c.remove.ensures.hasher;
-      limit = refl;
-      bag = bag_from_tally g.met.T.Eq.laws _ _ (invariant_of-self-2 g c);
+      left = record {
+        means = less_all_occurrences g.met.T.Eq.laws v _ es _ c.self.invariant.counted (omega arith) c.remove.ensures.left;
+        hasher = c.remove.ensures.hasher;
+        limit = refl;
+        bag = bag_from_tally g.met.T.Eq.laws _ _ (invariant_of-self-2 g c);
+      };
+      slot = λ _. recounts_none g.T.PartialEq.eq v _ _ _ (omega arith) (c.in_ok-instance.ensures.slot refl);
+      none = λ none. absurd (omega (arith, none, some));
+      room = c.remove.ensures.room;
     })
 
 pub returns-in_err-instance-clause-len : goal.returns-in_err-instance-clause-len
@@ -73,34 +85,3 @@ returns-clause-len g c =
     let was = c.self.invariant.sum in
     let now = (invariant_of-self-2 g c).sum in
     rw (← c.self.view_is) (omega arith)
-
-pub returns-in_err-instance-clause-slot : goal.returns-in_err-instance-clause-slot
-returns-in_err-instance-clause-slot g c = λ there.
-    let is_there = rw (← c.self.view_is) at there in
-    let none = count_of_entry g.met.T.Eq.laws c.args.value.now c.self.inside.table.entries None c.in_err-instance.ensures.taken in
-    let same = count_occurrences g.met.T.Eq.laws c.args.value.now c.self.inside.table.entries c.self.invariant.counted.distinct in
-    absurd (omega (arith, is_there, none, same))
-
-pub returns-in_err-instance-clause-none : goal.returns-in_err-instance-clause-none
-returns-in_err-instance-clause-none g c = λ _. rw (← c.self.view_is) (ap (shown c.self.inside.most) (c.in_err-instance.ensures.none refl))
-
-pub returns-clause-slot : goal.returns-clause-slot
-returns-clause-slot g c = λ _. rw (← c.self.view_is) (recounts_none g.T.PartialEq.eq c.args.value.now 0 _ _ refl (c.in_ok-instance.ensures.slot refl))
-
-pub returns-clause-none : goal.returns-clause-none
-returns-clause-none g c = λ none.
-    let is_none = rw (← c.self.view_is) at none in
-    let some = stored_some g.met.T.Eq.laws c.args.value.now (occurrences c.self.inside.table.entries) _ (c.in_ok-instance.ensures.taken ∙ sym (stored_occurrences g.met.T.Eq.laws c.args.value.now _ c.self.invariant.counted)) in
-    absurd (omega (arith, is_none, some))
-
-pub returns-in_err-instance-clause-slots : goal.returns-in_err-instance-clause-slots
-returns-in_err-instance-clause-slots g c = rw (← c.self.view_is) c.remove.ensures.slots
-
-pub returns-in_err-instance-clause-room : goal.returns-in_err-instance-clause-room
-returns-in_err-instance-clause-room g c = rw (← c.self.view_is) c.remove.ensures.room
-
-pub returns-clause-slots : goal.returns-clause-slots
-returns-clause-slots g c = rw (← c.self.view_is) c.remove.ensures.slots
-
-pub returns-clause-room : goal.returns-clause-room
-returns-clause-room g c = rw (← c.self.view_is) c.remove.ensures.room

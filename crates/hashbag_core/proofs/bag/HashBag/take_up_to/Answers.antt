@@ -22,14 +22,6 @@ invariant_of-self g c =
 pub returns-clause-before : goal.returns-clause-before
 returns-clause-before g c = rw (← c.self.view_is) (c.take-before.ensures.before ∙ sym (count_occurrences g.met.T.Eq.laws c.args.value.now _ c.self.invariant.counted.distinct))
 
-pub returns-clause-removed : goal.returns-clause-removed
-returns-clause-removed g c = rw (← c.self.view_is) (record {
-  means = fewer_occurrences g.met.T.Eq.laws c.args.value.now c.args.quantity _ _ c.self.invariant.counted c.take-before.ensures.taken;
-  hasher = c.take-before.ensures.hasher;
-  limit = refl;
-  bag = bag_from_tally g.met.T.Eq.laws _ _ (invariant_of-self g c);
-})
-
 pub returns-clause-len : goal.returns-clause-len
 returns-clause-len g c =
     let few = count_in_tally g.met.T.Eq.laws c.args.value.now c.self.inside.table.entries c.self.inside.len c.self.invariant in
@@ -39,20 +31,18 @@ returns-clause-len g c =
     let now = (invariant_of-self g c).sum in
     rw (← c.self.view_is) (omega arith)
 
-pub returns-clause-slot : goal.returns-clause-slot
-returns-clause-slot g c = λ there.
-    let is_there = rw (← c.self.view_is) at there in
-    let before : c.take-before.result ≡ count g.T.PartialEq.eq c.args.value.now (occurrences c.self.inside.table.entries) = c.take-before.ensures.before ∙ sym (count_occurrences g.met.T.Eq.laws c.args.value.now _ c.self.invariant.counted.distinct) in
-    rw (← c.self.view_is, ← before) (recounts_fewer g.T.PartialEq.eq c.args.value.now c.take-before.result c.args.quantity _ _ (omega (arith, before, is_there)) c.take-before.ensures.fewer c.take-before.ensures.gone)
-
-pub returns-clause-none : goal.returns-clause-none
-returns-clause-none g c = λ none.
-    let is_none = rw (← c.self.view_is) at none in
-    let before : c.take-before.result ≡ count g.T.PartialEq.eq c.args.value.now (occurrences c.self.inside.table.entries) = c.take-before.ensures.before ∙ sym (count_occurrences g.met.T.Eq.laws c.args.value.now _ c.self.invariant.counted.distinct) in
-    rw (← c.self.view_is) (ap (shown c.self.inside.most) (c.take-before.ensures.none (before ∙ is_none)))
-
-pub returns-clause-slots : goal.returns-clause-slots
-returns-clause-slots g c = rw (← c.self.view_is) c.take-before.ensures.slots
-
-pub returns-clause-room : goal.returns-clause-room
-returns-clause-room g c = rw (← c.self.view_is) c.take-before.ensures.room
+pub returns-clause-fewer : goal.returns-clause-fewer
+returns-clause-fewer g c =
+    let eq = g.T.PartialEq.eq in let v = c.args.value.now in let es = c.self.inside.table.entries in
+    let before : c.take-before.result ≡ count eq v (occurrences es) = c.take-before.ensures.before ∙ sym (count_occurrences g.met.T.Eq.laws v _ c.self.invariant.counted.distinct) in
+    rw (← c.self.view_is) (record {
+      left = record {
+        means = fewer_occurrences g.met.T.Eq.laws v c.args.quantity _ _ c.self.invariant.counted c.take-before.ensures.taken;
+        hasher = c.take-before.ensures.hasher;
+        limit = refl;
+        bag = bag_from_tally g.met.T.Eq.laws _ _ (invariant_of-self g c);
+      };
+      slot = λ there. rw (← before) (recounts_fewer eq v c.take-before.result c.args.quantity _ _ (omega (arith, before, there)) c.take-before.ensures.fewer c.take-before.ensures.gone);
+      none = λ none. ap (shown c.self.inside.most) (c.take-before.ensures.none (before ∙ none));
+      room = c.take-before.ensures.room;
+    })

@@ -28,7 +28,7 @@
 use Rattle.hashbag_core.proofs.bag.HashBag.TheLaws.{the_within, the_row_laws}
 use Rattle.hashbag_core.specs.contracts.bag.HashBag.{the_row}
 use Rattle.std.specs.Cmp.{IsEquivalence}
-use Rattle.hashbag_core.specs.Lending.{HasOneFewer}
+use Rattle.hashbag_core.specs.Held.{HasFewer}
 use Rattle.hashbag_core.proofs.TakeLemmas.{answer_of}
 use Rattle.hashbag_core.specs.contracts.bag.HashBag.try_take.Key.{name as key}
 use Rattle.hashbag_core.proofs.bag.HashBag.try_take.Statement.{statement}
@@ -659,20 +659,20 @@ module _ (T S H : RattleType) (lT : Laws T) (lS : Laws S) (lH : Laws H) (e : EqG
   -- ---- what is owed gives the clause
   abbrev Left : R.Denot → T.Denot → Option R.Denot → Type 0
   Left bag value none = ⊥
-  Left bag value (some v) = HasOneFewer (read PartialEqGhosts.eq p) value bag v
+  Left bag value (some v) = HasFewer (read PartialEqGhosts.eq p) value 1 bag v
 
   meaning : (w : World) (γ : GName) (P : R.Denot → Type 0) (v : R.Denot) → P v → ent w.𝓤 (sem w.𝓛 (fres γ (R.coded.code v))) (sem w.𝓛 (follows_so R R γ none (λ _ _. ⊤) P))
   unfolding such_by follows_by
   meaning w γ P v ends = ex_i w.𝓤 (λ (y : (f : (R.Denot → R.Denot) × R.Denot) × ((z : R.Denot) → ⊤) × P f.1). sem w.𝓛 (fres γ (R.coded.code y.0.1))) ((λ _. v, v), (λ _. tt), ends)
 
   gives_left : (w : World) (γ : GName) (bag : R.Denot) (value : T.Denot) (t : Option R.Denot) → Left bag value t
-      → ent w.𝓤 (sem w.𝓛 (owe γ t)) (sem w.𝓛 (follows_so R R γ none (λ _ _. ⊤) (HasOneFewer (read PartialEqGhosts.eq p) value bag)))
+      → ent w.𝓤 (sem w.𝓛 (owe γ t)) (sem w.𝓛 (follows_so R R γ none (λ _ _. ⊤) (HasFewer (read PartialEqGhosts.eq p) value 1 bag)))
   gives_left w γ bag value none left = absurd left
   gives_left w γ bag value (some v) left = meaning w γ _ v left
 
   abbrev owed : Owed 5 R last self others (kinds.r T S H lT lS lH e ed p pd h hd b bd s sd dT dS dH)
   owed = record {
-    X = λ κs a x e'. follows_so R R a.0.ghost_name none (λ _ _. ⊤) (HasOneFewer (read PartialEqGhosts.eq p) a.1.0.now a.0.now);
+    X = λ κs a x e'. follows_so R R a.0.ghost_name none (λ _ _. ⊤) (HasFewer (read PartialEqGhosts.eq p) a.1.0.now 1 a.0.now);
     Beside = λ κs a x e' t Q. Left a.0.now a.1.0.now t × Q;
     claim = λ κs a x e' t Q q. q.1;
     along = λ κs a x e' t Q Q' f q. (q.0, f q.1);
@@ -693,13 +693,12 @@ module _ (T S H : RattleType) (lT : Laws T) (lS : Laws S) (lH : Laws H) (e : EqG
           (refl, (refl, tt)),
           -- the clauses of the two calls, in the order of their contracts
           let one = taken.5 in
-              let left = one.0 in
+              let fewer : HasFewer (read PartialEqGhosts.eq p) a.1.0.now 1 a.0.now taken.2.0 = one.0 in
               let last = one.1.1.0 in
               let several = one.1.1.1.0 in
-              let bag = one.1.1.1.1.0 in
+              let bag = one.1.1.1.1 in
               let rest = answered.5 in
-              let fewer : HasOneFewer (read PartialEqGhosts.eq p) a.1.0.now a.0.now taken.2.0 = record { left = left; slot = one.1.1.1.1.1.0; none = one.1.1.1.1.1.1.0; slots = one.1.1.1.1.1.1.1.0; room = one.1.1.1.1.1.1.1.1 } in
-              (fewer, answer_of laws (λ f. (f.0.now, f.1)) a.1.0.now a.0.now.items taken.2.0.items bag left.bag left.means taken.1 answered.1 last several rest.0 rest.1.0 rest.1.1),
+              (fewer, answer_of laws (λ f. (f.0.now, f.1)) a.1.0.now a.0.now.items taken.2.0.items bag fewer.left.bag fewer.left.means taken.1 answered.1 last several rest.0 rest.1.0 rest.1.1),
         ),
       ),
     ),

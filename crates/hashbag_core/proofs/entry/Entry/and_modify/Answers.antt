@@ -28,7 +28,6 @@ returns-then-n-limit g c =
         stays = tt;
         len = tt;
         slot = tt;
-        slots = tt;
         room = tt;
       },
     )
@@ -55,7 +54,6 @@ returns g c =
         passes = tt;
         len = omega (arith, c.set_count.ensures.len, c.set_count.ensures.after);
         slot = λ _. subst (λ (k : ℕ). Recounts g.T.PartialEq.eq c.args.self.value k c.args.self.bag.now.tables c.set_count.new.self.tables) (sym c.set_count.ensures.after) c.set_count.ensures.slot;
-        slots = c.set_count.ensures.slots;
         room = c.set_count.ensures.room;
         stays = tt;
       },

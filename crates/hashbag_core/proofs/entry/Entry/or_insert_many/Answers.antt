@@ -1,7 +1,8 @@
-use Rattle.std.proofs.Common.{◌≡◌, sym, ◌∙◌, arith, refl}
+use Rattle.std.proofs.Common.{◌≡◌, arith, refl}
 use Rattle.std.proofs.lemmas.Result.{err_from_is_err_and}
 use Rattle.hashbag_core.specs.Occurrences.{count}
 use Rattle.hashbag_core.specs.declared.bag.BagError.TheVariants.{Memory}
+use Rattle.hashbag_table.proofs.RoomKeptLemmas.{keeps_same}
 use Rattle.hashbag_core.proofs.entry.Entry.or_insert_many.Goals as goal
 
 pub returns-then-before-gt0-clause-occupied : goal.returns-then-before-gt0-clause-occupied
@@ -13,11 +14,8 @@ returns-then-before-gt0-clause-len g c = omega (arith, c.contains-before.ensures
 pub returns-then-before-gt0-clause-same : goal.returns-then-before-gt0-clause-same
 returns-then-before-gt0-clause-same g c = λ _. refl
 
-pub returns-then-before-gt0-clause-slots : goal.returns-then-before-gt0-clause-slots
-returns-then-before-gt0-clause-slots g c = λ _. refl
-
 pub returns-then-before-gt0-clause-room : goal.returns-then-before-gt0-clause-room
-returns-then-before-gt0-clause-room g c = λ _. omega arith
+returns-then-before-gt0-clause-room g c = λ _. keeps_same 1 _
 
 pub insert_new-requires-clause-some : goal.insert_new-requires-clause-some
 insert_new-requires-clause-some g c = omega arith

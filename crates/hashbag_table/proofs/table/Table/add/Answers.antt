@@ -1,4 +1,4 @@
-use Rattle.std.proofs.Common.{◌≡◌, ◌∷◌, ◌+◌, ℕ, Bool, List, None, length, sym, ap, subst, ◌∙◌, arith}
+use Rattle.std.proofs.Common.{◌≡◌, ◌∷◌, ℕ, Bool, List, None, sym, ap, subst, ◌∙◌, arith}
 use Rattle.std.proofs.lemmas.List.Sorted.{length_permutation}
 use Rattle.std.specs.Cmp.{IsEquivalence}
 use Rattle.std.specs.Option.{IsSome}
@@ -13,6 +13,7 @@ use Rattle.hashbag_table.specs.Tables.{HoldsIn, slot_in}
 use Rattle.hashbag_table.proofs.CarryLemmas.{arrives_from, ready_alone}
 use Rattle.hashbag_table.proofs.EntryLemmas.{without_absent}
 use Rattle.hashbag_table.proofs.RaisedLemmas.{raised_fits, raised_before, raised_added, raised_slot, raised_kept}
+use Rattle.hashbag_table.proofs.RoomKeptLemmas.{keeps_more, keeps_Arrives}
 use Rattle.hashbag_table.proofs.SlotLemmas.{turned}
 use Rattle.hashbag_table.proofs.SpotLemmas.{count_absent, added_absent}
 use Rattle.hashbag_table.proofs.table.Table.add.Goals as goal
@@ -46,12 +47,19 @@ returns-in-Some-Ok-clause-slot g c some =
     raised_slot g.T.PartialEq.eq c.args.value c.args.n c.args.self.now.entries c.args.self.now.tables c.in-Some-Ok.spot is held c.raise_spot-before.result c.raise_spot-before.ensures.before
     c.raise_spot-before.new.self.tables c.raise_spot-before.ensures.after
 
-pub returns-in-Some-Ok-clause-slots : goal.returns-in-Some-Ok-clause-slots
-returns-in-Some-Ok-clause-slots g c some =
+pub returns-in-Some-Ok-clause-room : goal.returns-in-Some-Ok-clause-room
+returns-in-Some-Ok-clause-room g c some =
     let is = subst (λ r. IfOk r (λ spot. slot_entry (slot_in c.args.self.now.tables spot) ≡ entry_of g.T.PartialEq.eq c.args.value c.args.self.now.entries)) c.in-Some-Ok.field-0-is c.in-Some-Ok.ensures.map in
     let held = subst (λ r. IfOk r (HoldsIn (λ w. g.T.PartialEq.eq w c.args.value) c.args.self.now.tables)) c.in-Some-Ok.field-0-is c.in-Some-Ok.ensures.held in
-    (raised_kept g.T.PartialEq.eq c.args.value c.args.n c.args.self.now.entries c.args.self.now.tables c.in-Some-Ok.spot is held c.raise_spot-before.result c.raise_spot-before.ensures.before
-    c.raise_spot-before.new.self.tables c.raise_spot-before.ensures.after).0
+    keeps_more 1 _ _ (raised_kept g.T.PartialEq.eq c.args.value c.args.n c.args.self.now.entries c.args.self.now.tables c.in-Some-Ok.spot is held c.raise_spot-before.result c.raise_spot-before.ensures.before
+    c.raise_spot-before.new.self.tables c.raise_spot-before.ensures.after)
+
+pub returns-in-Some-Ok-clause-same_room : goal.returns-in-Some-Ok-clause-same_room
+returns-in-Some-Ok-clause-same_room g c some =
+    let is = subst (λ r. IfOk r (λ spot. slot_entry (slot_in c.args.self.now.tables spot) ≡ entry_of g.T.PartialEq.eq c.args.value c.args.self.now.entries)) c.in-Some-Ok.field-0-is c.in-Some-Ok.ensures.map in
+    let held = subst (λ r. IfOk r (HoldsIn (λ w. g.T.PartialEq.eq w c.args.value) c.args.self.now.tables)) c.in-Some-Ok.field-0-is c.in-Some-Ok.ensures.held in
+    raised_kept g.T.PartialEq.eq c.args.value c.args.n c.args.self.now.entries c.args.self.now.tables c.in-Some-Ok.spot is held c.raise_spot-before.result c.raise_spot-before.ensures.before
+    c.raise_spot-before.new.self.tables c.raise_spot-before.ensures.after
 
 pub settle-requires-clause-absent : goal.settle-requires-clause-absent
 settle-requires-clause-absent g c =
@@ -82,6 +90,11 @@ pub returns-then-takes_now-clause-arrives : goal.returns-then-takes_now-clause-a
 returns-then-takes_now-clause-arrives g c none =
     let t = c.args.self.now.tables in let is = c.if-takes_now.true in
     arrives_from t t c.settle.new.self.tables c.args.value c.args.n (ready_alone t (c.takes_now.ensures.none_waits is) (c.takes_now.ensures.room is)) c.settle.ensures.placed c.settle.ensures.waiting c.settle.ensures.built
+
+pub returns-then-takes_now-clause-room : goal.returns-then-takes_now-clause-room
+returns-then-takes_now-clause-room g c some =
+    let t = c.args.self.now.tables in let is = c.if-takes_now.true in
+    keeps_Arrives _ _ (arrives_from t t c.settle.new.self.tables c.args.value c.args.n (ready_alone t (c.takes_now.ensures.none_waits is) (c.takes_now.ensures.room is)) c.settle.ensures.placed c.settle.ensures.waiting c.settle.ensures.built) some
 
 pub returns-then-takes_now-clause-new_set : goal.returns-then-takes_now-clause-new_set
 returns-then-takes_now-clause-new_set g c none = let more = length_permutation _ _ c.settle.ensures.entries in omega (arith, more)

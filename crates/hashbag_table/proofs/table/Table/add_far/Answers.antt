@@ -1,6 +1,7 @@
 use Rattle.std.proofs.Common.{sym}
 use Rattle.hashbag_table.proofs.SpotLemmas.{count_absent, added_absent}
 use Rattle.hashbag_table.proofs.RaisedLemmas.{raised_fits, raised_before, raised_added, raised_slot, raised_kept}
+use Rattle.hashbag_table.proofs.RoomKeptLemmas.{keeps_more, keeps_Arrives}
 use Rattle.hashbag_table.proofs.table.Table.add_far.Goals as goal
 
 pub raise_spot-before-requires-clause-fits : goal.raise_spot-before-requires-clause-fits
@@ -21,10 +22,18 @@ returns-in-Some-clause-slot g c some =
     raised_slot g.T.PartialEq.eq c.args.value c.args.n c.args.self.now.entries c.args.self.now.tables c.in-Some.spot c.in-Some.ensures.map c.in-Some.ensures.held c.raise_spot-before.result c.raise_spot-before.ensures.before
     c.raise_spot-before.new.self.tables c.raise_spot-before.ensures.after
 
-pub returns-in-Some-clause-slots : goal.returns-in-Some-clause-slots
-returns-in-Some-clause-slots g c some =
-    (raised_kept g.T.PartialEq.eq c.args.value c.args.n c.args.self.now.entries c.args.self.now.tables c.in-Some.spot c.in-Some.ensures.map c.in-Some.ensures.held c.raise_spot-before.result c.raise_spot-before.ensures.before
-    c.raise_spot-before.new.self.tables c.raise_spot-before.ensures.after).0
+pub returns-in-Some-clause-room : goal.returns-in-Some-clause-room
+returns-in-Some-clause-room g c some =
+    keeps_more 1 _ _ (raised_kept g.T.PartialEq.eq c.args.value c.args.n c.args.self.now.entries c.args.self.now.tables c.in-Some.spot c.in-Some.ensures.map c.in-Some.ensures.held c.raise_spot-before.result c.raise_spot-before.ensures.before
+    c.raise_spot-before.new.self.tables c.raise_spot-before.ensures.after)
+
+pub returns-in-Some-clause-same_room : goal.returns-in-Some-clause-same_room
+returns-in-Some-clause-same_room g c some =
+    raised_kept g.T.PartialEq.eq c.args.value c.args.n c.args.self.now.entries c.args.self.now.tables c.in-Some.spot c.in-Some.ensures.map c.in-Some.ensures.held c.raise_spot-before.result c.raise_spot-before.ensures.before
+    c.raise_spot-before.new.self.tables c.raise_spot-before.ensures.after
+
+pub returns-clause-room : goal.returns-clause-room
+returns-clause-room g c some = keeps_Arrives _ _ c.in_ok-insert_hashed.ensures.arrives some
 
 pub returns-clause-before : goal.returns-clause-before
 returns-clause-before g c = sym (count_absent g.T.PartialEq.eq c.args.value c.args.self.now.entries (sym c.in_default.ensures.map))

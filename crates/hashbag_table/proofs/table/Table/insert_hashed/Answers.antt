@@ -1,4 +1,4 @@
-use Rattle.std.proofs.Common.{◌∷◌, ◌+◌, length, sym, subst, arith}
+use Rattle.std.proofs.Common.{◌∷◌, sym, subst, arith}
 use Rattle.std.specs.List.Sorted.{IsPermutation}
 use Rattle.std.proofs.lemmas.List.Sorted.{IsPermutation-trans, IsPermutation-cons, length_permutation}
 use Rattle.hashbag_table.specs.Entries.{IsCounted}

@@ -1,9 +1,9 @@
-use Rattle.std.proofs.Common.{◌≡◌, refl, Some, sym, ◌∙◌, arith}
+use Rattle.std.proofs.Common.{◌≡◌, refl, Some, sym, ◌∙◌}
 use Rattle.std.specs.Map.{lookup_entry}
 use Rattle.hashbag_table.specs.Entries.{count_of}
 use Rattle.hashbag_table.proofs.SpotLemmas.{held_entry, count_present, count_absent, put_swapped}
 use Rattle.hashbag_slots.specs.declared.slots.Slot.TheVariants.{Live}
-use Rattle.hashbag_table.proofs.RoomKeptLemmas.{kept_Rewrites}
+use Rattle.hashbag_table.proofs.RoomKeptLemmas.{kept_Rewrites, keeps_more, keeps_Arrives}
 use Rattle.hashbag_table.proofs.table.Table.put_instance.Goals as goal
 
 pub returns-in-Some-clause-before : goal.returns-in-Some-clause-before
@@ -28,28 +28,15 @@ pub returns-clause-before : goal.returns-clause-before
 returns-clause-before g c =
     sym (count_absent g.T.PartialEq.eq c.args.value c.args.self.now.entries (sym c.in_default.ensures.map))
 
-pub returns-in-Some-clause-slots : goal.returns-in-Some-clause-slots
-returns-in-Some-clause-slots g c some =
-    (kept_Rewrites (λ w. g.T.PartialEq.eq w c.args.value) (λ _. Live c.args.value 1) c.args.self.now.tables c.put_spot-former.new.self.tables (λ v n. refl)
-    (record { spot = c.in-Some.spot; held = c.in-Some.ensures.held; after = c.put_spot-former.ensures.after })).0
-
 pub returns-in-Some-clause-room : goal.returns-in-Some-clause-room
 returns-in-Some-clause-room g c some =
-    let k = (kept_Rewrites (λ w. g.T.PartialEq.eq w c.args.value) (λ _. Live c.args.value 1) c.args.self.now.tables c.put_spot-former.new.self.tables (λ v n. refl)
-    (record { spot = c.in-Some.spot; held = c.in-Some.ensures.held; after = c.put_spot-former.ensures.after })).2 in omega (arith, k)
-
-pub returns-in-Some-clause-same_slots : goal.returns-in-Some-clause-same_slots
-returns-in-Some-clause-same_slots g c some =
-    (kept_Rewrites (λ w. g.T.PartialEq.eq w c.args.value) (λ _. Live c.args.value 1) c.args.self.now.tables c.put_spot-former.new.self.tables (λ v n. refl)
-    (record { spot = c.in-Some.spot; held = c.in-Some.ensures.held; after = c.put_spot-former.ensures.after })).0
+    keeps_more 1 _ _ (kept_Rewrites (λ w. g.T.PartialEq.eq w c.args.value) (λ _. Live c.args.value 1) c.args.self.now.tables c.put_spot-former.new.self.tables (λ v n. refl)
+    (record { spot = c.in-Some.spot; held = c.in-Some.ensures.held; after = c.put_spot-former.ensures.after }))
 
 pub returns-in-Some-clause-same_room : goal.returns-in-Some-clause-same_room
 returns-in-Some-clause-same_room g c some =
-    (kept_Rewrites (λ w. g.T.PartialEq.eq w c.args.value) (λ _. Live c.args.value 1) c.args.self.now.tables c.put_spot-former.new.self.tables (λ v n. refl)
-    (record { spot = c.in-Some.spot; held = c.in-Some.ensures.held; after = c.put_spot-former.ensures.after })).2
-
-pub returns-clause-slots : goal.returns-clause-slots
-returns-clause-slots g c some = (c.in_ok-insert_hashed.ensures.arrives.kept some).fills.same_length
+    kept_Rewrites (λ w. g.T.PartialEq.eq w c.args.value) (λ _. Live c.args.value 1) c.args.self.now.tables c.put_spot-former.new.self.tables (λ v n. refl)
+    (record { spot = c.in-Some.spot; held = c.in-Some.ensures.held; after = c.put_spot-former.ensures.after })
 
 pub returns-clause-room : goal.returns-clause-room
-returns-clause-room g c some = c.in_ok-insert_hashed.ensures.arrives.room_kept some
+returns-clause-room g c some = keeps_Arrives _ _ c.in_ok-insert_hashed.ensures.arrives some

@@ -71,9 +71,6 @@ returns-clause-total g c =
 pub returns-clause-counted : goal.returns-clause-counted
 returns-clause-counted g c = (invariant_of-self g c).counted
 
-pub returns-clause-newer : goal.returns-clause-newer
-returns-clause-newer g c = c.retain_slots-newer.ensures.kept.same_length ∙ ap (λ t. length t.tables.newer) c.self.view_is
-
 pub returns-clause-waiting : goal.returns-clause-waiting
 returns-clause-waiting g c =
     let i = c.self.inside in
@@ -86,7 +83,11 @@ returns-clause-room g c =
     let a = c.retain_slots-newer in let b = c.retain_slots-waiting in
     let more = room_left g.F.FnMut g.T.PartialEq.eq i.newer i.older a.new.slots b.new.slots i.looked c.args.f a.new.f b.new.f a.ensures.kept b.ensures.kept in
     let was = ap (λ t. room t.tables) c.self.view_is in
-    omega (arith, more, was)
+    record {
+      slots = a.ensures.kept.same_length ∙ ap (λ t. length t.tables.newer) c.self.view_is;
+      room = omega (arith, more, was);
+      built = ap (λ t. t.tables.built) c.self.view_is;
+    }
 
 pub returns-clause-in_place : goal.returns-clause-in_place
 returns-clause-in_place g c =

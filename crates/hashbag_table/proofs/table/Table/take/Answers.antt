@@ -61,22 +61,12 @@ pub returns-clause-taken : goal.returns-clause-taken
 returns-clause-taken g c =
     fewer_absent g.T.PartialEq.eq c.args.value.now c.args.self.now.entries c.args.n (sym c.in_default.ensures.map)
 
-pub returns-in-Some-clause-slots : goal.returns-in-Some-clause-slots
-returns-in-Some-clause-slots g c =
-    (kept_Rewrites (λ w. g.T.PartialEq.eq w c.args.value.now) (λ _. Removed) c.args.self.now.tables c.take_spot-former.new.self.tables (λ v n. refl)
-    (record { spot = c.in-Some.spot; held = c.in-Some.ensures.held; after = c.take_spot-former.ensures.after })).0
-
 pub returns-in-Some-clause-room : goal.returns-in-Some-clause-room
 returns-in-Some-clause-room g c =
-    (kept_Rewrites (λ w. g.T.PartialEq.eq w c.args.value.now) (λ _. Removed) c.args.self.now.tables c.take_spot-former.new.self.tables (λ v n. refl)
-    (record { spot = c.in-Some.spot; held = c.in-Some.ensures.held; after = c.take_spot-former.ensures.after })).2
-
-pub returns-then-n-before-clause-slots : goal.returns-then-n-before-clause-slots
-returns-then-n-before-clause-slots g c =
-    (kept_Rewrites (λ w. g.T.PartialEq.eq w c.args.value.now) (recounted (c.count_at-before.result - c.args.n)) c.args.self.now.tables c.set_spot.new.self.tables (λ v n. refl)
-    (record { spot = c.in-Some.spot; held = c.in-Some.ensures.held; after = c.set_spot.ensures.after })).0
+    kept_Rewrites (λ w. g.T.PartialEq.eq w c.args.value.now) (λ _. Removed) c.args.self.now.tables c.take_spot-former.new.self.tables (λ v n. refl)
+    (record { spot = c.in-Some.spot; held = c.in-Some.ensures.held; after = c.take_spot-former.ensures.after })
 
 pub returns-then-n-before-clause-room : goal.returns-then-n-before-clause-room
 returns-then-n-before-clause-room g c =
-    (kept_Rewrites (λ w. g.T.PartialEq.eq w c.args.value.now) (recounted (c.count_at-before.result - c.args.n)) c.args.self.now.tables c.set_spot.new.self.tables (λ v n. refl)
-    (record { spot = c.in-Some.spot; held = c.in-Some.ensures.held; after = c.set_spot.ensures.after })).2
+    kept_Rewrites (λ w. g.T.PartialEq.eq w c.args.value.now) (recounted (c.count_at-before.result - c.args.n)) c.args.self.now.tables c.set_spot.new.self.tables (λ v n. refl)
+    (record { spot = c.in-Some.spot; held = c.in-Some.ensures.held; after = c.set_spot.ensures.after })

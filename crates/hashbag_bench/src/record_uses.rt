@@ -1,0 +1,51 @@
+//! Callers that read the plain facts out of the records that a bag's clauses name. None of them has a proof of its own.
+ghost use Rattle.std.specs.Prelude.{◌≡◌, ◌+◌, ◌-◌, ◌<◌, ◌≤◌, length, IfOk, OnOk};
+ghost use Rattle.hashbag.specs.Bag.{IsBagOf};
+ghost use Rattle.hashbag.specs.Held.{Recounts};
+ghost use Rattle.hashbag.specs.Occurrences.{count, less};
+ghost use Rattle.hashbag.specs.Tables.{room};
+
+use hashbag::{BagError, HashBag};
+use std::hash::{BuildHasher, Hash};
+
+/// Takes so many occurrences of a value, and says each fact of `HasFewer` by itself.
+pub fn take_some<T: Eq + Hash + Drop, S: BuildHasher + Drop>(
+    bag: &mut HashBag<T, S>,
+    value: &T,
+    n: usize,
+) -> usize
+    ensures removed { IsBagOf T.eq bag.old (less T.eq value.now n bag.old.items) bag.new }
+    ensures slot { 0 < count T.eq value.now bag.old.items → Recounts T.eq value.now (count T.eq value.now bag.old.items - n) bag.old.tables bag.new.tables }
+    ensures none { count T.eq value.now bag.old.items ≡ 0 → bag.new ≡ bag.old }
+    ensures slots { length bag.new.tables.newer ≡ length bag.old.tables.newer }
+    ensures room { room bag.old.tables ≤ room bag.new.tables }
+    ensures built { bag.new.tables.built ≡ bag.old.tables.built }
+{
+    bag.remove_up_to(value, n)
+}
+
+/// Puts a value in, and says by itself what `Inserts` has of the slots and of the room.
+pub fn put_in<T: Eq + Hash + Drop, S: BuildHasher + Drop>(
+    bag: &mut HashBag<T, S>,
+    value: T,
+) -> Result<usize, BagError>
+    ensures slots { OnOk result (0 < room bag.old.tables → length bag.new.tables.newer ≡ length bag.old.tables.newer) }
+    ensures room { OnOk result (0 < room bag.old.tables → room bag.old.tables ≤ room bag.new.tables + 1) }
+    ensures same_slots { OnOk result (0 < count T.eq value bag.old.items → length bag.new.tables.newer ≡ length bag.old.tables.newer) }
+    ensures same_room { OnOk result (0 < count T.eq value bag.old.items → room bag.old.tables ≤ room bag.new.tables) }
+{
+    bag.insert(value)
+}
+
+/// Stores a value in the place of its equals, and says each fact of `KeepsRoom` by itself.
+pub fn put_in_place<T: Eq + Hash + Drop, S: BuildHasher + Drop>(
+    bag: &mut HashBag<T, S>,
+    value: T,
+) -> Result<usize, BagError>
+    ensures slots { OnOk result (0 < room bag.old.tables → length bag.new.tables.newer ≡ length bag.old.tables.newer) }
+    ensures room { OnOk result (0 < room bag.old.tables → room bag.old.tables ≤ room bag.new.tables + 1) }
+    ensures same_slots { IfOk result (λ before. 0 < before → length bag.new.tables.newer ≡ length bag.old.tables.newer) }
+    ensures same_room { IfOk result (λ before. 0 < before → room bag.old.tables ≤ room bag.new.tables) }
+{
+    bag.replace(value)
+}
