@@ -1,0 +1,3 @@
+pub mod ByCount
+pub mod Sums
+pub mod Walked
