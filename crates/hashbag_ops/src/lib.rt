@@ -1,5 +1,5 @@
-//! What is done with whole bags: sums, common parts, what is left of one when another is taken away, the greater of both, and
-//! whether one holds all of another.
+//! What is done with whole bags: sums, common parts, what is left of one when another is taken away, the greater of both, whether
+//! one holds all of another, and the pairs in the order of their values.
 //!
 //! Each contract is a sentence about counts: how often each value occurs afterwards, by how often it occurred before. What
 //! follows from several calls together is proved in [`laws`].
@@ -8,6 +8,8 @@
 pub mod combine;
 pub mod compare;
 pub mod laws;
+pub mod order;
 
 pub use combine::{keep_common, keep_most, merge, merge_ref, take_away};
 pub use compare::{contains_all, is_disjoint};
+pub use order::sorted;
