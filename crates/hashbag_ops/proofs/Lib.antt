@@ -1,0 +1,4 @@
+pub mod ByCount
+pub mod Ranked
+pub mod Sums
+pub mod Walked
