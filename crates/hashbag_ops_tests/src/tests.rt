@@ -1,0 +1,6 @@
+//! What no clause says of whole bags: that the calls succeed where memory is ample, that counts, limits, tables and instances are those
+//! found by hand, under each hash state, and how often values are hashed.
+mod hash_counts;
+mod instances;
+mod rows;
+mod tables;
