@@ -188,8 +188,8 @@ pub fn answer<S: BuildHasher + Drop, S2: BuildHasher + Clone + Drop>(
     }
 }
 
-// The values and counts of a list as `5:2 6..8`, where each of 6 to 8 is there once.
-fn pairs_of(alloc: Global, text: &str) -> Result<Vec<(u64, usize)>, Fail> {
+/// The values and counts of a list as `5:2 6..8`, where each of 6 to 8 is there once.
+pub fn pairs_of(alloc: Global, text: &str) -> Result<Vec<(u64, usize)>, Fail> {
     let mut pairs = Vec::new(alloc);
     for word in text.split_whitespace() {
         match word.split_once("..") {
@@ -230,8 +230,8 @@ fn full_bag_of<S: BuildHasher + Default + Drop>(
     Ok(bag)
 }
 
-// Values with their counts, as `5:2 6:1 `.
-fn text_of_pairs(alloc: Global, pairs: &[(u64, usize)]) -> Result<String, Fail> {
+/// Values with their counts, as `5:2 6:1 `.
+pub fn text_of_pairs(alloc: Global, pairs: &[(u64, usize)]) -> Result<String, Fail> {
     let mut text = String::new(alloc);
     for (value, count) in pairs {
         let pair = format!(in alloc; "{value}:{count} ")?;
@@ -240,8 +240,11 @@ fn text_of_pairs(alloc: Global, pairs: &[(u64, usize)]) -> Result<String, Fail> 
     Ok(text)
 }
 
-// The text of a bag's counts, values rising.
-fn counts_of<S: BuildHasher + Drop>(alloc: Global, bag: &HashBag<u64, S>) -> Result<String, Fail> {
+/// The text of a bag's counts, values rising.
+pub fn counts_of<S: BuildHasher + Drop>(
+    alloc: Global,
+    bag: &HashBag<u64, S>,
+) -> Result<String, Fail> {
     let mut pairs: Vec<(u64, usize)> = Vec::new(alloc);
     for (value, count) in bag.set_iter() {
         pairs.push((*value, count))?;
