@@ -1,6 +1,10 @@
 //! Calls by themselves. The script `tests/refused_memory` knows how many requests for memory each makes, with those that make its bag.
 use crate::checks::{Refusals, Wrong, check};
 use hashbag::{BagError, FixedState, HashBag};
+use hashbag_ops::{
+    contains_all, is_disjoint, keep_common, keep_most, merge, merge_ref, most_common, sorted,
+    take_away,
+};
 use std::alloc::Global;
 
 // Values that are lent.
@@ -29,6 +33,15 @@ enum Verb {
     OrInsert,
     // Joins with a bag of three values, and whether the two are equal.
     Joins,
+    // Sums with a bag of three values, of which all are there.
+    Merge,
+    MergeRef,
+    KeepMost,
+    // Calls on two bags that take no memory.
+    Parts,
+    // Lists of all pairs, and of the commonest three.
+    Sorted,
+    MostCommon,
     Clone,
     // Room that is there already, and room that isn't.
     Within,
@@ -58,6 +71,12 @@ impl Single {
             "replace" => Verb::Replace,
             "or_insert" => Verb::OrInsert,
             "joins" => Verb::Joins,
+            "merge" => Verb::Merge,
+            "merge_ref" => Verb::MergeRef,
+            "keep_most" => Verb::KeepMost,
+            "parts" => Verb::Parts,
+            "sorted" => Verb::Sorted,
+            "most_common" => Verb::MostCommon,
             "clone" => Verb::Clone,
             "within" => Verb::Within,
             "reserve" => Verb::Reserve,
@@ -148,6 +167,14 @@ fn make_on(
             Some(other) => joined(&bag, &other),
             None => Ok(()),
         },
+        Verb::Merge | Verb::MergeRef | Verb::KeepMost | Verb::Parts => {
+            match inserted(alloc, 3, refusals)? {
+                Some(other) => with_other(&mut bag, other, verb, refusals),
+                None => Ok(()),
+            }
+        }
+        Verb::Sorted => listed(sorted(alloc, &bag), bag.set_len(), refusals),
+        Verb::MostCommon => listed(most_common(alloc, &bag, 3), 3, refusals),
         Verb::Clone => made(bag.clone(), refusals),
         Verb::Within => done(bag.reserve(bag.room()), refusals),
         Verb::Reserve => done(bag.reserve(1000), refusals),
@@ -159,6 +186,63 @@ fn make_on(
             done(bag.shrink_to_fit(), refusals)
         }
         _ => Ok(()),
+    }
+}
+
+// A sum of a bag with another, or what takes no memory. Where a sum is refused, the bag is as it was.
+fn with_other(
+    bag: &mut HashBag<u64>,
+    other: HashBag<u64>,
+    verb: Verb,
+    refusals: &mut Refusals,
+) -> Result<(), Wrong> {
+    let (len, before) = (bag.len(), tables(bag));
+    let sum = match verb {
+        Verb::Merge => merge(bag, other),
+        Verb::MergeRef => merge_ref(bag, &other),
+        Verb::KeepMost => keep_most(bag, other),
+        _ => return parts(bag, &other),
+    };
+    let added = if sum.is_ok() && !matches!(verb, Verb::KeepMost) {
+        3
+    } else {
+        0
+    };
+    let refused = sum.is_err();
+    done(sum, refusals)?;
+    check(bag.len() == len.saturating_add(added), "the total of a sum")?;
+    check(
+        !refused || tables(bag) == before,
+        "the tables after a refused sum",
+    )
+}
+
+// The slots, those that wait, and the room.
+fn tables(bag: &HashBag<u64>) -> (usize, usize, usize) {
+    (bag.slots(), bag.waiting(), bag.room())
+}
+
+// On a bag that has the three values of the other one once each.
+fn parts(bag: &mut HashBag<u64>, other: &HashBag<u64>) -> Result<(), Wrong> {
+    let len = bag.len();
+    check(contains_all(bag, other), "contains_all")?;
+    check(!is_disjoint(bag, other), "is_disjoint")?;
+    take_away(bag, other);
+    check(bag.len() == len.saturating_sub(3), "take_away")?;
+    check(is_disjoint(bag, other), "is_disjoint of what is left")?;
+    keep_common(bag, other);
+    check(bag.is_empty(), "keep_common")
+}
+
+// A list of so many pairs.
+fn listed(
+    answer: Result<Vec<(&u64, usize)>, BagError>,
+    len: usize,
+    refusals: &mut Refusals,
+) -> Result<(), Wrong> {
+    match refusals.answer(answer)? {
+        Some(pairs) => check(pairs.len() == len, "the length of a list"),
+        None => Ok(()),
     }
 }
 

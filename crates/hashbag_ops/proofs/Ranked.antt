@@ -1,0 +1,63 @@
+-- Pairs that are sorted by falling count, and then by rising value.
+use Rattle.std.proofs.Common.{◌≡◌, ℕ, zero, suc, ◌<◌, ◌+◌, Bool, false, List, [], ◌∷◌, length, get_or, take, map, Ordering, Less, Equal, Greater, nat_cmp, is_lt, is_eq, refl, sym, ◌∙◌, ap, arith}
+use denote.Ref.{Bor}
+use denote.Param.Members.{Mut}
+use Rattle.std.specs.Cmp.{IsEquivalence, IsTotalOrder, IsStrictWeakOrder, then_total, on_total, back_total, nat_cmp_total}
+use Rattle.std.specs.Fn.{Called, ComparesAs}
+use Rattle.std.specs.Ordering.{ordering_then, ordering_reverse}
+use Rattle.std.specs.List.{IsDistinct, AllByRecursion}
+use Rattle.std.specs.List.Sorted.{IsSortedBy, IsStrictlySortedBy}
+use Rattle.std.specs.Map.{keys_of}
+use Rattle.std.proofs.lemmas.Bool.{false≢true}
+use Rattle.std.proofs.lemmas.Fn.{always_returns_same}
+use Rattle.std.proofs.lemmas.List.Sorted.{ranks_by, sorted_far}
+use Rattle.std.proofs.lemmas.Map.Keys.{IsDistinct-head, IsDistinct-tail}
+use Rattle.hashbag_ops.specs.Order.{shown, rank}
+
+pub take_map : {X Y : Type 0} (f : X → Y) (k : ℕ) (xs : List X) → map f (take k xs) ≡ take k (map f xs)
+take_map f zero xs = refl
+take_map f (suc k) [] = refl
+take_map f (suc k) (x ∷ xs) = ap (λ l. f x ∷ l) (take_map f k xs)
+
+then_equal : (a b : Ordering) → ordering_then a b ≡ Equal → b ≡ Equal
+then_equal Less b is = absurd (false≢true (sym (ap is_lt is)))
+then_equal Equal b is = is
+then_equal Greater b is = absurd (false≢true (ap is_eq is))
+
+module _ {T : Type 0} {eq : T → T → Bool} (laws : IsEquivalence eq) {cmp : T → T → Ordering} (total : IsTotalOrder cmp) (ties : (x y : T) → eq x y ≡ is_eq (cmp x y)) where
+  rank_total : IsTotalOrder (rank cmp)
+  rank_total = then_total (back_total (on_total (λ (p : T × ℕ). p.1) nat_cmp_total)) (on_total (λ (p : T × ℕ). p.0) total)
+
+  abbrev before : Bor T × ℕ → Bor T × ℕ → Bool
+  before = λ x y. is_lt (rank cmp (shown x) (shown y))
+
+  weak : IsStrictWeakOrder before
+  weak = ranks_by rank_total (λ (p : Bor T × ℕ). shown p)
+
+  first_at : (p q : T × ℕ) (o : Ordering) → rank cmp q p ≡ o → is_lt o ≡ false → eq p.0 q.0 ≡ false → rank cmp p q ≡ Less
+  first_at p q Less is up apart = absurd (false≢true (sym up))
+  first_at p q Equal is up apart = absurd (false≢true (sym apart ∙ laws.symm p.0 q.0 ∙ ties q.0 p.0 ∙ ap is_eq (then_equal (nat_cmp p.1 q.1) (cmp q.0 p.0) is)))
+  first_at p q Greater is up apart = rank_total.antisymm p q ∙ ap ordering_reverse is
+
+  all_after : (p : Bor T × ℕ) (ps : List (Bor T × ℕ)) → ((j : ℕ) (d : Bor T × ℕ) → j < length ps → before (get_or ps j d) p ≡ false)
+      → AllByRecursion (λ y. eq p.0.now y ≡ false) (keys_of (map shown ps)) → AllByRecursion (λ y. rank cmp (shown p) y ≡ Less) (map shown ps)
+  all_after p [] up apart = tt
+  all_after p (q ∷ ps) up apart = (first_at (shown p) (shown q) (rank cmp (shown q) (shown p)) refl (up 0 q (omega arith)) apart.0, all_after p ps (λ j d h. up (suc j) d (omega arith)) apart.1)
+
+  -- pairs of distinct values that a sort left are each before those after it
+  ranked_from_sorted : (ps : List (Bor T × ℕ)) → IsSortedBy before ps → IsDistinct eq (keys_of (map shown ps)) → IsStrictlySortedBy (rank cmp) (map shown ps)
+  unfolding IsStrictlySortedBy
+  ranked_from_sorted [] up distinct = tt
+  ranked_from_sorted (p ∷ ps) up distinct =
+      let later : IsSortedBy before ps = λ k d low high. sorted_far before weak (p ∷ ps) up (suc k) (suc (k + 1)) d (omega arith) (omega arith) in (
+        all_after p ps (λ j d h. sorted_far before weak (p ∷ ps) up 0 (suc j) d (omega arith) (omega arith)) (IsDistinct-head eq p.0.now (keys_of (map shown ps)) distinct),
+        ranked_from_sorted ps later (IsDistinct-tail eq p.0.now (keys_of (map shown ps)) distinct),
+      )
+
+  -- the same from a sort by a closure that compares so
+  pub ranked_from_sort_by : {F : Type 0} {g : Mut F (Bor (Bor T × ℕ) × (Bor (Bor T × ℕ) × Unit {0})) Ordering} {f : F} (ps : List (Bor T × ℕ))
+      → ((lt : Bor T × ℕ → Bor T × ℕ → Bool) → IsStrictWeakOrder lt → ComparesAs g lt f → IsSortedBy lt ps)
+      → ((a : Bor (Bor T × ℕ) × (Bor (Bor T × ℕ) × Unit {0})) (r : Ordering) (f' : F) → Called g f a r f' → (r ≡ rank cmp (shown a.0.now) (shown a.1.0.now)) × (f' ≡ f))
+      → IsDistinct eq (keys_of (map shown ps)) → IsStrictlySortedBy (rank cmp) (map shown ps)
+  ranked_from_sort_by {g = g} {f = f} ps up h distinct =
+      ranked_from_sorted ps (up before weak (always_returns_same g (λ a r. is_lt r ≡ before a.0.now a.1.0.now) f (λ a r f' k. (ap is_lt (h a r f' k).0, (h a r f' k).1)))) distinct

@@ -1,0 +1,184 @@
+//! Sums of two bags, and what one bag keeps of its own beside another.
+ghost use Rattle.std.specs.Prelude.{◌≡◌, ◌+◌, ◌-◌, ◌<◌, ◌≤◌, min, max, List, length, All, true, OnOk, OnErr};
+ghost use Rattle.hashbag.specs.Occurrences.{count, distinct_count};
+ghost use Rattle.hashbag.specs.Tables.{room};
+ghost use Rattle.hashbag_ops.specs.Unions.{IsUnion};
+
+use hashbag::{BagError, HashBag};
+use std::hash::{BuildHasher, Hash};
+
+/// Adds all of one bag to another, and uses it up: of each value there are then as many as in both together.
+///
+/// All goes in, or nothing: room is made for every distinct value of `from` before the first goes in, as if none of them were in
+/// `into` yet. Where a value is in both, the instance that is stored in `into` stays. The limit of `into` stays, and that of `from`
+/// doesn't matter.
+///
+/// It answers `TooMany` exactly where the total would pass the limit of `into`, before anything grows, and `Memory` where there
+/// isn't that room and memory is refused. Then `into` is unchanged, and `from` is dropped.
+///
+/// Each distinct value of `from` is hashed once; those of `into` are where it grows.
+///
+///     let mut stock: HashBag<&str> = HashBag::new(alloc);
+///     stock.insert_many("bolt", 2)?;
+///     let mut delivery: HashBag<&str> = HashBag::new(alloc);
+///     delivery.insert_many("bolt", 3)?;
+///     delivery.insert("nut")?;
+///     merge(&mut stock, delivery)?;
+///     assert_eq!(stock.contains(&"bolt"), 5);
+///     assert_eq!(stock.len(), 6);
+pub fn merge<T: Eq + Hash + Drop, S: BuildHasher + Drop, S2: BuildHasher + Drop>(
+    into: &mut HashBag<T, S>,
+    from: HashBag<T, S2>,
+) -> Result<(), BagError>
+    ensures counts { OnOk result ((v : T) → count T.eq v into.new.items ≡ count T.eq v into.old.items + count T.eq v from.items) }
+    ensures len { OnOk result (length into.new.items ≡ length into.old.items + length from.items) }
+    ensures limit { into.new.most ≡ into.old.most }
+    ensures hasher { into.new.hasher ≡ into.old.hasher }
+    ensures err { OnErr result (into.new ≡ into.old) }
+
+    // The total is tested first; then only memory can be refused, and only where there isn't room for all values of `from`.
+    ensures too_many { into.old.most < length into.old.items + length from.items → result ≡ Err BagError.TooMany }
+    ensures refused { result ≡ Err BagError.TooMany → into.old.most < length into.old.items + length from.items }
+    ensures memory { length into.old.items + length from.items ≤ into.old.most → OnErr result (result ≡ Err BagError.Memory) }
+    ensures full { result ≡ Err BagError.Memory → room into.old.tables < distinct_count T.eq from.items }
+{
+    if from.len() > into.limit() - into.len() {
+        return Err(BagError::TooMany);
+    }
+    into.reserve(from.set_len())?;
+    into.extend_many(from.into_iter()).unwrap();
+    Ok(())
+}
+
+/// Adds clones of all of one bag to another, which stays as it is: [`merge`] of a copy.
+///
+/// All goes in, or nothing. The caller sees to it that clones of the values equal them. It answers `TooMany` exactly where the total
+/// would pass the limit of `into`, before anything is cloned, and `Memory` where memory is refused to the copy, to a clone of a value
+/// or of the state, or to the room. Then `into` is unchanged.
+///
+/// It takes memory for a copy of `from` while it runs. Each distinct value of `from` is hashed twice; those of `into` where it grows.
+///
+///     let mut all: HashBag<&str> = HashBag::new(alloc);
+///     let mut day: HashBag<&str> = HashBag::new(alloc);
+///     day.insert_many("bolt", 3)?;
+///     merge_ref(&mut all, &day)?;
+///     merge_ref(&mut all, &day)?;
+///     assert_eq!(all.contains(&"bolt"), 6);
+///     assert_eq!(day.contains(&"bolt"), 3);
+pub fn merge_ref<
+    T: Eq + Hash + Clone + Drop,
+    S: BuildHasher + Drop,
+    S2: BuildHasher + Clone + Drop,
+>(into: &mut HashBag<T, S>, from: &HashBag<T, S2>) -> Result<(), BagError>
+    requires equal { All (λ x. (y : _) → T.is_clone x y → T.eq x y ≡ true) from.now.items }
+    ensures counts { OnOk result ((v : T) → count T.eq v into.new.items ≡ count T.eq v into.old.items + count T.eq v from.now.items) }
+    ensures len { OnOk result (length into.new.items ≡ length into.old.items + length from.now.items) }
+    ensures limit { into.new.most ≡ into.old.most }
+    ensures hasher { into.new.hasher ≡ into.old.hasher }
+    ensures err { OnErr result (into.new ≡ into.old) }
+    ensures too_many { into.old.most < length into.old.items + length from.now.items → result ≡ Err BagError.TooMany }
+    ensures refused { result ≡ Err BagError.TooMany → into.old.most < length into.old.items + length from.now.items }
+    ensures memory { length into.old.items + length from.now.items ≤ into.old.most → OnErr result (result ≡ Err BagError.Memory) }
+{
+    if from.len() > into.limit() - into.len() {
+        return Err(BagError::TooMany);
+    }
+    let copy = from.clone()?;
+    merge(into, copy)
+}
+
+/// Keeps of each value as many as both bags have: the lesser of both counts. A value that `other` hasn't goes with its instance.
+///
+/// It takes no memory and is never refused. Each distinct value of `bag` is hashed once.
+///
+///     let mut stock: HashBag<&str> = HashBag::new(alloc);
+///     stock.insert_many("bolt", 5)?;
+///     stock.insert("nut")?;
+///     let mut order: HashBag<&str> = HashBag::new(alloc);
+///     order.insert_many("bolt", 3)?;
+///     keep_common(&mut stock, &order);
+///     assert_eq!(stock.contains(&"bolt"), 3);
+///     assert_eq!(stock.contains(&"nut"), 0);
+pub fn keep_common<T: Eq + Hash + Drop, S: BuildHasher + Drop, S2: BuildHasher + Drop>(
+    bag: &mut HashBag<T, S>,
+    other: &HashBag<T, S2>,
+)
+    ensures counts { (v : T) → count T.eq v bag.new.items ≡ min (count T.eq v bag.old.items) (count T.eq v other.now.items) }
+    ensures len { length bag.new.items ≤ length bag.old.items }
+    ensures limit { bag.new.most ≡ bag.old.most }
+    ensures hasher { bag.new.hasher ≡ bag.old.hasher }
+    ensures slots { length bag.new.tables.newer ≡ length bag.old.tables.newer }
+    ensures room { room bag.old.tables ≤ room bag.new.tables }
+{
+    bag.retain(
+        |value: &T, _count: usize| -> usize
+            ensures { result ≡ count T.eq value.now other.entry.now.items }
+        { other.contains(value) },
+    );
+}
+
+/// Takes out of a bag what another has: of each value as many as there are in `other`, or all where they are fewer.
+///
+/// It takes no memory and is never refused. Each distinct value of `bag` is hashed once.
+///
+///     let mut stock: HashBag<&str> = HashBag::new(alloc);
+///     stock.insert_many("bolt", 5)?;
+///     let mut sold: HashBag<&str> = HashBag::new(alloc);
+///     sold.insert_many("bolt", 3)?;
+///     sold.insert("nut")?;
+///     take_away(&mut stock, &sold);
+///     assert_eq!(stock.contains(&"bolt"), 2);
+///     assert_eq!(stock.contains(&"nut"), 0);
+pub fn take_away<T: Eq + Hash + Drop, S: BuildHasher + Drop, S2: BuildHasher + Drop>(
+    bag: &mut HashBag<T, S>,
+    other: &HashBag<T, S2>,
+)
+    ensures counts { (v : T) → count T.eq v bag.new.items ≡ count T.eq v bag.old.items - count T.eq v other.now.items }
+    ensures len { length bag.new.items ≤ length bag.old.items }
+    ensures limit { bag.new.most ≡ bag.old.most }
+    ensures hasher { bag.new.hasher ≡ bag.old.hasher }
+    ensures slots { length bag.new.tables.newer ≡ length bag.old.tables.newer }
+    ensures room { room bag.old.tables ≤ room bag.new.tables }
+{
+    bag.retain(
+        |value: &T, n: usize| -> usize
+            ensures { result ≡ n - count T.eq value.now other.entry.now.items }
+        { n.saturating_sub(other.contains(value)) },
+    );
+}
+
+/// Brings each value up to the greater of the counts that both bags have of it, and uses `from` up.
+///
+/// All goes in, or nothing. What `from` has more of is added, as [`merge`] does, so the limit of `into` stays. It answers
+/// `TooMany` exactly where the total of these greater counts would pass that limit, before anything grows, and `Memory` where memory
+/// is refused to room for the values of which `from` has more. Then `into` is unchanged, and `from` is dropped.
+///
+/// Each distinct value of `from` is hashed twice at most, those of `into` where it grows.
+///
+///     let mut needed: HashBag<&str> = HashBag::new(alloc);
+///     needed.insert_many("bolt", 2)?;
+///     let mut other: HashBag<&str> = HashBag::new(alloc);
+///     other.insert_many("bolt", 3)?;
+///     other.insert("nut")?;
+///     keep_most(&mut needed, other)?;
+///     assert_eq!(needed.contains(&"bolt"), 3);
+///     assert_eq!(needed.contains(&"nut"), 1);
+pub fn keep_most<T: Eq + Hash + Drop, S: BuildHasher + Drop, S2: BuildHasher + Drop>(
+    into: &mut HashBag<T, S>,
+    mut from: HashBag<T, S2>,
+) -> Result<(), BagError>
+    ensures counts { OnOk result ((v : T) → count T.eq v into.new.items ≡ max (count T.eq v into.old.items) (count T.eq v from.items)) }
+    ensures len { OnOk result (length into.new.items ≤ length into.old.items + length from.items) }
+    ensures limit { into.new.most ≡ into.old.most }
+    ensures hasher { into.new.hasher ≡ into.old.hasher }
+    ensures err { OnErr result (into.new ≡ into.old) }
+    ensures fits { length into.old.items + length from.items ≤ into.old.most → OnErr result (result ≡ Err BagError.Memory) }
+
+    // The total is that of every list with the greater counts: all these are equally long.
+    ensures too_many { (Z : List T) → IsUnion T.eq into.old.items from.items Z → into.old.most < length Z → result ≡ Err BagError.TooMany }
+    ensures refused { result ≡ Err BagError.TooMany → (Z : List T) → IsUnion T.eq into.old.items from.items Z → into.old.most < length Z }
+    ensures memory { (Z : List T) → IsUnion T.eq into.old.items from.items Z → length Z ≤ into.old.most → OnErr result (result ≡ Err BagError.Memory) }
+{
+    take_away(&mut from, into);
+    merge(into, from)
+}

@@ -1,0 +1,65 @@
+//! Whether one bag holds all of another, and whether two have nothing in common.
+ghost use Rattle.std.specs.Prelude.{◌≡◌, ◌≤◌, ◌↔◌, min, IsTrue};
+ghost use Rattle.hashbag.specs.Occurrences.{count};
+
+use hashbag::HashBag;
+use std::hash::{BuildHasher, Hash};
+
+/// Whether a bag holds all of another: of each value at least as many as `other` has.
+///
+/// It takes no memory, and stops at the first value of which there are too few. Each distinct value of `other` is hashed once at
+/// most.
+///
+///     let mut stock: HashBag<&str> = HashBag::new(alloc);
+///     stock.insert_many("bolt", 5)?;
+///     let mut order: HashBag<&str> = HashBag::new(alloc);
+///     order.insert_many("bolt", 3)?;
+///     assert!(contains_all(&stock, &order));
+///     assert!(!contains_all(&order, &stock));
+pub fn contains_all<T: Eq + Hash + Drop, S: BuildHasher + Drop, S2: BuildHasher + Drop>(
+    bag: &HashBag<T, S>,
+    other: &HashBag<T, S2>,
+) -> bool
+    ensures { IsTrue result ↔ ((v : T) → count T.eq v other.now.items ≤ count T.eq v bag.now.items) }
+{
+    other.difference(bag).next().is_none()
+}
+
+/// Whether no value is in both bags.
+///
+/// It takes no memory, walks over the bag that has fewer distinct values, and stops at the first that the other has too. Each of
+/// these is hashed once.
+///
+///     let mut fruit: HashBag<&str> = HashBag::new(alloc);
+///     fruit.insert("apple")?;
+///     let mut nuts: HashBag<&str> = HashBag::new(alloc);
+///     nuts.insert("hazel")?;
+///     assert!(is_disjoint(&fruit, &nuts));
+///     assert!(!is_disjoint(&fruit, &fruit));
+pub fn is_disjoint<T: Eq + Hash + Drop, S: BuildHasher + Drop, S2: BuildHasher + Drop>(
+    a: &HashBag<T, S>,
+    b: &HashBag<T, S2>,
+) -> bool
+    ensures { IsTrue result ↔ ((v : T) → min (count T.eq v a.now.items) (count T.eq v b.now.items) ≡ 0) }
+{
+    if a.set_len() <= b.set_len() {
+        has_none_of(a, b)
+    } else {
+        has_none_of(b, a)
+    }
+}
+
+// Whether no value of the bag that is walked over is in the other one.
+fn has_none_of<T: Eq + Hash + Drop, S: BuildHasher + Drop, S2: BuildHasher + Drop>(
+    walked: &HashBag<T, S>,
+    other: &HashBag<T, S2>,
+) -> bool
+    ensures { IsTrue result ↔ ((v : T) → min (count T.eq v walked.now.items) (count T.eq v other.now.items) ≡ 0) }
+{
+    for (value, _) in walked.set_iter() {
+        if other.contains(value) > 0 {
+            return false;
+        }
+    }
+    true
+}

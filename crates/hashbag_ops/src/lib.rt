@@ -1,0 +1,15 @@
+//! What is done with whole bags: sums, common parts, what is left of one when another is taken away, the greater of both, whether
+//! one holds all of another, the pairs in the order of their values, and the commonest.
+//!
+//! Each contract is a sentence about counts: how often each value occurs afterwards, by how often it occurred before. What
+//! follows from several calls together is proved in [`laws`].
+#![tactic(auto)]
+
+pub mod combine;
+pub mod compare;
+pub mod laws;
+pub mod order;
+
+pub use combine::{keep_common, keep_most, merge, merge_ref, take_away};
+pub use compare::{contains_all, is_disjoint};
+pub use order::{most_common, sorted};
