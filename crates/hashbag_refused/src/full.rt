@@ -60,45 +60,113 @@ fn filled<'a>(
     Ok(Some(bag))
 }
 
+fn remove<'a>(bag: &mut Bag<'a>, values: &'a Values, key: u64) -> usize {
+    bag.remove(&values.value(key))
+}
+
+// The bag has these tables.
+fn has_tables<'a>(
+    bag: &Bag<'a>,
+    tables: (usize, usize, usize),
+    wrong: &'static str,
+) -> Result<(), Wrong> {
+    check(tables_of(bag) == tables, wrong)
+}
+
+// Inserts a value of which there were so many, which is not refused.
+fn goes_in<'a>(
+    bag: &mut Bag<'a>,
+    values: &'a Values,
+    key: u64,
+    before: usize,
+    refusals: &mut Refusals,
+    wrong: &'static str,
+) -> Result<(), Wrong> {
+    let answer = insert(bag, values, key, refusals)?;
+    check(answer == Some(before), wrong)
+}
+
 // The thirteenth value finds no room in 16 slots. Where it is refused the others stay, are counted up and down, and it goes in with
 // memory again.
 fn thirteenth(alloc: Global, values: &Values, refusals: &mut Refusals) -> Result<(), Wrong> {
-    let Some(mut bag) = filled(alloc, values, 12, refusals)? else {
-        return Ok(());
-    };
-    check(tables_of(&bag) == (16, 0, 0), "12 values: the slots")?;
-    if insert(&mut bag, values, 13, refusals)?.is_none() {
-        check(tables_of(&bag) == (16, 0, 0), "the thirteenth: the slots")?;
-        has_first(&bag, values, 12, "the thirteenth: those before it")?;
-        let again = insert(&mut bag, values, 5, refusals)?;
-        check(again == Some(1), "the thirteenth: one more of another")?;
-        let removed = bag.remove(&values.value(5));
-        check(removed == 2, "the thirteenth: one fewer of another")?;
-        let done = insert(&mut bag, values, 13, refusals)?;
-        check(done == Some(0), "the thirteenth: with memory again")?;
+    match filled(alloc, values, 12, refusals)? {
+        Some(mut bag) => thirteenth_into(&mut bag, values, refusals),
+        None => Ok(()),
     }
-    check(tables_of(&bag) == (32, 0, 11), "13 values: the slots")?;
-    has_first(&bag, values, 13, "13 values")
+}
+
+fn thirteenth_into<'a>(
+    bag: &mut Bag<'a>,
+    values: &'a Values,
+    refusals: &mut Refusals,
+) -> Result<(), Wrong> {
+    has_tables(bag, (16, 0, 0), "12 values: the slots")?;
+    if insert(bag, values, 13, refusals)?.is_none() {
+        thirteenth_refused(bag, values, refusals)?;
+    }
+    has_tables(bag, (32, 0, 11), "13 values: the slots")?;
+    has_first(bag, values, 13, "13 values")
+}
+
+fn thirteenth_refused<'a>(
+    bag: &mut Bag<'a>,
+    values: &'a Values,
+    refusals: &mut Refusals,
+) -> Result<(), Wrong> {
+    has_tables(bag, (16, 0, 0), "the thirteenth: the slots")?;
+    has_first(bag, values, 12, "the thirteenth: those before it")?;
+    goes_in(
+        bag,
+        values,
+        5,
+        1,
+        refusals,
+        "the thirteenth: one more of another",
+    )?;
+    let removed = remove(bag, values, 5);
+    check(removed == 2, "the thirteenth: one fewer of another")?;
+    goes_in(
+        bag,
+        values,
+        13,
+        0,
+        refusals,
+        "the thirteenth: with memory again",
+    )
 }
 
 // In the middle of a carry values go in without a request for memory, until there is no room.
 fn in_a_carry(alloc: Global, values: &Values, refusals: &mut Refusals) -> Result<(), Wrong> {
-    let Some(mut bag) = filled(alloc, values, 25, refusals)? else {
-        return Ok(());
-    };
-    check(tables_of(&bag) == (64, 16, 23), "25 values: the slots")?;
+    match filled(alloc, values, 25, refusals)? {
+        Some(mut bag) => carried_on(&mut bag, values, refusals),
+        None => Ok(()),
+    }
+}
+
+fn carried_on<'a>(
+    bag: &mut Bag<'a>,
+    values: &'a Values,
+    refusals: &mut Refusals,
+) -> Result<(), Wrong> {
+    has_tables(bag, (64, 16, 23), "25 values: the slots")?;
     for key in 26..=48 {
-        let done = insert(&mut bag, values, key, refusals)?;
-        check(done == Some(0), "a carry: a value for which there is room")?;
+        goes_in(
+            bag,
+            values,
+            key,
+            0,
+            refusals,
+            "a carry: a value for which there is room",
+        )?;
         check(bag.waiting() == 0, "a carry: the slots that wait")?;
     }
-    check(tables_of(&bag) == (64, 0, 0), "48 values: the slots")?;
-    if insert(&mut bag, values, 49, refusals)?.is_none() {
-        check(tables_of(&bag) == (64, 0, 0), "the 49th: the slots")?;
-        return has_first(&bag, values, 48, "the 49th: those before it");
+    has_tables(bag, (64, 0, 0), "48 values: the slots")?;
+    if insert(bag, values, 49, refusals)?.is_none() {
+        has_tables(bag, (64, 0, 0), "the 49th: the slots")?;
+        return has_first(bag, values, 48, "the 49th: those before it");
     }
-    check(tables_of(&bag) == (128, 48, 47), "49 values: the slots")?;
-    has_first(&bag, values, 49, "49 values")
+    has_tables(bag, (128, 48, 47), "49 values: the slots")?;
+    has_first(bag, values, 49, "49 values")
 }
 
 // What a bag has after a call by which 13 may come in: the counts of 9 and 13, and the total.
@@ -260,34 +328,58 @@ fn collected(alloc: Global, values: &Values, refusals: &mut Refusals) -> Result<
     Ok(())
 }
 
+fn reserve<'a>(bag: &mut Bag<'a>, n: usize, refusals: &mut Refusals) -> Result<bool, Wrong> {
+    refusals.is_done(bag.reserve(n))
+}
+
+fn shrink<'a>(bag: &mut Bag<'a>, refusals: &mut Refusals) -> Result<bool, Wrong> {
+    refusals.is_done(bag.shrink_to_fit())
+}
+
 // Room is made and given back in the middle of a carry: all values move, or none.
 fn moved_in_a_carry(alloc: Global, values: &Values, refusals: &mut Refusals) -> Result<(), Wrong> {
-    let Some(mut bag) = filled(alloc, values, 25, refusals)? else {
-        return Ok(());
-    };
-    let done = refusals.is_done(bag.reserve(100))?;
+    match filled(alloc, values, 25, refusals)? {
+        Some(mut bag) => all_moved(&mut bag, values, refusals),
+        None => Ok(()),
+    }
+}
+
+fn all_moved<'a>(
+    bag: &mut Bag<'a>,
+    values: &'a Values,
+    refusals: &mut Refusals,
+) -> Result<(), Wrong> {
+    let done = reserve(bag, 100, refusals)?;
     let wanted = if done { (256, 0, 167) } else { (64, 16, 23) };
-    check(tables_of(&bag) == wanted, "a carry: after reserve")?;
-    has_first(&bag, values, 25, "a carry: the values after reserve")?;
-    let fits = refusals.is_done(bag.shrink_to_fit())?;
+    has_tables(bag, wanted, "a carry: after reserve")?;
+    has_first(bag, values, 25, "a carry: the values after reserve")?;
+    let fits = shrink(bag, refusals)?;
     let wanted = if done && fits { (64, 0, 23) } else { wanted };
-    check(tables_of(&bag) == wanted, "a carry: after shrink_to_fit")?;
-    has_first(&bag, values, 25, "a carry: the values after shrink_to_fit")
+    has_tables(bag, wanted, "a carry: after shrink_to_fit")?;
+    has_first(bag, values, 25, "a carry: the values after shrink_to_fit")
 }
 
 // With two values fewer there is room in half of the slots: all values move there, or none.
 fn shrunk_in_a_carry(alloc: Global, values: &Values, refusals: &mut Refusals) -> Result<(), Wrong> {
-    let Some(mut bag) = filled(alloc, values, 25, refusals)? else {
-        return Ok(());
-    };
-    for key in [24, 25] {
-        bag.remove(&values.value(key));
+    match filled(alloc, values, 25, refusals)? {
+        Some(mut bag) => all_shrunk(&mut bag, values, refusals),
+        None => Ok(()),
     }
-    check(tables_of(&bag) == (64, 16, 24), "a carry: 23 values")?;
-    let done = refusals.is_done(bag.shrink_to_fit())?;
+}
+
+fn all_shrunk<'a>(
+    bag: &mut Bag<'a>,
+    values: &'a Values,
+    refusals: &mut Refusals,
+) -> Result<(), Wrong> {
+    for key in [24, 25] {
+        remove(bag, values, key);
+    }
+    has_tables(bag, (64, 16, 24), "a carry: 23 values")?;
+    let done = shrink(bag, refusals)?;
     let wanted = if done { (32, 0, 1) } else { (64, 16, 24) };
-    check(tables_of(&bag) == wanted, "a carry: 23 values, shrunk")?;
-    has_first(&bag, values, 23, "a carry: the 23 values, shrunk")
+    has_tables(bag, wanted, "a carry: 23 values, shrunk")?;
+    has_first(bag, values, 23, "a carry: the 23 values, shrunk")
 }
 
 // The values from 1 to 25 are cloned in the middle of a carry: the source stays as it is.

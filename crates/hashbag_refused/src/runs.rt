@@ -70,17 +70,23 @@ const TABLES_AFTER: [(usize, usize, usize); 17] = [
     (16, 0, 11),
 ];
 
+// A bag is what the first so many steps leave.
+fn is_after(bag: &HashBag<u64>, number: usize) -> Result<(), Wrong> {
+    if number >= AFTER.len() {
+        return Err(Wrong("run: more replies than steps"));
+    }
+    has_counts(bag, AFTER[number], "run: the counts")?;
+    check(tables_of(bag) == TABLES_AFTER[number], "run: the slots")
+}
+
 // What a run leaves is what the steps with replies leave.
 fn runs_of(alloc: Global, steps: Vec<Step<u64>>, refusals: &mut Refusals) -> Result<(), Wrong> {
     let mut bag: HashBag<u64> = HashBag::new(alloc);
     let mut replies: Vec<Reply<u64>> = Vec::new(alloc);
-    let done = refusals.is_done(run(&mut bag, steps, &mut replies))?;
+    let answer = run(&mut bag, steps, &mut replies);
     let number = replies.len();
-    if number >= AFTER.len() {
-        return Err(Wrong("run: more replies than steps"));
-    }
-    has_counts(&bag, AFTER[number], "run: the counts")?;
-    check(tables_of(&bag) == TABLES_AFTER[number], "run: the slots")?;
+    let done = refusals.is_done(answer)?;
+    is_after(&bag, number)?;
     check(!done || number == 16, "run: the number of replies")
 }
 
