@@ -3,7 +3,6 @@ use Rattle.std.proofs.Common.{◌≡◌, ℕ, zero, suc, Bool, true, false, cond
 use Rattle.std.specs.Map.{lookup_entry}
 use Rattle.std.specs.Option.{IfSome, IfNone}
 use Rattle.std.specs.Prelude.{Result, Ok, Err, IfOk}
-use Rattle.std.specs.Cmp.{IsEquivalence}
 use Rattle.hashbag_slots.specs.declared.slots.Slot.{Slot}
 use Rattle.hashbag_slots.specs.declared.slots.Slot.TheVariants.{Empty, Removed, Moved, Live}
 use Rattle.hashbag_slots.specs.Slots.{is_live, holds, slot_at, HoldsAt, IsAbsent, IsSet, slot_entry, entry_at, entries}
@@ -50,19 +49,19 @@ module _ {T : Type 0} (test : T → Bool) where
   lookup-IsAbsent [] h = refl
   lookup-IsAbsent (s ∷ ss) h = skip s ss (h 0 (omega arith)) ∙ lookup-IsAbsent ss (λ p lt. h (suc p) (omega arith))
 
-module _ {T : Type 0} (eq : T → T → Bool) (laws : IsEquivalence eq) (ss : List (Slot T)) (set : IsSet eq ss) (x : T) where
+-- `one`: of what passes the test all that are equal pass, and nothing else
+module _ {T : Type 0} (eq : T → T → Bool) (ss : List (Slot T)) (set : IsSet eq ss) (test : T → Bool) (one : (v w : T) → test v ≡ true → test w ≡ eq w v) where
   -- what a look-up answers is the entry of the map
-  pub entry_at-lookup : (r : Option ℕ) → IfSome r (HoldsAt (λ v. eq v x) ss) → IfNone r (IsAbsent (λ v. eq v x) ss) → entry_at ss r ≡ lookup_entry (λ v. eq v x) (entries ss)
-  entry_at-lookup None some none = sym (lookup-IsAbsent (λ v. eq v x) ss none)
+  pub entry_at-lookup : (r : Option ℕ) → IfSome r (HoldsAt test ss) → IfNone r (IsAbsent test ss) → entry_at ss r ≡ lookup_entry test (entries ss)
+  entry_at-lookup None some none = sym (lookup-IsAbsent test ss none)
   entry_at-lookup (Some p) some none =
-      let at_p = holder (λ v. eq v x) (slot_at ss p) some.1 in
-      sym (lookup-HoldsAt (λ v. eq v x) ss p some (λ q yes.
-      let at_q = holder (λ v. eq v x) (slot_at ss q) yes in
-      set.apart q p at_q.0 at_p.0 at_q.1 at_p.1 at_q.2 at_p.2
-      (sym (laws.congr x at_q.0 at_p.0 (laws.symm x at_q.0 ∙ at_q.3)) ∙ laws.symm x at_p.0 ∙ at_p.3)))
+      let at_p = holder test (slot_at ss p) some.1 in
+      sym (lookup-HoldsAt test ss p some (λ q yes.
+      let at_q = holder test (slot_at ss q) yes in
+      set.apart q p at_q.0 at_p.0 at_q.1 at_p.1 at_q.2 at_p.2 (sym (one at_p.0 at_q.0 at_p.3) ∙ at_q.3)))
 
   -- the same of a place alone
-  pub known-lookup : {E : Type 0} (r : Option (Result ℕ E)) → IfSome r (λ known. IfOk known (HoldsAt (λ v. eq v x) ss)) → IfSome r (λ known. IfOk known (λ p. slot_entry (slot_at ss p) ≡ lookup_entry (λ v. eq v x) (entries ss)))
+  pub known-lookup : {E : Type 0} (r : Option (Result ℕ E)) → IfSome r (λ known. IfOk known (HoldsAt test ss)) → IfSome r (λ known. IfOk known (λ p. slot_entry (slot_at ss p) ≡ lookup_entry test (entries ss)))
   known-lookup None some = tt
   known-lookup (Some (Ok p)) some = entry_at-lookup (Some p) some tt
   known-lookup (Some (Err e)) some = tt

@@ -80,16 +80,16 @@ module _ {T : Type 0} (ts : List ℕ) (cs : List (Option (T × ℕ))) (agree : A
       let none = no_cell (omega arith) in
       at ∙ ap (λ t. slot_of t (get_or cs p None)) z ∙ ap (slot_of 0) none
 
-  module _ (eq : T → T → Bool) (x : T) where
-    pub holds_at : (e : T × ℕ) → get_or cs p None ≡ Some e → holds (λ v. eq v x) (slot_at (slots_of ts cs) p) ≡ eq e.0 x
-    holds_at e h = ap (holds (λ v. eq v x)) (live_at e h)
+  module _ (test : T → Bool) where
+    pub holds_at : (e : T × ℕ) → get_or cs p None ≡ Some e → holds test (slot_at (slots_of ts cs) p) ≡ test e.0
+    holds_at e h = ap (holds test) (live_at e h)
 
-    -- a slot with another mark holds another value
-    pub holds_other : (hash : T → ℕ) → ((v w : T) → eq v w ≡ true → hash v ≡ hash w) → IsReached hash (columns ts cs) → get_or ts p 0 ≢ mark_of (hash x) → holds (λ v. eq v x) (slot_at (slots_of ts cs) p) ≡ false
-    holds_other hash alike reached ne =
+    -- a slot with another mark than what passes has holds another value
+    pub holds_other : (hash : T → ℕ) (h : ℕ) → ((v : T) → test v ≡ true → hash v ≡ h) → IsReached hash (columns ts cs) → get_or ts p 0 ≢ mark_of h → holds test (slot_at (slots_of ts cs) p) ≡ false
+    holds_other hash h alike reached ne =
         false_by _ (λ yes.
-        let found = holder (λ v. eq v x) (slot_at (slots_of ts cs) p) yes in
-        absurd (ne (reached.marks p found.0 found.1 found.2 ∙ ap (λ h. mark_of h) (alike found.0 x found.3))))
+        let found = holder test (slot_at (slots_of ts cs) p) yes in
+        absurd (ne (reached.marks p found.0 found.1 found.2 ∙ ap (λ k. mark_of k) (alike found.0 found.3))))
 
 -- the first Live slot from a place on is at p
 pub record IsNextLive {T : Type 0} (ss : List (Slot T)) (from p : ℕ) : Type 0 where

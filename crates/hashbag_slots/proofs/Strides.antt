@@ -27,29 +27,30 @@ further Q n h s r room before run k lt =
           subst (λ i. Q (path_slot n h i)) e (subst Q (sym ahead) (run (path_slot n h s + (k - s)) (omega arith) (omega arith)))
     ]
 
-module _ {T : Type 0} (eq : T → T → Bool) (x : T) (hash : T → ℕ) (alike : (v w : T) → eq v w ≡ true → hash v ≡ hash w) (ts : List ℕ) (cs : List (Option (T × ℕ))) (agree : Agree ts cs) (reached : IsReached hash (columns ts cs)) where
-  -- slots whose tags are not the value's mark hold other values
-  pub others : (mark : ℕ) → mark ≡ mark_of (hash x) → (from r : ℕ) → ((p : ℕ) → from ≤ p → p < r → nat_eq (tag_at ts p) mark ≡ false) → (p : ℕ) → from ≤ p → p < r → holds (λ v. eq v x) (slot_at (slots_of ts cs) p) ≡ false
-  others mark is from r differ p a b = holds_other ts cs agree p eq x hash alike reached (λ e. eqb-false (tag_at ts p) mark (differ p a b) (e ∙ sym is))
+-- `alike`: what passes the test has the hash h
+module _ {T : Type 0} (test : T → Bool) (hash : T → ℕ) (h : ℕ) (alike : (v : T) → test v ≡ true → hash v ≡ h) (ts : List ℕ) (cs : List (Option (T × ℕ))) (agree : Agree ts cs) (reached : IsReached hash (columns ts cs)) where
+  -- slots whose tags are not the mark of the hash hold other values
+  pub others : (mark : ℕ) → mark ≡ mark_of h → (from r : ℕ) → ((p : ℕ) → from ≤ p → p < r → nat_eq (tag_at ts p) mark ≡ false) → (p : ℕ) → from ≤ p → p < r → holds test (slot_at (slots_of ts cs) p) ≡ false
+  others mark is from r differ p a b = holds_other ts cs agree p test hash h alike reached (λ e. eqb-false (tag_at ts p) mark (differ p a b) (e ∙ sym is))
 
   -- an Empty slot is at `first + stop`, and no slot with the mark that comes before it on the path holds the value
-  pub absent_near : (mark : ℕ) → mark ≡ mark_of (hash x) → (first stop : ℕ) → first ≡ path_slot (length ts) (hash x) 0 → first + stop < length ts → tag_at ts (first + stop) ≡ 0
-      → ((p : ℕ) → first ≤ p → p < first + stop → tag_at ts p ≡ mark → holds (λ v. eq v x) (slot_at (slots_of ts cs) p) ≡ false) → IsAbsent (λ v. eq v x) (slots_of ts cs)
+  pub absent_near : (mark : ℕ) → mark ≡ mark_of h → (first stop : ℕ) → first ≡ path_slot (length ts) h 0 → first + stop < length ts → tag_at ts (first + stop) ≡ 0
+      → ((p : ℕ) → first ≤ p → p < first + stop → tag_at ts p ≡ mark → holds test (slot_at (slots_of ts cs) p) ≡ false) → IsAbsent test (slots_of ts cs)
   absent_near mark is first stop at within empty same =
       let ss = slots_of ts cs in
-      let there : (k : ℕ) → k ≤ stop → path_slot (length ss) (hash x) k ≡ first + k = λ k le.
-      ap (λ n. path_slot n (hash x) k) (length-slots_of ts cs agree.same_length) ∙ path_near (length ts) (hash x) k (omega arith) ∙ ap (λ p. p + k) (sym at) in
-      let other : (p : ℕ) → first ≤ p → p < first + stop → holds (λ v. eq v x) (slot_at ss p) ≡ false = λ p a b.
+      let there : (k : ℕ) → k ≤ stop → path_slot (length ss) h k ≡ first + k = λ k le.
+      ap (λ n. path_slot n h k) (length-slots_of ts cs agree.same_length) ∙ path_near (length ts) h k (omega arith) ∙ ap (λ p. p + k) (sym at) in
+      let other : (p : ℕ) → first ≤ p → p < first + stop → holds test (slot_at ss p) ≡ false = λ p a b.
       elim (cases_eq (tag_at ts p) mark) [
         | inl equal ↦ same p a b equal
-        | inr differs ↦ holds_other ts cs agree p eq x hash alike reached (λ e. differs (e ∙ sym is))
+        | inr differs ↦ holds_other ts cs agree p test hash h alike reached (λ e. differs (e ∙ sym is))
       ] in
-      absent_at_stop eq hash alike ss x reached.paths stop
-      (λ k lt. subst (λ p. holds (λ v. eq v x) (slot_at ss p) ≡ false) (sym (there k (omega arith))) (other (first + k) (omega arith) (omega arith)))
+      absent_at_stop test hash h alike ss reached.paths stop
+      (λ k lt. subst (λ p. holds test (slot_at ss p) ≡ false) (sym (there k (omega arith))) (other (first + k) (omega arith) (omega arith)))
       (ap (slot_at ss) (there stop (omega arith)) ∙ empty_at ts cs agree (first + stop) empty)
 
   -- an Empty slot is at p on the path, and no slot before that place is Live
-  pub absent_behind : (first p from : ℕ) → first ≡ path_slot (length ts) (hash x) 0 → first ≤ p → p < from → p < length ts → tag_at ts p ≡ 0 → ((q : ℕ) → q < from → is_live (slot_at (slots_of ts cs) q) ≡ false) → IsAbsent (λ v. eq v x) (slots_of ts cs)
+  pub absent_behind : (first p from : ℕ) → first ≡ path_slot (length ts) h 0 → first ≤ p → p < from → p < length ts → tag_at ts p ≡ 0 → ((q : ℕ) → q < from → is_live (slot_at (slots_of ts cs) q) ≡ false) → IsAbsent test (slots_of ts cs)
   absent_behind first p from at le before within empty dead =
       let there : p ≡ first + (p - first) = omega arith in
-      absent_near (mark_of (hash x)) refl first (p - first) at (omega arith) (ap (tag_at ts) (sym there) ∙ empty) (λ q a b same. holds_dead (λ v. eq v x) (slot_at (slots_of ts cs) q) (dead q (omega arith)))
+      absent_near (mark_of h) refl first (p - first) at (omega arith) (ap (tag_at ts) (sym there) ∙ empty) (λ q a b same. holds_dead test (slot_at (slots_of ts cs) q) (dead q (omega arith)))

@@ -7,6 +7,7 @@
 
 mod carry;
 mod cells;
+pub mod key;
 mod lanes;
 mod opened;
 mod room;

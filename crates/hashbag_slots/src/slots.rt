@@ -14,13 +14,12 @@ ghost use Rattle.hashbag_slots.specs.Hashing.{hash_under};
 ghost use Rattle.hashbag_slots.specs.Slots.{IsSlotCount, is_live, holds, live_count, removed_count, slot_at, HoldsAt, IsAbsent, IsFirstFree, IsSet, slot_entry, entry_at, entries, recounted, raised, count_in, Places, PlacesAll, carried, Carries, entries_in, AreApart};
 ghost use Rattle.hashbag_slots.specs.Columns.{IsReached, IsAlike};
 
+pub mod keys;
+
 use crate::carry::carry_lanes;
 use crate::cells::Cells;
 use crate::lanes::LANES;
-use crate::tags::{
-    LEAST_MARK, MOVED, REMOVED, drop_values, empty_tags, ends_before, find_place, free_place,
-    look_near, mark_of,
-};
+use crate::tags::{LEAST_MARK, MOVED, REMOVED, drop_values, empty_tags, free_place, mark_of};
 use crate::walk::{IntoWalk, Walk};
 use std::alloc::{AllocError, Global};
 use std::hash::{BuildHasher, Hash};
@@ -308,7 +307,7 @@ impl<T: Eq + Hash> Slots<T> {
         ensures absent { IfNone result (IsAbsent (λ v. T.eq v value.now) self.now.slots) }
         ensures map { entry_at self.now.slots result ≡ lookup_entry (λ v. T.eq v value.now) (entries self.now.slots) }
     {
-        find_place(self.tags.as_slice(), &self.cells, state, hash, value)
+        self.find_key(state, hash, value)
     }
 
     /// As `find_hashed`, where no slot before the place `from` is Live: a path that meets an Empty slot before that place ends there,
@@ -329,10 +328,7 @@ impl<T: Eq + Hash> Slots<T> {
         ensures absent { IfNone result (IsAbsent (λ v. T.eq v value.now) self.now.slots) }
         ensures map { entry_at self.now.slots result ≡ lookup_entry (λ v. T.eq v value.now) (entries self.now.slots) }
     {
-        if ends_before(self.tags.as_slice(), hash, from) {
-            return None;
-        }
-        self.find_hashed(state, hash, value)
+        self.find_key_behind(state, hash, value, from)
     }
 
     /// What the first 16 slots on the path of a value's hash tell, which is handed in: in `Ok` the place of the Live slot with an
@@ -352,7 +348,7 @@ impl<T: Eq + Hash> Slots<T> {
         ensures free { IfSome result (λ known. IfErr known (IsFirstFree hash self.now.slots)) }
         ensures map { IfSome result (λ known. IfOk known (λ p. entry_at self.now.slots (Some p) ≡ lookup_entry (λ v. T.eq v value.now) (entries self.now.slots))) }
     {
-        look_near(self.tags.as_slice(), &self.cells, state, hash, value)
+        self.seek_key_near(state, hash, value)
     }
 
     /// Puts in an absent value with the count `n`. It goes into the first slot on its path that is not Live, and all others

@@ -11,6 +11,7 @@ ghost use Rattle.hashbag_slots.specs.Slots.{IsSlotCount, path_slot, slot_at, hol
 ghost use Rattle.hashbag_slots.specs.Columns.{mark_of, tag_at, IsNextMark, Agree, columns, slots_of, IsReached};
 
 use crate::cells::Cells;
+use crate::key::Key;
 use crate::lanes::{
     LANES, equal_ahead, equal_before_empty, free_before, live_ahead, live_before, lowest_told,
     others_before,
@@ -61,32 +62,32 @@ pub fn empty_tags(alloc: Global, count: usize) -> Result<Vec<u8>, AllocError>
     Ok(tags)
 }
 
-// Whether the value in a cell equals a value.
+// Whether a key names the value in a cell.
 #[inline(always)]
-fn is_in<T: Eq>(cells: &Cells<(T, usize)>, place: usize, value: &T) -> bool
+fn is_in<T: Eq + Hash, Q: Key<T>>(cells: &Cells<(T, usize)>, place: usize, key: Q) -> bool
     requires { IsFilled cells.now place }
-    ensures { (e : T × ℕ) → cell_at cells.now place ≡ Some e → T.eq e.0 value.now ≡ result }
+    ensures { (e : T × ℕ) → cell_at cells.now place ≡ Some e → Q.names key e.0 ≡ result }
 {
     let entry = cells.get(place);
-    entry.0 == *value
+    key.names(&entry.0)
 }
 
 // Probes for a value until it finds it or an Empty slot, or has looked at all slots, 16 tags at once where so many come before
 // the last one.
 #[inline(never)]
-fn probe<T: Eq + Hash, S: BuildHasher>(
+fn probe<T: Eq + Hash, S: BuildHasher, Q: Key<T>>(
     tags: &[u8],
     cells: &Cells<(T, usize)>,
     state: &S,
     hash: u64,
-    value: &T,
+    key: Q,
 ) -> Option<usize>
-    requires hashed { hash ≡ hash_under T.hash_input S.BuildHasher S.Hasher.Hasher state.now value.now }
+    requires hashed { hash ≡ hash_under Q.hash_input S.BuildHasher S.Hasher.Hasher state.now key }
     requires count { IsSlotCount (length tags.now) }
     requires agree { Agree tags.now cells.now }
     requires reached { IsReached (hash_under T.hash_input S.BuildHasher S.Hasher.Hasher state.now) (columns tags.now cells.now) }
-    ensures found { IfSome result (HoldsAt (λ v. T.eq v value.now) (slots_of tags.now cells.now)) }
-    ensures absent { IfNone result (IsAbsent (λ v. T.eq v value.now) (slots_of tags.now cells.now)) }
+    ensures found { IfSome result (HoldsAt (Q.names key) (slots_of tags.now cells.now)) }
+    ensures absent { IfNone result (IsAbsent (Q.names key) (slots_of tags.now cells.now)) }
 {
     let count = tags.len();
     let mark = mark_of(hash);
@@ -96,7 +97,7 @@ fn probe<T: Eq + Hash, S: BuildHasher>(
         if place + LANES <= count {
             let lane = others_before(tags, place, mark);
             if lane < LANES {
-                if is_in(cells, place + lane, value) {
+                if is_in(cells, place + lane, key) {
                     return Some(place + lane);
                 }
                 step += lane + 1;
@@ -108,7 +109,7 @@ fn probe<T: Eq + Hash, S: BuildHasher>(
         } else {
             let tag = tags[place];
             if tag == mark {
-                if is_in(cells, place, value) {
+                if is_in(cells, place, key) {
                     return Some(place);
                 }
             } else if tag == EMPTY {
@@ -122,25 +123,25 @@ fn probe<T: Eq + Hash, S: BuildHasher>(
 
 // The place of an equal value among slots, at most 16 from a place on, of which bits tell whether the tag is the value's mark.
 #[inline(always)]
-fn find_among<T: Eq>(
+fn find_among<T: Eq + Hash, Q: Key<T>>(
     tags: &[u8],
     cells: &Cells<(T, usize)>,
     from: usize,
     bits: u64,
     mark: u8,
-    value: &T,
+    key: Q,
 ) -> Option<usize>
     requires within { from + 16 ≤ length tags.now }
     requires told { (until : ℕ) × (until ≤ from + 16) × Tells (λ p. tag_at tags.now p == mark) from until bits }
     requires mark { 128 ≤ mark }
     requires agree { Agree tags.now cells.now }
-    ensures found { IfSome result (HoldsAt (λ v. T.eq v value.now) (slots_of tags.now cells.now)) }
-    ensures absent { IfNone result ((until : ℕ) → Tells (λ p. tag_at tags.now p == mark) from until bits → (p : ℕ) → from ≤ p → p < until → tag_at tags.now p ≡ mark → holds (λ v. T.eq v value.now) (slot_at (slots_of tags.now cells.now) p) ≡ false) }
+    ensures found { IfSome result (HoldsAt (Q.names key) (slots_of tags.now cells.now)) }
+    ensures absent { IfNone result ((until : ℕ) → Tells (λ p. tag_at tags.now p == mark) from until bits → (p : ℕ) → from ≤ p → p < until → tag_at tags.now p ≡ mark → holds (Q.names key) (slot_at (slots_of tags.now cells.now) p) ≡ false) }
 {
     let mut ahead = bits;
     'marks: while ahead != 0 {
         let (place, rest) = lowest_told(ahead, from);
-        if is_in(cells, place, value) {
+        if is_in(cells, place, key) {
             return Some(place);
         }
         ahead = rest;
@@ -175,19 +176,19 @@ pub fn ends_before(tags: &[u8], hash: u64, place: usize) -> bool
 /// What the first 16 slots of a path tell of a value: its place, or that it is absent, and then the first of them that is not Live.
 /// `None` where they don't tell, or where the table ends before the sixteenth.
 #[inline(always)]
-pub fn look_near<T: Eq + Hash, S: BuildHasher>(
+pub fn look_near<T: Eq + Hash, S: BuildHasher, Q: Key<T>>(
     tags: &[u8],
     cells: &Cells<(T, usize)>,
     state: &S,
     hash: u64,
-    value: &T,
+    key: Q,
 ) -> Option<Result<usize, usize>>
-    requires hashed { hash ≡ hash_under T.hash_input S.BuildHasher S.Hasher.Hasher state.now value.now }
+    requires hashed { hash ≡ hash_under Q.hash_input S.BuildHasher S.Hasher.Hasher state.now key }
     requires count { IsSlotCount (length tags.now) }
     requires agree { Agree tags.now cells.now }
     requires reached { IsReached (hash_under T.hash_input S.BuildHasher S.Hasher.Hasher state.now) (columns tags.now cells.now) }
-    ensures found { IfSome result (λ known. IfOk known (HoldsAt (λ v. T.eq v value.now) (slots_of tags.now cells.now))) }
-    ensures absent { IfSome result (λ known. OnErr known (IsAbsent (λ v. T.eq v value.now) (slots_of tags.now cells.now))) }
+    ensures found { IfSome result (λ known. IfOk known (HoldsAt (Q.names key) (slots_of tags.now cells.now))) }
+    ensures absent { IfSome result (λ known. OnErr known (IsAbsent (Q.names key) (slots_of tags.now cells.now))) }
     ensures free { IfSome result (λ known. IfErr known (IsFirstFree hash (slots_of tags.now cells.now))) }
 {
     let count = tags.len();
@@ -200,7 +201,7 @@ pub fn look_near<T: Eq + Hash, S: BuildHasher>(
     }
     let mark = mark_of(hash);
     let marked = equal_ahead(tags, first, mark);
-    if let Some(place) = find_among(tags, cells, first, marked, mark, value) {
+    if let Some(place) = find_among(tags, cells, first, marked, mark, key) {
         return Some(Ok(place));
     }
     if others_before(tags, first, EMPTY) < LANES {
@@ -214,19 +215,19 @@ pub fn look_near<T: Eq + Hash, S: BuildHasher>(
 // Only slots before the first Empty one are looked at. None behind it holds the value, and a cell there, where a tag is the mark by
 // chance, would be read for nothing: cells are far from their tags.
 #[inline(always)]
-fn find_near<T: Eq + Hash, S: BuildHasher>(
+fn find_near<T: Eq + Hash, S: BuildHasher, Q: Key<T>>(
     tags: &[u8],
     cells: &Cells<(T, usize)>,
     state: &S,
     hash: u64,
-    value: &T,
+    key: Q,
 ) -> Option<Option<usize>>
-    requires hashed { hash ≡ hash_under T.hash_input S.BuildHasher S.Hasher.Hasher state.now value.now }
+    requires hashed { hash ≡ hash_under Q.hash_input S.BuildHasher S.Hasher.Hasher state.now key }
     requires count { IsSlotCount (length tags.now) }
     requires agree { Agree tags.now cells.now }
     requires reached { IsReached (hash_under T.hash_input S.BuildHasher S.Hasher.Hasher state.now) (columns tags.now cells.now) }
-    ensures found { IfSome result (λ known. IfSome known (HoldsAt (λ v. T.eq v value.now) (slots_of tags.now cells.now))) }
-    ensures absent { IfSome result (λ known. IfNone known (IsAbsent (λ v. T.eq v value.now) (slots_of tags.now cells.now))) }
+    ensures found { IfSome result (λ known. IfSome known (HoldsAt (Q.names key) (slots_of tags.now cells.now))) }
+    ensures absent { IfSome result (λ known. IfNone known (IsAbsent (Q.names key) (slots_of tags.now cells.now))) }
 {
     let count = tags.len();
     if count == 0 {
@@ -238,7 +239,7 @@ fn find_near<T: Eq + Hash, S: BuildHasher>(
     }
     let mark = mark_of(hash);
     let (marked, ends) = equal_before_empty(tags, first, mark);
-    if let Some(place) = find_among(tags, cells, first, marked, mark, value) {
+    if let Some(place) = find_among(tags, cells, first, marked, mark, key) {
         return Some(Some(place));
     }
     if ends {
@@ -249,17 +250,22 @@ fn find_near<T: Eq + Hash, S: BuildHasher>(
 
 // The place of the Live slot with an equal value where that slot is the first on the path of a hash. `None` says nothing.
 #[inline(always)]
-fn first_place<T: Eq>(tags: &[u8], cells: &Cells<(T, usize)>, hash: u64, value: &T) -> Option<usize>
+fn first_place<T: Eq + Hash, Q: Key<T>>(
+    tags: &[u8],
+    cells: &Cells<(T, usize)>,
+    hash: u64,
+    key: Q,
+) -> Option<usize>
     requires count { IsSlotCount (length tags.now) }
     requires agree { Agree tags.now cells.now }
-    ensures found { IfSome result (HoldsAt (λ v. T.eq v value.now) (slots_of tags.now cells.now)) }
+    ensures found { IfSome result (HoldsAt (Q.names key) (slots_of tags.now cells.now)) }
 {
     let count = tags.len();
     if count == 0 {
         return None;
     }
     let first = place_after(hash, 0, count);
-    if tags[first] == mark_of(hash) && is_in(cells, first, value) {
+    if tags[first] == mark_of(hash) && is_in(cells, first, key) {
         return Some(first);
     }
     None
@@ -271,26 +277,26 @@ fn first_place<T: Eq>(tags: &[u8], cells: &Cells<(T, usize)>, hash: u64, value: 
 /// Most values are in the first slot of their path. It is looked at by itself, so that its cell is read without waiting for
 /// what the other tags say.
 #[inline(always)]
-pub fn find_place<T: Eq + Hash, S: BuildHasher>(
+pub fn find_place<T: Eq + Hash, S: BuildHasher, Q: Key<T>>(
     tags: &[u8],
     cells: &Cells<(T, usize)>,
     state: &S,
     hash: u64,
-    value: &T,
+    key: Q,
 ) -> Option<usize>
-    requires hashed { hash ≡ hash_under T.hash_input S.BuildHasher S.Hasher.Hasher state.now value.now }
+    requires hashed { hash ≡ hash_under Q.hash_input S.BuildHasher S.Hasher.Hasher state.now key }
     requires count { IsSlotCount (length tags.now) }
     requires agree { Agree tags.now cells.now }
     requires reached { IsReached (hash_under T.hash_input S.BuildHasher S.Hasher.Hasher state.now) (columns tags.now cells.now) }
-    ensures found { IfSome result (HoldsAt (λ v. T.eq v value.now) (slots_of tags.now cells.now)) }
-    ensures absent { IfNone result (IsAbsent (λ v. T.eq v value.now) (slots_of tags.now cells.now)) }
+    ensures found { IfSome result (HoldsAt (Q.names key) (slots_of tags.now cells.now)) }
+    ensures absent { IfNone result (IsAbsent (Q.names key) (slots_of tags.now cells.now)) }
 {
-    if let Some(place) = first_place(tags, cells, hash, value) {
+    if let Some(place) = first_place(tags, cells, hash, key) {
         return Some(place);
     }
-    match find_near(tags, cells, state, hash, value) {
+    match find_near(tags, cells, state, hash, key) {
         Some(known) => known,
-        None => probe(tags, cells, state, hash, value),
+        None => probe(tags, cells, state, hash, key),
     }
 }
 

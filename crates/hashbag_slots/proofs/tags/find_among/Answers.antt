@@ -34,7 +34,7 @@ returns-then-is_in-clause-found g c =
     let within : place < length (slots_of ts cs) = omega arith in
     let tag = eqb-true _ _ ((told.first test i.0 until i.1 tells).hit below) in
     let e = c.requires.agree.filled place (omega arith) in
-    (within, holds_at ts cs c.requires.agree place g.T.PartialEq.eq c.args.value.now e.0 e.1 ∙ c.is_in.ensures e.0 e.1 ∙ c.if-is_in.true)
+    (within, holds_at ts cs c.requires.agree place (g.Q.Key.names c.args.key) e.0 e.1 ∙ c.is_in.ensures e.0 e.1 ∙ c.if-is_in.true)
 
 pub marks-preserved : goal.marks-preserved
 marks-preserved g c =
@@ -54,8 +54,8 @@ marks-preserved g c =
               | inl between ↦ absurd (eqb-false _ _ (first.before p beyond between) is)
               | inr here ↦
                   let same : place ≡ p = omega arith in
-                  subst (λ q. holds (λ v. g.T.PartialEq.eq v c.args.value.now) (slot_at (slots_of ts cs) q) ≡ false) same
-                  (holds_at ts cs c.requires.agree place g.T.PartialEq.eq c.args.value.now e.0 e.1 ∙ c.is_in.ensures e.0 e.1 ∙ c.if-is_in.false)
+                  subst (λ q. holds (g.Q.Key.names c.args.key) (slot_at (slots_of ts cs) q) ≡ false) same
+                  (holds_at ts cs c.requires.agree place (g.Q.Key.names c.args.key) e.0 e.1 ∙ c.is_in.ensures e.0 e.1 ∙ c.if-is_in.false)
             ]
           ],
     )

@@ -9,7 +9,7 @@ abbrev pub invariant-marks : goal.invariant-marks
 invariant-marks g l =
     (at : ℕ) × (l.from ≤ at)
     × ((until : ℕ) → Tells (λ p. tag_at l.tags p == l.mark) l.from until l.bits → Tells (from_on (λ p. tag_at l.tags p == l.mark) at) l.from until l.ahead)
-    × ((p : ℕ) → l.from ≤ p → p < at → tag_at l.tags p ≡ l.mark → holds (λ v. g.T.PartialEq.eq v l.value) (slot_at (slots_of l.tags l.cells) p) ≡ false)
+    × ((p : ℕ) → l.from ≤ p → p < at → tag_at l.tags p ≡ l.mark → holds (g.Q.Key.names l.key) (slot_at (slots_of l.tags l.cells) p) ≡ false)
 
 abbrev pub decreases-marks : goal.decreases-marks
 decreases-marks g l = l.ahead

@@ -16,4 +16,4 @@ returns-then-is_in g c =
     let within : c.place_after-first.result < length (slots_of ts cs) = omega arith in
     let m = c.mark_of.ensures.least in let t = c.if-tags-first.true in
     let e = c.requires.agree.filled c.place_after-first.result (omega arith) in
-    record { found = (within, holds_at ts cs c.requires.agree c.place_after-first.result g.T.PartialEq.eq c.args.value.now e.0 e.1 ∙ c.is_in.ensures e.0 e.1 ∙ c.if-is_in.true) }
+    record { found = (within, holds_at ts cs c.requires.agree c.place_after-first.result (g.Q.Key.names c.args.key) e.0 e.1 ∙ c.is_in.ensures e.0 e.1 ∙ c.if-is_in.true) }

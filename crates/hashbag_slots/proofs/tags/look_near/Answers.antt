@@ -1,9 +1,9 @@
-use Rattle.std.proofs.Common.{◌≡◌, ℕ, ◌+◌, ◌<◌, ◌≤◌, length, sym, ap, subst, ◌∙◌, true, inl, inr, arith}
+use Rattle.std.proofs.Common.{◌≡◌, ℕ, ◌+◌, ◌<◌, ◌≤◌, length, sym, ap, subst, ◌∙◌, Bool, true, inl, inr, arith}
 use Rattle.std.proofs.lemmas.Bool.{cases_lt, eqb-true, ltb-true, ltb-false}
 use Rattle.hashbag_slots.specs.Hashing.{hash_under}
 use Rattle.hashbag_slots.specs.Slots.{path_slot}
-use Rattle.hashbag_slots.specs.Columns.{mark_of, tag_at}
-use Rattle.hashbag_slots.proofs.Hashing.{hash_alike}
+use Rattle.hashbag_slots.specs.Columns.{tag_at}
+use Rattle.hashbag_slots.proofs.Hashing.{hash_named}
 use Rattle.hashbag_slots.proofs.Reading.{first_low}
 use Rattle.hashbag_slots.proofs.Strides.{path_near, absent_near}
 use Rattle.hashbag_slots.proofs.tags.look_near.Goals as goal
@@ -12,11 +12,12 @@ pub returns-then-others_before-lt-LANES-clause-absent :
     goal.returns-then-others_before-lt-LANES-clause-absent
 returns-then-others_before-lt-LANES-clause-absent g c =
     let hash : g.row.T.Denot → ℕ = hash_under g.T.Hash.hash_input g.S.BuildHasher g.S.Hasher.Hasher c.args.state.now in
-    let alike : (v w : g.row.T.Denot) → g.T.PartialEq.eq v w ≡ true → hash v ≡ hash w = λ v w e. hash_alike g.T.Hash.hash_input g.S.BuildHasher g.S.Hasher.Hasher c.args.state.now v w (g.met.T.Hash.respects_eq v w e) in
+    let test : g.row.T.Denot → Bool = g.Q.Key.names c.args.key in
+    let alike : (v : g.row.T.Denot) → test v ≡ true → hash v ≡ c.args.hash = hash_named g.T.Hash.hash_input g.Q.Hash.hash_input g.S.BuildHasher g.S.Hasher.Hasher c.args.state.now c.args.key test (g.met.Q.Key.hashed_alike c.args.key) c.args.hash c.requires.hashed in
     let ts = c.args.tags.now in let room = c.if-first-count.false in let short = c.if-others_before-lt-LANES.true in
-    absent_near g.T.PartialEq.eq c.args.value.now hash alike ts c.args.cells.now c.requires.agree c.requires.reached
-    c.mark_of-mark.result (c.mark_of-mark.ensures.mark ∙ ap (λ h. mark_of h) c.requires.hashed)
-    c.place_after-first.result c.others_before.result (c.place_after-first.ensures.value ∙ ap (λ h. path_slot (length ts) h 0) c.requires.hashed)
+    absent_near test hash c.args.hash alike ts c.args.cells.now c.requires.agree c.requires.reached
+    c.mark_of-mark.result c.mark_of-mark.ensures.mark
+    c.place_after-first.result c.others_before.result c.place_after-first.ensures.value
     (omega arith) (eqb-true _ _ (c.others_before.ensures.first.hit (omega arith)))
     (λ p a b same. c.in_default.ensures.absent (c.place_after-first.result + 16) c.equal_ahead-marked.ensures p a (omega arith) same)
 

@@ -1,38 +1,7 @@
-use Rattle.std.proofs.Common.{◌≡◌, ℕ, ◌<◌, ◌≤◌, true, refl, length, sym, ap, subst, ◌∙◌, arith}
-use Rattle.hashbag_slots.specs.Hashing.{hash_under}
-use Rattle.hashbag_slots.specs.Slots.{IsSlotCount, path_slot, is_live, slot_at, IsAbsent}
-use Rattle.hashbag_slots.specs.Columns.{tag_at, IsReached}
-use Rattle.hashbag_slots.proofs.Hashing.{hash_alike}
-use Rattle.hashbag_slots.proofs.Reading.{length-slots_of}
-use Rattle.hashbag_slots.proofs.Strides.{absent_behind}
-use Rattle.hashbag_slots.proofs.Maps.{lookup-IsAbsent}
-use Rattle.hashbag_slots.proofs.slots.Slots.find_behind.Given.{Over}
+use Rattle.std.proofs.Common.{◌∙◌, refl}
+use Rattle.hashbag_slots.proofs.Hashing.{fed_alike}
 use Rattle.hashbag_slots.proofs.slots.Slots.find_behind.Goals as goal
 
-pub ends_before-requires-clause-count : goal.ends_before-requires-clause-count
-ends_before-requires-clause-count g c =
-    subst IsSlotCount (length-slots_of c.self.inside.tags.items c.self.inside.cells c.self.invariant.agree.same_length ∙ sym (ap length c.as_slice.ensures.value)) c.self.invariant.table.count
-
-pub ends_before-requires-clause-within : goal.ends_before-requires-clause-within
-ends_before-requires-clause-within g c =
-    let len = length-slots_of c.self.inside.tags.items c.self.inside.cells c.self.invariant.agree.same_length in
-    let view = ap (λ s. length s.slots) c.self.view_is in let seen = ap length c.as_slice.ensures.value in let within = c.requires.within in omega arith
-
--- where the path ends before the place, the value is absent
-ends : (g : Over) (c : goal.Then-ends_before g) → IsAbsent (λ v. g.T.PartialEq.eq v c.args.value.now) c.args.self.now.slots
-ends g c =
-    let hash : g.row.T.Denot → ℕ = hash_under g.T.Hash.hash_input g.S.BuildHasher g.S.Hasher.Hasher c.args.state.now in
-    let alike : (v w : g.row.T.Denot) → g.T.PartialEq.eq v w ≡ true → hash v ≡ hash w = λ v w e. hash_alike g.T.Hash.hash_input g.S.BuildHasher g.S.Hasher.Hasher c.args.state.now v w (g.met.T.Hash.respects_eq v w e) in
-    let ts = c.self.inside.tags.items in let cs = c.self.inside.cells in let agree = c.self.invariant.agree in
-    let stop = subst (λ us. (p : ℕ) × (path_slot (length us) c.args.hash 0 ≤ p) × (p < c.args.from) × (tag_at us p ≡ 0)) c.as_slice.ensures.value (c.if-ends_before.ensures refl) in
-    let len = length-slots_of ts cs agree.same_length in let view = ap (λ s. length s.slots) c.self.view_is in let within = c.requires.within in let before = stop.2 in
-    subst (IsAbsent (λ v. g.T.PartialEq.eq v c.args.value.now)) (ap (λ s. s.slots) c.self.view_is)
-    (absent_behind g.T.PartialEq.eq c.args.value.now hash alike ts cs agree (subst (IsReached hash) (sym c.self.view_is) c.requires.reached)
-    (path_slot (length ts) c.args.hash 0) stop.0 c.args.from (ap (λ h. path_slot (length ts) h 0) c.requires.hashed) stop.1 stop.2 (omega arith) stop.3
-    (λ q lt. ap (λ s. is_live (slot_at s.slots q)) c.self.view_is ∙ c.requires.dead q lt))
-
-pub returns-then-ends_before-clause-absent : goal.returns-then-ends_before-clause-absent
-returns-then-ends_before-clause-absent g c = ends g c
-
-pub returns-then-ends_before-clause-map : goal.returns-then-ends_before-clause-map
-returns-then-ends_before-clause-map g c = sym (lookup-IsAbsent (λ v. g.T.PartialEq.eq v c.args.value.now) c.args.self.now.slots (ends g c))
+pub find_key_behind-requires-clause-hashed : goal.find_key_behind-requires-clause-hashed
+find_key_behind-requires-clause-hashed g c =
+    c.requires.hashed ∙ fed_alike g.T.Hash.hash_input (λ r. g.T.Hash.hash_input r.now) g.S.BuildHasher g.S.Hasher.Hasher c.args.state.now c.args.value.now c.args.value refl

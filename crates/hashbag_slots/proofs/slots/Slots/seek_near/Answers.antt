@@ -1,19 +1,7 @@
-use Rattle.std.proofs.Common.{◌≡◌, length, sym, ap, subst, ◌∙◌}
-use Rattle.hashbag_slots.specs.Slots.{IsSlotCount, HoldsAt, IsSet}
-use Rattle.hashbag_slots.specs.Columns.{slots_of}
-use Rattle.std.specs.Option.{IfSome}
-use Rattle.std.specs.Prelude.{IfOk}
-use Rattle.hashbag_slots.proofs.Maps.{known-lookup}
-use Rattle.hashbag_slots.proofs.Reading.{length-slots_of}
+use Rattle.std.proofs.Common.{◌∙◌, refl}
+use Rattle.hashbag_slots.proofs.Hashing.{fed_alike}
 use Rattle.hashbag_slots.proofs.slots.Slots.seek_near.Goals as goal
 
-pub look_near-requires-clause-count : goal.look_near-requires-clause-count
-look_near-requires-clause-count g c =
-    subst IsSlotCount (length-slots_of c.self.inside.tags.items c.self.inside.cells c.self.invariant.agree.same_length ∙ sym (ap length c.as_slice.ensures.value)) c.self.invariant.table.count
-
-pub returns-clause-map : goal.returns-clause-map
-returns-clause-map g c =
-    let eq = g.T.PartialEq.eq in
-    let seen : slots_of c.as_slice.result.now c.self.inside.cells ≡ c.args.self.now.slots = ap (λ ts. slots_of ts c.self.inside.cells) c.as_slice.ensures.value ∙ ap (λ s. s.slots) c.self.view_is in
-    known-lookup eq g.met.T.Eq.laws c.args.self.now.slots (subst (IsSet eq) (ap (λ s. s.slots) c.self.view_is) c.self.invariant.table.distinct) c.args.value.now c.look_near.result
-    (subst (λ ss. IfSome c.look_near.result (λ known. IfOk known (HoldsAt (λ v. eq v c.args.value.now) ss))) seen c.look_near.ensures.found)
+pub seek_key_near-requires-clause-hashed : goal.seek_key_near-requires-clause-hashed
+seek_key_near-requires-clause-hashed g c =
+    c.requires.hashed ∙ fed_alike g.T.Hash.hash_input (λ r. g.T.Hash.hash_input r.now) g.S.BuildHasher g.S.Hasher.Hasher c.args.state.now c.args.value.now c.args.value refl

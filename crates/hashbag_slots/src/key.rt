@@ -1,0 +1,54 @@
+//! What a value is looked up by.
+ghost use Rattle.std.specs.Prelude.{◌≡◌, Bool, IsTrue};
+ghost use Rattle.std.proofs.Common.{ap, ◌∙◌, refl};
+ghost use Rattle.std.specs.Cmp.Lexicographic.{bytes_decides, nat_list_eq_equiv};
+ghost use Rattle.std.specs.Hash as fed;
+ghost use Rattle.std.specs.Str.{bytes_eq};
+ghost use Rattle.std.specs.String.{string_bytes};
+
+use std::hash::Hash;
+
+/// What a value is looked up by: the value itself, lent, or what names it, as a text names a `String`.
+///
+/// A key is hashed as the values that it names, so that their slots lie on its path. It names one value: all that are equal to one
+/// that it names, and no other.
+pub trait Key<T: Eq + Hash>: Copy + Hash {
+    // What `names` answers.
+    ghost names: { Self → T → Bool };
+
+    /// Whether it names a value.
+    fn names(&self, value: &T) -> bool
+        ensures { result ≡ names self.now value.now };
+
+    // What a key names is hashed as the key is.
+    ghost hashed_alike: { (key : Self) (v : T) → IsTrue (names key v) → T.hash_input v ≡ Self.hash_input key };
+
+    // Of what it names one, it names all that are equal, and nothing else.
+    ghost names_one: { (key : Self) (v w : T) → IsTrue (names key v) → names key w ≡ T.eq w v };
+}
+
+impl<T: Eq + Hash> Key<T> for &T {
+    ghost names = { λ key v. T.eq v key.now };
+
+    ghost hashed_alike = { λ key v. T.respects_eq v key.now };
+
+    ghost names_one = { λ key v w yes. T.Eq.laws.symm w key.now ∙ T.Eq.laws.congr key.now v w (T.Eq.laws.symm key.now v ∙ yes) ∙ T.Eq.laws.symm v w };
+
+    #[inline(always)]
+    fn names(&self, value: &T) -> bool {
+        *value == **self
+    }
+}
+
+impl Key<String> for &str {
+    ghost names = { λ key v. bytes_eq (string_bytes v) key.now };
+
+    ghost hashed_alike = { λ key v h. ap fed.str ((bytes_decides (string_bytes v) key.now).0 h) };
+
+    ghost names_one = { λ key v w yes. nat_list_eq_equiv.symm (string_bytes w) key.now ∙ nat_list_eq_equiv.congr key.now (string_bytes v) (string_bytes w) (nat_list_eq_equiv.symm key.now (string_bytes v) ∙ yes) ∙ nat_list_eq_equiv.symm (string_bytes v) (string_bytes w) };
+
+    #[inline(always)]
+    fn names(&self, value: &String) -> bool {
+        value.as_str() == *self
+    }
+}
