@@ -179,13 +179,6 @@ impl<T: Eq + Hash + Drop, S: BuildHasher + Drop> Table<T, S> {
         self.set_len() + self.room()
     }
 
-    // For the prover alone, which learns here what every table keeps. It does nothing when it runs.
-    fn recall(&self)
-        ensures { IsCounted T.eq self.now.entries }
-    {
-        let _ = self.set_len();
-    }
-
     // The hash of a value under the table's own state, by which alone its values are found.
     #[inline(always)]
     fn hash(&self, value: &T) -> u64
@@ -268,7 +261,8 @@ impl<T: Eq + Hash + Drop, S: BuildHasher + Drop> Table<T, S> {
         ensures takes { 0 < room self.old.tables → IsOk result }
         ensures arrives { OnOk result (Arrives self.old.tables self.new.tables) }
     {
-        self.recall();
+        // `set_len` is called for its clause that the entries are a map, which the proof cites.
+        let _len = self.set_len();
         self.make_way()?;
         let place = self.newer.first_free(hash);
         self.settle(place, hash, value, count);
@@ -380,7 +374,8 @@ impl<T: Eq + Hash + Drop, S: BuildHasher + Drop> Table<T, S> {
         ensures room { OnOk result (0 < room self.old.tables → KeepsRoom 1 self.old.tables self.new.tables) }
         ensures same_room { IfOk result (λ before. 0 < before → KeepsRoom 0 self.old.tables self.new.tables) }
     {
-        self.recall();
+        // `set_len` is called for its clause that the entries are a map, which the proof cites.
+        let _len = self.set_len();
         if let Some(spot) = self.locate_told(hash, &value, absent) {
             let before = self.raise_spot(spot, n);
             return Ok(before);
