@@ -586,6 +586,7 @@ impl<T: Eq + Hash + Drop, S: BuildHasher + Drop> HashBag<T, S> {
         ensures built { OnOk result ((m : ℕ) → IsLeast 0 (distinct_count T.eq self.old.items) m → m < length self.old.tables.newer → self.new.tables.built ≡ self.old.tables.built + m) }
     {
         self.table.shrink_to_fit()?;
+        // `waiting` is called for its clauses on what waits where there are no slots, which the proof cites.
         let _waiting = self.table.waiting();
         Ok(())
     }
@@ -616,13 +617,6 @@ impl<T: Eq + Hash + Drop, S: BuildHasher + Drop> HashBag<T, S> {
             len: self.len,
             most: self.most,
         })
-    }
-
-    // For the prover alone, which learns here from the invariant that the list is a bag's. It does nothing when it runs.
-    pub(crate) fn recall_bag(&self)
-        ensures { IsBag T.eq self.now.most self.now.items }
-    {
-        let _ = self.len();
     }
 
     // Adds occurrences of a value if the total can have them.

@@ -10,6 +10,7 @@ ghost use Rattle.hashbag_slots.specs.Slots.{IsSlotCount, entries, IsAbsent, IsFi
 ghost use Rattle.hashbag_table.specs.Asked.{MayAskInTurn, Retains};
 ghost use Rattle.hashbag_table.specs.Entries.{entry_of, count_of, without, with_count, with_fewer, with_instance, total, IsCounted, HasClones};
 ghost use Rattle.hashbag_table.specs.Retained.{RetainsTables};
+ghost use Rattle.hashbag_table.specs.Table.{IsMapOf};
 ghost use Rattle.hashbag_table.specs.Tables.{limit, room, values, IsLeast, IsPacked, entries_of, Arrives, KeepsRoom, NoneMoved, Rewrites};
 
 mod room;
@@ -178,13 +179,6 @@ impl<T: Eq + Hash + Drop, S: BuildHasher + Drop> Table<T, S> {
         self.set_len() + self.room()
     }
 
-    // For the prover alone, which learns here what every table keeps. It does nothing when it runs.
-    fn recall(&self)
-        ensures { IsCounted T.eq self.now.entries }
-    {
-        let _ = self.set_len();
-    }
-
     // The hash of a value under the table's own state, by which alone its values are found.
     #[inline(always)]
     fn hash(&self, value: &T) -> u64
@@ -232,9 +226,7 @@ impl<T: Eq + Hash + Drop, S: BuildHasher + Drop> Table<T, S> {
         ensures placed { Places value count self.old.tables.newer self.new.tables.newer }
         ensures waiting { self.new.tables.waiting ≡ self.old.tables.waiting }
         ensures built { self.new.tables.built ≡ self.old.tables.built }
-        ensures entries { IsPermutation ((value, count) ∷ self.old.entries) self.new.entries }
-        ensures hasher { self.new.hasher ≡ self.old.hasher }
-        ensures counted { IsCounted T.eq self.new.entries }
+        ensures entries { IsMapOf T.eq self.old ((value, count) ∷ self.old.entries) self.new }
     {
         self.newer.place_at(place, &self.hasher, hash, value, count);
     }
@@ -245,9 +237,8 @@ impl<T: Eq + Hash + Drop, S: BuildHasher + Drop> Table<T, S> {
     pub fn insert_new(&mut self, value: T, count: usize) -> Result<(), AllocError>
         requires absent { entry_of T.eq value self.old.entries ≡ None }
         requires some { 0 < count }
-        ensures inserted { OnOk result (IsPermutation (with_instance T.eq value count self.old.entries) self.new.entries) }
+        ensures inserted { OnOk result (IsMapOf T.eq self.old (with_instance T.eq value count self.old.entries) self.new) }
         ensures new_set { OnOk result (length self.new.entries ≡ length self.old.entries + 1) }
-        ensures hasher { self.new.hasher ≡ self.old.hasher }
         ensures counted { IsCounted T.eq self.new.entries }
         ensures err { OnErr result (self.new ≡ self.old) }
         ensures takes { 0 < room self.old.tables → IsOk result }
@@ -263,15 +254,15 @@ impl<T: Eq + Hash + Drop, S: BuildHasher + Drop> Table<T, S> {
         requires hashed { hash ≡ hash_under T.hash_input S.BuildHasher S.Hasher.Hasher self.old.hasher value }
         requires absent { entry_of T.eq value self.old.entries ≡ None }
         requires some { 0 < count }
-        ensures inserted { OnOk result (IsPermutation (with_instance T.eq value count self.old.entries) self.new.entries) }
+        ensures inserted { OnOk result (IsMapOf T.eq self.old (with_instance T.eq value count self.old.entries) self.new) }
         ensures new_set { OnOk result (length self.new.entries ≡ length self.old.entries + 1) }
-        ensures hasher { self.new.hasher ≡ self.old.hasher }
         ensures counted { IsCounted T.eq self.new.entries }
         ensures err { OnErr result (self.new ≡ self.old) }
         ensures takes { 0 < room self.old.tables → IsOk result }
         ensures arrives { OnOk result (Arrives self.old.tables self.new.tables) }
     {
-        self.recall();
+        // `set_len` is called for its clause that the entries are a map, which the proof cites.
+        let _len = self.set_len();
         self.make_way()?;
         let place = self.newer.first_free(hash);
         self.settle(place, hash, value, count);
@@ -282,9 +273,7 @@ impl<T: Eq + Hash + Drop, S: BuildHasher + Drop> Table<T, S> {
     pub fn set_count(&mut self, value: &T, n: usize)
         requires present { IsSome (entry_of T.eq value.now self.old.entries) }
         requires some { 0 < n }
-        ensures set { IsPermutation (with_count T.eq value.now n self.old.entries) self.new.entries }
-        ensures hasher { self.new.hasher ≡ self.old.hasher }
-        ensures counted { IsCounted T.eq self.new.entries }
+        ensures set { IsMapOf T.eq self.old (with_count T.eq value.now n self.old.entries) self.new }
         ensures slot { Rewrites (λ w. T.eq w value.now) (recounted n) self.old.tables self.new.tables }
         ensures room { KeepsRoom 0 self.old.tables self.new.tables }
     {
@@ -298,9 +287,7 @@ impl<T: Eq + Hash + Drop, S: BuildHasher + Drop> Table<T, S> {
     /// table it is, becomes Removed. It takes no memory.
     pub fn remove(&mut self, value: &T) -> Option<(T, usize)>
         ensures taken { result ≡ entry_of T.eq value.now self.old.entries }
-        ensures left { IsPermutation (without T.eq value.now self.old.entries) self.new.entries }
-        ensures hasher { self.new.hasher ≡ self.old.hasher }
-        ensures counted { IsCounted T.eq self.new.entries }
+        ensures left { IsMapOf T.eq self.old (without T.eq value.now self.old.entries) self.new }
         ensures slot { IsSome result → Rewrites (λ w. T.eq w value.now) (λ _. Slot.Removed) self.old.tables self.new.tables }
         ensures none { result ≡ None → self.new ≡ self.old }
         ensures room { KeepsRoom 0 self.old.tables self.new.tables }
@@ -321,9 +308,7 @@ impl<T: Eq + Hash + Drop, S: BuildHasher + Drop> Table<T, S> {
     /// It takes no memory. The value is hashed once.
     pub fn take(&mut self, value: &T, n: usize) -> usize
         ensures before { result ≡ count_of T.eq value.now self.old.entries }
-        ensures taken { IsPermutation (with_fewer T.eq value.now n self.old.entries) self.new.entries }
-        ensures hasher { self.new.hasher ≡ self.old.hasher }
-        ensures counted { IsCounted T.eq self.new.entries }
+        ensures taken { IsMapOf T.eq self.old (with_fewer T.eq value.now n self.old.entries) self.new }
         ensures fewer { n < result → Rewrites (λ w. T.eq w value.now) (recounted (result - n)) self.old.tables self.new.tables }
         ensures gone { 0 < result → result ≤ n → Rewrites (λ w. T.eq w value.now) (λ _. Slot.Removed) self.old.tables self.new.tables }
         ensures none { result ≡ 0 → self.new ≡ self.old }
@@ -350,9 +335,7 @@ impl<T: Eq + Hash + Drop, S: BuildHasher + Drop> Table<T, S> {
     pub fn take_one(&mut self, value: &T) -> Result<T, usize>
         ensures last { IfOk result (λ instance. entry_of T.eq value.now self.old.entries ≡ Some (instance, 1)) }
         ensures others { IfErr result (λ before. (before ≡ count_of T.eq value.now self.old.entries) × (before ≢ 1)) }
-        ensures taken { IsPermutation (with_fewer T.eq value.now 1 self.old.entries) self.new.entries }
-        ensures hasher { self.new.hasher ≡ self.old.hasher }
-        ensures counted { IsCounted T.eq self.new.entries }
+        ensures taken { IsMapOf T.eq self.old (with_fewer T.eq value.now 1 self.old.entries) self.new }
         ensures fewer { IfErr result (λ before. 0 < before → Rewrites (λ w. T.eq w value.now) (recounted (before - 1)) self.old.tables self.new.tables) }
         ensures gone { IfOk result (λ _. Rewrites (λ w. T.eq w value.now) (λ _. Slot.Removed) self.old.tables self.new.tables) }
         ensures none { IfErr result (λ before. before ≡ 0 → self.new ≡ self.old) }
@@ -380,9 +363,8 @@ impl<T: Eq + Hash + Drop, S: BuildHasher + Drop> Table<T, S> {
         requires some { 0 < n }
         requires fits { count_of T.eq value self.old.entries + n < 2 ^ 64 }
         ensures before { IfOk result (λ before. before ≡ count_of T.eq value self.old.entries) }
-        ensures added { OnOk result (IsPermutation (with_count T.eq value (count_of T.eq value self.old.entries + n) self.old.entries) self.new.entries) }
+        ensures added { OnOk result (IsMapOf T.eq self.old (with_count T.eq value (count_of T.eq value self.old.entries + n) self.old.entries) self.new) }
         ensures new_set { entry_of T.eq value self.old.entries ≡ None → OnOk result (length self.new.entries ≡ length self.old.entries + 1) }
-        ensures hasher { self.new.hasher ≡ self.old.hasher }
         ensures counted { IsCounted T.eq self.new.entries }
         ensures absent { OnErr result (entry_of T.eq value self.old.entries ≡ None) }
         ensures err { OnErr result (self.new ≡ self.old) }
@@ -392,7 +374,8 @@ impl<T: Eq + Hash + Drop, S: BuildHasher + Drop> Table<T, S> {
         ensures room { OnOk result (0 < room self.old.tables → KeepsRoom 1 self.old.tables self.new.tables) }
         ensures same_room { IfOk result (λ before. 0 < before → KeepsRoom 0 self.old.tables self.new.tables) }
     {
-        self.recall();
+        // `set_len` is called for its clause that the entries are a map, which the proof cites.
+        let _len = self.set_len();
         if let Some(spot) = self.locate_told(hash, &value, absent) {
             let before = self.raise_spot(spot, n);
             return Ok(before);
@@ -410,9 +393,8 @@ impl<T: Eq + Hash + Drop, S: BuildHasher + Drop> Table<T, S> {
         requires some { 0 < n }
         requires fits { count_of T.eq value self.old.entries + n < 2 ^ 64 }
         ensures before { IfOk result (λ before. before ≡ count_of T.eq value self.old.entries) }
-        ensures added { OnOk result (IsPermutation (with_count T.eq value (count_of T.eq value self.old.entries + n) self.old.entries) self.new.entries) }
+        ensures added { OnOk result (IsMapOf T.eq self.old (with_count T.eq value (count_of T.eq value self.old.entries + n) self.old.entries) self.new) }
         ensures new_set { entry_of T.eq value self.old.entries ≡ None → OnOk result (length self.new.entries ≡ length self.old.entries + 1) }
-        ensures hasher { self.new.hasher ≡ self.old.hasher }
         ensures counted { IsCounted T.eq self.new.entries }
         ensures absent { OnErr result (entry_of T.eq value self.old.entries ≡ None) }
         ensures err { OnErr result (self.new ≡ self.old) }
@@ -447,9 +429,8 @@ impl<T: Eq + Hash + Drop, S: BuildHasher + Drop> Table<T, S> {
     /// room is left: the table is then unchanged, and the value is dropped.
     pub fn put_instance(&mut self, value: T) -> Result<usize, AllocError>
         ensures before { IfOk result (λ before. before ≡ count_of T.eq value self.old.entries) }
-        ensures put { OnOk result (IsPermutation (with_instance T.eq value 1 self.old.entries) self.new.entries) }
+        ensures put { OnOk result (IsMapOf T.eq self.old (with_instance T.eq value 1 self.old.entries) self.new) }
         ensures new_set { entry_of T.eq value self.old.entries ≡ None → OnOk result (length self.new.entries ≡ length self.old.entries + 1) }
-        ensures hasher { self.new.hasher ≡ self.old.hasher }
         ensures counted { IsCounted T.eq self.new.entries }
         ensures absent { OnErr result (entry_of T.eq value self.old.entries ≡ None) }
         ensures err { OnErr result (self.new ≡ self.old) }

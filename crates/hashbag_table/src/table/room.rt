@@ -5,6 +5,7 @@ ghost use Rattle.hashbag_slots.specs.Hashing.{hash_under};
 ghost use Rattle.hashbag_slots.specs.Slots.{entries};
 ghost use Rattle.hashbag_slots.specs.Columns.{IsReached};
 ghost use Rattle.hashbag_table.specs.Entries.{IsCounted};
+ghost use Rattle.hashbag_table.specs.Table.{IsMapOf};
 ghost use Rattle.hashbag_table.specs.Tables.{limit, room, values, IsLeast, IsPacked, ReservesOrStays, ShrinksOrStays, Carried, IsReady, MayAdopt};
 
 use crate::growth::{carry_next, grown_count, least_count, no_slots};
@@ -103,9 +104,7 @@ impl<T: Eq + Hash + Drop, S: BuildHasher + Drop> Table<T, S> {
         ensures packed { IsPacked self.new.tables }
         ensures built { self.new.tables.built ≡ self.old.tables.built + length newer.slots }
         ensures values { values self.new.tables ≡ length self.old.entries }
-        ensures entries { IsPermutation self.old.entries self.new.entries }
-        ensures hasher { self.new.hasher ≡ self.old.hasher }
-        ensures counted { IsCounted T.eq self.new.entries }
+        ensures entries { IsMapOf T.eq self.old self.old.entries self.new }
     {
         let mut newer = newer;
         let waiting = self.older.slots() - self.looked;
@@ -122,9 +121,7 @@ impl<T: Eq + Hash + Drop, S: BuildHasher + Drop> Table<T, S> {
     /// not smaller than the newer one: every value is moved into it and hashed once, and the others are freed. A request with
     /// which there would be more than [`MOST_VALUES`] is refused before memory is asked for.
     pub fn reserve(&mut self, n: usize) -> Result<(), AllocError>
-        ensures entries { IsPermutation self.old.entries self.new.entries }
-        ensures hasher { self.new.hasher ≡ self.old.hasher }
-        ensures counted { IsCounted T.eq self.new.entries }
+        ensures entries { IsMapOf T.eq self.old self.old.entries self.new }
         ensures none { n ≡ 0 → IsOk result }
         ensures beyond { 0 < n → MOST_VALUES < length self.old.entries + n → IsErr result }
         ensures err { OnErr result (self.new ≡ self.old) }
@@ -156,9 +153,7 @@ impl<T: Eq + Hash + Drop, S: BuildHasher + Drop> Table<T, S> {
     /// value is moved into it and hashed once, and the others are freed. Else it takes no memory and does nothing. Where there
     /// are no entries it takes no memory, and no slots are left.
     pub fn shrink_to_fit(&mut self) -> Result<(), AllocError>
-        ensures entries { IsPermutation self.old.entries self.new.entries }
-        ensures hasher { self.new.hasher ≡ self.old.hasher }
-        ensures counted { IsCounted T.eq self.new.entries }
+        ensures entries { IsMapOf T.eq self.old self.old.entries self.new }
         ensures err { OnErr result (self.new ≡ self.old) }
         ensures none { self.old.entries ≡ [] → IsOk result }
         ensures freed { self.old.entries ≡ [] → self.new.tables.newer ≡ [] }

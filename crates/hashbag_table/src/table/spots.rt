@@ -88,7 +88,8 @@ impl<T: Eq + Hash + Drop, S: BuildHasher + Drop> Table<T, S> {
         ensures held { IfSome result (HoldsIn (λ w. T.eq w value.now) self.now.tables) }
         ensures counted { IsCounted T.eq self.now.entries }
     {
-        self.recall();
+        // `set_len` is called for its clause that the entries are a map, which the proof cites.
+        let _len = self.set_len();
         if let Some(place) = self.newer.find_hashed(&self.hasher, hash, value) {
             return Some(Spot::Newer(place));
         }
@@ -120,7 +121,8 @@ impl<T: Eq + Hash + Drop, S: BuildHasher + Drop> Table<T, S> {
         ensures free { IfSome result (λ known. IfErr known (IsFirstFree hash self.now.tables.newer)) }
         ensures counted { IsCounted T.eq self.now.entries }
     {
-        self.recall();
+        // `set_len` is called for its clause that the entries are a map, which the proof cites.
+        let _len = self.set_len();
         match self.newer.seek_near(&self.hasher, hash, value) {
             Some(Ok(place)) => Some(Ok(Spot::Newer(place))),
             Some(Err(place)) => Some(Err(place)),

@@ -27,7 +27,7 @@ pub returns-in-Ok-clause-reply : goal.returns-in-Ok-clause-reply
 returns-in-Ok-clause-reply g c =
     let occupied = rw (c.entry.ensures.value, c.entry.ensures.unchanged) at c.in-Ok.ensures.occupied in
     let vacant = rw (c.entry.ensures.value, c.entry.ensures.unchanged) at c.in-Ok.ensures.vacant in
-    (entry_or_done g.met.T.Eq.laws c.args.value c.args.quantity c.in-Ok.count c.args.bag.now c.or_insert_many.new.self.0 c.recall_what_bags_keep.ensures (λ some. (ok_is _ _ (occupied some).0, (occupied some).1)) vacant).reply_is
+    (entry_or_done g.met.T.Eq.laws c.args.value c.args.quantity c.in-Ok.count c.args.bag.now c.or_insert_many.new.self.0 c.len-len.ensures.bag (λ some. (ok_is _ _ (occupied some).0, (occupied some).1)) vacant).reply_is
 
 -- the bag that came back is the one that the entry left
 came_back : {T S : Type 0} {eq : T → T → Bool} {before : Bag T S} {X : List T} (after left : Bag T S) → after ≡ left → IsBagOf eq before X left → IsBagOf eq before X after
@@ -37,7 +37,7 @@ pub returns-in-Ok-clause-left : goal.returns-in-Ok-clause-left
 returns-in-Ok-clause-left g c =
     let occupied = rw (c.entry.ensures.value, c.entry.ensures.unchanged) at c.in-Ok.ensures.occupied in
     let vacant = rw (c.entry.ensures.value, c.entry.ensures.unchanged) at c.in-Ok.ensures.vacant in
-    came_back _ c.or_insert_many.new.self.0 (search rules) (entry_or_done g.met.T.Eq.laws c.args.value c.args.quantity c.in-Ok.count c.args.bag.now c.or_insert_many.new.self.0 c.recall_what_bags_keep.ensures (λ some. (ok_is _ _ (occupied some).0, (occupied some).1)) vacant).left
+    came_back _ c.or_insert_many.new.self.0 (search rules) (entry_or_done g.met.T.Eq.laws c.args.value c.args.quantity c.in-Ok.count c.args.bag.now c.or_insert_many.new.self.0 c.len-len.ensures.bag (λ some. (ok_is _ _ (occupied some).0, (occupied some).1)) vacant).left
 
 -- room is as it is left where the tables that came back are those that the entry left
 kept_back : {T : Type 0} (k : ℕ) (before after left : Tables T) → after ≡ left → Moves k before left → Moves k before after

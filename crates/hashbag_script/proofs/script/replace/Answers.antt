@@ -22,7 +22,7 @@ returns-in-Ok-clause-room g c =
 pub returns-in-Err-TooMany-clause-left : goal.returns-in-Err-TooMany-clause-left
 returns-in-Err-TooMany-clause-left g c =
     let passes : c.args.bag.now.most < length c.args.bag.now.items + 1 = subst (λ (e : BagError). Refuses g.T.PartialEq.eq c.args.bag.now.most c.args.bag.now.items c.args.value 1 e) c.in-Err-TooMany.field-0-is c.in-Err-TooMany.ensures.refused in
-    row_kept g.met.T.Eq.laws _ _ c.args.bag.now c.replace.new.self c.recall_what_bags_keep.ensures (replace_row-passes g.met.T.Eq.laws c.args.bag.now.most c.args.value c.args.bag.now.items c.in-Err-TooMany.ensures.absent passes) c.in-Err-TooMany.ensures.err
+    row_kept g.met.T.Eq.laws _ _ c.args.bag.now c.replace.new.self c.len-len.ensures.bag (replace_row-passes g.met.T.Eq.laws c.args.bag.now.most c.args.value c.args.bag.now.items c.in-Err-TooMany.ensures.absent passes) c.in-Err-TooMany.ensures.err
 
 pub returns-in-Err-Memory-clause-refused : goal.returns-in-Err-Memory-clause-refused
 returns-in-Err-Memory-clause-refused g c =

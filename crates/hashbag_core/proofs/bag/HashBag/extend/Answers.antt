@@ -5,7 +5,7 @@ use Rattle.hashbag_core.proofs.InsertLemmas.{none_yet, one_more, all_went, some_
 use Rattle.hashbag_core.proofs.bag.HashBag.extend.Goals as goal
 
 pub loop-item-init : goal.loop-item-init
-loop-item-init g c = none_yet g.T.PartialEq.eq Once c.args.self.now c.recall_bag.ensures
+loop-item-init g c = none_yet g.T.PartialEq.eq Once c.args.self.now c.len-len.ensures.bag
 
 pub loop-item-preserved : goal.loop-item-preserved
 loop-item-preserved g c =

@@ -5,7 +5,7 @@ use Rattle.hashbag_core.proofs.InsertLemmas.{none_yet, one_more, all_went, some_
 use Rattle.hashbag_core.proofs.bag.HashBag.extend_many.Goals as goal
 
 pub loop-value-init : goal.loop-value-init
-loop-value-init g c = none_yet g.T.PartialEq.eq AsItIs c.args.self.now c.recall_bag.ensures
+loop-value-init g c = none_yet g.T.PartialEq.eq AsItIs c.args.self.now c.len-len.ensures.bag
 
 pub loop-value-preserved : goal.loop-value-preserved
 loop-value-preserved g c =

@@ -35,7 +35,7 @@ invariant_of-self-2 g c =
     let within = c.self.invariant.fits in
     let fits = c.if-n-self.false in
     let sum = c.self.invariant.sum in
-    tally_added g.met.T.Eq.laws c.args.value c.args.n _ c.add.new.self.entries c.self.inside.len c.self.invariant c.add.ensures.counted (omega arith) (add_occurrences g.met.T.Eq.laws c.args.value c.args.n _ _ c.self.invariant.counted c.in_ok-before.ensures.added)
+    tally_added g.met.T.Eq.laws c.args.value c.args.n _ c.add.new.self.entries c.self.inside.len c.self.invariant c.add.ensures.counted (omega arith) (add_occurrences g.met.T.Eq.laws c.args.value c.args.n _ _ c.self.invariant.counted c.in_ok-before.ensures.added.means)
 
 pub returns-clause-before : goal.returns-clause-before
 returns-clause-before g c = rw (← c.self.view_is) (c.in_ok-before.ensures.before ∙ sym (count_occurrences g.met.T.Eq.laws c.args.value _ c.self.invariant.counted.distinct))
@@ -56,12 +56,12 @@ returns-clause-inserted g c =
     let same = count_occurrences laws c.args.value c.self.inside.table.entries was.counted.distinct in
     let before = done.before in
     rw (← c.self.view_is) (record {
-      added = record { means = add_occurrences laws c.args.value c.args.n _ _ was.counted done.added; hasher = c.add.ensures.hasher; limit = refl; bag = bag_from_tally laws _ _ now };
+      added = record { means = add_occurrences laws c.args.value c.args.n _ _ was.counted done.added.means; hasher = done.added.hasher; limit = refl; bag = bag_from_tally laws _ _ now };
       none = λ is. absurd (omega (arith, some, is));
       len = let before = was.sum in let after = now.sum in omega (arith, before, after);
-      set_len = distinct_added laws c.args.value _ _ _ was.counted c.add.ensures.counted done.added;
-      same_set = distinct_same laws c.args.value _ _ _ was.counted c.add.ensures.counted done.added;
-      new_set = λ _ none. distinct_one_more laws c.args.value _ _ _ was.counted c.add.ensures.counted done.added none;
+      set_len = distinct_added laws c.args.value _ _ _ was.counted c.add.ensures.counted done.added.means;
+      same_set = distinct_same laws c.args.value _ _ _ was.counted c.add.ensures.counted done.added.means;
+      new_set = λ _ none. distinct_one_more laws c.args.value _ _ _ was.counted c.add.ensures.counted done.added.means none;
       arrives = λ _ none. done.arrives (absent_in_table laws c.args.value _ was.counted none);
       slot = λ _ there. rw same (recounts_some g.T.PartialEq.eq c.args.value _ _ _ (omega (arith, some)) (c.add.ensures.slot (present_in_table laws c.args.value _ was.counted there)));
       less_room = done.room;

@@ -18,14 +18,14 @@ invariant_of-self-2 g c =
     let sum = c.self.invariant.sum in
     let none : count g.T.PartialEq.eq c.args.value (occurrences c.self.inside.table.entries) ≡ 0 = rw (← c.self.view_is) at c.requires.absent in
     tally_added g.met.T.Eq.laws c.args.value c.args.quantity c.self.inside.table.entries c.insert_new.new.self.entries c.self.inside.len c.self.invariant c.insert_new.ensures.counted (omega arith)
-    (new_occurrences g.met.T.Eq.laws c.args.value c.args.quantity c.self.inside.table.entries c.insert_new.new.self.entries c.self.invariant.counted none c.in_ok-insert_new.ensures.inserted)
+    (new_occurrences g.met.T.Eq.laws c.args.value c.args.quantity c.self.inside.table.entries c.insert_new.new.self.entries c.self.invariant.counted none c.in_ok-insert_new.ensures.inserted.means)
 
 pub returns-clause-added : goal.returns-clause-added
 returns-clause-added g c =
     let none : count g.T.PartialEq.eq c.args.value (occurrences c.self.inside.table.entries) ≡ 0 = rw (← c.self.view_is) at c.requires.absent in
     rw (← c.self.view_is) (record {
-      means = new_occurrences g.met.T.Eq.laws c.args.value c.args.quantity c.self.inside.table.entries c.insert_new.new.self.entries c.self.invariant.counted none c.in_ok-insert_new.ensures.inserted;
-      hasher = c.insert_new.ensures.hasher;
+      means = new_occurrences g.met.T.Eq.laws c.args.value c.args.quantity c.self.inside.table.entries c.insert_new.new.self.entries c.self.invariant.counted none c.in_ok-insert_new.ensures.inserted.means;
+      hasher = c.in_ok-insert_new.ensures.inserted.hasher;
       limit = refl;
       bag = bag_from_tally g.met.T.Eq.laws _ _ (invariant_of-self-2 g c);
     })
@@ -46,4 +46,4 @@ pub returns-clause-room : goal.returns-clause-room
 returns-clause-room g c = λ some. rw (← c.self.view_is) (c.in_ok-insert_new.ensures.room (rw (← c.self.view_is) at some))
 
 pub returns-clause-new_set : goal.returns-clause-new_set
-returns-clause-new_set g c = rw (← c.self.view_is) (distinct_put g.met.T.Eq.laws c.args.value c.args.quantity _ _ c.self.invariant.counted c.insert_new.ensures.counted (rw (← c.self.view_is) at c.requires.absent) c.in_ok-insert_new.ensures.inserted)
+returns-clause-new_set g c = rw (← c.self.view_is) (distinct_put g.met.T.Eq.laws c.args.value c.args.quantity _ _ c.self.invariant.counted c.insert_new.ensures.counted (rw (← c.self.view_is) at c.requires.absent) c.in_ok-insert_new.ensures.inserted.means)

@@ -51,15 +51,15 @@ invariant_of-self-2 g c =
     ] in
     subst (λ (k : ℕ). IsTallied eq c.put_instance.new.self.entries (c.self.inside.len - k + 1) c.self.inside.most) (sym c.in_ok-before.ensures.before)
     (tally_put g.met.T.Eq.laws v 1 es c.put_instance.new.self.entries c.self.inside.len c.self.invariant c.put_instance.ensures.counted (omega arith)
-    (put_occurrences g.met.T.Eq.laws v 1 es c.put_instance.new.self.entries c.self.invariant.counted c.in_ok-before.ensures.put))
+    (put_occurrences g.met.T.Eq.laws v 1 es c.put_instance.new.self.entries c.self.invariant.counted c.in_ok-before.ensures.put.means))
 
 pub returns-clause-before : goal.returns-clause-before
 returns-clause-before g c = rw (← c.self.view_is) (c.in_ok-before.ensures.before ∙ sym (count_occurrences g.met.T.Eq.laws c.args.value _ c.self.invariant.counted.distinct))
 
 pub returns-clause-put : goal.returns-clause-put
 returns-clause-put g c = rw (← c.self.view_is) (record {
-  means = put_occurrences g.met.T.Eq.laws c.args.value 1 _ _ c.self.invariant.counted c.in_ok-before.ensures.put;
-  hasher = c.put_instance.ensures.hasher;
+  means = put_occurrences g.met.T.Eq.laws c.args.value 1 _ _ c.self.invariant.counted c.in_ok-before.ensures.put.means;
+  hasher = c.in_ok-before.ensures.put.hasher;
   limit = refl;
   bag = bag_from_tally g.met.T.Eq.laws _ _ (invariant_of-self-2 g c);
 })
@@ -111,4 +111,4 @@ pub returns-clause-same_room : goal.returns-clause-same_room
 returns-clause-same_room g c = λ some. rw (← c.self.view_is) (c.in_ok-before.ensures.same_room some)
 
 pub returns-clause-new_set : goal.returns-clause-new_set
-returns-clause-new_set g c = λ none. rw (← c.self.view_is) (distinct_put g.met.T.Eq.laws c.args.value 1 _ _ c.self.invariant.counted c.put_instance.ensures.counted (rw (← c.self.view_is) at none) c.in_ok-before.ensures.put)
+returns-clause-new_set g c = λ none. rw (← c.self.view_is) (distinct_put g.met.T.Eq.laws c.args.value 1 _ _ c.self.invariant.counted c.put_instance.ensures.counted (rw (← c.self.view_is) at none) c.in_ok-before.ensures.put.means)

@@ -11,19 +11,19 @@ use Rattle.hashbag_core.proofs.bag.HashBag.reserve.Goals as goal
 
 pub returns-in_err-reserve-clause-kept : goal.returns-in_err-reserve-clause-kept
 returns-in_err-reserve-clause-kept g c = rw (← c.self.view_is) (record {
-  means = occurrences_rearranged _ _ c.reserve.ensures.entries;
-  hasher = c.reserve.ensures.hasher;
+  means = occurrences_rearranged _ _ c.reserve.ensures.entries.means;
+  hasher = c.reserve.ensures.entries.hasher;
   limit = refl;
-  bag = bag_from_tally g.met.T.Eq.laws _ _ (tally_rearranged g.met.T.Eq.laws _ _ _ c.self.invariant c.reserve.ensures.counted c.reserve.ensures.entries);
+  bag = bag_from_tally g.met.T.Eq.laws _ _ (tally_rearranged g.met.T.Eq.laws _ _ _ c.self.invariant c.reserve.ensures.entries.counted c.reserve.ensures.entries.means);
 })
 
 pub invariant_of-self-2 : goal.invariant_of-self-2
-invariant_of-self-2 g c = tally_rearranged g.met.T.Eq.laws _ _ _ c.self.invariant c.reserve.ensures.counted c.reserve.ensures.entries
+invariant_of-self-2 g c = tally_rearranged g.met.T.Eq.laws _ _ _ c.self.invariant c.reserve.ensures.entries.counted c.reserve.ensures.entries.means
 
 pub returns-clause-kept : goal.returns-clause-kept
 returns-clause-kept g c = rw (← c.self.view_is) (record {
-  means = occurrences_rearranged _ _ c.reserve.ensures.entries;
-  hasher = c.reserve.ensures.hasher;
+  means = occurrences_rearranged _ _ c.reserve.ensures.entries.means;
+  hasher = c.reserve.ensures.entries.hasher;
   limit = refl;
   bag = bag_from_tally g.met.T.Eq.laws _ _ (invariant_of-self-2 g c);
 })
@@ -36,7 +36,7 @@ returns-clause-beyond g c = λ some more.
     absurd (false≢true (c.in_ok-reserve.ensures.beyond some many))
 
 pub returns-in_err-reserve-clause-len : goal.returns-in_err-reserve-clause-len
-returns-in_err-reserve-clause-len g c = rw (← c.self.view_is) (sym (tally_rearranged g.met.T.Eq.laws _ _ _ c.self.invariant c.reserve.ensures.counted c.reserve.ensures.entries).sum ∙ c.self.invariant.sum)
+returns-in_err-reserve-clause-len g c = rw (← c.self.view_is) (sym (tally_rearranged g.met.T.Eq.laws _ _ _ c.self.invariant c.reserve.ensures.entries.counted c.reserve.ensures.entries.means).sum ∙ c.self.invariant.sum)
 
 pub returns-clause-len : goal.returns-clause-len
 returns-clause-len g c = rw (← c.self.view_is) (sym (invariant_of-self-2 g c).sum ∙ c.self.invariant.sum)

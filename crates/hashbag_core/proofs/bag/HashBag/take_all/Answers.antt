@@ -15,8 +15,8 @@ invariant_of-self g c =
     let v = c.args.value.now in
     let none = count_of_entry g.met.T.Eq.laws v es None c.in_err-instance.ensures.taken in
     subst (λ (k : ℕ). IsTallied g.T.PartialEq.eq c.remove.new.self.entries k c.self.inside.most) (let same : c.self.inside.len - 0 ≡ c.self.inside.len = omega arith in same)
-    (tally_less g.met.T.Eq.laws v (count g.T.PartialEq.eq v (occurrences es)) 0 es c.remove.new.self.entries c.self.inside.len c.self.invariant (omega arith) c.remove.ensures.counted
-    (less_all_occurrences g.met.T.Eq.laws v _ es _ c.self.invariant.counted (omega arith) c.remove.ensures.left))
+    (tally_less g.met.T.Eq.laws v (count g.T.PartialEq.eq v (occurrences es)) 0 es c.remove.new.self.entries c.self.inside.len c.self.invariant (omega arith) c.remove.ensures.left.counted
+    (less_all_occurrences g.met.T.Eq.laws v _ es _ c.self.invariant.counted (omega arith) c.remove.ensures.left.means))
 
 pub returns-in_err-instance-clause-taken : goal.returns-in_err-instance-clause-taken
 returns-in_err-instance-clause-taken g c = rw (← c.self.view_is) (c.from_residual.ensures ∙ c.in_err-instance.ensures.taken ∙ sym (stored_occurrences g.met.T.Eq.laws c.args.value.now _ c.self.invariant.counted))
@@ -29,8 +29,8 @@ returns-in_err-instance-clause-fewer g c =
     let same = count_occurrences g.met.T.Eq.laws v es c.self.invariant.counted.distinct in
     rw (← c.self.view_is) (record {
       left = record {
-        means = less_all_occurrences g.met.T.Eq.laws v _ es _ c.self.invariant.counted (omega arith) c.remove.ensures.left;
-        hasher = c.remove.ensures.hasher;
+        means = less_all_occurrences g.met.T.Eq.laws v _ es _ c.self.invariant.counted (omega arith) c.remove.ensures.left.means;
+        hasher = c.remove.ensures.left.hasher;
         limit = refl;
         bag = bag_from_tally g.met.T.Eq.laws _ _ (invariant_of-self g c);
       };
@@ -51,8 +51,8 @@ invariant_of-self-2 g c =
     let v = c.args.value.now in
     let n = count_of_entry g.met.T.Eq.laws v es _ c.in_ok-instance.ensures.taken in
     let same = count_occurrences g.met.T.Eq.laws v es c.self.invariant.counted.distinct in
-    tally_less g.met.T.Eq.laws v (count g.T.PartialEq.eq v (occurrences es)) c.in_ok-instance.count es c.remove.new.self.entries c.self.inside.len c.self.invariant (omega arith) c.remove.ensures.counted
-    (less_all_occurrences g.met.T.Eq.laws v _ es _ c.self.invariant.counted (omega arith) c.remove.ensures.left)
+    tally_less g.met.T.Eq.laws v (count g.T.PartialEq.eq v (occurrences es)) c.in_ok-instance.count es c.remove.new.self.entries c.self.inside.len c.self.invariant (omega arith) c.remove.ensures.left.counted
+    (less_all_occurrences g.met.T.Eq.laws v _ es _ c.self.invariant.counted (omega arith) c.remove.ensures.left.means)
 
 pub returns-clause-taken : goal.returns-clause-taken
 returns-clause-taken g c = rw (← c.self.view_is) (c.in_ok-instance.ensures.taken ∙ sym (stored_occurrences g.met.T.Eq.laws c.args.value.now _ c.self.invariant.counted))
@@ -65,8 +65,8 @@ returns-clause-fewer g c =
     let some = stored_some g.met.T.Eq.laws v (occurrences es) _ (c.in_ok-instance.ensures.taken ∙ sym (stored_occurrences g.met.T.Eq.laws v _ c.self.invariant.counted)) in
     rw (← c.self.view_is) (record {
       left = record {
-        means = less_all_occurrences g.met.T.Eq.laws v _ es _ c.self.invariant.counted (omega arith) c.remove.ensures.left;
-        hasher = c.remove.ensures.hasher;
+        means = less_all_occurrences g.met.T.Eq.laws v _ es _ c.self.invariant.counted (omega arith) c.remove.ensures.left.means;
+        hasher = c.remove.ensures.left.hasher;
         limit = refl;
         bag = bag_from_tally g.met.T.Eq.laws _ _ (invariant_of-self-2 g c);
       };

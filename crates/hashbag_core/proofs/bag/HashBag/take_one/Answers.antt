@@ -18,8 +18,8 @@ pub invariant_of-self : goal.invariant_of-self
 invariant_of-self g c =
     let es = c.self.inside.table.entries in
     let one = count_of_entry g.met.T.Eq.laws c.args.value.now es _ (sym c.in-Ok.ensures.last) in
-    tally_less g.met.T.Eq.laws c.args.value.now 1 1 es c.take_one.new.self.entries c.self.inside.len c.self.invariant (omega (arith, one)) c.take_one.ensures.counted
-    (fewer_occurrences g.met.T.Eq.laws c.args.value.now 1 es c.take_one.new.self.entries c.self.invariant.counted c.take_one.ensures.taken)
+    tally_less g.met.T.Eq.laws c.args.value.now 1 1 es c.take_one.new.self.entries c.self.inside.len c.self.invariant (omega (arith, one)) c.take_one.ensures.taken.counted
+    (fewer_occurrences g.met.T.Eq.laws c.args.value.now 1 es c.take_one.new.self.entries c.self.invariant.counted c.take_one.ensures.taken.means)
 
 pub returns-in-Ok-clause-fewer : goal.returns-in-Ok-clause-fewer
 returns-in-Ok-clause-fewer g c =
@@ -28,8 +28,8 @@ returns-in-Ok-clause-fewer g c =
     let same = count_occurrences g.met.T.Eq.laws c.args.value.now es c.self.invariant.counted.distinct in
     rw (← c.self.view_is) (record {
       left = record {
-        means = fewer_occurrences g.met.T.Eq.laws c.args.value.now 1 _ _ c.self.invariant.counted c.take_one.ensures.taken;
-        hasher = c.take_one.ensures.hasher;
+        means = fewer_occurrences g.met.T.Eq.laws c.args.value.now 1 _ _ c.self.invariant.counted c.take_one.ensures.taken.means;
+        hasher = c.take_one.ensures.taken.hasher;
         limit = refl;
         bag = bag_from_tally g.met.T.Eq.laws _ _ (invariant_of-self g c);
       };
@@ -64,8 +64,8 @@ invariant_of-self-in-Err g c =
     let es = c.self.inside.table.entries in
     let before = c.in-Err.ensures.others.0 in
     let one = c.min.ensures in
-    tally_less g.met.T.Eq.laws c.args.value.now 1 c.min.result es c.take_one.new.self.entries c.self.inside.len c.self.invariant (omega (arith, before, one)) c.take_one.ensures.counted
-    (fewer_occurrences g.met.T.Eq.laws c.args.value.now 1 es c.take_one.new.self.entries c.self.invariant.counted c.take_one.ensures.taken)
+    tally_less g.met.T.Eq.laws c.args.value.now 1 c.min.result es c.take_one.new.self.entries c.self.inside.len c.self.invariant (omega (arith, before, one)) c.take_one.ensures.taken.counted
+    (fewer_occurrences g.met.T.Eq.laws c.args.value.now 1 es c.take_one.new.self.entries c.self.invariant.counted c.take_one.ensures.taken.means)
 
 pub returns-in-Err-clause-fewer : goal.returns-in-Err-clause-fewer
 returns-in-Err-clause-fewer g c =
@@ -74,8 +74,8 @@ returns-in-Err-clause-fewer g c =
     let several = c.in-Err.ensures.others.1 in
     rw (← c.self.view_is) (record {
       left = record {
-        means = fewer_occurrences g.met.T.Eq.laws v 1 _ _ c.self.invariant.counted c.take_one.ensures.taken;
-        hasher = c.take_one.ensures.hasher;
+        means = fewer_occurrences g.met.T.Eq.laws v 1 _ _ c.self.invariant.counted c.take_one.ensures.taken.means;
+        hasher = c.take_one.ensures.taken.hasher;
         limit = refl;
         bag = bag_from_tally g.met.T.Eq.laws _ _ (invariant_of-self-in-Err g c);
       };

@@ -17,7 +17,7 @@ pub invariant_of-self : goal.invariant_of-self
 invariant_of-self g c =
     let before = c.take-before.ensures.before in
     let one = c.min.ensures in
-    tally_less g.met.T.Eq.laws c.args.value.now c.args.quantity c.min.result _ _ _ c.self.invariant (omega arith) c.take-before.ensures.counted (fewer_occurrences g.met.T.Eq.laws c.args.value.now c.args.quantity _ _ c.self.invariant.counted c.take-before.ensures.taken)
+    tally_less g.met.T.Eq.laws c.args.value.now c.args.quantity c.min.result _ _ _ c.self.invariant (omega arith) c.take-before.ensures.taken.counted (fewer_occurrences g.met.T.Eq.laws c.args.value.now c.args.quantity _ _ c.self.invariant.counted c.take-before.ensures.taken.means)
 
 pub returns-clause-before : goal.returns-clause-before
 returns-clause-before g c = rw (← c.self.view_is) (c.take-before.ensures.before ∙ sym (count_occurrences g.met.T.Eq.laws c.args.value.now _ c.self.invariant.counted.distinct))
@@ -37,8 +37,8 @@ returns-clause-fewer g c =
     let before : c.take-before.result ≡ count eq v (occurrences es) = c.take-before.ensures.before ∙ sym (count_occurrences g.met.T.Eq.laws v _ c.self.invariant.counted.distinct) in
     rw (← c.self.view_is) (record {
       left = record {
-        means = fewer_occurrences g.met.T.Eq.laws v c.args.quantity _ _ c.self.invariant.counted c.take-before.ensures.taken;
-        hasher = c.take-before.ensures.hasher;
+        means = fewer_occurrences g.met.T.Eq.laws v c.args.quantity _ _ c.self.invariant.counted c.take-before.ensures.taken.means;
+        hasher = c.take-before.ensures.taken.hasher;
         limit = refl;
         bag = bag_from_tally g.met.T.Eq.laws _ _ (invariant_of-self g c);
       };

@@ -37,8 +37,12 @@ pub returns-in-Some-Ok-clause-added : goal.returns-in-Some-Ok-clause-added
 returns-in-Some-Ok-clause-added g c =
     let is = subst (λ r. IfOk r (λ spot. slot_entry (slot_in c.args.self.now.tables spot) ≡ entry_of g.T.PartialEq.eq c.args.value c.args.self.now.entries)) c.in-Some-Ok.field-0-is c.in-Some-Ok.ensures.map in
     let held = subst (λ r. IfOk r (HoldsIn (λ w. g.T.PartialEq.eq w c.args.value) c.args.self.now.tables)) c.in-Some-Ok.field-0-is c.in-Some-Ok.ensures.held in
-    raised_added g.T.PartialEq.eq c.args.value c.args.n c.args.self.now.entries c.args.self.now.tables c.in-Some-Ok.spot is held c.raise_spot-before.result c.raise_spot-before.ensures.before
-    g.met.T.Eq.laws c.raise_spot-before.new.self.entries c.in-Some-Ok.ensures.counted c.raise_spot-before.ensures.map
+    record {
+      means = raised_added g.T.PartialEq.eq c.args.value c.args.n c.args.self.now.entries c.args.self.now.tables c.in-Some-Ok.spot is held c.raise_spot-before.result c.raise_spot-before.ensures.before
+          g.met.T.Eq.laws c.raise_spot-before.new.self.entries c.in-Some-Ok.ensures.counted c.raise_spot-before.ensures.map;
+      hasher = c.raise_spot-before.ensures.hasher;
+      counted = c.raise_spot-before.ensures.counted;
+    }
 
 pub returns-in-Some-Ok-clause-slot : goal.returns-in-Some-Ok-clause-slot
 returns-in-Some-Ok-clause-slot g c some =
@@ -77,8 +81,12 @@ returns-then-takes_now-clause-added g c =
     let apart = subst (λ r. OnErr r (IsAbsent (λ w. g.T.PartialEq.eq w c.args.value) c.args.self.now.tables.newer)) c.in-Some-Err.field-0-is c.in-Some-Err.ensures.absent in
     let eq = g.T.PartialEq.eq in let v = c.args.value in let es = c.args.self.now.entries in
     let none = absent eq g.met.T.Eq.laws v c.args.self.now.tables.newer es (c.takes_now.ensures.entries c.if-takes_now.true) apart in
-    added_absent eq v es c.args.n c.settle.new.self.entries none
-    (subst (λ rest. IsPermutation ((v, c.args.n) ∷ rest) c.settle.new.self.entries) (sym (without_absent (eq v) es none)) c.settle.ensures.entries)
+    record {
+      means = added_absent eq v es c.args.n c.settle.new.self.entries none
+          (subst (λ rest. IsPermutation ((v, c.args.n) ∷ rest) c.settle.new.self.entries) (sym (without_absent (eq v) es none)) c.settle.ensures.entries.means);
+      hasher = c.settle.ensures.entries.hasher;
+      counted = c.settle.ensures.entries.counted;
+    }
 
 pub returns-then-takes_now-clause-slot : goal.returns-then-takes_now-clause-slot
 returns-then-takes_now-clause-slot g c some =
@@ -97,4 +105,4 @@ returns-then-takes_now-clause-room g c some =
     keeps_Arrives _ _ (arrives_from t t c.settle.new.self.tables c.args.value c.args.n (ready_alone t (c.takes_now.ensures.none_waits is) (c.takes_now.ensures.room is)) c.settle.ensures.placed c.settle.ensures.waiting c.settle.ensures.built) some
 
 pub returns-then-takes_now-clause-new_set : goal.returns-then-takes_now-clause-new_set
-returns-then-takes_now-clause-new_set g c none = let more = length_permutation _ _ c.settle.ensures.entries in omega (arith, more)
+returns-then-takes_now-clause-new_set g c none = let more = length_permutation _ _ c.settle.ensures.entries.means in omega (arith, more)

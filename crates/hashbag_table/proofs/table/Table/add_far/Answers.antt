@@ -14,8 +14,12 @@ returns-in-Some-clause-before g c =
 
 pub returns-in-Some-clause-added : goal.returns-in-Some-clause-added
 returns-in-Some-clause-added g c =
-    raised_added g.T.PartialEq.eq c.args.value c.args.n c.args.self.now.entries c.args.self.now.tables c.in-Some.spot c.in-Some.ensures.map c.in-Some.ensures.held c.raise_spot-before.result c.raise_spot-before.ensures.before
-    g.met.T.Eq.laws c.raise_spot-before.new.self.entries c.recall.ensures c.raise_spot-before.ensures.map
+    record {
+      means = raised_added g.T.PartialEq.eq c.args.value c.args.n c.args.self.now.entries c.args.self.now.tables c.in-Some.spot c.in-Some.ensures.map c.in-Some.ensures.held c.raise_spot-before.result c.raise_spot-before.ensures.before
+          g.met.T.Eq.laws c.raise_spot-before.new.self.entries c.set_len-len.ensures.counted c.raise_spot-before.ensures.map;
+      hasher = c.raise_spot-before.ensures.hasher;
+      counted = c.raise_spot-before.ensures.counted;
+    }
 
 pub returns-in-Some-clause-slot : goal.returns-in-Some-clause-slot
 returns-in-Some-clause-slot g c some =
@@ -40,4 +44,8 @@ returns-clause-before g c = sym (count_absent g.T.PartialEq.eq c.args.value c.ar
 
 pub returns-clause-added : goal.returns-clause-added
 returns-clause-added g c =
-    added_absent g.T.PartialEq.eq c.args.value c.args.self.now.entries c.args.n c.insert_hashed.new.self.entries (sym c.in_default.ensures.map) c.in_ok-insert_hashed.ensures.inserted
+    record {
+      means = added_absent g.T.PartialEq.eq c.args.value c.args.self.now.entries c.args.n c.insert_hashed.new.self.entries (sym c.in_default.ensures.map) c.in_ok-insert_hashed.ensures.inserted.means;
+      hasher = c.in_ok-insert_hashed.ensures.inserted.hasher;
+      counted = c.in_ok-insert_hashed.ensures.inserted.counted;
+    }

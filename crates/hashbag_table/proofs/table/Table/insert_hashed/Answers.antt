@@ -1,4 +1,4 @@
-use Rattle.std.proofs.Common.{◌∷◌, sym, subst, arith}
+use Rattle.std.proofs.Common.{◌∷◌, sym, ◌∙◌, subst, arith}
 use Rattle.std.specs.List.Sorted.{IsPermutation}
 use Rattle.std.proofs.lemmas.List.Sorted.{IsPermutation-trans, IsPermutation-cons, length_permutation}
 use Rattle.hashbag_table.specs.Entries.{IsCounted}
@@ -9,7 +9,7 @@ use Rattle.hashbag_table.proofs.table.Table.insert_hashed.Goals as goal
 
 pub returns-in_err-make_way-clause-counted : goal.returns-in_err-make_way-clause-counted
 returns-in_err-make_way-clause-counted g c =
-    subst (λ t. IsCounted g.T.PartialEq.eq t.entries) (sym c.in_err-make_way.ensures.err) c.recall.ensures
+    subst (λ t. IsCounted g.T.PartialEq.eq t.entries) (sym c.in_err-make_way.ensures.err) c.set_len-len.ensures.counted
 
 pub settle-requires-clause-absent : goal.settle-requires-clause-absent
 settle-requires-clause-absent g c =
@@ -18,8 +18,12 @@ settle-requires-clause-absent g c =
 pub returns-clause-inserted : goal.returns-clause-inserted
 returns-clause-inserted g c =
     let v = c.args.value in
-    subst (λ es. IsPermutation ((v, c.args.count) ∷ es) c.settle.new.self.entries) (sym (without_absent (g.T.PartialEq.eq v) c.args.self.now.entries c.requires.absent))
-    (IsPermutation-trans _ _ _ (IsPermutation-cons (v, c.args.count) _ _ c.in_ok-make_way.ensures.entries) c.settle.ensures.entries)
+    record {
+      means = subst (λ es. IsPermutation ((v, c.args.count) ∷ es) c.settle.new.self.entries) (sym (without_absent (g.T.PartialEq.eq v) c.args.self.now.entries c.requires.absent))
+          (IsPermutation-trans _ _ _ (IsPermutation-cons (v, c.args.count) _ _ c.in_ok-make_way.ensures.entries) c.settle.ensures.entries.means);
+      hasher = c.settle.ensures.entries.hasher ∙ c.make_way.ensures.hasher;
+      counted = c.settle.ensures.entries.counted;
+    }
 
 pub returns-clause-arrives : goal.returns-clause-arrives
 returns-clause-arrives g c =
@@ -28,5 +32,5 @@ returns-clause-arrives g c =
 pub returns-clause-new_set : goal.returns-clause-new_set
 returns-clause-new_set g c =
     let way = length_permutation _ _ c.in_ok-make_way.ensures.entries in
-    let more = length_permutation _ _ c.settle.ensures.entries in
+    let more = length_permutation _ _ c.settle.ensures.entries.means in
     omega (arith, way, more)

@@ -80,15 +80,16 @@ returns-clause-entries g c =
     let es = entries c.carry_from.new.self.slots in let ns = entries i.newer.slots in
     let none = ap (λ (o : _). o.slots) c.replace-older.ensures.after ∙ c.no_slots.ensures.slots in
     let same = ap (λ ss. es ++ (ns ++ entries ss)) none ∙ ap (λ l. es ++ l) (append-nil ns) in
-    subst (λ t. IsPermutation t.entries c.adopt.new.self.entries) c.self.view_is
+    let all : IsPermutation c.args.self.now.entries c.adopt.new.self.entries = subst (λ t. IsPermutation t.entries c.adopt.new.self.entries) c.self.view_is
     (IsPermutation-trans _ _ _
     (beside g.T.PartialEq.eq g.met.T.Eq.laws hash i.newer i.older c.args.newer i.looked (c.slots.result - i.looked) c.self.invariant c.requires.empty (omega (arith, w, s)) enough
     c.carry_from.new.self h.placed h.removed h.slots h.reached)
-    (subst (λ l. IsPermutation l c.adopt.new.self.entries) same c.adopt.ensures.entries))
-
-pub returns-clause-counted : goal.returns-clause-counted
-returns-clause-counted g c =
-    counted_rearranged g.met.T.Eq.laws _ _ (returns-clause-entries g c) (subst (λ t. IsCounted g.T.PartialEq.eq t.entries) c.self.view_is c.self.invariant.counted)
+    (subst (λ l. IsPermutation l c.adopt.new.self.entries) same c.adopt.ensures.entries)) in
+    record {
+      means = all;
+      hasher = c.adopt.ensures.hasher ∙ ap (λ t. t.hasher) c.self.view_is;
+      counted = counted_rearranged g.met.T.Eq.laws _ _ all (subst (λ t. IsCounted g.T.PartialEq.eq t.entries) c.self.view_is c.self.invariant.counted);
+    }
 
 pub returns-clause-built : goal.returns-clause-built
 returns-clause-built g c =

@@ -22,7 +22,11 @@ returns-in-Some-clause-put g c =
     let held = held_entry (λ w. eq w v) c.args.self.now.tables c.in-Some.spot c.in-Some.ensures.held in
     let e = held.0 in
     let found : lookup_entry (eq v) es ≡ Some e = sym c.in-Some.ensures.map ∙ held.1 in
-    put_swapped eq g.met.T.Eq.laws v es c.put_spot-former.new.self.entries e c.in-Some.ensures.counted found (c.put_spot-former.ensures.map e held.1)
+    record {
+      means = put_swapped eq g.met.T.Eq.laws v es c.put_spot-former.new.self.entries e c.in-Some.ensures.counted found (c.put_spot-former.ensures.map e held.1);
+      hasher = c.put_spot-former.ensures.hasher;
+      counted = c.put_spot-former.ensures.counted;
+    }
 
 pub returns-clause-before : goal.returns-clause-before
 returns-clause-before g c =

@@ -1,4 +1,4 @@
-use Rattle.std.proofs.Common.{◌≡◌, ◌<◌, ◌≤◌, ◌-◌, ◌*◌, ◌∷◌, None, length, drop, sym, subst}
+use Rattle.std.proofs.Common.{◌≡◌, ◌<◌, ◌≤◌, ◌-◌, ◌*◌, ◌∷◌, None, length, drop, sym, ap, subst}
 use Rattle.std.specs.List.Sorted.{IsPermutation}
 use Rattle.hashbag_slots.specs.Hashing.{hash_under}
 use Rattle.hashbag_table.specs.Entries.{entry_of}
@@ -29,8 +29,9 @@ returns-clause-entries g c =
     let absent = subst (λ t. entry_of eq v t.entries ≡ None) (sym c.self.view_is) c.requires.absent in
     let has_room = subst (λ t. 0 < room t.tables) (sym c.self.view_is) c.requires.room in
     let carries = subst (λ t. length t.tables.waiting ≤ 16 * (room t.tables - 1)) (sym c.self.view_is) c.requires.carries in
-    subst (λ t. IsPermutation ((v, c.args.count) ∷ t.entries) (entries_of c.place_at.new.self.slots (drop c.self.inside.looked c.self.inside.older.slots))) c.self.view_is
-    (entries_settled eq g.met.T.Eq.laws hash c.self.inside.newer c.self.inside.older c.place_at.new.self c.self.inside.looked v c.args.count c.self.invariant absent c.requires.some has_room carries c.place_at.ensures.placed c.place_at.ensures.reached)
-
-pub returns-clause-counted : goal.returns-clause-counted
-returns-clause-counted g c = (invariant_of-self g c).counted
+    record {
+      means = subst (λ t. IsPermutation ((v, c.args.count) ∷ t.entries) (entries_of c.place_at.new.self.slots (drop c.self.inside.looked c.self.inside.older.slots))) c.self.view_is
+          (entries_settled eq g.met.T.Eq.laws hash c.self.inside.newer c.self.inside.older c.place_at.new.self c.self.inside.looked v c.args.count c.self.invariant absent c.requires.some has_room carries c.place_at.ensures.placed c.place_at.ensures.reached);
+      hasher = ap (λ t. t.hasher) c.self.view_is;
+      counted = (invariant_of-self g c).counted;
+    }

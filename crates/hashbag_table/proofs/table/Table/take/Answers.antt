@@ -27,8 +27,12 @@ returns-then-n-before-clause-taken g c =
     let count : c.count_at-before.result ≡ e.1 = c.count_at-before.ensures.count e held.1 in
     let before : c.count_at-before.result ≡ count_of eq v es = count ∙ sym (count_present eq v es e found) in
     let more = c.if-n-before.true in
-    fewer_swapped eq v es g.met.T.Eq.laws c.args.n c.set_spot.new.self.entries e c.in-Some.ensures.counted found (omega (arith, more, count))
-    (subst (λ b. Swaps es c.set_spot.new.self.entries e ((e.0, b - c.args.n) ∷ [])) count (c.set_spot.ensures.map e held.1))
+    record {
+      means = fewer_swapped eq v es g.met.T.Eq.laws c.args.n c.set_spot.new.self.entries e c.in-Some.ensures.counted found (omega (arith, more, count))
+          (subst (λ b. Swaps es c.set_spot.new.self.entries e ((e.0, b - c.args.n) ∷ [])) count (c.set_spot.ensures.map e held.1));
+      hasher = c.set_spot.ensures.hasher;
+      counted = c.set_spot.ensures.counted;
+    }
 
 pub returns-in-Some-clause-before : goal.returns-in-Some-clause-before
 returns-in-Some-clause-before g c =
@@ -44,7 +48,11 @@ returns-in-Some-clause-taken g c =
     let found : lookup_entry (eq v) es ≡ Some (r.0, r.1) = sym c.in-Some.ensures.map ∙ at in
     let count : c.count_at-before.result ≡ r.1 = c.count_at-before.ensures.count (r.0, r.1) at in
     let few = c.if-n-before.false in
-    gone_swapped eq v es g.met.T.Eq.laws c.args.n c.take_spot-former.new.self.entries (r.0, r.1) c.in-Some.ensures.counted found (omega (arith, few, count)) c.take_spot-former.ensures.map
+    record {
+      means = gone_swapped eq v es g.met.T.Eq.laws c.args.n c.take_spot-former.new.self.entries (r.0, r.1) c.in-Some.ensures.counted found (omega (arith, few, count)) c.take_spot-former.ensures.map;
+      hasher = c.take_spot-former.ensures.hasher;
+      counted = c.take_spot-former.ensures.counted;
+    }
 
 pub returns-in-Some-clause-none : goal.returns-in-Some-clause-none
 returns-in-Some-clause-none g c none =
@@ -59,7 +67,11 @@ returns-clause-before g c =
 
 pub returns-clause-taken : goal.returns-clause-taken
 returns-clause-taken g c =
-    fewer_absent g.T.PartialEq.eq c.args.value.now c.args.self.now.entries c.args.n (sym c.in_default.ensures.map)
+    record {
+      means = fewer_absent g.T.PartialEq.eq c.args.value.now c.args.self.now.entries c.args.n (sym c.in_default.ensures.map);
+      hasher = refl;
+      counted = c.in_default.ensures.counted;
+    }
 
 pub returns-in-Some-clause-room : goal.returns-in-Some-clause-room
 returns-in-Some-clause-room g c =

@@ -25,8 +25,12 @@ returns-then-before-gt1-clause-taken g c =
     let found : lookup_entry (eq v) es ≡ Some e = sym c.in-Some.ensures.map ∙ held.1 in
     let count : c.count_at-before.result ≡ e.1 = c.count_at-before.ensures.count e held.1 in
     let more = c.if-before-gt1.true in
-    fewer_swapped eq v es g.met.T.Eq.laws 1 c.set_spot.new.self.entries e c.in-Some.ensures.counted found (omega (arith, more, count))
-    (subst (λ (b : ℕ). Swaps es c.set_spot.new.self.entries e ((e.0, b - 1) ∷ [])) count (c.set_spot.ensures.map e held.1))
+    record {
+      means = fewer_swapped eq v es g.met.T.Eq.laws 1 c.set_spot.new.self.entries e c.in-Some.ensures.counted found (omega (arith, more, count))
+          (subst (λ (b : ℕ). Swaps es c.set_spot.new.self.entries e ((e.0, b - 1) ∷ [])) count (c.set_spot.ensures.map e held.1));
+      hasher = c.set_spot.ensures.hasher;
+      counted = c.set_spot.ensures.counted;
+    }
 
 pub returns-then-before-gt1-clause-fewer : goal.returns-then-before-gt1-clause-fewer
 returns-then-before-gt1-clause-fewer g c = λ some. record { spot = c.in-Some.spot; held = c.in-Some.ensures.held; after = c.set_spot.ensures.after }
@@ -52,7 +56,11 @@ returns-in-Some-clause-taken g c =
     let found : lookup_entry (eq v) es ≡ Some (r.0, r.1) = sym c.in-Some.ensures.map ∙ at in
     let count : c.count_at-before.result ≡ r.1 = c.count_at-before.ensures.count (r.0, r.1) at in
     let few = c.if-before-gt1.false in
-    gone_swapped eq v es g.met.T.Eq.laws 1 c.take_spot-former.new.self.entries (r.0, r.1) c.in-Some.ensures.counted found (omega (arith, few, count)) c.take_spot-former.ensures.map
+    record {
+      means = gone_swapped eq v es g.met.T.Eq.laws 1 c.take_spot-former.new.self.entries (r.0, r.1) c.in-Some.ensures.counted found (omega (arith, few, count)) c.take_spot-former.ensures.map;
+      hasher = c.take_spot-former.ensures.hasher;
+      counted = c.take_spot-former.ensures.counted;
+    }
 
 pub returns-in-Some-clause-gone : goal.returns-in-Some-clause-gone
 returns-in-Some-clause-gone g c = record { spot = c.in-Some.spot; held = c.in-Some.ensures.held; after = c.take_spot-former.ensures.after }
@@ -62,7 +70,11 @@ returns-clause-others g c = (sym (count_absent g.T.PartialEq.eq c.args.value.now
 
 pub returns-clause-taken : goal.returns-clause-taken
 returns-clause-taken g c =
-    fewer_absent g.T.PartialEq.eq c.args.value.now c.args.self.now.entries 1 (sym c.in_default.ensures.map)
+    record {
+      means = fewer_absent g.T.PartialEq.eq c.args.value.now c.args.self.now.entries 1 (sym c.in_default.ensures.map);
+      hasher = refl;
+      counted = c.in_default.ensures.counted;
+    }
 
 pub returns-in-Some-clause-room : goal.returns-in-Some-clause-room
 returns-in-Some-clause-room g c =
