@@ -13,6 +13,7 @@ pub use Rattle.hashbag_core.specs.JsonFaults
 pub use Rattle.hashbag_core.specs.JsonItemLaws
 pub use Rattle.hashbag_core.specs.JsonItems
 pub use Rattle.hashbag_core.specs.JsonTrees
+pub use Rattle.hashbag_core.specs.Keys
 pub use Rattle.hashbag_core.specs.Lending
 pub use Rattle.hashbag_core.specs.Occurrences
 pub use Rattle.hashbag_core.specs.Retain
@@ -24,6 +25,7 @@ pub use Rattle.hashbag_script.specs.Turns
 pub use Rattle.hashbag_table.specs.Asked
 pub use Rattle.hashbag_table.specs.DrainWalk
 pub use Rattle.hashbag_table.specs.Entries
+pub use Rattle.hashbag_table.specs.Named
 pub use Rattle.hashbag_table.specs.Retained
 pub use Rattle.hashbag_table.specs.SlotWords
 pub use Rattle.hashbag_table.specs.Slots

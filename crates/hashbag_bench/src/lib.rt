@@ -15,6 +15,7 @@ pub mod run_uses;
 pub mod slot_uses;
 pub mod states;
 pub mod tagged;
+pub mod text_uses;
 pub mod uses;
 pub mod words;
 

@@ -13,6 +13,7 @@ pub mod JsonReadLemmas
 pub mod JsonSameLemmas
 pub mod JsonTripLemmas
 pub mod JsonWriteLemmas
+pub mod KeyLemmas
 pub mod Laws
 pub mod MemberLemmas
 pub mod OccurrenceLemmas

@@ -16,6 +16,7 @@ pub mod JsonFaults
 pub mod JsonItemLaws
 pub mod JsonItems
 pub mod JsonTrees
+pub mod Keys
 pub mod Lending
 pub mod Occurrences
 pub mod Retain

@@ -19,6 +19,7 @@ ghost use Rattle.hashbag_core.specs.declared.bag.BagError.TheVariants.{Memory};
 
 mod equality;
 mod extends;
+mod keys;
 
 use hashbag_table::Table;
 use std::alloc::{AllocError, Global};

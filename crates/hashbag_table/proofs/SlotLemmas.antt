@@ -14,7 +14,8 @@ use Rattle.std.proofs.lemmas.Map.Keys.{IsDistinct-cons}
 use Rattle.std.proofs.lemmas.List.Elements.{All-cons}
 use Rattle.std.proofs.lemmas.List.Sorted.{All-permutation}
 use Rattle.hashbag_slots.proofs.Probing.{holder}
-use Rattle.hashbag_table.specs.Entries.{IsCounted}
+use Rattle.hashbag_table.specs.Entries.{IsCounted, count_of}
+use Rattle.hashbag_table.specs.Named.{named_count}
 
 module _ {T : Type 0} where
   pub entries-append : (xs ys : List (Slot T)) → entries (xs ++ ys) ≡ entries xs ++ entries ys
@@ -98,6 +99,21 @@ module _ {T : Type 0} where
   lookup-append_left test [] ys h = refl
   lookup-append_left test (x ∷ xs) ys h = none_whole (test x.0) x _ _ (lookup-append_left test xs ys) h
 
+  -- what is found in the newer table, or not there but in the older one, is the entry of the map of both
+  pub found_newer : (test : T → Bool) (newer : List (Slot T)) (rest : List (T × ℕ)) (p : ℕ) → HoldsAt test newer p → slot_entry (slot_at newer p) ≡ lookup_entry test (entries newer)
+      → slot_entry (slot_at newer p) ≡ lookup_entry test (entries newer ++ rest)
+  found_newer test newer rest p held is =
+      let h = holder test (slot_at newer p) held.1 in
+      let e : slot_entry (slot_at newer p) ≡ Some (h.0, h.1) = ap slot_entry h.2 in
+      e ∙ sym (lookup-append_some test (entries newer) rest (h.0, h.1) (sym is ∙ e))
+
+  pub found_older : (test : T → Bool) (r : Option (T × ℕ)) (newer older : List (Slot T)) (looked : ℕ) → looked ≤ length older → ((p : ℕ) → p < looked → is_live (slot_at older p) ≡ false)
+      → None ≡ lookup_entry test (entries newer) → r ≡ lookup_entry test (entries older)
+      → r ≡ lookup_entry test (entries newer ++ entries (drop looked older))
+  found_older test r newer older looked le dead none is =
+      is ∙ ap (lookup_entry test) (sym (entries-drop older looked le dead))
+      ∙ sym (lookup-append_none test (entries newer) (entries (drop looked older)) (sym none))
+
   -- a value that is not looked up is in no slot
   pub absent_slots : (test : T → Bool) (ss : List (Slot T)) → lookup_entry test (entries ss) ≡ None → IsAbsent test ss
   absent_slots test [] h p lt = absurd (omega arith)
@@ -122,19 +138,8 @@ module _ {T : Type 0} (eq : T → T → Bool) (laws : IsEquivalence eq) (x : T) 
   pub turned : (es : List (T × ℕ)) → lookup_entry (λ v. eq v x) es ≡ lookup_entry (eq x) es
   turned es = λ i. lookup_entry (λ v. laws.symm v x i) es
 
-  pub found_newer : (newer : List (Slot T)) (rest : List (T × ℕ)) (p : ℕ) → HoldsAt (λ v. eq v x) newer p → slot_entry (slot_at newer p) ≡ lookup_entry (λ v. eq v x) (entries newer)
-      → slot_entry (slot_at newer p) ≡ lookup_entry (eq x) (entries newer ++ rest)
-  found_newer newer rest p held is =
-      let h = holder (λ v. eq v x) (slot_at newer p) held.1 in
-      let e : slot_entry (slot_at newer p) ≡ Some (h.0, h.1) = ap slot_entry h.2 in
-      e ∙ sym (lookup-append_some (eq x) (entries newer) rest (h.0, h.1) (sym (turned (entries newer)) ∙ sym is ∙ e))
-
-  pub found_older : (r : Option (T × ℕ)) (newer older : List (Slot T)) (looked : ℕ) → looked ≤ length older → ((p : ℕ) → p < looked → is_live (slot_at older p) ≡ false)
-      → None ≡ lookup_entry (λ v. eq v x) (entries newer) → r ≡ lookup_entry (λ v. eq v x) (entries older)
-      → r ≡ lookup_entry (eq x) (entries newer ++ entries (drop looked older))
-  found_older r newer older looked le dead none is =
-      is ∙ turned (entries older) ∙ ap (lookup_entry (eq x)) (sym (entries-drop older looked le dead))
-      ∙ sym (lookup-append_none (eq x) (entries newer) (entries (drop looked older)) (sym (turned (entries newer)) ∙ sym none))
+  pub count_turned : (es : List (T × ℕ)) → named_count (λ v. eq v x) es ≡ count_of eq x es
+  count_turned es = λ i. named_count (λ v. laws.symm v x i) es
 
   -- an absent value is in no slot of either list
   pub absent_both : (newer waiting : List (Slot T)) → lookup_entry (eq x) (entries newer ++ entries waiting) ≡ None → IsAbsent (λ w. eq w x) newer × IsAbsent (λ w. eq w x) waiting

@@ -6,10 +6,12 @@
 
 mod built;
 mod growth;
+pub mod key;
 mod retain;
 pub mod table;
 pub mod walk;
 
 pub use hashbag_slots::slots;
+pub use key::{Key, ToValue};
 pub use table::Table;
 pub use walk::{DrainWalk, IntoWalk, Walk};

@@ -13,13 +13,13 @@ ghost use Rattle.hashbag_table.specs.Retained.{RetainsTables};
 ghost use Rattle.hashbag_table.specs.Table.{IsMapOf};
 ghost use Rattle.hashbag_table.specs.Tables.{limit, room, values, IsLeast, IsPacked, entries_of, Arrives, KeepsRoom, NoneMoved, Rewrites};
 
+mod keys;
 mod room;
 mod spots;
 
 use crate::built::Built;
 use crate::growth::{least_count, no_slots};
 use crate::retain::retain_slots;
-use crate::table::spots::find_older;
 use crate::walk::{DrainWalk, IntoWalk, Walk};
 use hashbag_slots::slots::{Slot, Slots, hash_of};
 use std::alloc::{AllocError, Global};
@@ -194,14 +194,7 @@ impl<T: Eq + Hash + Drop, S: BuildHasher + Drop> Table<T, S> {
         ensures found { option_map (λ e. (e.0.now, e.1)) result ≡ entry_of T.eq value.now self.now.entries }
         ensures counted { IsCounted T.eq self.now.entries }
     {
-        let hash = self.hash(value);
-        if let Some(place) = self.newer.find_hashed(&self.hasher, hash, value) {
-            return Some(self.newer.live_at(place));
-        }
-        match find_older(&self.older, self.looked, &self.hasher, hash, value) {
-            Some(place) => Some(self.older.live_at(place)),
-            None => None,
-        }
+        self.get_key(value)
     }
 
     // Whether an absent value can be put in with no way made for it: no slot waits, and there is room.
@@ -314,18 +307,7 @@ impl<T: Eq + Hash + Drop, S: BuildHasher + Drop> Table<T, S> {
         ensures none { result ≡ 0 → self.new ≡ self.old }
         ensures room { KeepsRoom 0 self.old.tables self.new.tables }
     {
-        let hash = self.hash(value);
-        if let Some(spot) = self.locate(hash, value) {
-            let before = self.count_at(spot);
-            if n < before {
-                self.set_spot(spot, before - n);
-                return before;
-            }
-            let (former, count) = self.take_spot(spot);
-            drop(former);
-            return count;
-        }
-        0
+        self.take_key(value, n)
     }
 
     /// Takes one of a value: the last one itself in `Ok`, and else one of several, of which `Err` says how many there were. `Err(0)`

@@ -6,9 +6,11 @@ ghost use Rattle.hashbag_slots.specs.Hashing.{hash_under};
 ghost use Rattle.hashbag_slots.specs.Slots.{entries, entry_at, is_live, HoldsAt, IsAbsent, IsFirstFree, recounted, holds, slot_at, count_in};
 ghost use Rattle.hashbag_slots.specs.Columns.{IsReached, IsAlike};
 ghost use Rattle.hashbag_table.specs.Entries.{entry_of, IsCounted};
+ghost use Rattle.hashbag_table.specs.Named.{named_entry};
 ghost use Rattle.hashbag_table.specs.Tables.{slot_in, HoldsIn, entry_in, Writes, Swaps};
 
 use crate::table::{Spot, Table};
+use hashbag_slots::key::Key;
 use hashbag_slots::slots::{Slot, Slots};
 use std::hash::{BuildHasher, Hash};
 
@@ -24,60 +26,76 @@ fn put_one<T: Eq>(slots: &mut Slots<T>, place: usize, value: T) -> T
     former
 }
 
-// As `find_behind`, of the older table, which seldom has slots: look-ups of the newer one alone are to be short.
+// As `find_key_behind`, of the older table, which seldom has slots: look-ups of the newer one alone are to be short.
 #[inline(never)]
-fn probe_older<T: Eq + Hash, S: BuildHasher>(
+fn probe_older<T: Eq + Hash, S: BuildHasher, Q: Key<T>>(
     older: &Slots<T>,
     looked: usize,
     state: &S,
     hash: u64,
-    value: &T,
+    key: Q,
 ) -> Option<usize>
     requires within { looked ≤ length older.now.slots }
     requires dead { (p : ℕ) → p < looked → is_live (slot_at older.now.slots p) ≡ false }
-    requires hashed { hash ≡ hash_under T.hash_input S.BuildHasher S.Hasher.Hasher state.now value.now }
+    requires hashed { hash ≡ hash_under Q.hash_input S.BuildHasher S.Hasher.Hasher state.now key }
     requires reached { IsReached (hash_under T.hash_input S.BuildHasher S.Hasher.Hasher state.now) older.now }
-    ensures found { IfSome result (HoldsAt (λ v. T.eq v value.now) older.now.slots) }
-    ensures map { entry_at older.now.slots result ≡ lookup_entry (λ v. T.eq v value.now) (entries older.now.slots) }
+    ensures found { IfSome result (HoldsAt (Q.names key) older.now.slots) }
+    ensures map { entry_at older.now.slots result ≡ lookup_entry (Q.names key) (entries older.now.slots) }
 {
-    older.find_behind(state, hash, value, looked)
+    older.find_key_behind(state, hash, key, looked)
 }
 
-// The place of a value in the older table, of which so many slots were looked at.
+// The place of the value that a key names in the older table, of which so many slots were looked at.
 #[inline(always)]
-pub(super) fn find_older<T: Eq + Hash, S: BuildHasher>(
+pub(super) fn find_older<T: Eq + Hash, S: BuildHasher, Q: Key<T>>(
     older: &Slots<T>,
     looked: usize,
     state: &S,
     hash: u64,
-    value: &T,
+    key: Q,
 ) -> Option<usize>
     requires within { looked ≤ length older.now.slots }
     requires dead { (p : ℕ) → p < looked → is_live (slot_at older.now.slots p) ≡ false }
-    requires hashed { hash ≡ hash_under T.hash_input S.BuildHasher S.Hasher.Hasher state.now value.now }
+    requires hashed { hash ≡ hash_under Q.hash_input S.BuildHasher S.Hasher.Hasher state.now key }
     requires reached { IsReached (hash_under T.hash_input S.BuildHasher S.Hasher.Hasher state.now) older.now }
-    ensures found { IfSome result (HoldsAt (λ v. T.eq v value.now) older.now.slots) }
-    ensures map { entry_at older.now.slots result ≡ lookup_entry (λ v. T.eq v value.now) (entries older.now.slots) }
+    ensures found { IfSome result (HoldsAt (Q.names key) older.now.slots) }
+    ensures map { entry_at older.now.slots result ≡ lookup_entry (Q.names key) (entries older.now.slots) }
 {
     if older.slots() == 0 {
         return None;
     }
-    probe_older(older, looked, state, hash, value)
+    probe_older(older, looked, state, hash, key)
 }
 
 impl<T: Eq + Hash + Drop, S: BuildHasher + Drop> Table<T, S> {
-    // Where a value is that the newer table doesn't have, whose hash is handed in.
+    // Where the value is that a key names and the newer table doesn't have. The key's hash is handed in.
     #[inline(always)]
-    fn locate_older(&self, hash: u64, value: &T) -> Option<Spot>
-        requires hashed { hash ≡ hash_under T.hash_input S.BuildHasher S.Hasher.Hasher self.now.hasher value.now }
-        requires absent { IsAbsent (λ w. T.eq w value.now) self.now.tables.newer }
-        ensures map { entry_in self.now.tables result ≡ entry_of T.eq value.now self.now.entries }
-        ensures held { IfSome result (HoldsIn (λ w. T.eq w value.now) self.now.tables) }
+    fn locate_older<Q: Key<T>>(&self, hash: u64, key: Q) -> Option<Spot>
+        requires hashed { hash ≡ hash_under Q.hash_input S.BuildHasher S.Hasher.Hasher self.now.hasher key }
+        requires absent { IsAbsent (Q.names key) self.now.tables.newer }
+        ensures map { entry_in self.now.tables result ≡ named_entry (Q.names key) self.now.entries }
+        ensures held { IfSome result (HoldsIn (Q.names key) self.now.tables) }
     {
-        match find_older(&self.older, self.looked, &self.hasher, hash, value) {
+        match find_older(&self.older, self.looked, &self.hasher, hash, key) {
             Some(place) => Some(Spot::Waiting(place - self.looked)),
             None => None,
         }
+    }
+
+    // Where the value is that a key names. The key's hash is handed in.
+    #[inline(always)]
+    pub(super) fn locate_key<Q: Key<T>>(&self, hash: u64, key: Q) -> Option<Spot>
+        requires hashed { hash ≡ hash_under Q.hash_input S.BuildHasher S.Hasher.Hasher self.now.hasher key }
+        ensures map { entry_in self.now.tables result ≡ named_entry (Q.names key) self.now.entries }
+        ensures held { IfSome result (HoldsIn (Q.names key) self.now.tables) }
+        ensures counted { IsCounted T.eq self.now.entries }
+    {
+        // `set_len` is called for its clause that the entries are a map, which the proof cites.
+        let _len = self.set_len();
+        if let Some(place) = self.newer.find_key(&self.hasher, hash, key) {
+            return Some(Spot::Newer(place));
+        }
+        self.locate_older(hash, key)
     }
 
     // Where a value is, whose hash is handed in.
@@ -88,42 +106,37 @@ impl<T: Eq + Hash + Drop, S: BuildHasher + Drop> Table<T, S> {
         ensures held { IfSome result (HoldsIn (λ w. T.eq w value.now) self.now.tables) }
         ensures counted { IsCounted T.eq self.now.entries }
     {
-        // `set_len` is called for its clause that the entries are a map, which the proof cites.
-        let _len = self.set_len();
-        if let Some(place) = self.newer.find_hashed(&self.hasher, hash, value) {
-            return Some(Spot::Newer(place));
-        }
-        self.locate_older(hash, value)
+        self.locate_key(hash, value)
     }
 
-    // As `locate`, where it may be known already that the newer table doesn't have the value: then it isn't asked again.
+    // As `locate_key`, where it may be known already that the newer table doesn't have the value: then it isn't asked again.
     #[inline(always)]
-    pub(super) fn locate_told(&self, hash: u64, value: &T, absent: bool) -> Option<Spot>
-        requires hashed { hash ≡ hash_under T.hash_input S.BuildHasher S.Hasher.Hasher self.now.hasher value.now }
-        requires told { absent ≡ true → IsAbsent (λ w. T.eq w value.now) self.now.tables.newer }
-        ensures map { entry_in self.now.tables result ≡ entry_of T.eq value.now self.now.entries }
-        ensures held { IfSome result (HoldsIn (λ w. T.eq w value.now) self.now.tables) }
+    pub(super) fn locate_told<Q: Key<T>>(&self, hash: u64, key: Q, absent: bool) -> Option<Spot>
+        requires hashed { hash ≡ hash_under Q.hash_input S.BuildHasher S.Hasher.Hasher self.now.hasher key }
+        requires told { absent ≡ true → IsAbsent (Q.names key) self.now.tables.newer }
+        ensures map { entry_in self.now.tables result ≡ named_entry (Q.names key) self.now.entries }
+        ensures held { IfSome result (HoldsIn (Q.names key) self.now.tables) }
     {
         if absent {
-            return self.locate_older(hash, value);
+            return self.locate_older(hash, key);
         }
-        self.locate(hash, value)
+        self.locate_key(hash, key)
     }
 
-    // What the first 16 slots of a value's path in the newer table tell: where the value is, or that it isn't in the newer table, and
-    // then the place there into which it is put. `None` where they don't tell.
+    // What the first 16 slots of a key's path in the newer table tell: where the value is that it names, or that it isn't in the newer
+    // table, and then the place there into which it is put. `None` where they don't tell.
     #[inline(always)]
-    pub(super) fn look_near(&self, hash: u64, value: &T) -> Option<Result<Spot, usize>>
-        requires hashed { hash ≡ hash_under T.hash_input S.BuildHasher S.Hasher.Hasher self.now.hasher value.now }
-        ensures map { IfSome result (λ known. IfOk known (λ spot. entry_in self.now.tables (Some spot) ≡ entry_of T.eq value.now self.now.entries)) }
-        ensures held { IfSome result (λ known. IfOk known (HoldsIn (λ w. T.eq w value.now) self.now.tables)) }
-        ensures absent { IfSome result (λ known. OnErr known (IsAbsent (λ w. T.eq w value.now) self.now.tables.newer)) }
+    pub(super) fn look_near<Q: Key<T>>(&self, hash: u64, key: Q) -> Option<Result<Spot, usize>>
+        requires hashed { hash ≡ hash_under Q.hash_input S.BuildHasher S.Hasher.Hasher self.now.hasher key }
+        ensures map { IfSome result (λ known. IfOk known (λ spot. entry_in self.now.tables (Some spot) ≡ named_entry (Q.names key) self.now.entries)) }
+        ensures held { IfSome result (λ known. IfOk known (HoldsIn (Q.names key) self.now.tables)) }
+        ensures absent { IfSome result (λ known. OnErr known (IsAbsent (Q.names key) self.now.tables.newer)) }
         ensures free { IfSome result (λ known. IfErr known (IsFirstFree hash self.now.tables.newer)) }
         ensures counted { IsCounted T.eq self.now.entries }
     {
         // `set_len` is called for its clause that the entries are a map, which the proof cites.
         let _len = self.set_len();
-        match self.newer.seek_near(&self.hasher, hash, value) {
+        match self.newer.seek_key_near(&self.hasher, hash, key) {
             Some(Ok(place)) => Some(Ok(Spot::Newer(place))),
             Some(Err(place)) => Some(Err(place)),
             None => None,

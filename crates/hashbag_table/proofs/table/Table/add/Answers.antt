@@ -1,4 +1,4 @@
-use Rattle.std.proofs.Common.{◌≡◌, ◌∷◌, ℕ, Bool, List, None, sym, ap, subst, ◌∙◌, arith}
+use Rattle.std.proofs.Common.{◌≡◌, ◌∷◌, ℕ, Bool, List, None, refl, sym, ap, subst, ◌∙◌, arith}
 use Rattle.std.proofs.lemmas.List.Sorted.{length_permutation}
 use Rattle.std.specs.Cmp.{IsEquivalence}
 use Rattle.std.specs.Option.{IsSome}
@@ -7,12 +7,13 @@ use Rattle.std.specs.List.Sorted.{IsPermutation}
 use Rattle.std.specs.Map.{lookup_entry}
 use Rattle.hashbag_slots.specs.declared.slots.Slot.{Slot}
 use Rattle.hashbag_slots.specs.Slots.{IsAbsent, entries, slot_entry}
+use Rattle.hashbag_slots.proofs.Hashing.{fed_alike}
 use Rattle.hashbag_slots.proofs.Maps.{lookup-IsAbsent}
-use Rattle.hashbag_table.specs.Entries.{entry_of}
+use Rattle.hashbag_table.specs.Named.{named_entry}
 use Rattle.hashbag_table.specs.Tables.{HoldsIn, slot_in}
 use Rattle.hashbag_table.proofs.CarryLemmas.{arrives_from, ready_alone}
 use Rattle.hashbag_table.proofs.EntryLemmas.{without_absent}
-use Rattle.hashbag_table.proofs.RaisedLemmas.{raised_fits, raised_before, raised_added, raised_slot, raised_kept}
+use Rattle.hashbag_table.proofs.RaisedLemmas.{raised_there, raised_fits, raised_before, raised_added, raised_slot, raised_kept}
 use Rattle.hashbag_table.proofs.RoomKeptLemmas.{keeps_more, keeps_Arrives}
 use Rattle.hashbag_table.proofs.SlotLemmas.{turned}
 use Rattle.hashbag_table.proofs.SpotLemmas.{count_absent, added_absent}
@@ -22,47 +23,63 @@ use Rattle.hashbag_table.proofs.table.Table.add.Goals as goal
 absent : {T : Type 0} (eq : T → T → Bool) (laws : IsEquivalence eq) (v : T) (newer : List (Slot T)) (es : List (T × ℕ)) → es ≡ entries newer → IsAbsent (λ w. eq w v) newer → lookup_entry (eq v) es ≡ None
 absent eq laws v newer es is apart = ap (lookup_entry (eq v)) is ∙ sym (turned eq laws v (entries newer)) ∙ lookup-IsAbsent (λ w. eq w v) newer apart
 
+pub look_near-requires : goal.look_near-requires
+look_near-requires g c =
+    record { hashed = c.hash-hash.ensures ∙ fed_alike g.T.Hash.hash_input (λ r. g.T.Hash.hash_input r.now) g.S.BuildHasher g.S.Hasher.Hasher c.args.self.now.hasher c.args.value _ refl }
+
 pub raise_spot-before-requires-clause-fits : goal.raise_spot-before-requires-clause-fits
 raise_spot-before-requires-clause-fits g c =
-    let is = subst (λ r. IfOk r (λ spot. slot_entry (slot_in c.args.self.now.tables spot) ≡ entry_of g.T.PartialEq.eq c.args.value c.args.self.now.entries)) c.in-Some-Ok.field-0-is c.in-Some-Ok.ensures.map in
-    raised_fits g.T.PartialEq.eq c.args.value c.args.n c.args.self.now.entries c.args.self.now.tables c.in-Some-Ok.spot is c.requires.fits
+    let is = subst (λ r. IfOk r (λ spot. slot_entry (slot_in c.args.self.now.tables spot) ≡ named_entry (λ w. g.T.PartialEq.eq w c.args.value) c.args.self.now.entries)) c.in-Some-Ok.field-0-is c.in-Some-Ok.ensures.map in
+    raised_fits g.T.PartialEq.eq g.met.T.Eq.laws c.args.value c.args.n c.args.self.now.entries c.args.self.now.tables c.in-Some-Ok.spot is c.requires.fits
 
 pub returns-in-Some-Ok-clause-before : goal.returns-in-Some-Ok-clause-before
 returns-in-Some-Ok-clause-before g c =
-    let is = subst (λ r. IfOk r (λ spot. slot_entry (slot_in c.args.self.now.tables spot) ≡ entry_of g.T.PartialEq.eq c.args.value c.args.self.now.entries)) c.in-Some-Ok.field-0-is c.in-Some-Ok.ensures.map in
+    let is = subst (λ r. IfOk r (λ spot. slot_entry (slot_in c.args.self.now.tables spot) ≡ named_entry (λ w. g.T.PartialEq.eq w c.args.value) c.args.self.now.entries)) c.in-Some-Ok.field-0-is c.in-Some-Ok.ensures.map in
     let held = subst (λ r. IfOk r (HoldsIn (λ w. g.T.PartialEq.eq w c.args.value) c.args.self.now.tables)) c.in-Some-Ok.field-0-is c.in-Some-Ok.ensures.held in
-    raised_before g.T.PartialEq.eq c.args.value c.args.n c.args.self.now.entries c.args.self.now.tables c.in-Some-Ok.spot is held c.raise_spot-before.result c.raise_spot-before.ensures.before
+    raised_before g.T.PartialEq.eq g.met.T.Eq.laws c.args.value c.args.n c.args.self.now.entries c.args.self.now.tables c.in-Some-Ok.spot is held c.raise_spot-before.result c.raise_spot-before.ensures.before
 
 pub returns-in-Some-Ok-clause-added : goal.returns-in-Some-Ok-clause-added
 returns-in-Some-Ok-clause-added g c =
-    let is = subst (λ r. IfOk r (λ spot. slot_entry (slot_in c.args.self.now.tables spot) ≡ entry_of g.T.PartialEq.eq c.args.value c.args.self.now.entries)) c.in-Some-Ok.field-0-is c.in-Some-Ok.ensures.map in
+    let is = subst (λ r. IfOk r (λ spot. slot_entry (slot_in c.args.self.now.tables spot) ≡ named_entry (λ w. g.T.PartialEq.eq w c.args.value) c.args.self.now.entries)) c.in-Some-Ok.field-0-is c.in-Some-Ok.ensures.map in
     let held = subst (λ r. IfOk r (HoldsIn (λ w. g.T.PartialEq.eq w c.args.value) c.args.self.now.tables)) c.in-Some-Ok.field-0-is c.in-Some-Ok.ensures.held in
     record {
-      means = raised_added g.T.PartialEq.eq c.args.value c.args.n c.args.self.now.entries c.args.self.now.tables c.in-Some-Ok.spot is held c.raise_spot-before.result c.raise_spot-before.ensures.before
-          g.met.T.Eq.laws c.raise_spot-before.new.self.entries c.in-Some-Ok.ensures.counted c.raise_spot-before.ensures.map;
+      means = raised_added g.T.PartialEq.eq g.met.T.Eq.laws c.args.value c.args.n c.args.self.now.entries c.args.self.now.tables c.in-Some-Ok.spot is held c.raise_spot-before.result c.raise_spot-before.ensures.before
+          c.raise_spot-before.new.self.entries c.in-Some-Ok.ensures.counted c.raise_spot-before.ensures.map;
       hasher = c.raise_spot-before.ensures.hasher;
       counted = c.raise_spot-before.ensures.counted;
     }
 
+pub returns-in-Some-Ok-clause-new_set : goal.returns-in-Some-Ok-clause-new_set
+returns-in-Some-Ok-clause-new_set g c none =
+    let is = subst (λ r. IfOk r (λ spot. slot_entry (slot_in c.args.self.now.tables spot) ≡ named_entry (λ w. g.T.PartialEq.eq w c.args.value) c.args.self.now.entries)) c.in-Some-Ok.field-0-is c.in-Some-Ok.ensures.map in
+    let held = subst (λ r. IfOk r (HoldsIn (λ w. g.T.PartialEq.eq w c.args.value) c.args.self.now.tables)) c.in-Some-Ok.field-0-is c.in-Some-Ok.ensures.held in
+    absurd (raised_there g.T.PartialEq.eq g.met.T.Eq.laws c.args.value c.args.n c.args.self.now.entries c.args.self.now.tables c.in-Some-Ok.spot is held none)
+
+pub returns-in-Some-Ok-clause-arrives : goal.returns-in-Some-Ok-clause-arrives
+returns-in-Some-Ok-clause-arrives g c none =
+    let is = subst (λ r. IfOk r (λ spot. slot_entry (slot_in c.args.self.now.tables spot) ≡ named_entry (λ w. g.T.PartialEq.eq w c.args.value) c.args.self.now.entries)) c.in-Some-Ok.field-0-is c.in-Some-Ok.ensures.map in
+    let held = subst (λ r. IfOk r (HoldsIn (λ w. g.T.PartialEq.eq w c.args.value) c.args.self.now.tables)) c.in-Some-Ok.field-0-is c.in-Some-Ok.ensures.held in
+    absurd (raised_there g.T.PartialEq.eq g.met.T.Eq.laws c.args.value c.args.n c.args.self.now.entries c.args.self.now.tables c.in-Some-Ok.spot is held none)
+
 pub returns-in-Some-Ok-clause-slot : goal.returns-in-Some-Ok-clause-slot
 returns-in-Some-Ok-clause-slot g c some =
-    let is = subst (λ r. IfOk r (λ spot. slot_entry (slot_in c.args.self.now.tables spot) ≡ entry_of g.T.PartialEq.eq c.args.value c.args.self.now.entries)) c.in-Some-Ok.field-0-is c.in-Some-Ok.ensures.map in
+    let is = subst (λ r. IfOk r (λ spot. slot_entry (slot_in c.args.self.now.tables spot) ≡ named_entry (λ w. g.T.PartialEq.eq w c.args.value) c.args.self.now.entries)) c.in-Some-Ok.field-0-is c.in-Some-Ok.ensures.map in
     let held = subst (λ r. IfOk r (HoldsIn (λ w. g.T.PartialEq.eq w c.args.value) c.args.self.now.tables)) c.in-Some-Ok.field-0-is c.in-Some-Ok.ensures.held in
-    raised_slot g.T.PartialEq.eq c.args.value c.args.n c.args.self.now.entries c.args.self.now.tables c.in-Some-Ok.spot is held c.raise_spot-before.result c.raise_spot-before.ensures.before
+    raised_slot g.T.PartialEq.eq g.met.T.Eq.laws c.args.value c.args.n c.args.self.now.entries c.args.self.now.tables c.in-Some-Ok.spot is held c.raise_spot-before.result c.raise_spot-before.ensures.before
     c.raise_spot-before.new.self.tables c.raise_spot-before.ensures.after
 
 pub returns-in-Some-Ok-clause-room : goal.returns-in-Some-Ok-clause-room
 returns-in-Some-Ok-clause-room g c some =
-    let is = subst (λ r. IfOk r (λ spot. slot_entry (slot_in c.args.self.now.tables spot) ≡ entry_of g.T.PartialEq.eq c.args.value c.args.self.now.entries)) c.in-Some-Ok.field-0-is c.in-Some-Ok.ensures.map in
+    let is = subst (λ r. IfOk r (λ spot. slot_entry (slot_in c.args.self.now.tables spot) ≡ named_entry (λ w. g.T.PartialEq.eq w c.args.value) c.args.self.now.entries)) c.in-Some-Ok.field-0-is c.in-Some-Ok.ensures.map in
     let held = subst (λ r. IfOk r (HoldsIn (λ w. g.T.PartialEq.eq w c.args.value) c.args.self.now.tables)) c.in-Some-Ok.field-0-is c.in-Some-Ok.ensures.held in
-    keeps_more 1 _ _ (raised_kept g.T.PartialEq.eq c.args.value c.args.n c.args.self.now.entries c.args.self.now.tables c.in-Some-Ok.spot is held c.raise_spot-before.result c.raise_spot-before.ensures.before
+    keeps_more 1 _ _ (raised_kept g.T.PartialEq.eq g.met.T.Eq.laws c.args.value c.args.n c.args.self.now.entries c.args.self.now.tables c.in-Some-Ok.spot is held c.raise_spot-before.result c.raise_spot-before.ensures.before
     c.raise_spot-before.new.self.tables c.raise_spot-before.ensures.after)
 
 pub returns-in-Some-Ok-clause-same_room : goal.returns-in-Some-Ok-clause-same_room
 returns-in-Some-Ok-clause-same_room g c some =
-    let is = subst (λ r. IfOk r (λ spot. slot_entry (slot_in c.args.self.now.tables spot) ≡ entry_of g.T.PartialEq.eq c.args.value c.args.self.now.entries)) c.in-Some-Ok.field-0-is c.in-Some-Ok.ensures.map in
+    let is = subst (λ r. IfOk r (λ spot. slot_entry (slot_in c.args.self.now.tables spot) ≡ named_entry (λ w. g.T.PartialEq.eq w c.args.value) c.args.self.now.entries)) c.in-Some-Ok.field-0-is c.in-Some-Ok.ensures.map in
     let held = subst (λ r. IfOk r (HoldsIn (λ w. g.T.PartialEq.eq w c.args.value) c.args.self.now.tables)) c.in-Some-Ok.field-0-is c.in-Some-Ok.ensures.held in
-    raised_kept g.T.PartialEq.eq c.args.value c.args.n c.args.self.now.entries c.args.self.now.tables c.in-Some-Ok.spot is held c.raise_spot-before.result c.raise_spot-before.ensures.before
+    raised_kept g.T.PartialEq.eq g.met.T.Eq.laws c.args.value c.args.n c.args.self.now.entries c.args.self.now.tables c.in-Some-Ok.spot is held c.raise_spot-before.result c.raise_spot-before.ensures.before
     c.raise_spot-before.new.self.tables c.raise_spot-before.ensures.after
 
 pub settle-requires-clause-absent : goal.settle-requires-clause-absent

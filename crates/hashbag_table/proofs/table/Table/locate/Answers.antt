@@ -1,10 +1,11 @@
-use Rattle.std.proofs.Common.{sym, ap, ◌∙◌, drop}
-use Rattle.hashbag_slots.specs.Slots.{entries, slot_at, slot_entry}
-use Rattle.hashbag_table.specs.Entries.{entry_of}
-use Rattle.hashbag_table.proofs.SlotLemmas.{found_newer}
+use Rattle.std.proofs.Common.{◌∙◌, refl}
+use Rattle.hashbag_slots.proofs.Hashing.{fed_alike}
+use Rattle.hashbag_table.proofs.SlotLemmas.{turned}
 use Rattle.hashbag_table.proofs.table.Table.locate.Goals as goal
 
-pub returns-in-Some-clause-map : goal.returns-in-Some-clause-map
-returns-in-Some-clause-map g c =
-    let eq = g.T.PartialEq.eq in let v = c.args.value.now in let n = c.self.inside.newer.slots in let w = drop c.self.inside.looked c.self.inside.older.slots in
-    sym (ap (λ t. slot_entry (slot_at t.tables.newer c.in-Some.place)) c.self.view_is) ∙ found_newer eq g.met.T.Eq.laws v n (entries w) c.in-Some.place c.in-Some.ensures.found c.in-Some.ensures.map ∙ ap (λ m. entry_of eq v m.entries) c.self.view_is
+pub locate_key-requires : goal.locate_key-requires
+locate_key-requires g c =
+    record { hashed = c.requires.hashed ∙ fed_alike g.T.Hash.hash_input (λ r. g.T.Hash.hash_input r.now) g.S.BuildHasher g.S.Hasher.Hasher c.args.self.now.hasher c.args.value.now c.args.value refl }
+
+pub returns-clause-map : goal.returns-clause-map
+returns-clause-map g c = c.locate_key.ensures.map ∙ turned g.T.PartialEq.eq g.met.T.Eq.laws c.args.value.now c.args.self.now.entries

@@ -1,0 +1,86 @@
+-- What a key names in a bag is what it names in the map of its table; and what an insertion by a key leaves.
+use Rattle.std.proofs.Common.{◌≡◌, ℕ, ◌+◌, ◌<◌, ◌≤◌, Bool, true, cond, List, [], ◌∷◌, ◌++◌, length, replicate, filter, slice_get, Option, Some, None, option_map, refl, sym, ap, subst, ◌∙◌, arith}
+use Rattle.std.specs.Cmp.{IsEquivalence}
+use Rattle.std.specs.List.{IsDistinct}
+use Rattle.std.specs.Map.{keys_of, lookup_entry}
+use Rattle.std.proofs.lemmas.List.Elements.{filter-append}
+use Rattle.std.proofs.lemmas.List.Sums.{length-filter}
+use Rattle.std.proofs.lemmas.Map.Made.{lookup_key_passes}
+use Rattle.hashbag_table.specs.Entries.{IsCounted}
+use Rattle.hashbag_table.specs.Named.{named_entry, named_count, Adds}
+use Rattle.hashbag_table.specs.Table.{Table}
+use Rattle.hashbag_table.proofs.EntryLemmas.{lookup_key-entry}
+use Rattle.hashbag_table.proofs.KeyLemmas.{named_is, named_absent}
+use Rattle.hashbag_table.proofs.ListLemmas.{filter-replicate, find-filter}
+use Rattle.hashbag_core.specs.Bag.{Bag, occurrences, IsTallied}
+use Rattle.hashbag_core.specs.Inserts.{Inserts}
+use Rattle.hashbag_core.specs.Keys.{count_named, stored_named}
+use Rattle.hashbag_core.proofs.DistinctLemmas.{distinct_added, distinct_same, distinct_one_more}
+use Rattle.hashbag_core.proofs.HeldLemmas.{shown, absent_in_table, present_in_table, recounts_some}
+use Rattle.hashbag_core.proofs.OccurrenceLemmas.{add_occurrences, bag_from_tally, count_occurrences, count_in_tally}
+use Rattle.hashbag_core.proofs.TakeLemmas.{stored_occurrences}
+
+module _ {T : Type 0} (names : T → Bool) where
+  none_step : (b : Bool) (e : T × ℕ) (found : Option (T × ℕ)) (copies rest : List T) → (found ≡ None → rest ≡ []) → cond b (Some e) found ≡ None → cond b copies [] ++ rest ≡ []
+  none_step true e found copies rest f h = absurd (cc)
+  none_step false e found copies rest f h = f h
+
+  -- what is nowhere in a map is not among its occurrences
+  none_named : (es : List (T × ℕ)) → named_entry names es ≡ None → filter names (occurrences es) ≡ []
+  none_named [] h = refl
+  none_named (e ∷ es) h =
+      filter-append names (replicate e.1 e.0) (occurrences es) ∙ ap (λ (l : List T). l ++ filter names (occurrences es)) (filter-replicate names e.1 e.0)
+      ∙ none_step (names e.0) e _ (replicate e.1 e.0) _ (none_named es) h
+
+module _ {T : Type 0} {eq : T → T → Bool} (laws : IsEquivalence eq) (names : T → Bool) (one : (v w : T) → names v ≡ true → names w ≡ eq w v) where
+  -- what holds where the key names nothing that is there, and of the test of being equal to a value, holds of the key
+  by_value : (es : List (T × ℕ)) (P : (T → Bool) → Type 0) → (named_entry names es ≡ None → P names) → ((v : T) → P (eq v)) → P names
+  by_value es P none some = cases (lookup_entry names es) refl where
+    cases : (o : Option (T × ℕ)) → lookup_entry names es ≡ o → P names
+    cases None h = none h
+    cases (Some e) h =
+        let does : names e.0 ≡ true = lookup_key_passes names es e.0 (lookup_key-entry names es ∙ ap (option_map (λ (x : T × ℕ). x.0)) h) in
+        subst P (sym (named_is eq laws names one e.0 does)) (some e.0)
+
+  -- the count in the list is the count in the map
+  pub named_occurrences : (es : List (T × ℕ)) → IsDistinct eq (keys_of es) → count_named names (occurrences es) ≡ named_count names es
+  named_occurrences es distinct =
+      by_value es (λ (test : T → Bool). count_named test (occurrences es) ≡ named_count test es)
+      (λ none. sym (length-filter names (occurrences es)) ∙ ap (λ (l : List T). length l) (none_named names es none) ∙ sym (named_absent names es none))
+      (λ v. count_occurrences laws v es distinct)
+
+  -- and the entry of the map is what its occurrences store
+  pub stored_named_occurrences : (es : List (T × ℕ)) → IsCounted eq es → stored_named names (occurrences es) ≡ named_entry names es
+  stored_named_occurrences es counted =
+      by_value es (λ (test : T → Bool). stored_named test (occurrences es) ≡ named_entry test es)
+      (λ none. ap (λ (o : Option T). option_map (λ i. (i, count_named names (occurrences es))) o) (find-filter names (occurrences es) ∙ ap (λ (l : List T). slice_get l 0) (none_named names es none)) ∙ sym none)
+      (λ v. stored_occurrences laws v es counted)
+
+  -- what a map doesn't have the list doesn't
+  pub none_named_there : (es : List (T × ℕ)) → IsDistinct eq (keys_of es) → named_entry names es ≡ None → count_named names (occurrences es) ≡ 0
+  none_named_there es distinct none = named_occurrences es distinct ∙ named_absent names es none
+
+  -- a count is at most the total
+  pub named_in_tally : {most : ℕ} → (es : List (T × ℕ)) (total : ℕ) → IsTallied eq es total most → named_count names es ≤ total
+  named_in_tally es total tally =
+      by_value es (λ (test : T → Bool). named_count test es ≤ total)
+      (λ none. let zero = named_absent names es none in omega arith)
+      (λ v. count_in_tally laws v es total tally)
+
+-- what an addition to the table of a bag leaves of the bag
+pub inserts_added : {T S : Type 0} {eq : T → T → Bool} (laws : IsEquivalence eq) {most : ℕ} (v : T) (n total : ℕ) (before after : Table T S)
+    → 0 < n → IsTallied eq before.entries total most → IsTallied eq after.entries (total + n) most → Adds eq v n before after → Inserts eq v n (shown most before) (shown most after)
+inserts_added {eq = eq} laws v n total before after some was now adds =
+    let same = count_occurrences laws v before.entries was.counted.distinct in
+    record {
+      added = record { means = add_occurrences laws v n _ _ was.counted adds.added.means; hasher = adds.added.hasher; limit = refl; bag = bag_from_tally laws _ _ now };
+      none = λ is. absurd (omega (arith, some, is));
+      len = let before = was.sum in let after = now.sum in omega (arith, before, after);
+      set_len = distinct_added laws v _ _ _ was.counted now.counted adds.added.means;
+      same_set = distinct_same laws v _ _ _ was.counted now.counted adds.added.means;
+      new_set = λ _ none. distinct_one_more laws v _ _ _ was.counted now.counted adds.added.means none;
+      arrives = λ _ none. adds.arrives (absent_in_table laws v _ was.counted none);
+      slot = λ _ there. rw same (recounts_some eq v _ _ _ (omega (arith, some)) (adds.slot (present_in_table laws v _ was.counted there)));
+      less_room = adds.room;
+      same_room = λ there. adds.same_room (omega (arith, same, there));
+    }

@@ -1,0 +1,86 @@
+-- What a key names is what equals any value that it names; and what an addition by a key leaves.
+use Rattle.std.proofs.Common.{◌≡◌, ℕ, ◌+◌, ◌<◌, ◌^◌, Bool, true, List, [], ◌∷◌, length, Option, Some, None, IsSome, option_map, unwrap_or, sym, ap, subst, ◌∙◌, arith}
+use Rattle.std.specs.Cmp.{IsEquivalence}
+use Rattle.std.specs.Map.{lookup, lookup_entry}
+use Rattle.hashbag_slots.specs.declared.slots.Slot.{Slot}
+use Rattle.hashbag_slots.specs.Slots.{recounted, holds, slot_at, slot_entry}
+use Rattle.hashbag_slots.proofs.Probing.{holder}
+use Rattle.hashbag_table.specs.declared.table.Spot.{Spot}
+use Rattle.hashbag_table.specs.declared.table.Spot.TheVariants.{Newer, Waiting}
+use Rattle.hashbag_table.specs.Entries.{IsCounted, with_instance, count_of}
+use Rattle.hashbag_table.specs.Named.{named_entry, named_count, Adds, AddsNamed}
+use Rattle.hashbag_table.specs.Table.{Table, IsMapOf}
+use Rattle.hashbag_table.specs.Tables.{Tables, Arrives, HoldsIn, slot_in, Writes, Swaps}
+use Rattle.hashbag_table.proofs.EntryLemmas.{lookup-entry, entry_to_front, counted_rearranged}
+use Rattle.hashbag_table.proofs.RaisedLemmas.{raised_there, raised_added, raised_slot, raised_kept}
+use Rattle.hashbag_table.proofs.RoomKeptLemmas.{keeps_more, keeps_Arrives}
+use Rattle.hashbag_table.proofs.SpotLemmas.{held_entry, count_absent, added_absent}
+
+module _ {T : Type 0} (names : T → Bool) where
+  -- the count of an entry that the key names, and that of none
+  pub named_present : (es : List (T × ℕ)) (e : T × ℕ) → named_entry names es ≡ Some e → named_count names es ≡ e.1
+  named_present es e h = ap (λ o. unwrap_or o 0) (lookup-entry names es ∙ ap (option_map (λ (y : T × ℕ). y.1)) h)
+
+  pub named_absent : (es : List (T × ℕ)) → named_entry names es ≡ None → named_count names es ≡ 0
+  named_absent es h = ap (λ o. unwrap_or o 0) (lookup-entry names es ∙ ap (option_map (λ (y : T × ℕ). y.1)) h)
+
+  -- what is held at a spot is a value that the key names
+  held_named : (t : Tables T) (spot : Spot) → HoldsIn names t spot → (v : T) × (names v ≡ true)
+  held_named t (Newer p) h = let l = holder names (slot_at t.newer p) h.1 in (l.0, l.3)
+  held_named t (Waiting p) h = let l = holder names (slot_at t.waiting p) h.1 in (l.0, l.3)
+
+module _ {T : Type 0} (eq : T → T → Bool) (laws : IsEquivalence eq) (names : T → Bool) (one : (v w : T) → names v ≡ true → names w ≡ eq w v) where
+  -- the test is that of being equal to a value that the key names
+  pub named_equals : (v : T) → names v ≡ true → names ≡ (λ w. eq w v)
+  named_equals v does = λ i w. one v w does i
+
+  pub named_is : (v : T) → names v ≡ true → names ≡ eq v
+  named_is v does = λ i w. (one v w does ∙ laws.symm w v) i
+
+  pub named_found : (v : T) → names v ≡ true → (es : List (T × ℕ)) → named_entry names es ≡ lookup_entry (eq v) es
+  named_found v does es = ap (λ (test : T → Bool). lookup_entry test es) (named_is v does)
+
+  module _ {S : Type 0} (n : ℕ) (old : Table T S) (spot : Spot) (is : slot_entry (slot_in old.tables spot) ≡ named_entry names old.entries) where
+    pub named_fits : named_count names old.entries + n < 2 ^ 64 → (e : T × ℕ) → slot_entry (slot_in old.tables spot) ≡ Some e → e.1 + n < 2 ^ 64
+    named_fits fits e here = let c = named_present names old.entries e (sym is ∙ here) in omega arith
+
+    module _ (held : HoldsIn names old.tables spot) (before : ℕ) (count : (e : T × ℕ) → slot_entry (slot_in old.tables spot) ≡ Some e → before ≡ e.1) where
+      pub named_before : before ≡ named_count names old.entries
+      named_before = let h = held_entry names old.tables spot held in count h.0 h.1 ∙ sym (named_present names old.entries h.0 (sym is ∙ h.1))
+
+      -- more of a value that is there
+      pub named_raised : (new : Table T S) → IsCounted eq old.entries → Writes spot (recounted (before + n) (slot_in old.tables spot)) old.tables new.tables
+          → ((e : T × ℕ) → slot_entry (slot_in old.tables spot) ≡ Some e → Swaps old.entries new.entries e ((e.0, before + n) ∷ []))
+          → new.hasher ≡ old.hasher → IsCounted eq new.entries → AddsNamed eq names n old new
+      named_raised new was after swap hasher counted =
+          let h = held_named names old.tables spot held in let v = h.0 in
+          let at : HoldsIn (λ w. eq w v) old.tables spot = subst (λ (test : T → Bool). HoldsIn test old.tables spot) (named_equals v h.1) held in
+          let found : slot_entry (slot_in old.tables spot) ≡ lookup_entry (λ w. eq w v) old.entries = is ∙ ap (λ (test : T → Bool). lookup_entry test old.entries) (named_equals v h.1) in
+          let kept = raised_kept eq laws v n old.entries old.tables spot found at before count new.tables after in
+          (v, h.1, record {
+            added = record { means = raised_added eq laws v n old.entries old.tables spot found at before count new.entries was swap; hasher = hasher; counted = counted };
+            new_set = λ none. absurd (raised_there eq laws v n old.entries old.tables spot found at none);
+            slot = λ _. raised_slot eq laws v n old.entries old.tables spot found at before count new.tables after;
+            arrives = λ none. absurd (raised_there eq laws v n old.entries old.tables spot found at none);
+            room = λ _. keeps_more 1 _ _ kept;
+            same_room = λ _. kept;
+          })
+
+  -- a value that was made of the key, where it named none that was there
+  pub named_arrived : {S : Type 0} (old new : Table T S) (v : T) (n : ℕ) → names v ≡ true → named_entry names old.entries ≡ None → IsMapOf eq old (with_instance eq v n old.entries) new
+      → length new.entries ≡ length old.entries + 1 → Arrives old.tables new.tables → AddsNamed eq names n old new
+  named_arrived old new v n does none inserted more arrives =
+      let absent : lookup_entry (eq v) old.entries ≡ None = sym (named_found v does old.entries) ∙ none in
+      let zero = count_absent eq v old.entries absent in
+      (v, does, record {
+        added = record { means = added_absent eq v old.entries n new.entries absent inserted.means; hasher = inserted.hasher; counted = inserted.counted };
+        new_set = λ _. more;
+        slot = λ some. let no = subst (λ (o : Option (T × ℕ)). IsSome o) absent some in absurd (cc);
+        arrives = λ _. arrives;
+        room = λ some. keeps_Arrives _ _ arrives some;
+        same_room = λ some. absurd (omega (arith, zero, some));
+      })
+
+  -- a count is at least 1
+  pub named_positive : (es : List (T × ℕ)) (e : T × ℕ) → IsCounted eq es → named_entry names es ≡ Some e → 0 < e.1
+  named_positive es e counted found = (counted_rearranged laws _ _ (entry_to_front names es e found) counted).positive 0 e.1 (omega arith)

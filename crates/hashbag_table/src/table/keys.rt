@@ -1,0 +1,126 @@
+//! Calls by keys: by a value that is lent, or by what names it, as a text names a `String`.
+ghost use Rattle.std.specs.Prelude.{◌≡◌, ◌+◌, ◌-◌, ◌<◌, ◌≤◌, ◌^◌, true, None, IfOk, OnOk, OnErr, IsTrue, option_map};
+ghost use Rattle.hashbag_slots.specs.Hashing.{hash_under};
+ghost use Rattle.hashbag_slots.specs.Slots.{IsAbsent, recounted};
+ghost use Rattle.hashbag_table.specs.Entries.{with_fewer, IsCounted};
+ghost use Rattle.hashbag_table.specs.Named.{named_entry, named_count, AddsNamed};
+ghost use Rattle.hashbag_table.specs.Table.{IsMapOf};
+ghost use Rattle.hashbag_table.specs.Tables.{KeepsRoom, Rewrites};
+
+use crate::key::{Key, ToValue};
+use crate::table::Table;
+use crate::table::spots::find_older;
+use hashbag_slots::slots::Slot;
+use hashbag_slots::slots::keys::hash_key;
+use std::alloc::AllocError;
+use std::hash::{BuildHasher, Hash};
+
+impl<T: Eq + Hash + Drop, S: BuildHasher + Drop> Table<T, S> {
+    // The hash of a key under the table's own state, by which alone the value is found that it names.
+    #[inline(always)]
+    fn hash_key<Q: Key<T>>(&self, key: Q) -> u64
+        ensures { result ≡ hash_under Q.hash_input S.BuildHasher S.Hasher.Hasher self.now.hasher key }
+    {
+        hash_key(&self.hasher, key)
+    }
+
+    /// The stored instance of the value that a key names and its count, or `None` where there is none. The key is hashed once for
+    /// both tables.
+    #[inline(always)]
+    pub fn get_key<Q: Key<T>>(&self, key: Q) -> Option<(&T, usize)>
+        ensures found { option_map (λ e. (e.0.now, e.1)) result ≡ named_entry (Q.names key) self.now.entries }
+        ensures counted { IsCounted T.eq self.now.entries }
+    {
+        let hash = self.hash_key(key);
+        if let Some(place) = self.newer.find_key(&self.hasher, hash, key) {
+            return Some(self.newer.live_at(place));
+        }
+        match find_older(&self.older, self.looked, &self.hasher, hash, key) {
+            Some(place) => Some(self.older.live_at(place)),
+            None => None,
+        }
+    }
+
+    // As `add_key`, of a key whose hash is handed in, wherever the value is, or where it is known to be absent from the newer table:
+    // additions to those near the beginning of their paths are to be short.
+    #[inline(never)]
+    fn add_key_far<Q: ToValue<T>>(
+        &mut self,
+        hash: u64,
+        key: Q,
+        n: usize,
+        absent: bool,
+    ) -> Result<usize, AllocError>
+        requires hashed { hash ≡ hash_under Q.hash_input S.BuildHasher S.Hasher.Hasher self.old.hasher key }
+        requires told { absent ≡ true → IsAbsent (Q.names key) self.old.tables.newer }
+        requires some { 0 < n }
+        requires fits { named_count (Q.names key) self.old.entries + n < 2 ^ 64 }
+        ensures before { IfOk result (λ before. before ≡ named_count (Q.names key) self.old.entries) }
+        ensures added { OnOk result (AddsNamed T.eq (Q.names key) n self.old self.new) }
+        ensures counted { IsCounted T.eq self.new.entries }
+        ensures absent { OnErr result (named_entry (Q.names key) self.old.entries ≡ None) }
+        ensures err { OnErr result (self.new ≡ self.old) }
+    {
+        // `set_len` is called for its clause that the entries are a map, which the proof cites.
+        let _len = self.set_len();
+        if let Some(spot) = self.locate_told(hash, key, absent) {
+            let before = self.raise_spot(spot, n);
+            return Ok(before);
+        }
+        let value = key.to_value(self.alloc)?;
+        self.insert_hashed(hash, value, n)?;
+        Ok(0)
+    }
+
+    /// Adds `n` to the count of the value that a key names, and answers what the count was, 0 where the value was absent.
+    ///
+    /// A stored instance stays, and where there is one it takes no memory. Where there is none a value is made of the key, which is
+    /// put in. That may be refused for memory, to the value or where no room is left: the table is then unchanged. The key is hashed
+    /// once.
+    #[inline(always)]
+    pub fn add_key<Q: ToValue<T>>(&mut self, key: Q, n: usize) -> Result<usize, AllocError>
+        requires some { 0 < n }
+        requires fits { named_count (Q.names key) self.old.entries + n < 2 ^ 64 }
+        ensures before { IfOk result (λ before. before ≡ named_count (Q.names key) self.old.entries) }
+        ensures added { OnOk result (AddsNamed T.eq (Q.names key) n self.old self.new) }
+        ensures counted { IsCounted T.eq self.new.entries }
+        ensures absent { OnErr result (named_entry (Q.names key) self.old.entries ≡ None) }
+        ensures err { OnErr result (self.new ≡ self.old) }
+    {
+        let hash = self.hash_key(key);
+        let absent = match self.look_near(hash, key) {
+            Some(Ok(spot)) => {
+                let before = self.raise_spot(spot, n);
+                return Ok(before);
+            }
+            Some(Err(_)) => true,
+            None => false,
+        };
+        self.add_key_far(hash, key, n, absent)
+    }
+    /// Takes `n` from the count of the value that a key names, and answers what the count was, 0 where the value was absent. Where
+    /// no more than `n` are there, the value goes, and its stored instance is dropped.
+    ///
+    /// It takes no memory. The key is hashed once.
+    pub fn take_key<Q: Key<T>>(&mut self, key: Q, n: usize) -> usize
+        ensures before { result ≡ named_count (Q.names key) self.old.entries }
+        ensures taken { (v : T) → IsTrue (Q.names key v) → IsMapOf T.eq self.old (with_fewer T.eq v n self.old.entries) self.new }
+        ensures fewer { n < result → Rewrites (Q.names key) (recounted (result - n)) self.old.tables self.new.tables }
+        ensures gone { 0 < result → result ≤ n → Rewrites (Q.names key) (λ _. Slot.Removed) self.old.tables self.new.tables }
+        ensures none { result ≡ 0 → self.new ≡ self.old }
+        ensures room { KeepsRoom 0 self.old.tables self.new.tables }
+    {
+        let hash = self.hash_key(key);
+        if let Some(spot) = self.locate_key(hash, key) {
+            let before = self.count_at(spot);
+            if n < before {
+                self.set_spot(spot, before - n);
+                return before;
+            }
+            let (former, count) = self.take_spot(spot);
+            drop(former);
+            return count;
+        }
+        0
+    }
+}
