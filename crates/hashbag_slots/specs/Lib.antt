@@ -3,7 +3,7 @@ pub mod Cells
 pub mod Columns
 pub mod Examples
 pub mod Hashing
-pub mod Lanes
+pub mod Group
 pub mod Owning
 pub mod Slots
 pub mod Stores
