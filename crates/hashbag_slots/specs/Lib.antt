@@ -2,6 +2,7 @@ pub mod Carry
 pub mod Cells
 pub mod Columns
 pub mod Examples
+pub mod FirstGroup
 pub mod Hashing
 pub mod Group
 pub mod Owning

@@ -10,7 +10,7 @@ mod cells;
 mod group;
 pub mod key;
 mod live;
-mod probe;
+pub mod probe;
 mod row;
 pub mod slots;
 mod tags;

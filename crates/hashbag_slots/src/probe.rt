@@ -3,9 +3,10 @@
 //! A path begins at the hash modulo the number of slots, goes slot by slot, and goes on at slot 0 after the last one. A probe reads
 //! tags, sixteen at once, and a cell only where the tag is the mark of its own hash: under a hash that spreads its values, that is so at
 //! one in 128 of the other values on its path.
-ghost use Rattle.std.specs.Prelude.{◌≡◌, ◌==◌, ℕ, ◌+◌, ◌<◌, ◌≤◌, length, true, false, IfSome, IfNone, IfOk, IfErr, OnErr, Some};
+ghost use Rattle.std.specs.Prelude.{◌≡◌, ◌==◌, ℕ, ◌+◌, ◌<◌, ◌≤◌, length, true, false, IfSome, IfNone, Some};
 ghost use Rattle.hashbag_slots.specs.Cells.{cell_at, IsFilled};
 ghost use Rattle.hashbag_slots.specs.Hashing.{hash_under};
+ghost use Rattle.hashbag_slots.specs.FirstGroup.{IfFound, IfAbsent};
 ghost use Rattle.hashbag_slots.specs.Group.{IsMaskOf};
 ghost use Rattle.hashbag_slots.specs.Slots.{IsSlotCount, path_slot, slot_at, holds, HoldsAt, IsAbsent, IsFirstFree};
 ghost use Rattle.hashbag_slots.specs.Columns.{tag_at, Agree, columns, slots_of, IsReached};
@@ -17,6 +18,17 @@ use crate::group::{
 use crate::key::Key;
 use crate::tags::{EMPTY, LEAST_MARK, mark_of};
 use std::hash::{BuildHasher, Hash};
+
+/// What the first 16 slots of a path show of the value that is looked for.
+#[derive(Clone, Copy)]
+pub enum FirstGroup {
+    /// It is in the slot at this place.
+    Found(usize),
+    /// It is in no slot of the table, and this is the first place on its path whose slot is not Live: it is put there.
+    Absent(usize),
+    /// Neither: the path goes on.
+    Open,
+}
 
 // The place of the slot that a probe for a hash looks at after so many steps, among `count` slots. It begins at the hash
 // modulo `count`, and goes on at slot 0 after the last slot.
@@ -141,8 +153,7 @@ pub fn is_empty_before(tags: &[u8], hash: u64, place: usize) -> bool
     false
 }
 
-/// What the first 16 slots of a path tell of a value: its place, or that it is absent, and then the first of them that is not Live.
-/// `None` where they don't tell, or where the table ends before the sixteenth.
+/// What the first 16 slots of a key's path show. It is `Open` too where fewer than 16 slots follow.
 #[inline(always)]
 pub fn probe_first_group<T: Eq + Hash, S: BuildHasher, Q: Key<T>>(
     tags: &[u8],
@@ -150,70 +161,32 @@ pub fn probe_first_group<T: Eq + Hash, S: BuildHasher, Q: Key<T>>(
     state: &S,
     hash: u64,
     key: Q,
-) -> Option<Result<usize, usize>>
+) -> FirstGroup
     requires hashed { hash ≡ hash_under Q.hash_input S.BuildHasher S.Hasher.Hasher state.now key }
     requires count { IsSlotCount (length tags.now) }
     requires agree { Agree tags.now cells.now }
     requires reached { IsReached (hash_under T.hash_input S.BuildHasher S.Hasher.Hasher state.now) (columns tags.now cells.now) }
-    ensures found { IfSome result (λ known. IfOk known (HoldsAt (Q.names key) (slots_of tags.now cells.now))) }
-    ensures absent { IfSome result (λ known. OnErr known (IsAbsent (Q.names key) (slots_of tags.now cells.now))) }
-    ensures free { IfSome result (λ known. IfErr known (IsFirstFree hash (slots_of tags.now cells.now))) }
+    ensures found { IfFound result (HoldsAt (Q.names key) (slots_of tags.now cells.now)) }
+    ensures absent { IfAbsent result (λ _. IsAbsent (Q.names key) (slots_of tags.now cells.now)) }
+    ensures free { IfAbsent result (IsFirstFree hash (slots_of tags.now cells.now)) }
 {
     let count = tags.len();
     if count == 0 {
-        return None;
+        return FirstGroup::Open;
     }
     let first = path_slot(hash, 0, count);
     if first + GROUP_WIDTH > count {
-        return None;
+        return FirstGroup::Open;
     }
     let mark = mark_of(hash);
     let marked = match_tag(tags, first, mark);
     if let Some(place) = find_marked(tags, cells, first, marked, mark, key) {
-        return Some(Ok(place));
+        return FirstGroup::Found(place);
     }
     if first_equal(tags, first, EMPTY) < GROUP_WIDTH {
-        return Some(Err(first + first_not_live(tags, first)));
+        return FirstGroup::Absent(first + first_not_live(tags, first));
     }
-    None
-}
-
-// What the first 16 slots of a path tell of a value: its place, or `Some(None)` where it is absent. `None` as in `probe_first_group`.
-//
-// Only slots before the first Empty one are looked at. None behind it holds the value, and a cell there, where a tag is the mark by
-// chance, would be read for nothing: cells are far from their tags.
-#[inline(always)]
-fn find_in_first_group<T: Eq + Hash, S: BuildHasher, Q: Key<T>>(
-    tags: &[u8],
-    cells: &Cells<(T, usize)>,
-    state: &S,
-    hash: u64,
-    key: Q,
-) -> Option<Option<usize>>
-    requires hashed { hash ≡ hash_under Q.hash_input S.BuildHasher S.Hasher.Hasher state.now key }
-    requires count { IsSlotCount (length tags.now) }
-    requires agree { Agree tags.now cells.now }
-    requires reached { IsReached (hash_under T.hash_input S.BuildHasher S.Hasher.Hasher state.now) (columns tags.now cells.now) }
-    ensures found { IfSome result (λ known. IfSome known (HoldsAt (Q.names key) (slots_of tags.now cells.now))) }
-    ensures absent { IfSome result (λ known. IfNone known (IsAbsent (Q.names key) (slots_of tags.now cells.now))) }
-{
-    let count = tags.len();
-    if count == 0 {
-        return None;
-    }
-    let first = path_slot(hash, 0, count);
-    if first + GROUP_WIDTH > count {
-        return None;
-    }
-    let mark = mark_of(hash);
-    let (marked, ends) = match_tag_before_empty(tags, first, mark);
-    if let Some(place) = find_marked(tags, cells, first, marked, mark, key) {
-        return Some(Some(place));
-    }
-    if ends {
-        return Some(None);
-    }
-    None
+    FirstGroup::Open
 }
 
 // The place of the Live slot with an equal value where that slot is the first on the path of a hash. `None` says nothing.
@@ -243,7 +216,8 @@ fn find_at_home<T: Eq + Hash, Q: Key<T>>(
 /// the value or an Empty slot, or has looked at all slots, and goes past Removed and Moved ones.
 ///
 /// Most values are in the first slot of their path. It is looked at by itself, so that its cell is read without waiting for
-/// what the other tags say.
+/// what the other tags say. Of the first 16 slots only those before the first Empty one are looked at: none after it holds the value,
+/// and a cell there, whose tag is the mark by chance, would be read for nothing.
 #[inline(always)]
 pub fn find_place<T: Eq + Hash, S: BuildHasher, Q: Key<T>>(
     tags: &[u8],
@@ -262,10 +236,23 @@ pub fn find_place<T: Eq + Hash, S: BuildHasher, Q: Key<T>>(
     if let Some(place) = find_at_home(tags, cells, hash, key) {
         return Some(place);
     }
-    match find_in_first_group(tags, cells, state, hash, key) {
-        Some(known) => known,
-        None => find_probing(tags, cells, state, hash, key),
+    let count = tags.len();
+    if count == 0 {
+        return None;
     }
+    let first = path_slot(hash, 0, count);
+    if first + GROUP_WIDTH > count {
+        return find_probing(tags, cells, state, hash, key);
+    }
+    let mark = mark_of(hash);
+    let (marked, ends) = match_tag_before_empty(tags, first, mark);
+    if let Some(place) = find_marked(tags, cells, first, marked, mark, key) {
+        return Some(place);
+    }
+    if ends {
+        return None;
+    }
+    find_probing(tags, cells, state, hash, key)
 }
 
 /// The first place on the path of a hash whose slot is not Live.

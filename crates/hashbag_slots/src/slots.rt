@@ -10,6 +10,7 @@
 ghost use Rattle.std.specs.Prelude.{◌≡◌, ℕ, ◌+◌, ◌<◌, ◌≤◌, ◌^◌, length, true, false, IfSome, IfNone, IfOk, IfErr, IsOk, OnErr, replicate, slice_set, ◌∷◌, [], Some};
 ghost use Rattle.std.specs.Map.{lookup_entry};
 ghost use Rattle.std.specs.Option.{option_map};
+ghost use Rattle.hashbag_slots.specs.FirstGroup.{IfFound, IfAbsent};
 ghost use Rattle.hashbag_slots.specs.Hashing.{hash_under};
 ghost use Rattle.hashbag_slots.specs.Slots.{IsSlotCount, is_live, holds, live_count, removed_count, slot_at, HoldsAt, IsAbsent, IsFirstFree, IsSet, slot_entry, entry_at, entries, recounted, raised, count_in, Places};
 ghost use Rattle.hashbag_slots.specs.Columns.{IsReached, IsAlike};
@@ -19,6 +20,7 @@ pub mod keys;
 
 use crate::cells::Cells;
 use crate::live::clear_all;
+pub use crate::probe::FirstGroup;
 use crate::probe::first_free;
 use crate::tags::{LEAST_MARK, REMOVED, empty_tags, mark_of};
 use crate::walk::{IntoWalk, Walk};
@@ -308,22 +310,16 @@ impl<T: Eq + Hash> Slots<T> {
         self.find_key_uncarried(state, hash, value, from)
     }
 
-    /// What the first 16 slots on the path of a value's hash tell, which is handed in: in `Ok` the place of the Live slot with an
-    /// equal value, in `Err`, where the value is absent, the first place whose slot is not Live, into which `place_at` puts it.
-    /// `None` where they don't tell, or where the table ends before the sixteenth: `find_hashed` then does.
+    /// What the first 16 slots on the path of a value's hash show, which is handed in: the place of the slot with an equal value, or, if
+    /// the value is absent, the place into which `place_at` puts it. If it is `Open`, `find_hashed` knows.
     #[inline(always)]
-    pub fn probe_first_group<S: BuildHasher>(
-        &self,
-        state: &S,
-        hash: u64,
-        value: &T,
-    ) -> Option<Result<usize, usize>>
+    pub fn probe_first_group<S: BuildHasher>(&self, state: &S, hash: u64, value: &T) -> FirstGroup
         requires hashed { hash ≡ hash_under T.hash_input S.BuildHasher S.Hasher.Hasher state.now value.now }
         requires reached { IsReached (hash_under T.hash_input S.BuildHasher S.Hasher.Hasher state.now) self.now }
-        ensures found { IfSome result (λ known. IfOk known (HoldsAt (λ v. T.eq v value.now) self.now.slots)) }
-        ensures absent { IfSome result (λ known. OnErr known (IsAbsent (λ v. T.eq v value.now) self.now.slots)) }
-        ensures free { IfSome result (λ known. IfErr known (IsFirstFree hash self.now.slots)) }
-        ensures map { IfSome result (λ known. IfOk known (λ p. entry_at self.now.slots (Some p) ≡ lookup_entry (λ v. T.eq v value.now) (entries self.now.slots))) }
+        ensures found { IfFound result (HoldsAt (λ v. T.eq v value.now) self.now.slots) }
+        ensures absent { IfAbsent result (λ _. IsAbsent (λ v. T.eq v value.now) self.now.slots) }
+        ensures free { IfAbsent result (IsFirstFree hash self.now.slots) }
+        ensures map { IfFound result (λ p. entry_at self.now.slots (Some p) ≡ lookup_entry (λ v. T.eq v value.now) (entries self.now.slots)) }
     {
         self.probe_key_first_group(state, hash, value)
     }

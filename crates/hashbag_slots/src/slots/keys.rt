@@ -1,12 +1,13 @@
 //! Look-ups by keys: by a value that is lent, or by what names it.
 ghost use Rattle.std.specs.Prelude.{◌≡◌, ℕ, ◌<◌, ◌≤◌, length, false, IfSome, IfNone, IfOk, IfErr, OnErr, Some};
 ghost use Rattle.std.specs.Map.{lookup_entry};
+ghost use Rattle.hashbag_slots.specs.FirstGroup.{IfFound, IfAbsent};
 ghost use Rattle.hashbag_slots.specs.Hashing.{hash_under};
 ghost use Rattle.hashbag_slots.specs.Slots.{is_live, slot_at, HoldsAt, IsAbsent, IsFirstFree, entry_at, entries};
 ghost use Rattle.hashbag_slots.specs.Columns.{IsReached};
 
 use crate::key::Key;
-use crate::probe::{find_place, is_empty_before, probe_first_group};
+use crate::probe::{FirstGroup, find_place, is_empty_before, probe_first_group};
 use crate::slots::Slots;
 use std::hash::{BuildHasher, Hash};
 
@@ -67,13 +68,13 @@ impl<T: Eq + Hash> Slots<T> {
         state: &S,
         hash: u64,
         key: Q,
-    ) -> Option<Result<usize, usize>>
+    ) -> FirstGroup
         requires hashed { hash ≡ hash_under Q.hash_input S.BuildHasher S.Hasher.Hasher state.now key }
         requires reached { IsReached (hash_under T.hash_input S.BuildHasher S.Hasher.Hasher state.now) self.now }
-        ensures found { IfSome result (λ known. IfOk known (HoldsAt (Q.names key) self.now.slots)) }
-        ensures absent { IfSome result (λ known. OnErr known (IsAbsent (Q.names key) self.now.slots)) }
-        ensures free { IfSome result (λ known. IfErr known (IsFirstFree hash self.now.slots)) }
-        ensures map { IfSome result (λ known. IfOk known (λ p. entry_at self.now.slots (Some p) ≡ lookup_entry (Q.names key) (entries self.now.slots))) }
+        ensures found { IfFound result (HoldsAt (Q.names key) self.now.slots) }
+        ensures absent { IfAbsent result (λ _. IsAbsent (Q.names key) self.now.slots) }
+        ensures free { IfAbsent result (IsFirstFree hash self.now.slots) }
+        ensures map { IfFound result (λ p. entry_at self.now.slots (Some p) ≡ lookup_entry (Q.names key) (entries self.now.slots)) }
     {
         probe_first_group(self.tags.as_slice(), &self.cells, state, hash, key)
     }

@@ -4,7 +4,7 @@ use Rattle.hashbag_slots.specs.Hashing.{hash_under}
 use Rattle.hashbag_slots.specs.Columns.{tag_at}
 use Rattle.hashbag_slots.proofs.Hashing.{hash_named}
 use Rattle.hashbag_slots.proofs.Strides.{absent_near}
-use Rattle.hashbag_slots.proofs.probe.find_in_first_group.Goals as goal
+use Rattle.hashbag_slots.proofs.probe.find_place.Goals as goal
 
 pub find_marked-requires-clause-told : goal.find_marked-requires-clause-told
 find_marked-requires-clause-told g c = let e = c.match_tag_before_empty-marked.ensures in (e.0, e.1.high, e.2)
@@ -21,4 +21,4 @@ returns-then-ends-clause-absent g c =
     c.mark_of-mark.result c.mark_of-mark.ensures.mark
     first (stop - first) c.path_slot-first.ensures.value
     (omega arith) (ap (tag_at ts) (sym there) ∙ eqb-true _ _ (e.1.hit short))
-    (λ p a b same. c.in_default.ensures.absent stop e.2 p a (omega arith) same)
+    (λ p a b same. c.in_default-find_marked.ensures.absent stop e.2 p a (omega arith) same)
