@@ -6,19 +6,19 @@ use Rattle.std.specs.Cmp.{IsEquivalence}
 use Rattle.hashbag_slots.specs.declared.slots.Slot.TheVariants.{Moved, Live}
 use Rattle.hashbag_slots.specs.Slots.{is_live, slot_at, entries, PlacesFirst, PlacesAll, carried, AreApart}
 use Rattle.hashbag_slots.specs.Columns.{slots_of, columns, IsColumns, IsReached}
-use Rattle.hashbag_slots.specs.Carry.{carried_tag, CarriesTags, Kept, kept, is_kept, IsCarried}
+use Rattle.hashbag_slots.specs.Carry.{moved_tag, MovesOutTags, Kept, kept, is_kept, IsCarry}
 use Rattle.hashbag_slots.proofs.Carrying.{PlacesAll-step, Carries-step, Carries-none, skip_to, AreApart-carry}
 use Rattle.hashbag_slots.proofs.Reading.{length-slots_of, live_at, dead_at, alive_at}
 use Rattle.hashbag_slots.proofs.Tables.{some_live}
 use Rattle.hashbag_slots.proofs.Writing.{set-slots_of, in_tags, IsColumns-take, IsReached-take}
 
-low_tag : (t : ℕ) → t < 128 → carried_tag t ≡ t
+low_tag : (t : ℕ) → t < 128 → moved_tag t ≡ t
 low_tag t low = ap (λ b. cond b 2 t) (lt-leb 128 t low)
 
-high_tag : (t : ℕ) → 128 ≤ t → carried_tag t ≡ 2
+high_tag : (t : ℕ) → 128 ≤ t → moved_tag t ≡ 2
 high_tag t high = ap (λ b. cond b 2 t) (le-leb 128 t high)
 
-pub tags_same : (from many : ℕ) (ts us vs : List ℕ) → CarriesTags from many ts us → CarriesTags from many ts vs → us ≡ vs
+pub tags_same : (from many : ℕ) (ts us vs : List ℕ) → MovesOutTags from many ts us → MovesOutTags from many ts vs → us ≡ vs
 tags_same from many ts us vs a b =
     ext_get_or 0 us vs (a.same_length ∙ sym b.same_length)
     (λ i lt. elim (cases_lt i from) [
@@ -30,7 +30,7 @@ tags_same from many ts us vs a b =
     ])
 
 -- slots that are not Live keep their tags
-tags_skip : (from at to : ℕ) (ts us : List ℕ) → from ≤ at → at ≤ to → ((q : ℕ) → at ≤ q → q < to → get_or ts q 0 < 128) → CarriesTags from (at - from) ts us → CarriesTags from (to - from) ts us
+tags_skip : (from at to : ℕ) (ts us : List ℕ) → from ≤ at → at ≤ to → ((q : ℕ) → at ≤ q → q < to → get_or ts q 0 < 128) → MovesOutTags from (at - from) ts us → MovesOutTags from (to - from) ts us
 tags_skip from at to ts us begun le dead c = record {
   same_length = c.same_length;
   inside = λ p a b. elim (cases_lt p at) [
@@ -40,11 +40,11 @@ tags_skip from at to ts us begun le dead c = record {
   outside = λ p h. c.outside p (elim h [ inl a ↦ inl a | inr b ↦ inr (omega arith) ]);
 }
 
-tags_step : (from at : ℕ) (ts us : List ℕ) → from ≤ at → at < length us → 128 ≤ get_or ts at 0 → CarriesTags from (at - from) ts us → CarriesTags from (at + 1 - from) ts (slice_set us at 2)
+tags_step : (from at : ℕ) (ts us : List ℕ) → from ≤ at → at < length us → 128 ≤ get_or ts at 0 → MovesOutTags from (at - from) ts us → MovesOutTags from (at + 1 - from) ts (slice_set us at 2)
 tags_step from at ts us begun within high c = record {
   same_length = length-set us at 2 ∙ c.same_length;
   inside = λ p a b. elim (cases_eq p at) [
-    | inl here ↦ ap (λ q. get_or (slice_set us at 2) q 0) here ∙ get_or-set_same us at 2 0 within ∙ sym (high_tag (get_or ts at 0) high) ∙ sym (ap (λ q. carried_tag (get_or ts q 0)) here)
+    | inl here ↦ ap (λ q. get_or (slice_set us at 2) q 0) here ∙ get_or-set_same us at 2 0 within ∙ sym (high_tag (get_or ts at 0) high) ∙ sym (ap (λ q. moved_tag (get_or ts q 0)) here)
     | inr other ↦ get_or-set_other us at p 2 0 other ∙ c.inside p a (omega arith)
   ];
   outside = λ p h.
@@ -55,10 +55,10 @@ tags_step from at ts us begun within high c = record {
 module _ {T : Type 0} (eq : T → T → Bool) (hash : T → ℕ) where
   -- nothing is carried yet
   pub none_carried : (from : ℕ) (newer older : Kept T) → is_kept eq newer → is_kept eq older → AreApart eq (slots_of older.tags older.cells) (slots_of newer.tags newer.cells)
-      → IsReached hash (columns newer.tags newer.cells) → IsCarried eq hash from (from - from) newer older newer older
+      → IsReached hash (columns newer.tags newer.cells) → IsCarry eq hash from (from - from) newer older newer older
   none_carried from newer older stays older_stays apart reached =
       let e : 0 ≡ from - from = omega arith in
-      subst (λ k. IsCarried eq hash from k newer older newer older) e (record {
+      subst (λ k. IsCarry eq hash from k newer older newer older) e (record {
         stays = stays;
         older_stays = older_stays;
         tags = record { same_length = refl; inside = λ p a b. absurd (omega arith); outside = λ p h. refl };
@@ -73,7 +73,7 @@ module _ {T : Type 0} (eq : T → T → Bool) (hash : T → ℕ) where
         older_reached = λ h r. r;
       })
 
-  module _ (laws : IsEquivalence eq) (from at : ℕ) (newer older a b : Kept T) (begun : from ≤ at) (c : IsCarried eq hash from (at - from) newer older a b) where
+  module _ (laws : IsEquivalence eq) (from at : ℕ) (newer older a b : Kept T) (begun : from ≤ at) (c : IsCarry eq hash from (at - from) newer older a b) where
     -- a tag that wasn't come to
     tag_ahead : (q : ℕ) → at ≤ q → get_or b.tags q 0 ≡ get_or older.tags q 0
     tag_ahead q le = c.tags.outside q (inr (omega arith))
@@ -96,7 +96,7 @@ module _ {T : Type 0} (eq : T → T → Bool) (hash : T → ℕ) where
         omega arith
 
     -- slots that are not Live are passed
-    pub skip_carried : (to : ℕ) → at ≤ to → to ≤ length older.tags → ((q : ℕ) → at ≤ q → q < to → get_or older.tags q 0 < 128) → IsCarried eq hash from (to - from) newer older a b
+    pub skip_carried : (to : ℕ) → at ≤ to → to ≤ length older.tags → ((q : ℕ) → at ≤ q → q < to → get_or older.tags q 0 < 128) → IsCarry eq hash from (to - from) newer older a b
     skip_carried to le within dead =
         let passed = skip_to hash from at to (slots_of older.tags older.cells) (slots_of b.tags b.cells) (slots_of newer.tags newer.cells) (slots_of a.tags a.cells) begun le
         (let l = old_length in let k = c.tags.same_length in omega arith)
@@ -120,7 +120,7 @@ module _ {T : Type 0} (eq : T → T → Bool) (hash : T → ℕ) where
     pub carry_here : at < length older.tags → 128 ≤ get_or older.tags at 0 → (e : T × ℕ) → get_or b.cells at None ≡ Some e
         → (new : Kept T) → is_kept eq new → new.live ≡ a.live + 1 → new.removed ≤ a.removed → length new.tags ≡ length a.tags
         → PlacesFirst hash e.0 e.1 (slots_of a.tags a.cells) (slots_of new.tags new.cells) → IsReached hash (columns new.tags new.cells)
-        → IsCarried eq hash from (at + 1 - from) newer older new (kept (slice_set b.tags at 2) (slice_set b.cells at None) (b.live - 1) b.removed)
+        → IsCarry eq hash from (at + 1 - from) newer older new (kept (slice_set b.tags at 2) (slice_set b.cells at None) (b.live - 1) b.removed)
     carry_here within high e cell new stays one fewer same put reached =
         let ss = slots_of older.tags older.cells in let mid = slots_of b.tags b.cells in
         let here : slot_at mid at ≡ Live e.0 e.1 = live_at b.tags b.cells c.older_stays.agree at e cell in

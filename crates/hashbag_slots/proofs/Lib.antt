@@ -1,4 +1,4 @@
-pub mod Bits
+pub mod GroupLemmas
 pub mod CarriedOver
 pub mod Carrying
 pub mod Edits
@@ -7,7 +7,7 @@ pub mod Maps
 pub mod Paths
 pub mod Probing
 pub mod Reading
-pub mod Rooms
+pub mod Blocks
 pub mod Sixteen
 pub mod Strides
 pub mod Tables

@@ -10,9 +10,9 @@ use Rattle.hashbag_slots.specs.declared.slots.Slot.{Slot}
 use Rattle.hashbag_slots.specs.declared.slots.Slot.TheVariants.{Empty, Removed, Moved, Live}
 use Rattle.hashbag_slots.specs.Columns.{IsNextMark, Agree, slot_of, slots_of, tag_at}
 use Rattle.hashbag_slots.specs.Cells.{cell_at}
-use Rattle.hashbag_slots.specs.Lanes.{Tells, from_on}
+use Rattle.hashbag_slots.specs.Group.{IsMaskOf, from_place_on}
 use Rattle.hashbag_slots.specs.Walks.{entries_from, IsWalk, IsAhead}
-use Rattle.hashbag_slots.proofs.Bits.{no_bit, from_on-before}
+use Rattle.hashbag_slots.proofs.GroupLemmas.{no_bit, from_place_on-before}
 use Rattle.hashbag_slots.proofs.Reading.{IsNextLive, next_slot, live_at, dead_at}
 use Rattle.hashbag_slots.proofs.Writing.{set-slots_of, Agree-empty}
 use Rattle.hashbag_slots.specs.Slots.{is_live, live_count, slot_at, entries}
@@ -86,8 +86,8 @@ is_mark ts p = leb 128 (tag_at ts p)
 pub IsAhead-none : (ts : List ℕ) (next : ℕ) → next ≤ length ts → IsAhead ts next next 0
 IsAhead-none ts next within = record {
   told = λ i. bit_at-zero i ∙ sym (elim (cases_lt (next - 16 + i) next) [
-    | inl lt ↦ ap (λ b. cond (ltb (next - 16 + i) next) (cond b 1 0) 0) (from_on-before (is_mark ts) next (next - 16 + i) lt) ∙ no_bit (ltb (next - 16 + i) next)
-    | inr ge ↦ ap (λ b. cond b (cond (from_on (is_mark ts) next (next - 16 + i)) 1 0) 0) (le-ltb (next - 16 + i) next ge)
+    | inl lt ↦ ap (λ b. cond (ltb (next - 16 + i) next) (cond b 1 0) 0) (from_place_on-before (is_mark ts) next (next - 16 + i) lt) ∙ no_bit (ltb (next - 16 + i) next)
+    | inr ge ↦ ap (λ b. cond b (cond (from_place_on (is_mark ts) next (next - 16 + i)) 1 0) 0) (le-ltb (next - 16 + i) next ge)
   ]);
   whole = λ some. absurd (omega arith);
   from = omega arith;
@@ -100,10 +100,10 @@ module _ (ts : List ℕ) (next base until place : ℕ) (sixteen : base + 16 ≡ 
   pub IsNextMark-told : IsNextMark ts next place
   IsNextMark-told = (first.low, omega arith, leb-true 128 (tag_at ts place) (first.hit below), λ q a b. leb-false 128 (tag_at ts q) (first.before q a b))
 
-  pub IsAhead-behind : (rest : ℕ) → Tells (from_on (is_mark ts) (place + 1)) base until rest → IsAhead ts (place + 1) until rest
+  pub IsAhead-behind : (rest : ℕ) → IsMaskOf (from_place_on (is_mark ts) (place + 1)) base until rest → IsAhead ts (place + 1) until rest
   IsAhead-behind rest tells =
       let low = first.low in let back : base ≡ until - 16 = omega arith in record {
-        told = subst (λ b. Tells (from_on (is_mark ts) (place + 1)) b until rest) back tells;
+        told = subst (λ b. IsMaskOf (from_place_on (is_mark ts) (place + 1)) b until rest) back tells;
         whole = λ some. omega arith;
         from = omega arith;
         near = omega arith;

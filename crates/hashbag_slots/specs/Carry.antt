@@ -4,13 +4,13 @@ use Rattle.hashbag_slots.specs.Slots.{PlacesAll, Carries, entries_in, AreApart}
 use Rattle.hashbag_slots.specs.Columns.{tag_at, columns, slots_of, IsReached, IsColumns}
 
 -- the tag of a slot that was carried: 2, Moved, where it was Live
-abbrev pub carried_tag : ℕ → ℕ
-carried_tag t = if nat_le 128 t then 2 else t
+abbrev pub moved_tag : ℕ → ℕ
+moved_tag t = if nat_le 128 t then 2 else t
 
 -- the tags of so many slots from the place `from` on are those of carried ones, and all others are as they were
-pub record CarriesTags (from many : ℕ) (old new : List ℕ) : Type 0 where
+pub record MovesOutTags (from many : ℕ) (old new : List ℕ) : Type 0 where
   pub same_length : length new ≡ length old
-  pub inside : (p : ℕ) → from ≤ p → p < from + many → tag_at new p ≡ carried_tag (tag_at old p)
+  pub inside : (p : ℕ) → from ≤ p → p < from + many → tag_at new p ≡ moved_tag (tag_at old p)
   pub outside : (p : ℕ) → (p < from) ⊎ (from + many ≤ p) → tag_at new p ≡ tag_at old p
 
 -- all that a table keeps: its tags and cells, and how many of its slots are Live, and how many Removed
@@ -28,10 +28,10 @@ module _ {T : Type 0} where
   is_kept eq k = IsColumns eq k.tags k.cells k.live k.removed
 
   -- so many slots of the older table, from the place `from` on, are carried into the newer one
-  pub record IsCarried (eq : T → T → Bool) (hash : T → ℕ) (from many : ℕ) (newer older newer' older' : Kept T) : Type 0 where
+  pub record IsCarry (eq : T → T → Bool) (hash : T → ℕ) (from many : ℕ) (newer older newer' older' : Kept T) : Type 0 where
     pub stays : is_kept eq newer'
     pub older_stays : is_kept eq older'
-    pub tags : CarriesTags from many older.tags older'.tags
+    pub tags : MovesOutTags from many older.tags older'.tags
     pub placed : PlacesAll hash (entries_in from many (slots_of older.tags older.cells)) (slots_of newer.tags newer.cells) (slots_of newer'.tags newer'.cells)
     pub left : Carries from many (slots_of older.tags older.cells) (slots_of older'.tags older'.cells)
     pub apart : AreApart eq (slots_of older'.tags older'.cells) (slots_of newer'.tags newer'.cells)

@@ -2,8 +2,9 @@ pub mod Carry
 pub mod Cells
 pub mod Columns
 pub mod Examples
+pub mod FirstGroup
 pub mod Hashing
-pub mod Lanes
+pub mod Group
 pub mod Owning
 pub mod Slots
 pub mod Stores

@@ -2,17 +2,17 @@
 use Rattle.std.specs.Prelude.{◌≡◌, List, [], replicate, Option, None, ⊤}
 use Rattle.std.specs.declared.alloc.Global.{Global}
 use Rattle.hashbag_slots.specs.declared.cells.Store.{Store}
-use Rattle.hashbag_slots.specs.declared.cells.Store.TheVariants.{Nothing, Bare, Open}
+use Rattle.hashbag_slots.specs.declared.cells.Store.TheVariants.{Nothing, Unwritten, Written}
 
 module _ {T : Type 0} where
   -- the cells that a store means
   abbrev pub cells_of : Store T → List (Option T)
   cells_of Nothing = []
-  cells_of (Bare room claim) = replicate room.len None
-  cells_of (Open opened) = opened
+  cells_of (Unwritten block deed) = replicate block.len None
+  cells_of (Written row) = row
 
-  -- the claim of a store's room is the one to its own memory, at that allocator. A row in hand has its own
+  -- the deed of a store's block is the one to its own memory, at that allocator. A row has its own
   abbrev pub IsStore : Global → Store T → Type 0
   IsStore alloc Nothing = ⊤
-  IsStore alloc (Bare room claim) = (claim.at ≡ room.ptr) × (claim.len ≡ room.len) × (claim.alloc ≡ alloc)
-  IsStore alloc (Open opened) = ⊤
+  IsStore alloc (Unwritten block deed) = (deed.at ≡ block.ptr) × (deed.len ≡ block.len) × (deed.alloc ≡ alloc)
+  IsStore alloc (Written row) = ⊤

@@ -7,19 +7,19 @@ ghost use Rattle.std.specs.declared.alloc.Global.{Global as Heap};
 ghost use Rattle.hashbag_slots.specs.Cells.{cell_at, IsFilled, IsBlank};
 ghost use Rattle.hashbag_slots.specs.Stores.{cells_of, IsStore};
 
-use crate::opened::Opened;
-use crate::room::{Claim, Room, release, reserve};
+use crate::block::{Block, Deed, allocate, release};
+use crate::row::Row;
 use core::mem::{replace, replace_with};
 use std::alloc::{AllocError, Global};
 use std::marker::Model;
 use std_alloc::room::may_hold;
 
-/// Where cells lie: nowhere, in room of which nothing was used yet, or in a row of places, which the room becomes with the
+/// Where cells lie: nowhere, in a block of which nothing was written yet, or in a row of places, which the block becomes with the
 /// first value.
 pub enum Store<T> {
     Nothing,
-    Bare(Room<T>, Claim<T, Global>),
-    Open(Opened<T>),
+    Unwritten(Block<T>, Deed<T, Global>),
+    Written(Row<T>),
 }
 
 /// A row of cells. Contracts see the list of them: each cell's value, or `None` where it is empty.
@@ -41,7 +41,7 @@ impl<T> Model for Cells<T> {
     ghost invariant = { λ c. IsStore c.alloc c.store };
 }
 
-// Puts a value into an empty cell. Room becomes a row of places here.
+// Puts a value into an empty cell. A block becomes a row of places here.
 fn put_into<T>(store: Store<T>, cell: (usize, T, Global)) -> (Store<T>, ())
     requires within { cell.0 < length (cells_of store) }
     requires empty { cell_at (cells_of store) cell.0 ≡ None }
@@ -50,13 +50,13 @@ fn put_into<T>(store: Store<T>, cell: (usize, T, Global)) -> (Store<T>, ())
     ensures store { (alloc : Heap) → IsStore alloc result.0 }
 {
     let (place, value, alloc) = cell;
-    let mut opened = match store {
-        Store::Bare(room, claim) => Opened::new(room.open(&value), claim, alloc),
-        Store::Open(opened) => opened,
+    let mut row = match store {
+        Store::Unwritten(block, deed) => Row::new(block.into_row(&value), deed, alloc),
+        Store::Written(row) => row,
         Store::Nothing => unreachable!(),
     };
-    opened.put(place, value);
-    (Store::Open(opened), ())
+    row.put(place, value);
+    (Store::Written(row), ())
 }
 
 impl<T> Cells<T> {
@@ -75,9 +75,9 @@ impl<T> Cells<T> {
         if !may_hold::<T>(count) {
             return Err(AllocError);
         }
-        let (room, claim) = reserve(&alloc, count)?;
+        let (block, deed) = allocate(&alloc, count)?;
         Ok(Cells {
-            store: Store::Bare(room, claim),
+            store: Store::Unwritten(block, deed),
             alloc,
         })
     }
@@ -89,8 +89,8 @@ impl<T> Cells<T> {
         ensures { cell_at self.now place ≡ Some result.now }
     {
         match &self.store {
-            Store::Open(opened) => opened.get(place),
-            Store::Nothing | Store::Bare(_, _) => unreachable!(),
+            Store::Written(row) => row.get(place),
+            Store::Nothing | Store::Unwritten(_, _) => unreachable!(),
         }
     }
 
@@ -101,8 +101,8 @@ impl<T> Cells<T> {
         requires empty { cell_at self.old place ≡ None }
         ensures { self.new ≡ slice_set self.old place (Some value) }
     {
-        if let Store::Open(opened) = &mut self.store {
-            opened.put(place, value);
+        if let Store::Written(row) = &mut self.store {
+            row.put(place, value);
             return;
         }
         replace_with(&mut self.store, (place, value, self.alloc), put_into);
@@ -116,32 +116,32 @@ impl<T> Cells<T> {
         ensures after { self.new ≡ slice_set self.old place None }
     {
         match &mut self.store {
-            Store::Open(opened) => opened.take(place),
-            Store::Nothing | Store::Bare(_, _) => unreachable!(),
+            Store::Written(row) => row.take(place),
+            Store::Nothing | Store::Unwritten(_, _) => unreachable!(),
         }
     }
 
-    /// Takes the row of cells into hand, where a value is in one of them. None are left here.
+    /// Takes the row of cells out, where a value is in one of them. None are left here.
     #[inline(always)]
-    pub fn open(&mut self) -> Opened<T>
+    pub fn take_row(&mut self) -> Row<T>
         requires { (p : ℕ) × IsFilled self.old p }
         ensures value { result ≡ self.old }
         ensures after { self.new ≡ [] }
     {
         match replace(&mut self.store, Store::Nothing) {
-            Store::Open(opened) => opened,
+            Store::Written(row) => row,
             _store => unreachable!(),
         }
     }
 
-    /// Puts cells that were in hand in the place of these, of which each is empty.
+    /// Puts a row that was taken out in the place of these cells, of which each is empty.
     #[inline(always)]
-    pub fn close(&mut self, opened: Opened<T>)
+    pub fn put_back(&mut self, row: Row<T>)
         requires { IsBlank self.old }
-        ensures { self.new ≡ opened }
+        ensures { self.new ≡ row }
     {
         let alloc = self.alloc;
-        let store = Store::Open(opened);
+        let store = Store::Written(row);
         replace(self, Cells { store, alloc }).free();
     }
 
@@ -152,8 +152,8 @@ impl<T> Cells<T> {
         let Cells { store, alloc } = self;
         match store {
             Store::Nothing => {}
-            Store::Bare(room, claim) => release(&alloc, room, claim),
-            Store::Open(opened) => opened.free(),
+            Store::Unwritten(block, deed) => release(&alloc, block, deed),
+            Store::Written(row) => row.free(),
         }
     }
 }

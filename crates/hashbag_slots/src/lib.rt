@@ -5,12 +5,13 @@
 //! design.
 #![tactic(auto)]
 
-mod carry;
+mod block;
 mod cells;
+mod group;
 pub mod key;
-mod lanes;
-mod opened;
-mod room;
+mod live;
+pub mod probe;
+mod row;
 pub mod slots;
 mod tags;
 pub mod walk;

@@ -10,16 +10,19 @@
 ghost use Rattle.std.specs.Prelude.{◌≡◌, ℕ, ◌+◌, ◌<◌, ◌≤◌, ◌^◌, length, true, false, IfSome, IfNone, IfOk, IfErr, IsOk, OnErr, replicate, slice_set, ◌∷◌, [], Some};
 ghost use Rattle.std.specs.Map.{lookup_entry};
 ghost use Rattle.std.specs.Option.{option_map};
+ghost use Rattle.hashbag_slots.specs.FirstGroup.{IfFound, IfAbsent};
 ghost use Rattle.hashbag_slots.specs.Hashing.{hash_under};
-ghost use Rattle.hashbag_slots.specs.Slots.{IsSlotCount, is_live, holds, live_count, removed_count, slot_at, HoldsAt, IsAbsent, IsFirstFree, IsSet, slot_entry, entry_at, entries, recounted, raised, count_in, Places, PlacesAll, carried, Carries, entries_in, AreApart};
+ghost use Rattle.hashbag_slots.specs.Slots.{IsSlotCount, is_live, holds, live_count, removed_count, slot_at, HoldsAt, IsAbsent, IsFirstFree, IsSet, slot_entry, entry_at, entries, recounted, raised, count_in, Places};
 ghost use Rattle.hashbag_slots.specs.Columns.{IsReached, IsAlike};
 
+mod carry;
 pub mod keys;
 
-use crate::carry::carry_lanes;
 use crate::cells::Cells;
-use crate::lanes::LANES;
-use crate::tags::{LEAST_MARK, MOVED, REMOVED, drop_values, empty_tags, free_place, mark_of};
+use crate::live::clear_all;
+pub use crate::probe::FirstGroup;
+use crate::probe::first_free;
+use crate::tags::{LEAST_MARK, REMOVED, empty_tags, mark_of};
 use crate::walk::{IntoWalk, Walk};
 use std::alloc::{AllocError, Global};
 use std::hash::{BuildHasher, Hash};
@@ -78,7 +81,7 @@ impl<T: Eq + Drop> Drop for Slots<T> {
             removed: _,
         } = self;
         if live > 0 {
-            drop_values(tags.as_mut_slice(), &mut cells);
+            clear_all(tags.as_mut_slice(), &mut cells);
         }
         cells.free();
     }
@@ -220,33 +223,9 @@ impl<T: Eq> Slots<T> {
         ensures slots { self.new.slots ≡ replicate (length self.old.slots) Slot.Empty }
         ensures reached { (hash : T → ℕ) → IsReached hash self.new }
     {
-        drop_values(self.tags.as_mut_slice(), &mut self.cells);
+        clear_all(self.tags.as_mut_slice(), &mut self.cells);
         self.live = 0;
         self.removed = 0;
-    }
-
-    // Whether the slot at a place is Live.
-    #[inline(always)]
-    fn is_live_at(&self, place: usize) -> bool
-        requires { place < length self.now.slots }
-        ensures live { result ≡ is_live (slot_at self.now.slots place) }
-        ensures distinct { IsSet T.eq self.now.slots }
-    {
-        self.tags[place] >= LEAST_MARK
-    }
-
-    // Takes the value at a place out, and leaves Moved.
-    #[inline(always)]
-    fn move_at(&mut self, place: usize) -> (T, usize)
-        requires { is_live (slot_at self.old.slots place) ≡ true }
-        ensures taken { slot_at self.old.slots place ≡ Slot.Live result.0 result.1 }
-        ensures counted { 0 < result.1 }
-        ensures after { self.new.slots ≡ slice_set self.old.slots place Slot.Moved }
-        ensures reached { (hash : T → ℕ) → IsReached hash self.old → IsReached hash self.new }
-    {
-        self.tags[place] = MOVED;
-        self.live -= 1;
-        self.cells.take(place)
     }
 
     /// Walks over the values, lent, each with its count.
@@ -313,7 +292,7 @@ impl<T: Eq + Hash> Slots<T> {
     /// As `find_hashed`, where no slot before the place `from` is Live: a path that meets an Empty slot before that place ends there,
     /// so that most paths that begin before it are not gone along.
     #[inline(always)]
-    pub fn find_behind<S: BuildHasher>(
+    pub fn find_uncarried<S: BuildHasher>(
         &self,
         state: &S,
         hash: u64,
@@ -328,27 +307,21 @@ impl<T: Eq + Hash> Slots<T> {
         ensures absent { IfNone result (IsAbsent (λ v. T.eq v value.now) self.now.slots) }
         ensures map { entry_at self.now.slots result ≡ lookup_entry (λ v. T.eq v value.now) (entries self.now.slots) }
     {
-        self.find_key_behind(state, hash, value, from)
+        self.find_key_uncarried(state, hash, value, from)
     }
 
-    /// What the first 16 slots on the path of a value's hash tell, which is handed in: in `Ok` the place of the Live slot with an
-    /// equal value, in `Err`, where the value is absent, the first place whose slot is not Live, into which `place_at` puts it.
-    /// `None` where they don't tell, or where the table ends before the sixteenth: `find_hashed` then does.
+    /// What the first 16 slots on the path of a value's hash show, which is handed in: the place of the slot with an equal value, or, if
+    /// the value is absent, the place into which `place_at` puts it. If it is `Open`, `find_hashed` knows.
     #[inline(always)]
-    pub fn seek_near<S: BuildHasher>(
-        &self,
-        state: &S,
-        hash: u64,
-        value: &T,
-    ) -> Option<Result<usize, usize>>
+    pub fn probe_first_group<S: BuildHasher>(&self, state: &S, hash: u64, value: &T) -> FirstGroup
         requires hashed { hash ≡ hash_under T.hash_input S.BuildHasher S.Hasher.Hasher state.now value.now }
         requires reached { IsReached (hash_under T.hash_input S.BuildHasher S.Hasher.Hasher state.now) self.now }
-        ensures found { IfSome result (λ known. IfOk known (HoldsAt (λ v. T.eq v value.now) self.now.slots)) }
-        ensures absent { IfSome result (λ known. OnErr known (IsAbsent (λ v. T.eq v value.now) self.now.slots)) }
-        ensures free { IfSome result (λ known. IfErr known (IsFirstFree hash self.now.slots)) }
-        ensures map { IfSome result (λ known. IfOk known (λ p. entry_at self.now.slots (Some p) ≡ lookup_entry (λ v. T.eq v value.now) (entries self.now.slots))) }
+        ensures found { IfFound result (HoldsAt (λ v. T.eq v value.now) self.now.slots) }
+        ensures absent { IfAbsent result (λ _. IsAbsent (λ v. T.eq v value.now) self.now.slots) }
+        ensures free { IfAbsent result (IsFirstFree hash self.now.slots) }
+        ensures map { IfFound result (λ p. entry_at self.now.slots (Some p) ≡ lookup_entry (λ v. T.eq v value.now) (entries self.now.slots)) }
     {
-        self.seek_key_near(state, hash, value)
+        self.probe_key_first_group(state, hash, value)
     }
 
     /// Puts in an absent value with the count `n`. It goes into the first slot on its path that is not Live, and all others
@@ -375,7 +348,7 @@ impl<T: Eq + Hash> Slots<T> {
         requires room { live_count self.now.slots < length self.now.slots }
         ensures free { IsFirstFree hash self.now.slots result }
     {
-        free_place(self.tags.as_slice(), hash)
+        first_free(self.tags.as_slice(), hash)
     }
 
     /// As `place`, of a value whose hash under the state is handed in: it hashes nothing.
@@ -419,102 +392,5 @@ impl<T: Eq + Hash> Slots<T> {
         self.tags[place] = mark_of(hash);
         self.cells.put(place, (value, n));
         self.live += 1;
-    }
-
-    // Carries what is in one slot of the older table: a Live value is placed here, and becomes Moved there.
-    #[inline(always)]
-    fn carry_one<S: BuildHasher>(&mut self, state: &S, older: &mut Slots<T>, at: usize)
-        requires within { at < length older.old.slots }
-        requires apart { AreApart T.eq older.old.slots self.old.slots }
-        requires room { live_count self.old.slots + live_count older.old.slots ≤ length self.old.slots }
-        requires reached { IsReached (hash_under T.hash_input S.BuildHasher S.Hasher.Hasher state.now) self.old }
-        ensures placed { PlacesAll (hash_under T.hash_input S.BuildHasher S.Hasher.Hasher state.now) (entries (slot_at older.old.slots at ∷ [])) self.old.slots self.new.slots }
-        ensures left { older.new.slots ≡ slice_set older.old.slots at (carried (slot_at older.old.slots at)) }
-        ensures apart { AreApart T.eq older.new.slots self.new.slots }
-        ensures kept { live_count self.new.slots + live_count older.new.slots ≡ live_count self.old.slots + live_count older.old.slots }
-        ensures removed { removed_count self.new.slots ≤ removed_count self.old.slots }
-        ensures slots { length self.new.slots ≡ length self.old.slots }
-        ensures reached { IsReached (hash_under T.hash_input S.BuildHasher S.Hasher.Hasher state.now) self.new }
-        ensures older_reached { (hash : T → ℕ) → IsReached hash older.old → IsReached hash older.new }
-    {
-        if older.is_live_at(at) {
-            let (value, n) = older.move_at(at);
-            self.place(state, value, n);
-        }
-    }
-
-    // Carries 16 slots of an older table, from the place `from` on.
-    #[inline(always)]
-    fn carry_sixteen<S: BuildHasher>(&mut self, state: &S, older: &mut Slots<T>, from: usize)
-        requires within { from + 16 ≤ length older.old.slots }
-        requires some { 0 < live_count self.old.slots }
-        requires waiting { 0 < live_count older.old.slots }
-        requires apart { AreApart T.eq older.old.slots self.old.slots }
-        requires room { live_count self.old.slots + live_count older.old.slots ≤ length self.old.slots }
-        requires reached { IsReached (hash_under T.hash_input S.BuildHasher S.Hasher.Hasher state.now) self.old }
-        ensures placed { PlacesAll (hash_under T.hash_input S.BuildHasher S.Hasher.Hasher state.now) (entries_in from 16 older.old.slots) self.old.slots self.new.slots }
-        ensures left { Carries from 16 older.old.slots older.new.slots }
-        ensures apart { AreApart T.eq older.new.slots self.new.slots }
-        ensures kept { live_count self.new.slots + live_count older.new.slots ≡ live_count self.old.slots + live_count older.old.slots }
-        ensures removed { removed_count self.new.slots ≤ removed_count self.old.slots }
-        ensures slots { length self.new.slots ≡ length self.old.slots }
-        ensures reached { IsReached (hash_under T.hash_input S.BuildHasher S.Hasher.Hasher state.now) self.new }
-        ensures older_reached { (hash : T → ℕ) → IsReached hash older.old → IsReached hash older.new }
-    {
-        let mut cells = self.cells.open();
-        let mut older_cells = older.cells.open();
-        let counts = (self.live, older.live);
-        let (live, left) = carry_lanes(
-            self.tags.as_mut_slice(),
-            &mut cells,
-            counts,
-            &mut self.removed,
-            older.tags.as_mut_slice(),
-            &mut older_cells,
-            state,
-            from,
-        );
-        self.live = live;
-        older.live = left;
-        self.cells.close(cells);
-        older.cells.close(older_cells);
-    }
-
-    /// Carries `many` slots of an older table, from the place `from` on: each Live value is placed here as by `place`, with its
-    /// count, and its slot becomes Moved there. All other slots of both tables stay as they are.
-    ///
-    /// It hashes and probes once for each value that it carries. No value is Live in both tables, and all of them fit here.
-    pub fn carry_from<S: BuildHasher>(
-        &mut self,
-        state: &S,
-        older: &mut Slots<T>,
-        from: usize,
-        many: usize,
-    )
-        requires within { from + many ≤ length older.old.slots }
-        requires apart { AreApart T.eq older.old.slots self.old.slots }
-        requires room { live_count self.old.slots + live_count older.old.slots ≤ length self.old.slots }
-        requires reached { IsReached (hash_under T.hash_input S.BuildHasher S.Hasher.Hasher state.now) self.old }
-        ensures placed { PlacesAll (hash_under T.hash_input S.BuildHasher S.Hasher.Hasher state.now) (entries_in from many older.old.slots) self.old.slots self.new.slots }
-        ensures left { Carries from many older.old.slots older.new.slots }
-        ensures apart { AreApart T.eq older.new.slots self.new.slots }
-        ensures kept { live_count self.new.slots + live_count older.new.slots ≡ live_count self.old.slots + live_count older.old.slots }
-        ensures removed { removed_count self.new.slots ≤ removed_count self.old.slots }
-        ensures slots { length self.new.slots ≡ length self.old.slots }
-        ensures reached { IsReached (hash_under T.hash_input S.BuildHasher S.Hasher.Hasher state.now) self.new }
-        ensures older_reached { (hash : T → ℕ) → IsReached hash older.old → IsReached hash older.new }
-    {
-        older.recall();
-        let end = from + many;
-        let mut at = from;
-        'places: while at < end {
-            if end - at >= LANES && self.live > 0 && older.live > 0 {
-                self.carry_sixteen(state, older, at);
-                at += LANES;
-            } else {
-                self.carry_one(state, older, at);
-                at += 1;
-            }
-        }
     }
 }

@@ -7,7 +7,8 @@ ghost use Rattle.std.specs.Iterator.{YieldsFirst, YieldsFirstBy, item_count, at_
 ghost use Rattle.std.specs.Iterator.SizeHint.{IsWithinCount};
 
 use crate::cells::Cells;
-use crate::tags::{REMOVED, drop_values, next_mark, next_mark_ahead};
+use crate::live::{clear_all, next_live, next_live_after};
+use crate::tags::REMOVED;
 use std::alloc::AllocError;
 use std::iter::ExactSizeIterator;
 use std::marker::Model;
@@ -63,7 +64,7 @@ impl<'a, T> Iterator for Walk<'a, T> {
 
     #[inline(always)]
     fn next(&mut self) -> Option<(&'a T, usize)> {
-        match next_mark_ahead(self.tags, self.next, self.ahead, self.until) {
+        match next_live_after(self.tags, self.next, self.ahead, self.until) {
             Some((place, ahead, until)) => {
                 let entry = self.cells.get(place);
                 self.next = place + 1;
@@ -120,7 +121,7 @@ impl<T: Drop> Drop for IntoWalk<T> {
             next: _,
             left: _,
         } = self;
-        drop_values(tags.as_mut_slice(), &mut cells);
+        clear_all(tags.as_mut_slice(), &mut cells);
         cells.free();
     }
 }
@@ -133,7 +134,7 @@ impl<T: Drop> Iterator for IntoWalk<T> {
     ghost remaining = { item_count (λ s. s) };
 
     fn next(&mut self) -> Option<(T, usize)> {
-        match next_mark(self.tags.as_slice(), self.next) {
+        match next_live(self.tags.as_slice(), self.next) {
             Some(place) => {
                 self.next = place + 1;
                 self.left -= 1;

@@ -1,13 +1,14 @@
 //! Look-ups by keys: by a value that is lent, or by what names it.
 ghost use Rattle.std.specs.Prelude.{◌≡◌, ℕ, ◌<◌, ◌≤◌, length, false, IfSome, IfNone, IfOk, IfErr, OnErr, Some};
 ghost use Rattle.std.specs.Map.{lookup_entry};
+ghost use Rattle.hashbag_slots.specs.FirstGroup.{IfFound, IfAbsent};
 ghost use Rattle.hashbag_slots.specs.Hashing.{hash_under};
 ghost use Rattle.hashbag_slots.specs.Slots.{is_live, slot_at, HoldsAt, IsAbsent, IsFirstFree, entry_at, entries};
 ghost use Rattle.hashbag_slots.specs.Columns.{IsReached};
 
 use crate::key::Key;
+use crate::probe::{FirstGroup, find_place, is_empty_before, probe_first_group};
 use crate::slots::Slots;
-use crate::tags::{ends_before, find_place, look_near};
 use std::hash::{BuildHasher, Hash};
 
 /// The 64-bit hash of a key under a state.
@@ -37,7 +38,7 @@ impl<T: Eq + Hash> Slots<T> {
     /// As `find_key`, where no slot before the place `from` is Live: a path that meets an Empty slot before that place ends there,
     /// so that most paths that begin before it are not gone along.
     #[inline(always)]
-    pub fn find_key_behind<S: BuildHasher, Q: Key<T>>(
+    pub fn find_key_uncarried<S: BuildHasher, Q: Key<T>>(
         &self,
         state: &S,
         hash: u64,
@@ -52,7 +53,7 @@ impl<T: Eq + Hash> Slots<T> {
         ensures absent { IfNone result (IsAbsent (Q.names key) self.now.slots) }
         ensures map { entry_at self.now.slots result ≡ lookup_entry (Q.names key) (entries self.now.slots) }
     {
-        if ends_before(self.tags.as_slice(), hash, from) {
+        if is_empty_before(self.tags.as_slice(), hash, from) {
             return None;
         }
         self.find_key(state, hash, key)
@@ -62,19 +63,19 @@ impl<T: Eq + Hash> Slots<T> {
     /// the key names, in `Err`, where there is none, the first place whose slot is not Live, into which `place_at` puts it.
     /// `None` where they don't tell, or where the table ends before the sixteenth: `find_key` then does.
     #[inline(always)]
-    pub fn seek_key_near<S: BuildHasher, Q: Key<T>>(
+    pub fn probe_key_first_group<S: BuildHasher, Q: Key<T>>(
         &self,
         state: &S,
         hash: u64,
         key: Q,
-    ) -> Option<Result<usize, usize>>
+    ) -> FirstGroup
         requires hashed { hash ≡ hash_under Q.hash_input S.BuildHasher S.Hasher.Hasher state.now key }
         requires reached { IsReached (hash_under T.hash_input S.BuildHasher S.Hasher.Hasher state.now) self.now }
-        ensures found { IfSome result (λ known. IfOk known (HoldsAt (Q.names key) self.now.slots)) }
-        ensures absent { IfSome result (λ known. OnErr known (IsAbsent (Q.names key) self.now.slots)) }
-        ensures free { IfSome result (λ known. IfErr known (IsFirstFree hash self.now.slots)) }
-        ensures map { IfSome result (λ known. IfOk known (λ p. entry_at self.now.slots (Some p) ≡ lookup_entry (Q.names key) (entries self.now.slots))) }
+        ensures found { IfFound result (HoldsAt (Q.names key) self.now.slots) }
+        ensures absent { IfAbsent result (λ _. IsAbsent (Q.names key) self.now.slots) }
+        ensures free { IfAbsent result (IsFirstFree hash self.now.slots) }
+        ensures map { IfFound result (λ p. entry_at self.now.slots (Some p) ≡ lookup_entry (Q.names key) (entries self.now.slots)) }
     {
-        look_near(self.tags.as_slice(), &self.cells, state, hash, key)
+        probe_first_group(self.tags.as_slice(), &self.cells, state, hash, key)
     }
 }

@@ -2,38 +2,38 @@ use Rattle.std.proofs.Common.{◌≡◌, ◌<◌, length, Some, None, get_or, sy
 use Rattle.hashbag_slots.specs.Cells.{filled_values}
 use Rattle.hashbag_slots.specs.Stores.{cells_of}
 use Rattle.hashbag_slots.proofs.Values.{no-filled_values}
-use Rattle.hashbag_slots.proofs.cells.put_into.Goals.{in-Bare, in-Open}
+use Rattle.hashbag_slots.proofs.cells.put_into.Goals.{in-Unwritten, in-Written}
 use Rattle.hashbag_slots.proofs.cells.put_into.Goals as goal
 
 pub put-requires-clause-within : goal.put-requires-clause-within
 put-requires-clause-within g c =
-    let seen : c.match-store.opened ≡ cells_of c.args.store =
+    let seen : c.match-store.row ≡ cells_of c.args.store =
     elim c.match-store.branch [
-      | in-Bare w ↦
-          let made = w.open.result in
-          w.opened-is ∙ w.new-opened.ensures ∙ ap (filled_values made.items) w.open.ensures.2 ∙ no-filled_values made.items w.in-Bare.room.len (sym made.ok.0 ∙ w.open.ensures.1) ∙ sym (ap cells_of w.in-Bare.is)
-      | in-Open w ↦ w.opened-is ∙ sym (ap cells_of w.in-Open.is)
+      | in-Unwritten w ↦
+          let made = w.into_row.result in
+          w.row-is ∙ w.new-row.ensures ∙ ap (filled_values made.items) w.into_row.ensures.2 ∙ no-filled_values made.items w.in-Unwritten.block.len (sym made.ok.0 ∙ w.into_row.ensures.1) ∙ sym (ap cells_of w.in-Unwritten.is)
+      | in-Written w ↦ w.row-is ∙ sym (ap cells_of w.in-Written.is)
     ] in
     subst (λ cs. c.args.cell.0 < length cs) (sym seen) c.requires.within
 
 pub put-requires-clause-empty : goal.put-requires-clause-empty
 put-requires-clause-empty g c =
-    let seen : c.match-store.opened ≡ cells_of c.args.store =
+    let seen : c.match-store.row ≡ cells_of c.args.store =
     elim c.match-store.branch [
-      | in-Bare w ↦
-          let made = w.open.result in
-          w.opened-is ∙ w.new-opened.ensures ∙ ap (filled_values made.items) w.open.ensures.2 ∙ no-filled_values made.items w.in-Bare.room.len (sym made.ok.0 ∙ w.open.ensures.1) ∙ sym (ap cells_of w.in-Bare.is)
-      | in-Open w ↦ w.opened-is ∙ sym (ap cells_of w.in-Open.is)
+      | in-Unwritten w ↦
+          let made = w.into_row.result in
+          w.row-is ∙ w.new-row.ensures ∙ ap (filled_values made.items) w.into_row.ensures.2 ∙ no-filled_values made.items w.in-Unwritten.block.len (sym made.ok.0 ∙ w.into_row.ensures.1) ∙ sym (ap cells_of w.in-Unwritten.is)
+      | in-Written w ↦ w.row-is ∙ sym (ap cells_of w.in-Written.is)
     ] in
     ap (λ cs. get_or cs c.args.cell.0 None) seen ∙ c.requires.empty
 
 pub returns-clause-cells : goal.returns-clause-cells
 returns-clause-cells g c =
-    let seen : c.match-store.opened ≡ cells_of c.args.store =
+    let seen : c.match-store.row ≡ cells_of c.args.store =
     elim c.match-store.branch [
-      | in-Bare w ↦
-          let made = w.open.result in
-          w.opened-is ∙ w.new-opened.ensures ∙ ap (filled_values made.items) w.open.ensures.2 ∙ no-filled_values made.items w.in-Bare.room.len (sym made.ok.0 ∙ w.open.ensures.1) ∙ sym (ap cells_of w.in-Bare.is)
-      | in-Open w ↦ w.opened-is ∙ sym (ap cells_of w.in-Open.is)
+      | in-Unwritten w ↦
+          let made = w.into_row.result in
+          w.row-is ∙ w.new-row.ensures ∙ ap (filled_values made.items) w.into_row.ensures.2 ∙ no-filled_values made.items w.in-Unwritten.block.len (sym made.ok.0 ∙ w.into_row.ensures.1) ∙ sym (ap cells_of w.in-Unwritten.is)
+      | in-Written w ↦ w.row-is ∙ sym (ap cells_of w.in-Written.is)
     ] in
     c.put.ensures ∙ ap (λ cs. slice_set cs c.args.cell.0 (Some c.args.cell.1)) seen

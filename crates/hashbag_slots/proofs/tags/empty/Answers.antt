@@ -1,7 +1,7 @@
-use Rattle.std.proofs.Common.{◌≡◌, ◌<◌, inl, inr, length, sym, ◌∙◌, arith}
+use Rattle.std.proofs.Common.{◌≡◌, ◌<◌, inl, inr, length, ◌∙◌, arith}
 use Rattle.std.proofs.lemmas.List.{length-set}
 use Rattle.std.proofs.lemmas.Bool.{cases_lt}
-use Rattle.hashbag_slots.proofs.Writing.{set_at, all_same}
+use Rattle.hashbag_slots.proofs.Writing.{set_at}
 use Rattle.hashbag_slots.proofs.tags.empty.Goals as goal
 
 pub loop-place-preserved : goal.loop-place-preserved

@@ -5,12 +5,12 @@ use Rattle.hashbag_slots.proofs.Reading.{length-slots_of, low_at, first_low}
 use Rattle.hashbag_slots.proofs.Tables.{some_free}
 use Rattle.hashbag_slots.proofs.slots.Slots.first_free.Goals as goal
 
-pub free_place-requires-clause-count : goal.free_place-requires-clause-count
-free_place-requires-clause-count g c =
+pub first_free-requires-clause-count : goal.first_free-requires-clause-count
+first_free-requires-clause-count g c =
     subst IsSlotCount (length-slots_of c.self.inside.tags.items c.self.inside.cells c.self.invariant.agree.same_length ∙ sym (ap length c.as_slice.ensures.value)) c.self.invariant.table.count
 
-pub free_place-requires-clause-room : goal.free_place-requires-clause-room
-free_place-requires-clause-room g c =
+pub first_free-requires-clause-room : goal.first_free-requires-clause-room
+first_free-requires-clause-room g c =
     let ts = c.self.inside.tags.items in let cs = c.self.inside.cells in let ss = slots_of ts cs in
     let room : live_count ss < length ss = subst (λ s. live_count s.slots < length s.slots) (sym c.self.view_is) c.requires.room in
     let free = some_free ss room in
@@ -19,7 +19,7 @@ free_place-requires-clause-room g c =
 
 pub returns : goal.returns
 returns g c =
-    let ts = c.self.inside.tags.items in let cs = c.self.inside.cells in let h = c.args.hash in let at = c.free_place.result in
-    let free = subst (λ us. get_or us at 0 < 128) c.as_slice.ensures.value c.free_place.ensures.free in
-    let path = subst (λ us. (step : ℕ) × (step < length us) × (at ≡ path_slot (length us) h step) × ((before : ℕ) → before < step → 128 ≤ get_or us (path_slot (length us) h before) 0)) c.as_slice.ensures.value c.free_place.ensures.path in
+    let ts = c.self.inside.tags.items in let cs = c.self.inside.cells in let h = c.args.hash in let at = c.first_free.result in
+    let free = subst (λ us. get_or us at 0 < 128) c.as_slice.ensures.value c.first_free.ensures.free in
+    let path = subst (λ us. (step : ℕ) × (step < length us) × (at ≡ path_slot (length us) h step) × ((before : ℕ) → before < step → 128 ≤ get_or us (path_slot (length us) h before) 0)) c.as_slice.ensures.value c.first_free.ensures.path in
     record { free = subst (λ s. IsFirstFree h s.slots at) c.self.view_is (first_low ts cs c.self.invariant.agree h at path.0 path.1 path.2 free path.3) }

@@ -1,0 +1,11 @@
+use Rattle.std.proofs.Common.{ltb, arith, w8}
+use Rattle.std.specs.Simd.Lanes.{chunk}
+use Rattle.std.proofs.lemmas.Simd.{length-chunk, bitmask_splat}
+use Rattle.hashbag_slots.proofs.Sixteen.{first_in}
+use Rattle.hashbag_slots.proofs.group.first_not_live.Goals as goal
+
+pub returns : goal.returns
+returns c =
+    let ts = c.args.tags.now in let from = c.args.from in
+    let long = length-chunk from 16 ts c.requires in
+    record { first = first_in (λ x. ltb x 128) ts from c.first_set.result _ c.requires (bitmask_splat w8 ltb (chunk from 16 ts) 16 128 long (omega arith)) c.first_set.ensures }

@@ -1,0 +1,72 @@
+use Rattle.std.proofs.Common.{◌≡◌, ℕ, ◌+◌, ◌<◌, Bool, List, eqb, length, false, subst, ◌∙◌, inl, inr, arith}
+use Rattle.std.proofs.lemmas.Bool.{cases_lt, eqb-true, eqb-false}
+use Rattle.hashbag_slots.specs.Slots.{holds, slot_at}
+use Rattle.hashbag_slots.specs.Columns.{tag_at, slots_of}
+use Rattle.hashbag_slots.proofs.GroupLemmas.{none_told, tells_fresh}
+use Rattle.hashbag_slots.proofs.Reading.{length-slots_of, holds_at}
+use Rattle.hashbag_slots.proofs.probe.find_marked.Goals as goal
+
+abbrev is_marked : List ℕ → ℕ → ℕ → Bool
+is_marked ts mark p = eqb (tag_at ts p) mark
+
+pub marks-init : goal.marks-init
+marks-init g c = (
+  c.args.from,
+  omega arith,
+  λ until tells. tells_fresh (is_marked c.args.tags.now c.args.mark) c.args.from until c.args.bits tells,
+  λ p a b is. absurd (omega arith),
+)
+
+pub is_named-requires : goal.is_named-requires
+is_named-requires g c =
+    let ts = c.args.tags.now in let least = c.requires.mark in let i = c.marks.invariant in let test : ℕ → Bool = is_marked ts c.args.mark in
+    let told = c.take_lowest-place.ensures in let until : ℕ = c.requires.told.0 in let tells = i.2 until c.requires.told.2 in
+    let tag = eqb-true _ _ ((told.first test i.0 until i.1 tells).hit (told.below test i.0 until tells)) in
+    c.requires.agree.filled c.take_lowest-place.result.0 (omega arith)
+
+pub returns-then-is_named-clause-found : goal.returns-then-is_named-clause-found
+returns-then-is_named-clause-found g c =
+    let ts = c.args.tags.now in let cs = c.args.cells.now in let place = c.take_lowest-place.result.0 in let least = c.requires.mark in
+    let i = c.marks.invariant in let test : ℕ → Bool = is_marked ts c.args.mark in let told = c.take_lowest-place.ensures in
+    let until : ℕ = c.requires.told.0 in let tells = i.2 until c.requires.told.2 in
+    let len = length-slots_of ts cs c.requires.agree.same_length in let room = c.requires.within in let near = c.requires.told.1 in
+    let below = told.below test i.0 until tells in
+    let within : place < length (slots_of ts cs) = omega arith in
+    let tag = eqb-true _ _ ((told.first test i.0 until i.1 tells).hit below) in
+    let e = c.requires.agree.filled place (omega arith) in
+    (within, holds_at ts cs c.requires.agree place (g.Q.Key.names c.args.key) e.0 e.1 ∙ c.is_named.ensures e.0 e.1 ∙ c.if-is_named.true)
+
+pub marks-preserved : goal.marks-preserved
+marks-preserved g c =
+    let ts = c.args.tags.now in let cs = c.args.cells.now in let place = c.take_lowest-place.result.0 in let least = c.requires.mark in
+    let i = c.marks.invariant in let test : ℕ → Bool = is_marked ts c.args.mark in let told = c.take_lowest-place.ensures in
+    let until : ℕ = c.requires.told.0 in let tells = i.2 until c.requires.told.2 in
+    let first = told.first test i.0 until i.1 tells in
+    let tag = eqb-true _ _ (first.hit (told.below test i.0 until tells)) in let low = first.low in let start = i.1 in
+    let e = c.requires.agree.filled place (omega arith) in (
+      place + 1,
+      omega arith,
+      λ end tell. told.rest test i.0 end (i.2 end tell),
+      λ p a b is.
+          elim (cases_lt p i.0) [
+            | inl before ↦ i.3 p a before is
+            | inr beyond ↦ elim (cases_lt p place) [
+              | inl between ↦ absurd (eqb-false _ _ (first.before p beyond between) is)
+              | inr here ↦
+                  let same : place ≡ p = omega arith in
+                  subst (λ q. holds (g.Q.Key.names c.args.key) (slot_at (slots_of ts cs) q) ≡ false) same
+                  (holds_at ts cs c.requires.agree place (g.Q.Key.names c.args.key) e.0 e.1 ∙ c.is_named.ensures e.0 e.1 ∙ c.if-is_named.false)
+            ]
+          ],
+    )
+
+pub marks-smaller : goal.marks-smaller
+marks-smaller g c = c.take_lowest-place.ensures.fewer
+
+pub returns-clause-absent : goal.returns-clause-absent
+returns-clause-absent g c until tells p a b is =
+    let i = c.marks.invariant in
+    elim (cases_lt p i.0) [
+      | inl before ↦ i.3 p a before is
+      | inr beyond ↦ absurd (eqb-false _ _ (none_told (is_marked c.args.tags.now c.args.mark) c.args.from i.0 until c.marks.ahead (i.2 until tells) i.1 c.marks-test.false p beyond b) is)
+    ]

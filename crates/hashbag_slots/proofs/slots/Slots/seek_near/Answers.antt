@@ -1,7 +1,0 @@
-use Rattle.std.proofs.Common.{◌∙◌, refl}
-use Rattle.hashbag_slots.proofs.Hashing.{fed_alike}
-use Rattle.hashbag_slots.proofs.slots.Slots.seek_near.Goals as goal
-
-pub seek_key_near-requires-clause-hashed : goal.seek_key_near-requires-clause-hashed
-seek_key_near-requires-clause-hashed g c =
-    c.requires.hashed ∙ fed_alike g.T.Hash.hash_input (λ r. g.T.Hash.hash_input r.now) g.S.BuildHasher g.S.Hasher.Hasher c.args.state.now c.args.value.now c.args.value refl

@@ -1,5 +1,0 @@
-use Rattle.hashbag_slots.proofs.Paths.{path_mask}
-use Rattle.hashbag_slots.proofs.tags.place_after.Goals as goal
-
-pub returns-clause-value : goal.returns-clause-value
-returns-clause-value c = path_mask _ _ _ c.requires.count c.requires.step

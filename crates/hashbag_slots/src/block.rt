@@ -1,0 +1,84 @@
+//! A block of memory for values that come later: how it is got from an allocator, used, and given back.
+//!
+//! The kit's row of places keeps what it knows of each place beside a value of the type, so that it can't be made before there
+//! is one. A block is what an allocator gives before that. It becomes a row with the first value, and a row that holds
+//! nothing becomes a block again, to be given back.
+ghost use Rattle.core.specs.Prelude.{◌≡◌, ℕ, ◌*◌, ◌^◌, ◌<◌, false, replicate, IfOk, slice_index_or};
+ghost use Rattle.core.specs.Mem.Slots.{slots_ptr, slots_len, slots_filled};
+ghost use denote.RawPtr.{Ptr};
+ghost use Rattle.hashbag_slots.specs.Owning.{block_owns, deed_owns, FitsBlock};
+
+use core::slots::Slots as Places;
+use std::alloc::{AllocError, Allocator};
+use std::marker::{Model, PhantomData};
+use std::mem::{align_of, size_of};
+
+/// Memory for `len` values, of which none is there.
+pub struct Block<T> {
+    pub(crate) ptr: *mut T,
+    pub(crate) len: usize,
+}
+
+impl<T> Model for Block<T> {
+    ghost also_owns = { λ r. block_owns T.row r.ptr r.len };
+}
+
+/// The right to give a block back to its allocator. It takes no bytes of its own.
+pub struct Deed<T, A: Allocator> {
+    by: PhantomData<(T, A)>,
+    pub ghost at: { Ptr },
+    pub ghost len: { ℕ },
+    pub ghost alloc: { A },
+}
+
+impl<T, A: Allocator> Model for Deed<T, A> {
+    ghost also_owns = { λ d. deed_owns (A.dealloc_token d.alloc) T.row d.at d.len };
+}
+
+/// Asks the allocator for a block for `len` values. Where it refuses there is none.
+pub fn allocate<T, A: Allocator>(
+    alloc: &A,
+    len: usize,
+) -> Result<(Block<T>, Deed<T, A>), AllocError>
+    requires { FitsBlock T.row len }
+    ensures { IfOk result (λ p. (p.0.len ≡ len) × (p.1.at ≡ p.0.ptr) × (p.1.len ≡ len) × (p.1.alloc ≡ alloc.now)) }
+{
+    match alloc.allocate(len * size_of::<T>(), align_of::<T>()) {
+        Ok(bytes) => {
+            let ptr = bytes as *mut T;
+            let by = PhantomData;
+            Ok((Block { ptr, len }, Deed { by }))
+        }
+        Err(refused) => Err(refused),
+    }
+}
+
+/// Gives a block back to its allocator, by the deed that came with it.
+pub fn release<T, A: Allocator>(alloc: &A, block: Block<T>, deed: Deed<T, A>)
+    requires { (deed.at ≡ block.ptr) × (deed.len ≡ block.len) × (deed.alloc ≡ alloc.now) }
+{
+    let Block { ptr, len } = block;
+    let Deed { by: _ } = deed;
+    unsafe {
+        alloc.deallocate(ptr as *mut u8, len * size_of::<T>(), align_of::<T>());
+    }
+}
+
+impl<T> Block<T> {
+    /// The block as a row of empty places. In the logic the value that is lent stands for each of them; it is not read.
+    pub fn into_row(self, _like: &T) -> Places<T>
+        ensures { (slots_ptr result ≡ self.ptr) × (slots_len result ≡ self.len) × (slots_filled result ≡ replicate self.len false) }
+    {
+        let Block { ptr, len } = self;
+        unsafe { Places::from_raw_parts(ptr, len) }
+    }
+
+    /// The block of a row that holds nothing.
+    pub fn from_row(row: Places<T>) -> Block<T>
+        requires { (k : ℕ) → k < slots_len row → slice_index_or (slots_filled row) k false ≡ false }
+        ensures { (result.ptr ≡ slots_ptr row) × (result.len ≡ slots_len row) }
+    {
+        let (ptr, len) = unsafe { row.into_raw_parts() };
+        Block { ptr, len }
+    }
+}

@@ -1,0 +1,102 @@
+//! Sixteen tags at once.
+ghost use Rattle.std.specs.Prelude.{◌≡◌, ◌==◌, ℕ, ◌+◌, ◌<◌, ◌≤◌, ◌^◌, ◌&&◌, Bool, true, false, if◌then◌else◌, length, nat_lt, nat_le};
+ghost use Rattle.std.specs.Int.{w64, trailing_zeros};
+ghost use Rattle.std.specs.Slice.Scan.{IsFirstPlace};
+ghost use Rattle.hashbag_slots.specs.Columns.{tag_at};
+ghost use Rattle.hashbag_slots.specs.Group.{IsMaskOf, from_place_on};
+
+use crate::tags::{EMPTY, LEAST_MARK};
+use std::simd::prelude::*;
+
+/// How many tags are looked at at once.
+pub const GROUP_WIDTH: usize = 16;
+
+// The lowest bit that is set of 16, and 16 where none is.
+#[inline(always)]
+fn first_set(bits: u64) -> usize
+    ensures { result ≡ (if bits == 0 then 16 else trailing_zeros w64 bits) }
+{
+    if bits == 0 {
+        GROUP_WIDTH
+    } else {
+        bits.trailing_zeros() as usize
+    }
+}
+
+/// How many of the 16 tags from a place on come before the first that is `tag`. All 16 where none is.
+#[inline(always)]
+pub fn first_equal(tags: &[u8], from: usize, tag: u8) -> usize
+    requires { from + 16 ≤ length tags.now }
+    ensures first { IsFirstPlace (λ p. tag_at tags.now p == tag) from (from + 16) (from + result) }
+{
+    let equal = u8x16::from_slice(&tags[from..]).simd_eq(u8x16::splat(tag));
+    first_set(equal.to_bitmask())
+}
+
+/// How many of the 16 tags from a place on come before the first of a Live slot. All 16 where none is.
+#[inline(always)]
+pub fn first_live(tags: &[u8], from: usize) -> usize
+    requires { from + 16 ≤ length tags.now }
+    ensures first { IsFirstPlace (λ p. nat_le 128 (tag_at tags.now p)) from (from + 16) (from + result) }
+{
+    let live = u8x16::from_slice(&tags[from..]).simd_ge(u8x16::splat(LEAST_MARK));
+    first_set(live.to_bitmask())
+}
+
+/// How many of the 16 tags from a place on come before the first of a slot that is not Live. All 16 where none is.
+#[inline(always)]
+pub fn first_not_live(tags: &[u8], from: usize) -> usize
+    requires { from + 16 ≤ length tags.now }
+    ensures first { IsFirstPlace (λ p. nat_lt (tag_at tags.now p) 128) from (from + 16) (from + result) }
+{
+    let free = u8x16::from_slice(&tags[from..]).simd_lt(u8x16::splat(LEAST_MARK));
+    first_set(free.to_bitmask())
+}
+
+/// A bit for each of the 16 tags from a place on, the lowest for the first: whether it is `tag`.
+#[inline(always)]
+pub fn match_tag(tags: &[u8], from: usize, tag: u8) -> u64
+    requires { from + 16 ≤ length tags.now }
+    ensures { IsMaskOf (λ p. tag_at tags.now p == tag) from (from + 16) result }
+{
+    let equal = u8x16::from_slice(&tags[from..]).simd_eq(u8x16::splat(tag));
+    equal.to_bitmask()
+}
+
+/// A bit for each of the 16 tags from a place on, the lowest for the first: whether its slot is Live.
+#[inline(always)]
+pub fn match_live(tags: &[u8], from: usize) -> u64
+    requires { from + 16 ≤ length tags.now }
+    ensures { IsMaskOf (λ p. nat_le 128 (tag_at tags.now p)) from (from + 16) result }
+{
+    let live = u8x16::from_slice(&tags[from..]).simd_ge(u8x16::splat(LEAST_MARK));
+    live.to_bitmask()
+}
+
+/// The first place of which bits tell that it passes their test, and the bits with its own cleared. The bits begin at the place `from`,
+/// and tell of no place before `at`. What is left tells of none up to the place found.
+#[inline(always)]
+pub fn take_lowest(bits: u64, from: usize) -> (usize, u64)
+    requires some { 0 < bits }
+    requires fits { from + 64 ≤ 2 ^ 64 }
+    ensures first { (test : ℕ → Bool) → (at until : ℕ) → from ≤ at → IsMaskOf (from_place_on test at) from until bits → IsFirstPlace test at until result.0 }
+    ensures below { (test : ℕ → Bool) → (at until : ℕ) → IsMaskOf (from_place_on test at) from until bits → result.0 < until }
+    ensures rest { (test : ℕ → Bool) → (at until : ℕ) → IsMaskOf (from_place_on test at) from until bits → IsMaskOf (from_place_on test (result.0 + 1)) from until result.1 }
+    ensures fewer { result.1 < bits }
+{
+    (from + bits.trailing_zeros() as usize, bits & (bits - 1))
+}
+
+/// A bit for each of the 16 tags from a place on that come before the first Empty one, the lowest for the first: whether it is `tag`.
+/// And whether one of the 16 is Empty.
+#[inline(always)]
+pub fn match_tag_before_empty(tags: &[u8], from: usize, tag: u8) -> (u64, bool)
+    requires room { from + 16 ≤ length tags.now }
+    requires other { 0 < tag }
+    ensures { (stop : ℕ) × IsFirstPlace (λ p. tag_at tags.now p == 0) from (from + 16) stop × IsMaskOf (λ p. tag_at tags.now p == tag) from stop result.0 × (result.1 ≡ nat_lt stop (from + 16)) }
+{
+    let empty = match_tag(tags, from, EMPTY);
+    let equal = match_tag(tags, from, tag);
+    // One less than a number has a bit below its lowest, none at it, and the same ones above, where tags are Empty and can't be `tag`.
+    (equal & empty.wrapping_sub(1), empty != 0)
+}

@@ -1,0 +1,310 @@
+//! Probes along the path of a hash: where a value is, and the first slot that is free for one.
+//!
+//! A path begins at the hash modulo the number of slots, goes slot by slot, and goes on at slot 0 after the last one. A probe reads
+//! tags, sixteen at once, and a cell only where the tag is the mark of its own hash: under a hash that spreads its values, that is so at
+//! one in 128 of the other values on its path.
+ghost use Rattle.std.specs.Prelude.{◌≡◌, ◌==◌, ℕ, ◌+◌, ◌<◌, ◌≤◌, length, true, false, IfSome, IfNone, Some};
+ghost use Rattle.hashbag_slots.specs.Cells.{cell_at, IsFilled};
+ghost use Rattle.hashbag_slots.specs.Hashing.{hash_under};
+ghost use Rattle.hashbag_slots.specs.FirstGroup.{IfFound, IfAbsent};
+ghost use Rattle.hashbag_slots.specs.Group.{IsMaskOf};
+ghost use Rattle.hashbag_slots.specs.Slots.{IsSlotCount, path_slot, slot_at, holds, HoldsAt, IsAbsent, IsFirstFree};
+ghost use Rattle.hashbag_slots.specs.Columns.{tag_at, Agree, columns, slots_of, IsReached};
+
+use crate::cells::Cells;
+use crate::group::{
+    GROUP_WIDTH, first_equal, first_not_live, match_tag, match_tag_before_empty, take_lowest,
+};
+use crate::key::Key;
+use crate::tags::{EMPTY, LEAST_MARK, mark_of};
+use std::hash::{BuildHasher, Hash};
+
+/// What the first 16 slots of a path show of the value that is looked for.
+#[derive(Clone, Copy)]
+pub enum FirstGroup {
+    /// It is in the slot at this place.
+    Found(usize),
+    /// It is in no slot of the table, and this is the first place on its path whose slot is not Live: it is put there.
+    Absent(usize),
+    /// Neither: the path goes on.
+    Open,
+}
+
+// The place of the slot that a probe for a hash looks at after so many steps, among `count` slots. It begins at the hash
+// modulo `count`, and goes on at slot 0 after the last slot.
+#[inline(always)]
+fn path_slot(hash: u64, step: usize, count: usize) -> usize
+    requires count { IsSlotCount count }
+    requires step { step < count }
+    ensures value { result ≡ path_slot count hash step }
+    ensures bound { result < count }
+{
+    ((hash & (count as u64 - 1)) as usize + step) & (count - 1)
+}
+
+// Whether a key names the value in a cell.
+#[inline(always)]
+fn is_named<T: Eq + Hash, Q: Key<T>>(cells: &Cells<(T, usize)>, place: usize, key: Q) -> bool
+    requires { IsFilled cells.now place }
+    ensures { (e : T × ℕ) → cell_at cells.now place ≡ Some e → Q.names key e.0 ≡ result }
+{
+    let entry = cells.get(place);
+    key.names(&entry.0)
+}
+
+// Probes for a value until it finds it or an Empty slot, or has looked at all slots, 16 tags at once where so many come before
+// the last one.
+#[inline(never)]
+fn find_probing<T: Eq + Hash, S: BuildHasher, Q: Key<T>>(
+    tags: &[u8],
+    cells: &Cells<(T, usize)>,
+    state: &S,
+    hash: u64,
+    key: Q,
+) -> Option<usize>
+    requires hashed { hash ≡ hash_under Q.hash_input S.BuildHasher S.Hasher.Hasher state.now key }
+    requires count { IsSlotCount (length tags.now) }
+    requires agree { Agree tags.now cells.now }
+    requires reached { IsReached (hash_under T.hash_input S.BuildHasher S.Hasher.Hasher state.now) (columns tags.now cells.now) }
+    ensures found { IfSome result (HoldsAt (Q.names key) (slots_of tags.now cells.now)) }
+    ensures absent { IfNone result (IsAbsent (Q.names key) (slots_of tags.now cells.now)) }
+{
+    let count = tags.len();
+    let mark = mark_of(hash);
+    let mut step = 0;
+    'steps: while step < count {
+        let place = path_slot(hash, step, count);
+        if place + GROUP_WIDTH <= count {
+            let lane = first_equal(tags, place, mark);
+            if lane < GROUP_WIDTH {
+                if is_named(cells, place + lane, key) {
+                    return Some(place + lane);
+                }
+                step += lane + 1;
+            } else if first_equal(tags, place, EMPTY) < GROUP_WIDTH {
+                return None;
+            } else {
+                step += GROUP_WIDTH;
+            }
+        } else {
+            let tag = tags[place];
+            if tag == mark {
+                if is_named(cells, place, key) {
+                    return Some(place);
+                }
+            } else if tag == EMPTY {
+                return None;
+            }
+            step += 1;
+        }
+    }
+    None
+}
+
+// The place of an equal value among slots, at most 16 from a place on, of which bits tell whether the tag is the value's mark.
+#[inline(always)]
+fn find_marked<T: Eq + Hash, Q: Key<T>>(
+    tags: &[u8],
+    cells: &Cells<(T, usize)>,
+    from: usize,
+    bits: u64,
+    mark: u8,
+    key: Q,
+) -> Option<usize>
+    requires within { from + 16 ≤ length tags.now }
+    requires told { (until : ℕ) × (until ≤ from + 16) × IsMaskOf (λ p. tag_at tags.now p == mark) from until bits }
+    requires mark { 128 ≤ mark }
+    requires agree { Agree tags.now cells.now }
+    ensures found { IfSome result (HoldsAt (Q.names key) (slots_of tags.now cells.now)) }
+    ensures absent { IfNone result ((until : ℕ) → IsMaskOf (λ p. tag_at tags.now p == mark) from until bits → (p : ℕ) → from ≤ p → p < until → tag_at tags.now p ≡ mark → holds (Q.names key) (slot_at (slots_of tags.now cells.now) p) ≡ false) }
+{
+    let mut ahead = bits;
+    'marks: while ahead != 0 {
+        let (place, rest) = take_lowest(ahead, from);
+        if is_named(cells, place, key) {
+            return Some(place);
+        }
+        ahead = rest;
+    }
+    None
+}
+
+/// Whether an Empty slot lies between the first slot of a hash's path and a place behind that, so that a probe for it ends before
+/// it comes there. It looks at sixteen slots at once, from the place backwards, and may miss one that is nearer than sixteen to
+/// the first slot.
+#[inline(always)]
+pub fn is_empty_before(tags: &[u8], hash: u64, place: usize) -> bool
+    requires count { IsSlotCount (length tags.now) }
+    requires within { place ≤ length tags.now }
+    ensures { result ≡ true → (p : ℕ) × (path_slot (length tags.now) hash 0 ≤ p) × (p < place) × (tag_at tags.now p ≡ 0) }
+{
+    let count = tags.len();
+    if count == 0 {
+        return false;
+    }
+    let first = path_slot(hash, 0, count);
+    let mut at = place;
+    'sixteens: while at >= first + GROUP_WIDTH {
+        at -= GROUP_WIDTH;
+        if first_equal(tags, at, EMPTY) < GROUP_WIDTH {
+            return true;
+        }
+    }
+    false
+}
+
+/// What the first 16 slots of a key's path show. It is `Open` too where fewer than 16 slots follow.
+#[inline(always)]
+pub fn probe_first_group<T: Eq + Hash, S: BuildHasher, Q: Key<T>>(
+    tags: &[u8],
+    cells: &Cells<(T, usize)>,
+    state: &S,
+    hash: u64,
+    key: Q,
+) -> FirstGroup
+    requires hashed { hash ≡ hash_under Q.hash_input S.BuildHasher S.Hasher.Hasher state.now key }
+    requires count { IsSlotCount (length tags.now) }
+    requires agree { Agree tags.now cells.now }
+    requires reached { IsReached (hash_under T.hash_input S.BuildHasher S.Hasher.Hasher state.now) (columns tags.now cells.now) }
+    ensures found { IfFound result (HoldsAt (Q.names key) (slots_of tags.now cells.now)) }
+    ensures absent { IfAbsent result (λ _. IsAbsent (Q.names key) (slots_of tags.now cells.now)) }
+    ensures free { IfAbsent result (IsFirstFree hash (slots_of tags.now cells.now)) }
+{
+    let count = tags.len();
+    if count == 0 {
+        return FirstGroup::Open;
+    }
+    let first = path_slot(hash, 0, count);
+    if first + GROUP_WIDTH > count {
+        return FirstGroup::Open;
+    }
+    let mark = mark_of(hash);
+    let marked = match_tag(tags, first, mark);
+    if let Some(place) = find_marked(tags, cells, first, marked, mark, key) {
+        return FirstGroup::Found(place);
+    }
+    if first_equal(tags, first, EMPTY) < GROUP_WIDTH {
+        return FirstGroup::Absent(first + first_not_live(tags, first));
+    }
+    FirstGroup::Open
+}
+
+// The place of the Live slot with an equal value where that slot is the first on the path of a hash. `None` says nothing.
+#[inline(always)]
+fn find_at_home<T: Eq + Hash, Q: Key<T>>(
+    tags: &[u8],
+    cells: &Cells<(T, usize)>,
+    hash: u64,
+    key: Q,
+) -> Option<usize>
+    requires count { IsSlotCount (length tags.now) }
+    requires agree { Agree tags.now cells.now }
+    ensures found { IfSome result (HoldsAt (Q.names key) (slots_of tags.now cells.now)) }
+{
+    let count = tags.len();
+    if count == 0 {
+        return None;
+    }
+    let first = path_slot(hash, 0, count);
+    if tags[first] == mark_of(hash) && is_named(cells, first, key) {
+        return Some(first);
+    }
+    None
+}
+
+/// The place of the Live slot with an equal value, if there is one. The value's hash is handed in. It probes until it finds
+/// the value or an Empty slot, or has looked at all slots, and goes past Removed and Moved ones.
+///
+/// Most values are in the first slot of their path. It is looked at by itself, so that its cell is read without waiting for
+/// what the other tags say. Of the first 16 slots only those before the first Empty one are looked at: none after it holds the value,
+/// and a cell there, whose tag is the mark by chance, would be read for nothing.
+#[inline(always)]
+pub fn find_place<T: Eq + Hash, S: BuildHasher, Q: Key<T>>(
+    tags: &[u8],
+    cells: &Cells<(T, usize)>,
+    state: &S,
+    hash: u64,
+    key: Q,
+) -> Option<usize>
+    requires hashed { hash ≡ hash_under Q.hash_input S.BuildHasher S.Hasher.Hasher state.now key }
+    requires count { IsSlotCount (length tags.now) }
+    requires agree { Agree tags.now cells.now }
+    requires reached { IsReached (hash_under T.hash_input S.BuildHasher S.Hasher.Hasher state.now) (columns tags.now cells.now) }
+    ensures found { IfSome result (HoldsAt (Q.names key) (slots_of tags.now cells.now)) }
+    ensures absent { IfNone result (IsAbsent (Q.names key) (slots_of tags.now cells.now)) }
+{
+    if let Some(place) = find_at_home(tags, cells, hash, key) {
+        return Some(place);
+    }
+    let count = tags.len();
+    if count == 0 {
+        return None;
+    }
+    let first = path_slot(hash, 0, count);
+    if first + GROUP_WIDTH > count {
+        return find_probing(tags, cells, state, hash, key);
+    }
+    let mark = mark_of(hash);
+    let (marked, ends) = match_tag_before_empty(tags, first, mark);
+    if let Some(place) = find_marked(tags, cells, first, marked, mark, key) {
+        return Some(place);
+    }
+    if ends {
+        return None;
+    }
+    find_probing(tags, cells, state, hash, key)
+}
+
+/// The first place on the path of a hash whose slot is not Live.
+///
+/// It goes slot by slot at first, and then by sixteen: most values find room at once, and sixteen tags can't be read while one of
+/// them is still being written, as it is where neighbours are placed one after the other.
+#[inline(always)]
+pub fn first_free(tags: &[u8], hash: u64) -> usize
+    requires count { IsSlotCount (length tags.now) }
+    requires room { (p : ℕ) × (p < length tags.now) × (tag_at tags.now p < 128) }
+    ensures path { (step : ℕ) × (step < length tags.now) × (result ≡ path_slot (length tags.now) hash step) × ((before : ℕ) → before < step → 128 ≤ tag_at tags.now (path_slot (length tags.now) hash before)) }
+    ensures bound { result < length tags.now }
+    ensures free { tag_at tags.now result < 128 }
+{
+    let count = tags.len();
+    let mut step = 0;
+    'near: while step < GROUP_WIDTH {
+        let place = path_slot(hash, step, count);
+        if tags[place] < LEAST_MARK {
+            return place;
+        }
+        step += 1;
+    }
+    first_free_from(tags, hash, step)
+}
+
+// As `first_free`, where so many slots of the path were passed.
+#[inline(never)]
+fn first_free_from(tags: &[u8], hash: u64, passed: usize) -> usize
+    requires count { IsSlotCount (length tags.now) }
+    requires room { (p : ℕ) × (p < length tags.now) × (tag_at tags.now p < 128) }
+    requires passed { (before : ℕ) → before < passed → 128 ≤ tag_at tags.now (path_slot (length tags.now) hash before) }
+    ensures path { (step : ℕ) × (step < length tags.now) × (result ≡ path_slot (length tags.now) hash step) × ((before : ℕ) → before < step → 128 ≤ tag_at tags.now (path_slot (length tags.now) hash before)) }
+    ensures bound { result < length tags.now }
+    ensures free { tag_at tags.now result < 128 }
+{
+    let count = tags.len();
+    let mut step = passed;
+    'steps: while step < count {
+        let place = path_slot(hash, step, count);
+        if place + GROUP_WIDTH <= count {
+            let lane = first_not_live(tags, place);
+            if lane < GROUP_WIDTH {
+                return place + lane;
+            }
+            step += GROUP_WIDTH;
+        } else {
+            if tags[place] < LEAST_MARK {
+                return place;
+            }
+            step += 1;
+        }
+    }
+    unreachable!()
+}

@@ -1,0 +1,80 @@
+//! A row of cells in hand: those of a row of places, in which a value was put before.
+//!
+//! What goes through many cells takes them out of their table first, so that it asks but once whether there is a row, and puts
+//! them back afterwards.
+ghost use Rattle.std.specs.Prelude.{◌≡◌, ◌<◌, length, slice_set, Some, None};
+ghost use Rattle.hashbag_slots.specs.Cells.{cell_at, IsFilled, IsBlank, filled_values};
+ghost use Rattle.core.specs.Mem.Slots.{slots_items, slots_filled, slots_ptr, slots_len};
+
+use crate::block::{Block, Deed, release};
+use core::slots::Slots as Places;
+use std::alloc::Global;
+use std::marker::Model;
+
+/// Cells that lie in a row of places. Contracts see the list of them: each cell's value, or `None` where it is empty.
+pub struct Row<T> {
+    row: Places<T>,
+    deed: Deed<T, Global>,
+    alloc: Global,
+}
+
+impl<T> Model for Row<T> {
+    ghost use Rattle.std.specs.Prelude.{List, Option};
+
+    ghost Value = { List (Option T) };
+
+    ghost use Rattle.std.specs.Prelude.{◌≡◌};
+    ghost use Rattle.core.specs.Mem.Slots.{slots_items, slots_filled, slots_ptr, slots_len};
+    ghost use Rattle.hashbag_slots.specs.Cells.{filled_values};
+
+    ghost view = { λ o. filled_values (slots_items o.row) (slots_filled o.row) };
+
+    ghost invariant = { λ o. (o.deed.at ≡ slots_ptr o.row) × (o.deed.len ≡ slots_len o.row) × (o.deed.alloc ≡ o.alloc) };
+}
+
+impl<T> Row<T> {
+    /// The cells of a row of places, whose memory the deed gives back to the allocator.
+    pub fn new(row: Places<T>, deed: Deed<T, Global>, alloc: Global) -> Row<T>
+        requires { (deed.at ≡ slots_ptr row) × (deed.len ≡ slots_len row) × (deed.alloc ≡ alloc) }
+        ensures { result ≡ filled_values (slots_items row) (slots_filled row) }
+    {
+        Row { row, deed, alloc }
+    }
+
+    /// The value in a cell, lent.
+    #[inline(always)]
+    pub fn get(&self, place: usize) -> &T
+        requires { IsFilled self.now place }
+        ensures { cell_at self.now place ≡ Some result.now }
+    {
+        self.row.get(place)
+    }
+
+    /// Puts a value into an empty cell.
+    #[inline(always)]
+    pub fn put(&mut self, place: usize, value: T)
+        requires within { place < length self.old }
+        requires empty { cell_at self.old place ≡ None }
+        ensures { self.new ≡ slice_set self.old place (Some value) }
+    {
+        self.row.put(place, value);
+    }
+
+    /// Takes the value out of a cell.
+    #[inline(always)]
+    pub fn take(&mut self, place: usize) -> T
+        requires { IsFilled self.old place }
+        ensures value { cell_at self.old place ≡ Some result }
+        ensures after { self.new ≡ slice_set self.old place None }
+    {
+        self.row.take(place)
+    }
+
+    /// Gives back the memory of cells that are all empty: no value is dropped here, and none is forgotten.
+    pub fn free(self)
+        requires { IsBlank self }
+    {
+        let Row { row, deed, alloc } = self;
+        release(&alloc, Block::from_row(row), deed);
+    }
+}
