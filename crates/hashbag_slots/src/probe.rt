@@ -20,7 +20,7 @@ use crate::tags::{EMPTY, LEAST_MARK, mark_of};
 use std::hash::{BuildHasher, Hash};
 
 /// What the first 16 slots of a path show of the value that is looked for.
-#[derive(Clone, Copy)]
+#[derive(Clone, Copy, PartialEq, Eq, Debug)]
 pub enum FirstGroup {
     /// It is in the slot at this place.
     Found(usize),

@@ -5,7 +5,7 @@
 #![tactic(auto)]
 
 mod built;
-mod growth;
+mod capacity;
 pub mod key;
 mod retain;
 pub mod table;

@@ -5,6 +5,7 @@
 ghost use Rattle.std.specs.Prelude.{◌≡◌, ◌+◌, ◌-◌, ◌*◌, ◌<◌, ◌≤◌, ◌^◌, [], ◌∷◌, All, length, replicate, true, Some, None, IfOk, IfErr, OnOk, OnErr, IsOk, IsErr, IsSome, option_map};
 ghost use Rattle.std.specs.Borrow.{sem};
 ghost use Rattle.std.specs.List.Sorted.{IsPermutation};
+ghost use Rattle.hashbag_slots.specs.FirstGroup.{IfAbsent};
 ghost use Rattle.hashbag_slots.specs.Hashing.{hash_under};
 ghost use Rattle.hashbag_slots.specs.Slots.{IsSlotCount, entries, IsAbsent, IsFirstFree, Places, recounted};
 ghost use Rattle.hashbag_table.specs.Asked.{MayAskInTurn, Retains};
@@ -14,14 +15,14 @@ ghost use Rattle.hashbag_table.specs.Table.{IsMapOf};
 ghost use Rattle.hashbag_table.specs.Tables.{limit, room, values, IsLeast, IsPacked, entries_of, Arrives, KeepsRoom, NoneMoved, Rewrites};
 
 mod keys;
-mod room;
+mod resize;
 mod spots;
 
 use crate::built::Built;
-use crate::growth::{least_count, no_slots};
+use crate::capacity::{least_slots, no_slots};
 use crate::retain::retain_slots;
 use crate::walk::{DrainWalk, IntoWalk, Walk};
-use hashbag_slots::slots::{Slot, Slots, hash_of};
+use hashbag_slots::slots::{FirstGroup, Slot, Slots, hash_of};
 use std::alloc::{AllocError, Global};
 use std::hash::{BuildHasher, Hash};
 use std::marker::Model;
@@ -113,7 +114,7 @@ impl<T: Eq + Hash + Drop, S: BuildHasher + Drop> Table<T, S> {
         ensures packed { IfOk result (λ table. IsPacked table.tables) }
         ensures built { IfOk result (λ table. table.tables.built ≡ length table.tables.newer) }
     {
-        let count = least_count(0, n)?;
+        let count = least_slots(0, n)?;
         let newer = Slots::with_slots(alloc, count)?;
         let older = no_slots(alloc);
         Ok(Table {
@@ -199,7 +200,7 @@ impl<T: Eq + Hash + Drop, S: BuildHasher + Drop> Table<T, S> {
 
     // Whether an absent value can be put in with no way made for it: no slot waits, and there is room.
     #[inline(always)]
-    fn takes_now(&self) -> bool
+    fn can_place_at_once(&self) -> bool
         ensures room { result ≡ true → 0 < room self.now.tables }
         ensures none_waits { result ≡ true → self.now.tables.waiting ≡ [] }
         ensures entries { result ≡ true → self.now.entries ≡ entries self.now.tables.newer }
@@ -209,7 +210,7 @@ impl<T: Eq + Hash + Drop, S: BuildHasher + Drop> Table<T, S> {
 
     // Places an absent value in the first slot on its path that is not Live, where way was made for it. It takes no memory.
     #[inline(never)]
-    fn settle(&mut self, place: usize, hash: u64, value: T, count: usize)
+    fn place_absent(&mut self, place: usize, hash: u64, value: T, count: usize)
         requires hashed { hash ≡ hash_under T.hash_input S.BuildHasher S.Hasher.Hasher self.old.hasher value }
         requires free { IsFirstFree hash self.old.tables.newer place }
         requires absent { entry_of T.eq value self.old.entries ≡ None }
@@ -256,9 +257,9 @@ impl<T: Eq + Hash + Drop, S: BuildHasher + Drop> Table<T, S> {
     {
         // `set_len` is called for its clause that the entries are a map, which the proof cites.
         let _len = self.set_len();
-        self.make_way()?;
+        self.carry_or_grow()?;
         let place = self.newer.first_free(hash);
-        self.settle(place, hash, value, count);
+        self.place_absent(place, hash, value, count);
         Ok(())
     }
 
@@ -271,7 +272,7 @@ impl<T: Eq + Hash + Drop, S: BuildHasher + Drop> Table<T, S> {
         ensures room { KeepsRoom 0 self.old.tables self.new.tables }
     {
         let hash = self.hash(value);
-        if let Some(spot) = self.locate(hash, value) {
+        if let Some(spot) = self.spot_of(hash, value) {
             self.set_spot(spot, n);
         }
     }
@@ -286,7 +287,7 @@ impl<T: Eq + Hash + Drop, S: BuildHasher + Drop> Table<T, S> {
         ensures room { KeepsRoom 0 self.old.tables self.new.tables }
     {
         let hash = self.hash(value);
-        match self.locate(hash, value) {
+        match self.spot_of(hash, value) {
             Some(spot) => {
                 let entry = self.take_spot(spot);
                 return Some(entry);
@@ -324,7 +325,7 @@ impl<T: Eq + Hash + Drop, S: BuildHasher + Drop> Table<T, S> {
         ensures room { KeepsRoom 0 self.old.tables self.new.tables }
     {
         let hash = self.hash(value);
-        if let Some(spot) = self.locate(hash, value) {
+        if let Some(spot) = self.spot_of(hash, value) {
             let before = self.count_at(spot);
             if before > 1 {
                 self.set_spot(spot, before - 1);
@@ -336,12 +337,17 @@ impl<T: Eq + Hash + Drop, S: BuildHasher + Drop> Table<T, S> {
         Err(0)
     }
 
-    // As `add`, of a value whose hash is handed in, wherever it is, or of one that is known to be absent from the newer table:
-    // look-ups of those near the beginning of their paths are to be short.
+    // The slow path of `add`, of a value that the first group of its path didn't show. It is out of line, so that the fast path is short.
     #[inline(never)]
-    fn add_far(&mut self, hash: u64, value: T, n: usize, absent: bool) -> Result<usize, AllocError>
+    fn add_slow(
+        &mut self,
+        hash: u64,
+        value: T,
+        n: usize,
+        first: FirstGroup,
+    ) -> Result<usize, AllocError>
         requires hashed { hash ≡ hash_under T.hash_input S.BuildHasher S.Hasher.Hasher self.old.hasher value }
-        requires told { absent ≡ true → IsAbsent (λ w. T.eq w value) self.old.tables.newer }
+        requires shown { IfAbsent first (λ _. IsAbsent (λ w. T.eq w value) self.old.tables.newer) }
         requires some { 0 < n }
         requires fits { count_of T.eq value self.old.entries + n < 2 ^ 64 }
         ensures before { IfOk result (λ before. before ≡ count_of T.eq value self.old.entries) }
@@ -358,7 +364,7 @@ impl<T: Eq + Hash + Drop, S: BuildHasher + Drop> Table<T, S> {
     {
         // `set_len` is called for its clause that the entries are a map, which the proof cites.
         let _len = self.set_len();
-        if let Some(spot) = self.locate_told(hash, &value, absent) {
+        if let Some(spot) = self.spot_after_first_group(hash, &value, first) {
             let before = self.raise_spot(spot, n);
             return Ok(before);
         }
@@ -387,21 +393,18 @@ impl<T: Eq + Hash + Drop, S: BuildHasher + Drop> Table<T, S> {
         ensures same_room { IfOk result (λ before. 0 < before → KeepsRoom 0 self.old.tables self.new.tables) }
     {
         let hash = self.hash(&value);
-        let absent = match self.look_near(hash, &value) {
-            Some(Ok(spot)) => {
-                let before = self.raise_spot(spot, n);
-                return Ok(before);
+        let first = self.probe_first_group(hash, &value);
+        if let FirstGroup::Found(place) = first {
+            let before = self.raise_spot(Spot::Newer(place), n);
+            return Ok(before);
+        }
+        if let FirstGroup::Absent(place) = first {
+            if self.can_place_at_once() {
+                self.place_absent(place, hash, value, n);
+                return Ok(0);
             }
-            Some(Err(place)) => {
-                if self.takes_now() {
-                    self.settle(place, hash, value, n);
-                    return Ok(0);
-                }
-                true
-            }
-            None => false,
-        };
-        self.add_far(hash, value, n, absent)
+        }
+        self.add_slow(hash, value, n, first)
     }
 
     /// Stores a value itself with the count 1, and answers what the count was, 0 where the value was absent. An instance that
@@ -423,7 +426,7 @@ impl<T: Eq + Hash + Drop, S: BuildHasher + Drop> Table<T, S> {
         ensures same_room { IfOk result (λ before. 0 < before → KeepsRoom 0 self.old.tables self.new.tables) }
     {
         let hash = self.hash(&value);
-        if let Some(spot) = self.locate(hash, &value) {
+        if let Some(spot) = self.spot_of(hash, &value) {
             let before = self.count_at(spot);
             let former = self.put_spot(spot, value);
             drop(former);

@@ -4,7 +4,7 @@ ghost use Rattle.hashbag_slots.specs.Hashing.{hash_under};
 ghost use Rattle.hashbag_slots.specs.Slots.{IsSlotCount};
 ghost use Rattle.hashbag_slots.specs.Columns.{IsReached};
 
-use hashbag_slots::slots::{Slots, hash_of};
+use hashbag_slots::slots::{FirstGroup, Slots, hash_of};
 use hashbag_slots::walk::IntoWalk;
 use std::alloc::{AllocError, Global};
 use std::hash::{BuildHasher, Hash};
@@ -68,7 +68,7 @@ impl<T: Eq + Hash + Drop, S: BuildHasher + Drop> Held<T, S> {
     }
 
     /// The place of a value, where no slot before a place is Live. `None` where one is, and where there are fewer slots.
-    pub fn find_behind(&self, value: &T, from: usize) -> Option<usize> {
+    pub fn find_uncarried(&self, value: &T, from: usize) -> Option<usize> {
         if from > self.slots.slots() {
             return None;
         }
@@ -78,27 +78,28 @@ impl<T: Eq + Hash + Drop, S: BuildHasher + Drop> Held<T, S> {
             }
         }
         let hash = hash_of(&self.state, value);
-        self.slots.find_behind(&self.state, hash, value, from)
+        self.slots.find_uncarried(&self.state, hash, value, from)
     }
 
-    /// What the first 16 slots of a value's path tell: its place, or the one into which it would go.
-    pub fn seek(&self, value: &T) -> Option<Result<usize, usize>> {
+    /// What the first 16 slots of a value's path show: its place, or the one into which it would go.
+    pub fn seek(&self, value: &T) -> FirstGroup {
         let hash = hash_of(&self.state, value);
-        self.slots.seek_near(&self.state, hash, value)
+        self.slots.probe_first_group(&self.state, hash, value)
     }
 
-    /// As `place`, where the first 16 slots of the path tell whether the value is absent.
+    /// As `place`, where the first 16 slots of the path show whether the value is absent.
     pub fn place_sought(&mut self, value: T, n: usize) -> Option<bool> {
         if n == 0 {
             return None;
         }
         let hash = hash_of(&self.state, &value);
-        match self.slots.seek_near(&self.state, hash, &value)? {
-            Ok(_) => Some(false),
-            Err(place) => {
+        match self.slots.probe_first_group(&self.state, hash, &value) {
+            FirstGroup::Found(_) => Some(false),
+            FirstGroup::Absent(place) => {
                 self.slots.place_at(place, &self.state, hash, value, n);
                 Some(true)
             }
+            FirstGroup::Open => None,
         }
     }
 

@@ -3,7 +3,7 @@ use crate::tests::checks::answers;
 use crate::tests::constant::Constant;
 use crate::tests::held::Held;
 use crate::tests::pair::Pair;
-use hashbag_slots::slots::Slots;
+use hashbag_slots::slots::{FirstGroup, Slots};
 use std::alloc::{AllocError, Global};
 use std::process::Abort;
 use std::test::Fail;
@@ -152,7 +152,7 @@ fn past_removed(rt: HostRuntime) -> Result<(), Fail> {
 }
 
 // Checks what the first 16 slots of a path tell: where values are, or into which slot they would go.
-fn are_sought(rt: &impl Abort, table: &Numbers, rows: &[(u64, Option<Result<usize, usize>>)]) {
+fn are_sought(rt: &impl Abort, table: &Numbers, rows: &[(u64, FirstGroup)]) {
     for (value, place) in rows {
         answers(rt, "seek", *value, &table.seek(value), place);
     }
@@ -179,15 +179,19 @@ fn sought(rt: HostRuntime) -> Result<(), Fail> {
         &rt,
         &table,
         &[
-            (1, Some(Err(0))),
-            (2, Some(Ok(1))),
-            (3, Some(Err(0))),
-            (4, Some(Ok(3))),
-            (9, Some(Err(0))),
+            (1, FirstGroup::Absent(0)),
+            (2, FirstGroup::Found(1)),
+            (3, FirstGroup::Absent(0)),
+            (4, FirstGroup::Found(3)),
+            (9, FirstGroup::Absent(0)),
         ],
     );
     place_sought(&rt, &mut table, 9, Some(true));
-    are_sought(&rt, &table, &[(8, Some(Err(2))), (9, Some(Ok(0)))]);
+    are_sought(
+        &rt,
+        &table,
+        &[(8, FirstGroup::Absent(2)), (9, FirstGroup::Found(0))],
+    );
     place_sought(&rt, &mut table, 9, Some(false));
     has_slots(&rt, &table.slots, (16, 3, 1));
     Ok(())
@@ -197,7 +201,15 @@ fn sought(rt: HostRuntime) -> Result<(), Fail> {
 #[test]
 fn sought_past_the_last_slot(rt: HostRuntime) -> Result<(), Fail> {
     let mut table = numbers(&rt, rt.alloc(), 15, 3)?;
-    are_sought(&rt, &table, &[(1, None), (3, None), (4, None)]);
+    are_sought(
+        &rt,
+        &table,
+        &[
+            (1, FirstGroup::Open),
+            (3, FirstGroup::Open),
+            (4, FirstGroup::Open),
+        ],
+    );
     place_sought(&rt, &mut table, 4, None);
     has_slots(&rt, &table.slots, (16, 3, 0));
     Ok(())
@@ -210,9 +222,17 @@ fn sought_up_to_the_last_slot(rt: HostRuntime) -> Result<(), Fail> {
     for value in 1..=15 {
         place(&rt, &mut table, value, 1);
     }
-    are_sought(&rt, &table, &[(15, Some(Ok(30))), (16, Some(Err(31)))]);
+    are_sought(
+        &rt,
+        &table,
+        &[(15, FirstGroup::Found(30)), (16, FirstGroup::Absent(31))],
+    );
     place_sought(&rt, &mut table, 16, Some(true));
-    are_sought(&rt, &table, &[(16, Some(Ok(31))), (17, None)]);
+    are_sought(
+        &rt,
+        &table,
+        &[(16, FirstGroup::Found(31)), (17, FirstGroup::Open)],
+    );
     Ok(())
 }
 
@@ -220,9 +240,21 @@ fn sought_up_to_the_last_slot(rt: HostRuntime) -> Result<(), Fail> {
 #[test]
 fn sought_among_all_live(rt: HostRuntime) -> Result<(), Fail> {
     let mut table = numbers(&rt, rt.alloc(), 0, 16)?;
-    are_sought(&rt, &table, &[(1, Some(Ok(0))), (17, None)]);
+    are_sought(
+        &rt,
+        &table,
+        &[(1, FirstGroup::Found(0)), (17, FirstGroup::Open)],
+    );
     take(&rt, &mut table, 7, 7);
-    are_sought(&rt, &table, &[(7, None), (16, Some(Ok(15))), (17, None)]);
+    are_sought(
+        &rt,
+        &table,
+        &[
+            (7, FirstGroup::Open),
+            (16, FirstGroup::Found(15)),
+            (17, FirstGroup::Open),
+        ],
+    );
     place_sought(&rt, &mut table, 17, None);
     lie_at(&rt, &table, &[(17, None), (16, Some(15))]);
     Ok(())
@@ -233,9 +265,9 @@ fn lie_behind(rt: &impl Abort, table: &Numbers, rows: &[(u64, usize, Option<usiz
     for (value, from, place) in rows {
         answers(
             rt,
-            "find_behind",
+            "find_uncarried",
             *value,
-            &table.find_behind(value, *from),
+            &table.find_uncarried(value, *from),
             place,
         );
     }

@@ -1,5 +1,6 @@
 //! Calls by keys: by a value that is lent, or by what names it, as a text names a `String`.
 ghost use Rattle.std.specs.Prelude.{◌≡◌, ◌+◌, ◌-◌, ◌<◌, ◌≤◌, ◌^◌, true, None, IfOk, OnOk, OnErr, IsTrue, option_map};
+ghost use Rattle.hashbag_slots.specs.FirstGroup.{IfAbsent};
 ghost use Rattle.hashbag_slots.specs.Hashing.{hash_under};
 ghost use Rattle.hashbag_slots.specs.Slots.{IsAbsent, recounted};
 ghost use Rattle.hashbag_table.specs.Entries.{with_fewer, IsCounted};
@@ -8,10 +9,10 @@ ghost use Rattle.hashbag_table.specs.Table.{IsMapOf};
 ghost use Rattle.hashbag_table.specs.Tables.{KeepsRoom, Rewrites};
 
 use crate::key::{Key, ToValue};
-use crate::table::Table;
-use crate::table::spots::find_older;
-use hashbag_slots::slots::Slot;
+use crate::table::spots::find_waiting;
+use crate::table::{Spot, Table};
 use hashbag_slots::slots::keys::hash_key;
+use hashbag_slots::slots::{FirstGroup, Slot};
 use std::alloc::AllocError;
 use std::hash::{BuildHasher, Hash};
 
@@ -35,24 +36,23 @@ impl<T: Eq + Hash + Drop, S: BuildHasher + Drop> Table<T, S> {
         if let Some(place) = self.newer.find_key(&self.hasher, hash, key) {
             return Some(self.newer.live_at(place));
         }
-        match find_older(&self.older, self.looked, &self.hasher, hash, key) {
+        match find_waiting(&self.older, self.looked, &self.hasher, hash, key) {
             Some(place) => Some(self.older.live_at(place)),
             None => None,
         }
     }
 
-    // As `add_key`, of a key whose hash is handed in, wherever the value is, or where it is known to be absent from the newer table:
-    // additions to those near the beginning of their paths are to be short.
+    // The slow path of `add_key`, of a value that the first group of its path didn't show.
     #[inline(never)]
-    fn add_key_far<Q: ToValue<T>>(
+    fn add_key_slow<Q: ToValue<T>>(
         &mut self,
         hash: u64,
         key: Q,
         n: usize,
-        absent: bool,
+        first: FirstGroup,
     ) -> Result<usize, AllocError>
         requires hashed { hash ≡ hash_under Q.hash_input S.BuildHasher S.Hasher.Hasher self.old.hasher key }
-        requires told { absent ≡ true → IsAbsent (Q.names key) self.old.tables.newer }
+        requires shown { IfAbsent first (λ _. IsAbsent (Q.names key) self.old.tables.newer) }
         requires some { 0 < n }
         requires fits { named_count (Q.names key) self.old.entries + n < 2 ^ 64 }
         ensures before { IfOk result (λ before. before ≡ named_count (Q.names key) self.old.entries) }
@@ -63,7 +63,7 @@ impl<T: Eq + Hash + Drop, S: BuildHasher + Drop> Table<T, S> {
     {
         // `set_len` is called for its clause that the entries are a map, which the proof cites.
         let _len = self.set_len();
-        if let Some(spot) = self.locate_told(hash, key, absent) {
+        if let Some(spot) = self.spot_after_first_group(hash, key, first) {
             let before = self.raise_spot(spot, n);
             return Ok(before);
         }
@@ -88,15 +88,12 @@ impl<T: Eq + Hash + Drop, S: BuildHasher + Drop> Table<T, S> {
         ensures err { OnErr result (self.new ≡ self.old) }
     {
         let hash = self.hash_key(key);
-        let absent = match self.look_near(hash, key) {
-            Some(Ok(spot)) => {
-                let before = self.raise_spot(spot, n);
-                return Ok(before);
-            }
-            Some(Err(_)) => true,
-            None => false,
-        };
-        self.add_key_far(hash, key, n, absent)
+        let first = self.probe_first_group(hash, key);
+        if let FirstGroup::Found(place) = first {
+            let before = self.raise_spot(Spot::Newer(place), n);
+            return Ok(before);
+        }
+        self.add_key_slow(hash, key, n, first)
     }
     /// Takes `n` from the count of the value that a key names, and answers what the count was, 0 where the value was absent. Where
     /// no more than `n` are there, the value goes, and its stored instance is dropped.
@@ -111,7 +108,7 @@ impl<T: Eq + Hash + Drop, S: BuildHasher + Drop> Table<T, S> {
         ensures room { KeepsRoom 0 self.old.tables self.new.tables }
     {
         let hash = self.hash_key(key);
-        if let Some(spot) = self.locate_key(hash, key) {
+        if let Some(spot) = self.spot_of_key(hash, key) {
             let before = self.count_at(spot);
             if n < before {
                 self.set_spot(spot, before - n);

@@ -2,6 +2,7 @@
 ghost use Rattle.std.specs.Prelude.{◌≡◌, ◌+◌, ◌-◌, ◌<◌, ◌≤◌, ◌^◌, ℕ, [], ◌∷◌, true, false, length, Some, None, IfSome, IfNone, IfOk, IfErr, OnErr, IsSome, slice_set};
 ghost use Rattle.std.specs.List.Sorted.{IsPermutation};
 ghost use Rattle.std.specs.Map.{lookup_entry};
+ghost use Rattle.hashbag_slots.specs.FirstGroup.{IfFound, IfAbsent};
 ghost use Rattle.hashbag_slots.specs.Hashing.{hash_under};
 ghost use Rattle.hashbag_slots.specs.Slots.{entries, entry_at, is_live, HoldsAt, IsAbsent, IsFirstFree, recounted, holds, slot_at, count_in};
 ghost use Rattle.hashbag_slots.specs.Columns.{IsReached, IsAlike};
@@ -11,11 +12,11 @@ ghost use Rattle.hashbag_table.specs.Tables.{slot_in, HoldsIn, entry_in, Writes,
 
 use crate::table::{Spot, Table};
 use hashbag_slots::key::Key;
-use hashbag_slots::slots::{Slot, Slots};
+use hashbag_slots::slots::{FirstGroup, Slot, Slots};
 use std::hash::{BuildHasher, Hash};
 
 // Stores another equal instance at a place, with the count 1, and gives the former one back.
-fn put_one<T: Eq>(slots: &mut Slots<T>, place: usize, value: T) -> T
+fn store_once<T: Eq>(slots: &mut Slots<T>, place: usize, value: T) -> T
     requires equal { holds (λ v. T.eq v value) (slot_at slots.old.slots place) ≡ true }
     ensures given { slot_at slots.old.slots place ≡ Slot.Live result (count_in (slot_at slots.old.slots place)) }
     ensures after { slots.new.slots ≡ slice_set slots.old.slots place (Slot.Live value 1) }
@@ -26,9 +27,9 @@ fn put_one<T: Eq>(slots: &mut Slots<T>, place: usize, value: T) -> T
     former
 }
 
-// As `find_key_behind`, of the older table, which seldom has slots: look-ups of the newer one alone are to be short.
+// As `find_key_uncarried`, of the older table, which seldom has slots: look-ups of the newer one alone are to be short.
 #[inline(never)]
-fn probe_older<T: Eq + Hash, S: BuildHasher, Q: Key<T>>(
+fn find_waiting_slow<T: Eq + Hash, S: BuildHasher, Q: Key<T>>(
     older: &Slots<T>,
     looked: usize,
     state: &S,
@@ -42,12 +43,12 @@ fn probe_older<T: Eq + Hash, S: BuildHasher, Q: Key<T>>(
     ensures found { IfSome result (HoldsAt (Q.names key) older.now.slots) }
     ensures map { entry_at older.now.slots result ≡ lookup_entry (Q.names key) (entries older.now.slots) }
 {
-    older.find_key_behind(state, hash, key, looked)
+    older.find_key_uncarried(state, hash, key, looked)
 }
 
 // The place of the value that a key names in the older table, of which so many slots were looked at.
 #[inline(always)]
-pub(super) fn find_older<T: Eq + Hash, S: BuildHasher, Q: Key<T>>(
+pub(super) fn find_waiting<T: Eq + Hash, S: BuildHasher, Q: Key<T>>(
     older: &Slots<T>,
     looked: usize,
     state: &S,
@@ -64,19 +65,19 @@ pub(super) fn find_older<T: Eq + Hash, S: BuildHasher, Q: Key<T>>(
     if older.slots() == 0 {
         return None;
     }
-    probe_older(older, looked, state, hash, key)
+    find_waiting_slow(older, looked, state, hash, key)
 }
 
 impl<T: Eq + Hash + Drop, S: BuildHasher + Drop> Table<T, S> {
     // Where the value is that a key names and the newer table doesn't have. The key's hash is handed in.
     #[inline(always)]
-    fn locate_older<Q: Key<T>>(&self, hash: u64, key: Q) -> Option<Spot>
+    fn waiting_spot<Q: Key<T>>(&self, hash: u64, key: Q) -> Option<Spot>
         requires hashed { hash ≡ hash_under Q.hash_input S.BuildHasher S.Hasher.Hasher self.now.hasher key }
         requires absent { IsAbsent (Q.names key) self.now.tables.newer }
         ensures map { entry_in self.now.tables result ≡ named_entry (Q.names key) self.now.entries }
         ensures held { IfSome result (HoldsIn (Q.names key) self.now.tables) }
     {
-        match find_older(&self.older, self.looked, &self.hasher, hash, key) {
+        match find_waiting(&self.older, self.looked, &self.hasher, hash, key) {
             Some(place) => Some(Spot::Waiting(place - self.looked)),
             None => None,
         }
@@ -84,7 +85,7 @@ impl<T: Eq + Hash + Drop, S: BuildHasher + Drop> Table<T, S> {
 
     // Where the value is that a key names. The key's hash is handed in.
     #[inline(always)]
-    pub(super) fn locate_key<Q: Key<T>>(&self, hash: u64, key: Q) -> Option<Spot>
+    pub(super) fn spot_of_key<Q: Key<T>>(&self, hash: u64, key: Q) -> Option<Spot>
         requires hashed { hash ≡ hash_under Q.hash_input S.BuildHasher S.Hasher.Hasher self.now.hasher key }
         ensures map { entry_in self.now.tables result ≡ named_entry (Q.names key) self.now.entries }
         ensures held { IfSome result (HoldsIn (Q.names key) self.now.tables) }
@@ -95,52 +96,53 @@ impl<T: Eq + Hash + Drop, S: BuildHasher + Drop> Table<T, S> {
         if let Some(place) = self.newer.find_key(&self.hasher, hash, key) {
             return Some(Spot::Newer(place));
         }
-        self.locate_older(hash, key)
+        self.waiting_spot(hash, key)
     }
 
     // Where a value is, whose hash is handed in.
     #[inline(always)]
-    pub(super) fn locate(&self, hash: u64, value: &T) -> Option<Spot>
+    pub(super) fn spot_of(&self, hash: u64, value: &T) -> Option<Spot>
         requires hashed { hash ≡ hash_under T.hash_input S.BuildHasher S.Hasher.Hasher self.now.hasher value.now }
         ensures map { entry_in self.now.tables result ≡ entry_of T.eq value.now self.now.entries }
         ensures held { IfSome result (HoldsIn (λ w. T.eq w value.now) self.now.tables) }
         ensures counted { IsCounted T.eq self.now.entries }
     {
-        self.locate_key(hash, value)
+        self.spot_of_key(hash, value)
     }
 
-    // As `locate_key`, where it may be known already that the newer table doesn't have the value: then it isn't asked again.
+    // Where the value is that a key names, which the first group of its path in the newer table didn't show. If that has shown that it
+    // is absent, the newer table isn't asked again.
     #[inline(always)]
-    pub(super) fn locate_told<Q: Key<T>>(&self, hash: u64, key: Q, absent: bool) -> Option<Spot>
+    pub(super) fn spot_after_first_group<Q: Key<T>>(
+        &self,
+        hash: u64,
+        key: Q,
+        first: FirstGroup,
+    ) -> Option<Spot>
         requires hashed { hash ≡ hash_under Q.hash_input S.BuildHasher S.Hasher.Hasher self.now.hasher key }
-        requires told { absent ≡ true → IsAbsent (Q.names key) self.now.tables.newer }
+        requires shown { IfAbsent first (λ _. IsAbsent (Q.names key) self.now.tables.newer) }
         ensures map { entry_in self.now.tables result ≡ named_entry (Q.names key) self.now.entries }
         ensures held { IfSome result (HoldsIn (Q.names key) self.now.tables) }
     {
-        if absent {
-            return self.locate_older(hash, key);
+        if let FirstGroup::Absent(_) = first {
+            return self.waiting_spot(hash, key);
         }
-        self.locate_key(hash, key)
+        self.spot_of_key(hash, key)
     }
 
-    // What the first 16 slots of a key's path in the newer table tell: where the value is that it names, or that it isn't in the newer
-    // table, and then the place there into which it is put. `None` where they don't tell.
+    // What the first 16 slots of a key's path in the newer table show.
     #[inline(always)]
-    pub(super) fn look_near<Q: Key<T>>(&self, hash: u64, key: Q) -> Option<Result<Spot, usize>>
+    pub(super) fn probe_first_group<Q: Key<T>>(&self, hash: u64, key: Q) -> FirstGroup
         requires hashed { hash ≡ hash_under Q.hash_input S.BuildHasher S.Hasher.Hasher self.now.hasher key }
-        ensures map { IfSome result (λ known. IfOk known (λ spot. entry_in self.now.tables (Some spot) ≡ named_entry (Q.names key) self.now.entries)) }
-        ensures held { IfSome result (λ known. IfOk known (HoldsIn (Q.names key) self.now.tables)) }
-        ensures absent { IfSome result (λ known. OnErr known (IsAbsent (Q.names key) self.now.tables.newer)) }
-        ensures free { IfSome result (λ known. IfErr known (IsFirstFree hash self.now.tables.newer)) }
+        ensures map { IfFound result (λ p. entry_in self.now.tables (Some (Spot.Newer p)) ≡ named_entry (Q.names key) self.now.entries) }
+        ensures held { IfFound result (λ p. HoldsIn (Q.names key) self.now.tables (Spot.Newer p)) }
+        ensures absent { IfAbsent result (λ _. IsAbsent (Q.names key) self.now.tables.newer) }
+        ensures free { IfAbsent result (IsFirstFree hash self.now.tables.newer) }
         ensures counted { IsCounted T.eq self.now.entries }
     {
         // `set_len` is called for its clause that the entries are a map, which the proof cites.
         let _len = self.set_len();
-        match self.newer.seek_key_near(&self.hasher, hash, key) {
-            Some(Ok(place)) => Some(Ok(Spot::Newer(place))),
-            Some(Err(place)) => Some(Err(place)),
-            None => None,
-        }
+        self.newer.probe_key_first_group(&self.hasher, hash, key)
     }
 
     // Gives the value at a spot another count.
@@ -232,11 +234,11 @@ impl<T: Eq + Hash + Drop, S: BuildHasher + Drop> Table<T, S> {
         self.older.recall();
         match spot {
             Spot::Newer(place) => {
-                let former = put_one(&mut self.newer, place, value);
+                let former = store_once(&mut self.newer, place, value);
                 return former;
             }
             Spot::Waiting(place) => {
-                let former = put_one(&mut self.older, self.looked + place, value);
+                let former = store_once(&mut self.older, self.looked + place, value);
                 return former;
             }
         }

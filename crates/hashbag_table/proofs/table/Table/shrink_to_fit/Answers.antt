@@ -21,12 +21,12 @@ pub returns-clause-freed : goal.returns-clause-freed
 returns-clause-freed g c none =
     let zero : c.set_len.result ≡ 0 = c.set_len.ensures.len ∙ ap length none in
     let count = least_none c.in_ok-count.count (subst (λ k. IsLeast 0 k c.in_ok-count.count) zero c.in_ok-count.ensures.least) in
-    let slots : length c.pack.new.self.tables.newer ≡ c.in_ok-count.count = c.pack.ensures.slots ∙ ap length c.in_ok-newer.ensures.slots ∙ length-replicate c.in_ok-count.count Empty in
-    drop_all 0 c.pack.new.self.tables.newer (omega (arith, count, slots))
+    let slots : length c.move_all_into.new.self.tables.newer ≡ c.in_ok-count.count = c.move_all_into.ensures.slots ∙ ap length c.in_ok-newer.ensures.slots ∙ length-replicate c.in_ok-count.count Empty in
+    drop_all 0 c.move_all_into.new.self.tables.newer (omega (arith, count, slots))
 
 pub returns-clause-least : goal.returns-clause-least
 returns-clause-least g c m least less =
-    c.pack.ensures.slots ∙ ap length c.in_ok-newer.ensures.slots ∙ length-replicate c.in_ok-count.count Empty
+    c.move_all_into.ensures.slots ∙ ap length c.in_ok-newer.ensures.slots ∙ length-replicate c.in_ok-count.count Empty
     ∙ least_unique 0 _ c.in_ok-count.count m (subst (λ k. IsLeast 0 k c.in_ok-count.count) c.set_len.ensures.len c.in_ok-count.ensures.least) least
 
 -- no table is made where the least one isn't smaller
@@ -49,19 +49,19 @@ returns-clause-freed_built g c none =
     let zero : c.set_len.result ≡ 0 = c.set_len.ensures.len ∙ ap length none in
     let count = least_none c.in_ok-count.count (subst (λ k. IsLeast 0 k c.in_ok-count.count) zero c.in_ok-count.ensures.least) in
     let size : length c.in_ok-newer.newer.slots ≡ c.in_ok-count.count = ap length c.in_ok-newer.ensures.slots ∙ length-replicate c.in_ok-count.count Empty in
-    let sum = c.pack.ensures.built in
+    let sum = c.move_all_into.ensures.built in
     omega (arith, count, size, sum)
 
 pub returns-clause-fewer : goal.returns-clause-fewer
 returns-clause-fewer g c =
-    let size : length c.pack.new.self.tables.newer ≡ c.in_ok-count.count = c.pack.ensures.slots ∙ ap length c.in_ok-newer.ensures.slots ∙ length-replicate c.in_ok-count.count Empty in
+    let size : length c.move_all_into.new.self.tables.newer ≡ c.in_ok-count.count = c.move_all_into.ensures.slots ∙ ap length c.in_ok-newer.ensures.slots ∙ length-replicate c.in_ok-count.count Empty in
     let less = c.if-count-slots.false in let s = c.slots.ensures.value in
     let seen = ap (λ t. length t.tables.newer) c.self.view_is in
     omega (arith, size, less, s, seen)
 
 pub returns-clause-built : goal.returns-clause-built
 returns-clause-built g c m least less =
-    c.pack.ensures.built ∙ ap (λ k. c.args.self.now.tables.built + k) (ap length c.in_ok-newer.ensures.slots ∙ length-replicate c.in_ok-count.count Empty
+    c.move_all_into.ensures.built ∙ ap (λ k. c.args.self.now.tables.built + k) (ap length c.in_ok-newer.ensures.slots ∙ length-replicate c.in_ok-count.count Empty
     ∙ least_unique 0 _ c.in_ok-count.count m (subst (λ k. IsLeast 0 k c.in_ok-count.count) c.set_len.ensures.len c.in_ok-count.ensures.least) least)
 
 pub returns-then-count-slots-clause-built : goal.returns-then-count-slots-clause-built
@@ -84,7 +84,7 @@ returns-then-count-slots-clause-shrinks g c =
 
 pub returns-clause-shrinks : goal.returns-clause-shrinks
 returns-clause-shrinks g c =
-    let size : length c.pack.new.self.tables.newer ≡ c.in_ok-count.count = c.pack.ensures.slots ∙ ap length c.in_ok-newer.ensures.slots ∙ length-replicate c.in_ok-count.count Empty in
+    let size : length c.move_all_into.new.self.tables.newer ≡ c.in_ok-count.count = c.move_all_into.ensures.slots ∙ ap length c.in_ok-newer.ensures.slots ∙ length-replicate c.in_ok-count.count Empty in
     let less = c.if-count-slots.false in let s = c.slots.ensures.value in
     let seen = ap (λ t. length t.tables.newer) c.self.view_is in
     let is = subst (λ k. IsLeast 0 k c.in_ok-count.count) c.set_len.ensures.len c.in_ok-count.ensures.least in
@@ -92,7 +92,7 @@ returns-clause-shrinks g c =
       omega (arith, size, less, s, seen),
       record {
         least = subst (IsLeast 0 (length c.args.self.now.entries)) (sym size) is;
-        packed = c.pack.ensures.packed;
-        built = c.pack.ensures.built ∙ ap (λ k. c.args.self.now.tables.built + k) (sym c.pack.ensures.slots);
+        packed = c.move_all_into.ensures.packed;
+        built = c.move_all_into.ensures.built ∙ ap (λ k. c.args.self.now.tables.built + k) (sym c.move_all_into.ensures.slots);
       },
     )

@@ -2,7 +2,7 @@ use Rattle.std.proofs.Common.{arith}
 use Rattle.hashbag_slots.proofs.Paths.{count_bound}
 use Rattle.hashbag_table.proofs.RoomLemmas.{IsSlotCount-16, IsSlotCount-double}
 use Rattle.hashbag_table.proofs.LeastLemmas.{below_first, below_double, least_from}
-use Rattle.hashbag_table.proofs.growth.least_count.Goals as goal
+use Rattle.hashbag_table.proofs.capacity.least_slots.Goals as goal
 
 pub overflow_mul-count : goal.overflow_mul-count
 overflow_mul-count c = let b = count_bound _ c.loop-count.invariant.count in omega (arith, b)

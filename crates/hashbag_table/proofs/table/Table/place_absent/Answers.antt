@@ -5,7 +5,7 @@ use Rattle.hashbag_table.specs.Entries.{entry_of}
 use Rattle.hashbag_table.specs.Tables.{room, entries_of}
 use Rattle.hashbag_table.proofs.SlotLemmas.{absent_both}
 use Rattle.hashbag_table.proofs.CarryLemmas.{IsTables-settled, entries_settled}
-use Rattle.hashbag_table.proofs.table.Table.settle.Goals as goal
+use Rattle.hashbag_table.proofs.table.Table.place_absent.Goals as goal
 
 pub place_at-requires-clause-absent : goal.place_at-requires-clause-absent
 place_at-requires-clause-absent g c =

@@ -6,7 +6,7 @@ use Rattle.hashbag_slots.proofs.Probing.{holder}
 use Rattle.hashbag_table.specs.Named.{named_entry}
 use Rattle.hashbag_table.proofs.SlotLemmas.{found_older}
 use Rattle.hashbag_table.proofs.SpotLemmas.{later, waiting_at}
-use Rattle.hashbag_table.proofs.table.Table.locate_older.Goals as goal
+use Rattle.hashbag_table.proofs.table.Table.waiting_spot.Goals as goal
 
 pub returns-in-Some-clause-map : goal.returns-in-Some-clause-map
 returns-in-Some-clause-map g c =

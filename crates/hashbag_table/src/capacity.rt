@@ -23,7 +23,7 @@ pub fn no_slots<T: Eq + Drop>(alloc: Global) -> Slots<T>
 
 /// The number of slots of a new table, after one of `count` slots with `live` values: 16 where there were none, so many again
 /// where at most three eighths are Live, else twice as many. More than 2^59 are refused.
-pub fn grown_count(count: usize, live: usize) -> Result<usize, AllocError>
+pub fn grown_slots(count: usize, live: usize) -> Result<usize, AllocError>
     requires count { IsSlotCount count }
     requires live { live ≤ count }
     ensures grown { IfOk result (λ n. n ≡ grown_slots count live) }
@@ -43,7 +43,7 @@ pub fn grown_count(count: usize, live: usize) -> Result<usize, AllocError>
 }
 
 /// The least number of slots, from `from` on, of which `values` may be Live. More than 2^59 are refused.
-pub fn least_count(from: usize, values: usize) -> Result<usize, AllocError>
+pub fn least_slots(from: usize, values: usize) -> Result<usize, AllocError>
     requires count { IsSlotCount from }
     ensures least { IfOk result (λ n. IsLeast from values n) }
     ensures refused { IsErr result → limit (2 ^ 59) < values }

@@ -8,7 +8,7 @@ ghost use Rattle.hashbag_table.specs.Entries.{IsCounted};
 ghost use Rattle.hashbag_table.specs.Table.{IsMapOf};
 ghost use Rattle.hashbag_table.specs.Tables.{limit, room, values, IsLeast, IsPacked, ReservesOrStays, ShrinksOrStays, Carried, IsReady, MayAdopt};
 
-use crate::growth::{carry_next, grown_count, least_count, no_slots};
+use crate::capacity::{carry_next, grown_slots, least_slots, no_slots};
 use crate::table::{MOST_VALUES, Table};
 use hashbag_slots::slots::{Slot, Slots};
 use std::alloc::AllocError;
@@ -71,14 +71,14 @@ impl<T: Eq + Hash + Drop, S: BuildHasher + Drop> Table<T, S> {
         ensures hasher { self.new.hasher ≡ self.old.hasher }
         ensures err { OnErr result (self.new ≡ self.old) }
     {
-        let count = grown_count(self.newer.slots(), self.newer.live())?;
+        let count = grown_slots(self.newer.slots(), self.newer.live())?;
         let newer = Slots::with_slots(self.alloc, count)?;
         self.adopt(newer, 16);
         Ok(())
     }
 
     // Makes way for an absent value: a growth where no room is left, and else a carry, which takes no memory.
-    pub(super) fn make_way(&mut self) -> Result<(), AllocError>
+    pub(super) fn carry_or_grow(&mut self) -> Result<(), AllocError>
         ensures ready { OnOk result (IsReady self.old.tables self.new.tables) }
         ensures takes { 0 < room self.old.tables → IsOk result }
         ensures entries { OnOk result (IsPermutation self.old.entries self.new.entries) }
@@ -96,7 +96,7 @@ impl<T: Eq + Hash + Drop, S: BuildHasher + Drop> Table<T, S> {
 
     // Takes a table of Empty slots in which all values have room as the newer one, moves every value into it, and frees the
     // others. It takes no memory, and hashes each value once.
-    fn pack(&mut self, newer: Slots<T>)
+    fn move_all_into(&mut self, newer: Slots<T>)
         requires empty { newer.slots ≡ replicate (length newer.slots) Slot.Empty }
         requires reached { (hash : T → ℕ) → IsReached hash newer }
         requires enough { length self.old.entries ≤ limit (length newer.slots) }
@@ -141,9 +141,9 @@ impl<T: Eq + Hash + Drop, S: BuildHasher + Drop> Table<T, S> {
         if n > MOST_VALUES - values {
             return Err(AllocError);
         }
-        let count = least_count(slots, values + n)?;
+        let count = least_slots(slots, values + n)?;
         let newer = Slots::with_slots(self.alloc, count)?;
-        self.pack(newer);
+        self.move_all_into(newer);
         Ok(())
     }
 
@@ -166,12 +166,12 @@ impl<T: Eq + Hash + Drop, S: BuildHasher + Drop> Table<T, S> {
         ensures packed { (m : ℕ) → IsLeast 0 (length self.old.entries) m → m < length self.old.tables.newer → OnOk result (IsPacked self.new.tables) }
         ensures built { (m : ℕ) → IsLeast 0 (length self.old.entries) m → m < length self.old.tables.newer → OnOk result (self.new.tables.built ≡ self.old.tables.built + m) }
     {
-        let count = least_count(0, self.set_len())?;
+        let count = least_slots(0, self.set_len())?;
         if count >= self.newer.slots() {
             return Ok(());
         }
         let newer = Slots::with_slots(self.alloc, count)?;
-        self.pack(newer);
+        self.move_all_into(newer);
         Ok(())
     }
 }

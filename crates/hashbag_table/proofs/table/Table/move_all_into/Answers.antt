@@ -9,7 +9,7 @@ use Rattle.hashbag_table.specs.Entries.{IsCounted}
 use Rattle.hashbag_table.specs.Tables.{limit}
 use Rattle.hashbag_table.proofs.EntryLemmas.{counted_rearranged}
 use Rattle.hashbag_table.proofs.PackLemmas.{apart_blank, room_blank, beside, may_pack, packed, values_packed, IsTables-freed}
-use Rattle.hashbag_table.proofs.table.Table.pack.Goals as goal
+use Rattle.hashbag_table.proofs.table.Table.move_all_into.Goals as goal
 
 pub overflow_sub-waiting : goal.overflow_sub-waiting
 overflow_sub-waiting g c = let w = c.self.invariant.tables.looked_within in let s = c.slots.ensures.value in omega (arith, w, s)

@@ -3,7 +3,7 @@ use Rattle.hashbag_slots.specs.Hashing.{hash_under}
 use Rattle.hashbag_table.specs.Tables.{AreTables, Carried}
 use Rattle.hashbag_table.proofs.SlotLemmas.{live-drop}
 use Rattle.hashbag_table.proofs.CarryLemmas.{tables_after, carried_after, tables_freed, carried_freed}
-use Rattle.hashbag_table.proofs.growth.carry_next.Goals as goal
+use Rattle.hashbag_table.proofs.capacity.carry_next.Goals as goal
 
 pub carry_from-requires-clause-room : goal.carry_from-requires-clause-room
 carry_from-requires-clause-room g c =

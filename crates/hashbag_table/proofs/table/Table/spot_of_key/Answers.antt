@@ -2,7 +2,7 @@ use Rattle.std.proofs.Common.{sym, ap, ◌∙◌, drop}
 use Rattle.hashbag_slots.specs.Slots.{entries, slot_at, slot_entry}
 use Rattle.hashbag_table.specs.Named.{named_entry}
 use Rattle.hashbag_table.proofs.SlotLemmas.{found_newer}
-use Rattle.hashbag_table.proofs.table.Table.locate_key.Goals as goal
+use Rattle.hashbag_table.proofs.table.Table.spot_of_key.Goals as goal
 
 pub returns-in-Some-clause-map : goal.returns-in-Some-clause-map
 returns-in-Some-clause-map g c =

@@ -1,7 +1,7 @@
 use Rattle.std.proofs.Common.{◌-◌, ◌^◌, ◌≤◌}
 use Rattle.hashbag_slots.specs.Slots.{IsSlotCount}
 use Rattle.hashbag_table.proofs.LeastLemmas.{Below}
-use Rattle.hashbag_table.proofs.growth.least_count.Given as goal
+use Rattle.hashbag_table.proofs.capacity.least_slots.Given as goal
 
 -- no number of slots below this one is enough
 abbrev pub invariant-loop-count : goal.invariant-loop-count

@@ -4,7 +4,7 @@ use Rattle.hashbag_slots.specs.declared.slots.Slot.TheVariants.{Empty, Live}
 use Rattle.hashbag_slots.specs.Slots.{is_live, slot_at, count_in, recounted}
 use Rattle.hashbag_slots.proofs.Tables.{within_table}
 use Rattle.hashbag_slots.proofs.Writing.{set_twice}
-use Rattle.hashbag_table.proofs.table.spots.put_one.Goals as goal
+use Rattle.hashbag_table.proofs.table.spots.store_once.Goals as goal
 
 pub returns-clause-after : goal.returns-clause-after
 returns-clause-after g c =

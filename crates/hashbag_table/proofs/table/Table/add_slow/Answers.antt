@@ -6,10 +6,10 @@ use Rattle.hashbag_table.proofs.SlotLemmas.{turned}
 use Rattle.hashbag_table.proofs.SpotLemmas.{count_absent, added_absent}
 use Rattle.hashbag_table.proofs.RaisedLemmas.{raised_there, raised_fits, raised_before, raised_added, raised_slot, raised_kept}
 use Rattle.hashbag_table.proofs.RoomKeptLemmas.{keeps_more, keeps_Arrives}
-use Rattle.hashbag_table.proofs.table.Table.add_far.Goals as goal
+use Rattle.hashbag_table.proofs.table.Table.add_slow.Goals as goal
 
-pub locate_told-requires-clause-hashed : goal.locate_told-requires-clause-hashed
-locate_told-requires-clause-hashed g c =
+pub spot_after_first_group-requires-clause-hashed : goal.spot_after_first_group-requires-clause-hashed
+spot_after_first_group-requires-clause-hashed g c =
     c.requires.hashed ∙ fed_alike g.T.Hash.hash_input (λ r. g.T.Hash.hash_input r.now) g.S.BuildHasher g.S.Hasher.Hasher c.args.self.now.hasher c.args.value _ refl
 
 pub insert_hashed-requires-clause-absent : goal.insert_hashed-requires-clause-absent

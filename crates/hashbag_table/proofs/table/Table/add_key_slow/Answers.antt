@@ -1,7 +1,7 @@
 use Rattle.std.proofs.Common.{sym, ◌∙◌}
 use Rattle.hashbag_slots.proofs.Hashing.{fed_alike}
 use Rattle.hashbag_table.proofs.KeyLemmas.{named_absent, named_found, named_fits, named_before, named_raised, named_arrived}
-use Rattle.hashbag_table.proofs.table.Table.add_key_far.Goals as goal
+use Rattle.hashbag_table.proofs.table.Table.add_key_slow.Goals as goal
 
 pub raise_spot-before-requires-clause-fits : goal.raise_spot-before-requires-clause-fits
 raise_spot-before-requires-clause-fits g c =

@@ -1,6 +1,6 @@
 use Rattle.std.proofs.Common.{arith}
 use Rattle.hashbag_table.proofs.RoomLemmas.{eight_fits, IsSlotCount-double}
-use Rattle.hashbag_table.proofs.growth.grown_count.Goals as goal
+use Rattle.hashbag_table.proofs.capacity.grown_slots.Goals as goal
 
 pub overflow_mul-live : goal.overflow_mul-live
 overflow_mul-live g = let b = eight_fits _ g.requires.count in let l = g.requires.live in omega arith

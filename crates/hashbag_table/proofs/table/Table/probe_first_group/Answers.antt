@@ -1,0 +1,23 @@
+use Rattle.std.proofs.Common.{◌≡◌, ◌++◌, ℕ, Bool, List, subst, drop}
+use Rattle.std.specs.Map.{lookup_entry}
+use Rattle.hashbag_slots.specs.declared.probe.FirstGroup.{FirstGroup}
+use Rattle.hashbag_slots.specs.declared.probe.FirstGroup.TheVariants.{Found, Absent, Open}
+use Rattle.hashbag_slots.specs.declared.slots.Slot.{Slot}
+use Rattle.hashbag_slots.specs.FirstGroup.{IfFound}
+use Rattle.hashbag_slots.specs.Slots.{HoldsAt, entries, slot_at, slot_entry}
+use Rattle.hashbag_table.specs.Named.{named_entry}
+use Rattle.hashbag_table.proofs.SlotLemmas.{found_newer}
+use Rattle.hashbag_table.proofs.table.Table.probe_first_group.Goals as goal
+
+-- what is found in the newer table is what the map has
+found : {T : Type 0} (names : T → Bool) (n : List (Slot T)) (es : List (T × ℕ)) (r : FirstGroup) → IfFound r (HoldsAt names n)
+    → IfFound r (λ p. slot_entry (slot_at n p) ≡ lookup_entry names (entries n)) → IfFound r (λ p. slot_entry (slot_at n p) ≡ named_entry names (entries n ++ es))
+found names n es (Found p) held is = found_newer names n es p held is
+found names n es (Absent p) held is = tt
+found names n es Open held is = tt
+
+pub returns-clause-map : goal.returns-clause-map
+returns-clause-map g c =
+    let names = g.Q.Key.names c.args.key in let n = c.self.inside.newer.slots in let w = drop c.self.inside.looked c.self.inside.older.slots in
+    let is = found names n (entries w) c.probe_key_first_group.result c.probe_key_first_group.ensures.found c.probe_key_first_group.ensures.map in
+    subst (λ m. IfFound c.probe_key_first_group.result (λ p. slot_entry (slot_at m.tables.newer p) ≡ named_entry names m.entries)) c.self.view_is is
