@@ -19,11 +19,13 @@ use Rattle.std.proofs.lemmas.List.Sorted.{IsPermutation-refl}
 use Rattle.std.proofs.lemmas.Map.Keys.{IsDistinct-tail}
 use Rattle.hashbag_table.specs.Asked.{kept}
 use Rattle.hashbag_table.proofs.CloneLemmas.{all_to_recursion}
+use Rattle.hashbag_table.proofs.KeyLemmas.{named_is}
 use Rattle.hashbag_core.specs.Bag.{Bag, Means, occurrences, IsBagOf}
 use Rattle.hashbag_core.specs.Equality.{bag_eq}
 use Rattle.hashbag_core.specs.EqualityLaws.{count_congr, count_append, same_counts-Decides}
 use Rattle.hashbag_core.specs.Extends.{add_all, Once, AsItIs}
 use Rattle.hashbag_core.specs.Joins.{IsDifference}
+use Rattle.hashbag_core.specs.Keys.{count_named, InsertsNamed}
 use Rattle.hashbag_core.specs.Occurrences.{alike, others, count, instance_or_itself, add, less, put, SameCounts}
 use Rattle.hashbag_core.specs.Retain.{IsRetained}
 use Rattle.hashbag_core.specs.Walks.{IsSetWalk}
@@ -125,6 +127,12 @@ module _ {T : Type 0} {eq : T → T → Bool} (laws : IsEquivalence eq) where
       let same : eq v i ≡ eq v x = laws.symm v i ∙ sym (laws.congr x i v (instance_equals laws x X)) ∙ laws.symm x v in
       count_put v i n X ∙ ap (λ (b : Bool). cond b n (count eq v X)) same
 
+  -- ---- keys
+
+  -- a key names what equals any value that it names. `one` is its law `names_one`
+  pub count_of_key : (v : T) (names : T → Bool) → ((x w : T) → names x ≡ true → names w ≡ eq w x) → names v ≡ true → (X : List T) → count_named names X ≡ count eq v X
+  count_of_key v names one does X = ap (λ (test : T → Bool). count_named test X) (named_is eq laws names one v does)
+
   -- ---- bags
 
   module _ {S : Type 0} (before after : Bag T S) where
@@ -149,6 +157,10 @@ module _ {T : Type 0} {eq : T → T → Bool} (laws : IsEquivalence eq) where
     -- the same in one line, for every value v
     pub count_inserted_any : (v x : T) (n : ℕ) → IsBagOf eq before (add eq x n before.items) after → count eq v after.items ≡ count eq v before.items + cond (eq v x) n 0
     count_inserted_any v x n h = count_means v (add eq x n before.items) h.means ∙ count_added laws v x n before.items
+
+    -- after `insert_key` (n is 1) and `insert_many_key`: n more of what the key names. `one` is the key's law `names_one`
+    pub count_inserted_key : (v : T) (names : T → Bool) (n : ℕ) → ((x w : T) → names x ≡ true → names w ≡ eq w x) → InsertsNamed eq names n before after → count eq v after.items ≡ count eq v before.items + cond (names v) n 0
+    count_inserted_key v names n one h = count_inserted_any v h.0 n h.2.added ∙ ap (λ (b : Bool). count eq v before.items + cond b n 0) (sym (one h.0 v h.1))
 
     -- after `remove` (n is 1), `remove_up_to`, `take_one` (n is 1) and `take_all` (n is the count)
     pub count_removed : (x : T) (n : ℕ) → IsBagOf eq before (less eq x n before.items) after → count eq x after.items ≡ count eq x before.items - n

@@ -1,7 +1,8 @@
 -- What a key names in a bag is what it names in the map of its table; and what an insertion by a key leaves.
-use Rattle.std.proofs.Common.{◌≡◌, ℕ, ◌+◌, ◌<◌, ◌≤◌, Bool, true, cond, List, [], ◌∷◌, ◌++◌, length, replicate, filter, slice_get, Option, Some, None, option_map, refl, sym, ap, subst, ◌∙◌, arith}
+use Rattle.std.proofs.Common.{◌≡◌, ℕ, ◌+◌, ◌-◌, ◌<◌, ◌≤◌, min, Bool, true, false, cond, List, [], ◌∷◌, ◌++◌, length, replicate, filter, slice_get, Option, Some, None, option_map, refl, sym, ap, subst, ◌∙◌, arith}
 use Rattle.std.specs.Cmp.{IsEquivalence}
 use Rattle.std.specs.List.{IsDistinct}
+use Rattle.std.specs.List.Sorted.{IsPermutation}
 use Rattle.std.specs.Map.{keys_of, lookup_entry}
 use Rattle.std.proofs.lemmas.List.Elements.{filter-append}
 use Rattle.std.proofs.lemmas.List.Sums.{length-filter}
@@ -15,9 +16,10 @@ use Rattle.hashbag_table.proofs.ListLemmas.{filter-replicate, find-filter}
 use Rattle.hashbag_core.specs.Bag.{Bag, occurrences, IsTallied}
 use Rattle.hashbag_core.specs.Inserts.{Inserts}
 use Rattle.hashbag_core.specs.Keys.{count_named, stored_named}
+use Rattle.hashbag_core.specs.Occurrences.{less}
 use Rattle.hashbag_core.proofs.DistinctLemmas.{distinct_added, distinct_same, distinct_one_more}
 use Rattle.hashbag_core.proofs.HeldLemmas.{shown, absent_in_table, present_in_table, recounts_some}
-use Rattle.hashbag_core.proofs.OccurrenceLemmas.{add_occurrences, bag_from_tally, count_occurrences, count_in_tally}
+use Rattle.hashbag_core.proofs.OccurrenceLemmas.{add_occurrences, bag_from_tally, count_occurrences, count_in_tally, tally_less}
 use Rattle.hashbag_core.proofs.TakeLemmas.{stored_occurrences}
 
 module _ {T : Type 0} (names : T → Bool) where
@@ -32,15 +34,17 @@ module _ {T : Type 0} (names : T → Bool) where
       filter-append names (replicate e.1 e.0) (occurrences es) ∙ ap (λ (l : List T). l ++ filter names (occurrences es)) (filter-replicate names e.1 e.0)
       ∙ none_step (names e.0) e _ (replicate e.1 e.0) _ (none_named es) h
 
+  -- the entry that it names
+  entry_named : (es : List (T × ℕ)) (e : T × ℕ) → named_entry names es ≡ Some e → names e.0 ≡ true
+  entry_named es e h = lookup_key_passes names es e.0 (lookup_key-entry names es ∙ ap (option_map (λ (x : T × ℕ). x.0)) h)
+
 module _ {T : Type 0} {eq : T → T → Bool} (laws : IsEquivalence eq) (names : T → Bool) (one : (v w : T) → names v ≡ true → names w ≡ eq w v) where
   -- what holds where the key names nothing that is there, and of the test of being equal to a value, holds of the key
   by_value : (es : List (T × ℕ)) (P : (T → Bool) → Type 0) → (named_entry names es ≡ None → P names) → ((v : T) → P (eq v)) → P names
   by_value es P none some = cases (lookup_entry names es) refl where
     cases : (o : Option (T × ℕ)) → lookup_entry names es ≡ o → P names
     cases None h = none h
-    cases (Some e) h =
-        let does : names e.0 ≡ true = lookup_key_passes names es e.0 (lookup_key-entry names es ∙ ap (option_map (λ (x : T × ℕ). x.0)) h) in
-        subst P (sym (named_is eq laws names one e.0 does)) (some e.0)
+    cases (Some e) h = subst P (sym (named_is eq laws names one e.0 (entry_named names es e h))) (some e.0)
 
   -- the count in the list is the count in the map
   pub named_occurrences : (es : List (T × ℕ)) → IsDistinct eq (keys_of es) → count_named names (occurrences es) ≡ named_count names es
@@ -66,6 +70,20 @@ module _ {T : Type 0} {eq : T → T → Bool} (laws : IsEquivalence eq) (names :
       by_value es (λ (test : T → Bool). named_count test es ≤ total)
       (λ none. let zero = named_absent names es none in omega arith)
       (λ v. count_in_tally laws v es total tally)
+
+  -- n fewer in the map and in the total, or as many as there are
+  pub tally_named_less : {most : ℕ} → (n taken : ℕ) (es fs : List (T × ℕ)) (total : ℕ) → IsTallied eq es total most → taken ≡ min n (named_count names es) → (named_count names es ≡ 0 → fs ≡ es)
+      → ((v : T) → names v ≡ true → IsCounted eq fs × IsPermutation (less eq v n (occurrences es)) (occurrences fs)) → IsTallied eq fs (total - taken) most
+  tally_named_less {most} n taken es fs total tally number same left = cases (lookup_entry names es) refl where
+    cases : (o : Option (T × ℕ)) → lookup_entry names es ≡ o → IsTallied eq fs (total - taken) most
+    cases None h =
+        let zero = named_absent names es h in
+        let none : total ≡ total - taken = omega (arith, zero, number) in
+        subst (λ (k : ℕ). IsTallied eq fs k most) none (subst (λ (l : List (T × ℕ)). IsTallied eq l total most) (sym (same zero)) tally)
+    cases (Some e) h =
+        let does = entry_named names es e h in
+        let now = left e.0 does in
+        tally_less laws e.0 n taken es fs total tally (number ∙ ap (λ (test : T → Bool). min n (named_count test es)) (named_is eq laws names one e.0 does)) now.0 now.1
 
 -- what an addition to the table of a bag leaves of the bag
 pub inserts_added : {T S : Type 0} {eq : T → T → Bool} (laws : IsEquivalence eq) {most : ℕ} (v : T) (n total : ℕ) (before after : Table T S)

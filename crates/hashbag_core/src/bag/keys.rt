@@ -2,7 +2,8 @@
 //!
 //! In the Rust crate `contains`, `get` and `remove` take whatever a value can be borrowed as. Here these calls take a [`Key`], and
 //! insertions a [`ToValue`], which makes the value only where it is absent.
-ghost use Rattle.std.specs.Prelude.{◌≡◌, ◌+◌, ◌<◌, ◌≤◌, length, option_map, IsOk, IfOk, IfErr, OnOk, OnErr};
+ghost use Rattle.std.specs.Prelude.{◌≡◌, ◌+◌, ◌<◌, ◌≤◌, length, min, option_map, IsTrue, IsOk, IfOk, IfErr, OnOk, OnErr};
+ghost use Rattle.hashbag_core.specs.Held.{HasFewer};
 ghost use Rattle.hashbag_core.specs.Keys.{count_named, stored_named, RefusesNamed, InsertsNamed};
 ghost use Rattle.hashbag_core.specs.Occurrences.{IsBag};
 
@@ -85,5 +86,19 @@ impl<T: Eq + Hash + Drop, S: BuildHasher + Drop> HashBag<T, S> {
         let before = self.table.add_key(key, n)?;
         self.len += n;
         Ok(before)
+    }
+    /// Takes one occurrence of the value that a key names, if there is one, and answers how many there were. With the last occurrence
+    /// the stored instance is dropped.
+    ///
+    /// It takes no memory, and hashes the key once.
+    pub fn remove_key<Q: Key<T>>(&mut self, key: Q) -> usize
+        ensures before { result ≡ count_named (Q.names key) self.old.items }
+        ensures fewer { (v : T) → IsTrue (Q.names key v) → HasFewer T.eq v 1 self.old self.new }
+        ensures none { result ≡ 0 → self.new ≡ self.old }
+        ensures len { length self.new.items + min result 1 ≡ length self.old.items }
+    {
+        let before = self.table.take_key(key, 1);
+        self.len -= before.min(1);
+        before
     }
 }
