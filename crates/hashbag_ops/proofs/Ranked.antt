@@ -1,5 +1,5 @@
 -- Pairs that are sorted by falling count, and then by rising value.
-use Rattle.std.proofs.Common.{◌≡◌, ℕ, zero, suc, ◌<◌, ◌+◌, Bool, false, List, [], ◌∷◌, length, get_or, take, map, Ordering, Less, Equal, Greater, nat_cmp, is_lt, is_eq, refl, sym, ◌∙◌, ap, arith}
+use Rattle.std.proofs.Common.{◌≡◌, ℕ, zero, suc, ◌<◌, ◌+◌, Bool, false, List, [], ◌∷◌, length, get_or, take, map, Ordering, Less, Equal, Greater, is_lt, is_eq, nat_cmp, refl, sym, ◌∙◌, ap, arith}
 use denote.Ref.{Bor}
 use denote.Param.Members.{Mut}
 use Rattle.std.specs.Cmp.{IsEquivalence, IsTotalOrder, IsStrictWeakOrder, then_total, on_total, back_total, nat_cmp_total}
@@ -12,47 +12,58 @@ use Rattle.std.proofs.lemmas.Bool.{false≢true}
 use Rattle.std.proofs.lemmas.Fn.{always_returns_same}
 use Rattle.std.proofs.lemmas.List.Sorted.{ranks_by, sorted_far}
 use Rattle.std.proofs.lemmas.Map.Keys.{IsDistinct-head, IsDistinct-tail}
-use Rattle.hashbag_ops.specs.Order.{shown, rank}
+use Rattle.hashbag_ops.specs.Order.{shown, rank, comes_first}
 
 pub take_map : {X Y : Type 0} (f : X → Y) (k : ℕ) (xs : List X) → map f (take k xs) ≡ take k (map f xs)
 take_map f zero xs = refl
 take_map f (suc k) [] = refl
 take_map f (suc k) (x ∷ xs) = ap (λ l. f x ∷ l) (take_map f k xs)
 
+-- none comes before one that stands before it
+abbrev pub Rises : {X : Type 0} → (X → X → Bool) → List X → Type 0
+Rises lt [] = Unit {0}
+Rises lt (x ∷ xs) = AllByRecursion (λ y. lt y x ≡ false) xs × Rises lt xs
+
+module _ {X Y : Type 0} (f : X → Y) (lt : Y → Y → Bool) (weak : IsStrictWeakOrder (λ x y. lt (f x) (f y))) where
+  none_before : (p : X) (ps : List X) → ((j : ℕ) (d : X) → j < length ps → lt (f (get_or ps j d)) (f p) ≡ false) → AllByRecursion (λ y. lt y (f p) ≡ false) (map f ps)
+  none_before p [] up = tt
+  none_before p (q ∷ ps) up = (up 0 q (omega arith), none_before p ps (λ j d h. up (suc j) d (omega arith)))
+
+  -- what a sort left, by what it was sorted by
+  pub rises_from_sorted : (ps : List X) → IsSortedBy (λ x y. lt (f x) (f y)) ps → Rises lt (map f ps)
+  rises_from_sorted [] up = tt
+  rises_from_sorted (p ∷ ps) up =
+      let later : IsSortedBy (λ x y. lt (f x) (f y)) ps = λ k d low high. sorted_far (λ x y. lt (f x) (f y)) weak (p ∷ ps) up (suc k) (suc (k + 1)) d (omega arith) (omega arith) in
+      (none_before p ps (λ j d h. sorted_far (λ x y. lt (f x) (f y)) weak (p ∷ ps) up 0 (suc j) d (omega arith) (omega arith)), rises_from_sorted ps later)
+
 then_equal : (a b : Ordering) → ordering_then a b ≡ Equal → b ≡ Equal
 then_equal Less b is = absurd (false≢true (sym (ap is_lt is)))
 then_equal Equal b is = is
 then_equal Greater b is = absurd (false≢true (ap is_eq is))
 
-module _ {T : Type 0} {eq : T → T → Bool} (laws : IsEquivalence eq) {cmp : T → T → Ordering} (total : IsTotalOrder cmp) (ties : (x y : T) → eq x y ≡ is_eq (cmp x y)) where
+module _ {T : Type 0} {cmp : T → T → Ordering} (total : IsTotalOrder cmp) where
   rank_total : IsTotalOrder (rank cmp)
   rank_total = then_total (back_total (on_total (λ (p : T × ℕ). p.1) nat_cmp_total)) (on_total (λ (p : T × ℕ). p.0) total)
 
-  abbrev before : Bor T × ℕ → Bor T × ℕ → Bool
-  before = λ x y. is_lt (rank cmp (shown x) (shown y))
+  -- the order, and the same of what shows such pairs
+  pub rank_weak : {X : Type 0} (f : X → T × ℕ) → IsStrictWeakOrder (λ x y. comes_first cmp (f x) (f y))
+  rank_weak f = ranks_by rank_total f
 
-  weak : IsStrictWeakOrder before
-  weak = ranks_by rank_total (λ (p : Bor T × ℕ). shown p)
-
+module _ {T : Type 0} {eq : T → T → Bool} (laws : IsEquivalence eq) {cmp : T → T → Ordering} (total : IsTotalOrder cmp) (ties : (x y : T) → eq x y ≡ is_eq (cmp x y)) where
   first_at : (p q : T × ℕ) (o : Ordering) → rank cmp q p ≡ o → is_lt o ≡ false → eq p.0 q.0 ≡ false → rank cmp p q ≡ Less
   first_at p q Less is up apart = absurd (false≢true (sym up))
   first_at p q Equal is up apart = absurd (false≢true (sym apart ∙ laws.symm p.0 q.0 ∙ ties q.0 p.0 ∙ ap is_eq (then_equal (nat_cmp p.1 q.1) (cmp q.0 p.0) is)))
-  first_at p q Greater is up apart = rank_total.antisymm p q ∙ ap ordering_reverse is
+  first_at p q Greater is up apart = (rank_total total).antisymm p q ∙ ap ordering_reverse is
 
-  all_after : (p : Bor T × ℕ) (ps : List (Bor T × ℕ)) → ((j : ℕ) (d : Bor T × ℕ) → j < length ps → before (get_or ps j d) p ≡ false)
-      → AllByRecursion (λ y. eq p.0.now y ≡ false) (keys_of (map shown ps)) → AllByRecursion (λ y. rank cmp (shown p) y ≡ Less) (map shown ps)
+  all_after : (p : T × ℕ) (ps : List (T × ℕ)) → AllByRecursion (λ y. comes_first cmp y p ≡ false) ps → AllByRecursion (λ y. eq p.0 y ≡ false) (keys_of ps) → AllByRecursion (λ y. rank cmp p y ≡ Less) ps
   all_after p [] up apart = tt
-  all_after p (q ∷ ps) up apart = (first_at (shown p) (shown q) (rank cmp (shown q) (shown p)) refl (up 0 q (omega arith)) apart.0, all_after p ps (λ j d h. up (suc j) d (omega arith)) apart.1)
+  all_after p (q ∷ ps) up apart = (first_at p q (rank cmp q p) refl up.0 apart.0, all_after p ps up.1 apart.1)
 
-  -- pairs of distinct values that a sort left are each before those after it
-  ranked_from_sorted : (ps : List (Bor T × ℕ)) → IsSortedBy before ps → IsDistinct eq (keys_of (map shown ps)) → IsStrictlySortedBy (rank cmp) (map shown ps)
+  -- pairs of distinct values that rise are each before those after it
+  pub ranked_from_rising : (ps : List (T × ℕ)) → Rises (comes_first cmp) ps → IsDistinct eq (keys_of ps) → IsStrictlySortedBy (rank cmp) ps
   unfolding IsStrictlySortedBy
-  ranked_from_sorted [] up distinct = tt
-  ranked_from_sorted (p ∷ ps) up distinct =
-      let later : IsSortedBy before ps = λ k d low high. sorted_far before weak (p ∷ ps) up (suc k) (suc (k + 1)) d (omega arith) (omega arith) in (
-        all_after p ps (λ j d h. sorted_far before weak (p ∷ ps) up 0 (suc j) d (omega arith) (omega arith)) (IsDistinct-head eq p.0.now (keys_of (map shown ps)) distinct),
-        ranked_from_sorted ps later (IsDistinct-tail eq p.0.now (keys_of (map shown ps)) distinct),
-      )
+  ranked_from_rising [] up distinct = tt
+  ranked_from_rising (p ∷ ps) up distinct = (all_after p ps up.0 (IsDistinct-head eq p.0 (keys_of ps) distinct), ranked_from_rising ps up.1 (IsDistinct-tail eq p.0 (keys_of ps) distinct))
 
   -- the same from a sort by a closure that compares so
   pub ranked_from_sort_by : {F : Type 0} {g : Mut F (Bor (Bor T × ℕ) × (Bor (Bor T × ℕ) × Unit {0})) Ordering} {f : F} (ps : List (Bor T × ℕ))
@@ -60,4 +71,7 @@ module _ {T : Type 0} {eq : T → T → Bool} (laws : IsEquivalence eq) {cmp : T
       → ((a : Bor (Bor T × ℕ) × (Bor (Bor T × ℕ) × Unit {0})) (r : Ordering) (f' : F) → Called g f a r f' → (r ≡ rank cmp (shown a.0.now) (shown a.1.0.now)) × (f' ≡ f))
       → IsDistinct eq (keys_of (map shown ps)) → IsStrictlySortedBy (rank cmp) (map shown ps)
   ranked_from_sort_by {g = g} {f = f} ps up h distinct =
-      ranked_from_sorted ps (up before weak (always_returns_same g (λ a r. is_lt r ≡ before a.0.now a.1.0.now) f (λ a r f' k. (ap is_lt (h a r f' k).0, (h a r f' k).1)))) distinct
+      let before : Bor T × ℕ → Bor T × ℕ → Bool = λ x y. comes_first cmp (shown x) (shown y) in
+      let weak : IsStrictWeakOrder before = rank_weak total (λ (p : Bor T × ℕ). shown p) in
+      let sorted : IsSortedBy before ps = up before weak (always_returns_same g (λ a r. is_lt r ≡ before a.0.now a.1.0.now) f (λ a r f' k. (ap is_lt (h a r f' k).0, (h a r f' k).1))) in
+      ranked_from_rising (map shown ps) (rises_from_sorted (λ (p : Bor T × ℕ). shown p) (comes_first cmp) weak ps sorted) distinct

@@ -1,8 +1,15 @@
 -- The words of the lists of pairs that are sorted.
-use Rattle.std.specs.Prelude.{ℕ}
+use Rattle.std.specs.Prelude.{◌≡◌, ℕ, ◌<◌, ◌≤◌, Bool, false, List, [], ◌∷◌, ◌++◌, length, map, take}
+use Rattle.std.specs.BinaryHeap.{heap_items}
 use Rattle.std.specs.Borrow.{Bor}
-use Rattle.std.specs.Ordering.{ordering_then, nat_cmp}
+use Rattle.std.specs.List.{AllByRecursion}
+use Rattle.std.specs.List.Sorted.{IsPermutation, IsStrictlySortedBy}
+use Rattle.std.specs.Ordering.{is_lt, ordering_then, nat_cmp}
 use Rattle.std.specs.declared.cmp.Ordering.{Ordering}
+use Rattle.std.specs.declared.cmp.Reverse.{Reverse}
+use Rattle.std.specs.declared.collections.BinaryHeap.{BinaryHeap}
+use Rattle.hashbag.specs.Bag.{Bag}
+use Rattle.hashbag.specs.Walks.{IsSetWalkOf}
 
 -- a value that is lent, with its count
 abbrev pub shown : {T : Type 0} → Bor T × ℕ → T × ℕ
@@ -11,3 +18,34 @@ shown e = (e.0.now, e.1)
 -- the order of the commonest: what occurs oftener comes first, and of what occurs as often the lesser value
 abbrev pub rank : {T : Type 0} → (T → T → Ordering) → T × ℕ → T × ℕ → Ordering
 rank cmp x y = ordering_then (nat_cmp y.1 x.1) (cmp x.0 y.0)
+
+-- P are the first k of a set walk of the bag that is in that order, or all of it where it is shorter
+abbrev pub IsMostCommon : {T S : Type 0} → (T → T → Bool) → (T → T → Ordering) → ℕ → Bag T S → List (T × ℕ) → Type 0
+IsMostCommon {T} eq cmp k bag P = (W : List (T × ℕ)) × IsSetWalkOf eq bag W × IsStrictlySortedBy (rank cmp) W × (P ≡ take k W)
+
+-- whether x comes before y in that order
+abbrev pub comes_first : {T : Type 0} → (T → T → Ordering) → T × ℕ → T × ℕ → Bool
+comes_first cmp x y = is_lt (rank cmp x y)
+
+-- H are k of P, or all where there are fewer, and none that is left out comes before one of them
+pub record IsFirstOf {X : Type 0} (lt : X → X → Bool) (k : ℕ) (P H : List X) : Type 0 where
+  pub rest : List X
+  pub parts : IsPermutation P (H ++ rest)
+  pub few : length H ≤ k
+  pub full : length H < k → rest ≡ []
+  pub first : AllByRecursion (λ r. AllByRecursion (λ h. lt r h ≡ false) H) rest
+
+-- where H are the first k of what came so far, H' are the first k when x comes too
+abbrev pub KeepsFirst : {X : Type 0} → (X → X → Bool) → ℕ → List X → X → List X → Type 0
+KeepsFirst {X} lt k H x H' = (P : List X) → IsFirstOf lt k P H → IsFirstOf lt k (P ++ x ∷ []) H'
+
+-- a count and a value that is lent, as a heap holds them. What they are compared by themselves is the order of the commonest
+abbrev pub counted : {T : Type 0} → Reverse ℕ × Bor T → T × ℕ
+counted e = (e.1.now, e.0.0)
+
+abbrev pub counted_cmp : {T : Type 0} → (T → T → Ordering) → Reverse ℕ × Bor T → Reverse ℕ × Bor T → Ordering
+counted_cmp cmp x y = rank cmp (counted x) (counted y)
+
+-- the pairs of a heap
+abbrev pub held : {T A : Type 0} → BinaryHeap (Reverse ℕ × Bor T) A → List (T × ℕ)
+held heap = map counted (heap_items heap)

@@ -12,4 +12,4 @@ pub mod order;
 
 pub use combine::{keep_common, keep_most, merge, merge_ref, take_away};
 pub use compare::{contains_all, is_disjoint};
-pub use order::{most_common, sorted};
+pub use order::{max_count, most_common, sorted};

@@ -1,13 +1,16 @@
 //! The values of a bag with their counts, in the order of the values or by how often they occur.
-ghost use Rattle.std.specs.Prelude.{◌≡◌, ℕ, List, map, take, IfOk, IfErr};
+ghost use Rattle.std.specs.Prelude.{◌≡◌, ℕ, ◌<◌, ◌≤◌, List, map, IfOk, IfErr, OnOk};
+ghost use Rattle.std.specs.BinaryHeap.{IsHeap, heap_items};
 ghost use Rattle.std.specs.List.Sorted.{IsStrictlySortedBy};
 ghost use Rattle.std.specs.Map.{keys_of};
+ghost use Rattle.hashbag.specs.Occurrences.{count};
 ghost use Rattle.hashbag.specs.Walks.{IsSetWalkOf};
-ghost use Rattle.hashbag_ops.specs.Order.{rank, shown};
+ghost use Rattle.hashbag_ops.specs.Order.{rank, shown, IsMostCommon, comes_first, counted, counted_cmp, held, IsFirstOf, KeepsFirst};
 
 use hashbag::{BagError, HashBag};
-use std::alloc::Global;
-use std::cmp::Ordering;
+use std::alloc::{AllocError, Global};
+use std::cmp::{Ordering, Reverse};
+use std::collections::BinaryHeap;
 use std::hash::{BuildHasher, Hash};
 
 /// The distinct values of a bag with their counts, values rising: so bags with the same counts give lists with the same counts,
@@ -38,8 +41,10 @@ pub fn sorted<'a, T: Ord + Hash + Drop, S: BuildHasher + Drop>(
 /// The `k` commonest values of a bag with their counts, or all where there are fewer: counts falling, and values that occur as often
 /// rising. They are the first of the one list of all values in that order, so which they are is never open.
 ///
-/// It takes memory for a list of all distinct values, at once, and answers `Memory` where that is refused. It hashes nothing, and
-/// compares as often as a sort of so many pairs does.
+/// It hashes nothing. Where `k` is less than the number of distinct values, it takes memory for a heap of `k` pairs, at once, and then
+/// for the list of them. It compares each pair once with the last of the first `k` so far, and only where it takes the place of that
+/// one up to `3 * log2(k)` times more; and to fill and to sort the heap up to `3 * k * log2(k)` times. Else it takes memory for a list
+/// of all pairs, at once, and compares as often as a sort of them does. It answers `Memory` where memory is refused.
 ///
 ///     let mut words: HashBag<&str> = HashBag::new(alloc);
 ///     words.insert_many("the", 3)?;
@@ -53,17 +58,100 @@ pub fn most_common<'a, T: Ord + Hash + Drop, S: BuildHasher + Drop>(
     bag: &'a HashBag<T, S>,
     k: usize,
 ) -> Result<Vec<(&'a T, usize)>, BagError>
-    ensures first { IfOk result (λ pairs. (W : List (T × ℕ)) × IsSetWalkOf T.eq bag.now W × IsStrictlySortedBy (rank T.cmp) W × (map shown pairs.items ≡ take k W)) }
+    ensures first { IfOk result (λ pairs. IsMostCommon T.eq T.cmp k bag.now (map shown pairs.items)) }
     ensures memory { IfErr result (λ e. e ≡ BagError.Memory) }
 {
+    if k < bag.set_len() {
+        return first_ranked(alloc, bag, k);
+    }
     let mut pairs = listed(alloc, bag)?;
     pairs.sort_unstable_by(
         |a: &(&T, usize), b: &(&T, usize)| -> Ordering
             ensures { result ≡ rank T.cmp (shown a.now) (shown b.now) }
         { b.1.cmp(&a.1).then(a.0.cmp(b.0)) },
     );
-    pairs.truncate(k);
     Ok(pairs)
+}
+
+/// How often the commonest values of a bag occur, and 0 where it is empty.
+///
+/// It takes no memory and hashes nothing, and goes once over the distinct values.
+///
+///     let mut words: HashBag<&str> = HashBag::new(alloc);
+///     words.insert_many("the", 3)?;
+///     words.insert("cat")?;
+///     assert_eq!(max_count(&words), 3);
+pub fn max_count<T: Eq + Hash + Drop, S: BuildHasher + Drop>(bag: &HashBag<T, S>) -> usize
+    ensures most { (v : T) → count T.eq v bag.now.items ≤ result }
+    ensures reached { 0 < result → (v : T) × (count T.eq v bag.now.items ≡ result) }
+{
+    let mut greatest = 0;
+    for (_, count) in bag.set_iter() {
+        greatest = greatest.max(count);
+    }
+    greatest
+}
+
+// The `k` commonest.
+fn first_ranked<'a, T: Ord + Hash + Drop, S: BuildHasher + Drop>(
+    alloc: Global,
+    bag: &'a HashBag<T, S>,
+    k: usize,
+) -> Result<Vec<(&'a T, usize)>, BagError>
+    ensures first { IfOk result (λ pairs. IsMostCommon T.eq T.cmp k bag.now (map shown pairs.items)) }
+    ensures memory { IfErr result (λ e. e ≡ BagError.Memory) }
+{
+    let heap = heap_of_first(alloc, bag, k)?;
+    let mut pairs = Vec::with_capacity(alloc, heap.len())?;
+    for (Reverse(count), value) in heap.into_sorted_vec() {
+        if pairs.push((value, count)).is_err() {
+            return Err(BagError::Memory);
+        }
+    }
+    Ok(pairs)
+}
+
+// The same in a heap, the last of them at its top. Room for all of them is taken at once.
+fn heap_of_first<'a, T: Ord + Hash + Drop, S: BuildHasher + Drop>(
+    alloc: Global,
+    bag: &'a HashBag<T, S>,
+    k: usize,
+) -> Result<BinaryHeap<(Reverse<usize>, &'a T)>, BagError>
+    ensures heap { IfOk result (λ heap. IsHeap (counted_cmp T.cmp) (heap_items heap)) }
+    ensures first { IfOk result (λ heap. (V : List (T × ℕ)) × IsSetWalkOf T.eq bag.now V × IsFirstOf (comes_first T.cmp) k V (held heap)) }
+    ensures memory { IfErr result (λ e. e ≡ BagError.Memory) }
+{
+    let mut heap = BinaryHeap::with_capacity(alloc, k)?;
+    for (value, count) in bag.set_iter() {
+        offer(&mut heap, k, (Reverse(count), value))?;
+    }
+    Ok(heap)
+}
+
+// Takes a pair into a heap of the first `k`. Where they are `k` already, it does so only if the pair comes before the last of them,
+// and that one goes.
+fn offer<'a, T: Ord>(
+    heap: &mut BinaryHeap<(Reverse<usize>, &'a T)>,
+    k: usize,
+    pair: (Reverse<usize>, &'a T),
+) -> Result<(), AllocError>
+    requires { IsHeap (counted_cmp T.cmp) (heap_items heap.old) }
+    ensures heap { OnOk result (IsHeap (counted_cmp T.cmp) (heap_items heap.new)) }
+    ensures first { OnOk result (KeepsFirst (comes_first T.cmp) k (held heap.old) (counted pair.entry) (held heap.new)) }
+{
+    if heap.len() < k {
+        heap.push(pair)?;
+        return Ok(());
+    }
+    let Some(last) = heap.peek() else {
+        return Ok(());
+    };
+    if !pair.cmp(last).is_lt() {
+        return Ok(());
+    }
+    heap.pop();
+    heap.push(pair)?;
+    Ok(())
 }
 
 // The distinct values with their counts, in the order of a walk. Room for all of them is taken at once.

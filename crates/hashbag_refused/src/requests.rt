@@ -2,8 +2,8 @@
 use crate::checks::{Refusals, Wrong, check};
 use hashbag::{BagError, FixedState, HashBag};
 use hashbag_ops::{
-    contains_all, is_disjoint, keep_common, keep_most, merge, merge_ref, most_common, sorted,
-    take_away,
+    contains_all, is_disjoint, keep_common, keep_most, max_count, merge, merge_ref, most_common,
+    sorted, take_away,
 };
 use std::alloc::Global;
 
@@ -227,6 +227,7 @@ fn parts(bag: &mut HashBag<u64>, other: &HashBag<u64>) -> Result<(), Wrong> {
     let len = bag.len();
     check(contains_all(bag, other), "contains_all")?;
     check(!is_disjoint(bag, other), "is_disjoint")?;
+    check(max_count(bag) == 1, "max_count")?;
     take_away(bag, other);
     check(bag.len() == len.saturating_sub(3), "take_away")?;
     check(is_disjoint(bag, other), "is_disjoint of what is left")?;
