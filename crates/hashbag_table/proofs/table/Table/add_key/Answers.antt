@@ -1,6 +1,6 @@
 use Rattle.std.proofs.Common.{◌≡◌, subst}
 use Rattle.hashbag_slots.specs.Slots.{slot_entry}
-use Rattle.hashbag_slots.specs.FirstGroup.{IfFound, IfAbsent}
+use Rattle.hashbag_slots.specs.FirstGroup.{IfFound}
 use Rattle.hashbag_table.specs.declared.table.Spot.TheVariants.{Newer}
 use Rattle.hashbag_table.specs.Named.{named_entry}
 use Rattle.hashbag_table.specs.Tables.{HoldsIn, slot_in}
