@@ -22,7 +22,7 @@ use crate::built::Built;
 use crate::capacity::{least_slots, no_slots};
 use crate::retain::retain_slots;
 use crate::walk::{DrainWalk, IntoWalk, Walk};
-use hashbag_slots::slots::{FirstGroup, Slot, Slots, hash_of};
+use hashbag_slots::slots::{FirstGroup, Slot, Slots};
 use std::alloc::{AllocError, Global};
 use std::hash::{BuildHasher, Hash};
 use std::marker::Model;
@@ -185,7 +185,7 @@ impl<T: Eq + Hash + Drop, S: BuildHasher + Drop> Table<T, S> {
     fn hash(&self, value: &T) -> u64
         ensures { result ≡ hash_under T.hash_input S.BuildHasher S.Hasher.Hasher self.now.hasher value.now }
     {
-        hash_of(&self.hasher, value)
+        self.hash_key(value)
     }
 
     /// The stored instance of a value and its count, or `None` where it is absent. It is hashed once for
