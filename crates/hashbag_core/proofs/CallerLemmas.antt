@@ -2,18 +2,21 @@
 -- `Extends`, `IsRetained`). docs/CALLING.md shows which call needs which.
 --
 -- `laws` is `g.met.T.Eq.laws` under a bound `T: Eq`, and `nat_eq_equiv` of `Rattle.std.specs.Cmp` at unsigned numbers.
-use Rattle.std.proofs.Common.{◌≡◌, ℕ, zero, suc, ◌+◌, ◌-◌, ◌<◌, ◌≤◌, min, Bool, true, false, cond, nat_lt, List, [], ◌∷◌, ◌++◌, length, replicate, take, drop, get_or, filter, map, sum_by, Option, refl, sym, ◌∙◌, ap, subst, arith}
+use Rattle.std.proofs.Common.{◌≡◌, ℕ, zero, suc, ◌+◌, ◌-◌, ◌<◌, ◌≤◌, min, Bool, true, false, cond, nat_lt, List, [], ◌∷◌, ◌++◌, length, replicate, take, drop, get_or, filter, map, count_by, sum_by, Option, String, string_bytes, refl, sym, ◌∙◌, ap, subst, arith}
 use borrow.Author.Tests.{ltb-false}
 use denote.Ref.{Bor}
 use denote.Param.Members.{Mut}
 use Rattle.std.specs.Cmp.{IsEquivalence}
+use Rattle.std.specs.Cmp.Lexicographic.{nat_list_eq_equiv}
 use Rattle.std.specs.List.{IsDistinct, AllByRecursion, AllZip, Contains}
 use Rattle.std.specs.Iterator.{Drains}
 use Rattle.std.specs.List.Sorted.{IsPermutation}
 use Rattle.std.specs.Map.{keys_of}
+use Rattle.std.specs.Str.{bytes_eq}
+use Rattle.std.specs.String.{string_eq}
 use Rattle.std.proofs.lemmas.Iterator.{YieldsList, items_from_drains}
 use Rattle.std.proofs.lemmas.List.{length-drop, length-replicate, map-id, take_more}
-use Rattle.std.proofs.lemmas.List.Sums.{length-filter, sum_by-cons}
+use Rattle.std.proofs.lemmas.List.Sums.{length-filter, sum_by-cons, sum_by-append}
 use Rattle.std.proofs.lemmas.List.Elements.{All-drop, filter_passes}
 use Rattle.std.proofs.lemmas.List.Sorted.{IsPermutation-refl}
 use Rattle.std.proofs.lemmas.Map.Keys.{IsDistinct-tail}
@@ -47,6 +50,17 @@ pairs_as_they_are [] [] h = refl
 pairs_as_they_are [] (p ∷ pairs) h = absurd h
 pairs_as_they_are (e ∷ came) [] h = absurd h
 pairs_as_they_are (e ∷ came) (p ∷ pairs) h = λ i. h.0 i ∷ pairs_as_they_are came pairs h.1 i
+
+-- a text names one `String`: the law `names_one` of the key `&str`, whose bytes are k
+pub text_names_one : {Z : Type 0} (k : List ℕ) (x w : String Z) → bytes_eq (string_bytes x) k ≡ true → bytes_eq (string_bytes w) k ≡ string_eq w x
+text_names_one k x w does =
+    nat_list_eq_equiv.symm (string_bytes w) k ∙ nat_list_eq_equiv.congr k (string_bytes x) (string_bytes w) (nat_list_eq_equiv.symm k (string_bytes x) ∙ does)
+    ∙ nat_list_eq_equiv.symm (string_bytes x) (string_bytes w)
+
+-- one more item of a list, as a loop goes over it, by any test
+pub count_by_take_next : {X : Type 0} (p : X → Bool) (xs : List X) (k : ℕ) (d : X) → k < length xs → count_by p (take (k + 1) xs) ≡ count_by p (take k xs) + cond (p (get_or xs k d)) 1 0
+count_by_take_next {X} p xs k d below =
+    ap (λ (l : List X). count_by p l) (take_more xs k d below) ∙ sum_by-append (λ x. cond (p x) 1 0) (take k xs) (get_or xs k d ∷ []) ∙ ap (λ (n : ℕ). count_by p (take k xs) + n) (none_before _)
 
 none_either : (b : Bool) → ◌≡◌ {A = ℕ} 0 (cond b 0 0)
 none_either true = refl

@@ -56,30 +56,36 @@ module _ {T : Type 0} (eq : T → T → Bool) (laws : IsEquivalence eq) (names :
           let h = held_named names old.tables spot held in let v = h.0 in
           let at : HoldsIn (λ w. eq w v) old.tables spot = subst (λ (test : T → Bool). HoldsIn test old.tables spot) (named_equals v h.1) held in
           let found : slot_entry (slot_in old.tables spot) ≡ lookup_entry (λ w. eq w v) old.entries = is ∙ ap (λ (test : T → Bool). lookup_entry test old.entries) (named_equals v h.1) in
-          let kept = raised_kept eq laws v n old.entries old.tables spot found at before count new.tables after in
-          (v, h.1, record {
-            added = record { means = raised_added eq laws v n old.entries old.tables spot found at before count new.entries was swap; hasher = hasher; counted = counted };
-            new_set = λ none. absurd (raised_there eq laws v n old.entries old.tables spot found at none);
-            slot = λ _. raised_slot eq laws v n old.entries old.tables spot found at before count new.tables after;
-            arrives = λ none. absurd (raised_there eq laws v n old.entries old.tables spot found at none);
-            room = λ _. keeps_more 1 _ _ kept;
-            same_room = λ _. kept;
-          })
+          let kept = raised_kept eq laws v n old.entries old.tables spot found at before count new.tables after in (
+            v,
+            h.1,
+            record {
+              added = record { means = raised_added eq laws v n old.entries old.tables spot found at before count new.entries was swap; hasher = hasher; counted = counted };
+              new_set = λ none. absurd (raised_there eq laws v n old.entries old.tables spot found at none);
+              slot = λ _. raised_slot eq laws v n old.entries old.tables spot found at before count new.tables after;
+              arrives = λ none. absurd (raised_there eq laws v n old.entries old.tables spot found at none);
+              room = λ _. keeps_more 1 _ _ kept;
+              same_room = λ _. kept;
+            },
+          )
 
   -- a value that was made of the key, where it named none that was there
   pub named_arrived : {S : Type 0} (old new : Table T S) (v : T) (n : ℕ) → names v ≡ true → named_entry names old.entries ≡ None → IsMapOf eq old (with_instance eq v n old.entries) new
       → length new.entries ≡ length old.entries + 1 → Arrives old.tables new.tables → AddsNamed eq names n old new
   named_arrived old new v n does none inserted more arrives =
       let absent : lookup_entry (eq v) old.entries ≡ None = sym (named_found v does old.entries) ∙ none in
-      let zero = count_absent eq v old.entries absent in
-      (v, does, record {
-        added = record { means = added_absent eq v old.entries n new.entries absent inserted.means; hasher = inserted.hasher; counted = inserted.counted };
-        new_set = λ _. more;
-        slot = λ some. let no = subst (λ (o : Option (T × ℕ)). IsSome o) absent some in absurd (cc);
-        arrives = λ _. arrives;
-        room = λ some. keeps_Arrives _ _ arrives some;
-        same_room = λ some. absurd (omega (arith, zero, some));
-      })
+      let zero = count_absent eq v old.entries absent in (
+        v,
+        does,
+        record {
+          added = record { means = added_absent eq v old.entries n new.entries absent inserted.means; hasher = inserted.hasher; counted = inserted.counted };
+          new_set = λ _. more;
+          slot = λ some. let no = subst (λ (o : Option (T × ℕ)). IsSome o) absent some in absurd (cc);
+          arrives = λ _. arrives;
+          room = λ some. keeps_Arrives _ _ arrives some;
+          same_room = λ some. absurd (omega (arith, zero, some));
+        },
+      )
 
   -- a count is at least 1
   pub named_positive : (es : List (T × ℕ)) (e : T × ℕ) → IsCounted eq es → named_entry names es ≡ Some e → 0 < e.1

@@ -21,7 +21,7 @@ use crate::built::Built;
 use crate::growth::{least_count, no_slots};
 use crate::retain::retain_slots;
 use crate::walk::{DrainWalk, IntoWalk, Walk};
-use hashbag_slots::slots::{Slot, Slots, hash_of};
+use hashbag_slots::slots::{Slot, Slots};
 use std::alloc::{AllocError, Global};
 use std::hash::{BuildHasher, Hash};
 use std::marker::Model;
@@ -184,7 +184,7 @@ impl<T: Eq + Hash + Drop, S: BuildHasher + Drop> Table<T, S> {
     fn hash(&self, value: &T) -> u64
         ensures { result ≡ hash_under T.hash_input S.BuildHasher S.Hasher.Hasher self.now.hasher value.now }
     {
-        hash_of(&self.hasher, value)
+        self.hash_key(value)
     }
 
     /// The stored instance of a value and its count, or `None` where it is absent. It is hashed once for

@@ -18,7 +18,7 @@ use std::hash::{BuildHasher, Hash};
 impl<T: Eq + Hash + Drop, S: BuildHasher + Drop> Table<T, S> {
     // The hash of a key under the table's own state, by which alone the value is found that it names.
     #[inline(always)]
-    fn hash_key<Q: Key<T>>(&self, key: Q) -> u64
+    pub(super) fn hash_key<Q: Key<T>>(&self, key: Q) -> u64
         ensures { result ≡ hash_under Q.hash_input S.BuildHasher S.Hasher.Hasher self.now.hasher key }
     {
         hash_key(&self.hasher, key)
