@@ -3,3 +3,4 @@ pub mod LastNumber
 pub mod Ledger
 pub mod Named
 pub mod Plain
+pub mod Texts

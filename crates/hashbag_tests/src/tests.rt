@@ -9,6 +9,7 @@ mod drops;
 mod entries;
 mod hashes;
 mod instances;
+mod keys;
 mod limits;
 mod own_bytes;
 mod owning_states;
