@@ -42,9 +42,10 @@ pub fn sorted<'a, T: Ord + Hash + Drop, S: BuildHasher + Drop>(
 /// rising. They are the first of the one list of all values in that order, so which they are is never open.
 ///
 /// It hashes nothing. Where `k` is less than the number of distinct values, it takes memory for a heap of `k` pairs, at once, and then
-/// for the list of them. It compares each pair once with the last of the first `k` so far, and only where it takes the place of that
-/// one up to `3 * log2(k)` times more; and to fill and to sort the heap up to `3 * k * log2(k)` times. Else it takes memory for a list
-/// of all pairs, at once, and compares as often as a sort of them does. It answers `Memory` where memory is refused.
+/// for the list of them, so none where `k` is 0. It compares each pair once with the last of the first `k` so far, and only where it
+/// takes the place of that one up to `3 * log2(k)` times more; and to fill and to sort the heap up to `3 * k * log2(k)` times. Else it
+/// takes memory for a list of all pairs, at once, and compares as often as a sort of them does. It answers `Memory` where memory is
+/// refused.
 ///
 ///     let mut words: HashBag<&str> = HashBag::new(alloc);
 ///     words.insert_many("the", 3)?;
@@ -92,7 +93,7 @@ pub fn max_count<T: Eq + Hash + Drop, S: BuildHasher + Drop>(bag: &HashBag<T, S>
     greatest
 }
 
-// The `k` commonest.
+// The `k` commonest, by a heap.
 fn first_ranked<'a, T: Ord + Hash + Drop, S: BuildHasher + Drop>(
     alloc: Global,
     bag: &'a HashBag<T, S>,
@@ -111,7 +112,7 @@ fn first_ranked<'a, T: Ord + Hash + Drop, S: BuildHasher + Drop>(
     Ok(pairs)
 }
 
-// The same in a heap, the last of them at its top. Room for all of them is taken at once.
+// The heap of them, the last at its top. Room for all is taken at once.
 fn heap_of_first<'a, T: Ord + Hash + Drop, S: BuildHasher + Drop>(
     alloc: Global,
     bag: &'a HashBag<T, S>,
