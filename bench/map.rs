@@ -246,6 +246,59 @@ fn growth(many: u64) {
     println!("median 1 {median} {many}");
 }
 
+// One map into another, of which half of the values are in both.
+fn of_merges(many: u64) {
+    let mut into = Map::default();
+    fill(&mut into, &distinct(0, many, 1));
+    let mut from = Map::default();
+    fill(&mut from, &distinct(many / 2, many, 1));
+    let start = Instant::now();
+    for (value, count) in from {
+        *into.entry(value).or_insert(0) += count;
+    }
+    say("merge", many, start, into.len() as u64)
+}
+
+// The ten commonest of many values.
+fn of_commonest(many: u64) {
+    let mut map = Map::default();
+    for i in 0..many {
+        *map.entry(mixed(i)).or_insert(0) += (mixed(i ^ many) % 1000) as usize + 1;
+    }
+    let start = Instant::now();
+    let order = |a: &(u64, usize), b: &(u64, usize)| b.1.cmp(&a.1).then(a.0.cmp(&b.0));
+    let mut pairs: Vec<(u64, usize)> = map.iter().map(|(value, count)| (*value, *count)).collect();
+    if pairs.len() > 10 {
+        pairs.select_nth_unstable_by(10, order);
+        pairs.truncate(10);
+    }
+    pairs.sort_unstable_by(order);
+    let mut sum = 0u64;
+    for (value, count) in pairs {
+        sum = sum.wrapping_mul(31).wrapping_add(value.wrapping_mul(count as u64));
+    }
+    say("most_common", many, start, sum)
+}
+
+// The words of a text, each of which becomes a `String` once.
+fn of_texts(many: u64) {
+    let mut text = String::new();
+    for value in words(many) {
+        text.push_str(&format!("{:x} ", value >> 40));
+    }
+    let mut map: HashMap<String, usize, BuildHasherDefault<Fold>> = HashMap::default();
+    let start = Instant::now();
+    for word in text.split_whitespace() {
+        match map.get_mut(word) {
+            Some(count) => *count += 1,
+            None => {
+                map.insert(word.to_string(), 1);
+            }
+        }
+    }
+    say("texts", many, start, map.len() as u64)
+}
+
 fn main() {
     for line in stdin().lock().lines() {
         let text = line.expect("a line");
@@ -259,6 +312,9 @@ fn main() {
             "words" => of_words(many),
             "join" => of_joins(many),
             "growth" => growth(many),
+            "merge" => of_merges(many),
+            "common" => of_commonest(many),
+            "texts" => of_texts(many),
             _ => {}
         }
     }

@@ -1,5 +1,5 @@
-//! Measures a bag of numbers. Standard input names what is measured, a line each: `small`, `large`, `words`, `join` or `growth`,
-//! and how many values there are.
+//! Measures bags. Standard input names what is measured, a line each: `small`, `large`, `words`, `join`, `growth`, `merge`, `common` or
+//! `texts`, and how many values there are.
 //!
 //! Each answer is a line with what was done, how many times, in how many nanoseconds, and a sum by which `bench/map.rs`, which
 //! does the same with Rust's own map, can be seen to have come to the same.
@@ -7,6 +7,7 @@
 
 mod runs;
 mod values;
+mod wholes;
 
 fn main(rt: HostRuntime) -> anyhow::Result<()> {
     for line in rt.lines(rt.alloc()) {

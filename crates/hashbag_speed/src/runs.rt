@@ -1,10 +1,11 @@
 //! What is measured.
 use crate::values::{distinct, words};
+use crate::wholes::{of_commonest, of_merges, of_texts};
 use hashbag::{BagError, HashBag};
 use std::time::Instant;
 
-// Inserts all of them.
-fn fill(bag: &mut HashBag<u64>, values: &[u64]) -> Result<(), BagError> {
+/// Inserts all of them.
+pub fn fill(bag: &mut HashBag<u64>, values: &[u64]) -> Result<(), BagError> {
     for value in values {
         bag.insert(*value)?;
     }
@@ -44,8 +45,14 @@ fn join(first: &HashBag<u64>, second: &HashBag<u64>) -> u64 {
     sum
 }
 
-// The line of what was done since then.
-fn say(rt: &HostRuntime, what: &str, many: u64, since: Instant, sum: u64) -> anyhow::Result<()> {
+/// The line of what was done since then.
+pub fn say(
+    rt: &HostRuntime,
+    what: &str,
+    many: u64,
+    since: Instant,
+    sum: u64,
+) -> anyhow::Result<()> {
     let time = since.elapsed(rt)?.as_nanos();
     println!(rt; "{what} {many} {time} {sum}")?;
     Ok(())
@@ -156,6 +163,9 @@ pub fn measure(rt: &HostRuntime, what: &str, many: u64) -> anyhow::Result<()> {
         "words" => of_words(rt, many),
         "join" => of_joins(rt, many),
         "growth" => growth(rt, many),
+        "merge" => of_merges(rt, many),
+        "common" => of_commonest(rt, many),
+        "texts" => of_texts(rt, many),
         _ => Ok(()),
     }
 }

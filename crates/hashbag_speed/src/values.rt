@@ -29,3 +29,22 @@ pub fn words(alloc: Global, many: u64) -> Result<Vec<u64>, AllocError> {
     }
     Ok(values)
 }
+
+/// `many` values with counts from 1 to 1,000.
+pub fn counts(alloc: Global, many: u64) -> Result<Vec<(u64, usize)>, AllocError> {
+    let mut values = Vec::new(alloc);
+    for i in 0..many {
+        values.push((mixed(i), (mixed(i ^ many) % 1000) as usize + 1))?;
+    }
+    Ok(values)
+}
+
+/// A text of `many` of these words, each a number in hexadecimal, of six digits at most.
+pub fn text(alloc: Global, many: u64) -> Result<String, AllocError> {
+    let mut text = String::new(alloc);
+    for value in words(alloc, many)? {
+        let digits = value >> 40;
+        text.push_str(format!(in alloc; "{digits:x} ")?.as_str())?;
+    }
+    Ok(text)
+}
