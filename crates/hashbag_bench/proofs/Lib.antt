@@ -1,3 +1,4 @@
 pub mod DeliveryLemmas
 pub mod LastNumberLemmas
 pub mod SlotUseLemmas
+pub mod TextLemmas

@@ -1,5 +1,5 @@
 //! Callers to copy: the words of a text, which are counted and looked up as they are. A `String` is made only for each distinct one.
-ghost use Rattle.std.specs.Prelude.{◌≡◌, length, min, string_bytes, string_eq, IfOk};
+ghost use Rattle.std.specs.Prelude.{◌≡◌, length, string_bytes, string_eq, IfOk};
 ghost use Rattle.hashbag.specs.Occurrences.{count};
 ghost use Rattle.hashbag_bench.specs.Texts.{text_count};
 

@@ -10,6 +10,7 @@ use Rattle.hashbag_table.specs.Asked.{kept as kept_of}
 use Rattle.hashbag_core.specs.Bag.{occurrences}
 use Rattle.hashbag_core.specs.Equality.{same_counts}
 use Rattle.hashbag_core.specs.Extends.{add_all}
+use Rattle.hashbag_core.specs.Keys.{count_named, stored_named}
 use Rattle.hashbag_core.specs.Occurrences.{greatest_total, alike, others, count, instance, instance_or_itself, stored, add, less, put, distinct_count, SameCounts}
 use Rattle.hashbag_core.specs.Walks.{IsEach, IsSetWalk, IsWalk}
 
@@ -48,6 +49,16 @@ not_found = refl
 
 itself : instance_or_itself same_key (3, 99) bag ≡ (3, 99)
 itself = refl
+
+-- by a key that names those with the number 1, and with 3
+by_key : count_named (λ (x : Tagged). x.0 == 1) bag ≡ 2
+by_key = refl
+
+stored_by_key : stored_named (λ (x : Tagged). x.0 == 1) bag ≡ Some ((1, 10), 2)
+stored_by_key = refl
+
+none_by_key : stored_named (λ (x : Tagged). x.0 == 3) bag ≡ None
+none_by_key = refl
 
 found_with_count : stored same_key (1, 99) bag ≡ Some ((1, 10), 2)
 found_with_count = refl

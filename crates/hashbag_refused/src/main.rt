@@ -68,6 +68,7 @@ fn strict_calls(alloc: Global, refusals: &mut Refusals) -> Result<(), Wrong> {
     extends::extends(alloc, refusals)?;
     extends::collections(alloc, refusals)?;
     texts::cloned_names(alloc, refusals)?;
+    texts::inserted_texts(alloc, refusals)?;
     trees::trees(alloc, refusals)?;
     trees::pairs(alloc, refusals)?;
     trees::trees_without_memory(alloc, refusals)?;

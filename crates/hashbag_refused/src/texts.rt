@@ -1,4 +1,4 @@
-//! Bags of texts, whose clones ask for memory themselves.
+//! Bags of texts, whose clones ask for memory themselves, and which may be inserted by what they are made of.
 use crate::checks::{Refusals, Wrong, check};
 use hashbag::HashBag;
 use std::alloc::{AllocError, Global};
@@ -57,4 +57,36 @@ pub fn cloned_names(alloc: Global, refusals: &mut Refusals) -> Result<(), Wrong>
             Ok(())
         }
     }
+}
+
+// Inserts a name as a text, of which there must be so many, and answers whether it went in. A refusal changes nothing.
+fn insert_text(
+    bag: &mut HashBag<String>,
+    name: &str,
+    before: usize,
+    refusals: &mut Refusals,
+) -> Result<bool, Wrong> {
+    let total = bag.len();
+    let Some(answer) = refusals.answer(bag.insert_key(name))? else {
+        check(bag.contains_key(name) == 0, "texts: refused")?;
+        check(bag.len() == total, "texts: the total after a refusal")?;
+        return Ok(false);
+    };
+    check(answer == before, "texts: the answer")?;
+    Ok(true)
+}
+
+/// Insertions by texts, of which a `String` is made only where there is none: what is there asks for no memory.
+pub fn inserted_texts(alloc: Global, refusals: &mut Refusals) -> Result<(), Wrong> {
+    let mut bag: HashBag<String> = HashBag::new(alloc);
+    for name in ["Einar", "Harald"] {
+        if !insert_text(&mut bag, name, 0, refusals)? {
+            let done = insert_text(&mut bag, name, 0, refusals)?;
+            check(done, "texts: with memory again")?;
+        }
+        let done = insert_text(&mut bag, name, 1, refusals)?;
+        check(done, "texts: of a name that is there, refused")?;
+        check(bag.contains_key(name) == 2, "texts: the count")?;
+    }
+    check(bag.len() == 4, "texts: the total")
 }

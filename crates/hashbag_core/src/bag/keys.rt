@@ -26,7 +26,8 @@ impl<T: Eq + Hash + Drop, S: BuildHasher + Drop> HashBag<T, S> {
         }
     }
 
-    /// The stored instance of the value that a key names and how often it occurs, or `None` where it is absent.
+    /// The stored instance of the value that a key names and how often it occurs, or `None` where it is absent:
+    /// `if let Some((word, many)) = words.get_key("the") { .. }`.
     ///
     /// It takes no memory, and hashes the key once.
     #[inline(always)]
@@ -56,7 +57,7 @@ impl<T: Eq + Hash + Drop, S: BuildHasher + Drop> HashBag<T, S> {
         self.insert_many_key(key, 1)
     }
 
-    /// Adds `n` occurrences of the value that a key names, and answers how many there were.
+    /// Adds `n` occurrences of the value that a key names, and answers how many there were: `words.insert_many_key("the", 3)?`.
     ///
     /// A stored instance stays, and where there is one no memory is taken. It answers `TooMany` exactly where the total would pass the
     /// limit, before anything is made: the bag is then unchanged. An insertion of 0 changes nothing and is never refused.
@@ -87,8 +88,9 @@ impl<T: Eq + Hash + Drop, S: BuildHasher + Drop> HashBag<T, S> {
         self.len += n;
         Ok(before)
     }
-    /// Takes one occurrence of the value that a key names, if there is one, and answers how many there were. With the last occurrence
-    /// the stored instance is dropped.
+
+    /// Takes one occurrence of the value that a key names, if there is one, and answers how many there were: `words.remove_key("the")`.
+    /// With the last occurrence the stored instance is dropped.
     ///
     /// It takes no memory, and hashes the key once.
     pub fn remove_key<Q: Key<T>>(&mut self, key: Q) -> usize

@@ -51,7 +51,12 @@ fn remove(bag: &mut HashBag<String>, word: &str) -> usize {
     bag.remove_key(word)
 }
 
-fn answer(alloc: Global, bag: &mut HashBag<String>, verb: &str, word: &str) -> Result<String, Fail> {
+fn answer(
+    alloc: Global,
+    bag: &mut HashBag<String>,
+    verb: &str,
+    word: &str,
+) -> Result<String, Fail> {
     match verb {
         "insert" => debug_of(alloc, &insert(bag, word)),
         "insert_none" => debug_of(alloc, &insert_many(bag, word, 0)),

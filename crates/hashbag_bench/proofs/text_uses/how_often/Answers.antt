@@ -1,7 +1,7 @@
 use Rattle.std.proofs.Common.{◌∙◌, string_bytes}
 use Rattle.std.specs.Str.{bytes_eq}
 use Rattle.std.specs.Cmp.Lexicographic.{bytes_decides}
-use Rattle.std.specs.String.{string_eq, string_eq_equiv}
+use Rattle.std.specs.String.{string_eq_equiv}
 use Rattle.hashbag.proofs.CallerLemmas.{count_of_key, text_names_one}
 use Rattle.hashbag_bench.proofs.text_uses.how_often.Goals as goal
 
