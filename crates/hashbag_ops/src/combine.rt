@@ -1,7 +1,8 @@
 //! Sums of two bags, and what one bag keeps of its own beside another.
-ghost use Rattle.std.specs.Prelude.{◌≡◌, ◌+◌, ◌-◌, ◌<◌, ◌≤◌, min, max, length, All, true, OnOk, OnErr};
+ghost use Rattle.std.specs.Prelude.{◌≡◌, ◌+◌, ◌-◌, ◌<◌, ◌≤◌, min, max, List, length, All, true, OnOk, OnErr};
 ghost use Rattle.hashbag.specs.Occurrences.{count, distinct_count};
 ghost use Rattle.hashbag.specs.Tables.{room};
+ghost use Rattle.hashbag_ops.specs.Unions.{IsUnion};
 
 use hashbag::{BagError, HashBag};
 use std::hash::{BuildHasher, Hash};
@@ -149,8 +150,8 @@ pub fn take_away<T: Eq + Hash + Drop, S: BuildHasher + Drop, S2: BuildHasher + D
 /// Brings each value up to the greater of the counts that both bags have of it, and uses `from` up.
 ///
 /// All goes in, or nothing. What `from` has more of is added, as [`merge`] does, so the limit of `into` stays. It answers
-/// `TooMany` where the total would pass that limit, and `Memory` where memory is refused to room for the values of which `from` has
-/// more. Then `into` is unchanged, and `from` is dropped.
+/// `TooMany` exactly where the total of these greater counts would pass that limit, before anything grows, and `Memory` where memory
+/// is refused to room for the values of which `from` has more. Then `into` is unchanged, and `from` is dropped.
 ///
 /// Each distinct value of `from` is hashed twice at most, those of `into` where it grows.
 ///
@@ -172,6 +173,11 @@ pub fn keep_most<T: Eq + Hash + Drop, S: BuildHasher + Drop, S2: BuildHasher + D
     ensures hasher { into.new.hasher ≡ into.old.hasher }
     ensures err { OnErr result (into.new ≡ into.old) }
     ensures fits { length into.old.items + length from.items ≤ into.old.most → OnErr result (result ≡ Err BagError.Memory) }
+
+    // The total is that of every list with the greater counts: all these are equally long.
+    ensures too_many { (Z : List T) → IsUnion T.eq into.old.items from.items Z → into.old.most < length Z → result ≡ Err BagError.TooMany }
+    ensures refused { result ≡ Err BagError.TooMany → (Z : List T) → IsUnion T.eq into.old.items from.items Z → into.old.most < length Z }
+    ensures memory { (Z : List T) → IsUnion T.eq into.old.items from.items Z → length Z ≤ into.old.most → OnErr result (result ≡ Err BagError.Memory) }
 {
     take_away(&mut from, into);
     merge(into, from)

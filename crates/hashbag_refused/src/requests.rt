@@ -1,7 +1,10 @@
 //! Calls by themselves. The script `tests/refused_memory` knows how many requests for memory each makes, with those that make its bag.
 use crate::checks::{Refusals, Wrong, check};
 use hashbag::{BagError, FixedState, HashBag};
-use hashbag_ops::{contains_all, is_disjoint, keep_common, keep_most, merge, merge_ref, take_away};
+use hashbag_ops::{
+    contains_all, is_disjoint, keep_common, keep_most, merge, merge_ref, most_common, sorted,
+    take_away,
+};
 use std::alloc::Global;
 
 // Values that are lent.
@@ -36,6 +39,9 @@ enum Verb {
     KeepMost,
     // Calls on two bags that take no memory.
     Parts,
+    // Lists of all pairs, and of the commonest three.
+    Sorted,
+    MostCommon,
     Clone,
     // Room that is there already, and room that isn't.
     Within,
@@ -69,6 +75,8 @@ impl Single {
             "merge_ref" => Verb::MergeRef,
             "keep_most" => Verb::KeepMost,
             "parts" => Verb::Parts,
+            "sorted" => Verb::Sorted,
+            "most_common" => Verb::MostCommon,
             "clone" => Verb::Clone,
             "within" => Verb::Within,
             "reserve" => Verb::Reserve,
@@ -165,6 +173,8 @@ fn make_on(
                 None => Ok(()),
             }
         }
+        Verb::Sorted => listed(sorted(alloc, &bag), bag.set_len(), refusals),
+        Verb::MostCommon => listed(most_common(alloc, &bag, 3), 3, refusals),
         Verb::Clone => made(bag.clone(), refusals),
         Verb::Within => done(bag.reserve(bag.room()), refusals),
         Verb::Reserve => done(bag.reserve(1000), refusals),
@@ -222,6 +232,18 @@ fn parts(bag: &mut HashBag<u64>, other: &HashBag<u64>) -> Result<(), Wrong> {
     check(is_disjoint(bag, other), "is_disjoint of what is left")?;
     keep_common(bag, other);
     check(bag.is_empty(), "keep_common")
+}
+
+// A list of so many pairs.
+fn listed(
+    answer: Result<Vec<(&u64, usize)>, BagError>,
+    len: usize,
+    refusals: &mut Refusals,
+) -> Result<(), Wrong> {
+    match refusals.answer(answer)? {
+        Some(pairs) => check(pairs.len() == len, "the length of a list"),
+        None => Ok(()),
+    }
 }
 
 fn done(answer: Result<(), BagError>, refusals: &mut Refusals) -> Result<(), Wrong> {

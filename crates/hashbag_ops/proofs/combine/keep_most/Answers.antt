@@ -1,0 +1,33 @@
+use Rattle.std.proofs.Common.{◌≡◌, ◌+◌, ◌-◌, max, ◌++◌, Bool, List, length, length-append, ◌∙◌, arith}
+use Rattle.std.specs.Cmp.{IsEquivalence}
+use Rattle.hashbag.specs.EqualityLaws.{count_append}
+use Rattle.hashbag.specs.Occurrences.{count}
+use Rattle.hashbag_ops.specs.Unions.{IsUnion}
+use Rattle.hashbag_ops.proofs.Lengths.{same_length}
+use Rattle.hashbag_ops.proofs.combine.keep_most.Goals as goal
+
+-- a union of X and Y is as long as X and what Y has more together
+union_long : {T : Type 0} {eq : T → T → Bool} (laws : IsEquivalence eq) (X Y more Z : List T) → ((v : T) → count eq v more ≡ count eq v Y - count eq v X) → IsUnion eq X Y Z → length Z ≡ length X + length more
+union_long {eq = eq} laws X Y more Z rest union =
+    same_length laws Z (X ++ more) (λ v.
+    let greater : count eq v Z ≡ max (count eq v X) (count eq v Y) = union v in
+    let surplus : count eq v more ≡ count eq v Y - count eq v X = rest v in
+    let parts = count_append laws v X more in
+    omega (arith, greater, surplus, parts))
+    ∙ length-append X more
+
+pub returns-clause-too_many : goal.returns-clause-too_many
+returns-clause-too_many g c = λ Z union over.
+    let long = union_long g.met.T.Eq.laws c.args.into.now.items c.args.from.items c.take_away.new.bag.items Z c.take_away.ensures.counts union in
+    c.merge.ensures.too_many (omega (arith, long, over))
+
+pub returns-clause-refused : goal.returns-clause-refused
+returns-clause-refused g c = λ is Z union.
+    let long = union_long g.met.T.Eq.laws c.args.into.now.items c.args.from.items c.take_away.new.bag.items Z c.take_away.ensures.counts union in
+    let over = c.merge.ensures.refused is in
+    omega (arith, long, over)
+
+pub returns-clause-memory : goal.returns-clause-memory
+returns-clause-memory g c = λ Z union fits.
+    let long = union_long g.met.T.Eq.laws c.args.into.now.items c.args.from.items c.take_away.new.bag.items Z c.take_away.ensures.counts union in
+    c.merge.ensures.memory (omega (arith, long, fits))
