@@ -1,0 +1,15 @@
+-- How often texts occur in a bag.
+use Rattle.std.specs.Prelude.{◌≡◌, ℕ, ◌+◌, List, String, string_bytes}
+use Rattle.std.specs.Str.{bytes_eq}
+use Rattle.std.specs.String.{string_eq}
+use Rattle.std.proofs.Common.{Global}
+use Rattle.hashbag.specs.Bag.{Bag}
+use Rattle.hashbag.specs.Occurrences.{count}
+
+-- each text is in the bag as often as it is in the list
+abbrev pub HasCountsOf : {S : Type 0} → List (List ℕ) → Bag (String Global) S → Type 0
+HasCountsOf texts bag = (v : String Global) → count string_eq v bag.items ≡ count bytes_eq (string_bytes v) texts
+
+-- each text is in the new bag as often as in the old one and in the list together
+abbrev pub Adds : {S : Type 0} → Bag (String Global) S → Bag (String Global) S → List (List ℕ) → Type 0
+Adds old new texts = (v : String Global) → count string_eq v new.items ≡ count string_eq v old.items + count bytes_eq (string_bytes v) texts
