@@ -1,0 +1,5 @@
+pub mod CountLemmas
+pub mod LineLemmas
+pub mod MatchLemmas
+pub mod ReadLemmas
+pub mod WordLemmas

@@ -1,2 +1,3 @@
 pub mod Counts
+pub mod Reading
 pub mod Tokens

@@ -52,3 +52,9 @@ impl From<AllocError> for Fault {
         Fault::Bag(BagError::Memory)
     }
 }
+
+impl From<io::Error> for Fault {
+    fn from(failed: io::Error) -> Fault {
+        Fault::Read(failed)
+    }
+}
