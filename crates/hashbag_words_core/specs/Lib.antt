@@ -1,3 +1,4 @@
+pub mod Choice
 pub mod Counts
 pub mod Reading
 pub mod Tokens

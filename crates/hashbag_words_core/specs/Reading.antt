@@ -2,7 +2,7 @@
 use Rattle.std.specs.Prelude.{◌≡◌, ℕ, zero, suc, ◌-◌, ◌<◌, Bool, true, false, List, [], length, take, slice_index, if◌then◌else◌, String, Option, Some}
 use Rattle.std.specs.Io.BufRead.{ends_with_byte, strip_last, first_line, drop_through}
 use Rattle.std.specs.Str.Lines.{lines}
-use Rattle.std.proofs.Common.{Global}
+use Rattle.std.specs.Global.{Global}
 use Rattle.hashbag.specs.Bag.{Bag}
 use Rattle.hashbag_words_core.specs.Counts.{Adds}
 use Rattle.hashbag_words_core.specs.Tokens.{tokens_of_lines}

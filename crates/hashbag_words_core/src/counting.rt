@@ -1,9 +1,8 @@
 //! The tokens of lines are counted.
-ghost use Rattle.std.specs.Prelude.{◌≡◌, ◌∷◌, [], List, ℕ, map, string_bytes, IfOk, OnOk, IfSome};
-ghost use Rattle.std.specs.Borrow.{Bor};
-ghost use Rattle.std.specs.Iterator.{Drains, IsFinite};
+ghost use Rattle.std.specs.Prelude.{◌≡◌, ◌∷◌, [], map, string_bytes, IfOk, OnOk, IfSome};
+ghost use Rattle.std.specs.Iterator.{IsFinite};
 ghost use Rattle.unicode_segmentation.specs.Word.{words};
-ghost use Rattle.hashbag_words_core.specs.Counts.{Adds};
+ghost use Rattle.hashbag_words_core.specs.Counts.{Adds, AddsPieces};
 ghost use Rattle.regex.specs.Strings.{regex_pattern};
 ghost use Rattle.hashbag_words_core.specs.Tokens.{matches_in, nonempty, spaced_words, token_of, tokens_of_line, tokens_of_lines, without_mark};
 ghost use Rattle.hashbag_words_core.specs.Reading.{CountsLines};
@@ -52,7 +51,7 @@ fn add_pieces<'a, I: Iterator<Item = &'a str> + Drop>(
 ) -> Result<(), BagError>
     requires can { I.can_next pieces }
     requires ends { IsFinite (I.remaining pieces) }
-    ensures { OnOk result ((came : List (Bor (List ℕ))) × Drains I.next_gives pieces came × Adds bag.old bag.new (map (λ piece. token_of fold piece.now) came)) }
+    ensures { OnOk result (AddsPieces fold I.next_gives pieces bag.old bag.new) }
 {
     for piece in pieces {
         add_piece(alloc, bag, fold, piece)?;
