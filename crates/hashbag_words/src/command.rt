@@ -5,11 +5,18 @@ use std::alloc::Global;
 const ABOUT: &str = "Counts words, lines or matches of a pattern, and adds up files of counts";
 
 const AFTER: &str = "\
-The counts of an input are the sums of those of its parts, wherever it is split at line ends, so parts may be counted side by side:
-    split -n l/4 text part. && ls part.* | xargs -P4 -I{} hashbag_words count {} -o {}.tsv && hashbag_words merge part.*.tsv
+Where no command is named it is `count`, so these count words, and show the ten commonest, upper and lower case as one:
+    hashbag_words --fold --top 10 text
+    cat text | hashbag_words --fold --top 10
+`hashbag_words count --help` tells what else may be counted, and how it is shown.
 
-Exit status: 0 done; 1 nothing counted, with --fail-empty; 2 bad arguments or a bad line; 3 no memory, and then nothing was
-written; 4 a read or a write failed; 5 the counts add up to more than 2^64-1.";
+The counts of an input are the sums of those of its parts, wherever it is split at line ends, so parts may be counted side by side:
+    split -n l/4 text part.
+    ls part.* | xargs -P4 -I{} hashbag_words {} -o {}.tsv
+    hashbag_words merge part.*.tsv
+
+Exit status: 0 done; 1 nothing is shown, with --fail-empty; 2 bad arguments or a bad line; 3 no memory; 4 a read or a write failed;
+5 the counts add up to more than 2^64-1. With 2, 3 and 5 nothing was written.";
 
 /// Whether this first word needs no `count` before it.
 pub fn is_job(word: &str) -> bool {

@@ -2,4 +2,5 @@ pub mod CountLemmas
 pub mod LineLemmas
 pub mod MatchLemmas
 pub mod ReadLemmas
+pub mod RowLemmas
 pub mod WordLemmas

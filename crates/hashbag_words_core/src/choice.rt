@@ -32,10 +32,7 @@ pub fn drop_below(bag: &mut HashBag<String>, least: usize)
 }
 
 // The tokens with their counts, in the order of a walk. Room for all of them is taken at once.
-fn listed<'a>(
-    alloc: Global,
-    bag: &'a HashBag<String>,
-) -> Result<Vec<(&'a String, usize)>, BagError>
+fn listed<'a>(alloc: Global, bag: &'a HashBag<String>) -> Result<Vec<(&'a String, usize)>, BagError>
     ensures { IfOk result (λ rows. IsSetWalkOf string_eq bag.now (map shown rows.items)) }
 {
     let mut rows = Vec::with_capacity(alloc, bag.set_len())?;

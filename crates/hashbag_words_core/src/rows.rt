@@ -2,80 +2,104 @@
 //!
 //! A tab, a line feed, a carriage return and a backslash in a token are written `\t`, `\n`, `\r` and `\\`, so that each token is one
 //! line, and its line is read as that token again.
+ghost use Rattle.std.specs.Prelude.{◌≡◌, ◌<◌, ◌^◌, ◌∷◌, ◌++◌, ℕ, [], List, Some, false, option_map, IsUtf8, IfOk, OnOk};
+ghost use Rattle.hashbag_words_core.specs.Rows.{byte_of, escaped, letter_of, resumed, row, shown_as, unescaped, IsRead};
+
 use crate::errors::BadLine;
 use std::alloc::{AllocError, Global};
+use std::io::{self, Write};
 
-// The character that stands behind the backslash in the place of this one, if it has to be escaped.
-fn mark_of(c: char) -> Option<char> {
-    match c {
-        '\t' => Some('t'),
-        '\n' => Some('n'),
-        '\r' => Some('r'),
-        '\\' => Some('\\'),
+// The letter that stands for this byte behind a backslash, if it is escaped.
+fn escape_of(byte: u8) -> Option<u8>
+    ensures { result ≡ letter_of byte }
+{
+    match byte {
+        b'\t' => Some(b't'),
+        b'\n' => Some(b'n'),
+        b'\r' => Some(b'r'),
+        b'\\' => Some(b'\\'),
         _ => None,
     }
 }
 
-// The character for which this one stands behind a backslash.
-fn marked_by(mark: char) -> Option<char> {
-    match mark {
-        't' => Some('\t'),
-        'n' => Some('\n'),
-        'r' => Some('\r'),
-        '\\' => Some('\\'),
+// The byte that this letter stands for behind a backslash.
+fn meant_by(letter: u8) -> Option<u8>
+    ensures { result ≡ byte_of letter }
+{
+    match letter {
+        b't' => Some(b'\t'),
+        b'n' => Some(b'\n'),
+        b'r' => Some(b'\r'),
+        b'\\' => Some(b'\\'),
         _ => None,
     }
 }
 
-// Whether a byte is one of the characters that are escaped.
-fn is_escaped(byte: u8) -> bool {
-    matches!(byte, b'\t' | b'\n' | b'\r' | b'\\')
-}
-
-// Appends a character, escaped where it has to be.
-fn push_escaped(text: &mut String, c: char) -> Result<(), AllocError> {
-    match mark_of(c) {
-        Some(mark) => {
-            text.push('\\')?;
-            text.push(mark)
+// Appends a byte, escaped where it has to be.
+fn push_byte(text: &mut Vec<u8>, byte: u8) -> Result<(), AllocError>
+    ensures { OnOk result (text.new.items ≡ text.old.items ++ shown_as byte (letter_of byte)) }
+{
+    match escape_of(byte) {
+        Some(letter) => {
+            text.push(b'\\')?;
+            text.push(letter)?;
+            Ok(())
         }
-        None => text.push(c),
+        None => {
+            text.push(byte)?;
+            Ok(())
+        }
     }
 }
 
 // Appends a token, escaped.
-fn push_token(text: &mut String, token: &str) -> Result<(), AllocError> {
-    if !token.bytes().any(is_escaped) {
-        return text.push_str(token);
-    }
-    for c in token.chars() {
-        push_escaped(text, c)?;
+fn push_token(text: &mut Vec<u8>, token: &[u8]) -> Result<(), AllocError>
+    ensures { OnOk result (text.new.items ≡ text.old.items ++ escaped token.now) }
+{
+    for byte in token {
+        push_byte(text, *byte)?;
     }
     Ok(())
 }
 
-/// Appends the line of a token and its count.
-pub fn push_row(text: &mut String, token: &str, count: usize) -> Result<(), AllocError> {
-    push_token(text, token)?;
+/// Appends the line of a token and its count, with its end. It is refused memory alone.
+pub fn push_row(text: &mut Vec<u8>, token: &str, count: usize) -> io::Result<()>
+    ensures { OnOk result (text.new.items ≡ text.old.items ++ (row token.now count ++ 10 ∷ [])) }
+{
+    push_token(text, token.as_bytes())?;
     writeln!(text, "\t{count}")
 }
 
-// The token that is written like this, or `None` where it has a bad escape.
-fn unescaped(alloc: Global, written: &str) -> Result<Option<String>, AllocError> {
-    let mut token = String::new(alloc);
+// Reads one byte more of an escaped token, and answers whether it is a backslash that escapes the next one; nothing where the last
+// one was such a backslash, and this byte is no letter.
+fn take_byte(token: &mut Vec<u8>, is_marked: bool, byte: u8) -> Result<Option<bool>, AllocError>
+    ensures { IfOk result (λ marked. (rest : List ℕ) → resumed token.old.items (Some is_marked) (byte ∷ rest) ≡ resumed token.new.items marked rest) }
+{
+    if is_marked {
+        let Some(meant) = meant_by(byte) else {
+            return Ok(None);
+        };
+        token.push(meant)?;
+        return Ok(Some(false));
+    }
+    if byte == b'\\' {
+        return Ok(Some(true));
+    }
+    token.push(byte)?;
+    Ok(Some(false))
+}
+
+// The token that is written like this, or nothing where it has a bad escape.
+fn token_of(alloc: Global, written: &[u8]) -> Result<Option<Vec<u8>>, AllocError>
+    ensures { IfOk result (λ token. option_map (λ t. t.items) token ≡ unescaped false written.now) }
+{
+    let mut token = Vec::new(alloc);
     let mut is_marked = false;
-    for c in written.chars() {
-        if is_marked {
-            let Some(meant) = marked_by(c) else {
-                return Ok(None);
-            };
-            token.push(meant)?;
-            is_marked = false;
-        } else if c == '\\' {
-            is_marked = true;
-        } else {
-            token.push(c)?;
-        }
+    for byte in written {
+        let Some(marked) = take_byte(&mut token, is_marked, *byte)? else {
+            return Ok(None);
+        };
+        is_marked = marked;
     }
     if is_marked {
         return Ok(None);
@@ -83,28 +107,21 @@ fn unescaped(alloc: Global, written: &str) -> Result<Option<String>, AllocError>
     Ok(Some(token))
 }
 
-// The most digits of a count, leading zeros among them.
-const DIGITS: usize = 20;
-
-// A number of 1 to 20 digits that fits.
-fn count_of(digits: &str) -> Option<usize> {
-    let bytes = digits.as_bytes();
-    if bytes.len() > DIGITS || !bytes.iter().all(|digit| digit.is_ascii_digit()) {
-        return None;
-    }
-    digits.parse().ok()
-}
-
-/// The token and the count of a line of counts, without its end, or what is wrong with it.
-pub fn read_row(alloc: Global, line: &str) -> Result<Result<(String, usize), BadLine>, AllocError> {
+/// The token and the count of a line of counts, without its end, or what is wrong with it. It is refused memory alone.
+pub fn read_row(alloc: Global, line: &str) -> Result<Result<(String, usize), BadLine>, AllocError>
+    ensures { IfOk result (λ read. (token : List ℕ) (count : ℕ) → IsUtf8 token → count < 2 ^ 64 → line.now ≡ row token count → IsRead token count read) }
+{
     let Some((written, digits)) = line.split_once('\t') else {
         return Ok(Err(BadLine::NoTab));
     };
-    let Some(count) = count_of(digits) else {
+    let Ok(count) = digits.parse::<usize>() else {
         return Ok(Err(BadLine::NoCount));
     };
-    match unescaped(alloc, written)? {
-        Some(token) => Ok(Ok((token, count))),
-        None => Ok(Err(BadLine::BadEscape)),
-    }
+    let Some(bytes) = token_of(alloc, written.as_bytes())? else {
+        return Ok(Err(BadLine::BadEscape));
+    };
+    let Ok(token) = String::from_utf8(bytes) else {
+        return Ok(Err(BadLine::BadEscape));
+    };
+    Ok(Ok((token, count)))
 }

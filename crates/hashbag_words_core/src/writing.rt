@@ -17,11 +17,11 @@ pub enum Format {
 
 // Writes a line of counts each.
 fn write_tsv<W: Write>(alloc: Global, out: &mut W, rows: &Vec<(&String, usize)>) -> io::Result<()> {
-    let mut text = String::new(alloc);
+    let mut text = Vec::new(alloc);
     for (token, count) in rows {
         text.clear();
         push_row(&mut text, token.as_str(), *count)?;
-        out.write_all(text.as_bytes())?;
+        out.write_all(&text)?;
     }
     Ok(())
 }
