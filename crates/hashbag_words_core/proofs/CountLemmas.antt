@@ -6,7 +6,7 @@ use Rattle.hashbag.specs.Bag.{Bag, IsBagOf}
 use Rattle.hashbag.specs.EqualityLaws.{count_append}
 use Rattle.hashbag.specs.Occurrences.{count, add}
 use Rattle.hashbag.proofs.CallerLemmas.{count_inserted_any}
-use Rattle.hashbag_words_core.specs.Counts.{Adds, AddsMany}
+use Rattle.hashbag_words_core.specs.Counts.{Adds}
 
 none_before : (n : ℕ) → 0 + n ≡ n
 none_before n = omega arith
@@ -37,9 +37,3 @@ module _ {S : Type 0} where
   Adds-one a b s text is h v =
       count_inserted_any string_eq_equiv a b v s 1 h
       ∙ ap (λ (n : ℕ). count string_eq v a.items + n) (ap (λ (t : List ℕ). cond (bytes_eq (string_bytes v) t) 1 0) is ∙ sym (none_before (cond (bytes_eq (string_bytes v) text) 1 0)))
-
-  -- a string was inserted so many times
-  pub AddsMany-one : (a b : Bag (String Global) S) (s : String Global) (n : ℕ) (text : List ℕ) (m : ℕ) → string_bytes s ≡ text → n ≡ m → IsBagOf string_eq a (add string_eq s n a.items) b → AddsMany text m a b
-  AddsMany-one a b s n text m is same h v =
-      count_inserted_any string_eq_equiv a b v s n h
-      ∙ ap (λ (k : ℕ). count string_eq v a.items + k) (ap (λ (t : List ℕ). cond (bytes_eq (string_bytes v) t) n 0) is ∙ ap (λ (k : ℕ). cond (bytes_eq (string_bytes v) text) k 0) same)

@@ -1,5 +1,5 @@
 -- How often texts occur in a bag.
-use Rattle.std.specs.Prelude.{◌≡◌, ℕ, ◌+◌, Bool, List, map, String, string_bytes, Option, if◌then◌else◌}
+use Rattle.std.specs.Prelude.{◌≡◌, ℕ, ◌+◌, Bool, List, map, String, string_bytes, Option}
 use Rattle.std.specs.Borrow.{Bor}
 use Rattle.std.specs.Iterator.{Drains}
 use Rattle.std.specs.Str.{bytes_eq}
@@ -20,7 +20,3 @@ Adds old new texts = (v : String Global) → count string_eq v new.items ≡ cou
 -- all pieces that an iterator gave were added, each as its token
 abbrev pub AddsPieces : {I S : Type 0} → Bool → (I → Option (Bor (List ℕ)) → I → Type 0) → I → Bag (String Global) S → Bag (String Global) S → Type 0
 AddsPieces fold steps pieces old new = (came : List (Bor (List ℕ))) × Drains steps pieces came × Adds old new (map (λ piece. token_of fold piece.now) came)
-
--- a text was added so many times
-abbrev pub AddsMany : {S : Type 0} → List ℕ → ℕ → Bag (String Global) S → Bag (String Global) S → Type 0
-AddsMany text n old new = (v : String Global) → count string_eq v new.items ≡ count string_eq v old.items + (if bytes_eq (string_bytes v) text then n else 0)

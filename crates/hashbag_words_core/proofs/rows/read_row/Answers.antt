@@ -1,8 +1,7 @@
-use Rattle.std.proofs.Common.{◌≡◌, ℕ, List, Option, None, Some, Ok, Err, option_map, sym, ◌∙◌, ap, decimal, arith}
+use Rattle.std.proofs.Common.{◌≡◌, ℕ, List, Option, None, Some, Ok, Err, option_map, IsUtf8, sym, ◌∙◌, ap, subst}
 use Rattle.std.specs.Global.{Vec}
 use Rattle.std.proofs.lemmas.Fmt.{parse-decimal}
 use Rattle.std.proofs.lemmas.Option.{same_Some}
-use Rattle.hashbag_words_core.specs.Rows.{escaped}
 use Rattle.hashbag_words_core.proofs.RowLemmas.{split_row, token_read}
 use Rattle.hashbag_words_core.proofs.rows.read_row.Goals as goal
 
@@ -23,7 +22,13 @@ returns-in_default-2 c = λ token count text fits is.
     absurd (cc)
 
 pub returns-in_default-from_utf8 : goal.returns-in_default-from_utf8
-returns-in_default-from_utf8 c = λ token count text fits is. ?
+returns-in_default-from_utf8 c = λ token count text fits is.
+    let parts = split_row (Some (c.in-Some.written, c.in-Some.digits)) c.args.line.now token count c.in-Some.ensures.cases is in
+    let read : option_map (λ (v : Vec ℕ). v.items) c.in_ok-bytes.field-0 ≡ Some token = token_read c.in_ok-bytes.field-0 c.as_bytes.result.now c.in-Some.written.now token c.in_ok-bytes.ensures c.as_bytes.ensures.value parts.0 in
+    let some : option_map (λ (v : Vec ℕ). v.items) c.in_ok-bytes.field-0 ≡ Some c.in-Some-2.bytes.items = ap (λ (o : Option (Vec ℕ)). option_map (λ v. v.items) o) c.in-Some-2.is in
+    let same : c.in-Some-2.bytes.items ≡ token = same_Some _ _ (sym some ∙ read) in
+    let ok = c.in_default-from_utf8.ensures.succeeds (subst IsUtf8 (sym same) text) in
+    absurd (cc)
 
 pub returns : goal.returns
 returns c = λ token count text fits is.
@@ -32,4 +37,4 @@ returns c = λ token count text fits is.
     let read : option_map (λ (v : Vec ℕ). v.items) c.in_ok-bytes.field-0 ≡ Some token = token_read c.in_ok-bytes.field-0 c.as_bytes.result.now c.in-Some.written.now token c.in_ok-bytes.ensures c.as_bytes.ensures.value parts.0 in
     let some : option_map (λ (v : Vec ℕ). v.items) c.in_ok-bytes.field-0 ≡ Some c.in-Some-2.bytes.items = ap (λ (o : Option (Vec ℕ)). option_map (λ v. v.items) o) c.in-Some-2.is in
     let same : c.in-Some-2.bytes.items ≡ token = same_Some _ _ (sym some ∙ read) in
-    (ap (λ (v : Vec ℕ). v.items) c.in-Ok-from_utf8.ensures.ok ∙ same, cc)
+    (ap (λ (v : Vec ℕ). v.items) c.in-Ok-from_utf8.ensures.ok ∙ same, (cc))
