@@ -114,7 +114,9 @@ fn answer<'a>(rt: &HostRuntime, request: &Request<'a>) -> Result<u8, Trouble<'a>
 
 // Says what the trouble is, and answers its status.
 fn fail(rt: &HostRuntime, trouble: &Trouble<'_>) -> u8 {
-    let _ = eprintln!(rt; "hashbag_ledger: {trouble}");
+    if trouble.is_said() {
+        let _ = eprintln!(rt; "hashbag_ledger: {trouble}");
+    }
     trouble.status()
 }
 

@@ -14,7 +14,16 @@ abbrev pub going : Change → ℕ
 going (In n) = 0
 going (Out n) = n
 
+-- how many movements bring in of all articles
+abbrev pub all_coming : {T : Type 0} → List (Movement T) → ℕ
+all_coming ms = sum_by (λ m. coming m.change) ms
+
 module _ {T : Type 0} (eq : T → T → Bool) where
+  -- a movement that takes out no more than is there changes the stock of its article alone, by its number
+  pub record Changes (m : Movement T) (before after : T → ℕ) : Type 0 where
+    pub enough : going m.change ≤ before m.article
+    pub counts : (v : T) → after v + (if eq v m.article then going m.change else 0) ≡ before v + (if eq v m.article then coming m.change else 0)
+
   -- how many of v movements bring in, and how many they take out, in all
   abbrev pub came : T → List (Movement T) → ℕ
   came v ms = sum_by (λ m. if eq v m.article then coming m.change else 0) ms

@@ -43,10 +43,10 @@ fn columns_of<'n>(
 // The change of a number with a sign.
 fn signed_change(alloc: Global, line: u64, field: &str) -> Result<Change, SheetError> {
     if let Some(digits) = field.strip_prefix('-') {
-        return Ok(Change::Out(number(alloc, line, digits)?));
+        return Ok(Change::Out(number(alloc, line, digits, field)?));
     }
     let digits = field.strip_prefix('+').unwrap_or(field);
-    Ok(Change::In(number(alloc, line, digits)?))
+    Ok(Change::In(number(alloc, line, digits, field)?))
 }
 
 // The change of a kind and a number.
@@ -71,7 +71,8 @@ fn change_of(
     match columns {
         ChangeColumns::Signed(change) => signed_change(alloc, line, sheet.field(change)?),
         ChangeColumns::ByKind(kind, quantity) => {
-            let n = number(alloc, line, sheet.field(quantity)?)?;
+            let digits = sheet.field(quantity)?;
+            let n = number(alloc, line, digits, digits)?;
             change_of_kind(alloc, line, sheet.field(kind)?, n)
         }
     }

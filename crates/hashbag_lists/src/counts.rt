@@ -26,7 +26,8 @@ pub fn read_counts(
             break;
         }
         let name = sheet.field(articles)?;
-        let n = number(alloc, sheet.line(), sheet.field(numbers)?)?;
+        let digits = sheet.field(numbers)?;
+        let n = number(alloc, sheet.line(), digits, digits)?;
         let Some(sum) = total.checked_add(n) else {
             return Err(sheet.bad_line(Fault::TotalTooLarge));
         };

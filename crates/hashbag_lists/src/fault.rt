@@ -15,7 +15,7 @@ pub enum Fault {
     #[error("more than one column `{0}`")]
     TwoColumns(String),
     /// A record has another number of fields than the header.
-    #[error("{found} fields, and the header has {header}")]
+    #[error("{header} fields wanted, {found} found")]
     Fields {
         /// How many fields the record has.
         found: u64,

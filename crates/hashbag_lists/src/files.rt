@@ -44,8 +44,13 @@ pub fn read_file<'a, R: Files + Input + AllocGlobal>(
 
 /// Writes a whole text to a writer.
 pub fn write_text<'a, W: Write>(output: &mut W, text: &[u8]) -> Result<(), Trouble<'a>> {
-    output.write_all(text).map_err(Trouble::Write)?;
-    output.flush().map_err(Trouble::Write)
+    if let Err(error) = output.write_all(text) {
+        return Err(Trouble::Write(error));
+    }
+    match output.flush() {
+        Ok(()) => Ok(()),
+        Err(error) => Err(Trouble::Write(error)),
+    }
 }
 
 /// Names the file in which a line is bad.

@@ -24,7 +24,8 @@ pub fn balance_of<T: Ord + Hash + Drop>(
     alloc: Global,
     bag: HashBag<T>,
 ) -> Result<Vec<(T, usize)>, AllocError>
-    ensures { IfOk result (λ list. IsBalance T.eq T.cmp (λ v. count T.eq v bag.items) list.items) }
+    ensures balance { IfOk result (λ list. IsBalance T.eq T.cmp (λ v. count T.eq v bag.items) list.items) }
+    ensures quantities { IfOk result (λ list. (v : T) → quantity T.eq v list.items ≡ count T.eq v bag.items) }
 {
     let mut list: Vec<(T, usize)> = bag.into_iter().collect(alloc)?;
     list.sort_unstable();

@@ -3,7 +3,7 @@ ghost use Rattle.std.specs.Prelude.{◌≡◌, ◌⊎◌};
 
 use crate::fault::SheetError;
 use std::alloc::AllocError;
-use std::io;
+use std::io::{self, ErrorKind};
 use thiserror::Error;
 
 /// Bad arguments, no such file, or a bad line.
@@ -54,6 +54,14 @@ pub enum Trouble<'a> {
 }
 
 impl Trouble<'_> {
+    /// Whether it is said: not where nobody reads the output any more.
+    pub fn is_said(&self) -> bool {
+        match self {
+            Trouble::Write(error) => error.kind() != ErrorKind::BrokenPipe,
+            _ => true,
+        }
+    }
+
     /// The exit status of a program that came to no end for this reason.
     pub fn status(&self) -> u8
         ensures { (result ≡ BAD_INPUT) ⊎ ((result ≡ NO_MEMORY) ⊎ (result ≡ IO_FAILED)) }

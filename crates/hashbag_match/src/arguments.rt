@@ -117,8 +117,13 @@ pub fn parse<'a, R: Print + Eprint + AllocGlobal>(
         let _ = eprintln!(rt; "hashbag_match: no memory");
         return Err(NO_MEMORY);
     };
-    match command.try_get_matches_from(words) {
-        Ok(matches) => Ok(request_of(&matches)),
-        Err(error) => Err(said(rt, &error)),
+    let request = match command.try_get_matches_from(words) {
+        Ok(matches) => request_of(&matches),
+        Err(error) => return Err(said(rt, &error)),
+    };
+    if request.ordered == "-" && request.delivered == "-" {
+        let _ = eprintln!(rt; "hashbag_match: both files are standard input");
+        return Err(BAD_INPUT);
     }
+    Ok(request)
 }

@@ -56,7 +56,9 @@ fn answer<'a>(rt: &HostRuntime, request: &Request<'a>) -> Result<u8, Trouble<'a>
 
 // Says what the trouble is, and answers its status.
 fn fail(rt: &HostRuntime, trouble: &Trouble<'_>) -> u8 {
-    let _ = eprintln!(rt; "hashbag_match: {trouble}");
+    if trouble.is_said() {
+        let _ = eprintln!(rt; "hashbag_match: {trouble}");
+    }
     trouble.status()
 }
 
