@@ -1,5 +1,5 @@
 -- Bags made of lists with quantities, and lists made of bags.
-use Rattle.std.proofs.Common.{◌≡◌, ℕ, ◌+◌, ◌<◌, ◌≤◌, Bool, true, List, [], ◌∷◌, ◌++◌, length, get_or, take, replicate, cond, sum_by, map, All, Option, Some, Result, Ok, Err, IfErr, OnErr, Ordering, nat_cmp, is_eq, refl, sym, ◌∙◌, ap, subst, arith}
+use Rattle.std.proofs.Common.{◌≡◌, ℕ, ◌+◌, ◌<◌, ◌≤◌, Bool, true, List, [], ◌∷◌, ◌++◌, length, get_or, take, replicate, cond, sum_by, map, Option, Some, Result, Ok, Err, IfErr, OnErr, Ordering, nat_cmp, is_eq, refl, sym, ◌∙◌, ap, arith}
 use Rattle.std.specs.Cmp.{IsEquivalence, IsTotalOrder, then_total, on_total, nat_cmp_total}
 use Rattle.std.specs.Ordering.{ordering_then}
 use Rattle.std.specs.List.{Contains}
@@ -15,18 +15,18 @@ use Rattle.hashbag.specs.declared.BagError.TheVariants.{Memory, TooMany, BelowTo
 use Rattle.hashbag.specs.Bag.{Bag, occurrences}
 use Rattle.hashbag.specs.EqualityLaws.{count_append}
 use Rattle.hashbag.specs.Extends.{AsItIs, Refuses}
-use Rattle.hashbag.specs.Inserts.{InsertsUpTo, RefusesPair, empty_bag}
+use Rattle.hashbag.specs.Inserts.{InsertsAll, InsertsUpTo, RefusesPair, empty_bag}
 use Rattle.hashbag.specs.Occurrences.{greatest_total, count}
 use Rattle.hashbag.specs.Walks.{IsSetWalk, IsSetWalkOf}
 use Rattle.hashbag.proofs.ContainsLemmas.{All-from_Contains, Contains-map, Contains-same}
-use Rattle.hashbag.proofs.CallerLemmas.{pairs_as_they_are}
+use Rattle.hashbag.proofs.CallerLemmas.{items_that_came, pairs_as_they_are}
 use Rattle.hashbag.proofs.ExcessLemmas.{an_instance}
-use Rattle.hashbag.proofs.InsertLemmas.{length_in_turn, some_added}
+use Rattle.hashbag.proofs.InsertLemmas.{all_added, length_in_turn, longer_by_numbers, some_added}
 use Rattle.hashbag.proofs.JoinLemmas.{in_walk, count_of_item}
 use Rattle.hashbag.proofs.JsonWriteLemmas.{set_walk_reordered, once_in_walk}
 use Rattle.hashbag.proofs.Laws.{count_added}
 use Rattle.hashbag.proofs.OccurrenceLemmas.{count_rearranged}
-use Rattle.hashbag_lists.specs.Quantities.{quantity, IsBalance}
+use Rattle.hashbag_lists.specs.Quantities.{numbers, quantity, IsBalance}
 use Rattle.hashbag_lists.proofs.SortedLemmas.{keys_rise}
 
 module _ {T : Type 0} {eq : T → T → Bool} (laws : IsEquivalence eq) where
@@ -85,6 +85,22 @@ module _ {T : Type 0} {eq : T → T → Bool} (laws : IsEquivalence eq) where
       let sum = sum_by_push number items p in
       let few = sum_by-take-le number all (length items + 1) in
       omega (arith, front, sum, few)
+
+  -- a bag that was made of a list is as long as its numbers say, so they fit
+  module _ {S I : Type 0} {steps : I → Option (T × ℕ) → I → Type 0} {it : I} {all : List (T × ℕ)} (yields : YieldsList steps (λ e. e) it all) (hasher : S) (bag : Bag T S) (h : InsertsAll eq steps AsItIs it (empty_bag hasher) bag) where
+    pub length_made : length bag.items ≡ numbers all
+    length_made =
+        let long : length bag.items ≡ 0 + sum_by number h.items = longer_by_numbers h number (λ x p is. ap number is) in
+        let came : sum_by number h.items ≡ numbers all = ap (sum_by number) (sym (map-id h.items) ∙ items_that_came h.items h.came yields) in
+        omega (arith, long, came)
+
+    pub numbers_fit : numbers all ≤ greatest_total
+    numbers_fit =
+        let left = all_added laws h in
+        let fits : length bag.items ≤ bag.most = left.bag.fits in
+        let limit : bag.most ≡ greatest_total = left.limit in
+        let long = length_made in
+        omega (arith, fits, limit, long)
 
   module _ {S I : Type 0} {steps : I → Option (T × ℕ) → I → Type 0} {it : I} {all : List (T × ℕ)} (yields : YieldsList steps (λ e. e) it all) (fits : sum_by number all ≤ greatest_total) where
     declined : (hasher : S) (bag : Bag T S) (e : BagError) → InsertsUpTo eq steps AsItIs (RefusesPair eq) it (empty_bag hasher) bag e → e ≡ Memory

@@ -1,9 +1,13 @@
 -- Lists of articles with quantities.
-use Rattle.std.specs.Prelude.{◌≡◌, ℕ, ◌+◌, ◌<◌, if◌then◌else◌, Bool, true, List, sum_by, All}
+use Rattle.std.specs.Prelude.{◌≡◌, ℕ, ◌<◌, if◌then◌else◌, Bool, true, List, sum_by, All}
 use Rattle.std.specs.List.{Contains}
 use Rattle.std.specs.List.Sorted.{IsStrictlySortedBy}
 use Rattle.std.specs.Map.{keys_of}
 use Rattle.std.specs.declared.cmp.Ordering.{Ordering}
+
+-- how many articles a list names in all, the numbers beside them added up
+abbrev pub numbers : {T : Type 0} → List (T × ℕ) → ℕ
+numbers L = sum_by (λ e. e.1) L
 
 module _ {T : Type 0} (eq : T → T → Bool) where
   -- how many of v a list names in all

@@ -1,5 +1,6 @@
 //! Lists of articles with quantities in CSV texts.
-ghost use Rattle.std.specs.Prelude.{◌≤◌, sum_by, IfOk};
+ghost use Rattle.std.specs.Prelude.{◌≤◌, IfOk};
+ghost use Rattle.hashbag_lists.specs.Quantities.{numbers};
 
 use crate::fault::{Fault, SheetError};
 use crate::numbers::number;
@@ -14,7 +15,7 @@ pub fn read_counts(
     article: &str,
     number_column: &str,
 ) -> Result<Vec<(String, usize)>, SheetError>
-    ensures fits { IfOk result (λ counts. sum_by (λ e. e.1) counts.items ≤ usize.MAX) }
+    ensures fits { IfOk result (λ counts. numbers counts.items ≤ usize.MAX) }
 {
     let mut sheet = Sheet::open(alloc, text)?;
     let articles = sheet.column(article)?;

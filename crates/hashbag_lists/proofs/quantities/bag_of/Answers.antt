@@ -1,15 +1,15 @@
-use Rattle.std.proofs.Common.{◌≡◌, ◌+◌, ℕ, List, [], length, sum_by, sym, ◌∙◌, ap, arith, rules}
+use Rattle.std.proofs.Common.{◌≡◌, ◌≤◌, ℕ, List, [], length, sym, ◌∙◌, ap, arith, rules}
 use Rattle.std.specs.Vec.Iter.{into_iter_steps}
 use Rattle.std.proofs.lemmas.Iterator.Adapters.{YieldsList-from_vec}
 use Rattle.std.proofs.lemmas.List.{map-id}
 use Rattle.std.proofs.lemmas.Result.{IfOk-weaker}
 use Rattle.hashbag.specs.Extends.{AsItIs}
 use Rattle.hashbag.specs.Inserts.{InsertsAll, empty_bag}
-use Rattle.hashbag.specs.Occurrences.{count}
+use Rattle.hashbag.specs.Occurrences.{greatest_total, count}
 use Rattle.hashbag.proofs.CallerLemmas.{count_extended, pairs_as_they_are, items_that_came}
-use Rattle.hashbag.proofs.InsertLemmas.{all_added, longer_by_numbers}
-use Rattle.hashbag_lists.specs.Quantities.{quantity}
-use Rattle.hashbag_lists.proofs.QuantityLemmas.{only_memory}
+use Rattle.hashbag.proofs.InsertLemmas.{all_added}
+use Rattle.hashbag_lists.specs.Quantities.{numbers, quantity}
+use Rattle.hashbag_lists.proofs.QuantityLemmas.{length_made, numbers_fit, only_memory}
 use Rattle.hashbag_lists.proofs.quantities.bag_of.Goals as goal
 
 -- the pairs that came are those of the list
@@ -26,12 +26,14 @@ returns-clause-counts g c =
 
 pub returns-clause-len : goal.returns-clause-len
 returns-clause-len g c =
-    let eq = g.T.PartialEq.eq in
-    IfOk-weaker c.from_counts.result (λ bag. InsertsAll eq into_iter_steps AsItIs c.into_iter.result (empty_bag bag.hasher) bag) (λ bag. length bag.items ≡ sum_by (λ e. e.1) c.args.list.items)
-    (λ bag h.
-    let long : length bag.items ≡ 0 + sum_by (λ e. e.1) h.items = longer_by_numbers h (λ e. e.1) (λ x p is. ap (λ (q : g.row.T.Denot × ℕ). q.1) is) in
-    let came = ap (λ (l : List (g.row.T.Denot × ℕ)). sum_by (λ e. e.1) l) (sym (map-id h.items) ∙ items_that_came h.items h.came (YieldsList-from_vec {s = c.into_iter.result} c.args.list.items (search rules) (search rules))) in
-    omega (arith, long, came))
+    IfOk-weaker c.from_counts.result (λ bag. InsertsAll g.T.PartialEq.eq into_iter_steps AsItIs c.into_iter.result (empty_bag bag.hasher) bag) (λ bag. length bag.items ≡ numbers c.args.list.items)
+    (λ bag h. length_made g.met.T.Eq.laws (YieldsList-from_vec {s = c.into_iter.result} c.args.list.items (search rules) (search rules)) bag.hasher bag h)
+    c.from_counts.ensures.all
+
+pub returns-clause-fits : goal.returns-clause-fits
+returns-clause-fits g c =
+    IfOk-weaker c.from_counts.result (λ bag. InsertsAll g.T.PartialEq.eq into_iter_steps AsItIs c.into_iter.result (empty_bag bag.hasher) bag) (λ bag. numbers c.args.list.items ≤ greatest_total)
+    (λ bag h. numbers_fit g.met.T.Eq.laws (YieldsList-from_vec {s = c.into_iter.result} c.args.list.items (search rules) (search rules)) bag.hasher bag h)
     c.from_counts.ensures.all
 
 pub returns-clause-memory : goal.returns-clause-memory
