@@ -25,9 +25,12 @@ pub struct Request<'a> {
 const ABOUT: &str = "Matches what was ordered with what was delivered, article by article.";
 
 const AFTER: &str = "\
-Both files are CSV with a header. An article may stand on several lines; its numbers add up. `-` is standard input.
+Both files are CSV with a header; their columns are found by name. An article may stand on several lines; its numbers add up.
+`-` is standard input.
 
-Status: 0 both agree, 1 they differ, 2 bad arguments, no such file or a bad line (FILE:LINE is named), 3 no memory,
+Example: hashbag_match --only differing ordered.csv delivered.csv
+
+Status: 0 they agree, 1 they differ, 2 bad arguments, no such file or a bad line (FILE:LINE is said), 3 no memory,
 4 a read or a write failed.";
 
 static ROWS: [&str; 4] = ["missing", "surplus", "differing", "all"];
@@ -51,7 +54,7 @@ fn with_options<'a>(alloc: Global, command: Command<'a>) -> Result<Command<'a>, 
         .value_name("ROWS")
         .value_parser(ROWS.as_slice())
         .default_value("all")
-        .help("Which articles are written");
+        .help("Which articles are written; the sums are of all");
     let form = Arg::new(alloc, "to")
         .long("to")
         .value_name("FORM")

@@ -14,12 +14,6 @@ use std::alloc::{AllocError, Global};
 use std::io;
 use std::process::ExitCode;
 
-// As many of each article were delivered as ordered.
-const AGREE: u8 = 0;
-
-// Some article differs.
-const DIFFER: u8 = 1;
-
 // The list of a file.
 fn list_of<'a>(
     rt: &HostRuntime,
@@ -51,7 +45,7 @@ fn answer<'a>(rt: &HostRuntime, request: &Request<'a>) -> Result<u8, Trouble<'a>
     };
     let text = text_of(alloc, &matched, request.only, request.form)?;
     write_text(&mut io::writer(rt), text.as_slice())?;
-    Ok(if matched.agree { AGREE } else { DIFFER })
+    Ok(matched.status())
 }
 
 // Says what the trouble is, and answers its status.

@@ -1,5 +1,5 @@
 -- What was ordered beside what was delivered.
-use Rattle.std.specs.Prelude.{◌≡◌, ℕ, ◌+◌, ◌-◌, ◌<◌, ◌==◌, not, Bool, true, List, map, sum_by, count_by, All}
+use Rattle.std.specs.Prelude.{◌≡◌, ℕ, ◌+◌, ◌-◌, ◌<◌, ◌==◌, not, Bool, true, List, length, map, sum_by, count_by, All}
 use Rattle.std.specs.List.{Contains}
 use Rattle.std.specs.List.Sorted.{IsStrictlySortedBy}
 use Rattle.std.specs.declared.cmp.Ordering.{Ordering}
@@ -8,11 +8,11 @@ use Rattle.hashbag_match_core.specs.declared.totals.Totals.{Totals}
 
 module _ {T : Type 0} where
   -- how many were ordered that weren't delivered, and the other way round
-  abbrev pub missing : Row T → ℕ
-  missing row = row.ordered - row.delivered
+  abbrev pub missing_of : Row T → ℕ
+  missing_of row = row.ordered - row.delivered
 
-  abbrev pub surplus : Row T → ℕ
-  surplus row = row.delivered - row.ordered
+  abbrev pub surplus_of : Row T → ℕ
+  surplus_of row = row.delivered - row.ordered
 
   -- as many were ordered as delivered
   abbrev pub agrees : Row T → Bool
@@ -20,9 +20,10 @@ module _ {T : Type 0} where
 
   -- the sums over all rows
   pub record AreTotals (rows : List (Row T)) (totals : Totals) : Type 0 where
+    pub articles : totals.articles ≡ length rows
     pub differing : totals.differing ≡ count_by (λ row. not (agrees row)) rows
-    pub missing : totals.missing ≡ sum_by missing rows
-    pub surplus : totals.surplus ≡ sum_by surplus rows
+    pub missing : totals.missing ≡ sum_by missing_of rows
+    pub surplus : totals.surplus ≡ sum_by surplus_of rows
 
 -- the rows of the articles of which `ordered` or `delivered` has some: each in one row, beside both numbers, articles rising
 pub record IsTable {T : Type 0} (eq : T → T → Bool) (cmp : T → T → Ordering) (ordered delivered : T → ℕ) (rows : List (Row T)) : Type 0 where

@@ -1,8 +1,8 @@
 //! Rows of what was ordered and what was delivered.
-ghost use Rattle.std.specs.Prelude.{◌≡◌, ◌-◌, ◌↔◌, IsTrue, IfOk, OnErr};
+ghost use Rattle.std.specs.Prelude.{◌≡◌, ◌-◌, ◌≤◌, ◌↔◌, if◌then◌else◌, length, sum_by, IsTrue, IfOk, OnErr};
 ghost use Rattle.hashbag.specs.Occurrences.{count};
-ghost use Rattle.hashbag_lists.specs.Quantities.{quantity};
-ghost use Rattle.hashbag_match_core.specs.Matching.{missing, surplus, agrees, AreTotals, IsTable};
+ghost use Rattle.hashbag_lists.specs.Quantities.{numbers, quantity};
+ghost use Rattle.hashbag_match_core.specs.Matching.{missing_of, surplus_of, agrees, AreTotals, IsTable};
 
 use crate::totals::{Totals, totals_of};
 use hashbag::{BagError, HashBag};
@@ -24,14 +24,14 @@ pub struct Row<T> {
 impl<T> Row<T> {
     /// How many were ordered that weren't delivered.
     pub fn missing(&self) -> usize
-        ensures { result ≡ missing self.now }
+        ensures { result ≡ missing_of self.now }
     {
         self.ordered.saturating_sub(self.delivered)
     }
 
     /// How many were delivered that weren't ordered.
     pub fn surplus(&self) -> usize
-        ensures { result ≡ surplus self.now }
+        ensures { result ≡ surplus_of self.now }
     {
         self.delivered.saturating_sub(self.ordered)
     }
@@ -55,13 +55,27 @@ pub struct Matched<T> {
     pub agree: bool,
 }
 
-/// The rows of two bags: each article of either in one row, articles rising.
+impl<T> Matched<T> {
+    /// The exit status of a program that compares, as that of `diff`: 0 where as many of each article were delivered as ordered, and
+    /// 1 where some article differs.
+    pub fn status(&self) -> u8
+        ensures { result ≡ (if self.now.agree then 0 else 1) }
+    {
+        if self.agree { 0 } else { 1 }
+    }
+}
+
+/// The rows of two bags: each article of either in one row, articles rising. So their sums are at most the totals of the bags.
+///
+/// It takes memory for the rows. Each article is looked up once in the other bag; then the rows are sorted.
 pub fn rows_of<T: Ord + Hash + Copy + Drop>(
     alloc: Global,
     ordered: &HashBag<T>,
     delivered: &HashBag<T>,
 ) -> Result<Vec<Row<T>>, AllocError>
-    ensures { IfOk result (λ rows. IsTable T.eq T.cmp (λ v. count T.eq v ordered.now.items) (λ v. count T.eq v delivered.now.items) rows.items) }
+    ensures table { IfOk result (λ rows. IsTable T.eq T.cmp (λ v. count T.eq v ordered.now.items) (λ v. count T.eq v delivered.now.items) rows.items) }
+    ensures missing { IfOk result (λ rows. sum_by missing_of rows.items ≤ length ordered.now.items) }
+    ensures surplus { IfOk result (λ rows. sum_by surplus_of rows.items ≤ length delivered.now.items) }
 {
     let mut rows = Vec::new(alloc);
     for (article, ordered, delivered) in ordered.outer_join(delivered) {
@@ -75,7 +89,10 @@ pub fn rows_of<T: Ord + Hash + Copy + Drop>(
     Ok(rows)
 }
 
-/// Matches what was ordered with what was delivered, where all numbers of either list fit a `usize` together.
+/// Matches what was ordered with what was delivered. An article may stand in a list more than once; its numbers add up.
+///
+/// It answers `TooMany` where the numbers of a list are more than `usize::MAX` together, and else only `Memory`. It takes memory for
+/// two bags and the rows.
 pub fn match_lists<T: Ord + Hash + Copy + Drop>(
     alloc: Global,
     ordered: Vec<(T, usize)>,
@@ -84,12 +101,13 @@ pub fn match_lists<T: Ord + Hash + Copy + Drop>(
     ensures table { IfOk result (λ matched. IsTable T.eq T.cmp (λ v. quantity T.eq v ordered.items) (λ v. quantity T.eq v delivered.items) matched.rows.items) }
     ensures totals { IfOk result (λ matched. AreTotals matched.rows.items matched.totals) }
     ensures agree { IfOk result (λ matched. IsTrue matched.agree ↔ ((v : T) → quantity T.eq v ordered.items ≡ quantity T.eq v delivered.items)) }
+    ensures memory { numbers ordered.items ≤ usize.MAX → numbers delivered.items ≤ usize.MAX → OnErr result (result ≡ Err BagError.Memory) }
 {
     let ordered = bag_of(alloc, ordered)?;
     let delivered = bag_of(alloc, delivered)?;
     let agree = ordered == delivered;
     let rows = rows_of(alloc, &ordered, &delivered)?;
-    let totals = totals_of(&rows)?;
+    let totals = totals_of(&rows);
     Ok(Matched {
         rows,
         totals,

@@ -1,6 +1,6 @@
 //! The rows as they are written.
 ghost use Rattle.std.specs.Prelude.{◌↔◌, ◌≡◌, ◌<◌, false, IsTrue};
-ghost use Rattle.hashbag_match_core.specs.Matching.{missing, surplus, agrees};
+ghost use Rattle.hashbag_match_core.specs.Matching.{missing_of, surplus_of, agrees};
 
 use crate::matching::{Matched, Row};
 use crate::table::table_of;
@@ -24,8 +24,8 @@ pub enum Only {
 impl Only {
     /// Whether the row is written.
     pub fn shows<T>(self, row: &Row<T>) -> bool
-        ensures missing { self ≡ Only.Missing → IsTrue result ↔ (0 < missing row.now) }
-        ensures surplus { self ≡ Only.Surplus → IsTrue result ↔ (0 < surplus row.now) }
+        ensures missing { self ≡ Only.Missing → IsTrue result ↔ (0 < missing_of row.now) }
+        ensures surplus { self ≡ Only.Surplus → IsTrue result ↔ (0 < surplus_of row.now) }
         ensures differing { self ≡ Only.Differing → IsTrue result ↔ (agrees row.now ≡ false) }
         ensures all { self ≡ Only.All → IsTrue result }
     {

@@ -1,9 +1,8 @@
 //! The sums of rows.
-ghost use Rattle.std.specs.Prelude.{◌<◌, ◌≡◌, ◌⊎◌, sum_by, IfOk, OnErr};
-ghost use Rattle.hashbag_match_core.specs.Matching.{missing, surplus, AreTotals};
+ghost use Rattle.std.specs.Prelude.{◌≤◌, sum_by};
+ghost use Rattle.hashbag_match_core.specs.Matching.{missing_of, surplus_of, AreTotals};
 
 use crate::matching::Row;
-use hashbag::BagError;
 
 /// The sums of all rows.
 #[derive(Clone, Copy, PartialEq, Eq, Debug)]
@@ -18,29 +17,27 @@ pub struct Totals {
     pub surplus: usize,
 }
 
-/// The sums of these rows, or `TooMany` where one is past `usize::MAX`, as none is of the rows of two bags.
-pub fn totals_of<T>(rows: &[Row<T>]) -> Result<Totals, BagError>
-    ensures totals { IfOk result (AreTotals rows.now) }
-    ensures too_many { OnErr result ((usize.MAX < sum_by missing rows.now) ⊎ (usize.MAX < sum_by surplus rows.now)) }
+/// The sums of these rows. The caller sees to it that each of them fits a `usize`, as those of [`rows_of`](crate::matching::rows_of)
+/// do. It takes no memory, and looks at each row once.
+pub fn totals_of<T>(rows: &[Row<T>]) -> Totals
+    requires missing { sum_by missing_of rows.now ≤ usize.MAX }
+    requires surplus { sum_by surplus_of rows.now ≤ usize.MAX }
+    ensures { AreTotals rows.now result }
 {
-    let mut totals = Totals {
-        articles: rows.len(),
-        differing: 0,
-        missing: 0,
-        surplus: 0,
-    };
+    let mut differing = 0;
+    let mut missing = 0;
+    let mut surplus = 0;
     for row in rows {
-        let (Some(missing), Some(surplus)) = (
-            totals.missing.checked_add(row.missing()),
-            totals.surplus.checked_add(row.surplus()),
-        ) else {
-            return Err(BagError::TooMany);
-        };
-        totals.missing = missing;
-        totals.surplus = surplus;
+        missing += row.missing();
+        surplus += row.surplus();
         if !row.agrees() {
-            totals.differing += 1;
+            differing += 1;
         }
     }
-    Ok(totals)
+    Totals {
+        articles: rows.len(),
+        differing,
+        missing,
+        surplus,
+    }
 }
