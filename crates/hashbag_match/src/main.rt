@@ -32,20 +32,29 @@ fn lent(alloc: Global, list: &Vec<(String, usize)>) -> Result<Vec<(&str, usize)>
         .collect(alloc)
 }
 
+// What is written of two lists, and the status. The numbers of each fit, so only memory is refused.
+fn compare<'l>(
+    alloc: Global,
+    ordered: &'l Vec<(String, usize)>,
+    delivered: &'l Vec<(String, usize)>,
+    request: &Request<'_>,
+) -> Result<(Vec<u8>, u8), AllocError> {
+    match match_lists(alloc, lent(alloc, ordered)?, lent(alloc, delivered)?) {
+        Ok(matched) => {
+            let text = text_of(alloc, &matched, request.only, request.form)?;
+            Ok((text, matched.status()))
+        }
+        Err(BagError::TooMany | BagError::BelowTotal | BagError::Memory) => Err(AllocError),
+    }
+}
+
 // Does what was asked for, and answers the status.
 fn answer<'a>(rt: &HostRuntime, request: &Request<'a>) -> Result<u8, Trouble<'a>> {
-    let alloc = rt.alloc();
     let ordered = list_of(rt, request, request.ordered)?;
     let delivered = list_of(rt, request, request.delivered)?;
-    let matched = match match_lists(alloc, lent(alloc, &ordered)?, lent(alloc, &delivered)?) {
-        Ok(matched) => matched,
-        Err(BagError::TooMany | BagError::BelowTotal | BagError::Memory) => {
-            return Err(Trouble::Memory);
-        }
-    };
-    let text = text_of(alloc, &matched, request.only, request.form)?;
+    let (text, status) = compare(rt.alloc(), &ordered, &delivered, request)?;
     write_text(&mut io::writer(rt), text.as_slice())?;
-    Ok(matched.status())
+    Ok(status)
 }
 
 // Says what the trouble is, and answers its status.
