@@ -1,0 +1,7 @@
+//! Movements of a stock: the pure part of the program `hashbag_ledger`.
+#![tactic(auto)]
+
+pub mod entering;
+pub mod movements;
+pub mod output;
+pub mod reading;

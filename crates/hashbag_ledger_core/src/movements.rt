@@ -1,0 +1,44 @@
+//! Movements, and why they are refused.
+ghost use Rattle.std.specs.Prelude.{◌≡◌};
+
+/// Where a movement stands.
+#[derive(Clone, Copy, PartialEq, Eq, Debug)]
+pub struct Place {
+    /// The number of its file, from 0.
+    pub file: usize,
+    /// The line on which it begins, from 1.
+    pub line: u64,
+}
+
+/// What a movement does.
+#[derive(Clone, Copy, PartialEq, Eq, Debug)]
+pub enum Change {
+    /// So many come in.
+    In(usize),
+    /// So many go out.
+    Out(usize),
+}
+
+/// One movement of an article.
+#[derive(PartialEq, Eq, Debug, Drop)]
+pub struct Movement<T> {
+    /// Where it stands.
+    pub place: Place,
+    /// The article.
+    pub article: T,
+    /// What it does.
+    pub change: Change,
+}
+
+/// A movement that asked for more than there was.
+#[derive(PartialEq, Eq, Debug, Drop)]
+pub struct Refusal<T> {
+    /// Where it stands.
+    pub place: Place,
+    /// The article.
+    pub article: T,
+    /// How many it asked for.
+    pub asked: usize,
+    /// How many there were.
+    pub there: usize,
+}

@@ -1,0 +1,107 @@
+//! Movements in CSV texts.
+use crate::movements::{Change, Movement, Place};
+use hashbag_lists::escaped::shown;
+use hashbag_lists::fault::{Fault, SheetError};
+use hashbag_lists::numbers::number;
+use hashbag_lists::sheet::{Column, Sheet};
+use std::alloc::{AllocError, Global};
+
+/// In which columns of a text movements stand.
+#[derive(Clone, Copy)]
+pub struct Columns<C> {
+    /// The article.
+    pub article: C,
+    /// What it does.
+    pub change: ChangeColumns<C>,
+}
+
+/// In which columns changes stand.
+#[derive(Clone, Copy)]
+pub enum ChangeColumns<C> {
+    /// One column: `5` or `+5` comes in, `-5` goes out.
+    Signed(C),
+    /// Two columns: the kind, which is `in` or `out`, and the number.
+    ByKind(C, C),
+}
+
+// The columns of these names under a header.
+fn columns_of<'n>(
+    sheet: &Sheet<'_>,
+    names: Columns<&'n str>,
+) -> Result<Columns<Column<'n>>, SheetError> {
+    Ok(Columns {
+        article: sheet.column(names.article)?,
+        change: match names.change {
+            ChangeColumns::Signed(change) => ChangeColumns::Signed(sheet.column(change)?),
+            ChangeColumns::ByKind(kind, number) => {
+                ChangeColumns::ByKind(sheet.column(kind)?, sheet.column(number)?)
+            }
+        },
+    })
+}
+
+// The change of a number with a sign.
+fn signed_change(alloc: Global, line: u64, field: &str) -> Result<Change, SheetError> {
+    if let Some(digits) = field.strip_prefix('-') {
+        return Ok(Change::Out(number(alloc, line, digits, field)?));
+    }
+    let digits = field.strip_prefix('+').unwrap_or(field);
+    Ok(Change::In(number(alloc, line, digits, field)?))
+}
+
+// The change of a kind and a number.
+fn change_of_kind(alloc: Global, line: u64, kind: &str, n: usize) -> Result<Change, SheetError> {
+    match kind {
+        "in" => Ok(Change::In(n)),
+        "out" => Ok(Change::Out(n)),
+        _ => {
+            let fault = Fault::NoKind(shown(alloc, kind)?);
+            Err(SheetError::Line { line, fault })
+        }
+    }
+}
+
+// The change of the record that was read last, which begins on that line.
+fn change_of(
+    alloc: Global,
+    sheet: &Sheet<'_>,
+    line: u64,
+    columns: ChangeColumns<Column<'_>>,
+) -> Result<Change, SheetError> {
+    match columns {
+        ChangeColumns::Signed(change) => signed_change(alloc, line, sheet.field(change)?),
+        ChangeColumns::ByKind(kind, quantity) => {
+            let digits = sheet.field(quantity)?;
+            let n = number(alloc, line, digits, digits)?;
+            change_of_kind(alloc, line, sheet.field(kind)?, n)
+        }
+    }
+}
+
+/// The movements of a text, in the order of its lines. `file` is the number of the file that it stands in.
+pub fn read_movements(
+    alloc: Global,
+    text: &[u8],
+    file: usize,
+    names: Columns<&str>,
+) -> Result<Vec<Movement<String>>, SheetError> {
+    let mut sheet = Sheet::open(alloc, text)?;
+    let columns = columns_of(&sheet, names)?;
+    let mut movements = Vec::new(alloc);
+    'records: for _ in 0..u64::MAX {
+        if !sheet.read()? {
+            break;
+        }
+        let line = sheet.line();
+        let article = String::from_str(alloc, sheet.field(columns.article)?)?;
+        let change = change_of(alloc, &sheet, line, columns.change)?;
+        let place = Place { file, line };
+        let movement = Movement {
+            place,
+            article,
+            change,
+        };
+        movements.push(movement).map_err(AllocError::from)?;
+    }
+    Ok(movements)
+}

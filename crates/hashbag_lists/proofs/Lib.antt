@@ -1,0 +1,2 @@
+pub mod QuantityLemmas
+pub mod SortedLemmas

@@ -1,0 +1,21 @@
+-- Lists of articles with quantities.
+use Rattle.std.specs.Prelude.{◌≡◌, ℕ, ◌<◌, if◌then◌else◌, Bool, true, List, sum_by, All}
+use Rattle.std.specs.List.{Contains}
+use Rattle.std.specs.List.Sorted.{IsStrictlySortedBy}
+use Rattle.std.specs.Map.{keys_of}
+use Rattle.std.specs.declared.cmp.Ordering.{Ordering}
+
+-- how many articles a list names in all, the numbers beside them added up
+abbrev pub numbers : {T : Type 0} → List (T × ℕ) → ℕ
+numbers L = sum_by (λ e. e.1) L
+
+module _ {T : Type 0} (eq : T → T → Bool) where
+  -- how many of v a list names in all
+  abbrev pub quantity : T → List (T × ℕ) → ℕ
+  quantity v L = sum_by (λ e. if eq v e.0 then e.1 else 0) L
+
+  -- L names each article of which there are some, once, beside how many there are, articles rising
+  pub record IsBalance (cmp : T → T → Ordering) (there : T → ℕ) (L : List (T × ℕ)) : Type 0 where
+    pub rising : IsStrictlySortedBy cmp (keys_of L)
+    pub counts : All (λ e. (e.1 ≡ there e.0) × (0 < e.1)) L
+    pub each : (v : T) → 0 < there v → (e : T × ℕ) × Contains L e × (eq v e.0 ≡ true)

@@ -1,0 +1,62 @@
+//! What is wrong with a CSV text.
+use std::alloc::AllocError;
+use thiserror::Error;
+
+/// What is wrong with a line.
+#[derive(Debug, Drop, Error)]
+pub enum Fault {
+    /// The text has no record.
+    #[error("no header")]
+    NoHeader,
+    /// The header has no column of this name.
+    #[error("no column `{0}`")]
+    NoColumn(String),
+    /// The header has several columns of this name.
+    #[error("more than one column `{0}`")]
+    TwoColumns(String),
+    /// A record has another number of fields than the header.
+    #[error("{header} fields wanted, {found} found")]
+    Fields {
+        /// How many fields the record has.
+        found: u64,
+        /// How many the header has.
+        header: u64,
+    },
+    /// A field isn't UTF-8.
+    #[error("column `{0}` is not UTF-8")]
+    NotText(String),
+    /// A field is no number.
+    #[error("no number: `{0}`")]
+    NoNumber(String),
+    /// A number is past `usize::MAX`.
+    #[error("number past {most}: `{0}`", most = usize::MAX)]
+    TooLarge(String),
+    /// A field names no kind of movement.
+    #[error("neither `in` nor `out`: `{0}`")]
+    NoKind(String),
+    /// With this line the total is past `usize::MAX`.
+    #[error("total past {most}", most = usize::MAX)]
+    TotalTooLarge,
+}
+
+/// Why a CSV text wasn't read.
+#[derive(Debug, Drop, Error)]
+pub enum SheetError {
+    /// A line is bad. Lines are counted from 1, line ends within quotes too.
+    #[error("{line}: {fault}")]
+    Line {
+        /// The line on which the record begins.
+        line: u64,
+        /// What is wrong with it.
+        fault: Fault,
+    },
+    /// Memory was refused.
+    #[error("no memory")]
+    Memory,
+}
+
+impl From<AllocError> for SheetError {
+    fn from(_e: AllocError) -> SheetError {
+        SheetError::Memory
+    }
+}

@@ -1,0 +1,12 @@
+//! Lists of articles with quantities: read from CSV texts, put into bags, taken out of them again, and written.
+#![tactic(auto)]
+
+pub mod counts;
+pub mod escaped;
+pub mod fault;
+pub mod files;
+pub mod numbers;
+pub mod quantities;
+pub mod records;
+pub mod sheet;
+pub mod trouble;

@@ -1,0 +1,137 @@
+//! The records of a CSV text under its header.
+use crate::escaped::shown;
+use crate::fault::{Fault, SheetError};
+use csv::{ByteRecord, Error, ErrorKind, Position, Reader, ReaderBuilder};
+use std::alloc::Global;
+use std::str;
+
+// What some programs write at the beginning of a text.
+const BYTE_ORDER_MARK: &[u8] = b"\xef\xbb\xbf";
+
+// The line on which the record begins that was read from there on: the ends of empty lines before it are passed over.
+fn line_of(text: &[u8], position: Position) -> u64 {
+    let mut line = position.line();
+    let rest = text.get(position.byte() as usize..).unwrap_or(&[]);
+    for byte in rest {
+        match byte {
+            b'\n' => line = line.saturating_add(1),
+            b'\r' => {}
+            _ => break,
+        }
+    }
+    line
+}
+
+/// A column of a sheet.
+#[derive(Clone, Copy)]
+pub struct Column<'n> {
+    name: &'n str,
+    place: usize,
+}
+
+/// A CSV text whose records are read one after the other.
+///
+/// Its first record is the header, and each other one has as many fields. A byte order mark, the ends of lines as `\n` or `\r\n`,
+/// fields in quotes and empty lines are read as most programs write them.
+#[derive(Drop)]
+pub struct Sheet<'a> {
+    alloc: Global,
+    text: &'a [u8],
+    reader: Reader<&'a [u8]>,
+    // The record that was read last, the header at first.
+    record: ByteRecord,
+}
+
+impl<'a> Sheet<'a> {
+    /// The sheet of a text, with its header read.
+    pub fn open(alloc: Global, text: &'a [u8]) -> Result<Sheet<'a>, SheetError> {
+        let text = text.strip_prefix(BYTE_ORDER_MARK).unwrap_or(text);
+        let mut sheet = Sheet {
+            alloc,
+            text,
+            reader: ReaderBuilder::new()
+                .has_headers(false)
+                .from_reader(alloc, text),
+            record: ByteRecord::new(alloc),
+        };
+        if sheet.read()? {
+            Ok(sheet)
+        } else {
+            let fault = Fault::NoHeader;
+            Err(SheetError::Line { line: 1, fault })
+        }
+    }
+
+    /// Reads the next record, and answers whether there was one.
+    pub fn read(&mut self) -> Result<bool, SheetError> {
+        match self.reader.read_byte_record(&mut self.record) {
+            Ok(found) => Ok(found),
+            Err(error) => Err(self.error_of(&error)),
+        }
+    }
+
+    // What a record was refused for. The text is in memory, so no read of it fails.
+    fn error_of(&self, error: &Error) -> SheetError {
+        match error.kind() {
+            ErrorKind::UnequalLengths {
+                expected_len,
+                len,
+                ..
+            } => SheetError::Line {
+                line: self.line(),
+                fault: Fault::Fields {
+                    found: *len,
+                    header: *expected_len,
+                },
+            },
+            _ => SheetError::Memory,
+        }
+    }
+
+    /// The line on which the record that was read last begins, from 1.
+    pub fn line(&self) -> u64 {
+        match self.record.position() {
+            Some(position) => line_of(self.text, position),
+            None => 1,
+        }
+    }
+
+    /// The column of that name in the header, which has to be the record that was read last.
+    pub fn column<'n>(&self, name: &'n str) -> Result<Column<'n>, SheetError> {
+        let mut found = None;
+        for place in 0..self.record.len() {
+            if self.record.get(place) == Some(name.as_bytes()) {
+                if found.is_some() {
+                    let fault = Fault::TwoColumns(shown(self.alloc, name)?);
+                    return Err(self.bad_line(fault));
+                }
+                found = Some(place);
+            }
+        }
+        match found {
+            Some(place) => Ok(Column { name, place }),
+            None => {
+                let fault = Fault::NoColumn(shown(self.alloc, name)?);
+                Err(self.bad_line(fault))
+            }
+        }
+    }
+
+    /// The text of a column in the record that was read last.
+    pub fn field(&self, column: Column<'_>) -> Result<&str, SheetError> {
+        let field = self.record.get(column.place).unwrap_or(&[]);
+        match str::from_utf8(field) {
+            Ok(text) => Ok(text),
+            Err(_) => {
+                let fault = Fault::NotText(shown(self.alloc, column.name)?);
+                Err(self.bad_line(fault))
+            }
+        }
+    }
+
+    /// The error that the record that was read last has this fault.
+    pub fn bad_line(&self, fault: Fault) -> SheetError {
+        let line = self.line();
+        SheetError::Line { line, fault }
+    }
+}

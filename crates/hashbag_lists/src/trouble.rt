@@ -1,0 +1,81 @@
+//! Why a program over lists came to no end, its message and its status.
+ghost use Rattle.std.specs.Prelude.{◌≡◌, ◌⊎◌};
+
+use crate::fault::SheetError;
+use std::alloc::AllocError;
+use std::io::{self, ErrorKind};
+use thiserror::Error;
+
+/// Bad arguments, no such file, or a bad line.
+pub const BAD_INPUT: u8 = 2;
+
+/// Memory was refused.
+pub const NO_MEMORY: u8 = 3;
+
+/// A read or a write failed.
+pub const IO_FAILED: u8 = 4;
+
+/// Why a program came to no end.
+#[derive(Debug, Drop, Error)]
+pub enum Trouble<'a> {
+    /// An argument isn't UTF-8.
+    #[error("an argument is not UTF-8")]
+    NotText,
+    /// A file wasn't opened.
+    #[error("{file}: {error}")]
+    Open {
+        /// Its name.
+        file: &'a str,
+        /// Why.
+        error: io::Error,
+    },
+    /// A read failed.
+    #[error("{file}: {error}")]
+    Read {
+        /// The name of the file.
+        file: &'a str,
+        /// Why.
+        error: io::Error,
+    },
+    /// A line is bad.
+    #[error("{file}:{error}")]
+    BadLine {
+        /// The name of the file.
+        file: &'a str,
+        /// The line and what is wrong with it.
+        error: SheetError,
+    },
+    /// Memory was refused.
+    #[error("no memory")]
+    Memory,
+    /// A write failed.
+    #[error("{0}")]
+    Write(io::Error),
+}
+
+impl Trouble<'_> {
+    /// Whether it is said: not where nobody reads the output any more.
+    pub fn is_said(&self) -> bool {
+        match self {
+            Trouble::Write(error) => error.kind() != ErrorKind::BrokenPipe,
+            _ => true,
+        }
+    }
+
+    /// The exit status of a program that came to no end for this reason.
+    pub fn status(&self) -> u8
+        ensures { (result ≡ BAD_INPUT) ⊎ ((result ≡ NO_MEMORY) ⊎ (result ≡ IO_FAILED)) }
+    {
+        match self {
+            Trouble::NotText | Trouble::Open { .. } | Trouble::BadLine { .. } => BAD_INPUT,
+            Trouble::Memory => NO_MEMORY,
+            Trouble::Read { .. } | Trouble::Write(_) => IO_FAILED,
+        }
+    }
+}
+
+impl From<AllocError> for Trouble<'_> {
+    fn from(_e: AllocError) -> Self {
+        Trouble::Memory
+    }
+}

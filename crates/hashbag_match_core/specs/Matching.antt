@@ -1,0 +1,32 @@
+-- What was ordered beside what was delivered.
+use Rattle.std.specs.Prelude.{◌≡◌, ℕ, ◌+◌, ◌-◌, ◌<◌, ◌==◌, not, Bool, true, List, length, map, sum_by, count_by, All}
+use Rattle.std.specs.List.{Contains}
+use Rattle.std.specs.List.Sorted.{IsStrictlySortedBy}
+use Rattle.std.specs.declared.cmp.Ordering.{Ordering}
+use Rattle.hashbag_match_core.specs.declared.matching.Row.{Row}
+use Rattle.hashbag_match_core.specs.declared.totals.Totals.{Totals}
+
+module _ {T : Type 0} where
+  -- how many were ordered that weren't delivered, and the other way round
+  abbrev pub missing_of : Row T → ℕ
+  missing_of row = row.ordered - row.delivered
+
+  abbrev pub surplus_of : Row T → ℕ
+  surplus_of row = row.delivered - row.ordered
+
+  -- as many were ordered as delivered
+  abbrev pub agrees : Row T → Bool
+  agrees row = row.ordered == row.delivered
+
+  -- the sums over all rows
+  pub record AreTotals (rows : List (Row T)) (totals : Totals) : Type 0 where
+    pub articles : totals.articles ≡ length rows
+    pub differing : totals.differing ≡ count_by (λ row. not (agrees row)) rows
+    pub missing : totals.missing ≡ sum_by missing_of rows
+    pub surplus : totals.surplus ≡ sum_by surplus_of rows
+
+-- the rows of the articles of which `ordered` or `delivered` has some: each in one row, beside both numbers, articles rising
+pub record IsTable {T : Type 0} (eq : T → T → Bool) (cmp : T → T → Ordering) (ordered delivered : T → ℕ) (rows : List (Row T)) : Type 0 where
+  pub rising : IsStrictlySortedBy cmp (map (λ row. row.article) rows)
+  pub counts : All (λ row. (row.ordered ≡ ordered row.article) × (row.delivered ≡ delivered row.article) × (0 < row.ordered + row.delivered)) rows
+  pub each : (v : T) → 0 < ordered v + delivered v → (row : Row T) × Contains rows row × (eq v row.article ≡ true)

@@ -1,0 +1,5 @@
+//! The tests of lists with quantities, and of their rows.
+#![tactic(auto)]
+
+#[cfg(test)]
+mod tests;
