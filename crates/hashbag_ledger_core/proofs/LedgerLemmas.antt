@@ -83,6 +83,10 @@ module _ {T : Type 0} (eq : T → T → Bool) (start : T → ℕ) where
     total_is = omega arith;
   }
 
+  -- the next one to come
+  pub comes_next : {total now : ℕ} {all l to_come : List (Movement T)} {m : Movement T} {refusals : List (Refusal T)} {stock : T → ℕ} → l ≡ m ∷ to_come → SoFar total all l refusals now stock → SoFar total all (m ∷ to_come) refusals now stock
+  comes_next {total = total} {now = now} {all = all} {refusals = refusals} {stock = stock} is h = subst (λ (l : List (Movement T)). SoFar total all l refusals now stock) is h
+
   pub one_entered : {total now then : ℕ} {all to_come : List (Movement T)} {m : Movement T} {refusals : List (Refusal T)} {before after : T → ℕ} → SoFar total all (m ∷ to_come) refusals now before
       → Changes eq m before after → then + going m.change ≡ now + coming m.change → SoFar total all to_come refusals then after
   one_entered {to_come = to_come} {m = m} {refusals = refusals} {before = before} {after = after} h changes more =
@@ -120,7 +124,7 @@ module _ {T : Type 0} (eq : T → T → Bool) (start : T → ℕ) where
         entered_is = entered_more [] h.gone m ∙ ap (λ (l : List (Movement T)). entered_after eq start l (m ∷ [])) h.entered_is ∙ ap (λ (b : Bool). cond b E (E ++ m ∷ [])) too_much;
         entered_in_all = ap (λ (b : Bool). entered_after eq start (cond b E (E ++ m ∷ [])) to_come) (sym too_much) ∙ h.entered_in_all;
         refused_in_all = append_assoc refusals (r ∷ []) (refused_after eq start E to_come) ∙ (λ i. refusals ++ refused i ∷ refused_after eq start E to_come)
-        ∙ ap (λ (b : Bool). refusals ++ cond b (refusal eq start E m ∷ refused_after eq start E to_come) (refused_after eq start (E ++ m ∷ []) to_come)) (sym too_much) ∙ h.refused_in_all;
+            ∙ ap (λ (b : Bool). refusals ++ cond b (refusal eq start E m ∷ refused_after eq start E to_come) (refused_after eq start (E ++ m ∷ []) to_come)) (sym too_much) ∙ h.refused_in_all;
         counts = h.counts;
         never = h.never;
         total_is = h.total_is;

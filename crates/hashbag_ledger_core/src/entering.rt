@@ -29,8 +29,11 @@ impl From<AllocError> for LedgerError {
     }
 }
 
-/// Enters a movement, or answers why it is refused. Then, and where the stock can't hold what comes in or memory is refused, nothing
-/// changes.
+/// Enters a movement, or answers why it is refused: where it takes out more than is there. Nothing changes then, nor where it answers
+/// an error: `TooMany`, where the total would pass the limit of the stock, or `Memory`.
+///
+/// What comes in is hashed once, and takes memory where its article is absent and no room is left. What goes out is hashed at most
+/// twice, and takes no memory.
 pub fn enter<T: Eq + Hash + Drop>(
     stock: &mut HashBag<T>,
     movement: Movement<T>,
@@ -72,6 +75,9 @@ pub fn enter<T: Eq + Hash + Drop>(
 }
 
 /// Enters movements in turn, and answers those that were refused, in their order.
+///
+/// It answers `TooMany` with the place of a movement with which the total would pass the limit of the stock, and else only `Memory`:
+/// no clause says what the stock is then. It takes memory for absent articles and for the refusals.
 pub fn enter_all<T: Eq + Hash + Drop>(
     alloc: Global,
     stock: &mut HashBag<T>,

@@ -21,17 +21,45 @@ const BY_KIND: Columns<&str> = Columns {
 
 // The columns of a text, the text, and what it says: its movements, or its first bad line and what is wrong with that.
 const TEXTS: [(Columns<&str>, &str, &str); 12] = [
-    (SIGNED, "article,change\nbolt,5\nnut,+7\n\nbolt,-4\n", "[2 bolt in 5][3 nut in 7][5 bolt out 4]"),
-    (SIGNED, "change,article\n-0,\"a\nb\"\n0,c\n", "[2 a\nb out 0][4 c in 0]"),
+    (
+        SIGNED,
+        "article,change\nbolt,5\nnut,+7\n\nbolt,-4\n",
+        "[2 bolt in 5][3 nut in 7][5 bolt out 4]",
+    ),
+    (
+        SIGNED,
+        "change,article\n-0,\"a\nb\"\n0,c\n",
+        "[2 a\nb out 0][4 c in 0]",
+    ),
     (SIGNED, "article,change\nbolt,--5\n", "2: no number: `--5`"),
     (SIGNED, "article,change\nbolt,+-5\n", "2: no number: `+-5`"),
     (SIGNED, "article,change\nbolt,-\n", "2: no number: `-`"),
-    (SIGNED, "article,change\nbolt,-18446744073709551616\n", "2: number past 18446744073709551615: `-18446744073709551616`"),
+    (
+        SIGNED,
+        "article,change\nbolt,-18446744073709551616\n",
+        "2: number past 18446744073709551615: `-18446744073709551616`",
+    ),
     (SIGNED, "article,number\n", "1: no column `change`"),
-    (BY_KIND, "number,kind,part\n5,in,bolt\n4,out,bolt\n", "[2 bolt in 5][3 bolt out 4]"),
-    (BY_KIND, "part,kind,number\nbolt,In,5\n", "2: neither `in` nor `out`: `In`"),
-    (BY_KIND, "part,kind,number\nbolt,in,+5\n", "2: no number: `+5`"),
-    (BY_KIND, "part,kind,number\nbolt,in,5\nnut,out\n", "3: 3 fields wanted, 2 found"),
+    (
+        BY_KIND,
+        "number,kind,part\n5,in,bolt\n4,out,bolt\n",
+        "[2 bolt in 5][3 bolt out 4]",
+    ),
+    (
+        BY_KIND,
+        "part,kind,number\nbolt,In,5\n",
+        "2: neither `in` nor `out`: `In`",
+    ),
+    (
+        BY_KIND,
+        "part,kind,number\nbolt,in,+5\n",
+        "2: no number: `+5`",
+    ),
+    (
+        BY_KIND,
+        "part,kind,number\nbolt,in,5\nnut,out\n",
+        "3: 3 fields wanted, 2 found",
+    ),
     (BY_KIND, "", "1: no header"),
 ];
 
@@ -81,7 +109,11 @@ const LEDGERS: [(&[(&str, usize)], &str, &str); 5] = [
         "article,change\n\"z\n\",-2\nx,-1\ny,2\n",
         "article,number\nx,18446744073709551613\ny,2\nm.csv:2: refused: out 2 of \"z\\n\", 0 there\n",
     ),
-    (&[("x", 18446744073709551615), ("x", 1)], "article,change\n", "too many at the start"),
+    (
+        &[("x", 18446744073709551615), ("x", 1)],
+        "article,change\n",
+        "too many at the start",
+    ),
 ];
 
 // What a stock and movements leave.

@@ -5,7 +5,8 @@ use Rattle.std.proofs.lemmas.List.{map-id}
 use Rattle.hashbag.proofs.CallerLemmas.{count_extended, pairs_as_they_are, items_that_came}
 use Rattle.hashbag.proofs.InsertLemmas.{all_added}
 use Rattle.hashbag_lists.specs.Quantities.{quantity}
-use Rattle.hashbag_lists.proofs.QuantityLemmas.{length_made}
+use Rattle.hashbag_lists.proofs.QuantityLemmas.{length_made, only_memory}
+use Rattle.hashbag_ledger_core.proofs.SettleLemmas.{not_too_many}
 use Rattle.hashbag_ledger_core.proofs.settling.stock_at_start.Goals as goal
 
 -- the pairs that came are those of the list
@@ -22,3 +23,9 @@ returns-in-Ok-clause-len g c = length_made g.met.T.Eq.laws (YieldsList-from_vec 
 
 pub returns-in-Ok-clause-limit : goal.returns-in-Ok-clause-limit
 returns-in-Ok-clause-limit g c = (all_added g.met.T.Eq.laws c.in-Ok.ensures.all).limit
+
+-- numbers that fit are refused for memory alone
+pub returns-in-Err-TooMany-clause-fits : goal.returns-in-Err-TooMany-clause-fits
+returns-in-Err-TooMany-clause-fits g c = λ fits _.
+    not_too_many c.from_counts.result (rw c.in-Err-TooMany.field-0-is at c.in-Err-TooMany.is)
+    (only_memory g.met.T.Eq.laws (YieldsList-from_vec {s = c.into_iter.result} c.args.list.items (search rules) (search rules)) fits c.from_counts.result c.from_counts.ensures.refused)
