@@ -1,5 +1,4 @@
-use Rattle.std.proofs.Common.{◌≡◌, ◌+◌, ℕ, List, [], sym, ◌∙◌, ap, arith, rules}
-use Rattle.std.specs.Vec.Iter.{into_iter_steps}
+use Rattle.std.proofs.Common.{ℕ, List, [], sym, ◌∙◌, ap, arith, rules}
 use Rattle.std.proofs.lemmas.Iterator.Adapters.{YieldsList-from_vec}
 use Rattle.std.proofs.lemmas.List.{map-id}
 use Rattle.hashbag.proofs.CallerLemmas.{count_extended, pairs_as_they_are, items_that_came}
