@@ -4,10 +4,11 @@
 mod arguments;
 
 use crate::arguments::{Request, parse};
-use hashbag_ledger_core::entering::{Entered, LedgerError, settle};
+use hashbag_ledger_core::entering::LedgerError;
 use hashbag_ledger_core::movements::Movement;
 use hashbag_ledger_core::output::{balance_text, refusals_text};
 use hashbag_ledger_core::reading::read_movements;
+use hashbag_ledger_core::settling::{Entered, settle};
 use hashbag_lists::counts::read_counts;
 use hashbag_lists::fault::{Fault, SheetError};
 use hashbag_lists::files::{arguments, in_file, read_file, write_text};
@@ -50,16 +51,23 @@ fn movements_of<'a>(
     Ok(all)
 }
 
-// What is wrong where the movements weren't entered.
-fn trouble_of<'a>(files: &[&'a str], error: LedgerError) -> Trouble<'a> {
+// A total that is too large with that line.
+fn too_large(line: u64) -> SheetError {
+    let fault = Fault::TotalTooLarge;
+    SheetError::Line { line, fault }
+}
+
+// What is wrong where the movements weren't entered. That the stock at the beginning isn't too large was seen when it was read.
+fn trouble_of<'a>(request: &Request<'a>, error: LedgerError) -> Trouble<'a> {
     match error {
         LedgerError::Memory => Trouble::Memory,
+        LedgerError::StartTooMany => Trouble::BadLine {
+            file: request.start.unwrap_or("-"),
+            error: too_large(1),
+        },
         LedgerError::TooMany(place) => Trouble::BadLine {
-            file: files.get(place.file).copied().unwrap_or("-"),
-            error: SheetError::Line {
-                line: place.line,
-                fault: Fault::TotalTooLarge,
-            },
+            file: request.files.get(place.file).copied().unwrap_or("-"),
+            error: too_large(place.line),
         },
     }
 }
@@ -108,7 +116,7 @@ fn answer<'a>(rt: &HostRuntime, request: &Request<'a>) -> Result<u8, Trouble<'a>
     let movements = movements_of(rt, request)?;
     match settle(rt.alloc(), start, movements) {
         Ok(entered) => write_all(rt, request, &entered),
-        Err(error) => Err(trouble_of(&request.files, error)),
+        Err(error) => Err(trouble_of(request, error)),
     }
 }
 

@@ -1,1 +1,3 @@
+pub mod EnterLemmas
 pub mod LedgerLemmas
+pub mod SettleLemmas

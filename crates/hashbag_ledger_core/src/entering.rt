@@ -1,12 +1,10 @@
 //! A stock into which movements are entered, in turn.
-ghost use Rattle.std.specs.Prelude.{◌≡◌, ◌≢◌, ◌+◌, ◌<◌, ◌≤◌, length, sum_by, OnOk, OnErr, IfOk, IfErr, IfSome, IsSome};
-ghost use Rattle.hashbag.specs.Occurrences.{count};
-ghost use Rattle.hashbag_lists.specs.Quantities.{quantity, IsBalance};
-ghost use Rattle.hashbag_ledger_core.specs.Ledger.{coming, going, all_coming, there, entered_of, refused_of, Changes, IsNeverBelowZero, IsConserved};
+ghost use Rattle.std.specs.Prelude.{◌≡◌, ◌≢◌, ◌⊎◌, ◌+◌, ◌<◌, length, OnOk, OnErr, IfOk, IfErr, IfSome, IsSome};
+ghost use Rattle.hashbag_ledger_core.specs.declared.movements.Place.{Place};
+ghost use Rattle.hashbag_ledger_core.specs.Ledger.{coming, going, stock_of, refused_of, Changes, IsRefused, Leaves, IsPastLimit};
 
 use crate::movements::{Change, Movement, Place, Refusal};
 use hashbag::{BagError, HashBag};
-use hashbag_lists::quantities::{bag_of, balance_of};
 use std::alloc::{AllocError, Global};
 use std::hash::Hash;
 
@@ -15,38 +13,37 @@ use std::hash::Hash;
 pub enum LedgerError {
     /// Memory was refused.
     Memory,
-    /// With the movement that stands there the total of the stock would pass `usize::MAX`.
+    /// The stock at the beginning is more than `usize::MAX` in all.
+    StartTooMany,
+    /// With the movement that stands there the total of the stock would pass its limit.
     TooMany(Place),
 }
 
 impl From<AllocError> for LedgerError {
-    ghost from_gives = { λ _ e. e ≡ LedgerError.Memory };
+    ghost use Rattle.hashbag_ledger_core.specs.declared.entering.LedgerError.TheVariants.{Memory};
+
+    ghost from_gives = { λ _ e. e ≡ Memory };
 
     fn from(_e: AllocError) -> LedgerError {
         LedgerError::Memory
     }
 }
 
-/// What movements leave.
-#[derive(Drop)]
-pub struct Entered<T> {
-    /// The articles that there are then, each once with how many, articles rising.
-    pub balance: Vec<(T, usize)>,
-    /// The movements that were refused, in their order.
-    pub refusals: Vec<Refusal<T>>,
-}
-
-/// Enters a movement, or answers why it is refused. Where that is so, or the stock can't hold what comes in, nothing changes.
+/// Enters a movement, or answers why it is refused: where it takes out more than is there. Nothing changes then, nor where it answers
+/// an error: `TooMany`, where the total would pass the limit of the stock, or `Memory`.
+///
+/// What comes in is hashed once, and takes memory where its article is absent and no room is left. What goes out is hashed at most
+/// twice, and takes no memory.
 pub fn enter<T: Eq + Hash + Drop>(
     stock: &mut HashBag<T>,
     movement: Movement<T>,
 ) -> Result<Option<Refusal<T>>, LedgerError>
-    ensures entered { IfOk result (λ r. r ≡ None → Changes T.eq movement (λ v. count T.eq v stock.old.items) (λ v. count T.eq v stock.new.items)) }
-    ensures asked { IfOk result (λ r. IsSome r → count T.eq movement.article stock.old.items < going movement.change) }
-    ensures refused { IfOk result (λ r. IfSome r (λ refusal. refusal ≡ record { place = movement.place; article = movement.article; asked = going movement.change; there = count T.eq movement.article stock.old.items })) }
+    ensures entered { IfOk result (λ r. r ≡ None → Changes T.eq movement (stock_of T.eq stock.old.items) (stock_of T.eq stock.new.items)) }
+    ensures len { IfOk result (λ r. r ≡ None → length stock.new.items + going movement.change ≡ length stock.old.items + coming movement.change) }
+    ensures refused { IfOk result (λ r. IfSome r (IsRefused T.eq movement (stock_of T.eq stock.old.items))) }
     ensures same { IfOk result (λ r. IsSome r → stock.new ≡ stock.old) }
-    ensures len { OnOk result (length stock.new.items ≤ length stock.old.items + coming movement.change) }
     ensures limit { stock.new.most ≡ stock.old.most }
+    ensures why { IfErr result (λ e. (e ≡ LedgerError.Memory) ⊎ (e ≡ LedgerError.TooMany movement.place)) }
     ensures too_many { IfErr result (λ e. e ≢ LedgerError.Memory → stock.old.most < length stock.old.items + coming movement.change) }
     ensures err { OnErr result (stock.new ≡ stock.old) }
 {
@@ -77,19 +74,19 @@ pub fn enter<T: Eq + Hash + Drop>(
     }
 }
 
-/// Enters movements in turn, and answers those that were refused.
+/// Enters movements in turn, and answers those that were refused, in their order.
 ///
-/// Where memory is refused, or the stock can't hold what comes in, the movements before that one have been entered.
+/// It answers `TooMany` with the place of a movement with which the total would pass the limit of the stock, and else only `Memory`:
+/// no clause says what the stock is then. It takes memory for absent articles and for the refusals.
 pub fn enter_all<T: Eq + Hash + Drop>(
     alloc: Global,
     stock: &mut HashBag<T>,
     movements: Vec<Movement<T>>,
 ) -> Result<Vec<Refusal<T>>, LedgerError>
-    ensures counts { OnOk result ((v : T) → count T.eq v stock.new.items ≡ there T.eq (λ w. count T.eq w stock.old.items) (entered_of T.eq (λ w. count T.eq w stock.old.items) movements.items) v) }
-    ensures conserved { OnOk result (IsConserved T.eq (λ w. count T.eq w stock.old.items) (entered_of T.eq (λ w. count T.eq w stock.old.items) movements.items) (λ w. count T.eq w stock.new.items)) }
-    ensures never { OnOk result (IsNeverBelowZero T.eq (λ w. count T.eq w stock.old.items) (entered_of T.eq (λ w. count T.eq w stock.old.items) movements.items)) }
-    ensures refused { IfOk result (λ refusals. refusals.items ≡ refused_of T.eq (λ w. count T.eq w stock.old.items) movements.items) }
-    ensures too_many { IfErr result (λ e. e ≢ LedgerError.Memory → stock.old.most < length stock.old.items + all_coming movements.items) }
+    ensures leaves { OnOk result (Leaves T.eq (stock_of T.eq stock.old.items) movements.items (stock_of T.eq stock.new.items)) }
+    ensures refused { IfOk result (λ r. r.items ≡ refused_of T.eq (stock_of T.eq stock.old.items) movements.items) }
+    ensures why { IfErr result (λ e. e ≢ LedgerError.StartTooMany) }
+    ensures past { IfErr result (λ e. (p : Place) → e ≡ LedgerError.TooMany p → IsPastLimit T.eq stock.old.items stock.old.most movements.items p) }
 {
     let mut refusals = Vec::new(alloc);
     for movement in movements {
@@ -98,25 +95,4 @@ pub fn enter_all<T: Eq + Hash + Drop>(
         }
     }
     Ok(refusals)
-}
-
-/// Enters movements into a stock that begins with a list, whose numbers fit a `usize` together.
-pub fn settle<T: Ord + Hash + Drop>(
-    alloc: Global,
-    start: Vec<(T, usize)>,
-    movements: Vec<Movement<T>>,
-) -> Result<Entered<T>, LedgerError>
-    ensures balance { IfOk result (λ entered. IsBalance T.eq T.cmp (there T.eq (λ v. quantity T.eq v start.items) (entered_of T.eq (λ v. quantity T.eq v start.items) movements.items)) entered.balance.items) }
-    ensures conserved { IfOk result (λ entered. IsConserved T.eq (λ v. quantity T.eq v start.items) (entered_of T.eq (λ v. quantity T.eq v start.items) movements.items) (λ v. quantity T.eq v entered.balance.items)) }
-    ensures never { OnOk result (IsNeverBelowZero T.eq (λ v. quantity T.eq v start.items) (entered_of T.eq (λ v. quantity T.eq v start.items) movements.items)) }
-    ensures refused { IfOk result (λ entered. entered.refusals.items ≡ refused_of T.eq (λ v. quantity T.eq v start.items) movements.items) }
-    ensures too_many { IfErr result (λ e. e ≢ LedgerError.Memory → usize.MAX < sum_by (λ e. e.1) start.items + all_coming movements.items) }
-{
-    let mut stock = match bag_of(alloc, start) {
-        Ok(stock) => stock,
-        Err(_) => return Err(LedgerError::Memory),
-    };
-    let refusals = enter_all(alloc, &mut stock, movements)?;
-    let balance = balance_of(alloc, stock)?;
-    Ok(Entered { balance, refusals })
 }

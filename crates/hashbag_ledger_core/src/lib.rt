@@ -5,3 +5,4 @@ pub mod entering;
 pub mod movements;
 pub mod output;
 pub mod reading;
+pub mod settling;

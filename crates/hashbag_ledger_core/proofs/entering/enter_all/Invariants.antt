@@ -1,7 +1,6 @@
-use Rattle.std.proofs.Common.{◌≡◌, ◌+◌, ◌≤◌, length}
+use Rattle.std.proofs.Common.{◌≡◌, length}
 use Rattle.std.specs.Vec.Iter.{into_iter_items, into_iter_len}
-use Rattle.hashbag.specs.Occurrences.{count}
-use Rattle.hashbag_ledger_core.specs.Ledger.{all_coming}
+use Rattle.hashbag_ledger_core.specs.Ledger.{stock_of}
 use Rattle.hashbag_ledger_core.proofs.LedgerLemmas.{SoFar}
 use Rattle.hashbag_ledger_core.proofs.entering.enter_all.Given as goal
 
@@ -9,7 +8,6 @@ use Rattle.hashbag_ledger_core.proofs.entering.enter_all.Given as goal
 abbrev pub invariant-loop-movement : goal.invariant-loop-movement
 invariant-loop-movement g l = record {
   long : into_iter_len l.movement-iterator ≡ length (into_iter_items l.movement-iterator);
-  so_far : SoFar g.T.PartialEq.eq (λ v. count g.T.PartialEq.eq v l.fn.stock.items) (into_iter_items l.initial.movement-iterator) (into_iter_items l.movement-iterator) l.refusals.items (λ v. count g.T.PartialEq.eq v l.stock.items);
+  so_far : SoFar g.T.PartialEq.eq (stock_of g.T.PartialEq.eq l.fn.stock.items) (length l.fn.stock.items) (into_iter_items l.initial.movement-iterator) (into_iter_items l.movement-iterator) l.refusals.items (length l.stock.items) (stock_of g.T.PartialEq.eq l.stock.items);
   limit : l.stock.most ≡ l.fn.stock.most;
-  len : length l.stock.items + all_coming (into_iter_items l.movement-iterator) ≤ length l.fn.stock.items + all_coming (into_iter_items l.initial.movement-iterator);
 }

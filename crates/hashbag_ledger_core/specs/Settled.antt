@@ -1,0 +1,16 @@
+-- A stock that begins as a list, in which an article may stand more than once.
+use Rattle.std.specs.Prelude.{ℕ, Bool, List}
+use Rattle.hashbag.specs.Occurrences.{greatest_total}
+use Rattle.hashbag_lists.specs.Quantities.{numbers, quantity}
+use Rattle.hashbag_ledger_core.specs.declared.movements.Movement.{Movement}
+use Rattle.hashbag_ledger_core.specs.declared.movements.Place.{Place}
+use Rattle.hashbag_ledger_core.specs.Ledger.{IsPast}
+
+module _ {T : Type 0} (eq : T → T → Bool) where
+  -- how many of each article a list names
+  abbrev pub listed : List (T × ℕ) → T → ℕ
+  listed L v = quantity eq v L
+
+  -- the movement at this place comes in when the total, which the list names at first, would pass `usize::MAX`
+  abbrev pub IsPastFrom : List (T × ℕ) → List (Movement T) → Place → Type 0
+  IsPastFrom L ms place = IsPast eq (listed L) (numbers L) greatest_total ms place

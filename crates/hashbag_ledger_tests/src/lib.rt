@@ -1,0 +1,5 @@
+//! The tests of movements of a stock.
+#![tactic(auto)]
+
+#[cfg(test)]
+mod tests;

@@ -1,0 +1,144 @@
+//! What no clause says of movements: how texts are read, what is said of bad ones, and how a balance and refusals are written. What
+//! is wanted was found by hand.
+use hashbag_ledger_core::entering::LedgerError;
+use hashbag_ledger_core::movements::Change;
+use hashbag_ledger_core::output::{balance_text, refusals_text};
+use hashbag_ledger_core::reading::{ChangeColumns, Columns, read_movements};
+use hashbag_ledger_core::settling::settle;
+use std::alloc::{AllocError, Global};
+use std::test::Fail;
+
+// Movements with a sign, and by their kinds.
+const SIGNED: Columns<&str> = Columns {
+    article: "article",
+    change: ChangeColumns::Signed("change"),
+};
+
+const BY_KIND: Columns<&str> = Columns {
+    article: "part",
+    change: ChangeColumns::ByKind("kind", "number"),
+};
+
+// The columns of a text, the text, and what it says: its movements, or its first bad line and what is wrong with that.
+const TEXTS: [(Columns<&str>, &str, &str); 12] = [
+    (
+        SIGNED,
+        "article,change\nbolt,5\nnut,+7\n\nbolt,-4\n",
+        "[2 bolt in 5][3 nut in 7][5 bolt out 4]",
+    ),
+    (
+        SIGNED,
+        "change,article\n-0,\"a\nb\"\n0,c\n",
+        "[2 a\nb out 0][4 c in 0]",
+    ),
+    (SIGNED, "article,change\nbolt,--5\n", "2: no number: `--5`"),
+    (SIGNED, "article,change\nbolt,+-5\n", "2: no number: `+-5`"),
+    (SIGNED, "article,change\nbolt,-\n", "2: no number: `-`"),
+    (
+        SIGNED,
+        "article,change\nbolt,-18446744073709551616\n",
+        "2: number past 18446744073709551615: `-18446744073709551616`",
+    ),
+    (SIGNED, "article,number\n", "1: no column `change`"),
+    (
+        BY_KIND,
+        "number,kind,part\n5,in,bolt\n4,out,bolt\n",
+        "[2 bolt in 5][3 bolt out 4]",
+    ),
+    (
+        BY_KIND,
+        "part,kind,number\nbolt,In,5\n",
+        "2: neither `in` nor `out`: `In`",
+    ),
+    (
+        BY_KIND,
+        "part,kind,number\nbolt,in,+5\n",
+        "2: no number: `+5`",
+    ),
+    (
+        BY_KIND,
+        "part,kind,number\nbolt,in,5\nnut,out\n",
+        "3: 3 fields wanted, 2 found",
+    ),
+    (BY_KIND, "", "1: no header"),
+];
+
+// What a text says.
+fn said_of(alloc: Global, names: Columns<&str>, text: &str) -> Result<String, AllocError> {
+    match read_movements(alloc, text.as_bytes(), 0, names) {
+        Ok(movements) => {
+            let mut said = String::new(alloc);
+            for movement in &movements {
+                let line = movement.place.line;
+                let article = movement.article.as_str();
+                let (kind, number) = match movement.change {
+                    Change::In(n) => ("in", n),
+                    Change::Out(n) => ("out", n),
+                };
+                write!(said, "[{line} {article} {kind} {number}]")?;
+            }
+            Ok(said)
+        }
+        Err(error) => format!(in alloc; "{error}"),
+    }
+}
+
+#[test]
+fn texts_are_read(rt: HostRuntime) -> Result<(), Fail> {
+    for (names, text, wanted) in TEXTS {
+        assert_eq!(rt; said_of(rt.alloc(), names, text)?.as_str(), wanted);
+    }
+    Ok(())
+}
+
+// A stock at the beginning, a text of movements, and what they leave and what is refused.
+const LEDGERS: [(&[(&str, usize)], &str, &str); 5] = [
+    (&[], "article,change\n", "article,number\n"),
+    (
+        &[("nut", 2), ("bolt", 0), ("nut", 3)],
+        "article,change\nnut,-5\nbolt,-1\nbolt,1\nbolt,-1\nnut,-1\n\"a, b\",1\n",
+        "article,number\n\"a, b\",1\nm.csv:3: refused: out 1 of \"bolt\", 0 there\nm.csv:6: refused: out 1 of \"nut\", 0 there\n",
+    ),
+    (
+        &[("x", 18446744073709551614)],
+        "article,change\ny,1\nx,-1\n\"z\n\",2\n",
+        "4: too many",
+    ),
+    (
+        &[("x", 18446744073709551614)],
+        "article,change\n\"z\n\",-2\nx,-1\ny,2\n",
+        "article,number\nx,18446744073709551613\ny,2\nm.csv:2: refused: out 2 of \"z\\n\", 0 there\n",
+    ),
+    (
+        &[("x", 18446744073709551615), ("x", 1)],
+        "article,change\n",
+        "too many at the start",
+    ),
+];
+
+// What a stock and movements leave.
+fn left_by(alloc: Global, start: &[(&str, usize)], text: &str) -> Result<String, Fail> {
+    let mut stock = Vec::new(alloc);
+    for (article, number) in start {
+        stock.push((article.to_string(alloc)?, *number))?;
+    }
+    let movements = read_movements(alloc, text.as_bytes(), 0, SIGNED)?;
+    match settle(alloc, stock, movements) {
+        Ok(entered) => {
+            let mut said = String::from_utf8(balance_text(alloc, &entered.balance)?)?;
+            said.push_str(refusals_text(alloc, &["m.csv"], &entered.refusals)?.as_str())?;
+            Ok(said)
+        }
+        Err(LedgerError::TooMany(place)) => Ok(format!(in alloc; "{}: too many", place.line)?),
+        Err(LedgerError::StartTooMany) => Ok(format!(in alloc; "too many at the start")?),
+        Err(LedgerError::Memory) => Ok(format!(in alloc; "no memory")?),
+    }
+}
+
+#[test]
+fn movements_are_entered(rt: HostRuntime) -> Result<(), Fail> {
+    for (start, text, wanted) in LEDGERS {
+        assert_eq!(rt; left_by(rt.alloc(), start, text)?.as_str(), wanted);
+    }
+    Ok(())
+}
