@@ -12,7 +12,7 @@ Where no command is named it is `count`, so these count words, and show the ten 
 
 The counts of an input are the sums of those of its parts, wherever it is split at line ends, so parts may be counted side by side:
     split -n l/4 text part.
-    ls part.* | xargs -P4 -I{} hashbag_words {} -o {}.tsv
+    ls part.* | xargs -P 4 -I{} hashbag_words {} -o {}.tsv
     hashbag_words merge part.*.tsv
 
 Exit status: 0 done; 1 nothing is shown, with --fail-empty; 2 bad arguments or a bad line; 3 no memory; 4 a read or a write failed;
