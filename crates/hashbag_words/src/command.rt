@@ -60,13 +60,13 @@ fn with_output(alloc: Global, command: Command<'_>) -> Result<Command<'_>, Error
 }
 
 // What every job has that reads counts: in which form they are.
-fn form_read(alloc: Global) -> Arg<'static> {
+fn form_read<'a>(alloc: Global) -> Arg<'a> {
     arg!(in alloc; --from <FORM> "How they are written")
         .value_parser(["tsv", "json"].as_slice())
         .default_value("tsv")
 }
 
-fn count(alloc: Global) -> Result<Command<'static>, Error> {
+fn count<'a>(alloc: Global) -> Result<Command<'a>, Error> {
     let by =
         arg!(in alloc; --by <WHAT> "What is counted: what stands between white space, the words by the rules of Unicode, or whole lines")
             .value_parser(["words", "unicode", "lines"].as_slice())
@@ -83,7 +83,7 @@ fn count(alloc: Global) -> Result<Command<'static>, Error> {
     with_output(alloc, with_input(alloc, command)?)
 }
 
-fn merge(alloc: Global) -> Result<Command<'static>, Error> {
+fn merge<'a>(alloc: Global) -> Result<Command<'a>, Error> {
     let command = Command::new(alloc, "merge")
         .about("Add up counts")
         .arg(
@@ -94,7 +94,7 @@ fn merge(alloc: Global) -> Result<Command<'static>, Error> {
 }
 
 // A job on two files of counts.
-fn pair(alloc: Global, name: &'static str, about: &'static str) -> Result<Command<'static>, Error> {
+fn pair<'a>(alloc: Global, name: &'a str, about: &'a str) -> Result<Command<'a>, Error> {
     let command = Command::new(alloc, name)
         .about(about)
         .arg(arg!(in alloc; first: <A> "Counts"))?
@@ -104,7 +104,7 @@ fn pair(alloc: Global, name: &'static str, about: &'static str) -> Result<Comman
 }
 
 /// The command line, with all its jobs.
-pub fn command(alloc: Global) -> Result<Command<'static>, Error> {
+pub fn command<'a>(alloc: Global) -> Result<Command<'a>, Error> {
     Ok(
         Command::new(alloc, "hashbag_words")
             .version("1.0")

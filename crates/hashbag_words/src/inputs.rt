@@ -108,10 +108,10 @@ impl<'s, 'a, 'm> Inputs<'s, 'a, 'm> {
         intake: Intake<'_>,
         bag: &mut HashBag<String>,
     ) -> Result<(), Failure<'a>> {
-        let files = self.settings.files;
-        if files.is_empty() {
+        let settings = self.settings;
+        let Some(files) = settings.files else {
             return self.take_named(intake, bag, "-");
-        }
+        };
         for name in files {
             self.take_named(intake, bag, name)?;
         }

@@ -15,13 +15,17 @@ fn count<'a>(
     by: By<'a>,
     bag: &mut HashBag<String>,
 ) -> Result<(), Failure<'a>> {
-    let fold = inputs.settings.fold;
+    let settings = inputs.settings;
+    let fold = settings.fold;
     let pieces = match by {
         By::Words => Pieces::Words,
         By::UnicodeWords => Pieces::UnicodeWords,
         By::Lines => Pieces::Lines,
         By::Pattern(text) => {
-            let pattern = Regex::new(inputs.rt.alloc(), text).map_err(Failure::Pattern)?;
+            let pattern = match Regex::new(inputs.rt.alloc(), text) {
+                Ok(pattern) => pattern,
+                Err(error) => return Err(Failure::Pattern(error)),
+            };
             let pieces = Pieces::Matches(&pattern);
             return inputs.take_all(Intake::Text(Rule { pieces, fold }), bag);
         }
@@ -35,7 +39,8 @@ fn take_pair<'a>(
     counts: Intake<'_>,
     bag: &mut HashBag<String>,
 ) -> Result<HashBag<String>, Failure<'a>> {
-    let (first, second) = inputs.settings.pair;
+    let settings = inputs.settings;
+    let (first, second) = settings.pair;
     let mut other: HashBag<String> = HashBag::new(inputs.rt.alloc());
     inputs.take_named(counts, bag, first)?;
     inputs.take_named(counts, &mut other, second)?;

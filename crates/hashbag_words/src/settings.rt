@@ -35,8 +35,8 @@ pub enum By<'a> {
 pub struct Settings<'a, 'm> {
     /// What is done.
     pub job: Job<'a>,
-    /// The inputs, none for standard input.
-    pub files: &'m [&'a str],
+    /// The inputs, `None` for standard input.
+    pub files: Option<&'m [&'a str]>,
     /// Of `less` and `common`: the two inputs.
     pub pair: (&'a str, &'a str),
     /// Whether case is folded.
@@ -106,7 +106,7 @@ impl<'a, 'm> Settings<'a, 'm> {
         };
         Settings {
             job: job_of(name, given),
-            files: given.get_strs("files").unwrap_or(&[]),
+            files: given.get_strs("files"),
             pair: (
                 given.get_str("first").unwrap_or("-"),
                 given.get_str("second").unwrap_or("-"),

@@ -1,8 +1,10 @@
 -- Lines of counts, which are written and read again.
-use Rattle.std.proofs.Common.{◌≡◌, ◌≢◌, ℕ, suc, ◌+◌, ◌<◌, Bool, true, false, cond, eqb, List, [], ◌∷◌, ◌++◌, length, drop, get_or, All, decimal, Option, None, Some, MatchOption, option_map, option_and_then, refl, sym, ◌∙◌, ap, subst, arith, ne_eqb, eq-eqb, append_assoc, drop-cons}
+use Rattle.std.proofs.Common.{◌≡◌, ◌≢◌, ℕ, suc, ◌+◌, ◌<◌, ◌^◌, Bool, true, false, cond, eqb, List, [], ◌∷◌, ◌++◌, length, drop, get_or, All, decimal, Option, None, Some, Result, Ok, MatchOption, option_map, option_and_then, refl, sym, ◌∙◌, ap, subst, arith, ne_eqb, eq-eqb, append_assoc, drop-cons}
 use borrow.Author.Tests.{eqb-true}
 use Rattle.std.specs.Borrow.{Bor}
 use Rattle.std.specs.Global.{Vec}
+use Rattle.std.specs.Str.Parse.{ParsesUnsigned}
+use Rattle.std.proofs.lemmas.Fmt.{parse-decimal}
 use Rattle.std.proofs.lemmas.List.Elements.{All-nil, All-cons, All-get_or}
 use Rattle.std.proofs.lemmas.Option.{same_Some}
 use Rattle.std.proofs.lemmas.Str.Pattern.{IsSplitOnceResult, split_after}
@@ -88,6 +90,13 @@ split_row r line token count h is =
 -- the token that is read from its escaped bytes
 pub token_read : (o : Option (Vec ℕ)) (bytes written token : List ℕ) → option_map (λ v. v.items) o ≡ unescaped false bytes → bytes ≡ written → written ≡ escaped token → option_map (λ v. v.items) o ≡ Some token
 token_read o bytes written token read as_bytes is = read ∙ ap (λ (l : List ℕ). unescaped false l) (as_bytes ∙ is) ∙ unescaped-escaped token
+
+-- the number that is read from decimal digits
+pub count_read : {E : Type 0} (r : Result ℕ E) (n count : ℕ) (digits : List ℕ) → r ≡ Ok n → count < 2 ^ 64 → digits ≡ decimal count → ParsesUnsigned 64 10 digits r → n ≡ count
+count_read {E} r n count digits was fits is h =
+    let read : r ≡ Ok count = parse-decimal {E = E} 64 count digits r fits fits is h in
+    let both : ◌≡◌ {A = Result ℕ E} (Ok n) (Ok count) = sym was ∙ read in
+    cc
 
 -- the next byte of a list
 pub next_byte : (xs : List ℕ) (i : ℕ) → i < length xs → drop i xs ≡ get_or xs i 0 ∷ drop (i + 1) xs
