@@ -102,6 +102,19 @@ impl<'s, 'a, 'm> Inputs<'s, 'a, 'm> {
         }
     }
 
+    // Takes in the inputs of these names.
+    fn take_each(
+        &mut self,
+        intake: Intake<'_>,
+        bag: &mut HashBag<String>,
+        files: &[&'a str],
+    ) -> Result<(), Failure<'a>> {
+        for name in files {
+            self.take_named(intake, bag, name)?;
+        }
+        Ok(())
+    }
+
     /// Takes in all inputs that the command line names.
     pub fn take_all(
         &mut self,
@@ -109,12 +122,9 @@ impl<'s, 'a, 'm> Inputs<'s, 'a, 'm> {
         bag: &mut HashBag<String>,
     ) -> Result<(), Failure<'a>> {
         let settings = self.settings;
-        let Some(files) = settings.files else {
-            return self.take_named(intake, bag, "-");
-        };
-        for name in files {
-            self.take_named(intake, bag, name)?;
+        match settings.files {
+            Some(files) => self.take_each(intake, bag, files),
+            None => self.take_named(intake, bag, "-"),
         }
-        Ok(())
     }
 }
