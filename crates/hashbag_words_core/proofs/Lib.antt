@@ -1,6 +1,0 @@
-pub mod CountLemmas
-pub mod LineLemmas
-pub mod MatchLemmas
-pub mod ReadLemmas
-pub mod RowLemmas
-pub mod WordLemmas
