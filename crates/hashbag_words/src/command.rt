@@ -1,0 +1,119 @@
+//! The command line.
+use clap::{Arg, Command, Error, arg, value_parser};
+use std::alloc::Global;
+
+const ABOUT: &str = "Counts words, lines or matches of a pattern, and adds up files of counts";
+
+const AFTER: &str = "\
+Where no command is named it is `count`, so these count words, and show the ten commonest, upper and lower case as one:
+    hashbag_words --fold --top 10 text
+    cat text | hashbag_words --fold --top 10
+`hashbag_words count --help` tells what else may be counted, and how it is shown.
+
+The counts of an input are the sums of those of its parts, wherever it is split at line ends, so parts may be counted side by side:
+    split -n l/4 text part.
+    ls part.* | xargs -P 4 -I{} hashbag_words {} -o {}.tsv
+    hashbag_words merge part.*.tsv
+
+Exit status: 0 done; 1 nothing is shown, with --fail-empty; 2 bad arguments or a bad line; 3 no memory; 4 a read or a write failed;
+5 the counts add up to more than 2^64-1. With 2, 3 and 5 nothing was written.";
+
+/// Whether this first word needs no `count` before it.
+pub fn is_job(word: &str) -> bool {
+    matches!(
+        word,
+        "count" | "merge" | "less" | "common" | "help" | "-h" | "--help" | "-V" | "--version"
+    )
+}
+
+// What every job has: how inputs are read.
+fn with_input(alloc: Global, command: Command<'_>) -> Result<Command<'_>, Error> {
+    Ok(
+        command
+            .arg(arg!(in alloc; --"skip-bad" "Pass over bad lines, and tell how many there were"))?
+            .arg(arg!(in alloc; --progress "Tell on standard error, each second, how far it is"))?,
+    )
+}
+
+// What every job has: how counts are shown.
+fn with_output(alloc: Global, command: Command<'_>) -> Result<Command<'_>, Error> {
+    let top = arg!(in alloc; --top <K> "Show the K commonest alone, commonest first");
+    let unsorted = arg!(in alloc; --unsorted "Show them in no order, which is faster");
+    let least = arg!(in alloc; --least <N> "Show what occurs N times or oftener alone");
+    let to = arg!(in alloc; --to <FORM> "How they are written");
+    let output = arg!(in alloc; -o --output <FILE> "Write there, not to standard output");
+    Ok(
+        command
+            .arg(
+                top.value_parser(value_parser!(usize))
+                    .conflicts_with("unsorted")?,
+            )?
+            .arg(unsorted)?
+            .arg(least.value_parser(value_parser!(usize)))?
+            .arg(
+                to.value_parser(["tsv", "json", "uniq"].as_slice())
+                    .default_value("tsv"),
+            )?
+            .arg(output)?
+            .arg(arg!(in alloc; --"fail-empty" "End with status 1 where nothing is shown"))?,
+    )
+}
+
+// What every job has that reads counts: in which form they are.
+fn form_read<'a>(alloc: Global) -> Arg<'a> {
+    arg!(in alloc; --from <FORM> "How they are written")
+        .value_parser(["tsv", "json"].as_slice())
+        .default_value("tsv")
+}
+
+fn count<'a>(alloc: Global) -> Result<Command<'a>, Error> {
+    let by =
+        arg!(in alloc; --by <WHAT> "What is counted: what stands between white space, the words by the rules of Unicode, or whole lines")
+            .value_parser(["words", "unicode", "lines"].as_slice())
+            .default_value("words")
+            .conflicts_with("pattern")?;
+    let command = Command::new(alloc, "count")
+        .about("Count what is in text")
+        .arg(
+            arg!(in alloc; files: [FILE] ... "What is read: standard input where there is none, or for `-`"),
+        )?
+        .arg(by)?
+        .arg(arg!(in alloc; --pattern <REGEX> "Count what matches it, within a line"))?
+        .arg(arg!(in alloc; --fold "Count upper and lower case as one"))?;
+    with_output(alloc, with_input(alloc, command)?)
+}
+
+fn merge<'a>(alloc: Global) -> Result<Command<'a>, Error> {
+    let command = Command::new(alloc, "merge")
+        .about("Add up counts")
+        .arg(
+            arg!(in alloc; files: [FILE] ... "Files of counts: standard input where there is none, or for `-`"),
+        )?
+        .arg(form_read(alloc))?;
+    with_output(alloc, with_input(alloc, command)?)
+}
+
+// A job on two files of counts.
+fn pair<'a>(alloc: Global, name: &'a str, about: &'a str) -> Result<Command<'a>, Error> {
+    let command = Command::new(alloc, name)
+        .about(about)
+        .arg(arg!(in alloc; first: <A> "Counts"))?
+        .arg(arg!(in alloc; second: <B> "Other counts"))?
+        .arg(form_read(alloc))?;
+    with_output(alloc, with_input(alloc, command)?)
+}
+
+/// The command line, with all its jobs.
+pub fn command<'a>(alloc: Global) -> Result<Command<'a>, Error> {
+    Ok(
+        Command::new(alloc, "hashbag_words")
+            .version("1.0")
+            .about(ABOUT)
+            .after_help(AFTER)
+            .subcommand_required(true)
+            .subcommand(count(alloc)?)?
+            .subcommand(merge(alloc)?)?
+            .subcommand(pair(alloc, "less", "Take the counts of B from those of A")?)?
+            .subcommand(pair(alloc, "common", "Show the lesser of the counts of A and B")?)?,
+    )
+}

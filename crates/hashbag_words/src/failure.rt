@@ -1,0 +1,130 @@
+//! Why the program ends without all of its output, and with which status.
+use hashbag::{BagError, JsonError};
+use hashbag_words_core::errors::{BadLine, Fault};
+use std::alloc::AllocError;
+use std::io;
+use thiserror::Error;
+
+/// Nothing was counted, and that was asked to be told.
+pub const NOTHING: u8 = 1;
+
+/// The command line or an input is bad.
+pub const BAD: u8 = 2;
+
+/// Memory was refused.
+pub const NO_MEMORY: u8 = 3;
+
+/// A read or a write failed.
+pub const IO_FAILED: u8 = 4;
+
+/// The counts would add up to more than 2^64-1.
+pub const TOO_MANY: u8 = 5;
+
+/// Why the program ends without all of its output.
+#[derive(Debug, Drop, Error)]
+pub enum Failure<'a> {
+    /// A line of an input is bad.
+    #[error("{name}:{line}: {bad}")]
+    Line {
+        name: &'a str,
+        line: u64,
+        bad: BadLine,
+    },
+    /// An input isn't JSON.
+    #[error("{name}: {error}")]
+    Text {
+        name: &'a str,
+        error: serde_json::Error,
+    },
+    /// An input is JSON, but no tree of counts.
+    #[error("{name}: {error}")]
+    Tree {
+        name: &'a str,
+        error: JsonError,
+    },
+    /// The counts would add up to more than 2^64-1.
+    #[error("{name}:{line}: total past 2^64-1")]
+    TooMany {
+        name: &'a str,
+        line: u64,
+    },
+    /// Memory was refused while an input was read.
+    #[error("{name}: no memory after {line} lines")]
+    NoMemory {
+        name: &'a str,
+        line: u64,
+    },
+    /// Memory was refused elsewhere.
+    #[error("no memory")]
+    NoMemoryLeft,
+    /// A file can't be opened, made, read or written.
+    #[error("{name}: {error}")]
+    File {
+        name: &'a str,
+        error: io::Error,
+    },
+    /// The pattern isn't one.
+    #[error("--pattern: {0}")]
+    Pattern(regex::Error),
+}
+
+impl<'a> Failure<'a> {
+    /// The failure of an input of that name, after so many of its lines.
+    pub fn of_input(name: &'a str, line: u64, fault: Fault) -> Failure<'a> {
+        match fault {
+            Fault::Line(bad) => Failure::Line { name, line, bad },
+            Fault::Text(error) if error.is_memory() => Failure::NoMemory { name, line },
+            Fault::Text(error) => Failure::Text { name, error },
+            Fault::Tree(JsonError::Memory) => Failure::NoMemory { name, line },
+            Fault::Tree(JsonError::TooMany(_)) => Failure::TooMany { name, line },
+            Fault::Tree(error) => Failure::Tree { name, error },
+            Fault::Bag(BagError::Memory) => Failure::NoMemory {
+                name,
+                line: line.saturating_sub(1),
+            },
+            Fault::Bag(_) => Failure::TooMany { name, line },
+            Fault::Read(error) => Failure::of_file(name, error),
+        }
+    }
+
+    /// The failure of a call on a file of that name.
+    pub fn of_file(name: &'a str, error: io::Error) -> Failure<'a> {
+        if error.kind() == io::ErrorKind::OutOfMemory {
+            return Failure::NoMemoryLeft;
+        }
+        Failure::File { name, error }
+    }
+
+    // The exit status.
+    fn status(&self) -> u8 {
+        match self {
+            Failure::Line { .. } | Failure::Text { .. } | Failure::Tree { .. } => BAD,
+            Failure::Pattern(_) => BAD,
+            Failure::NoMemory { .. } | Failure::NoMemoryLeft => NO_MEMORY,
+            Failure::File { .. } => IO_FAILED,
+            Failure::TooMany { .. } => TOO_MANY,
+        }
+    }
+
+    // Whether nothing is said of it: whoever read the output has closed it.
+    fn is_silent(&self) -> bool {
+        match self {
+            Failure::File { error, .. } => error.kind() == io::ErrorKind::BrokenPipe,
+            _ => false,
+        }
+    }
+
+    /// Says on standard error what failed, and answers the exit status.
+    pub fn report(&self, rt: &impl Eprint) -> u8 {
+        if !self.is_silent() {
+            let _ = eprintln!(rt; "hashbag_words: {self}");
+        }
+        self.status()
+    }
+}
+
+impl<'a> From<AllocError> for Failure<'a> {
+    fn from(_refused: AllocError) -> Failure<'a> {
+        Failure::NoMemoryLeft
+    }
+}

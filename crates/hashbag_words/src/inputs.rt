@@ -1,0 +1,130 @@
+//! Inputs are read: files by their names, `-` for standard input.
+use crate::failure::Failure;
+use crate::progress::Progress;
+use crate::settings::Settings;
+use hashbag::HashBag;
+use hashbag_words_core::counting::count_lines;
+use hashbag_words_core::errors::Fault;
+use hashbag_words_core::lines::Reading;
+use hashbag_words_core::merging::{add_rows, add_tree};
+use hashbag_words_core::rule::Rule;
+use std::fs;
+use std::io::{self, BufRead, BufReader, Read};
+
+// So many lines are read before it is told how far the program is.
+const STEP: u64 = 1 << 16;
+
+// So many bytes are read at once.
+const BUFFER: usize = 1 << 16;
+
+/// How inputs are taken in.
+#[derive(Clone, Copy)]
+pub enum Intake<'r> {
+    /// As text of which this is counted.
+    Text(Rule<'r>),
+    /// As lines of counts.
+    Rows,
+    /// As a JSON text.
+    Tree,
+}
+
+/// The inputs that the command line names.
+#[derive(Drop)]
+pub struct Inputs<'s, 'a, 'm> {
+    /// The runtime.
+    pub rt: &'s HostRuntime,
+    /// What the command line asks for.
+    pub settings: &'s Settings<'a, 'm>,
+    /// How far it is.
+    pub progress: Progress,
+}
+
+impl<'s, 'a, 'm> Inputs<'s, 'a, 'm> {
+    // Takes in the next lines of an input, and answers whether there may be more.
+    fn take_lines<R: BufRead>(
+        &self,
+        intake: Intake<'_>,
+        bag: &mut HashBag<String>,
+        input: &mut R,
+        reading: &mut Reading,
+    ) -> Result<bool, Fault> {
+        let alloc = self.rt.alloc();
+        match intake {
+            Intake::Text(rule) => count_lines(alloc, bag, &rule, input, reading, STEP),
+            Intake::Rows => add_rows(alloc, bag, input, reading, STEP),
+            Intake::Tree => {
+                let text = io::read_to_string(alloc, input).map_err(Fault::Read)?;
+                add_tree(alloc, bag, text.as_str())?;
+                Ok(false)
+            }
+        }
+    }
+
+    // Takes in what is read here.
+    fn take<R: Read + Drop>(
+        &mut self,
+        intake: Intake<'_>,
+        bag: &mut HashBag<String>,
+        name: &'a str,
+        input: R,
+    ) -> Result<(), Failure<'a>> {
+        let opened = BufReader::with_capacity(self.rt.alloc(), BUFFER, input);
+        let mut input = opened.map_err(|error| Failure::of_file(name, error))?;
+        let mut reading = Reading::new(self.settings.bad_lines);
+        for _ in 0..u64::MAX {
+            match self.take_lines(intake, bag, &mut input, &mut reading) {
+                Ok(true) => self.progress.tell(self.rt, reading.line, bag),
+                Ok(false) => break,
+                Err(fault) => return Err(Failure::of_input(name, reading.line, fault)),
+            }
+        }
+        self.progress.end_input(reading.line);
+        if reading.skipped > 0 {
+            let skipped = reading.skipped;
+            let _ = eprintln!(self.rt; "hashbag_words: {name}: {skipped} bad lines skipped");
+        }
+        Ok(())
+    }
+
+    /// Takes in the input of that name.
+    pub fn take_named(
+        &mut self,
+        intake: Intake<'_>,
+        bag: &mut HashBag<String>,
+        name: &'a str,
+    ) -> Result<(), Failure<'a>> {
+        if name == "-" {
+            return self.take(intake, bag, "standard input", self.rt.stdin());
+        }
+        match fs::open(self.rt, name) {
+            Ok(file) => self.take(intake, bag, name, file),
+            Err(error) => Err(Failure::of_file(name, error)),
+        }
+    }
+
+    // Takes in the inputs of these names.
+    fn take_each(
+        &mut self,
+        intake: Intake<'_>,
+        bag: &mut HashBag<String>,
+        files: &[&'a str],
+    ) -> Result<(), Failure<'a>> {
+        for name in files {
+            self.take_named(intake, bag, name)?;
+        }
+        Ok(())
+    }
+
+    /// Takes in all inputs that the command line names.
+    pub fn take_all(
+        &mut self,
+        intake: Intake<'_>,
+        bag: &mut HashBag<String>,
+    ) -> Result<(), Failure<'a>> {
+        let settings = self.settings;
+        match settings.files {
+            Some(files) => self.take_each(intake, bag, files),
+            None => self.take_named(intake, bag, "-"),
+        }
+    }
+}

@@ -1,0 +1,53 @@
+//! How far the program is, told on standard error.
+use hashbag::HashBag;
+use std::time::{Duration, Instant};
+
+/// What has been told, and when.
+#[derive(Drop)]
+pub struct Progress {
+    // When it began, and when it was last told; `None` where nothing is told.
+    times: Option<(Instant, Instant)>,
+    // The lines of the inputs that have been read to their end.
+    lines: u64,
+}
+
+// How many of them a second.
+fn a_second(n: usize, time: Duration) -> usize {
+    let seconds = time.as_secs().max(1) as usize;
+    n / seconds
+}
+
+impl Progress {
+    /// At the start. A clock that can't be read tells nothing.
+    pub fn new(rt: &HostRuntime, is_told: bool) -> Progress {
+        let times = match Instant::now(rt) {
+            Ok(now) if is_told => Some((now, now)),
+            _ => None,
+        };
+        Progress { times, lines: 0 }
+    }
+
+    /// An input with so many lines has been read to its end.
+    pub fn end_input(&mut self, lines: u64) {
+        self.lines = self.lines.saturating_add(lines);
+    }
+
+    /// Tells how far it is, if a second has gone since that was told. `lines` is how many of the present input have been read.
+    pub fn tell(&mut self, rt: &HostRuntime, lines: u64, bag: &HashBag<String>) {
+        let Some((start, last)) = self.times else {
+            return;
+        };
+        let Ok(now) = Instant::now(rt) else {
+            return;
+        };
+        if now.duration_since(last) < Duration::from_secs(1) {
+            return;
+        }
+        let lines = self.lines.saturating_add(lines);
+        let tokens = bag.len();
+        let speed = a_second(tokens, now.duration_since(start));
+        let distinct = bag.set_len();
+        let _ = eprintln!(rt; "{lines} lines, {tokens} tokens ({speed}/s), {distinct} distinct");
+        self.times = Some((start, now));
+    }
+}

@@ -1,0 +1,125 @@
+//! What the command line asks for.
+use clap::ArgMatches;
+use hashbag_words_core::choice::Order;
+use hashbag_words_core::lines::BadLines;
+use hashbag_words_core::writing::Format;
+
+/// What is done.
+#[derive(Clone, Copy, Debug, PartialEq, Eq)]
+pub enum Job<'a> {
+    /// Text is counted by these pieces.
+    Count(By<'a>),
+    /// Counts are added up.
+    Merge,
+    /// The counts of the second file are taken from those of the first.
+    Less,
+    /// The lesser counts of two files.
+    Common,
+}
+
+/// What is counted.
+#[derive(Clone, Copy, Debug, PartialEq, Eq)]
+pub enum By<'a> {
+    /// What stands between white space.
+    Words,
+    /// The words by the rules of Unicode.
+    UnicodeWords,
+    /// Whole lines.
+    Lines,
+    /// What matches this pattern.
+    Pattern(&'a str),
+}
+
+/// What the command line asks for.
+#[derive(Drop)]
+pub struct Settings<'a, 'm> {
+    /// What is done.
+    pub job: Job<'a>,
+    /// The inputs, `None` for standard input.
+    pub files: Option<&'m [&'a str]>,
+    /// Of `less` and `common`: the two inputs.
+    pub pair: (&'a str, &'a str),
+    /// Whether case is folded.
+    pub fold: bool,
+    /// Whether counts are read as JSON.
+    pub reads_json: bool,
+    /// What becomes of bad lines.
+    pub bad_lines: BadLines,
+    /// Whether it is told how far it is.
+    pub progress: bool,
+    /// Which counts are shown, and in what order.
+    pub order: Order,
+    /// What occurs less often isn't shown.
+    pub least: usize,
+    /// How counts are written.
+    pub format: Format,
+    /// Where they are written, if not to standard output.
+    pub output: Option<&'a str>,
+    /// Whether it is a failure that nothing is shown.
+    pub fail_empty: bool,
+}
+
+// What is counted.
+fn by_of<'a>(given: &ArgMatches<'a>) -> By<'a> {
+    if let Some(pattern) = given.get_str("pattern") {
+        return By::Pattern(pattern);
+    }
+    match given.get_str("by") {
+        Some("unicode") => By::UnicodeWords,
+        Some("lines") => By::Lines,
+        _ => By::Words,
+    }
+}
+
+fn job_of<'a>(name: &str, given: &ArgMatches<'a>) -> Job<'a> {
+    match name {
+        "merge" => Job::Merge,
+        "less" => Job::Less,
+        "common" => Job::Common,
+        _ => Job::Count(by_of(given)),
+    }
+}
+
+fn order_of(given: &ArgMatches<'_>) -> Order {
+    match given.get_one::<usize>("top") {
+        Some(k) => Order::Commonest(k),
+        None if given.get_flag("unsorted") => Order::Open,
+        None => Order::Rising,
+    }
+}
+
+fn format_of(given: &ArgMatches<'_>) -> Format {
+    match given.get_str("to") {
+        Some("json") => Format::Json,
+        Some("uniq") => Format::Uniq,
+        _ => Format::Tsv,
+    }
+}
+
+impl<'a, 'm> Settings<'a, 'm> {
+    /// What these arguments of a job ask for.
+    pub fn of(name: &str, given: &'m ArgMatches<'a>) -> Settings<'a, 'm> {
+        let bad_lines = if given.get_flag("skip-bad") {
+            BadLines::Skipped
+        } else {
+            BadLines::Refused
+        };
+        Settings {
+            job: job_of(name, given),
+            files: given.get_strs("files"),
+            pair: (
+                given.get_str("first").unwrap_or("-"),
+                given.get_str("second").unwrap_or("-"),
+            ),
+            fold: given.get_flag("fold"),
+            reads_json: given.get_str("from") == Some("json"),
+            bad_lines,
+            progress: given.get_flag("progress"),
+            order: order_of(given),
+            least: given.get_one::<usize>("least").unwrap_or(0),
+            format: format_of(given),
+            output: given.get_str("output"),
+            fail_empty: given.get_flag("fail-empty"),
+        }
+    }
+}

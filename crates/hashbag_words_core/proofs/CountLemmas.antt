@@ -1,0 +1,39 @@
+-- Texts that are added to a bag, one after the other.
+use Rattle.std.proofs.Common.{◌≡◌, ℕ, ◌+◌, Bool, cond, List, [], ◌∷◌, ◌++◌, map, String, string_bytes, string_eq, bytes_eq, Global, refl, sym, ◌∙◌, ap, subst, arith}
+use Rattle.std.specs.Cmp.Lexicographic.{nat_list_eq_equiv}
+use Rattle.std.specs.String.{string_eq_equiv}
+use Rattle.hashbag.specs.Bag.{Bag, IsBagOf}
+use Rattle.hashbag.specs.EqualityLaws.{count_append}
+use Rattle.hashbag.specs.Occurrences.{count, add}
+use Rattle.hashbag.proofs.CallerLemmas.{count_inserted_any}
+use Rattle.hashbag_words_core.specs.Counts.{Adds}
+
+none_before : (n : ℕ) → 0 + n ≡ n
+none_before n = omega arith
+
+none_behind : (n : ℕ) → n ≡ n + 0
+none_behind n = omega arith
+
+-- a function of what items show
+pub map-map : {A B C : Type 0} (f : B → C) (g : A → B) (xs : List A) → map (λ x. f (g x)) xs ≡ map f (map g xs)
+map-map f g [] = refl
+map-map f g (x ∷ xs) = ap (λ (l : List _). f (g x) ∷ l) (map-map f g xs)
+
+module _ {S : Type 0} where
+  -- nothing was added
+  pub Adds-nil : (bag : Bag (String Global) S) → Adds bag bag []
+  Adds-nil bag v = none_behind _
+
+  -- texts were added, and then others
+  pub Adds-append : (a b c : Bag (String Global) S) (xs ys : List (List ℕ)) → Adds a b xs → Adds b c ys → Adds a c (xs ++ ys)
+  Adds-append a b c xs ys f g v =
+      let first : count string_eq v b.items ≡ count string_eq v a.items + count bytes_eq (string_bytes v) xs = f v in
+      let second : count string_eq v c.items ≡ count string_eq v b.items + count bytes_eq (string_bytes v) ys = g v in
+      let parts : count bytes_eq (string_bytes v) (xs ++ ys) ≡ count bytes_eq (string_bytes v) xs + count bytes_eq (string_bytes v) ys = count_append nat_list_eq_equiv (string_bytes v) xs ys in
+      omega (arith, first, second, parts)
+
+  -- a string was inserted once
+  pub Adds-one : (a b : Bag (String Global) S) (s : String Global) (text : List ℕ) → string_bytes s ≡ text → IsBagOf string_eq a (add string_eq s 1 a.items) b → Adds a b (text ∷ [])
+  Adds-one a b s text is h v =
+      count_inserted_any string_eq_equiv a b v s 1 h
+      ∙ ap (λ (n : ℕ). count string_eq v a.items + n) (ap (λ (t : List ℕ). cond (bytes_eq (string_bytes v) t) 1 0) is ∙ sym (none_before (cond (bytes_eq (string_bytes v) text) 1 0)))

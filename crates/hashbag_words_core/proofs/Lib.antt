@@ -1,0 +1,6 @@
+pub mod CountLemmas
+pub mod LineLemmas
+pub mod MatchLemmas
+pub mod ReadLemmas
+pub mod RowLemmas
+pub mod WordLemmas

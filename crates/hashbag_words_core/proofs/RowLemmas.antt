@@ -1,0 +1,103 @@
+-- Lines of counts, which are written and read again.
+use Rattle.std.proofs.Common.{◌≡◌, ◌≢◌, ℕ, suc, ◌+◌, ◌<◌, ◌^◌, Bool, true, false, cond, eqb, List, [], ◌∷◌, ◌++◌, length, drop, get_or, All, decimal, Option, None, Some, Result, Ok, MatchOption, option_map, option_and_then, refl, sym, ◌∙◌, ap, subst, arith, ne_eqb, eq-eqb, append_assoc, drop-cons}
+use borrow.Author.Tests.{eqb-true}
+use Rattle.std.specs.Borrow.{Bor}
+use Rattle.std.specs.Global.{Vec}
+use Rattle.std.specs.Str.Parse.{ParsesUnsigned}
+use Rattle.std.proofs.lemmas.Fmt.{parse-decimal}
+use Rattle.std.proofs.lemmas.List.Elements.{All-nil, All-cons, All-get_or}
+use Rattle.std.proofs.lemmas.Option.{same_Some}
+use Rattle.std.proofs.lemmas.Str.Pattern.{IsSplitOnceResult, split_after}
+use Rattle.hashbag_words_core.specs.Rows.{letter_of, byte_of, shown_as, escaped, row, unescaped, resumed}
+
+-- ---- one byte more
+
+onto : (token : List ℕ) (b : ℕ) (more : Option (List ℕ)) → option_map (λ m. token ++ m) (option_map (λ t. b ∷ t) more) ≡ option_map (λ m. (token ++ b ∷ []) ++ m) more
+onto token b None = refl
+onto token b (Some t) = ap Some (sym (append_assoc token (b ∷ []) t))
+
+pub resumed-start : (more : Option (List ℕ)) → more ≡ option_map (λ m. [] ++ m) more
+resumed-start None = refl
+resumed-start (Some t) = refl
+
+pub resumed-plain : (token : List ℕ) (b : ℕ) (rest : List ℕ) → b ≢ 92 → resumed token (Some false) (b ∷ rest) ≡ resumed (token ++ b ∷ []) (Some false) rest
+resumed-plain token b rest other =
+    ap (λ (c : Bool). option_map (λ m. token ++ m) (cond c (unescaped true rest) (option_map (λ t. b ∷ t) (unescaped false rest)))) (ne_eqb b 92 other)
+    ∙ onto token b (unescaped false rest)
+
+pub resumed-backslash : (token : List ℕ) (b : ℕ) (rest : List ℕ) → b ≡ 92 → resumed token (Some false) (b ∷ rest) ≡ resumed token (Some true) rest
+resumed-backslash token b rest is =
+    ap (λ (c : Bool). option_map (λ m. token ++ m) (cond c (unescaped true rest) (option_map (λ t. b ∷ t) (unescaped false rest)))) (eq-eqb b 92 is)
+
+pub resumed-letter : (token : List ℕ) (letter byte : ℕ) (rest : List ℕ) → byte_of letter ≡ Some byte → resumed token (Some true) (letter ∷ rest) ≡ resumed (token ++ byte ∷ []) (Some false) rest
+resumed-letter token letter byte rest is =
+    ap (λ (o : Option ℕ). option_map (λ m. token ++ m) (option_and_then (λ c. option_map (λ t. c ∷ t) (unescaped false rest)) o)) is
+    ∙ onto token byte (unescaped false rest)
+
+pub resumed-other : (token : List ℕ) (letter : ℕ) (rest : List ℕ) → byte_of letter ≡ None → resumed token (Some true) (letter ∷ rest) ≡ None
+resumed-other token letter rest is =
+    ap (λ (o : Option ℕ). option_map (λ m. token ++ m) (option_and_then (λ c. option_map (λ t. c ∷ t) (unescaped false rest)) o)) is
+
+-- ---- what is written is read again
+
+letter_at : (b l : ℕ) (t n r s : Bool) → eqb b 9 ≡ t → eqb b 10 ≡ n → eqb b 13 ≡ r → eqb b 92 ≡ s
+    → cond t (Some 116) (cond n (Some 110) (cond r (Some 114) (cond s (Some 92) None))) ≡ Some l → byte_of l ≡ Some b
+letter_at b l true n r s is9 is10 is13 is92 e = subst (λ (k : ℕ). byte_of k ≡ Some b) (same_Some 116 l e) (ap Some (sym (eqb-true b 9 is9)))
+letter_at b l false true r s is9 is10 is13 is92 e = subst (λ (k : ℕ). byte_of k ≡ Some b) (same_Some 110 l e) (ap Some (sym (eqb-true b 10 is10)))
+letter_at b l false false true s is9 is10 is13 is92 e = subst (λ (k : ℕ). byte_of k ≡ Some b) (same_Some 114 l e) (ap Some (sym (eqb-true b 13 is13)))
+letter_at b l false false false true is9 is10 is13 is92 e = subst (λ (k : ℕ). byte_of k ≡ Some b) (same_Some 92 l e) (ap Some (sym (eqb-true b 92 is92)))
+letter_at b l false false false false is9 is10 is13 is92 e = absurd (cc)
+
+-- a letter stands for the byte whose letter it is
+letter_back : (b l : ℕ) → letter_of b ≡ Some l → byte_of l ≡ Some b
+letter_back b l e = letter_at b l (eqb b 9) (eqb b 10) (eqb b 13) (eqb b 92) refl refl refl refl e
+
+plain_byte : (b k l : ℕ) → letter_of k ≡ Some l → letter_of b ≡ None → b ≢ k
+plain_byte b k l has e is = let both : letter_of b ≡ letter_of k = ap letter_of is in absurd (cc)
+
+letter_not_tab : (b l : ℕ) → letter_of b ≡ Some l → l ≢ 9
+letter_not_tab b l e is = let both : byte_of l ≡ byte_of 9 = ap byte_of is in let back = letter_back b l e in absurd (cc)
+
+read_back : (b : ℕ) (bs rest : List ℕ) (o : Option ℕ) → letter_of b ≡ o → unescaped false rest ≡ Some bs → unescaped false (shown_as b o ++ rest) ≡ Some (b ∷ bs)
+read_back b bs rest None e later =
+    ap (λ (c : Bool). cond c (unescaped true rest) (option_map (λ t. b ∷ t) (unescaped false rest))) (ne_eqb b 92 (plain_byte b 92 92 refl e))
+    ∙ ap (λ (o : Option (List ℕ)). option_map (λ t. b ∷ t) o) later
+read_back b bs rest (Some letter) e later =
+    ap (λ (o : Option ℕ). option_and_then (λ c. option_map (λ t. c ∷ t) (unescaped false rest)) o) (letter_back b letter e)
+    ∙ ap (λ (o : Option (List ℕ)). option_map (λ t. b ∷ t) o) later
+
+-- what is escaped is read as it was
+pub unescaped-escaped : (token : List ℕ) → unescaped false (escaped token) ≡ Some token
+unescaped-escaped [] = refl
+unescaped-escaped (b ∷ bs) = read_back b bs (escaped bs) (letter_of b) refl (unescaped-escaped bs)
+
+no_tab_at : (b : ℕ) (rest : List ℕ) (o : Option ℕ) → letter_of b ≡ o → All (λ y. y ≢ 9) rest → All (λ y. y ≢ 9) (shown_as b o ++ rest)
+no_tab_at b rest None e later = All-cons (λ y. y ≢ 9) b rest (plain_byte b 9 116 refl e) later
+no_tab_at b rest (Some l) e later =
+    All-cons (λ y. y ≢ 9) 92 (l ∷ rest) (λ is. absurd (omega arith)) (All-cons (λ y. y ≢ 9) l rest (letter_not_tab b l e) later)
+
+-- an escaped token has no tab
+no_tab : (token : List ℕ) → All (λ y. y ≢ 9) (escaped token)
+no_tab [] = All-nil (λ y. y ≢ 9)
+no_tab (b ∷ bs) = no_tab_at b (escaped bs) (letter_of b) refl (no_tab bs)
+
+-- a row is split at its tab
+pub split_row : (r : Option (Bor (List ℕ) × Bor (List ℕ))) (line token : List ℕ) (count : ℕ) → IsSplitOnceResult 9 line r → line ≡ row token count
+    → MatchOption r ⊥ (λ x. (x.0.now ≡ escaped token) × (x.1.now ≡ decimal count))
+split_row r line token count h is =
+    split_after 9 line (escaped token) (decimal count) r h (omega arith) is (λ i below. All-get_or (λ y. y ≢ 9) (escaped token) i 0 below (no_tab token))
+
+-- the token that is read from its escaped bytes
+pub token_read : (o : Option (Vec ℕ)) (bytes written token : List ℕ) → option_map (λ v. v.items) o ≡ unescaped false bytes → bytes ≡ written → written ≡ escaped token → option_map (λ v. v.items) o ≡ Some token
+token_read o bytes written token read as_bytes is = read ∙ ap (λ (l : List ℕ). unescaped false l) (as_bytes ∙ is) ∙ unescaped-escaped token
+
+-- the number that is read from decimal digits
+pub count_read : {E : Type 0} (r : Result ℕ E) (n count : ℕ) (digits : List ℕ) → r ≡ Ok n → count < 2 ^ 64 → digits ≡ decimal count → ParsesUnsigned 64 10 digits r → n ≡ count
+count_read {E} r n count digits was fits is h =
+    let read : r ≡ Ok count = parse-decimal {E = E} 64 count digits r fits fits is h in
+    let both : ◌≡◌ {A = Result ℕ E} (Ok n) (Ok count) = sym was ∙ read in
+    cc
+
+-- the next byte of a list
+pub next_byte : (xs : List ℕ) (i : ℕ) → i < length xs → drop i xs ≡ get_or xs i 0 ∷ drop (i + 1) xs
+next_byte xs i below = let next : suc i ≡ i + 1 = omega arith in drop-cons xs i 0 below ∙ ap (λ (k : ℕ). get_or xs i 0 ∷ drop k xs) next

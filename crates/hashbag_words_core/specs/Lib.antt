@@ -1,0 +1,5 @@
+pub mod Choice
+pub mod Counts
+pub mod Reading
+pub mod Rows
+pub mod Tokens

@@ -1,0 +1,41 @@
+-- How a token and its count are written as a line, and read again.
+use Rattle.std.specs.Prelude.{◌≡◌, ℕ, ◌==◌, Bool, true, false, List, [], ◌∷◌, ◌++◌, flat_map, if◌then◌else◌, String, string_bytes, decimal, Option, None, Some, option_map, option_and_then, Result, IsOkAnd}
+use Rattle.std.specs.Global.{Global}
+
+-- the letter that stands for this byte behind a backslash, if it is escaped: t for a tab, n for a line feed, r for a carriage return, and
+-- the backslash for itself
+abbrev pub letter_of : ℕ → Option ℕ
+letter_of byte = if byte == 9 then Some 116 else (if byte == 10 then Some 110 else (if byte == 13 then Some 114 else (if byte == 92 then Some 92 else None)))
+
+-- the byte that this letter stands for
+abbrev pub byte_of : ℕ → Option ℕ
+byte_of letter = if letter == 116 then Some 9 else (if letter == 110 then Some 10 else (if letter == 114 then Some 13 else (if letter == 92 then Some 92 else None)))
+
+-- a byte as it is written: a backslash and its letter, if it has one
+abbrev pub shown_as : ℕ → Option ℕ → List ℕ
+shown_as byte None = byte ∷ []
+shown_as byte (Some letter) = 92 ∷ letter ∷ []
+
+-- a token as it is written
+abbrev pub escaped : List ℕ → List ℕ
+escaped token = flat_map (λ byte. shown_as byte (letter_of byte)) token
+
+-- the line of a token and its count, without its end
+abbrev pub row : List ℕ → ℕ → List ℕ
+row token count = escaped token ++ 9 ∷ decimal count
+
+-- what is written so stands for, where a backslash has just been read or not; none where a backslash is followed by no letter
+abbrev pub unescaped : Bool → List ℕ → Option (List ℕ)
+unescaped false [] = Some []
+unescaped true [] = None
+unescaped false (b ∷ bs) = if b == 92 then unescaped true bs else option_map (λ t. b ∷ t) (unescaped false bs)
+unescaped true (b ∷ bs) = option_and_then (λ byte. option_map (λ t. byte ∷ t) (unescaped false bs)) (byte_of b)
+
+-- the same, where these bytes of the token have been read, and those are to come; none where they have been found bad
+abbrev pub resumed : List ℕ → Option Bool → List ℕ → Option (List ℕ)
+resumed token None rest = None
+resumed token (Some is_marked) rest = option_map (λ more. token ++ more) (unescaped is_marked rest)
+
+-- what was read is this token with this count
+abbrev pub IsRead : {E : Type 0} → List ℕ → ℕ → Result (String Global × ℕ) E → Type 0
+IsRead token count read = IsOkAnd read (λ p. (string_bytes p.0 ≡ token) × (p.1 ≡ count))

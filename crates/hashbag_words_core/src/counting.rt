@@ -1,0 +1,192 @@
+//! The tokens of lines are counted.
+ghost use Rattle.std.specs.Prelude.{◌≡◌, ◌∷◌, [], map, string_bytes, IfOk, OnOk, IfSome};
+ghost use Rattle.std.specs.Iterator.{IsFinite};
+ghost use Rattle.unicode_segmentation.specs.Word.{words};
+ghost use Rattle.hashbag_words_core.specs.Counts.{Adds, AddsPieces};
+ghost use Rattle.regex.specs.Strings.{regex_pattern};
+ghost use Rattle.hashbag_words_core.specs.Tokens.{matches_in, nonempty, spaced_words, token_of, tokens_of_line, tokens_of_lines, without_mark};
+ghost use Rattle.hashbag_words_core.specs.Reading.{CountsLines};
+
+use crate::errors::{BadLine, Fault};
+use crate::lines::{Reading, next_line};
+use crate::rule::{Pieces, Rule};
+use caseless::default_case_fold_str;
+use hashbag::{BagError, HashBag};
+use regex::Regex;
+use std::alloc::{AllocError, Global};
+use std::io::BufRead;
+use std::str;
+use unicode_segmentation::UnicodeSegmentation;
+
+// The token that a piece of a line is counted as.
+fn token_from(alloc: Global, fold: bool, piece: &str) -> Result<String, AllocError>
+    ensures { IfOk result (λ token. string_bytes token ≡ token_of fold piece.now) }
+{
+    if fold {
+        return default_case_fold_str(alloc, piece);
+    }
+    String::from_str(alloc, piece)
+}
+
+// Counts a piece of a line once.
+fn add_piece(
+    alloc: Global,
+    bag: &mut HashBag<String>,
+    fold: bool,
+    piece: &str,
+) -> Result<(), BagError>
+    ensures { OnOk result (Adds bag.old bag.new (token_of fold piece.now ∷ [])) }
+{
+    let token = token_from(alloc, fold, piece)?;
+    bag.insert(token)?;
+    Ok(())
+}
+
+// Counts each piece that comes.
+fn add_pieces<'a, I: Iterator<Item = &'a str> + Drop>(
+    alloc: Global,
+    bag: &mut HashBag<String>,
+    fold: bool,
+    pieces: I,
+) -> Result<(), BagError>
+    requires can { I.can_next pieces }
+    requires ends { IsFinite (I.remaining pieces) }
+    ensures { OnOk result (AddsPieces fold I.next_gives pieces bag.old bag.new) }
+{
+    for piece in pieces {
+        add_piece(alloc, bag, fold, piece)?;
+    }
+    Ok(())
+}
+
+// Counts what stands between white space.
+fn add_words(
+    alloc: Global,
+    bag: &mut HashBag<String>,
+    fold: bool,
+    line: &str,
+) -> Result<(), BagError>
+    ensures { OnOk result (Adds bag.old bag.new (map (token_of fold) (spaced_words line.now))) }
+{
+    add_pieces(alloc, bag, fold, line.split_whitespace())
+}
+
+// Counts the words by the rules of Unicode.
+fn add_unicode_words(
+    alloc: Global,
+    bag: &mut HashBag<String>,
+    fold: bool,
+    line: &str,
+) -> Result<(), BagError>
+    ensures { OnOk result (Adds bag.old bag.new (map (token_of fold) (words line.now))) }
+{
+    add_pieces(alloc, bag, fold, line.unicode_words())
+}
+
+// Counts a match of a pattern, unless it is empty.
+fn add_match(
+    alloc: Global,
+    bag: &mut HashBag<String>,
+    fold: bool,
+    piece: &str,
+) -> Result<(), BagError>
+    ensures { OnOk result (Adds bag.old bag.new (map (token_of fold) (nonempty (piece.now ∷ [])))) }
+{
+    if piece.is_empty() {
+        return Ok(());
+    }
+    add_piece(alloc, bag, fold, piece)
+}
+
+// Counts what matches a pattern.
+fn add_matches(
+    alloc: Global,
+    bag: &mut HashBag<String>,
+    fold: bool,
+    pattern: &Regex,
+    line: &str,
+) -> Result<(), BagError>
+    ensures { OnOk result (Adds bag.old bag.new (map (token_of fold) (nonempty (matches_in (regex_pattern pattern.now) line.now)))) }
+{
+    let mut matcher = pattern.matcher(alloc)?;
+    for found in matcher.find_iter(line) {
+        add_match(alloc, bag, fold, found.as_str())?;
+    }
+    Ok(())
+}
+
+// The line without a byte order mark at its beginning.
+fn past_mark(line: &str) -> &str
+    ensures { result.now ≡ without_mark line.now }
+{
+    match line.strip_prefix("\u{feff}") {
+        Some(rest) => rest,
+        None => line,
+    }
+}
+
+/// Counts the tokens of a line: adds each to the bag as often as it is in the line.
+///
+/// A byte order mark at the beginning of the line is no part of it. Where the bag refuses a token, those before it have been added.
+/// It takes the time of a look at each character, and an insertion a token.
+pub fn add_line(
+    alloc: Global,
+    bag: &mut HashBag<String>,
+    rule: &Rule<'_>,
+    line: &str,
+) -> Result<(), BagError>
+    ensures { OnOk result (Adds bag.old bag.new (tokens_of_line rule.now line.now)) }
+{
+    let line = past_mark(line);
+    match rule.pieces {
+        Pieces::Words => add_words(alloc, bag, rule.fold, line),
+        Pieces::UnicodeWords => add_unicode_words(alloc, bag, rule.fold, line),
+        Pieces::Lines => add_piece(alloc, bag, rule.fold, line),
+        Pieces::Matches(pattern) => add_matches(alloc, bag, rule.fold, pattern, line),
+    }
+}
+
+// Counts a line that has been read. One that isn't UTF-8 is bad.
+fn add_read(
+    alloc: Global,
+    bag: &mut HashBag<String>,
+    rule: &Rule<'_>,
+    line: &[u8],
+    reading: &mut Reading,
+) -> Result<(), Fault>
+    ensures { OnOk result (Adds bag.old bag.new (tokens_of_lines rule.now (line.now ∷ []))) }
+{
+    match str::from_utf8(line) {
+        Ok(text) => {
+            add_line(alloc, bag, rule, text)?;
+            Ok(())
+        }
+        Err(_) => reading.pass_over(BadLine::NotText),
+    }
+}
+
+/// Counts at most `most` lines of an input, and answers whether there may be more.
+///
+/// A line that isn't UTF-8 is bad. Where the reading ends by a fault, `reading` has the number of its line, and the lines before it
+/// have been counted. One line at a time is kept in memory.
+pub fn count_lines<R: BufRead>(
+    alloc: Global,
+    bag: &mut HashBag<String>,
+    rule: &Rule<'_>,
+    input: &mut R,
+    reading: &mut Reading,
+    most: u64,
+) -> Result<bool, Fault>
+    ensures { IfOk result (λ more. IfSome (R.remaining input.old)
+        (λ bytes. CountsLines rule.now most bytes more bag.old bag.new (R.remaining input.new))) }
+{
+    let mut line = Vec::new(alloc);
+    'lines: for _read in 0..most {
+        if !next_line(input, &mut line)? {
+            return Ok(false);
+        }
+        reading.count_line();
+        add_read(alloc, bag, rule, &line, reading)?;
+    }
+    Ok(true)
+}

@@ -1,0 +1,60 @@
+//! Why an input isn't counted.
+use hashbag::{BagError, JsonError};
+use std::alloc::AllocError;
+use std::io;
+use thiserror::Error;
+
+/// What is wrong with a line.
+#[derive(Clone, Copy, Debug, PartialEq, Eq, Error)]
+pub enum BadLine {
+    /// It isn't UTF-8.
+    #[error("not UTF-8")]
+    NotText,
+    /// A line of counts has no tab.
+    #[error("no tab")]
+    NoTab,
+    /// What stands behind the tab isn't a number from 0 to 2^64-1.
+    #[error("no count")]
+    NoCount,
+    /// A backslash is followed by none of `t`, `n`, `r` and a backslash.
+    #[error("bad escape")]
+    BadEscape,
+}
+
+/// Why an input isn't counted to its end.
+#[derive(Debug, Drop, Error)]
+pub enum Fault {
+    /// A line is bad.
+    #[error("{0}")]
+    Line(BadLine),
+    /// The text isn't JSON.
+    #[error("{0}")]
+    Text(serde_json::Error),
+    /// The JSON text isn't the tree of a bag.
+    #[error("{0}")]
+    Tree(JsonError),
+    /// The bag refused a token: memory was refused, or the total would pass its end.
+    #[error("{0}")]
+    Bag(BagError),
+    /// A read failed.
+    #[error("{0}")]
+    Read(io::Error),
+}
+
+impl From<BagError> for Fault {
+    fn from(refused: BagError) -> Fault {
+        Fault::Bag(refused)
+    }
+}
+
+impl From<AllocError> for Fault {
+    fn from(_refused: AllocError) -> Fault {
+        Fault::Bag(BagError::Memory)
+    }
+}
+
+impl From<io::Error> for Fault {
+    fn from(failed: io::Error) -> Fault {
+        Fault::Read(failed)
+    }
+}

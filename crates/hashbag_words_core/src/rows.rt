@@ -1,0 +1,127 @@
+//! A line of counts: a token, a tab and how often it occurs.
+//!
+//! A tab, a line feed, a carriage return and a backslash in a token are written `\t`, `\n`, `\r` and `\\`, so that each token is one
+//! line, and its line is read as that token again.
+ghost use Rattle.std.specs.Prelude.{◌≡◌, ◌<◌, ◌^◌, ◌∷◌, ◌++◌, ℕ, [], List, Some, false, option_map, IsUtf8, IfOk, OnOk};
+ghost use Rattle.hashbag_words_core.specs.Rows.{byte_of, escaped, letter_of, resumed, row, shown_as, unescaped, IsRead};
+
+use crate::errors::BadLine;
+use std::alloc::{AllocError, Global};
+use std::io::{self, Write};
+
+// The letter that stands for this byte behind a backslash, if it is escaped.
+fn escape_of(byte: u8) -> Option<u8>
+    ensures { result ≡ letter_of byte }
+{
+    match byte {
+        b'\t' => Some(b't'),
+        b'\n' => Some(b'n'),
+        b'\r' => Some(b'r'),
+        b'\\' => Some(b'\\'),
+        _ => None,
+    }
+}
+
+// The byte that this letter stands for behind a backslash.
+fn meant_by(letter: u8) -> Option<u8>
+    ensures { result ≡ byte_of letter }
+{
+    match letter {
+        b't' => Some(b'\t'),
+        b'n' => Some(b'\n'),
+        b'r' => Some(b'\r'),
+        b'\\' => Some(b'\\'),
+        _ => None,
+    }
+}
+
+// Appends a byte, escaped where it has to be.
+fn push_byte(text: &mut Vec<u8>, byte: u8) -> Result<(), AllocError>
+    ensures { OnOk result (text.new.items ≡ text.old.items ++ shown_as byte (letter_of byte)) }
+{
+    match escape_of(byte) {
+        Some(letter) => {
+            text.push(b'\\')?;
+            text.push(letter)?;
+            Ok(())
+        }
+        None => {
+            text.push(byte)?;
+            Ok(())
+        }
+    }
+}
+
+// Appends a token, escaped.
+fn push_token(text: &mut Vec<u8>, token: &[u8]) -> Result<(), AllocError>
+    ensures { OnOk result (text.new.items ≡ text.old.items ++ escaped token.now) }
+{
+    for byte in token {
+        push_byte(text, *byte)?;
+    }
+    Ok(())
+}
+
+/// Appends the line of a token and its count, with its end. It is refused memory alone.
+pub fn push_row(text: &mut Vec<u8>, token: &str, count: usize) -> io::Result<()>
+    ensures { OnOk result (text.new.items ≡ text.old.items ++ (row token.now count ++ 10 ∷ [])) }
+{
+    push_token(text, token.as_bytes())?;
+    writeln!(text, "\t{count}")
+}
+
+// Reads one byte more of an escaped token, and answers whether it is a backslash that escapes the next one; nothing where the last
+// one was such a backslash, and this byte is no letter.
+fn take_byte(token: &mut Vec<u8>, is_marked: bool, byte: u8) -> Result<Option<bool>, AllocError>
+    ensures { IfOk result (λ marked. (rest : List ℕ) → resumed token.old.items (Some is_marked) (byte ∷ rest) ≡ resumed token.new.items marked rest) }
+{
+    if is_marked {
+        let Some(meant) = meant_by(byte) else {
+            return Ok(None);
+        };
+        token.push(meant)?;
+        return Ok(Some(false));
+    }
+    if byte == b'\\' {
+        return Ok(Some(true));
+    }
+    token.push(byte)?;
+    Ok(Some(false))
+}
+
+// The token that is written like this, or nothing where it has a bad escape.
+fn token_of(alloc: Global, written: &[u8]) -> Result<Option<Vec<u8>>, AllocError>
+    ensures { IfOk result (λ token. option_map (λ t. t.items) token ≡ unescaped false written.now) }
+{
+    let mut token = Vec::new(alloc);
+    let mut is_marked = false;
+    for byte in written {
+        let Some(marked) = take_byte(&mut token, is_marked, *byte)? else {
+            return Ok(None);
+        };
+        is_marked = marked;
+    }
+    if is_marked {
+        return Ok(None);
+    }
+    Ok(Some(token))
+}
+
+/// The token and the count of a line of counts, without its end, or what is wrong with it. It is refused memory alone.
+pub fn read_row(alloc: Global, line: &str) -> Result<Result<(String, usize), BadLine>, AllocError>
+    ensures { IfOk result (λ read. (token : List ℕ) (count : ℕ) → IsUtf8 token → count < 2 ^ 64 → line.now ≡ row token count → IsRead token count read) }
+{
+    let Some((written, digits)) = line.split_once('\t') else {
+        return Ok(Err(BadLine::NoTab));
+    };
+    let Ok(count) = digits.parse::<usize>() else {
+        return Ok(Err(BadLine::NoCount));
+    };
+    let Some(bytes) = token_of(alloc, written.as_bytes())? else {
+        return Ok(Err(BadLine::BadEscape));
+    };
+    let Ok(token) = String::from_utf8(bytes) else {
+        return Ok(Err(BadLine::BadEscape));
+    };
+    Ok(Ok((token, count)))
+}

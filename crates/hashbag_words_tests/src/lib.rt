@@ -1,0 +1,5 @@
+//! The tests of what counts text.
+#![tactic(auto)]
+
+#[cfg(test)]
+mod tests;
