@@ -4,9 +4,10 @@ use Rattle.std.specs.Cmp.Lexicographic.{nat_list_eq_equiv}
 use Rattle.std.specs.String.{string_eq_equiv}
 use Rattle.hashbag.specs.Bag.{Bag, IsBagOf}
 use Rattle.hashbag.specs.EqualityLaws.{count_append}
+use Rattle.hashbag.specs.Keys.{InsertsNamed}
 use Rattle.hashbag.specs.Occurrences.{count, add}
-use Rattle.hashbag.proofs.CallerLemmas.{count_inserted_any}
-use Rattle.hashbag_words_core.specs.Counts.{Adds}
+use Rattle.hashbag.proofs.CallerLemmas.{count_inserted_any, count_inserted_key, text_names_one}
+use Rattle.hashbag_words_core.specs.Counts.{Adds, AddsTimes}
 
 none_before : (n : ℕ) → 0 + n ≡ n
 none_before n = omega arith
@@ -37,3 +38,16 @@ module _ {S : Type 0} where
   Adds-one a b s text is h v =
       count_inserted_any string_eq_equiv a b v s 1 h
       ∙ ap (λ (n : ℕ). count string_eq v a.items + n) (ap (λ (t : List ℕ). cond (bytes_eq (string_bytes v) t) 1 0) is ∙ sym (none_before (cond (bytes_eq (string_bytes v) text) 1 0)))
+
+  -- what a text names was inserted once
+  pub Adds-named : (a b : Bag (String Global) S) (text : List ℕ) → InsertsNamed string_eq (λ w. bytes_eq (string_bytes w) text) 1 a b → Adds a b (text ∷ [])
+  Adds-named a b text h v =
+      count_inserted_key string_eq_equiv a b v (λ w. bytes_eq (string_bytes w) text) 1 (text_names_one text) h
+      ∙ ap (λ (n : ℕ). count string_eq v a.items + n) (sym (none_before (cond (bytes_eq (string_bytes v) text) 1 0)))
+
+  -- a string was inserted so often
+  pub AddsTimes-inserted : (a b : Bag (String Global) S) (s : String Global) (text : List ℕ) (m n : ℕ) → string_bytes s ≡ text → m ≡ n → IsBagOf string_eq a (add string_eq s m a.items) b → AddsTimes a b text n
+  AddsTimes-inserted a b s text m n is same h v =
+      count_inserted_any string_eq_equiv a b v s m h
+      ∙ ap (λ (t : List ℕ). count string_eq v a.items + cond (bytes_eq (string_bytes v) t) m 0) is
+      ∙ ap (λ (k : ℕ). count string_eq v a.items + cond (bytes_eq (string_bytes v) text) k 0) same

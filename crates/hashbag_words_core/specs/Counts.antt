@@ -1,5 +1,5 @@
 -- How often texts occur in a bag.
-use Rattle.std.specs.Prelude.{◌≡◌, ℕ, ◌+◌, Bool, List, map, String, string_bytes, Option}
+use Rattle.std.specs.Prelude.{◌≡◌, ℕ, ◌+◌, Bool, List, map, if◌then◌else◌, String, string_bytes, Option}
 use Rattle.std.specs.Borrow.{Bor}
 use Rattle.std.specs.Iterator.{Drains}
 use Rattle.std.specs.Str.{bytes_eq}
@@ -20,3 +20,7 @@ Adds old new texts = (v : String Global) → count string_eq v new.items ≡ cou
 -- all pieces that an iterator gave were added, each as its token
 abbrev pub AddsPieces : {I S : Type 0} → Bool → (I → Option (Bor (List ℕ)) → I → Type 0) → I → Bag (String Global) S → Bag (String Global) S → Type 0
 AddsPieces fold steps pieces old new = (came : List (Bor (List ℕ))) × Drains steps pieces came × Adds old new (map (λ piece. token_of fold piece.now) came)
+
+-- one text is in the new bag so much oftener than in the old one, and every other as often
+abbrev pub AddsTimes : {S : Type 0} → Bag (String Global) S → Bag (String Global) S → List ℕ → ℕ → Type 0
+AddsTimes old new text n = (v : String Global) → count string_eq v new.items ≡ count string_eq v old.items + (if bytes_eq (string_bytes v) text then n else 0)

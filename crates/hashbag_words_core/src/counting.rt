@@ -1,5 +1,5 @@
 //! The tokens of lines are counted.
-ghost use Rattle.std.specs.Prelude.{◌≡◌, ◌∷◌, [], map, string_bytes, IfOk, OnOk, IfSome};
+ghost use Rattle.std.specs.Prelude.{◌≡◌, ◌∷◌, [], map, true, IfOk, OnOk, IfSome};
 ghost use Rattle.std.specs.Iterator.{IsFinite};
 ghost use Rattle.unicode_segmentation.specs.Word.{words};
 ghost use Rattle.hashbag_words_core.specs.Counts.{Adds, AddsPieces};
@@ -13,19 +13,26 @@ use crate::rule::{Pieces, Rule};
 use caseless::default_case_fold_str;
 use hashbag::{BagError, HashBag};
 use regex::Regex;
-use std::alloc::{AllocError, Global};
+use std::alloc::Global;
 use std::io::BufRead;
 use std::str;
 use unicode_segmentation::UnicodeSegmentation;
 
-// The token that a piece of a line is counted as.
-fn token_from(alloc: Global, fold: bool, piece: &str) -> Result<String, AllocError>
-    ensures { IfOk result (λ token. string_bytes token ≡ token_of fold piece.now) }
+// Counts a piece of a line once, as it is. A `String` is made of it only where it isn't in the bag.
+fn add_plain(bag: &mut HashBag<String>, piece: &str) -> Result<(), BagError>
+    ensures { OnOk result (Adds bag.old bag.new (piece.now ∷ [])) }
 {
-    if fold {
-        return default_case_fold_str(alloc, piece);
-    }
-    String::from_str(alloc, piece)
+    bag.insert_key(piece)?;
+    Ok(())
+}
+
+// Counts a piece of a line once, upper and lower case as one.
+fn add_folded(alloc: Global, bag: &mut HashBag<String>, piece: &str) -> Result<(), BagError>
+    ensures { OnOk result (Adds bag.old bag.new (token_of true piece.now ∷ [])) }
+{
+    let token = default_case_fold_str(alloc, piece)?;
+    bag.insert(token)?;
+    Ok(())
 }
 
 // Counts a piece of a line once.
@@ -37,9 +44,10 @@ fn add_piece(
 ) -> Result<(), BagError>
     ensures { OnOk result (Adds bag.old bag.new (token_of fold piece.now ∷ [])) }
 {
-    let token = token_from(alloc, fold, piece)?;
-    bag.insert(token)?;
-    Ok(())
+    if fold {
+        return add_folded(alloc, bag, piece);
+    }
+    add_plain(bag, piece)
 }
 
 // Counts each piece that comes.
