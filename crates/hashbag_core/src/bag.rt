@@ -1,28 +1,28 @@
 //! `HashBag`: how often each of several values occurs.
 ghost use Rattle.std.specs.Borrow.{sem};
-ghost use Rattle.std.specs.Prelude.{◌≡◌, ◌≢◌, ℕ, ◌+◌, ◌-◌, ◌*◌, ◌<◌, ◌≤◌, ◌↔◌, [], All, true, length, min, option_map, IsTrue, IsOk, IfOk, IfErr, IsErrAnd, OnOk, OnErr, MatchOption, MatchResult};
+ghost use Rattle.std.specs.Prelude.{◌≡◌, ◌≢◌, ◌+◌, ◌-◌, ◌<◌, ◌≤◌, ◌↔◌, [], length, min, option_map, IsTrue, IsOk, IfOk, IfErr, IsErrAnd, OnOk, OnErr, MatchOption, MatchResult};
 ghost use Rattle.std.specs.List.Sorted.{IsPermutation};
 ghost use Rattle.hashbag_table.specs.Asked.{MayAskInTurn};
-ghost use Rattle.hashbag_slots.specs.Slots.{IsSlotCount};
-ghost use Rattle.hashbag_table.specs.Entries.{count_of, IsCounted, HasClones};
-ghost use Rattle.hashbag_table.specs.Tables.{limit, room, values, IsLeast, IsPacked, ReservesOrStays, ShrinksOrStays, Arrives, KeepsRoom, NoneMoved};
+ghost use Rattle.hashbag_table.specs.Entries.{count_of, IsCounted};
+ghost use Rattle.hashbag_table.specs.Tables.{limit, room, Arrives, KeepsRoom};
 ghost use Rattle.hashbag_table.specs.Retained.{RetainsTables};
 ghost use Rattle.hashbag_core.specs.Bag.{occurrences, limited};
-ghost use Rattle.hashbag_core.specs.Occurrences.{greatest_total, count, counted, stored, add, put, instance_or_itself, distinct_count, IsBag, SameCounts};
+ghost use Rattle.hashbag_core.specs.Occurrences.{count, counted, stored, add, put, instance_or_itself, distinct_count, IsBag};
 ghost use Rattle.hashbag_core.specs.Extends.{Refuses};
 ghost use Rattle.hashbag_core.specs.Inserts.{Inserts, IsRefused};
-ghost use Rattle.hashbag_core.specs.Held.{no_slots, cleared, AreHeld, HasFewer, Recounts, Restores};
+ghost use Rattle.hashbag_core.specs.Held.{cleared, HasFewer, Recounts, Restores};
 ghost use Rattle.hashbag_core.specs.Retain.{IsRetained};
 ghost use Rattle.hashbag_core.specs.Walks.{IsSetWalkOf};
-ghost use Rattle.hashbag_table.specs.declared.table.TheConstants.{MOST_VALUES};
 ghost use Rattle.hashbag_core.specs.declared.bag.BagError.TheVariants.{Memory};
 
+mod capacity;
 mod equality;
 mod extends;
 mod keys;
+mod make;
 
 use hashbag_table::Table;
-use std::alloc::{AllocError, Global};
+use std::alloc::AllocError;
 use std::hash::{BuildHasher, BuildHasherDefault, FoldHasher, Hash};
 use std::marker::Model;
 use thiserror::Error;
@@ -114,67 +114,9 @@ fn set_or_remove<T: Eq + Hash + Drop, S: BuildHasher + Drop>(
     }
 }
 
-impl<T: Eq + Hash + Drop> HashBag<T, FixedState> {
-    /// An empty bag of no slots, whose values are hashed with fixed keys. It takes no memory.
-    pub fn new(alloc: Global) -> HashBag<T, FixedState>
-        ensures empty { result.items ≡ [] }
-        ensures hasher { ⟦<FixedState as Default>⟧.is_default result.hasher }
-        ensures slots { result.tables ≡ no_slots 0 }
-        ensures limit { result.most ≡ greatest_total }
-    {
-        HashBag::with_hasher(alloc, FixedState::new())
-    }
-
-    /// An empty bag with room for `n` distinct values, which are hashed with fixed keys: `n` insertions of absent values take no
-    /// memory then. It has the least table of slots with that room.
-    ///
-    /// It answers `Memory` where memory is refused, and for more than 3 * 2^57 distinct values before memory is asked for.
-    /// With `n` 0 it takes no memory and succeeds.
-    pub fn with_capacity(alloc: Global, n: usize) -> Result<HashBag<T, FixedState>, BagError>
-        ensures empty { IfOk result (λ bag. bag.items ≡ []) }
-        ensures hasher { IfOk result (λ bag. ⟦<FixedState as Default>⟧.is_default bag.hasher) }
-        ensures none { n ≡ 0 → IsOk result }
-        ensures beyond { MOST_VALUES < n → result ≡ Err BagError.Memory }
-        ensures memory { OnErr result (result ≡ Err BagError.Memory) }
-
-        // The table of slots that was made.
-        ensures least { IfOk result (λ bag. IsLeast 0 n (length bag.tables.newer)) }
-        ensures packed { IfOk result (λ bag. IsPacked bag.tables) }
-        ensures room { IfOk result (λ bag. n ≤ room bag.tables) }
-        ensures built { IfOk result (λ bag. bag.tables.built ≡ length bag.tables.newer) }
-        ensures limit { IfOk result (λ bag. bag.most ≡ greatest_total) }
-    {
-        HashBag::with_capacity_and_hasher(alloc, n, FixedState::new())
-    }
-}
-
 impl<T: Eq + Hash + Drop, S: BuildHasher + Drop> HashBag<T, S> {
     ghost use Rattle.hashbag_core.specs.Bag.{IsBagOf};
     ghost use Rattle.hashbag_core.specs.Lending.{ends_taking};
-
-    /// An empty bag of no slots, whose values `hasher` hashes. It takes no memory.
-    pub fn with_hasher(alloc: Global, hasher: S) -> HashBag<T, S>
-        ensures empty { result.items ≡ [] }
-        ensures hasher { result.hasher ≡ hasher }
-        ensures slots { result.tables ≡ no_slots 0 }
-        ensures limit { result.most ≡ greatest_total }
-    {
-        HashBag::with_limit(alloc, hasher, usize::MAX)
-    }
-
-    /// An empty bag of no slots, whose values `hasher` hashes, and whose total is never above `most`. It takes no memory.
-    pub fn with_limit(alloc: Global, hasher: S, most: usize) -> HashBag<T, S>
-        ensures empty { result.items ≡ [] }
-        ensures hasher { result.hasher ≡ hasher }
-        ensures slots { result.tables ≡ no_slots 0 }
-        ensures limit { result.most ≡ most }
-    {
-        HashBag {
-            table: Table::new(alloc, hasher),
-            len: 0,
-            most,
-        }
-    }
 
     /// The limit: the greatest total that the bag may have.
     #[inline(always)]
@@ -199,75 +141,6 @@ impl<T: Eq + Hash + Drop, S: BuildHasher + Drop> HashBag<T, S> {
         }
         self.most = most;
         Ok(())
-    }
-
-    /// An empty bag with room for `n` distinct values, which `hasher` hashes: `n` insertions of absent values take no memory then.
-    /// It has the least table of slots with that room.
-    ///
-    /// It answers `Memory` where memory is refused, and for more than 3 * 2^57 distinct values before memory is asked for.
-    /// With `n` 0 it takes no memory and succeeds.
-    pub fn with_capacity_and_hasher(
-        alloc: Global,
-        n: usize,
-        hasher: S,
-    ) -> Result<HashBag<T, S>, BagError>
-        ensures empty { IfOk result (λ bag. bag.items ≡ []) }
-        ensures hasher { IfOk result (λ bag. bag.hasher ≡ hasher) }
-        ensures none { n ≡ 0 → IsOk result }
-        ensures beyond { MOST_VALUES < n → result ≡ Err BagError.Memory }
-        ensures memory { OnErr result (result ≡ Err BagError.Memory) }
-
-        // The table of slots that was made.
-        ensures least { IfOk result (λ bag. IsLeast 0 n (length bag.tables.newer)) }
-        ensures packed { IfOk result (λ bag. IsPacked bag.tables) }
-        ensures room { IfOk result (λ bag. n ≤ room bag.tables) }
-        ensures built { IfOk result (λ bag. bag.tables.built ≡ length bag.tables.newer) }
-        ensures limit { IfOk result (λ bag. bag.most ≡ greatest_total) }
-    {
-        let table = Table::with_room(alloc, hasher, n)?;
-        Ok(HashBag {
-            table,
-            len: 0,
-            most: usize::MAX,
-        })
-    }
-
-    /// How many distinct values the bag can have before it grows: [`HashBag::set_len`] and [`HashBag::room`] together.
-    pub fn capacity(&self) -> usize
-        ensures { result ≡ distinct_count T.eq self.now.items + room self.now.tables }
-    {
-        self.table.capacity()
-    }
-
-    /// The number of slots of the newer table, 0 where there is none. A slot has a place for one distinct value with its count. Those
-    /// that aren't Empty are Live, which hold a value, or Removed, which held one.
-    pub fn slots(&self) -> usize
-        ensures slots { result ≡ length self.now.tables.newer }
-        ensures count { IsSlotCount result }
-        ensures held { AreHeld T.eq self.now.items self.now.tables }
-        ensures unmoved { NoneMoved self.now.tables.newer }
-        ensures fits { values self.now.tables ≤ limit (length self.now.tables.newer) }
-        ensures values { values self.now.tables ≡ distinct_count T.eq self.now.items }
-    {
-        self.table.slots()
-    }
-
-    /// The number of slots of the older table that wait to be carried, 0 where there is no older table. Each insertion of an absent
-    /// value carries the next 16 of them.
-    pub fn waiting(&self) -> usize
-        ensures waiting { result ≡ length self.now.tables.waiting }
-        ensures carries { result ≤ 16 * room self.now.tables }
-        ensures smaller { 0 < result → result + 16 ≤ length self.now.tables.newer }
-        ensures freed { result ≡ 0 → self.now.tables.older ≡ 0 }
-    {
-        self.table.waiting()
-    }
-
-    /// How many absent values may be inserted before the bag grows. None of these insertions takes memory.
-    pub fn room(&self) -> usize
-        ensures { result ≡ room self.now.tables }
-    {
-        self.table.room()
     }
 
     /// The number of occurrences: the sum of all counts.
@@ -535,89 +408,6 @@ impl<T: Eq + Hash + Drop, S: BuildHasher + Drop> HashBag<T, S> {
         ensures room { KeepsRoom 0 self.old.tables self.new.tables }
     {
         self.len = self.table.retain(f);
-    }
-
-    /// Makes room for `n` more distinct values: so many insertions of absent values take no memory then. What occurs stays.
-    ///
-    /// Where there is that room it takes no memory, does nothing and succeeds. Else it makes the least table of slots that has the
-    /// room, and is not smaller than the newer one: every value is moved into it and hashed once, and the others are freed. It answers
-    /// `Memory` where memory is refused, and before memory is asked for where there would be more than 3 * 2^57 distinct values:
-    /// the bag is then unchanged.
-    pub fn reserve(&mut self, n: usize) -> Result<(), BagError>
-        ensures kept { IsBagOf T.eq self.old self.old.items self.new }
-        ensures len { length self.new.items ≡ length self.old.items }
-        ensures none { n ≡ 0 → IsOk result }
-        ensures beyond { 0 < n → MOST_VALUES < distinct_count T.eq self.old.items + n → result ≡ Err BagError.Memory }
-        ensures memory { OnErr result (result ≡ Err BagError.Memory) }
-        ensures err { OnErr result (self.new ≡ self.old) }
-        ensures room { OnOk result (n ≤ room self.new.tables) }
-
-        // Where there is room already nothing is done; else the table of slots that was made.
-        ensures enough { n ≤ room self.old.tables → IsOk result }
-        ensures same { n ≤ room self.old.tables → self.new ≡ self.old }
-        ensures least { OnOk result (room self.old.tables < n → IsLeast (length self.old.tables.newer) (distinct_count T.eq self.old.items + n) (length self.new.tables.newer)) }
-        ensures packed { OnOk result (room self.old.tables < n → IsPacked self.new.tables) }
-        ensures built { OnOk result (room self.old.tables < n → self.new.tables.built ≡ self.old.tables.built + length self.new.tables.newer) }
-        ensures reserves { OnOk result (ReservesOrStays n (distinct_count T.eq self.old.items) self.old.tables self.new.tables) }
-    {
-        self.table.reserve(n)?;
-        Ok(())
-    }
-
-    /// Gives memory back that the bag doesn't need. What occurs stays.
-    ///
-    /// It makes the least table of slots that has room for the values, where that one is smaller than the newer one: every value is
-    /// moved into it and hashed once, and the others are freed. Else it takes no memory, does nothing and succeeds. An empty bag takes
-    /// no memory, and is left with no slots. It answers `Memory` where memory is refused: the bag is then unchanged.
-    pub fn shrink_to_fit(&mut self) -> Result<(), BagError>
-        ensures kept { IsBagOf T.eq self.old self.old.items self.new }
-        ensures len { length self.new.items ≡ length self.old.items }
-        ensures memory { OnErr result (result ≡ Err BagError.Memory) }
-        ensures err { OnErr result (self.new ≡ self.old) }
-
-        // An empty bag is left with no slots. Where the least table, of m slots, isn't smaller, nothing is done; else it was made.
-        ensures none { self.old.items ≡ [] → IsOk result }
-        ensures freed { OnOk result (self.old.items ≡ [] → self.new.tables ≡ no_slots self.old.tables.built) }
-        ensures fewer { length self.new.tables.newer ≤ length self.old.tables.newer }
-        ensures shrinks { OnOk result (ShrinksOrStays (distinct_count T.eq self.old.items) self.old.tables self.new.tables) }
-        ensures enough { (m : ℕ) → IsLeast 0 (distinct_count T.eq self.old.items) m → length self.old.tables.newer ≤ m → IsOk result }
-        ensures same { (m : ℕ) → IsLeast 0 (distinct_count T.eq self.old.items) m → length self.old.tables.newer ≤ m → self.new ≡ self.old }
-        ensures least { OnOk result ((m : ℕ) → IsLeast 0 (distinct_count T.eq self.old.items) m → m < length self.old.tables.newer → length self.new.tables.newer ≡ m) }
-        ensures packed { OnOk result ((m : ℕ) → IsLeast 0 (distinct_count T.eq self.old.items) m → m < length self.old.tables.newer → IsPacked self.new.tables) }
-        ensures built { OnOk result ((m : ℕ) → IsLeast 0 (distinct_count T.eq self.old.items) m → m < length self.old.tables.newer → self.new.tables.built ≡ self.old.tables.built + m) }
-    {
-        self.table.shrink_to_fit()?;
-        // `waiting` is called for its clauses on what waits where there are no slots, which the proof cites.
-        let _waiting = self.table.waiting();
-        Ok(())
-    }
-
-    /// A bag with clones of all stored instances, each as often as here, under a clone of the state. This bag stays as it is.
-    ///
-    /// The caller sees to it that clones of the values equal them. It answers `Memory` where memory is refused, to a clone of a
-    /// value or of the state too: there is then no new bag. It makes the least table of slots that has room for all values, and hashes
-    /// each clone once.
-    pub fn clone(&self) -> Result<HashBag<T, S>, BagError>
-    where
-        T: Clone,
-        S: Clone,
-        requires equal { All (λ x. (y : _) → T.is_clone x y → T.eq x y ≡ true) self.now.items }
-        ensures clones { IfOk result (λ bag. HasClones T.is_clone self.now.items bag.items) }
-        ensures counts { IfOk result (λ bag. SameCounts T.eq self.now.items bag.items) }
-        ensures len { IfOk result (λ bag. length bag.items ≡ length self.now.items) }
-        ensures hasher { IfOk result (λ bag. S.is_clone self.now.hasher bag.hasher) }
-        ensures limit { IfOk result (λ bag. bag.most ≡ self.now.most) }
-        ensures memory { OnErr result (result ≡ Err BagError.Memory) }
-        ensures least { IfOk result (λ bag. IsLeast 0 (distinct_count T.eq self.now.items) (length bag.tables.newer)) }
-        ensures packed { IfOk result (λ bag. IsPacked bag.tables) }
-        ensures built { IfOk result (λ bag. bag.tables.built ≡ length bag.tables.newer) }
-    {
-        let table = self.table.clone_in()?;
-        Ok(HashBag {
-            table,
-            len: self.len,
-            most: self.most,
-        })
     }
 
     // Adds occurrences of a value if the total can have them.

@@ -10,6 +10,15 @@ use std::alloc::{AllocError, Global};
 use std::hash::{BuildHasher, Hash};
 use std::mem;
 
+/// The slots of the first table that a growth makes.
+pub const FIRST_SLOTS: usize = 16;
+
+/// The most slots that a table has, 2^59.
+pub const MOST_SLOTS: usize = 1 << 59;
+
+/// The slots that one insertion of an absent value carries.
+pub const CARRIED_AT_ONCE: usize = 16;
+
 /// A table of no slots. It takes no memory.
 pub fn no_slots<T: Eq + Drop>(alloc: Global) -> Slots<T>
     ensures slots { result.slots ≡ [] }
@@ -31,12 +40,12 @@ pub fn grown_slots(count: usize, live: usize) -> Result<usize, AllocError>
     ensures refused { IsErr result → 2 ^ 59 < grown_slots count live }
 {
     if count == 0 {
-        return Ok(16);
+        return Ok(FIRST_SLOTS);
     }
     if 8 * live <= 3 * count {
         return Ok(count);
     }
-    if count >= 1 << 59 {
+    if count >= MOST_SLOTS {
         return Err(AllocError);
     }
     Ok(2 * count)
@@ -50,10 +59,10 @@ pub fn least_slots(from: usize, values: usize) -> Result<usize, AllocError>
 {
     let mut count = from;
     while 3 * count / 4 < values {
-        if count >= 1 << 59 {
+        if count >= MOST_SLOTS {
             return Err(AllocError);
         }
-        count = if count == 0 { 16 } else { 2 * count };
+        count = if count == 0 { FIRST_SLOTS } else { 2 * count };
     }
     Ok(count)
 }

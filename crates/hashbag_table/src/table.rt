@@ -2,24 +2,25 @@
 //!
 //! The newer table takes what comes. When it has no room left it becomes the older one, and a new one takes its place. Each value
 //! that comes after that takes the next 16 slots of the older table along, so that no insertion moves all values at once.
-ghost use Rattle.std.specs.Prelude.{◌≡◌, ◌+◌, ◌-◌, ◌*◌, ◌<◌, ◌≤◌, ◌^◌, [], ◌∷◌, All, length, replicate, true, Some, None, IfOk, IfErr, OnOk, OnErr, IsOk, IsErr, IsSome, option_map};
+ghost use Rattle.std.specs.Prelude.{◌≡◌, ◌+◌, ◌-◌, ◌*◌, ◌<◌, ◌≤◌, ◌^◌, [], ◌∷◌, length, replicate, true, Some, None, IfOk, IfErr, OnOk, OnErr, IsOk, IsSome, option_map};
 ghost use Rattle.std.specs.Borrow.{sem};
 ghost use Rattle.std.specs.List.Sorted.{IsPermutation};
 ghost use Rattle.hashbag_slots.specs.FirstGroup.{IfAbsent};
 ghost use Rattle.hashbag_slots.specs.Hashing.{hash_under};
 ghost use Rattle.hashbag_slots.specs.Slots.{IsSlotCount, entries, IsAbsent, IsFirstFree, Places, recounted};
 ghost use Rattle.hashbag_table.specs.Asked.{MayAskInTurn, Retains};
-ghost use Rattle.hashbag_table.specs.Entries.{entry_of, count_of, without, with_count, with_fewer, with_instance, total, IsCounted, HasClones};
+ghost use Rattle.hashbag_table.specs.Entries.{entry_of, count_of, without, with_count, with_fewer, with_instance, total, IsCounted};
 ghost use Rattle.hashbag_table.specs.Retained.{RetainsTables};
 ghost use Rattle.hashbag_table.specs.Table.{IsMapOf};
-ghost use Rattle.hashbag_table.specs.Tables.{limit, room, values, IsLeast, IsPacked, entries_of, Arrives, KeepsRoom, NoneMoved, Rewrites};
+ghost use Rattle.hashbag_table.specs.Tables.{limit, room, values, entries_of, Arrives, KeepsRoom, NoneMoved, Rewrites};
 
 mod keys;
+mod make;
 mod resize;
 mod spots;
 
 use crate::built::Built;
-use crate::capacity::{least_slots, no_slots};
+use crate::capacity::no_slots;
 use crate::retain::retain_slots;
 use crate::walk::{DrainWalk, IntoWalk, Walk};
 use hashbag_slots::slots::{FirstGroup, Slot, Slots};
@@ -78,55 +79,6 @@ impl<T: Eq + Hash + Drop, S: BuildHasher + Drop> Model for Table<T, S> {
 impl<T: Eq + Hash + Drop, S: BuildHasher + Drop> Table<T, S> {
     ghost use Rattle.std.specs.Prelude.{◌≢◌, IfErr};
     ghost use Rattle.hashbag_table.specs.DrainWalk.{drain_rest, drain_name, follows_drain};
-
-    /// An empty table of no slots, whose values `hasher` hashes. It takes no memory.
-    pub fn new(alloc: Global, hasher: S) -> Table<T, S>
-        ensures empty { result.entries ≡ [] }
-        ensures hasher { result.hasher ≡ hasher }
-        ensures newer { result.tables.newer ≡ [] }
-        ensures waiting { result.tables.waiting ≡ [] }
-        ensures older { result.tables.older ≡ 0 }
-        ensures built { result.tables.built ≡ 0 }
-    {
-        let newer = no_slots(alloc);
-        let older = no_slots(alloc);
-        Table {
-            newer,
-            older,
-            looked: 0,
-            hasher,
-            alloc,
-            built: Built::first(0),
-            lent: [],
-        }
-    }
-
-    /// An empty table with room for `n` distinct values, which `hasher` hashes: the least table of slots that has it.
-    ///
-    /// With `n` 0 it takes no memory and succeeds; a request for more than [`MOST_VALUES`] is refused before memory is asked for.
-    pub fn with_room(alloc: Global, hasher: S, n: usize) -> Result<Table<T, S>, AllocError>
-        ensures empty { IfOk result (λ table. table.entries ≡ []) }
-        ensures hasher { IfOk result (λ table. table.hasher ≡ hasher) }
-        ensures none { n ≡ 0 → IsOk result }
-        ensures beyond { MOST_VALUES < n → IsErr result }
-        ensures fresh { IfOk result (λ table. table.tables.newer ≡ replicate (length table.tables.newer) Slot.Empty) }
-        ensures least { IfOk result (λ table. IsLeast 0 n (length table.tables.newer)) }
-        ensures packed { IfOk result (λ table. IsPacked table.tables) }
-        ensures built { IfOk result (λ table. table.tables.built ≡ length table.tables.newer) }
-    {
-        let count = least_slots(0, n)?;
-        let newer = Slots::with_slots(alloc, count)?;
-        let older = no_slots(alloc);
-        Ok(Table {
-            newer,
-            older,
-            looked: 0,
-            hasher,
-            alloc,
-            built: Built::first(count),
-            lent: [],
-        })
-    }
 
     /// The number of slots of the newer table. Those that aren't Empty are its Live and its Removed ones.
     pub fn slots(&self) -> usize
@@ -537,30 +489,5 @@ impl<T: Eq + Hash + Drop, S: BuildHasher + Drop> Table<T, S> {
             },
             table: &mut self.lent,
         }
-    }
-
-    /// A table with clones of all entries, under a clone of the state. This table stays as it is.
-    ///
-    /// The caller sees to it that clones of the values equal them. It makes the least table of slots in which all entries have
-    /// room, and hashes each clone once. Where memory is refused, to a clone of a value or of the state too, there is no new table.
-    pub fn clone_in(&self) -> Result<Table<T, S>, AllocError>
-    where
-        T: Clone,
-        S: Clone,
-        requires equal { All (λ e. (x : _) → T.is_clone e.0 x → T.eq e.0 x ≡ true) self.now.entries }
-        ensures clones { IfOk result (λ table. HasClones (λ e c. T.is_clone e.0 c.0 × (c.1 ≡ e.1)) self.now.entries table.entries) }
-        ensures hasher { IfOk result (λ table. S.is_clone self.now.hasher table.hasher) }
-        ensures counted { IfOk result (λ table. IsCounted T.eq table.entries) }
-        ensures least { IfOk result (λ table. IsLeast 0 (length self.now.entries) (length table.tables.newer)) }
-        ensures packed { IfOk result (λ table. IsPacked table.tables) }
-        ensures built { IfOk result (λ table. table.tables.built ≡ length table.tables.newer) }
-    {
-        let hasher = self.hasher().clone()?;
-        let mut table = Table::with_room(self.alloc, hasher, self.set_len())?;
-        for (value, count) in self.walk() {
-            let clone = value.clone()?;
-            table.insert_new(clone, count)?;
-        }
-        Ok(table)
     }
 }

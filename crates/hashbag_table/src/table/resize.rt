@@ -8,7 +8,7 @@ ghost use Rattle.hashbag_table.specs.Entries.{IsCounted};
 ghost use Rattle.hashbag_table.specs.Table.{IsMapOf};
 ghost use Rattle.hashbag_table.specs.Tables.{limit, room, values, IsLeast, IsPacked, ReservesOrStays, ShrinksOrStays, Carried, IsReady, MayAdopt};
 
-use crate::capacity::{carry_next, grown_slots, least_slots, no_slots};
+use crate::capacity::{CARRIED_AT_ONCE, carry_next, grown_slots, least_slots, no_slots};
 use crate::table::{MOST_VALUES, Table};
 use hashbag_slots::slots::{Slot, Slots};
 use std::alloc::AllocError;
@@ -31,7 +31,7 @@ impl<T: Eq + Hash + Drop, S: BuildHasher + Drop> Table<T, S> {
             &mut self.newer,
             &mut self.older,
             self.looked,
-            16,
+            CARRIED_AT_ONCE,
             &self.hasher,
             self.alloc,
         );
@@ -73,7 +73,7 @@ impl<T: Eq + Hash + Drop, S: BuildHasher + Drop> Table<T, S> {
     {
         let count = grown_slots(self.newer.slots(), self.newer.live())?;
         let newer = Slots::with_slots(self.alloc, count)?;
-        self.adopt(newer, 16);
+        self.adopt(newer, CARRIED_AT_ONCE);
         Ok(())
     }
 

@@ -9,4 +9,4 @@ pub overflow_mul-count : goal.overflow_mul-count
 overflow_mul-count g = let b = eight_fits _ g.requires.count in omega arith
 
 pub returns-clause-slots : goal.returns-clause-slots
-returns-clause-slots g = IsSlotCount-double _ g.requires.count g.if-count.false g.if-count-eq0.false
+returns-clause-slots g = IsSlotCount-double _ g.requires.count g.if-count-ge-MOST_SLOTS.false g.if-count-eq0.false

@@ -16,7 +16,7 @@ loop-count-preserved-then-count-eq0 c = record {
 
 pub loop-count-preserved : goal.loop-count-preserved
 loop-count-preserved c = record {
-  count = IsSlotCount-double c.loop-count.count c.loop-count.invariant.count c.if-count.false c.if-count-eq0.false;
+  count = IsSlotCount-double c.loop-count.count c.loop-count.invariant.count c.if-count-ge-MOST_SLOTS.false c.if-count-eq0.false;
   from = let f = c.loop-count.invariant.from in omega (arith, f);
   below = below_double c.args.from c.args.values c.loop-count.count c.loop-count.invariant.count (let z = c.if-count-eq0.false in omega arith) (let t = c.loop-count-test.true in omega (arith, t)) c.loop-count.invariant.below;
 }
@@ -25,7 +25,7 @@ pub returns-clause-least : goal.returns-clause-least
 returns-clause-least c =
     least_from c.args.from c.args.values c.loop-count.count c.loop-count.invariant.count c.loop-count.invariant.from (let e = c.loop-count-test.false in omega (arith, e)) c.loop-count.invariant.below
 
-pub returns-then-count-clause-refused : goal.returns-then-count-clause-refused
-returns-then-count-clause-refused c err =
-    let b = count_bound c.loop-count.count c.loop-count.invariant.count in let a = c.if-count.true in let short = c.loop-count-test.true in
+pub returns-then-count-ge-MOST_SLOTS-clause-refused : goal.returns-then-count-ge-MOST_SLOTS-clause-refused
+returns-then-count-ge-MOST_SLOTS-clause-refused c err =
+    let b = count_bound c.loop-count.count c.loop-count.invariant.count in let a = c.if-count-ge-MOST_SLOTS.true in let short = c.loop-count-test.true in
     omega (arith, a, b, short)

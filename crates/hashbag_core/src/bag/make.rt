@@ -1,0 +1,132 @@
+//! How bags are made: empty ones, with room or with a limit, and clones.
+ghost use Rattle.std.specs.Prelude.{◌≡◌, ◌<◌, ◌≤◌, [], All, true, length, IsOk, IfOk, OnErr};
+ghost use Rattle.hashbag_table.specs.Entries.{HasClones};
+ghost use Rattle.hashbag_table.specs.Tables.{room, IsLeast, IsPacked};
+ghost use Rattle.hashbag_core.specs.Occurrences.{greatest_total, distinct_count, SameCounts};
+ghost use Rattle.hashbag_core.specs.Held.{no_slots};
+ghost use Rattle.hashbag_table.specs.declared.table.TheConstants.{MOST_VALUES};
+ghost use Rattle.hashbag_core.specs.declared.bag.BagError.TheVariants.{Memory};
+
+use crate::bag::{BagError, FixedState, HashBag};
+use hashbag_table::Table;
+use std::alloc::Global;
+use std::hash::{BuildHasher, Hash};
+
+impl<T: Eq + Hash + Drop> HashBag<T, FixedState> {
+    /// An empty bag of no slots, whose values are hashed with fixed keys. It takes no memory.
+    pub fn new(alloc: Global) -> HashBag<T, FixedState>
+        ensures empty { result.items ≡ [] }
+        ensures hasher { ⟦<FixedState as Default>⟧.is_default result.hasher }
+        ensures slots { result.tables ≡ no_slots 0 }
+        ensures limit { result.most ≡ greatest_total }
+    {
+        HashBag::with_hasher(alloc, FixedState::new())
+    }
+
+    /// An empty bag with room for `n` distinct values, which are hashed with fixed keys: `n` insertions of absent values take no
+    /// memory then. It has the least table of slots with that room.
+    ///
+    /// It answers `Memory` where memory is refused, and for more than 3 * 2^57 distinct values before memory is asked for.
+    /// With `n` 0 it takes no memory and succeeds.
+    pub fn with_capacity(alloc: Global, n: usize) -> Result<HashBag<T, FixedState>, BagError>
+        ensures empty { IfOk result (λ bag. bag.items ≡ []) }
+        ensures hasher { IfOk result (λ bag. ⟦<FixedState as Default>⟧.is_default bag.hasher) }
+        ensures none { n ≡ 0 → IsOk result }
+        ensures beyond { MOST_VALUES < n → result ≡ Err BagError.Memory }
+        ensures memory { OnErr result (result ≡ Err BagError.Memory) }
+
+        // The table of slots that was made.
+        ensures least { IfOk result (λ bag. IsLeast 0 n (length bag.tables.newer)) }
+        ensures packed { IfOk result (λ bag. IsPacked bag.tables) }
+        ensures room { IfOk result (λ bag. n ≤ room bag.tables) }
+        ensures built { IfOk result (λ bag. bag.tables.built ≡ length bag.tables.newer) }
+        ensures limit { IfOk result (λ bag. bag.most ≡ greatest_total) }
+    {
+        HashBag::with_capacity_and_hasher(alloc, n, FixedState::new())
+    }
+}
+
+impl<T: Eq + Hash + Drop, S: BuildHasher + Drop> HashBag<T, S> {
+    /// An empty bag of no slots, whose values `hasher` hashes. It takes no memory.
+    pub fn with_hasher(alloc: Global, hasher: S) -> HashBag<T, S>
+        ensures empty { result.items ≡ [] }
+        ensures hasher { result.hasher ≡ hasher }
+        ensures slots { result.tables ≡ no_slots 0 }
+        ensures limit { result.most ≡ greatest_total }
+    {
+        HashBag::with_limit(alloc, hasher, usize::MAX)
+    }
+
+    /// An empty bag of no slots, whose values `hasher` hashes, and whose total is never above `most`. It takes no memory.
+    pub fn with_limit(alloc: Global, hasher: S, most: usize) -> HashBag<T, S>
+        ensures empty { result.items ≡ [] }
+        ensures hasher { result.hasher ≡ hasher }
+        ensures slots { result.tables ≡ no_slots 0 }
+        ensures limit { result.most ≡ most }
+    {
+        HashBag {
+            table: Table::new(alloc, hasher),
+            len: 0,
+            most,
+        }
+    }
+
+    /// An empty bag with room for `n` distinct values, which `hasher` hashes: `n` insertions of absent values take no memory then.
+    /// It has the least table of slots with that room.
+    ///
+    /// It answers `Memory` where memory is refused, and for more than 3 * 2^57 distinct values before memory is asked for.
+    /// With `n` 0 it takes no memory and succeeds.
+    pub fn with_capacity_and_hasher(
+        alloc: Global,
+        n: usize,
+        hasher: S,
+    ) -> Result<HashBag<T, S>, BagError>
+        ensures empty { IfOk result (λ bag. bag.items ≡ []) }
+        ensures hasher { IfOk result (λ bag. bag.hasher ≡ hasher) }
+        ensures none { n ≡ 0 → IsOk result }
+        ensures beyond { MOST_VALUES < n → result ≡ Err BagError.Memory }
+        ensures memory { OnErr result (result ≡ Err BagError.Memory) }
+
+        // The table of slots that was made.
+        ensures least { IfOk result (λ bag. IsLeast 0 n (length bag.tables.newer)) }
+        ensures packed { IfOk result (λ bag. IsPacked bag.tables) }
+        ensures room { IfOk result (λ bag. n ≤ room bag.tables) }
+        ensures built { IfOk result (λ bag. bag.tables.built ≡ length bag.tables.newer) }
+        ensures limit { IfOk result (λ bag. bag.most ≡ greatest_total) }
+    {
+        let table = Table::with_room(alloc, hasher, n)?;
+        Ok(HashBag {
+            table,
+            len: 0,
+            most: usize::MAX,
+        })
+    }
+
+    /// A bag with clones of all stored instances, each as often as here, under a clone of the state. This bag stays as it is.
+    ///
+    /// The caller sees to it that clones of the values equal them. It answers `Memory` where memory is refused, to a clone of a
+    /// value or of the state too: there is then no new bag. It makes the least table of slots that has room for all values, and hashes
+    /// each clone once.
+    pub fn clone(&self) -> Result<HashBag<T, S>, BagError>
+    where
+        T: Clone,
+        S: Clone,
+        requires equal { All (λ x. (y : _) → T.is_clone x y → T.eq x y ≡ true) self.now.items }
+        ensures clones { IfOk result (λ bag. HasClones T.is_clone self.now.items bag.items) }
+        ensures counts { IfOk result (λ bag. SameCounts T.eq self.now.items bag.items) }
+        ensures len { IfOk result (λ bag. length bag.items ≡ length self.now.items) }
+        ensures hasher { IfOk result (λ bag. S.is_clone self.now.hasher bag.hasher) }
+        ensures limit { IfOk result (λ bag. bag.most ≡ self.now.most) }
+        ensures memory { OnErr result (result ≡ Err BagError.Memory) }
+        ensures least { IfOk result (λ bag. IsLeast 0 (distinct_count T.eq self.now.items) (length bag.tables.newer)) }
+        ensures packed { IfOk result (λ bag. IsPacked bag.tables) }
+        ensures built { IfOk result (λ bag. bag.tables.built ≡ length bag.tables.newer) }
+    {
+        let table = self.table.clone_in()?;
+        Ok(HashBag {
+            table,
+            len: self.len,
+            most: self.most,
+        })
+    }
+}

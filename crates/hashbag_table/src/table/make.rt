@@ -1,0 +1,90 @@
+//! How tables are made: empty ones, with room, and clones.
+ghost use Rattle.std.specs.Prelude.{◌≡◌, ◌<◌, [], All, length, replicate, true, IfOk, IsOk, IsErr};
+ghost use Rattle.hashbag_slots.specs.Slots.{entries};
+ghost use Rattle.hashbag_table.specs.Entries.{IsCounted, HasClones};
+ghost use Rattle.hashbag_table.specs.Tables.{IsLeast, IsPacked};
+
+use crate::built::Built;
+use crate::capacity::{least_slots, no_slots};
+use crate::table::{MOST_VALUES, Table};
+use hashbag_slots::slots::{Slot, Slots};
+use std::alloc::{AllocError, Global};
+use std::hash::{BuildHasher, Hash};
+
+impl<T: Eq + Hash + Drop, S: BuildHasher + Drop> Table<T, S> {
+    ghost use Rattle.std.specs.Prelude.{length};
+
+    /// An empty table of no slots, whose values `hasher` hashes. It takes no memory.
+    pub fn new(alloc: Global, hasher: S) -> Table<T, S>
+        ensures empty { result.entries ≡ [] }
+        ensures hasher { result.hasher ≡ hasher }
+        ensures newer { result.tables.newer ≡ [] }
+        ensures waiting { result.tables.waiting ≡ [] }
+        ensures older { result.tables.older ≡ 0 }
+        ensures built { result.tables.built ≡ 0 }
+    {
+        let newer = no_slots(alloc);
+        let older = no_slots(alloc);
+        Table {
+            newer,
+            older,
+            looked: 0,
+            hasher,
+            alloc,
+            built: Built::first(0),
+            lent: [],
+        }
+    }
+
+    /// An empty table with room for `n` distinct values, which `hasher` hashes: the least table of slots that has it.
+    ///
+    /// With `n` 0 it takes no memory and succeeds; a request for more than [`MOST_VALUES`] is refused before memory is asked for.
+    pub fn with_room(alloc: Global, hasher: S, n: usize) -> Result<Table<T, S>, AllocError>
+        ensures empty { IfOk result (λ table. table.entries ≡ []) }
+        ensures hasher { IfOk result (λ table. table.hasher ≡ hasher) }
+        ensures none { n ≡ 0 → IsOk result }
+        ensures beyond { MOST_VALUES < n → IsErr result }
+        ensures fresh { IfOk result (λ table. table.tables.newer ≡ replicate (length table.tables.newer) Slot.Empty) }
+        ensures least { IfOk result (λ table. IsLeast 0 n (length table.tables.newer)) }
+        ensures packed { IfOk result (λ table. IsPacked table.tables) }
+        ensures built { IfOk result (λ table. table.tables.built ≡ length table.tables.newer) }
+    {
+        let count = least_slots(0, n)?;
+        let newer = Slots::with_slots(alloc, count)?;
+        let older = no_slots(alloc);
+        Ok(Table {
+            newer,
+            older,
+            looked: 0,
+            hasher,
+            alloc,
+            built: Built::first(count),
+            lent: [],
+        })
+    }
+
+    /// A table with clones of all entries, under a clone of the state. This table stays as it is.
+    ///
+    /// The caller sees to it that clones of the values equal them. It makes the least table of slots in which all entries have
+    /// room, and hashes each clone once. Where memory is refused, to a clone of a value or of the state too, there is no new table.
+    pub fn clone_in(&self) -> Result<Table<T, S>, AllocError>
+    where
+        T: Clone,
+        S: Clone,
+        requires equal { All (λ e. (x : _) → T.is_clone e.0 x → T.eq e.0 x ≡ true) self.now.entries }
+        ensures clones { IfOk result (λ table. HasClones (λ e c. T.is_clone e.0 c.0 × (c.1 ≡ e.1)) self.now.entries table.entries) }
+        ensures hasher { IfOk result (λ table. S.is_clone self.now.hasher table.hasher) }
+        ensures counted { IfOk result (λ table. IsCounted T.eq table.entries) }
+        ensures least { IfOk result (λ table. IsLeast 0 (length self.now.entries) (length table.tables.newer)) }
+        ensures packed { IfOk result (λ table. IsPacked table.tables) }
+        ensures built { IfOk result (λ table. table.tables.built ≡ length table.tables.newer) }
+    {
+        let hasher = self.hasher().clone()?;
+        let mut table = Table::with_room(self.alloc, hasher, self.set_len())?;
+        for (value, count) in self.walk() {
+            let clone = value.clone()?;
+            table.insert_new(clone, count)?;
+        }
+        Ok(table)
+    }
+}
