@@ -1,6 +1,8 @@
 //! What no clause says of whole bags: that the calls succeed where memory is ample, that counts, limits, tables and instances are those
 //! found by hand, under each hash state, that pairs are in the order that Python finds, and how often
 //! values are hashed.
+mod bags;
+mod calls;
 mod hash_counts;
 mod instances;
 mod laws;

@@ -1,8 +1,9 @@
 //! How often each call hashes a value.
-use crate::tests::rows::{answer, answer_beside, bag_of};
+use crate::tests::bags::{bag_of, thirds};
+use crate::tests::calls::{answer, answer_beside};
 use hashbag::HashBag;
 use hashbag_bench::states::CountingState;
-use hashbag_rows::texts::{halves, is_text, rows_of};
+use hashbag_rows::texts::{debug_of, halves, is_text, rows_of};
 use std::alloc::Global;
 use std::test::Fail;
 
@@ -30,42 +31,63 @@ const PARTS: &str = "
     is_disjoint | 5:1 6:1 | 7:1 8:1 | 0 2
     is_disjoint | 5:1 6:1 | 5:1 6:1 7:1 | 0 1";
 
-type Bag = HashBag<u64, CountingState>;
+type CountingBag = HashBag<u64, CountingState>;
 
-fn hashed(bag: &Bag) -> u64 {
+// How often the state of a bag hashed so far.
+fn hashed(bag: &CountingBag) -> u64 {
     bag.hasher().hashed()
 }
 
-fn is_hashed(alloc: Global, row: &str, is_sum: bool) -> Result<(), Fail> {
-    let (call, rest) = halves(row, "|")?;
-    let (first, rest) = halves(rest, "|")?;
+// How often the first bag's state hashes in a call.
+fn hashed_in_sum(
+    alloc: Global,
+    call: &str,
+    a: &mut CountingBag,
+    b: CountingBag,
+) -> Result<String, Fail> {
+    let before = hashed(a);
+    answer(alloc, call, a, b)?;
+    debug_of(alloc, &hashed(a).saturating_sub(before))
+}
+
+// How often each bag's state hashes in a call.
+fn hashed_in_part(
+    alloc: Global,
+    call: &str,
+    a: &mut CountingBag,
+    b: &CountingBag,
+) -> Result<String, Fail> {
+    let (before, before_second) = (hashed(a), hashed(b));
+    answer_beside(alloc, call, a, b)?;
+    let by_first = hashed(a).saturating_sub(before);
+    let by_second = hashed(b).saturating_sub(before_second);
+    Ok(format!(in alloc; "{by_first} {by_second}")?)
+}
+
+fn sum_is_hashed(alloc: Global, row: &str) -> Result<(), Fail> {
+    let (call, first, rest) = thirds(row)?;
     let (second, wanted) = halves(rest, "|")?;
-    let mut a: Bag = bag_of(alloc, first)?;
-    let b: Bag = bag_of(alloc, second)?;
-    let before = hashed(&a);
-    if is_sum {
-        answer(alloc, call, &mut a, b)?;
-        let by_first = hashed(&a).saturating_sub(before);
-        return is_text(row, format!(in alloc; "{by_first}")?.as_str(), wanted);
-    }
-    let before_second = hashed(&b);
-    answer_beside(alloc, call, &mut a, &b)?;
-    let by_first = hashed(&a).saturating_sub(before);
-    let by_second = hashed(&b).saturating_sub(before_second);
-    is_text(
-        row,
-        format!(in alloc; "{by_first} {by_second}")?.as_str(),
-        wanted,
-    )
+    let mut a: CountingBag = bag_of(alloc, first)?;
+    let got = hashed_in_sum(alloc, call, &mut a, bag_of(alloc, second)?)?;
+    is_text(row, got.as_str(), wanted)
+}
+
+fn part_is_hashed(alloc: Global, row: &str) -> Result<(), Fail> {
+    let (call, first, rest) = thirds(row)?;
+    let (second, wanted) = halves(rest, "|")?;
+    let mut a: CountingBag = bag_of(alloc, first)?;
+    let b: CountingBag = bag_of(alloc, second)?;
+    let got = hashed_in_part(alloc, call, &mut a, &b)?;
+    is_text(row, got.as_str(), wanted)
 }
 
 #[test]
 fn hashes_of_each_call(rt: HostRuntime) -> Result<(), Fail> {
     for row in rows_of(rt.alloc(), SUMS, 7)? {
-        is_hashed(rt.alloc(), row, true)?;
+        sum_is_hashed(rt.alloc(), row)?;
     }
     for row in rows_of(rt.alloc(), PARTS, 11)? {
-        is_hashed(rt.alloc(), row, false)?;
+        part_is_hashed(rt.alloc(), row)?;
     }
     Ok(())
 }

@@ -1,7 +1,8 @@
 //! Which instances stay: those of the first bag, and of the second only where the first had none.
+use crate::tests::calls::{kept_common, kept_most, merged, taken_away};
 use hashbag::{BagError, HashBag};
 use hashbag_bench::{IdentityState, OneState, Tagged};
-use hashbag_ops::{keep_common, keep_most, merge, merge_ref, take_away};
+use hashbag_ops::merge_ref;
 use hashbag_rows::texts::{debug_of, halves, is_text, rows_of};
 use std::alloc::Global;
 use std::hash::BuildHasher;
@@ -16,6 +17,16 @@ const ROWS: &str = "
     keep_common | [(1, 10, 2)]
     take_away | [(2, 11, 1)]";
 
+// Adds a value with this key and tag, so often.
+fn add<S: BuildHasher + Drop>(
+    bag: &mut HashBag<Tagged, S>,
+    key: u64,
+    tag: u64,
+    n: usize,
+) -> Result<usize, BagError> {
+    bag.insert_many(Tagged { key, tag }, n)
+}
+
 // A bag of values with these keys and tags, each so often.
 fn tagged<S: BuildHasher + Default + Drop>(
     alloc: Global,
@@ -23,20 +34,35 @@ fn tagged<S: BuildHasher + Default + Drop>(
 ) -> Result<HashBag<Tagged, S>, Fail> {
     let mut bag = HashBag::default_in(alloc);
     for (key, tag, n) in values {
-        let (key, tag) = (*key, *tag);
-        bag.insert_many(Tagged { key, tag }, *n)?;
+        add(&mut bag, *key, *tag, *n)?;
     }
     Ok(bag)
 }
 
-// Keys, tags and counts of a bag, rising.
-fn text_of<S: BuildHasher + Drop>(alloc: Global, bag: &HashBag<Tagged, S>) -> Result<String, Fail> {
-    let mut items: Vec<(u64, u64, usize)> = Vec::new(alloc);
+// Keys, tags and counts of a bag.
+fn listed<S: BuildHasher + Drop>(
+    alloc: Global,
+    bag: &HashBag<Tagged, S>,
+) -> Result<Vec<(u64, u64, usize)>, Fail> {
+    let mut items = Vec::new(alloc);
     for (value, count) in bag.set_iter() {
         items.push((value.key, value.tag, count))?;
     }
+    Ok(items)
+}
+
+// The same as a text, rising.
+fn text_of<S: BuildHasher + Drop>(alloc: Global, bag: &HashBag<Tagged, S>) -> Result<String, Fail> {
+    let mut items = listed(alloc, bag)?;
     items.sort_unstable();
     debug_of(alloc, &items)
+}
+
+fn merged_ref<S: BuildHasher + Drop, S2: BuildHasher + Clone + Drop>(
+    a: &mut HashBag<Tagged, S>,
+    b: &HashBag<Tagged, S2>,
+) -> Result<(), BagError> {
+    merge_ref(a, b)
 }
 
 fn make<S: BuildHasher + Drop, S2: BuildHasher + Clone + Drop>(
@@ -45,23 +71,27 @@ fn make<S: BuildHasher + Drop, S2: BuildHasher + Clone + Drop>(
     b: HashBag<Tagged, S2>,
 ) -> Result<(), BagError> {
     match call {
-        "merge" => merge(a, b),
-        "merge_ref" => merge_ref(a, &b),
-        "keep_most" => keep_most(a, b),
-        "keep_common" => Ok(keep_common(a, &b)),
-        _ => Ok(take_away(a, &b)),
+        "merge" => merged(a, b),
+        "merge_ref" => merged_ref(a, &b),
+        "keep_most" => kept_most(a, b),
+        "keep_common" => Ok(kept_common(a, &b)),
+        _ => Ok(taken_away(a, &b)),
     }
+}
+
+// What a call leaves.
+fn left_by(alloc: Global, call: &str) -> Result<String, Fail> {
+    let mut a: HashBag<Tagged, OneState> = tagged(alloc, &[(1, 10, 2), (2, 11, 1)])?;
+    let b: HashBag<Tagged, IdentityState> = tagged(alloc, &[(1, 20, 3), (3, 21, 1)])?;
+    make(call, &mut a, b)?;
+    text_of(alloc, &a)
 }
 
 #[test]
 fn instances_that_stay(rt: HostRuntime) -> Result<(), Fail> {
-    let alloc = rt.alloc();
-    for row in rows_of(alloc, ROWS, 5)? {
+    for row in rows_of(rt.alloc(), ROWS, 5)? {
         let (call, wanted) = halves(row, "|")?;
-        let mut a: HashBag<Tagged, OneState> = tagged(alloc, &[(1, 10, 2), (2, 11, 1)])?;
-        let b: HashBag<Tagged, IdentityState> = tagged(alloc, &[(1, 20, 3), (3, 21, 1)])?;
-        make(call, &mut a, b)?;
-        is_text(row, text_of(alloc, &a)?.as_str(), wanted)?;
+        is_text(row, left_by(rt.alloc(), call)?.as_str(), wanted)?;
     }
     Ok(())
 }

@@ -1,12 +1,14 @@
 //! The pairs of a bag in order. What is wanted was found by Python's `Counter`: `sorted(counter.items())`, and the first k of
 //! `sorted(counter.items(), key=lambda pair: (-pair[1], pair[0]))`.
-use crate::tests::rows::{bag_of, pairs_of, text_of_pairs};
+use crate::tests::bags::{bag_of, text_of_list, thirds};
 use hashbag::{FixedState, HashBag};
 use hashbag_bench::states::CountingState;
 use hashbag_bench::{IdentityState, OneState, ParityState};
 use hashbag_ops::{max_count, most_common, sorted};
-use hashbag_rows::texts::{count, halves, is_text, rows_of};
+use hashbag_rows::calls::insert;
+use hashbag_rows::texts::{count, debug_of, halves, is_text, rows_of};
 use std::alloc::Global;
+use std::fmt::Debug;
 use std::hash::{BuildHasher, Hash};
 use std::test::Fail;
 
@@ -50,12 +52,12 @@ const ROWS: &str = "
     1 | 4:7 18446744073709551615:18446744073709551608 | 18446744073709551615:18446744073709551608";
 
 // The same of the words of a text.
-const WORDS: &str = "
-    - | the cat sat on the mat the | cat:1 mat:1 on:1 sat:1 the:3
-    0 | the cat sat on the mat the |
-    2 | the cat sat on the mat the | the:3 cat:1
-    9 | the cat sat on the mat the | the:3 cat:1 mat:1 on:1 sat:1
-    2 | b a c b a c | a:2 b:2";
+const WORDS: &str = r#"
+    - | the cat sat on the mat the | [("cat", 1), ("mat", 1), ("on", 1), ("sat", 1), ("the", 3)]
+    0 | the cat sat on the mat the | []
+    2 | the cat sat on the mat the | [("the", 3), ("cat", 1)]
+    9 | the cat sat on the mat the | [("the", 3), ("cat", 1), ("mat", 1), ("on", 1), ("sat", 1)]
+    2 | b a c b a c | [("a", 2), ("b", 2)]"#;
 
 // A bag, and how often its commonest values occur.
 const GREATEST: &str = "
@@ -68,38 +70,42 @@ const GREATEST: &str = "
     4:18446744073709551610 2:5 | 18446744073709551610
     1:18446744073709551615 | 18446744073709551615";
 
-// What the word of a row asks for.
-fn ordered<'a, T: Ord + Hash + Drop, S: BuildHasher + Drop>(
+// The text of all pairs, values rising.
+fn rising<T: Ord + Hash + Debug + Drop, S: BuildHasher + Drop>(
     alloc: Global,
-    word: &str,
-    bag: &'a HashBag<T, S>,
-) -> Result<Vec<(&'a T, usize)>, Fail> {
-    if word == "-" {
-        return Ok(sorted(alloc, bag)?);
-    }
-    Ok(most_common(alloc, bag, count(word)?)?)
+    bag: &HashBag<T, S>,
+) -> Result<String, Fail> {
+    let pairs = sorted(alloc, bag)?;
+    debug_of(alloc, &pairs)
 }
 
-// The word, the bag and the pairs of a row.
-fn parts_of(row: &str) -> Result<(&str, &str, &str), Fail> {
-    let (word, rest) = halves(row, "|")?;
-    let (bag, wanted) = halves(rest, "|")?;
-    Ok((word, bag, wanted))
+// The text of the `k` commonest.
+fn commonest<T: Ord + Hash + Debug + Drop, S: BuildHasher + Drop>(
+    alloc: Global,
+    bag: &HashBag<T, S>,
+    k: usize,
+) -> Result<String, Fail> {
+    let pairs = most_common(alloc, bag, k)?;
+    debug_of(alloc, &pairs)
+}
+
+// The text of what the word of a row asks for.
+fn ordered<T: Ord + Hash + Debug + Drop, S: BuildHasher + Drop>(
+    alloc: Global,
+    word: &str,
+    bag: &HashBag<T, S>,
+) -> Result<String, Fail> {
+    if word == "-" {
+        return rising(alloc, bag);
+    }
+    commonest(alloc, bag, count(word)?)
 }
 
 fn is_ordered<S: BuildHasher + Default + Drop>(alloc: Global, row: &str) -> Result<(), Fail> {
-    let (word, bag, wanted) = parts_of(row)?;
+    let (word, bag, wanted) = thirds(row)?;
     let bag: HashBag<u64, S> = bag_of(alloc, bag)?;
-    let mut pairs: Vec<(u64, usize)> = Vec::new(alloc);
-    for (value, count) in ordered(alloc, word, &bag)? {
-        pairs.push((*value, count))?;
-    }
-    let wanted = text_of_pairs(alloc, pairs_of(alloc, wanted)?.as_slice())?;
-    is_text(
-        row,
-        text_of_pairs(alloc, pairs.as_slice())?.as_str(),
-        wanted.as_str(),
-    )
+    let got = ordered(alloc, word, &bag)?;
+    is_text(row, got.as_str(), text_of_list(alloc, wanted)?.as_str())
 }
 
 fn are_ordered<S: BuildHasher + Default + Drop>(alloc: Global) -> Result<(), Fail> {
@@ -117,13 +123,19 @@ fn numbers_in_order(rt: HostRuntime) -> Result<(), Fail> {
     are_ordered::<ParityState>(rt.alloc())
 }
 
+fn greatest<S: BuildHasher + Drop>(bag: &HashBag<u64, S>) -> usize {
+    max_count(bag)
+}
+
+fn is_greatest<S: BuildHasher + Default + Drop>(alloc: Global, row: &str) -> Result<(), Fail> {
+    let (bag, wanted) = halves(row, "|")?;
+    let bag: HashBag<u64, S> = bag_of(alloc, bag)?;
+    is_text(row, debug_of(alloc, &greatest(&bag))?.as_str(), wanted)
+}
+
 fn are_greatest<S: BuildHasher + Default + Drop>(alloc: Global) -> Result<(), Fail> {
     for row in rows_of(alloc, GREATEST, 8)? {
-        let (bag, wanted) = halves(row, "|")?;
-        let bag: HashBag<u64, S> = bag_of(alloc, bag)?;
-        if max_count(&bag) != count(wanted)? {
-            return Err(Fail::new(format_args!("the greatest count of: {row}")));
-        }
+        is_greatest::<S>(alloc, row)?;
     }
     Ok(())
 }
@@ -135,17 +147,19 @@ fn greatest_counts(rt: HostRuntime) -> Result<(), Fail> {
     are_greatest::<IdentityState>(rt.alloc())
 }
 
-fn are_words_ordered(alloc: Global, row: &str) -> Result<(), Fail> {
-    let (word, text, wanted) = parts_of(row)?;
-    let mut bag: HashBag<&str> = HashBag::new(alloc);
+// The bag of the words of a text.
+fn bag_of_words(alloc: Global, text: &str) -> Result<HashBag<&str>, Fail> {
+    let mut bag = HashBag::new(alloc);
     for word in text.split_whitespace() {
-        bag.insert(word)?;
+        insert(&mut bag, word)?;
     }
-    let mut got = String::new(alloc);
-    for (word, count) in ordered(alloc, word, &bag)? {
-        got.push_str(format!(in alloc; "{word}:{count} ")?.as_str())?;
-    }
-    is_text(row, got.as_str().trim(), wanted)
+    Ok(bag)
+}
+
+fn are_words_ordered(alloc: Global, row: &str) -> Result<(), Fail> {
+    let (word, text, wanted) = thirds(row)?;
+    let bag = bag_of_words(alloc, text)?;
+    is_text(row, ordered(alloc, word, &bag)?.as_str(), wanted)
 }
 
 #[test]
@@ -156,15 +170,18 @@ fn words_in_order(rt: HostRuntime) -> Result<(), Fail> {
     Ok(())
 }
 
+fn hashed(bag: &HashBag<u64, CountingState>) -> u64 {
+    bag.hasher().hashed()
+}
+
 #[test]
 fn no_hash_in_an_order(rt: HostRuntime) -> Result<(), Fail> {
     let bag: HashBag<u64, CountingState> = bag_of(rt.alloc(), "1..25 7:3")?;
-    let before = bag.hasher().hashed();
-    ordered(rt.alloc(), "-", &bag)?;
-    ordered(rt.alloc(), "10", &bag)?;
-    ordered(rt.alloc(), "25", &bag)?;
-    let greatest = max_count(&bag);
-    if greatest != 4 || bag.hasher().hashed() != before {
+    let before = hashed(&bag);
+    for word in ["-", "10", "25"] {
+        ordered(rt.alloc(), word, &bag)?;
+    }
+    if greatest(&bag) != 4 || hashed(&bag) != before {
         return Err(Fail::new(format_args!("an order hashes")));
     }
     Ok(())

@@ -1,9 +1,10 @@
 //! Each call on two bags, with what it answers and leaves found by hand, where the two bags hash alike and where they don't.
-use hashbag::{BagError, FixedState, HashBag};
+use crate::tests::bags::{bag_of, counts_of, text_of_list, thirds};
+use crate::tests::calls::answer;
+use hashbag::{FixedState, HashBag};
 use hashbag_bench::{IdentityState, OneState, ParityState};
-use hashbag_ops::{contains_all, is_disjoint, keep_common, keep_most, merge, merge_ref, take_away};
-use hashbag_rows::calls::bag_of_counts;
-use hashbag_rows::texts::{count, counts, debug_of, halves, is_text, number, rows_of};
+use hashbag_rows::calls;
+use hashbag_rows::texts::{count, halves, is_text, rows_of};
 use std::alloc::Global;
 use std::hash::BuildHasher;
 use std::test::Fail;
@@ -100,124 +101,17 @@ const PARTS: &str = "
     is_disjoint - | 1..25 | 25..60 | false 25 | 1..25
     is_disjoint - | 1..25 | 17:1 | false 25 | 1..25";
 
-fn merged<S: BuildHasher + Drop, S2: BuildHasher + Drop>(
-    a: &mut HashBag<u64, S>,
-    b: HashBag<u64, S2>,
-) -> Result<(), BagError> {
-    merge(a, b)
-}
-
-fn merged_ref<S: BuildHasher + Drop, S2: BuildHasher + Clone + Drop>(
-    a: &mut HashBag<u64, S>,
-    b: &HashBag<u64, S2>,
-) -> Result<(), BagError> {
-    merge_ref(a, b)
-}
-
-fn kept_most<S: BuildHasher + Drop, S2: BuildHasher + Drop>(
-    a: &mut HashBag<u64, S>,
-    b: HashBag<u64, S2>,
-) -> Result<(), BagError> {
-    keep_most(a, b)
-}
-
-fn kept_common<S: BuildHasher + Drop, S2: BuildHasher + Drop>(
-    a: &mut HashBag<u64, S>,
-    b: &HashBag<u64, S2>,
-) {
-    keep_common(a, b);
-}
-
-fn taken_away<S: BuildHasher + Drop, S2: BuildHasher + Drop>(
-    a: &mut HashBag<u64, S>,
-    b: &HashBag<u64, S2>,
-) {
-    take_away(a, b);
-}
-
-fn holds_all<S: BuildHasher + Drop, S2: BuildHasher + Drop>(
-    a: &HashBag<u64, S>,
-    b: &HashBag<u64, S2>,
-) -> bool {
-    contains_all(a, b)
-}
-
-fn has_none<S: BuildHasher + Drop, S2: BuildHasher + Drop>(
-    a: &HashBag<u64, S>,
-    b: &HashBag<u64, S2>,
-) -> bool {
-    is_disjoint(a, b)
-}
-
-// What a call that can be refused gives, or its error.
-fn text_of(alloc: Global, answered: Result<(), BagError>) -> Result<String, Fail> {
-    match answered {
-        Ok(()) => debug_of(alloc, &()),
-        Err(error) => debug_of(alloc, &error),
-    }
-}
-
-/// What a call answers that only looks at the second bag.
-pub fn answer_beside<S: BuildHasher + Drop, S2: BuildHasher + Clone + Drop>(
-    alloc: Global,
-    call: &str,
-    a: &mut HashBag<u64, S>,
-    b: &HashBag<u64, S2>,
-) -> Result<String, Fail> {
-    match call {
-        "merge_ref" => text_of(alloc, merged_ref(a, b)),
-        "keep_common" => debug_of(alloc, &kept_common(a, b)),
-        "take_away" => debug_of(alloc, &taken_away(a, b)),
-        "contains_all" => debug_of(alloc, &holds_all(a, b)),
-        "is_disjoint" => debug_of(alloc, &has_none(a, b)),
-        _ => Err(Fail::new(format_args!("no such call: {call}"))),
-    }
-}
-
-/// What a call on two bags answers.
-pub fn answer<S: BuildHasher + Drop, S2: BuildHasher + Clone + Drop>(
-    alloc: Global,
-    call: &str,
-    a: &mut HashBag<u64, S>,
-    b: HashBag<u64, S2>,
-) -> Result<String, Fail> {
-    match call {
-        "merge" => text_of(alloc, merged(a, b)),
-        "keep_most" => text_of(alloc, kept_most(a, b)),
-        _ => answer_beside(alloc, call, a, &b),
-    }
-}
-
-/// The values and counts of a list as `5:2 6..8`, where each of 6 to 8 is there once.
-pub fn pairs_of(alloc: Global, text: &str) -> Result<Vec<(u64, usize)>, Fail> {
-    let mut pairs = Vec::new(alloc);
-    for word in text.split_whitespace() {
-        match word.split_once("..") {
-            Some((first, last)) => {
-                for value in number(first)?..=number(last)? {
-                    pairs.push((value, 1))?;
-                }
-            }
-            None => pairs.extend(counts(alloc, word)?.into_iter())?,
-        }
-    }
-    Ok(pairs)
-}
-
-/// The bag with the counts of a text.
-pub fn bag_of<S: BuildHasher + Default + Drop>(
+// The bag with the counts of a text, and the limit that a word says.
+fn limited_bag_of<S: BuildHasher + Default + Drop>(
     alloc: Global,
     text: &str,
+    word: &str,
 ) -> Result<HashBag<u64, S>, Fail> {
-    bag_of_counts(alloc, S::default(), pairs_of(alloc, text)?.as_slice())
-}
-
-// Sets the limit that a word says.
-fn set_limit<S: BuildHasher + Drop>(bag: &mut HashBag<u64, S>, word: &str) -> Result<(), Fail> {
+    let mut bag = bag_of(alloc, text)?;
     if word != "-" {
         bag.set_limit(count(word)?)?;
     }
-    Ok(())
+    Ok(bag)
 }
 
 // The bag with the counts of a text, which nothing can be added to.
@@ -230,74 +124,70 @@ fn full_bag_of<S: BuildHasher + Default + Drop>(
     Ok(bag)
 }
 
-/// Values with their counts, as `5:2 6:1 `.
-pub fn text_of_pairs(alloc: Global, pairs: &[(u64, usize)]) -> Result<String, Fail> {
-    let mut text = String::new(alloc);
-    for (value, count) in pairs {
-        let pair = format!(in alloc; "{value}:{count} ")?;
-        text.push_str(pair.as_str())?;
-    }
-    Ok(text)
-}
-
-/// The text of a bag's counts, values rising.
-pub fn counts_of<S: BuildHasher + Drop>(
+// The limit and the tables of a bag.
+fn state_of<S: BuildHasher + Default + Drop>(
     alloc: Global,
-    bag: &HashBag<u64, S>,
-) -> Result<String, Fail> {
-    let mut pairs: Vec<(u64, usize)> = Vec::new(alloc);
-    for (value, count) in bag.set_iter() {
-        pairs.push((*value, count))?;
+    bag: &mut HashBag<u64, S>,
+) -> Result<(String, String), Fail> {
+    Ok((
+        calls::answer(alloc, bag, "limit")?,
+        calls::answer(alloc, bag, "tables")?,
+    ))
+}
+
+// Where a call was refused, the tables are as they were; the limit is so always.
+fn is_within(
+    row: &str,
+    got: &str,
+    before: &(String, String),
+    after: &(String, String),
+) -> Result<(), Fail> {
+    is_text(row, after.0.as_str(), before.0.as_str())?;
+    if got == "TooMany" {
+        is_text(row, after.1.as_str(), before.1.as_str())?;
     }
-    pairs.sort_unstable();
-    text_of_pairs(alloc, pairs.as_slice())
+    Ok(())
 }
 
-/// The slots of a bag, those that wait, and its room.
-pub fn tables_of<S: BuildHasher + Drop>(
-    alloc: Global,
-    bag: &HashBag<u64, S>,
-) -> Result<String, Fail> {
-    let (slots, waiting, room) = (bag.slots(), bag.waiting(), bag.room());
-    Ok(format!(in alloc; "{slots} {waiting} {room}")?)
-}
-
-// Makes a call, and says what it answers. Where it is refused, the tables are as they were; the limit is so always.
-fn answer_within<S: BuildHasher + Drop, S2: BuildHasher + Clone + Drop>(
+// Makes a call, and says what it answers, and the total that is left.
+fn answer_within<S: BuildHasher + Default + Drop, S2: BuildHasher + Clone + Drop>(
     alloc: Global,
     row: &str,
     call: &str,
     a: &mut HashBag<u64, S>,
     b: HashBag<u64, S2>,
 ) -> Result<String, Fail> {
-    let (most, before) = (a.limit(), tables_of(alloc, a)?);
+    let before = state_of(alloc, a)?;
     let got = answer(alloc, call, a, b)?;
-    if got.as_str() == "TooMany" {
-        is_text(row, tables_of(alloc, a)?.as_str(), before.as_str())?;
-    }
-    if a.limit() != most {
-        return Err(Fail::new(format_args!("another limit, in the row: {row}")));
-    }
-    let len = a.len();
+    is_within(row, got.as_str(), &before, &state_of(alloc, a)?)?;
+    let len = calls::answer(alloc, a, "len")?;
     Ok(format!(in alloc; "{got} {len}")?)
+}
+
+// What a call on two bags answers, and the counts that it leaves.
+fn answer_of<S: BuildHasher + Default + Drop, S2: BuildHasher + Default + Clone + Drop>(
+    alloc: Global,
+    row: &str,
+    head: &str,
+    first: &str,
+    second: &str,
+) -> Result<(String, String), Fail> {
+    let (call, most) = halves(head, " ")?;
+    let mut a = limited_bag_of::<S>(alloc, first, most)?;
+    let b = full_bag_of::<S2>(alloc, second)?;
+    let got = answer_within(alloc, row, call, &mut a, b)?;
+    Ok((got, counts_of(alloc, &a)?))
 }
 
 fn is_answered<S: BuildHasher + Default + Drop, S2: BuildHasher + Default + Clone + Drop>(
     alloc: Global,
     row: &str,
 ) -> Result<(), Fail> {
-    let (head, rest) = halves(row, "|")?;
-    let (first, rest) = halves(rest, "|")?;
-    let (second, rest) = halves(rest, "|")?;
-    let (wanted, left) = halves(rest, "|")?;
-    let (call, most) = halves(head, " ")?;
-    let mut a: HashBag<u64, S> = bag_of(alloc, first)?;
-    set_limit(&mut a, most)?;
-    let b: HashBag<u64, S2> = full_bag_of(alloc, second)?;
-    let got = answer_within(alloc, row, call, &mut a, b)?;
+    let (head, first, rest) = thirds(row)?;
+    let (second, wanted, left) = thirds(rest)?;
+    let (got, counts) = answer_of::<S, S2>(alloc, row, head, first, second)?;
     is_text(row, got.as_str(), wanted)?;
-    let left = text_of_pairs(alloc, pairs_of(alloc, left)?.as_slice())?;
-    is_text(row, counts_of(alloc, &a)?.as_str(), left.as_str())
+    is_text(row, counts.as_str(), text_of_list(alloc, left)?.as_str())
 }
 
 // All rows, under two states.
