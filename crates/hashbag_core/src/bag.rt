@@ -1,16 +1,15 @@
 //! `HashBag`: how often each of several values occurs.
-ghost use Rattle.std.specs.Borrow.{sem};
-ghost use Rattle.std.specs.Prelude.{◌≡◌, ◌≢◌, ◌+◌, ◌-◌, ◌<◌, ◌≤◌, ◌↔◌, [], length, min, option_map, IsTrue, IsOk, IfOk, IfErr, IsErrAnd, OnOk, OnErr, MatchOption, MatchResult};
+ghost use Rattle.std.specs.Prelude.{◌≡◌, ◌+◌, ◌-◌, ◌<◌, ◌≤◌, ◌↔◌, [], length, option_map, IsTrue, IsOk, IfOk, IfErr, OnOk, OnErr};
 ghost use Rattle.std.specs.List.Sorted.{IsPermutation};
 ghost use Rattle.hashbag_table.specs.Asked.{MayAskInTurn};
 ghost use Rattle.hashbag_table.specs.Entries.{count_of, IsCounted};
 ghost use Rattle.hashbag_table.specs.Tables.{limit, room, Arrives, KeepsRoom};
 ghost use Rattle.hashbag_table.specs.Retained.{RetainsTables};
 ghost use Rattle.hashbag_core.specs.Bag.{occurrences, limited};
-ghost use Rattle.hashbag_core.specs.Occurrences.{count, counted, stored, add, put, instance_or_itself, distinct_count, IsBag};
+ghost use Rattle.hashbag_core.specs.Occurrences.{count, stored, add, put, instance_or_itself, distinct_count, IsBag};
 ghost use Rattle.hashbag_core.specs.Extends.{Refuses};
 ghost use Rattle.hashbag_core.specs.Inserts.{Inserts, IsRefused};
-ghost use Rattle.hashbag_core.specs.Held.{cleared, HasFewer, Recounts, Restores};
+ghost use Rattle.hashbag_core.specs.Held.{cleared, Recounts, Restores};
 ghost use Rattle.hashbag_core.specs.Retain.{IsRetained};
 ghost use Rattle.hashbag_core.specs.Walks.{IsSetWalkOf};
 ghost use Rattle.hashbag_core.specs.declared.bag.BagError.TheVariants.{Memory};
@@ -20,6 +19,7 @@ mod equality;
 mod extends;
 mod keys;
 mod make;
+mod take;
 
 use hashbag_table::Table;
 use std::alloc::AllocError;
@@ -43,6 +43,10 @@ pub enum BagError {
 
 impl BagError {
     /// The number by which programs report the error: 1 for `Memory`, 2 for `TooMany`, 9 for `BelowTotal`.
+    ///
+    /// ```
+    /// BagError::TooMany.number() // 2
+    /// ```
     pub fn number(&self) -> u8
         ensures memory { self.now ≡ BagError.Memory → result ≡ 1 }
         ensures too_many { self.now ≡ BagError.TooMany → result ≡ 2 }
@@ -76,6 +80,17 @@ pub type FixedState = BuildHasherDefault<FoldHasher>;
 ///
 /// Contracts see a bag as the plain list of its occurrences, in an order that means nothing, and the state that hashes
 /// its values; beside it the slots of its newer table, those of its older one that wait to be carried, and the limit.
+///
+/// ```
+/// let mut words: HashBag<String> = HashBag::new(alloc);
+/// for word in "the cat and the hat".split_whitespace() {
+///     words.insert_key(word)?;
+/// }
+/// words.len(); // 5
+/// words.set_len(); // 4
+/// words.contains_key("the"); // 2
+/// Ok(())
+/// ```
 #[derive(Drop)]
 pub struct HashBag<T: Eq + Hash + Drop, S: BuildHasher + Drop = FixedState> {
     pub(crate) table: Table<T, S>,
@@ -116,9 +131,13 @@ fn set_or_remove<T: Eq + Hash + Drop, S: BuildHasher + Drop>(
 
 impl<T: Eq + Hash + Drop, S: BuildHasher + Drop> HashBag<T, S> {
     ghost use Rattle.hashbag_core.specs.Bag.{IsBagOf};
-    ghost use Rattle.hashbag_core.specs.Lending.{ends_taking};
 
     /// The limit: the greatest total that the bag may have.
+    ///
+    /// ```
+    /// let bag: HashBag<u64> = HashBag::with_limit(alloc, FixedState::new(), 1_000);
+    /// bag.limit() // 1000
+    /// ```
     #[inline(always)]
     pub fn limit(&self) -> usize
         ensures limit { result ≡ self.now.most }
@@ -130,6 +149,15 @@ impl<T: Eq + Hash + Drop, S: BuildHasher + Drop> HashBag<T, S> {
     /// Sets the limit. Nothing else changes.
     ///
     /// It answers `BelowTotal` where `most` is below the total: the bag is then unchanged. It takes no memory.
+    ///
+    /// ```
+    /// let mut bag = HashBag::new(alloc);
+    /// bag.insert_many("apple", 2)?;
+    /// bag.set_limit(1).err(); // Some(BelowTotal)
+    /// bag.set_limit(3)?;
+    /// bag.limit(); // 3
+    /// Ok(())
+    /// ```
     pub fn set_limit(&mut self, most: usize) -> Result<(), BagError>
         ensures set { OnOk result (self.new ≡ limited most self.old) }
         ensures below { most < length self.old.items → result ≡ Err BagError.BelowTotal }
@@ -144,6 +172,14 @@ impl<T: Eq + Hash + Drop, S: BuildHasher + Drop> HashBag<T, S> {
     }
 
     /// The number of occurrences: the sum of all counts.
+    ///
+    /// ```
+    /// let mut bag = HashBag::new(alloc);
+    /// bag.insert_many("apple", 2)?;
+    /// bag.insert("pear")?;
+    /// bag.len(); // 3
+    /// Ok(())
+    /// ```
     pub fn len(&self) -> usize
         ensures len { result ≡ length self.now.items }
         ensures bag { IsBag T.eq self.now.most self.now.items }
@@ -152,6 +188,14 @@ impl<T: Eq + Hash + Drop, S: BuildHasher + Drop> HashBag<T, S> {
     }
 
     /// The number of distinct values.
+    ///
+    /// ```
+    /// let mut bag = HashBag::new(alloc);
+    /// bag.insert_many("apple", 2)?;
+    /// bag.insert("pear")?;
+    /// bag.set_len(); // 2
+    /// Ok(())
+    /// ```
     pub fn set_len(&self) -> usize
         ensures { result ≡ distinct_count T.eq self.now.items }
     {
@@ -159,6 +203,15 @@ impl<T: Eq + Hash + Drop, S: BuildHasher + Drop> HashBag<T, S> {
     }
 
     /// Whether there are no occurrences.
+    ///
+    /// ```
+    /// let mut bag = HashBag::new(alloc);
+    /// bag.insert("apple")?;
+    /// bag.is_empty(); // false
+    /// bag.remove(&"apple");
+    /// bag.is_empty(); // true
+    /// Ok(())
+    /// ```
     pub fn is_empty(&self) -> bool
         ensures { IsTrue result ↔ (self.now.items ≡ []) }
     {
@@ -166,6 +219,12 @@ impl<T: Eq + Hash + Drop, S: BuildHasher + Drop> HashBag<T, S> {
     }
 
     /// The state that hashes the values.
+    ///
+    /// ```
+    /// let first: HashBag<u64> = HashBag::new(alloc);
+    /// let second = HashBag::with_capacity_and_hasher(alloc, 20, *first.hasher())?;
+    /// Ok(second)
+    /// ```
     pub fn hasher(&self) -> &S
         ensures { result.now ≡ self.now.hasher }
     {
@@ -173,6 +232,14 @@ impl<T: Eq + Hash + Drop, S: BuildHasher + Drop> HashBag<T, S> {
     }
 
     /// How often a value occurs, 0 where it is absent. The value is hashed once.
+    ///
+    /// ```
+    /// let mut bag = HashBag::new(alloc);
+    /// bag.insert_many("apple", 2)?;
+    /// bag.contains(&"apple"); // 2
+    /// bag.contains(&"pear"); // 0
+    /// Ok(())
+    /// ```
     #[inline(always)]
     pub fn contains(&self, value: &T) -> usize
         ensures count { result ≡ count T.eq value.now self.now.items }
@@ -185,6 +252,14 @@ impl<T: Eq + Hash + Drop, S: BuildHasher + Drop> HashBag<T, S> {
     }
 
     /// The stored instance of a value and how often it occurs, or `None` where it is absent. The value is hashed once.
+    ///
+    /// ```
+    /// let mut bag = HashBag::new(alloc);
+    /// bag.insert_many("apple", 2)?;
+    /// bag.get(&"apple"); // Some(("apple", 2))
+    /// bag.get(&"pear"); // None
+    /// Ok(())
+    /// ```
     #[inline(always)]
     pub fn get(&self, value: &T) -> Option<(&T, usize)>
         ensures found { option_map (λ e. (e.0.now, e.1)) result ≡ stored T.eq value.now self.now.items }
@@ -194,6 +269,14 @@ impl<T: Eq + Hash + Drop, S: BuildHasher + Drop> HashBag<T, S> {
     }
 
     /// Adds one occurrence of a value, and answers how many there were: [`HashBag::insert_many`] with 1.
+    ///
+    /// ```
+    /// let mut bag = HashBag::new(alloc);
+    /// bag.insert("apple")?; // 0
+    /// bag.insert("apple")?; // 1
+    /// bag.contains(&"apple"); // 2
+    /// Ok(())
+    /// ```
     #[inline(always)]
     pub fn insert(&mut self, value: T) -> Result<usize, BagError>
         ensures before { IfOk result (λ before. before ≡ count T.eq value self.old.items) }
@@ -217,6 +300,15 @@ impl<T: Eq + Hash + Drop, S: BuildHasher + Drop> HashBag<T, S> {
     ///
     /// A value that is absent takes no memory while there is room. Else it may be refused for memory: the bag is then unchanged, and
     /// the value is dropped. It carries up to 16 slots of an older table along, and hashes each value in them once.
+    ///
+    /// ```
+    /// let mut bag = HashBag::new(alloc);
+    /// bag.insert_many("apple", 3)?; // 0
+    /// bag.insert_many("apple", 2)?; // 3
+    /// bag.insert_many("apple", usize::MAX).err(); // Some(TooMany)
+    /// bag.len(); // 5
+    /// Ok(())
+    /// ```
     #[inline(always)]
     pub fn insert_many(&mut self, value: T, n: usize) -> Result<usize, BagError>
         ensures before { IfOk result (λ before. before ≡ count T.eq value self.old.items) }
@@ -249,6 +341,14 @@ impl<T: Eq + Hash + Drop, S: BuildHasher + Drop> HashBag<T, S> {
     ///
     /// A value that is absent takes no memory while there is room. Else it may be refused for memory: the bag is then unchanged, and
     /// the value is dropped. It carries up to 16 slots of an older table along, and hashes each value in them once.
+    ///
+    /// ```
+    /// let mut bag = HashBag::new(alloc);
+    /// bag.insert_many("apple", 3)?;
+    /// bag.replace("apple")?; // 3
+    /// bag.contains(&"apple"); // 1
+    /// Ok(())
+    /// ```
     pub fn replace(&mut self, value: T) -> Result<usize, BagError>
         ensures before { IfOk result (λ before. before ≡ count T.eq value self.old.items) }
         ensures put { OnOk result (IsBagOf T.eq self.old (put T.eq value 1 self.old.items) self.new) }
@@ -276,114 +376,16 @@ impl<T: Eq + Hash + Drop, S: BuildHasher + Drop> HashBag<T, S> {
         Ok(before)
     }
 
-    /// Takes one occurrence of a value, if there is one, and answers how many there were. With the last occurrence the
-    /// stored instance is dropped.
-    ///
-    /// It takes no memory, and hashes the value once.
-    pub fn remove(&mut self, value: &T) -> usize
-        ensures before { result ≡ count T.eq value.now self.old.items }
-        ensures fewer { HasFewer T.eq value.now 1 self.old self.new }
-        ensures len { length self.new.items + min result 1 ≡ length self.old.items }
-    {
-        self.take_up_to(value, 1)
-    }
-
-    /// Takes `quantity` occurrences of a value, or all where they are fewer, and answers how many are left. With the last
-    /// occurrence the stored instance is dropped.
-    ///
-    /// It takes no memory, and hashes the value once.
-    pub fn remove_up_to(&mut self, value: &T, quantity: usize) -> usize
-        ensures after { result ≡ count T.eq value.now self.old.items - quantity }
-        ensures fewer { HasFewer T.eq value.now quantity self.old self.new }
-        ensures len { length self.new.items + count T.eq value.now self.old.items ≡ length self.old.items + result }
-    {
-        self.take_up_to(value, quantity).saturating_sub(quantity)
-    }
-
-    // Takes `quantity` occurrences of a value, or all where they are fewer, and answers how many there were.
-    fn take_up_to(&mut self, value: &T, quantity: usize) -> usize
-        ensures before { result ≡ count T.eq value.now self.old.items }
-        ensures fewer { HasFewer T.eq value.now quantity self.old self.new }
-        ensures len { length self.new.items + min result quantity ≡ length self.old.items }
-    {
-        let before = self.table.take(value, quantity);
-        self.len -= before.min(quantity);
-        before
-    }
-
-    /// Takes one occurrence of a value: the last one itself, or else one of several, and then it answers the stored instance,
-    /// which stays, with how many there were. `Err(None)` where the value is absent.
-    ///
-    /// It lowers the count in place and takes no memory. It hashes the value once, and twice where one of several is taken.
-    ///
-    /// The answer may lend the instance that stays, so a caller that is proved learns what it was, and not what the bag means
-    /// afterwards. Whoever needs that, as in a loop, calls [`HashBag::take_one`], which takes the same and lends nothing.
-    pub fn try_take(&mut self, value: &T) -> Result<T, Option<(&T, usize)>>
-        // Once the loan is over.
-        ensures* left { sem 𝓛 (ends_taking T.row S.row S.Hasher.row T.Hash S.BuildHasher S.Hasher.Hasher self.entry value.now) }
-        ensures last { IfOk result (λ instance. stored T.eq value.now self.old.items ≡ Some (instance, 1)) }
-        ensures others { IfErr result (λ found. (option_map (λ e. (e.0.now, e.1)) found ≡ stored T.eq value.now self.old.items) × (count T.eq value.now self.old.items ≢ 1)) }
-    {
-        HashBag::taken_or_lent(self.take_one(value), self, value)
-    }
-
-    // What was taken, or else the stored instance, of which some are left, with how many there were.
-    fn taken_or_lent<'a>(
-        taken: Result<T, usize>,
-        bag: &'a HashBag<T, S>,
-        value: &T,
-    ) -> Result<T, Option<(&'a T, usize)>>
-        ensures last { IfOk taken (λ instance. result ≡ Ok instance) }
-        ensures absent { IfErr taken (λ before. before ≡ 0 → result ≡ Err None) }
-        ensures others { IfErr taken (λ before. before ≢ 0 → IsErrAnd result (λ found. option_map (λ e. (e.0.now, e.1)) found ≡ counted T.eq value.now before bag.now.items)) }
-    {
-        match taken {
-            Ok(instance) => Ok(instance),
-            Err(0) => Err(None),
-            Err(before) => match bag.get(value) {
-                Some((instance, _)) => Err(Some((instance, before))),
-                None => Err(None),
-            },
-        }
-    }
-
-    /// Takes one occurrence of a value: the last one itself in `Ok`, and else one of several, of which `Err` says how many there
-    /// were. `Err(0)` where the value is absent: nothing is then taken.
-    ///
-    /// It is [`HashBag::try_take`] without the loan of the instance that stays, so its contract says what the bag means
-    /// afterwards. It takes no memory, and hashes the value once.
-    pub fn take_one(&mut self, value: &T) -> Result<T, usize>
-        ensures fewer { HasFewer T.eq value.now 1 self.old self.new }
-        ensures len { MatchResult result (λ _. length self.new.items + 1 ≡ length self.old.items) (λ before. length self.new.items + min before 1 ≡ length self.old.items) }
-        ensures last { IfOk result (λ instance. stored T.eq value.now self.old.items ≡ Some (instance, 1)) }
-        ensures others { IfErr result (λ before. (before ≡ count T.eq value.now self.old.items) × (before ≢ 1)) }
-        ensures bag { IsBag T.eq self.old.most self.old.items }
-    {
-        match self.table.take_one(value) {
-            Ok(instance) => {
-                self.len -= 1;
-                Ok(instance)
-            }
-            Err(before) => {
-                self.len -= before.min(1);
-                Err(before)
-            }
-        }
-    }
-
-    /// Takes a value out, and answers its stored instance and its whole count, or `None` where it is absent. It takes no
-    /// memory, and hashes the value once.
-    pub fn take_all(&mut self, value: &T) -> Option<(T, usize)>
-        ensures taken { result ≡ stored T.eq value.now self.old.items }
-        ensures fewer { HasFewer T.eq value.now (count T.eq value.now self.old.items) self.old self.new }
-        ensures len { MatchOption result (length self.new.items ≡ length self.old.items) (λ taken. length self.new.items + taken.1 ≡ length self.old.items) }
-    {
-        let (instance, count) = self.table.remove(value)?;
-        self.len -= count;
-        Some((instance, count))
-    }
-
     /// Takes all occurrences out. It takes no memory: the newer table keeps its slots, all of them Empty, and an older one is freed.
+    ///
+    /// ```
+    /// let mut bag = HashBag::new(alloc);
+    /// bag.insert_many("apple", 2)?;
+    /// bag.clear();
+    /// bag.len(); // 0
+    /// bag.slots(); // 16
+    /// Ok(())
+    /// ```
     pub fn clear(&mut self)
         ensures empty { self.new.items ≡ [] }
         ensures hasher { self.new.hasher ≡ self.old.hasher }
@@ -399,6 +401,16 @@ impl<T: Eq + Hash + Drop, S: BuildHasher + Drop> HashBag<T, S> {
     /// lesser of its count and the answer, and goes with its stored instance where that is 0.
     ///
     /// It takes no memory and hashes nothing.
+    ///
+    /// ```
+    /// let mut bag = HashBag::new(alloc);
+    /// bag.insert_many(5u64, 3)?;
+    /// bag.insert_many(6, 1)?;
+    /// bag.retain(|value: &u64, _count: usize| if *value == 5 { 2 } else { 0 });
+    /// bag.contains(&5); // 2
+    /// bag.contains(&6); // 0
+    /// Ok(())
+    /// ```
     pub fn retain<F: FnMut(&T, usize) -> usize + Drop>(&mut self, f: F)
         requires asks { (walk : _) → IsSetWalkOf T.eq self.old walk → MayAskInTurn F.FnMut f walk }
         ensures retained { IsRetained T.eq F.FnMut f self.old self.new }

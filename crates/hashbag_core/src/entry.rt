@@ -30,6 +30,14 @@ impl<'a, T: Eq + Hash + Drop, S: BuildHasher + Drop> Drop for Entry<'a, T, S> {
 
 impl<T: Eq + Hash + Drop, S: BuildHasher + Drop> HashBag<T, S> {
     /// The place of a value in the bag. It takes no memory, and looks nothing up.
+    ///
+    /// ```
+    /// let mut bag = HashBag::new(alloc);
+    /// bag.entry("apple").or_insert()?; // 1
+    /// bag.entry("apple").or_insert()?; // 1
+    /// bag.len(); // 1
+    /// Ok(())
+    /// ```
     pub fn entry(&mut self, value: T) -> Entry<'_, T, S>
         ensures same_bag { result.bag.ghost_name ≡ self.entry.ghost_name }
         ensures unchanged { result.bag.now ≡ self.old }
@@ -45,6 +53,13 @@ impl<'a, T: Eq + Hash + Drop, S: BuildHasher + Drop> Entry<'a, T, S> {
 
     /// The stored instance where the entry is occupied, else the value that was handed in. It takes no memory, and hashes the
     /// value once.
+    ///
+    /// ```
+    /// let mut bag = HashBag::new(alloc);
+    /// bag.insert("apple")?;
+    /// bag.entry("apple").value(); // "apple"
+    /// Ok(())
+    /// ```
     pub fn value(&self) -> &T
         ensures { result.now ≡ instance_or_itself T.eq self.now.value self.now.bag.now.items }
     {
@@ -60,6 +75,15 @@ impl<'a, T: Eq + Hash + Drop, S: BuildHasher + Drop> Entry<'a, T, S> {
     /// handed in. The old count leaves the total before the new one comes, so `TooMany` is answered exactly where the new
     /// total passes the bag's limit: the bag is then as before the call, and the entry is gone. It takes no memory, and hashes the value
     /// twice where the count is set, and else once.
+    ///
+    /// ```
+    /// let mut bag = HashBag::new(alloc);
+    /// bag.insert_many("apple", 3)?;
+    /// let less = |count: &mut usize| *count -= 1;
+    /// bag.entry("apple").and_modify(less)?.or_insert()?; // 2
+    /// bag.entry("pear").and_modify(less)?.or_insert()?; // 1
+    /// Ok(())
+    /// ```
     pub fn and_modify<F: FnOnce(&mut usize) + Drop>(self, f: F) -> Result<Entry<'a, T, S>, BagError>
         requires { (p : MutBor ℕ) → p.now ≡ count T.eq self.value self.bag.now.items → 0 < p.now → F.pre f p }
         ensures same_bag { IfOk result (λ e. e.bag.ghost_name ≡ self.entry.bag.ghost_name) }
@@ -88,6 +112,14 @@ impl<'a, T: Eq + Hash + Drop, S: BuildHasher + Drop> Entry<'a, T, S> {
     }
 
     /// Puts in the value handed in, once, where the entry is vacant: [`Entry::or_insert_many`] with 1.
+    ///
+    /// ```
+    /// let mut bag = HashBag::new(alloc);
+    /// bag.insert_many("apple", 3)?;
+    /// bag.entry("apple").or_insert()?; // 3
+    /// bag.entry("pear").or_insert()?; // 1
+    /// Ok(())
+    /// ```
     pub fn or_insert(self) -> Result<usize, BagError>
         ensures occupied { 0 < count T.eq self.entry.value self.entry.bag.now.items → (result ≡ Ok (count T.eq self.entry.value self.entry.bag.now.items)) × (self.exit.0.now ≡ self.entry.bag.now) }
         ensures vacant { count T.eq self.entry.value self.entry.bag.now.items ≡ 0 → IfOk result (λ after. (after ≡ 1) × IsBagOf T.eq self.entry.bag.now (add T.eq self.entry.value 1 self.entry.bag.now.items) self.exit.0.now) }
@@ -110,6 +142,13 @@ impl<'a, T: Eq + Hash + Drop, S: BuildHasher + Drop> Entry<'a, T, S> {
     /// never refused. A `quantity` of 0 adds nothing, and is never refused either. Else `TooMany` is answered where the total
     /// would pass the bag's limit, and only then memory is asked for where there is no room, which may be refused: the bag is then
     /// as before the call, the value is dropped and the entry is gone. It hashes the value twice where it goes in, and else once.
+    ///
+    /// ```
+    /// let mut bag = HashBag::new(alloc);
+    /// bag.entry("apple").or_insert_many(3)?; // 3
+    /// bag.entry("apple").or_insert_many(5)?; // 3
+    /// Ok(())
+    /// ```
     pub fn or_insert_many(self, quantity: usize) -> Result<usize, BagError>
         ensures occupied { 0 < count T.eq self.entry.value self.entry.bag.now.items → (result ≡ Ok (count T.eq self.entry.value self.entry.bag.now.items)) × (self.exit.0.now ≡ self.entry.bag.now) }
         ensures vacant { count T.eq self.entry.value self.entry.bag.now.items ≡ 0 → IfOk result (λ after. (after ≡ quantity) × IsBagOf T.eq self.entry.bag.now (add T.eq self.entry.value quantity self.entry.bag.now.items) self.exit.0.now) }
@@ -143,6 +182,13 @@ impl<'a, T: Eq + Hash + Drop, S: BuildHasher + Drop> Entry<'a, T, S> {
 
 impl<'a, T: Eq + Hash + Drop + Debug, S: BuildHasher + Drop> Debug for Entry<'a, T, S> {
     /// Writes the value that the entry gives and how often it occurs, as `Entry(5, 3)`.
+    ///
+    /// ```
+    /// let mut bag = HashBag::new(alloc);
+    /// bag.insert_many("apple", 3)?;
+    /// format!(in alloc; "{:?}", bag.entry("apple"))?; // Entry("apple", 3)
+    /// Ok(())
+    /// ```
     fn fmt<W: Write>(&self, f: &mut Formatter<W>) -> fmt::Result {
         let value = self.value();
         let count = self.bag.contains(&self.value);

@@ -48,6 +48,16 @@ impl<'a, T> Clone for Iter<'a, T> {
     ghost is_infallible = { λ _. ⊤ };
 
     /// A walk that goes on from the same place. It takes no memory, and is never refused.
+    ///
+    /// ```
+    /// let mut bag = HashBag::new(alloc);
+    /// bag.insert_many("apple", 3)?;
+    /// let mut walk = bag.iter();
+    /// walk.next(); // Some("apple")
+    /// walk.clone()?.count(); // 2
+    /// walk.count(); // 2
+    /// Ok(())
+    /// ```
     fn clone(&self) -> Result<Iter<'a, T>, AllocError> {
         Ok(Iter {
             walk: self.walk.clone()?,
@@ -122,6 +132,15 @@ impl<'a, T> Clone for SetIter<'a, T> {
     ghost is_infallible = { λ _. ⊤ };
 
     /// A walk that goes on from the same place. It takes no memory, and is never refused.
+    ///
+    /// ```
+    /// let mut bag = HashBag::new(alloc);
+    /// bag.insert_many("apple", 3)?;
+    /// let mut walk = bag.set_iter();
+    /// walk.clone()?.next(); // Some(("apple", 3))
+    /// walk.next(); // Some(("apple", 3))
+    /// Ok(())
+    /// ```
     fn clone(&self) -> Result<SetIter<'a, T>, AllocError> {
         Ok(SetIter {
             walk: self.walk.clone()?,
@@ -207,6 +226,15 @@ impl<'a, T: Drop> ExactSizeIterator for Drain<'a, T> {
 impl<'a, T> Drain<'a, T> {
     /// Walks over what is still to come, which it lends, and leaves this walk where it is. It takes no memory and hashes nothing,
     /// here and at each step.
+    ///
+    /// ```
+    /// let mut bag = HashBag::new(alloc);
+    /// bag.insert_many("apple", 2)?;
+    /// let mut drain = bag.drain();
+    /// drain.rest().next(); // Some(("apple", 2))
+    /// drain.next(); // Some(("apple", 2))
+    /// Ok(())
+    /// ```
     pub fn rest(&self) -> SetIter<'_, T>
         ensures { result ≡ drain_rest self.now }
     {
@@ -275,6 +303,15 @@ impl<T: Drop> ExactSizeIterator for IntoIter<T> {
 impl<T> IntoIter<T> {
     /// Walks over what is still to come, which it lends, and leaves this walk where it is. It takes no memory and hashes nothing,
     /// here and at each step.
+    ///
+    /// ```
+    /// let mut bag = HashBag::new(alloc);
+    /// bag.insert_many("apple", 2)?;
+    /// let mut walk = bag.into_iter();
+    /// walk.rest().next(); // Some(("apple", 2))
+    /// walk.next(); // Some(("apple", 2))
+    /// Ok(())
+    /// ```
     pub fn rest(&self) -> SetIter<'_, T>
         ensures { result ≡ self.now }
     {
@@ -296,6 +333,16 @@ impl<T: Eq + Hash + Drop, S: BuildHasher + Drop> HashBag<T, S> {
     /// instance, before the next value does.
     ///
     /// It takes no memory and hashes nothing, here and at each step.
+    ///
+    /// ```
+    /// let mut bag = HashBag::new(alloc);
+    /// bag.insert_many("apple", 2)?;
+    /// let mut walk = bag.iter();
+    /// walk.next(); // Some("apple")
+    /// walk.next(); // Some("apple")
+    /// walk.next(); // None
+    /// Ok(())
+    /// ```
     pub fn iter(&self) -> Iter<'_, T>
         ensures { IsWalkOf T.eq self.now result }
     {
@@ -309,6 +356,17 @@ impl<T: Eq + Hash + Drop, S: BuildHasher + Drop> HashBag<T, S> {
     /// Walks over the distinct values: each stored instance once, with its count. The counts add up to `len()`.
     ///
     /// It takes no memory and hashes nothing, here and at each step.
+    ///
+    /// ```
+    /// let mut bag = HashBag::new(alloc);
+    /// bag.insert_many("apple", 2)?;
+    /// bag.insert("pear")?;
+    /// let mut most = 0;
+    /// for (_, count) in bag.set_iter() {
+    ///     most = count.max(most);
+    /// }
+    /// Ok(most) // Ok(2)
+    /// ```
     pub fn set_iter(&self) -> SetIter<'_, T>
         ensures { IsSetWalkOf T.eq self.now result }
     {
@@ -321,6 +379,15 @@ impl<T: Eq + Hash + Drop, S: BuildHasher + Drop> HashBag<T, S> {
     ///
     /// The bag is empty at once and keeps its state, however many values are taken. The others are dropped with the walk.
     /// The bag has no slots then. It takes no memory and hashes nothing, here and at each step.
+    ///
+    /// ```
+    /// let mut bag = HashBag::new(alloc);
+    /// bag.insert_many("apple", 2)?;
+    /// let pairs: Vec<(&str, usize)> = bag.drain().collect(alloc)?;
+    /// pairs.as_slice(); // [("apple", 2)]
+    /// bag.is_empty(); // true
+    /// Ok(())
+    /// ```
     pub fn drain(&mut self) -> Drain<'_, T>
         ensures* writes_back { sem 𝓛 (follows_drain T.row S.row S.Hasher.row T.Hash S.BuildHasher S.Hasher.Hasher self.entry (drain_name result)) }
         ensures set_walk { IsSetWalkOf T.eq self.old (drain_rest result) }
@@ -340,6 +407,17 @@ impl<'a, T: Eq + Hash + Drop, S: BuildHasher + Drop> IntoIterator for &'a HashBa
     ghost into_iter_gives = { λ bag r. IsWalkOf T.eq bag.now r };
 
     /// Walks over the occurrences, as [`HashBag::iter`] does.
+    ///
+    /// ```
+    /// let mut bag = HashBag::new(alloc);
+    /// bag.insert_many("apple", 2)?;
+    /// bag.insert("pear")?;
+    /// let mut longest = 0;
+    /// for word in &bag {
+    ///     longest = word.len().max(longest);
+    /// }
+    /// Ok(longest) // Ok(5)
+    /// ```
     fn into_iter(self) -> Iter<'a, T> {
         self.iter()
     }
@@ -355,6 +433,17 @@ impl<T: Eq + Hash + Drop, S: BuildHasher + Drop> IntoIterator for HashBag<T, S> 
     /// Makes a walk of the bag over its distinct values: each stored instance once, by value, with its count.
     ///
     /// Values that are not taken are dropped with the walk. It takes no memory and hashes nothing, here and at each step.
+    ///
+    /// ```
+    /// let mut first = HashBag::new(alloc);
+    /// first.insert_many("apple", 2)?;
+    /// let mut second = HashBag::new(alloc);
+    /// for (value, count) in first {
+    ///     second.insert_many(value, count)?;
+    /// }
+    /// second.contains(&"apple"); // 2
+    /// Ok(())
+    /// ```
     fn into_iter(self) -> IntoIter<T> {
         let HashBag { table, .. } = self;
         IntoIter {
@@ -365,6 +454,13 @@ impl<T: Eq + Hash + Drop, S: BuildHasher + Drop> IntoIterator for HashBag<T, S> 
 
 impl<T: Eq + Hash + Drop + Debug, S: BuildHasher + Drop> Debug for HashBag<T, S> {
     /// Writes the occurrences as a set of them, as `{5, 5, 5}`.
+    ///
+    /// ```
+    /// let mut bag = HashBag::new(alloc);
+    /// bag.insert_many("apple", 2)?;
+    /// format!(in alloc; "{bag:?}")?; // {"apple", "apple"}
+    /// Ok(())
+    /// ```
     fn fmt<W: Write>(&self, f: &mut Formatter<W>) -> fmt::Result {
         f.debug_set().entries(self.iter()).finish()
     }

@@ -192,6 +192,10 @@ impl<'a, T: Eq + Hash + Drop, S: BuildHasher + Drop, S2: BuildHasher + Drop> Mod
 
 /// The first count less the second, or where that is no `isize` the end that is nearer: what [`HashBag::signed_difference`] puts
 /// beside a value.
+///
+/// ```
+/// joins::limited_difference(2, 5) // -3
+/// ```
 pub fn limited_difference(first: usize, second: usize) -> isize
     ensures { result ≡ limited (pos first -ℤ pos second) }
 {
@@ -240,6 +244,17 @@ impl<T: Eq + Hash + Drop, S: BuildHasher + Drop> HashBag<T, S> {
     ///
     /// All values of this bag come first, as this bag's instances; then those that the other bag alone has, as its instances.
     /// It takes no memory; each step hashes the values that it looks up, each of them once.
+    ///
+    /// ```
+    /// let mut ordered = HashBag::new(alloc);
+    /// ordered.insert_many("apple", 3)?;
+    /// let mut delivered = HashBag::new(alloc);
+    /// delivered.insert_many("pear", 2)?;
+    /// let mut join = ordered.outer_join(&delivered);
+    /// join.next(); // Some(("apple", 3, 0))
+    /// join.next(); // Some(("pear", 0, 2))
+    /// Ok(())
+    /// ```
     pub fn outer_join<'a, S2: BuildHasher + Drop>(
         &'a self,
         other: &'a HashBag<T, S2>,
@@ -256,6 +271,17 @@ impl<T: Eq + Hash + Drop, S: BuildHasher + Drop> HashBag<T, S> {
     /// The values that this bag has more often than the other, each once, as this bag's instance, with how many more.
     ///
     /// It takes no memory; each step hashes the values that it looks up, each of them once.
+    ///
+    /// ```
+    /// let mut ordered = HashBag::new(alloc);
+    /// ordered.insert_many("apple", 3)?;
+    /// let mut delivered = HashBag::new(alloc);
+    /// delivered.insert("apple")?;
+    /// let mut join = ordered.difference(&delivered);
+    /// join.next(); // Some(("apple", 2))
+    /// join.next(); // None
+    /// Ok(())
+    /// ```
     pub fn difference<'a, S2: BuildHasher + Drop>(
         &'a self,
         other: &'a HashBag<T, S2>,
@@ -273,6 +299,15 @@ impl<T: Eq + Hash + Drop, S: BuildHasher + Drop> HashBag<T, S> {
     /// [`HashBag::outer_join`]. A difference above `isize::MAX` is given as that, and one below `isize::MIN` as that.
     ///
     /// It takes no memory; each step hashes the values that it looks up, each of them once.
+    ///
+    /// ```
+    /// let mut ordered = HashBag::new(alloc);
+    /// ordered.insert_many("apple", 3)?;
+    /// let mut delivered = HashBag::new(alloc);
+    /// delivered.insert_many("apple", 5)?;
+    /// ordered.signed_difference(&delivered).next(); // Some(("apple", -2))
+    /// Ok(())
+    /// ```
     pub fn signed_difference<'a, S2: BuildHasher + Drop>(
         &'a self,
         other: &'a HashBag<T, S2>,
@@ -287,6 +322,17 @@ impl<T: Eq + Hash + Drop, S: BuildHasher + Drop> HashBag<T, S> {
     /// The values of this bag that the other lacks, each once, as this bag's instance, with its count.
     ///
     /// It takes no memory; each step hashes the values that it looks up, each of them once.
+    ///
+    /// ```
+    /// let mut ordered = HashBag::new(alloc);
+    /// ordered.insert_many("apple", 3)?;
+    /// let mut delivered = HashBag::new(alloc);
+    /// delivered.insert("pear")?;
+    /// let mut join = ordered.not_in(&delivered);
+    /// join.next(); // Some(("apple", 3))
+    /// join.next(); // None
+    /// Ok(())
+    /// ```
     pub fn not_in<'a, S2: BuildHasher + Drop>(
         &'a self,
         other: &'a HashBag<T, S2>,

@@ -36,6 +36,10 @@ pub enum ItemError {
 
 impl ItemError {
     /// The number by which programs report the error: 11 for `NotAnItem`, 12 for `Memory`.
+    ///
+    /// ```
+    /// ItemError::NotAnItem.number() // 11
+    /// ```
     pub fn number(&self) -> u8
         ensures not_an_item { self.now ≡ ItemError.NotAnItem → result ≡ 11 }
         ensures memory { self.now ≡ ItemError.Memory → result ≡ 12 }
@@ -86,6 +90,10 @@ pub enum JsonError {
 
 impl JsonError {
     /// The number by which programs report the error: 3 to 8 in the order of the names, and 10 for `BadLimit`.
+    ///
+    /// ```
+    /// JsonError::BadCount(0).number() // 5
+    /// ```
     pub fn number(&self) -> u8
         ensures not_an_array { self.now ≡ JsonError.NotAnArray → result ≡ 3 }
         ensures not_a_pair { (i : ℕ) → self.now ≡ JsonError.NotAPair i → result ≡ 4 }
@@ -127,6 +135,11 @@ pub trait JsonItem: Eq + Sized {
     /// The tree of an item.
     ///
     /// It answers `Memory` where memory is refused, and no other error.
+    ///
+    /// ```
+    /// 5u64.to_json(alloc)?.to_string(alloc)?; // 5
+    /// Ok(())
+    /// ```
     fn to_json(&self, alloc: Global) -> Result<Value, BagError>
         ensures item { is_item self.now }
         ensures tree { IfOk result (λ v. view v ≡ tree_of self.now) }
@@ -135,6 +148,13 @@ pub trait JsonItem: Eq + Sized {
     /// The item of a tree.
     ///
     /// It answers `NotAnItem` where the tree has none, whether or not there is memory, and `Memory` where memory is refused.
+    ///
+    /// ```
+    /// let tree = Value::from_str(alloc, "5")?;
+    /// u64::from_json(alloc, &tree)?; // 5
+    /// String::from_json(alloc, &tree).err(); // Some(NotAnItem)
+    /// Ok(())
+    /// ```
     fn from_json(alloc: Global, v: &Value) -> Result<Self, ItemError>
         ensures item { IfOk result (λ x. is_item x × reads (view v.now) x) }
         ensures none { (result ≡ Err ItemError.NotAnItem) ↔ (has_item (view v.now) ≡ false) };
@@ -296,6 +316,13 @@ impl<T: JsonItem + Hash + Drop, S: BuildHasher + Drop> HashBag<T, S> {
     /// fault decides. A pair with the count 0 is checked and adds nothing. Equal items add up, and the first instance stays. It
     /// answers `Memory` where memory is refused, which it asks for at no pair after the first with a fault, and at that one
     /// for its item alone. Where it is refused there is no bag.
+    ///
+    /// ```
+    /// let tree = Value::from_str(alloc, "[[\"apple\",2],[\"pear\",1]]")?;
+    /// let bag: HashBag<String> = HashBag::from_value_within(alloc, 100, &tree)?;
+    /// bag.limit(); // 100
+    /// Ok(())
+    /// ```
     pub fn from_value_within(
         alloc: Global,
         most: usize,
@@ -318,6 +345,13 @@ impl<T: JsonItem + Hash + Drop, S: BuildHasher + Drop> HashBag<T, S> {
     }
 
     /// The bag of a tree, under the default state, with the limit of the tree: [`HashBag::from_value_within`] with `usize::MAX`.
+    ///
+    /// ```
+    /// let tree = Value::from_str(alloc, "[[\"apple\",2],[\"pear\",1]]")?;
+    /// let bag: HashBag<String> = HashBag::from_value(alloc, &tree)?;
+    /// bag.contains_key("apple"); // 2
+    /// Ok(())
+    /// ```
     pub fn from_value(alloc: Global, tree: &Value) -> Result<HashBag<T, S>, JsonError>
     where
         S: Default,
@@ -372,6 +406,14 @@ impl<T: JsonItem + Hash + Drop, S: BuildHasher + Drop> HashBag<T, S> {
     ///
     /// Equal bags with the same limit have equal trees, whatever their instances, states and history. What is written is read
     /// back as an equal bag with the same limit, where there is memory for it. It answers `Memory` where memory is refused.
+    ///
+    /// ```
+    /// let mut bag: HashBag<String> = HashBag::new(alloc);
+    /// bag.insert_many_key("pear", 1)?;
+    /// bag.insert_many_key("apple", 2)?;
+    /// bag.to_value(alloc)?.to_string(alloc)?; // [["apple",2],["pear",1]]
+    /// Ok(())
+    /// ```
     pub fn to_value(&self, alloc: Global) -> Result<Value, BagError>
     where
         T: Ord,

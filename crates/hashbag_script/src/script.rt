@@ -313,6 +313,15 @@ fn apply<T: Eq + Hash + Drop, S: BuildHasher + Drop>(
 /// absent (`Replace` and `EntryOr` too), `Reserve` and `ShrinkToFit` can be refused for memory. The run stops there with `Memory`: the
 /// steps before it have their replies and are done, that step left the bag as it was, and the rest of the steps is
 /// dropped. A total that would pass the limit is the reply `TooMany`, and no error. No value is copied.
+///
+/// ```
+/// let mut bag = HashBag::new(alloc);
+/// let mut replies = Vec::new(alloc);
+/// let steps = vec![in alloc; Step::Insert("apple"), Step::Count("apple")]?;
+/// script::run(&mut bag, steps, &mut replies)?;
+/// replies.as_slice(); // [Count(0), Count(1)]
+/// Ok(())
+/// ```
 pub fn run<T: Eq + Hash + Drop, S: BuildHasher + Drop>(
     bag: &mut HashBag<T, S>,
     steps: Vec<Step<T>>,
@@ -359,6 +368,16 @@ pub fn run<T: Eq + Hash + Drop, S: BuildHasher + Drop>(
 /// Room for all replies of both is taken first: where it is refused, nothing changes. Then the two runs are as [`run`] does
 /// them. Where memory stops the first one, the second bag and its replies stay as they were; where it stops the second one,
 /// the first run was done. So the replies say how far each run came.
+///
+/// ```
+/// let (mut a, mut b) = (HashBag::new(alloc), HashBag::new(alloc));
+/// let (mut first, mut second) = (Vec::new(alloc), Vec::new(alloc));
+/// let steps_a = vec![in alloc; Step::Insert("apple")]?;
+/// let steps_b = vec![in alloc; Step::Insert("pear"), Step::Clear]?;
+/// script::run_pair(&mut a, &mut b, steps_a, steps_b, &mut first, &mut second)?;
+/// second.as_slice(); // [Count(0), Done]
+/// Ok(())
+/// ```
 pub fn run_pair<T: Eq + Hash + Drop, S: BuildHasher + Drop, S2: BuildHasher + Drop>(
     a: &mut HashBag<T, S>,
     b: &mut HashBag<T, S2>,
@@ -456,6 +475,17 @@ fn not_in_of<'a, T>(
 ///
 /// It looks each value up once, for the outer join, from which the other three follow. Memory may be refused: then there are
 /// no joins.
+///
+/// ```
+/// let mut ordered = HashBag::new(alloc);
+/// ordered.insert_many("apple", 3)?;
+/// let mut delivered = HashBag::new(alloc);
+/// delivered.insert("apple")?;
+/// let joins = script::joins_of(alloc, &ordered, &delivered)?;
+/// joins.outer.as_slice(); // [("apple", 3, 1)]
+/// joins.difference.as_slice(); // [("apple", 2)]
+/// Ok(())
+/// ```
 pub fn joins_of<'a, T: Eq + Hash + Drop, S: BuildHasher + Drop, S2: BuildHasher + Drop>(
     alloc: Global,
     a: &'a HashBag<T, S>,

@@ -14,6 +14,14 @@ impl<T: Eq + Hash + Drop, S: BuildHasher + Drop> HashBag<T, S> {
     ghost use Rattle.hashbag_core.specs.Bag.{IsBagOf};
 
     /// How many distinct values the bag can have before it grows: [`HashBag::set_len`] and [`HashBag::room`] together.
+    ///
+    /// ```
+    /// let mut bag = HashBag::new(alloc);
+    /// bag.capacity(); // 0
+    /// bag.insert("apple")?;
+    /// bag.capacity(); // 12
+    /// Ok(())
+    /// ```
     pub fn capacity(&self) -> usize
         ensures { result ≡ distinct_count T.eq self.now.items + room self.now.tables }
     {
@@ -22,6 +30,14 @@ impl<T: Eq + Hash + Drop, S: BuildHasher + Drop> HashBag<T, S> {
 
     /// The number of slots of the newer table, 0 where there is none. A slot has a place for one distinct value with its count. Those
     /// that aren't Empty are Live, which hold a value, or Removed, which held one.
+    ///
+    /// ```
+    /// let mut bag = HashBag::new(alloc);
+    /// bag.slots(); // 0
+    /// bag.insert("apple")?;
+    /// bag.slots(); // 16
+    /// Ok(())
+    /// ```
     pub fn slots(&self) -> usize
         ensures slots { result ≡ length self.now.tables.newer }
         ensures count { IsSlotCount result }
@@ -35,6 +51,15 @@ impl<T: Eq + Hash + Drop, S: BuildHasher + Drop> HashBag<T, S> {
 
     /// The number of slots of the older table that wait to be carried, 0 where there is no older table. Each insertion of an absent
     /// value carries the next 16 of them.
+    ///
+    /// ```
+    /// let mut bag = HashBag::new(alloc);
+    /// for value in 0..25u64 {
+    ///     bag.insert(value)?;
+    /// }
+    /// bag.waiting(); // 16
+    /// Ok(())
+    /// ```
     pub fn waiting(&self) -> usize
         ensures waiting { result ≡ length self.now.tables.waiting }
         ensures carries { result ≤ 16 * room self.now.tables }
@@ -45,6 +70,14 @@ impl<T: Eq + Hash + Drop, S: BuildHasher + Drop> HashBag<T, S> {
     }
 
     /// How many absent values may be inserted before the bag grows. None of these insertions takes memory.
+    ///
+    /// ```
+    /// let mut bag = HashBag::new(alloc);
+    /// bag.room(); // 0
+    /// bag.insert_many("apple", 5)?;
+    /// bag.room(); // 11
+    /// Ok(())
+    /// ```
     pub fn room(&self) -> usize
         ensures { result ≡ room self.now.tables }
     {
@@ -57,6 +90,14 @@ impl<T: Eq + Hash + Drop, S: BuildHasher + Drop> HashBag<T, S> {
     /// room, and is not smaller than the newer one: every value is moved into it and hashed once, and the others are freed. It answers
     /// `Memory` where memory is refused, and before memory is asked for where there would be more than 3 * 2^57 distinct values:
     /// the bag is then unchanged.
+    ///
+    /// ```
+    /// let mut bag = HashBag::new(alloc);
+    /// bag.reserve(20)?;
+    /// bag.room(); // 24
+    /// bag.insert("apple")?; // takes no memory
+    /// Ok(())
+    /// ```
     pub fn reserve(&mut self, n: usize) -> Result<(), BagError>
         ensures kept { IsBagOf T.eq self.old self.old.items self.new }
         ensures len { length self.new.items ≡ length self.old.items }
@@ -83,6 +124,15 @@ impl<T: Eq + Hash + Drop, S: BuildHasher + Drop> HashBag<T, S> {
     /// It makes the least table of slots that has room for the values, where that one is smaller than the newer one: every value is
     /// moved into it and hashed once, and the others are freed. Else it takes no memory, does nothing and succeeds. An empty bag takes
     /// no memory, and is left with no slots. It answers `Memory` where memory is refused: the bag is then unchanged.
+    ///
+    /// ```
+    /// let mut bag = HashBag::with_capacity(alloc, 1_000)?;
+    /// bag.insert("apple")?;
+    /// bag.slots(); // 2048
+    /// bag.shrink_to_fit()?;
+    /// bag.slots(); // 16
+    /// Ok(())
+    /// ```
     pub fn shrink_to_fit(&mut self) -> Result<(), BagError>
         ensures kept { IsBagOf T.eq self.old self.old.items self.new }
         ensures len { length self.new.items ≡ length self.old.items }

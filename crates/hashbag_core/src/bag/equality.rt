@@ -14,6 +14,16 @@ impl<T: Eq + Hash + Drop, S: BuildHasher + Drop> PartialEq for HashBag<T, S> {
     ghost laws = { bag_eq_partial T.Eq.laws };
 
     /// It compares the totals, and then looks each distinct value of one bag up in the other. It takes no memory.
+    ///
+    /// ```
+    /// let mut first = HashBag::new(alloc);
+    /// first.insert("apple")?;
+    /// first.insert("pear")?;
+    /// let mut second = HashBag::with_capacity(alloc, 20)?;
+    /// second.insert("pear")?;
+    /// second.insert("apple")?;
+    /// Ok(first == second) // Ok(true)
+    /// ```
     fn eq(&self, other: &HashBag<T, S>) -> bool {
         if self.len != other.len {
             return false;

@@ -14,6 +14,11 @@ use std::hash::{BuildHasher, Hash};
 
 impl<T: Eq + Hash + Drop, S: BuildHasher + Drop> HashBag<T, S> {
     /// An empty bag of no slots under the default state. It takes no memory.
+    ///
+    /// ```
+    /// let bag: HashBag<u64> = HashBag::default_in(alloc);
+    /// bag.len() // 0
+    /// ```
     pub fn default_in(alloc: Global) -> HashBag<T, S>
     where
         S: Default,
@@ -27,6 +32,13 @@ impl<T: Eq + Hash + Drop, S: BuildHasher + Drop> HashBag<T, S> {
 
     /// A bag of the items, under the default state: an empty one, extended by [`HashBag::extend`]. Where that is refused, there is no
     /// bag.
+    ///
+    /// ```
+    /// let values = ["apple", "pear", "apple"];
+    /// let bag: HashBag<&str> = HashBag::from_iter(alloc, values.iter().copied())?;
+    /// bag.contains(&"apple"); // 2
+    /// Ok(())
+    /// ```
     pub fn from_iter<I: Iterator<Item = T> + Drop>(
         alloc: Global,
         items: I,
@@ -47,6 +59,13 @@ impl<T: Eq + Hash + Drop, S: BuildHasher + Drop> HashBag<T, S> {
 
     /// A bag of the pairs of a value and a number, under the default state: an empty one, extended by [`HashBag::extend_many`]. Where
     /// that is refused, there is no bag.
+    ///
+    /// ```
+    /// let pairs = [("apple", 2), ("pear", 1), ("apple", 3)];
+    /// let bag: HashBag<&str> = HashBag::from_counts(alloc, pairs.iter().copied())?;
+    /// bag.contains(&"apple"); // 5
+    /// Ok(())
+    /// ```
     pub fn from_counts<I: Iterator<Item = (T, usize)> + Drop>(
         alloc: Global,
         pairs: I,
@@ -71,6 +90,14 @@ impl<T: Eq + Hash + Drop, S: BuildHasher + Drop> HashBag<T, S> {
     /// An item is refused with `TooMany` where the total would pass the limit, which is tested before anything grows, and with
     /// `Memory` where the value is absent, there is no room and memory is refused. The items before it stay inserted. It is dropped
     /// itself, and so is the iterator with what is still to come. Each item is hashed once.
+    ///
+    /// ```
+    /// let mut bag = HashBag::new(alloc);
+    /// bag.insert("apple")?;
+    /// bag.extend(["apple", "pear"].iter().copied())?;
+    /// bag.contains(&"apple"); // 2
+    /// Ok(())
+    /// ```
     pub fn extend<I: Iterator<Item = T> + Drop>(&mut self, items: I) -> Result<(), BagError>
         requires can { I.can_next items }
         requires ends { IsFinite (I.remaining items) }
@@ -88,6 +115,14 @@ impl<T: Eq + Hash + Drop, S: BuildHasher + Drop> HashBag<T, S> {
     /// Inserts the value of each pair as often as the number beside it, as [`HashBag::insert_many`] does. A pair with 0 adds nothing.
     ///
     /// It answers as [`HashBag::extend`] does.
+    ///
+    /// ```
+    /// let mut bag = HashBag::new(alloc);
+    /// bag.insert("apple")?;
+    /// bag.extend_many([("apple", 2), ("pear", 3)].iter().copied())?;
+    /// bag.len(); // 6
+    /// Ok(())
+    /// ```
     pub fn extend_many<I: Iterator<Item = (T, usize)> + Drop>(
         &mut self,
         pairs: I,
@@ -109,6 +144,15 @@ impl<T: Eq + Hash + Drop, S: BuildHasher + Drop> HashBag<T, S> {
     ///
     /// It answers as [`HashBag::extend`] does, and `Memory` also where the clone is refused it, which clones of numbers never are. The
     /// total is tested before an item is cloned.
+    ///
+    /// ```
+    /// let values = ["apple", "pear", "apple"];
+    /// let mut bag = HashBag::new(alloc);
+    /// bag.extend_refs(values.iter())?;
+    /// bag.contains(&"apple"); // 2
+    /// values.len(); // 3
+    /// Ok(())
+    /// ```
     pub fn extend_refs<'a, I: Iterator<Item = &'a T> + Drop>(
         &mut self,
         items: I,
@@ -132,6 +176,16 @@ impl<T: Eq + Hash + Drop, S: BuildHasher + Drop> HashBag<T, S> {
     /// cloned.
     ///
     /// It answers as [`HashBag::extend_refs`] does.
+    ///
+    /// ```
+    /// let mut first = HashBag::new(alloc);
+    /// first.insert_many("apple", 2)?;
+    /// let mut second = HashBag::new(alloc);
+    /// second.insert("apple")?;
+    /// second.extend_refs_many(first.set_iter())?;
+    /// second.contains(&"apple"); // 3
+    /// Ok(())
+    /// ```
     pub fn extend_refs_many<'a, I: Iterator<Item = (&'a T, usize)> + Drop>(
         &mut self,
         pairs: I,

@@ -15,6 +15,14 @@ impl<T: Eq + Hash + Drop, S: BuildHasher + Drop> HashBag<T, S> {
     /// How often the value occurs that a key names, 0 where it is absent: `words.contains_key("the")`, for a bag of `String`s.
     ///
     /// It takes no memory, and hashes the key once.
+    ///
+    /// ```
+    /// let mut words: HashBag<String> = HashBag::new(alloc);
+    /// words.insert_many_key("the", 2)?;
+    /// words.contains_key("the"); // 2
+    /// words.contains_key("cat"); // 0
+    /// Ok(())
+    /// ```
     #[inline(always)]
     pub fn contains_key<Q: Key<T>>(&self, key: Q) -> usize
         ensures count { result ≡ count_named (Q.names key) self.now.items }
@@ -30,6 +38,14 @@ impl<T: Eq + Hash + Drop, S: BuildHasher + Drop> HashBag<T, S> {
     /// `if let Some((word, many)) = words.get_key("the") { .. }`.
     ///
     /// It takes no memory, and hashes the key once.
+    ///
+    /// ```
+    /// let mut words: HashBag<String> = HashBag::new(alloc);
+    /// words.insert_many_key("the", 2)?;
+    /// words.get_key("the"); // Some(("the", 2))
+    /// words.get_key("cat"); // None
+    /// Ok(())
+    /// ```
     #[inline(always)]
     pub fn get_key<Q: Key<T>>(&self, key: Q) -> Option<(&T, usize)>
         ensures found { option_map (λ e. (e.0.now, e.1)) result ≡ stored_named (Q.names key) self.now.items }
@@ -41,6 +57,13 @@ impl<T: Eq + Hash + Drop, S: BuildHasher + Drop> HashBag<T, S> {
     /// Adds one occurrence of the value that a key names, and answers how many there were: [`HashBag::insert_many_key`] with 1.
     ///
     /// `words.insert_key("the")?` makes a `String` only the first time.
+    ///
+    /// ```
+    /// let mut words: HashBag<String> = HashBag::new(alloc);
+    /// words.insert_key("the")?; // 0
+    /// words.insert_key("the")?; // 1
+    /// Ok(())
+    /// ```
     #[inline(always)]
     pub fn insert_key<Q: ToValue<T>>(&mut self, key: Q) -> Result<usize, BagError>
         ensures before { IfOk result (λ before. before ≡ count_named (Q.names key) self.old.items) }
@@ -64,6 +87,13 @@ impl<T: Eq + Hash + Drop, S: BuildHasher + Drop> HashBag<T, S> {
     ///
     /// Where the value is absent it is made of the key, and put in as by [`HashBag::insert_many`]. That may be refused for memory,
     /// to the value itself or where there is no room: the bag is then unchanged. The key is hashed once.
+    ///
+    /// ```
+    /// let mut words: HashBag<String> = HashBag::new(alloc);
+    /// words.insert_many_key("the", 3)?; // 0
+    /// words.insert_many_key("the", 2)?; // 3
+    /// Ok(())
+    /// ```
     #[inline(always)]
     pub fn insert_many_key<Q: ToValue<T>>(&mut self, key: Q, n: usize) -> Result<usize, BagError>
         ensures before { IfOk result (λ before. before ≡ count_named (Q.names key) self.old.items) }
@@ -93,6 +123,14 @@ impl<T: Eq + Hash + Drop, S: BuildHasher + Drop> HashBag<T, S> {
     /// With the last occurrence the stored instance is dropped.
     ///
     /// It takes no memory, and hashes the key once.
+    ///
+    /// ```
+    /// let mut words: HashBag<String> = HashBag::new(alloc);
+    /// words.insert_key("the")?;
+    /// words.remove_key("the"); // 1
+    /// words.remove_key("the"); // 0
+    /// Ok(())
+    /// ```
     pub fn remove_key<Q: Key<T>>(&mut self, key: Q) -> usize
         ensures before { result ≡ count_named (Q.names key) self.old.items }
         ensures fewer { (v : T) → IsTrue (Q.names key v) → HasFewer T.eq v 1 self.old self.new }

@@ -14,6 +14,13 @@ use std::hash::{BuildHasher, Hash};
 
 impl<T: Eq + Hash + Drop> HashBag<T, FixedState> {
     /// An empty bag of no slots, whose values are hashed with fixed keys. It takes no memory.
+    ///
+    /// ```
+    /// let mut bag = HashBag::new(alloc);
+    /// bag.insert("apple")?;
+    /// bag.len(); // 1
+    /// Ok(())
+    /// ```
     pub fn new(alloc: Global) -> HashBag<T, FixedState>
         ensures empty { result.items ≡ [] }
         ensures hasher { ⟦<FixedState as Default>⟧.is_default result.hasher }
@@ -28,6 +35,13 @@ impl<T: Eq + Hash + Drop> HashBag<T, FixedState> {
     ///
     /// It answers `Memory` where memory is refused, and for more than 3 * 2^57 distinct values before memory is asked for.
     /// With `n` 0 it takes no memory and succeeds.
+    ///
+    /// ```
+    /// let mut bag = HashBag::with_capacity(alloc, 20)?;
+    /// bag.room(); // 24
+    /// bag.insert("apple")?; // takes no memory
+    /// Ok(())
+    /// ```
     pub fn with_capacity(alloc: Global, n: usize) -> Result<HashBag<T, FixedState>, BagError>
         ensures empty { IfOk result (λ bag. bag.items ≡ []) }
         ensures hasher { IfOk result (λ bag. ⟦<FixedState as Default>⟧.is_default bag.hasher) }
@@ -48,6 +62,13 @@ impl<T: Eq + Hash + Drop> HashBag<T, FixedState> {
 
 impl<T: Eq + Hash + Drop, S: BuildHasher + Drop> HashBag<T, S> {
     /// An empty bag of no slots, whose values `hasher` hashes. It takes no memory.
+    ///
+    /// ```
+    /// let mut bag = HashBag::with_hasher(alloc, state);
+    /// bag.insert("apple")?;
+    /// bag.contains(&"apple"); // 1
+    /// Ok(())
+    /// ```
     pub fn with_hasher(alloc: Global, hasher: S) -> HashBag<T, S>
         ensures empty { result.items ≡ [] }
         ensures hasher { result.hasher ≡ hasher }
@@ -58,6 +79,13 @@ impl<T: Eq + Hash + Drop, S: BuildHasher + Drop> HashBag<T, S> {
     }
 
     /// An empty bag of no slots, whose values `hasher` hashes, and whose total is never above `most`. It takes no memory.
+    ///
+    /// ```
+    /// let mut bag = HashBag::with_limit(alloc, FixedState::new(), 2);
+    /// bag.insert_many("apple", 2)?;
+    /// bag.insert("pear").err(); // Some(TooMany)
+    /// Ok(())
+    /// ```
     pub fn with_limit(alloc: Global, hasher: S, most: usize) -> HashBag<T, S>
         ensures empty { result.items ≡ [] }
         ensures hasher { result.hasher ≡ hasher }
@@ -76,6 +104,13 @@ impl<T: Eq + Hash + Drop, S: BuildHasher + Drop> HashBag<T, S> {
     ///
     /// It answers `Memory` where memory is refused, and for more than 3 * 2^57 distinct values before memory is asked for.
     /// With `n` 0 it takes no memory and succeeds.
+    ///
+    /// ```
+    /// let mut bag = HashBag::with_capacity_and_hasher(alloc, 3, state)?;
+    /// bag.insert("apple")?; // takes no memory
+    /// bag.slots(); // 16
+    /// Ok(())
+    /// ```
     pub fn with_capacity_and_hasher(
         alloc: Global,
         n: usize,
@@ -107,6 +142,15 @@ impl<T: Eq + Hash + Drop, S: BuildHasher + Drop> HashBag<T, S> {
     /// The caller sees to it that clones of the values equal them. It answers `Memory` where memory is refused, to a clone of a
     /// value or of the state too: there is then no new bag. It makes the least table of slots that has room for all values, and hashes
     /// each clone once.
+    ///
+    /// ```
+    /// let mut bag = HashBag::new(alloc);
+    /// bag.insert_many("apple", 2)?;
+    /// let other = bag.clone()?;
+    /// bag.remove(&"apple");
+    /// other.contains(&"apple"); // 2
+    /// Ok(())
+    /// ```
     pub fn clone(&self) -> Result<HashBag<T, S>, BagError>
     where
         T: Clone,

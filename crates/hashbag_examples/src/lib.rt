@@ -1,0 +1,10 @@
+//! The examples of the doc comments of `hashbag_core` and `hashbag_script`: each function is the example of the call of its name, and where two
+//! calls share a name, it has another word before it. `tests/examples` compares the two.
+#![tactic(auto)]
+
+pub mod bag;
+pub mod entry;
+pub mod joins;
+pub mod runs;
+pub mod trees;
+pub mod walks;
