@@ -73,6 +73,7 @@ fn strict_calls(alloc: Global, refusals: &mut Refusals) -> Result<(), Wrong> {
     trees::pairs(alloc, refusals)?;
     trees::trees_without_memory(alloc, refusals)?;
     carried::written(alloc, refusals)?;
+    carried::run_alone(alloc, refusals)?;
     carried::runs(alloc, refusals)?;
     runs::runs(alloc, refusals)
 }
