@@ -193,7 +193,7 @@ fn done(answer: Result<usize, BagError>) -> Result<(), BagError> {
     }
 }
 
-// Inserts at an entry. The values are of any type, since an entry of values that borrow is lent twice.
+// Inserts at an entry of a bag of any values.
 fn or_insert_many<T: Eq + Hash + Drop>(
     bag: &mut HashBag<T, OneState>,
     value: T,

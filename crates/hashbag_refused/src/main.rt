@@ -32,7 +32,7 @@ use std::process::ExitCode;
 use std::str;
 
 // More requests than the script refuses of the calls.
-const SPARE: usize = 300;
+const SPARE: usize = 330;
 
 // What to do.
 #[derive(Clone, Copy)]
