@@ -4,4 +4,5 @@ mod hash_counts;
 mod instances;
 mod joins;
 mod json;
+mod letters;
 mod limits;
