@@ -52,10 +52,26 @@ fn push_byte(text: &mut Vec<u8>, byte: u8) -> Result<(), AllocError>
     }
 }
 
-// Appends a token, escaped.
+// Whether a token has a byte that is escaped. Few have one.
+fn has_escape(token: &[u8]) -> bool
+    ensures { result ≡ false → escaped token.now ≡ token.now }
+{
+    for byte in token {
+        if escape_of(*byte).is_some() {
+            return true;
+        }
+    }
+    false
+}
+
+// Appends a token, escaped. One that needs no escape goes in at once.
 fn push_token(text: &mut Vec<u8>, token: &[u8]) -> Result<(), AllocError>
     ensures { OnOk result (text.new.items ≡ text.old.items ++ escaped token.now) }
 {
+    if !has_escape(token) {
+        text.extend_from_slice(token)?;
+        return Ok(());
+    }
     for byte in token {
         push_byte(text, *byte)?;
     }
