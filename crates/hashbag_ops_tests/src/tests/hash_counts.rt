@@ -13,6 +13,7 @@ const SUMS: &str = "
     merge | | 5:2 6:1 | 2
     merge | 5:2 6:1 | 5:3 7:1 | 2
     merge | 1..12 | 1..12 | 24
+    merge | 1..12 | 1..13 | 38
     keep_most | 5:2 6:1 | 5:3 7:1 | 4
     keep_most | 5:2 6:1 | 5:1 7:1 | 3
     keep_most | 5:2 6:1 | 5:1 6:1 | 2";
@@ -83,7 +84,7 @@ fn part_is_hashed(alloc: Global, row: &str) -> Result<(), Fail> {
 
 #[test]
 fn hashes_of_each_call(rt: HostRuntime) -> Result<(), Fail> {
-    for row in rows_of(rt.alloc(), SUMS, 7)? {
+    for row in rows_of(rt.alloc(), SUMS, 8)? {
         sum_is_hashed(rt.alloc(), row)?;
     }
     for row in rows_of(rt.alloc(), PARTS, 11)? {
