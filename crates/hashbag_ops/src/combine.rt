@@ -100,7 +100,8 @@ fn lacked_by<T: Eq + Hash + Drop, S: BuildHasher + Drop, S2: BuildHasher + Drop>
 /// would pass the limit of `into`, before anything is cloned, and `Memory` where memory is refused to the copy, to a clone of a value
 /// or of the state, or to the room. Then `into` is unchanged.
 ///
-/// It takes memory for a copy of `from` while it runs. Each distinct value of `from` is hashed twice; those of `into` where it grows.
+/// It takes memory for a copy of `from` while it runs. Each distinct value of `from` is hashed once more than by [`merge`], for that
+/// copy; those of `into` where it grows.
 ///
 ///     let mut all: HashBag<&str> = HashBag::new(alloc);
 ///     let mut day: HashBag<&str> = HashBag::new(alloc);
@@ -124,7 +125,7 @@ pub fn merge_ref<
     ensures refused { result ≡ Err BagError.TooMany → into.old.most < length into.old.items + length from.now.items }
     ensures memory { length into.old.items + length from.now.items ≤ into.old.most → OnErr result (result ≡ Err BagError.Memory) }
 {
-    if from.len() > into.limit() - into.len() {
+    if into.limit() - into.len() < from.len() {
         return Err(BagError::TooMany);
     }
     let copy = from.clone()?;
@@ -195,9 +196,9 @@ pub fn take_away<T: Eq + Hash + Drop, S: BuildHasher + Drop, S2: BuildHasher + D
 ///
 /// All goes in, or nothing. What `from` has more of is added, as [`merge`] does, so the limit of `into` stays. It answers
 /// `TooMany` exactly where the total of these greater counts would pass that limit, before anything grows, and `Memory` where memory
-/// is refused to room for the values of which `from` has more. Then `into` is unchanged, and `from` is dropped.
+/// is refused to room for the values that `into` lacks. Then `into` is unchanged, and `from` is dropped.
 ///
-/// Each distinct value of `from` is hashed twice at most, those of `into` where it grows.
+/// Each distinct value of `from` is hashed three times at most; those of `into` where it grows.
 ///
 ///     let mut needed: HashBag<&str> = HashBag::new(alloc);
 ///     needed.insert_many("bolt", 2)?;
