@@ -1,5 +1,6 @@
 pub mod ByCount
 pub mod Commonest
+pub mod Lacking
 pub mod Lengths
 pub mod Ranked
 pub mod Sums

@@ -1,31 +1,52 @@
 -- The counts of what a walk gives as sums over it, and an extend by pairs that is refused nothing.
-use Rattle.std.proofs.Common.{◌≡◌, ℕ, zero, suc, ◌+◌, ◌<◌, ◌≤◌, cond, Bool, List, [], ◌∷◌, length, replicate, sum_by, take, get_or, Option, Some, Result, Ok, Err, IsOk, IfErr, sym, ◌∙◌, ap, subst, refl, arith}
+use Rattle.std.proofs.Common.{◌≡◌, ℕ, zero, suc, ◌+◌, ◌<◌, ◌≤◌, ◌==◌, cond, Bool, List, [], ◌∷◌, length, replicate, sum_by, take, get_or, Option, Some, Result, Ok, Err, IsOk, IfErr, inl, inr, sym, ◌∙◌, ap, subst, refl, arith}
 use Rattle.std.specs.Cmp.{IsEquivalence}
+use Rattle.std.proofs.lemmas.Bool.{cases_lt}
+use Rattle.std.proofs.lemmas.Bool.Decides.{nat_tests}
 use Rattle.std.proofs.lemmas.Iterator.{YieldsList}
 use Rattle.std.proofs.lemmas.Iterator.Consumers.{YieldsList-so_far, YieldsList-turn}
 use Rattle.std.proofs.lemmas.List.{map-id}
-use Rattle.std.proofs.lemmas.List.Sums.{sum_by-cons}
+use Rattle.std.proofs.lemmas.List.Sums.{length-filter, sum_by-cons}
 use Rattle.hashbag.specs.declared.bag.BagError.{BagError}
 use Rattle.hashbag.specs.declared.bag.BagError.TheVariants.{Memory, TooMany, BelowTotal}
 use Rattle.hashbag.specs.Bag.{Bag, occurrences}
 use Rattle.hashbag.specs.EqualityLaws.{count_append}
 use Rattle.hashbag.specs.Extends.{AsItIs, Refuses}
-use Rattle.hashbag.specs.Inserts.{InsertsUpTo, IsRefused, RefusesPair}
-use Rattle.hashbag.specs.Occurrences.{count}
+use Rattle.hashbag.specs.Inserts.{Inserts, InsertsUpTo, InTurn, IsRefused, RefusesPair}
+use Rattle.hashbag.specs.JoinsLeft.{lacking}
+use Rattle.hashbag.specs.Occurrences.{count, distinct_count}
 use Rattle.hashbag.specs.Tables.{room}
-use Rattle.hashbag.proofs.CallerLemmas.{pairs_as_they_are}
-use Rattle.hashbag.proofs.InsertLemmas.{length_in_turn, refused_after_room, some_added}
+use Rattle.hashbag.proofs.CallerLemmas.{count_inserted_any, pairs_as_they_are}
+use Rattle.hashbag.proofs.InsertLemmas.{length_in_turn, refused_past_room, some_added}
 use Rattle.hashbag.proofs.Laws.{count_added}
 
--- the numbers beside the items before one, and its own, are no more than all of them
-sum_to : {T : Type 0} (all : List (T × ℕ)) (k : ℕ) (d : T × ℕ) → k < length all → sum_by (λ p. p.1) (take k all) + (get_or all k d).1 ≤ sum_by (λ p. p.1) all
-sum_to [] k d below = absurd (omega arith)
-sum_to {T} (p ∷ all) zero d below = let sum = sum_by-cons (λ (p : T × ℕ). p.1) p all in omega arith
-sum_to {T} (p ∷ all) (suc k) d below =
-    let whole = sum_by-cons (λ (p : T × ℕ). p.1) p all in
-    let part = sum_by-cons (λ (p : T × ℕ). p.1) p (take k all) in
-    let later = sum_to all k d (omega arith) in
+-- the numbers of the items before one, and its own, are no more than those of all
+sum_to : {A : Type 0} (f : A → ℕ) (all : List A) (k : ℕ) (d : A) → k < length all → sum_by f (take k all) + f (get_or all k d) ≤ sum_by f all
+sum_to f [] k d below = absurd (omega arith)
+sum_to f (p ∷ all) zero d below = let sum = sum_by-cons f p all in omega arith
+sum_to f (p ∷ all) (suc k) d below =
+    let whole = sum_by-cons f p all in
+    let part = sum_by-cons f p (take k all) in
+    let later = sum_to f all k d (omega arith) in
     omega arith
+
+abbrev one_if : Bool → ℕ
+one_if b = cond b 1 0
+
+one_of_none : (k : ℕ) → k ≡ 0 → one_if (k == 0) ≡ 1
+one_of_none k none = grind (arith, nat_tests)
+
+none_of_some : (k : ℕ) → 0 < k → one_if (k == 0) ≡ 0
+none_of_some k some = grind (arith, nat_tests)
+
+one_or_none : (k d e : ℕ) → e ≤ d + 1 → (0 < k → e ≤ d) → e ≤ d + one_if (k == 0)
+one_or_none k d e one none = elim (cases_lt 0 k) [
+  | inl some ↦
+      let fewer = none some in
+      let no = none_of_some k some in
+      omega (arith, fewer, no)
+  | inr few ↦ let is = one_of_none k (omega (arith, few)) in omega (arith, one, is)
+]
 
 module _ {T : Type 0} {eq : T → T → Bool} (laws : IsEquivalence eq) where
   -- how often v occurs in what a walk gives: the sum of the counts beside the values that equal it
@@ -38,6 +59,46 @@ module _ {T : Type 0} {eq : T → T → Bool} (laws : IsEquivalence eq) where
       let sum = sum_by-cons (λ (p : T × ℕ). cond (eq v p.0) p.1 0) e W in
       omega arith
 
+-- ---- what X lacks
+
+module _ {T : Type 0} (eq : T → T → Bool) (X : List T) where
+  abbrev one_lacked : T × ℕ → ℕ
+  one_lacked e = one_if (count eq e.0 X == 0)
+
+  -- how many of these values X lacks
+  abbrev lacked : List (T × ℕ) → ℕ
+  lacked es = sum_by one_lacked es
+
+module _ {T S : Type 0} {eq : T → T → Bool} (laws : IsEquivalence eq) (X : List T) where
+  -- the bag has each value of X
+  abbrev Has : Bag T S → Type 0
+  Has bag = (v : T) → 0 < count eq v X → 0 < count eq v bag.items
+
+  still_has : (v : T) (n : ℕ) (before after : Bag T S) → Inserts eq v n before after → Has before → Has after
+  still_has v n before after went has = λ u some.
+      let was = has u some in
+      let now = count_inserted_any laws before after u v n went.added in
+      omega (arith, was, now)
+
+  has_in_turn : (pairs : List (T × ℕ)) (before after : Bag T S) → InTurn eq pairs before after → Has before → Has after
+  has_in_turn [] before after same has = subst (λ (b : Bag T S). Has b) (sym same) has
+  has_in_turn (p ∷ pairs) before after h has = has_in_turn pairs h.0 after h.2 (still_has p.0 p.1 before h.0 h.1 has)
+
+  -- only what X lacks is a value more
+  few_lacked : (pairs : List (T × ℕ)) (before after : Bag T S) → InTurn eq pairs before after → Has before → distinct_count eq after.items ≤ distinct_count eq before.items + lacked eq X pairs
+  few_lacked [] before after same has = let as_many = ap (λ (b : Bag T S). distinct_count eq b.items) same in omega (arith, as_many)
+  few_lacked (p ∷ pairs) before after h has =
+      let first = one_or_none (count eq p.0 X) (distinct_count eq before.items) (distinct_count eq h.0.items) h.1.set_len (λ some. let same = h.1.same_set (has p.0 some) in omega (arith, same)) in
+      let later = few_lacked pairs h.0 after h.2 (still_has p.0 p.1 before h.0 h.1 has) in
+      let sum = sum_by-cons (one_lacked eq X) p pairs in
+      omega (arith, first, later, sum)
+
+  none_of_none : (v : T) (bag : Bag T S) → Has bag → count eq v bag.items ≡ 0 → count eq v X ≡ 0
+  none_of_none v bag has none = elim (cases_lt 0 (count eq v X)) [
+    | inl some ↦ let there = has v some in absurd (omega (arith, there, none))
+    | inr few ↦ omega (arith, few)
+  ]
+
 module _ {T S : Type 0} {eq : T → T → Bool} (laws : IsEquivalence eq) where
   -- what fits is refused only for memory
   declined_pair : (bag : Bag T S) (v : T) (n : ℕ) (e : BagError) → Refuses eq bag.most bag.items v n e → length bag.items + n ≤ bag.most → e ≡ Memory
@@ -45,26 +106,34 @@ module _ {T S : Type 0} {eq : T → T → Bool} (laws : IsEquivalence eq) where
   declined_pair bag v n Memory asks fits = refl
   declined_pair bag v n BelowTotal never fits = absurd never
 
-  -- an extend by a known list of pairs isn't refused where there is room for as many values, and the limit allows their numbers
-  pub no_pair_refused : {I : Type 0} {steps : I → Option (T × ℕ) → I → Type 0} {it : I} {all : List (T × ℕ)} {before after : Bag T S} {e : BagError}
-      → InsertsUpTo eq steps AsItIs (RefusesPair eq) it before after e → YieldsList steps (λ x. x) it all → length all ≤ room before.tables → length before.items + sum_by (λ p. p.1) all ≤ before.most → ⊥
-  no_pair_refused {all = all} {before = before} {after = after} {e = e} h yields enough fits =
+  -- an extend by a known list of pairs isn't refused where there is room for those that a list X lacks, whose values the bag has, and the
+  -- limit allows their numbers
+  pub no_pair_refused : {I : Type 0} {steps : I → Option (T × ℕ) → I → Type 0} {it : I} {all : List (T × ℕ)} {before after : Bag T S} {e : BagError} → (X : List T)
+      → ((v : T) → 0 < count eq v X → 0 < count eq v before.items)
+      → InsertsUpTo eq steps AsItIs (RefusesPair eq) it before after e → YieldsList steps (λ x. x) it all → length (lacking eq X all) ≤ room before.tables → length before.items + sum_by (λ p. p.1) all ≤ before.most → ⊥
+  no_pair_refused {all = all} {before = before} {after = after} {e = e} X has h yields enough fits =
       let turn = YieldsList-turn yields h.items h.came.0 h.came.1 (Some h.refused) h.rest h.refused refl h.came.2 in
       let fewer : length h.items < length all = turn.0 in
-      let so_far = sym (map-id h.items) ∙ YieldsList-so_far yields h.items h.came.0 h.came.1 in
-      let pairs = pairs_as_they_are h.items h.pairs h.went in
-      let as_many = ap (λ (l : List (T × ℕ)). length l) pairs in
+      let came : h.pairs ≡ take (length h.items) all = pairs_as_they_are h.items h.pairs h.went ∙ sym (map-id h.items) ∙ YieldsList-so_far yields h.items h.came.0 h.came.1 in
       let long = length_in_turn eq h.pairs before after h.turn in
-      let numbers = ap (λ (l : List (T × ℕ)). sum_by (λ p. p.1) l) (pairs ∙ so_far) in
+      let numbers = ap (λ (l : List (T × ℕ)). sum_by (λ p. p.1) l) came in
       let number = ap (λ (p : T × ℕ). p.1) turn.1 in
-      let whole = sum_to all (length h.items) h.refused fewer in
+      let whole = sum_to (λ (p : T × ℕ). p.1) all (length h.items) h.refused fewer in
       let limit = (some_added laws h).limit in
       let memory = declined_pair after h.refused.0 h.refused.1 e h.why.why (omega (arith, long, numbers, number, whole, fits, limit)) in
-      let late = refused_after_room eq h.pairs before after h.refused.0 h.refused.1 h.turn (subst (λ (x : BagError). IsRefused eq after h.refused.0 h.refused.1 x) memory h.why) in
-      omega (arith, late, as_many, fewer, enough)
+      let declined = subst (λ (x : BagError). IsRefused eq after h.refused.0 h.refused.1 x) memory h.why in
+      let past = refused_past_room eq h.pairs before after h.refused.0 h.refused.1 h.turn declined in
+      let few = few_lacked laws X h.pairs before after h.turn has in
+      let none = none_of_none laws X h.refused.0 after (has_in_turn laws X h.pairs before after h.turn has) declined.why.2 in
+      let one : one_lacked eq X h.refused ≡ 1 = ap (λ (n : ℕ). one_if (n == 0)) none in
+      let same = ap (one_lacked eq X) turn.1 in
+      let so_far = ap (lacked eq X) came in
+      let last = sum_to (one_lacked eq X) all (length h.items) h.refused fewer in
+      let many : length (lacking eq X all) ≡ lacked eq X all = length-filter (λ e. count eq e.0 X == 0) all in
+      omega (arith, past, few, one, same, so_far, last, many, enough)
 
   -- so it succeeds
-  pub takes_pairs : {I A : Type 0} {steps : I → Option (T × ℕ) → I → Type 0} {it : I} {all : List (T × ℕ)} → (before after : Bag T S) (r : Result A BagError)
-      → IfErr r (InsertsUpTo eq steps AsItIs (RefusesPair eq) it before after) → YieldsList steps (λ x. x) it all → length all ≤ room before.tables → length before.items + sum_by (λ p. p.1) all ≤ before.most → IsOk r
-  takes_pairs before after (Ok a) h yields enough fits = refl
-  takes_pairs before after (Err e) h yields enough fits = absurd (no_pair_refused h yields enough fits)
+  pub takes_pairs : {I A : Type 0} {steps : I → Option (T × ℕ) → I → Type 0} {it : I} {all : List (T × ℕ)} → (before after : Bag T S) (r : Result A BagError) (X : List T) → ((v : T) → 0 < count eq v X → 0 < count eq v before.items)
+      → IfErr r (InsertsUpTo eq steps AsItIs (RefusesPair eq) it before after) → YieldsList steps (λ x. x) it all → length (lacking eq X all) ≤ room before.tables → length before.items + sum_by (λ p. p.1) all ≤ before.most → IsOk r
+  takes_pairs before after (Ok a) X has h yields enough fits = refl
+  takes_pairs before after (Err e) X has h yields enough fits = absurd (no_pair_refused X has h yields enough fits)

@@ -1,22 +1,26 @@
 //! Sums of two bags, and what one bag keeps of its own beside another.
-ghost use Rattle.std.specs.Prelude.{◌≡◌, ◌+◌, ◌-◌, ◌<◌, ◌≤◌, min, max, List, length, All, true, OnOk, OnErr};
+ghost use Rattle.std.specs.Prelude.{◌≡◌, ℕ, ◌+◌, ◌-◌, ◌<◌, ◌≤◌, min, max, List, length, All, true, OnOk, OnErr};
+ghost use Rattle.hashbag.specs.Joins.{IsNotIn};
+ghost use Rattle.hashbag.specs.JoinsLeft.{lacking};
 ghost use Rattle.hashbag.specs.Occurrences.{count, distinct_count};
 ghost use Rattle.hashbag.specs.Tables.{room};
+ghost use Rattle.hashbag.specs.Walks.{IsSetWalkOf};
 ghost use Rattle.hashbag_ops.specs.Unions.{IsUnion};
 
 use hashbag::{BagError, HashBag};
 use std::hash::{BuildHasher, Hash};
+use std::iter::ExactSizeIterator;
 
 /// Adds all of one bag to another, and uses it up: of each value there are then as many as in both together.
 ///
-/// All goes in, or nothing: room is made for every distinct value of `from` before the first goes in, as if none of them were in
-/// `into` yet. Where a value is in both, the instance that is stored in `into` stays. The limit of `into` stays, and that of `from`
-/// doesn't matter.
+/// All goes in, or nothing: room is made for the values that `into` lacks before the first goes in, and no more. Where a value is in
+/// both, the instance that is stored in `into` stays. The limit of `into` stays, and that of `from` doesn't matter.
 ///
 /// It answers `TooMany` exactly where the total would pass the limit of `into`, before anything grows, and `Memory` where there
 /// isn't that room and memory is refused. Then `into` is unchanged, and `from` is dropped.
 ///
-/// Each distinct value of `from` is hashed once; those of `into` are where it grows.
+/// Each distinct value of `from` is hashed once, and once more where there isn't room for all of them and `into` isn't empty, to see
+/// whether `into` lacks it; those of `into` are where it grows.
 ///
 ///     let mut stock: HashBag<&str> = HashBag::new(alloc);
 ///     stock.insert_many("bolt", 2)?;
@@ -36,18 +40,58 @@ pub fn merge<T: Eq + Hash + Drop, S: BuildHasher + Drop, S2: BuildHasher + Drop>
     ensures hasher { into.new.hasher ≡ into.old.hasher }
     ensures err { OnErr result (into.new ≡ into.old) }
 
-    // The total is tested first; then only memory can be refused, and only where there isn't room for all values of `from`.
+    // The total is tested first; then only memory can be refused, and only where there isn't room for the values of `from` that `into`
+    // lacks.
     ensures too_many { into.old.most < length into.old.items + length from.items → result ≡ Err BagError.TooMany }
     ensures refused { result ≡ Err BagError.TooMany → into.old.most < length into.old.items + length from.items }
     ensures memory { length into.old.items + length from.items ≤ into.old.most → OnErr result (result ≡ Err BagError.Memory) }
     ensures full { result ≡ Err BagError.Memory → room into.old.tables < distinct_count T.eq from.items }
+    ensures lacks { result ≡ Err BagError.Memory → (M : List (T × ℕ)) → IsNotIn T.eq from.items into.old.items M → room into.old.tables < length M }
 {
     if from.len() > into.limit() - into.len() {
         return Err(BagError::TooMany);
     }
-    into.reserve(from.set_len())?;
+    make_room(into, &from)?;
     into.extend_many(from.into_iter()).unwrap();
     Ok(())
+}
+
+// Makes room for the values of `from` that `into` lacks. They are counted only where there isn't room for all values of `from`.
+fn make_room<T: Eq + Hash + Drop, S: BuildHasher + Drop, S2: BuildHasher + Drop>(
+    into: &mut HashBag<T, S>,
+    from: &HashBag<T, S2>,
+) -> Result<(), BagError>
+    ensures counts { (v : T) → count T.eq v into.new.items ≡ count T.eq v into.old.items }
+    ensures len { length into.new.items ≡ length into.old.items }
+    ensures limit { into.new.most ≡ into.old.most }
+    ensures hasher { into.new.hasher ≡ into.old.hasher }
+    ensures room { OnOk result ((W : List (T × ℕ)) → IsSetWalkOf T.eq from.now W → length (lacking T.eq into.old.items W) ≤ room into.new.tables) }
+    ensures err { OnErr result (into.new ≡ into.old) }
+    ensures memory { OnErr result (result ≡ Err BagError.Memory) }
+    ensures full { OnErr result (room into.old.tables < distinct_count T.eq from.now.items) }
+    ensures lacks { OnErr result ((M : List (T × ℕ)) → IsNotIn T.eq from.now.items into.old.items M → room into.old.tables < length M) }
+{
+    if from.set_len() <= into.room() {
+        return Ok(());
+    }
+    let lacked = lacked_by(into, from);
+    into.reserve(lacked)?;
+    Ok(())
+}
+
+// How many distinct values of `from` a bag lacks.
+fn lacked_by<T: Eq + Hash + Drop, S: BuildHasher + Drop, S2: BuildHasher + Drop>(
+    bag: &HashBag<T, S>,
+    from: &HashBag<T, S2>,
+) -> usize
+    ensures { (M : List (T × ℕ)) → IsNotIn T.eq from.now.items bag.now.items M → result ≡ length M }
+{
+    if bag.is_empty() {
+        return from.set_iter().len();
+    }
+    // `limit` is called for its clause that the occurrences can be counted, which the proof cites.
+    let _limit = from.limit();
+    from.not_in(bag).count()
 }
 
 /// Adds clones of all of one bag to another, which stays as it is: [`merge`] of a copy.
@@ -56,7 +100,8 @@ pub fn merge<T: Eq + Hash + Drop, S: BuildHasher + Drop, S2: BuildHasher + Drop>
 /// would pass the limit of `into`, before anything is cloned, and `Memory` where memory is refused to the copy, to a clone of a value
 /// or of the state, or to the room. Then `into` is unchanged.
 ///
-/// It takes memory for a copy of `from` while it runs. Each distinct value of `from` is hashed twice; those of `into` where it grows.
+/// It takes memory for a copy of `from` while it runs. Each distinct value of `from` is hashed once more than by [`merge`], for that
+/// copy; those of `into` where it grows.
 ///
 ///     let mut all: HashBag<&str> = HashBag::new(alloc);
 ///     let mut day: HashBag<&str> = HashBag::new(alloc);
@@ -80,7 +125,7 @@ pub fn merge_ref<
     ensures refused { result ≡ Err BagError.TooMany → into.old.most < length into.old.items + length from.now.items }
     ensures memory { length into.old.items + length from.now.items ≤ into.old.most → OnErr result (result ≡ Err BagError.Memory) }
 {
-    if from.len() > into.limit() - into.len() {
+    if into.limit() - into.len() < from.len() {
         return Err(BagError::TooMany);
     }
     let copy = from.clone()?;
@@ -151,9 +196,9 @@ pub fn take_away<T: Eq + Hash + Drop, S: BuildHasher + Drop, S2: BuildHasher + D
 ///
 /// All goes in, or nothing. What `from` has more of is added, as [`merge`] does, so the limit of `into` stays. It answers
 /// `TooMany` exactly where the total of these greater counts would pass that limit, before anything grows, and `Memory` where memory
-/// is refused to room for the values of which `from` has more. Then `into` is unchanged, and `from` is dropped.
+/// is refused to room for the values that `into` lacks. Then `into` is unchanged, and `from` is dropped.
 ///
-/// Each distinct value of `from` is hashed twice at most, those of `into` where it grows.
+/// Each distinct value of `from` is hashed three times at most; those of `into` where it grows.
 ///
 ///     let mut needed: HashBag<&str> = HashBag::new(alloc);
 ///     needed.insert_many("bolt", 2)?;

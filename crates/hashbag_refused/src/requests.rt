@@ -33,7 +33,7 @@ enum Verb {
     OrInsert,
     // Joins with a bag of three values, and whether the two are equal.
     Joins,
-    // Sums with a bag of three values, of which all are there.
+    // Sums with a bag of three values, of which two are there.
     Merge,
     MergeRef,
     KeepMost,
@@ -139,8 +139,18 @@ fn inserted(
     size: u64,
     refusals: &mut Refusals,
 ) -> Result<Option<HashBag<u64>>, Wrong> {
+    inserted_from(alloc, 0, size, refusals)
+}
+
+// The numbers from `first` on that are below `size`.
+fn inserted_from(
+    alloc: Global,
+    first: u64,
+    size: u64,
+    refusals: &mut Refusals,
+) -> Result<Option<HashBag<u64>>, Wrong> {
     let mut bag = HashBag::new(alloc);
-    for value in 0..size {
+    for value in first..size {
         if refusals.answer(bag.insert(value))?.is_none() {
             return Ok(None);
         }
@@ -167,12 +177,22 @@ fn make_on(
             Some(other) => joined(&bag, &other),
             None => Ok(()),
         },
-        Verb::Merge | Verb::MergeRef | Verb::KeepMost | Verb::Parts => {
-            match inserted(alloc, 3, refusals)? {
-                Some(other) => with_other(&mut bag, other, verb, refusals),
+        Verb::Merge | Verb::MergeRef | Verb::KeepMost => {
+            let size = bag.len() as u64;
+            match inserted_from(
+                alloc,
+                size.saturating_sub(2),
+                size.saturating_add(1),
+                refusals,
+            )? {
+                Some(other) => summed(&mut bag, other, verb, refusals),
                 None => Ok(()),
             }
         }
+        Verb::Parts => match inserted(alloc, 3, refusals)? {
+            Some(other) => parts(&mut bag, &other),
+            None => Ok(()),
+        },
         Verb::Sorted => listed(sorted(alloc, &bag), bag.set_len(), refusals),
         Verb::MostCommon => listed(most_common(alloc, &bag, 3), 3, refusals),
         Verb::Clone => made(bag.clone(), refusals),
@@ -189,8 +209,8 @@ fn make_on(
     }
 }
 
-// A sum of a bag with another, or what takes no memory. Where a sum is refused, the bag is as it was.
-fn with_other(
+// A sum of a bag with another, of whose three values one is absent. Where it is refused, the bag is as it was.
+fn summed(
     bag: &mut HashBag<u64>,
     other: HashBag<u64>,
     verb: Verb,
@@ -200,21 +220,19 @@ fn with_other(
     let sum = match verb {
         Verb::Merge => merge(bag, other),
         Verb::MergeRef => merge_ref(bag, &other),
-        Verb::KeepMost => keep_most(bag, other),
-        _ => return parts(bag, &other),
+        _ => keep_most(bag, other),
     };
-    let added = if sum.is_ok() && !matches!(verb, Verb::KeepMost) {
-        3
-    } else {
-        0
+    let added = match verb {
+        Verb::KeepMost => 1,
+        _ => 3,
     };
     let refused = sum.is_err();
     done(sum, refusals)?;
-    check(bag.len() == len.saturating_add(added), "the total of a sum")?;
-    check(
-        !refused || tables(bag) == before,
-        "the tables after a refused sum",
-    )
+    if refused {
+        check(bag.len() == len, "the total after a refused sum")?;
+        return check(tables(bag) == before, "the tables after a refused sum");
+    }
+    check(bag.len() == len.saturating_add(added), "the total of a sum")
 }
 
 // The slots, those that wait, and the room.

@@ -19,9 +19,11 @@ const ROWS: &str = "
     merge | 1..25 | 1:5 25:2 | (64, 16, 23)
     merge | 1..25 | 26:1 | (64, 0, 22)
     merge | 1..25 | 26..48 | (64, 0, 0)
-    merge | 1..25 | 1:1 26..48 | (128, 0, 48)
+    merge | 1..25 | 1:1 26..48 | (64, 0, 0)
+    merge | 1..25 | 2..49 | (128, 0, 47)
     merge | 1:1 | 1..25 | (64, 0, 23)
-    merge | 1..12 | 1..12 | (32, 0, 12)
+    merge | 1..12 | 1..12 | (16, 0, 0)
+    merge | 1..12 | 1..13 | (32, 0, 11)
     merge_ref | | | (0, 0, 0)
     merge_ref | 1..25 | 1:5 25:2 | (64, 16, 23)
     merge_ref | 1..25 | 26:1 | (64, 0, 22)
@@ -29,7 +31,7 @@ const ROWS: &str = "
     keep_most | 1..25 | 1:1 2:1 | (64, 16, 23)
     keep_most | 1..25 | 1:2 26:1 | (64, 0, 22)
     keep_most | 1..12 | 1..12 | (16, 0, 0)
-    keep_most | 1..12 | 1:2 2..12 | (32, 0, 12)
+    keep_most | 1..12 | 1:2 2..12 | (16, 0, 0)
     keep_common | | 1:1 | (0, 0, 0)
     keep_common | 1:1 2:5 3:1 | 2:1 | (16, 0, 9)
     keep_common | 1..25 | 1..25 | (64, 16, 23)
@@ -63,7 +65,7 @@ fn has_tables<S: BuildHasher + Default + Drop, S2: BuildHasher + Default + Clone
 
 #[test]
 fn tables_after_each_call(rt: HostRuntime) -> Result<(), Fail> {
-    for row in rows_of(rt.alloc(), ROWS, 25)? {
+    for row in rows_of(rt.alloc(), ROWS, 27)? {
         has_tables::<FixedState, OneState>(rt.alloc(), row)?;
         has_tables::<OneState, IdentityState>(rt.alloc(), row)?;
         has_tables::<IdentityState, FixedState>(rt.alloc(), row)?;

@@ -2,7 +2,7 @@ use Rattle.std.proofs.Common.{ℕ, List, cond, sum_by, sym, ◌∙◌, ap, refl,
 use Rattle.std.proofs.lemmas.Iterator.Consumers.{YieldsList-from_first}
 use Rattle.std.proofs.lemmas.List.{map-id}
 use Rattle.hashbag.specs.Bag.{occurrences}
-use Rattle.hashbag.proofs.CallerLemmas.{count_extended, count_kept, items_that_came, pairs_as_they_are}
+use Rattle.hashbag.proofs.CallerLemmas.{count_extended, items_that_came, pairs_as_they_are}
 use Rattle.hashbag.proofs.InsertLemmas.{all_added, longer_by_numbers}
 use Rattle.hashbag.proofs.OccurrenceLemmas.{count_rearranged}
 use Rattle.hashbag_ops.proofs.Sums.{count_written, takes_pairs}
@@ -13,13 +13,12 @@ pub unwrap-requires : goal.unwrap-requires
 unwrap-requires g c =
     let walk = c.into_iter.ensures.into_iter_gives in
     let total = walk.total in
-    let distinct = walk.distinct in
-    let values = c.set_len.ensures in
-    let enough = c.in_ok-reserve.ensures.room in
-    let same = c.in_ok-reserve.ensures.len in
-    let limit = c.in_ok-reserve.ensures.kept.limit in
-    takes_pairs g.met.T.Eq.laws c.reserve.new.self c.extend_many.new.self c.extend_many.result c.extend_many.ensures.refused (YieldsList-from_first (λ x. x) (λ s. s) c.into_iter.result refl)
-    (omega (arith, enough, distinct, values)) (omega (arith, same, limit, total))
+    let same = c.in_ok-make_room.ensures.len in
+    let limit = c.in_ok-make_room.ensures.limit in
+    takes_pairs g.met.T.Eq.laws c.make_room.new.into c.extend_many.new.self c.extend_many.result c.args.into.now.items
+    (λ v some. let kept = c.in_ok-make_room.ensures.counts v in omega (arith, kept, some))
+    c.extend_many.ensures.refused (YieldsList-from_first (λ x. x) (λ s. s) c.into_iter.result refl)
+    (c.in_ok-make_room.ensures.room c.into_iter.result walk) (omega (arith, same, limit, total))
 
 -- the pairs that came are those of a walk over `from`
 pub returns-clause-counts : goal.returns-clause-counts
@@ -30,11 +29,11 @@ returns-clause-counts g c =
     let W = c.into_iter.result in
     let came = sym (map-id all.items) ∙ items_that_came all.items all.came (YieldsList-from_first (λ x. x) (λ s. s) W refl) in
     λ v.
-    let whole = count_extended laws v c.reserve.new.self.items all.pairs c.extend_many.new.self (all_added laws all).means in
+    let whole = count_extended laws v c.make_room.new.into.items all.pairs c.extend_many.new.self (all_added laws all).means in
     let same = ap (λ (l : List (g.row.T.Denot × ℕ)). sum_by (λ p. cond (eq v p.0) p.1 0) l) (pairs_as_they_are all.items all.pairs all.went ∙ came) in
     let written = count_written laws v W in
     let walked = count_rearranged laws v (occurrences W) c.args.from.items c.into_iter.ensures.into_iter_gives.means in
-    let kept = count_kept laws c.args.into.now c.reserve.new.self v c.in_ok-reserve.ensures.kept in
+    let kept = c.in_ok-make_room.ensures.counts v in
     omega (arith, whole, same, written, walked, kept)
 
 pub returns-clause-len : goal.returns-clause-len
@@ -43,11 +42,11 @@ returns-clause-len g c =
     let long = longer_by_numbers all (λ p. p.1) (λ x p is. ap (λ (q : g.row.T.Denot × ℕ). q.1) is) in
     let came = ap (λ (l : List (g.row.T.Denot × ℕ)). sum_by (λ p. p.1) l) (sym (map-id all.items) ∙ items_that_came all.items all.came (YieldsList-from_first (λ x. x) (λ s. s) c.into_iter.result refl)) in
     let total = c.into_iter.ensures.into_iter_gives.total in
-    let same = c.in_ok-reserve.ensures.len in
+    let same = c.in_ok-make_room.ensures.len in
     omega (arith, long, came, total, same)
 
 pub returns-clause-limit : goal.returns-clause-limit
-returns-clause-limit g c = (all_added g.met.T.Eq.laws (rw c.unwrap.ensures at c.extend_many.ensures.all)).limit ∙ c.in_ok-reserve.ensures.kept.limit
+returns-clause-limit g c = (all_added g.met.T.Eq.laws (rw c.unwrap.ensures at c.extend_many.ensures.all)).limit ∙ c.in_ok-make_room.ensures.limit
 
 pub returns-clause-hasher : goal.returns-clause-hasher
-returns-clause-hasher g c = (all_added g.met.T.Eq.laws (rw c.unwrap.ensures at c.extend_many.ensures.all)).hasher ∙ c.in_ok-reserve.ensures.kept.hasher
+returns-clause-hasher g c = (all_added g.met.T.Eq.laws (rw c.unwrap.ensures at c.extend_many.ensures.all)).hasher ∙ c.in_ok-make_room.ensures.hasher
