@@ -205,6 +205,37 @@ fn walks_dropped<S: BuildHasher + Copy>(
     Ok(())
 }
 
+// Takes so many items of a walk that lends them, and drops it.
+fn lend_items<I: Iterator + Drop>(walk: I, taken: usize)
+where
+    I::Item: Drop,
+    requires any { (state : _) → I.can_next state }
+{
+    let mut walk = walk;
+    for _ in 0..taken {
+        let _ = walk.next();
+    }
+}
+
+// Walks that lend the values of a bag in the middle of a carry drop none of them, whenever they are dropped.
+fn lending_walks_dropped<S: BuildHasher + Drop>(
+    rt: &impl Abort,
+    alloc: Global,
+    state: S,
+) -> Result<(), Fail> {
+    let drops = Cell::new(0);
+    let bag = carrying(rt, alloc, state, &drops)?;
+    for taken in 0..=25 {
+        lend_items(bag.iter(), taken);
+        has_dropped(rt, "a walk", &drops, 0);
+        lend_items(bag.set_iter(), taken);
+        has_dropped(rt, "a walk over values with counts", &drops, 0);
+    }
+    drop(bag);
+    has_dropped(rt, "the drop of a bag that lent", &drops, 25);
+    Ok(())
+}
+
 fn each_walk_dropped<S: BuildHasher + Copy>(
     rt: &impl Abort,
     alloc: Global,
@@ -213,7 +244,7 @@ fn each_walk_dropped<S: BuildHasher + Copy>(
     for taken in 0..=25 {
         walks_dropped(rt, alloc, state, taken)?;
     }
-    Ok(())
+    lending_walks_dropped(rt, alloc, state)
 }
 
 #[test]
