@@ -2,10 +2,11 @@
 use crate::checks::{Refusals, Wrong, check};
 use crate::counted::{Counted, Values};
 use crate::counts::tables_of;
-use hashbag::script::{Step, run};
+use hashbag::script::{Step, run, run_pair};
 use hashbag::{BagError, HashBag};
 use hashbag_bench::OneState;
 use std::alloc::{AllocError, Global};
+use std::hash::Hash;
 
 // A bag of such values.
 type Bag<'a> = HashBag<Counted<'a>, OneState>;
@@ -173,9 +174,10 @@ fn carried_on<'a>(
 type After = (usize, usize, usize);
 
 // Calls that ask for memory on a bag with no room, with what it has where they are refused and where they are done.
-const CALLS: [(&str, After, After); 7] = [
+const CALLS: [(&str, After, After); 8] = [
     ("insert_many", (1, 0, 12), (1, 2, 14)),
     ("replace", (1, 0, 12), (1, 1, 13)),
+    ("or_insert_many", (1, 0, 12), (1, 3, 15)),
     ("extend", (2, 0, 13), (3, 1, 16)),
     ("extend_many", (3, 0, 14), (3, 4, 18)),
     ("extend_refs", (2, 0, 13), (3, 1, 16)),
@@ -189,6 +191,15 @@ fn done(answer: Result<usize, BagError>) -> Result<(), BagError> {
         Ok(_) => Ok(()),
         Err(error) => Err(error),
     }
+}
+
+// Inserts at an entry of a bag of any values.
+fn or_insert_many<T: Eq + Hash + Drop>(
+    bag: &mut HashBag<T, OneState>,
+    value: T,
+    n: usize,
+) -> Result<usize, BagError> {
+    bag.entry(value).or_insert_many(n)
 }
 
 // Makes an extend by values that are lent.
@@ -222,6 +233,7 @@ fn made<'a>(bag: &mut Bag<'a>, values: &'a Values, call: &str) -> Result<(), Bag
     match call {
         "insert_many" => done(bag.insert_many(thirteen, 2)),
         "replace" => done(bag.replace(thirteen)),
+        "or_insert_many" => done(or_insert_many(bag, thirteen, 3)),
         "extend" => bag.extend([nine, thirteen, values.value(9), values.value(14)].into_iter()),
         "extend_many" => bag.extend_many([(nine, 2), (thirteen, 4)].into_iter()),
         _ => bag.reserve(40),
@@ -300,17 +312,64 @@ fn run_without_room(alloc: Global, values: &Values, refusals: &mut Refusals) -> 
     };
     let mut replies = Vec::new(alloc);
     let done = refusals.is_done(run(&mut bag, steps, &mut replies))?;
-    let (wanted, slots) = match replies.len() {
-        0 => ((1, 0, 12), (16, 0, 0)),
-        1 => ((2, 0, 13), (16, 0, 0)),
-        _ => ((2, 1, 14), (32, 0, 11)),
-    };
-    check(state_of(&bag, values) == wanted, "a run without room")?;
-    check(tables_of(&bag) == slots, "a run without room: the slots")?;
+    is_after(&bag, values, replies.len(), "a run without room")?;
     check(
         done == (replies.len() == 2),
         "a run without room: its replies",
     )
+}
+
+// The bag of such a run has what so many replies say.
+fn is_after<'a>(
+    bag: &Bag<'a>,
+    values: &'a Values,
+    replies: usize,
+    wrong: &'static str,
+) -> Result<(), Wrong> {
+    let (wanted, slots) = match replies {
+        0 => ((1, 0, 12), (16, 0, 0)),
+        1 => ((2, 0, 13), (16, 0, 0)),
+        _ => ((2, 1, 14), (32, 0, 11)),
+    };
+    check(
+        (state_of(bag, values), tables_of(bag)) == (wanted, slots),
+        wrong,
+    )
+}
+
+// Such runs on two bags. Where the replies of either have no room, no step is done.
+fn runs_without_room(alloc: Global, values: &Values, refusals: &mut Refusals) -> Result<(), Wrong> {
+    let Some(mut a) = filled(alloc, values, 12, refusals)? else {
+        return Ok(());
+    };
+    let Some(mut b) = filled(alloc, values, 12, refusals)? else {
+        return Ok(());
+    };
+    let Ok(first) = two_insertions(alloc, values) else {
+        refusals.count();
+        return Ok(());
+    };
+    let Ok(second) = two_insertions(alloc, values) else {
+        refusals.count();
+        return Ok(());
+    };
+    let (mut replies_a, mut replies_b) = (Vec::new(alloc), Vec::new(alloc));
+    let answer = run_pair(
+        &mut a,
+        &mut b,
+        first,
+        second,
+        &mut replies_a,
+        &mut replies_b,
+    );
+    let done = refusals.is_done(answer)?;
+    is_after(&a, values, replies_a.len(), "two runs: the first bag")?;
+    is_after(&b, values, replies_b.len(), "two runs: the second bag")?;
+    check(
+        replies_b.is_empty() || replies_a.len() == 2,
+        "two runs: the second before the first was done",
+    )?;
+    check(done == (replies_b.len() == 2), "two runs: the replies")
 }
 
 // A bag of 9 twice and of 13, or none.
@@ -410,6 +469,8 @@ pub fn full_bags(alloc: Global, refusals: &mut Refusals) -> Result<(), Wrong> {
     }
     entry_without_room(alloc, refusals)?;
     run_without_room(alloc, &values, refusals)?;
+    values.are_gone()?;
+    runs_without_room(alloc, &values, refusals)?;
     values.are_gone()?;
     collected(alloc, &values, refusals)?;
     values.are_gone()?;

@@ -94,7 +94,11 @@ fn reserved_under<S: BuildHasher + Drop>(
         answer == Err(BagError::Memory),
         "reserve: for too many values",
     )?;
-    check(tables_of(&bag) == (32, 0, 11), "reserve: the slots")
+    check(tables_of(&bag) == (32, 0, 11), "reserve: the slots")?;
+    check(
+        (bag.len(), bag.set_len()) == (26, 13),
+        "reserve: the values",
+    )
 }
 
 /// Room for 13 values under each state.
