@@ -5,7 +5,7 @@ use crate::counts::tables_of;
 use hashbag::script::{Step, run, run_pair};
 use hashbag::{BagError, HashBag};
 use hashbag_bench::OneState;
-use std::alloc::{AllocError, Global};
+use std::alloc::Global;
 use std::hash::Hash;
 
 // A bag of such values.
@@ -291,14 +291,23 @@ fn entry_without_room(alloc: Global, refusals: &mut Refusals) -> Result<(), Wron
     )
 }
 
+// Two steps. `None` where their list was refused.
 fn two_insertions<'a>(
     alloc: Global,
     values: &'a Values,
-) -> Result<Vec<Step<Counted<'a>>>, AllocError> {
-    Ok(vec![in alloc;
+    refusals: &mut Refusals,
+) -> Option<Vec<Step<Counted<'a>>>> {
+    let steps = [
         Step::Insert(values.value(9)),
         Step::Insert(values.value(13)),
-    ]?)
+    ];
+    match Vec::from_array(alloc, steps) {
+        Ok(steps) => Some(steps),
+        Err(_) => {
+            refusals.count();
+            None
+        }
+    }
 }
 
 // A run of two steps on a bag with no room, of which the second asks for memory. Where the replies have no room, neither is done.
@@ -306,8 +315,7 @@ fn run_without_room(alloc: Global, values: &Values, refusals: &mut Refusals) -> 
     let Some(mut bag) = filled(alloc, values, 12, refusals)? else {
         return Ok(());
     };
-    let Ok(steps) = two_insertions(alloc, values) else {
-        refusals.count();
+    let Some(steps) = two_insertions(alloc, values, refusals) else {
         return Ok(());
     };
     let mut replies = Vec::new(alloc);
@@ -337,39 +345,50 @@ fn is_after<'a>(
     )
 }
 
-// Such runs on two bags. Where the replies of either have no room, no step is done.
+// Such runs on two bags.
 fn runs_without_room(alloc: Global, values: &Values, refusals: &mut Refusals) -> Result<(), Wrong> {
-    let Some(mut a) = filled(alloc, values, 12, refusals)? else {
+    let Some(a) = filled(alloc, values, 12, refusals)? else {
         return Ok(());
     };
-    let Some(mut b) = filled(alloc, values, 12, refusals)? else {
+    let Some(b) = filled(alloc, values, 12, refusals)? else {
         return Ok(());
     };
-    let Ok(first) = two_insertions(alloc, values) else {
-        refusals.count();
+    let Some(first) = two_insertions(alloc, values, refusals) else {
         return Ok(());
     };
-    let Ok(second) = two_insertions(alloc, values) else {
-        refusals.count();
+    let Some(second) = two_insertions(alloc, values, refusals) else {
         return Ok(());
     };
-    let (mut replies_a, mut replies_b) = (Vec::new(alloc), Vec::new(alloc));
-    let answer = run_pair(
-        &mut a,
-        &mut b,
-        first,
-        second,
-        &mut replies_a,
-        &mut replies_b,
-    );
+    run_both(alloc, values, (a, first), (b, second), refusals)
+}
+
+// Each bag is where its replies are.
+fn run_both<'a>(
+    alloc: Global,
+    values: &'a Values,
+    first: (Bag<'a>, Vec<Step<Counted<'a>>>),
+    second: (Bag<'a>, Vec<Step<Counted<'a>>>),
+    refusals: &mut Refusals,
+) -> Result<(), Wrong> {
+    let ((mut a, steps_a), (mut b, steps_b)) = (first, second);
+    let (mut in_a, mut in_b) = (Vec::new(alloc), Vec::new(alloc));
+    let answer = run_pair(&mut a, &mut b, steps_a, steps_b, &mut in_a, &mut in_b);
     let done = refusals.is_done(answer)?;
-    is_after(&a, values, replies_a.len(), "two runs: the first bag")?;
-    is_after(&b, values, replies_b.len(), "two runs: the second bag")?;
+    is_after(&a, values, in_a.len(), "two runs: the first bag")?;
+    is_after(&b, values, in_b.len(), "two runs: the second bag")?;
+    are_in_turn((in_a.len(), in_b.len()), done)
+}
+
+// How many replies two runs have: none where the replies had no room, and none of the second where the first was stopped.
+fn are_in_turn(replies: (usize, usize), is_done: bool) -> Result<(), Wrong> {
+    if is_done {
+        return check(replies == (2, 2), "two runs: the replies");
+    }
+    let stopped = [(0, 0), (1, 0), (2, 1)];
     check(
-        replies_b.is_empty() || replies_a.len() == 2,
-        "two runs: the second before the first was done",
-    )?;
-    check(done == (replies_b.len() == 2), "two runs: the replies")
+        stopped.contains(&replies),
+        "two runs: those before a refusal",
+    )
 }
 
 // A bag of 9 twice and of 13, or none.

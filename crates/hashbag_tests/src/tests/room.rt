@@ -29,6 +29,7 @@ const GIVEN_BACK: &str = "\
     tables = (16, 0, 10)
     capacity = 12
     clear = ()
+    tables = (16, 0, 12)
     shrink_to_fit = ()
     tables = (0, 0, 0)
     capacity = 0";
@@ -190,7 +191,7 @@ fn fixed_state_by_default(rt: HostRuntime) -> Result<(), Fail> {
 #[test]
 fn room_is_given_back(rt: HostRuntime) -> Result<(), Fail> {
     let mut bag = of_fixed_state(rt.alloc(), 100)?;
-    make_calls(rt.alloc(), &mut bag, GIVEN_BACK, 10)
+    make_calls(rt.alloc(), &mut bag, GIVEN_BACK, 11)
 }
 
 #[test]
