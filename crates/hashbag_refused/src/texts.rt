@@ -45,12 +45,13 @@ fn extend_and_clone(
     let items = [&names.0, &names.1, &names.0];
     let done = refusals.is_done(bag.extend_refs(items.into_iter()))?;
     let counts = counts_of(&bag, names);
+    let tables = tables_of(&bag);
     has_names(&bag, counts, done)?;
     if let Some(clone) = refusals.answer(bag.clone())? {
         check(clone == bag, "names: the clone is equal")?;
     }
     check(
-        counts_of(&bag, names) == counts,
+        (counts_of(&bag, names), tables_of(&bag)) == (counts, tables),
         "names: the source of a clone",
     )
 }
