@@ -2,7 +2,7 @@
 use crate::checks::{Refusals, Wrong, check};
 use crate::counts::tables_of;
 use hashbag::HashBag;
-use hashbag::script::{Reply, Step, joins_of, run_pair};
+use hashbag::script::{Reply, Step, joins_of, run, run_pair};
 use hashbag_bench::OneState;
 use serde_json::Value;
 use std::alloc::Global;
@@ -89,6 +89,27 @@ fn tables_after(replies: &[Reply<u64>]) -> (usize, usize, usize) {
     } else {
         TABLES_WITH_ROOM
     }
+}
+
+/// A bag is asked for room by a run of its own, or memory was refused: where its step has no reply it stays as it is.
+pub fn run_alone(alloc: Global, refusals: &mut Refusals) -> Result<(), Wrong> {
+    let Some(mut bag) = in_a_carry(alloc, refusals)? else {
+        return Ok(());
+    };
+    let Some(steps) = steps(alloc, refusals) else {
+        return Ok(());
+    };
+    let mut replies = Vec::new(alloc);
+    let done = refusals.is_done(run(&mut bag, steps, &mut replies))?;
+    check(
+        done == !replies.is_empty(),
+        "in a carry: the reply of one bag",
+    )?;
+    stands(
+        &bag,
+        tables_after(replies.as_slice()),
+        "in a carry: the bag of a run",
+    )
 }
 
 /// Each of two bags is asked for room by a run, or memory was refused: one whose step has no reply stays as it is.

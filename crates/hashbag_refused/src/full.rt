@@ -2,10 +2,11 @@
 use crate::checks::{Refusals, Wrong, check};
 use crate::counted::{Counted, Values};
 use crate::counts::tables_of;
-use hashbag::script::{Step, run};
+use hashbag::script::{Step, run, run_pair};
 use hashbag::{BagError, HashBag};
 use hashbag_bench::OneState;
-use std::alloc::{AllocError, Global};
+use std::alloc::Global;
+use std::hash::Hash;
 
 // A bag of such values.
 type Bag<'a> = HashBag<Counted<'a>, OneState>;
@@ -173,9 +174,10 @@ fn carried_on<'a>(
 type After = (usize, usize, usize);
 
 // Calls that ask for memory on a bag with no room, with what it has where they are refused and where they are done.
-const CALLS: [(&str, After, After); 7] = [
+const CALLS: [(&str, After, After); 8] = [
     ("insert_many", (1, 0, 12), (1, 2, 14)),
     ("replace", (1, 0, 12), (1, 1, 13)),
+    ("or_insert_many", (1, 0, 12), (1, 3, 15)),
     ("extend", (2, 0, 13), (3, 1, 16)),
     ("extend_many", (3, 0, 14), (3, 4, 18)),
     ("extend_refs", (2, 0, 13), (3, 1, 16)),
@@ -189,6 +191,15 @@ fn done(answer: Result<usize, BagError>) -> Result<(), BagError> {
         Ok(_) => Ok(()),
         Err(error) => Err(error),
     }
+}
+
+// Inserts at an entry of a bag of any values.
+fn or_insert_many<T: Eq + Hash + Drop>(
+    bag: &mut HashBag<T, OneState>,
+    value: T,
+    n: usize,
+) -> Result<usize, BagError> {
+    bag.entry(value).or_insert_many(n)
 }
 
 // Makes an extend by values that are lent.
@@ -222,6 +233,7 @@ fn made<'a>(bag: &mut Bag<'a>, values: &'a Values, call: &str) -> Result<(), Bag
     match call {
         "insert_many" => done(bag.insert_many(thirteen, 2)),
         "replace" => done(bag.replace(thirteen)),
+        "or_insert_many" => done(or_insert_many(bag, thirteen, 3)),
         "extend" => bag.extend([nine, thirteen, values.value(9), values.value(14)].into_iter()),
         "extend_many" => bag.extend_many([(nine, 2), (thirteen, 4)].into_iter()),
         _ => bag.reserve(40),
@@ -279,14 +291,23 @@ fn entry_without_room(alloc: Global, refusals: &mut Refusals) -> Result<(), Wron
     )
 }
 
+// Two steps. `None` where their list was refused.
 fn two_insertions<'a>(
     alloc: Global,
     values: &'a Values,
-) -> Result<Vec<Step<Counted<'a>>>, AllocError> {
-    Ok(vec![in alloc;
+    refusals: &mut Refusals,
+) -> Option<Vec<Step<Counted<'a>>>> {
+    let steps = [
         Step::Insert(values.value(9)),
         Step::Insert(values.value(13)),
-    ]?)
+    ];
+    match Vec::from_array(alloc, steps) {
+        Ok(steps) => Some(steps),
+        Err(_) => {
+            refusals.count();
+            None
+        }
+    }
 }
 
 // A run of two steps on a bag with no room, of which the second asks for memory. Where the replies have no room, neither is done.
@@ -294,22 +315,79 @@ fn run_without_room(alloc: Global, values: &Values, refusals: &mut Refusals) -> 
     let Some(mut bag) = filled(alloc, values, 12, refusals)? else {
         return Ok(());
     };
-    let Ok(steps) = two_insertions(alloc, values) else {
-        refusals.count();
+    let Some(steps) = two_insertions(alloc, values, refusals) else {
         return Ok(());
     };
     let mut replies = Vec::new(alloc);
     let done = refusals.is_done(run(&mut bag, steps, &mut replies))?;
-    let (wanted, slots) = match replies.len() {
+    is_after(&bag, values, replies.len(), "a run without room")?;
+    check(
+        done == (replies.len() == 2),
+        "a run without room: its replies",
+    )
+}
+
+// The bag of such a run has what so many replies say.
+fn is_after<'a>(
+    bag: &Bag<'a>,
+    values: &'a Values,
+    replies: usize,
+    wrong: &'static str,
+) -> Result<(), Wrong> {
+    let (wanted, slots) = match replies {
         0 => ((1, 0, 12), (16, 0, 0)),
         1 => ((2, 0, 13), (16, 0, 0)),
         _ => ((2, 1, 14), (32, 0, 11)),
     };
-    check(state_of(&bag, values) == wanted, "a run without room")?;
-    check(tables_of(&bag) == slots, "a run without room: the slots")?;
     check(
-        done == (replies.len() == 2),
-        "a run without room: its replies",
+        (state_of(bag, values), tables_of(bag)) == (wanted, slots),
+        wrong,
+    )
+}
+
+// Such runs on two bags.
+fn runs_without_room(alloc: Global, values: &Values, refusals: &mut Refusals) -> Result<(), Wrong> {
+    let Some(a) = filled(alloc, values, 12, refusals)? else {
+        return Ok(());
+    };
+    let Some(b) = filled(alloc, values, 12, refusals)? else {
+        return Ok(());
+    };
+    let Some(first) = two_insertions(alloc, values, refusals) else {
+        return Ok(());
+    };
+    let Some(second) = two_insertions(alloc, values, refusals) else {
+        return Ok(());
+    };
+    run_both(alloc, values, (a, first), (b, second), refusals)
+}
+
+// Each bag is where its replies are.
+fn run_both<'a>(
+    alloc: Global,
+    values: &'a Values,
+    first: (Bag<'a>, Vec<Step<Counted<'a>>>),
+    second: (Bag<'a>, Vec<Step<Counted<'a>>>),
+    refusals: &mut Refusals,
+) -> Result<(), Wrong> {
+    let ((mut a, steps_a), (mut b, steps_b)) = (first, second);
+    let (mut in_a, mut in_b) = (Vec::new(alloc), Vec::new(alloc));
+    let answer = run_pair(&mut a, &mut b, steps_a, steps_b, &mut in_a, &mut in_b);
+    let done = refusals.is_done(answer)?;
+    is_after(&a, values, in_a.len(), "two runs: the first bag")?;
+    is_after(&b, values, in_b.len(), "two runs: the second bag")?;
+    are_in_turn((in_a.len(), in_b.len()), done)
+}
+
+// How many replies two runs have: none where the replies had no room, and none of the second where the first was stopped.
+fn are_in_turn(replies: (usize, usize), is_done: bool) -> Result<(), Wrong> {
+    if is_done {
+        return check(replies == (2, 2), "two runs: the replies");
+    }
+    let stopped = [(0, 0), (1, 0), (2, 1)];
+    check(
+        stopped.contains(&replies),
+        "two runs: those before a refusal",
     )
 }
 
@@ -410,6 +488,8 @@ pub fn full_bags(alloc: Global, refusals: &mut Refusals) -> Result<(), Wrong> {
     }
     entry_without_room(alloc, refusals)?;
     run_without_room(alloc, &values, refusals)?;
+    values.are_gone()?;
+    runs_without_room(alloc, &values, refusals)?;
     values.are_gone()?;
     collected(alloc, &values, refusals)?;
     values.are_gone()?;

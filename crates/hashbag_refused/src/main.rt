@@ -32,7 +32,7 @@ use std::process::ExitCode;
 use std::str;
 
 // More requests than the script refuses of the calls.
-const SPARE: usize = 300;
+const SPARE: usize = 330;
 
 // What to do.
 #[derive(Clone, Copy)]
@@ -73,6 +73,7 @@ fn strict_calls(alloc: Global, refusals: &mut Refusals) -> Result<(), Wrong> {
     trees::pairs(alloc, refusals)?;
     trees::trees_without_memory(alloc, refusals)?;
     carried::written(alloc, refusals)?;
+    carried::run_alone(alloc, refusals)?;
     carried::runs(alloc, refusals)?;
     runs::runs(alloc, refusals)
 }

@@ -77,6 +77,17 @@ fn thirteen<S: BuildHasher + Drop>(
     Ok(bag)
 }
 
+// The bag has the 13 values from 0 on, twice each, and no other.
+fn has_two_each<S: BuildHasher + Drop>(
+    bag: &HashBag<u64, S>,
+    wrong: &'static str,
+) -> Result<(), Wrong> {
+    for value in 0..13 {
+        check(bag.contains(&value) == 2, wrong)?;
+    }
+    check((bag.len(), bag.set_len()) == (26, 13), wrong)
+}
+
 // Makes room for 13 values, which then go in without a request for memory: none of them is refused, whichever request is. For more
 // values than there may be it answers `Memory`, and changes nothing.
 fn reserved_under<S: BuildHasher + Drop>(
@@ -94,7 +105,8 @@ fn reserved_under<S: BuildHasher + Drop>(
         answer == Err(BagError::Memory),
         "reserve: for too many values",
     )?;
-    check(tables_of(&bag) == (32, 0, 11), "reserve: the slots")
+    check(tables_of(&bag) == (32, 0, 11), "reserve: the slots")?;
+    has_two_each(&bag, "reserve: the values")
 }
 
 /// Room for 13 values under each state.

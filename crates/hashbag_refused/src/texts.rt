@@ -1,5 +1,6 @@
 //! Bags of texts, whose clones ask for memory themselves, and which may be inserted by what they are made of.
 use crate::checks::{Refusals, Wrong, check};
+use crate::counts::tables_of;
 use hashbag::HashBag;
 use std::alloc::{AllocError, Global};
 
@@ -21,7 +22,13 @@ fn has_names(bag: &HashBag<String>, counts: (usize, usize), is_done: bool) -> Re
     check(
         bag.len() == counts.0.saturating_add(counts.1),
         "names: the total",
-    )
+    )?;
+    let tables = match bag.set_len() {
+        0 => (0, 0, 0),
+        1 => (16, 0, 11),
+        _ => (16, 0, 10),
+    };
+    check(tables_of(bag) == tables, "names: the slots")
 }
 
 fn counts_of(bag: &HashBag<String>, names: &(String, String)) -> (usize, usize) {
@@ -38,12 +45,13 @@ fn extend_and_clone(
     let items = [&names.0, &names.1, &names.0];
     let done = refusals.is_done(bag.extend_refs(items.into_iter()))?;
     let counts = counts_of(&bag, names);
+    let tables = tables_of(&bag);
     has_names(&bag, counts, done)?;
     if let Some(clone) = refusals.answer(bag.clone())? {
         check(clone == bag, "names: the clone is equal")?;
     }
     check(
-        counts_of(&bag, names) == counts,
+        (counts_of(&bag, names), tables_of(&bag)) == (counts, tables),
         "names: the source of a clone",
     )
 }
@@ -66,10 +74,11 @@ fn insert_text(
     before: usize,
     refusals: &mut Refusals,
 ) -> Result<bool, Wrong> {
-    let total = bag.len();
+    let (total, tables) = (bag.len(), tables_of(bag));
     let Some(answer) = refusals.answer(bag.insert_key(name))? else {
         check(bag.contains_key(name) == 0, "texts: refused")?;
         check(bag.len() == total, "texts: the total after a refusal")?;
+        check(tables_of(bag) == tables, "texts: the slots after a refusal")?;
         return Ok(false);
     };
     check(answer == before, "texts: the answer")?;

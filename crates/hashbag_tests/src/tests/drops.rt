@@ -160,18 +160,17 @@ fn bag_dropped_in_a_carry<S: BuildHasher + Drop>(
 }
 
 // The next item of a walk. A loop that calls this counts by itself and not by the walk.
-fn next_of<'a, I: Iterator<Item = (Counted<'a>, usize)>>(
-    walk: &mut I,
-) -> Option<(Counted<'a>, usize)>
+fn next_of<I: Iterator>(walk: &mut I) -> Option<I::Item>
 where
     requires any { (state : _) → I.can_next state }
 {
     walk.next()
 }
 
-// The first items of a walk that owns its values, which their taker drops.
-fn drop_items<'a, I: Iterator<Item = (Counted<'a>, usize)>>(walk: &mut I, taken: usize)
+// The first items of a walk, which their taker drops.
+fn drop_items<I: Iterator>(walk: &mut I, taken: usize)
 where
+    I::Item: Drop,
     requires any { (state : _) → I.can_next state }
 {
     for _ in 0..taken {
@@ -205,6 +204,39 @@ fn walks_dropped<S: BuildHasher + Copy>(
     Ok(())
 }
 
+// Walks that lend what a bag has, dropped after so many items, drop none of it.
+fn lent<'a, S: BuildHasher + Drop>(
+    rt: &impl Abort,
+    bag: &HashBag<Counted<'a>, S>,
+    drops: &Cell<usize>,
+    taken: usize,
+) {
+    let mut items = bag.iter();
+    drop_items(&mut items, taken);
+    drop(items);
+    has_dropped(rt, "a walk", drops, 0);
+    let mut values = bag.set_iter();
+    drop_items(&mut values, taken);
+    drop(values);
+    has_dropped(rt, "a walk over values with counts", drops, 0);
+}
+
+// Such walks over a bag in the middle of a carry, after each number of items.
+fn lending_walks_dropped<S: BuildHasher + Drop>(
+    rt: &impl Abort,
+    alloc: Global,
+    state: S,
+) -> Result<(), Fail> {
+    let drops = Cell::new(0);
+    let bag = carrying(rt, alloc, state, &drops)?;
+    for taken in 0..=25 {
+        lent(rt, &bag, &drops, taken);
+    }
+    drop(bag);
+    has_dropped(rt, "the drop of a bag that lent", &drops, 25);
+    Ok(())
+}
+
 fn each_walk_dropped<S: BuildHasher + Copy>(
     rt: &impl Abort,
     alloc: Global,
@@ -213,7 +245,7 @@ fn each_walk_dropped<S: BuildHasher + Copy>(
     for taken in 0..=25 {
         walks_dropped(rt, alloc, state, taken)?;
     }
-    Ok(())
+    lending_walks_dropped(rt, alloc, state)
 }
 
 #[test]

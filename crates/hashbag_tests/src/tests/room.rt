@@ -1,6 +1,7 @@
 //! Room for distinct values. No clause can promise it, since it takes memory.
 use hashbag::{BagError, FixedState, HashBag};
 use hashbag_bench::{IdentityState, OneState, ParityState};
+use hashbag_rows::calls::make_calls;
 use hashbag_rows::texts::{debug_of, is_text};
 use std::alloc::Global;
 use std::hash::BuildHasher;
@@ -18,6 +19,20 @@ const BEGINNINGS: [(usize, usize, usize); 5] = [
     (13, 32, 24),
     (100, 256, 192),
 ];
+
+// What a bag answers that began with room for 100 values.
+const GIVEN_BACK: &str = "\
+    insert 1 = 0
+    insert 2 = 0
+    capacity = 192
+    shrink_to_fit = ()
+    tables = (16, 0, 10)
+    capacity = 12
+    clear = ()
+    tables = (16, 0, 12)
+    shrink_to_fit = ()
+    tables = (0, 0, 0)
+    capacity = 0";
 
 // Room is made for up to so many values more.
 const MOST: usize = 40;
@@ -171,6 +186,12 @@ fn fixed_state_by_default(rt: HostRuntime) -> Result<(), Fail> {
         begins_as(&rt, &with_capacity(alloc, OneState, n)?, slots, capacity);
     }
     Ok(())
+}
+
+#[test]
+fn room_is_given_back(rt: HostRuntime) -> Result<(), Fail> {
+    let mut bag = of_fixed_state(rt.alloc(), 100)?;
+    make_calls(rt.alloc(), &mut bag, GIVEN_BACK, 11)
 }
 
 #[test]
