@@ -1,9 +1,16 @@
-//! Measures Rust's own map of numbers to counts, under the hash by which a bag hashes where no other is given.
+//! Measures Rust's own map of numbers to counts, or the Rust crate `hashbag` (`--cfg bag`), under the hash by which a bag hashes where no
+//! other is given.
 //!
 //! It does step by step what the program `hashbag_speed` does with a bag, reads the same lines, and answers in the same form.
-use std::collections::HashMap;
-use std::collections::hash_map::Entry;
-use std::hash::{BuildHasherDefault, Hasher};
+#[cfg(bag)]
+#[path = "of_bag.rs"]
+mod counts;
+#[cfg(not(bag))]
+#[path = "of_map.rs"]
+mod counts;
+
+use counts::*;
+use std::hash::Hasher;
 use std::hint::black_box;
 use std::io::{BufRead, stdin};
 use std::time::Instant;
@@ -72,8 +79,6 @@ impl Hasher for Fold {
     }
 }
 
-type Map = HashMap<u64, usize, BuildHasherDefault<Fold>>;
-
 fn mixed(i: u64) -> u64 {
     let x = i.wrapping_add(0x9e37_79b9_7f4a_7c15);
     let y = (x ^ (x >> 30)).wrapping_mul(0xbf58_476d_1ce4_e5b9);
@@ -97,10 +102,6 @@ fn words(many: u64) -> Vec<u64> {
         .collect()
 }
 
-fn put(map: &mut Map, value: u64) {
-    *map.entry(value).or_insert(0) += 1;
-}
-
 fn fill(map: &mut Map, values: &[u64]) {
     for value in values {
         put(map, *value);
@@ -110,46 +111,7 @@ fn fill(map: &mut Map, values: &[u64]) {
 fn look_up(map: &Map, values: &[u64]) -> usize {
     let mut sum = 0usize;
     for value in values {
-        sum = sum.wrapping_add(map.get(value).copied().unwrap_or(0));
-    }
-    sum
-}
-
-// One occurrence of each, as a bag removes it.
-fn take_out(map: &mut Map, values: &[u64]) -> usize {
-    let mut sum = 0usize;
-    for value in values {
-        if let Entry::Occupied(mut entry) = map.entry(*value) {
-            let count = *entry.get();
-            sum = sum.wrapping_add(count);
-            if count == 1 {
-                entry.remove();
-            } else {
-                *entry.get_mut() -= 1;
-            }
-        }
-    }
-    sum
-}
-
-fn walk(map: &Map) -> u64 {
-    let mut sum = 0u64;
-    for (value, count) in map {
-        sum = sum.wrapping_add(value.wrapping_mul(*count as u64));
-    }
-    sum
-}
-
-fn join(first: &Map, second: &Map) -> u64 {
-    let mut sum = 0u64;
-    for (value, count) in first {
-        let other = second.get(value).copied().unwrap_or(0);
-        sum = sum.wrapping_add(value.wrapping_mul((*count as u64) ^ (other as u64) << 1));
-    }
-    for (value, count) in second {
-        if !first.contains_key(value) {
-            sum = sum.wrapping_add(value.wrapping_mul((*count as u64) << 1));
-        }
+        sum = sum.wrapping_add(count(map, value));
     }
     sum
 }
@@ -166,7 +128,7 @@ fn small(many: u64) {
     for _ in 0..300 {
         let mut map = Map::default();
         fill(&mut map, &all);
-        sum = sum.wrapping_add(map.len() as u64);
+        sum = sum.wrapping_add(distinct_values(&map) as u64);
         black_box(&map);
     }
     say("small_insert", many.wrapping_mul(300), start, sum)
@@ -179,7 +141,7 @@ fn large(many: u64) {
     let mut map = Map::default();
     let start = Instant::now();
     fill(&mut map, &all);
-    say("insert", many, start, map.len() as u64);
+    say("insert", many, start, distinct_values(&map) as u64);
     let start = Instant::now();
     let sum = look_up(&map, &other_order);
     say("found", many, start, sum as u64);
@@ -199,7 +161,7 @@ fn of_words(many: u64) {
     let mut map = Map::default();
     let start = Instant::now();
     fill(&mut map, &all);
-    say("words", many, start, map.len() as u64)
+    say("words", many, start, distinct_values(&map) as u64)
 }
 
 fn of_joins(many: u64) {
@@ -234,7 +196,7 @@ fn growth(many: u64) {
         before = now;
         if *value > worst {
             worst = *value;
-            worst_at = map.len();
+            worst_at = distinct_values(&map);
         }
     }
     times.sort_unstable();
@@ -253,21 +215,19 @@ fn of_merges(many: u64) {
     let mut from = Map::default();
     fill(&mut from, &distinct(many / 2, many, 1));
     let start = Instant::now();
-    for (value, count) in from {
-        *into.entry(value).or_insert(0) += count;
-    }
-    say("merge", many, start, into.len() as u64)
+    merge(&mut into, from);
+    say("merge", many, start, distinct_values(&into) as u64)
 }
 
 // The ten commonest of many values.
 fn of_commonest(many: u64) {
     let mut map = Map::default();
     for i in 0..many {
-        *map.entry(mixed(i)).or_insert(0) += (mixed(i ^ many) % 1000) as usize + 1;
+        put_many(&mut map, mixed(i), (mixed(i ^ many) % 1000) as usize + 1);
     }
     let start = Instant::now();
     let order = |a: &(u64, usize), b: &(u64, usize)| b.1.cmp(&a.1).then(a.0.cmp(&b.0));
-    let mut pairs: Vec<(u64, usize)> = map.iter().map(|(value, count)| (*value, *count)).collect();
+    let mut pairs = pairs(&map);
     if pairs.len() > 10 {
         pairs.select_nth_unstable_by(10, order);
         pairs.truncate(10);
@@ -275,7 +235,9 @@ fn of_commonest(many: u64) {
     pairs.sort_unstable_by(order);
     let mut sum = 0u64;
     for (value, count) in pairs {
-        sum = sum.wrapping_mul(31).wrapping_add(value.wrapping_mul(count as u64));
+        sum = sum
+            .wrapping_mul(31)
+            .wrapping_add(value.wrapping_mul(count as u64));
     }
     say("most_common", many, start, sum)
 }
@@ -286,17 +248,12 @@ fn of_texts(many: u64) {
     for value in words(many) {
         text.push_str(&format!("{:x} ", value >> 40));
     }
-    let mut map: HashMap<String, usize, BuildHasherDefault<Fold>> = HashMap::default();
+    let mut map = Counts::default();
     let start = Instant::now();
     for word in text.split_whitespace() {
-        match map.get_mut(word) {
-            Some(count) => *count += 1,
-            None => {
-                map.insert(word.to_string(), 1);
-            }
-        }
+        put_word(&mut map, word);
     }
-    say("texts", many, start, map.len() as u64)
+    say("texts", many, start, distinct_words(&map) as u64)
 }
 
 fn main() {

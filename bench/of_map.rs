@@ -1,0 +1,87 @@
+//! What is measured of Rust's own map: a count for each number, as one keeps them without a bag.
+use crate::Fold;
+use std::collections::HashMap;
+use std::collections::hash_map::Entry;
+use std::hash::BuildHasherDefault;
+
+pub type Counts<T> = HashMap<T, usize, BuildHasherDefault<Fold>>;
+pub type Map = Counts<u64>;
+
+pub fn put(map: &mut Map, value: u64) {
+    *map.entry(value).or_insert(0) += 1;
+}
+
+pub fn put_many(map: &mut Map, value: u64, many: usize) {
+    *map.entry(value).or_insert(0) += many;
+}
+
+pub fn count(map: &Map, value: &u64) -> usize {
+    map.get(value).copied().unwrap_or(0)
+}
+
+pub fn distinct_values(map: &Map) -> usize {
+    map.len()
+}
+
+// One occurrence of each, as a bag removes it.
+pub fn take_out(map: &mut Map, values: &[u64]) -> usize {
+    let mut sum = 0usize;
+    for value in values {
+        if let Entry::Occupied(mut entry) = map.entry(*value) {
+            let count = *entry.get();
+            sum = sum.wrapping_add(count);
+            if count == 1 {
+                entry.remove();
+            } else {
+                *entry.get_mut() -= 1;
+            }
+        }
+    }
+    sum
+}
+
+pub fn walk(map: &Map) -> u64 {
+    let mut sum = 0u64;
+    for (value, count) in map {
+        sum = sum.wrapping_add(value.wrapping_mul(*count as u64));
+    }
+    sum
+}
+
+pub fn pairs(map: &Map) -> Vec<(u64, usize)> {
+    map.iter().map(|(value, count)| (*value, *count)).collect()
+}
+
+pub fn join(first: &Map, second: &Map) -> u64 {
+    let mut sum = 0u64;
+    for (value, count) in first {
+        let other = second.get(value).copied().unwrap_or(0);
+        sum = sum.wrapping_add(value.wrapping_mul((*count as u64) ^ (other as u64) << 1));
+    }
+    for (value, count) in second {
+        if !first.contains_key(value) {
+            sum = sum.wrapping_add(value.wrapping_mul((*count as u64) << 1));
+        }
+    }
+    sum
+}
+
+pub fn merge(into: &mut Map, from: Map) {
+    for (value, count) in from {
+        *into.entry(value).or_insert(0) += count;
+    }
+}
+
+// A word becomes a `String` once.
+pub fn put_word(map: &mut Counts<String>, word: &str) {
+    match map.get_mut(word) {
+        Some(count) => *count += 1,
+        None => {
+            map.insert(word.to_string(), 1);
+        }
+    }
+}
+
+pub fn distinct_words(map: &Counts<String>) -> usize {
+    map.len()
+}
