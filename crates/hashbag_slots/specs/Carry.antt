@@ -1,6 +1,7 @@
 -- What a carry from an older table's tags and cells to a newer table's leaves of both.
-use Rattle.std.specs.Prelude.{◌≡◌, ℕ, ◌+◌, ◌<◌, ◌≤◌, ◌⊎◌, Bool, List, length, Option, if◌then◌else◌, nat_le}
-use Rattle.hashbag_slots.specs.Slots.{PlacesAll, Carries, entries_in, AreApart}
+use Rattle.std.specs.Prelude.{◌≡◌, ℕ, ◌+◌, ◌<◌, ◌≤◌, ◌⊎◌, Bool, List, length, Option, Some, if◌then◌else◌, nat_le}
+use Rattle.hashbag_slots.specs.Cells.{cell_at}
+use Rattle.hashbag_slots.specs.Slots.{removed_count, PlacesFirst, MovesIn, Carries, AreApart}
 use Rattle.hashbag_slots.specs.Columns.{tag_at, columns, slots_of, IsReached, IsColumns}
 
 -- the tag of a slot that was carried: 2, Moved, where it was Live
@@ -27,12 +28,20 @@ module _ {T : Type 0} where
   abbrev pub is_kept : (T → T → Bool) → Kept T → Type 0
   is_kept eq k = IsColumns eq k.tags k.cells k.live k.removed
 
+  -- how many slots that tags and cells mean are Removed
+  abbrev pub removed_in : List ℕ → List (Option (T × ℕ)) → ℕ
+  removed_in ts cs = removed_count (slots_of ts cs)
+
+  -- the value in a cell of the older table is put into the first slot on its path that was not Live
+  abbrev pub PlacesCell : (T → ℕ) → ℕ → List (Option (T × ℕ)) → List ℕ → List (Option (T × ℕ)) → List ℕ → List (Option (T × ℕ)) → Type 0
+  PlacesCell hash at older ts cs ts' cs' = (e : T × ℕ) → cell_at older at ≡ Some e → PlacesFirst hash e.0 e.1 (slots_of ts cs) (slots_of ts' cs')
+
   -- so many slots of the older table, from the place `from` on, are carried into the newer one
   pub record IsCarry (eq : T → T → Bool) (hash : T → ℕ) (from many : ℕ) (newer older newer' older' : Kept T) : Type 0 where
     pub stays : is_kept eq newer'
     pub older_stays : is_kept eq older'
     pub tags : MovesOutTags from many older.tags older'.tags
-    pub placed : PlacesAll hash (entries_in from many (slots_of older.tags older.cells)) (slots_of newer.tags newer.cells) (slots_of newer'.tags newer'.cells)
+    pub placed : MovesIn hash from many (slots_of older.tags older.cells) (slots_of newer.tags newer.cells) (slots_of newer'.tags newer'.cells)
     pub left : Carries from many (slots_of older.tags older.cells) (slots_of older'.tags older'.cells)
     pub apart : AreApart eq (slots_of older'.tags older'.cells) (slots_of newer'.tags newer'.cells)
     pub sum : newer'.live + older'.live ≡ newer.live + older.live

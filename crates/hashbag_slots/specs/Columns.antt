@@ -4,7 +4,7 @@ use Rattle.std.specs.Prelude.{◌≡◌, ℕ, ◌+◌, ◌/◌, ◌^◌, ◌<◌
 use Rattle.hashbag_slots.specs.declared.slots.Slot.{Slot}
 use Rattle.hashbag_slots.specs.declared.slots.Slot.TheVariants.{Empty, Removed, Moved, Live}
 use Rattle.hashbag_slots.specs.Cells.{cell_at}
-use Rattle.hashbag_slots.specs.Slots.{slot_at, KeepsPaths, IsTable}
+use Rattle.hashbag_slots.specs.Slots.{path_slot, slot_at, KeepsPaths, IsTable}
 
 -- the tag of a Live slot, its mark: 128 and the top seven bits of its value's hash
 abbrev pub mark_of : ℕ → ℕ
@@ -17,6 +17,10 @@ tag_at ts p = slice_index_or ts p 0
 -- the first tag of a Live slot from the place `from` on is at p
 abbrev pub IsNextMark : List ℕ → ℕ → ℕ → Type 0
 IsNextMark ts from p = (from ≤ p) × (p < length ts) × (128 ≤ tag_at ts p) × ((q : ℕ) → from ≤ q → q < p → tag_at ts q < 128)
+
+-- the tags of the first so many slots on the path of a hash are those of Live ones
+abbrev pub AreMarked : ℕ → List ℕ → ℕ → Type 0
+AreMarked hash ts many = (step : ℕ) → step < many → 128 ≤ tag_at ts (path_slot (length ts) hash step)
 
 -- what contracts see of a table: its slots in order. The tags are for `IsReached` alone
 pub record Columns (T : Type 0) : Type 0 where

@@ -126,6 +126,10 @@ module _ {T : Type 0} where
     pub free : is_live (slot_at old at) ≡ false
     pub after : new ≡ slice_set old at (Live v n)
 
+  -- the value and the count are in the first slot on the path of a hash that was not Live, and all others are as they were
+  abbrev pub PlacesAlong : ℕ → T → ℕ → List (Slot T) → List (Slot T) → Type 0
+  PlacesAlong hash v n old new = (p : ℕ) × IsFirstFree hash old p × (new ≡ slice_set old p (Live v n))
+
   -- as `Places`, and the slot is the first on the path of the value's hash that was not Live
   pub record PlacesFirst (hash : T → ℕ) (v : T) (n : ℕ) (old new : List (Slot T)) : Type 0 where
     pub places : Places v n old new
@@ -152,6 +156,15 @@ module _ {T : Type 0} where
   -- the entries of so many slots from the place `from` on
   abbrev pub entries_in : ℕ → ℕ → List (Slot T) → List (T × ℕ)
   entries_in from many ss = entries (take many (drop from ss))
+
+  -- the values of so many slots of an older table, from the place `from` on, are put in turn into the first slot on their path that
+  -- was not Live
+  abbrev pub MovesIn : (T → ℕ) → ℕ → ℕ → List (Slot T) → List (Slot T) → List (Slot T) → Type 0
+  MovesIn hash from many older old new = PlacesAll hash (entries_in from many older) old new
+
+  -- so it is with the value of one slot of an older table, if that is Live
+  abbrev pub MovesInAt : (T → ℕ) → ℕ → List (Slot T) → List (Slot T) → List (Slot T) → Type 0
+  MovesInAt hash at older old new = PlacesAll hash (entries (slot_at older at ∷ [])) old new
 
   -- no value that is Live in the first table is equal to one that is Live in the second
   abbrev pub AreApart : (T → T → Bool) → List (Slot T) → List (Slot T) → Type 0

@@ -1,12 +1,12 @@
 -- What a walk over tags and cells still gives.
 use Rattle.std.specs.Prelude.{◌≡◌, ℕ, ◌+◌, ◌-◌, ◌<◌, ◌≤◌, List, Option, drop, length, nat_le}
 use Rattle.hashbag_slots.specs.Columns.{Agree, tag_at, slots_of}
-use Rattle.hashbag_slots.specs.Group.{IsMaskOf, from_place_on}
+use Rattle.hashbag_slots.specs.Group.{IsMaskIn}
 use Rattle.hashbag_slots.specs.Slots.{entries}
 
 -- bits tell which of the 16 slots below `until` are Live and not before the place `next`. No bit is set where fewer slots are below it
 pub record IsAhead (ts : List ℕ) (next until bits : ℕ) : Type 0 where
-  pub told : IsMaskOf (from_place_on (λ p. nat_le 128 (tag_at ts p)) next) (until - 16) until bits
+  pub told : IsMaskIn (λ p. nat_le 128 (tag_at ts p)) (until - 16) next until bits
   pub whole : 0 < bits → 16 ≤ until
   pub from : next ≤ until
   pub near : until ≤ next + 16

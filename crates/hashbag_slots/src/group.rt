@@ -3,7 +3,7 @@ ghost use Rattle.std.specs.Prelude.{◌≡◌, ◌==◌, ℕ, ◌+◌, ◌<◌, 
 ghost use Rattle.std.specs.Int.{w64, trailing_zeros};
 ghost use Rattle.std.specs.Slice.Scan.{IsFirstPlace};
 ghost use Rattle.hashbag_slots.specs.Columns.{tag_at};
-ghost use Rattle.hashbag_slots.specs.Group.{IsMaskOf, from_place_on};
+ghost use Rattle.hashbag_slots.specs.Group.{IsMaskOf, IsMaskIn, IsTagMask, IsTagMaskBeforeEmpty};
 
 use crate::tags::{EMPTY, LEAST_MARK};
 use std::simd::prelude::*;
@@ -57,7 +57,7 @@ pub fn first_not_live(tags: &[u8], from: usize) -> usize
 #[inline(always)]
 pub fn match_tag(tags: &[u8], from: usize, tag: u8) -> u64
     requires { from + 16 ≤ length tags.now }
-    ensures { IsMaskOf (λ p. tag_at tags.now p == tag) from (from + 16) result }
+    ensures { IsTagMask tags.now tag from (from + 16) result }
 {
     let equal = u8x16::from_slice(&tags[from..]).simd_eq(u8x16::splat(tag));
     equal.to_bitmask()
@@ -79,9 +79,9 @@ pub fn match_live(tags: &[u8], from: usize) -> u64
 pub fn take_lowest(bits: u64, from: usize) -> (usize, u64)
     requires some { 0 < bits }
     requires fits { from + 64 ≤ 2 ^ 64 }
-    ensures first { (test : ℕ → Bool) → (at until : ℕ) → from ≤ at → IsMaskOf (from_place_on test at) from until bits → IsFirstPlace test at until result.0 }
-    ensures below { (test : ℕ → Bool) → (at until : ℕ) → IsMaskOf (from_place_on test at) from until bits → result.0 < until }
-    ensures rest { (test : ℕ → Bool) → (at until : ℕ) → IsMaskOf (from_place_on test at) from until bits → IsMaskOf (from_place_on test (result.0 + 1)) from until result.1 }
+    ensures first { (test : ℕ → Bool) (at until : ℕ) → from ≤ at → IsMaskIn test from at until bits → IsFirstPlace test at until result.0 }
+    ensures below { (test : ℕ → Bool) (at until : ℕ) → IsMaskIn test from at until bits → result.0 < until }
+    ensures rest { (test : ℕ → Bool) (at until : ℕ) → IsMaskIn test from at until bits → IsMaskIn test from (result.0 + 1) until result.1 }
     ensures fewer { result.1 < bits }
 {
     (from + bits.trailing_zeros() as usize, bits & (bits - 1))
@@ -93,7 +93,7 @@ pub fn take_lowest(bits: u64, from: usize) -> (usize, u64)
 pub fn match_tag_before_empty(tags: &[u8], from: usize, tag: u8) -> (u64, bool)
     requires room { from + 16 ≤ length tags.now }
     requires other { 0 < tag }
-    ensures { (stop : ℕ) × IsFirstPlace (λ p. tag_at tags.now p == 0) from (from + 16) stop × IsMaskOf (λ p. tag_at tags.now p == tag) from stop result.0 × (result.1 ≡ nat_lt stop (from + 16)) }
+    ensures { IsTagMaskBeforeEmpty tags.now tag from result.0 result.1 }
 {
     let empty = match_tag(tags, from, EMPTY);
     let equal = match_tag(tags, from, tag);

@@ -3,13 +3,13 @@
 //! A path begins at the hash modulo the number of slots, goes slot by slot, and goes on at slot 0 after the last one. A probe reads
 //! tags, sixteen at once, and a cell only where the tag is the mark of its own hash: under a hash that spreads its values, that is so at
 //! one in 128 of the other values on its path.
-ghost use Rattle.std.specs.Prelude.{◌≡◌, ◌==◌, ℕ, ◌+◌, ◌<◌, ◌≤◌, length, true, false, IfSome, IfNone, Some};
+ghost use Rattle.std.specs.Prelude.{◌≡◌, ℕ, ◌+◌, ◌<◌, ◌≤◌, length, true, IfSome, IfNone, Some};
 ghost use Rattle.hashbag_slots.specs.Cells.{cell_at, IsFilled};
 ghost use Rattle.hashbag_slots.specs.Hashing.{hash_under};
 ghost use Rattle.hashbag_slots.specs.FirstGroup.{IfFound, IfAbsent};
-ghost use Rattle.hashbag_slots.specs.Group.{IsMaskOf};
-ghost use Rattle.hashbag_slots.specs.Slots.{IsSlotCount, path_slot, slot_at, holds, HoldsAt, IsAbsent, IsFirstFree};
-ghost use Rattle.hashbag_slots.specs.Columns.{tag_at, Agree, columns, slots_of, IsReached};
+ghost use Rattle.hashbag_slots.specs.Group.{IsTagMask, IsAbsentAmong};
+ghost use Rattle.hashbag_slots.specs.Slots.{IsSlotCount, path_slot, HoldsAt, IsAbsent, IsFirstFree};
+ghost use Rattle.hashbag_slots.specs.Columns.{tag_at, AreMarked, Agree, columns, slots_of, IsReached};
 
 use crate::cells::Cells;
 use crate::group::{
@@ -112,11 +112,11 @@ fn find_marked<T: Eq + Hash, Q: Key<T>>(
     key: Q,
 ) -> Option<usize>
     requires within { from + 16 ≤ length tags.now }
-    requires told { (until : ℕ) × (until ≤ from + 16) × IsMaskOf (λ p. tag_at tags.now p == mark) from until bits }
+    requires told { (until : ℕ) × (until ≤ from + 16) × IsTagMask tags.now mark from until bits }
     requires mark { 128 ≤ mark }
     requires agree { Agree tags.now cells.now }
     ensures found { IfSome result (HoldsAt (Q.names key) (slots_of tags.now cells.now)) }
-    ensures absent { IfNone result ((until : ℕ) → IsMaskOf (λ p. tag_at tags.now p == mark) from until bits → (p : ℕ) → from ≤ p → p < until → tag_at tags.now p ≡ mark → holds (Q.names key) (slot_at (slots_of tags.now cells.now) p) ≡ false) }
+    ensures absent { IfNone result (IsAbsentAmong (Q.names key) (columns tags.now cells.now) mark from bits) }
 {
     let mut ahead = bits;
     'marks: while ahead != 0 {
@@ -263,7 +263,7 @@ pub fn find_place<T: Eq + Hash, S: BuildHasher, Q: Key<T>>(
 pub fn first_free(tags: &[u8], hash: u64) -> usize
     requires count { IsSlotCount (length tags.now) }
     requires room { (p : ℕ) × (p < length tags.now) × (tag_at tags.now p < 128) }
-    ensures path { (step : ℕ) × (step < length tags.now) × (result ≡ path_slot (length tags.now) hash step) × ((before : ℕ) → before < step → 128 ≤ tag_at tags.now (path_slot (length tags.now) hash before)) }
+    ensures path { (step : ℕ) × (step < length tags.now) × (result ≡ path_slot (length tags.now) hash step) × AreMarked hash tags.now step }
     ensures bound { result < length tags.now }
     ensures free { tag_at tags.now result < 128 }
 {
@@ -284,8 +284,8 @@ pub fn first_free(tags: &[u8], hash: u64) -> usize
 fn first_free_from(tags: &[u8], hash: u64, passed: usize) -> usize
     requires count { IsSlotCount (length tags.now) }
     requires room { (p : ℕ) × (p < length tags.now) × (tag_at tags.now p < 128) }
-    requires passed { (before : ℕ) → before < passed → 128 ≤ tag_at tags.now (path_slot (length tags.now) hash before) }
-    ensures path { (step : ℕ) × (step < length tags.now) × (result ≡ path_slot (length tags.now) hash step) × ((before : ℕ) → before < step → 128 ≤ tag_at tags.now (path_slot (length tags.now) hash before)) }
+    requires passed { AreMarked hash tags.now passed }
+    ensures path { (step : ℕ) × (step < length tags.now) × (result ≡ path_slot (length tags.now) hash step) × AreMarked hash tags.now step }
     ensures bound { result < length tags.now }
     ensures free { tag_at tags.now result < 128 }
 {

@@ -12,7 +12,7 @@ ghost use Rattle.std.specs.Map.{lookup_entry};
 ghost use Rattle.std.specs.Option.{option_map};
 ghost use Rattle.hashbag_slots.specs.FirstGroup.{IfFound, IfAbsent};
 ghost use Rattle.hashbag_slots.specs.Hashing.{hash_under};
-ghost use Rattle.hashbag_slots.specs.Slots.{IsSlotCount, is_live, holds, live_count, removed_count, slot_at, HoldsAt, IsAbsent, IsFirstFree, IsSet, slot_entry, entry_at, entries, recounted, raised, count_in, Places};
+ghost use Rattle.hashbag_slots.specs.Slots.{IsSlotCount, is_live, holds, live_count, removed_count, slot_at, HoldsAt, IsAbsent, IsFirstFree, IsSet, slot_entry, entry_at, entries, recounted, raised, count_in, Places, PlacesAlong};
 ghost use Rattle.hashbag_slots.specs.Columns.{IsReached, IsAlike};
 
 mod carry;
@@ -109,6 +109,7 @@ impl<T: Eq> Slots<T> {
     }
 
     /// The number of slots.
+    #[inline]
     pub fn slots(&self) -> usize
         ensures value { result ≡ length self.now.slots }
         ensures count { IsSlotCount result }
@@ -116,16 +117,6 @@ impl<T: Eq> Slots<T> {
         ensures distinct { IsSet T.eq self.now.slots }
     {
         self.tags.len()
-    }
-
-    /// For the prover alone, which learns here what every table keeps. It does nothing when it runs.
-    #[inline(always)]
-    pub fn recall(&self)
-        ensures count { IsSlotCount (length self.now.slots) }
-        ensures bound { length self.now.slots ≤ 2 ^ 59 }
-        ensures distinct { IsSet T.eq self.now.slots }
-    {
-        let _ = self.slots();
     }
 
     /// The number of Live slots, and so of values.
@@ -335,7 +326,7 @@ impl<T: Eq + Hash> Slots<T> {
         requires room { live_count self.old.slots < length self.old.slots }
         requires reached { IsReached (hash_under T.hash_input S.BuildHasher S.Hasher.Hasher state.now) self.old }
         ensures placed { Places value n self.old.slots self.new.slots }
-        ensures first { (p : ℕ) × IsFirstFree (hash_under T.hash_input S.BuildHasher S.Hasher.Hasher state.now value) self.old.slots p × (self.new.slots ≡ slice_set self.old.slots p (Slot.Live value n)) }
+        ensures first { PlacesAlong (hash_under T.hash_input S.BuildHasher S.Hasher.Hasher state.now value) value n self.old.slots self.new.slots }
         ensures reached { IsReached (hash_under T.hash_input S.BuildHasher S.Hasher.Hasher state.now) self.new }
     {
         let hash = hash_of(state, &value);
@@ -360,7 +351,7 @@ impl<T: Eq + Hash> Slots<T> {
         requires room { live_count self.old.slots < length self.old.slots }
         requires reached { IsReached (hash_under T.hash_input S.BuildHasher S.Hasher.Hasher state.now) self.old }
         ensures placed { Places value n self.old.slots self.new.slots }
-        ensures first { (p : ℕ) × IsFirstFree hash self.old.slots p × (self.new.slots ≡ slice_set self.old.slots p (Slot.Live value n)) }
+        ensures first { PlacesAlong hash value n self.old.slots self.new.slots }
         ensures reached { IsReached (hash_under T.hash_input S.BuildHasher S.Hasher.Hasher state.now) self.new }
     {
         let place = self.first_free(hash);

@@ -1,12 +1,12 @@
 //! The carry of an older table's values into a newer one: slot by slot, or sixteen slots at once.
 //!
 //! Sixteen slots are carried over the tags and cells of both tables, so that what counts them is written once for all sixteen.
-ghost use Rattle.std.specs.Prelude.{◌≡◌, ℕ, ◌+◌, ◌<◌, ◌≤◌, ◌^◌, ◌∷◌, [], length, slice_set, true, Some, None};
+ghost use Rattle.std.specs.Prelude.{◌≡◌, ℕ, ◌+◌, ◌<◌, ◌≤◌, ◌^◌, length, slice_set, true, Some, None};
 ghost use Rattle.hashbag_slots.specs.Cells.{cell_at, IsFilled};
 ghost use Rattle.hashbag_slots.specs.Hashing.{hash_under};
-ghost use Rattle.hashbag_slots.specs.Slots.{is_live, live_count, removed_count, slot_at, entries, entries_in, IsSet, IsAbsent, PlacesFirst, PlacesAll, carried, Carries, AreApart};
+ghost use Rattle.hashbag_slots.specs.Slots.{is_live, live_count, removed_count, slot_at, IsSet, IsAbsent, carried, Carries, AreApart, MovesIn, MovesInAt};
 ghost use Rattle.hashbag_slots.specs.Columns.{columns, slots_of, IsReached, IsColumns};
-ghost use Rattle.hashbag_slots.specs.Carry.{MovesOutTags, kept, IsCarry};
+ghost use Rattle.hashbag_slots.specs.Carry.{MovesOutTags, kept, removed_in, PlacesCell, IsCarry};
 
 use crate::group::{GROUP_WIDTH, match_live, take_lowest};
 use crate::probe::first_free;
@@ -16,7 +16,7 @@ use crate::tags::{LEAST_MARK, MOVED, REMOVED, mark_of};
 use std::hash::{BuildHasher, Hash};
 
 // Takes the value out of an older table's cell, where it is absent here, and puts it into the first slot on its path that is not
-/// Live. It is hashed where it lies, so that nothing of it is kept while its place is looked for.
+// Live. It is hashed where it lies, so that nothing of it is kept while its place is looked for.
 #[inline(always)]
 fn move_value<T: Eq + Hash, S: BuildHasher>(
     tags: &mut [u8],
@@ -39,7 +39,7 @@ fn move_value<T: Eq + Hash, S: BuildHasher>(
     ensures fewer { removed.new ≤ removed.old }
     ensures length { length tags.new ≡ length tags.old }
     ensures taken { older.new ≡ slice_set older.old place None }
-    ensures placed { (e : T × ℕ) → cell_at older.old place ≡ Some e → PlacesFirst (hash_under T.hash_input S.BuildHasher S.Hasher.Hasher state.now) e.0 e.1 (slots_of tags.old cells.old) (slots_of tags.new cells.new) }
+    ensures placed { PlacesCell (hash_under T.hash_input S.BuildHasher S.Hasher.Hasher state.now) place older.old tags.old cells.old tags.new cells.new }
     ensures reached { IsReached (hash_under T.hash_input S.BuildHasher S.Hasher.Hasher state.now) (columns tags.new cells.new) }
 {
     let hash = hash_of(state, &older.get(place).0);
@@ -65,7 +65,7 @@ fn mark_moved(tags: &mut [u8], from: usize)
 }
 
 // Carries the 16 slots of an older table from the place `from` on, over what both tables keep. It answers how many slots are then
-/// Live in the newer one, and in the older one.
+// Live in the newer one, and in the older one.
 #[inline(always)]
 fn carry_group_cells<T: Eq + Hash, S: BuildHasher>(
     tags: &mut [u8],
@@ -78,12 +78,14 @@ fn carry_group_cells<T: Eq + Hash, S: BuildHasher>(
     from: usize,
 ) -> (usize, usize)
     requires newer { IsColumns T.eq tags.old cells.old counts.0 removed.old }
-    requires older { IsColumns T.eq older_tags.old older_cells.old counts.1 (removed_count (slots_of older_tags.old older_cells.old)) }
+    requires older { IsColumns T.eq older_tags.old older_cells.old counts.1 (removed_in older_tags.old older_cells.old) }
     requires within { from + 16 ≤ length older_tags.old }
     requires apart { AreApart T.eq (slots_of older_tags.old older_cells.old) (slots_of tags.old cells.old) }
     requires room { counts.0 + counts.1 ≤ length tags.old }
     requires reached { IsReached (hash_under T.hash_input S.BuildHasher S.Hasher.Hasher state.now) (columns tags.old cells.old) }
-    ensures { IsCarry T.eq (hash_under T.hash_input S.BuildHasher S.Hasher.Hasher state.now) from 16 (kept tags.old cells.old counts.0 removed.old) (kept older_tags.old older_cells.old counts.1 (removed_count (slots_of older_tags.old older_cells.old))) (kept tags.new cells.new result.0 removed.new) (kept older_tags.new older_cells.new result.1 (removed_count (slots_of older_tags.old older_cells.old))) }
+    ensures { IsCarry T.eq (hash_under T.hash_input S.BuildHasher S.Hasher.Hasher state.now) from 16
+        (kept tags.old cells.old counts.0 removed.old) (kept older_tags.old older_cells.old counts.1 (removed_in older_tags.old older_cells.old))
+        (kept tags.new cells.new result.0 removed.new) (kept older_tags.new older_cells.new result.1 (removed_in older_tags.old older_cells.old)) }
 {
     let (newer_live, older_live) = counts;
     let mut live = newer_live;
@@ -131,7 +133,7 @@ impl<T: Eq + Hash> Slots<T> {
         requires apart { AreApart T.eq older.old.slots self.old.slots }
         requires room { live_count self.old.slots + live_count older.old.slots ≤ length self.old.slots }
         requires reached { IsReached (hash_under T.hash_input S.BuildHasher S.Hasher.Hasher state.now) self.old }
-        ensures placed { PlacesAll (hash_under T.hash_input S.BuildHasher S.Hasher.Hasher state.now) (entries (slot_at older.old.slots at ∷ [])) self.old.slots self.new.slots }
+        ensures placed { MovesInAt (hash_under T.hash_input S.BuildHasher S.Hasher.Hasher state.now) at older.old.slots self.old.slots self.new.slots }
         ensures left { older.new.slots ≡ slice_set older.old.slots at (carried (slot_at older.old.slots at)) }
         ensures apart { AreApart T.eq older.new.slots self.new.slots }
         ensures kept { live_count self.new.slots + live_count older.new.slots ≡ live_count self.old.slots + live_count older.old.slots }
@@ -155,7 +157,7 @@ impl<T: Eq + Hash> Slots<T> {
         requires apart { AreApart T.eq older.old.slots self.old.slots }
         requires room { live_count self.old.slots + live_count older.old.slots ≤ length self.old.slots }
         requires reached { IsReached (hash_under T.hash_input S.BuildHasher S.Hasher.Hasher state.now) self.old }
-        ensures placed { PlacesAll (hash_under T.hash_input S.BuildHasher S.Hasher.Hasher state.now) (entries_in from 16 older.old.slots) self.old.slots self.new.slots }
+        ensures placed { MovesIn (hash_under T.hash_input S.BuildHasher S.Hasher.Hasher state.now) from 16 older.old.slots self.old.slots self.new.slots }
         ensures left { Carries from 16 older.old.slots older.new.slots }
         ensures apart { AreApart T.eq older.new.slots self.new.slots }
         ensures kept { live_count self.new.slots + live_count older.new.slots ≡ live_count self.old.slots + live_count older.old.slots }
@@ -198,7 +200,7 @@ impl<T: Eq + Hash> Slots<T> {
         requires apart { AreApart T.eq older.old.slots self.old.slots }
         requires room { live_count self.old.slots + live_count older.old.slots ≤ length self.old.slots }
         requires reached { IsReached (hash_under T.hash_input S.BuildHasher S.Hasher.Hasher state.now) self.old }
-        ensures placed { PlacesAll (hash_under T.hash_input S.BuildHasher S.Hasher.Hasher state.now) (entries_in from many older.old.slots) self.old.slots self.new.slots }
+        ensures placed { MovesIn (hash_under T.hash_input S.BuildHasher S.Hasher.Hasher state.now) from many older.old.slots self.old.slots self.new.slots }
         ensures left { Carries from many older.old.slots older.new.slots }
         ensures apart { AreApart T.eq older.new.slots self.new.slots }
         ensures kept { live_count self.new.slots + live_count older.new.slots ≡ live_count self.old.slots + live_count older.old.slots }
@@ -207,7 +209,8 @@ impl<T: Eq + Hash> Slots<T> {
         ensures reached { IsReached (hash_under T.hash_input S.BuildHasher S.Hasher.Hasher state.now) self.new }
         ensures older_reached { (hash : T → ℕ) → IsReached hash older.old → IsReached hash older.new }
     {
-        older.recall();
+        // `slots` is called for its clauses: how many slots there can be, and that no value is in two of them.
+        let _slots = older.slots();
         let end = from + many;
         let mut at = from;
         'places: while at < end {
