@@ -3,9 +3,9 @@
 //! In the Rust crate `contains`, `get` and `remove` take whatever a value can be borrowed as. Here these calls take a [`Key`], and
 //! insertions a [`ToValue`], which makes the value only where it is absent.
 ghost use Rattle.std.specs.Prelude.{◌≡◌, ◌+◌, ◌<◌, ◌≤◌, length, min, IsTrue, IsOk, IfOk, IfErr, OnOk, OnErr};
+ghost use Rattle.hashbag_core.specs.Bag.{IsShorterBy, Lends};
 ghost use Rattle.hashbag_core.specs.Held.{HasFewer};
 ghost use Rattle.hashbag_core.specs.Keys.{count_named, stored_named, RefusesNamed, InsertsNamed};
-ghost use Rattle.hashbag_core.specs.Bag.{Lends};
 ghost use Rattle.hashbag_core.specs.Occurrences.{IsBag};
 
 use crate::bag::{BagError, HashBag};
@@ -136,7 +136,7 @@ impl<T: Eq + Hash + Drop, S: BuildHasher + Drop> HashBag<T, S> {
         ensures before { result ≡ count_named (Q.names key) self.old.items }
         ensures fewer { (v : T) → IsTrue (Q.names key v) → HasFewer T.eq v 1 self.old self.new }
         ensures none { result ≡ 0 → self.new ≡ self.old }
-        ensures len { length self.new.items + min result 1 ≡ length self.old.items }
+        ensures len { IsShorterBy (min result 1) self.old self.new }
     {
         let before = self.table.take_key(key, 1);
         self.len -= before.min(1);
