@@ -1,9 +1,10 @@
 -- What contracts see of a `HashBag`.
-use Rattle.std.specs.Prelude.{◌≡◌, ℕ, ◌≤◌, Bool, List, length, replicate, flat_map}
+use Rattle.std.specs.Prelude.{◌≡◌, ℕ, ◌+◌, ◌≤◌, Bool, List, length, replicate, flat_map, Option, option_map}
+use denote.Ref.{Bor}
 use Rattle.std.specs.List.Sorted.{IsPermutation}
 use Rattle.hashbag_table.specs.Entries.{IsCounted}
 use Rattle.hashbag_table.specs.Tables.{Tables}
-use Rattle.hashbag_core.specs.Occurrences.{greatest_total, IsBag}
+use Rattle.hashbag_core.specs.Occurrences.{greatest_total, distinct_count, IsBag}
 
 -- its occurrences, in an order that means nothing, the state that hashes its values, the two tables of slots that hold them, and
 -- its limit, the number of occurrences that it has at most
@@ -27,6 +28,18 @@ pub record IsBagOf {T S : Type 0} (eq : T → T → Bool) (before : Bag T S) (X 
   pub hasher : after.hasher ≡ before.hasher
   pub limit : after.most ≡ before.most
   pub bag : IsBag eq after.most after.items
+
+-- `after` has n occurrences fewer in all than `before`
+abbrev pub IsShorterBy : {T S : Type 0} → ℕ → Bag T S → Bag T S → Type 0
+IsShorterBy n before after = length after.items + n ≡ length before.items
+
+-- `after` has one distinct value more than `before`
+abbrev pub HasOneValueMore : {T S : Type 0} → (T → T → Bool) → Bag T S → Bag T S → Type 0
+HasOneValueMore eq before after = distinct_count eq after.items ≡ distinct_count eq before.items + 1
+
+-- a value is lent beside a number, and they are these; or nothing is lent, and there are none
+abbrev pub Lends : {T : Type 0} → Option (Bor T × ℕ) → Option (T × ℕ) → Type 0
+Lends lent found = option_map (λ e. (e.0.now, e.1)) lent ≡ found
 
 -- the occurrences of a map of counts: each entry's instance as often as its count
 abbrev pub occurrences : {T : Type 0} → List (T × ℕ) → List T

@@ -1,10 +1,33 @@
--- What `and_modify` of an entry does, for any closure f.
+-- What an entry is, and what its calls leave of the bag behind it: `and_modify` for any closure f.
 use Rattle.std.specs.Prelude.{◌≡◌, ℕ, ◌+◌, ◌-◌, ◌<◌, ◌≤◌, Bool, length}
 use Rattle.std.specs.Borrow.{MutBor}
 use Rattle.std.specs.Fn.{FnOnceReturnsAtMut}
 use denote.Param.Members.{Once}
 use Rattle.hashbag_core.specs.Bag.{Bag, IsBagOf}
-use Rattle.hashbag_core.specs.Occurrences.{count, instance_or_itself, put}
+use Rattle.hashbag_core.specs.declared.entry.Entry.{Entry}
+use Rattle.hashbag_core.specs.Occurrences.{count, add, recount}
+
+module _ {T S H : Type 0} (eq : T → T → Bool) where
+  -- how often the bag has the value that the entry was handed
+  abbrev pub entry_count : Entry T S H → ℕ
+  entry_count e = count eq e.value e.bag.now.items
+
+  -- the bag has that value
+  abbrev pub IsOccupied : Entry T S H → Type 0
+  IsOccupied e = 0 < entry_count e
+
+  -- the bag doesn't have it
+  abbrev pub IsVacant : Entry T S H → Type 0
+  IsVacant e = entry_count e ≡ 0
+
+  -- n of that value went into the bag, and `after` is what it means now
+  abbrev pub PutsIn : Entry T S H → ℕ → Bag T S → Type 0
+  PutsIn e n after = IsBagOf eq e.bag.now (add eq e.value n e.bag.now.items) after
+
+module _ {T S : Type 0} (eq : T → T → Bool) where
+  -- the bags have as many occurrences of values other than v
+  abbrev pub KeepsOthers : T → Bag T S → Bag T S → Type 0
+  KeepsOthers v before after = length after.items + count eq v before.items ≡ length before.items + count eq v after.items
 
 module _ {T S : Type 0} (eq : T → T → Bool) {F : Type 0} (g : Once F (MutBor ℕ × Unit {0}) (Unit {0} × (MutBor ℕ × Unit {0}))) (f : F) (v : T) (bag : Bag T S) where
   -- f, called on the count of v, may leave n
@@ -14,7 +37,7 @@ module _ {T S : Type 0} (eq : T → T → Bool) {F : Type 0} (g : Once F (MutBor
   -- where v is absent nothing changes; else what f left of the count is the count, of the stored instance
   pub record ChangesCount (after : Bag T S) : Type 0 where
     pub absent : count eq v bag.items ≡ 0 → after ≡ bag
-    pub present : 0 < count eq v bag.items → (n : ℕ) × MayLeave n × (length bag.items - count eq v bag.items + n ≤ bag.most) × IsBagOf eq bag (put eq (instance_or_itself eq v bag.items) n bag.items) after
+    pub present : 0 < count eq v bag.items → (n : ℕ) × MayLeave n × (length bag.items - count eq v bag.items + n ≤ bag.most) × IsBagOf eq bag (recount eq v n bag.items) after
 
   -- v is there, and with what f left of its count the total would pass the bag's limit
   pub record PassesEnd : Type 0 where

@@ -1,12 +1,12 @@
 -- What the two tables of slots of a bag have to do with its occurrences, and what calls leave of them.
-use Rattle.std.specs.Prelude.{◌≡◌, ℕ, ◌-◌, ◌<◌, ◌==◌, if◌then◌else◌, Bool, List, [], length, replicate}
+use Rattle.std.specs.Prelude.{◌≡◌, ℕ, ◌+◌, ◌-◌, ◌<◌, ◌==◌, if◌then◌else◌, Bool, List, [], length, replicate}
 use Rattle.hashbag_slots.specs.declared.slots.Slot.{Slot}
 use Rattle.hashbag_slots.specs.declared.slots.Slot.TheVariants.{Empty, Removed, Live}
 use Rattle.hashbag_slots.specs.Slots.{recounted}
 use Rattle.hashbag_table.specs.Entries.{IsCounted}
-use Rattle.hashbag_table.specs.Tables.{Tables, entries_of, Rewrites, KeepsRoom}
+use Rattle.hashbag_table.specs.Tables.{Tables, entries_of, IsLeast, Rewrites, KeepsRoom}
 use Rattle.hashbag_core.specs.Bag.{Bag, IsBagOf, occurrences}
-use Rattle.hashbag_core.specs.Occurrences.{count, less}
+use Rattle.hashbag_core.specs.Occurrences.{count, less, distinct_count}
 
 module _ {T : Type 0} where
   -- no slots in either table, after so many were built
@@ -34,6 +34,23 @@ module _ {T : Type 0} (eq : T → T → Bool) where
   -- v itself is stored, once, in the slot of the value that is equal to it, and no other slot is changed
   abbrev pub Restores : T → Tables T → Tables T → Type 0
   Restores v old new = Rewrites (λ w. eq w v) (λ _. Live v 1) old new
+
+module _ {T S : Type 0} (eq : T → T → Bool) where
+  -- the slot of v alone is changed, and has the count that v has in `after`
+  abbrev pub RecountsAs : T → Bag T S → Bag T S → Type 0
+  RecountsAs v before after = Recounts eq v (count eq v after.items) before.tables after.tables
+
+  -- m is the least number of slots with room for the distinct values of the bag
+  abbrev pub NeedsSlots : Bag T S → ℕ → Type 0
+  NeedsSlots bag m = IsLeast 0 (distinct_count eq bag.items) m
+
+  -- the newer table of `after` is the least, no smaller than that of `before`, with room for the distinct values and n more
+  abbrev pub HasLeastFor : ℕ → Bag T S → Bag T S → Type 0
+  HasLeastFor n before after = IsLeast (length before.tables.newer) (distinct_count eq before.items + n) (length after.tables.newer)
+
+-- one table of m slots was built
+abbrev pub BuildsSlots : {T S : Type 0} → ℕ → Bag T S → Bag T S → Type 0
+BuildsSlots m before after = after.tables.built ≡ before.tables.built + m
 
 -- the bag `after` is the bag `before` less n occurrences of v, or less all where they were fewer: its list; the slot of v, where v
 -- was there; and as many slots, and no less room

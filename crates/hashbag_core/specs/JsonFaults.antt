@@ -1,9 +1,10 @@
 -- Why a tree isn't read as a bag. Pairs are numbered from 0.
-use Rattle.std.specs.Prelude.{◌≡◌, ℕ, ◌+◌, ◌&&◌, ◌||◌, nat_lt, min, if◌then◌else◌, Bool, true, List, [], ◌∷◌, ◌++◌, Option, Some, None, option_map, option_and_then, unwrap_or, Result, Ok, Err, codes}
+use Rattle.std.specs.Prelude.{◌≡◌, ℕ, ◌+◌, ◌≤◌, ◌&&◌, ◌||◌, nat_lt, min, if◌then◌else◌, Bool, true, List, [], ◌∷◌, ◌++◌, length, Option, Some, None, option_map, option_and_then, unwrap_or, Result, Ok, Err, codes}
 use Rattle.std.specs.Option.{option_or}
 use Rattle.std.specs.Str.{bytes_eq}
 use Rattle.serde_json.specs.Data.{Data, null, boolean, number, string, array, object, Items, no_items, item, Members, no_members, member}
 use Rattle.serde_json.specs.Find.{as_array, get_member}
+use Rattle.hashbag_core.specs.Bag.{Bag}
 use Rattle.hashbag_core.specs.JsonItems.{u64_of, u64_item}
 use Rattle.hashbag_core.specs.Occurrences.{greatest_total}
 use Rattle.hashbag_core.specs.declared.json.JsonError.{JsonError}
@@ -114,6 +115,15 @@ module _ (end : ℕ) (has_item : Data → Bool) where
     pub parts : ds ≡ before ++ pair ∷ after
     pub good : first_fault 0 0 before ≡ None
     pub asks : IsCountedItem has_item pair
+
+module _ (has_item : Data → Bool) where
+  -- the fault of pair i where the pairs before it were read as this bag
+  abbrev pub fault_after : {T S : Type 0} → ℕ → Bag T S → Data → Option JsonError
+  fault_after i bag d = pair_fault bag.most has_item i (length bag.items) (pair_of d)
+
+  -- an array whose pairs have no fault under any limit from k on
+  abbrev pub HasNoFaultFrom : ℕ → Data → Type 0
+  HasNoFaultFrom k d = (ds : List Data) (n : ℕ) → array_of d ≡ Some ds → k ≤ n → first_fault n has_item 0 0 ds ≡ None
 
 -- `most` is the greatest limit that the bag may have: a tree with a greater one is read under `most`
 module _ (most : ℕ) (has_item : Data → Bool) where

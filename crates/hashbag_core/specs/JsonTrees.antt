@@ -10,7 +10,8 @@ use Rattle.serde_json.specs.View.{items_of}
 use Rattle.hashbag_core.specs.JsonFaults.{limit_name, pairs_name, opened, pair_of}
 use Rattle.hashbag_core.specs.Equality.{same_counts}
 use Rattle.hashbag_core.specs.JsonItems.{u64_of}
-use Rattle.hashbag_core.specs.Occurrences.{greatest_total}
+use Rattle.hashbag_core.specs.Extends.{add_all}
+use Rattle.hashbag_core.specs.Occurrences.{greatest_total, IsOneInstanceEach, SameCounts}
 use Rattle.hashbag_core.specs.Walks.{IsSetWalk}
 
 -- ---- what a tree is read as
@@ -30,6 +31,11 @@ module _ {T : Type 0} (reads : Data → T → Type 0) where
     pub trees : List Data
     pub inside : opened d ≡ Ok (limit, trees)
     pub each : AllZip IsPair trees pairs
+
+module _ {T : Type 0} (eq : T → T → Bool) (reads : Data → T → Type 0) where
+  -- whatever pairs d is read as, added up they have the counts of X
+  abbrev pub ReadsBack : List T → Data → Type 0
+  ReadsBack X d = (pairs : List (T × ℕ)) → IsReading reads d pairs → SameCounts eq (add_all eq [] pairs) X
 
 -- ---- which tree is written
 
@@ -59,6 +65,10 @@ module _ {T : Type 0} (eq : T → T → Bool) (cmp : T → T → Ordering) (tree
     pub pairs : Data
     pub array : IsTree X pairs
     pub is : d ≡ written most pairs
+
+  -- d is the tree of every bag that has the counts of X and the limit `most`
+  abbrev pub IsTreeOfCounts : List T → ℕ → Data → Type 0
+  IsTreeOfCounts X most d = (Y : List T) → IsOneInstanceEach eq Y → SameCounts eq Y X → IsBagTree Y most d
 
   -- d is the tree of a bag exactly where that bag has the counts of X and the limit `most`
   abbrev pub TellsApart : (T → Type 0) → List T → ℕ → Data → Type 0

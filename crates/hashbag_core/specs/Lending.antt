@@ -1,10 +1,12 @@
 -- What a bag is once a loan of it is over.
-use Rattle.std.specs.Prelude.{⊤}
-use Rattle.std.specs.Borrow.{Fml, RattleType, MutBor, follows_so}
+use Rattle.std.specs.Prelude.{◌≡◌, ⊤, Result}
+use Rattle.std.specs.Borrow.{Fml, RattleType, MutBor, follows_so, RestsIfErr}
 use Rattle.std.specs.HashMap.Lent.{HashMembers}
 use Rattle.std.specs.declared.hash.Hasher as hasher
 use Rattle.std.specs.declared.hash.BuildHasher as builder
 use mathlib.Core.Option.{none}
+use Rattle.hashbag_core.specs.declared.bag.BagError.{BagError}
+use Rattle.hashbag_core.specs.declared.entry.Entry.{Entry}
 use Rattle.hashbag_core.specs.Bag.{Bag}
 use Rattle.hashbag_core.specs.Held.{HasFewer}
 use Rattle.hashbag_core.specs.contracts.bag.HashBag.{the_row}
@@ -17,3 +19,7 @@ module _ (T S H : RattleType) (key : HashMembers T.Denot) (build : builder.Ghost
   -- once the loan is over, the bag behind b has one occurrence of v fewer
   abbrev pub ends_taking : MutBor (Bag T.Denot S.Denot) → T.Denot → Fml
   ends_taking b v = follows_so bag_row bag_row b.ghost_name none (λ _ _. ⊤) (HasFewer key.eq v 1 b.now)
+
+  -- a call that took an entry of the bag behind b gives it back with the loan; where it was refused, the bag is as it was
+  abbrev pub rests_if_refused : MutBor (Bag T.Denot S.Denot) → Result (Entry T.Denot S.Denot H.Denot) BagError → Fml
+  rests_if_refused b r = RestsIfErr bag_row b (λ e. e.bag.ghost_name) r (λ n. n ≡ b.now)

@@ -1,12 +1,12 @@
 //! `HashBag`: how often each of several values occurs.
-ghost use Rattle.std.specs.Prelude.{◌≡◌, ◌+◌, ◌-◌, ◌<◌, ◌≤◌, ◌↔◌, [], length, option_map, IsTrue, IsOk, IfOk, IfErr, OnOk, OnErr};
+ghost use Rattle.std.specs.Prelude.{◌≡◌, ◌+◌, ◌-◌, ◌<◌, ◌≤◌, ◌↔◌, [], length, IsTrue, IsOk, IfOk, IfErr, OnOk, OnErr};
 ghost use Rattle.std.specs.List.Sorted.{IsPermutation};
 ghost use Rattle.hashbag_table.specs.Asked.{MayAskInTurn};
 ghost use Rattle.hashbag_table.specs.Entries.{count_of, IsCounted};
 ghost use Rattle.hashbag_table.specs.Tables.{limit, room, Arrives, KeepsRoom};
 ghost use Rattle.hashbag_table.specs.Retained.{RetainsTables};
-ghost use Rattle.hashbag_core.specs.Bag.{occurrences, limited};
-ghost use Rattle.hashbag_core.specs.Occurrences.{count, stored, add, put, instance_or_itself, distinct_count, IsBag};
+ghost use Rattle.hashbag_core.specs.Bag.{occurrences, limited, HasOneValueMore, Lends};
+ghost use Rattle.hashbag_core.specs.Occurrences.{count, stored, add, put, recount, distinct_count, IsBag};
 ghost use Rattle.hashbag_core.specs.Extends.{Refuses};
 ghost use Rattle.hashbag_core.specs.Inserts.{Inserts, IsRefused};
 ghost use Rattle.hashbag_core.specs.Held.{cleared, Recounts, Restores};
@@ -116,7 +116,7 @@ fn set_or_remove<T: Eq + Hash + Drop, S: BuildHasher + Drop>(
 )
     requires counted { IsCounted T.eq table.old.entries }
     requires present { 0 < count_of T.eq value.now table.old.entries }
-    ensures set { IsPermutation (put T.eq (instance_or_itself T.eq value.now (occurrences table.old.entries)) n (occurrences table.old.entries)) (occurrences table.new.entries) }
+    ensures set { IsPermutation (recount T.eq value.now n (occurrences table.old.entries)) (occurrences table.new.entries) }
     ensures hasher { table.new.hasher ≡ table.old.hasher }
     ensures counted { IsCounted T.eq table.new.entries }
     ensures slot { Recounts T.eq value.now n table.old.tables table.new.tables }
@@ -262,7 +262,7 @@ impl<T: Eq + Hash + Drop, S: BuildHasher + Drop> HashBag<T, S> {
     /// ```
     #[inline(always)]
     pub fn get(&self, value: &T) -> Option<(&T, usize)>
-        ensures found { option_map (λ e. (e.0.now, e.1)) result ≡ stored T.eq value.now self.now.items }
+        ensures found { Lends result (stored T.eq value.now self.now.items) }
         ensures bag { IsBag T.eq self.now.most self.now.items }
     {
         self.table.get(value)
@@ -353,7 +353,7 @@ impl<T: Eq + Hash + Drop, S: BuildHasher + Drop> HashBag<T, S> {
         ensures before { IfOk result (λ before. before ≡ count T.eq value self.old.items) }
         ensures put { OnOk result (IsBagOf T.eq self.old (put T.eq value 1 self.old.items) self.new) }
         ensures len { IfOk result (λ before. length self.new.items + before ≡ length self.old.items + 1) }
-        ensures new_set { OnOk result (count T.eq value self.old.items ≡ 0 → distinct_count T.eq self.new.items ≡ distinct_count T.eq self.old.items + 1) }
+        ensures new_set { OnOk result (count T.eq value self.old.items ≡ 0 → HasOneValueMore T.eq self.old self.new) }
 
         // The total is tested first; then only memory can be refused, and only where there is no room; to a value that is there nothing.
         ensures too_many { self.old.most < length self.old.items - count T.eq value self.old.items + 1 → result ≡ Err BagError.TooMany }
@@ -439,7 +439,7 @@ impl<T: Eq + Hash + Drop, S: BuildHasher + Drop> HashBag<T, S> {
         requires fits { length self.old.items + quantity ≤ self.old.most }
         ensures added { OnOk result (IsBagOf T.eq self.old (add T.eq value quantity self.old.items) self.new) }
         ensures len { OnOk result (length self.new.items ≡ length self.old.items + quantity) }
-        ensures new_set { OnOk result (distinct_count T.eq self.new.items ≡ distinct_count T.eq self.old.items + 1) }
+        ensures new_set { OnOk result (HasOneValueMore T.eq self.old self.new) }
         ensures memory { OnErr result (result ≡ Err BagError.Memory) }
         ensures err { OnErr result (self.new ≡ self.old) }
         ensures takes { 0 < room self.old.tables → IsOk result }
@@ -456,7 +456,7 @@ impl<T: Eq + Hash + Drop, S: BuildHasher + Drop> HashBag<T, S> {
         requires before { before ≡ count T.eq value.now self.old.items }
         requires present { 0 < before }
         requires fits { length self.old.items - before + n ≤ self.old.most }
-        ensures put { IsBagOf T.eq self.old (put T.eq (instance_or_itself T.eq value.now self.old.items) n self.old.items) self.new }
+        ensures put { IsBagOf T.eq self.old (recount T.eq value.now n self.old.items) self.new }
         ensures after { count T.eq value.now self.new.items ≡ n }
         ensures slot { Recounts T.eq value.now n self.old.tables self.new.tables }
         ensures room { KeepsRoom 0 self.old.tables self.new.tables }

@@ -1,11 +1,11 @@
 //! `Entry`: the place of a value in a bag.
 ghost use Rattle.std.specs.Prelude.{◌≡◌, ◌+◌, ◌<◌, ◌≤◌, ℕ, length, IsOk, IfOk, IfErr, OnOk, OnErr};
 ghost use Rattle.hashbag_table.specs.Tables.{room, Arrives, KeepsRoom};
-ghost use Rattle.hashbag_core.specs.Held.{Recounts};
-ghost use Rattle.std.specs.Borrow.{sem, MutBor, RestsIfErr};
-ghost use Rattle.hashbag_core.specs.Bag.{IsBagOf};
+ghost use Rattle.hashbag_core.specs.Held.{RecountsAs};
+ghost use Rattle.std.specs.Borrow.{sem, MutBor};
+ghost use Rattle.hashbag_core.specs.Bag.{HasOneValueMore};
 ghost use Rattle.hashbag_core.specs.Extends.{Refuses};
-ghost use Rattle.hashbag_core.specs.Occurrences.{count, distinct_count, instance_or_itself, add};
+ghost use Rattle.hashbag_core.specs.Occurrences.{count, instance_or_itself};
 
 use crate::bag::{BagError, FixedState, HashBag};
 use std::fmt::{self, Debug, Formatter, Write};
@@ -48,8 +48,8 @@ impl<T: Eq + Hash + Drop, S: BuildHasher + Drop> HashBag<T, S> {
 }
 
 impl<'a, T: Eq + Hash + Drop, S: BuildHasher + Drop> Entry<'a, T, S> {
-    ghost use Rattle.hashbag_core.specs.EntryCalls.{ChangesCount, PassesEnd};
-    ghost use Rattle.hashbag_core.specs.Lending.{bag_row};
+    ghost use Rattle.hashbag_core.specs.EntryCalls.{entry_count, IsOccupied, IsVacant, PutsIn, KeepsOthers, ChangesCount, PassesEnd};
+    ghost use Rattle.hashbag_core.specs.Lending.{rests_if_refused};
 
     /// The stored instance where the entry is occupied, else the value that was handed in. It takes no memory, and hashes the
     /// value once.
@@ -91,10 +91,10 @@ impl<'a, T: Eq + Hash + Drop, S: BuildHasher + Drop> Entry<'a, T, S> {
         ensures changes { IfOk result (λ e. ChangesCount T.eq F.FnOnce f self.entry.value self.entry.bag.now e.bag.now) }
         ensures too_many { OnErr result (result ≡ Err BagError.TooMany) }
         ensures passes { OnErr result (PassesEnd T.eq F.FnOnce f self.entry.value self.entry.bag.now) }
-        ensures len { IfOk result (λ e. length e.bag.now.items + count T.eq self.entry.value self.entry.bag.now.items ≡ length self.entry.bag.now.items + count T.eq self.entry.value e.bag.now.items) }
-        ensures slot { IfOk result (λ e. 0 < count T.eq self.entry.value self.entry.bag.now.items → Recounts T.eq self.entry.value (count T.eq self.entry.value e.bag.now.items) self.entry.bag.now.tables e.bag.now.tables) }
+        ensures len { IfOk result (λ e. KeepsOthers T.eq self.entry.value self.entry.bag.now e.bag.now) }
+        ensures slot { IfOk result (λ e. IsOccupied T.eq self.entry → RecountsAs T.eq self.entry.value self.entry.bag.now e.bag.now) }
         ensures room { IfOk result (λ e. KeepsRoom 0 self.entry.bag.now.tables e.bag.now.tables) }
-        ensures* stays { sem 𝓛 (RestsIfErr (bag_row T.row S.row S.Hasher.row T.Hash S.BuildHasher S.Hasher.Hasher) self.entry.bag (λ e. e.bag.ghost_name) result (λ n. n ≡ self.entry.bag.now)) }
+        ensures* stays { sem 𝓛 (rests_if_refused T.row S.row S.Hasher.row T.Hash S.BuildHasher S.Hasher.Hasher self.entry.bag result) }
     {
         let Entry { bag, value } = self;
         let before = bag.contains(&value);
@@ -121,16 +121,16 @@ impl<'a, T: Eq + Hash + Drop, S: BuildHasher + Drop> Entry<'a, T, S> {
     /// Ok(())
     /// ```
     pub fn or_insert(self) -> Result<usize, BagError>
-        ensures occupied { 0 < count T.eq self.entry.value self.entry.bag.now.items → (result ≡ Ok (count T.eq self.entry.value self.entry.bag.now.items)) × (self.exit.0.now ≡ self.entry.bag.now) }
-        ensures vacant { count T.eq self.entry.value self.entry.bag.now.items ≡ 0 → IfOk result (λ after. (after ≡ 1) × IsBagOf T.eq self.entry.bag.now (add T.eq self.entry.value 1 self.entry.bag.now.items) self.exit.0.now) }
-        ensures len { IfOk result (λ after. length self.exit.0.now.items + count T.eq self.entry.value self.entry.bag.now.items ≡ length self.entry.bag.now.items + after) }
-        ensures new_set { OnOk result (count T.eq self.entry.value self.entry.bag.now.items ≡ 0 → distinct_count T.eq self.exit.0.now.items ≡ distinct_count T.eq self.entry.bag.now.items + 1) }
+        ensures occupied { IsOccupied T.eq self.entry → (result ≡ Ok (entry_count T.eq self.entry)) × (self.exit.0.now ≡ self.entry.bag.now) }
+        ensures vacant { IsVacant T.eq self.entry → IfOk result (λ after. (after ≡ 1) × PutsIn T.eq self.entry 1 self.exit.0.now) }
+        ensures len { IfOk result (λ after. length self.exit.0.now.items + entry_count T.eq self.entry ≡ length self.entry.bag.now.items + after) }
+        ensures new_set { OnOk result (IsVacant T.eq self.entry → HasOneValueMore T.eq self.entry.bag.now self.exit.0.now) }
         ensures too_many { result ≡ Err BagError.TooMany → self.entry.bag.now.most < length self.entry.bag.now.items + 1 }
         ensures memory { result ≡ Err BagError.Memory → length self.entry.bag.now.items + 1 ≤ self.entry.bag.now.most }
         ensures refused { IfErr result (Refuses T.eq self.entry.bag.now.most self.entry.bag.now.items self.entry.value 1) }
         ensures err { OnErr result (self.exit.0.now ≡ self.entry.bag.now) }
         ensures takes { length self.entry.bag.now.items + 1 ≤ self.entry.bag.now.most → 0 < room self.entry.bag.now.tables → IsOk result }
-        ensures arrives { OnOk result (count T.eq self.entry.value self.entry.bag.now.items ≡ 0 → Arrives self.entry.bag.now.tables self.exit.0.now.tables) }
+        ensures arrives { OnOk result (IsVacant T.eq self.entry → Arrives self.entry.bag.now.tables self.exit.0.now.tables) }
         ensures room { OnOk result (0 < room self.entry.bag.now.tables → KeepsRoom 1 self.entry.bag.now.tables self.exit.0.now.tables) }
     {
         self.or_insert_many(1)
@@ -150,18 +150,18 @@ impl<'a, T: Eq + Hash + Drop, S: BuildHasher + Drop> Entry<'a, T, S> {
     /// Ok(())
     /// ```
     pub fn or_insert_many(self, quantity: usize) -> Result<usize, BagError>
-        ensures occupied { 0 < count T.eq self.entry.value self.entry.bag.now.items → (result ≡ Ok (count T.eq self.entry.value self.entry.bag.now.items)) × (self.exit.0.now ≡ self.entry.bag.now) }
-        ensures vacant { count T.eq self.entry.value self.entry.bag.now.items ≡ 0 → IfOk result (λ after. (after ≡ quantity) × IsBagOf T.eq self.entry.bag.now (add T.eq self.entry.value quantity self.entry.bag.now.items) self.exit.0.now) }
+        ensures occupied { IsOccupied T.eq self.entry → (result ≡ Ok (entry_count T.eq self.entry)) × (self.exit.0.now ≡ self.entry.bag.now) }
+        ensures vacant { IsVacant T.eq self.entry → IfOk result (λ after. (after ≡ quantity) × PutsIn T.eq self.entry quantity self.exit.0.now) }
         ensures none { quantity ≡ 0 → IsOk result }
-        ensures len { IfOk result (λ after. length self.exit.0.now.items + count T.eq self.entry.value self.entry.bag.now.items ≡ length self.entry.bag.now.items + after) }
-        ensures new_set { OnOk result (0 < quantity → count T.eq self.entry.value self.entry.bag.now.items ≡ 0 → distinct_count T.eq self.exit.0.now.items ≡ distinct_count T.eq self.entry.bag.now.items + 1) }
+        ensures len { IfOk result (λ after. length self.exit.0.now.items + entry_count T.eq self.entry ≡ length self.entry.bag.now.items + after) }
+        ensures new_set { OnOk result (0 < quantity → IsVacant T.eq self.entry → HasOneValueMore T.eq self.entry.bag.now self.exit.0.now) }
         ensures too_many { result ≡ Err BagError.TooMany → self.entry.bag.now.most < length self.entry.bag.now.items + quantity }
         ensures memory { result ≡ Err BagError.Memory → length self.entry.bag.now.items + quantity ≤ self.entry.bag.now.most }
         ensures refused { IfErr result (Refuses T.eq self.entry.bag.now.most self.entry.bag.now.items self.entry.value quantity) }
         ensures err { OnErr result (self.exit.0.now ≡ self.entry.bag.now) }
         ensures same { quantity ≡ 0 → self.exit.0.now ≡ self.entry.bag.now }
         ensures takes { length self.entry.bag.now.items + quantity ≤ self.entry.bag.now.most → 0 < room self.entry.bag.now.tables → IsOk result }
-        ensures arrives { OnOk result (0 < quantity → count T.eq self.entry.value self.entry.bag.now.items ≡ 0 → Arrives self.entry.bag.now.tables self.exit.0.now.tables) }
+        ensures arrives { OnOk result (0 < quantity → IsVacant T.eq self.entry → Arrives self.entry.bag.now.tables self.exit.0.now.tables) }
         ensures room { OnOk result (0 < room self.entry.bag.now.tables → KeepsRoom 1 self.entry.bag.now.tables self.exit.0.now.tables) }
     {
         let Entry { bag, value } = self;

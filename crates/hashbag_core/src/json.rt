@@ -1,5 +1,5 @@
 //! Bags as JSON trees: an array of pairs, each of an item and its count, and beside it the limit where one was set.
-ghost use Rattle.std.specs.Prelude.{◌≡◌, ◌≢◌, ◌↔◌, ℕ, ◌≤◌, List, [], length, map, min, All, Bool, true, false, None, Some, option_map, IfOk, OnOk, IfErr};
+ghost use Rattle.std.specs.Prelude.{◌≡◌, ◌≢◌, ◌↔◌, ℕ, List, length, map, min, All, Bool, true, false, None, Some, option_map, IfOk, OnOk, IfErr};
 ghost use Rattle.std.specs.List.{AllZip};
 ghost use Rattle.std.specs.List.Sorted.{IsStrictlySortedBy};
 ghost use Rattle.std.specs.Map.{keys_of};
@@ -8,11 +8,10 @@ ghost use Rattle.serde_json.specs.Data.{Data};
 ghost use Rattle.serde_json.specs.View.{view, members_view};
 ghost use Rattle.serde_json.specs.declared.value.Value.{Value};
 ghost use Rattle.serde_json.specs.Written.{has_float};
-ghost use Rattle.hashbag_core.specs.Extends.{add_all};
 ghost use Rattle.hashbag_core.specs.Inserts.{Inserts, IsMadeOf};
-ghost use Rattle.hashbag_core.specs.JsonFaults.{array_of, has_no_other, opened, limit_of, pair_of, pair_fault, first_fault, fault, IsCountedItem, MayEnd, MayEndAmong};
-ghost use Rattle.hashbag_core.specs.JsonTrees.{IsPair, IsReading, IsTree, IsBagTree, TellsApart, pair_tree, seen, written};
-ghost use Rattle.hashbag_core.specs.Occurrences.{greatest_total, IsBag, IsOneInstanceEach, SameCounts};
+ghost use Rattle.hashbag_core.specs.JsonFaults.{has_no_other, opened, limit_of, pair_of, first_fault, fault, fault_after, HasNoFaultFrom, IsCountedItem, MayEnd, MayEndAmong};
+ghost use Rattle.hashbag_core.specs.JsonTrees.{IsPair, IsReading, ReadsBack, IsTree, IsTreeOfCounts, TellsApart, pair_tree, seen, written};
+ghost use Rattle.hashbag_core.specs.Occurrences.{greatest_total, IsBag};
 ghost use Rattle.hashbag_core.specs.Walks.{IsSetWalkOf};
 
 mod items;
@@ -237,9 +236,9 @@ fn read_pair<T: JsonItem + Hash + Drop, S: BuildHasher + Drop>(
     pair: &Value,
     number: usize,
 ) -> Result<(), JsonError>
-    ensures no_fault { OnOk result (pair_fault bag.old.most T.has_item number (length bag.old.items) (pair_of (view pair.now)) ≡ None) }
+    ensures no_fault { OnOk result (fault_after T.has_item number bag.old (view pair.now) ≡ None) }
     ensures read { OnOk result ((p : T × ℕ) × IsPair T.reads (view pair.now) p × Inserts T.eq p.0 p.1 bag.old bag.new) }
-    ensures fault { IfErr result (λ e. e ≢ JsonError.Memory → pair_fault bag.old.most T.has_item number (length bag.old.items) (pair_of (view pair.now)) ≡ Some e) }
+    ensures fault { IfErr result (λ e. e ≢ JsonError.Memory → fault_after T.has_item number bag.old (view pair.now) ≡ Some e) }
     ensures memory { IfErr result (λ e. e ≡ JsonError.Memory → IsCountedItem T.has_item (view pair.now)) }
 {
     let Some((tree, count)) = parts_of(pair) else {
@@ -390,7 +389,7 @@ impl<T: JsonItem + Hash + Drop, S: BuildHasher + Drop> HashBag<T, S> {
         T: Ord,
         ensures tree { IfOk result (λ v. IsTree T.eq T.cmp T.tree_of self.now.items (view v)) }
         ensures items { OnOk result (All T.is_item self.now.items) }
-        ensures no_fault { IfOk result (λ v. (ds : List Data) (n : ℕ) → array_of (view v) ≡ Some ds → length self.now.items ≤ n → first_fault n T.has_item 0 0 ds ≡ None) }
+        ensures no_fault { IfOk result (λ v. HasNoFaultFrom T.has_item (length self.now.items) (view v)) }
         ensures memory { IfErr result (λ e. e ≡ BagError.Memory) }
     {
         let pairs = self.sorted_pairs(alloc)?;
@@ -418,12 +417,12 @@ impl<T: JsonItem + Hash + Drop, S: BuildHasher + Drop> HashBag<T, S> {
     where
         T: Ord,
         // Of every list with the counts of the bag.
-        ensures tree { IfOk result (λ v. (Y : List T) → IsOneInstanceEach T.eq Y → SameCounts T.eq Y self.now.items → IsBagTree T.eq T.cmp T.tree_of Y self.now.most (view v)) }
+        ensures tree { IfOk result (λ v. IsTreeOfCounts T.eq T.cmp T.tree_of self.now.items self.now.most (view v)) }
         ensures items { OnOk result (All T.is_item self.now.items) }
 
         // The tree has no fault, and is read as a list with the counts of the bag, with its limit.
         ensures no_fault { IfOk result (λ v. fault greatest_total T.has_item (view v) ≡ None) }
-        ensures counts { IfOk result (λ v. (pairs : List (T × ℕ)) → IsReading T.reads (view v) pairs → SameCounts T.eq (add_all T.eq [] pairs) self.now.items) }
+        ensures counts { IfOk result (λ v. ReadsBack T.eq T.reads self.now.items (view v)) }
         ensures limit { IfOk result (λ v. limit_of (view v) ≡ self.now.most) }
 
         // A bag has the same counts and the same limit exactly if its tree is this one.

@@ -1,9 +1,9 @@
 //! Room and slots of a bag: how much there is, what is made, and what is given back.
 ghost use Rattle.std.specs.Prelude.{◌≡◌, ℕ, ◌+◌, ◌*◌, ◌<◌, ◌≤◌, [], length, IsOk, OnOk, OnErr};
 ghost use Rattle.hashbag_slots.specs.Slots.{IsSlotCount};
-ghost use Rattle.hashbag_table.specs.Tables.{limit, room, values, IsLeast, IsPacked, ReservesOrStays, ShrinksOrStays, NoneMoved};
+ghost use Rattle.hashbag_table.specs.Tables.{limit, room, values, IsPacked, ReservesOrStays, ShrinksOrStays, NoneMoved};
 ghost use Rattle.hashbag_core.specs.Occurrences.{distinct_count};
-ghost use Rattle.hashbag_core.specs.Held.{no_slots, AreHeld};
+ghost use Rattle.hashbag_core.specs.Held.{no_slots, AreHeld, NeedsSlots, HasLeastFor, BuildsSlots};
 ghost use Rattle.hashbag_table.specs.declared.table.TheConstants.{MOST_VALUES};
 ghost use Rattle.hashbag_core.specs.declared.bag.BagError.TheVariants.{Memory};
 
@@ -110,9 +110,9 @@ impl<T: Eq + Hash + Drop, S: BuildHasher + Drop> HashBag<T, S> {
         // Where there is room already nothing is done; else the table of slots that was made.
         ensures enough { n ≤ room self.old.tables → IsOk result }
         ensures same { n ≤ room self.old.tables → self.new ≡ self.old }
-        ensures least { OnOk result (room self.old.tables < n → IsLeast (length self.old.tables.newer) (distinct_count T.eq self.old.items + n) (length self.new.tables.newer)) }
+        ensures least { OnOk result (room self.old.tables < n → HasLeastFor T.eq n self.old self.new) }
         ensures packed { OnOk result (room self.old.tables < n → IsPacked self.new.tables) }
-        ensures built { OnOk result (room self.old.tables < n → self.new.tables.built ≡ self.old.tables.built + length self.new.tables.newer) }
+        ensures built { OnOk result (room self.old.tables < n → BuildsSlots (length self.new.tables.newer) self.old self.new) }
         ensures reserves { OnOk result (ReservesOrStays n (distinct_count T.eq self.old.items) self.old.tables self.new.tables) }
     {
         self.table.reserve(n)?;
@@ -144,11 +144,11 @@ impl<T: Eq + Hash + Drop, S: BuildHasher + Drop> HashBag<T, S> {
         ensures freed { OnOk result (self.old.items ≡ [] → self.new.tables ≡ no_slots self.old.tables.built) }
         ensures fewer { length self.new.tables.newer ≤ length self.old.tables.newer }
         ensures shrinks { OnOk result (ShrinksOrStays (distinct_count T.eq self.old.items) self.old.tables self.new.tables) }
-        ensures enough { (m : ℕ) → IsLeast 0 (distinct_count T.eq self.old.items) m → length self.old.tables.newer ≤ m → IsOk result }
-        ensures same { (m : ℕ) → IsLeast 0 (distinct_count T.eq self.old.items) m → length self.old.tables.newer ≤ m → self.new ≡ self.old }
-        ensures least { OnOk result ((m : ℕ) → IsLeast 0 (distinct_count T.eq self.old.items) m → m < length self.old.tables.newer → length self.new.tables.newer ≡ m) }
-        ensures packed { OnOk result ((m : ℕ) → IsLeast 0 (distinct_count T.eq self.old.items) m → m < length self.old.tables.newer → IsPacked self.new.tables) }
-        ensures built { OnOk result ((m : ℕ) → IsLeast 0 (distinct_count T.eq self.old.items) m → m < length self.old.tables.newer → self.new.tables.built ≡ self.old.tables.built + m) }
+        ensures enough { (m : ℕ) → NeedsSlots T.eq self.old m → length self.old.tables.newer ≤ m → IsOk result }
+        ensures same { (m : ℕ) → NeedsSlots T.eq self.old m → length self.old.tables.newer ≤ m → self.new ≡ self.old }
+        ensures least { OnOk result ((m : ℕ) → NeedsSlots T.eq self.old m → m < length self.old.tables.newer → length self.new.tables.newer ≡ m) }
+        ensures packed { OnOk result ((m : ℕ) → NeedsSlots T.eq self.old m → m < length self.old.tables.newer → IsPacked self.new.tables) }
+        ensures built { OnOk result ((m : ℕ) → NeedsSlots T.eq self.old m → m < length self.old.tables.newer → BuildsSlots m self.old self.new) }
     {
         self.table.shrink_to_fit()?;
         // `waiting` is called for its clauses on what waits where there are no slots, which the proof cites.

@@ -2,7 +2,8 @@
 //!
 //! In the Rust crate `contains`, `get` and `remove` take whatever a value can be borrowed as. Here these calls take a [`Key`], and
 //! insertions a [`ToValue`], which makes the value only where it is absent.
-ghost use Rattle.std.specs.Prelude.{◌≡◌, ◌+◌, ◌<◌, ◌≤◌, length, min, option_map, IsTrue, IsOk, IfOk, IfErr, OnOk, OnErr};
+ghost use Rattle.std.specs.Prelude.{◌≡◌, ◌+◌, ◌<◌, ◌≤◌, length, min, IsTrue, IsOk, IfOk, IfErr, OnOk, OnErr};
+ghost use Rattle.hashbag_core.specs.Bag.{IsShorterBy, Lends};
 ghost use Rattle.hashbag_core.specs.Held.{HasFewer};
 ghost use Rattle.hashbag_core.specs.Keys.{count_named, stored_named, RefusesNamed, InsertsNamed};
 ghost use Rattle.hashbag_core.specs.Occurrences.{IsBag};
@@ -48,7 +49,7 @@ impl<T: Eq + Hash + Drop, S: BuildHasher + Drop> HashBag<T, S> {
     /// ```
     #[inline(always)]
     pub fn get_key<Q: Key<T>>(&self, key: Q) -> Option<(&T, usize)>
-        ensures found { option_map (λ e. (e.0.now, e.1)) result ≡ stored_named (Q.names key) self.now.items }
+        ensures found { Lends result (stored_named (Q.names key) self.now.items) }
         ensures bag { IsBag T.eq self.now.most self.now.items }
     {
         self.table.get_key(key)
@@ -135,7 +136,7 @@ impl<T: Eq + Hash + Drop, S: BuildHasher + Drop> HashBag<T, S> {
         ensures before { result ≡ count_named (Q.names key) self.old.items }
         ensures fewer { (v : T) → IsTrue (Q.names key v) → HasFewer T.eq v 1 self.old self.new }
         ensures none { result ≡ 0 → self.new ≡ self.old }
-        ensures len { length self.new.items + min result 1 ≡ length self.old.items }
+        ensures len { IsShorterBy (min result 1) self.old self.new }
     {
         let before = self.table.take_key(key, 1);
         self.len -= before.min(1);

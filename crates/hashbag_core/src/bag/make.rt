@@ -2,8 +2,8 @@
 ghost use Rattle.std.specs.Prelude.{◌≡◌, ◌<◌, ◌≤◌, [], All, true, length, IsOk, IfOk, OnErr};
 ghost use Rattle.hashbag_table.specs.Entries.{HasClones};
 ghost use Rattle.hashbag_table.specs.Tables.{room, IsLeast, IsPacked};
-ghost use Rattle.hashbag_core.specs.Occurrences.{greatest_total, distinct_count, SameCounts};
-ghost use Rattle.hashbag_core.specs.Held.{no_slots};
+ghost use Rattle.hashbag_core.specs.Occurrences.{greatest_total, SameCounts};
+ghost use Rattle.hashbag_core.specs.Held.{no_slots, NeedsSlots};
 ghost use Rattle.hashbag_table.specs.declared.table.TheConstants.{MOST_VALUES};
 ghost use Rattle.hashbag_core.specs.declared.bag.BagError.TheVariants.{Memory};
 
@@ -162,7 +162,7 @@ impl<T: Eq + Hash + Drop, S: BuildHasher + Drop> HashBag<T, S> {
         ensures hasher { IfOk result (λ bag. S.is_clone self.now.hasher bag.hasher) }
         ensures limit { IfOk result (λ bag. bag.most ≡ self.now.most) }
         ensures memory { OnErr result (result ≡ Err BagError.Memory) }
-        ensures least { IfOk result (λ bag. IsLeast 0 (distinct_count T.eq self.now.items) (length bag.tables.newer)) }
+        ensures least { IfOk result (λ bag. NeedsSlots T.eq self.now (length bag.tables.newer)) }
         ensures packed { IfOk result (λ bag. IsPacked bag.tables) }
         ensures built { IfOk result (λ bag. bag.tables.built ≡ length bag.tables.newer) }
     {

@@ -1,6 +1,7 @@
 //! How occurrences are taken out of a bag: one, some, or all of a value.
 ghost use Rattle.std.specs.Borrow.{sem};
-ghost use Rattle.std.specs.Prelude.{◌≡◌, ◌≢◌, ◌+◌, ◌-◌, length, min, option_map, IfOk, IfErr, IsErrAnd, MatchOption, MatchResult};
+ghost use Rattle.std.specs.Prelude.{◌≡◌, ◌≢◌, ◌+◌, ◌-◌, length, min, IfOk, IfErr, IsErrAnd, MatchOption, MatchResult};
+ghost use Rattle.hashbag_core.specs.Bag.{IsShorterBy, Lends};
 ghost use Rattle.hashbag_core.specs.Occurrences.{count, counted, stored, IsBag};
 ghost use Rattle.hashbag_core.specs.Held.{HasFewer};
 
@@ -26,7 +27,7 @@ impl<T: Eq + Hash + Drop, S: BuildHasher + Drop> HashBag<T, S> {
     pub fn remove(&mut self, value: &T) -> usize
         ensures before { result ≡ count T.eq value.now self.old.items }
         ensures fewer { HasFewer T.eq value.now 1 self.old self.new }
-        ensures len { length self.new.items + min result 1 ≡ length self.old.items }
+        ensures len { IsShorterBy (min result 1) self.old self.new }
     {
         self.take_up_to(value, 1)
     }
@@ -55,7 +56,7 @@ impl<T: Eq + Hash + Drop, S: BuildHasher + Drop> HashBag<T, S> {
     fn take_up_to(&mut self, value: &T, quantity: usize) -> usize
         ensures before { result ≡ count T.eq value.now self.old.items }
         ensures fewer { HasFewer T.eq value.now quantity self.old self.new }
-        ensures len { length self.new.items + min result quantity ≡ length self.old.items }
+        ensures len { IsShorterBy (min result quantity) self.old self.new }
     {
         let before = self.table.take(value, quantity);
         self.len -= before.min(quantity);
@@ -82,7 +83,7 @@ impl<T: Eq + Hash + Drop, S: BuildHasher + Drop> HashBag<T, S> {
         // Once the loan is over.
         ensures* left { sem 𝓛 (ends_taking T.row S.row S.Hasher.row T.Hash S.BuildHasher S.Hasher.Hasher self.entry value.now) }
         ensures last { IfOk result (λ instance. stored T.eq value.now self.old.items ≡ Some (instance, 1)) }
-        ensures others { IfErr result (λ found. (option_map (λ e. (e.0.now, e.1)) found ≡ stored T.eq value.now self.old.items) × (count T.eq value.now self.old.items ≢ 1)) }
+        ensures others { IfErr result (λ found. Lends found (stored T.eq value.now self.old.items) × (count T.eq value.now self.old.items ≢ 1)) }
     {
         HashBag::taken_or_lent(self.take_one(value), self, value)
     }
@@ -95,7 +96,7 @@ impl<T: Eq + Hash + Drop, S: BuildHasher + Drop> HashBag<T, S> {
     ) -> Result<T, Option<(&'a T, usize)>>
         ensures last { IfOk taken (λ instance. result ≡ Ok instance) }
         ensures absent { IfErr taken (λ before. before ≡ 0 → result ≡ Err None) }
-        ensures others { IfErr taken (λ before. before ≢ 0 → IsErrAnd result (λ found. option_map (λ e. (e.0.now, e.1)) found ≡ counted T.eq value.now before bag.now.items)) }
+        ensures others { IfErr taken (λ before. before ≢ 0 → IsErrAnd result (λ found. Lends found (counted T.eq value.now before bag.now.items))) }
     {
         match taken {
             Ok(instance) => Ok(instance),
@@ -123,7 +124,7 @@ impl<T: Eq + Hash + Drop, S: BuildHasher + Drop> HashBag<T, S> {
     /// ```
     pub fn take_one(&mut self, value: &T) -> Result<T, usize>
         ensures fewer { HasFewer T.eq value.now 1 self.old self.new }
-        ensures len { MatchResult result (λ _. length self.new.items + 1 ≡ length self.old.items) (λ before. length self.new.items + min before 1 ≡ length self.old.items) }
+        ensures len { MatchResult result (λ _. IsShorterBy 1 self.old self.new) (λ before. IsShorterBy (min before 1) self.old self.new) }
         ensures last { IfOk result (λ instance. stored T.eq value.now self.old.items ≡ Some (instance, 1)) }
         ensures others { IfErr result (λ before. (before ≡ count T.eq value.now self.old.items) × (before ≢ 1)) }
         ensures bag { IsBag T.eq self.old.most self.old.items }
@@ -153,7 +154,7 @@ impl<T: Eq + Hash + Drop, S: BuildHasher + Drop> HashBag<T, S> {
     pub fn take_all(&mut self, value: &T) -> Option<(T, usize)>
         ensures taken { result ≡ stored T.eq value.now self.old.items }
         ensures fewer { HasFewer T.eq value.now (count T.eq value.now self.old.items) self.old self.new }
-        ensures len { MatchOption result (length self.new.items ≡ length self.old.items) (λ taken. length self.new.items + taken.1 ≡ length self.old.items) }
+        ensures len { MatchOption result (length self.new.items ≡ length self.old.items) (λ taken. IsShorterBy taken.1 self.old self.new) }
     {
         let (instance, count) = self.table.remove(value)?;
         self.len -= count;
