@@ -92,6 +92,10 @@ pays_kept a b k N m r s h same room =
 
 -- ---- runs
 
+-- from what `waiting` answers, w
+pub smaller_by : {T : Type 0} (w : ℕ) (t : Tables T) → w ≡ length t.waiting → (0 < w → w + 16 ≤ length t.newer) → 0 < length t.waiting → length t.waiting + 16 ≤ length t.newer
+smaller_by w t waiting smaller = subst (λ n. 0 < n → n + 16 ≤ length t.newer) waiting smaller
+
 module _ {T : Type 0} (eq : T → T → Bool) where
   -- b slots were built by a run from none
   pub record IsCovered (a : ℕ) (before now : Tables T) : Type 0 where
@@ -110,6 +114,11 @@ module _ {T : Type 0} (eq : T → T → Bool) where
     pub known : values t ≡ distinct_count eq items
     pub fits : values t ≤ limit (length t.newer)
     pub smaller : 0 < length t.waiting → length t.waiting + 16 ≤ length t.newer
+
+  -- from what `slots` answers, n, and `waiting`, w
+  pub shaped_by : (n w : ℕ) (items : List T) (t : Tables T) → n ≡ length t.newer → IsSlotCount n → values t ≡ distinct_count eq items → values t ≤ limit (length t.newer)
+      → w ≡ length t.waiting → (0 < w → w + 16 ≤ length t.newer) → IsShaped items t
+  shaped_by n w items t slots count known fits waiting smaller = record { count = subst (λ m. IsSlotCount m) slots count; known = known; fits = fits; smaller = smaller_by w t waiting smaller }
 
   peak_more : (most : ℕ) (X : List T) (done : List (Step T)) (s : Step T) → peak eq most X done ≤ peak eq most X (done ++ s ∷ [])
   unfolding peak

@@ -1,4 +1,4 @@
--- Runs of steps on two bags, one after the other.
+-- What a run of steps on a bag did, and two runs on two bags, one after the other.
 use Rattle.std.specs.Prelude.{◌≡◌, ◌+◌, ◌<◌, Bool, List, ◌++◌, ◌⊎◌, Vec, vec_len, vec_capacity}
 use Rattle.hashbag_script.specs.declared.script.Step.{Step}
 use Rattle.hashbag_script.specs.declared.script.Reply.{Reply}
@@ -25,6 +25,10 @@ pub record IsUntouched {T S : Type 0} (r : Ran T S) : Type 0 where
   pub bag : r.after ≡ r.before
   pub replies : r.replies_after ≡ r.replies_before
 
+-- no step was done, since there was no room for the replies
+abbrev pub IsNotBegun : {T S : Type 0} → Type 0 → Ran T S → Type 0
+IsNotBegun NoRoom r = NoRoom × IsUntouched r
+
 module _ {T : Type 0} (eq : T → T → Bool) where
   -- every step was done, from the list X on: the replies of that run were appended, and the bag means what it left
   pub record IsDoneFrom {S : Type 0} (X : List T) (r : Ran T S) : Type 0 where
@@ -40,7 +44,15 @@ module _ {T : Type 0} (eq : T → T → Bool) where
   abbrev pub IsCutOff : {S : Type 0} → Ran T S → Type 0
   IsCutOff r = (X : List T) → Means r.before X → IsStopped eq r.before.most X r.steps r.replies_before r.replies_after r.after
 
+  -- memory stopped the run: before the first step, since there was no room for the replies; or at a step
+  abbrev pub IsRunCutOff : {S : Type 0} → Type 0 → Ran T S → Type 0
+  IsRunCutOff NoRoom r = IsNotBegun NoRoom r ⊎ IsCutOff r
+
   -- memory stopped the runs of two bags: before the first step, since there was no room for the replies; or in the first
   -- run, and the second bag is untouched; or in the second run, and the first was done
   abbrev pub IsPairCutOff : {S S2 : Type 0} → Type 0 → Ran T S → Ran T S2 → Type 0
   IsPairCutOff NoRoom r q = (NoRoom × IsUntouched r × IsUntouched q) ⊎ ((IsCutOff r × IsUntouched q) ⊎ (IsDone r × IsCutOff q))
+
+  -- memory stopped the runs of two bags, or both were done, and what was to come after them was stopped
+  abbrev pub IsCutOffAfter : {S S2 : Type 0} → Type 0 → Ran T S → Ran T S2 → Type 0
+  IsCutOffAfter NoRoom r q = IsPairCutOff NoRoom r q ⊎ (IsDone r × IsDone q)

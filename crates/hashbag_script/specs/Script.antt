@@ -133,6 +133,14 @@ module _ {T : Type 0} (eq : T → T → Bool) where
   abbrev pub newcomers : List T → List T → ℕ
   newcomers X Y = if has_newcomer X Y then 1 else 0
 
+  -- the tables of the bag have room for what occurs in Y and not in the bag
+  abbrev pub HasRoomFor : {S : Type 0} → Bag T S → List T → Type 0
+  HasRoomFor bag Y = newcomers bag.items Y ≤ room bag.tables
+
+  -- what occurs in Y and not in the bag before came into its tables
+  abbrev pub MovesIn : {S : Type 0} → List T → Bag T S → Bag T S → Type 0
+  MovesIn Y before after = Moves (newcomers before.items Y) before.tables after.tables
+
   -- the number of steps of the run that bring in a value which didn't occur before them
   unfoldable pub arrivals : ℕ → List T → List (Step T) → ℕ
   arrivals most X [] = 0
@@ -144,6 +152,10 @@ module _ {T : Type 0} (eq : T → T → Bool) where
   pub record IsRoomy (most : ℕ) (X : List T) (steps : List (Step T)) (tables : Tables T) : Type 0 where
     pub calls : list_any is_about_room steps ≡ false
     pub enough : arrivals most X steps ≤ room tables
+
+  -- P holds if no step is about room and the bag has room for all values that the run brings in, whichever list the bag means
+  abbrev pub IfRoomy : {S : Type 0} → Bag T S → List (Step T) → Type 0 → Type 0
+  IfRoomy bag steps P = (X : List T) → Means bag X → IsRoomy bag.most X steps bag.tables → P
 
   -- What a run from no slots leaves. With no `Reserve` the slots are bounded by the most distinct values that there were. The older
   -- table is smaller than the newer one. With no `ShrinkToFit` either, the values that came pay for the slots of all tables made.

@@ -1,20 +1,19 @@
 //! Whole runs of steps on a bag.
-ghost use Rattle.std.specs.Prelude.{◌≡◌, ◌+◌, ◌-◌, ◌<◌, ◌≤◌, ◌++◌, ◌⊎◌, List, [], true, false, length, take, vec_len, vec_capacity, IsOk, IfOk, OnOk, OnErr};
+ghost use Rattle.std.specs.Prelude.{◌≡◌, ◌+◌, ◌≤◌, ◌++◌, List, true, false, length, IsOk, IfOk, OnOk, OnErr};
 ghost use Rattle.hashbag_core.specs.Bag.{Means, IsBagOf, limited};
-ghost use Rattle.hashbag_core.specs.Occurrences.{count, distinct_count, IsBag};
+ghost use Rattle.hashbag_core.specs.Occurrences.{IsBag};
+ghost use Rattle.hashbag_script.specs.Pairs.{ran, HasNoRoom, IsNotBegun, IsRunCutOff};
 ghost use Rattle.hashbag_script.specs.Rows.{insert_row, replace_row, try_take_row, take_all_row, entry_set_row, entry_or_row, retain_row, limit_row, quota as quota_of};
-ghost use Rattle.hashbag_table.specs.Tables.{limit, room, values, KeepsRoom};
-ghost use Rattle.hashbag_table.specs.Slots.{IsSlotCount};
-ghost use Rattle.hashbag_script.specs.Script.{step as step_of, run as run_of, newcomers, is_about_room, is_reserve, Moves, IsRoomy, IsBounded, IsRefusedInsertion, AsksForMemory, IsStopped, limit_after, limit_left};
-ghost use Rattle.std.specs.Prelude.{map};
-ghost use Rattle.hashbag_core.specs.Joins.{IsOuterJoin, IsDifference, IsNotIn, IsSignedDifference};
-ghost use Rattle.hashbag_core.specs.JoinsLeft.{exceeding, subtracted, unmatched};
-ghost use Rattle.hashbag_script.specs.Pairs.{ran, HasNoRoom, IsDone, IsPairCutOff};
+ghost use Rattle.hashbag_script.specs.Script.{step as step_of, run as run_of, is_about_room, is_reserve, HasRoomFor, MovesIn, IfRoomy, IsRefusedInsertion, AsksForMemory, limit_after, limit_left};
 ghost use Rattle.hashbag_script.specs.Turns.{LeavesTables, AreTablesInTurn, IsBoundedRun};
+ghost use Rattle.hashbag_table.specs.Tables.{KeepsRoom};
 
-use hashbag_core::joins::limited_difference;
+mod joins;
+mod pair;
+
 use hashbag_core::{BagError, HashBag};
-use std::alloc::{AllocError, Global};
+pub use joins::{Joins, joins_of};
+pub use pair::run_pair;
 use std::hash::{BuildHasher, Hash};
 
 /// A call on a bag.
@@ -73,17 +72,6 @@ pub enum Reply<T> {
     BelowTotal,
 }
 
-// Tells the proof what every bag keeps of its tables. It does nothing else.
-fn recall_what_tables_keep<T: Eq + Hash + Drop, S: BuildHasher + Drop>(bag: &HashBag<T, S>)
-    ensures count { IsSlotCount (length bag.now.tables.newer) }
-    ensures values { values bag.now.tables ≡ distinct_count T.eq bag.now.items }
-    ensures fits { values bag.now.tables ≤ limit (length bag.now.tables.newer) }
-    ensures smaller { 0 < length bag.now.tables.waiting → length bag.now.tables.waiting + 16 ≤ length bag.now.tables.newer }
-{
-    let _slots = bag.slots();
-    let _waiting = bag.waiting();
-}
-
 // Adds occurrences, if the bag can have them.
 fn insert<T: Eq + Hash + Drop, S: BuildHasher + Drop>(
     bag: &mut HashBag<T, S>,
@@ -95,8 +83,8 @@ fn insert<T: Eq + Hash + Drop, S: BuildHasher + Drop>(
     ensures memory { OnErr result (result ≡ Err BagError.Memory) }
     ensures refused { OnErr result (IsRefusedInsertion T.eq bag.old.most value n bag.old.items) }
     ensures err { OnErr result (bag.new ≡ bag.old) }
-    ensures takes { newcomers T.eq bag.old.items (insert_row T.eq bag.old.most value n bag.old.items).0 ≤ room bag.old.tables → IsOk result }
-    ensures room { OnOk result (Moves (newcomers T.eq bag.old.items (insert_row T.eq bag.old.most value n bag.old.items).0) bag.old.tables bag.new.tables) }
+    ensures takes { HasRoomFor T.eq bag.old (insert_row T.eq bag.old.most value n bag.old.items).0 → IsOk result }
+    ensures room { OnOk result (MovesIn T.eq (insert_row T.eq bag.old.most value n bag.old.items).0 bag.old bag.new) }
 {
     // `len` is called for its clause that the list is a bag's, which the proof cites.
     let _len = bag.len();
@@ -118,8 +106,8 @@ fn replace<T: Eq + Hash + Drop, S: BuildHasher + Drop>(
     ensures memory { OnErr result (result ≡ Err BagError.Memory) }
     ensures refused { OnErr result (IsRefusedInsertion T.eq bag.old.most value 1 bag.old.items) }
     ensures err { OnErr result (bag.new ≡ bag.old) }
-    ensures takes { newcomers T.eq bag.old.items (replace_row T.eq bag.old.most value bag.old.items).0 ≤ room bag.old.tables → IsOk result }
-    ensures room { OnOk result (Moves (newcomers T.eq bag.old.items (replace_row T.eq bag.old.most value bag.old.items).0) bag.old.tables bag.new.tables) }
+    ensures takes { HasRoomFor T.eq bag.old (replace_row T.eq bag.old.most value bag.old.items).0 → IsOk result }
+    ensures room { OnOk result (MovesIn T.eq (replace_row T.eq bag.old.most value bag.old.items).0 bag.old bag.new) }
 {
     // `len` is called for its clause that the list is a bag's, which the proof cites.
     let _len = bag.len();
@@ -200,8 +188,8 @@ fn entry_or<T: Eq + Hash + Drop, S: BuildHasher + Drop>(
     ensures memory { OnErr result (result ≡ Err BagError.Memory) }
     ensures refused { OnErr result (IsRefusedInsertion T.eq bag.old.most value quantity bag.old.items) }
     ensures err { OnErr result (bag.new ≡ bag.old) }
-    ensures takes { newcomers T.eq bag.old.items (entry_or_row T.eq bag.old.most value quantity bag.old.items).0 ≤ room bag.old.tables → IsOk result }
-    ensures room { OnOk result (Moves (newcomers T.eq bag.old.items (entry_or_row T.eq bag.old.most value quantity bag.old.items).0) bag.old.tables bag.new.tables) }
+    ensures takes { HasRoomFor T.eq bag.old (entry_or_row T.eq bag.old.most value quantity bag.old.items).0 → IsOk result }
+    ensures room { OnOk result (MovesIn T.eq (entry_or_row T.eq bag.old.most value quantity bag.old.items).0 bag.old bag.new) }
 {
     // `len` is called for its clause that the list is a bag's, which the proof cites.
     let _len = bag.len();
@@ -270,9 +258,10 @@ fn apply<T: Eq + Hash + Drop, S: BuildHasher + Drop>(
 
     // What it leaves of the tables: a step that isn't about room keeps them but for the value that it brings in, for which a new table is
     // made where there is no room. Only one that asks for room makes a larger table for other reasons.
-    ensures takes { is_about_room step ≡ false → newcomers T.eq bag.old.items (step_of T.eq bag.old.most bag.old.items step).0 ≤ room bag.old.tables → IsOk result }
+    ensures takes { is_about_room step ≡ false → HasRoomFor T.eq bag.old (step_of T.eq bag.old.most bag.old.items step).0 → IsOk result }
     ensures turns { OnOk result (LeavesTables T.eq bag.old.most bag.old.items step bag.old.tables bag.new.tables) }
-    ensures fewer { OnOk result (is_about_room step ≡ true → is_reserve step ≡ false → length bag.new.tables.newer ≤ length bag.old.tables.newer) }
+    ensures fewer { OnOk result (is_about_room step ≡ true → is_reserve step ≡ false
+        → length bag.new.tables.newer ≤ length bag.old.tables.newer) }
 {
     // `len` is called for its clause that the list is a bag's, which the proof cites.
     let _len = bag.len();
@@ -329,7 +318,8 @@ pub fn run<T: Eq + Hash + Drop, S: BuildHasher + Drop>(
 ) -> Result<(), BagError>
     // Each step replies as the plain list of occurrences replies, whichever list the bag means, and the bag then means
     // what that list has become.
-    ensures replies { OnOk result ((X : List T) → Means bag.old X → replies.new.items ≡ replies.old.items ++ (run_of T.eq bag.old.most X steps.items).1) }
+    ensures replies { OnOk result ((X : List T) → Means bag.old X
+        → replies.new.items ≡ replies.old.items ++ (run_of T.eq bag.old.most X steps.items).1) }
     ensures means { OnOk result ((X : List T) → Means bag.old X → Means bag.new (run_of T.eq bag.old.most X steps.items).0) }
     ensures limit { OnOk result ((X : List T) → Means bag.old X → bag.new.most ≡ limit_left T.eq bag.old.most X steps.items) }
     ensures hasher { bag.new.hasher ≡ bag.old.hasher }
@@ -337,175 +327,33 @@ pub fn run<T: Eq + Hash + Drop, S: BuildHasher + Drop>(
     // Only memory stops a run: either nothing was done, since there was no room for the replies, or the steps that have
     // replies are the run.
     ensures memory { OnErr result (result ≡ Err BagError.Memory) }
-    ensures stopped { OnErr result (((vec_capacity replies.old < vec_len replies.old + vec_len steps) × (bag.new ≡ bag.old) × (replies.new.items ≡ replies.old.items)) ⊎ ((X : List T) → Means bag.old X → IsStopped T.eq bag.old.most X steps.items replies.old.items replies.new.items bag.new)) }
+    ensures stopped { OnErr result (IsRunCutOff T.eq (HasNoRoom replies.old steps)
+        (ran bag.old bag.new steps.items replies.old.items replies.new.items)) }
 
     // Where the tables have room for all values that it brings in, and no step is about room, a run keeps its slots, and nothing
     // but the room for the replies can be refused.
-    ensures slots { (X : List T) → Means bag.old X → IsRoomy T.eq bag.old.most X steps.items bag.old.tables → length bag.new.tables.newer ≡ length bag.old.tables.newer }
-    ensures takes { (X : List T) → Means bag.old X → IsRoomy T.eq bag.old.most X steps.items bag.old.tables → OnErr result ((vec_capacity replies.old < vec_len replies.old + vec_len steps) × (bag.new ≡ bag.old) × (replies.new.items ≡ replies.old.items)) }
+    ensures slots { IfRoomy T.eq bag.old steps.items (length bag.new.tables.newer ≡ length bag.old.tables.newer) }
+    ensures takes { IfRoomy T.eq bag.old steps.items (OnErr result (IsNotBegun (HasNoRoom replies.old steps)
+        (ran bag.old bag.new steps.items replies.old.items replies.new.items))) }
 
     // What the steps that have replies leave of an empty bag with no slots, whether or not the run was stopped: as many slots as their
     // most distinct values need, and as many built as the values that came pay for.
-    ensures bounded { bag.old.items ≡ [] → bag.old.tables.newer ≡ [] → IsBounded T.eq bag.old.most (take (length replies.new.items - length replies.old.items) steps.items) bag.old.tables bag.new.tables }
+    ensures bounded { IsBoundedRun T.eq (ran bag.old bag.new steps.items replies.old.items replies.new.items) }
 
     // The tables follow from those before by what each step with a reply owes to them, in turn: what asked for room got it, and what gave
     // it back left a smaller table, or all stayed.
     ensures tables { AreTablesInTurn T.eq (ran bag.old bag.new steps.items replies.old.items replies.new.items) }
 {
-    recall_what_tables_keep(bag);
+    // `slots` and `waiting` are called for their clauses on the tables, which the proof cites.
+    let _slots = bag.slots();
+    let _waiting = bag.waiting();
     replies.reserve(steps.len())?;
     for step in steps {
         let reply = apply(bag, step)?;
         replies.push_reserved(reply);
-        recall_what_tables_keep(bag);
+        // `slots` and `waiting` are called for their clauses on the tables, which the proof cites.
+        let _slots = bag.slots();
+        let _waiting = bag.waiting();
     }
     Ok(())
-}
-
-/// Does the steps of two bags, those of the first before those of the second, and appends a reply for each. The states of
-/// the bags may be of different types.
-///
-/// Room for all replies of both is taken first: where it is refused, nothing changes. Then the two runs are as [`run`] does
-/// them. Where memory stops the first one, the second bag and its replies stay as they were; where it stops the second one,
-/// the first run was done. So the replies say how far each run came.
-///
-/// ```
-/// let (mut a, mut b) = (HashBag::new(alloc), HashBag::new(alloc));
-/// let (mut first, mut second) = (Vec::new(alloc), Vec::new(alloc));
-/// let steps_a = vec![in alloc; Step::Insert("apple")]?;
-/// let steps_b = vec![in alloc; Step::Insert("pear"), Step::Clear]?;
-/// script::run_pair(&mut a, &mut b, steps_a, steps_b, &mut first, &mut second)?;
-/// second.as_slice(); // [Count(0), Done]
-/// Ok(())
-/// ```
-pub fn run_pair<T: Eq + Hash + Drop, S: BuildHasher + Drop, S2: BuildHasher + Drop>(
-    a: &mut HashBag<T, S>,
-    b: &mut HashBag<T, S2>,
-    steps_a: Vec<Step<T>>,
-    steps_b: Vec<Step<T>>,
-    replies_a: &mut Vec<Reply<T>>,
-    replies_b: &mut Vec<Reply<T>>,
-) -> Result<(), BagError>
-    // Each step replies as the plain list of occurrences replies, whichever list its bag means, and each bag then means what
-    // its list has become.
-    ensures first { OnOk result (IsDone T.eq (ran a.old a.new steps_a.items replies_a.old.items replies_a.new.items)) }
-    ensures second { OnOk result (IsDone T.eq (ran b.old b.new steps_b.items replies_b.old.items replies_b.new.items)) }
-    ensures first_hasher { a.new.hasher ≡ a.old.hasher }
-    ensures second_hasher { b.new.hasher ≡ b.old.hasher }
-
-    // Only memory stops the runs.
-    ensures memory { OnErr result (result ≡ Err BagError.Memory) }
-    ensures stopped { OnErr result (IsPairCutOff T.eq (HasNoRoom replies_a.old steps_a ⊎ HasNoRoom replies_b.old steps_b) (ran a.old a.new steps_a.items replies_a.old.items replies_a.new.items) (ran b.old b.new steps_b.items replies_b.old.items replies_b.new.items)) }
-
-    // Where the tables have room for all values that come, each run keeps its slots, and nothing but the room for the replies can be
-    // refused.
-    ensures first_slots { (X : List T) → Means a.old X → IsRoomy T.eq a.old.most X steps_a.items a.old.tables → length a.new.tables.newer ≡ length a.old.tables.newer }
-    ensures second_slots { (Y : List T) → Means b.old Y → IsRoomy T.eq b.old.most Y steps_b.items b.old.tables → length b.new.tables.newer ≡ length b.old.tables.newer }
-    ensures takes { (X Y : List T) → Means a.old X → Means b.old Y → IsRoomy T.eq a.old.most X steps_a.items a.old.tables → IsRoomy T.eq b.old.most Y steps_b.items b.old.tables → OnErr result (HasNoRoom replies_a.old steps_a ⊎ HasNoRoom replies_b.old steps_b) }
-
-    // The tables of each bag follow from those before, and are bounded where it was empty and had no slots, as in one run.
-    ensures first_tables { AreTablesInTurn T.eq (ran a.old a.new steps_a.items replies_a.old.items replies_a.new.items) }
-    ensures second_tables { AreTablesInTurn T.eq (ran b.old b.new steps_b.items replies_b.old.items replies_b.new.items) }
-    ensures first_bounded { IsBoundedRun T.eq (ran a.old a.new steps_a.items replies_a.old.items replies_a.new.items) }
-    ensures second_bounded { IsBoundedRun T.eq (ran b.old b.new steps_b.items replies_b.old.items replies_b.new.items) }
-{
-    recall_what_tables_keep(a);
-    recall_what_tables_keep(b);
-    replies_a.reserve(steps_a.len())?;
-    replies_b.reserve(steps_b.len())?;
-    run(a, steps_a, replies_a)?;
-    run(b, steps_b, replies_b)
-}
-
-/// The four joins of a bag with another, collected.
-#[derive(Drop)]
-pub struct Joins<'a, T> {
-    /// What [`HashBag::outer_join`] gives.
-    pub outer: Vec<(&'a T, usize, usize)>,
-    /// What [`HashBag::difference`] gives.
-    pub difference: Vec<(&'a T, usize)>,
-    /// What [`HashBag::signed_difference`] gives.
-    pub signed: Vec<(&'a T, isize)>,
-    /// What [`HashBag::not_in`] gives.
-    pub not_in: Vec<(&'a T, usize)>,
-}
-
-// The values of an outer join of which the first bag has more, with how many more.
-fn difference_of<'a, T>(
-    alloc: Global,
-    outer: &Vec<(&'a T, usize, usize)>,
-) -> Result<Vec<(&'a T, usize)>, AllocError>
-    ensures { IfOk result (λ entries. entries.items ≡ exceeding outer.now.items) }
-{
-    outer
-        .iter()
-        .map(|join| (join.0, join.1.saturating_sub(join.2)))
-        .filter(|entry| entry.1 > 0)
-        .collect(alloc)
-}
-
-// The values of an outer join, with the first count less the second. There is room for all of them from the start.
-fn signed_difference_of<'a, T>(
-    alloc: Global,
-    outer: &Vec<(&'a T, usize, usize)>,
-) -> Result<Vec<(&'a T, isize)>, AllocError>
-    ensures { IfOk result (λ entries. entries.items ≡ subtracted outer.now.items) }
-{
-    outer
-        .iter()
-        .map(|join| (join.0, limited_difference(join.1, join.2)))
-        .collect(alloc)
-}
-
-// The values of an outer join that the second bag lacks, with their counts in the first.
-fn not_in_of<'a, T>(
-    alloc: Global,
-    outer: &Vec<(&'a T, usize, usize)>,
-) -> Result<Vec<(&'a T, usize)>, AllocError>
-    ensures { IfOk result (λ entries. entries.items ≡ unmatched outer.now.items) }
-{
-    outer
-        .iter()
-        .filter(|join| join.2 == 0)
-        .map(|join| (join.0, join.1))
-        .collect(alloc)
-}
-
-/// Collects the four joins of `a` with `b`. It changes neither bag.
-///
-/// It looks each value up once, for the outer join, from which the other three follow. Memory may be refused: then there are
-/// no joins.
-///
-/// ```
-/// let mut ordered = HashBag::new(alloc);
-/// ordered.insert_many("apple", 3)?;
-/// let mut delivered = HashBag::new(alloc);
-/// delivered.insert("apple")?;
-/// let joins = script::joins_of(alloc, &ordered, &delivered)?;
-/// joins.outer.as_slice(); // [("apple", 3, 1)]
-/// joins.difference.as_slice(); // [("apple", 2)]
-/// Ok(())
-/// ```
-pub fn joins_of<'a, T: Eq + Hash + Drop, S: BuildHasher + Drop, S2: BuildHasher + Drop>(
-    alloc: Global,
-    a: &'a HashBag<T, S>,
-    b: &'a HashBag<T, S2>,
-) -> Result<Joins<'a, T>, BagError>
-    // Whichever lists the bags mean.
-    ensures outer { IfOk result (λ joins. (X Y : List T) → Means a.now X → Means b.now Y → IsOuterJoin T.eq X Y (map (λ j. (j.0.now, j.1, j.2)) joins.outer.items)) }
-    ensures difference { IfOk result (λ joins. (X Y : List T) → Means a.now X → Means b.now Y → IsDifference T.eq X Y (map (λ e. (e.0.now, e.1)) joins.difference.items)) }
-    ensures signed { IfOk result (λ joins. (X Y : List T) → Means a.now X → Means b.now Y → IsSignedDifference T.eq X Y (map (λ e. (e.0.now, e.1)) joins.signed.items)) }
-    ensures not_in { IfOk result (λ joins. (X Y : List T) → Means a.now X → Means b.now Y → IsNotIn T.eq X Y (map (λ e. (e.0.now, e.1)) joins.not_in.items)) }
-    ensures memory { OnErr result (result ≡ Err BagError.Memory) }
-{
-    let outer = a.outer_join(b).collect(alloc)?;
-    let difference = difference_of(alloc, &outer)?;
-    let signed = signed_difference_of(alloc, &outer)?;
-    let not_in = not_in_of(alloc, &outer)?;
-    Ok(Joins {
-        outer,
-        difference,
-        signed,
-        not_in,
-    })
 }

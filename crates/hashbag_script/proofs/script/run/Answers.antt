@@ -1,9 +1,10 @@
-use Rattle.std.proofs.Common.{◌≡◌, ◌<◌, ◌+◌, ◌≤◌, ◌++◌, ◌∷◌, [], ◌⊎◌, inr, ℕ, Bool, List, length, vec_len, vec_capacity, refl, sym, ◌∙◌, ap, subst, append_assoc, arith, rules}
+use Rattle.std.proofs.Common.{◌≡◌, ◌+◌, ◌≤◌, ◌++◌, ◌∷◌, [], inr, ℕ, Bool, List, length, vec_len, vec_capacity, refl, sym, ◌∙◌, ap, subst, append_assoc, arith, rules}
 use Rattle.std.specs.Vec.Iter.{into_iter_items, into_iter_len}
 use Rattle.std.proofs.lemmas.List.{append-nil, nil_from_length}
 use Rattle.std.proofs.lemmas.List.Sorted.{IsPermutation-sym, IsPermutation-trans}
 use Rattle.hashbag_table.proofs.EntryLemmas.{OnErr-from}
 use Rattle.hashbag_core.specs.Bag.{Means}
+use Rattle.hashbag_script.specs.Pairs.{ran, HasNoRoom, IsRunCutOff}
 use Rattle.hashbag_script.specs.Script.{step as step_of, run as run_of, limit_left, AsksForMemory, is_about_room, IsRoomy, IsStopped}
 use Rattle.hashbag_core.proofs.OccurrenceLemmas.{bag_rearranged}
 use Rattle.hashbag_script.proofs.RowLemmas.{IsSameRow, same_step, limit_same, asks_rearranged}
@@ -14,7 +15,7 @@ use Rattle.hashbag_table.specs.Tables.{Tables, room}
 use Rattle.hashbag_script.specs.declared.script.Step.{Step}
 use Rattle.hashbag_core.proofs.HeldLemmas.{none_left}
 use Rattle.hashbag_script.proofs.RoomLemmas.{first_not_about, few_newcomers, roomy_first, next_enough, roomy_next, moves_within}
-use Rattle.hashbag_script.proofs.BoundLemmas.{no_slots_paid, paid_next, means_none, bounded_from, unanswered}
+use Rattle.hashbag_script.proofs.BoundLemmas.{shaped_by, smaller_by, no_slots_paid, paid_next, means_none, bounded_from, unanswered}
 use Rattle.hashbag_script.proofs.TurnLemmas.{in_turn_more, in_turn_from, turns_rearranged}
 use Rattle.hashbag_script.proofs.script.run.Goals as goal
 
@@ -28,7 +29,7 @@ loop-step-init g c = record {
   limit = λ X means. sym (limit_none g.T.PartialEq.eq c.args.bag.now.most X);
   hasher = refl;
   roomy = λ X means roomy. roomy_first g.met.T.Eq.laws c.args.bag.now.most X _ c.args.bag.now.tables roomy;
-  shaped = let h = c.recall_what_tables_keep.ensures in record { count = h.count; known = h.values; fits = h.fits; smaller = h.smaller };
+  shaped = let s = c.slots-slots.ensures in let w = c.waiting-waiting.ensures in shaped_by g.T.PartialEq.eq _ _ _ _ s.slots s.count s.values s.fits w.waiting w.smaller;
   paid = λ empty none. no_slots_paid g.T.PartialEq.eq c.args.bag.now.most c.args.bag.now.tables none;
   turned = λ X means. refl;
 }
@@ -67,7 +68,7 @@ loop-step-preserved g c =
           let quiet = first_not_about at.yielded (into_iter_items c.next.new.self) x (ap (list_any is_about_room) whole ∙ roomy.calls) in
           let enough = next_enough g.met.T.Eq.laws most at.bag.most X at.bag.items at.yielded (into_iter_items c.next.new.self) x _ at.bag.tables so_far (at.invariant.means X means) (same X means).left in
           roomy_next g.met.T.Eq.laws most at.bag.most X at.bag.items at.yielded (into_iter_items c.next.new.self) x _ at.bag.tables _ so_far (at.invariant.means X means) (same X means).left (moves_within _ _ _ (c.in_ok-reply.ensures.turns.moves quiet) enough);
-      shaped = let h = c.recall_what_tables_keep-in-loop-step.ensures in record { count = h.count; known = h.values; fits = h.fits; smaller = h.smaller };
+      shaped = let s = c.slots-slots-in-loop-step.ensures in let w = c.waiting-waiting-in-loop-step.ensures in shaped_by g.T.PartialEq.eq _ _ _ _ s.slots s.count s.values s.fits w.waiting w.smaller;
       paid = λ empty none.
           let nothing = means_none g.T.PartialEq.eq c.args.bag.now empty in
           paid_next g.met.T.Eq.laws most at.bag.most at.bag.items at.yielded x c.args.bag.now.tables at.bag.tables c.apply.new.bag.tables (at.invariant.means [] nothing) (same [] nothing).left at.invariant.shaped
@@ -100,8 +101,8 @@ returns-in_err-reply-clause-stopped g c =
           let few = few_newcomers g.met.T.Eq.laws at.bag.items (step_of eq at.bag.most at.bag.items c.in-Some.step).0 in
           ap (λ b. room b.tables) c.in_err-reply.ensures.err ∙ none_left (room at.bag.tables) (λ some. false≢true (c.in_err-reply.ensures.takes about (omega (arith, few, some))));
     } in
-    let or_unchanged : ((vec_capacity c.args.replies.now < vec_len c.args.replies.now + vec_len c.args.steps) × (c.apply.new.bag ≡ c.args.bag.now) × (at.replies.items ≡ c.args.replies.now.items)) ⊎ ((X : List g.row.T.Denot) → Means c.args.bag.now X → IsStopped eq c.args.bag.now.most X c.args.steps.items c.args.replies.now.items at.replies.items c.apply.new.bag) = inr stopped in
-    OnErr-from _ or_unchanged
+    let cut : IsRunCutOff eq (HasNoRoom c.args.replies.now c.args.steps) (ran c.args.bag.now c.apply.new.bag c.args.steps.items c.args.replies.now.items at.replies.items) = inr stopped in
+    OnErr-from _ cut
 
 -- the steps that the loop begins with are those of the run
 from_start : {T : Type 0} {eq : T → T → Bool} {most : ℕ} (X : List T) (steps all : List (Step T)) (t : Tables T) → all ≡ steps → IsRoomy eq most X steps t → IsRoomy eq most X all t
@@ -162,7 +163,7 @@ returns-in_err-reply-clause-bounded g c = λ empty none.
 pub returns-in_err-reserve-clause-bounded : goal.returns-in_err-reserve-clause-bounded
 returns-in_err-reserve-clause-bounded g c = λ empty none.
     bounded_from g.T.PartialEq.eq c.args.bag.now.most [] c.args.steps.items c.args.steps.items c.args.replies.now.items _ c.args.bag.now.tables c.args.bag.now.tables
-    refl (unanswered g.T.PartialEq.eq c.args.bag.now.most [] _ _ (search rules)) (no_slots_paid g.T.PartialEq.eq c.args.bag.now.most c.args.bag.now.tables none) c.recall_what_tables_keep.ensures.smaller
+    refl (unanswered g.T.PartialEq.eq c.args.bag.now.most [] _ _ (search rules)) (no_slots_paid g.T.PartialEq.eq c.args.bag.now.most c.args.bag.now.tables none) (let w = c.waiting-waiting.ensures in smaller_by _ c.args.bag.now.tables w.waiting w.smaller)
 
 -- ---- what the steps with replies leave of the tables
 
@@ -185,10 +186,25 @@ returns-in_err-reserve-clause-tables g c = λ X means.
     in_turn_from g.T.PartialEq.eq c.args.bag.now.most X [] c.args.steps.items c.args.steps.items c.args.replies.now.items _ c.args.bag.now.tables c.args.bag.now.tables
     refl (unanswered g.T.PartialEq.eq c.args.bag.now.most X _ _ (search rules)) refl
 
--- all steps were done
+-- ---- all steps were done
+
+all_taken : {T : Type 0} (done rest all steps : List (Step T)) → done ++ rest ≡ all → all ≡ steps → length rest ≡ 0 → done ≡ steps
+all_taken done rest all steps taken gives none = sym (append-nil done) ∙ ap (λ (l : List (Step _)). done ++ l) (sym (nil_from_length rest none)) ∙ taken ∙ gives
+
+pub returns-clause-replies : goal.returns-clause-replies
+returns-clause-replies g c = λ X means.
+    let at = c.loop-step in
+    let all = all_taken at.yielded (into_iter_items at.step-iterator) _ c.args.steps.items at.invariant.taken c.into_iter-step-iterator.ensures.into_iter_gives.0 (sym at.invariant.long ∙ c.in-None.ensures.steps.0) in
+    subst (λ l. at.replies.items ≡ c.args.replies.now.items ++ (run_of g.T.PartialEq.eq c.args.bag.now.most X l).1) all (rw (← c.in_ok-reserve.ensures.items) (at.invariant.replies X means))
+
 pub returns-clause-means : goal.returns-clause-means
 returns-clause-means g c = λ X means.
     let at = c.loop-step in
-    let gone : into_iter_items at.step-iterator ≡ [] = nil_from_length (into_iter_items at.step-iterator) (sym at.invariant.long ∙ c.in-None.ensures.steps.0) in
-    let all : at.yielded ≡ c.args.steps.items = sym (append-nil at.yielded) ∙ ap (λ (l : List (Step g.row.T.Denot)). at.yielded ++ l) (sym gone) ∙ at.invariant.taken ∙ c.into_iter-step-iterator.ensures.into_iter_gives.0 in
+    let all = all_taken at.yielded (into_iter_items at.step-iterator) _ c.args.steps.items at.invariant.taken c.into_iter-step-iterator.ensures.into_iter_gives.0 (sym at.invariant.long ∙ c.in-None.ensures.steps.0) in
     subst (λ l. Means at.bag (run_of g.T.PartialEq.eq c.args.bag.now.most X l).0) all (at.invariant.means X means)
+
+pub returns-clause-limit : goal.returns-clause-limit
+returns-clause-limit g c = λ X means.
+    let at = c.loop-step in
+    let all = all_taken at.yielded (into_iter_items at.step-iterator) _ c.args.steps.items at.invariant.taken c.into_iter-step-iterator.ensures.into_iter_gives.0 (sym at.invariant.long ∙ c.in-None.ensures.steps.0) in
+    subst (λ l. at.bag.most ≡ limit_left g.T.PartialEq.eq c.args.bag.now.most X l) all (at.invariant.limit X means)

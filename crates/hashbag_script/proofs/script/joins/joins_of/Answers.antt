@@ -4,7 +4,7 @@ use Rattle.std.proofs.lemmas.Iterator.{items_from_drains}
 use Rattle.std.proofs.lemmas.Iterator.Consumers.{YieldsList-from_first}
 use Rattle.hashbag_core.specs.Joins.{IsOuterJoin, IsDifference, IsNotIn, IsSignedDifference}
 use Rattle.hashbag_core.proofs.OuterJoinLemmas.{difference_from_outer, not_in_from_outer, signed_from_outer, exceeding-map, unmatched-map, subtracted-map}
-use Rattle.hashbag_script.proofs.script.joins_of.Goals as goal
+use Rattle.hashbag_script.proofs.script.joins.joins_of.Goals as goal
 
 pub returns-clause-outer : goal.returns-clause-outer
 returns-clause-outer g c = λ X Y in_a in_b.

@@ -2,11 +2,12 @@ use Rattle.std.proofs.Common.{◌⊎◌, vec_len, vec_capacity, ◌+◌, ◌<◌
 use Rattle.std.proofs.lemmas.Result.{on_err_weaker}
 use Rattle.hashbag_table.proofs.EntryLemmas.{OnErr-from}
 use Rattle.hashbag_script.specs.Pairs.{ran, HasNoRoom, IsPairCutOff}
+use Rattle.hashbag_script.proofs.BoundLemmas.{smaller_by}
 use Rattle.hashbag_script.proofs.TurnLemmas.{on_ok_from, on_ok_all, untouched_tables, untouched_bounded}
-use Rattle.hashbag_script.proofs.script.run_pair.Goals as goal
+use Rattle.hashbag_script.proofs.script.pair.run_pair.Goals as goal
 
 pub returns-clause-takes : goal.returns-clause-takes
-returns-clause-takes g c X Y means_a means_b roomy_a roomy_b =
+returns-clause-takes g c X means_a roomy_a Y means_b roomy_b =
     on_err_weaker c.run-2.result (λ h.
     let short : vec_capacity c.reserve-2.new.self < vec_len c.reserve-2.new.self + vec_len c.args.steps_b = h.0 in
     let room = c.in_ok-reserve-2.ensures.ok in let many = c.len-2.ensures in
@@ -61,19 +62,19 @@ pub returns-in_err-run-clause-first_bounded : goal.returns-in_err-run-clause-fir
 returns-in_err-run-clause-first_bounded g c = rw (← c.in_ok-reserve.ensures.items) c.run.ensures.bounded
 
 pub returns-in_err-run-clause-second_bounded : goal.returns-in_err-run-clause-second_bounded
-returns-in_err-run-clause-second_bounded g c = untouched_bounded g.T.PartialEq.eq c.args.b.now c.args.steps_b.items _ _ c.in_ok-reserve-2.ensures.items c.recall_what_tables_keep-2.ensures.smaller
+returns-in_err-run-clause-second_bounded g c = untouched_bounded g.T.PartialEq.eq c.args.b.now c.args.steps_b.items _ _ c.in_ok-reserve-2.ensures.items (smaller_by _ c.args.b.now.tables c.waiting-waiting_b.ensures.waiting c.waiting-waiting_b.ensures.smaller)
 
 pub returns-in_err-reserve-2-clause-first_bounded : goal.returns-in_err-reserve-2-clause-first_bounded
-returns-in_err-reserve-2-clause-first_bounded g c = untouched_bounded g.T.PartialEq.eq c.args.a.now c.args.steps_a.items _ _ c.in_ok-reserve.ensures.items c.recall_what_tables_keep.ensures.smaller
+returns-in_err-reserve-2-clause-first_bounded g c = untouched_bounded g.T.PartialEq.eq c.args.a.now c.args.steps_a.items _ _ c.in_ok-reserve.ensures.items (smaller_by _ c.args.a.now.tables c.waiting-waiting_a.ensures.waiting c.waiting-waiting_a.ensures.smaller)
 
 pub returns-in_err-reserve-2-clause-second_bounded : goal.returns-in_err-reserve-2-clause-second_bounded
-returns-in_err-reserve-2-clause-second_bounded g c = untouched_bounded g.T.PartialEq.eq c.args.b.now c.args.steps_b.items _ _ (search rules) c.recall_what_tables_keep-2.ensures.smaller
+returns-in_err-reserve-2-clause-second_bounded g c = untouched_bounded g.T.PartialEq.eq c.args.b.now c.args.steps_b.items _ _ (search rules) (smaller_by _ c.args.b.now.tables c.waiting-waiting_b.ensures.waiting c.waiting-waiting_b.ensures.smaller)
 
 pub returns-in_err-reserve-clause-first_bounded : goal.returns-in_err-reserve-clause-first_bounded
-returns-in_err-reserve-clause-first_bounded g c = untouched_bounded g.T.PartialEq.eq c.args.a.now c.args.steps_a.items _ _ (search rules) c.recall_what_tables_keep.ensures.smaller
+returns-in_err-reserve-clause-first_bounded g c = untouched_bounded g.T.PartialEq.eq c.args.a.now c.args.steps_a.items _ _ (search rules) (smaller_by _ c.args.a.now.tables c.waiting-waiting_a.ensures.waiting c.waiting-waiting_a.ensures.smaller)
 
 pub returns-in_err-reserve-clause-second_bounded : goal.returns-in_err-reserve-clause-second_bounded
-returns-in_err-reserve-clause-second_bounded g c = untouched_bounded g.T.PartialEq.eq c.args.b.now c.args.steps_b.items _ _ refl c.recall_what_tables_keep-2.ensures.smaller
+returns-in_err-reserve-clause-second_bounded g c = untouched_bounded g.T.PartialEq.eq c.args.b.now c.args.steps_b.items _ _ refl (smaller_by _ c.args.b.now.tables c.waiting-waiting_b.ensures.waiting c.waiting-waiting_b.ensures.smaller)
 
 -- ---- what search no longer finds beside them
 

@@ -1,0 +1,107 @@
+//! The joins of two bags, collected.
+ghost use Rattle.std.specs.Prelude.{◌≡◌, List, map, IfOk, OnErr};
+ghost use Rattle.hashbag_core.specs.Bag.{Means};
+ghost use Rattle.hashbag_core.specs.Joins.{IsOuterJoin, IsDifference, IsNotIn, IsSignedDifference};
+ghost use Rattle.hashbag_core.specs.JoinsLeft.{exceeding, subtracted, unmatched};
+
+use hashbag_core::joins::limited_difference;
+use hashbag_core::{BagError, HashBag};
+use std::alloc::{AllocError, Global};
+use std::hash::{BuildHasher, Hash};
+
+/// The four joins of a bag with another, collected.
+#[derive(Drop)]
+pub struct Joins<'a, T> {
+    /// What [`HashBag::outer_join`] gives.
+    pub outer: Vec<(&'a T, usize, usize)>,
+    /// What [`HashBag::difference`] gives.
+    pub difference: Vec<(&'a T, usize)>,
+    /// What [`HashBag::signed_difference`] gives.
+    pub signed: Vec<(&'a T, isize)>,
+    /// What [`HashBag::not_in`] gives.
+    pub not_in: Vec<(&'a T, usize)>,
+}
+
+// The values of an outer join of which the first bag has more, with how many more.
+fn difference_of<'a, T>(
+    alloc: Global,
+    outer: &Vec<(&'a T, usize, usize)>,
+) -> Result<Vec<(&'a T, usize)>, AllocError>
+    ensures { IfOk result (λ entries. entries.items ≡ exceeding outer.now.items) }
+{
+    outer
+        .iter()
+        .map(|join| (join.0, join.1.saturating_sub(join.2)))
+        .filter(|entry| entry.1 > 0)
+        .collect(alloc)
+}
+
+// The values of an outer join, with the first count less the second. There is room for all of them from the start.
+fn signed_difference_of<'a, T>(
+    alloc: Global,
+    outer: &Vec<(&'a T, usize, usize)>,
+) -> Result<Vec<(&'a T, isize)>, AllocError>
+    ensures { IfOk result (λ entries. entries.items ≡ subtracted outer.now.items) }
+{
+    outer
+        .iter()
+        .map(|join| (join.0, limited_difference(join.1, join.2)))
+        .collect(alloc)
+}
+
+// The values of an outer join that the second bag lacks, with their counts in the first.
+fn not_in_of<'a, T>(
+    alloc: Global,
+    outer: &Vec<(&'a T, usize, usize)>,
+) -> Result<Vec<(&'a T, usize)>, AllocError>
+    ensures { IfOk result (λ entries. entries.items ≡ unmatched outer.now.items) }
+{
+    outer
+        .iter()
+        .filter(|join| join.2 == 0)
+        .map(|join| (join.0, join.1))
+        .collect(alloc)
+}
+
+/// Collects the four joins of `a` with `b`. It changes neither bag.
+///
+/// It looks each value up once, for the outer join, from which the other three follow. Memory may be refused: then there are
+/// no joins.
+///
+/// ```
+/// let mut ordered = HashBag::new(alloc);
+/// ordered.insert_many("apple", 3)?;
+/// let mut delivered = HashBag::new(alloc);
+/// delivered.insert("apple")?;
+/// let joins = script::joins_of(alloc, &ordered, &delivered)?;
+/// joins.outer.as_slice(); // [("apple", 3, 1)]
+/// joins.difference.as_slice(); // [("apple", 2)]
+/// Ok(())
+/// ```
+pub fn joins_of<'a, T: Eq + Hash + Drop, S: BuildHasher + Drop, S2: BuildHasher + Drop>(
+    alloc: Global,
+    a: &'a HashBag<T, S>,
+    b: &'a HashBag<T, S2>,
+) -> Result<Joins<'a, T>, BagError>
+    // Whichever lists the bags mean.
+    ensures outer { IfOk result (λ joins. (X Y : List T) → Means a.now X → Means b.now Y
+        → IsOuterJoin T.eq X Y (map (λ j. (j.0.now, j.1, j.2)) joins.outer.items)) }
+    ensures difference { IfOk result (λ joins. (X Y : List T) → Means a.now X → Means b.now Y
+        → IsDifference T.eq X Y (map (λ e. (e.0.now, e.1)) joins.difference.items)) }
+    ensures signed { IfOk result (λ joins. (X Y : List T) → Means a.now X → Means b.now Y
+        → IsSignedDifference T.eq X Y (map (λ e. (e.0.now, e.1)) joins.signed.items)) }
+    ensures not_in { IfOk result (λ joins. (X Y : List T) → Means a.now X → Means b.now Y
+        → IsNotIn T.eq X Y (map (λ e. (e.0.now, e.1)) joins.not_in.items)) }
+    ensures memory { OnErr result (result ≡ Err BagError.Memory) }
+{
+    let outer = a.outer_join(b).collect(alloc)?;
+    let difference = difference_of(alloc, &outer)?;
+    let signed = signed_difference_of(alloc, &outer)?;
+    let not_in = not_in_of(alloc, &outer)?;
+    Ok(Joins {
+        outer,
+        difference,
+        signed,
+        not_in,
+    })
+}

@@ -1,0 +1,68 @@
+//! Runs of steps on two bags, one after the other.
+ghost use Rattle.std.specs.Prelude.{◌≡◌, ◌⊎◌, length, OnOk, OnErr};
+ghost use Rattle.hashbag_script.specs.Pairs.{ran, HasNoRoom, IsDone, IsPairCutOff};
+ghost use Rattle.hashbag_script.specs.Script.{IfRoomy};
+ghost use Rattle.hashbag_script.specs.Turns.{AreTablesInTurn, IsBoundedRun};
+
+use crate::script::{Reply, Step, run};
+use hashbag_core::{BagError, HashBag};
+use std::hash::{BuildHasher, Hash};
+
+/// Does the steps of two bags, those of the first before those of the second, and appends a reply for each. The states of
+/// the bags may be of different types.
+///
+/// Room for all replies of both is taken first: where it is refused, nothing changes. Then the two runs are as [`run`] does
+/// them. Where memory stops the first one, the second bag and its replies stay as they were; where it stops the second one,
+/// the first run was done. So the replies say how far each run came.
+///
+/// ```
+/// let (mut a, mut b) = (HashBag::new(alloc), HashBag::new(alloc));
+/// let (mut first, mut second) = (Vec::new(alloc), Vec::new(alloc));
+/// let steps_a = vec![in alloc; Step::Insert("apple")]?;
+/// let steps_b = vec![in alloc; Step::Insert("pear"), Step::Clear]?;
+/// script::run_pair(&mut a, &mut b, steps_a, steps_b, &mut first, &mut second)?;
+/// second.as_slice(); // [Count(0), Done]
+/// Ok(())
+/// ```
+pub fn run_pair<T: Eq + Hash + Drop, S: BuildHasher + Drop, S2: BuildHasher + Drop>(
+    a: &mut HashBag<T, S>,
+    b: &mut HashBag<T, S2>,
+    steps_a: Vec<Step<T>>,
+    steps_b: Vec<Step<T>>,
+    replies_a: &mut Vec<Reply<T>>,
+    replies_b: &mut Vec<Reply<T>>,
+) -> Result<(), BagError>
+    // Each step replies as the plain list of occurrences replies, whichever list its bag means, and each bag then means what
+    // its list has become.
+    ensures first { OnOk result (IsDone T.eq (ran a.old a.new steps_a.items replies_a.old.items replies_a.new.items)) }
+    ensures second { OnOk result (IsDone T.eq (ran b.old b.new steps_b.items replies_b.old.items replies_b.new.items)) }
+    ensures first_hasher { a.new.hasher ≡ a.old.hasher }
+    ensures second_hasher { b.new.hasher ≡ b.old.hasher }
+
+    // Only memory stops the runs.
+    ensures memory { OnErr result (result ≡ Err BagError.Memory) }
+    ensures stopped { OnErr result (IsPairCutOff T.eq (HasNoRoom replies_a.old steps_a ⊎ HasNoRoom replies_b.old steps_b)
+        (ran a.old a.new steps_a.items replies_a.old.items replies_a.new.items)
+        (ran b.old b.new steps_b.items replies_b.old.items replies_b.new.items)) }
+
+    // Where the tables have room for all values that come, each run keeps its slots, and nothing but the room for the replies can be
+    // refused.
+    ensures first_slots { IfRoomy T.eq a.old steps_a.items (length a.new.tables.newer ≡ length a.old.tables.newer) }
+    ensures second_slots { IfRoomy T.eq b.old steps_b.items (length b.new.tables.newer ≡ length b.old.tables.newer) }
+    ensures takes { IfRoomy T.eq a.old steps_a.items (IfRoomy T.eq b.old steps_b.items (OnErr result
+        (HasNoRoom replies_a.old steps_a ⊎ HasNoRoom replies_b.old steps_b))) }
+
+    // The tables of each bag follow from those before, and are bounded where it was empty and had no slots, as in one run.
+    ensures first_tables { AreTablesInTurn T.eq (ran a.old a.new steps_a.items replies_a.old.items replies_a.new.items) }
+    ensures second_tables { AreTablesInTurn T.eq (ran b.old b.new steps_b.items replies_b.old.items replies_b.new.items) }
+    ensures first_bounded { IsBoundedRun T.eq (ran a.old a.new steps_a.items replies_a.old.items replies_a.new.items) }
+    ensures second_bounded { IsBoundedRun T.eq (ran b.old b.new steps_b.items replies_b.old.items replies_b.new.items) }
+{
+    // `waiting` is called for its clause that an older table is smaller, which the proof cites.
+    let _waiting_a = a.waiting();
+    let _waiting_b = b.waiting();
+    replies_a.reserve(steps_a.len())?;
+    replies_b.reserve(steps_b.len())?;
+    run(a, steps_a, replies_a)?;
+    run(b, steps_b, replies_b)
+}
