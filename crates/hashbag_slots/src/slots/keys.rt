@@ -59,9 +59,9 @@ impl<T: Eq + Hash> Slots<T> {
         self.find_key(state, hash, key)
     }
 
-    /// What the first 16 slots on the path of a key's hash tell, which is handed in: in `Ok` the place of the Live slot whose value
-    /// the key names, in `Err`, where there is none, the first place whose slot is not Live, into which `place_at` puts it.
-    /// `None` where they don't tell, or where the table ends before the sixteenth: `find_key` then does.
+    /// What the first 16 slots on the path of a key's hash show, which is handed in: the place of the Live slot whose value the key
+    /// names, or, where no slot has it, the first place whose slot is not Live, into which `place_at` puts it. `Open` where they don't
+    /// tell, or where the table ends before the sixteenth: `find_key` then does.
     #[inline(always)]
     pub fn probe_key_first_group<S: BuildHasher, Q: Key<T>>(
         &self,
