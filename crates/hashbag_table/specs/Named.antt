@@ -1,10 +1,10 @@
 -- What a key names in a map. `names` is the test that the values pass which the key names: one value's equals.
-use Rattle.std.specs.Prelude.{◌≡◌, ℕ, ◌+◌, ◌<◌, Bool, List, length, Option, None, IsSome, IsTrue, unwrap_or}
+use Rattle.std.specs.Prelude.{◌≡◌, ℕ, ◌+◌, ◌<◌, Bool, List, length, Option, None, IsTrue, unwrap_or}
 use Rattle.std.specs.Map.{lookup, lookup_entry}
 use Rattle.hashbag_slots.specs.Slots.{recounted}
 use Rattle.hashbag_table.specs.Entries.{entry_of, count_of, with_count}
-use Rattle.hashbag_table.specs.Table.{Table, IsMapOf}
-use Rattle.hashbag_table.specs.Tables.{room, Arrives, KeepsRoom, Rewrites}
+use Rattle.hashbag_table.specs.Table.{Table, IsMapOf, ChangesSlot}
+use Rattle.hashbag_table.specs.Tables.{room, Arrives, KeepsRoom}
 
 module _ {T : Type 0} (names : T → Bool) where
   -- the stored instance that the key names, and its count
@@ -21,7 +21,7 @@ module _ {T S : Type 0} (eq : T → T → Bool) where
   pub record Adds (v : T) (n : ℕ) (before after : Table T S) : Type 0 where
     pub added : IsMapOf eq before (with_count eq v (count_of eq v before.entries + n) before.entries) after
     pub new_set : entry_of eq v before.entries ≡ None → length after.entries ≡ length before.entries + 1
-    pub slot : IsSome (entry_of eq v before.entries) → Rewrites (λ w. eq w v) (recounted (count_of eq v before.entries + n)) before.tables after.tables
+    pub slot : ChangesSlot eq v (recounted (count_of eq v before.entries + n)) before after
     pub arrives : entry_of eq v before.entries ≡ None → Arrives before.tables after.tables
     pub room : 0 < room before.tables → KeepsRoom 1 before.tables after.tables
     pub same_room : 0 < count_of eq v before.entries → KeepsRoom 0 before.tables after.tables

@@ -152,6 +152,10 @@ module _ {T : Type 0} where
     pub room_grown : room old ≡ 0 → room new ≡ limit (length new.newer) - values old - 1
     pub built : Builds old new
 
+  -- the newer table has the least number of slots, from n on, of which k may be Live
+  abbrev pub HasLeast : ℕ → ℕ → Tables T → Type 0
+  HasLeast n k t = IsLeast n k (length t.newer)
+
   -- one table of slots: nothing waits, and what values don't take of the limit is room
   pub record IsPacked (t : Tables T) : Type 0 where
     pub waiting : t.waiting ≡ []
@@ -159,7 +163,7 @@ module _ {T : Type 0} where
 
   -- the least table from n slots on with room for k values took the place of both, and its slots count as built
   pub record Packs (n k : ℕ) (old new : Tables T) : Type 0 where
-    pub least : IsLeast n k (length new.newer)
+    pub least : HasLeast n k new
     pub packed : IsPacked new
     pub built : new.built ≡ old.built + length new.newer
 
@@ -187,6 +191,10 @@ module _ {T : Type 0} where
   abbrev pub entry_in : Tables T → Option Spot → Option (T × ℕ)
   entry_in t None = None
   entry_in t (Some spot) = slot_entry (slot_in t spot)
+
+  -- P holds of the entry of the slot at the spot, if that is Live
+  abbrev pub IfEntry : Tables T → Spot → (T × ℕ → Type 0) → Type 0
+  IfEntry t spot P = (e : T × ℕ) → entry_in t (Some spot) ≡ Some e → P e
 
   -- the slot at the spot is this one now, and all others are as they were
   abbrev pub Writes : Spot → Slot T → Tables T → Tables T → Type 0

@@ -89,7 +89,8 @@ pub fn carry_next<T: Eq + Hash + Drop, S: BuildHasher>(
     if count == 0 {
         return 0;
     }
-    newer.recall();
+    // `slots` is called for its clauses: how many slots there can be, and that no value is in two of them.
+    let _slots = newer.slots();
     let many = (count - looked).min(most);
     newer.carry_from(hasher, older, looked, many);
     if looked + many == count {

@@ -11,7 +11,7 @@ ghost use Rattle.hashbag_slots.specs.Slots.{IsSlotCount, entries, IsAbsent, IsFi
 ghost use Rattle.hashbag_table.specs.Asked.{MayAskInTurn, Retains};
 ghost use Rattle.hashbag_table.specs.Entries.{entry_of, count_of, without, with_count, with_fewer, with_instance, total, IsCounted};
 ghost use Rattle.hashbag_table.specs.Retained.{RetainsTables};
-ghost use Rattle.hashbag_table.specs.Table.{IsMapOf};
+ghost use Rattle.hashbag_table.specs.Table.{IsMapOf, ChangesSlot};
 ghost use Rattle.hashbag_table.specs.Tables.{limit, room, values, entries_of, Arrives, KeepsRoom, NoneMoved, Rewrites};
 
 mod keys;
@@ -113,7 +113,8 @@ impl<T: Eq + Hash + Drop, S: BuildHasher + Drop> Table<T, S> {
         ensures len { result ≡ length self.now.entries }
         ensures counted { IsCounted T.eq self.now.entries }
     {
-        self.newer.recall();
+        // `slots` is called for its clauses, which the proof cites: how many slots there can be.
+        let _slots = self.newer.slots();
         self.newer.live() + self.older.live()
     }
 
@@ -128,7 +129,8 @@ impl<T: Eq + Hash + Drop, S: BuildHasher + Drop> Table<T, S> {
     pub fn capacity(&self) -> usize
         ensures { result ≡ length self.now.entries + room self.now.tables }
     {
-        self.newer.recall();
+        // `slots` is called for its clauses.
+        let _slots = self.newer.slots();
         self.set_len() + self.room()
     }
 
@@ -309,7 +311,7 @@ impl<T: Eq + Hash + Drop, S: BuildHasher + Drop> Table<T, S> {
         ensures absent { OnErr result (entry_of T.eq value self.old.entries ≡ None) }
         ensures err { OnErr result (self.new ≡ self.old) }
         ensures takes { 0 < room self.old.tables → IsOk result }
-        ensures slot { IsSome (entry_of T.eq value self.old.entries) → Rewrites (λ w. T.eq w value) (recounted (count_of T.eq value self.old.entries + n)) self.old.tables self.new.tables }
+        ensures slot { ChangesSlot T.eq value (recounted (count_of T.eq value self.old.entries + n)) self.old self.new }
         ensures arrives { entry_of T.eq value self.old.entries ≡ None → OnOk result (Arrives self.old.tables self.new.tables) }
         ensures room { OnOk result (0 < room self.old.tables → KeepsRoom 1 self.old.tables self.new.tables) }
         ensures same_room { IfOk result (λ before. 0 < before → KeepsRoom 0 self.old.tables self.new.tables) }
@@ -339,7 +341,7 @@ impl<T: Eq + Hash + Drop, S: BuildHasher + Drop> Table<T, S> {
         ensures absent { OnErr result (entry_of T.eq value self.old.entries ≡ None) }
         ensures err { OnErr result (self.new ≡ self.old) }
         ensures takes { 0 < room self.old.tables → IsOk result }
-        ensures slot { IsSome (entry_of T.eq value self.old.entries) → Rewrites (λ w. T.eq w value) (recounted (count_of T.eq value self.old.entries + n)) self.old.tables self.new.tables }
+        ensures slot { ChangesSlot T.eq value (recounted (count_of T.eq value self.old.entries + n)) self.old self.new }
         ensures arrives { entry_of T.eq value self.old.entries ≡ None → OnOk result (Arrives self.old.tables self.new.tables) }
         ensures room { OnOk result (0 < room self.old.tables → KeepsRoom 1 self.old.tables self.new.tables) }
         ensures same_room { IfOk result (λ before. 0 < before → KeepsRoom 0 self.old.tables self.new.tables) }
@@ -372,7 +374,7 @@ impl<T: Eq + Hash + Drop, S: BuildHasher + Drop> Table<T, S> {
         ensures absent { OnErr result (entry_of T.eq value self.old.entries ≡ None) }
         ensures err { OnErr result (self.new ≡ self.old) }
         ensures takes { 0 < room self.old.tables → IsOk result }
-        ensures slot { IsSome (entry_of T.eq value self.old.entries) → Rewrites (λ w. T.eq w value) (λ _. Slot.Live value 1) self.old.tables self.new.tables }
+        ensures slot { ChangesSlot T.eq value (λ _. Slot.Live value 1) self.old self.new }
         ensures arrives { entry_of T.eq value self.old.entries ≡ None → OnOk result (Arrives self.old.tables self.new.tables) }
         ensures room { OnOk result (0 < room self.old.tables → KeepsRoom 1 self.old.tables self.new.tables) }
         ensures same_room { IfOk result (λ before. 0 < before → KeepsRoom 0 self.old.tables self.new.tables) }
@@ -431,8 +433,9 @@ impl<T: Eq + Hash + Drop, S: BuildHasher + Drop> Table<T, S> {
         ensures counted { IsCounted T.eq self.now.entries }
         ensures fits { length result < 2 ^ 63 }
     {
-        self.newer.recall();
-        self.older.recall();
+        // `slots` is called for its clauses.
+        let _newer_slots = self.newer.slots();
+        let _older_slots = self.older.slots();
         let newer = self.newer.walk();
         let older = self.older.walk();
         Walk { newer, older }
@@ -446,8 +449,9 @@ impl<T: Eq + Hash + Drop, S: BuildHasher + Drop> Table<T, S> {
         ensures counted { IsCounted T.eq self.entries }
         ensures fits { length result < 2 ^ 63 }
     {
-        self.newer.recall();
-        self.older.recall();
+        // `slots` is called for its clauses.
+        let _newer_slots = self.newer.slots();
+        let _older_slots = self.older.slots();
         let Table {
             newer,
             older,
@@ -475,8 +479,9 @@ impl<T: Eq + Hash + Drop, S: BuildHasher + Drop> Table<T, S> {
         ensures counted { IsCounted T.eq self.old.entries }
         ensures fits { length (drain_rest result) < 2 ^ 63 }
     {
-        self.newer.recall();
-        self.older.recall();
+        // `slots` is called for its clauses.
+        let _newer_slots = self.newer.slots();
+        let _older_slots = self.older.slots();
         let newer = mem::replace(&mut self.newer, no_slots(self.alloc));
         let older = mem::replace(&mut self.older, no_slots(self.alloc));
         self.looked = 0;

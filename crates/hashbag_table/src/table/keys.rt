@@ -95,6 +95,7 @@ impl<T: Eq + Hash + Drop, S: BuildHasher + Drop> Table<T, S> {
         }
         self.add_key_slow(hash, key, n, first)
     }
+
     /// Takes `n` from the count of the value that a key names, and answers what the count was, 0 where the value was absent. Where
     /// no more than `n` are there, the value goes, and its stored instance is dropped.
     ///

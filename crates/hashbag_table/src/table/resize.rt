@@ -5,8 +5,8 @@ ghost use Rattle.hashbag_slots.specs.Hashing.{hash_under};
 ghost use Rattle.hashbag_slots.specs.Slots.{entries};
 ghost use Rattle.hashbag_slots.specs.Columns.{IsReached};
 ghost use Rattle.hashbag_table.specs.Entries.{IsCounted};
-ghost use Rattle.hashbag_table.specs.Table.{IsMapOf};
-ghost use Rattle.hashbag_table.specs.Tables.{limit, room, values, IsLeast, IsPacked, ReservesOrStays, ShrinksOrStays, Carried, IsReady, MayAdopt};
+ghost use Rattle.hashbag_table.specs.Table.{IsMapOf, IfLarger};
+ghost use Rattle.hashbag_table.specs.Tables.{limit, room, values, IsLeast, HasLeast, IsPacked, ReservesOrStays, ShrinksOrStays, Carried, IsReady, MayAdopt};
 
 use crate::capacity::{CARRIED_AT_ONCE, carry_next, grown_slots, least_slots, no_slots};
 use crate::table::{MOST_VALUES, Table};
@@ -127,7 +127,7 @@ impl<T: Eq + Hash + Drop, S: BuildHasher + Drop> Table<T, S> {
         ensures err { OnErr result (self.new ≡ self.old) }
         ensures enough { n ≤ room self.old.tables → IsOk result }
         ensures kept { n ≤ room self.old.tables → self.new ≡ self.old }
-        ensures least { room self.old.tables < n → OnOk result (IsLeast (length self.old.tables.newer) (length self.old.entries + n) (length self.new.tables.newer)) }
+        ensures least { room self.old.tables < n → OnOk result (HasLeast (length self.old.tables.newer) (length self.old.entries + n) self.new.tables) }
         ensures packed { room self.old.tables < n → OnOk result (IsPacked self.new.tables) }
         ensures built { room self.old.tables < n → OnOk result (self.new.tables.built ≡ self.old.tables.built + length self.new.tables.newer) }
         ensures room { OnOk result (n ≤ room self.new.tables) }
@@ -162,9 +162,9 @@ impl<T: Eq + Hash + Drop, S: BuildHasher + Drop> Table<T, S> {
         ensures shrinks { OnOk result (ShrinksOrStays (length self.old.entries) self.old.tables self.new.tables) }
         ensures enough { (m : ℕ) → IsLeast 0 (length self.old.entries) m → length self.old.tables.newer ≤ m → IsOk result }
         ensures kept { (m : ℕ) → IsLeast 0 (length self.old.entries) m → length self.old.tables.newer ≤ m → self.new ≡ self.old }
-        ensures least { (m : ℕ) → IsLeast 0 (length self.old.entries) m → m < length self.old.tables.newer → OnOk result (length self.new.tables.newer ≡ m) }
-        ensures packed { (m : ℕ) → IsLeast 0 (length self.old.entries) m → m < length self.old.tables.newer → OnOk result (IsPacked self.new.tables) }
-        ensures built { (m : ℕ) → IsLeast 0 (length self.old.entries) m → m < length self.old.tables.newer → OnOk result (self.new.tables.built ≡ self.old.tables.built + m) }
+        ensures least { IfLarger self.old (λ m. OnOk result (length self.new.tables.newer ≡ m)) }
+        ensures packed { IfLarger self.old (λ _. OnOk result (IsPacked self.new.tables)) }
+        ensures built { IfLarger self.old (λ m. OnOk result (self.new.tables.built ≡ self.old.tables.built + m)) }
     {
         let count = least_slots(0, self.set_len())?;
         if count >= self.newer.slots() {

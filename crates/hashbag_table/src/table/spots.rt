@@ -8,7 +8,7 @@ ghost use Rattle.hashbag_slots.specs.Slots.{entries, entry_at, is_live, HoldsAt,
 ghost use Rattle.hashbag_slots.specs.Columns.{IsReached, IsAlike};
 ghost use Rattle.hashbag_table.specs.Entries.{entry_of, IsCounted};
 ghost use Rattle.hashbag_table.specs.Named.{named_entry};
-ghost use Rattle.hashbag_table.specs.Tables.{slot_in, HoldsIn, entry_in, Writes, Swaps};
+ghost use Rattle.hashbag_table.specs.Tables.{slot_in, HoldsIn, entry_in, IfEntry, Writes, Swaps};
 
 use crate::table::{Spot, Table};
 use hashbag_slots::key::Key;
@@ -151,11 +151,12 @@ impl<T: Eq + Hash + Drop, S: BuildHasher + Drop> Table<T, S> {
         requires live { is_live (slot_in self.old.tables spot) ≡ true }
         requires some { 0 < n }
         ensures after { Writes spot (recounted n (slot_in self.old.tables spot)) self.old.tables self.new.tables }
-        ensures map { (e : T × ℕ) → entry_in self.old.tables (Some spot) ≡ Some e → Swaps self.old.entries self.new.entries e ((e.0, n) ∷ []) }
+        ensures map { IfEntry self.old.tables spot (λ e. Swaps self.old.entries self.new.entries e ((e.0, n) ∷ [])) }
         ensures hasher { self.new.hasher ≡ self.old.hasher }
         ensures counted { IsCounted T.eq self.new.entries }
     {
-        self.older.recall();
+        // `slots` is called for its clauses, which the proof cites: how many slots there can be.
+        let _slots = self.older.slots();
         if let Spot::Newer(place) = spot {
             self.newer.set_at(place, n);
             return;
@@ -174,7 +175,8 @@ impl<T: Eq + Hash + Drop, S: BuildHasher + Drop> Table<T, S> {
         ensures hasher { self.new.hasher ≡ self.old.hasher }
         ensures counted { IsCounted T.eq self.new.entries }
     {
-        self.older.recall();
+        // `slots` is called for its clauses.
+        let _slots = self.older.slots();
         match spot {
             Spot::Newer(place) => {
                 let entry = self.newer.take_at(place);
@@ -191,9 +193,10 @@ impl<T: Eq + Hash + Drop, S: BuildHasher + Drop> Table<T, S> {
     #[inline(always)]
     pub(super) fn count_at(&self, spot: Spot) -> usize
         requires live { is_live (slot_in self.now.tables spot) ≡ true }
-        ensures count { (e : T × ℕ) → entry_in self.now.tables (Some spot) ≡ Some e → result ≡ e.1 }
+        ensures count { IfEntry self.now.tables spot (λ e. result ≡ e.1) }
     {
-        self.older.recall();
+        // `slots` is called for its clauses.
+        let _slots = self.older.slots();
         match spot {
             Spot::Newer(place) => {
                 let (_, count) = self.newer.live_at(place);
@@ -211,10 +214,10 @@ impl<T: Eq + Hash + Drop, S: BuildHasher + Drop> Table<T, S> {
     pub(super) fn raise_spot(&mut self, spot: Spot, n: usize) -> usize
         requires live { is_live (slot_in self.old.tables spot) ≡ true }
         requires some { 0 < n }
-        requires fits { (e : T × ℕ) → entry_in self.old.tables (Some spot) ≡ Some e → e.1 + n < 2 ^ 64 }
-        ensures before { (e : T × ℕ) → entry_in self.old.tables (Some spot) ≡ Some e → result ≡ e.1 }
+        requires fits { IfEntry self.old.tables spot (λ e. e.1 + n < 2 ^ 64) }
+        ensures before { IfEntry self.old.tables spot (λ e. result ≡ e.1) }
         ensures after { Writes spot (recounted (result + n) (slot_in self.old.tables spot)) self.old.tables self.new.tables }
-        ensures map { (e : T × ℕ) → entry_in self.old.tables (Some spot) ≡ Some e → Swaps self.old.entries self.new.entries e ((e.0, result + n) ∷ []) }
+        ensures map { IfEntry self.old.tables spot (λ e. Swaps self.old.entries self.new.entries e ((e.0, result + n) ∷ [])) }
         ensures hasher { self.new.hasher ≡ self.old.hasher }
         ensures counted { IsCounted T.eq self.new.entries }
     {
@@ -227,11 +230,12 @@ impl<T: Eq + Hash + Drop, S: BuildHasher + Drop> Table<T, S> {
     pub(super) fn put_spot(&mut self, spot: Spot, value: T) -> T
         requires equal { holds (λ v. T.eq v value) (slot_in self.old.tables spot) ≡ true }
         ensures after { Writes spot (Slot.Live value 1) self.old.tables self.new.tables }
-        ensures map { (e : T × ℕ) → entry_in self.old.tables (Some spot) ≡ Some e → Swaps self.old.entries self.new.entries e ((value, 1) ∷ []) }
+        ensures map { IfEntry self.old.tables spot (λ e. Swaps self.old.entries self.new.entries e ((value, 1) ∷ [])) }
         ensures hasher { self.new.hasher ≡ self.old.hasher }
         ensures counted { IsCounted T.eq self.new.entries }
     {
-        self.older.recall();
+        // `slots` is called for its clauses.
+        let _slots = self.older.slots();
         match spot {
             Spot::Newer(place) => {
                 let former = store_once(&mut self.newer, place, value);

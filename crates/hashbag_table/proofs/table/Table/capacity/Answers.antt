@@ -12,7 +12,7 @@ overflow_add-result g c =
     let x = length-append (entries n) (entries w) in
     let p = length-entries n in let q = length-entries w in let f = t.fits in
     let a = c.set_len.ensures.len ∙ sym (ap (λ m. length m.entries) c.self.view_is) in let b = c.room.ensures ∙ sym (ap (λ t. room t.tables) c.self.view_is) in
-    let u = c.recall.ensures.bound in omega arith
+    let u = c.slots-slots.ensures.bound in let v = c.slots-slots.ensures.value in omega arith
 
 pub returns : goal.returns
 returns g c =

@@ -23,8 +23,9 @@ invariant_of-result g c =
     let a = entries_few c.self.inside.newer.slots in let b = entries_few c.self.inside.older.slots in
     let d = ap length c.into_walk-first.ensures ∙ ap (λ (s : _). length (entries s.slots)) c.replace-newer.ensures.value in
     let e = ap length c.into_walk-second.ensures ∙ ap (λ (s : _). length (entries s.slots)) c.replace-older.ensures.value in
-    let p = c.recall.ensures.bound in let q = c.recall-2.ensures.bound in
-    omega (arith, a, b, d, e, p, q)
+    let p = c.slots-newer_slots.ensures in let q = c.slots-older_slots.ensures in
+    let r = p.bound in let s = p.value in let u = q.bound in let v = q.value in
+    omega (arith, a, b, d, e, r, s, u, v)
 
 -- both tables have no slots
 pub invariant_of-self-lent : goal.invariant_of-self-lent
@@ -45,12 +46,13 @@ returns g c =
     ap (λ es. entries i.newer.slots ++ es) (entries-drop i.older.slots i.looked t.looked_within t.looked_dead) ∙ sym (λ j. first j ++ second j) in
     let l = length-append c.into_walk-first.result c.into_walk-second.result in let a = entries_few i.newer.slots in let b = entries_few i.older.slots in
     let d = ap length first in let k = ap length second in
-    let p = c.recall.ensures.bound in let q = c.recall-2.ensures.bound in (
+    let p = c.slots-newer_slots.ensures in let q = c.slots-older_slots.ensures in
+    let r = p.bound in let s = p.value in let u = q.bound in let v = q.value in (
       (refl, λ w. none_left i.hasher _ _ i.built e f ∙ ap emptied c.self.view_is),
       record {
         writes_back = tt;
         entries = subst (λ m. IsPermutation m.entries (c.into_walk-first.result ++ c.into_walk-second.result)) c.self.view_is (IsPermutation-same _ _ same);
         counted = subst (λ m. IsCounted g.T.PartialEq.eq m.entries) c.self.view_is c.self.invariant.counted;
-        fits = omega (arith, l, a, b, d, k, p, q);
+        fits = omega (arith, l, a, b, d, k, r, s, u, v);
       },
     )

@@ -11,8 +11,9 @@ pub invariant_of-result : goal.invariant_of-result
 invariant_of-result g c =
     let a = entries_few c.self.inside.newer.slots in let b = entries_few c.self.inside.older.slots in
     let d = ap length c.into_walk-first.ensures in let e = ap length c.into_walk-second.ensures in
-    let p = c.recall.ensures.bound in let q = c.recall-2.ensures.bound in
-    omega (arith, a, b, d, e, p, q)
+    let p = c.slots-newer_slots.ensures in let q = c.slots-older_slots.ensures in
+    let r = p.bound in let s = p.value in let u = q.bound in let v = q.value in
+    omega (arith, a, b, d, e, r, s, u, v)
 
 pub returns-clause-entries : goal.returns-clause-entries
 returns-clause-entries g c =
