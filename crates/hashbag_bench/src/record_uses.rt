@@ -15,7 +15,8 @@ pub fn take_some<T: Eq + Hash + Drop, S: BuildHasher + Drop>(
     n: usize,
 ) -> usize
     ensures removed { IsBagOf T.eq bag.old (less T.eq value.now n bag.old.items) bag.new }
-    ensures slot { 0 < count T.eq value.now bag.old.items → Recounts T.eq value.now (count T.eq value.now bag.old.items - n) bag.old.tables bag.new.tables }
+    ensures slot { 0 < count T.eq value.now bag.old.items
+        → Recounts T.eq value.now (count T.eq value.now bag.old.items - n) bag.old.tables bag.new.tables }
     ensures none { count T.eq value.now bag.old.items ≡ 0 → bag.new ≡ bag.old }
     ensures slots { length bag.new.tables.newer ≡ length bag.old.tables.newer }
     ensures room { room bag.old.tables ≤ room bag.new.tables }

@@ -25,7 +25,8 @@ pub fn insert_and_count<T: Eq + Hash + Copy, S: BuildHasher + Drop>(
     value: T,
 ) -> Result<Vec<Reply<T>>, BagError>
     requires { length bag.old.items + 1 ≤ bag.old.most }
-    ensures replies { IfOk result (λ replies. replies.items ≡ Reply.Count (count T.eq value bag.old.items) ∷ Reply.Count (count T.eq value bag.old.items + 1) ∷ []) }
+    ensures replies { IfOk result (λ replies. replies.items
+        ≡ Reply.Count (count T.eq value bag.old.items) ∷ Reply.Count (count T.eq value bag.old.items + 1) ∷ []) }
     ensures left { OnOk result (Means bag.new (add T.eq value 1 bag.old.items)) }
 {
     let steps = insert_then_count(alloc, value)?;

@@ -86,7 +86,8 @@ pub fn enter_all<T: Eq + Hash + Drop>(
     ensures leaves { OnOk result (Leaves T.eq (stock_of T.eq stock.old.items) movements.items (stock_of T.eq stock.new.items)) }
     ensures refused { IfOk result (λ r. r.items ≡ refused_of T.eq (stock_of T.eq stock.old.items) movements.items) }
     ensures why { IfErr result (λ e. e ≢ LedgerError.StartTooMany) }
-    ensures past { IfErr result (λ e. (p : Place) → e ≡ LedgerError.TooMany p → IsPastLimit T.eq stock.old.items stock.old.most movements.items p) }
+    ensures past { IfErr result (λ e. (p : Place) → e ≡ LedgerError.TooMany p
+        → IsPastLimit T.eq stock.old.items stock.old.most movements.items p) }
 {
     let mut refusals = Vec::new(alloc);
     for movement in movements {

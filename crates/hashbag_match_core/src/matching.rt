@@ -98,7 +98,8 @@ pub fn match_lists<T: Ord + Hash + Copy + Drop>(
     ordered: Vec<(T, usize)>,
     delivered: Vec<(T, usize)>,
 ) -> Result<Matched<T>, BagError>
-    ensures table { IfOk result (λ matched. IsTable T.eq T.cmp (λ v. quantity T.eq v ordered.items) (λ v. quantity T.eq v delivered.items) matched.rows.items) }
+    ensures table { IfOk result (λ matched. IsTable T.eq T.cmp
+        (λ v. quantity T.eq v ordered.items) (λ v. quantity T.eq v delivered.items) matched.rows.items) }
     ensures totals { IfOk result (λ matched. AreTotals matched.rows.items matched.totals) }
     ensures agree { IfOk result (λ matched. IsTrue matched.agree ↔ ((v : T) → quantity T.eq v ordered.items ≡ quantity T.eq v delivered.items)) }
     ensures memory { numbers ordered.items ≤ usize.MAX → numbers delivered.items ≤ usize.MAX → OnErr result (result ≡ Err BagError.Memory) }

@@ -222,7 +222,8 @@ pub fn keep_most<T: Eq + Hash + Drop, S: BuildHasher + Drop, S2: BuildHasher + D
     // The total is that of every list with the greater counts: all these are equally long.
     ensures too_many { (Z : List T) → IsUnion T.eq into.old.items from.items Z → into.old.most < length Z → result ≡ Err BagError.TooMany }
     ensures refused { result ≡ Err BagError.TooMany → (Z : List T) → IsUnion T.eq into.old.items from.items Z → into.old.most < length Z }
-    ensures memory { (Z : List T) → IsUnion T.eq into.old.items from.items Z → length Z ≤ into.old.most → OnErr result (result ≡ Err BagError.Memory) }
+    ensures memory { (Z : List T) → IsUnion T.eq into.old.items from.items Z → length Z ≤ into.old.most
+        → OnErr result (result ≡ Err BagError.Memory) }
 {
     take_away(&mut from, into);
     merge(into, from)

@@ -1,6 +1,6 @@
 //! Two runs of steps, and the joins of what they leave.
 ghost use Rattle.std.specs.Prelude.{◌≡◌, ◌⊎◌, map, IfOk, OnErr};
-ghost use Rattle.hashbag.specs.Pairs.{ran, HasNoRoom, IsDone, IsPairCutOff};
+ghost use Rattle.hashbag.specs.Pairs.{ran, HasNoRoom, IsCutOffAfter};
 ghost use Rattle.hashbag_text.specs.RunAndJoin.{IsRunAndJoined};
 
 use hashbag::script::{Joins, Reply, Step, joins_of, run_pair};
@@ -72,13 +72,18 @@ pub fn run_and_join<T: Eq + Hash + Copy + Drop, S: BuildHasher + Drop, S2: Build
     replies_a: &mut Vec<Reply<T>>,
     replies_b: &mut Vec<Reply<T>>,
 ) -> Result<JoinLists<T>, BagError>
-    ensures whole { IfOk result (λ joins. IsRunAndJoined T.eq (ran a.old a.new steps_a.items replies_a.old.items replies_a.new.items) (ran b.old b.new steps_b.items replies_b.old.items replies_b.new.items) joins.outer.items joins.difference.items joins.signed.items joins.not_in.items) }
+    ensures whole { IfOk result (λ joins. IsRunAndJoined T.eq
+        (ran a.old a.new steps_a.items replies_a.old.items replies_a.new.items)
+        (ran b.old b.new steps_b.items replies_b.old.items replies_b.new.items)
+        joins.outer.items joins.difference.items joins.signed.items joins.not_in.items) }
     ensures first_hasher { a.new.hasher ≡ a.old.hasher }
     ensures second_hasher { b.new.hasher ≡ b.old.hasher }
 
     // Only memory is refused.
     ensures memory { OnErr result (result ≡ Err BagError.Memory) }
-    ensures stopped { OnErr result (IsPairCutOff T.eq (HasNoRoom replies_a.old steps_a ⊎ HasNoRoom replies_b.old steps_b) (ran a.old a.new steps_a.items replies_a.old.items replies_a.new.items) (ran b.old b.new steps_b.items replies_b.old.items replies_b.new.items) ⊎ (IsDone T.eq (ran a.old a.new steps_a.items replies_a.old.items replies_a.new.items) × IsDone T.eq (ran b.old b.new steps_b.items replies_b.old.items replies_b.new.items))) }
+    ensures stopped { OnErr result (IsCutOffAfter T.eq (HasNoRoom replies_a.old steps_a ⊎ HasNoRoom replies_b.old steps_b)
+        (ran a.old a.new steps_a.items replies_a.old.items replies_a.new.items)
+        (ran b.old b.new steps_b.items replies_b.old.items replies_b.new.items)) }
 {
     run_pair(a, b, steps_a, steps_b, replies_a, replies_b)?;
     let joins = joins_of(alloc, a, b)?;

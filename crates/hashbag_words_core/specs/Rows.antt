@@ -1,5 +1,5 @@
 -- How a token and its count are written as a line, and read again.
-use Rattle.std.specs.Prelude.{◌≡◌, ℕ, ◌==◌, Bool, true, false, List, [], ◌∷◌, ◌++◌, flat_map, if◌then◌else◌, String, string_bytes, decimal, Option, None, Some, option_map, option_and_then, Result, IsOkAnd}
+use Rattle.std.specs.Prelude.{◌≡◌, ℕ, ◌<◌, ◌^◌, ◌==◌, Bool, true, false, List, [], ◌∷◌, ◌++◌, flat_map, if◌then◌else◌, String, string_bytes, decimal, Option, None, Some, option_map, option_and_then, Result, IsOkAnd, IsUtf8}
 use Rattle.std.specs.Global.{Global}
 
 -- the letter that stands for this byte behind a backslash, if it is escaped: t for a tab, n for a line feed, r for a carriage return, and
@@ -23,6 +23,10 @@ escaped token = flat_map (λ byte. shown_as byte (letter_of byte)) token
 -- the line of a token and its count, without its end
 abbrev pub row : List ℕ → ℕ → List ℕ
 row token count = escaped token ++ 9 ∷ decimal count
+
+-- P holds of a token that is text and a count of 64 bits, if this is their line
+abbrev pub IfRow : List ℕ → (List ℕ → ℕ → Type 0) → Type 0
+IfRow line P = (token : List ℕ) (count : ℕ) → IsUtf8 token → count < 2 ^ 64 → line ≡ row token count → P token count
 
 -- what is written so stands for, where a backslash has just been read or not; none where a backslash is followed by no letter
 abbrev pub unescaped : Bool → List ℕ → Option (List ℕ)

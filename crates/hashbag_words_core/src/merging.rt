@@ -1,7 +1,7 @@
 //! Files of counts are added up.
-ghost use Rattle.std.specs.Prelude.{◌≡◌, ◌<◌, ◌^◌, ℕ, List, IsUtf8, OnOk};
+ghost use Rattle.std.specs.Prelude.{OnOk};
 ghost use Rattle.hashbag_words_core.specs.Counts.{AddsTimes};
-ghost use Rattle.hashbag_words_core.specs.Rows.{row};
+ghost use Rattle.hashbag_words_core.specs.Rows.{IfRow};
 
 use crate::errors::{BadLine, Fault};
 use crate::lines::{Reading, next_line};
@@ -15,7 +15,7 @@ use std::str;
 
 /// Adds the token of a line of counts as often as its count says, or answers what is wrong with the line.
 pub fn add_row(alloc: Global, bag: &mut HashBag<String>, line: &[u8]) -> Result<(), Fault>
-    ensures { (token : List ℕ) (count : ℕ) → IsUtf8 token → count < 2 ^ 64 → line.now ≡ row token count → OnOk result (AddsTimes bag.old bag.new token count) }
+    ensures { IfRow line.now (λ token count. OnOk result (AddsTimes bag.old bag.new token count)) }
 {
     let Ok(text) = str::from_utf8(line) else {
         return Err(Fault::Line(BadLine::NotText));

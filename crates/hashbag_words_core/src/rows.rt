@@ -2,8 +2,8 @@
 //!
 //! A tab, a line feed, a carriage return and a backslash in a token are written `\t`, `\n`, `\r` and `\\`, so that each token is one
 //! line, and its line is read as that token again.
-ghost use Rattle.std.specs.Prelude.{◌≡◌, ◌<◌, ◌^◌, ◌∷◌, ◌++◌, ℕ, [], List, Some, false, option_map, IsUtf8, IfOk, OnOk};
-ghost use Rattle.hashbag_words_core.specs.Rows.{byte_of, escaped, letter_of, resumed, row, shown_as, unescaped, IsRead};
+ghost use Rattle.std.specs.Prelude.{◌≡◌, ◌∷◌, ◌++◌, ℕ, [], List, Some, false, option_map, IfOk, OnOk};
+ghost use Rattle.hashbag_words_core.specs.Rows.{byte_of, escaped, letter_of, resumed, row, shown_as, unescaped, IfRow, IsRead};
 
 use crate::errors::BadLine;
 use std::alloc::{AllocError, Global};
@@ -89,7 +89,8 @@ pub fn push_row(text: &mut Vec<u8>, token: &str, count: usize) -> io::Result<()>
 // Reads one byte more of an escaped token, and answers whether it is a backslash that escapes the next one; nothing where the last
 // one was such a backslash, and this byte is no letter.
 fn take_byte(token: &mut Vec<u8>, is_marked: bool, byte: u8) -> Result<Option<bool>, AllocError>
-    ensures { IfOk result (λ marked. (rest : List ℕ) → resumed token.old.items (Some is_marked) (byte ∷ rest) ≡ resumed token.new.items marked rest) }
+    ensures { IfOk result (λ marked. (rest : List ℕ)
+        → resumed token.old.items (Some is_marked) (byte ∷ rest) ≡ resumed token.new.items marked rest) }
 {
     if is_marked {
         let Some(meant) = meant_by(byte) else {
@@ -125,7 +126,7 @@ fn token_of(alloc: Global, written: &[u8]) -> Result<Option<Vec<u8>>, AllocError
 
 /// The token and the count of a line of counts, without its end, or what is wrong with it. It is refused memory alone.
 pub fn read_row(alloc: Global, line: &str) -> Result<Result<(String, usize), BadLine>, AllocError>
-    ensures { IfOk result (λ read. (token : List ℕ) (count : ℕ) → IsUtf8 token → count < 2 ^ 64 → line.now ≡ row token count → IsRead token count read) }
+    ensures { IfOk result (λ read. IfRow line.now (λ token count. IsRead token count read)) }
 {
     let Some((written, digits)) = line.split_once('\t') else {
         return Ok(Err(BadLine::NoTab));
