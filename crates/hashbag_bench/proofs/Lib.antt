@@ -1,4 +1,1 @@
-pub mod DeliveryLemmas
 pub mod LastNumberLemmas
-pub mod SlotUseLemmas
-pub mod TextLemmas

@@ -1,23 +1,14 @@
 //! What the counted multiset is tested against: a plain, slow bag with the same contracts, values that show which instance
-//! is stored, values whose trees are objects, and hash states under which values collide. And callers of each kind of call to
-//! copy, of which docs/CALLING.md has the list.
+//! is stored, values whose trees are objects, and hash states under which values collide. And tests as rows of text: how rows
+//! are read, and the calls on a bag of numbers that they name.
 #![tactic(auto)]
 
-pub mod deliveries;
-pub mod join_uses;
-pub mod json_uses;
-pub mod ledger;
+pub mod calls;
 pub mod named;
 pub mod plain;
-pub mod record_uses;
-pub mod reserved;
-pub mod run_uses;
-pub mod slot_uses;
 pub mod states;
 pub mod tagged;
-pub mod text_uses;
-pub mod uses;
-pub mod words;
+pub mod texts;
 
 pub use named::Named;
 pub use plain::PlainBag;

@@ -1,0 +1,3 @@
+pub mod DeliveryLemmas
+pub mod SlotUseLemmas
+pub mod TextLemmas

@@ -1,0 +1,106 @@
+//! Callers to copy: a ledger of stock that never goes below zero, and single takes.
+//!
+//! Each clause follows from the contracts of the calls alone, by the lemmas of `CallerLemmas`.
+ghost use Rattle.std.specs.Prelude.{◌≡◌, ◌+◌, ◌<◌, ◌≤◌, ◌↔◌, min, false, length, IsTrue, OnOk, OnErr, IfOk, IfSome};
+ghost use Rattle.std.specs.Bool.{OnTrue, OnFalse};
+ghost use Rattle.hashbag.specs.Occurrences.{count, instance_or_itself};
+ghost use Rattle.hashbag_callers.specs.Ledger.{ChangesOnly};
+
+use hashbag::{BagError, HashBag};
+use std::hash::{BuildHasher, Hash};
+
+/// Enters goods that came in. Where the ledger can't hold them or memory is refused, nothing changes.
+pub fn deliver<T: Eq + Hash + Drop, S: BuildHasher + Drop>(
+    stock: &mut HashBag<T, S>,
+    article: T,
+    n: usize,
+) -> Result<(), BagError>
+    ensures entered { OnOk result (count T.eq article stock.new.items ≡ count T.eq article stock.old.items + n) }
+    ensures others { (v : T) → T.eq v article ≡ false → count T.eq v stock.new.items ≡ count T.eq v stock.old.items }
+    ensures len { OnOk result (length stock.new.items ≡ length stock.old.items + n) }
+    ensures too_many { result ≡ Err BagError.TooMany → stock.old.most < length stock.old.items + n }
+    ensures err { OnErr result (stock.new ≡ stock.old) }
+{
+    stock.insert_many(article, n)?;
+    Ok(())
+}
+
+/// Takes sold goods out, and answers whether there were enough of them. Where there weren't, nothing changes: so no count ever goes
+/// below zero, and what is sold and what is left are what was there.
+pub fn sell<T: Eq + Hash + Drop, S: BuildHasher + Drop>(
+    stock: &mut HashBag<T, S>,
+    article: &T,
+    n: usize,
+) -> bool
+    ensures enough { IsTrue result ↔ (n ≤ count T.eq article.now stock.old.items) }
+    ensures sold { OnTrue result (count T.eq article.now stock.new.items + n ≡ count T.eq article.now stock.old.items) }
+    ensures others { (v : T) → T.eq v article.now ≡ false → count T.eq v stock.new.items ≡ count T.eq v stock.old.items }
+    ensures len { OnTrue result (length stock.new.items + n ≡ length stock.old.items) }
+    ensures refused { OnFalse result (stock.new ≡ stock.old) }
+{
+    if stock.contains(article) < n {
+        return false;
+    }
+    stock.remove_up_to(article, n);
+    true
+}
+
+/// Takes an article's goods out one by one, and answers the last one itself, as it was stored, or `None` where there were none.
+pub fn sell_out<T: Eq + Hash + Drop, S: BuildHasher + Drop>(
+    stock: &mut HashBag<T, S>,
+    article: &T,
+) -> Option<T>
+    ensures none_left { count T.eq article.now stock.new.items ≡ 0 }
+    ensures there { IfSome result (λ _. 0 < count T.eq article.now stock.old.items) }
+    ensures last { IfSome result (λ last. last ≡ instance_or_itself T.eq article.now stock.old.items) }
+    ensures absent { result ≡ None → count T.eq article.now stock.old.items ≡ 0 }
+    ensures len { length stock.new.items + count T.eq article.now stock.old.items ≡ length stock.old.items }
+{
+    loop {
+        match stock.take_one(article) {
+            Ok(last) => return Some(last),
+            Err(0) => return None,
+            Err(_) => {}
+        }
+    }
+}
+
+/// Takes one of an article, and answers whether it was the last: then `try_take` gives it, and else lends the one that stays. What
+/// the bag then means a caller isn't told while the loan may last: whoever needs that calls `take_one`, as `sell_out` does.
+pub fn take_was_last<T: Eq + Hash + Drop, S: BuildHasher + Drop>(
+    stock: &mut HashBag<T, S>,
+    article: &T,
+) -> bool
+    ensures { IsTrue result ↔ (count T.eq article.now stock.old.items ≡ 1) }
+{
+    stock.try_take(article).is_ok()
+}
+
+/// Sees to it that an article is listed, and answers how many of it there are then: an article that is there stays as it is.
+pub fn list<T: Eq + Hash + Drop, S: BuildHasher + Drop>(
+    stock: &mut HashBag<T, S>,
+    article: T,
+) -> Result<usize, BagError>
+    ensures there { IfOk result (λ after. 0 < after) }
+    ensures listed { IfOk result (λ after. ChangesOnly T.eq article after stock.old stock.new) }
+    ensures occupied { 0 < count T.eq article stock.old.items → result ≡ Ok (count T.eq article stock.old.items) }
+    ensures vacant { count T.eq article stock.old.items ≡ 0 → IfOk result (λ after. after ≡ 1) }
+    ensures err { OnErr result (stock.new ≡ stock.old) }
+{
+    stock.entry(article).or_insert()
+}
+
+/// Keeps at most so many of each article, as shelves do.
+pub fn keep_at_most<T: Eq + Hash + Drop, S: BuildHasher + Drop>(
+    stock: &mut HashBag<T, S>,
+    most: usize,
+)
+    ensures counts { (v : T) → count T.eq v stock.new.items ≡ min most (count T.eq v stock.old.items) }
+    ensures len { length stock.new.items ≤ length stock.old.items }
+{
+    stock.retain(
+        |_article: &T, _count: usize| -> usize
+            ensures { result ≡ most }
+        { most },
+    );
+}

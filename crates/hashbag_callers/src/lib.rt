@@ -1,0 +1,15 @@
+//! Callers to copy, one file for each kind of use, of which docs/CALLING.md has the list. Each is proved from the contracts of
+//! the calls alone.
+#![tactic(auto)]
+
+pub mod deliveries;
+pub mod join_uses;
+pub mod json_uses;
+pub mod ledger;
+pub mod record_uses;
+pub mod reserved;
+pub mod run_uses;
+pub mod slot_uses;
+pub mod text_uses;
+pub mod uses;
+pub mod words;

@@ -1,0 +1,27 @@
+//! How rows of text are read.
+use hashbag_bench::texts::{counts, debug_of, decimal, inside, is_text, values};
+use std::test::Fail;
+
+#[test]
+fn lists_are_read(rt: HostRuntime) -> Result<(), Fail> {
+    let alloc = rt.alloc();
+    let pairs = counts(alloc, "5:2 6:18446744073709551615")?;
+    is_text(
+        "counts",
+        debug_of(alloc, &pairs)?.as_str(),
+        "[(5, 2), (6, 18446744073709551615)]",
+    )?;
+    let list = values(alloc, "[1, 2, 3, 3]")?;
+    is_text("values", debug_of(alloc, &list)?.as_str(), "[1, 2, 3, 3]")?;
+    Ok(())
+}
+
+#[test]
+fn other_words_are_refused(rt: HostRuntime) {
+    for word in ["", "+5", "-5", "x", "1 2", "18446744073709551616"] {
+        assert_eq!(rt; decimal(word), None, "at {word}");
+    }
+    for text in ["", "1, 2", "[1", "1]", " [1]"] {
+        assert_eq!(rt; inside(text), None, "at {text}");
+    }
+}

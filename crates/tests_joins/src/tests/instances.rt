@@ -1,0 +1,54 @@
+//! Which instances joins give.
+use hashbag::HashBag;
+use hashbag_bench::texts::{debug_of, is_text};
+use hashbag_bench::{IdentityState, OneState, Tagged};
+use std::alloc::Global;
+use std::hash::BuildHasher;
+use std::test::Fail;
+
+// A bag of values with these keys and tags, each so often.
+fn tagged<S: BuildHasher + Default + Drop>(
+    alloc: Global,
+    values: &[(u64, u64, usize)],
+) -> Result<HashBag<Tagged, S>, Fail> {
+    let mut bag = HashBag::default_in(alloc);
+    for (key, tag, n) in values {
+        let (key, tag) = (*key, *tag);
+        bag.insert_many(Tagged { key, tag }, *n)?;
+    }
+    Ok(bag)
+}
+
+// The key, the tag and both counts of each item of an outer join, in its order.
+fn joined<S: BuildHasher + Drop, S2: BuildHasher + Drop>(
+    alloc: Global,
+    a: &HashBag<Tagged, S>,
+    b: &HashBag<Tagged, S2>,
+) -> Result<Vec<(u64, u64, usize, usize)>, Fail> {
+    let mut items = Vec::new(alloc);
+    for (value, first, second) in a.outer_join(b) {
+        items.push((value.key, value.tag, first, second))?;
+    }
+    Ok(items)
+}
+
+// A value of both bags comes as the instance of the first, and one of the second bag alone after all others.
+#[test]
+fn instances_of_outer_joins(rt: HostRuntime) -> Result<(), Fail> {
+    let alloc = rt.alloc();
+    let a: HashBag<Tagged, OneState> = tagged(alloc, &[(1, 10, 2)])?;
+    let b: HashBag<Tagged, IdentityState> = tagged(alloc, &[(1, 20, 1), (2, 21, 1)])?;
+    let items = joined(alloc, &a, &b)?;
+    is_text(
+        "a with b",
+        debug_of(alloc, &items)?.as_str(),
+        "[(1, 10, 2, 1), (2, 21, 0, 1)]",
+    )?;
+    let mut items = joined(alloc, &b, &a)?;
+    items.sort_unstable();
+    is_text(
+        "b with a",
+        debug_of(alloc, &items)?.as_str(),
+        "[(1, 20, 1, 2), (2, 21, 1, 0)]",
+    )
+}

@@ -1,0 +1,424 @@
+//! Joins of two bags, with the items found by hand, between each two of the four hash states.
+use hashbag::script::{Joins, joins_of};
+use hashbag::{FixedState, HashBag};
+use hashbag_bench::calls::{bag_of_counts, insert};
+use hashbag_bench::texts::{counts, debug_of, halves, is_text, number, rows_of, values};
+use hashbag_bench::{IdentityState, OneState, ParityState};
+use hashbag_callers::join_uses::excess_of;
+use std::alloc::{AllocError, Global};
+use std::fmt::Debug;
+use std::hash::BuildHasher;
+use std::test::Fail;
+
+// A join, two bags, and the items of the join, values rising. A bag in brackets is collected from these values; else each value is
+// inserted as often as the number beside it. Bags of 25 values are in the middle of a carry.
+const JOINS: &str = "
+    difference | [] | [] | []
+    difference | [] | [1] | []
+    difference | [] | [1, 1] | []
+    difference | [] | [1, 1, 2] | []
+    difference | [1] | [] | [(1, 1)]
+    difference | [1] | [1] | []
+    difference | [1] | [1, 1] | []
+    difference | [1] | [2] | [(1, 1)]
+    difference | [1] | [1, 2] | []
+    difference | [1] | [2, 2] | [(1, 1)]
+    difference | [1, 1] | [] | [(1, 2)]
+    difference | [1, 1] | [1] | [(1, 1)]
+    difference | [1, 1] | [1, 1] | []
+    difference | [1, 1] | [2] | [(1, 2)]
+    difference | [1, 1] | [1, 2] | [(1, 1)]
+    difference | [1, 1] | [2, 2] | [(1, 2)]
+    difference | [1, 1, 2] | [] | [(1, 2), (2, 1)]
+    difference | [1, 1, 2] | [1] | [(1, 1), (2, 1)]
+    difference | [1, 1, 2] | [1, 1] | [(2, 1)]
+    difference | [1, 1, 2] | [2] | [(1, 2)]
+    difference | [1, 1, 2] | [1, 2] | [(1, 1)]
+    difference | [1, 1, 2] | [2, 2] | [(1, 2)]
+    difference | [1, 2, 2, 3] | [3] | [(1, 1), (2, 2)]
+    difference | [1, 2, 2, 3] | [4] | [(1, 1), (2, 2), (3, 1)]
+    difference | [2, 2, 2, 2] | [2, 2] | [(2, 2)]
+    difference | [2, 2, 2, 2] | [] | [(2, 4)]
+    difference | [1, 2, 3, 3] | [2, 3, 4, 4] | [(1, 1), (3, 1)]
+    difference | [] | [1, 2, 2, 3] | []
+    difference | [104, 97, 115, 104] | [109, 97, 116, 104] | [(104, 1), (115, 1)]
+    difference | 1:18446744073709551615 | 1:1 | [(1, 18446744073709551614)]
+    difference | 1:9223372036854775807 | 1:18446744073709551615 | []
+    outer_join | [] | [] | []
+    outer_join | [104, 97, 115, 104] | [109, 97, 116, 104] | [(97, 1, 1), (104, 2, 1), (109, 0, 1), (115, 1, 0), (116, 0, 1)]
+    outer_join | [] | [1, 2, 2, 3] | [(1, 0, 1), (2, 0, 2), (3, 0, 1)]
+    outer_join | [1, 2, 2, 3] | [] | [(1, 1, 0), (2, 2, 0), (3, 1, 0)]
+    outer_join | [1, 2, 2, 3, 3] | [3, 4, 5, 5] | [(1, 1, 0), (2, 2, 0), (3, 2, 1), (4, 0, 1), (5, 0, 2)]
+    outer_join | [1, 2, 3] | [4, 5, 6] | [(1, 1, 0), (2, 1, 0), (3, 1, 0), (4, 0, 1), (5, 0, 1), (6, 0, 1)]
+    outer_join | [1, 2, 2, 3] | [4, 4, 5, 6] | [(1, 1, 0), (2, 2, 0), (3, 1, 0), (4, 0, 2), (5, 0, 1), (6, 0, 1)]
+    outer_join | [1, 2, 3] | [2, 3, 4] | [(1, 1, 0), (2, 1, 1), (3, 1, 1), (4, 0, 1)]
+    outer_join | [1, 1, 2, 3] | [2, 3, 3, 3, 4] | [(1, 2, 0), (2, 1, 1), (3, 1, 3), (4, 0, 1)]
+    signed_difference | [] | [] | []
+    signed_difference | [1, 2, 3, 3] | [2, 3, 4, 4] | [(1, 1), (2, 0), (3, 1), (4, -2)]
+    signed_difference | [1, 2, 2, 3] | [] | [(1, 1), (2, 2), (3, 1)]
+    signed_difference | [1, 2, 2, 3, 3] | [3, 4, 5, 5] | [(1, 1), (2, 2), (3, 1), (4, -1), (5, -2)]
+    signed_difference | [] | [1, 2, 2, 3] | [(1, -1), (2, -2), (3, -1)]
+    signed_difference | 1:9223372036854776807 | 1:9223372036854775807 | [(1, 1000)]
+    signed_difference | 1:9223372036854775807 | 1:9223372036854776807 | [(1, -1000)]
+    signed_difference | 1:9223372036854776807 |  | [(1, 9223372036854775807)]
+    signed_difference |  | 1:9223372036854776807 | [(1, -9223372036854775808)]
+    signed_difference |  | 1:9223372036854775808 | [(1, -9223372036854775808)]
+    signed_difference | 1:9223372036854775807 |  | [(1, 9223372036854775807)]
+    signed_difference |  | 1:9223372036854775807 | [(1, -9223372036854775807)]
+    not_in | [] | [1, 2, 3, 3] | []
+    not_in | [1, 2, 3, 3] | [] | [(1, 1), (2, 1), (3, 2)]
+    not_in | [1, 2, 3, 3] | [2, 4] | [(1, 1), (3, 2)]
+    not_in | [1, 2, 3, 3] | [2, 3, 4, 4] | [(1, 1)]
+    not_in | [] | [1, 2, 2, 3] | []
+    not_in | 1:18446744073709551615 | 2:1 | [(1, 18446744073709551615)]
+    outer_join | [1, 2, 3, 3] | [2, 3, 4, 4] | [(1, 1, 0), (2, 1, 1), (3, 2, 1), (4, 0, 2)]
+    outer_join | 1:1 2:1 3:1 4:1 5:1 6:1 7:1 8:1 9:1 10:1 11:1 12:1 13:1 14:1 15:1 16:1 17:1 18:1 19:1 20:1 21:1 22:1 23:1 24:1 25:1 | 13:2 14:2 15:2 16:2 17:2 18:2 19:2 20:2 21:2 22:2 23:2 24:2 25:2 26:2 27:2 28:2 29:2 30:2 31:2 32:2 33:2 34:2 35:2 36:2 37:2 | [(1, 1, 0), (2, 1, 0), (3, 1, 0), (4, 1, 0), (5, 1, 0), (6, 1, 0), (7, 1, 0), (8, 1, 0), (9, 1, 0), (10, 1, 0), (11, 1, 0), (12, 1, 0), (13, 1, 2), (14, 1, 2), (15, 1, 2), (16, 1, 2), (17, 1, 2), (18, 1, 2), (19, 1, 2), (20, 1, 2), (21, 1, 2), (22, 1, 2), (23, 1, 2), (24, 1, 2), (25, 1, 2), (26, 0, 2), (27, 0, 2), (28, 0, 2), (29, 0, 2), (30, 0, 2), (31, 0, 2), (32, 0, 2), (33, 0, 2), (34, 0, 2), (35, 0, 2), (36, 0, 2), (37, 0, 2)]
+    difference | 1:1 2:1 3:1 4:1 5:1 6:1 7:1 8:1 9:1 10:1 11:1 12:1 13:1 14:1 15:1 16:1 17:1 18:1 19:1 20:1 21:1 22:1 23:1 24:1 25:1 | 13:2 14:2 15:2 16:2 17:2 18:2 19:2 20:2 21:2 22:2 23:2 24:2 25:2 26:2 27:2 28:2 29:2 30:2 31:2 32:2 33:2 34:2 35:2 36:2 37:2 | [(1, 1), (2, 1), (3, 1), (4, 1), (5, 1), (6, 1), (7, 1), (8, 1), (9, 1), (10, 1), (11, 1), (12, 1)]
+    difference | 13:2 14:2 15:2 16:2 17:2 18:2 19:2 20:2 21:2 22:2 23:2 24:2 25:2 26:2 27:2 28:2 29:2 30:2 31:2 32:2 33:2 34:2 35:2 36:2 37:2 | 1:1 2:1 3:1 4:1 5:1 6:1 7:1 8:1 9:1 10:1 11:1 12:1 13:1 14:1 15:1 16:1 17:1 18:1 19:1 20:1 21:1 22:1 23:1 24:1 25:1 | [(13, 1), (14, 1), (15, 1), (16, 1), (17, 1), (18, 1), (19, 1), (20, 1), (21, 1), (22, 1), (23, 1), (24, 1), (25, 1), (26, 2), (27, 2), (28, 2), (29, 2), (30, 2), (31, 2), (32, 2), (33, 2), (34, 2), (35, 2), (36, 2), (37, 2)]
+    signed_difference | 1:1 2:1 3:1 4:1 5:1 6:1 7:1 8:1 9:1 10:1 11:1 12:1 13:1 14:1 15:1 16:1 17:1 18:1 19:1 20:1 21:1 22:1 23:1 24:1 25:1 | 13:2 14:2 15:2 16:2 17:2 18:2 19:2 20:2 21:2 22:2 23:2 24:2 25:2 26:2 27:2 28:2 29:2 30:2 31:2 32:2 33:2 34:2 35:2 36:2 37:2 | [(1, 1), (2, 1), (3, 1), (4, 1), (5, 1), (6, 1), (7, 1), (8, 1), (9, 1), (10, 1), (11, 1), (12, 1), (13, -1), (14, -1), (15, -1), (16, -1), (17, -1), (18, -1), (19, -1), (20, -1), (21, -1), (22, -1), (23, -1), (24, -1), (25, -1), (26, -2), (27, -2), (28, -2), (29, -2), (30, -2), (31, -2), (32, -2), (33, -2), (34, -2), (35, -2), (36, -2), (37, -2)]
+    not_in | 1:1 2:1 3:1 4:1 5:1 6:1 7:1 8:1 9:1 10:1 11:1 12:1 13:1 14:1 15:1 16:1 17:1 18:1 19:1 20:1 21:1 22:1 23:1 24:1 25:1 | 13:2 14:2 15:2 16:2 17:2 18:2 19:2 20:2 21:2 22:2 23:2 24:2 25:2 26:2 27:2 28:2 29:2 30:2 31:2 32:2 33:2 34:2 35:2 36:2 37:2 | [(1, 1), (2, 1), (3, 1), (4, 1), (5, 1), (6, 1), (7, 1), (8, 1), (9, 1), (10, 1), (11, 1), (12, 1)]
+    not_in | 13:2 14:2 15:2 16:2 17:2 18:2 19:2 20:2 21:2 22:2 23:2 24:2 25:2 26:2 27:2 28:2 29:2 30:2 31:2 32:2 33:2 34:2 35:2 36:2 37:2 | 1:1 2:1 3:1 4:1 5:1 6:1 7:1 8:1 9:1 10:1 11:1 12:1 13:1 14:1 15:1 16:1 17:1 18:1 19:1 20:1 21:1 22:1 23:1 24:1 25:1 | [(26, 2), (27, 2), (28, 2), (29, 2), (30, 2), (31, 2), (32, 2), (33, 2), (34, 2), (35, 2), (36, 2), (37, 2)]";
+
+// A join, two bags, and what the join answers step by step: the fewest and the most items that may be left, and then `+` where an item
+// comes or `-` where none does. With `/` between them, one of several answers is given, since values are looked up in an open order.
+const STEPS: &str = "
+    difference | [3, 2, 1] | [] | 0..3+ 0..2+ 0..1+ 0..0- 0..0-
+    not_in | [1, 2, 3] | [] | 0..3+ 0..2+ 0..1+ 0..0- 0..0-
+    outer_join | [1, 2, 3] | [4, 5, 5] | 3..5+ 2..4+ 1..3+ 0..2+ 0..1+ 0..0- 0..0-
+    signed_difference | [1, 2, 3] | [4, 5, 5] | 3..5+ 2..4+ 1..3+ 0..2+ 0..1+ 0..0- 0..0-
+    difference | [1, 1, 2, 2, 2] | [1, 2, 3, 4, 5] | 0..2+ 0..1+ 0..0- 0..0-
+    not_in | [1, 1, 2, 2, 2] | [3, 4, 5] | 0..2+ 0..1+ 0..0- 0..0-
+    difference | [4, 5, 5, 5, 6, 6, 7] | [6, 7, 7, 7, 8, 9, 9] | 0..4+ 0..3+/0..2+ 0..2+/0..1+ 0..1-/0..0- 0..0- 0..0- 0..0- 0..0-
+    not_in | [4, 5, 5, 5, 6, 6, 7] | [6, 7, 7, 7, 8, 9, 9] | 0..4+ 0..3+/0..2+/0..1+ 0..2-/0..1-/0..0- 0..0- 0..0- 0..0- 0..0- 0..0-
+    outer_join | [4, 5, 5, 5, 6, 6, 7] | [6, 7, 7, 7, 8, 9, 9] | 4..8+ 3..7+ 2..6+ 1..5+ 0..4+ 0..3+/0..2+/0..1+ 0..2-/0..1-/0..0- 0..0-
+    signed_difference | [4, 5, 5, 5, 6, 6, 7] | [6, 7, 7, 7, 8, 9, 9] | 4..8+ 3..7+ 2..6+ 1..5+ 0..4+ 0..3+/0..2+/0..1+ 0..2-/0..1-/0..0- 0..0-
+    difference | 1:1 2:1 3:1 4:1 5:1 6:1 7:1 8:1 9:1 10:1 11:1 12:1 13:1 14:1 15:1 16:1 17:1 18:1 19:1 20:1 21:1 22:1 23:1 24:1 25:1 |  | 0..25+ 0..24+ 0..23+ 0..22+ 0..21+ 0..20+ 0..19+ 0..18+ 0..17+ 0..16+ 0..15+ 0..14+ 0..13+ 0..12+ 0..11+ 0..10+ 0..9+ 0..8+ 0..7+ 0..6+ 0..5+ 0..4+ 0..3+ 0..2+ 0..1+ 0..0- 0..0-
+    not_in | 1:1 2:1 3:1 4:1 5:1 6:1 7:1 8:1 9:1 10:1 11:1 12:1 13:1 14:1 15:1 16:1 17:1 18:1 19:1 20:1 21:1 22:1 23:1 24:1 25:1 |  | 0..25+ 0..24+ 0..23+ 0..22+ 0..21+ 0..20+ 0..19+ 0..18+ 0..17+ 0..16+ 0..15+ 0..14+ 0..13+ 0..12+ 0..11+ 0..10+ 0..9+ 0..8+ 0..7+ 0..6+ 0..5+ 0..4+ 0..3+ 0..2+ 0..1+ 0..0- 0..0-
+    outer_join | 1:1 2:1 3:1 4:1 5:1 6:1 7:1 8:1 9:1 10:1 11:1 12:1 13:1 14:1 15:1 16:1 17:1 18:1 19:1 20:1 21:1 22:1 23:1 24:1 25:1 | 40:1 | 25..26+ 24..25+ 23..24+ 22..23+ 21..22+ 20..21+ 19..20+ 18..19+ 17..18+ 16..17+ 15..16+ 14..15+ 13..14+ 12..13+ 11..12+ 10..11+ 9..10+ 8..9+ 7..8+ 6..7+ 5..6+ 4..5+ 3..4+ 2..3+ 1..2+ 0..1+ 0..0- 0..0-
+    signed_difference | 1:1 2:1 3:1 4:1 5:1 6:1 7:1 8:1 9:1 10:1 11:1 12:1 13:1 14:1 15:1 16:1 17:1 18:1 19:1 20:1 21:1 22:1 23:1 24:1 25:1 | 40:1 | 25..26+ 24..25+ 23..24+ 22..23+ 21..22+ 20..21+ 19..20+ 18..19+ 17..18+ 16..17+ 15..16+ 14..15+ 13..14+ 12..13+ 11..12+ 10..11+ 9..10+ 8..9+ 7..8+ 6..7+ 5..6+ 4..5+ 3..4+ 2..3+ 1..2+ 0..1+ 0..0- 0..0-
+    outer_join | 40:1 | 1:1 2:1 3:1 4:1 5:1 6:1 7:1 8:1 9:1 10:1 11:1 12:1 13:1 14:1 15:1 16:1 17:1 18:1 19:1 20:1 21:1 22:1 23:1 24:1 25:1 | 1..26+ 0..25+ 0..24+ 0..23+ 0..22+ 0..21+ 0..20+ 0..19+ 0..18+ 0..17+ 0..16+ 0..15+ 0..14+ 0..13+ 0..12+ 0..11+ 0..10+ 0..9+ 0..8+ 0..7+ 0..6+ 0..5+ 0..4+ 0..3+ 0..2+ 0..1+ 0..0- 0..0-
+    signed_difference | 40:1 | 1:1 2:1 3:1 4:1 5:1 6:1 7:1 8:1 9:1 10:1 11:1 12:1 13:1 14:1 15:1 16:1 17:1 18:1 19:1 20:1 21:1 22:1 23:1 24:1 25:1 | 1..26+ 0..25+ 0..24+ 0..23+ 0..22+ 0..21+ 0..20+ 0..19+ 0..18+ 0..17+ 0..16+ 0..15+ 0..14+ 0..13+ 0..12+ 0..11+ 0..10+ 0..9+ 0..8+ 0..7+ 0..6+ 0..5+ 0..4+ 0..3+ 0..2+ 0..1+ 0..0- 0..0-
+    difference | 40:1 | 1:1 2:1 3:1 4:1 5:1 6:1 7:1 8:1 9:1 10:1 11:1 12:1 13:1 14:1 15:1 16:1 17:1 18:1 19:1 20:1 21:1 22:1 23:1 24:1 25:1 | 0..1+ 0..0- 0..0-
+    not_in | 40:1 | 1:1 2:1 3:1 4:1 5:1 6:1 7:1 8:1 9:1 10:1 11:1 12:1 13:1 14:1 15:1 16:1 17:1 18:1 19:1 20:1 21:1 22:1 23:1 24:1 25:1 | 0..1+ 0..0- 0..0-";
+
+// A value, and how many more of it one bag has than another.
+const EXCESSES: &str = "
+    4 | 1
+    5 | 3
+    6 | 1
+    7 | 0
+    8 | 0
+    1 | 0";
+
+/// The bag of a list of values, or with the counts of a text.
+pub fn bag_of<S: BuildHasher + Default + Drop>(
+    alloc: Global,
+    text: &str,
+) -> Result<HashBag<u64, S>, Fail> {
+    if text.starts_with('[') {
+        return Ok(HashBag::from_iter(alloc, values(alloc, text)?.into_iter())?);
+    }
+    bag_of_counts(alloc, S::default(), counts(alloc, text)?.as_slice())
+}
+
+/// The bags with the counts of two texts.
+pub fn bags_of<S: BuildHasher + Default + Drop, S2: BuildHasher + Default + Drop>(
+    alloc: Global,
+    first: &str,
+    second: &str,
+) -> Result<(HashBag<u64, S>, HashBag<u64, S2>), Fail> {
+    let a = bag_of(alloc, first)?;
+    let b = bag_of(alloc, second)?;
+    Ok((a, b))
+}
+
+/// The four parts of a row.
+pub fn quarters(row: &str) -> Result<(&str, &str, &str, &str), Fail> {
+    let (first, rest) = halves(row, "|")?;
+    let (second, rest) = halves(rest, "|")?;
+    let (third, fourth) = halves(rest, "|")?;
+    Ok((first, second, third, fourth))
+}
+
+// The text of some items, rising.
+fn rising<T: Ord + Debug + Copy>(alloc: Global, items: Vec<T>) -> Result<String, Fail> {
+    let mut items = items;
+    items.sort_unstable();
+    debug_of(alloc, &items)
+}
+
+// Whether the values that a bag has come before all others.
+fn is_first_before<S: BuildHasher + Drop>(bag: &HashBag<u64, S>, values: &[&u64]) -> bool {
+    let mut ended = false;
+    for value in values {
+        if bag.contains(value) == 0 {
+            ended = true;
+        } else if ended {
+            return false;
+        }
+    }
+    true
+}
+
+// The text of one of the four joins.
+fn text_of(alloc: Global, joins: Joins<'_, u64>, join: &str) -> Result<String, Fail> {
+    match join {
+        "outer_join" => rising(alloc, joins.outer),
+        "difference" => rising(alloc, joins.difference),
+        "signed_difference" => rising(alloc, joins.signed),
+        "not_in" => rising(alloc, joins.not_in),
+        _ => Err(Fail::new(format_args!("no join: {join}"))),
+    }
+}
+
+// The text of a join of two bags.
+fn joined<S: BuildHasher + Drop, S2: BuildHasher + Drop>(
+    alloc: Global,
+    join: &str,
+    a: &HashBag<u64, S>,
+    b: &HashBag<u64, S2>,
+) -> Result<String, Fail> {
+    let joins = joins_of(alloc, a, b)?;
+    let outer: Vec<&u64> = joins.outer.iter().map(|item| item.0).collect(alloc)?;
+    let signed: Vec<&u64> = joins.signed.iter().map(|item| item.0).collect(alloc)?;
+    if is_first_before(a, outer.as_slice()) && is_first_before(a, signed.as_slice()) {
+        return text_of(alloc, joins, join);
+    }
+    Err(Fail::new("a value of the first bag comes late"))
+}
+
+fn is_joined<S: BuildHasher + Default + Drop, S2: BuildHasher + Default + Drop>(
+    alloc: Global,
+    row: &str,
+) -> Result<(), Fail> {
+    let (join, first, second, wanted) = quarters(row)?;
+    let (a, b) = bags_of::<S, S2>(alloc, first, second)?;
+    let got = joined(alloc, join, &a, &b)?;
+    is_text(row, got.as_str(), wanted)
+}
+
+// A step of a join: the size hint before it, and whether an item came.
+fn step_text(
+    alloc: Global,
+    hint: (usize, Option<usize>),
+    came: bool,
+) -> Result<String, AllocError> {
+    let fewest = hint.0;
+    let mark = if came { '+' } else { '-' };
+    match hint.1 {
+        Some(most) => format!(in alloc; "{fewest}..{most}{mark} "),
+        None => format!(in alloc; "{fewest}..{mark} "),
+    }
+}
+
+// So many steps of a join, which is then dropped.
+fn text_of_steps<I: Iterator + Drop>(alloc: Global, join: I, steps: usize) -> Result<String, Fail>
+where
+    I::Item: Drop,
+    requires any { (state : _) → I.can_next state }
+{
+    let mut join = join;
+    let mut text = String::new(alloc);
+    for _ in 0..steps {
+        let step = step_text(alloc, join.size_hint(), join.next().is_some())?;
+        text.push_str(step.as_str())?;
+    }
+    Ok(text)
+}
+
+// The first steps of one of the joins.
+fn steps_of<S: BuildHasher + Drop, S2: BuildHasher + Drop>(
+    alloc: Global,
+    join: &str,
+    a: &HashBag<u64, S>,
+    b: &HashBag<u64, S2>,
+    steps: usize,
+) -> Result<String, Fail> {
+    match join {
+        "outer_join" => text_of_steps(alloc, a.outer_join(b), steps),
+        "difference" => text_of_steps(alloc, a.difference(b), steps),
+        "signed_difference" => text_of_steps(alloc, a.signed_difference(b), steps),
+        "not_in" => text_of_steps(alloc, a.not_in(b), steps),
+        _ => Err(Fail::new(format_args!("no join: {join}"))),
+    }
+}
+
+fn is_one_of(word: &str, words: &str) -> bool {
+    for other in words.split('/') {
+        if other == word {
+            return true;
+        }
+    }
+    false
+}
+
+fn number_of_words(text: &str) -> usize {
+    text.split_whitespace().count()
+}
+
+// How many steps are one of those that are wanted at their place.
+fn steps_as_wanted(got: &str, wanted: &str) -> usize {
+    let mut as_wanted = 0usize;
+    for (step, words) in got.split_whitespace().zip(wanted.split_whitespace()) {
+        if is_one_of(step, words) {
+            as_wanted = as_wanted.saturating_add(1);
+        }
+    }
+    as_wanted
+}
+
+// Values with their counts, as `5:2 6:1 `.
+fn text_of_counts(alloc: Global, pairs: &[(u64, usize)]) -> Result<String, Fail> {
+    let mut text = String::new(alloc);
+    for (value, count) in pairs {
+        let pair = format!(in alloc; "{value}:{count} ")?;
+        text.push_str(pair.as_str())?;
+    }
+    Ok(text)
+}
+
+// The text of a bag's counts, values rising.
+fn counts_of<S: BuildHasher + Drop>(alloc: Global, bag: &HashBag<u64, S>) -> Result<String, Fail> {
+    let mut pairs: Vec<(u64, usize)> = Vec::new(alloc);
+    for (value, count) in bag.set_iter() {
+        pairs.push((*value, count))?;
+    }
+    pairs.sort_unstable();
+    text_of_counts(alloc, pairs.as_slice())
+}
+
+// Checks the first steps of a join.
+fn has_steps(row: &str, got: &str, wanted: &str, steps: usize) -> Result<(), Fail> {
+    let as_wanted = steps_as_wanted(got, wanted);
+    if as_wanted == steps {
+        return Ok(());
+    }
+    Err(Fail::new(format_args!("{as_wanted} of {steps} steps as wanted: {got}in the row: {row}")))
+}
+
+// All counts of a bag, and its slots, those that wait, and its room.
+fn state_of<S: BuildHasher + Drop>(alloc: Global, bag: &HashBag<u64, S>) -> Result<String, Fail> {
+    let counts = counts_of(alloc, bag)?;
+    let (slots, waiting, room) = (bag.slots(), bag.waiting(), bag.room());
+    Ok(format!(in alloc; "{counts}in {slots} {waiting} {room}")?)
+}
+
+// A bag of 25 values is in the middle of a carry.
+fn carries(row: &str, text: &str, state: &str) -> Result<(), Fail> {
+    if number_of_words(text) < 25 || state.ends_with("in 64 16 23") {
+        return Ok(());
+    }
+    Err(Fail::new(format_args!("no carry, but {state}, in the row: {row}")))
+}
+
+// A bag is as it was, and takes a value in.
+fn is_as_before<S: BuildHasher + Drop>(
+    alloc: Global,
+    row: &str,
+    bag: &mut HashBag<u64, S>,
+    before: &str,
+) -> Result<(), Fail> {
+    is_text(row, state_of(alloc, bag)?.as_str(), before)?;
+    let inserted = (insert(bag, 1000)?, bag.contains(&1000));
+    is_text(row, debug_of(alloc, &inserted)?.as_str(), "(0, 1)")
+}
+
+// A join that is dropped after so many steps leaves both bags as they were.
+fn is_stepped<S: BuildHasher + Default + Drop, S2: BuildHasher + Default + Drop>(
+    alloc: Global,
+    row: &str,
+    steps: usize,
+) -> Result<(), Fail> {
+    let (join, first, second, wanted) = quarters(row)?;
+    let (mut a, mut b) = bags_of::<S, S2>(alloc, first, second)?;
+    let before = (state_of(alloc, &a)?, state_of(alloc, &b)?);
+    carries(row, first, before.0.as_str())?;
+    carries(row, second, before.1.as_str())?;
+    let got = steps_of(alloc, join, &a, &b, steps)?;
+    has_steps(row, got.as_str(), wanted, steps)?;
+    is_as_before(alloc, row, &mut a, before.0.as_str())?;
+    is_as_before(alloc, row, &mut b, before.1.as_str())
+}
+
+// A join, dropped after each number of its steps.
+fn is_dropped_after_each<S: BuildHasher + Default + Drop, S2: BuildHasher + Default + Drop>(
+    alloc: Global,
+    row: &str,
+) -> Result<(), Fail> {
+    let (_, _, _, wanted) = quarters(row)?;
+    for steps in 0..=number_of_words(wanted) {
+        is_stepped::<S, S2>(alloc, row, steps)?;
+    }
+    Ok(())
+}
+
+// All rows, under two states.
+fn joins_under<S: BuildHasher + Default + Drop, S2: BuildHasher + Default + Drop>(
+    alloc: Global,
+) -> Result<(), Fail> {
+    for row in rows_of(alloc, JOINS, 65)? {
+        is_joined::<S, S2>(alloc, row)?;
+    }
+    for row in rows_of(alloc, STEPS, 18)? {
+        is_dropped_after_each::<S, S2>(alloc, row)?;
+    }
+    Ok(())
+}
+
+// The first bag under one state, and the second under each.
+fn joins_with_each<S: BuildHasher + Default + Drop>(alloc: Global) -> Result<(), Fail> {
+    joins_under::<S, FixedState>(alloc)?;
+    joins_under::<S, OneState>(alloc)?;
+    joins_under::<S, ParityState>(alloc)?;
+    joins_under::<S, IdentityState>(alloc)
+}
+
+#[test]
+fn joins_of_fixed_state(rt: HostRuntime) -> Result<(), Fail> {
+    joins_with_each::<FixedState>(rt.alloc())
+}
+
+#[test]
+fn joins_of_one_state(rt: HostRuntime) -> Result<(), Fail> {
+    joins_with_each::<OneState>(rt.alloc())
+}
+
+#[test]
+fn joins_of_parity_state(rt: HostRuntime) -> Result<(), Fail> {
+    joins_with_each::<ParityState>(rt.alloc())
+}
+
+#[test]
+fn joins_of_identity_state(rt: HostRuntime) -> Result<(), Fail> {
+    joins_with_each::<IdentityState>(rt.alloc())
+}
+
+// How many more of a value the first bag has.
+fn excess<S: BuildHasher + Drop, S2: BuildHasher + Drop>(
+    a: &HashBag<u64, S>,
+    b: &HashBag<u64, S2>,
+    value: u64,
+) -> usize {
+    excess_of(a, b, &value)
+}
+
+fn is_excess<S: BuildHasher + Drop, S2: BuildHasher + Drop>(
+    alloc: Global,
+    a: &HashBag<u64, S>,
+    b: &HashBag<u64, S2>,
+    row: &str,
+) -> Result<(), Fail> {
+    let (value, wanted) = halves(row, "|")?;
+    let got = debug_of(alloc, &excess(a, b, number(value)?))?;
+    is_text(row, got.as_str(), wanted)
+}
+
+#[test]
+fn excesses_one_by_one(rt: HostRuntime) -> Result<(), Fail> {
+    let alloc = rt.alloc();
+    let (a, b) = bags_of::<OneState, IdentityState>(alloc, "4:1 5:3 6:2 7:1", "6:1 7:3 8:1 9:2")?;
+    for row in rows_of(alloc, EXCESSES, 6)? {
+        is_excess(alloc, &a, &b, row)?;
+    }
+    Ok(())
+}

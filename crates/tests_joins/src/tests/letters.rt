@@ -1,0 +1,96 @@
+//! Bags of letters, with the answers found by hand.
+use hashbag::{BagError, FixedState, HashBag};
+use hashbag_bench::OneState;
+use hashbag_bench::texts::is_text;
+use std::alloc::Global;
+use std::hash::BuildHasher;
+use std::process::Abort;
+use std::test::Fail;
+
+// The outer join of the letters of "hash" with those of "math".
+const HASH_AND_MATH: &str =
+    "[('a', 1, 1), ('h', 2, 1), ('s', 1, 0)] then [('m', 0, 1), ('t', 0, 1)]";
+
+// Of ten x, what is left of a letter when so many of it are taken out.
+const REMOVALS: [(char, usize, usize); 4] = [('x', 0, 10), ('x', 3, 7), ('x', 10, 0), ('y', 1, 0)];
+
+// Each kind of call has a function with no contract, as in `rows`.
+
+fn letters_of<S: BuildHasher + Default + Drop>(
+    alloc: Global,
+    word: &str,
+) -> Result<HashBag<char, S>, BagError> {
+    HashBag::from_iter(alloc, word.chars())
+}
+
+fn insert_many<S: BuildHasher + Drop>(
+    bag: &mut HashBag<char, S>,
+    letter: char,
+    n: usize,
+) -> Result<usize, BagError> {
+    bag.insert_many(letter, n)
+}
+
+fn remove<S: BuildHasher + Drop>(bag: &mut HashBag<char, S>, letter: char) -> usize {
+    bag.remove(&letter)
+}
+
+fn remove_up_to<S: BuildHasher + Drop>(
+    bag: &mut HashBag<char, S>,
+    letter: char,
+    quantity: usize,
+) -> usize {
+    bag.remove_up_to(&letter, quantity)
+}
+
+// The items of an outer join up to the first letter that the first bag doesn't have, and those from there on, each rising.
+fn joined<S: BuildHasher + Drop>(
+    alloc: Global,
+    a: &HashBag<char, S>,
+    b: &HashBag<char, S>,
+) -> Result<String, Fail> {
+    let mut first = Vec::new(alloc);
+    let mut rest = Vec::new(alloc);
+    for (letter, x, y) in a.outer_join(b) {
+        if x > 0 && rest.is_empty() {
+            first.push((*letter, x, y))?;
+        } else {
+            rest.push((*letter, x, y))?;
+        }
+    }
+    first.sort_unstable();
+    rest.sort_unstable();
+    Ok(format!(in alloc; "{first:?} then {rest:?}")?)
+}
+
+fn letters_are_joined<S: BuildHasher + Default + Drop>(alloc: Global) -> Result<(), Fail> {
+    let hash: HashBag<char, S> = letters_of(alloc, "hash")?;
+    let math: HashBag<char, S> = letters_of(alloc, "math")?;
+    let got = joined(alloc, &hash, &math)?;
+    is_text("hash and math", got.as_str(), HASH_AND_MATH)
+}
+
+fn letters_are_removed<S: BuildHasher + Default + Drop>(
+    rt: &impl Abort,
+    alloc: Global,
+) -> Result<(), Fail> {
+    let mut bag: HashBag<char, S> = HashBag::default_in(alloc);
+    insert_many(&mut bag, 'x', 2)?;
+    for wanted in [2, 1, 0] {
+        assert_eq!(rt; remove(&mut bag, 'x'), wanted);
+    }
+    insert_many(&mut bag, 'x', 10)?;
+    for (letter, quantity, left) in REMOVALS {
+        let got = remove_up_to(&mut bag, letter, quantity);
+        assert_eq!(rt; got, left, "{quantity} of {letter}");
+    }
+    Ok(())
+}
+
+#[test]
+fn letters_of_words(rt: HostRuntime) -> Result<(), Fail> {
+    letters_are_joined::<FixedState>(rt.alloc())?;
+    letters_are_joined::<OneState>(rt.alloc())?;
+    letters_are_removed::<FixedState>(&rt, rt.alloc())?;
+    letters_are_removed::<OneState>(&rt, rt.alloc())
+}
