@@ -1,10 +1,9 @@
 //! Sums of two bags, and what one bag keeps of its own beside another.
 ghost use Rattle.std.specs.Prelude.{◌≡◌, ℕ, ◌+◌, ◌-◌, ◌<◌, ◌≤◌, min, max, List, length, All, true, OnOk, OnErr};
 ghost use Rattle.hashbag.specs.Joins.{IsNotIn};
-ghost use Rattle.hashbag.specs.JoinsLeft.{lacking};
 ghost use Rattle.hashbag.specs.Occurrences.{count, distinct_count};
 ghost use Rattle.hashbag.specs.Tables.{room};
-ghost use Rattle.hashbag.specs.Walks.{IsSetWalkOf};
+ghost use Rattle.hashbag_ops.specs.Lacked.{HasRoomForLacked, LacksMoreThan};
 ghost use Rattle.hashbag_ops.specs.Unions.{IsUnion};
 
 use hashbag::{BagError, HashBag};
@@ -46,7 +45,7 @@ pub fn merge<T: Eq + Hash + Drop, S: BuildHasher + Drop, S2: BuildHasher + Drop>
     ensures refused { result ≡ Err BagError.TooMany → into.old.most < length into.old.items + length from.items }
     ensures memory { length into.old.items + length from.items ≤ into.old.most → OnErr result (result ≡ Err BagError.Memory) }
     ensures full { result ≡ Err BagError.Memory → room into.old.tables < distinct_count T.eq from.items }
-    ensures lacks { result ≡ Err BagError.Memory → (M : List (T × ℕ)) → IsNotIn T.eq from.items into.old.items M → room into.old.tables < length M }
+    ensures lacks { result ≡ Err BagError.Memory → LacksMoreThan T.eq (room into.old.tables) from.items into.old.items }
 {
     if from.len() > into.limit() - into.len() {
         return Err(BagError::TooMany);
@@ -65,11 +64,11 @@ fn make_room<T: Eq + Hash + Drop, S: BuildHasher + Drop, S2: BuildHasher + Drop>
     ensures len { length into.new.items ≡ length into.old.items }
     ensures limit { into.new.most ≡ into.old.most }
     ensures hasher { into.new.hasher ≡ into.old.hasher }
-    ensures room { OnOk result ((W : List (T × ℕ)) → IsSetWalkOf T.eq from.now W → length (lacking T.eq into.old.items W) ≤ room into.new.tables) }
+    ensures room { OnOk result (HasRoomForLacked T.eq from.now into.old.items into.new.tables) }
     ensures err { OnErr result (into.new ≡ into.old) }
     ensures memory { OnErr result (result ≡ Err BagError.Memory) }
     ensures full { OnErr result (room into.old.tables < distinct_count T.eq from.now.items) }
-    ensures lacks { OnErr result ((M : List (T × ℕ)) → IsNotIn T.eq from.now.items into.old.items M → room into.old.tables < length M) }
+    ensures lacks { OnErr result (LacksMoreThan T.eq (room into.old.tables) from.now.items into.old.items) }
 {
     if from.set_len() <= into.room() {
         return Ok(());
