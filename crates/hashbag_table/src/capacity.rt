@@ -19,15 +19,6 @@ pub const MOST_SLOTS: usize = 1 << 59;
 /// The slots that one insertion of an absent value carries.
 pub const CARRIED_AT_ONCE: usize = 16;
 
-/// How many of so many slots may be Live or Removed: three quarters. The others are Empty or Moved, so that probes end soon.
-#[inline(always)]
-pub fn limit(slots: usize) -> usize
-    requires { IsSlotCount slots }
-    ensures { result ≡ limit slots }
-{
-    3 * slots / 4
-}
-
 /// A table of no slots. It takes no memory.
 pub fn no_slots<T: Eq + Drop>(alloc: Global) -> Slots<T>
     ensures slots { result.slots ≡ [] }
@@ -67,7 +58,7 @@ pub fn least_slots(from: usize, values: usize) -> Result<usize, AllocError>
     ensures refused { IsErr result → limit (2 ^ 59) < values }
 {
     let mut count = from;
-    while limit(count) < values {
+    while 3 * count / 4 < values {
         if count >= MOST_SLOTS {
             return Err(AllocError);
         }

@@ -20,7 +20,7 @@ mod resize;
 mod spots;
 
 use crate::built::Built;
-use crate::capacity::{limit, no_slots};
+use crate::capacity::no_slots;
 use crate::retain::retain_slots;
 use crate::walk::{DrainWalk, IntoWalk, Walk};
 use hashbag_slots::slots::{FirstGroup, Slot, Slots};
@@ -105,7 +105,7 @@ impl<T: Eq + Hash + Drop, S: BuildHasher + Drop> Table<T, S> {
     pub fn room(&self) -> usize
         ensures { result ≡ room self.now.tables }
     {
-        limit(self.newer.slots()) - self.newer.live() - self.newer.removed() - self.older.live()
+        3 * self.newer.slots() / 4 - self.newer.live() - self.newer.removed() - self.older.live()
     }
 
     /// The number of distinct values.
