@@ -245,7 +245,7 @@ impl<T: Eq + Hash + Drop, S: BuildHasher + Drop> HashBag<T, S> {
         ensures count { result ≡ count T.eq value.now self.now.items }
         ensures bag { IsBag T.eq self.now.most self.now.items }
     {
-        match self.table.get_key(value) {
+        match self.table.get(value) {
             Some((_, count)) => count,
             None => 0,
         }
@@ -265,7 +265,7 @@ impl<T: Eq + Hash + Drop, S: BuildHasher + Drop> HashBag<T, S> {
         ensures found { Lends result (stored T.eq value.now self.now.items) }
         ensures bag { IsBag T.eq self.now.most self.now.items }
     {
-        self.table.get_key(value)
+        self.table.get(value)
     }
 
     /// Adds one occurrence of a value, and answers how many there were: [`HashBag::insert_many`] with 1.
