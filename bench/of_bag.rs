@@ -6,22 +6,27 @@ use std::hash::BuildHasherDefault;
 pub type Counts<T> = HashBag<T, BuildHasherDefault<Fold>>;
 pub type Map = Counts<u64>;
 
+#[inline]
 pub fn put(bag: &mut Map, value: u64) {
     bag.insert(value);
 }
 
+#[inline]
 pub fn put_many(bag: &mut Map, value: u64, many: usize) {
     bag.insert_many(value, many);
 }
 
+#[inline]
 pub fn count(bag: &Map, value: &u64) -> usize {
     bag.contains(value)
 }
 
+#[inline]
 pub fn distinct_values(bag: &Map) -> usize {
     bag.set_len()
 }
 
+#[inline]
 pub fn take_out(bag: &mut Map, values: &[u64]) -> usize {
     let mut sum = 0usize;
     for value in values {
@@ -30,6 +35,7 @@ pub fn take_out(bag: &mut Map, values: &[u64]) -> usize {
     sum
 }
 
+#[inline]
 pub fn walk(bag: &Map) -> u64 {
     let mut sum = 0u64;
     for (value, count) in bag.set_iter() {
@@ -38,12 +44,14 @@ pub fn walk(bag: &Map) -> u64 {
     sum
 }
 
+#[inline]
 pub fn pairs(bag: &Map) -> Vec<(u64, usize)> {
     bag.set_iter()
         .map(|(value, count)| (*value, count))
         .collect()
 }
 
+#[inline]
 pub fn join(first: &Map, second: &Map) -> u64 {
     let mut sum = 0u64;
     for (value, count, other) in first.outer_join(second) {
@@ -52,6 +60,7 @@ pub fn join(first: &Map, second: &Map) -> u64 {
     sum
 }
 
+#[inline]
 pub fn merge(into: &mut Map, from: Map) {
     for (value, count) in from {
         into.insert_many(value, count);
@@ -59,10 +68,12 @@ pub fn merge(into: &mut Map, from: Map) {
 }
 
 // That crate can't insert by a text that isn't owned: it makes a `String` of each word.
+#[inline]
 pub fn put_word(bag: &mut Counts<String>, word: &str) {
     bag.insert(word.to_string());
 }
 
+#[inline]
 pub fn distinct_words(bag: &Counts<String>) -> usize {
     bag.set_len()
 }

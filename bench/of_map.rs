@@ -7,23 +7,28 @@ use std::hash::BuildHasherDefault;
 pub type Counts<T> = HashMap<T, usize, BuildHasherDefault<Fold>>;
 pub type Map = Counts<u64>;
 
+#[inline]
 pub fn put(map: &mut Map, value: u64) {
     *map.entry(value).or_insert(0) += 1;
 }
 
+#[inline]
 pub fn put_many(map: &mut Map, value: u64, many: usize) {
     *map.entry(value).or_insert(0) += many;
 }
 
+#[inline]
 pub fn count(map: &Map, value: &u64) -> usize {
     map.get(value).copied().unwrap_or(0)
 }
 
+#[inline]
 pub fn distinct_values(map: &Map) -> usize {
     map.len()
 }
 
 // One occurrence of each, as a bag removes it.
+#[inline]
 pub fn take_out(map: &mut Map, values: &[u64]) -> usize {
     let mut sum = 0usize;
     for value in values {
@@ -40,6 +45,7 @@ pub fn take_out(map: &mut Map, values: &[u64]) -> usize {
     sum
 }
 
+#[inline]
 pub fn walk(map: &Map) -> u64 {
     let mut sum = 0u64;
     for (value, count) in map {
@@ -48,10 +54,12 @@ pub fn walk(map: &Map) -> u64 {
     sum
 }
 
+#[inline]
 pub fn pairs(map: &Map) -> Vec<(u64, usize)> {
     map.iter().map(|(value, count)| (*value, *count)).collect()
 }
 
+#[inline]
 pub fn join(first: &Map, second: &Map) -> u64 {
     let mut sum = 0u64;
     for (value, count) in first {
@@ -66,6 +74,7 @@ pub fn join(first: &Map, second: &Map) -> u64 {
     sum
 }
 
+#[inline]
 pub fn merge(into: &mut Map, from: Map) {
     for (value, count) in from {
         *into.entry(value).or_insert(0) += count;
@@ -73,6 +82,7 @@ pub fn merge(into: &mut Map, from: Map) {
 }
 
 // A word becomes a `String` once.
+#[inline]
 pub fn put_word(map: &mut Counts<String>, word: &str) {
     match map.get_mut(word) {
         Some(count) => *count += 1,
@@ -82,6 +92,7 @@ pub fn put_word(map: &mut Counts<String>, word: &str) {
     }
 }
 
+#[inline]
 pub fn distinct_words(map: &Counts<String>) -> usize {
     map.len()
 }
