@@ -4,8 +4,8 @@ use Rattle.std.proofs.lemmas.Bool.{cases_lt, cases_eq, le-leb, lt-leb}
 use Rattle.std.proofs.lemmas.List.{ext_get_or, get_or-set_same, get_or-set_other, length-set}
 use Rattle.std.specs.Cmp.{IsEquivalence}
 use Rattle.hashbag_slots.specs.declared.slots.Slot.TheVariants.{Moved, Live}
-use Rattle.hashbag_slots.specs.Slots.{is_live, slot_at, entries, PlacesFirst, PlacesAll, carried, AreApart}
-use Rattle.hashbag_slots.specs.Columns.{slots_of, columns, IsColumns, IsReached}
+use Rattle.hashbag_slots.specs.Slots.{is_live, live_count, removed_count, slot_at, entries, PlacesFirst, PlacesAll, carried, AreApart}
+use Rattle.hashbag_slots.specs.Columns.{Columns, slots_of, columns, IsColumns, IsReached, CarriesInto}
 use Rattle.hashbag_slots.specs.Carry.{moved_tag, MovesOutTags, Kept, kept, is_kept, IsCarry}
 use Rattle.hashbag_slots.proofs.Carrying.{PlacesAll-step, Carries-step, Carries-none, skip_to, AreApart-carry}
 use Rattle.hashbag_slots.proofs.Reading.{length-slots_of, live_at, dead_at, alive_at}
@@ -72,6 +72,30 @@ module _ {T : Type 0} (eq : T → T → Bool) (hash : T → ℕ) where
         reached = reached;
         older_reached = λ h r. r;
       })
+
+  -- a carry over what both tables keep, as a carry over their columns
+  pub CarriesInto-cells : (from many : ℕ) (newer older a b : Kept T) (n o n' o' : Columns T)
+      → columns newer.tags newer.cells ≡ n → columns older.tags older.cells ≡ o → columns a.tags a.cells ≡ n' → columns b.tags b.cells ≡ o'
+      → newer.live ≡ live_count n.slots → older.live ≡ live_count o.slots → newer.removed ≡ removed_count n.slots → length newer.tags ≡ length n.slots
+      → IsCarry eq hash from many newer older a b → CarriesInto eq hash from many n o n' o'
+  CarriesInto-cells from many newer older a b n o n' o' is_n is_o is_n' is_o' live waiting gone len c =
+      let done : CarriesInto eq hash from many (columns newer.tags newer.cells) (columns older.tags older.cells) (columns a.tags a.cells) (columns b.tags b.cells) =
+      record {
+        placed = c.placed;
+        left = c.left;
+        apart = c.apart;
+        kept =
+            let l = live ∙ ap (λ s. live_count s.slots) (sym is_n) in let w = waiting ∙ ap (λ s. live_count s.slots) (sym is_o) in
+            let x = c.stays.table.live_is in let y = c.older_stays.table.live_is in let s = c.sum in omega (arith, l, w, x, y, s);
+        removed = let g = gone ∙ ap (λ s. removed_count s.slots) (sym is_n) in let x = c.stays.table.removed_is in let r = c.removed in omega (arith, g, x, r);
+        slots = length-slots_of a.tags a.cells c.stays.agree.same_length ∙ c.same_length ∙ len ∙ ap (λ s. length s.slots) (sym is_n);
+        reached = c.reached;
+        older_reached = c.older_reached;
+      } in
+      subst (λ k. CarriesInto eq hash from many k o n' o') is_n
+      (subst (λ k. CarriesInto eq hash from many (columns newer.tags newer.cells) k n' o') is_o
+      (subst (λ k. CarriesInto eq hash from many (columns newer.tags newer.cells) (columns older.tags older.cells) k o') is_n'
+      (subst (λ k. CarriesInto eq hash from many (columns newer.tags newer.cells) (columns older.tags older.cells) (columns a.tags a.cells) k) is_o' done)))
 
   module _ (laws : IsEquivalence eq) (from at : ℕ) (newer older a b : Kept T) (begun : from ≤ at) (c : IsCarry eq hash from (at - from) newer older a b) where
     -- a tag that wasn't come to

@@ -5,7 +5,8 @@ use Rattle.std.proofs.Math.Seq.{take-add}
 use Rattle.std.proofs.lemmas.List.{ext_get_or, drop-drop, set-get_or, length-set, length-drop, length-take, get_or-take, take_more, get_or-drop}
 use Rattle.hashbag_slots.specs.declared.slots.Slot.{Slot}
 use Rattle.hashbag_slots.specs.declared.slots.Slot.TheVariants.{Empty, Removed, Moved, Live}
-use Rattle.hashbag_slots.specs.Slots.{is_live, holds, live_count, slot_at, IsAbsent, IsSet, entries, Places, PlacesAll, carried, Carries, entries_in, AreApart}
+use Rattle.hashbag_slots.specs.Slots.{is_live, holds, live_count, removed_count, is_removed, slot_at, IsAbsent, IsSet, entries, Places, PlacesAll, carried, Carries, entries_in, AreApart}
+use Rattle.hashbag_slots.specs.Columns.{Columns, IsReached, CarriesInto}
 use Rattle.hashbag_slots.proofs.Probing.{false_by}
 use Rattle.hashbag_slots.proofs.Edits.{set_cases, count-set}
 
@@ -17,6 +18,12 @@ module _ {T : Type 0} where
   live-Places v n old new put =
       let e = rw put.free at (count-set old put.at (Live v n) put.within is_live) in
       let f = ap live_count put.after in
+      omega (arith, e, f)
+
+  pub removed-Places : (v : T) (n : ℕ) (old new : List (Slot T)) → Places v n old new → removed_count new ≤ removed_count old
+  removed-Places v n old new put =
+      let e = count-set old put.at (Live v n) put.within is_removed in
+      let f = ap removed_count put.after in
       omega (arith, e, f)
 
   pub IsAbsent-Places : (test : T → Bool) (v : T) (n : ℕ) (old new : List (Slot T)) → IsAbsent test old → Places v n old new → test v ≡ false → IsAbsent test new
@@ -89,6 +96,15 @@ module _ {T : Type 0} where
             ];
       })
 
+  -- one slot
+  pub Carries-one : (at : ℕ) (old new : List (Slot T)) → at < length old → new ≡ slice_set old at (carried (slot_at old at)) → Carries at 1 old new
+  Carries-one at old new lt after =
+      let e : at ≡ at + 0 = omega arith in
+      Carries-more at 0 old old new (omega arith) (Carries-none at old) (subst (λ p. new ≡ slice_set old p (carried (slot_at old p))) e after)
+
+  pub entries_in_one : (at : ℕ) (ss : List (Slot T)) → at < length ss → entries_in at 1 ss ≡ entries (slot_at ss at ∷ [])
+  entries_in_one at ss lt = entries_in_more at 0 ss (omega arith) ∙ ap (λ p. entries (slot_at ss p ∷ [])) (let e : at + 0 ≡ at = omega arith in e)
+
   -- one more slot, at a place of its own
   pub Carries-step : (from at : ℕ) (old mid new : List (Slot T)) → from ≤ at → at < length old → Carries from (at - from) old mid → new ≡ slice_set mid at (carried (slot_at mid at)) → Carries from (at + 1 - from) old new
   Carries-step from at old mid new le lt carry after =
@@ -152,6 +168,33 @@ module _ {T : Type 0} where
       let es : entries_in from (at + n - from) old ≡ entries_in from k old ++ entries_in at n mid =
       ap (λ m. entries (take m xs)) more ∙ ap entries (take-add k n xs) ∙ entries-append (take k xs) (take n (drop k xs)) ∙ ap (λ ys. entries (take k xs) ++ entries (take n ys)) (there ∙ sym ahead) in
       subst (λ ys. PlacesAll hash ys a c) (sym es) (PlacesAll-append hash (entries_in from k old) (entries_in at n mid) a b c p q)
+
+  -- nothing is carried yet
+  pub CarriesInto-none : (eq : T → T → Bool) (hash : T → ℕ) (from : ℕ) (newer older : Columns T) → AreApart eq older.slots newer.slots → IsReached hash newer → CarriesInto eq hash from 0 newer older newer older
+  CarriesInto-none eq hash from newer older apart reached = record {
+    placed = refl;
+    left = Carries-none from older.slots;
+    apart = apart;
+    kept = refl;
+    removed = omega arith;
+    slots = refl;
+    reached = reached;
+    older_reached = λ h r. r;
+  }
+
+  -- a carry goes on where another one ended, over both tables
+  pub CarriesInto-join : (eq : T → T → Bool) (hash : T → ℕ) (from at n : ℕ) (newer older a b newer' older' : Columns T) → from ≤ at
+      → CarriesInto eq hash from (at - from) newer older a b → CarriesInto eq hash at n a b newer' older' → CarriesInto eq hash from (at + n - from) newer older newer' older'
+  CarriesInto-join eq hash from at n newer older a b newer' older' le c d = record {
+    placed = PlacesAll-join hash from at n older.slots b.slots newer.slots a.slots newer'.slots le c.left c.placed d.placed;
+    left = Carries-join from at n older.slots b.slots older'.slots le c.left d.left;
+    apart = d.apart;
+    kept = d.kept ∙ c.kept;
+    removed = let x = c.removed in let y = d.removed in omega arith;
+    slots = d.slots ∙ c.slots;
+    reached = d.reached;
+    older_reached = λ h r. d.older_reached h (c.older_reached h r);
+  }
 
   pub IsAbsent-PlacesAll : (hash : T → ℕ) (test : T → Bool) (es : List (T × ℕ)) (a b : List (Slot T)) → IsAbsent test a → ((i : ℕ) (e : T × ℕ) → i < length es → get_or es i e ≡ e → test e.0 ≡ false) → PlacesAll hash es a b → IsAbsent test b
   IsAbsent-PlacesAll hash test [] a b absent each h = subst (IsAbsent test) (sym h) absent

@@ -1,7 +1,7 @@
 -- What a carry from an older table's tags and cells to a newer table's leaves of both.
 use Rattle.std.specs.Prelude.{◌≡◌, ℕ, ◌+◌, ◌<◌, ◌≤◌, ◌⊎◌, Bool, List, length, Option, Some, if◌then◌else◌, nat_le}
 use Rattle.hashbag_slots.specs.Cells.{cell_at}
-use Rattle.hashbag_slots.specs.Slots.{removed_count, PlacesFirst, MovesIn, Carries, AreApart}
+use Rattle.hashbag_slots.specs.Slots.{removed_count, entries_in, PlacesFirst, PlacesAll, Carries, AreApart}
 use Rattle.hashbag_slots.specs.Columns.{tag_at, columns, slots_of, IsReached, IsColumns}
 
 -- the tag of a slot that was carried: 2, Moved, where it was Live
@@ -41,7 +41,7 @@ module _ {T : Type 0} where
     pub stays : is_kept eq newer'
     pub older_stays : is_kept eq older'
     pub tags : MovesOutTags from many older.tags older'.tags
-    pub placed : MovesIn hash from many (slots_of older.tags older.cells) (slots_of newer.tags newer.cells) (slots_of newer'.tags newer'.cells)
+    pub placed : PlacesAll hash (entries_in from many (slots_of older.tags older.cells)) (slots_of newer.tags newer.cells) (slots_of newer'.tags newer'.cells)
     pub left : Carries from many (slots_of older.tags older.cells) (slots_of older'.tags older'.cells)
     pub apart : AreApart eq (slots_of older'.tags older'.cells) (slots_of newer'.tags newer'.cells)
     pub sum : newer'.live + older'.live ≡ newer.live + older.live

@@ -4,7 +4,7 @@ use Rattle.std.specs.Prelude.{◌≡◌, ℕ, ◌+◌, ◌/◌, ◌^◌, ◌<◌
 use Rattle.hashbag_slots.specs.declared.slots.Slot.{Slot}
 use Rattle.hashbag_slots.specs.declared.slots.Slot.TheVariants.{Empty, Removed, Moved, Live}
 use Rattle.hashbag_slots.specs.Cells.{cell_at}
-use Rattle.hashbag_slots.specs.Slots.{path_slot, slot_at, KeepsPaths, IsTable}
+use Rattle.hashbag_slots.specs.Slots.{path_slot, slot_at, live_count, removed_count, entries_in, KeepsPaths, PlacesAll, Carries, AreApart, IsTable}
 
 -- the tag of a Live slot, its mark: 128 and the top seven bits of its value's hash
 abbrev pub mark_of : ℕ → ℕ
@@ -53,6 +53,18 @@ module _ {T : Type 0} where
   pub record IsReached (hash : T → ℕ) (table : Columns T) : Type 0 where
     pub paths : KeepsPaths hash table.slots
     pub marks : (p : ℕ) (v : T) (n : ℕ) → slot_at table.slots p ≡ Live v n → tag_at table.tags p ≡ mark_of (hash v)
+
+  -- so many slots of an older table, from the place `from` on, are carried into a newer one: each Live value goes there in turn,
+  -- into the first slot on its path that was not Live, and becomes Moved here
+  pub record CarriesInto (eq : T → T → Bool) (hash : T → ℕ) (from many : ℕ) (newer older newer' older' : Columns T) : Type 0 where
+    pub placed : PlacesAll hash (entries_in from many older.slots) newer.slots newer'.slots
+    pub left : Carries from many older.slots older'.slots
+    pub apart : AreApart eq older'.slots newer'.slots
+    pub kept : live_count newer'.slots + live_count older'.slots ≡ live_count newer.slots + live_count older.slots
+    pub removed : removed_count newer'.slots ≤ removed_count newer.slots
+    pub slots : length newer'.slots ≡ length newer.slots
+    pub reached : IsReached hash newer'
+    pub older_reached : (h : T → ℕ) → IsReached h older → IsReached h older'
 
   -- equal values have one hash
   abbrev pub IsAlike : (T → T → Bool) → (T → ℕ) → Type 0

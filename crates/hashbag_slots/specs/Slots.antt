@@ -157,15 +157,6 @@ module _ {T : Type 0} where
   abbrev pub entries_in : ℕ → ℕ → List (Slot T) → List (T × ℕ)
   entries_in from many ss = entries (take many (drop from ss))
 
-  -- the values of so many slots of an older table, from the place `from` on, are put in turn into the first slot on their path that
-  -- was not Live
-  abbrev pub MovesIn : (T → ℕ) → ℕ → ℕ → List (Slot T) → List (Slot T) → List (Slot T) → Type 0
-  MovesIn hash from many older old new = PlacesAll hash (entries_in from many older) old new
-
-  -- so it is with the value of one slot of an older table, if that is Live
-  abbrev pub MovesInAt : (T → ℕ) → ℕ → List (Slot T) → List (Slot T) → List (Slot T) → Type 0
-  MovesInAt hash at older old new = PlacesAll hash (entries (slot_at older at ∷ [])) old new
-
   -- no value that is Live in the first table is equal to one that is Live in the second
   abbrev pub AreApart : (T → T → Bool) → List (Slot T) → List (Slot T) → Type 0
   AreApart eq ss ts = (p : ℕ) (v : T) (n : ℕ) → slot_at ss p ≡ Live v n → IsAbsent (λ w. eq w v) ts

@@ -1,5 +1,5 @@
 //! Numbers of slots, and the carry from an older table of slots to a newer one.
-ghost use Rattle.std.specs.Prelude.{◌≡◌, ℕ, ◌*◌, ◌<◌, ◌≤◌, ◌^◌, [], drop, length, IfOk, IsErr};
+ghost use Rattle.std.specs.Prelude.{◌≡◌, ℕ, ◌*◌, ◌<◌, ◌≤◌, ◌^◌, [], drop, length, nat_le, IfOk, IsErr};
 ghost use Rattle.hashbag_slots.specs.Hashing.{hash_under};
 ghost use Rattle.hashbag_slots.specs.Slots.{IsSlotCount};
 ghost use Rattle.hashbag_slots.specs.Columns.{IsReached};
@@ -30,6 +30,24 @@ pub fn no_slots<T: Eq + Drop>(alloc: Global) -> Slots<T>
     }
 }
 
+/// How many of so many slots may be Live or Removed: three quarters.
+#[inline(always)]
+pub fn limit(count: usize) -> usize
+    requires { count ≤ 2 ^ 59 }
+    ensures { result ≡ limit count }
+{
+    3 * count / 4
+}
+
+// Whether at most three eighths of so many slots are Live, so that half of their limit is left to a new table of as many.
+fn is_sparse(count: usize, live: usize) -> bool
+    requires count { count ≤ 2 ^ 59 }
+    requires live { live ≤ count }
+    ensures { result ≡ nat_le (8 * live) (3 * count) }
+{
+    8 * live <= 3 * count
+}
+
 /// The number of slots of a new table, after one of `count` slots with `live` values: 16 where there were none, so many again
 /// where at most three eighths are Live, else twice as many. More than 2^59 are refused.
 pub fn grown_slots(count: usize, live: usize) -> Result<usize, AllocError>
@@ -42,7 +60,7 @@ pub fn grown_slots(count: usize, live: usize) -> Result<usize, AllocError>
     if count == 0 {
         return Ok(FIRST_SLOTS);
     }
-    if 8 * live <= 3 * count {
+    if is_sparse(count, live) {
         return Ok(count);
     }
     if count >= MOST_SLOTS {
@@ -58,7 +76,7 @@ pub fn least_slots(from: usize, values: usize) -> Result<usize, AllocError>
     ensures refused { IsErr result → limit (2 ^ 59) < values }
 {
     let mut count = from;
-    while 3 * count / 4 < values {
+    'count: while limit(count) < values {
         if count >= MOST_SLOTS {
             return Err(AllocError);
         }

@@ -2,7 +2,7 @@
 //!
 //! The newer table takes what comes. When it has no room left it becomes the older one, and a new one takes its place. Each value
 //! that comes after that takes the next 16 slots of the older table along, so that no insertion moves all values at once.
-ghost use Rattle.std.specs.Prelude.{◌≡◌, ◌+◌, ◌-◌, ◌*◌, ◌<◌, ◌≤◌, ◌^◌, [], ◌∷◌, length, replicate, true, Some, None, IfOk, IfErr, OnOk, OnErr, IsOk, IsSome, option_map};
+ghost use Rattle.std.specs.Prelude.{◌≡◌, ◌+◌, ◌-◌, ◌*◌, ◌<◌, ◌≤◌, ◌^◌, [], ◌∷◌, length, replicate, true, Some, None, IfOk, IfErr, OnOk, OnErr, IsOk, IsSome};
 ghost use Rattle.std.specs.Borrow.{sem};
 ghost use Rattle.std.specs.List.Sorted.{IsPermutation};
 ghost use Rattle.hashbag_slots.specs.FirstGroup.{IfAbsent};
@@ -20,7 +20,7 @@ mod resize;
 mod spots;
 
 use crate::built::Built;
-use crate::capacity::no_slots;
+use crate::capacity::{MOST_SLOTS, limit, no_slots};
 use crate::retain::retain_slots;
 use crate::walk::{DrainWalk, IntoWalk, Walk};
 use hashbag_slots::slots::{FirstGroup, Slot, Slots};
@@ -30,7 +30,7 @@ use std::marker::Model;
 use std::mem;
 
 /// The most distinct values that a table makes room for when it is asked to, 3 * 2^57.
-pub const MOST_VALUES: usize = 3 << 57;
+pub const MOST_VALUES: usize = MOST_SLOTS / 4 * 3;
 
 const _: () = prove!(MOST_VALUES == 432_345_564_227_567_616);
 
@@ -105,7 +105,7 @@ impl<T: Eq + Hash + Drop, S: BuildHasher + Drop> Table<T, S> {
     pub fn room(&self) -> usize
         ensures { result ≡ room self.now.tables }
     {
-        3 * self.newer.slots() / 4 - self.newer.live() - self.newer.removed() - self.older.live()
+        limit(self.newer.slots()) - self.newer.live() - self.newer.removed() - self.older.live()
     }
 
     /// The number of distinct values.
@@ -140,16 +140,6 @@ impl<T: Eq + Hash + Drop, S: BuildHasher + Drop> Table<T, S> {
         ensures { result ≡ hash_under T.hash_input S.BuildHasher S.Hasher.Hasher self.now.hasher value.now }
     {
         self.hash_key(value)
-    }
-
-    /// The stored instance of a value and its count, or `None` where it is absent. It is hashed once for
-    /// both tables.
-    #[inline(always)]
-    pub fn get(&self, value: &T) -> Option<(&T, usize)>
-        ensures found { option_map (λ e. (e.0.now, e.1)) result ≡ entry_of T.eq value.now self.now.entries }
-        ensures counted { IsCounted T.eq self.now.entries }
-    {
-        self.get_key(value)
     }
 
     // Whether an absent value can be put in with no way made for it: no slot waits, and there is room.

@@ -4,8 +4,8 @@
 ghost use Rattle.std.specs.Prelude.{◌≡◌, ℕ, ◌+◌, ◌<◌, ◌≤◌, ◌^◌, length, slice_set, true, Some, None};
 ghost use Rattle.hashbag_slots.specs.Cells.{cell_at, IsFilled};
 ghost use Rattle.hashbag_slots.specs.Hashing.{hash_under};
-ghost use Rattle.hashbag_slots.specs.Slots.{is_live, live_count, removed_count, slot_at, IsSet, IsAbsent, carried, Carries, AreApart, MovesIn, MovesInAt};
-ghost use Rattle.hashbag_slots.specs.Columns.{columns, slots_of, IsReached, IsColumns};
+ghost use Rattle.hashbag_slots.specs.Slots.{is_live, live_count, slot_at, IsSet, IsAbsent, AreApart};
+ghost use Rattle.hashbag_slots.specs.Columns.{columns, slots_of, IsReached, IsColumns, CarriesInto};
 ghost use Rattle.hashbag_slots.specs.Carry.{MovesOutTags, kept, removed_in, PlacesCell, IsCarry};
 
 use crate::group::{GROUP_WIDTH, match_live, take_lowest};
@@ -133,14 +133,7 @@ impl<T: Eq + Hash> Slots<T> {
         requires apart { AreApart T.eq older.old.slots self.old.slots }
         requires room { live_count self.old.slots + live_count older.old.slots ≤ length self.old.slots }
         requires reached { IsReached (hash_under T.hash_input S.BuildHasher S.Hasher.Hasher state.now) self.old }
-        ensures placed { MovesInAt (hash_under T.hash_input S.BuildHasher S.Hasher.Hasher state.now) at older.old.slots self.old.slots self.new.slots }
-        ensures left { older.new.slots ≡ slice_set older.old.slots at (carried (slot_at older.old.slots at)) }
-        ensures apart { AreApart T.eq older.new.slots self.new.slots }
-        ensures kept { live_count self.new.slots + live_count older.new.slots ≡ live_count self.old.slots + live_count older.old.slots }
-        ensures removed { removed_count self.new.slots ≤ removed_count self.old.slots }
-        ensures slots { length self.new.slots ≡ length self.old.slots }
-        ensures reached { IsReached (hash_under T.hash_input S.BuildHasher S.Hasher.Hasher state.now) self.new }
-        ensures older_reached { (hash : T → ℕ) → IsReached hash older.old → IsReached hash older.new }
+        ensures { CarriesInto T.eq (hash_under T.hash_input S.BuildHasher S.Hasher.Hasher state.now) at 1 self.old older.old self.new older.new }
     {
         if older.is_live_at(at) {
             let (value, n) = older.move_at(at);
@@ -157,14 +150,7 @@ impl<T: Eq + Hash> Slots<T> {
         requires apart { AreApart T.eq older.old.slots self.old.slots }
         requires room { live_count self.old.slots + live_count older.old.slots ≤ length self.old.slots }
         requires reached { IsReached (hash_under T.hash_input S.BuildHasher S.Hasher.Hasher state.now) self.old }
-        ensures placed { MovesIn (hash_under T.hash_input S.BuildHasher S.Hasher.Hasher state.now) from 16 older.old.slots self.old.slots self.new.slots }
-        ensures left { Carries from 16 older.old.slots older.new.slots }
-        ensures apart { AreApart T.eq older.new.slots self.new.slots }
-        ensures kept { live_count self.new.slots + live_count older.new.slots ≡ live_count self.old.slots + live_count older.old.slots }
-        ensures removed { removed_count self.new.slots ≤ removed_count self.old.slots }
-        ensures slots { length self.new.slots ≡ length self.old.slots }
-        ensures reached { IsReached (hash_under T.hash_input S.BuildHasher S.Hasher.Hasher state.now) self.new }
-        ensures older_reached { (hash : T → ℕ) → IsReached hash older.old → IsReached hash older.new }
+        ensures { CarriesInto T.eq (hash_under T.hash_input S.BuildHasher S.Hasher.Hasher state.now) from 16 self.old older.old self.new older.new }
     {
         let mut cells = self.cells.take_row();
         let mut older_cells = older.cells.take_row();
@@ -200,14 +186,7 @@ impl<T: Eq + Hash> Slots<T> {
         requires apart { AreApart T.eq older.old.slots self.old.slots }
         requires room { live_count self.old.slots + live_count older.old.slots ≤ length self.old.slots }
         requires reached { IsReached (hash_under T.hash_input S.BuildHasher S.Hasher.Hasher state.now) self.old }
-        ensures placed { MovesIn (hash_under T.hash_input S.BuildHasher S.Hasher.Hasher state.now) from many older.old.slots self.old.slots self.new.slots }
-        ensures left { Carries from many older.old.slots older.new.slots }
-        ensures apart { AreApart T.eq older.new.slots self.new.slots }
-        ensures kept { live_count self.new.slots + live_count older.new.slots ≡ live_count self.old.slots + live_count older.old.slots }
-        ensures removed { removed_count self.new.slots ≤ removed_count self.old.slots }
-        ensures slots { length self.new.slots ≡ length self.old.slots }
-        ensures reached { IsReached (hash_under T.hash_input S.BuildHasher S.Hasher.Hasher state.now) self.new }
-        ensures older_reached { (hash : T → ℕ) → IsReached hash older.old → IsReached hash older.new }
+        ensures { CarriesInto T.eq (hash_under T.hash_input S.BuildHasher S.Hasher.Hasher state.now) from many self.old older.old self.new older.new }
     {
         // `slots` is called for its clauses: how many slots there can be, and that no value is in two of them.
         let _slots = older.slots();

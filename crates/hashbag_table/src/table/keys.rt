@@ -1,5 +1,5 @@
-//! Calls by keys: by a value that is lent, or by what names it, as a text names a `String`.
-ghost use Rattle.std.specs.Prelude.{◌≡◌, ◌+◌, ◌-◌, ◌<◌, ◌≤◌, ◌^◌, true, None, IfOk, OnOk, OnErr, IsTrue, option_map};
+//! Changes by keys: by a value that is lent, or by what names it, as a text names a `String`.
+ghost use Rattle.std.specs.Prelude.{◌≡◌, ◌+◌, ◌-◌, ◌<◌, ◌≤◌, ◌^◌, true, None, IfOk, OnOk, OnErr, IsTrue};
 ghost use Rattle.hashbag_slots.specs.FirstGroup.{IfAbsent};
 ghost use Rattle.hashbag_slots.specs.Hashing.{hash_under};
 ghost use Rattle.hashbag_slots.specs.Slots.{IsAbsent, recounted};
@@ -9,39 +9,12 @@ ghost use Rattle.hashbag_table.specs.Table.{IsMapOf};
 ghost use Rattle.hashbag_table.specs.Tables.{KeepsRoom, Rewrites};
 
 use crate::key::{Key, ToValue};
-use crate::table::spots::find_waiting;
 use crate::table::{Spot, Table};
-use hashbag_slots::slots::keys::hash_key;
 use hashbag_slots::slots::{FirstGroup, Slot};
 use std::alloc::AllocError;
 use std::hash::{BuildHasher, Hash};
 
 impl<T: Eq + Hash + Drop, S: BuildHasher + Drop> Table<T, S> {
-    // The hash of a key under the table's own state, by which alone the value is found that it names.
-    #[inline(always)]
-    pub(super) fn hash_key<Q: Key<T>>(&self, key: Q) -> u64
-        ensures { result ≡ hash_under Q.hash_input S.BuildHasher S.Hasher.Hasher self.now.hasher key }
-    {
-        hash_key(&self.hasher, key)
-    }
-
-    /// The stored instance of the value that a key names and its count, or `None` where there is none. The key is hashed once for
-    /// both tables.
-    #[inline(always)]
-    pub fn get_key<Q: Key<T>>(&self, key: Q) -> Option<(&T, usize)>
-        ensures found { option_map (λ e. (e.0.now, e.1)) result ≡ named_entry (Q.names key) self.now.entries }
-        ensures counted { IsCounted T.eq self.now.entries }
-    {
-        let hash = self.hash_key(key);
-        if let Some(place) = self.newer.find_key(&self.hasher, hash, key) {
-            return Some(self.newer.live_at(place));
-        }
-        match find_waiting(&self.older, self.looked, &self.hasher, hash, key) {
-            Some(place) => Some(self.older.live_at(place)),
-            None => None,
-        }
-    }
-
     // The slow path of `add_key`, of a value that the first group of its path didn't show.
     #[inline(never)]
     fn add_key_slow<Q: ToValue<T>>(

@@ -1,5 +1,5 @@
-//! Spots: where in the two tables of slots a value is, and what is changed there.
-ghost use Rattle.std.specs.Prelude.{◌≡◌, ◌+◌, ◌-◌, ◌<◌, ◌≤◌, ◌^◌, ℕ, [], ◌∷◌, true, false, length, Some, None, IfSome, IfNone, IfOk, IfErr, OnErr, IsSome, slice_set};
+//! Look-ups: the spot in the two tables of slots where a value is, what is there, and what is changed there.
+ghost use Rattle.std.specs.Prelude.{◌≡◌, ◌+◌, ◌-◌, ◌<◌, ◌≤◌, ◌^◌, ℕ, [], ◌∷◌, true, false, length, Some, None, IfSome, IfNone, IfOk, IfErr, OnErr, IsSome, slice_set, option_map};
 ghost use Rattle.std.specs.List.Sorted.{IsPermutation};
 ghost use Rattle.std.specs.Map.{lookup_entry};
 ghost use Rattle.hashbag_slots.specs.FirstGroup.{IfFound, IfAbsent};
@@ -12,6 +12,7 @@ ghost use Rattle.hashbag_table.specs.Tables.{slot_in, HoldsIn, entry_in, IfEntry
 
 use crate::table::{Spot, Table};
 use hashbag_slots::key::Key;
+use hashbag_slots::slots::keys::hash_key;
 use hashbag_slots::slots::{FirstGroup, Slot, Slots};
 use std::hash::{BuildHasher, Hash};
 
@@ -48,7 +49,7 @@ fn find_waiting_slow<T: Eq + Hash, S: BuildHasher, Q: Key<T>>(
 
 // The place of the value that a key names in the older table, of which so many slots were looked at.
 #[inline(always)]
-pub(super) fn find_waiting<T: Eq + Hash, S: BuildHasher, Q: Key<T>>(
+fn find_waiting<T: Eq + Hash, S: BuildHasher, Q: Key<T>>(
     older: &Slots<T>,
     looked: usize,
     state: &S,
@@ -69,6 +70,41 @@ pub(super) fn find_waiting<T: Eq + Hash, S: BuildHasher, Q: Key<T>>(
 }
 
 impl<T: Eq + Hash + Drop, S: BuildHasher + Drop> Table<T, S> {
+    // The hash of a key under the table's own state, by which alone the value is found that it names.
+    #[inline(always)]
+    pub(super) fn hash_key<Q: Key<T>>(&self, key: Q) -> u64
+        ensures { result ≡ hash_under Q.hash_input S.BuildHasher S.Hasher.Hasher self.now.hasher key }
+    {
+        hash_key(&self.hasher, key)
+    }
+
+    /// The stored instance of the value that a key names and its count, or `None` where there is none. The key is hashed once for
+    /// both tables.
+    #[inline(always)]
+    pub fn get_key<Q: Key<T>>(&self, key: Q) -> Option<(&T, usize)>
+        ensures found { option_map (λ e. (e.0.now, e.1)) result ≡ named_entry (Q.names key) self.now.entries }
+        ensures counted { IsCounted T.eq self.now.entries }
+    {
+        let hash = self.hash_key(key);
+        if let Some(place) = self.newer.find_key(&self.hasher, hash, key) {
+            return Some(self.newer.live_at(place));
+        }
+        match find_waiting(&self.older, self.looked, &self.hasher, hash, key) {
+            Some(place) => Some(self.older.live_at(place)),
+            None => None,
+        }
+    }
+
+    /// The stored instance of a value and its count, or `None` where it is absent. It is hashed once for
+    /// both tables.
+    #[inline(always)]
+    pub fn get(&self, value: &T) -> Option<(&T, usize)>
+        ensures found { option_map (λ e. (e.0.now, e.1)) result ≡ entry_of T.eq value.now self.now.entries }
+        ensures counted { IsCounted T.eq self.now.entries }
+    {
+        self.get_key(value)
+    }
+
     // Where the value is that a key names and the newer table doesn't have. The key's hash is handed in.
     #[inline(always)]
     fn waiting_spot<Q: Key<T>>(&self, hash: u64, key: Q) -> Option<Spot>

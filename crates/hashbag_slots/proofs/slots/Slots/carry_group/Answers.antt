@@ -1,6 +1,8 @@
-use Rattle.std.proofs.Common.{◌++◌, length, take, drop, refl, sym, ap, subst, ◌∙◌, arith}
-use Rattle.hashbag_slots.specs.Slots.{live_count, AreApart}
-use Rattle.hashbag_slots.specs.Columns.{slots_of}
+use Rattle.std.proofs.Common.{◌++◌, length, take, drop, refl, sym, ap, ◌∙◌, arith}
+use Rattle.hashbag_slots.specs.Slots.{live_count, removed_count}
+use Rattle.hashbag_slots.specs.Columns.{columns, slots_of}
+use Rattle.hashbag_slots.specs.Carry.{kept, removed_in}
+use Rattle.hashbag_slots.proofs.CarriedOver.{CarriesInto-cells}
 use Rattle.hashbag_slots.proofs.Reading.{length-slots_of, marked_at}
 use Rattle.hashbag_slots.proofs.Tables.{some_alive}
 use Rattle.hashbag_slots.proofs.Writing.{whole}
@@ -35,21 +37,22 @@ carry_group_cells-live-requires-clause-room g c =
     let older = c.older.invariant.table.live_is ∙ ap (λ s. live_count s.slots) c.older.view_is in
     let room = c.requires.room in omega arith
 
-pub returns-clause-apart : goal.returns-clause-apart
-returns-clause-apart g c =
-    let eq = g.T.PartialEq.eq in let new = c.carry_group_cells-live.new in let all = c.carry_group_cells-live.ensures in
+pub returns : goal.returns
+returns g c =
+    let new = c.carry_group_cells-live.new in let all = c.carry_group_cells-live.ensures in
     let ts = c.self.inside.tags.items in let us = c.older.inside.tags.items in
     let k = c.self.inside.tags.ok.0 in let j = c.older.inside.tags.ok.0 in
-    let tags = ap (λ m. take m (new.tags ++ drop (length new.tags) ts)) k ∙ whole new.tags ts (length ts) (all.same_length ∙ ap length c.as_mut_slice.ensures.value) refl in
-    let older = ap (λ m. take m (new.older_tags ++ drop (length new.older_tags) us)) j ∙ whole new.older_tags us (length us) (all.tags.same_length ∙ ap length c.as_mut_slice-2.ensures.value) refl in
-    subst (λ cs. AreApart eq (slots_of (take c.older.inside.tags.len (new.older_tags ++ drop (length new.older_tags) us)) c.put_back-2.new.self) (slots_of (take c.self.inside.tags.len (new.tags ++ drop (length new.tags) ts)) cs)) (sym c.put_back.ensures)
-    (subst (λ cs. AreApart eq (slots_of (take c.older.inside.tags.len (new.older_tags ++ drop (length new.older_tags) us)) cs) (slots_of (take c.self.inside.tags.len (new.tags ++ drop (length new.tags) ts)) new.cells)) (sym c.put_back-2.ensures)
-    (subst (λ xs. AreApart eq (slots_of xs new.older_cells) (slots_of (take c.self.inside.tags.len (new.tags ++ drop (length new.tags) ts)) new.cells)) (sym older)
-    (subst (λ xs. AreApart eq (slots_of new.older_tags new.older_cells) (slots_of xs new.cells)) (sym tags) all.apart)))
-
-pub returns-clause-slots : goal.returns-clause-slots
-returns-clause-slots g c =
-    let new = c.carry_group_cells-live.new in let all = c.carry_group_cells-live.ensures in let ts = c.self.inside.tags.items in let k = c.self.inside.tags.ok.0 in
-    let tags = ap (λ m. take m (new.tags ++ drop (length new.tags) ts)) k ∙ whole new.tags ts (length ts) (all.same_length ∙ ap length c.as_mut_slice.ensures.value) refl in
-    ap (λ cs. length (slots_of (take c.self.inside.tags.len (new.tags ++ drop (length new.tags) ts)) cs)) c.put_back.ensures ∙ ap (λ xs. length (slots_of xs new.cells)) tags ∙ length-slots_of new.tags new.cells all.stays.agree.same_length ∙ all.same_length ∙ ap length c.as_mut_slice.ensures.value
-    ∙ sym (length-slots_of ts c.self.inside.cells c.self.invariant.agree.same_length) ∙ ap (λ s. length s.slots) c.self.view_is
+    let seen = c.as_mut_slice.ensures.value in let older_seen = c.as_mut_slice-2.ensures.value in
+    let tags = ap (λ m. take m (new.tags ++ drop (length new.tags) ts)) k ∙ whole new.tags ts (length ts) (all.same_length ∙ ap length seen) refl in
+    let older = ap (λ m. take m (new.older_tags ++ drop (length new.older_tags) us)) j ∙ whole new.older_tags us (length us) (all.tags.same_length ∙ ap length older_seen) refl in
+    let gone = removed_in c.as_mut_slice-2.result.now c.take_row-older_cells.result in
+    CarriesInto-cells g.T.PartialEq.eq _ c.args.from 16
+    (kept c.as_mut_slice.result.now c.take_row-cells.result c.self.inside.live c.self.inside.removed) (kept c.as_mut_slice-2.result.now c.take_row-older_cells.result c.older.inside.live gone)
+    (kept new.tags new.cells c.carry_group_cells-live.result.0 new.removed) (kept new.older_tags new.older_cells c.carry_group_cells-live.result.1 gone)
+    c.args.self.now c.args.older.now _ _
+    ((λ i. columns (seen i) (c.take_row-cells.ensures.value i)) ∙ c.self.view_is) ((λ i. columns (older_seen i) (c.take_row-older_cells.ensures.value i)) ∙ c.older.view_is)
+    (λ i. columns (sym tags i) (sym c.put_back.ensures i)) (λ i. columns (sym older i) (sym c.put_back-2.ensures i))
+    (c.self.invariant.table.live_is ∙ ap (λ s. live_count s.slots) c.self.view_is) (c.older.invariant.table.live_is ∙ ap (λ s. live_count s.slots) c.older.view_is)
+    (c.self.invariant.table.removed_is ∙ ap (λ s. removed_count s.slots) c.self.view_is)
+    (ap length seen ∙ sym (length-slots_of ts c.self.inside.cells c.self.invariant.agree.same_length) ∙ ap (λ s. length s.slots) c.self.view_is)
+    all

@@ -1,24 +1,52 @@
-use Rattle.std.proofs.Common.{ℕ, [], ◌∷◌, length, refl, sym, subst, arith}
+use Rattle.std.proofs.Common.{ℕ, ◌≡◌, false, [], ◌∷◌, length, slice_set, refl, sym, ap, subst, ◌∙◌, arith}
+use Rattle.std.proofs.lemmas.List.{set-get_or}
 use Rattle.hashbag_slots.specs.Hashing.{hash_under}
-use Rattle.hashbag_slots.specs.Slots.{entries, PlacesAll, AreApart}
-use Rattle.hashbag_slots.proofs.Carrying.{AreApart-carry}
+use Rattle.hashbag_slots.specs.declared.slots.Slot.TheVariants.{Empty, Moved}
+use Rattle.hashbag_slots.specs.Slots.{is_live, live_count, slot_at, carried, entries, PlacesAll, AreApart}
+use Rattle.hashbag_slots.proofs.Carrying.{AreApart-carry, Carries-one, entries_in_one, carried_same, no_entries, length-Places, live-Places, removed-Places}
+use Rattle.hashbag_slots.proofs.Edits.{count-set}
 use Rattle.hashbag_slots.proofs.Paths.{path_below}
 use Rattle.hashbag_slots.proofs.slots.Slots.carry_slot.Goals as goal
 
 pub place-requires-clause-absent : goal.place-requires-clause-absent
 place-requires-clause-absent g c = c.requires.apart c.args.at _ _ c.move_at-value.ensures.taken
 
-pub returns-then-is_live_at-clause-placed : goal.returns-then-is_live_at-clause-placed
-returns-then-is_live_at-clause-placed g c =
+pub returns-then-is_live_at : goal.returns-then-is_live_at
+returns-then-is_live_at g c =
     let hash : g.row.T.Denot → ℕ = hash_under g.T.Hash.hash_input g.S.BuildHasher g.S.Hasher.Hasher c.args.state.now in
+    let at = c.args.at in let older = c.args.older.now.slots in let left = c.move_at-value.new.self.slots in
     let old = c.args.self.now.slots in let new = c.place.new.self.slots in
-    let to = c.place.ensures.first in let first = to.1 in
-    let step = first.within in let on = first.on_path in
+    let taken = c.move_at-value.ensures.taken in let after = c.move_at-value.ensures.after in
+    let put = c.place.ensures.placed in let to = c.place.ensures.first in let first = to.1 in let step = first.within in let on = first.on_path in
     let below = path_below (length old) (hash c.move_at-value.result.0) first.step (omega (arith, step)) in
-    subst (λ s. PlacesAll hash (entries (s ∷ [])) old new) (sym c.move_at-value.ensures.taken)
-    (new, record { places = record { at = to.0; within = omega (arith, below, on); free = first.free; after = to.2 }; first = first }, refl)
+    record {
+      placed = subst (λ es. PlacesAll hash es old new) (sym (entries_in_one at older c.requires.within ∙ ap (λ s. entries (s ∷ [])) taken))
+          (new, record { places = record { at = to.0; within = omega (arith, below, on); free = first.free; after = to.2 }; first = first }, refl);
+      left = Carries-one at older left c.requires.within (after ∙ sym (ap (λ s. slice_set older at (carried s)) taken));
+      apart = subst (λ ss. AreApart g.T.PartialEq.eq ss new) (sym after)
+          (AreApart-carry g.T.PartialEq.eq older old new at _ _ c.is_live_at.ensures.distinct c.requires.apart c.requires.within taken put);
+      kept =
+          let one = live-Places _ _ old new put in
+          let less = rw taken at (count-set older at Moved c.requires.within is_live) in
+          let seen = ap live_count after in omega (arith, one, less, seen);
+      removed = removed-Places _ _ old new put;
+      slots = length-Places _ _ old new put;
+      reached = c.place.ensures.reached;
+      older_reached = c.move_at-value.ensures.reached;
+    }
 
-pub returns-then-is_live_at-clause-apart : goal.returns-then-is_live_at-clause-apart
-returns-then-is_live_at-clause-apart g c =
-    subst (λ ss. AreApart g.T.PartialEq.eq ss c.place.new.self.slots) (sym c.move_at-value.ensures.after)
-    (AreApart-carry g.T.PartialEq.eq c.args.older.now.slots c.args.self.now.slots c.place.new.self.slots c.args.at _ _ c.is_live_at.ensures.distinct c.requires.apart c.requires.within c.move_at-value.ensures.taken c.place.ensures.placed)
+pub returns-else-is_live_at : goal.returns-else-is_live_at
+returns-else-is_live_at g c =
+    let hash : g.row.T.Denot → ℕ = hash_under g.T.Hash.hash_input g.S.BuildHasher g.S.Hasher.Hasher c.args.state.now in
+    let at = c.args.at in let older = c.args.older.now.slots in let old = c.args.self.now.slots in
+    let dead : is_live (slot_at older at) ≡ false = sym c.is_live_at.ensures.live ∙ c.if-is_live_at.false in
+    record {
+      placed = subst (λ es. PlacesAll hash es old old) (sym (entries_in_one at older c.requires.within ∙ no_entries (slot_at older at) dead)) refl;
+      left = Carries-one at older older c.requires.within (sym (ap (slice_set older at) (carried_same (slot_at older at) dead) ∙ set-get_or older at Empty));
+      apart = c.requires.apart;
+      kept = refl;
+      removed = omega arith;
+      slots = refl;
+      reached = c.requires.reached;
+      older_reached = λ h r. r;
+    }

@@ -1,6 +1,6 @@
-use Rattle.std.proofs.Common.{◌≡◌, ◌-◌, ◌*◌, ◌/◌, arith, ap, ◌∙◌, length, drop}
-use Rattle.hashbag_table.specs.Tables.{limit}
-use Rattle.hashbag_table.specs.Tables.{room, room_of}
+use Rattle.std.proofs.Common.{◌≡◌, ◌-◌, arith, ap, ◌∙◌, length, drop}
+use Rattle.hashbag_slots.proofs.Paths.{count_bound}
+use Rattle.hashbag_table.specs.Tables.{limit, room, room_of}
 use Rattle.hashbag_table.proofs.SlotLemmas.{live-drop}
 use Rattle.hashbag_table.proofs.table.Table.room.Goals as goal
 
@@ -8,12 +8,14 @@ pub overflow_sub-result-3 : goal.overflow_sub-result-3
 overflow_sub-result-3 g c =
     let t = c.self.invariant.tables in
     let l = live-drop c.self.inside.older.slots c.self.inside.looked t.looked_within t.looked_dead in
-    let s = c.slots.ensures.value in let a = c.live.ensures in let b = c.removed.ensures in let d = c.live-2.ensures in let f : 3 * c.slots.result / 4 ≡ limit (length c.self.inside.newer.slots) = ap limit s in let h = t.fits in omega (arith, l, a, b, d, f, h)
+    let a = c.live.ensures in let b = c.removed.ensures in let d = c.live-2.ensures in
+    let f : c.limit.result ≡ limit (length c.self.inside.newer.slots) = c.limit.ensures ∙ ap limit c.slots.ensures.value in let h = t.fits in omega (arith, l, a, b, d, f, h)
 
 pub returns : goal.returns
 returns g c =
     let t = c.self.invariant.tables in
     let l = live-drop c.self.inside.older.slots c.self.inside.looked t.looked_within t.looked_dead in
-    let e : 3 * c.slots.result / 4 - c.live.result - c.removed.result - c.live-2.result ≡ room_of c.self.inside.newer.slots (drop c.self.inside.looked c.self.inside.older.slots)
-    = let s = c.slots.ensures.value in let a = c.live.ensures in let b = c.removed.ensures in let d = c.live-2.ensures in let f : 3 * c.slots.result / 4 ≡ limit (length c.self.inside.newer.slots) = ap limit s in omega (arith, l, s, a, b, d, f) in
+    let e : c.limit.result - c.live.result - c.removed.result - c.live-2.result ≡ room_of c.self.inside.newer.slots (drop c.self.inside.looked c.self.inside.older.slots)
+    = let a = c.live.ensures in let b = c.removed.ensures in let d = c.live-2.ensures in
+      let f : c.limit.result ≡ limit (length c.self.inside.newer.slots) = c.limit.ensures ∙ ap limit c.slots.ensures.value in omega (arith, l, a, b, d, f) in
     e ∙ ap (λ t. room t.tables) c.self.view_is
