@@ -2,8 +2,11 @@
 use clap::error::ErrorKind;
 use clap::{Arg, ArgAction, ArgMatches, Command, Error};
 use hashbag_ledger_core::reading::{ChangeColumns, Columns};
-use hashbag_lists::trouble::{BAD_INPUT, IO_FAILED, NO_MEMORY};
+use hashbag_lists::trouble::{BAD_INPUT, IO_FAILED, Trouble};
 use std::alloc::{AllocError, Global};
+
+/// The name of the program, with which its lines on standard error begin.
+pub const PROGRAM: &str = "hashbag_ledger";
 
 /// What is asked for.
 #[derive(Drop)]
@@ -59,9 +62,7 @@ fn command<'a>(alloc: Global) -> Result<Command<'a>, AllocError> {
         .num_args(0..)
         .action(ArgAction::Append)
         .help("Movements, in the order of the files and of their lines");
-    let command = Command::new(alloc, "hashbag_ledger")
-        .about(ABOUT)
-        .after_help(AFTER);
+    let command = Command::new(alloc, PROGRAM).about(ABOUT).after_help(AFTER);
     with_options(alloc, command)?.arg(moves)
 }
 
@@ -103,16 +104,10 @@ fn request_of<'a>(
     })
 }
 
-// Says that memory was refused.
-fn no_memory<R: Eprint>(rt: &R) -> u8 {
-    let _ = eprintln!(rt; "hashbag_ledger: no memory");
-    NO_MEMORY
-}
-
 // Says why the words ask for nothing, or gives the help, and answers the status.
 fn said<R: Print + Eprint>(rt: &R, error: &Error) -> u8 {
     if error.kind() == ErrorKind::OutOfMemory {
-        return no_memory(rt);
+        return Trouble::Memory.report(rt, PROGRAM);
     }
     if error.print(rt).is_err() {
         return IO_FAILED;
@@ -126,7 +121,7 @@ pub fn parse<'a, R: Print + Eprint + AllocGlobal>(
     words: &'a [String],
 ) -> Result<Request<'a>, u8> {
     let Ok(command) = command(rt.alloc()) else {
-        return Err(no_memory(rt));
+        return Err(Trouble::Memory.report(rt, PROGRAM));
     };
     let matches = match command.try_get_matches_from(words) {
         Ok(matches) => matches,
@@ -134,8 +129,8 @@ pub fn parse<'a, R: Print + Eprint + AllocGlobal>(
     };
     let names = matches.get_str("columns").unwrap_or("article,change");
     let Some(columns) = columns_of(names) else {
-        let _ = eprintln!(rt; "hashbag_ledger: --columns takes two or three names: {names}");
+        let _ = eprintln!(rt; "{PROGRAM}: --columns takes two or three names: {names}");
         return Err(BAD_INPUT);
     };
-    request_of(rt.alloc(), &matches, columns).map_err(|_| no_memory(rt))
+    request_of(rt.alloc(), &matches, columns).map_err(|_| Trouble::Memory.report(rt, PROGRAM))
 }

@@ -3,7 +3,7 @@
 
 mod arguments;
 
-use crate::arguments::{Request, parse};
+use crate::arguments::{PROGRAM, Request, parse};
 use hashbag_ledger_core::entering::LedgerError;
 use hashbag_ledger_core::movements::Movement;
 use hashbag_ledger_core::output::{balance_text, refusals_text};
@@ -120,18 +120,10 @@ fn answer<'a>(rt: &HostRuntime, request: &Request<'a>) -> Result<u8, Trouble<'a>
     }
 }
 
-// Says what the trouble is, and answers its status.
-fn fail(rt: &HostRuntime, trouble: &Trouble<'_>) -> u8 {
-    if trouble.is_said() {
-        let _ = eprintln!(rt; "hashbag_ledger: {trouble}");
-    }
-    trouble.status()
-}
-
 fn run(rt: &HostRuntime) -> u8 {
     let words = match arguments(rt) {
         Ok(words) => words,
-        Err(trouble) => return fail(rt, &trouble),
+        Err(trouble) => return trouble.report(rt, PROGRAM),
     };
     let request = match parse(rt, words.as_slice()) {
         Ok(request) => request,
@@ -139,7 +131,7 @@ fn run(rt: &HostRuntime) -> u8 {
     };
     match answer(rt, &request) {
         Ok(status) => status,
-        Err(trouble) => fail(rt, &trouble),
+        Err(trouble) => trouble.report(rt, PROGRAM),
     }
 }
 

@@ -72,6 +72,16 @@ impl Trouble<'_> {
             Trouble::Read { .. } | Trouble::Write(_) => IO_FAILED,
         }
     }
+
+    /// Writes it to standard error in a line that begins with the program's name, where it is said, and answers the exit status.
+    pub fn report<R: Eprint>(&self, rt: &R, program: &str) -> u8
+        ensures { (result ≡ BAD_INPUT) ⊎ ((result ≡ NO_MEMORY) ⊎ (result ≡ IO_FAILED)) }
+    {
+        if self.is_said() {
+            let _ = eprintln!(rt; "{program}: {self}");
+        }
+        self.status()
+    }
 }
 
 impl From<AllocError> for Trouble<'_> {

@@ -1,9 +1,12 @@
 //! The command line.
 use clap::error::ErrorKind;
 use clap::{Arg, ArgMatches, Command, Error};
-use hashbag_lists::trouble::{BAD_INPUT, IO_FAILED, NO_MEMORY};
+use hashbag_lists::trouble::{BAD_INPUT, IO_FAILED, Trouble};
 use hashbag_match_core::output::{Form, Only};
 use std::alloc::{AllocError, Global};
+
+/// The name of the program, with which its lines on standard error begin.
+pub const PROGRAM: &str = "hashbag_match";
 
 /// What is asked for.
 #[derive(Clone, Copy)]
@@ -72,9 +75,7 @@ fn command<'a>(alloc: Global) -> Result<Command<'a>, AllocError> {
     let delivered = Arg::new(alloc, "DELIVERED.csv")
         .required(true)
         .help("What was delivered");
-    let command = Command::new(alloc, "hashbag_match")
-        .about(ABOUT)
-        .after_help(AFTER);
+    let command = Command::new(alloc, PROGRAM).about(ABOUT).after_help(AFTER);
     with_options(alloc, command)?.arg(ordered)?.arg(delivered)
 }
 
@@ -102,8 +103,7 @@ fn request_of<'a>(matches: &ArgMatches<'a>) -> Request<'a> {
 // Says why the words ask for nothing, or gives the help, and answers the status.
 fn said<R: Print + Eprint>(rt: &R, error: &Error) -> u8 {
     if error.kind() == ErrorKind::OutOfMemory {
-        let _ = eprintln!(rt; "hashbag_match: no memory");
-        return NO_MEMORY;
+        return Trouble::Memory.report(rt, PROGRAM);
     }
     if error.print(rt).is_err() {
         return IO_FAILED;
@@ -117,8 +117,7 @@ pub fn parse<'a, R: Print + Eprint + AllocGlobal>(
     words: &'a [String],
 ) -> Result<Request<'a>, u8> {
     let Ok(command) = command(rt.alloc()) else {
-        let _ = eprintln!(rt; "hashbag_match: no memory");
-        return Err(NO_MEMORY);
+        return Err(Trouble::Memory.report(rt, PROGRAM));
     };
     let request = match command.try_get_matches_from(words) {
         Ok(matches) => request_of(&matches),

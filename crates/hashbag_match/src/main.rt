@@ -3,7 +3,7 @@
 
 mod arguments;
 
-use crate::arguments::{Request, parse};
+use crate::arguments::{PROGRAM, Request, parse};
 use hashbag::BagError;
 use hashbag_lists::counts::read_counts;
 use hashbag_lists::files::{arguments, in_file, read_file, write_text};
@@ -57,18 +57,10 @@ fn answer<'a>(rt: &HostRuntime, request: &Request<'a>) -> Result<u8, Trouble<'a>
     Ok(status)
 }
 
-// Says what the trouble is, and answers its status.
-fn fail(rt: &HostRuntime, trouble: &Trouble<'_>) -> u8 {
-    if trouble.is_said() {
-        let _ = eprintln!(rt; "hashbag_match: {trouble}");
-    }
-    trouble.status()
-}
-
 fn run(rt: &HostRuntime) -> u8 {
     let words = match arguments(rt) {
         Ok(words) => words,
-        Err(trouble) => return fail(rt, &trouble),
+        Err(trouble) => return trouble.report(rt, PROGRAM),
     };
     let request = match parse(rt, words.as_slice()) {
         Ok(request) => request,
@@ -76,7 +68,7 @@ fn run(rt: &HostRuntime) -> u8 {
     };
     match answer(rt, &request) {
         Ok(status) => status,
-        Err(trouble) => fail(rt, &trouble),
+        Err(trouble) => trouble.report(rt, PROGRAM),
     }
 }
 

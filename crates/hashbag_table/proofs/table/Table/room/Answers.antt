@@ -1,5 +1,4 @@
 use Rattle.std.proofs.Common.{◌≡◌, ◌-◌, arith, ap, ◌∙◌, length, drop}
-use Rattle.hashbag_slots.proofs.Paths.{count_bound}
 use Rattle.hashbag_table.specs.Tables.{limit, room, room_of}
 use Rattle.hashbag_table.proofs.SlotLemmas.{live-drop}
 use Rattle.hashbag_table.proofs.table.Table.room.Goals as goal
@@ -17,5 +16,5 @@ returns g c =
     let l = live-drop c.self.inside.older.slots c.self.inside.looked t.looked_within t.looked_dead in
     let e : c.limit.result - c.live.result - c.removed.result - c.live-2.result ≡ room_of c.self.inside.newer.slots (drop c.self.inside.looked c.self.inside.older.slots)
     = let a = c.live.ensures in let b = c.removed.ensures in let d = c.live-2.ensures in
-      let f : c.limit.result ≡ limit (length c.self.inside.newer.slots) = c.limit.ensures ∙ ap limit c.slots.ensures.value in omega (arith, l, a, b, d, f) in
+    let f : c.limit.result ≡ limit (length c.self.inside.newer.slots) = c.limit.ensures ∙ ap limit c.slots.ensures.value in omega (arith, l, a, b, d, f) in
     e ∙ ap (λ t. room t.tables) c.self.view_is
