@@ -157,8 +157,8 @@ module _ {T : Type 0} (eq : T → T → Bool) where
   abbrev pub IfRoomy : {S : Type 0} → Bag T S → List (Step T) → Type 0 → Type 0
   IfRoomy bag steps P = (X : List T) → Means bag X → IsRoomy bag.most X steps bag.tables → P
 
-  -- What a run from no slots leaves. With no `Reserve` the slots are bounded by the most distinct values that there were. The older
-  -- table is smaller than the newer one. With no `ShrinkToFit` either, the values that came pay for the slots of all tables made.
+  -- What a run from no slots leaves. With no `Reserve` the slots are bounded by the most distinct values that there were. Fewer slots
+  -- wait than the newer table has. With no `ShrinkToFit` either, the values that came pay for the slots of all tables made.
   pub record IsBounded (most : ℕ) (steps : List (Step T)) (old new : Tables T) : Type 0 where
     pub slots : list_any is_reserve steps ≡ false → 3 * length new.newer ≤ max 48 (16 * peak most [] steps)
     pub smaller : 0 < length new.waiting → length new.waiting + 16 ≤ length new.newer

@@ -42,11 +42,16 @@ pub enum Failure<'a> {
         name: &'a str,
         error: JsonError,
     },
-    /// The counts would add up to more than 2^64-1.
+    /// The counts would add up to more than 2^64-1 with a line.
     #[error("{name}:{line}: total past 2^64-1")]
     TooMany {
         name: &'a str,
         line: u64,
+    },
+    /// So with a JSON text, which has no lines.
+    #[error("{name}: total past 2^64-1")]
+    TooManyInAll {
+        name: &'a str,
     },
     /// Memory was refused while an input was read.
     #[error("{name}: no memory after {line} lines")]
@@ -57,7 +62,7 @@ pub enum Failure<'a> {
     /// Memory was refused elsewhere.
     #[error("no memory")]
     NoMemoryLeft,
-    /// A file can't be opened, made, read or written.
+    /// A file can't be opened, made, read or written, or it is to be JSON and isn't UTF-8.
     #[error("{name}: {error}")]
     File {
         name: &'a str,
@@ -66,9 +71,20 @@ pub enum Failure<'a> {
     /// The pattern isn't one.
     #[error("--pattern: {0}")]
     Pattern(regex::Error),
+    /// An argument isn't UTF-8.
+    #[error("an argument is not UTF-8")]
+    NotText,
 }
 
 impl<'a> Failure<'a> {
+    // The total would be too large with that line, or, where no lines are counted, with the whole input.
+    fn too_many(name: &'a str, line: u64) -> Failure<'a> {
+        match line {
+            0 => Failure::TooManyInAll { name },
+            _ => Failure::TooMany { name, line },
+        }
+    }
+
     /// The failure of an input of that name, after so many of its lines.
     pub fn of_input(name: &'a str, line: u64, fault: Fault) -> Failure<'a> {
         match fault {
@@ -76,13 +92,13 @@ impl<'a> Failure<'a> {
             Fault::Text(error) if error.is_memory() => Failure::NoMemory { name, line },
             Fault::Text(error) => Failure::Text { name, error },
             Fault::Tree(JsonError::Memory) => Failure::NoMemory { name, line },
-            Fault::Tree(JsonError::TooMany(_)) => Failure::TooMany { name, line },
+            Fault::Tree(JsonError::TooMany(_)) => Failure::too_many(name, line),
             Fault::Tree(error) => Failure::Tree { name, error },
             Fault::Bag(BagError::Memory) => Failure::NoMemory {
                 name,
                 line: line.saturating_sub(1),
             },
-            Fault::Bag(_) => Failure::TooMany { name, line },
+            Fault::Bag(_) => Failure::too_many(name, line),
             Fault::Read(error) => Failure::of_file(name, error),
         }
     }
@@ -99,10 +115,11 @@ impl<'a> Failure<'a> {
     fn status(&self) -> u8 {
         match self {
             Failure::Line { .. } | Failure::Text { .. } | Failure::Tree { .. } => BAD,
-            Failure::Pattern(_) => BAD,
+            Failure::Pattern(_) | Failure::NotText => BAD,
             Failure::NoMemory { .. } | Failure::NoMemoryLeft => NO_MEMORY,
+            Failure::File { error, .. } if error.kind() == io::ErrorKind::InvalidData => BAD,
             Failure::File { .. } => IO_FAILED,
-            Failure::TooMany { .. } => TOO_MANY,
+            Failure::TooMany { .. } | Failure::TooManyInAll { .. } => TOO_MANY,
         }
     }
 

@@ -9,10 +9,11 @@ mod output;
 mod progress;
 mod settings;
 
-use failure::{BAD, IO_FAILED, NO_MEMORY};
+use failure::{BAD, Failure, IO_FAILED, NO_MEMORY};
 use settings::Settings;
 use std::alloc::{AllocError, Global};
 use std::env;
+use std::io::ErrorKind;
 use std::process::ExitCode;
 
 // The words of the command line. Where they name no job it is `count`, so that `hashbag_words FILE` counts.
@@ -54,19 +55,29 @@ fn obey(rt: &HostRuntime, words: &Vec<&str>) -> Result<u8, clap::Error> {
     }
 }
 
-fn main(rt: HostRuntime) -> ExitCode {
-    let alloc = rt.alloc();
-    let Ok(args) = env::args(&rt) else {
-        return ExitCode::from(NO_MEMORY);
-    };
-    let Ok(given) = args.collect::<Vec<String>>(alloc) else {
-        return ExitCode::from(NO_MEMORY);
-    };
-    let Ok(words) = words_of(alloc, &given) else {
-        return ExitCode::from(NO_MEMORY);
-    };
-    match obey(&rt, &words) {
-        Ok(status) => ExitCode::from(status),
-        Err(error) => ExitCode::from(explain(&rt, &error)),
+// The arguments of the program, its own name first.
+fn arguments<'a>(rt: &HostRuntime) -> Result<Vec<String>, Failure<'a>> {
+    match env::args(rt) {
+        Ok(words) => Ok(words.collect(rt.alloc())?),
+        Err(error) if error.kind() == ErrorKind::OutOfMemory => Err(Failure::NoMemoryLeft),
+        Err(_) => Err(Failure::NotText),
     }
+}
+
+fn run(rt: &HostRuntime) -> u8 {
+    let given = match arguments(rt) {
+        Ok(given) => given,
+        Err(failure) => return failure.report(rt),
+    };
+    let Ok(words) = words_of(rt.alloc(), &given) else {
+        return Failure::NoMemoryLeft.report(rt);
+    };
+    match obey(rt, &words) {
+        Ok(status) => status,
+        Err(error) => explain(rt, &error),
+    }
+}
+
+fn main(rt: HostRuntime) -> ExitCode {
+    ExitCode::from(run(&rt))
 }

@@ -38,10 +38,11 @@ const COUNTS: [(&str, &str, &str); 9] = [
 
 // A file of counts, whether bad lines are skipped, and what adding it up gives: the counts, or the number of the line and what is
 // wrong with it.
-const MERGES: [(&[u8], bool, &str); 13] = [
+const MERGES: [(&[u8], bool, &str); 14] = [
     (b"a\t2\nb\t1\r\na\t3", false, "a\t5\nb\t1\n"),
     (b"\\t\\n\\r\\\\\t007\n", false, "\\t\\n\\r\\\\\t7\n"),
     (b"a\t0\n\t2\n", false, "\t2\n"),
+    (b"a\t+2\na\t1\n", false, "a\t3\n"),
     (b"a\t1\n\nb\t1\n", false, "2: no tab"),
     (b"a\t1\nb 1\n", false, "2: no tab"),
     (b"a\tb\t1\n", false, "1: no count"),
