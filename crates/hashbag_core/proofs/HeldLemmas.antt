@@ -8,11 +8,11 @@ use Rattle.hashbag_slots.specs.declared.slots.Slot.TheVariants.{Empty, Removed}
 use Rattle.hashbag_slots.specs.Slots.{recounted, live_count}
 use Rattle.hashbag_table.specs.Table.{Table}
 use Rattle.hashbag_table.specs.Entries.{entry_of, IsCounted}
-use Rattle.hashbag_table.specs.Tables.{Tables, limit, room, IsLeast, IsPacked, KeepsRoom, Writes, Rewrites, slot_in}
+use Rattle.hashbag_table.specs.Tables.{Tables, limit, room, entries_of, IsLeast, IsPacked, KeepsRoom, Writes, Rewrites, slot_in}
 use Rattle.hashbag_table.proofs.CarryLemmas.{live_fresh, live_empty, removed_empty}
 use Rattle.hashbag_core.specs.Bag.{Bag, occurrences}
 use Rattle.hashbag_core.specs.Occurrences.{count}
-use Rattle.hashbag_core.specs.Held.{no_slots, cleared, left_in, Recounts}
+use Rattle.hashbag_core.specs.Held.{no_slots, cleared, left_in, AreHeld, Recounts}
 use Rattle.hashbag_core.proofs.OccurrenceLemmas.{count_occurrences, absent_from_count, present_from_count}
 use Rattle.hashbag_core.proofs.WalkLemmas.{length_occurrences, length_le_total}
 
@@ -73,6 +73,10 @@ module _ {T : Type 0} where
       record { slots = length-replicate (length t.newer) empty; room = omega (arith, live, removed, long); built = refl }
 
 module _ {T : Type 0} (eq : T → T → Bool) where
+  -- a map of counts that is the Live slots
+  pub held_by : (es : List (T × ℕ)) (t : Tables T) → es ≡ entries_of t.newer t.waiting → IsCounted eq es → AreHeld eq (occurrences es) t
+  held_by es t are counted = record { entries = ap occurrences are; counted = subst (λ fs. IsCounted eq fs) are counted }
+
   -- some of a value are left, or none
   pub recounts_some : (v : T) (n : ℕ) (old new : Tables T) → 0 < n → Rewrites (λ w. eq w v) (recounted n) old new → Recounts eq v n old new
   recounts_some v n old new some r = rewrites_by (λ w. eq w v) (recounted n) (left_in n) old new (λ s. left_some n s some) r

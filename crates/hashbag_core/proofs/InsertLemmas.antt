@@ -146,6 +146,7 @@ module _ {T S : Type 0} {eq : T → T → Bool} (laws : IsEquivalence eq) where
     slot = λ some _. absurd (omega (arith, some));
     less_room = λ _. keeps_same 1 bag.tables;
     same_room = λ _. keeps_same 0 bag.tables;
+    held = λ some. absurd (omega (arith, some));
   })
 
   -- ---- what they make of the occurrences

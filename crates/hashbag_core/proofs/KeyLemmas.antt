@@ -14,6 +14,7 @@ use Rattle.hashbag_table.proofs.EntryLemmas.{lookup_key-entry}
 use Rattle.hashbag_table.proofs.KeyLemmas.{named_is, named_absent}
 use Rattle.hashbag_table.proofs.ListLemmas.{filter-replicate, find-filter}
 use Rattle.hashbag_core.specs.Bag.{Bag, occurrences, IsTallied}
+use Rattle.hashbag_core.specs.Held.{AreHeld}
 use Rattle.hashbag_core.specs.Inserts.{Inserts}
 use Rattle.hashbag_core.specs.Keys.{count_named, stored_named}
 use Rattle.hashbag_core.specs.Occurrences.{less}
@@ -87,8 +88,8 @@ module _ {T : Type 0} {eq : T → T → Bool} (laws : IsEquivalence eq) (names :
 
 -- what an addition to the table of a bag leaves of the bag
 pub inserts_added : {T S : Type 0} {eq : T → T → Bool} (laws : IsEquivalence eq) {most : ℕ} (v : T) (n total : ℕ) (before after : Table T S)
-    → 0 < n → IsTallied eq before.entries total most → IsTallied eq after.entries (total + n) most → Adds eq v n before after → Inserts eq v n (shown most before) (shown most after)
-inserts_added {eq = eq} laws v n total before after some was now adds =
+    → 0 < n → IsTallied eq before.entries total most → IsTallied eq after.entries (total + n) most → Adds eq v n before after → AreHeld eq (occurrences after.entries) after.tables → Inserts eq v n (shown most before) (shown most after)
+inserts_added {eq = eq} laws v n total before after some was now adds holds =
     let same = count_occurrences laws v before.entries was.counted.distinct in
     record {
       added = record { means = add_occurrences laws v n _ _ was.counted adds.added.means; hasher = adds.added.hasher; limit = refl; bag = bag_from_tally laws _ _ now };
@@ -101,4 +102,5 @@ inserts_added {eq = eq} laws v n total before after some was now adds =
       slot = λ _ there. rw same (recounts_some eq v _ _ _ (omega (arith, some)) (adds.slot (present_in_table laws v _ was.counted there)));
       less_room = adds.room;
       same_room = λ there. adds.same_room (omega (arith, same, there));
+      held = λ _. holds;
     }

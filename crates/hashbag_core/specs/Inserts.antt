@@ -8,7 +8,7 @@ use Rattle.hashbag_core.specs.declared.bag.BagError.{BagError}
 use Rattle.hashbag_core.specs.declared.bag.BagError.TheVariants.{Memory}
 use Rattle.hashbag_core.specs.Bag.{Bag, IsBagOf, limited}
 use Rattle.hashbag_core.specs.Extends.{CloneOnce, CloneAsOften, Refuses, RefusesClones}
-use Rattle.hashbag_core.specs.Held.{Recounts, no_slots}
+use Rattle.hashbag_core.specs.Held.{AreHeld, Recounts, no_slots}
 use Rattle.hashbag_core.specs.Occurrences.{greatest_total, count, add, distinct_count, IsBag}
 
 -- an empty bag of no slots under this state, for which no limit is set
@@ -29,6 +29,7 @@ module _ {T S : Type 0} (eq : T → T → Bool) where
     pub slot : 0 < n → 0 < count eq v before.items → Recounts eq v (count eq v before.items + n) before.tables after.tables
     pub less_room : 0 < room before.tables → KeepsRoom 1 before.tables after.tables
     pub same_room : 0 < count eq v before.items → KeepsRoom 0 before.tables after.tables
+    pub held : 0 < n → AreHeld eq after.items after.tables
 
   -- n of v may be refused to a bag, for this reason: for memory only where no room is left
   pub record IsRefused (bag : Bag T S) (v : T) (n : ℕ) (e : BagError) : Type 0 where

@@ -5,7 +5,7 @@ use Rattle.std.specs.List.{list_any}
 use Rattle.std.specs.List.Sorted.{IsPermutation}
 use Rattle.std.proofs.lemmas.Bool.{cases_lt}
 use Rattle.std.proofs.lemmas.List.Folds.{list_any-append}
-use Rattle.hashbag_table.specs.Slots.{IsSlotCount}
+use Rattle.hashbag_table.specs.Slots.{IsSlotCount, live_count, removed_count}
 use Rattle.hashbag_table.specs.Tables.{Tables, limit, room, values, grown_slots}
 use Rattle.hashbag_table.proofs.RoomLemmas.{slot_count_least, grown_none, grown_same, grown_double}
 use Rattle.std.proofs.lemmas.List.{length-append, append-nil}
@@ -116,9 +116,9 @@ module _ {T : Type 0} (eq : T → T → Bool) where
     pub smaller : 0 < length t.waiting → length t.waiting + 16 ≤ length t.newer
 
   -- from what `slots` answers, n, and `waiting`, w
-  pub shaped_by : (n w : ℕ) (items : List T) (t : Tables T) → n ≡ length t.newer → IsSlotCount n → values t ≡ distinct_count eq items → values t ≤ limit (length t.newer)
+  pub shaped_by : (n w : ℕ) (items : List T) (t : Tables T) → n ≡ length t.newer → IsSlotCount n → values t ≡ distinct_count eq items → live_count t.newer + removed_count t.newer + live_count t.waiting ≤ limit (length t.newer)
       → w ≡ length t.waiting → (0 < w → w + 16 ≤ length t.newer) → IsShaped items t
-  shaped_by n w items t slots count known fits waiting smaller = record { count = subst (λ m. IsSlotCount m) slots count; known = known; fits = fits; smaller = smaller_by w t waiting smaller }
+  shaped_by n w items t slots count known fits waiting smaller = record { count = subst (λ m. IsSlotCount m) slots count; known = known; fits = omega (arith, fits); smaller = smaller_by w t waiting smaller }
 
   peak_more : (most : ℕ) (X : List T) (done : List (Step T)) (s : Step T) → peak eq most X done ≤ peak eq most X (done ++ s ∷ [])
   unfolding peak

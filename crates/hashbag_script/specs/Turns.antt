@@ -1,7 +1,9 @@
 -- What the steps of a run leave of a bag's tables, one after another.
 use Rattle.std.specs.Prelude.{◌≡◌, ℕ, ◌-◌, Bool, false, List, [], ◌∷◌, length, take}
-use Rattle.hashbag_table.specs.Tables.{Tables, ReservesOrStays, ShrinksOrStays}
+use Rattle.std.specs.List.Sorted.{IsPermutation}
+use Rattle.hashbag_table.specs.Tables.{Tables, values, ReservesOrStays, ShrinksOrStays}
 use Rattle.hashbag_core.specs.Bag.{Means}
+use Rattle.hashbag_core.specs.Held.{AreHeld}
 use Rattle.hashbag_core.specs.Occurrences.{distinct_count}
 use Rattle.hashbag_script.specs.declared.script.Step.{Step}
 use Rattle.hashbag_script.specs.declared.script.Step.TheVariants.{Reserve, ShrinkToFit}
@@ -21,10 +23,18 @@ module _ {T : Type 0} (eq : T → T → Bool) where
     pub reserves : (n : ℕ) → s ≡ Reserve n → ReservesOrStays n (distinct_count eq X) old new
     pub shrinks : s ≡ ShrinkToFit → ShrinksOrStays (distinct_count eq X) old new
 
-  -- each step leaves of the tables what it owes, and the next one begins with those
+  -- the tables hold the list X, in whichever order: its values with their counts are the Live slots, of which there are as many as X has
+  -- distinct values
+  pub record Hold (X : List T) (t : Tables T) : Type 0 where
+    pub items : List T
+    pub means : IsPermutation X items
+    pub held : AreHeld eq items t
+    pub number : values t ≡ distinct_count eq X
+
+  -- each step finds tables that hold the list that it finds, and leaves of them what it owes, and the next one begins with those
   abbrev pub TablesInTurn : ℕ → List T → List (Step T) → Tables T → Tables T → Type 0
   TablesInTurn most X [] old new = new ≡ old
-  TablesInTurn most X (s ∷ steps) old new = (next : Tables T) × LeavesTables most X s old next × TablesInTurn (limit_after eq most X s) (step eq most X s).0 steps next new
+  TablesInTurn most X (s ∷ steps) old new = (next : Tables T) × Hold X old × LeavesTables most X s old next × TablesInTurn (limit_after eq most X s) (step eq most X s).0 steps next new
 
   -- so do the steps that have replies, whichever list the bag meant
   abbrev pub AreTablesInTurn : {S : Type 0} → Ran T S → Type 0

@@ -76,7 +76,7 @@ from_place_on-twice test at to p le = elim (cases_lt p to) [
 ]
 
 -- another test that says the same of the places from `from` on
-tells_same : (test other : ℕ → Bool) (from until bits : ℕ) → ((p : ℕ) → from ≤ p → test p ≡ other p) → IsMaskOf test from until bits → IsMaskOf other from until bits
+pub tells_same : (test other : ℕ → Bool) (from until bits : ℕ) → ((p : ℕ) → from ≤ p → test p ≡ other p) → IsMaskOf test from until bits → IsMaskOf other from until bits
 tells_same test other from until bits same tells i = tells i ∙ ap (λ b. cond (ltb (from + i) until) (cond b 1 0) 0) (same (from + i) (omega arith))
 
 -- of places that were just looked at

@@ -12,5 +12,7 @@ pub mod Sixteen
 pub mod Strides
 pub mod Tables
 pub mod Values
+pub mod WalkOrder
+pub mod WalkSteps
 pub mod Walking
 pub mod Writing

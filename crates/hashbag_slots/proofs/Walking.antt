@@ -1,21 +1,19 @@
--- The pairs that are still to come.
-use Rattle.std.proofs.Common.{◌≡◌, ℕ, zero, suc, ◌+◌, ◌-◌, ◌<◌, ◌≤◌, Bool, true, false, cond, leb, ltb, List, [], ◌∷◌, length, drop, Option, Some, None, refl, sym, ap, subst, ◌∙◌, inl, inr, arith, slice_set}
-use Rattle.std.proofs.lemmas.List.{get_or-drop, length-set}
-use Rattle.std.proofs.lemmas.Bool.{cases_lt, le-ltb, leb-true, leb-false}
+-- The entries that are still to come.
+use Rattle.std.proofs.Common.{◌≡◌, ◌≢◌, ℕ, zero, suc, ◌+◌, ◌-◌, ◌*◌, ◌/◌, ◌%◌, ◌<◌, ◌≤◌, Bool, true, false, cond, leb, nat_eq, List, [], ◌∷◌, ◌++◌, length, drop, map, get_or, Some, refl, sym, ap, subst, ◌∙◌, inl, inr, arith}
+use Rattle.std.specs.List.{filter}
+use Rattle.std.proofs.lemmas.List.{drop_all}
+use Rattle.std.proofs.lemmas.Bool.{cases_lt, le-leb, lt-leb, leb-true, leb-false}
+use Rattle.std.proofs.lemmas.Bool.Decides.{eqb_tells}
 use Rattle.std.proofs.lemmas.List.Sums.{sum_by-cons}
-use Rattle.std.proofs.lemmas.Nat.Bits.{bit_at-zero}
 use Rattle.std.specs.Slice.Scan.{IsFirstPlace}
 use Rattle.core.specs.Iterator.{MakesProgress, at_most}
+use Rattle.hashbag_slots.specs.declared.live.Course.{Course}
 use Rattle.hashbag_slots.specs.declared.slots.Slot.{Slot}
 use Rattle.hashbag_slots.specs.declared.slots.Slot.TheVariants.{Empty, Removed, Moved, Live}
-use Rattle.hashbag_slots.specs.Columns.{IsNextMark, Agree, slot_of, slots_of, tag_at}
-use Rattle.hashbag_slots.specs.Cells.{cell_at}
+use Rattle.hashbag_slots.specs.Columns.{tag_at}
 use Rattle.hashbag_slots.specs.Group.{IsMaskOf, from_place_on}
-use Rattle.hashbag_slots.specs.Walks.{entries_from, IsWalk, IsAhead}
-use Rattle.hashbag_slots.proofs.GroupLemmas.{no_bit, from_place_on-before}
-use Rattle.hashbag_slots.proofs.Reading.{IsNextLive, next_slot, live_at, dead_at}
-use Rattle.hashbag_slots.proofs.Writing.{set-slots_of, Agree-empty}
-use Rattle.hashbag_slots.specs.Slots.{is_live, live_count, slot_at, entries}
+use Rattle.hashbag_slots.specs.Walks.{pass_of, of_turn, marks, marks_from, in_pass, turns, places_left, NoneLive, IsNextOn}
+use Rattle.hashbag_slots.specs.Slots.{is_live, live_count, entries}
 
 -- an item that was given is one fewer to come
 pub one_goes : {A B : Type 0} (before after : List B) (b : B) (x : A) → before ≡ b ∷ after → MakesProgress {A = A} (λ _. Unit {0}) (λ s. at_most (length s)) before (Some x) after
@@ -28,46 +26,6 @@ live_entry Moved h = absurd (cc)
 live_entry (Live v n) h = (v, n, refl)
 
 module _ {T : Type 0} where
-  drop_step : (ss : List (Slot T)) (p : ℕ) → p < length ss → drop p ss ≡ slot_at ss p ∷ drop (suc p) ss
-  drop_step [] p lt = absurd (omega arith)
-  drop_step (s ∷ ss) zero lt = refl
-  drop_step (s ∷ ss) (suc p) lt = drop_step ss p (omega arith)
-
-  skip_dead : (s : Slot T) (ss : List (Slot T)) → is_live s ≡ false → entries (s ∷ ss) ≡ entries ss
-  skip_dead Empty ss h = refl
-  skip_dead Removed ss h = refl
-  skip_dead Moved ss h = refl
-  skip_dead (Live v n) ss h = absurd (cc)
-
-  skip : (ss : List (Slot T)) (k from : ℕ) → from + k ≤ length ss → ((q : ℕ) → from ≤ q → q < from + k → is_live (slot_at ss q) ≡ false) → entries (drop from ss) ≡ entries (drop (from + k) ss)
-  skip ss zero from le dead = let e : from ≡ from + 0 = omega arith in ap (λ n. entries (drop n ss)) e
-  skip ss (suc k) from le dead =
-      let e : suc from + k ≡ from + suc k = omega arith in
-      ap entries (drop_step ss from (omega arith)) ∙ skip_dead (slot_at ss from) (drop (suc from) ss) (dead from (omega arith) (omega arith))
-      ∙ skip ss k (suc from) (omega arith) (λ q a b. dead q (omega arith) (omega arith)) ∙ ap (λ n. entries (drop n ss)) e
-
-  pub entries-next : (ss : List (Slot T)) (from p : ℕ) → IsNextLive ss from p → (v : T) (n : ℕ) → slot_at ss p ≡ Live v n → entries (drop from ss) ≡ (v, n) ∷ entries (drop (p + 1) ss)
-  entries-next ss from p next v n here =
-      let a = next.after in let w = next.within in
-      let back : from + (p - from) ≡ p = omega arith in
-      let more : suc p ≡ p + 1 = omega arith in
-      skip ss (p - from) from (omega arith) (λ q b c. next.between q b (omega arith)) ∙ ap (λ k. entries (drop k ss)) back
-      ∙ ap entries (drop_step ss p w) ∙ ap (λ s. entries (s ∷ drop (suc p) ss)) here ∙ ap (λ k. (v, n) ∷ entries (drop k ss)) more
-
-  none : (ss : List (Slot T)) → ((q : ℕ) → is_live (slot_at ss q) ≡ false) → entries ss ≡ []
-  none [] h = refl
-  none (s ∷ ss) h = skip_dead s ss (h 0) ∙ none ss (λ q. h (suc q))
-
-  pub entries-none : (ss : List (Slot T)) (from : ℕ) → ((q : ℕ) → from ≤ q → is_live (slot_at ss q) ≡ false) → entries (drop from ss) ≡ []
-  entries-none ss from dead = none (drop from ss) (λ q. ap is_live (get_or-drop from ss q Empty) ∙ dead (from + q) (omega arith))
-
-  pub drop-set : (ss : List (Slot T)) (p : ℕ) (s : Slot T) → drop (p + 1) (slice_set ss p s) ≡ drop (p + 1) ss
-  drop-set ss p s = let e : p + 1 ≡ suc p = omega arith in ap (λ k. drop k (slice_set ss p s)) e ∙ after ss p ∙ ap (λ k. drop k ss) (sym e) where
-    after : (ts : List (Slot T)) (q : ℕ) → drop (suc q) (slice_set ts q s) ≡ drop (suc q) ts
-    after [] q = refl
-    after (t ∷ ts) zero = refl
-    after (t ∷ ts) (suc q) = after ts q
-
   pub length-entries_live : (ss : List (Slot T)) → length (entries ss) ≡ live_count ss
   length-entries_live [] = refl
   length-entries_live (s ∷ ss) =
@@ -82,61 +40,114 @@ module _ {T : Type 0} where
 abbrev pub is_mark : List ℕ → ℕ → Bool
 is_mark ts p = leb 128 (tag_at ts p)
 
--- nothing is told
-pub IsAhead-none : (ts : List ℕ) (next : ℕ) → next ≤ length ts → IsAhead ts next next 0
-IsAhead-none ts next within = record {
-  told = λ i. bit_at-zero i ∙ sym (elim (cases_lt (next - 16 + i) next) [
-    | inl lt ↦ ap (λ b. cond (ltb (next - 16 + i) next) (cond b 1 0) 0) (from_place_on-before (is_mark ts) next (next - 16 + i) lt) ∙ no_bit (ltb (next - 16 + i) next)
-    | inr ge ↦ ap (λ b. cond b (cond (from_place_on (is_mark ts) next (next - 16 + i)) 1 0) 0) (le-ltb (next - 16 + i) next ge)
-  ]);
-  whole = λ some. absurd (omega arith);
-  from = omega arith;
-  near = omega arith;
-  within = within;
-}
+marks_at : (ts : List ℕ) (m n : ℕ) → marks m (drop n ts) ≡ cond (leb 128 (get_or ts n 0)) (m ∷ marks (suc m) (drop (suc n) ts)) (marks (suc m) (drop (suc n) ts))
+marks_at [] m zero = refl
+marks_at [] m (suc n) = refl
+marks_at (t ∷ ts) m zero = refl
+marks_at (t ∷ ts) m (suc n) = marks_at ts m n
 
--- a walk comes to a place, of the 16 from `base` on
-module _ (ts : List ℕ) (next base until place : ℕ) (sixteen : base + 16 ≡ until) (begun : base ≤ next) (within : until ≤ length ts) (below : place < until) (first : IsFirstPlace (is_mark ts) next until place) where
-  pub IsNextMark-told : IsNextMark ts next place
-  IsNextMark-told = (first.low, omega arith, leb-true 128 (tag_at ts place) (first.hit below), λ q a b. leb-false 128 (tag_at ts q) (first.before q a b))
+pub of_turn-odd : {X : Type 0} (turn : ℕ) (newer older : X) → turn % 2 ≡ 1 → of_turn turn newer older ≡ newer
+of_turn-odd turn newer older is = elim (eqb_tells (turn % 2) 1) [
+  | inl same ↦ ap (λ b. cond b newer older) same.0
+  | inr other ↦ absurd (other.1 is)
+]
 
-  pub IsAhead-behind : (rest : ℕ) → IsMaskOf (from_place_on (is_mark ts) (place + 1)) base until rest → IsAhead ts (place + 1) until rest
-  IsAhead-behind rest tells =
-      let low = first.low in let back : base ≡ until - 16 = omega arith in record {
-        told = subst (λ b. IsMaskOf (from_place_on (is_mark ts) (place + 1)) b until rest) back tells;
-        whole = λ some. omega arith;
-        from = omega arith;
-        near = omega arith;
-        within = within;
+pub of_turn-even : {X : Type 0} (turn : ℕ) (newer older : X) → turn % 2 ≢ 1 → of_turn turn newer older ≡ older
+of_turn-even turn newer older not = elim (eqb_tells (turn % 2) 1) [
+  | inl same ↦ absurd (not same.1)
+  | inr other ↦ ap (λ b. cond b newer older) other.0
+]
+
+pub filter_out : (f : ℕ → Bool) (x : ℕ) (xs : List ℕ) → f x ≡ false → filter f (x ∷ xs) ≡ filter f xs
+filter_out f x xs h = ap (λ b. cond b (x ∷ filter f xs) (filter f xs)) h
+
+pub filter_in : (f : ℕ → Bool) (x : ℕ) (xs : List ℕ) → f x ≡ true → filter f (x ∷ xs) ≡ x ∷ filter f xs
+filter_in f x xs h = ap (λ b. cond b (x ∷ filter f xs) (filter f xs)) h
+
+-- the slots of 16 that begin at a multiple of 16 are of one pass
+pub same_pass : (at p : ℕ) → at % 16 ≡ 0 → at ≤ p → p < at + 16 → pass_of p ≡ pass_of at
+same_pass at p sixteen a b = let e : p / 256 ≡ at / 256 = omega arith in ap (λ k. k % 3) e
+
+-- the rest of a block that is not of a pass
+pub other_pass : (at p pass : ℕ) → pass_of at ≢ pass → at ≤ p → p < (at / 256 + 1) * 256 → pass_of p ≢ pass
+other_pass at p pass other a b is = let e : p / 256 ≡ at / 256 = omega arith in other (sym (ap (λ k. k % 3) e) ∙ is)
+
+module _ (ts : List ℕ) (pass : ℕ) where
+  skip_one : (n : ℕ) → (pass_of n ≡ pass → tag_at ts n < 128) → in_pass pass (marks_from n ts) ≡ in_pass pass (marks_from (suc n) ts)
+  skip_one n low =
+      let rest = marks_from (suc n) ts in let f : ℕ → Bool = λ p. nat_eq (pass_of p) pass in
+      ap (in_pass pass) (marks_at ts n n) ∙ elim (cases_lt (tag_at ts n) 128) [
+        | inl lt ↦ ap (λ b. in_pass pass (cond b (n ∷ rest) rest)) (lt-leb 128 (tag_at ts n) lt)
+        | inr ge ↦ ap (λ b. in_pass pass (cond b (n ∷ rest) rest)) (le-leb 128 (tag_at ts n) ge) ∙ elim (eqb_tells (pass_of n) pass) [
+          | inl same ↦ absurd (let l = low same.1 in omega arith)
+          | inr other ↦ filter_out f n rest other.0
+        ]
+      ]
+
+  -- slots that are not of the pass or not Live are passed
+  pub skip : (k from : ℕ) → ((q : ℕ) → from ≤ q → q < from + k → pass_of q ≡ pass → tag_at ts q < 128) → in_pass pass (marks_from from ts) ≡ in_pass pass (marks_from (from + k) ts)
+  skip zero from low = let e : from ≡ from + 0 = omega arith in ap (λ n. in_pass pass (marks_from n ts)) e
+  skip (suc k) from low =
+      let e : suc from + k ≡ from + suc k = omega arith in
+      skip_one from (low from (omega arith) (omega arith)) ∙ skip k (suc from) (λ q a b. low q (omega arith) (omega arith)) ∙ ap (λ n. in_pass pass (marks_from n ts)) e
+
+  -- a Live slot of the pass comes
+  pub comes : (p : ℕ) → 128 ≤ tag_at ts p → pass_of p ≡ pass → in_pass pass (marks_from p ts) ≡ p ∷ in_pass pass (marks_from (p + 1) ts)
+  comes p live is =
+      let rest = marks_from (suc p) ts in let f : ℕ → Bool = λ q. nat_eq (pass_of q) pass in let e : suc p ≡ p + 1 = omega arith in
+      ap (in_pass pass) (marks_at ts p p) ∙ ap (λ b. in_pass pass (cond b (p ∷ rest) rest)) (le-leb 128 (tag_at ts p) live) ∙ elim (eqb_tells (pass_of p) pass) [
+        | inl same ↦ filter_in f p rest same.0
+        | inr other ↦ absurd (other.1 is)
+      ] ∙ ap (λ n. p ∷ in_pass pass (marks_from n ts)) e
+
+  pub none_comes : (from : ℕ) → NoneLive ts pass from → in_pass pass (marks_from from ts) ≡ []
+  none_comes from none =
+      skip (length ts) from (λ q a b. none q a) ∙ ap (λ us. in_pass pass (marks (from + length ts) us)) (drop_all (from + length ts) ts (omega arith))
+
+module _ (newer older : List ℕ) where
+  -- what is left of a turn from `from` on is what is left of it from `to` on, where no slot between is Live
+  pub left_skip : (turn from to : ℕ) → from ≤ to → ((q : ℕ) → from ≤ q → q < to → pass_of q ≡ turn / 2 → tag_at (of_turn turn newer older) q < 128) → places_left turn from newer older ≡ places_left turn to newer older
+  left_skip turn from to le low =
+      let e : from + (to - from) ≡ to = omega arith in
+      ap (λ ps. map (λ p. (turn, p)) ps ++ turns turn newer older) (skip (of_turn turn newer older) (turn / 2) (to - from) from (λ q a b. low q a (omega arith)) ∙ ap (λ n. in_pass (turn / 2) (marks_from n (of_turn turn newer older))) e)
+
+  pub left_comes : (turn p : ℕ) → 128 ≤ tag_at (of_turn turn newer older) p → pass_of p ≡ turn / 2 → places_left turn p newer older ≡ (turn, p) ∷ places_left turn (p + 1) newer older
+  left_comes turn p live is = ap (λ ps. map (λ p. (turn, p)) ps ++ turns turn newer older) (comes (of_turn turn newer older) (turn / 2) p live is)
+
+  -- where no slot of a turn is Live, the next turn comes
+  pub turn_ends : (turn next from : ℕ) → turn ≡ suc next → NoneLive (of_turn turn newer older) (turn / 2) from → places_left turn from newer older ≡ places_left next 0 newer older
+  turn_ends turn next from e none =
+      ap (λ ps. map (λ p. (turn, p)) ps ++ turns turn newer older) (none_comes (of_turn turn newer older) (turn / 2) from none) ∙ ap (λ t. turns t newer older) e
+
+  pub last_ends : (turn from : ℕ) → turn ≡ 0 → NoneLive (of_turn turn newer older) (turn / 2) from → places_left turn from newer older ≡ []
+  last_ends turn from e none =
+      ap (λ ps. map (λ p. (turn, p)) ps ++ turns turn newer older) (none_comes (of_turn turn newer older) (turn / 2) from none) ∙ ap (λ t. turns t newer older) e
+
+  -- a walk comes to a place, of the 16 from `base` on
+  pub next_on : (turn next base place rest : ℕ) → base % 16 ≡ 0 → base ≤ next → next ≤ base + 16 → base + 16 ≤ length (of_turn turn newer older) → pass_of base ≡ turn / 2
+      → place < base + 16 → IsFirstPlace (is_mark (of_turn turn newer older)) next (base + 16) place → IsMaskOf (from_place_on (is_mark (of_turn turn newer older)) (place + 1)) base (base + 16) rest
+      → IsNextOn newer older turn next place (record { turn = turn; next = place + 1; ahead = rest; until = base + 16 })
+  next_on turn next base place rest sixteen begun near within is below first tells =
+      let ts = of_turn turn newer older in let low = first.low in let live = leb-true 128 (tag_at ts place) (first.hit below) in
+      let here = same_pass base place sixteen (omega arith) below ∙ is in
+      let back : base ≡ base + 16 - 16 = omega arith in
+      record {
+        within = omega arith;
+        live = live;
+        in_it = here;
+        behind = refl;
+        first = left_skip turn next place low (λ q a b i. leb-false 128 (tag_at ts q) (first.before q a b)) ∙ left_comes turn place live here;
+        course = record {
+          told = subst (λ b. IsMaskOf (from_place_on (is_mark ts) (place + 1)) b (base + 16) rest) back tells;
+          whole = λ some. omega arith;
+          from = omega arith;
+          near = omega arith;
+          within = within;
+          sixteen = omega arith;
+          in_it = λ p a b. same_pass base p sixteen (omega arith) b ∙ is;
+        };
       }
 
--- a walk of a whole table
-pub IsWalk-all : {T : Type 0} (ts : List ℕ) (cs : List (Option (T × ℕ))) (live : ℕ) → Agree ts cs → live ≡ live_count (slots_of ts cs) → IsWalk ts cs 0 live
-IsWalk-all ts cs live agree is = record { agree = agree; count = is ∙ sym (length-entries_live (slots_of ts cs)); within = omega arith }
-
-module _ {T : Type 0} (ts : List ℕ) (cs : List (Option (T × ℕ))) (next left : ℕ) (walk : IsWalk ts cs next left) where
-  -- where no tag is a mark, nothing is to come
-  pub walk_ends : ((q : ℕ) → next ≤ q → tag_at ts q < 128) → entries_from next ts cs ≡ []
-  walk_ends low = entries-none (slots_of ts cs) next (λ q a. dead_at ts cs walk.agree q (low q a))
-
-  module _ (p : ℕ) (mark : IsNextMark ts next p) (e : T × ℕ) (cell : cell_at cs p ≡ Some e) where
-    -- the entry at the next mark is the first to come
-    pub walk_gives : entries_from next ts cs ≡ e ∷ entries_from (p + 1) ts cs
-    walk_gives = entries-next (slots_of ts cs) next p (next_slot ts cs walk.agree next p mark) e.0 e.1 (live_at ts cs walk.agree p e cell)
-
-    pub some_left : 1 ≤ left
-    some_left = let l = ap length walk_gives in let i = walk.count in omega arith
-
-    pub walk_goes_on : IsWalk ts cs (p + 1) (left - 1)
-    walk_goes_on = record { agree = walk.agree; count = let l = ap length walk_gives in let i = walk.count in omega arith; within = let w = mark.1 in omega arith }
-
-    -- what is taken out changes nothing of what is to come
-    pub rest_after_take : entries_from (p + 1) (slice_set ts p 1) (slice_set cs p None) ≡ entries_from (p + 1) ts cs
-    rest_after_take = ap (λ ss. entries (drop (p + 1) ss)) (set-slots_of ts cs p 1 None walk.agree.same_length) ∙ ap entries (drop-set (slots_of ts cs) p (slot_of 1 None))
-
-    pub walk_goes_on_after_take : IsWalk (slice_set ts p 1) (slice_set cs p None) (p + 1) (left - 1)
-    walk_goes_on_after_take = record {
-      agree = Agree-empty ts cs walk.agree p (mark.1) 1 (omega arith);
-      count = let l = ap length walk_gives in let i = walk.count in let r = ap length rest_after_take in omega arith;
-      within = let w = mark.1 in let l = length-set ts p 1 in omega arith;
-    }
+  -- from an earlier place on, where no slot between is Live
+  pub next_on_earlier : (earlier turn next from place : ℕ) (c : Course) → places_left earlier next newer older ≡ places_left turn from newer older → IsNextOn newer older turn from place c → IsNextOn newer older earlier next place c
+  next_on_earlier earlier turn next from place c same on = record { within = on.within; live = on.live; in_it = on.in_it; behind = on.behind; first = same ∙ on.first; course = on.course }

@@ -1,24 +1,97 @@
--- What a walk over tags and cells still gives.
-use Rattle.std.specs.Prelude.{◌≡◌, ℕ, ◌+◌, ◌-◌, ◌<◌, ◌≤◌, List, Option, drop, length, nat_le}
-use Rattle.hashbag_slots.specs.Columns.{Agree, tag_at, slots_of}
-use Rattle.hashbag_slots.specs.Group.{IsMaskIn}
-use Rattle.hashbag_slots.specs.Slots.{entries}
+-- What a walk over the tags and cells of two tables, a newer and an older one, still gives.
+use Rattle.std.specs.Prelude.{◌≡◌, ℕ, ◌+◌, ◌-◌, ◌/◌, ◌%◌, ◌^◌, ◌<◌, ◌≤◌, List, [], ◌∷◌, ◌++◌, Option, drop, length, map, if◌then◌else◌, nat_le, nat_eq}
+use Rattle.std.proofs.Common.{zero, suc}
+use Rattle.std.specs.List.{filter, filter_map}
+use Rattle.hashbag_slots.specs.declared.live.Course.{Course}
+use Rattle.hashbag_slots.specs.Cells.{cell_at}
+use Rattle.hashbag_slots.specs.Columns.{Agree, tag_at}
+use Rattle.hashbag_slots.specs.Group.{IsMaskOf, IsMaskIn}
 
--- bits tell which of the 16 slots below `until` are Live and not before the place `next`. No bit is set where fewer slots are below it
-pub record IsAhead (ts : List ℕ) (next until bits : ℕ) : Type 0 where
-  pub told : IsMaskIn (λ p. nat_le 128 (tag_at ts p)) (until - 16) next until bits
-  pub whole : 0 < bits → 16 ≤ until
-  pub from : next ≤ until
-  pub near : until ≤ next + 16
-  pub within : until ≤ length ts
+-- the pass in which a walk comes to a place: each third block of 256 slots is of one pass
+abbrev pub pass_of : ℕ → ℕ
+pass_of p = p / 256 % 3
+
+-- what is of the newer table in odd turns, and of the older one in even turns
+abbrev pub of_turn : {X : Type 0} → ℕ → X → X → X
+of_turn turn newer older = if nat_eq (turn % 2) 1 then newer else older
+
+-- the places of these tags, of which the first is p, whose slots are Live
+abbrev pub marks : ℕ → List ℕ → List ℕ
+marks p [] = []
+marks p (t ∷ ts) = if nat_le 128 t then p ∷ marks (suc p) ts else marks (suc p) ts
+
+-- the Live places from the place `from` on
+abbrev pub marks_from : ℕ → List ℕ → List ℕ
+marks_from from ts = marks from (drop from ts)
+
+-- of these places, those of a pass
+abbrev pub in_pass : ℕ → List ℕ → List ℕ
+in_pass pass ps = filter (λ p. nat_eq (pass_of p) pass) ps
+
+-- the Live places of a turn from the place `from` on, each beside its turn: those of the pass that is half of it
+abbrev pub turn_places : ℕ → ℕ → List ℕ → List ℕ → List (ℕ × ℕ)
+turn_places turn from newer older = map (λ p. (turn, p)) (in_pass (turn / 2) (marks_from from (of_turn turn newer older)))
+
+-- those of the last so many turns
+abbrev pub turns : ℕ → List ℕ → List ℕ → List (ℕ × ℕ)
+turns zero newer older = []
+turns (suc turn) newer older = turn_places turn 0 newer older ++ turns turn newer older
+
+-- those that are left to a walk which looks, in this turn, at the place `next` next
+abbrev pub places_left : ℕ → ℕ → List ℕ → List ℕ → List (ℕ × ℕ)
+places_left turn next newer older = turn_places turn next newer older ++ turns turn newer older
+
+-- no slot of the pass is Live from the place `from` on
+abbrev pub NoneLive : List ℕ → ℕ → ℕ → Type 0
+NoneLive ts pass from = (p : ℕ) → from ≤ p → pass_of p ≡ pass → tag_at ts p < 128
+
+-- the next 16 slots of the pass, from the place `from` on, of which one is Live, and a bit for each
+pub record IsNextGroup (ts : List ℕ) (pass from : ℕ) (group : ℕ × ℕ) : Type 0 where
+  pub after : from ≤ group.0
+  pub sixteen : group.0 % 16 ≡ 0
+  pub within : group.0 + 16 ≤ length ts
+  pub fits : group.0 + 16 < 2 ^ 64
+  pub in_it : pass_of group.0 ≡ pass
+  pub some : 0 < group.1
+  pub told : IsMaskOf (λ p. nat_le 128 (tag_at ts p)) group.0 (group.0 + 16) group.1
+  pub none : (p : ℕ) → from ≤ p → p < group.0 → pass_of p ≡ pass → tag_at ts p < 128
+
+-- the bits of a course tell which of the 16 slots below `until`, all of them of its pass, are Live and not before `next`
+pub record IsCourse (newer older : List ℕ) (c : Course) : Type 0 where
+  pub told : IsMaskIn (λ p. nat_le 128 (tag_at (of_turn c.turn newer older) p)) (c.until - 16) c.next c.until c.ahead
+  pub whole : 0 < c.ahead → 16 ≤ c.until
+  pub from : c.next ≤ c.until
+  pub near : c.until ≤ c.next + 16
+  pub within : c.until ≤ length (of_turn c.turn newer older)
+  pub sixteen : c.until % 16 ≡ 0
+  pub in_it : (p : ℕ) → c.next ≤ p → p < c.until → pass_of p ≡ c.turn / 2
+
+-- the place is the first that was left to a walk in this turn at `next`, and the course is what it leaves
+pub record IsNextOn (newer older : List ℕ) (turn next place : ℕ) (c : Course) : Type 0 where
+  pub within : place < length (of_turn c.turn newer older)
+  pub live : 128 ≤ tag_at (of_turn c.turn newer older) place
+  pub in_it : pass_of place ≡ c.turn / 2
+  pub behind : c.next ≡ place + 1
+  pub first : places_left turn next newer older ≡ (c.turn, place) ∷ places_left c.turn c.next newer older
+  pub course : IsCourse newer older c
+
+-- that of a walk which begins: three turns of each table
+abbrev pub first_course : Course
+first_course = record { turn = 5; next = 0; ahead = 0; until = 0 }
 
 module _ {T : Type 0} where
-  -- the entries of the slots from the place `next` on
-  abbrev pub entries_from : ℕ → List ℕ → List (Option (T × ℕ)) → List (T × ℕ)
-  entries_from next ts cs = entries (drop next (slots_of ts cs))
+  -- the entry at a place of a turn's table
+  abbrev pub entry_in : List (Option (T × ℕ)) → List (Option (T × ℕ)) → ℕ × ℕ → Option (T × ℕ)
+  entry_in newer older x = cell_at (of_turn x.0 newer older) x.1
 
-  -- the invariant of a walk that looks at the place `next` next, and has so many entries left
-  pub record IsWalk (ts : List ℕ) (cs : List (Option (T × ℕ))) (next left : ℕ) : Type 0 where
+  -- the entries that are left to a walk: over the tags of both tables, and then the cells of both
+  abbrev pub entries_left : ℕ → ℕ → List ℕ → List ℕ → List (Option (T × ℕ)) → List (Option (T × ℕ)) → List (T × ℕ)
+  entries_left turn next ts us cs ds = filter_map (entry_in cs ds) (places_left turn next ts us)
+
+  -- the invariant of a walk in this turn at `next`, which has so many entries left
+  pub record IsWalk (ts us : List ℕ) (cs ds : List (Option (T × ℕ))) (turn next left : ℕ) : Type 0 where
     pub agree : Agree ts cs
-    pub count : left ≡ length (entries_from next ts cs)
-    pub within : next ≤ length ts
+    pub older_agree : Agree us ds
+    pub sixteens : length ts % 16 ≡ 0
+    pub older_sixteens : length us % 16 ≡ 0
+    pub count : left ≡ length (entries_left turn next ts us cs ds)

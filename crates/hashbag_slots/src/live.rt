@@ -1,6 +1,6 @@
-//! The Live slots of a table, one after the other: the next one, and all of them dropped.
-ghost use Rattle.std.specs.Prelude.{◌≡◌, ℕ, ◌+◌, ◌<◌, ◌≤◌, length, IfSome, IfNone, replicate, None};
-ghost use Rattle.hashbag_slots.specs.Walks.{IsAhead};
+//! The Live slots of a table, one after the other: the next one, that of a walk over two tables, and all of them dropped.
+ghost use Rattle.std.specs.Prelude.{◌≡◌, ℕ, ◌+◌, ◌%◌, ◌<◌, ◌≤◌, [], length, IfSome, IfNone, replicate, None};
+ghost use Rattle.hashbag_slots.specs.Walks.{of_turn, first_course, places_left, IsNextGroup, NoneLive, IsNextOn, IsCourse};
 ghost use Rattle.hashbag_slots.specs.Columns.{tag_at, IsNextMark, Agree};
 
 use crate::cells::Cells;
@@ -32,38 +32,124 @@ pub fn next_live(tags: &[u8], from: usize) -> Option<usize>
     None
 }
 
-/// As `next_live`, where bits tell which slots are Live from `from` on, of the 16 below `until`. It also answers the bits that tell so
-/// of the places behind the one found, and the place below which they do.
-#[inline(always)]
-pub fn next_live_after(
-    tags: &[u8],
-    from: usize,
-    bits: u64,
-    until: usize,
-) -> Option<(usize, u64, usize)>
-    requires ahead { IsAhead tags.now from until bits }
-    ensures some { IfSome result (λ r. IsNextMark tags.now from r.0) }
-    ensures ahead { IfSome result (λ r. IsAhead tags.now (r.0 + 1) r.2 r.1) }
-    ensures none { IfNone result ((q : ℕ) → from ≤ q → tag_at tags.now q < 128) }
-{
-    if bits != 0 {
-        let (place, rest) = take_lowest(bits, until - GROUP_WIDTH);
-        return Some((place, rest, until));
-    }
-    let count = tags.len();
-    let mut at = until;
-    'places: while at + GROUP_WIDTH <= count {
-        let ahead = match_live(tags, at);
-        if ahead != 0 {
-            let (place, rest) = take_lowest(ahead, at);
-            return Some((place, rest, at + GROUP_WIDTH));
+/// How many slots of a table a walk goes through before it jumps.
+const BLOCK: usize = 256;
+
+/// How many passes a walk makes over each of its tables.
+const PASSES: usize = 3;
+
+/// How far a walk over two tables is.
+#[derive(Clone, Copy)]
+pub struct Course {
+    /// How many turns come after this one. Odd ones are of the newer table, and the turn's pass is half of it.
+    pub turn: usize,
+    /// The place from which on the turn's slots are still to come.
+    pub next: usize,
+    /// A bit for each of the 16 slots below `until`: whether it is Live and not before `next`.
+    pub ahead: u64,
+    /// The place below which `ahead` tells.
+    pub until: usize,
+}
+
+impl Course {
+    /// That of a walk which begins.
+    pub fn first() -> Course
+        ensures { result ≡ first_course }
+    {
+        Course {
+            turn: 2 * PASSES - 1,
+            next: 0,
+            ahead: 0,
+            until: 0,
         }
-        at += GROUP_WIDTH;
     }
-    match next_live(tags, at) {
-        Some(place) => Some((place, 0, place + 1)),
-        None => None,
+}
+
+// The next 16 slots of a pass, from the place `from` on, of which one is Live: where they begin, and a bit for each. A block that is
+// not the pass's is skipped.
+#[inline(always)]
+fn live_group(tags: &[u8], pass: usize, from: usize) -> Option<(usize, u64)>
+    requires sixteens { length tags.now % 16 ≡ 0 }
+    requires from { from % 16 ≡ 0 }
+    requires within { from ≤ length tags.now }
+    ensures some { IfSome result (IsNextGroup tags.now pass from) }
+    ensures none { IfNone result (NoneLive tags.now pass from) }
+{
+    let count = tags.len();
+    let mut at = from;
+    'groups: while at + GROUP_WIDTH <= count {
+        let block = at / BLOCK;
+        if block % PASSES == pass {
+            let ahead = match_live(tags, at);
+            if ahead != 0 {
+                return Some((at, ahead));
+            }
+            at += GROUP_WIDTH;
+        } else {
+            at = (block + 1) * BLOCK;
+        }
     }
+    None
+}
+
+// As `next_on_course`, where no bit is set: from the place `from` of a turn on.
+#[inline(always)]
+fn seek(newer: &[u8], older: &[u8], turn: usize, from: usize) -> Option<(usize, Course)>
+    requires newer { length newer.now % 16 ≡ 0 }
+    requires older { length older.now % 16 ≡ 0 }
+    requires from { from % 16 ≡ 0 }
+    requires within { from ≤ length (of_turn turn newer.now older.now) }
+    ensures some { IfSome result (λ r. IsNextOn newer.now older.now turn from r.0 r.1) }
+    ensures none { IfNone result (places_left turn from newer.now older.now ≡ []) }
+{
+    let mut turn = turn;
+    let mut from = from;
+    'turns: loop {
+        let tags = if turn % 2 == 1 { newer } else { older };
+        if let Some((at, ahead)) = live_group(tags, turn / 2, from) {
+            let (place, rest) = take_lowest(ahead, at);
+            let course = Course {
+                turn,
+                next: place + 1,
+                ahead: rest,
+                until: at + GROUP_WIDTH,
+            };
+            return Some((place, course));
+        }
+        if turn == 0 {
+            return None;
+        }
+        turn -= 1;
+        from = 0;
+    }
+}
+
+/// The place of the next Live slot of a walk, and how far the walk is then. That tells by its turn of which table it is.
+#[inline(always)]
+pub fn next_on_course(newer: &[u8], older: &[u8], course: Course) -> Option<(usize, Course)>
+    requires newer { length newer.now % 16 ≡ 0 }
+    requires older { length older.now % 16 ≡ 0 }
+    requires course { IsCourse newer.now older.now course }
+    ensures some { IfSome result (λ r. IsNextOn newer.now older.now course.turn course.next r.0 r.1) }
+    ensures none { IfNone result (places_left course.turn course.next newer.now older.now ≡ []) }
+{
+    let Course {
+        turn,
+        next: _,
+        ahead,
+        until,
+    } = course;
+    if ahead != 0 {
+        let (place, rest) = take_lowest(ahead, until - GROUP_WIDTH);
+        let course = Course {
+            turn,
+            next: place + 1,
+            ahead: rest,
+            until,
+        };
+        return Some((place, course));
+    }
+    seek(newer, older, turn, until)
 }
 
 // Drops the value of each Live slot. The tag of each is Empty then, and all others are as they were.

@@ -7,7 +7,8 @@
 //!
 //! Costs are told in probes, each of which goes along a value's path, sixteen slots at once, and in hashes. A call hashes
 //! nothing and takes no memory, except where it says so. No order of slots is promised but what the contracts say.
-ghost use Rattle.std.specs.Prelude.{◌≡◌, ℕ, ◌+◌, ◌<◌, ◌≤◌, ◌^◌, length, true, false, IfSome, IfNone, IfOk, IfErr, IsOk, OnErr, replicate, slice_set, ◌∷◌, [], Some};
+ghost use Rattle.std.specs.Prelude.{◌≡◌, ℕ, ◌+◌, ◌<◌, ◌≤◌, ◌^◌, length, true, false, IfSome, IfNone, IfOk, IfErr, IsOk, OnErr, replicate, slice_set, ◌∷◌, ◌++◌, [], Some};
+ghost use Rattle.std.specs.List.Sorted.{IsPermutation};
 ghost use Rattle.std.specs.Map.{lookup_entry};
 ghost use Rattle.std.specs.Option.{option_map};
 ghost use Rattle.hashbag_slots.specs.FirstGroup.{IfFound, IfAbsent};
@@ -19,7 +20,7 @@ mod carry;
 pub mod keys;
 
 use crate::cells::Cells;
-use crate::live::clear_all;
+use crate::live::{Course, clear_all};
 pub use crate::probe::FirstGroup;
 use crate::probe::first_free;
 use crate::tags::{LEAST_MARK, REMOVED, empty_tags, mark_of};
@@ -219,35 +220,47 @@ impl<T: Eq> Slots<T> {
         self.removed = 0;
     }
 
-    /// Walks over the values, lent, each with its count.
-    pub fn walk(&self) -> Walk<'_, T>
-        ensures { result ≡ entries self.now.slots }
+    /// Walks over the values of this table and of an older one, lent, each with its count, in an open order.
+    pub fn walk<'a>(&'a self, older: &'a Slots<T>) -> Walk<'a, T>
+        ensures entries { IsPermutation (entries self.now.slots ++ entries older.now.slots) result }
+        ensures fits { length result < 2 ^ 63 }
     {
         Walk {
-            tags: self.tags.as_slice(),
+            newer_tags: self.tags.as_slice(),
+            newer: &self.cells,
+            older_tags: older.tags.as_slice(),
+            older: &older.cells,
             cells: &self.cells,
-            next: 0,
-            ahead: 0,
-            until: 0,
-            left: self.live,
+            course: Course::first(),
+            left: self.live + older.live,
         }
     }
 
-    /// Makes a walk of the table, which gives its values with their counts. Values that are not taken are dropped with it.
-    pub fn into_walk(self) -> IntoWalk<T>
-        ensures { result ≡ entries self.slots }
+    /// Makes a walk of this table and of an older one, which gives their values with their counts, in an open order. Values that are
+    /// not taken are dropped with it.
+    pub fn into_walk(self, older: Slots<T>) -> IntoWalk<T>
+        ensures entries { IsPermutation (entries self.slots ++ entries older.slots) result }
+        ensures fits { length result < 2 ^ 63 }
     {
         let Slots {
-            tags,
-            cells,
-            live: left,
+            tags: newer_tags,
+            cells: newer,
+            live: newer_live,
             removed: _,
         } = self;
+        let Slots {
+            tags: older_tags,
+            cells: older,
+            live: older_live,
+            removed: _,
+        } = older;
         IntoWalk {
-            tags,
-            cells,
-            next: 0,
-            left,
+            newer_tags,
+            newer,
+            older_tags,
+            older,
+            course: Course::first(),
+            left: newer_live + older_live,
         }
     }
 }

@@ -1,39 +1,57 @@
-//! Walks over a table of slots: its values with their counts, each once, in the order of their places.
+//! Walks over two tables of slots, a newer and an older one: their values with their counts, each once.
 //!
 //! A walk knows how many are still to come, and gives `None` for good after the last. It hashes nothing and takes no memory. A
 //! whole walk looks at each slot once.
+//!
+//! It makes three passes over each table, one over the newer, one over the older, and so on. A pass takes each third block of 256
+//! slots. So what has come of both tables at any time has homes that are spread over all slots, and a table that is filled by a
+//! walk of others is not filled place after place: there the second sweep would fall on the slots that the first has filled.
 ghost use Rattle.std.specs.Prelude.{◌≡◌, ℕ, length, Some, IfSome, ⊤};
 ghost use Rattle.std.specs.Iterator.{YieldsFirst, YieldsFirstBy, item_count, at_most, UpTo};
 ghost use Rattle.std.specs.Iterator.SizeHint.{IsWithinCount};
+ghost use Rattle.hashbag_slots.specs.Walks.{of_turn};
 
 use crate::cells::Cells;
-use crate::live::{clear_all, next_live, next_live_after};
+use crate::live::{Course, clear_all, next_on_course};
 use crate::tags::REMOVED;
 use std::alloc::AllocError;
 use std::iter::ExactSizeIterator;
 use std::marker::Model;
 
-/// The values of a table that is lent, with their counts. Contracts see a walk as the list of those that are still to come.
+// The cells of the table whose turn it is.
+#[inline(always)]
+pub(crate) fn cells_of<'a, T>(
+    turn: usize,
+    newer: &'a Cells<(T, usize)>,
+    older: &'a Cells<(T, usize)>,
+) -> &'a Cells<(T, usize)>
+    ensures { result.now ≡ of_turn turn newer.now older.now }
+{
+    if turn % 2 == 1 { newer } else { older }
+}
+
+/// The values of tables that are lent, with their counts. Contracts see a walk as the list of those that are still to come.
 #[derive(Drop)]
 pub struct Walk<'a, T> {
-    pub(crate) tags: &'a [u8],
+    pub(crate) newer_tags: &'a [u8],
+    pub(crate) newer: &'a Cells<(T, usize)>,
+    pub(crate) older_tags: &'a [u8],
+    pub(crate) older: &'a Cells<(T, usize)>,
+    // Those of the table whose turn it is.
     pub(crate) cells: &'a Cells<(T, usize)>,
-    pub(crate) next: usize,
-    // A bit for each of the 16 slots below `until`: whether it is Live and not before `next`.
-    pub(crate) ahead: u64,
-    pub(crate) until: usize,
+    pub(crate) course: Course,
     pub(crate) left: usize,
 }
 
 impl<'a, T> Model for Walk<'a, T> {
-    ghost use Rattle.std.specs.Prelude.{ℕ, List};
-    ghost use Rattle.hashbag_slots.specs.Walks.{entries_from, IsWalk, IsAhead};
+    ghost use Rattle.std.specs.Prelude.{◌≡◌, ℕ, List};
+    ghost use Rattle.hashbag_slots.specs.Walks.{of_turn, entries_left, IsWalk, IsCourse};
 
     ghost Value = { List (T × ℕ) };
 
-    ghost view = { λ w. entries_from w.next w.tags.now w.cells.now };
+    ghost view = { λ w. entries_left w.course.turn w.course.next w.newer_tags.now w.older_tags.now w.newer.now w.older.now };
 
-    ghost invariant = { λ w. IsWalk w.tags.now w.cells.now w.next w.left × IsAhead w.tags.now w.next w.until w.ahead };
+    ghost invariant = { λ w. IsWalk w.newer_tags.now w.older_tags.now w.newer.now w.older.now w.course.turn w.course.next w.left × IsCourse w.newer_tags.now w.older_tags.now w.course × (w.cells.now ≡ of_turn w.course.turn w.newer.now w.older.now) };
 }
 
 impl<'a, T> Clone for Walk<'a, T> {
@@ -43,13 +61,14 @@ impl<'a, T> Clone for Walk<'a, T> {
 
     /// A walk that goes on from the same place. It takes no memory, and is never refused.
     fn clone(&self) -> Result<Walk<'a, T>, AllocError> {
-        let (next, left) = (self.next, self.left);
+        let (course, left) = (self.course, self.left);
         Ok(Walk {
-            tags: self.tags,
+            newer_tags: self.newer_tags,
+            newer: self.newer,
+            older_tags: self.older_tags,
+            older: self.older,
             cells: self.cells,
-            next,
-            ahead: self.ahead,
-            until: self.until,
+            course,
             left,
         })
     }
@@ -64,12 +83,19 @@ impl<'a, T> Iterator for Walk<'a, T> {
 
     #[inline(always)]
     fn next(&mut self) -> Option<(&'a T, usize)> {
-        match next_live_after(self.tags, self.next, self.ahead, self.until) {
-            Some((place, ahead, until)) => {
-                let entry = self.cells.get(place);
-                self.next = place + 1;
-                self.ahead = ahead;
-                self.until = until;
+        if self.left == 0 {
+            return None;
+        }
+        match next_on_course(self.newer_tags, self.older_tags, self.course) {
+            Some((place, course)) => {
+                let cells = if course.turn == self.course.turn {
+                    self.cells
+                } else {
+                    cells_of(course.turn, self.newer, self.older)
+                };
+                let entry = cells.get(place);
+                self.cells = cells;
+                self.course = course;
                 self.left -= 1;
                 Some((&entry.0, entry.1))
             }
@@ -92,37 +118,43 @@ impl<'a, T> ExactSizeIterator for Walk<'a, T> {
     }
 }
 
-/// The values of a table that is gone, with their counts. Those that are not taken are dropped with the walk.
+/// The values of tables that are gone, with their counts. Those that are not taken are dropped with the walk.
 ///
 /// Contracts see a walk as the list of those that are still to come.
 pub struct IntoWalk<T> {
-    pub(crate) tags: Vec<u8>,
-    pub(crate) cells: Cells<(T, usize)>,
-    pub(crate) next: usize,
+    pub(crate) newer_tags: Vec<u8>,
+    pub(crate) newer: Cells<(T, usize)>,
+    pub(crate) older_tags: Vec<u8>,
+    pub(crate) older: Cells<(T, usize)>,
+    pub(crate) course: Course,
     pub(crate) left: usize,
 }
 
 impl<T> Model for IntoWalk<T> {
     ghost use Rattle.std.specs.Prelude.{ℕ, List};
-    ghost use Rattle.hashbag_slots.specs.Walks.{entries_from, IsWalk};
+    ghost use Rattle.hashbag_slots.specs.Walks.{entries_left, IsWalk, IsCourse};
 
     ghost Value = { List (T × ℕ) };
 
-    ghost view = { λ w. entries_from w.next w.tags.items w.cells };
+    ghost view = { λ w. entries_left w.course.turn w.course.next w.newer_tags.items w.older_tags.items w.newer w.older };
 
-    ghost invariant = { λ w. IsWalk w.tags.items w.cells w.next w.left };
+    ghost invariant = { λ w. IsWalk w.newer_tags.items w.older_tags.items w.newer w.older w.course.turn w.course.next w.left × IsCourse w.newer_tags.items w.older_tags.items w.course };
 }
 
 impl<T: Drop> Drop for IntoWalk<T> {
     fn drop(self) {
         let IntoWalk {
-            mut tags,
-            mut cells,
-            next: _,
+            mut newer_tags,
+            mut newer,
+            mut older_tags,
+            mut older,
+            course: _,
             left: _,
         } = self;
-        clear_all(tags.as_mut_slice(), &mut cells);
-        cells.free();
+        clear_all(newer_tags.as_mut_slice(), &mut newer);
+        clear_all(older_tags.as_mut_slice(), &mut older);
+        newer.free();
+        older.free();
     }
 }
 
@@ -134,12 +166,24 @@ impl<T: Drop> Iterator for IntoWalk<T> {
     ghost remaining = { item_count (λ s. s) };
 
     fn next(&mut self) -> Option<(T, usize)> {
-        match next_live(self.tags.as_slice(), self.next) {
-            Some(place) => {
-                self.next = place + 1;
+        if self.left == 0 {
+            return None;
+        }
+        match next_on_course(
+            self.newer_tags.as_slice(),
+            self.older_tags.as_slice(),
+            self.course,
+        ) {
+            Some((place, course)) => {
+                self.course = course;
                 self.left -= 1;
-                self.tags[place] = REMOVED;
-                Some(self.cells.take(place))
+                if course.turn % 2 == 1 {
+                    self.newer_tags[place] = REMOVED;
+                    Some(self.newer.take(place))
+                } else {
+                    self.older_tags[place] = REMOVED;
+                    Some(self.older.take(place))
+                }
             }
             None => None,
         }
@@ -166,11 +210,12 @@ impl<T> IntoWalk<T> {
         ensures { result ≡ self.now }
     {
         Walk {
-            tags: self.tags.as_slice(),
-            cells: &self.cells,
-            next: self.next,
-            ahead: 0,
-            until: self.next,
+            newer_tags: self.newer_tags.as_slice(),
+            newer: &self.newer,
+            older_tags: self.older_tags.as_slice(),
+            older: &self.older,
+            cells: cells_of(self.course.turn, &self.newer, &self.older),
+            course: self.course,
             left: self.left,
         }
     }

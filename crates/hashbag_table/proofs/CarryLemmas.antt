@@ -212,7 +212,7 @@ module _ {T : Type 0} (eq : T → T → Bool) (hash : T → ℕ) where
   carried_freed most newer waiting newer1 older none k carried all empty =
       subst (Carried most newer waiting newer1) (drop_all k older.slots (omega arith) ∙ sym empty) carried
 
-  room_carried : (k : ℕ) (newer waiting newer1 waiting1 : List (Slot T)) → Carried k newer waiting newer1 waiting1 → room_of newer waiting ≤ room_of newer1 waiting1
+  pub room_carried : (k : ℕ) (newer waiting newer1 waiting1 : List (Slot T)) → Carried k newer waiting newer1 waiting1 → room_of newer waiting ≤ room_of newer1 waiting1
   room_carried k newer waiting newer1 waiting1 h =
       let l : limit (length newer1) ≡ limit (length newer) = ap limit h.fills.same_length in
       let a = h.live in let b = h.removed in omega (arith, l, a, b)
@@ -233,6 +233,19 @@ module _ {T : Type 0} (eq : T → T → Bool) (hash : T → ℕ) where
           | inl none ↦ inl (h.waits ∙ ap (drop 16) none)
           | inr some ↦ inr (let same = h.fills.same_length in omega (arith, len, same, some))
         ];
+        freed = freed;
+      }
+
+  -- and so does a carry of all that waits
+  pub IsTables-finished : IsEquivalence eq → (newer older newer1 older1 : Columns T) (looked looked1 k : ℕ) → IsTables eq hash newer older looked → AreTables eq hash newer1 older1 looked1
+      → Carried k newer.slots (drop looked older.slots) newer1.slots (drop looked1 older1.slots) → length (drop looked older.slots) ≤ k → (length older1.slots ≤ looked1 → length older1.slots ≡ 0) → IsTables eq hash newer1 older1 looked1
+  IsTables-finished laws newer older newer1 older1 looked looked1 k before tables h all freed =
+      let none : drop looked1 older1.slots ≡ [] = h.waits ∙ drop_all k (drop looked older.slots) all in
+      record {
+        tables = tables;
+        counted = counted_rearranged laws _ _ h.entries before.counted;
+        carries = let l = ap length none in omega (arith, l);
+        smaller = inl none;
         freed = freed;
       }
 

@@ -7,12 +7,12 @@ ghost use Rattle.std.specs.Borrow.{sem};
 ghost use Rattle.std.specs.List.Sorted.{IsPermutation};
 ghost use Rattle.hashbag_slots.specs.FirstGroup.{IfAbsent};
 ghost use Rattle.hashbag_slots.specs.Hashing.{hash_under};
-ghost use Rattle.hashbag_slots.specs.Slots.{IsSlotCount, entries, IsAbsent, IsFirstFree, Places, recounted};
+ghost use Rattle.hashbag_slots.specs.Slots.{IsSlotCount, entries, IsAbsent, IsFirstFree, Places, recounted, live_count, removed_count};
 ghost use Rattle.hashbag_table.specs.Asked.{MayAskInTurn, Retains};
 ghost use Rattle.hashbag_table.specs.Entries.{entry_of, count_of, without, with_count, with_fewer, with_instance, total, IsCounted};
 ghost use Rattle.hashbag_table.specs.Retained.{RetainsTables};
 ghost use Rattle.hashbag_table.specs.Table.{IsMapOf, ChangesSlot};
-ghost use Rattle.hashbag_table.specs.Tables.{limit, room, values, entries_of, Arrives, KeepsRoom, NoneMoved, Rewrites};
+ghost use Rattle.hashbag_table.specs.Tables.{limit, room, entries_of, Arrives, KeepsRoom, NoneMoved, Rewrites};
 
 mod keys;
 mod make;
@@ -86,9 +86,17 @@ impl<T: Eq + Hash + Drop, S: BuildHasher + Drop> Table<T, S> {
         ensures count { IsSlotCount result }
         ensures entries { self.now.entries ≡ entries_of self.now.tables.newer self.now.tables.waiting }
         ensures unmoved { NoneMoved self.now.tables.newer }
-        ensures fits { values self.now.tables ≤ limit (length self.now.tables.newer) }
+        ensures fits { live_count self.now.tables.newer + removed_count self.now.tables.newer + live_count self.now.tables.waiting ≤ limit (length self.now.tables.newer) }
     {
         self.newer.slots()
+    }
+
+    /// Does nothing, at no cost. It is called for its clause, that the entries are the Live slots of both tables.
+    #[inline(always)]
+    pub fn held(&self)
+        ensures held { self.now.entries ≡ entries_of self.now.tables.newer self.now.tables.waiting }
+    {
+        let _looked = self.looked;
     }
 
     /// The number of slots that wait to be carried. Where none does, the older table has no slots: its memory is given back.
@@ -423,12 +431,7 @@ impl<T: Eq + Hash + Drop, S: BuildHasher + Drop> Table<T, S> {
         ensures counted { IsCounted T.eq self.now.entries }
         ensures fits { length result < 2 ^ 63 }
     {
-        // `slots` is called for its clauses.
-        let _newer_slots = self.newer.slots();
-        let _older_slots = self.older.slots();
-        let newer = self.newer.walk();
-        let older = self.older.walk();
-        Walk { newer, older }
+        self.newer.walk(&self.older)
     }
 
     /// Makes a walk of the table, in an open order: each value once, with its count.
@@ -439,9 +442,6 @@ impl<T: Eq + Hash + Drop, S: BuildHasher + Drop> Table<T, S> {
         ensures counted { IsCounted T.eq self.entries }
         ensures fits { length result < 2 ^ 63 }
     {
-        // `slots` is called for its clauses.
-        let _newer_slots = self.newer.slots();
-        let _older_slots = self.older.slots();
         let Table {
             newer,
             older,
@@ -451,12 +451,7 @@ impl<T: Eq + Hash + Drop, S: BuildHasher + Drop> Table<T, S> {
             built: _,
             lent: _,
         } = self;
-        let first = newer.into_walk();
-        let second = older.into_walk();
-        IntoWalk {
-            newer: first,
-            older: second,
-        }
+        newer.into_walk(older)
     }
 
     /// Takes all entries out, and walks over them, in an open order: each value once, with its count.
@@ -469,19 +464,11 @@ impl<T: Eq + Hash + Drop, S: BuildHasher + Drop> Table<T, S> {
         ensures counted { IsCounted T.eq self.old.entries }
         ensures fits { length (drain_rest result) < 2 ^ 63 }
     {
-        // `slots` is called for its clauses.
-        let _newer_slots = self.newer.slots();
-        let _older_slots = self.older.slots();
         let newer = mem::replace(&mut self.newer, no_slots(self.alloc));
         let older = mem::replace(&mut self.older, no_slots(self.alloc));
         self.looked = 0;
-        let first = newer.into_walk();
-        let second = older.into_walk();
         DrainWalk {
-            taken: IntoWalk {
-                newer: first,
-                older: second,
-            },
+            taken: newer.into_walk(older),
             table: &mut self.lent,
         }
     }

@@ -1,7 +1,7 @@
 //! Room and slots of a bag: how much there is, what is made, and what is given back.
 ghost use Rattle.std.specs.Prelude.{◌≡◌, ℕ, ◌+◌, ◌*◌, ◌<◌, ◌≤◌, [], length, IsOk, OnOk, OnErr};
-ghost use Rattle.hashbag_slots.specs.Slots.{IsSlotCount};
-ghost use Rattle.hashbag_table.specs.Tables.{limit, room, values, IsPacked, ReservesOrStays, ShrinksOrStays, NoneMoved};
+ghost use Rattle.hashbag_slots.specs.Slots.{IsSlotCount, live_count, removed_count};
+ghost use Rattle.hashbag_table.specs.Tables.{limit, room, values, IsPacked, Carried, KeepsRoom, ReservesOrStays, ShrinksOrStays, NoneMoved};
 ghost use Rattle.hashbag_core.specs.Occurrences.{distinct_count};
 ghost use Rattle.hashbag_core.specs.Held.{no_slots, AreHeld, NeedsSlots, HasLeastFor, BuildsSlots};
 ghost use Rattle.hashbag_table.specs.declared.table.TheConstants.{MOST_VALUES};
@@ -43,7 +43,7 @@ impl<T: Eq + Hash + Drop, S: BuildHasher + Drop> HashBag<T, S> {
         ensures count { IsSlotCount result }
         ensures held { AreHeld T.eq self.now.items self.now.tables }
         ensures unmoved { NoneMoved self.now.tables.newer }
-        ensures fits { values self.now.tables ≤ limit (length self.now.tables.newer) }
+        ensures fits { live_count self.now.tables.newer + removed_count self.now.tables.newer + live_count self.now.tables.waiting ≤ limit (length self.now.tables.newer) }
         ensures values { values self.now.tables ≡ distinct_count T.eq self.now.items }
     {
         self.table.slots()
@@ -67,6 +67,31 @@ impl<T: Eq + Hash + Drop, S: BuildHasher + Drop> HashBag<T, S> {
         ensures freed { result ≡ 0 → self.now.tables.older ≡ 0 }
     {
         self.table.waiting()
+    }
+
+    /// Carries all that waits, so that from then on a look-up probes one table of slots alone. What occurs stays, and no room is lost.
+    ///
+    /// It takes no memory, hashes each waiting value once, and frees the older table. Where nothing waits it does nothing. A bag that is
+    /// filled once and then only asked is asked at less cost after it: nothing but insertions of absent values carries else.
+    ///
+    /// ```
+    /// let mut bag = HashBag::new(alloc);
+    /// for value in 0..25u64 {
+    ///     bag.insert(value)?;
+    /// }
+    /// bag.waiting(); // 16
+    /// bag.finish_carry();
+    /// bag.waiting(); // 0
+    /// Ok(())
+    /// ```
+    pub fn finish_carry(&mut self)
+        ensures kept { IsBagOf T.eq self.old self.old.items self.new }
+        ensures len { length self.new.items ≡ length self.old.items }
+        ensures waiting { self.new.tables.waiting ≡ [] }
+        ensures carried { Carried (length self.old.tables.waiting) self.old.tables.newer self.old.tables.waiting self.new.tables.newer self.new.tables.waiting }
+        ensures room { KeepsRoom 0 self.old.tables self.new.tables }
+    {
+        self.table.finish_carry();
     }
 
     /// How many absent values may be inserted before the bag grows. None of these insertions takes memory.

@@ -6,7 +6,7 @@ ghost use Rattle.hashbag_slots.specs.Slots.{entries};
 ghost use Rattle.hashbag_slots.specs.Columns.{IsReached};
 ghost use Rattle.hashbag_table.specs.Entries.{IsCounted};
 ghost use Rattle.hashbag_table.specs.Table.{IsMapOf, IfLarger};
-ghost use Rattle.hashbag_table.specs.Tables.{limit, room, values, IsLeast, HasLeast, IsPacked, ReservesOrStays, ShrinksOrStays, Carried, IsReady, MayAdopt};
+ghost use Rattle.hashbag_table.specs.Tables.{limit, room, values, IsLeast, HasLeast, IsPacked, KeepsRoom, ReservesOrStays, ShrinksOrStays, Carried, IsReady, MayAdopt};
 
 use crate::capacity::{CARRIED_AT_ONCE, carry_next, grown_slots, least_slots, no_slots};
 use crate::table::{MOST_VALUES, Table};
@@ -32,6 +32,27 @@ impl<T: Eq + Hash + Drop, S: BuildHasher + Drop> Table<T, S> {
             &mut self.older,
             self.looked,
             CARRIED_AT_ONCE,
+            &self.hasher,
+            self.alloc,
+        );
+    }
+
+    /// Carries all that waits, so that from then on a look-up probes one table alone. The entries stay.
+    ///
+    /// It takes no memory, hashes each waiting value once, goes through the slots that wait, and frees them. Where nothing waits it
+    /// does nothing.
+    pub fn finish_carry(&mut self)
+        ensures entries { IsMapOf T.eq self.old self.old.entries self.new }
+        ensures waiting { self.new.tables.waiting ≡ [] }
+        ensures carried { Carried (length self.old.tables.waiting) self.old.tables.newer self.old.tables.waiting self.new.tables.newer self.new.tables.waiting }
+        ensures room { KeepsRoom 0 self.old.tables self.new.tables }
+    {
+        let waiting = self.older.slots() - self.looked;
+        self.looked = carry_next(
+            &mut self.newer,
+            &mut self.older,
+            self.looked,
+            waiting,
             &self.hasher,
             self.alloc,
         );

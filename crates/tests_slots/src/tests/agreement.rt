@@ -56,11 +56,11 @@ fn finds_all(rt: &impl Abort, table: &Numbers, counts: &[usize; VALUES]) {
 }
 
 // Checks the counts of all values by a walk.
-fn walks_over_all(rt: &impl Abort, table: &Numbers, counts: &[usize; VALUES]) {
+fn walks_over_all(rt: &impl Abort, table: &Numbers, none: &Numbers, counts: &[usize; VALUES]) {
     let live = live_of(counts);
     answers(rt, "live", 0, &table.slots.live(), &live);
-    answers(rt, "walk", 0, &table.slots.walk().len(), &live);
-    for (value, count) in table.slots.walk() {
+    answers(rt, "walk", 0, &table.slots.walk(&none.slots).len(), &live);
+    for (value, count) in table.slots.walk(&none.slots) {
         let wanted = counts.get(*value as usize).copied();
         answers(rt, "walk", *value, &Some(count), &wanted);
     }
@@ -69,6 +69,7 @@ fn walks_over_all(rt: &impl Abort, table: &Numbers, counts: &[usize; VALUES]) {
 #[test]
 fn with_a_list_of_counts(rt: HostRuntime) -> Result<(), Fail> {
     let mut table: Numbers = Held::new(rt.alloc(), BuildHasherDefault::new(), 6)?;
+    let none: Numbers = Held::none(rt.alloc(), BuildHasherDefault::new())?;
     let mut counts = [0; VALUES];
     let mut number = 1;
     for step in 0..3000 {
@@ -85,6 +86,6 @@ fn with_a_list_of_counts(rt: HostRuntime) -> Result<(), Fail> {
         }
     }
     finds_all(&rt, &table, &counts);
-    walks_over_all(&rt, &table, &counts);
+    walks_over_all(&rt, &table, &none, &counts);
     Ok(())
 }

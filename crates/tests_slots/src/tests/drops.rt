@@ -171,17 +171,18 @@ fn drop_next(rt: &impl Abort, walk: &mut IntoWalk<Counted<'_>>, drops: &Cell<usi
 // A walk that is dropped after so many values.
 fn walk_half_way(rt: &impl Abort, alloc: Global, taken: usize) -> Result<(), AllocError> {
     let drops = Cell::new(0);
-    let mut walk = values(rt, alloc, &drops, 4)?.into_walk();
+    let older = values(rt, alloc, &drops, 2)?;
+    let mut walk = values(rt, alloc, &drops, 3)?.into_walk(older);
     drop_next(rt, &mut walk, &drops, taken);
-    has_dropped(rt, "the items", &drops, taken.min(4));
+    has_dropped(rt, "the items", &drops, taken.min(5));
     drop(walk);
-    has_dropped(rt, "the drop of the walk", &drops, 4);
+    has_dropped(rt, "the drop of the walk", &drops, 5);
     Ok(())
 }
 
 #[test]
 fn by_walks(rt: HostRuntime) -> Result<(), Fail> {
-    for taken in 0..5 {
+    for taken in 0..7 {
         walk_half_way(&rt, rt.alloc(), taken)?;
     }
     Ok(())

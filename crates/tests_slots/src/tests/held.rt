@@ -160,9 +160,13 @@ impl<T: Eq + Hash + Drop, S: BuildHasher + Drop> Held<T, S> {
         self.slots.clear();
     }
 
-    /// The table as a walk.
-    pub fn into_walk(self) -> IntoWalk<T> {
+    /// The table and an older one as a walk.
+    pub fn into_walk(self, older: Held<T, S>) -> IntoWalk<T> {
         let Held { slots, state: _ } = self;
-        slots.into_walk()
+        let Held {
+            slots: older_slots,
+            state: _,
+        } = older;
+        slots.into_walk(older_slots)
     }
 }

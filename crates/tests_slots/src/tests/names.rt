@@ -93,7 +93,7 @@ fn are_carried(rt: HostRuntime) -> Result<(), Fail> {
         let live = pair.newer.live().saturating_add(pair.older.live());
         answers(&rt, "live", 0, &live, &8);
     }
-    for (value, count) in pair.newer.walk() {
+    for (value, count) in pair.newer.walk(&pair.older) {
         assert_eq!(&rt; value.len().min(99) + 1, count, "of {value}");
     }
     Ok(())

@@ -1,4 +1,4 @@
-//! Walks: values with their counts in the order of their places.
+//! Walks over two tables: of so few slots each all are of one pass, so the newer table's values come first, in the order of their places.
 use crate::tests::checks::answers;
 use crate::tests::places::{Numbers, numbers, take};
 use hashbag_slots::walk::{IntoWalk, Walk};
@@ -39,13 +39,18 @@ fn gives(rt: &impl Abort, mut walk: Walk<'_, u64>, wanted: &[(u64, usize)]) {
     }
 }
 
-fn table_gives(rt: &impl Abort, table: &Numbers, wanted: &[(u64, usize)]) {
-    gives(rt, table.slots.walk(), wanted);
+fn table_gives(rt: &impl Abort, table: &Numbers, older: &Numbers, wanted: &[(u64, usize)]) {
+    gives(rt, table.slots.walk(&older.slots), wanted);
 }
 
 // A walk whose first value was taken, and its clone.
-fn both_give(rt: &impl Abort, table: &Numbers, wanted: &[(u64, usize)]) -> Result<(), Fail> {
-    let mut walk = table.slots.walk();
+fn both_give(
+    rt: &impl Abort,
+    table: &Numbers,
+    older: &Numbers,
+    wanted: &[(u64, usize)],
+) -> Result<(), Fail> {
+    let mut walk = table.slots.walk(&older.slots);
     let _ = walk.next();
     gives(rt, walk.clone()?, wanted);
     gives(rt, walk, wanted);
@@ -56,10 +61,14 @@ fn both_give(rt: &impl Abort, table: &Numbers, wanted: &[(u64, usize)]) -> Resul
 #[test]
 fn lent(rt: HostRuntime) -> Result<(), Fail> {
     let mut table = numbers(&rt, rt.alloc(), 15, 4)?;
-    table_gives(&rt, &table, &[(2, 2), (3, 3), (4, 4), (1, 1)]);
-    both_give(&rt, &table, &[(3, 3), (4, 4), (1, 1)])?;
+    let none = numbers(&rt, rt.alloc(), 0, 0)?;
+    table_gives(&rt, &table, &none, &[(2, 2), (3, 3), (4, 4), (1, 1)]);
+    table_gives(&rt, &none, &table, &[(2, 2), (3, 3), (4, 4), (1, 1)]);
+    both_give(&rt, &table, &none, &[(3, 3), (4, 4), (1, 1)])?;
+    both_give(&rt, &none, &table, &[(3, 3), (4, 4), (1, 1)])?;
     take(&rt, &mut table, 3, 3);
-    table_gives(&rt, &table, &[(2, 2), (4, 4), (1, 1)]);
+    let older = numbers(&rt, rt.alloc(), 7, 1)?;
+    table_gives(&rt, &table, &older, &[(2, 2), (4, 4), (1, 1), (1, 1)]);
     Ok(())
 }
 
@@ -83,11 +92,15 @@ fn next_is(rt: &impl Abort, walk: &mut IntoWalk<u64>, wanted: Option<(u64, usize
 
 #[test]
 fn owned(rt: HostRuntime) -> Result<(), Fail> {
-    let mut walk = numbers(&rt, rt.alloc(), 15, 3)?.into_walk();
-    rest_gives(&rt, &walk, &[(2, 2), (3, 3), (1, 1)]);
+    let older = numbers(&rt, rt.alloc(), 7, 1)?;
+    let mut walk = numbers(&rt, rt.alloc(), 15, 3)?
+        .into_walk(older);
+    rest_gives(&rt, &walk, &[(2, 2), (3, 3), (1, 1), (1, 1)]);
     next_is(&rt, &mut walk, Some((2, 2)));
-    rest_gives(&rt, &walk, &[(3, 3), (1, 1)]);
+    rest_gives(&rt, &walk, &[(3, 3), (1, 1), (1, 1)]);
     next_is(&rt, &mut walk, Some((3, 3)));
+    next_is(&rt, &mut walk, Some((1, 1)));
+    rest_gives(&rt, &walk, &[(1, 1)]);
     next_is(&rt, &mut walk, Some((1, 1)));
     rest_gives(&rt, &walk, &[]);
     next_is(&rt, &mut walk, None);

@@ -16,7 +16,7 @@ use Rattle.hashbag_script.specs.declared.script.Step.{Step}
 use Rattle.hashbag_core.proofs.HeldLemmas.{none_left}
 use Rattle.hashbag_script.proofs.RoomLemmas.{first_not_about, few_newcomers, roomy_first, next_enough, roomy_next, moves_within}
 use Rattle.hashbag_script.proofs.BoundLemmas.{shaped_by, smaller_by, no_slots_paid, paid_next, means_none, bounded_from, unanswered}
-use Rattle.hashbag_script.proofs.TurnLemmas.{in_turn_more, in_turn_from, turns_rearranged}
+use Rattle.hashbag_script.proofs.TurnLemmas.{in_turn_more, in_turn_from, hold_rearranged, turns_rearranged}
 use Rattle.hashbag_script.proofs.script.run.Goals as goal
 
 pub loop-step-init : goal.loop-step-init
@@ -29,6 +29,7 @@ loop-step-init g c = record {
   limit = λ X means. sym (limit_none g.T.PartialEq.eq c.args.bag.now.most X);
   hasher = refl;
   roomy = λ X means roomy. roomy_first g.met.T.Eq.laws c.args.bag.now.most X _ c.args.bag.now.tables roomy;
+  held = c.slots-slots.ensures.held;
   shaped = let s = c.slots-slots.ensures in let w = c.waiting-waiting.ensures in shaped_by g.T.PartialEq.eq _ _ _ _ s.slots s.count s.values s.fits w.waiting w.smaller;
   paid = λ empty none. no_slots_paid g.T.PartialEq.eq c.args.bag.now.most c.args.bag.now.tables none;
   turned = λ X means. refl;
@@ -68,6 +69,7 @@ loop-step-preserved g c =
           let quiet = first_not_about at.yielded (into_iter_items c.next.new.self) x (ap (list_any is_about_room) whole ∙ roomy.calls) in
           let enough = next_enough g.met.T.Eq.laws most at.bag.most X at.bag.items at.yielded (into_iter_items c.next.new.self) x _ at.bag.tables so_far (at.invariant.means X means) (same X means).left in
           roomy_next g.met.T.Eq.laws most at.bag.most X at.bag.items at.yielded (into_iter_items c.next.new.self) x _ at.bag.tables _ so_far (at.invariant.means X means) (same X means).left (moves_within _ _ _ (c.in_ok-reply.ensures.turns.moves quiet) enough);
+      held = c.slots-slots-in-loop-step.ensures.held;
       shaped = let s = c.slots-slots-in-loop-step.ensures in let w = c.waiting-waiting-in-loop-step.ensures in shaped_by g.T.PartialEq.eq _ _ _ _ s.slots s.count s.values s.fits w.waiting w.smaller;
       paid = λ empty none.
           let nothing = means_none g.T.PartialEq.eq c.args.bag.now empty in
@@ -75,6 +77,7 @@ loop-step-preserved g c =
           c.in_ok-reply.ensures.turns.moves c.in_ok-reply.ensures.fewer (at.invariant.paid empty none);
       turned = λ X means.
           in_turn_more eq most X at.yielded x c.args.bag.now.tables at.bag.tables c.apply.new.bag.tables (at.invariant.turned X means)
+          (hold_rearranged g.met.T.Eq.laws (run_of eq most X at.yielded).0 at.bag.items at.bag.tables (at.invariant.means X means) at.invariant.held at.invariant.shaped.known)
           (turns_rearranged g.met.T.Eq.laws at.bag.most (limit_left eq most X at.yielded) (run_of eq most X at.yielded).0 at.bag.items x at.bag.tables c.apply.new.bag.tables (at.invariant.means X means) (same X means).left c.in_ok-reply.ensures.turns);
     }
 

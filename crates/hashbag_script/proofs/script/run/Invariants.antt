@@ -1,6 +1,7 @@
 use Rattle.std.proofs.Common.{◌≡◌, ◌++◌, ◌+◌, ◌≤◌, List, [], length, vec_len, vec_capacity}
 use Rattle.std.specs.Vec.Iter.{into_iter_items, into_iter_len}
 use Rattle.hashbag_core.specs.Bag.{Means}
+use Rattle.hashbag_core.specs.Held.{AreHeld}
 use Rattle.hashbag_script.specs.Script.{run as run_of, limit_left, IsRoomy}
 use Rattle.hashbag_script.specs.Turns.{TablesInTurn}
 use Rattle.hashbag_script.proofs.RoomLemmas.{IsStillRoomy}
@@ -18,6 +19,7 @@ invariant-loop-step g l = record {
   limit : (X : List g.row.T.Denot) → Means l.initial.bag X → l.bag.most ≡ limit_left g.T.PartialEq.eq l.initial.bag.most X l.yielded;
   hasher : l.bag.hasher ≡ l.initial.bag.hasher;
   roomy : (X : List g.row.T.Denot) → Means l.initial.bag X → IsRoomy g.T.PartialEq.eq l.initial.bag.most X (into_iter_items l.initial.step-iterator) l.initial.bag.tables → IsStillRoomy g.T.PartialEq.eq l.initial.bag.most X l.yielded (into_iter_items l.step-iterator) l.initial.bag.tables l.bag.tables;
+  held : AreHeld g.T.PartialEq.eq l.bag.items l.bag.tables;
   shaped : IsShaped g.T.PartialEq.eq l.bag.items l.bag.tables;
   paid : l.initial.bag.items ≡ [] → l.initial.bag.tables.newer ≡ [] → IsPaid g.T.PartialEq.eq l.initial.bag.most l.yielded l.initial.bag.tables l.bag.tables;
   turned : (X : List g.row.T.Denot) → Means l.initial.bag X → TablesInTurn g.T.PartialEq.eq l.initial.bag.most X l.yielded l.initial.bag.tables l.bag.tables;

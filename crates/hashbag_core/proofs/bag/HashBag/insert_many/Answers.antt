@@ -6,7 +6,7 @@ use Rattle.hashbag_core.proofs.DistinctLemmas.{distinct_added, distinct_same, di
 use Rattle.hashbag_core.proofs.InsertLemmas.{inserts_none}
 use Rattle.hashbag_core.proofs.OccurrenceLemmas.{add_occurrences, bag_from_tally, tally_added, count_occurrences, count_of_entry, count_in_tally}
 use Rattle.std.proofs.lemmas.Bool.{false≢true}
-use Rattle.hashbag_core.proofs.HeldLemmas.{absent_in_table, present_in_table, recounts_some}
+use Rattle.hashbag_core.proofs.HeldLemmas.{held_by, absent_in_table, present_in_table, recounts_some}
 use Rattle.hashbag_core.proofs.bag.HashBag.insert_many.Goals as goal
 
 pub add-requires-clause-fits : goal.add-requires-clause-fits
@@ -66,4 +66,5 @@ returns-clause-inserted g c =
       slot = λ _ there. rw same (recounts_some g.T.PartialEq.eq c.args.value _ _ _ (omega (arith, some)) (c.add.ensures.slot (present_in_table laws c.args.value _ was.counted there)));
       less_room = done.room;
       same_room = λ there. done.same_room (omega (arith, same, before, there));
+      held = λ _. held_by g.T.PartialEq.eq _ _ c.held.ensures.held c.add.ensures.counted;
     })

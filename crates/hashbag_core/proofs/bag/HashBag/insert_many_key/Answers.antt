@@ -2,6 +2,7 @@ use Rattle.std.proofs.Common.{◌≡◌, ◌<◌, arith, sym, ◌∙◌}
 use Rattle.std.proofs.lemmas.Result.{err_from_is_err_and}
 use Rattle.hashbag_core.specs.Bag.{occurrences}
 use Rattle.hashbag_core.specs.Keys.{count_named}
+use Rattle.hashbag_core.proofs.HeldLemmas.{held_by}
 use Rattle.hashbag_core.proofs.KeyLemmas.{named_occurrences, none_named_there, named_in_tally, inserts_added}
 use Rattle.hashbag_core.proofs.OccurrenceLemmas.{add_occurrences, tally_added}
 use Rattle.hashbag_core.proofs.bag.HashBag.insert_many_key.Goals as goal
@@ -45,7 +46,7 @@ returns-in_err-before-clause-takes g c = λ fits there.
 pub returns-clause-inserted : goal.returns-clause-inserted
 returns-clause-inserted g c = λ some.
     let came = c.in_ok-before.ensures.added in
-    rw (← c.self.view_is) (came.0, came.1, inserts_added g.met.T.Eq.laws came.0 c.args.n c.self.inside.len c.self.inside.table c.add_key.new.self some c.self.invariant (invariant_of-self-2 g c) came.2)
+    rw (← c.self.view_is) (came.0, came.1, inserts_added g.met.T.Eq.laws came.0 c.args.n c.self.inside.len c.self.inside.table c.add_key.new.self some c.self.invariant (invariant_of-self-2 g c) came.2 (held_by g.T.PartialEq.eq _ _ c.held.ensures.held c.add_key.ensures.counted))
 
 pub returns-clause-len : goal.returns-clause-len
 returns-clause-len g c =

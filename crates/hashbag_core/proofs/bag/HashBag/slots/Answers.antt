@@ -1,19 +1,16 @@
-use Rattle.std.proofs.Common.{◌≡◌, length, ap, subst, arith}
+use Rattle.std.proofs.Common.{◌≡◌, length, ap, arith}
 use Rattle.std.proofs.lemmas.List.{length-append}
 use Rattle.hashbag_slots.specs.Slots.{entries}
 use Rattle.hashbag_table.specs.Tables.{values}
 use Rattle.hashbag_table.proofs.SlotLemmas.{length-entries}
 use Rattle.hashbag_core.specs.Occurrences.{distinct_count}
 use Rattle.hashbag_core.proofs.DistinctLemmas.{distinct_count-occurrences}
-use Rattle.hashbag_table.specs.Entries.{IsCounted}
 use Rattle.hashbag_core.specs.Bag.{occurrences}
+use Rattle.hashbag_core.proofs.HeldLemmas.{held_by}
 use Rattle.hashbag_core.proofs.bag.HashBag.slots.Goals as goal
 
 pub returns-clause-held : goal.returns-clause-held
-returns-clause-held g c = rw (← c.self.view_is) (record {
-  entries = ap occurrences c.slots.ensures.entries;
-  counted = subst (λ es. IsCounted g.T.PartialEq.eq es) c.slots.ensures.entries c.self.invariant.counted;
-})
+returns-clause-held g c = rw (← c.self.view_is) (held_by g.T.PartialEq.eq _ _ c.slots.ensures.entries c.self.invariant.counted)
 
 pub returns-clause-unmoved : goal.returns-clause-unmoved
 returns-clause-unmoved g c = rw (← c.self.view_is) c.slots.ensures.unmoved

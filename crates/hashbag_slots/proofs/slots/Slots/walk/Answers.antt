@@ -1,11 +1,42 @@
-use Rattle.std.proofs.Common.{sym, subst, arith}
-use Rattle.hashbag_slots.specs.Walks.{IsWalk}
-use Rattle.hashbag_slots.proofs.Walking.{IsWalk-all, IsAhead-none}
+use Rattle.std.proofs.Common.{◌≡◌, ◌+◌, ◌<◌, ◌^◌, ◌++◌, length, refl, sym, subst, arith}
+use Rattle.std.specs.List.Sorted.{IsPermutation}
+use Rattle.hashbag_slots.specs.Columns.{columns}
+use Rattle.hashbag_slots.specs.Slots.{entries}
+use Rattle.hashbag_slots.specs.Walks.{of_turn, IsWalk, IsCourse, entries_left}
+use Rattle.hashbag_slots.proofs.WalkOrder.{walk_all, few, begins, length_few, first_on_course}
 use Rattle.hashbag_slots.proofs.slots.Slots.walk.Goals as goal
 
+pub overflow_add-result : goal.overflow_add-result
+overflow_add-result g c =
+    let i = c.self.inside in let o = c.older.inside in
+    let f = few i.tags.items o.tags.items i.cells o.cells g.T.PartialEq.eq i.live i.removed o.live o.removed c.self.invariant c.older.invariant in omega (arith, f)
+
 pub invariant_of-result : goal.invariant_of-result
-invariant_of-result g c = (
-  subst (λ ts. IsWalk ts c.self.inside.cells 0 c.self.inside.live) (sym c.as_slice.ensures.value)
-      (IsWalk-all c.self.inside.tags.items c.self.inside.cells c.self.inside.live c.self.invariant.agree c.self.invariant.table.live_is),
-  IsAhead-none c.as_slice.result.now 0 (omega arith),
-)
+invariant_of-result g c =
+    let i = c.self.inside in let o = c.older.inside in
+    subst (λ course. IsWalk c.as_slice.result.now c.as_slice-2.result.now i.cells o.cells course.turn course.next (i.live + o.live) × IsCourse c.as_slice.result.now c.as_slice-2.result.now course × (i.cells ≡ of_turn course.turn i.cells o.cells)) (sym c.first.ensures) (
+      subst (λ ts. IsWalk ts c.as_slice-2.result.now i.cells o.cells 5 0 (i.live + o.live)) (sym c.as_slice.ensures.value)
+          (subst (λ us. IsWalk i.tags.items us i.cells o.cells 5 0 (i.live + o.live)) (sym c.as_slice-2.ensures.value)
+          (begins i.tags.items o.tags.items i.cells o.cells g.T.PartialEq.eq i.live i.removed o.live o.removed c.self.invariant c.older.invariant)),
+      first_on_course c.as_slice.result.now c.as_slice-2.result.now i.cells o.cells,
+      refl,
+    )
+
+pub returns-clause-entries : goal.returns-clause-entries
+returns-clause-entries g c =
+    let i = c.self.inside in let o = c.older.inside in
+    let es = entries c.args.self.now.slots ++ entries c.args.older.now.slots in
+    subst (λ course. IsPermutation es (entries_left course.turn course.next c.as_slice.result.now c.as_slice-2.result.now i.cells o.cells)) (sym c.first.ensures)
+    (subst (λ ts. IsPermutation es (entries_left 5 0 ts c.as_slice-2.result.now i.cells o.cells)) (sym c.as_slice.ensures.value)
+    (subst (λ us. IsPermutation es (entries_left 5 0 i.tags.items us i.cells o.cells)) (sym c.as_slice-2.ensures.value)
+    (subst (λ s. IsPermutation (entries s.slots ++ entries c.args.older.now.slots) (entries_left 5 0 i.tags.items o.tags.items i.cells o.cells)) c.self.view_is
+    (subst (λ s. IsPermutation (entries (columns i.tags.items i.cells).slots ++ entries s.slots) (entries_left 5 0 i.tags.items o.tags.items i.cells o.cells)) c.older.view_is
+    (walk_all i.tags.items o.tags.items i.cells o.cells c.self.invariant.agree c.older.invariant.agree)))))
+
+pub returns-clause-fits : goal.returns-clause-fits
+returns-clause-fits g c =
+    let i = c.self.inside in let o = c.older.inside in
+    subst (λ course. length (entries_left course.turn course.next c.as_slice.result.now c.as_slice-2.result.now i.cells o.cells) < 2 ^ 63) (sym c.first.ensures)
+    (subst (λ ts. length (entries_left 5 0 ts c.as_slice-2.result.now i.cells o.cells) < 2 ^ 63) (sym c.as_slice.ensures.value)
+    (subst (λ us. length (entries_left 5 0 i.tags.items us i.cells o.cells) < 2 ^ 63) (sym c.as_slice-2.ensures.value)
+    (length_few i.tags.items o.tags.items i.cells o.cells g.T.PartialEq.eq i.live i.removed o.live o.removed c.self.invariant c.older.invariant)))

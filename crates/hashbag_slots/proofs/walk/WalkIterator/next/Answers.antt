@@ -1,30 +1,68 @@
-use Rattle.std.proofs.Common.{◌+◌, sym, ◌∙◌}
-use Rattle.hashbag_slots.specs.Walks.{entries_from}
-use Rattle.hashbag_slots.proofs.Walking.{one_goes, walk_gives, walk_ends, some_left, walk_goes_on}
+use Rattle.std.proofs.Common.{◌≡◌, Some, sym, ap, ◌∙◌}
+use Rattle.hashbag_slots.specs.Cells.{cell_at}
+use Rattle.hashbag_slots.specs.Walks.{of_turn, entries_left}
+use Rattle.hashbag_slots.proofs.Walking.{one_goes}
+use Rattle.hashbag_slots.proofs.WalkSteps.{none_left, agree_in, walk_gives, walk_ends, some_left, walk_goes_on}
+use Rattle.hashbag_slots.proofs.walk.WalkIterator.next.Goals.{then-course-self, else-course-self}
 use Rattle.hashbag_slots.proofs.walk.WalkIterator.next.Goals as goal
 
 pub get-entry-requires : goal.get-entry-requires
-get-entry-requires g c = c.self.invariant.0.agree.filled c.in-Some.place c.in-Some.ensures.some.2
+get-entry-requires g c =
+    let w = c.self.inside in let on = c.in-Some.ensures.some in let turn = c.in-Some.course.turn in
+    let here : c.if-course-self.cells.now ≡ of_turn turn w.newer.now w.older.now = elim c.if-course-self.branch [
+      | then-course-self b ↦ ap (λ cs. cs.now) b.cells-is ∙ c.self.invariant.2 ∙ sym (ap (λ t. of_turn t w.newer.now w.older.now) b.if-course-self.true)
+      | else-course-self b ↦ ap (λ cs. cs.now) b.cells-is ∙ b.cells_of-cells.ensures
+    ] in
+    let cell = (agree_in w.newer_tags.now w.older_tags.now w.newer.now w.older.now w.course.turn w.course.next w.left c.self.invariant.0 turn).filled c.in-Some.place on.live in
+    (cell.0, ap (λ cs. cell_at cs c.in-Some.place) here ∙ cell.1)
 
 pub overflow_sub-self : goal.overflow_sub-self
 overflow_sub-self g c =
-    some_left c.self.inside.tags.now c.self.inside.cells.now c.self.inside.next c.self.inside.left c.self.invariant.0 c.in-Some.place c.in-Some.ensures.some c.get-entry.result.now c.get-entry.ensures
+    let w = c.self.inside in let on = c.in-Some.ensures.some in let turn = c.in-Some.course.turn in
+    let here : c.if-course-self.cells.now ≡ of_turn turn w.newer.now w.older.now = elim c.if-course-self.branch [
+      | then-course-self b ↦ ap (λ cs. cs.now) b.cells-is ∙ c.self.invariant.2 ∙ sym (ap (λ t. of_turn t w.newer.now w.older.now) b.if-course-self.true)
+      | else-course-self b ↦ ap (λ cs. cs.now) b.cells-is ∙ b.cells_of-cells.ensures
+    ] in
+    let cell : cell_at (of_turn turn w.newer.now w.older.now) c.in-Some.place ≡ Some c.get-entry.result.now = ap (λ cs. cell_at cs c.in-Some.place) (sym here) ∙ c.get-entry.ensures in
+    some_left w.newer_tags.now w.older_tags.now w.newer.now w.older.now w.course.turn w.course.next w.left c.self.invariant.0 c.in-Some.place c.in-Some.course on c.get-entry.result.now cell
 
 pub invariant_of-self : goal.invariant_of-self
-invariant_of-self g c = (
-  walk_goes_on c.self.inside.tags.now c.self.inside.cells.now c.self.inside.next c.self.inside.left c.self.invariant.0 c.in-Some.place c.in-Some.ensures.some c.get-entry.result.now c.get-entry.ensures,
-  c.in-Some.ensures.ahead,
-)
+invariant_of-self g c =
+    let w = c.self.inside in let on = c.in-Some.ensures.some in let turn = c.in-Some.course.turn in
+    let here : c.if-course-self.cells.now ≡ of_turn turn w.newer.now w.older.now = elim c.if-course-self.branch [
+      | then-course-self b ↦ ap (λ cs. cs.now) b.cells-is ∙ c.self.invariant.2 ∙ sym (ap (λ t. of_turn t w.newer.now w.older.now) b.if-course-self.true)
+      | else-course-self b ↦ ap (λ cs. cs.now) b.cells-is ∙ b.cells_of-cells.ensures
+    ] in
+    let cell : cell_at (of_turn turn w.newer.now w.older.now) c.in-Some.place ≡ Some c.get-entry.result.now = ap (λ cs. cell_at cs c.in-Some.place) (sym here) ∙ c.get-entry.ensures in
+    (walk_goes_on w.newer_tags.now w.older_tags.now w.newer.now w.older.now w.course.turn w.course.next w.left c.self.invariant.0 c.in-Some.place c.in-Some.course on c.get-entry.result.now cell, on.course, here)
 
-pub returns-in-Some-clause-steps : goal.returns-in-Some-clause-steps
-returns-in-Some-clause-steps g c =
-    sym c.self.view_is ∙ walk_gives c.self.inside.tags.now c.self.inside.cells.now c.self.inside.next c.self.inside.left c.self.invariant.0 c.in-Some.place c.in-Some.ensures.some c.get-entry.result.now c.get-entry.ensures
+pub returns-after-course-self-clause-steps : goal.returns-after-course-self-clause-steps
+returns-after-course-self-clause-steps g c =
+    let w = c.self.inside in let on = c.in-Some.ensures.some in let turn = c.in-Some.course.turn in
+    let here : c.if-course-self.cells.now ≡ of_turn turn w.newer.now w.older.now = elim c.if-course-self.branch [
+      | then-course-self b ↦ ap (λ cs. cs.now) b.cells-is ∙ c.self.invariant.2 ∙ sym (ap (λ t. of_turn t w.newer.now w.older.now) b.if-course-self.true)
+      | else-course-self b ↦ ap (λ cs. cs.now) b.cells-is ∙ b.cells_of-cells.ensures
+    ] in
+    let cell : cell_at (of_turn turn w.newer.now w.older.now) c.in-Some.place ≡ Some c.get-entry.result.now = ap (λ cs. cell_at cs c.in-Some.place) (sym here) ∙ c.get-entry.ensures in
+    sym c.self.view_is ∙ walk_gives w.newer_tags.now w.older_tags.now w.newer.now w.older.now w.course.turn w.course.next w.left c.self.invariant.0 c.in-Some.place c.in-Some.course on c.get-entry.result.now cell
 
-pub returns-in-Some-clause-goes : goal.returns-in-Some-clause-goes
-returns-in-Some-clause-goes g c =
-    one_goes c.args.self.now (entries_from (c.in-Some.place + 1) c.self.inside.tags.now c.self.inside.cells.now) c.get-entry.result.now _
-    (sym c.self.view_is ∙ walk_gives c.self.inside.tags.now c.self.inside.cells.now c.self.inside.next c.self.inside.left c.self.invariant.0 c.in-Some.place c.in-Some.ensures.some c.get-entry.result.now c.get-entry.ensures)
+pub returns-after-course-self-clause-goes : goal.returns-after-course-self-clause-goes
+returns-after-course-self-clause-goes g c =
+    let w = c.self.inside in let on = c.in-Some.ensures.some in let turn = c.in-Some.course.turn in
+    let here : c.if-course-self.cells.now ≡ of_turn turn w.newer.now w.older.now = elim c.if-course-self.branch [
+      | then-course-self b ↦ ap (λ cs. cs.now) b.cells-is ∙ c.self.invariant.2 ∙ sym (ap (λ t. of_turn t w.newer.now w.older.now) b.if-course-self.true)
+      | else-course-self b ↦ ap (λ cs. cs.now) b.cells-is ∙ b.cells_of-cells.ensures
+    ] in
+    let cell : cell_at (of_turn turn w.newer.now w.older.now) c.in-Some.place ≡ Some c.get-entry.result.now = ap (λ cs. cell_at cs c.in-Some.place) (sym here) ∙ c.get-entry.ensures in
+    one_goes c.args.self.now (entries_left turn c.in-Some.course.next w.newer_tags.now w.older_tags.now w.newer.now w.older.now) c.get-entry.result.now _
+    (sym c.self.view_is ∙ walk_gives w.newer_tags.now w.older_tags.now w.newer.now w.older.now w.course.turn w.course.next w.left c.self.invariant.0 c.in-Some.place c.in-Some.course on c.get-entry.result.now cell)
 
 pub returns-in-None-clause-steps : goal.returns-in-None-clause-steps
 returns-in-None-clause-steps g c =
-    let e = sym c.self.view_is ∙ walk_ends c.self.inside.tags.now c.self.inside.cells.now c.self.inside.next c.self.inside.left c.self.invariant.0 c.in-None.ensures.none in (e, e)
+    let w = c.self.inside in
+    let e = sym c.self.view_is ∙ walk_ends w.newer_tags.now w.older_tags.now w.newer.now w.older.now w.course.turn w.course.next w.left c.self.invariant.0 c.in-None.ensures.none in (e, e)
+
+pub returns-then-self-eq0-clause-steps : goal.returns-then-self-eq0-clause-steps
+returns-then-self-eq0-clause-steps g c =
+    let w = c.self.inside in
+    let e = sym c.self.view_is ∙ none_left (entries_left w.course.turn w.course.next w.newer_tags.now w.older_tags.now w.newer.now w.older.now) w.left c.self.invariant.0.count c.if-self-eq0.true in (e, e)

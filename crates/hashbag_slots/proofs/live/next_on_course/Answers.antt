@@ -1,0 +1,48 @@
+use Rattle.std.proofs.Common.{◌≡◌, ◌+◌, ◌-◌, ◌/◌, List, ℕ, [], Option, Some, None, IfSome, IfNone, sym, subst, ◌∙◌, arith}
+use Rattle.std.proofs.lemmas.Bool.{leb-false}
+use Rattle.std.specs.Slice.Scan.{IsFirstPlace}
+use Rattle.hashbag_slots.specs.Group.{IsMaskOf, from_place_on}
+use Rattle.hashbag_slots.specs.declared.live.Course.{Course}
+use Rattle.hashbag_slots.specs.Walks.{of_turn, pass_of, places_left, IsNextOn}
+use Rattle.hashbag_slots.proofs.GroupLemmas.{none_told}
+use Rattle.hashbag_slots.proofs.Walking.{is_mark, same_pass, next_on, next_on_earlier, left_skip}
+use Rattle.hashbag_slots.proofs.live.next_on_course.Goals as goal
+
+pub overflow_sub-until : goal.overflow_sub-until
+overflow_sub-until c = c.requires.course.whole (omega arith)
+
+found_earlier : (ns os : List ℕ) (turn next from : ℕ) → places_left turn next ns os ≡ places_left turn from ns os → (r : Option (ℕ × Course)) → IfSome r (λ x. IsNextOn ns os turn from x.0 x.1) → IfSome r (λ x. IsNextOn ns os turn next x.0 x.1)
+found_earlier ns os turn next from same None on = tt
+found_earlier ns os turn next from same (Some x) on = next_on_earlier ns os turn turn next from x.0 x.1 same on
+
+none_earlier : (ns os : List ℕ) (turn next from : ℕ) → places_left turn next ns os ≡ places_left turn from ns os → (r : Option (ℕ × Course)) → IfNone r (places_left turn from ns os ≡ []) → IfNone r (places_left turn next ns os ≡ [])
+none_earlier ns os turn next from same None none = same ∙ none
+none_earlier ns os turn next from same (Some x) none = tt
+
+pub returns : goal.returns
+returns c =
+    let ns = c.args.newer.now in let os = c.args.older.now in let turn = c.args.course.turn in let next = c.args.course.next in let until = c.args.course.until in
+    let course = c.requires.course in let near = course.near in let live = is_mark (of_turn turn ns os) in
+    let none = none_told live (until - 16) next until c.args.course.ahead course.told (omega arith) c.if-ahead-ne0.false in
+    let same : places_left turn next ns os ≡ places_left turn until ns os = left_skip ns os turn next until course.from (λ q a b is. leb-false _ _ (none q a b)) in
+    record {
+      some = found_earlier ns os turn next until same c.seek.result c.seek.ensures.some;
+      none = none_earlier ns os turn next until same c.seek.result c.seek.ensures.none;
+    }
+
+pub returns-then-ahead-ne0 : goal.returns-then-ahead-ne0
+returns-then-ahead-ne0 c =
+    let ns = c.args.newer.now in let os = c.args.older.now in let turn = c.args.course.turn in let next = c.args.course.next in let until = c.args.course.until in
+    let course = c.requires.course in let near = course.near in let from = course.from in let within = course.within in let sixteen = course.sixteen in
+    let whole = course.whole (omega arith) in
+    let live = is_mark (of_turn turn ns os) in let place = c.take_lowest-place.result.0 in let rest = c.take_lowest-place.result.1 in
+    let base : ℕ = until - 16 in let up : base + 16 ≡ until = omega arith in
+    let e = c.take_lowest-place.ensures in
+    let below = e.below live next until course.told in let first = e.first live next until (omega arith) course.told in let low = first.low in
+    let here : pass_of base ≡ turn / 2 = sym (same_pass base place (omega arith) (omega arith) (omega arith)) ∙ course.in_it place low below in
+    record {
+      some = subst (λ u. IsNextOn ns os turn next place (record { turn = turn; next = place + 1; ahead = rest; until = u })) up
+          (next_on ns os turn next base place rest (omega arith) (omega arith) (omega arith) (omega arith) here (omega arith)
+          (subst (λ u. IsFirstPlace live next u place) (sym up) first) (subst (λ u. IsMaskOf (from_place_on live (place + 1)) base u rest) (sym up) (e.rest live next until course.told)));
+      none = tt;
+    }
