@@ -95,6 +95,7 @@ impl<'a, T: Eq + Hash + Drop, S: BuildHasher + Drop, S2: BuildHasher + Drop> Ite
 
     ghost remaining = { item_count (λ s. s) };
 
+    #[inline(always)]
     fn next(&mut self) -> Option<(&'a T, usize)> {
         while let Some((value, count)) = self.left.next() {
             if self.other.contains(value) == 0 {

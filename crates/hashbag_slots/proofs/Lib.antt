@@ -1,3 +1,4 @@
+pub mod Dropping
 pub mod GroupLemmas
 pub mod CarriedOver
 pub mod Carrying

@@ -38,7 +38,7 @@ module _ {T : Type 0} where
   slot_at-slots_of (t ∷ ts) (c ∷ cs) zero e = refl
   slot_at-slots_of (t ∷ ts) (c ∷ cs) (suc p) e = slot_at-slots_of ts cs p (omega arith)
 
-  none_cases : (c : Option (T × ℕ)) → ((e : T × ℕ) → c ≡ Some e → ⊥) → c ≡ None
+  pub none_cases : (c : Option (T × ℕ)) → ((e : T × ℕ) → c ≡ Some e → ⊥) → c ≡ None
   none_cases None h = refl
   none_cases (Some e) h = absurd (h e refl)
 

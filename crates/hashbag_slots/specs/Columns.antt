@@ -48,6 +48,12 @@ module _ {T : Type 0} where
     pub filled : (p : ℕ) → 128 ≤ tag_at ts p → (e : T × ℕ) × (cell_at cs p ≡ Some e)
     pub marked : (p : ℕ) (e : T × ℕ) → cell_at cs p ≡ Some e → 128 ≤ tag_at ts p
 
+  -- as `Agree`, from the place `from` on. All cells before it are empty, whatever their tags
+  pub record AgreeFrom (from : ℕ) (ts : List ℕ) (cs : List (Option (T × ℕ))) : Type 0 where
+    pub same_length : length ts ≡ length cs
+    pub filled : (p : ℕ) → from ≤ p → 128 ≤ tag_at ts p → (e : T × ℕ) × (cell_at cs p ≡ Some e)
+    pub marked : (p : ℕ) (e : T × ℕ) → cell_at cs p ≡ Some e → (from ≤ p) × (128 ≤ tag_at ts p)
+
   -- each Live value of a table is found under this hash: a probe for it meets no Empty slot before its slot, and the
   -- tag of its slot is the mark of its hash. Callers pass this on as it is
   pub record IsReached (hash : T → ℕ) (table : Columns T) : Type 0 where

@@ -1,11 +1,11 @@
 //! The Live slots of a table, one after the other: the next one, that of a walk over two tables, and all of them dropped.
 ghost use Rattle.std.specs.Prelude.{◌≡◌, ℕ, ◌+◌, ◌%◌, ◌<◌, ◌≤◌, [], length, IfSome, IfNone, replicate, None};
 ghost use Rattle.hashbag_slots.specs.Walks.{of_turn, first_course, places_left, IsNextGroup, NoneLive, IsNextOn, IsCourse};
-ghost use Rattle.hashbag_slots.specs.Columns.{tag_at, IsNextMark, Agree};
+ghost use Rattle.hashbag_slots.specs.Columns.{tag_at, IsNextMark, Agree, AgreeFrom};
 
 use crate::cells::Cells;
 use crate::group::{GROUP_WIDTH, first_live, match_live, take_lowest};
-use crate::tags::{EMPTY, LEAST_MARK, empty};
+use crate::tags::LEAST_MARK;
 
 /// The first place from `from` on whose slot is Live.
 #[inline(always)]
@@ -152,28 +152,46 @@ pub fn next_on_course(newer: &[u8], older: &[u8], course: Course) -> Option<(usi
     seek(newer, older, turn, until)
 }
 
-// Drops the value of each Live slot. The tag of each is Empty then, and all others are as they were.
-fn drop_live<T: Drop>(tags: &mut [u8], cells: &mut Cells<(T, usize)>)
-    requires { Agree tags.old cells.old }
-    ensures length { length tags.new ≡ length tags.old }
-    ensures cells { cells.new ≡ replicate (length tags.old) None }
+// Drops the values of the Live ones of 16 slots.
+#[inline(always)]
+fn drop_group<T: Drop>(tags: &[u8], cells: &mut Cells<(T, usize)>, from: usize)
+    requires within { from + 16 ≤ length tags.now }
+    requires agree { AgreeFrom from tags.now cells.old }
+    ensures { AgreeFrom (from + 16) tags.now cells.new }
 {
-    let mut from = 0;
-    'values: while let Some(place) = next_live(tags, from) {
+    let mut ahead = match_live(tags, from);
+    'marks: while ahead != 0 {
+        let (place, rest) = take_lowest(ahead, from);
         drop(cells.take(place));
-        tags[place] = EMPTY;
-        from = place + 1;
+        ahead = rest;
     }
 }
 
-/// Drops the value of each Live slot, and makes each slot Empty.
+/// Drops the value of each Live slot, and empties its cell. The tags stay as they are.
 ///
-/// Live slots are looked for sixteen at once, and the tags are then written in one go, whatever they were.
-pub fn clear_all<T: Drop>(tags: &mut [u8], cells: &mut Cells<(T, usize)>)
-    requires { Agree tags.old cells.old }
-    ensures tags { tags.new ≡ replicate (length tags.old) 0 }
-    ensures cells { cells.new ≡ replicate (length tags.old) None }
+/// Live slots are found by sixteens.
+pub fn drop_live<T: Drop>(tags: &[u8], cells: &mut Cells<(T, usize)>)
+    requires sixteens { length tags.now % 16 ≡ 0 }
+    requires agree { Agree tags.now cells.old }
+    ensures { cells.new ≡ replicate (length tags.now) None }
 {
-    drop_live(tags, cells);
-    empty(tags);
+    let count = tags.len();
+    let mut from = 0;
+    'groups: while from < count {
+        drop_group(tags, cells, from);
+        from += GROUP_WIDTH;
+    }
+}
+
+/// As [`drop_live`], of a table with `live` Live slots. It does nothing if none is Live.
+#[inline(always)]
+pub fn drop_if_live<T: Drop>(tags: &[u8], cells: &mut Cells<(T, usize)>, live: usize)
+    requires sixteens { length tags.now % 16 ≡ 0 }
+    requires agree { Agree tags.now cells.old }
+    requires live { live ≡ 0 → (p : ℕ) → tag_at tags.now p < 128 }
+    ensures { cells.new ≡ replicate (length tags.now) None }
+{
+    if live > 0 {
+        drop_live(tags, cells);
+    }
 }

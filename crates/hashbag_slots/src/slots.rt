@@ -20,10 +20,10 @@ mod carry;
 pub mod keys;
 
 use crate::cells::Cells;
-use crate::live::{Course, clear_all};
+use crate::live::{Course, drop_if_live};
 pub use crate::probe::FirstGroup;
 use crate::probe::first_free;
-use crate::tags::{LEAST_MARK, REMOVED, empty_tags, mark_of};
+use crate::tags::{LEAST_MARK, REMOVED, empty, empty_tags, mark_of};
 use crate::walk::{IntoWalk, Walk};
 use std::alloc::{AllocError, Global};
 use std::hash::{BuildHasher, Hash};
@@ -76,14 +76,12 @@ impl<T: Eq> Model for Slots<T> {
 impl<T: Eq + Drop> Drop for Slots<T> {
     fn drop(self) {
         let Slots {
-            mut tags,
+            tags,
             mut cells,
             live,
             removed: _,
         } = self;
-        if live > 0 {
-            clear_all(tags.as_mut_slice(), &mut cells);
-        }
+        drop_if_live(tags.as_slice(), &mut cells, live);
         cells.free();
     }
 }
@@ -208,14 +206,17 @@ impl<T: Eq> Slots<T> {
         self.cells.take(place)
     }
 
-    /// Drops all values, and makes each slot Empty. It goes through all slots, and keeps their memory.
+    /// Drops all values, and makes each slot Empty. It keeps the memory of the slots.
+    ///
+    /// It reads all tags by sixteens if a slot is Live, and writes them all.
     pub fn clear(&mut self)
     where
         T: Drop,
         ensures slots { self.new.slots ≡ replicate (length self.old.slots) Slot.Empty }
         ensures reached { (hash : T → ℕ) → IsReached hash self.new }
     {
-        clear_all(self.tags.as_mut_slice(), &mut self.cells);
+        drop_if_live(self.tags.as_slice(), &mut self.cells, self.live);
+        empty(self.tags.as_mut_slice());
         self.live = 0;
         self.removed = 0;
     }

@@ -46,7 +46,5 @@ pub fn empty_tags(alloc: Global, count: usize) -> Result<Vec<u8>, AllocError>
 pub fn empty(tags: &mut [u8])
     ensures { tags.new ≡ replicate (length tags.old) 0 }
 {
-    for place in 0..tags.len() {
-        tags[place] = EMPTY;
-    }
+    tags.fill(EMPTY);
 }

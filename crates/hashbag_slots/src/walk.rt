@@ -12,7 +12,7 @@ ghost use Rattle.std.specs.Iterator.SizeHint.{IsWithinCount};
 ghost use Rattle.hashbag_slots.specs.Walks.{of_turn};
 
 use crate::cells::Cells;
-use crate::live::{Course, clear_all, next_on_course};
+use crate::live::{Course, drop_live, next_on_course};
 use crate::tags::REMOVED;
 use std::alloc::AllocError;
 use std::iter::ExactSizeIterator;
@@ -144,15 +144,15 @@ impl<T> Model for IntoWalk<T> {
 impl<T: Drop> Drop for IntoWalk<T> {
     fn drop(self) {
         let IntoWalk {
-            mut newer_tags,
+            newer_tags,
             mut newer,
-            mut older_tags,
+            older_tags,
             mut older,
             course: _,
             left: _,
         } = self;
-        clear_all(newer_tags.as_mut_slice(), &mut newer);
-        clear_all(older_tags.as_mut_slice(), &mut older);
+        drop_live(newer_tags.as_slice(), &mut newer);
+        drop_live(older_tags.as_slice(), &mut older);
         newer.free();
         older.free();
     }

@@ -1,11 +1,11 @@
 //! Numbers of slots, and the carry from an older table of slots to a newer one.
-ghost use Rattle.std.specs.Prelude.{◌≡◌, ℕ, ◌*◌, ◌<◌, ◌≤◌, ◌^◌, [], drop, length, nat_le, IfOk, IsErr};
+ghost use Rattle.std.specs.Prelude.{◌≡◌, ℕ, ◌*◌, ◌<◌, ◌≤◌, ◌^◌, [], drop, length, nat_le, replicate, IfOk, IsErr};
 ghost use Rattle.hashbag_slots.specs.Hashing.{hash_under};
 ghost use Rattle.hashbag_slots.specs.Slots.{IsSlotCount};
 ghost use Rattle.hashbag_slots.specs.Columns.{IsReached};
-ghost use Rattle.hashbag_table.specs.Tables.{limit, grown_slots, IsLeast, AreTables, Carried};
+ghost use Rattle.hashbag_table.specs.Tables.{limit, grown_slots, IsLeast, AreTables, Carried, NoneMoved};
 
-use hashbag_slots::slots::Slots;
+use hashbag_slots::slots::{Slot, Slots};
 use std::alloc::{AllocError, Global};
 use std::hash::{BuildHasher, Hash};
 use std::mem;
@@ -27,6 +27,17 @@ pub fn no_slots<T: Eq + Drop>(alloc: Global) -> Slots<T>
     match Slots::with_slots(alloc, 0) {
         Ok(slots) => slots,
         Err(_) => unreachable!(),
+    }
+}
+
+/// Makes each slot Empty, and drops all values. It does nothing if all slots are Empty.
+pub fn clear_slots<T: Eq + Drop>(slots: &mut Slots<T>)
+    requires unmoved { NoneMoved slots.old.slots }
+    ensures slots { slots.new.slots ≡ replicate (length slots.old.slots) Slot.Empty }
+    ensures reached { (hash : T → ℕ) → IsReached hash slots.new }
+{
+    if slots.live() > 0 || slots.removed() > 0 {
+        slots.clear();
     }
 }
 

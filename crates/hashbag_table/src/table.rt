@@ -20,7 +20,7 @@ mod resize;
 mod spots;
 
 use crate::built::Built;
-use crate::capacity::{MOST_SLOTS, limit, no_slots};
+use crate::capacity::{MOST_SLOTS, clear_slots, limit, no_slots};
 use crate::retain::retain_slots;
 use crate::walk::{DrainWalk, IntoWalk, Walk};
 use hashbag_slots::slots::{FirstGroup, Slot, Slots};
@@ -91,10 +91,11 @@ impl<T: Eq + Hash + Drop, S: BuildHasher + Drop> Table<T, S> {
         self.newer.slots()
     }
 
-    /// Does nothing, at no cost. It is called for its clause, that the entries are the Live slots of both tables.
+    /// Does nothing, at no cost. It is called for its clauses: the entries are the Live slots of both tables, and they are a map.
     #[inline(always)]
     pub fn held(&self)
         ensures held { self.now.entries ≡ entries_of self.now.tables.newer self.now.tables.waiting }
+        ensures counted { IsCounted T.eq self.now.entries }
     {
         let _looked = self.looked;
     }
@@ -207,8 +208,7 @@ impl<T: Eq + Hash + Drop, S: BuildHasher + Drop> Table<T, S> {
         ensures takes { 0 < room self.old.tables → IsOk result }
         ensures arrives { OnOk result (Arrives self.old.tables self.new.tables) }
     {
-        // `set_len` is called for its clause that the entries are a map, which the proof cites.
-        let _len = self.set_len();
+        self.held();
         self.carry_or_grow()?;
         let place = self.newer.first_free(hash);
         self.place_absent(place, hash, value, count);
@@ -314,8 +314,7 @@ impl<T: Eq + Hash + Drop, S: BuildHasher + Drop> Table<T, S> {
         ensures room { OnOk result (0 < room self.old.tables → KeepsRoom 1 self.old.tables self.new.tables) }
         ensures same_room { IfOk result (λ before. 0 < before → KeepsRoom 0 self.old.tables self.new.tables) }
     {
-        // `set_len` is called for its clause that the entries are a map, which the proof cites.
-        let _len = self.set_len();
+        self.held();
         if let Some(spot) = self.spot_after_first_group(hash, &value, first) {
             let before = self.raise_spot(spot, n);
             return Ok(before);
@@ -388,7 +387,9 @@ impl<T: Eq + Hash + Drop, S: BuildHasher + Drop> Table<T, S> {
         Ok(0)
     }
 
-    /// Takes all values out. It takes no memory: the newer table keeps its slots, and the older one is freed.
+    /// Drops all values. The newer table keeps its slots, and the older one is freed.
+    ///
+    /// It allocates nothing. It does nothing to the newer table if no slot of that is Live or Removed.
     pub fn clear(&mut self)
         ensures empty { self.new.entries ≡ [] }
         ensures hasher { self.new.hasher ≡ self.old.hasher }
@@ -397,7 +398,7 @@ impl<T: Eq + Hash + Drop, S: BuildHasher + Drop> Table<T, S> {
         ensures older { self.new.tables.older ≡ 0 }
         ensures built { self.new.tables.built ≡ self.old.tables.built }
     {
-        self.newer.clear();
+        clear_slots(&mut self.newer);
         let _freed = mem::replace(&mut self.older, no_slots(self.alloc));
         self.looked = 0;
     }

@@ -34,8 +34,7 @@ impl<T: Eq + Hash + Drop, S: BuildHasher + Drop> Table<T, S> {
         ensures absent { OnErr result (named_entry (Q.names key) self.old.entries ≡ None) }
         ensures err { OnErr result (self.new ≡ self.old) }
     {
-        // `set_len` is called for its clause that the entries are a map, which the proof cites.
-        let _len = self.set_len();
+        self.held();
         if let Some(spot) = self.spot_after_first_group(hash, key, first) {
             let before = self.raise_spot(spot, n);
             return Ok(before);

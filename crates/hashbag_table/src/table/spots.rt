@@ -127,8 +127,7 @@ impl<T: Eq + Hash + Drop, S: BuildHasher + Drop> Table<T, S> {
         ensures held { IfSome result (HoldsIn (Q.names key) self.now.tables) }
         ensures counted { IsCounted T.eq self.now.entries }
     {
-        // `set_len` is called for its clause that the entries are a map, which the proof cites.
-        let _len = self.set_len();
+        self.held();
         if let Some(place) = self.newer.find_key(&self.hasher, hash, key) {
             return Some(Spot::Newer(place));
         }
@@ -176,8 +175,7 @@ impl<T: Eq + Hash + Drop, S: BuildHasher + Drop> Table<T, S> {
         ensures free { IfAbsent result (IsFirstFree hash self.now.tables.newer) }
         ensures counted { IsCounted T.eq self.now.entries }
     {
-        // `set_len` is called for its clause that the entries are a map, which the proof cites.
-        let _len = self.set_len();
+        self.held();
         self.newer.probe_key_first_group(&self.hasher, hash, key)
     }
 

@@ -1,13 +1,13 @@
-use Rattle.std.proofs.Common.{◌≡◌, ℕ, ◌-◌, ◌<◌, get_or, length}
-use Rattle.hashbag_slots.specs.Columns.{Agree}
+use Rattle.std.proofs.Common.{◌≡◌, ℕ, ◌-◌, ◌%◌, ◌≤◌, length}
+use Rattle.hashbag_slots.specs.Columns.{AgreeFrom}
 use Rattle.hashbag_slots.proofs.live.drop_live.Given as goal
 
-abbrev pub invariant-values : goal.invariant-values
-invariant-values g l = record {
-  agree : Agree l.tags l.cells;
-  count : length l.tags ≡ length l.fn.tags;
-  tags : (q : ℕ) → q < l.from → get_or l.tags q 0 < 128;
+abbrev pub invariant-groups : goal.invariant-groups
+invariant-groups g l = record {
+  sixteen : l.from % 16 ≡ 0;
+  within : l.from ≤ length l.tags;
+  agree : AgreeFrom l.from l.tags l.cells;
 }
 
-abbrev pub decreases-values : goal.decreases-values
-decreases-values g l = length l.fn.tags - l.from
+abbrev pub decreases-groups : goal.decreases-groups
+decreases-groups g l = length l.tags - l.from

@@ -1,34 +1,45 @@
-use Rattle.std.proofs.Common.{◌≡◌, ℕ, length, None, refl, sym, ap, subst, ◌∙◌, replicate, take, drop, ◌++◌}
+use Rattle.std.proofs.Common.{◌≡◌, ℕ, ◌%◌, ◌<◌, get_or, length, None, refl, sym, ap, subst, ◌∙◌, replicate, take, drop, ◌++◌}
 use Rattle.std.proofs.lemmas.List.{length-replicate}
 use Rattle.hashbag_slots.specs.declared.slots.Slot.TheVariants.{Empty}
 use Rattle.hashbag_slots.specs.Slots.{IsSlotCount}
+use Rattle.hashbag_slots.proofs.Dropping.{by_sixteens, none_marked}
 use Rattle.hashbag_slots.proofs.Reading.{length-slots_of}
 use Rattle.hashbag_slots.proofs.Writing.{whole, blank_columns, blank_slots, blank_reached}
 use Rattle.hashbag_slots.proofs.slots.Slots.clear.Goals as goal
 
+pub drop_if_live-requires-clause-sixteens : goal.drop_if_live-requires-clause-sixteens
+drop_if_live-requires-clause-sixteens g c =
+    let i = c.self.inside in
+    subst (λ ts. length ts % 16 ≡ 0) (sym c.as_slice.ensures.value) (by_sixteens i.tags.items i.cells g.T.PartialEq.eq i.live i.removed c.self.invariant)
+
+pub drop_if_live-requires-clause-live : goal.drop_if_live-requires-clause-live
+drop_if_live-requires-clause-live g c none p =
+    let i = c.self.inside in
+    subst (λ ts. get_or ts p 0 < 128) (sym c.as_slice.ensures.value) (none_marked i.tags.items i.cells g.T.PartialEq.eq i.live i.removed c.self.invariant none p)
+
 pub invariant_of-self : goal.invariant_of-self
 invariant_of-self g c =
     let ts = c.self.inside.tags.items in let n : ℕ = length ts in
-    let zeros : c.clear_all.new.tags ≡ replicate n 0 = c.clear_all.ensures.tags ∙ ap (λ us. replicate (length us) 0) c.as_mut_slice.ensures.value in
-    let cells : c.clear_all.new.cells ≡ replicate n None = c.clear_all.ensures.cells ∙ ap (λ us. replicate (length us) None) c.as_mut_slice.ensures.value in
+    let zeros : c.empty.new.tags ≡ replicate n 0 = c.empty.ensures ∙ ap (λ us. replicate (length us) 0) c.as_mut_slice.ensures.value in
+    let cells : c.drop_if_live.new.cells ≡ replicate n None = c.drop_if_live.ensures ∙ ap (λ us. replicate (length us) None) c.as_slice.ensures.value in
     let k = c.self.inside.tags.ok.0 in let l = ap length zeros ∙ length-replicate n 0 in
-    let tags = ap (λ m. take m (c.clear_all.new.tags ++ drop (length c.clear_all.new.tags) ts)) k ∙ whole c.clear_all.new.tags ts n l refl ∙ zeros in
-    blank_columns n _ c.clear_all.new.cells tags cells g.T.PartialEq.eq (subst IsSlotCount (length-slots_of ts c.self.inside.cells c.self.invariant.agree.same_length) c.self.invariant.table.count)
+    let tags = ap (λ m. take m (c.empty.new.tags ++ drop (length c.empty.new.tags) ts)) k ∙ whole c.empty.new.tags ts n l refl ∙ zeros in
+    blank_columns n _ c.drop_if_live.new.cells tags cells g.T.PartialEq.eq (subst IsSlotCount (length-slots_of ts c.self.inside.cells c.self.invariant.agree.same_length) c.self.invariant.table.count)
 
 pub returns-clause-slots : goal.returns-clause-slots
 returns-clause-slots g c =
     let ts = c.self.inside.tags.items in let n : ℕ = length ts in
-    let zeros : c.clear_all.new.tags ≡ replicate n 0 = c.clear_all.ensures.tags ∙ ap (λ us. replicate (length us) 0) c.as_mut_slice.ensures.value in
-    let cells : c.clear_all.new.cells ≡ replicate n None = c.clear_all.ensures.cells ∙ ap (λ us. replicate (length us) None) c.as_mut_slice.ensures.value in
+    let zeros : c.empty.new.tags ≡ replicate n 0 = c.empty.ensures ∙ ap (λ us. replicate (length us) 0) c.as_mut_slice.ensures.value in
+    let cells : c.drop_if_live.new.cells ≡ replicate n None = c.drop_if_live.ensures ∙ ap (λ us. replicate (length us) None) c.as_slice.ensures.value in
     let k = c.self.inside.tags.ok.0 in let l = ap length zeros ∙ length-replicate n 0 in
-    let tags = ap (λ m. take m (c.clear_all.new.tags ++ drop (length c.clear_all.new.tags) ts)) k ∙ whole c.clear_all.new.tags ts n l refl ∙ zeros in
-    blank_slots n _ c.clear_all.new.cells tags cells ∙ ap (λ m. replicate m Empty) (sym (length-slots_of ts c.self.inside.cells c.self.invariant.agree.same_length) ∙ ap (λ s. length s.slots) c.self.view_is)
+    let tags = ap (λ m. take m (c.empty.new.tags ++ drop (length c.empty.new.tags) ts)) k ∙ whole c.empty.new.tags ts n l refl ∙ zeros in
+    blank_slots n _ c.drop_if_live.new.cells tags cells ∙ ap (λ m. replicate m Empty) (sym (length-slots_of ts c.self.inside.cells c.self.invariant.agree.same_length) ∙ ap (λ s. length s.slots) c.self.view_is)
 
 pub returns-clause-reached : goal.returns-clause-reached
 returns-clause-reached g c hash =
     let ts = c.self.inside.tags.items in let n : ℕ = length ts in
-    let zeros : c.clear_all.new.tags ≡ replicate n 0 = c.clear_all.ensures.tags ∙ ap (λ us. replicate (length us) 0) c.as_mut_slice.ensures.value in
-    let cells : c.clear_all.new.cells ≡ replicate n None = c.clear_all.ensures.cells ∙ ap (λ us. replicate (length us) None) c.as_mut_slice.ensures.value in
+    let zeros : c.empty.new.tags ≡ replicate n 0 = c.empty.ensures ∙ ap (λ us. replicate (length us) 0) c.as_mut_slice.ensures.value in
+    let cells : c.drop_if_live.new.cells ≡ replicate n None = c.drop_if_live.ensures ∙ ap (λ us. replicate (length us) None) c.as_slice.ensures.value in
     let k = c.self.inside.tags.ok.0 in let l = ap length zeros ∙ length-replicate n 0 in
-    let tags = ap (λ m. take m (c.clear_all.new.tags ++ drop (length c.clear_all.new.tags) ts)) k ∙ whole c.clear_all.new.tags ts n l refl ∙ zeros in
-    blank_reached n _ c.clear_all.new.cells tags cells hash
+    let tags = ap (λ m. take m (c.empty.new.tags ++ drop (length c.empty.new.tags) ts)) k ∙ whole c.empty.new.tags ts n l refl ∙ zeros in
+    blank_reached n _ c.drop_if_live.new.cells tags cells hash

@@ -1,17 +1,17 @@
-use Rattle.std.proofs.Common.{get_or, None, ap, ◌∙◌, arith}
-use Rattle.hashbag_slots.specs.Columns.{slots_of}
-use Rattle.hashbag_slots.proofs.Reading.{low_at, no_cell}
-use Rattle.hashbag_slots.proofs.Tables.{none_live}
+use Rattle.std.proofs.Common.{◌%◌, ◌≡◌, ◌<◌, length, get_or, None, sym, ap, subst, ◌∙◌}
+use Rattle.hashbag_slots.proofs.Dropping.{by_sixteens, none_marked}
 use Rattle.hashbag_slots.proofs.Writing.{blank_same}
-use Rattle.hashbag_slots.proofs.slots.Slots.drop.Goals.{then-live-gt0, else-live-gt0}
 use Rattle.hashbag_slots.proofs.slots.Slots.drop.Goals as goal
 
+pub drop_if_live-requires-clause-sixteens : goal.drop_if_live-requires-clause-sixteens
+drop_if_live-requires-clause-sixteens g c =
+    let i = c.self.inside in
+    subst (λ ts. length ts % 16 ≡ 0) (sym c.as_slice.ensures.value) (by_sixteens i.tags.items i.cells g.T.PartialEq.eq i.live i.removed c.self.invariant)
+
+pub drop_if_live-requires-clause-live : goal.drop_if_live-requires-clause-live
+drop_if_live-requires-clause-live g c none p =
+    let i = c.self.inside in
+    subst (λ ts. get_or ts p 0 < 128) (sym c.as_slice.ensures.value) (none_marked i.tags.items i.cells g.T.PartialEq.eq i.live i.removed c.self.invariant none p)
+
 pub free-requires : goal.free-requires
-free-requires g c p =
-    let ts = c.self.inside.tags.items in let cs = c.self.inside.cells in
-    elim c.if-live-gt0.branch [
-      | then-live-gt0 w ↦ ap (λ ds. get_or ds p None) (w.cells-is ∙ w.clear_all.ensures.cells) ∙ blank_same _ p None
-      | else-live-gt0 w ↦
-          let is = c.self.invariant.table.live_is in let none = w.if-live-gt0.false in
-          ap (λ ds. get_or ds p None) w.cells-is ∙ no_cell ts cs c.self.invariant.agree p (low_at ts cs c.self.invariant.agree p (none_live (slots_of ts cs) (omega arith) p))
-    ]
+free-requires g c p = ap (λ ds. get_or ds p None) c.drop_if_live.ensures ∙ blank_same _ p None

@@ -36,7 +36,7 @@ pub returns-in-Some-clause-added : goal.returns-in-Some-clause-added
 returns-in-Some-clause-added g c =
     record {
       means = raised_added g.T.PartialEq.eq g.met.T.Eq.laws c.args.value c.args.n c.args.self.now.entries c.args.self.now.tables c.in-Some.spot c.in-Some.ensures.map c.in-Some.ensures.held c.raise_spot-before.result c.raise_spot-before.ensures.before
-          c.raise_spot-before.new.self.entries c.set_len-len.ensures.counted c.raise_spot-before.ensures.map;
+          c.raise_spot-before.new.self.entries c.held.ensures.counted c.raise_spot-before.ensures.map;
       hasher = c.raise_spot-before.ensures.hasher;
       counted = c.raise_spot-before.ensures.counted;
     }

@@ -8,9 +8,9 @@ pub invariant_of-self : goal.invariant_of-self
 invariant_of-self g c =
     let eq = g.T.PartialEq.eq in
     let hash = hash_under g.T.Hash.hash_input g.S.BuildHasher g.S.Hasher.Hasher c.self.inside.hasher in
-    subst (λ (o : _). IsTables eq hash c.clear.new.self o 0) (sym c.replace-freed.ensures.after)
-    (IsTables-blank eq hash c.clear.new.self c.no_slots.result (length c.self.inside.newer.slots) c.clear.ensures.slots c.no_slots.ensures.slots (c.clear.ensures.reached hash) (c.no_slots.ensures.reached hash))
+    subst (λ (o : _). IsTables eq hash c.clear_slots.new.slots o 0) (sym c.replace-freed.ensures.after)
+    (IsTables-blank eq hash c.clear_slots.new.slots c.no_slots.result (length c.self.inside.newer.slots) c.clear_slots.ensures.slots c.no_slots.ensures.slots (c.clear_slots.ensures.reached hash) (c.no_slots.ensures.reached hash))
 
 pub returns-clause-empty : goal.returns-clause-empty
 returns-clause-empty g c =
-    entries_blank c.clear.new.self.slots c.replace-freed.new.dest.slots (length c.self.inside.newer.slots) c.clear.ensures.slots (ap (λ (o : _). o.slots) c.replace-freed.ensures.after ∙ c.no_slots.ensures.slots)
+    entries_blank c.clear_slots.new.slots.slots c.replace-freed.new.dest.slots (length c.self.inside.newer.slots) c.clear_slots.ensures.slots (ap (λ (o : _). o.slots) c.replace-freed.ensures.after ∙ c.no_slots.ensures.slots)
