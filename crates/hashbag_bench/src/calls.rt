@@ -101,6 +101,10 @@ fn clear<S: BuildHasher + Drop>(bag: &mut HashBag<u64, S>) {
     bag.clear();
 }
 
+fn finish_carry<S: BuildHasher + Drop>(bag: &mut HashBag<u64, S>) {
+    bag.finish_carry();
+}
+
 // How many values a drain gives.
 fn drain<S: BuildHasher + Drop>(bag: &mut HashBag<u64, S>) -> usize {
     bag.drain().count()
@@ -328,6 +332,7 @@ fn with_nothing<S: BuildHasher + Default + Drop>(
         "iter.count" => debug_of(alloc, &bag.iter().count()),
         "set_iter.count" => debug_of(alloc, &bag.set_iter().count()),
         "clear" => debug_of(alloc, &clear(bag)),
+        "finish_carry" => debug_of(alloc, &finish_carry(bag)),
         "drain" => debug_of(alloc, &drain(bag)),
         "shrink_to_fit" => text_of(alloc, shrink_to_fit(bag)),
         "retain_none" => debug_of(alloc, &retain_none(bag)),

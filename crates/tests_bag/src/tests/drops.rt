@@ -148,6 +148,26 @@ fn drops_under<S: BuildHasher + Drop>(
     Ok(())
 }
 
+fn finish_carry<S: BuildHasher + Drop>(bag: &mut HashBag<Counted<'_>, S>) {
+    bag.finish_carry();
+}
+
+// A carry that is ended drops nothing, and the bag drops each value then.
+fn carry_ended<S: BuildHasher + Drop>(
+    rt: &impl Abort,
+    alloc: Global,
+    state: S,
+) -> Result<(), Fail> {
+    let drops = Cell::new(0);
+    let mut bag = carrying(rt, alloc, state, &drops)?;
+    finish_carry(&mut bag);
+    has_dropped(rt, "the end of a carry", &drops, 0);
+    assert_eq!(rt; bag.waiting(), 0);
+    drop(bag);
+    has_dropped(rt, "the drop of a bag whose carry was ended", &drops, 25);
+    Ok(())
+}
+
 fn bag_dropped_in_a_carry<S: BuildHasher + Drop>(
     rt: &impl Abort,
     alloc: Global,
@@ -252,6 +272,7 @@ fn each_walk_dropped<S: BuildHasher + Copy>(
 fn drops_of_fixed_state(rt: HostRuntime) -> Result<(), Fail> {
     drops_under(&rt, rt.alloc(), FixedState::new())?;
     each_walk_dropped(&rt, rt.alloc(), FixedState::new())?;
+    carry_ended(&rt, rt.alloc(), FixedState::new())?;
     bag_dropped_in_a_carry(&rt, rt.alloc(), FixedState::new())
 }
 
@@ -259,5 +280,6 @@ fn drops_of_fixed_state(rt: HostRuntime) -> Result<(), Fail> {
 fn drops_of_one_state(rt: HostRuntime) -> Result<(), Fail> {
     drops_under(&rt, rt.alloc(), OneState)?;
     each_walk_dropped(&rt, rt.alloc(), OneState)?;
+    carry_ended(&rt, rt.alloc(), OneState)?;
     bag_dropped_in_a_carry(&rt, rt.alloc(), OneState)
 }

@@ -13,10 +13,10 @@ fn sizes_of_bags_and_walks(_rt: HostRuntime) -> Result<(), Fail> {
             size_of::<HashBag<u64, OneState>>(),
             152,
         ),
-        ("Iter<u64>", size_of::<Iter<u64>>(), 144),
-        ("SetIter<u64>", size_of::<SetIter<u64>>(), 112),
-        ("IntoIter<u64>", size_of::<IntoIter<u64>>(), 128),
-        ("Drain<u64>", size_of::<Drain<u64>>(), 136),
+        ("Iter<u64>", size_of::<Iter<u64>>(), 128),
+        ("SetIter<u64>", size_of::<SetIter<u64>>(), 96),
+        ("IntoIter<u64>", size_of::<IntoIter<u64>>(), 136),
+        ("Drain<u64>", size_of::<Drain<u64>>(), 144),
     ] {
         if size != want {
             return Err(Fail::new(format_args!("{name} has {size} bytes")));

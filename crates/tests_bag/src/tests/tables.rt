@@ -118,6 +118,36 @@ const ROWS: &str = "\
     len = 33
     equals [1, 2, 3, 4, 5, 6, 7, 8, 9, 10, 11, 12, 13, 14, 15, 16, 17, 18, 19, 20, 21, 22, 23, 24, 25, 24, 25, 22, 22, 22, 22, 22, 22] = (true, true)
 
+    [a carry is ended]
+    insert_each [1, 2, 3, 4, 5, 6, 7, 8, 9, 10, 11, 12, 13, 14, 15, 16, 17, 18, 19, 20, 21, 22, 23, 24, 25] = ()
+    insert_many 25 2 = 1
+    tables = (64, 16, 23)
+    finish_carry = ()
+    tables = (64, 0, 23)
+    counts [1, 2, 3, 4, 5, 6, 7, 8, 9, 10, 11, 12, 13, 14, 15, 16, 17, 18, 19, 20, 21, 22, 23, 24, 25] = [1, 1, 1, 1, 1, 1, 1, 1, 1, 1, 1, 1, 1, 1, 1, 1, 1, 1, 1, 1, 1, 1, 1, 1, 3]
+    len = 27
+    finish_carry = ()
+    tables = (64, 0, 23)
+    insert 26 = 0
+    tables = (64, 0, 22)
+
+    [a carry of three times sixteen slots is ended]
+    extend [0, 1, 2, 3, 4, 5, 6, 7, 8, 9, 10, 11, 12, 13, 14, 15, 16, 17, 18, 19, 20, 21, 22, 23, 24, 25, 26, 27, 28, 29, 30, 31, 32, 33, 34, 35, 36, 37, 38, 39, 40, 41, 42, 43, 44, 45, 46, 47] = ()
+    insert_many 48 3 = 0
+    tables = (128, 48, 47)
+    finish_carry = ()
+    tables = (128, 0, 47)
+    counts [0, 16, 32, 47, 48, 49] = [1, 1, 1, 1, 3, 0]
+    set_len = 49
+    len = 51
+
+    [nothing waits]
+    finish_carry = ()
+    tables = (0, 0, 0)
+    insert 1 = 0
+    finish_carry = ()
+    tables = (16, 0, 11)
+
     [takes out of both tables]
     insert_each [1, 2, 3, 4, 5, 6, 7, 8, 9, 10, 11, 12, 13, 14, 15, 16, 17, 18, 19, 20, 21, 22, 23, 24, 25] = ()
     remove 24 = 1
@@ -373,7 +403,7 @@ fn cloned_in_a_carry<S: BuildHasher + Default + Copy>(alloc: Global, state: S) -
 }
 
 fn tables_under<S: BuildHasher + Default + Copy>(alloc: Global, state: S) -> Result<(), Fail> {
-    make_rows(alloc, state, ROWS, 257)?;
+    make_rows(alloc, state, ROWS, 284)?;
     thousand_in_and_out(alloc, state)?;
     cloned_in_a_carry(alloc, state)
 }

@@ -93,6 +93,7 @@ const CALLS: &str = "
     5:2 6:1 7:9 | clear | 0
     5:2 6:1 7:9 | reserve 1000 | 3
     5:2 6:1 7:9 | shrink_to_fit | 0
+    5:2 6:1 7:9 | finish_carry | 0
     | default_in | 0
     | with_capacity 10 | 0";
 
@@ -163,6 +164,7 @@ const CALLS_IN_A_CARRY: &str = "
     reserve 23 | 0
     reserve 1000 | 25
     shrink_to_fit | 0
+    finish_carry | 8
     set_limit 25 | 0";
 
 // The counts of two bags, a call on both, and how often the state of each hashes. The word `carrying` stands for the counts of a bag in the
@@ -250,11 +252,11 @@ fn hashes_so_often(alloc: Global, before: &str, row: &str) -> Result<(), Fail> {
 
 #[test]
 fn calls_hash_so_often(rt: HostRuntime) -> Result<(), Fail> {
-    for row in rows_of(rt.alloc(), CALLS, 84)? {
+    for row in rows_of(rt.alloc(), CALLS, 85)? {
         let (before, call) = halves(row, "|")?;
         hashes_so_often(rt.alloc(), before, call)?;
     }
-    for row in rows_of(rt.alloc(), CALLS_IN_A_CARRY, 62)? {
+    for row in rows_of(rt.alloc(), CALLS_IN_A_CARRY, 63)? {
         hashes_so_often(rt.alloc(), CARRYING, row)?;
     }
     Ok(())
