@@ -2,8 +2,7 @@
 use Rattle.std.proofs.Common.{◌≡◌, ◌≢◌, ℕ, zero, suc, ◌<◌, ◌≤◌, inl, inr, Bool, true, false, cond, nat_eq, List, [], ◌∷◌, length, Option, Some, None, get_or, refl, sym, ap, subst, ◌∙◌, arith}
 use Rattle.std.proofs.lemmas.Bool.{cases_lt}
 use Rattle.hashbag_slots.specs.declared.slots.Slot.TheVariants.{Empty, Removed, Moved, Live}
-use Rattle.hashbag_slots.specs.Slots.{path_slot, slot_at, holds, is_live, is_removed, IsFirstFree}
-use Rattle.hashbag_slots.specs.declared.slots.Slot.{Slot}
+use Rattle.hashbag_slots.specs.Slots.{path_slot, slot_at, holds, is_live, is_removed, IsNextLive, IsFirstFree}
 use Rattle.hashbag_slots.specs.Columns.{mark_of, IsNextMark, slot_of, slots_of, columns, Agree, IsReached}
 use Rattle.hashbag_slots.proofs.Paths.{path_below}
 use Rattle.hashbag_slots.proofs.Probing.{false_by, holder}
@@ -90,13 +89,6 @@ module _ {T : Type 0} (ts : List ℕ) (cs : List (Option (T × ℕ))) (agree : A
         false_by _ (λ yes.
         let found = holder test (slot_at (slots_of ts cs) p) yes in
         absurd (ne (reached.marks p found.0 found.1 found.2 ∙ ap (λ k. mark_of k) (alike found.0 found.3))))
-
--- the first Live slot from a place on is at p
-pub record IsNextLive {T : Type 0} (ss : List (Slot T)) (from p : ℕ) : Type 0 where
-  pub after : from ≤ p
-  pub within : p < length ss
-  pub live : is_live (slot_at ss p) ≡ true
-  pub between : (q : ℕ) → from ≤ q → q < p → is_live (slot_at ss q) ≡ false
 
 module _ {T : Type 0} (ts : List ℕ) (cs : List (Option (T × ℕ))) (agree : Agree ts cs) (from : ℕ) where
   -- what the tags say of the next Live slot

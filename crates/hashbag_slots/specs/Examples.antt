@@ -1,11 +1,11 @@
 -- The definitions compute. Values are numbers here, and so are their hashes: `hash` is the value itself.
-use Rattle.std.specs.Prelude.{◌≡◌, ℕ, ◌<◌, ◌==◌, true, false, List, [], ◌∷◌, ◌++◌, replicate, Some, None, refl}
-use Rattle.std.proofs.Common.{zero, suc, lit<, inl, inr, arith}
+use Rattle.std.specs.Prelude.{◌≡◌, ℕ, ◌<◌, ◌≤◌, ◌==◌, true, false, List, [], ◌∷◌, ◌++◌, replicate, Some, None, refl}
+use Rattle.std.proofs.Common.{zero, suc, lit<, lit≤, inl, inr, arith}
 use Rattle.hashbag_slots.specs.declared.slots.Slot.{Slot}
 use Rattle.hashbag_slots.specs.declared.slots.Slot.TheVariants.{Empty, Removed, Moved, Live}
 use Rattle.hashbag_slots.specs.Cells.{cell_at, filled_values}
 use Rattle.hashbag_slots.specs.Columns.{mark_of, tag_at, slots_of}
-use Rattle.hashbag_slots.specs.Slots.{IsSlotCount, path_slot, is_live, holds, live_count, removed_count, slot_at, HoldsAt, entry_at, entries, recounted, raised, count_in, Places, PlacesAll, carried, entries_in}
+use Rattle.hashbag_slots.specs.Slots.{IsSlotCount, path_slot, is_live, holds, live_count, removed_count, slot_at, HoldsAt, IsNextLive, entry_at, entries, recounted, raised, count_in, Places, PlacesAll, carried, entries_in}
 
 -- 16 slots: 31 begins at the last one, which 15 has, and so it lies in slot 0. In slot 1 there was a value, and in slot 2
 -- there was one that was carried
@@ -44,6 +44,19 @@ held = (lit< tt, refl)
 
 not_held : holds (λ v. v == 31) (slot_at table 15) ≡ false
 not_held = refl
+
+-- from slot 1 on, slot 3 is the first Live one
+abbrev four : List (Slot ℕ)
+four = Live 5 1 ∷ Removed ∷ Moved ∷ Live 7 2 ∷ []
+
+skipped : (q : ℕ) → 1 ≤ q → q < 3 → is_live (slot_at four q) ≡ false
+skipped zero from before = absurd (omega arith)
+skipped (suc zero) from before = refl
+skipped (suc (suc zero)) from before = refl
+skipped (suc (suc (suc q))) from before = absurd (omega arith)
+
+next_live : IsNextLive four 1 3
+next_live = record { after = lit≤ tt; within = lit< tt; live = refl; between = skipped }
 
 -- ---- the map
 

@@ -53,6 +53,13 @@ module _ {T : Type 0} where
   abbrev pub IsAbsent : (T → Bool) → List (Slot T) → Type 0
   IsAbsent test ss = (p : ℕ) → p < length ss → holds test (slot_at ss p) ≡ false
 
+  -- the first Live slot from the place `from` on is at p
+  pub record IsNextLive (ss : List (Slot T)) (from p : ℕ) : Type 0 where
+    pub after : from ≤ p
+    pub within : p < length ss
+    pub live : is_live (slot_at ss p) ≡ true
+    pub between : (q : ℕ) → from ≤ q → q < p → is_live (slot_at ss q) ≡ false
+
   -- the place is the first on the path of a hash whose slot is not Live
   pub record IsFirstFree (hash : ℕ) (ss : List (Slot T)) (p : ℕ) : Type 0 where
     pub step : ℕ

@@ -13,14 +13,14 @@ ghost use Rattle.std.specs.Map.{lookup_entry};
 ghost use Rattle.std.specs.Option.{option_map};
 ghost use Rattle.hashbag_slots.specs.FirstGroup.{IfFound, IfAbsent};
 ghost use Rattle.hashbag_slots.specs.Hashing.{hash_under};
-ghost use Rattle.hashbag_slots.specs.Slots.{IsSlotCount, is_live, holds, live_count, removed_count, slot_at, HoldsAt, IsAbsent, IsFirstFree, IsSet, slot_entry, entry_at, entries, recounted, raised, count_in, Places, PlacesAlong};
+ghost use Rattle.hashbag_slots.specs.Slots.{IsSlotCount, is_live, holds, live_count, removed_count, slot_at, HoldsAt, IsAbsent, IsNextLive, IsFirstFree, IsSet, slot_entry, entry_at, entries, recounted, raised, count_in, Places, PlacesAlong};
 ghost use Rattle.hashbag_slots.specs.Columns.{IsReached, IsAlike};
 
 mod carry;
 pub mod keys;
 
 use crate::cells::Cells;
-use crate::live::{Course, drop_if_live};
+use crate::live::{Course, drop_if_live, next_live};
 pub use crate::probe::FirstGroup;
 use crate::probe::first_free;
 use crate::tags::{LEAST_MARK, REMOVED, empty, empty_tags, mark_of};
@@ -153,6 +153,18 @@ impl<T: Eq> Slots<T> {
     {
         let (value, count) = self.cells.get(place);
         (value, *count)
+    }
+
+    /// The first place from `from` on whose slot is Live, or `None` if no slot from there on is.
+    ///
+    /// It looks at sixteen slots at once.
+    #[inline(always)]
+    pub fn next_live(&self, from: usize) -> Option<usize>
+        ensures some { IfSome result (IsNextLive self.now.slots from) }
+        ensures none { IfNone result ((p : ℕ) → from ≤ p → is_live (slot_at self.now.slots p) ≡ false) }
+        ensures bound { IfSome result (λ p. p < 2 ^ 59) }
+    {
+        next_live(self.tags.as_slice(), from)
     }
 
     /// Gives the value at a place the count `n`. The slot is Live.

@@ -1,31 +1,31 @@
 -- What the answers of a closure leave of one table of slots.
-use Rattle.std.proofs.Common.{◌≡◌, ℕ, zero, suc, ◌+◌, ◌-◌, ◌<◌, ◌≤◌, min, Bool, true, false, cond, ltb, List, [], ◌∷◌, length, drop, Some, None, refl, sym, ap, subst, ◌∙◌, inl, inr, arith, slice_set}
+use Rattle.std.proofs.Common.{◌≡◌, ℕ, zero, suc, ◌+◌, ◌-◌, ◌<◌, ◌≤◌, min, Bool, true, false, cond, ltb, List, [], ◌∷◌, length, drop, Some, refl, sym, ap, subst, ◌∙◌, inl, inr, arith, slice_set}
 use borrow.Author.Tests.{lt-ltb}
 use denote.Ref.{Bor}
 use denote.Param.Members.{Mut}
 use Rattle.std.proofs.lemmas.Bool.{cases_lt}
-use Rattle.std.proofs.lemmas.List.{drop_all, drop_more, drop-set-lt, get_or-set_same, get_or-set_other, get_or-drop, length-set, length-drop}
+use Rattle.std.proofs.lemmas.List.{drop_all, drop_more, drop-drop, drop-set-lt, get_or-set_same, get_or-set_other, get_or-drop, length-set, length-drop}
 use Rattle.std.proofs.lemmas.List.Sums.{sum_by-cons}
 use Rattle.hashbag_slots.specs.declared.slots.Slot.{Slot}
 use Rattle.hashbag_slots.specs.declared.slots.Slot.TheVariants.{Empty, Removed, Moved, Live}
-use Rattle.hashbag_slots.specs.Slots.{is_live, is_removed, holds, live_count, removed_count, slot_at, slot_entry, count_in, entries, IsAbsent}
+use Rattle.hashbag_slots.specs.Slots.{is_live, is_removed, holds, live_count, removed_count, slot_at, slot_entry, count_in, entries, IsAbsent, IsNextLive}
 use Rattle.hashbag_table.specs.Asked.{MayAsk, MayAnswer, MayAskInTurn, AnswersInTurn, kept}
 use Rattle.hashbag_table.specs.Entries.{total}
 use Rattle.hashbag_table.specs.Retained.{slot_left, slot_kept, LeavesSlot, LeavesSlots, RetainsFrom, RetainsSlots}
 use Rattle.hashbag_table.proofs.AskedLemmas.{lesser}
+use Rattle.hashbag_table.proofs.SlotLemmas.{length-entries, entries-drop}
 
 module _ {T : Type 0} where
-  pub dead_entry : (s : Slot T) → None ≡ slot_entry s → is_live s ≡ false
-  dead_entry Empty h = refl
-  dead_entry Removed h = refl
-  dead_entry Moved h = refl
-  dead_entry (Live v n) h = absurd (cc)
-
   pub live_entry : (s : Slot T) (v : T) (n : ℕ) → Some (v, n) ≡ slot_entry s → s ≡ Live v n
   live_entry Empty v n h = absurd (cc)
   live_entry Removed v n h = absurd (cc)
   live_entry Moved v n h = absurd (cc)
   live_entry (Live w m) v n h = let e : (w, m) ≡ (v, n) = cc in ap (λ (x : T × ℕ). Live x.0 x.1) e
+
+  pub live_within : (ss : List (Slot T)) (p : ℕ) → is_live (slot_at ss p) ≡ true → p < length ss
+  live_within [] p h = absurd (cc)
+  live_within (s ∷ ss) zero h = omega arith
+  live_within (s ∷ ss) (suc p) h = let lt = live_within ss p h in omega (arith, lt)
 
   pub written_at : (ss ts : List (Slot T)) (p : ℕ) (s : Slot T) → p < length ss → ts ≡ slice_set ss p s → slot_at ts p ≡ s
   written_at ss ts p s within e = ap (λ us. slot_at us p) e ∙ get_or-set_same ss p s Empty within
@@ -41,6 +41,19 @@ module _ {T : Type 0} where
   total_slots Removed ss = omega arith
   total_slots Moved ss = omega arith
   total_slots (Live v n) ss = sum_by-cons (λ e. e.1) (v, n) (entries ss)
+
+  -- slots that are not Live have no entries
+  pub dead_from : (p : ℕ) (ss : List (Slot T)) → ((q : ℕ) → p ≤ q → is_live (slot_at ss q) ≡ false) → (q : ℕ) → is_live (slot_at (drop p ss) q) ≡ false
+  dead_from p ss dead q = ap is_live (get_or-drop p ss q Empty) ∙ dead (p + q) (omega arith)
+
+  pub total_none : (ss : List (Slot T)) → ((q : ℕ) → is_live (slot_at ss q) ≡ false) → total (entries ss) ≡ 0
+  total_none ss dead = ap total (sym (entries-drop ss (length ss) (omega arith) (λ q lt. dead q)) ∙ ap entries (drop_all (length ss) ss (omega arith)))
+
+  pub entries_ahead : (ss : List (Slot T)) (from p : ℕ) → from ≤ p → p ≤ length ss → ((q : ℕ) → from ≤ q → q < p → is_live (slot_at ss q) ≡ false) → entries (drop p ss) ≡ entries (drop from ss)
+  entries_ahead ss from p after within dead =
+      let k = p - from in let e : from + k ≡ p = omega (arith, after) in let l = length-drop from ss in
+      ap (λ n. entries (drop n ss)) (sym e) ∙ ap entries (sym (drop-drop k from ss))
+      ∙ entries-drop (drop from ss) k (omega (arith, l, e, within)) (λ q lt. ap is_live (get_or-drop from ss q Empty) ∙ dead (from + q) (omega arith) (omega (arith, lt, e)))
 
   left_entry : (b : Bool) (v : T) (m : ℕ) (ts : List (Slot T)) (es : List (T × ℕ)) → entries ts ≡ es → entries (cond b (Live v m) Removed ∷ ts) ≡ cond b ((v, m) ∷ es) es
   left_entry true v m ts es h = ap (λ l. (v, m) ∷ l) h
@@ -64,6 +77,27 @@ module _ {T : Type 0} where
 
   abbrev one_removed : Slot T → ℕ
   one_removed s = cond (is_removed s) 1 0
+
+  pub live_from : (ss : List (Slot T)) (k : ℕ) → live_count (drop k ss) ≤ live_count ss
+  live_from ss zero = omega arith
+  live_from [] (suc k) = omega arith
+  live_from (s ∷ ss) (suc k) = let few = live_from ss k in let more = sum_by-cons one_live s ss in omega (arith, few, more)
+
+  one_if : (s : Slot T) → is_live s ≡ true → one_live s ≡ 1
+  one_if Empty h = absurd (cc)
+  one_if Removed h = absurd (cc)
+  one_if Moved h = absurd (cc)
+  one_if (Live v n) h = refl
+
+  -- there is one fewer after a Live one
+  pub live_ahead : (ss ts : List (Slot T)) (from p k : ℕ) → IsNextLive ss from p → drop (p + 1) ts ≡ drop (p + 1) ss → live_count (drop from ss) ≤ suc k → live_count (drop (p + 1) ts) ≤ k
+  live_ahead ss ts from p k next same few =
+      let w = next.within in
+      let front = ap length (entries_ahead ss from p next.after (omega (arith, w)) next.between) in
+      let a = length-entries (drop p ss) in let b = length-entries (drop from ss) in
+      let head = ap live_count (drop_more ss p Empty next.within) ∙ sum_by-cons one_live (slot_at ss p) (drop (p + 1) ss) in
+      let one = one_if (slot_at ss p) next.live in let rest = ap live_count same in
+      omega (arith, front, a, b, head, one, rest, few)
 
   left_sum : (b : Bool) (v : T) (m : ℕ) → (let s : Slot T = cond b (Live v m) Removed in one_live s + one_removed s) ≡ 1
   left_sum true v m = refl
@@ -156,17 +190,63 @@ module _ {F T : Type 0} (g : Mut F (Bor T × (ℕ × Unit {0})) ℕ) where
   pub asks_at : (f : F) (ss : List (Slot T)) (p : ℕ) → p < length ss → MayAskInTurn g f (entries (drop p ss)) → (e : T × ℕ) → slot_entry (slot_at ss p) ≡ Some e → MayAsk g f e
   asks_at f ss p within asks = asks_slot f (slot_at ss p) (drop (p + 1) ss) (subst (λ l. MayAskInTurn g f (entries l)) (drop_more ss p Empty within) asks)
 
-  -- past the last place nothing is asked
-  pub retained_none : (p : ℕ) (f : F) (ss : List (Slot T)) → length ss ≤ p → RetainsFrom g p f ss ss f
-  retained_none p f ss past = record {
+  -- where no slot is Live nothing is asked
+  leaves_all : (f : F) (ss : List (Slot T)) → ((q : ℕ) → is_live (slot_at ss q) ≡ false) → LeavesSlots g f ss ss f
+  leaves_all f [] dead = refl
+  leaves_all f (s ∷ ss) dead = (f, leaves_dead f s (dead 0), leaves_all f ss (λ q. dead (suc q)))
+
+  -- past the last Live slot nothing is asked
+  pub retained_none : (p : ℕ) (f : F) (ss : List (Slot T)) → ((q : ℕ) → is_live (slot_at (drop p ss) q) ≡ false) → RetainsFrom g p f ss ss f
+  retained_none p f ss dead = record {
     same_length = refl;
     before = λ q lt. refl;
-    left = subst (λ l. LeavesSlots g f l l f) (sym (drop_all p ss past)) refl;
+    left = leaves_all f (drop p ss) dead;
   }
+
+  -- nor is anything asked at the slots before the first Live one
+  leaves_after : (k : ℕ) (f f' : F) (ss ts : List (Slot T)) → length ts ≡ length ss → ((q : ℕ) → q < k → is_live (slot_at ss q) ≡ false) → ((q : ℕ) → q < k → slot_at ts q ≡ slot_at ss q)
+      → LeavesSlots g f (drop k ss) (drop k ts) f' → LeavesSlots g f ss ts f'
+  leaves_after zero f f' ss ts long dead same h = h
+  leaves_after (suc k) f f' [] [] long dead same h = h
+  leaves_after (suc k) f f' [] (t ∷ ts) long dead same h = absurd (omega arith)
+  leaves_after (suc k) f f' (s ∷ ss) [] long dead same h = absurd (omega arith)
+  leaves_after (suc k) f f' (s ∷ ss) (t ∷ ts) long dead same h = (
+    f,
+    subst (λ x. LeavesSlot g f s x f) (sym (same 0 (omega arith))) (leaves_dead f s (dead 0 (omega arith))),
+    leaves_after k f f' ss ts (omega arith) (λ q lt. dead (suc q) (omega arith)) (λ q lt. same (suc q) (omega arith)) h,
+  )
+
+  -- from one place on as from the next Live one on
+  module _ (from p : ℕ) (f : F) (ss : List (Slot T)) (next : IsNextLive ss from p) where
+    pub same_ahead : entries (drop p ss) ≡ entries (drop from ss)
+    same_ahead = let n = next.within in entries_ahead ss from p next.after (omega (arith, n)) next.between
+
+    pub asks_ahead : MayAskInTurn g f (entries (drop from ss)) → MayAskInTurn g f (entries (drop p ss))
+    asks_ahead asks = subst (MayAskInTurn g f) (sym same_ahead) asks
+
+    module _ (last : List (Slot T)) (f' : F) (later : RetainsFrom g p f ss last f') where
+      pub retained_ahead : RetainsFrom g from f ss last f'
+      retained_ahead = record {
+        same_length = later.same_length;
+        before = λ q lt. let a = next.after in later.before q (omega (arith, a, lt));
+        left =
+            let a = next.after in let k = p - from in let e : from + k ≡ p = omega (arith, a) in
+            leaves_after k f f' (drop from ss) (drop from last)
+            (let x = length-drop from ss in let y = length-drop from last in let same = later.same_length in omega (arith, x, y, same))
+            (λ q lt. ap is_live (get_or-drop from ss q Empty) ∙ next.between (from + q) (omega arith) (omega (arith, lt, e)))
+            (λ q lt. get_or-drop from last q Empty ∙ later.before (from + q) (omega (arith, lt, e)) ∙ sym (get_or-drop from ss q Empty))
+            (subst (λ l. LeavesSlots g f l (drop k (drop from last)) f') (sym (drop-drop k from ss ∙ ap (λ n. drop n ss) e))
+            (subst (λ l. LeavesSlots g f (drop p ss) l f') (sym (drop-drop k from last ∙ ap (λ n. drop n last) e)) later.left));
+      }
+
+      pub total_ahead : total (entries (drop from last)) ≡ total (entries (drop p last))
+      total_ahead =
+          let n = next.within in let same = later.same_length in
+          ap (λ l. total l) (sym (entries_ahead last from p next.after (omega (arith, n, same)) (λ q a b. ap is_live (later.before q b) ∙ next.between q a b)))
 
   -- one place, and then those after it
   module _ (p : ℕ) (f f1 : F) (ss ts : List (Slot T)) (within : p < length ss) (leaves : LeavesSlot g f (slot_at ss p) (slot_at ts p) f1) (set : ts ≡ slice_set ss p (slot_at ts p)) where
-    rest_is : drop (p + 1) ts ≡ drop (p + 1) ss
+    pub rest_is : drop (p + 1) ts ≡ drop (p + 1) ss
     rest_is = ap (drop (p + 1)) set ∙ drop-set-lt (p + 1) ss p (slot_at ts p) (omega arith)
 
     head_is : drop p ss ≡ slot_at ss p ∷ drop (p + 1) ss

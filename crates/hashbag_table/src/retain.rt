@@ -1,6 +1,6 @@
 //! What the answers of a closure leave of one table of slots.
-ghost use Rattle.std.specs.Prelude.{◌≡◌, ℕ, ◌<◌, ◌≤◌, ◌^◌, Some, drop, length, slice_set};
-ghost use Rattle.hashbag_slots.specs.Slots.{slot_at, slot_entry, count_in, entries};
+ghost use Rattle.std.specs.Prelude.{◌≡◌, ℕ, ◌<◌, ◌≤◌, ◌^◌, true, Some, drop, length, slice_set};
+ghost use Rattle.hashbag_slots.specs.Slots.{is_live, slot_at, slot_entry, count_in, entries};
 ghost use Rattle.hashbag_slots.specs.Columns.{IsReached};
 ghost use Rattle.hashbag_table.specs.Asked.{MayAsk, MayAskInTurn};
 ghost use Rattle.hashbag_table.specs.Entries.{total};
@@ -8,24 +8,22 @@ ghost use Rattle.hashbag_table.specs.Retained.{LeavesSlot, RetainsFrom};
 
 use hashbag_slots::slots::Slots;
 
-// Asks `f` once for the value at a place, if there is one. The value keeps the lesser of its count and the answer, and goes where
-// that is 0: its slot becomes Removed. It answers the count that is left.
+// Calls `f` once for the value at a place, whose slot is Live, and returns the count that is left. The value keeps the lesser of its
+// count and what `f` returns. If that is 0 the value is dropped, and its slot becomes Removed.
 #[inline(always)]
 fn retain_at<T: Eq + Drop, F: FnMut(&T, usize) -> usize>(
     slots: &mut Slots<T>,
     place: usize,
     f: &mut F,
 ) -> usize
-    requires within { place < length slots.old.slots }
+    requires live { is_live (slot_at slots.old.slots place) ≡ true }
     requires asks { (e : T × ℕ) → slot_entry (slot_at slots.old.slots place) ≡ Some e → MayAsk F.FnMut f.old e }
     ensures asked { LeavesSlot F.FnMut f.old (slot_at slots.old.slots place) (slot_at slots.new.slots place) f.new }
     ensures others { slots.new.slots ≡ slice_set slots.old.slots place (slot_at slots.new.slots place) }
     ensures left { result ≡ count_in (slot_at slots.new.slots place) }
     ensures reached { (hash : T → ℕ) → IsReached hash slots.old → IsReached hash slots.new }
 {
-    let Some((value, count)) = slots.at(place) else {
-        return 0;
-    };
+    let (value, count) = slots.live_at(place);
     let left = f(value, count).min(count);
     if left > 0 {
         slots.set_at(place, left);
@@ -36,11 +34,14 @@ fn retain_at<T: Eq + Drop, F: FnMut(&T, usize) -> usize>(
     0
 }
 
-/// Asks `f` once for the value at each place from `from` on, with its count, in the order of places. The value keeps the lesser of
-/// its count and the answer, and goes where that is 0: its slot becomes Removed. It answers the total of the counts that are
-/// left there.
+/// Calls `f` once for each value from the place `from` on, with its count, in the order of places, and returns the total of the counts
+/// that are left there. The value keeps the lesser of its count and what `f` returns. If that is 0 the value is dropped, and its
+/// slot becomes Removed.
 ///
-/// It takes no memory and hashes nothing.
+/// # Complexity
+///
+/// It hashes nothing and allocates nothing. It looks at sixteen slots at once, and ends after as many values as the table has: if no
+/// slot before `from` is Live, that is at the last one. In a table without values it looks at no slot.
 pub fn retain_slots<T: Eq + Drop, F: FnMut(&T, usize) -> usize>(
     slots: &mut Slots<T>,
     from: usize,
@@ -54,8 +55,15 @@ pub fn retain_slots<T: Eq + Drop, F: FnMut(&T, usize) -> usize>(
     ensures reached { (hash : T → ℕ) → IsReached hash slots.old → IsReached hash slots.new }
 {
     let mut sum = 0;
-    for place in from..slots.slots() {
+    let mut at = from;
+    let mut ahead = slots.live();
+    'values: while ahead > 0 {
+        let Some(place) = slots.next_live(at) else {
+            return sum;
+        };
         sum += retain_at(slots, place, f);
+        at = place + 1;
+        ahead -= 1;
     }
     sum
 }

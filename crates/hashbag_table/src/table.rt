@@ -403,11 +403,14 @@ impl<T: Eq + Hash + Drop, S: BuildHasher + Drop> Table<T, S> {
         self.looked = 0;
     }
 
-    /// Asks `f` once for each value, with its count, in an open order. The value keeps the lesser of its count and the answer,
-    /// and goes where that is 0: its slot, in whichever table it is, becomes Removed. It answers the total of the counts that
-    /// are left.
+    /// Calls `f` once for each value, with its count, in no particular order, and returns the total of the counts that are left. The
+    /// value keeps the lesser of its count and what `f` returns. If that is 0 the value is dropped, and its slot, in whichever table
+    /// it is, becomes Removed. No value changes its slot. The caller ensures that the total fits.
     ///
-    /// It takes no memory and hashes nothing, and no value comes to another slot. The caller sees to it that the total fits.
+    /// # Complexity
+    ///
+    /// It hashes nothing and allocates nothing. It looks at sixteen slots at once, and ends in each of the two tables with the last
+    /// Live slot. If there is no value it looks at no slot, however many there are.
     pub fn retain<F: FnMut(&T, usize) -> usize + Drop>(&mut self, mut f: F) -> usize
         requires asks { (walk : _) → IsPermutation self.old.entries walk → MayAskInTurn F.FnMut f walk }
         requires fits { total self.old.entries < 2 ^ 64 }
