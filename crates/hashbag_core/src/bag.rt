@@ -288,6 +288,7 @@ impl<T: Eq + Hash + Drop, S: BuildHasher + Drop> HashBag<T, S> {
         ensures memory { length self.old.items + 1 ≤ self.old.most → OnErr result (result ≡ Err BagError.Memory) }
         ensures err { OnErr result (self.new ≡ self.old) }
         ensures takes { length self.old.items + 1 ≤ self.old.most → 0 < room self.old.tables → IsOk result }
+        ensures present { length self.old.items + 1 ≤ self.old.most → 0 < count T.eq value self.old.items → IsOk result }
     {
         self.insert_many(value, 1)
     }
@@ -321,6 +322,8 @@ impl<T: Eq + Hash + Drop, S: BuildHasher + Drop> HashBag<T, S> {
         ensures memory { length self.old.items + n ≤ self.old.most → OnErr result (result ≡ Err BagError.Memory) }
         ensures err { OnErr result (self.new ≡ self.old) }
         ensures takes { length self.old.items + n ≤ self.old.most → 0 < room self.old.tables → IsOk result }
+        ensures present { length self.old.items + n ≤ self.old.most → 0 < count T.eq value self.old.items → IsOk result }
+        ensures none { n ≡ 0 → IsOk result }
     {
         if n > self.most - self.len {
             return Err(BagError::TooMany);

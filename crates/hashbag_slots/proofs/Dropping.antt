@@ -1,7 +1,7 @@
 -- Cells that are emptied place after place, while their tags stay.
-use Rattle.std.proofs.Common.{◌≡◌, ℕ, ◌+◌, ◌%◌, ◌<◌, ◌≤◌, Bool, List, length, Option, Some, None, get_or, sym, ap, subst, ◌∙◌, arith, inl, inr, slice_set, replicate}
+use Rattle.std.proofs.Common.{◌≡◌, ℕ, ◌+◌, ◌%◌, ◌<◌, ◌≤◌, Bool, List, length, Option, None, get_or, sym, subst, ◌∙◌, arith, inl, inr, slice_set, replicate}
 use Rattle.std.proofs.lemmas.Bool.{cases_lt}
-use Rattle.std.proofs.lemmas.List.{length-set, get_or-set_other, get_or-set_same, get_or_past}
+use Rattle.std.proofs.lemmas.List.{length-set, get_or-set_other}
 use Rattle.hashbag_slots.specs.Columns.{slots_of, Agree, AgreeFrom, IsColumns}
 use Rattle.hashbag_slots.proofs.Reading.{length-slots_of, low_at, no_cell, none_cases}
 use Rattle.hashbag_slots.proofs.Tables.{none_live}

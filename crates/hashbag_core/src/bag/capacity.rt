@@ -169,7 +169,7 @@ impl<T: Eq + Hash + Drop, S: BuildHasher + Drop> HashBag<T, S> {
         ensures freed { OnOk result (self.old.items ≡ [] → self.new.tables ≡ no_slots self.old.tables.built) }
         ensures fewer { length self.new.tables.newer ≤ length self.old.tables.newer }
         ensures shrinks { OnOk result (ShrinksOrStays (distinct_count T.eq self.old.items) self.old.tables self.new.tables) }
-        ensures enough { (m : ℕ) → NeedsSlots T.eq self.old m → length self.old.tables.newer ≤ m → IsOk result }
+        ensures enough { NeedsSlots T.eq self.old (length self.old.tables.newer) → IsOk result }
         ensures same { (m : ℕ) → NeedsSlots T.eq self.old m → length self.old.tables.newer ≤ m → self.new ≡ self.old }
         ensures least { OnOk result ((m : ℕ) → NeedsSlots T.eq self.old m → m < length self.old.tables.newer → length self.new.tables.newer ≡ m) }
         ensures packed { OnOk result ((m : ℕ) → NeedsSlots T.eq self.old m → m < length self.old.tables.newer → IsPacked self.new.tables) }

@@ -76,7 +76,7 @@ impl<T: Eq + Hash + Drop, S: BuildHasher + Drop> HashBag<T, S> {
         ensures refused { IfErr result (RefusesNamed (Q.names key) self.old.most self.old.items 1) }
         ensures memory { length self.old.items + 1 ≤ self.old.most → OnErr result (result ≡ Err BagError.Memory) }
         ensures err { OnErr result (self.new ≡ self.old) }
-        ensures takes { length self.old.items + 1 ≤ self.old.most → 0 < count_named (Q.names key) self.old.items → IsOk result }
+        ensures present { length self.old.items + 1 ≤ self.old.most → 0 < count_named (Q.names key) self.old.items → IsOk result }
     {
         self.insert_many_key(key, 1)
     }
@@ -99,7 +99,7 @@ impl<T: Eq + Hash + Drop, S: BuildHasher + Drop> HashBag<T, S> {
     pub fn insert_many_key<Q: ToValue<T>>(&mut self, key: Q, n: usize) -> Result<usize, BagError>
         ensures before { IfOk result (λ before. before ≡ count_named (Q.names key) self.old.items) }
         ensures inserted { 0 < n → OnOk result (InsertsNamed T.eq (Q.names key) n self.old self.new) }
-        ensures none { n ≡ 0 → self.new ≡ self.old }
+        ensures none { n ≡ 0 → IsOk result × (self.new ≡ self.old) }
         ensures len { OnOk result (length self.new.items ≡ length self.old.items + n) }
 
         // The total is tested first; then only memory can be refused, and only to some occurrences of a value that is absent.
@@ -107,7 +107,7 @@ impl<T: Eq + Hash + Drop, S: BuildHasher + Drop> HashBag<T, S> {
         ensures refused { IfErr result (RefusesNamed (Q.names key) self.old.most self.old.items n) }
         ensures memory { length self.old.items + n ≤ self.old.most → OnErr result (result ≡ Err BagError.Memory) }
         ensures err { OnErr result (self.new ≡ self.old) }
-        ensures takes { length self.old.items + n ≤ self.old.most → 0 < count_named (Q.names key) self.old.items → IsOk result }
+        ensures present { length self.old.items + n ≤ self.old.most → 0 < count_named (Q.names key) self.old.items → IsOk result }
     {
         if n > self.most - self.len {
             return Err(BagError::TooMany);

@@ -1,4 +1,4 @@
-use Rattle.std.proofs.Common.{◌≡◌, ℕ, ◌+◌, ◌<◌, Bool, List, get_or, length, None, leb, sym, subst, ◌∙◌, arith, slice_set}
+use Rattle.std.proofs.Common.{ℕ, ◌+◌, Bool, List, get_or, leb, sym, subst, arith}
 use Rattle.std.proofs.lemmas.Bool.{leb-true, leb-false}
 use Rattle.hashbag_slots.specs.Columns.{AgreeFrom}
 use Rattle.hashbag_slots.proofs.Dropping.{none_after, one_taken}

@@ -1,4 +1,4 @@
-use Rattle.std.proofs.Common.{◌≡◌, ℕ, ◌+◌, ◌≤◌, leb}
+use Rattle.std.proofs.Common.{ℕ, ◌+◌, ◌≤◌, leb}
 use Rattle.hashbag_slots.specs.Columns.{AgreeFrom, tag_at}
 use Rattle.hashbag_slots.specs.Group.{IsMaskIn}
 use Rattle.hashbag_slots.proofs.live.drop_group.Given as goal

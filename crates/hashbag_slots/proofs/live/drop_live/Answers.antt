@@ -1,5 +1,5 @@
-use Rattle.std.proofs.Common.{length, None, sym, ◌∙◌, arith}
-use Rattle.hashbag_slots.proofs.Dropping.{agree_from_first, none_after, none_left}
+use Rattle.std.proofs.Common.{arith}
+use Rattle.hashbag_slots.proofs.Dropping.{agree_from_first, none_left}
 use Rattle.hashbag_slots.proofs.live.drop_live.Goals as goal
 
 pub groups-init : goal.groups-init

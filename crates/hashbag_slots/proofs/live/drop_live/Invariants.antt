@@ -1,4 +1,4 @@
-use Rattle.std.proofs.Common.{◌≡◌, ℕ, ◌-◌, ◌%◌, ◌≤◌, length}
+use Rattle.std.proofs.Common.{◌≡◌, ◌-◌, ◌%◌, ◌≤◌, length}
 use Rattle.hashbag_slots.specs.Columns.{AgreeFrom}
 use Rattle.hashbag_slots.proofs.live.drop_live.Given as goal
 

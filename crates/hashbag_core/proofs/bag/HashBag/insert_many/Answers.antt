@@ -68,3 +68,9 @@ returns-clause-inserted g c =
       same_room = λ there. done.same_room (omega (arith, same, before, there));
       held = λ _. held_by g.T.PartialEq.eq _ _ c.held.ensures.held c.add.ensures.counted;
     })
+
+pub returns-in_err-before-clause-present : goal.returns-in_err-before-clause-present
+returns-in_err-before-clause-present g c = λ fits there.
+    let absent = count_occurrences g.met.T.Eq.laws c.args.value _ c.self.invariant.counted.distinct ∙ count_of_entry g.met.T.Eq.laws c.args.value _ _ (sym c.in_err-before.ensures.absent) in
+    let some : 0 < count g.T.PartialEq.eq c.args.value (occurrences c.self.inside.table.entries) = rw (← c.self.view_is) at there in
+    absurd (omega (arith, absent, some))

@@ -37,8 +37,8 @@ invariant_of-self-2 g c =
 pub returns-clause-before : goal.returns-clause-before
 returns-clause-before g c = rw (← c.self.view_is) (c.in_ok-before.ensures.before ∙ sym (named_occurrences g.met.T.Eq.laws (g.Q.Key.names c.args.key) (g.met.Q.Key.names_one c.args.key) _ c.self.invariant.counted.distinct))
 
-pub returns-in_err-before-clause-takes : goal.returns-in_err-before-clause-takes
-returns-in_err-before-clause-takes g c = λ fits there.
+pub returns-in_err-before-clause-present : goal.returns-in_err-before-clause-present
+returns-in_err-before-clause-present g c = λ fits there.
     let none = none_named_there g.met.T.Eq.laws (g.Q.Key.names c.args.key) (g.met.Q.Key.names_one c.args.key) _ c.self.invariant.counted.distinct c.in_err-before.ensures.absent in
     let some : 0 < count_named (g.Q.Key.names c.args.key) (occurrences c.self.inside.table.entries) = rw (← c.self.view_is) at there in
     absurd (omega (arith, none, some))

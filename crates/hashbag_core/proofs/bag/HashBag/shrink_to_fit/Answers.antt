@@ -35,8 +35,8 @@ pub returns-in_err-shrink_to_fit-clause-none : goal.returns-in_err-shrink_to_fit
 returns-in_err-shrink_to_fit-clause-none g c = λ empty. absurd (false≢true (c.in_err-shrink_to_fit.ensures.none (no_entries g.met.T.Eq.laws _ c.self.invariant.counted (rw (← c.self.view_is) at empty))))
 
 pub returns-in_err-shrink_to_fit-clause-enough : goal.returns-in_err-shrink_to_fit-clause-enough
-returns-in_err-shrink_to_fit-clause-enough g c = λ m least enough.
-    absurd (false≢true (c.in_err-shrink_to_fit.ensures.enough m (rw (← c.self.view_is, distinct_count-occurrences g.met.T.Eq.laws c.self.inside.table.entries c.self.invariant.counted) at least) (rw (← c.self.view_is) at enough)))
+returns-in_err-shrink_to_fit-clause-enough g c = λ least.
+    absurd (false≢true (c.in_err-shrink_to_fit.ensures.enough _ (rw (← c.self.view_is, distinct_count-occurrences g.met.T.Eq.laws c.self.inside.table.entries c.self.invariant.counted) at least) (omega arith)))
 
 pub returns-in_err-shrink_to_fit-clause-same : goal.returns-in_err-shrink_to_fit-clause-same
 returns-in_err-shrink_to_fit-clause-same g c = λ m least enough.
