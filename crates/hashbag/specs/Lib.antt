@@ -4,6 +4,7 @@ pub use Rattle.hashbag_core.specs.EntryCalls
 pub use Rattle.hashbag_core.specs.Equality
 pub use Rattle.hashbag_core.specs.EqualityLaws
 pub use Rattle.hashbag_core.specs.Extends
+pub use Rattle.hashbag_core.specs.Growths
 pub use Rattle.hashbag_core.specs.Held
 pub use Rattle.hashbag_core.specs.Inserts
 pub use Rattle.hashbag_core.specs.Iter

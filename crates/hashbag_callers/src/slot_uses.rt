@@ -1,5 +1,6 @@
 //! A caller that speaks of the slots behind a bag, in words that `hashbag` passes on.
 ghost use Rattle.std.specs.Prelude.{◌≡◌, ◌+◌, ℕ, false, length};
+ghost use Rattle.hashbag.specs.Growths.{GrowAsListed};
 ghost use Rattle.hashbag.specs.Slots.{IsSlotCount, is_live, live_count, slot_at};
 ghost use Rattle.hashbag.specs.SlotWords.{Slot};
 
@@ -18,4 +19,10 @@ pub fn keep_one_of_each<T: Eq + Hash + Drop, S: BuildHasher + Drop>(
     bag.retain(|_value: &T, _count: usize| 1);
     let _slots = bag.slots();
     bag.set_len()
+}
+
+/// A law, at no cost: each growth during an extend has the number of slots that follows from the list before it.
+pub fn grow_as_listed<T: Eq>()
+    ensures { (S : Type 0) → GrowAsListed {S = S} T.eq }
+{
 }

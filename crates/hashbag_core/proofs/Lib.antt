@@ -5,6 +5,7 @@ pub mod DistinctLemmas
 pub mod EqualityLemmas
 pub mod ExcessLemmas
 pub mod ExtendLemmas
+pub mod GrowthLemmas
 pub mod HeldLemmas
 pub mod InsertLemmas
 pub mod JoinLemmas

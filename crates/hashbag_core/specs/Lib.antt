@@ -5,6 +5,7 @@ pub mod Equality
 pub mod EqualityLaws
 pub mod Examples
 pub mod Extends
+pub mod Growths
 pub mod Held
 pub mod Inserts
 pub mod Iter

@@ -68,8 +68,11 @@ impl From<AllocError> for BagError {
     }
 }
 
-/// The state that hashes the values of a bag where no other is given. Its keys are fixed, so a bag hashes alike in every
-/// run of a program.
+/// The state that hashes the values of a bag if no other is given. Its keys are fixed, so a bag hashes alike in every run of a
+/// program.
+///
+/// Whoever chooses the values can therefore choose many with one hash, and then each insertion takes time in proportion to their
+/// number. For values that strangers choose, take `HashBag::with_hasher(alloc, RandomState::new(&rt)?)`, whose keys are random.
 pub type FixedState = BuildHasherDefault<FoldHasher>;
 
 /// A bag of values, also called a counted multiset: how often each distinct value occurs.

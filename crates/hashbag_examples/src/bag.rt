@@ -92,6 +92,17 @@ pub fn waiting(alloc: Global) -> Result<(), BagError> {
     Ok(())
 }
 
+pub fn finish_carry(alloc: Global) -> Result<(), BagError> {
+    let mut bag = HashBag::new(alloc);
+    for value in 0..25u64 {
+        bag.insert(value)?;
+    }
+    bag.waiting(); // 16
+    bag.finish_carry();
+    bag.waiting(); // 0
+    Ok(())
+}
+
 pub fn room(alloc: Global) -> Result<(), BagError> {
     let mut bag = HashBag::new(alloc);
     bag.room(); // 0
