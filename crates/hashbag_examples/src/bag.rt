@@ -253,6 +253,24 @@ pub fn reserve(alloc: Global) -> Result<(), BagError> {
     Ok(())
 }
 
+pub fn spare(alloc: Global) -> Result<(), BagError> {
+    let mut bag = HashBag::new(alloc);
+    bag.insert("apple")?;
+    let spare = bag.spare(20)?;
+    spare.slots(); // 32
+    bag.slots(); // 16
+    Ok(())
+}
+
+pub fn use_spare(alloc: Global) -> Result<(), BagError> {
+    let mut bag = HashBag::new(alloc);
+    bag.insert("apple")?;
+    let spare = bag.spare(20)?;
+    bag.use_spare(spare);
+    bag.room(); // 23
+    Ok(())
+}
+
 pub fn shrink_to_fit(alloc: Global) -> Result<(), BagError> {
     let mut bag = HashBag::with_capacity(alloc, 1_000)?;
     bag.insert("apple")?;
