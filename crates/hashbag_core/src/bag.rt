@@ -19,6 +19,7 @@ mod equality;
 mod extends;
 mod keys;
 mod make;
+mod spare;
 mod take;
 
 use hashbag_table::Table;

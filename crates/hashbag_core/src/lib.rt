@@ -10,7 +10,7 @@ pub mod json;
 
 pub use bag::{BagError, FixedState, HashBag};
 pub use entry::Entry;
-pub use hashbag_table::{Key, ToValue};
+pub use hashbag_table::{Key, Spare, ToValue};
 pub use iters::{Drain, IntoIter, Iter, SetIter};
 pub use joins::{Difference, NotIn, OuterJoin, SignedDifference};
 pub use json::{ItemError, JsonError, JsonItem};

@@ -8,10 +8,12 @@ mod built;
 mod capacity;
 pub mod key;
 mod retain;
+pub mod spare;
 pub mod table;
 pub mod walk;
 
 pub use hashbag_slots::slots;
 pub use key::{Key, ToValue};
+pub use spare::Spare;
 pub use table::Table;
 pub use walk::{DrainWalk, IntoWalk, Walk};

@@ -17,6 +17,7 @@ ghost use Rattle.hashbag_table.specs.Tables.{limit, room, entries_of, Arrives, K
 mod keys;
 mod make;
 mod resize;
+mod spare;
 mod spots;
 
 use crate::built::Built;

@@ -117,7 +117,7 @@ impl<T: Eq + Hash + Drop, S: BuildHasher + Drop> Table<T, S> {
 
     // Takes a table of Empty slots in which all values have room as the newer one, moves every value into it, and frees the
     // others. It takes no memory, and hashes each value once.
-    fn move_all_into(&mut self, newer: Slots<T>)
+    pub(super) fn move_all_into(&mut self, newer: Slots<T>)
         requires empty { newer.slots ≡ replicate (length newer.slots) Slot.Empty }
         requires reached { (hash : T → ℕ) → IsReached hash newer }
         requires enough { length self.old.entries ≤ limit (length newer.slots) }

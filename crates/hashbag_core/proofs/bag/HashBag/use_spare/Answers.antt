@@ -1,0 +1,36 @@
+use Rattle.std.proofs.Common.{◌≤◌, length, sym, ◌∙◌, subst, refl, arith}
+use Rattle.hashbag_table.specs.Tables.{limit}
+use Rattle.hashbag_core.specs.Occurrences.{distinct_count}
+use Rattle.hashbag_core.proofs.OccurrenceLemmas.{bag_from_tally, occurrences_rearranged, tally_rearranged}
+use Rattle.hashbag_core.proofs.DistinctLemmas.{distinct_count-occurrences}
+use Rattle.hashbag_core.proofs.bag.HashBag.use_spare.Goals as goal
+
+pub use_spare-requires : goal.use_spare-requires
+use_spare-requires g c = record {
+  enough =
+      let same = distinct_count-occurrences g.met.T.Eq.laws c.self.inside.table.entries c.self.invariant.counted in
+      let many = subst (λ a. distinct_count g.T.PartialEq.eq a.items ≤ limit c.args.spare) (sym c.self.view_is) c.requires.enough in
+      omega (arith, same, many);
+}
+
+pub invariant_of-self : goal.invariant_of-self
+invariant_of-self g c = tally_rearranged g.met.T.Eq.laws _ _ _ c.self.invariant c.use_spare.ensures.entries.counted c.use_spare.ensures.entries.means
+
+pub returns-clause-kept : goal.returns-clause-kept
+returns-clause-kept g c = rw (← c.self.view_is) (record {
+  means = occurrences_rearranged _ _ c.use_spare.ensures.entries.means;
+  hasher = c.use_spare.ensures.entries.hasher;
+  limit = refl;
+  bag = bag_from_tally g.met.T.Eq.laws _ _ (invariant_of-self g c);
+})
+
+pub returns-clause-len : goal.returns-clause-len
+returns-clause-len g c = rw (← c.self.view_is) (sym (invariant_of-self g c).sum ∙ c.self.invariant.sum)
+
+pub returns-clause-room : goal.returns-clause-room
+returns-clause-room g c =
+    let same = distinct_count-occurrences g.met.T.Eq.laws c.self.inside.table.entries c.self.invariant.counted in
+    let packed = c.use_spare.ensures.packed.room in
+    let slots = c.use_spare.ensures.slots in
+    let many = c.use_spare.ensures.values in
+    rw (← c.self.view_is) (omega (arith, same, packed, slots, many))

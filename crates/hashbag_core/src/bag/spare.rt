@@ -1,0 +1,74 @@
+//! Spare slots of a bag: allocated ahead, and taken into use later.
+ghost use Rattle.std.specs.Prelude.{◌≡◌, ◌+◌, ◌-◌, ◌<◌, ◌≤◌, length, IfOk, OnErr};
+ghost use Rattle.hashbag_table.specs.Tables.{limit, room, IsLeast, IsPacked};
+ghost use Rattle.hashbag_core.specs.Occurrences.{distinct_count};
+ghost use Rattle.hashbag_core.specs.Held.{BuildsSlots};
+ghost use Rattle.hashbag_table.specs.declared.table.TheConstants.{MOST_VALUES};
+ghost use Rattle.hashbag_core.specs.declared.bag.BagError.TheVariants.{Memory};
+
+use crate::bag::{BagError, HashBag};
+use hashbag_table::Spare;
+use std::hash::{BuildHasher, Hash};
+
+impl<T: Eq + Hash + Drop, S: BuildHasher + Drop> HashBag<T, S> {
+    ghost use Rattle.hashbag_core.specs.Bag.{IsBagOf};
+
+    /// Allocates the slots that [`HashBag::reserve`] would build for `n` more distinct values, and leaves them unused.
+    ///
+    /// They are the least table of slots that has room for all distinct values, and is not smaller than the newer one. A caller that
+    /// may need them takes them into use by [`HashBag::use_spare`], which can't fail, or else drops them.
+    ///
+    /// # Errors
+    ///
+    /// `Memory` if the allocation fails, or if there would be more than 3 * 2^57 distinct values.
+    ///
+    /// # Examples
+    ///
+    /// ```
+    /// let mut bag = HashBag::new(alloc);
+    /// bag.insert("apple")?;
+    /// let spare = bag.spare(20)?;
+    /// spare.slots(); // 32
+    /// bag.slots(); // 16
+    /// Ok(())
+    /// ```
+    pub fn spare(&self, n: usize) -> Result<Spare<T>, BagError>
+        ensures least { IfOk result (λ slots. IsLeast (length self.now.tables.newer) (distinct_count T.eq self.now.items + n) slots) }
+        ensures beyond { MOST_VALUES < distinct_count T.eq self.now.items + n → result ≡ Err BagError.Memory }
+        ensures memory { OnErr result (result ≡ Err BagError.Memory) }
+    {
+        let spare = self.table.spare(n)?;
+        Ok(spare)
+    }
+
+    /// Takes spare slots into use in place of the bag's own, which are freed. What occurs stays.
+    ///
+    /// The caller ensures that the distinct values have room in them, as after [`HashBag::spare`] they have until more than `n` are
+    /// inserted.
+    ///
+    /// # Complexity
+    ///
+    /// Every distinct value is moved and hashed once. It doesn't allocate.
+    ///
+    /// # Examples
+    ///
+    /// ```
+    /// let mut bag = HashBag::new(alloc);
+    /// bag.insert("apple")?;
+    /// let spare = bag.spare(20)?;
+    /// bag.use_spare(spare);
+    /// bag.room(); // 23
+    /// Ok(())
+    /// ```
+    pub fn use_spare(&mut self, spare: Spare<T>)
+        requires enough { distinct_count T.eq self.old.items ≤ limit spare }
+        ensures kept { IsBagOf T.eq self.old self.old.items self.new }
+        ensures len { length self.new.items ≡ length self.old.items }
+        ensures slots { length self.new.tables.newer ≡ spare }
+        ensures room { room self.new.tables ≡ limit spare - distinct_count T.eq self.old.items }
+        ensures packed { IsPacked self.new.tables }
+        ensures built { BuildsSlots spare self.old self.new }
+    {
+        self.table.use_spare(spare);
+    }
+}

@@ -1,0 +1,49 @@
+//! Spare slots of a table: allocated ahead, and taken into use later.
+ghost use Rattle.std.specs.Prelude.{◌≡◌, ◌+◌, ◌<◌, ◌≤◌, length, IfOk, IsErr};
+ghost use Rattle.hashbag_table.specs.Table.{IsMapOf};
+ghost use Rattle.hashbag_table.specs.Tables.{limit, values, IsLeast, IsPacked};
+
+use crate::capacity::least_slots;
+use crate::spare::Spare;
+use crate::table::{MOST_VALUES, Table};
+use std::alloc::AllocError;
+use std::hash::{BuildHasher, Hash};
+
+impl<T: Eq + Hash + Drop, S: BuildHasher + Drop> Table<T, S> {
+    /// Allocates the slots that [`Table::reserve`] would build for `n` more distinct values, and leaves them unused.
+    ///
+    /// They are the least table of slots that has room for all, and is not smaller than the newer one.
+    ///
+    /// # Errors
+    ///
+    /// `AllocError` if the allocation fails, or if there would be more than [`MOST_VALUES`].
+    pub fn spare(&self, n: usize) -> Result<Spare<T>, AllocError>
+        ensures least { IfOk result (λ spare. IsLeast (length self.now.tables.newer) (length self.now.entries + n) spare) }
+        ensures beyond { MOST_VALUES < length self.now.entries + n → IsErr result }
+    {
+        let slots = self.newer.slots();
+        let values = self.set_len();
+        if n > MOST_VALUES - values {
+            return Err(AllocError);
+        }
+        let count = least_slots(slots, values + n)?;
+        Spare::with_slots(self.alloc, count)
+    }
+
+    /// Takes spare slots into use in place of those of both tables, which are freed. The entries stay.
+    ///
+    /// # Complexity
+    ///
+    /// Every value is moved and hashed once. It doesn't allocate.
+    pub fn use_spare(&mut self, spare: Spare<T>)
+        requires enough { length self.old.entries ≤ limit spare }
+        ensures slots { length self.new.tables.newer ≡ spare }
+        ensures packed { IsPacked self.new.tables }
+        ensures built { self.new.tables.built ≡ self.old.tables.built + spare }
+        ensures values { values self.new.tables ≡ length self.old.entries }
+        ensures entries { IsMapOf T.eq self.old self.old.entries self.new }
+    {
+        let Spare { blank } = spare;
+        self.move_all_into(blank);
+    }
+}
