@@ -13,7 +13,7 @@ use Rattle.hashbag_table.specs.Table.{Table}
 use Rattle.hashbag_table.proofs.EntryLemmas.{lookup_key-entry}
 use Rattle.hashbag_table.proofs.KeyLemmas.{named_is, named_absent}
 use Rattle.hashbag_table.proofs.ListLemmas.{filter-replicate, find-filter}
-use Rattle.hashbag_core.specs.Bag.{Bag, occurrences, IsTallied}
+use Rattle.hashbag_core.specs.Bag.{occurrences, IsTallied}
 use Rattle.hashbag_core.specs.Held.{AreHeld}
 use Rattle.hashbag_core.specs.Inserts.{Inserts}
 use Rattle.hashbag_core.specs.Keys.{count_named, stored_named}

@@ -1,4 +1,4 @@
-use Rattle.std.proofs.Common.{◌≡◌, sym, ◌∙◌, arith}
+use Rattle.std.proofs.Common.{sym, ◌∙◌, arith}
 use Rattle.hashbag_table.proofs.Emptied.{all_empty}
 use Rattle.hashbag_table.proofs.capacity.clear_slots.Goals as goal
 

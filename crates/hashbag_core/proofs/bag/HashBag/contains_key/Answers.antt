@@ -1,4 +1,4 @@
-use Rattle.std.proofs.Common.{◌≡◌, ℕ, None, Some, sym, ap, ◌∙◌}
+use Rattle.std.proofs.Common.{sym, ◌∙◌}
 use Rattle.hashbag_table.proofs.KeyLemmas.{named_present, named_absent}
 use Rattle.hashbag_core.proofs.KeyLemmas.{named_occurrences}
 use Rattle.hashbag_core.proofs.OccurrenceLemmas.{bag_from_tally}

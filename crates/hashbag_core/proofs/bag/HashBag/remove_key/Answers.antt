@@ -1,8 +1,5 @@
 use Rattle.std.proofs.Common.{◌≡◌, arith, ap, sym, ◌∙◌, refl}
 use Rattle.hashbag_table.proofs.KeyLemmas.{named_equals, named_is}
-use Rattle.hashbag_table.specs.Named.{named_count}
-use Rattle.hashbag_table.specs.Entries.{count_of}
-use Rattle.hashbag_table.specs.Tables.{Rewrites}
 use Rattle.hashbag_core.specs.Bag.{occurrences}
 use Rattle.hashbag_core.specs.Keys.{count_named}
 use Rattle.hashbag_core.specs.Occurrences.{count}

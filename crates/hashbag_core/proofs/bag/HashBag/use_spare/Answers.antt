@@ -1,4 +1,4 @@
-use Rattle.std.proofs.Common.{◌≤◌, length, sym, ◌∙◌, subst, refl, arith}
+use Rattle.std.proofs.Common.{◌≤◌, sym, ◌∙◌, subst, refl, arith}
 use Rattle.hashbag_table.specs.Tables.{limit}
 use Rattle.hashbag_core.specs.Occurrences.{distinct_count}
 use Rattle.hashbag_core.proofs.OccurrenceLemmas.{bag_from_tally, occurrences_rearranged, tally_rearranged}
