@@ -30,10 +30,10 @@ sum_to f (p ∷ all) (suc k) d below =
     let later = sum_to f all k d (omega arith) in
     omega arith
 
-abbrev one_if : Bool → ℕ
+abbrev pub one_if : Bool → ℕ
 one_if b = cond b 1 0
 
-one_of_none : (k : ℕ) → k ≡ 0 → one_if (k == 0) ≡ 1
+pub one_of_none : (k : ℕ) → k ≡ 0 → one_if (k == 0) ≡ 1
 one_of_none k none = grind (arith, nat_tests)
 
 none_of_some : (k : ℕ) → 0 < k → one_if (k == 0) ≡ 0
@@ -62,16 +62,16 @@ module _ {T : Type 0} {eq : T → T → Bool} (laws : IsEquivalence eq) where
 -- ---- what X lacks
 
 module _ {T : Type 0} (eq : T → T → Bool) (X : List T) where
-  abbrev one_lacked : T × ℕ → ℕ
+  abbrev pub one_lacked : T × ℕ → ℕ
   one_lacked e = one_if (count eq e.0 X == 0)
 
   -- how many of these values X lacks
-  abbrev lacked : List (T × ℕ) → ℕ
+  abbrev pub lacked : List (T × ℕ) → ℕ
   lacked es = sum_by one_lacked es
 
 module _ {T S : Type 0} {eq : T → T → Bool} (laws : IsEquivalence eq) (X : List T) where
   -- the bag has each value of X
-  abbrev Has : Bag T S → Type 0
+  abbrev pub Has : Bag T S → Type 0
   Has bag = (v : T) → 0 < count eq v X → 0 < count eq v bag.items
 
   still_has : (v : T) (n : ℕ) (before after : Bag T S) → Inserts eq v n before after → Has before → Has after
@@ -80,12 +80,12 @@ module _ {T S : Type 0} {eq : T → T → Bool} (laws : IsEquivalence eq) (X : L
       let now = count_inserted_any laws before after u v n went.added in
       omega (arith, was, now)
 
-  has_in_turn : (pairs : List (T × ℕ)) (before after : Bag T S) → InTurn eq pairs before after → Has before → Has after
+  pub has_in_turn : (pairs : List (T × ℕ)) (before after : Bag T S) → InTurn eq pairs before after → Has before → Has after
   has_in_turn [] before after same has = subst (λ (b : Bag T S). Has b) (sym same) has
   has_in_turn (p ∷ pairs) before after h has = has_in_turn pairs h.0 after h.2 (still_has p.0 p.1 before h.0 h.1 has)
 
   -- only what X lacks is a value more
-  few_lacked : (pairs : List (T × ℕ)) (before after : Bag T S) → InTurn eq pairs before after → Has before → distinct_count eq after.items ≤ distinct_count eq before.items + lacked eq X pairs
+  pub few_lacked : (pairs : List (T × ℕ)) (before after : Bag T S) → InTurn eq pairs before after → Has before → distinct_count eq after.items ≤ distinct_count eq before.items + lacked eq X pairs
   few_lacked [] before after same has = let as_many = ap (λ (b : Bag T S). distinct_count eq b.items) same in omega (arith, as_many)
   few_lacked (p ∷ pairs) before after h has =
       let first = one_or_none (count eq p.0 X) (distinct_count eq before.items) (distinct_count eq h.0.items) h.1.set_len (λ some. let same = h.1.same_set (has p.0 some) in omega (arith, same)) in
@@ -93,7 +93,7 @@ module _ {T S : Type 0} {eq : T → T → Bool} (laws : IsEquivalence eq) (X : L
       let sum = sum_by-cons (one_lacked eq X) p pairs in
       omega (arith, first, later, sum)
 
-  none_of_none : (v : T) (bag : Bag T S) → Has bag → count eq v bag.items ≡ 0 → count eq v X ≡ 0
+  pub none_of_none : (v : T) (bag : Bag T S) → Has bag → count eq v bag.items ≡ 0 → count eq v X ≡ 0
   none_of_none v bag has none = elim (cases_lt 0 (count eq v X)) [
     | inl some ↦ let there = has v some in absurd (omega (arith, there, none))
     | inr few ↦ omega (arith, few)

@@ -10,6 +10,10 @@ use Rattle.hashbag.specs.Walks.{IsSetWalkOf}
 abbrev pub LacksMoreThan : {T : Type 0} → (T → T → Bool) → ℕ → List T → List T → Type 0
 LacksMoreThan {T} eq k X Y = (M : List (T × ℕ)) → IsNotIn eq X Y M → k < length M
 
+-- there is room in these tables for those of the values W that Y lacks
+abbrev pub HasRoomForAll : {T : Type 0} → (T → T → Bool) → List (T × ℕ) → List T → Tables T → Type 0
+HasRoomForAll eq W Y tables = length (lacking eq Y W) ≤ room tables
+
 -- there is room in these tables for the values of a bag that Y lacks
 abbrev pub HasRoomForLacked : {T S : Type 0} → (T → T → Bool) → Bag T S → List T → Tables T → Type 0
 HasRoomForLacked {T} eq bag Y tables = (W : List (T × ℕ)) → IsSetWalkOf eq bag W → length (lacking eq Y W) ≤ room tables

@@ -2,24 +2,38 @@
 ghost use Rattle.std.specs.Prelude.{◌≡◌, ℕ, ◌+◌, ◌-◌, ◌<◌, ◌≤◌, min, max, List, length, All, true, OnOk, OnErr};
 ghost use Rattle.hashbag.specs.Joins.{IsNotIn};
 ghost use Rattle.hashbag.specs.Occurrences.{count, distinct_count};
-ghost use Rattle.hashbag.specs.Tables.{room};
-ghost use Rattle.hashbag_ops.specs.Lacked.{HasRoomForLacked, LacksMoreThan};
+ghost use Rattle.hashbag.specs.Tables.{limit, room};
+ghost use Rattle.hashbag.specs.Walks.{IsSetWalkOf};
+ghost use Rattle.hashbag_ops.specs.Lacked.{HasRoomForAll, HasRoomForLacked, LacksMoreThan};
 ghost use Rattle.hashbag_ops.specs.Unions.{IsUnion};
 
-use hashbag::{BagError, HashBag};
+use hashbag::{BagError, HashBag, Spare};
 use std::hash::{BuildHasher, Hash};
 use std::iter::ExactSizeIterator;
 
-/// Adds all of one bag to another, and uses it up: of each value there are then as many as in both together.
+/// Adds all occurrences of `from` to `into`: each count is then the sum of both.
 ///
-/// All goes in, or nothing: room is made for the values that `into` lacks before the first goes in, and no more. Where a value is in
-/// both, the instance that is stored in `into` stays. The limit of `into` stays, and that of `from` doesn't matter.
+/// Everything is added, or nothing. If a value is in both bags, the instance stored in `into` stays. The limit of `into` stays, and that
+/// of `from` doesn't matter.
 ///
-/// It answers `TooMany` exactly where the total would pass the limit of `into`, before anything grows, and `Memory` where there
-/// isn't that room and memory is refused. Then `into` is unchanged, and `from` is dropped.
+/// If `into` has room for the values that it lacks, its slots stay. Else it gets a table of slots that has room for the distinct values
+/// of both, or, where that one can't be allocated, for those that it lacks.
 ///
-/// Each distinct value of `from` is hashed once, and once more where there isn't room for all of them and `into` isn't empty, to see
-/// whether `into` lacks it; those of `into` are where it grows.
+/// # Errors
+///
+/// - `TooMany` exactly if the total would pass the limit of `into`. That is tested first.
+/// - `Memory` only if `into` lacks more values than it has room for, and an allocation fails.
+///
+/// Then `into` is unchanged, and `from` is dropped.
+///
+/// # Complexity
+///
+/// Each distinct value of `from` is hashed once, and again if `into` has no room left when it comes. Those of `into` are hashed once if
+/// it gets other slots. If `into` isn't empty and may not have room, slots for the distinct values of both are allocated first. They are
+/// at most twice as many as are needed, and are freed if they weren't used. If that allocation fails, each distinct value of `from` is
+/// hashed once more, to count those that `into` lacks.
+///
+/// # Examples
 ///
 ///     let mut stock: HashBag<&str> = HashBag::new(alloc);
 ///     stock.insert_many("bolt", 2)?;
@@ -46,13 +60,53 @@ pub fn merge<T: Eq + Hash + Drop, S: BuildHasher + Drop, S2: BuildHasher + Drop>
     ensures memory { length into.old.items + length from.items ≤ into.old.most → OnErr result (result ≡ Err BagError.Memory) }
     ensures full { result ≡ Err BagError.Memory → room into.old.tables < distinct_count T.eq from.items }
     ensures lacks { result ≡ Err BagError.Memory → LacksMoreThan T.eq (room into.old.tables) from.items into.old.items }
+
+    // No fewer slots, and no others where there was room for the values that were lacked.
+    ensures slots { OnOk result (length into.old.tables.newer ≤ length into.new.tables.newer) }
+    ensures kept { HasRoomForLacked T.eq from into.old.items into.old.tables → OnOk result (into.new.tables.built ≡ into.old.tables.built) }
 {
     if from.len() > into.limit() - into.len() {
         return Err(BagError::TooMany);
     }
+    if from.set_len() > into.room() && !into.is_empty() {
+        if let Ok(spare) = into.spare(from.set_len()) {
+            insert_beside_spare(into, from, spare);
+            return Ok(());
+        }
+    }
     make_room(into, &from)?;
     into.extend_many(from.into_iter()).unwrap();
     Ok(())
+}
+
+// Inserts all of `from`. The spare slots are taken into use when an absent value comes and there is no room; else they are freed.
+fn insert_beside_spare<T: Eq + Hash + Drop, S: BuildHasher + Drop, S2: BuildHasher + Drop>(
+    into: &mut HashBag<T, S>,
+    from: HashBag<T, S2>,
+    spare: Spare<T>,
+)
+    requires fits { length into.old.items + length from.items ≤ into.old.most }
+    requires enough { distinct_count T.eq into.old.items + distinct_count T.eq from.items ≤ limit spare }
+    requires larger { length into.old.tables.newer ≤ spare }
+    ensures counts { (v : T) → count T.eq v into.new.items ≡ count T.eq v into.old.items + count T.eq v from.items }
+    ensures len { length into.new.items ≡ length into.old.items + length from.items }
+    ensures limit { into.new.most ≡ into.old.most }
+    ensures hasher { into.new.hasher ≡ into.old.hasher }
+    ensures slots { length into.old.tables.newer ≤ length into.new.tables.newer }
+    ensures kept { HasRoomForLacked T.eq from into.old.items into.old.tables → into.new.tables.built ≡ into.old.tables.built }
+{
+    // `len` is called for its clause that the list is a bag's, which the proof cites.
+    let _len = into.len();
+    let mut pairs = from.into_iter();
+    'pairs: while let Some((value, n)) = pairs.next() {
+        if into.room() == 0 && into.contains(&value) == 0 {
+            into.use_spare(spare);
+            into.insert_many(value, n).unwrap();
+            into.extend_many(pairs).unwrap();
+            return;
+        }
+        into.insert_many(value, n).unwrap();
+    }
 }
 
 // Makes room for the values of `from` that `into` lacks. They are counted only where there isn't room for all values of `from`.
@@ -69,6 +123,8 @@ fn make_room<T: Eq + Hash + Drop, S: BuildHasher + Drop, S2: BuildHasher + Drop>
     ensures memory { OnErr result (result ≡ Err BagError.Memory) }
     ensures full { OnErr result (room into.old.tables < distinct_count T.eq from.now.items) }
     ensures lacks { OnErr result (LacksMoreThan T.eq (room into.old.tables) from.now.items into.old.items) }
+    ensures slots { length into.old.tables.newer ≤ length into.new.tables.newer }
+    ensures kept { (W : _) → IsSetWalkOf T.eq from.now W → HasRoomForAll T.eq W into.old.items into.old.tables → into.new ≡ into.old }
 {
     if from.set_len() <= into.room() {
         return Ok(());

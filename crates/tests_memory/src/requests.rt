@@ -33,7 +33,7 @@ enum Verb {
     OrInsert,
     // Joins with a bag of three values, and whether the two are equal.
     Joins,
-    // Sums with a bag of three values, of which two are there.
+    // Sums with a bag of three values, of which two are there; of an empty bag, with one of one value.
     Merge,
     MergeRef,
     KeepMost,
@@ -209,7 +209,7 @@ fn make_on(
     }
 }
 
-// A sum of a bag with another, of whose three values one is absent. Where it is refused, the bag is as it was.
+// A sum of a bag with another, of whose values one is absent. Where it is refused, the bag is as it was.
 fn summed(
     bag: &mut HashBag<u64>,
     other: HashBag<u64>,
@@ -217,14 +217,14 @@ fn summed(
     refusals: &mut Refusals,
 ) -> Result<(), Wrong> {
     let (len, before) = (bag.len(), tables(bag));
+    let added = match verb {
+        Verb::KeepMost => 1,
+        _ => other.len(),
+    };
     let sum = match verb {
         Verb::Merge => merge(bag, other),
         Verb::MergeRef => merge_ref(bag, &other),
         _ => keep_most(bag, other),
-    };
-    let added = match verb {
-        Verb::KeepMost => 1,
-        _ => 3,
     };
     let refused = sum.is_err();
     done(sum, refusals)?;

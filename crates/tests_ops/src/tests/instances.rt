@@ -95,3 +95,20 @@ fn instances_that_stay(rt: HostRuntime) -> Result<(), Fail> {
     }
     Ok(())
 }
+
+// Keys, tags and counts after a merge into a full bag, with the keys 1 to 12 and the tag 10, of the key 12 three times, tag 20, and the
+// key 13 once, tag 21: the values that were there go into other slots.
+const MOVED: &str =
+    "[(1, 10, 1), (2, 10, 1), (3, 10, 1), (4, 10, 1), (5, 10, 1), (6, 10, 1), (7, 10, 1), (8, 10, 1), (9, 10, 1), \
+    (10, 10, 1), (11, 10, 1), (12, 10, 4), (13, 21, 1)]";
+
+#[test]
+fn instances_in_other_slots(rt: HostRuntime) -> Result<(), Fail> {
+    let mut full: HashBag<Tagged, OneState> = HashBag::default_in(rt.alloc());
+    for key in 1..13 {
+        add(&mut full, key, 10, 1)?;
+    }
+    let more: HashBag<Tagged, IdentityState> = tagged(rt.alloc(), &[(12, 20, 3), (13, 21, 1)])?;
+    merged(&mut full, more)?;
+    is_text("merge", text_of(rt.alloc(), &full)?.as_str(), MOVED)
+}

@@ -22,7 +22,9 @@ const ROWS: &str = "
     merge | 1..25 | 2..49 | (128, 0, 47)
     merge | 1:1 | 1..25 | (64, 0, 23)
     merge | 1..12 | 1..12 | (16, 0, 0)
-    merge | 1..12 | 1..13 | (32, 0, 11)
+    merge | 1..12 | 1..13 | (64, 0, 35)
+    merge | 1..5 | 1..8 | (16, 0, 4)
+    merge | 1..5 | 6..20 | (32, 0, 4)
     merge_ref | | | (0, 0, 0)
     merge_ref | 1..25 | 1:5 25:2 | (64, 16, 23)
     merge_ref | 1..25 | 26:1 | (64, 0, 22)
@@ -64,7 +66,7 @@ fn has_tables<S: BuildHasher + Default + Drop, S2: BuildHasher + Default + Clone
 
 #[test]
 fn tables_after_each_call(rt: HostRuntime) -> Result<(), Fail> {
-    for row in rows_of(rt.alloc(), ROWS, 27)? {
+    for row in rows_of(rt.alloc(), ROWS, 29)? {
         has_tables::<FixedState, OneState>(rt.alloc(), row)?;
         has_tables::<OneState, IdentityState>(rt.alloc(), row)?;
         has_tables::<IdentityState, FixedState>(rt.alloc(), row)?;

@@ -1,4 +1,4 @@
-use Rattle.std.proofs.Common.{arith}
+use Rattle.std.proofs.Common.{◌≤◌, length, inl, inr, sym, subst, arith}
 use Rattle.std.proofs.lemmas.List.Sorted.{IsPermutation-refl}
 use Rattle.hashbag.specs.JoinsLeft.{lacking}
 use Rattle.hashbag.proofs.CallerLemmas.{count_kept}
@@ -21,3 +21,16 @@ returns-clause-room g c = λ W is.
     let many = c.lacked_by-lacked.ensures (lacking g.T.PartialEq.eq Y W) (not_in_from_walk g.met.T.Eq.laws X Y W (is.walk X (IsPermutation-refl X))) in
     let enough = c.in_ok-reserve.ensures.room in
     omega (arith, many, enough)
+
+pub returns-clause-slots : goal.returns-clause-slots
+returns-clause-slots g c = elim c.in_ok-reserve.ensures.reserves [
+  | inl stays ↦ subst (λ t. length c.args.into.now.tables.newer ≤ length t.newer) (sym stays.1) (omega arith)
+  | inr packs ↦ packs.1.least.from
+]
+
+pub returns-clause-kept : goal.returns-clause-kept
+returns-clause-kept g c = λ W is enough.
+    let X = c.args.from.now.items in
+    let Y = c.args.into.now.items in
+    let many = c.lacked_by-lacked.ensures (lacking g.T.PartialEq.eq Y W) (not_in_from_walk g.met.T.Eq.laws X Y W (is.walk X (IsPermutation-refl X))) in
+    c.reserve.ensures.same (omega (arith, many, enough))

@@ -1,10 +1,12 @@
-use Rattle.std.proofs.Common.{ℕ, List, cond, sum_by, sym, ◌∙◌, ap, refl, arith}
+use Rattle.std.proofs.Common.{ℕ, List, cond, sum_by, sym, ◌∙◌, ap, subst, refl, arith}
 use Rattle.std.proofs.lemmas.Iterator.Consumers.{YieldsList-from_first}
 use Rattle.std.proofs.lemmas.List.{map-id}
 use Rattle.hashbag.specs.Bag.{occurrences}
+use Rattle.hashbag.specs.Inserts.{InTurn}
 use Rattle.hashbag.proofs.CallerLemmas.{count_extended, items_that_came, pairs_as_they_are}
 use Rattle.hashbag.proofs.InsertLemmas.{all_added, longer_by_numbers}
 use Rattle.hashbag.proofs.OccurrenceLemmas.{count_rearranged}
+use Rattle.hashbag_ops.proofs.Spared.{stays_lacked}
 use Rattle.hashbag_ops.proofs.Sums.{count_written, takes_pairs}
 use Rattle.hashbag_ops.proofs.combine.merge.Goals as goal
 
@@ -50,3 +52,28 @@ returns-clause-limit g c = (all_added g.met.T.Eq.laws (rw c.unwrap.ensures at c.
 
 pub returns-clause-hasher : goal.returns-clause-hasher
 returns-clause-hasher g c = (all_added g.met.T.Eq.laws (rw c.unwrap.ensures at c.extend_many.ensures.all)).hasher ∙ c.in_ok-make_room.ensures.hasher
+
+-- all pairs that came had room
+pub returns-clause-slots : goal.returns-clause-slots
+returns-clause-slots g c =
+    let all = rw c.unwrap.ensures at c.extend_many.ensures.all in
+    let W = c.into_iter.result in
+    let walk = c.into_iter.ensures.into_iter_gives in
+    let pairs = pairs_as_they_are all.items all.pairs all.went ∙ sym (map-id all.items) ∙ items_that_came all.items all.came (YieldsList-from_first (λ x. x) (λ s. s) W refl) in
+    let stays = stays_lacked g.met.T.Eq.laws c.args.into.now.items W c.make_room.new.into c.extend_many.new.self
+    (λ v some. let kept = c.in_ok-make_room.ensures.counts v in omega (arith, kept, some))
+    (subst (λ l. InTurn g.T.PartialEq.eq l c.make_room.new.into c.extend_many.new.self) pairs all.turn) (c.in_ok-make_room.ensures.room W walk) in
+    let same = stays.slots in
+    let more = c.in_ok-make_room.ensures.slots in
+    omega (arith, same, more)
+
+pub returns-clause-kept : goal.returns-clause-kept
+returns-clause-kept g c = λ enough.
+    let all = rw c.unwrap.ensures at c.extend_many.ensures.all in
+    let W = c.into_iter.result in
+    let walk = c.into_iter.ensures.into_iter_gives in
+    let pairs = pairs_as_they_are all.items all.pairs all.went ∙ sym (map-id all.items) ∙ items_that_came all.items all.came (YieldsList-from_first (λ x. x) (λ s. s) W refl) in
+    let stays = stays_lacked g.met.T.Eq.laws c.args.into.now.items W c.make_room.new.into c.extend_many.new.self
+    (λ v some. let kept = c.in_ok-make_room.ensures.counts v in omega (arith, kept, some))
+    (subst (λ l. InTurn g.T.PartialEq.eq l c.make_room.new.into c.extend_many.new.self) pairs all.turn) (c.in_ok-make_room.ensures.room W walk) in
+    stays.built ∙ ap (λ b. b.tables.built) (c.in_ok-make_room.ensures.kept W walk (enough W walk))

@@ -1,0 +1,160 @@
+-- Pairs that are inserted in turn beside spare slots: what they add, what becomes of the slots, and when there is room.
+use Rattle.std.proofs.Common.{◌≡◌, ℕ, ◌+◌, ◌<◌, ◌≤◌, ◌==◌, cond, Bool, List, [], ◌∷◌, ◌++◌, length, length-append, sum_by, Result, Ok, Err, IsOk, IfErr, inl, inr, sym, ◌∙◌, ap, subst, refl, append_assoc, arith}
+use Rattle.std.specs.Cmp.{IsEquivalence}
+use Rattle.std.proofs.lemmas.Bool.{cases_lt}
+use Rattle.std.proofs.lemmas.List.{append-nil}
+use Rattle.std.proofs.lemmas.List.Sums.{length-filter, sum_by-append, sum_by-cons}
+use Rattle.hashbag.specs.declared.bag.BagError.{BagError}
+use Rattle.hashbag.specs.declared.bag.BagError.TheVariants.{Memory, TooMany, BelowTotal}
+use Rattle.hashbag.specs.Bag.{Bag, IsBagOf}
+use Rattle.hashbag.specs.Extends.{Refuses}
+use Rattle.hashbag.specs.Inserts.{Inserts, InTurn}
+use Rattle.hashbag.specs.JoinsLeft.{lacking}
+use Rattle.hashbag.specs.Occurrences.{count, distinct_count, IsBag}
+use Rattle.hashbag.specs.Tables.{room}
+use Rattle.hashbag.proofs.CallerLemmas.{count_extended, count_kept}
+use Rattle.hashbag.proofs.InsertLemmas.{few_in_turn, left_in_turn, length_in_turn, spends_in_turn, stays_in_turn, turn_last, StaysWithin}
+use Rattle.hashbag_ops.proofs.Sums.{few_lacked, has_in_turn, lacked, none_of_none, one_if, one_lacked, Has}
+
+-- a sum over a list in two parts
+pub sum_parts : {A : Type 0} (f : A → ℕ) (first rest all : List A) → first ++ rest ≡ all → sum_by f all ≡ sum_by f first + sum_by f rest
+sum_parts f first rest all parts = ap (sum_by f) (sym parts) ∙ sum_by-append f first rest
+
+module _ {T S : Type 0} (eq : T → T → Bool) where
+  -- of the pairs `all` those before `rest` were inserted in turn, while there was room
+  pub record SoFar (before now : Bag T S) (all rest : List (T × ℕ)) : Type 0 where
+    pub first : List (T × ℕ)
+    pub parts : first ++ rest ≡ all
+    pub turn : InTurn eq first before now
+    pub stays : StaysWithin eq before now
+
+  stays_both : (a b c : Bag T S) → StaysWithin eq a b → StaysWithin eq b c → StaysWithin eq a c
+  stays_both a b c first second = record {
+    slots = second.slots ∙ first.slots;
+    built = second.built ∙ first.built;
+    left = let p = first.left in let q = second.left in omega (arith, p, q);
+  }
+
+  -- one value that is there, or for which there is room
+  stays_one : (v : T) (n : ℕ) (now after : Bag T S) → Inserts eq v n now after → (room now.tables ≡ 0 → 0 < count eq v now.items) → StaysWithin eq now after
+  stays_one v n now after went there =
+      let spent = spends_in_turn eq ((v, n) ∷ []) now after (after, went, refl) in
+      let one = went.set_len in
+      elim (cases_lt 0 (room now.tables)) [
+        | inl some ↦ spent.within (omega (arith, one, some))
+        | inr none ↦ let same = went.same_set (there (omega (arith, none))) in spent.within (omega (arith, same))
+      ]
+
+  pub none_so_far : (bag : Bag T S) (all : List (T × ℕ)) → SoFar bag bag all all
+  none_so_far bag all = record { first = []; parts = refl; turn = refl; stays = record { slots = refl; built = refl; left = omega arith } }
+
+  pub one_more : (v : T) (n : ℕ) (before now after : Bag T S) (all left rest : List (T × ℕ)) → SoFar before now all left → left ≡ (v, n) ∷ rest → Inserts eq v n now after → (room now.tables ≡ 0 → 0 < count eq v now.items)
+      → SoFar before after all rest
+  one_more v n before now after all left rest so_far next went there = record {
+    first = so_far.first ++ (v, n) ∷ [];
+    parts = append_assoc so_far.first ((v, n) ∷ []) rest ∙ ap (λ (l : List (T × ℕ)). so_far.first ++ l) (sym next) ∙ so_far.parts;
+    turn = turn_last eq so_far.first (v, n) before now after so_far.turn went;
+    stays = stays_both before now after so_far.stays (stays_one v n now after went there);
+  }
+
+  -- what is left has room in slots that have room for all
+  pub room_for_rest : (before now : Bag T S) (all rest : List (T × ℕ)) (most : ℕ) → SoFar before now all rest → distinct_count eq before.items + length all ≤ most → distinct_count eq now.items + length rest ≤ most
+  room_for_rest before now all rest most so_far enough =
+      let few = few_in_turn eq so_far.first before now so_far.turn in
+      let long = length-append so_far.first rest in
+      let whole = ap (λ (l : List (T × ℕ)). length l) so_far.parts in
+      omega (arith, few, long, whole, enough)
+
+  -- and the total has room for it
+  pub fits_rest : (before now : Bag T S) (all rest : List (T × ℕ)) (most : ℕ) → SoFar before now all rest → length before.items + sum_by (λ p. p.1) all ≤ most → length now.items + sum_by (λ p. p.1) rest ≤ most
+  fits_rest before now all rest most so_far fits =
+      let long = length_in_turn eq so_far.first before now so_far.turn in
+      let parts = sum_parts (λ (p : T × ℕ). p.1) so_far.first rest all so_far.parts in
+      omega (arith, long, parts, fits)
+
+  -- ---- what pairs add
+
+  pub record Adds (before after : Bag T S) (pairs : List (T × ℕ)) : Type 0 where
+    pub counts : (v : T) → count eq v after.items ≡ count eq v before.items + sum_by (λ p. cond (eq v p.0) p.1 0) pairs
+    pub len : length after.items ≡ length before.items + sum_by (λ p. p.1) pairs
+    pub limit : after.most ≡ before.most
+    pub hasher : after.hasher ≡ before.hasher
+    pub bag : IsBag eq after.most after.items
+
+module _ {T S : Type 0} {eq : T → T → Bool} (laws : IsEquivalence eq) where
+  pub adds_in_turn : (pairs : List (T × ℕ)) (before after : Bag T S) → IsBag eq before.most before.items → InTurn eq pairs before after → Adds eq before after pairs
+  adds_in_turn pairs before after is turn =
+      let left = left_in_turn laws pairs before after is turn in
+      record {
+        counts = λ v. count_extended laws v before.items pairs after left.means;
+        len = length_in_turn eq pairs before after turn;
+        limit = left.limit;
+        hasher = left.hasher;
+        bag = left.bag;
+      }
+
+  pub adds_none : (before after : Bag T S) → IsBagOf eq before before.items after → length after.items ≡ length before.items → Adds eq before after []
+  adds_none before after kept same = record {
+    counts = λ v. let k = count_kept laws before after v kept in omega (arith, k);
+    len = omega (arith, same);
+    limit = kept.limit;
+    hasher = kept.hasher;
+    bag = kept.bag;
+  }
+
+  pub adds_both : (a b c : Bag T S) (first rest all : List (T × ℕ)) → first ++ rest ≡ all → Adds eq a b first → Adds eq b c rest → Adds eq a c all
+  adds_both a b c first rest all parts x y = record {
+    counts = λ v.
+        let p = x.counts v in
+        let q = y.counts v in
+        let sum = sum_parts (λ (p : T × ℕ). cond (eq v p.0) p.1 0) first rest all parts in
+        omega (arith, p, q, sum);
+    len = let p = x.len in let q = y.len in let sum = sum_parts (λ (p : T × ℕ). p.1) first rest all parts in omega (arith, p, q, sum);
+    limit = y.limit ∙ x.limit;
+    hasher = y.hasher ∙ x.hasher;
+    bag = y.bag;
+  }
+
+  -- the first went into the slots there were, and the rest into others
+  pub adds_beside : (before now moved after : Bag T S) (all left rest : List (T × ℕ)) → IsBag eq before.most before.items → (so_far : SoFar eq before now all left) → left ≡ rest
+      → IsBagOf eq now now.items moved → length moved.items ≡ length now.items → InTurn eq rest moved after → Adds eq before after all
+  adds_beside before now moved after all left rest is so_far next kept same turn =
+      adds_both before moved after so_far.first rest all (ap (λ (l : List (T × ℕ)). so_far.first ++ l) (sym next) ∙ so_far.parts)
+      (adds_both before now moved so_far.first [] so_far.first (append-nil so_far.first) (adds_in_turn so_far.first before now is so_far.turn) (adds_none now moved kept same))
+      (adds_in_turn rest moved after kept.bag turn)
+
+  -- ---- room for what is lacked
+
+  -- where there is room for those of the pairs that X lacks, whose values the bag has, no slot was added and nothing was built
+  pub stays_lacked : (X : List T) (pairs : List (T × ℕ)) (before after : Bag T S) → Has laws X before → InTurn eq pairs before after → length (lacking eq X pairs) ≤ room before.tables → StaysWithin eq before after
+  stays_lacked X pairs before after has turn enough =
+      let few = few_lacked laws X pairs before after turn has in
+      let many : length (lacking eq X pairs) ≡ lacked eq X pairs = length-filter (λ e. count eq e.0 X == 0) pairs in
+      (spends_in_turn eq pairs before after turn).within (omega (arith, few, many, enough))
+
+  -- so where an absent value comes and no room is left, there wasn't room for all that were lacked
+  pub no_room_for_lacked : (v : T) (n : ℕ) (before now : Bag T S) (all left rest : List (T × ℕ)) → SoFar eq before now all left → left ≡ (v, n) ∷ rest → room now.tables ≡ 0 → count eq v now.items ≡ 0
+      → length (lacking eq before.items all) ≤ room before.tables → ⊥
+  no_room_for_lacked v n before now all left rest so_far next full absent enough =
+      let X = before.items in
+      let few = few_lacked laws X so_far.first before now so_far.turn (λ u some. some) in
+      let none = none_of_none laws X v now (has_in_turn laws X so_far.first before now so_far.turn (λ u some. some)) absent in
+      let one : one_lacked eq X (v, n) ≡ 1 = ap (λ (k : ℕ). one_if (k == 0)) none in
+      let many : length (lacking eq X all) ≡ lacked eq X all = length-filter (λ e. count eq e.0 X == 0) all in
+      let parts = sum_parts (one_lacked eq X) so_far.first ((v, n) ∷ rest) all (ap (λ (l : List (T × ℕ)). so_far.first ++ l) (sym next) ∙ so_far.parts) in
+      let later = sum_by-cons (one_lacked eq X) (v, n) rest in
+      let spent = so_far.stays.left in
+      omega (arith, few, one, many, parts, later, spent, full, enough)
+
+  -- ---- nothing is refused
+
+  -- a pair that fits isn't refused where its value is there, or where there is room
+  pub takes_one : {A : Type 0} (bag : Bag T S) (v : T) (n : ℕ) (r : Result A BagError) → length bag.items + n ≤ bag.most → (0 < room bag.tables → IsOk r) → IfErr r (Refuses eq bag.most bag.items v n)
+      → (room bag.tables ≡ 0 → 0 < count eq v bag.items) → IsOk r
+  takes_one bag v n (Ok a) fits takes why there = refl
+  takes_one bag v n (Err TooMany) fits takes why there = absurd (omega (arith, fits, why))
+  takes_one bag v n (Err BelowTotal) fits takes why there = absurd why
+  takes_one bag v n (Err Memory) fits takes why there = elim (cases_lt 0 (room bag.tables)) [
+    | inl some ↦ takes some
+    | inr none ↦ let is = there (omega (arith, none)) in let absent = why.2 in absurd (omega (arith, is, absent))
+  ]
