@@ -208,6 +208,36 @@ fn growth(many: u64) {
     println!("median 1 {median} {many}");
 }
 
+// Many values of one map, inserted into another by a walk.
+fn of_copies(many: u64) {
+    let mut map = Map::default();
+    fill(&mut map, &distinct(0, many, 1));
+    let mut other = Map::default();
+    let start = Instant::now();
+    copy(&mut other, &map);
+    say("copy", many, start, distinct_values(&other) as u64)
+}
+
+// Many values in one map, walked over, looked up and dropped.
+fn grown(many: u64) {
+    let other_order = distinct(0, many, 7919);
+    let mut map = Map::default();
+    fill(&mut map, &distinct(0, many, 1));
+    let start = Instant::now();
+    let sum = walk(&map);
+    say("grown_walk", many, start, sum);
+    let start = Instant::now();
+    let sum = look_up(&map, &other_order);
+    say("grown_found", many, start, sum as u64);
+    finish_carry(&mut map);
+    let start = Instant::now();
+    let sum = look_up(&map, &other_order);
+    say("carried_found", many, start, sum as u64);
+    let start = Instant::now();
+    drop(black_box(map));
+    say("drop", many, start, many)
+}
+
 // One map into another, of which half of the values are in both.
 fn of_merges(many: u64) {
     let mut into = Map::default();
@@ -269,6 +299,8 @@ fn main() {
             "words" => of_words(many),
             "join" => of_joins(many),
             "growth" => growth(many),
+            "grown" => grown(many),
+            "copy" => of_copies(many),
             "merge" => of_merges(many),
             "common" => of_commonest(many),
             "texts" => of_texts(many),

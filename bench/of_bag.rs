@@ -67,6 +67,16 @@ pub fn merge(into: &mut Map, from: Map) {
     }
 }
 
+#[inline]
+pub fn copy(into: &mut Map, from: &Map) {
+    for (value, count) in from.set_iter() {
+        into.insert_many(*value, count);
+    }
+}
+
+#[inline]
+pub fn finish_carry(_bag: &mut Map) {}
+
 // That crate can't insert by a text that isn't owned: it makes a `String` of each word.
 #[inline]
 pub fn put_word(bag: &mut Counts<String>, word: &str) {

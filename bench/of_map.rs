@@ -81,6 +81,18 @@ pub fn merge(into: &mut Map, from: Map) {
     }
 }
 
+// Inserts each value into another map, in the order of a walk.
+#[inline]
+pub fn copy(into: &mut Map, from: &Map) {
+    for (value, count) in from {
+        *into.entry(*value).or_insert(0) += count;
+    }
+}
+
+// A map has one table alone.
+#[inline]
+pub fn finish_carry(_map: &mut Map) {}
+
 // A word becomes a `String` once.
 #[inline]
 pub fn put_word(map: &mut Counts<String>, word: &str) {

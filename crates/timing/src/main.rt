@@ -1,10 +1,11 @@
-//! Measures bags. Standard input names what is measured, a line each: `small`, `large`, `words`, `join`, `growth`, `merge`, `common` or
-//! `texts`, and how many values there are.
+//! Measures bags. Standard input names what is measured, a line each: `small`, `large`, `words`, `join`, `growth`, `grown`, `copy`, `merge`,
+//! `common` or `texts`, and how many values there are.
 //!
 //! Each answer is a line with what was done, how many times, in how many nanoseconds, and a sum by which `bench/map.rs`, which
 //! does the same with Rust's own map, can be seen to have come to the same.
 #![tactic(auto)]
 
+mod grown;
 mod runs;
 mod values;
 mod wholes;

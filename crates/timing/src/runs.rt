@@ -1,4 +1,5 @@
 //! What is measured.
+use crate::grown::{of_copies, of_grown};
 use crate::values::{distinct, words};
 use crate::wholes::{of_commonest, of_merges, of_texts};
 use hashbag::{BagError, HashBag};
@@ -12,8 +13,8 @@ pub fn fill(bag: &mut HashBag<u64>, values: &[u64]) -> Result<(), BagError> {
     Ok(())
 }
 
-// The sum of how often each occurs.
-fn look_up(bag: &HashBag<u64>, values: &[u64]) -> usize {
+/// The sum of how often each occurs.
+pub fn look_up(bag: &HashBag<u64>, values: &[u64]) -> usize {
     let mut sum = 0usize;
     for value in values {
         sum = sum.wrapping_add(bag.contains(value));
@@ -29,7 +30,8 @@ fn take_out(bag: &mut HashBag<u64>, values: &[u64]) -> usize {
     sum
 }
 
-fn walk(bag: &HashBag<u64>) -> u64 {
+/// The sum of the distinct values, each times its count.
+pub fn walk(bag: &HashBag<u64>) -> u64 {
     let mut sum = 0u64;
     for (value, count) in bag.set_iter() {
         sum = sum.wrapping_add(value.wrapping_mul(count as u64));
@@ -163,6 +165,8 @@ pub fn measure(rt: &HostRuntime, what: &str, many: u64) -> anyhow::Result<()> {
         "words" => of_words(rt, many),
         "join" => of_joins(rt, many),
         "growth" => growth(rt, many),
+        "grown" => of_grown(rt, many),
+        "copy" => of_copies(rt, many),
         "merge" => of_merges(rt, many),
         "common" => of_commonest(rt, many),
         "texts" => of_texts(rt, many),
