@@ -24,5 +24,4 @@ pub fn keep_one_of_each<T: Eq + Hash + Drop, S: BuildHasher + Drop>(
 /// A law, at no cost: each growth during an extend has the number of slots that follows from the list before it.
 pub fn grow_as_listed<T: Eq, S>()
     ensures { GrowAsListed S T.eq }
-{
-}
+{}

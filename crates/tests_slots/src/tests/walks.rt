@@ -93,8 +93,7 @@ fn next_is(rt: &impl Abort, walk: &mut IntoWalk<u64>, wanted: Option<(u64, usize
 #[test]
 fn owned(rt: HostRuntime) -> Result<(), Fail> {
     let older = numbers(&rt, rt.alloc(), 7, 1)?;
-    let mut walk = numbers(&rt, rt.alloc(), 15, 3)?
-        .into_walk(older);
+    let mut walk = numbers(&rt, rt.alloc(), 15, 3)?.into_walk(older);
     rest_gives(&rt, &walk, &[(2, 2), (3, 3), (1, 1), (1, 1)]);
     next_is(&rt, &mut walk, Some((2, 2)));
     rest_gives(&rt, &walk, &[(3, 3), (1, 1), (1, 1)]);
