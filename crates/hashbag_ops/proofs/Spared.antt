@@ -123,6 +123,18 @@ module _ {T S : Type 0} {eq : T → T → Bool} (laws : IsEquivalence eq) where
       (adds_both before now moved so_far.first [] so_far.first (append-nil so_far.first) (adds_in_turn so_far.first before now is so_far.turn) (adds_none now moved kept same))
       (adds_in_turn rest moved after kept.bag turn)
 
+  -- one value and then the rest went into others
+  pub adds_by_spare : (before now moved next after : Bag T S) (all left rest : List (T × ℕ)) (v : T) (n : ℕ) → IsBag eq before.most before.items → SoFar eq before now all left → left ≡ (v, n) ∷ rest
+      → IsBagOf eq now now.items moved → length moved.items ≡ length now.items → Inserts eq v n moved next → InTurn eq rest next after → Adds eq before after all
+  adds_by_spare before now moved next after all left rest v n is so_far came kept same went turn =
+      adds_beside before now moved after all left ((v, n) ∷ rest) is so_far came kept same (next, went, turn)
+
+  -- all went into the slots there were
+  pub adds_all : (before now : Bag T S) (all left : List (T × ℕ)) → IsBag eq before.most before.items → SoFar eq before now all left → left ≡ [] → Adds eq before now all
+  adds_all before now all left is so_far none =
+      subst (λ (l : List (T × ℕ)). Adds eq before now l) (sym (append-nil so_far.first) ∙ ap (λ (l : List (T × ℕ)). so_far.first ++ l) (sym none) ∙ so_far.parts)
+      (adds_in_turn so_far.first before now is so_far.turn)
+
   -- ---- room for what is lacked
 
   -- where there is room for those of the pairs that X lacks, whose values the bag has, no slot was added and nothing was built

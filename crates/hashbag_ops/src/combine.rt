@@ -1,5 +1,5 @@
 //! Sums of two bags, and what one bag keeps of its own beside another.
-ghost use Rattle.std.specs.Prelude.{◌≡◌, ℕ, ◌+◌, ◌-◌, ◌<◌, ◌≤◌, min, max, List, length, All, true, OnOk, OnErr};
+ghost use Rattle.std.specs.Prelude.{◌≡◌, ℕ, ◌+◌, ◌-◌, ◌<◌, ◌≤◌, min, max, List, length, All, true, false, OnOk, OnErr};
 ghost use Rattle.hashbag.specs.Joins.{IsNotIn};
 ghost use Rattle.hashbag.specs.Occurrences.{count, distinct_count};
 ghost use Rattle.hashbag.specs.Tables.{limit, room};
@@ -79,6 +79,18 @@ pub fn merge<T: Eq + Hash + Drop, S: BuildHasher + Drop, S2: BuildHasher + Drop>
     Ok(())
 }
 
+// Whether an insertion of the value needs more slots: it is absent, and there is no room.
+#[inline(always)]
+fn has_no_room_for<T: Eq + Hash + Drop, S: BuildHasher + Drop>(
+    bag: &HashBag<T, S>,
+    value: &T,
+) -> bool
+    ensures full { result ≡ true → (room bag.now.tables ≡ 0) × (count T.eq value.now bag.now.items ≡ 0) }
+    ensures there { result ≡ false → room bag.now.tables ≡ 0 → 0 < count T.eq value.now bag.now.items }
+{
+    bag.room() == 0 && bag.contains(value) == 0
+}
+
 // Inserts all of `from`. The spare slots are taken into use when an absent value comes and there is no room; else they are freed.
 fn insert_beside_spare<T: Eq + Hash + Drop, S: BuildHasher + Drop, S2: BuildHasher + Drop>(
     into: &mut HashBag<T, S>,
@@ -99,7 +111,7 @@ fn insert_beside_spare<T: Eq + Hash + Drop, S: BuildHasher + Drop, S2: BuildHash
     let _len = into.len();
     let mut pairs = from.into_iter();
     'pairs: while let Some((value, n)) = pairs.next() {
-        if into.room() == 0 && into.contains(&value) == 0 {
+        if has_no_room_for(into, &value) {
             into.use_spare(spare);
             into.insert_many(value, n).unwrap();
             into.extend_many(pairs).unwrap();
