@@ -1,4 +1,4 @@
-//! What inserts values, removes them and looks them up.
+//! What inserts values, removes them and looks them up, and what goes over a bag that has none.
 use crate::bags::{FIRST, risen};
 use anyhow::Result;
 use hashbag::{BagError, FixedState, HashBag};
@@ -64,6 +64,20 @@ fn turned(bag: &mut HashBag<u64>, n: u64) -> Result<usize, BagError> {
     Ok(bag.set_len())
 }
 
+// Clears the bag, and `n` times goes over its slots while they have no value: how many values were found.
+fn idled(bag: &mut HashBag<u64>, n: u64) -> u64 {
+    let mut met = 0u64;
+    bag.clear();
+    for _ in 0..n {
+        bag.clear();
+        bag.retain(|_value: &u64, _count: usize| 1);
+        if bag.set_iter().next().is_some() {
+            met = met.wrapping_add(1);
+        }
+    }
+    met
+}
+
 // The sum of the counts of `n` values from `from` on.
 fn found(bag: &HashBag<u64>, from: u64, n: u64) -> u64 {
     let mut sum = 0u64;
@@ -90,6 +104,7 @@ pub fn filled(alloc: Global, what: &str, bag: &mut HashBag<u64>, n: u64) -> Resu
             bag.set_len() as u64
         }
         "turns" => turned(bag, n)? as u64,
+        "idle" => idled(bag, n),
         "found" => found(bag, FIRST, n),
         "absent" => found(bag, n.wrapping_add(FIRST), n),
         _ => return Ok(None),
