@@ -279,6 +279,8 @@ const ROWS: &str = "\
     reserve 432345564227567604 = Memory
     tables = (64, 0, 35)
     set_len = 13
+    reserve 2000000 = ()
+    tables = (4194304, 0, 3145715)
 
     [reserves in the middle of a carry]
     insert_each [1, 2, 3, 4, 5, 6, 7, 8, 9, 10, 11, 12, 13, 14, 15, 16, 17, 18, 19, 20, 21, 22, 23, 24, 25] = ()
@@ -403,7 +405,7 @@ fn cloned_in_a_carry<S: BuildHasher + Default + Copy>(alloc: Global, state: S) -
 }
 
 fn tables_under<S: BuildHasher + Default + Copy>(alloc: Global, state: S) -> Result<(), Fail> {
-    make_rows(alloc, state, ROWS, 284)?;
+    make_rows(alloc, state, ROWS, 286)?;
     thousand_in_and_out(alloc, state)?;
     cloned_in_a_carry(alloc, state)
 }

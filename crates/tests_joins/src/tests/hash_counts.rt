@@ -352,3 +352,71 @@ fn clones_are_hashed_once(rt: HostRuntime) -> Result<(), Fail> {
     }
     Ok(())
 }
+
+// How many texts a bag has, a call by a key on it, and how often its state hashes in the call. The texts are the numbers from 1 on, each
+// once. With 25 of them the bag is in the middle of a carry, as above.
+const CALLS_BY_A_KEY: &str = "
+    0 | contains_key 7 | 1
+    2 | contains_key 1 | 1
+    2 | contains_key 7 | 1
+    25 | contains_key 5 | 1
+    25 | contains_key 20 | 1
+    25 | contains_key 26 | 1
+    2 | get_key 1 | 1
+    2 | get_key 7 | 1
+    25 | get_key 5 | 1
+    25 | get_key 20 | 1
+    25 | get_key 26 | 1
+    0 | insert_key 7 | 1
+    2 | insert_key 1 | 1
+    2 | insert_key 7 | 1
+    25 | insert_key 5 | 1
+    25 | insert_key 20 | 1
+    25 | insert_key 26 | 9
+    2 | insert_many_key 1 | 1
+    2 | insert_many_key 7 | 1
+    25 | insert_many_key 20 | 1
+    25 | insert_many_key 26 | 9
+    2 | remove_key 1 | 1
+    2 | remove_key 7 | 1
+    25 | remove_key 5 | 1
+    25 | remove_key 20 | 1
+    25 | remove_key 26 | 1";
+
+// A bag of the texts of the numbers from 1 to n, each once.
+fn texts_to(alloc: Global, n: usize) -> Result<HashBag<String, CountingState>, Fail> {
+    let mut bag = HashBag::new(alloc);
+    for number in 0..n {
+        let text = format!(in alloc; "{}", number.saturating_add(1))?;
+        bag.insert(text)?;
+    }
+    Ok(bag)
+}
+
+// Makes a call by a key.
+fn call_by_a_key(bag: &mut HashBag<String, CountingState>, call: &str) -> Result<(), Fail> {
+    let (verb, key) = halves(call, " ")?;
+    match verb {
+        "contains_key" => done(bag.contains_key(key)),
+        "get_key" => done(bag.get_key(key).is_some()),
+        "insert_key" => done(bag.insert_key(key)?),
+        "insert_many_key" => done(bag.insert_many_key(key, 3)?),
+        "remove_key" => done(bag.remove_key(key)),
+        _ => Err(Fail::new(format_args!("no such call: {call}"))),
+    }
+}
+
+#[test]
+fn calls_by_a_key_hash_so_often(rt: HostRuntime) -> Result<(), Fail> {
+    let alloc = rt.alloc();
+    for row in rows_of(alloc, CALLS_BY_A_KEY, 26)? {
+        let (n, rest) = halves(row, "|")?;
+        let (call, wanted) = halves(rest, "|")?;
+        let mut bag = texts_to(alloc, count(n)?)?;
+        let start = bag.hasher().hashed();
+        call_by_a_key(&mut bag, call)?;
+        let hashed = bag.hasher().hashed().saturating_sub(start);
+        is_text(row, debug_of(alloc, &hashed)?.as_str(), wanted)?;
+    }
+    Ok(())
+}
