@@ -385,7 +385,7 @@ const CALLS_BY_A_KEY: &str = "
 
 // A bag of the texts of the numbers from 1 to n, each once.
 fn texts_to(alloc: Global, n: usize) -> Result<HashBag<String, CountingState>, Fail> {
-    let mut bag = HashBag::new(alloc);
+    let mut bag = HashBag::with_hasher(alloc, CountingState::default());
     for number in 0..n {
         let text = format!(in alloc; "{}", number.saturating_add(1))?;
         bag.insert(text)?;

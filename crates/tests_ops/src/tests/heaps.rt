@@ -1,0 +1,53 @@
+//! How much memory the commonest values take, by the most that the process has addressed so far.
+use hashbag::HashBag;
+use hashbag_ops::most_common;
+use std::fs;
+use std::test::Fail;
+
+// How many values the bag has. A list of them with their counts is 3,200,000 bytes.
+const VALUES: usize = 200_000;
+
+// How many kilobytes the process has addressed at most. Where that is past all memory, as where each access is checked, `None`.
+fn peak(rt: &HostRuntime) -> Result<Option<usize>, Fail> {
+    let text = fs::read_to_string(rt, "/proc/self/status")?;
+    for line in text.lines() {
+        if let Some(rest) = line.strip_prefix("VmPeak:") {
+            let number = rest.split_whitespace().next().unwrap_or("");
+            let kilobytes: usize = number.parse().unwrap_or(0);
+            return Ok(Some(kilobytes).filter(|kilobytes| *kilobytes < 1 << 32));
+        }
+    }
+    Ok(None)
+}
+
+// How many kilobytes more the process has addressed at most, after the k commonest were found.
+fn taken(rt: &HostRuntime, bag: &HashBag<usize>, k: usize) -> Result<Option<usize>, Fail> {
+    let before = peak(rt)?;
+    let found = most_common(rt.alloc(), bag, k)?.len();
+    let after = peak(rt)?;
+    if found != k {
+        return Err(Fail::new(format_args!("{found} of {k}")));
+    }
+    let (Some(before), Some(after)) = (before, after) else {
+        return Ok(None);
+    };
+    Ok(Some(after.saturating_sub(before)))
+}
+
+// The commonest few take memory for themselves; all of them for a list of all.
+#[test]
+fn few_take_little_memory(rt: HostRuntime) -> Result<(), Fail> {
+    let mut bag: HashBag<usize> = HashBag::with_capacity(rt.alloc(), VALUES)?;
+    for value in 0..VALUES {
+        bag.insert(value)?;
+    }
+    let few = taken(&rt, &bag, 10)?;
+    let all = taken(&rt, &bag, VALUES)?;
+    let (Some(few), Some(all)) = (few, all) else {
+        return Ok(());
+    };
+    if few > 1_000 || all < 2_000 {
+        return Err(Fail::new(format_args!("{few} and {all} kilobytes")));
+    }
+    Ok(())
+}
