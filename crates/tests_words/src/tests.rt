@@ -65,8 +65,16 @@ const MERGES: [(&[u8], bool, &str); 18] = [
 
 // The same of what `uniq -c` writes.
 const UNIQ_MERGES: [(&[u8], bool, &str); 8] = [
-    (b"      2 a\n1234567 b  c \n", false, "a\t2\nb  c \t1234567\n"),
-    (b"12345678 a\tb\n      1 \n", false, "\t1\na\\tb\t12345678\n"),
+    (
+        b"      2 a\n1234567 b  c \n",
+        false,
+        "a\t2\nb  c \t1234567\n",
+    ),
+    (
+        b"12345678 a\tb\n      1 \n",
+        false,
+        "\t1\na\\tb\t12345678\n",
+    ),
     (b"\xef\xbb\xbf      1 a\\t\r\n", false, "a\\\\t\t1\n"),
     (b"      1 a\n      a\n", false, "2: no count"),
     (b"      1\n", false, "1: no count"),
@@ -162,11 +170,7 @@ fn merged<S: BuildHasher + Drop>(
     }
 }
 
-fn merges(
-    rt: &HostRuntime,
-    form: RowForm,
-    rows: &[(&[u8], bool, &str)],
-) -> Result<(), Fail> {
+fn merges(rt: &HostRuntime, form: RowForm, rows: &[(&[u8], bool, &str)]) -> Result<(), Fail> {
     let alloc = rt.alloc();
     for (file, is_skipped, wanted) in rows {
         let fixed = merged(alloc, FixedState::new(), form, file, *is_skipped)?;

@@ -17,6 +17,6 @@ returns-in_ok-insert_many-in-Ok-2-clause-line g c = λ tsv.
       token = token;
       count = count;
       read = subst (λ l. IsLineOf l token count) c.in-Ok.ensures.cases.0
-      (subst (λ r. IfOk r (λ p. IsLineOf c.in-Ok.text.now (string_bytes p.0) p.1)) c.in-Ok-2.is (c.in_ok-token.ensures.line tsv));
+          (subst (λ r. IfOk r (λ p. IsLineOf c.in-Ok.text.now (string_bytes p.0) p.1)) c.in-Ok-2.is (c.in_ok-token.ensures.line tsv));
       adds = AddsTimes-inserted c.args.bag.now c.insert_many.new.self c.in-Ok-2.token token count count refl refl c.in_ok-insert_many-in-Ok-2.ensures.inserted.added;
     }
