@@ -1,24 +1,10 @@
 //! Why the program ends without all of its output, and with which status.
 use hashbag::{BagError, JsonError};
+use hashbag_shell::status::{BAD_INPUT, IO_FAILED, NO_MEMORY, TOTAL_TOO_LARGE};
 use hashbag_words_core::errors::{BadLine, Fault};
 use std::alloc::AllocError;
 use std::io;
 use thiserror::Error;
-
-/// Nothing was counted, and that was asked to be told.
-pub const NOTHING: u8 = 1;
-
-/// The command line or an input is bad.
-pub const BAD: u8 = 2;
-
-/// Memory was refused.
-pub const NO_MEMORY: u8 = 3;
-
-/// A read or a write failed.
-pub const IO_FAILED: u8 = 4;
-
-/// The counts would add up to more than 2^64-1.
-pub const TOO_MANY: u8 = 5;
 
 /// Why the program ends without all of its output.
 #[derive(Debug, Drop, Error)]
@@ -74,6 +60,17 @@ pub enum Failure<'a> {
     /// An argument isn't UTF-8.
     #[error("an argument is not UTF-8")]
     NotText,
+    /// Two inputs are standard input.
+    #[error("standard input is named twice")]
+    ReadTwice,
+    /// The output is one of the inputs.
+    #[error("{name}: the output is one of the inputs")]
+    OutputIsInput {
+        name: &'a str,
+    },
+    /// There are no random numbers for the hash state.
+    #[error("no random numbers: {0}")]
+    NotRandom(io::Error),
 }
 
 impl<'a> Failure<'a> {
@@ -114,12 +111,13 @@ impl<'a> Failure<'a> {
     // The exit status.
     fn status(&self) -> u8 {
         match self {
-            Failure::Line { .. } | Failure::Text { .. } | Failure::Tree { .. } => BAD,
-            Failure::Pattern(_) | Failure::NotText => BAD,
+            Failure::Line { .. } | Failure::Text { .. } | Failure::Tree { .. } => BAD_INPUT,
+            Failure::Pattern(_) | Failure::NotText => BAD_INPUT,
+            Failure::ReadTwice | Failure::OutputIsInput { .. } => BAD_INPUT,
             Failure::NoMemory { .. } | Failure::NoMemoryLeft => NO_MEMORY,
-            Failure::File { error, .. } if error.kind() == io::ErrorKind::InvalidData => BAD,
-            Failure::File { .. } => IO_FAILED,
-            Failure::TooMany { .. } | Failure::TooManyInAll { .. } => TOO_MANY,
+            Failure::File { error, .. } if error.kind() == io::ErrorKind::InvalidData => BAD_INPUT,
+            Failure::File { .. } | Failure::NotRandom(_) => IO_FAILED,
+            Failure::TooMany { .. } | Failure::TooManyInAll { .. } => TOTAL_TOO_LARGE,
         }
     }
 

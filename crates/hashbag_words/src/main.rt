@@ -1,20 +1,25 @@
 //! Counts the words, lines or matches of a pattern in text, and adds up files of counts.
 #![tactic(auto)]
 
+mod bag;
 mod command;
 mod failure;
 mod inputs;
 mod jobs;
+mod names;
 mod output;
 mod progress;
 mod settings;
 
-use failure::{BAD, Failure, IO_FAILED, NO_MEMORY};
+use failure::Failure;
+use hashbag_shell::VERSION;
+use hashbag_shell::status::{BAD_INPUT, DONE, IO_FAILED, NO_MEMORY};
 use settings::Settings;
 use std::alloc::{AllocError, Global};
 use std::env;
 use std::io::ErrorKind;
 use std::process::ExitCode;
+use unicode_segmentation::UNICODE_VERSION;
 
 // The words of the command line. Where they name no job it is `count`, so that `hashbag_words FILE` counts.
 fn words_of(alloc: Global, given: &Vec<String>) -> Result<Vec<&str>, AllocError> {
@@ -37,22 +42,48 @@ fn explain(rt: &HostRuntime, error: &clap::Error) -> u8 {
     }
     match error.kind() {
         clap::error::ErrorKind::OutOfMemory => NO_MEMORY,
-        _ if error.use_stderr() => BAD,
-        _ => 0,
+        _ if error.use_stderr() => BAD_INPUT,
+        _ => DONE,
     }
 }
 
-// Does what these words ask for, and answers the status.
-fn obey(rt: &HostRuntime, words: &Vec<&str>) -> Result<u8, clap::Error> {
-    let matches = command::command(rt.alloc())?.try_get_matches_from(words.as_slice())?;
-    let Some((job, given)) = matches.subcommand() else {
-        return Ok(BAD);
+// Does a job on the inputs that are named in a list, if there is one, and returns the status.
+fn do_job(rt: &HostRuntime, settings: &Settings<'_, '_>, list: Option<&String>) -> u8 {
+    let Ok(names) = names::inputs_of(rt.alloc(), settings, list) else {
+        return Failure::NoMemoryLeft.report(rt);
     };
-    let settings = Settings::of(job, given);
-    match jobs::run(rt, &settings) {
-        Ok(status) => Ok(status),
-        Err(failure) => Ok(failure.report(rt)),
+    match jobs::run(rt, settings, names.as_slice()) {
+        Ok(status) => status,
+        Err(failure) => failure.report(rt),
     }
+}
+
+// Does what these arguments of a job ask for, and returns the status.
+fn do_settings(rt: &HostRuntime, settings: &Settings<'_, '_>) -> u8 {
+    let Some(name) = settings.files_from else {
+        return do_job(rt, settings, None);
+    };
+    match names::read_list(rt, name) {
+        Ok(list) => do_job(rt, settings, Some(&list)),
+        Err(failure) => failure.report(rt),
+    }
+}
+
+// What `--version` says behind the name.
+fn version(alloc: Global) -> Result<String, AllocError> {
+    let (major, minor, patch) = UNICODE_VERSION;
+    format!(in alloc; "{VERSION} (Unicode {major}.{minor}.{patch})")
+}
+
+// Does what these words ask for, and returns the status.
+fn obey(rt: &HostRuntime, words: &Vec<&str>) -> Result<u8, clap::Error> {
+    let version = version(rt.alloc())?;
+    let command = command::command(rt.alloc(), version.as_str())?;
+    let matches = command.try_get_matches_from(words.as_slice())?;
+    let Some((job, given)) = matches.subcommand() else {
+        return Ok(BAD_INPUT);
+    };
+    Ok(do_settings(rt, &Settings::of(job, given)))
 }
 
 // The arguments of the program, its own name first.

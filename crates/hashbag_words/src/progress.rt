@@ -1,5 +1,5 @@
 //! How far the program is, told on standard error.
-use hashbag::HashBag;
+use crate::bag::Bag;
 use std::time::{Duration, Instant};
 
 /// What has been told, and when.
@@ -33,7 +33,7 @@ impl Progress {
     }
 
     /// Tells how far it is, if a second has gone since that was told. `lines` is how many of the present input have been read.
-    pub fn tell(&mut self, rt: &HostRuntime, lines: u64, bag: &HashBag<String>) {
+    pub fn tell(&mut self, rt: &HostRuntime, lines: u64, bag: &Bag) {
         let Some((start, last)) = self.times else {
             return;
         };
