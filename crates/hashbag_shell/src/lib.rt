@@ -1,9 +1,10 @@
-//! What the programs share: a file that is written whole or not at all, whether two names are one file, the exit statuses, and the
-//! version.
+//! What the programs share: the words of the command line, a file that is written whole or not at all, whether two names are one file,
+//! the exit statuses, and the version.
 //!
 //! No clause can say what a file has, so `tests/words` tries files: see the page of the program `hashbag_words`.
 #![tactic(auto)]
 
+pub mod arguments;
 pub mod one_file;
 pub mod output_file;
 pub mod status;

@@ -39,13 +39,13 @@ pub enum Failure<'a> {
     TooManyInAll {
         name: &'a str,
     },
-    /// Memory was refused while an input was read.
+    /// An allocation failed while an input was read.
     #[error("{name}: no memory after {line} lines")]
     NoMemory {
         name: &'a str,
         line: u64,
     },
-    /// Memory was refused elsewhere.
+    /// An allocation failed elsewhere.
     #[error("no memory")]
     NoMemoryLeft,
     /// A file can't be opened, made, read or written, or it is to be JSON and isn't UTF-8.
@@ -57,9 +57,6 @@ pub enum Failure<'a> {
     /// The pattern isn't one.
     #[error("--pattern: {0}")]
     Pattern(regex::Error),
-    /// An argument isn't UTF-8.
-    #[error("an argument is not UTF-8")]
-    NotText,
     /// Two inputs are standard input.
     #[error("standard input is named twice")]
     ReadTwice,
@@ -82,7 +79,7 @@ impl<'a> Failure<'a> {
         }
     }
 
-    /// The failure of an input of that name, after so many of its lines.
+    /// The failure of an input of that name, after `line` of its lines.
     pub fn of_input(name: &'a str, line: u64, fault: Fault) -> Failure<'a> {
         match fault {
             Fault::Line(bad) => Failure::Line { name, line, bad },
@@ -112,8 +109,8 @@ impl<'a> Failure<'a> {
     fn status(&self) -> u8 {
         match self {
             Failure::Line { .. } | Failure::Text { .. } | Failure::Tree { .. } => BAD_INPUT,
-            Failure::Pattern(_) | Failure::NotText => BAD_INPUT,
-            Failure::ReadTwice | Failure::OutputIsInput { .. } => BAD_INPUT,
+            Failure::Pattern(_) | Failure::ReadTwice => BAD_INPUT,
+            Failure::OutputIsInput { .. } => BAD_INPUT,
             Failure::NoMemory { .. } | Failure::NoMemoryLeft => NO_MEMORY,
             Failure::File { error, .. } if error.kind() == io::ErrorKind::InvalidData => BAD_INPUT,
             Failure::File { .. } | Failure::NotRandom(_) => IO_FAILED,
@@ -129,7 +126,7 @@ impl<'a> Failure<'a> {
         }
     }
 
-    /// Says on standard error what failed, and answers the exit status.
+    /// Says on standard error what failed, and returns the exit status.
     pub fn report(&self, rt: &impl Eprint) -> u8 {
         if !self.is_silent() {
             let _ = eprintln!(rt; "hashbag_words: {self}");

@@ -43,7 +43,7 @@ pub struct Inputs<'s, 'a, 'm> {
 }
 
 impl<'s, 'a, 'm> Inputs<'s, 'a, 'm> {
-    // Takes in the next lines of an input, and answers whether there may be more.
+    // Reads the next lines of an input into the bag. Returns whether there may be more.
     fn take_lines<R: BufRead>(
         &self,
         intake: Intake<'_>,
@@ -60,7 +60,8 @@ impl<'s, 'a, 'm> Inputs<'s, 'a, 'm> {
             Intake::Rows(form) => add_rows(alloc, bag, form, input, reading, STEP),
             Intake::Tree => {
                 let text = io::read_to_string(alloc, input).map_err(Fault::Read)?;
-                add_tree(alloc, bag, text.as_str())?;
+                let state = *bag.hasher();
+                add_tree(alloc, state, bag, text.as_str())?;
                 Ok(false)
             }
         }

@@ -13,11 +13,10 @@ mod settings;
 
 use failure::Failure;
 use hashbag_shell::VERSION;
-use hashbag_shell::status::{BAD_INPUT, DONE, IO_FAILED, NO_MEMORY};
+use hashbag_shell::arguments::{arguments, explain};
+use hashbag_shell::status::BAD_INPUT;
 use settings::Settings;
 use std::alloc::{AllocError, Global};
-use std::env;
-use std::io::ErrorKind;
 use std::process::ExitCode;
 use unicode_segmentation::UNICODE_VERSION;
 
@@ -33,18 +32,6 @@ fn words_of(alloc: Global, given: &Vec<String>) -> Result<Vec<&str>, AllocError>
         words.push(word.as_str())?;
     }
     Ok(words)
-}
-
-// Prints the help, or what is wrong with the command line, and answers the status.
-fn explain(rt: &HostRuntime, error: &clap::Error) -> u8 {
-    if error.print(rt).is_err() {
-        return IO_FAILED;
-    }
-    match error.kind() {
-        clap::error::ErrorKind::OutOfMemory => NO_MEMORY,
-        _ if error.use_stderr() => BAD_INPUT,
-        _ => DONE,
-    }
 }
 
 // Does a job on the inputs that are named in a list, if there is one, and returns the status.
@@ -86,19 +73,10 @@ fn obey(rt: &HostRuntime, words: &Vec<&str>) -> Result<u8, clap::Error> {
     Ok(do_settings(rt, &Settings::of(job, given)))
 }
 
-// The arguments of the program, its own name first.
-fn arguments<'a>(rt: &HostRuntime) -> Result<Vec<String>, Failure<'a>> {
-    match env::args(rt) {
-        Ok(words) => Ok(words.collect(rt.alloc())?),
-        Err(error) if error.kind() == ErrorKind::OutOfMemory => Err(Failure::NoMemoryLeft),
-        Err(_) => Err(Failure::NotText),
-    }
-}
-
 fn run(rt: &HostRuntime) -> u8 {
-    let given = match arguments(rt) {
+    let given = match arguments(rt, "hashbag_words") {
         Ok(given) => given,
-        Err(failure) => return failure.report(rt),
+        Err(status) => return status,
     };
     let Ok(words) = words_of(rt.alloc(), &given) else {
         return Failure::NoMemoryLeft.report(rt);

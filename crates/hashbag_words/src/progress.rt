@@ -27,7 +27,7 @@ impl Progress {
         Progress { times, lines: 0 }
     }
 
-    /// An input with so many lines has been read to its end.
+    /// An input with `lines` lines has been read to its end.
     pub fn end_input(&mut self, lines: u64) {
         self.lines = self.lines.saturating_add(lines);
     }

@@ -18,6 +18,9 @@ use Rattle.hashbag_words_core.specs.Reading.{ReadsLine, EndsLine, drop_lines}
 use Rattle.hashbag_words_core.specs.Tokens.{without_mark}
 use Rattle.hashbag_words_core.proofs.LineLemmas.{take_next_line, drop_lines-next, drop_lines-past, no_more_lines, ended_line}
 
+none_before : (n : ℕ) → 0 + n ≡ n
+none_before n = omega arith
+
 module _ {S : Type 0} where
   -- with a weaker premise
   pub TakesLine-from : (P Q : Type 0) (line : List ℕ) (old new : Bag (String Global) S) → (Q → P) → TakesLine P line old new → TakesLine Q line old new
@@ -89,9 +92,6 @@ module _ {S : Type 0} where
   pub none_taken : (a c : Option (List ℕ)) (bag : Bag (String Global) S) (line : List ℕ) → IfSome a (λ bytes. ReadsLine false bytes line c) → IfSome a (λ bytes. TakesFirst false bytes bag bag c)
   none_taken None c bag line r = tt
   none_taken (Some bytes) c bag line r = (r.0, refl, r.1)
-
-  none_before : (n : ℕ) → 0 + n ≡ n
-  none_before n = omega arith
 
   -- the bag of a tree was merged
   pub tree_added : {S2 : Type 0} (text : List ℕ) (tree : Data) (old new : Bag (String Global) S) (counts : Bag (String Global) S2) → read_text text ≡ Some tree

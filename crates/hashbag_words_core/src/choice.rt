@@ -15,13 +15,13 @@ use std::hash::BuildHasher;
 pub enum Order {
     /// All, the bytes of the tokens rising.
     Rising,
-    /// All, in the order of a walk over the bag, which is open.
+    /// All, in the order of a walk over the bag.
     Open,
-    /// So many of the commonest, counts falling, and tokens that occur as often rising.
+    /// The k commonest, counts falling, and tokens that occur as often rising.
     Commonest(usize),
 }
 
-/// Takes out all tokens that occur less often than this. It looks at each token once, and takes no memory.
+/// Removes all tokens that occur less often than `least`. It reads each token once and doesn't allocate.
 pub fn drop_below<S: BuildHasher + Drop>(bag: &mut HashBag<String, S>, least: usize)
     ensures { DropsBelow least bag.old bag.new }
 {
@@ -50,8 +50,13 @@ fn listed<'a, S: BuildHasher + Drop>(
 
 /// The tokens with their counts, as they are shown.
 ///
-/// It takes memory for a list of all tokens, at once, and answers `Memory` where that is refused. It compares as often as a sort does,
-/// in an open order not at all.
+/// # Errors
+///
+/// `Memory`: an allocation fails.
+///
+/// # Complexity
+///
+/// It allocates a list of all tokens, at once, and sorts it, if an order is asked for.
 pub fn chosen<'a, S: BuildHasher + Drop>(
     alloc: Global,
     bag: &'a HashBag<String, S>,

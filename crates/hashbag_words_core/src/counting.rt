@@ -181,7 +181,7 @@ fn add_read<S: BuildHasher + Drop>(
     }
 }
 
-/// Counts at most `most` lines of an input, and answers whether there may be more.
+/// Counts at most `most` lines of an input. Returns whether there may be more.
 ///
 /// A line that isn't UTF-8 is bad. Where the reading ends by a fault, `reading` has the number of its line, and the lines before it
 /// have been counted. One line at a time is kept in memory.

@@ -28,7 +28,9 @@ pub struct Reading {
 
 impl Reading {
     /// Before the first line.
-    pub fn new(bad_lines: BadLines) -> Reading {
+    pub fn new(bad_lines: BadLines) -> Reading
+        ensures { (result.bad_lines ≡ bad_lines) × (result.line ≡ 0) × (result.skipped ≡ 0) }
+    {
         Reading {
             bad_lines,
             line: 0,
@@ -63,7 +65,7 @@ impl Reading {
     }
 }
 
-// Takes this byte off the end of a line, if it stands there, and answers whether it did.
+// Removes this byte from the end of a line, if it is there. Returns whether it was.
 fn strip(line: &mut Vec<u8>, byte: u8) -> bool
     ensures rest { line.new.items ≡ strip_last byte line.old.items }
     ensures was { result ≡ ends_with_byte byte line.old.items }
@@ -104,8 +106,8 @@ pub fn next_ended_line<R: BufRead>(input: &mut R, line: &mut Vec<u8>) -> io::Res
     Ok((true, strip_end(line)))
 }
 
-/// Reads the next line into `line`, without the line feed at its end and a carriage return before that, and answers whether there
-/// was one. What `line` had is gone.
+/// Reads the next line into `line`, in place of what `line` had, without the line feed at its end and a carriage return before that.
+/// Returns whether there was one.
 pub fn next_line<R: BufRead>(input: &mut R, line: &mut Vec<u8>) -> io::Result<bool>
     ensures { IfOk result (λ there. IfSome (R.remaining input.old) (λ bytes. ReadsLine there bytes line.new.items (R.remaining input.new))) }
 {

@@ -143,22 +143,29 @@ pub fn add_rows<R: BufRead, S: BuildHasher + Drop>(
     Ok(true)
 }
 
-/// Adds the bag whose tree is this JSON text, all of it or nothing.
+/// Adds the bag whose tree is this JSON text, all of it or nothing. It is read into a bag with the hash state `state`.
 ///
 /// # Errors
 ///
 /// `Fault::Text`: the text isn't JSON; `Fault::Tree`: it isn't the tree of a bag; `Fault::Bag`: an allocation fails, or the total
 /// doesn't fit. Then the bag is unchanged.
-pub fn add_tree<S: BuildHasher + Drop>(
+pub fn add_tree<S: BuildHasher + Drop, S2: BuildHasher + Drop>(
     alloc: Global,
+    state: S2,
     bag: &mut HashBag<String, S>,
     text: &str,
 ) -> Result<(), Fault>
     ensures tree { OnOk result (AddsTree text.now bag.old bag.new) }
     ensures err { OnErr result (bag.new ≡ bag.old) }
 {
-    let tree = Value::from_str(alloc, text).map_err(Fault::Text)?;
-    let counts: HashBag<String> = HashBag::from_value(alloc, &tree).map_err(Fault::Tree)?;
+    let tree = match Value::from_str(alloc, text) {
+        Ok(tree) => tree,
+        Err(error) => return Err(Fault::Text(error)),
+    };
+    let counts = match HashBag::from_value_with_hasher(alloc, state, usize::MAX, &tree) {
+        Ok(counts) => counts,
+        Err(error) => return Err(Fault::Tree(error)),
+    };
     merge(bag, counts)?;
     Ok(())
 }

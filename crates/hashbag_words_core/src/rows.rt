@@ -87,7 +87,11 @@ fn push_token(text: &mut Vec<u8>, token: &[u8]) -> Result<(), AllocError>
     Ok(())
 }
 
-/// Appends the line of a token and its count, with its end. It is refused memory alone.
+/// Appends the line of a token and its count, with its end.
+///
+/// # Errors
+///
+/// An allocation fails.
 pub fn push_row(text: &mut Vec<u8>, token: &str, count: usize) -> io::Result<()>
     ensures { OnOk result (text.new.items ≡ text.old.items ++ (row token.now count ++ 10 ∷ [])) }
 {
@@ -95,8 +99,8 @@ pub fn push_row(text: &mut Vec<u8>, token: &str, count: usize) -> io::Result<()>
     writeln!(text, "\t{count}")
 }
 
-// Reads one byte more of an escaped token, and answers whether it is a backslash that escapes the next one; nothing where the last
-// one was such a backslash, and this byte is no letter.
+// Reads the next byte of an escaped token. Returns whether it is a backslash that escapes the byte after it, or `None` if the byte before
+// it was such a backslash and this one is no letter.
 fn take_byte(token: &mut Vec<u8>, is_marked: bool, byte: u8) -> Result<Option<bool>, AllocError>
     ensures { IfOk result (λ marked. (rest : List ℕ)
         → resumed token.old.items (Some is_marked) (byte ∷ rest) ≡ resumed token.new.items marked rest) }
@@ -133,7 +137,11 @@ fn token_of(alloc: Global, written: &[u8]) -> Result<Option<Vec<u8>>, AllocError
     Ok(Some(token))
 }
 
-/// The token and the count of a line of counts, without its end, or what is wrong with it. It is refused memory alone.
+/// Returns the token and the count of a line of counts, without its end, or what is wrong with it.
+///
+/// # Errors
+///
+/// An allocation fails.
 pub fn read_row(alloc: Global, line: &str) -> Result<Result<(String, usize), BadLine>, AllocError>
     ensures row { IfOk result (λ read. IfRow line.now (λ token count. IsRead token count read)) }
     ensures line { IfOk result (λ read. IfOk read (λ p. IsLineOf line.now (string_bytes p.0) p.1)) }

@@ -42,7 +42,7 @@ const COUNTS: [(&str, &str, &str); 9] = [
 
 // A file of counts, whether bad lines are skipped, and what adding it up gives: the counts, or the number of the line and what is
 // wrong with it.
-const MERGES: [(&[u8], bool, &str); 18] = [
+const MERGES: [(&[u8], bool, &str); 20] = [
     (b"a\t2\nb\t1\r\na\t3\n", false, "a\t5\nb\t1\n"),
     (b"\\t\\n\\r\\\\\t007\n", false, "\\t\\n\\r\\\\\t7\n"),
     (b"a\t0\n\t2\n", false, "\t2\n"),
@@ -54,6 +54,8 @@ const MERGES: [(&[u8], bool, &str); 18] = [
     (b"a\tb\t1\n", false, "1: no count"),
     (b"a\t\n", false, "1: no count"),
     (b"a\t-1\n", false, "1: no count"),
+    (b"a\t 1\n", false, "1: no count"),
+    (b"a\t1 \n", false, "1: no count"),
     (b"a\t18446744073709551616\n", false, "1: no count"),
     (b"a\t1\na\\q\t1\n", false, "2: bad escape"),
     (b"a\t1\na\\\t1\n", false, "2: bad escape"),
@@ -212,7 +214,8 @@ fn portions(rt: HostRuntime) -> Result<(), Fail> {
 fn forms(rt: HostRuntime) -> Result<(), Fail> {
     let alloc = rt.alloc();
     let mut bag = HashBag::with_hasher(alloc, RandomState::new(&rt)?);
-    add_tree(alloc, &mut bag, "[[\"the\",3],[\"a\\\"\\t\",1]]")?;
+    let state = FixedState::new();
+    add_tree(alloc, state, &mut bag, "[[\"the\",3],[\"a\\\"\\t\",1]]")?;
     is_text(&written(alloc, &bag, Format::Tsv)?, "a\"\\t\t1\nthe\t3\n")?;
     is_text(
         &written(alloc, &bag, Format::Uniq)?,
@@ -222,8 +225,9 @@ fn forms(rt: HostRuntime) -> Result<(), Fail> {
         &written(alloc, &bag, Format::Json)?,
         "[[\"a\\\"\\t\",1],[\"the\",3]]\n",
     )?;
-    add_tree(alloc, &mut bag, "[[\"b\",2],[\"the\",1]]")?;
-    assert!(rt; add_tree(alloc, &mut bag, "[[\"c\",2],[\"the\"]]").is_err());
+    let state = RandomState::new(&rt)?;
+    add_tree(alloc, state, &mut bag, "[[\"b\",2],[\"the\",1]]")?;
+    assert!(rt; add_tree(alloc, state, &mut bag, "[[\"c\",2],[\"the\"]]").is_err());
     is_text(
         &written(alloc, &bag, Format::Tsv)?,
         "a\"\\t\t1\nb\t2\nthe\t4\n",

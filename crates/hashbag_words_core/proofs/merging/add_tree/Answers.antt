@@ -4,4 +4,5 @@ use Rattle.hashbag_words_core.proofs.merging.add_tree.Goals as goal
 
 pub returns-clause-tree : goal.returns-clause-tree
 returns-clause-tree g c =
-    tree_added c.args.text.now (view c.in_ok-tree.tree) c.args.bag.now c.merge.new.into c.in_ok-counts.counts c.in_ok-tree.ensures.ok c.in_ok-counts.ensures.read c.in_ok-merge.ensures.counts
+    let counts = c.in-Ok-from_value_with_hasher in
+    tree_added c.args.text.now (view c.in-Ok.tree) c.args.bag.now c.merge.new.into counts.counts c.in-Ok.ensures.ok counts.ensures.read c.in_ok-merge.ensures.counts
