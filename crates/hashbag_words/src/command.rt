@@ -11,12 +11,12 @@ Where no command is named it is `count`, so these count words, and show the ten 
 `hashbag_words count --help` tells what else may be counted, and how it is shown.
 
 The counts of an input are the sums of those of its parts, wherever it is split at line ends, so parts may be counted side by side:
-    split -n l/4 text part.
-    ls part.* | xargs -P 4 -I{} hashbag_words {} -o {}.tsv
-    hashbag_words merge part.*.tsv
+    mkdir parts counts && split -n l/4 text parts/
+    ls parts | xargs -P 4 -I{} hashbag_words parts/{} -o counts/{}.tsv
+    hashbag_words merge counts/*.tsv
 
-Exit status: 0 done; 1 nothing is shown, with --fail-empty; 2 bad arguments or a bad line; 3 no memory; 4 a read or a write failed;
-5 the counts add up to more than 2^64-1. With 2, 3 and 5 nothing was written.";
+Exit status: 0 done; 1 nothing is shown, with --fail-empty; 2 bad arguments or a bad line; 3 an allocation failed; 4 a file can't be
+opened, or a read or a write failed; 5 the counts add up to more than 2^64-1. With 2, 3 and 5 nothing was written.";
 
 /// Whether this first word needs no `count` before it.
 pub fn is_job(word: &str) -> bool {
@@ -41,7 +41,8 @@ fn with_output(alloc: Global, command: Command<'_>) -> Result<Command<'_>, Error
     let unsorted = arg!(in alloc; --unsorted "Show them in no order, which is faster");
     let least = arg!(in alloc; --least <N> "Show what occurs N times or oftener alone");
     let to = arg!(in alloc; --to <FORM> "How they are written");
-    let output = arg!(in alloc; -o --output <FILE> "Write there, not to standard output");
+    let output =
+        arg!(in alloc; -o --output <FILE> "Write there, all or nothing, not to standard output");
     Ok(
         command
             .arg(
@@ -62,8 +63,15 @@ fn with_output(alloc: Global, command: Command<'_>) -> Result<Command<'_>, Error
 // What every job has that reads counts: in which form they are.
 fn form_read<'a>(alloc: Global) -> Arg<'a> {
     arg!(in alloc; --from <FORM> "How they are written")
-        .value_parser(["tsv", "json"].as_slice())
+        .value_parser(["tsv", "json", "uniq"].as_slice())
         .default_value("tsv")
+}
+
+// What every job has that reads any number of files: where their names may be.
+fn with_list(alloc: Global, command: Command<'_>) -> Result<Command<'_>, Error> {
+    let list =
+        arg!(in alloc; --"files-from" <FILE> "Read the names of the inputs there, one a line; `-`: from standard input");
+    Ok(command.arg(list.conflicts_with("files")?)?)
 }
 
 fn count<'a>(alloc: Global) -> Result<Command<'a>, Error> {
@@ -80,7 +88,7 @@ fn count<'a>(alloc: Global) -> Result<Command<'a>, Error> {
         .arg(by)?
         .arg(arg!(in alloc; --pattern <REGEX> "Count what matches it, within a line"))?
         .arg(arg!(in alloc; --fold "Count upper and lower case as one"))?;
-    with_output(alloc, with_input(alloc, command)?)
+    with_output(alloc, with_input(alloc, with_list(alloc, command)?)?)
 }
 
 fn merge<'a>(alloc: Global) -> Result<Command<'a>, Error> {
@@ -90,7 +98,7 @@ fn merge<'a>(alloc: Global) -> Result<Command<'a>, Error> {
             arg!(in alloc; files: [FILE] ... "Files of counts: standard input where there is none, or for `-`"),
         )?
         .arg(form_read(alloc))?;
-    with_output(alloc, with_input(alloc, command)?)
+    with_output(alloc, with_input(alloc, with_list(alloc, command)?)?)
 }
 
 // A job on two files of counts.
@@ -103,11 +111,11 @@ fn pair<'a>(alloc: Global, name: &'a str, about: &'a str) -> Result<Command<'a>,
     with_output(alloc, with_input(alloc, command)?)
 }
 
-/// The command line, with all its jobs.
-pub fn command<'a>(alloc: Global) -> Result<Command<'a>, Error> {
+/// The command line, with all its jobs. The version is what `--version` says behind the name.
+pub fn command<'a>(alloc: Global, version: &'a str) -> Result<Command<'a>, Error> {
     Ok(
         Command::new(alloc, "hashbag_words")
-            .version("1.0")
+            .version(version)
             .about(ABOUT)
             .after_help(AFTER)
             .subcommand_required(true)

@@ -1,24 +1,10 @@
 //! Why the program ends without all of its output, and with which status.
 use hashbag::{BagError, JsonError};
+use hashbag_shell::status::{BAD_INPUT, IO_FAILED, NO_MEMORY, TOTAL_TOO_LARGE};
 use hashbag_words_core::errors::{BadLine, Fault};
 use std::alloc::AllocError;
 use std::io;
 use thiserror::Error;
-
-/// Nothing was counted, and that was asked to be told.
-pub const NOTHING: u8 = 1;
-
-/// The command line or an input is bad.
-pub const BAD: u8 = 2;
-
-/// Memory was refused.
-pub const NO_MEMORY: u8 = 3;
-
-/// A read or a write failed.
-pub const IO_FAILED: u8 = 4;
-
-/// The counts would add up to more than 2^64-1.
-pub const TOO_MANY: u8 = 5;
 
 /// Why the program ends without all of its output.
 #[derive(Debug, Drop, Error)]
@@ -53,13 +39,13 @@ pub enum Failure<'a> {
     TooManyInAll {
         name: &'a str,
     },
-    /// Memory was refused while an input was read.
+    /// An allocation failed while an input was read.
     #[error("{name}: no memory after {line} lines")]
     NoMemory {
         name: &'a str,
         line: u64,
     },
-    /// Memory was refused elsewhere.
+    /// An allocation failed elsewhere.
     #[error("no memory")]
     NoMemoryLeft,
     /// A file can't be opened, made, read or written, or it is to be JSON and isn't UTF-8.
@@ -71,9 +57,17 @@ pub enum Failure<'a> {
     /// The pattern isn't one.
     #[error("--pattern: {0}")]
     Pattern(regex::Error),
-    /// An argument isn't UTF-8.
-    #[error("an argument is not UTF-8")]
-    NotText,
+    /// Two inputs are standard input.
+    #[error("standard input is named twice")]
+    ReadTwice,
+    /// The output is one of the inputs.
+    #[error("{name}: the output is one of the inputs")]
+    OutputIsInput {
+        name: &'a str,
+    },
+    /// There are no random numbers for the hash state.
+    #[error("no random numbers: {0}")]
+    NotRandom(io::Error),
 }
 
 impl<'a> Failure<'a> {
@@ -85,7 +79,7 @@ impl<'a> Failure<'a> {
         }
     }
 
-    /// The failure of an input of that name, after so many of its lines.
+    /// The failure of an input of that name, after `line` of its lines.
     pub fn of_input(name: &'a str, line: u64, fault: Fault) -> Failure<'a> {
         match fault {
             Fault::Line(bad) => Failure::Line { name, line, bad },
@@ -114,12 +108,13 @@ impl<'a> Failure<'a> {
     // The exit status.
     fn status(&self) -> u8 {
         match self {
-            Failure::Line { .. } | Failure::Text { .. } | Failure::Tree { .. } => BAD,
-            Failure::Pattern(_) | Failure::NotText => BAD,
+            Failure::Line { .. } | Failure::Text { .. } | Failure::Tree { .. } => BAD_INPUT,
+            Failure::Pattern(_) | Failure::ReadTwice => BAD_INPUT,
+            Failure::OutputIsInput { .. } => BAD_INPUT,
             Failure::NoMemory { .. } | Failure::NoMemoryLeft => NO_MEMORY,
-            Failure::File { error, .. } if error.kind() == io::ErrorKind::InvalidData => BAD,
-            Failure::File { .. } => IO_FAILED,
-            Failure::TooMany { .. } | Failure::TooManyInAll { .. } => TOO_MANY,
+            Failure::File { error, .. } if error.kind() == io::ErrorKind::InvalidData => BAD_INPUT,
+            Failure::File { .. } | Failure::NotRandom(_) => IO_FAILED,
+            Failure::TooMany { .. } | Failure::TooManyInAll { .. } => TOTAL_TOO_LARGE,
         }
     }
 
@@ -131,7 +126,7 @@ impl<'a> Failure<'a> {
         }
     }
 
-    /// Says on standard error what failed, and answers the exit status.
+    /// Says on standard error what failed, and returns the exit status.
     pub fn report(&self, rt: &impl Eprint) -> u8 {
         if !self.is_silent() {
             let _ = eprintln!(rt; "hashbag_words: {self}");

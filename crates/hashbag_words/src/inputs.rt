@@ -1,12 +1,13 @@
 //! Inputs are read: files by their names, `-` for standard input.
+use crate::bag::Bag;
 use crate::failure::Failure;
 use crate::progress::Progress;
 use crate::settings::Settings;
-use hashbag::HashBag;
 use hashbag_words_core::counting::count_lines;
 use hashbag_words_core::errors::Fault;
 use hashbag_words_core::lines::Reading;
-use hashbag_words_core::merging::{add_rows, add_tree};
+use hashbag_words_core::merging::{add_first_row, add_rows, add_tree};
+use hashbag_words_core::rows::RowForm;
 use hashbag_words_core::rule::Rule;
 use std::fs;
 use std::io::{self, BufRead, BufReader, Read};
@@ -22,8 +23,8 @@ const BUFFER: usize = 1 << 16;
 pub enum Intake<'r> {
     /// As text of which this is counted.
     Text(Rule<'r>),
-    /// As lines of counts.
-    Rows,
+    /// As lines of counts in that form.
+    Rows(RowForm),
     /// As a JSON text.
     Tree,
 }
@@ -35,26 +36,32 @@ pub struct Inputs<'s, 'a, 'm> {
     pub rt: &'s HostRuntime,
     /// What the command line asks for.
     pub settings: &'s Settings<'a, 'm>,
+    /// The names of all inputs.
+    pub names: &'s [&'a str],
     /// How far it is.
     pub progress: Progress,
 }
 
 impl<'s, 'a, 'm> Inputs<'s, 'a, 'm> {
-    // Takes in the next lines of an input, and answers whether there may be more.
+    // Reads the next lines of an input into the bag. Returns whether there may be more.
     fn take_lines<R: BufRead>(
         &self,
         intake: Intake<'_>,
-        bag: &mut HashBag<String>,
+        bag: &mut Bag,
         input: &mut R,
         reading: &mut Reading,
     ) -> Result<bool, Fault> {
         let alloc = self.rt.alloc();
         match intake {
             Intake::Text(rule) => count_lines(alloc, bag, &rule, input, reading, STEP),
-            Intake::Rows => add_rows(alloc, bag, input, reading, STEP),
+            Intake::Rows(form) if reading.line == 0 => {
+                add_first_row(alloc, bag, form, input, reading)
+            }
+            Intake::Rows(form) => add_rows(alloc, bag, form, input, reading, STEP),
             Intake::Tree => {
                 let text = io::read_to_string(alloc, input).map_err(Fault::Read)?;
-                add_tree(alloc, bag, text.as_str())?;
+                let state = *bag.hasher();
+                add_tree(alloc, state, bag, text.as_str())?;
                 Ok(false)
             }
         }
@@ -64,7 +71,7 @@ impl<'s, 'a, 'm> Inputs<'s, 'a, 'm> {
     fn take<R: Read + Drop>(
         &mut self,
         intake: Intake<'_>,
-        bag: &mut HashBag<String>,
+        bag: &mut Bag,
         name: &'a str,
         input: R,
     ) -> Result<(), Failure<'a>> {
@@ -90,7 +97,7 @@ impl<'s, 'a, 'm> Inputs<'s, 'a, 'm> {
     pub fn take_named(
         &mut self,
         intake: Intake<'_>,
-        bag: &mut HashBag<String>,
+        bag: &mut Bag,
         name: &'a str,
     ) -> Result<(), Failure<'a>> {
         if name == "-" {
@@ -102,29 +109,12 @@ impl<'s, 'a, 'm> Inputs<'s, 'a, 'm> {
         }
     }
 
-    // Takes in the inputs of these names.
-    fn take_each(
-        &mut self,
-        intake: Intake<'_>,
-        bag: &mut HashBag<String>,
-        files: &[&'a str],
-    ) -> Result<(), Failure<'a>> {
-        for name in files {
+    /// Takes in all inputs.
+    pub fn take_all(&mut self, intake: Intake<'_>, bag: &mut Bag) -> Result<(), Failure<'a>> {
+        let names = self.names;
+        for name in names {
             self.take_named(intake, bag, name)?;
         }
         Ok(())
-    }
-
-    /// Takes in all inputs that the command line names.
-    pub fn take_all(
-        &mut self,
-        intake: Intake<'_>,
-        bag: &mut HashBag<String>,
-    ) -> Result<(), Failure<'a>> {
-        let settings = self.settings;
-        match settings.files {
-            Some(files) => self.take_each(intake, bag, files),
-            None => self.take_named(intake, bag, "-"),
-        }
     }
 }

@@ -1,11 +1,13 @@
 //! What the program does: it takes inputs in, and shows what the bag then has.
+use crate::bag::{Bag, empty};
 use crate::failure::Failure;
 use crate::inputs::{Inputs, Intake};
-use crate::output::show;
+use crate::names::check;
+use crate::output::{Output, text_of};
 use crate::progress::Progress;
 use crate::settings::{By, Job, Settings};
-use hashbag::HashBag;
 use hashbag_ops::{keep_common, take_away};
+use hashbag_shell::status::{DENIED, DONE};
 use hashbag_words_core::rule::{Pieces, Rule};
 use regex::Regex;
 
@@ -13,7 +15,7 @@ use regex::Regex;
 fn count<'a>(
     inputs: &mut Inputs<'_, 'a, '_>,
     by: By<'a>,
-    bag: &mut HashBag<String>,
+    bag: &mut Bag,
 ) -> Result<(), Failure<'a>> {
     let settings = inputs.settings;
     let fold = settings.fold;
@@ -33,34 +35,36 @@ fn count<'a>(
     inputs.take_all(Intake::Text(Rule { pieces, fold }), bag)
 }
 
-// Takes in the two inputs of a job on a pair: the first into the bag, the second into another one.
+// Takes in the two inputs of a job on a pair: the first into the bag, the second into another one, which is only looked up from then on.
 fn take_pair<'a>(
     inputs: &mut Inputs<'_, 'a, '_>,
     counts: Intake<'_>,
-    bag: &mut HashBag<String>,
-) -> Result<HashBag<String>, Failure<'a>> {
+    bag: &mut Bag,
+) -> Result<Bag, Failure<'a>> {
     let settings = inputs.settings;
     let (first, second) = settings.pair;
-    let mut other: HashBag<String> = HashBag::new(inputs.rt.alloc());
+    let mut other = empty(inputs.rt)?;
     inputs.take_named(counts, bag, first)?;
     inputs.take_named(counts, &mut other, second)?;
+    other.finish_carry();
     Ok(other)
 }
 
-/// Does what the command line asks for, and answers the status.
-pub fn run<'a>(rt: &HostRuntime, settings: &Settings<'a, '_>) -> Result<u8, Failure<'a>> {
-    let mut bag: HashBag<String> = HashBag::new(rt.alloc());
+// The bag that a job makes of its inputs.
+fn bag_of<'a>(
+    rt: &HostRuntime,
+    settings: &Settings<'a, '_>,
+    names: &[&'a str],
+) -> Result<Bag, Failure<'a>> {
+    let mut bag = empty(rt)?;
     let progress = Progress::new(rt, settings.progress);
     let mut inputs = Inputs {
         rt,
         settings,
+        names,
         progress,
     };
-    let counts = if settings.reads_json {
-        Intake::Tree
-    } else {
-        Intake::Rows
-    };
+    let counts = settings.rows.map_or(Intake::Tree, Intake::Rows);
     match settings.job {
         Job::Count(by) => count(&mut inputs, by, &mut bag)?,
         Job::Merge => inputs.take_all(counts, &mut bag)?,
@@ -73,5 +77,38 @@ pub fn run<'a>(rt: &HostRuntime, settings: &Settings<'a, '_>) -> Result<u8, Fail
             keep_common(&mut bag, &other);
         }
     }
-    show(rt, settings, &mut bag)
+    Ok(bag)
+}
+
+// The text that is to be written, and whether it shows nothing.
+fn made<'a>(
+    rt: &HostRuntime,
+    settings: &Settings<'a, '_>,
+    names: &[&'a str],
+) -> Result<(Vec<u8>, bool), Failure<'a>> {
+    let mut bag = bag_of(rt, settings, names)?;
+    text_of(rt, settings, &mut bag)
+}
+
+/// Does what the command line asks for, and returns the status.
+pub fn run<'a>(
+    rt: &HostRuntime,
+    settings: &Settings<'a, '_>,
+    names: &[&'a str],
+) -> Result<u8, Failure<'a>> {
+    check(rt, settings, names)?;
+    let output = Output::open(rt, settings)?;
+    let (text, is_empty) = match made(rt, settings, names) {
+        Ok(made) => made,
+        Err(failure) => {
+            output.abandon(rt);
+            return Err(failure);
+        }
+    };
+    output.write(rt, text.as_slice())?;
+    Ok(if is_empty && settings.fail_empty {
+        DENIED
+    } else {
+        DONE
+    })
 }

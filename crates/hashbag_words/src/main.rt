@@ -1,20 +1,24 @@
 //! Counts the words, lines or matches of a pattern in text, and adds up files of counts.
 #![tactic(auto)]
 
+mod bag;
 mod command;
 mod failure;
 mod inputs;
 mod jobs;
+mod names;
 mod output;
 mod progress;
 mod settings;
 
-use failure::{BAD, Failure, IO_FAILED, NO_MEMORY};
+use failure::Failure;
+use hashbag_shell::VERSION;
+use hashbag_shell::arguments::{arguments, explain};
+use hashbag_shell::status::BAD_INPUT;
 use settings::Settings;
 use std::alloc::{AllocError, Global};
-use std::env;
-use std::io::ErrorKind;
 use std::process::ExitCode;
+use unicode_segmentation::UNICODE_VERSION;
 
 // The words of the command line. Where they name no job it is `count`, so that `hashbag_words FILE` counts.
 fn words_of(alloc: Global, given: &Vec<String>) -> Result<Vec<&str>, AllocError> {
@@ -30,44 +34,49 @@ fn words_of(alloc: Global, given: &Vec<String>) -> Result<Vec<&str>, AllocError>
     Ok(words)
 }
 
-// Prints the help, or what is wrong with the command line, and answers the status.
-fn explain(rt: &HostRuntime, error: &clap::Error) -> u8 {
-    if error.print(rt).is_err() {
-        return IO_FAILED;
-    }
-    match error.kind() {
-        clap::error::ErrorKind::OutOfMemory => NO_MEMORY,
-        _ if error.use_stderr() => BAD,
-        _ => 0,
-    }
-}
-
-// Does what these words ask for, and answers the status.
-fn obey(rt: &HostRuntime, words: &Vec<&str>) -> Result<u8, clap::Error> {
-    let matches = command::command(rt.alloc())?.try_get_matches_from(words.as_slice())?;
-    let Some((job, given)) = matches.subcommand() else {
-        return Ok(BAD);
+// Does a job on the inputs that are named in a list, if there is one, and returns the status.
+fn do_job(rt: &HostRuntime, settings: &Settings<'_, '_>, list: Option<&String>) -> u8 {
+    let Ok(names) = names::inputs_of(rt.alloc(), settings, list) else {
+        return Failure::NoMemoryLeft.report(rt);
     };
-    let settings = Settings::of(job, given);
-    match jobs::run(rt, &settings) {
-        Ok(status) => Ok(status),
-        Err(failure) => Ok(failure.report(rt)),
+    match jobs::run(rt, settings, names.as_slice()) {
+        Ok(status) => status,
+        Err(failure) => failure.report(rt),
     }
 }
 
-// The arguments of the program, its own name first.
-fn arguments<'a>(rt: &HostRuntime) -> Result<Vec<String>, Failure<'a>> {
-    match env::args(rt) {
-        Ok(words) => Ok(words.collect(rt.alloc())?),
-        Err(error) if error.kind() == ErrorKind::OutOfMemory => Err(Failure::NoMemoryLeft),
-        Err(_) => Err(Failure::NotText),
+// Does what these arguments of a job ask for, and returns the status.
+fn do_settings(rt: &HostRuntime, settings: &Settings<'_, '_>) -> u8 {
+    let Some(name) = settings.files_from else {
+        return do_job(rt, settings, None);
+    };
+    match names::read_list(rt, name) {
+        Ok(list) => do_job(rt, settings, Some(&list)),
+        Err(failure) => failure.report(rt),
     }
+}
+
+// What `--version` says behind the name.
+fn version(alloc: Global) -> Result<String, AllocError> {
+    let (major, minor, patch) = UNICODE_VERSION;
+    format!(in alloc; "{VERSION} (Unicode {major}.{minor}.{patch})")
+}
+
+// Does what these words ask for, and returns the status.
+fn obey(rt: &HostRuntime, words: &Vec<&str>) -> Result<u8, clap::Error> {
+    let version = version(rt.alloc())?;
+    let command = command::command(rt.alloc(), version.as_str())?;
+    let matches = command.try_get_matches_from(words.as_slice())?;
+    let Some((job, given)) = matches.subcommand() else {
+        return Ok(BAD_INPUT);
+    };
+    Ok(do_settings(rt, &Settings::of(job, given)))
 }
 
 fn run(rt: &HostRuntime) -> u8 {
-    let given = match arguments(rt) {
+    let given = match arguments(rt, "hashbag_words") {
         Ok(given) => given,
-        Err(failure) => return failure.report(rt),
+        Err(status) => return status,
     };
     let Ok(words) = words_of(rt.alloc(), &given) else {
         return Failure::NoMemoryLeft.report(rt);

@@ -1,11 +1,50 @@
 //! Counts are written.
-use crate::failure::{Failure, NOTHING};
+use crate::bag::Bag;
+use crate::failure::Failure;
 use crate::settings::Settings;
-use hashbag::HashBag;
+use hashbag_shell::output_file::OutputFile;
 use hashbag_words_core::choice::{chosen, drop_below};
 use hashbag_words_core::writing::write_rows;
-use std::fs;
+use std::fs::File;
 use std::io::{self, Write};
+
+/// Where counts are written.
+#[derive(Drop)]
+pub enum Output<'a> {
+    /// To standard output.
+    Standard,
+    /// To the file of that name, all or nothing.
+    Named(&'a str, OutputFile<File>),
+}
+
+impl<'a> Output<'a> {
+    /// Opens what the command line names, before anything is counted.
+    pub fn open(rt: &HostRuntime, settings: &Settings<'a, '_>) -> Result<Output<'a>, Failure<'a>> {
+        let Some(name) = settings.output else {
+            return Ok(Output::Standard);
+        };
+        match OutputFile::open(rt, name) {
+            Ok(file) => Ok(Output::Named(name, file)),
+            Err(error) => Err(Failure::of_file(name, error)),
+        }
+    }
+
+    /// Writes all of a text.
+    pub fn write(self, rt: &HostRuntime, text: &[u8]) -> Result<(), Failure<'a>> {
+        let (name, written) = match self {
+            Output::Standard => ("standard output", put(io::writer(rt), text)),
+            Output::Named(name, file) => (name, file.write_whole(rt, text)),
+        };
+        written.map_err(|error| Failure::of_file(name, error))
+    }
+
+    /// Leaves the file as it was.
+    pub fn abandon(self, rt: &HostRuntime) {
+        if let Output::Named(_, file) = self {
+            file.abandon(rt);
+        }
+    }
+}
 
 // Writes what is at hand, all of it.
 fn put<W: Write + Drop>(mut to: W, text: &[u8]) -> io::Result<()> {
@@ -13,14 +52,14 @@ fn put<W: Write + Drop>(mut to: W, text: &[u8]) -> io::Result<()> {
     to.flush()
 }
 
-/// Writes the counts that are asked for where they are to go, and answers the status.
+/// Returns the text of the counts that are asked for, and whether there are none.
 ///
-/// All of it is made in memory first, so nothing is written where memory is refused.
-pub fn show<'a>(
+/// All of it is made in memory, so nothing is written if an allocation fails.
+pub fn text_of<'a>(
     rt: &HostRuntime,
     settings: &Settings<'a, '_>,
-    bag: &mut HashBag<String>,
-) -> Result<u8, Failure<'a>> {
+    bag: &mut Bag,
+) -> Result<(Vec<u8>, bool), Failure<'a>> {
     drop_below(bag, settings.least);
     let Ok(rows) = chosen(rt.alloc(), bag, settings.order) else {
         return Err(Failure::NoMemoryLeft);
@@ -29,16 +68,5 @@ pub fn show<'a>(
     if write_rows(rt.alloc(), &mut text, settings.format, &rows).is_err() {
         return Err(Failure::NoMemoryLeft);
     }
-    let (name, written) = match settings.output {
-        Some(name) => match fs::create(rt, name) {
-            Ok(file) => (name, put(file, &text)),
-            Err(error) => (name, Err(error)),
-        },
-        None => ("standard output", put(io::writer(rt), &text)),
-    };
-    match written {
-        Ok(()) if rows.is_empty() && settings.fail_empty => Ok(NOTHING),
-        Ok(()) => Ok(0),
-        Err(error) => Err(Failure::of_file(name, error)),
-    }
+    Ok((text, rows.is_empty()))
 }

@@ -1,5 +1,5 @@
 //! How far the program is, told on standard error.
-use hashbag::HashBag;
+use crate::bag::Bag;
 use std::time::{Duration, Instant};
 
 /// What has been told, and when.
@@ -27,13 +27,13 @@ impl Progress {
         Progress { times, lines: 0 }
     }
 
-    /// An input with so many lines has been read to its end.
+    /// An input with `lines` lines has been read to its end.
     pub fn end_input(&mut self, lines: u64) {
         self.lines = self.lines.saturating_add(lines);
     }
 
     /// Tells how far it is, if a second has gone since that was told. `lines` is how many of the present input have been read.
-    pub fn tell(&mut self, rt: &HostRuntime, lines: u64, bag: &HashBag<String>) {
+    pub fn tell(&mut self, rt: &HostRuntime, lines: u64, bag: &Bag) {
         let Some((start, last)) = self.times else {
             return;
         };

@@ -2,6 +2,7 @@
 use clap::ArgMatches;
 use hashbag_words_core::choice::Order;
 use hashbag_words_core::lines::BadLines;
+use hashbag_words_core::rows::RowForm;
 use hashbag_words_core::writing::Format;
 
 /// What is done.
@@ -37,12 +38,14 @@ pub struct Settings<'a, 'm> {
     pub job: Job<'a>,
     /// The inputs, `None` for standard input.
     pub files: Option<&'m [&'a str]>,
+    /// The file that names the inputs.
+    pub files_from: Option<&'a str>,
     /// Of `less` and `common`: the two inputs.
     pub pair: (&'a str, &'a str),
     /// Whether case is folded.
     pub fold: bool,
-    /// Whether counts are read as JSON.
-    pub reads_json: bool,
+    /// How lines of counts are read, `None`: as JSON.
+    pub rows: Option<RowForm>,
     /// What becomes of bad lines.
     pub bad_lines: BadLines,
     /// Whether it is told how far it is.
@@ -96,6 +99,15 @@ fn format_of(given: &ArgMatches<'_>) -> Format {
     }
 }
 
+// Files of text have no form, so it matters to none of them.
+fn rows_of(given: &ArgMatches<'_>) -> Option<RowForm> {
+    match given.get_str("from") {
+        Some("json") => None,
+        Some("uniq") => Some(RowForm::Uniq),
+        _ => Some(RowForm::Tsv),
+    }
+}
+
 impl<'a, 'm> Settings<'a, 'm> {
     /// What these arguments of a job ask for.
     pub fn of(name: &str, given: &'m ArgMatches<'a>) -> Settings<'a, 'm> {
@@ -107,12 +119,13 @@ impl<'a, 'm> Settings<'a, 'm> {
         Settings {
             job: job_of(name, given),
             files: given.get_strs("files"),
+            files_from: given.get_str("files-from"),
             pair: (
                 given.get_str("first").unwrap_or("-"),
                 given.get_str("second").unwrap_or("-"),
             ),
             fold: given.get_flag("fold"),
-            reads_json: given.get_str("from") == Some("json"),
+            rows: rows_of(given),
             bad_lines,
             progress: given.get_flag("progress"),
             order: order_of(given),

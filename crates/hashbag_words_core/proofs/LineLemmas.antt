@@ -193,6 +193,23 @@ ends_rest front rest ends some =
     ∙ ap (λ (k : ℕ). get_or rest k 0) place)
     ∙ ends (omega arith)
 
+-- a line of an input that ends with a line feed has one, and what is left ends with one too
+ends_through : (xs : List ℕ) → EndsLine xs → 0 < length xs → Cut xs → EndsLine (drop_through 10 xs) × (ends_with_byte 10 (take_through 10 xs) ≡ true)
+ends_through xs ends some (inl h) = (
+  subst EndsLine (sym (ap (λ (l : List ℕ). drop_through 10 l) h.2 ∙ drop_through-cut h.0 h.1 h.3)) (ends_rest h.0 h.1 (subst EndsLine h.2 ends)),
+  ap (λ (l : List ℕ). ends_with_byte 10 (take_through 10 l)) h.2 ∙ ap (λ (l : List ℕ). ends_with_byte 10 l) (take_through-cut h.0 h.1 h.3) ∙ ends_with_byte-push 10 h.0,
+)
+ends_through xs ends some (inr h) = absurd (All-get_or (λ y. y ≢ 10) xs (length xs - 1) 0 (omega arith) h (ends some))
+
+ends_left : (n : ℕ) (xs : List ℕ) → EndsLine xs → EndsLine (drop_lines n xs)
+ends_left zero xs ends = ends
+ends_left (suc n) [] ends = ends_left n [] ends
+ends_left (suc n) (x ∷ xs) ends = ends_left n (drop_through 10 (x ∷ xs)) (ends_through (x ∷ xs) ends (omega arith) (cut (x ∷ xs))).0
+
+-- each line of an input that ends with a line feed has one
+pub ended_line : (n : ℕ) (xs : List ℕ) → EndsLine xs → 0 < length (drop_lines n xs) → ends_with_byte 10 (take_through 10 (drop_lines n xs)) ≡ true
+ended_line n xs ends some = (ends_through (drop_lines n xs) (ends_left n xs ends) some (cut (drop_lines n xs))).1
+
 joined_of_cut : (n : ℕ) (xs ys : List ℕ) → length xs ≤ suc n → EndsLine xs → 0 < length xs → Cut xs → ((zs : List ℕ) → length zs ≤ n → EndsLine zs → lines (zs ++ ys) ≡ lines zs ++ lines ys) → lines (xs ++ ys) ≡ lines xs ++ lines ys
 joined_of_cut n xs ys fits ends some (inl h) later =
     let front = h.0 in

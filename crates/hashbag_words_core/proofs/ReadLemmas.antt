@@ -106,7 +106,7 @@ module _ {S : Type 0} where
       ∙ none_before _
 
   -- the counts of two parts, split at a line end, add up to those of the whole
-  pub counts_of_both : (rule : Rule) (xs ys : List ℕ) (first second sum : Bag (String Global) S) → EndsLine xs → HasCountsOf (tokens_of rule xs) first → HasCountsOf (tokens_of rule ys) second
+  pub counts_of_both : {S2 : Type 0} (rule : Rule) (xs ys : List ℕ) (first : Bag (String Global) S) (second : Bag (String Global) S2) (sum : Bag (String Global) S) → EndsLine xs → HasCountsOf (tokens_of rule xs) first → HasCountsOf (tokens_of rule ys) second
       → ((v : String Global) → count string_eq v sum.items ≡ count string_eq v first.items + count string_eq v second.items) → HasCountsOf (tokens_of rule (xs ++ ys)) sum
   counts_of_both rule xs ys first second sum ends f g merged v =
       let a : count string_eq v first.items ≡ count bytes_eq (string_bytes v) (tokens_of rule xs) = f v in

@@ -7,8 +7,8 @@ use Rattle.std.specs.Str.Parse.{ParsesUnsigned}
 use Rattle.std.proofs.lemmas.Fmt.{parse-decimal}
 use Rattle.std.proofs.lemmas.List.Elements.{All-nil, All-cons, All-get_or}
 use Rattle.std.proofs.lemmas.Option.{same_Some}
-use Rattle.std.proofs.lemmas.Str.Pattern.{IsSplitOnceResult, split_after}
-use Rattle.hashbag_words_core.specs.Rows.{letter_of, byte_of, shown_as, escaped, row, unescaped, resumed}
+use Rattle.std.proofs.lemmas.Str.Pattern.{IsSplitOnceResult, split_after, split_parts}
+use Rattle.hashbag_words_core.specs.Rows.{letter_of, byte_of, shown_as, escaped, row, unescaped, resumed, IsNumber, IsLineOf}
 
 -- ---- one byte more
 
@@ -97,6 +97,30 @@ count_read {E} r n count digits was fits is h =
     let read : r ≡ Ok count = parse-decimal {E = E} 64 count digits r fits fits is h in
     let both : ◌≡◌ {A = Result ℕ E} (Ok n) (Ok count) = sym was ∙ read in
     cc
+
+-- the number that was read is that of the digits
+pub number_read : {E : Type 0} (r : Result ℕ E) (count : ℕ) (digits : List ℕ) → r ≡ Ok count → ParsesUnsigned 64 10 digits r → IsNumber digits count
+number_read {E} r count digits was h =
+    let both : ParsesUnsigned {E = E} 64 10 digits (Ok count) = subst (λ (q : Result ℕ E). ParsesUnsigned 64 10 digits q) was h in
+    record {
+      numeral = both.0.0;
+      value = sym both.1;
+      fits = subst (λ (n : ℕ). n < 2 ^ 64) (sym both.1) both.0.1;
+    }
+
+-- a line that was split at its first tab is read as what the parts are
+pub line_read : (line token : List ℕ) (count : ℕ) (written digits : Bor (List ℕ)) → IsSplitOnceResult 9 line (Some (written, digits))
+    → unescaped false written.now ≡ Some token → IsNumber digits.now count → IsLineOf line token count
+line_read line token count written digits h means number =
+    let parts = split_parts 9 line (Some (written, digits)) h (omega arith) in
+    record {
+      written = written.now;
+      digits = digits.now;
+      parts = parts.0;
+      first = parts.1;
+      means = means;
+      number = number;
+    }
 
 -- the next byte of a list
 pub next_byte : (xs : List ℕ) (i : ℕ) → i < length xs → drop i xs ≡ get_or xs i 0 ∷ drop (i + 1) xs

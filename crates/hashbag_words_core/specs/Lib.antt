@@ -1,5 +1,6 @@
 pub mod Choice
 pub mod Counts
+pub mod Merging
 pub mod Reading
 pub mod Rows
 pub mod Tokens

@@ -1,6 +1,7 @@
 -- How a token and its count are written as a line, and read again.
-use Rattle.std.specs.Prelude.{◌≡◌, ℕ, ◌<◌, ◌^◌, ◌==◌, Bool, true, false, List, [], ◌∷◌, ◌++◌, flat_map, if◌then◌else◌, String, string_bytes, decimal, Option, None, Some, option_map, option_and_then, Result, IsOkAnd, IsUtf8}
+use Rattle.std.specs.Prelude.{◌≡◌, ◌≢◌, ℕ, ◌<◌, ◌^◌, ◌==◌, Bool, true, false, List, [], ◌∷◌, ◌++◌, length, slice_index, flat_map, if◌then◌else◌, String, string_bytes, decimal, Option, None, Some, option_map, option_and_then, Result, IsOkAnd, IsUtf8}
 use Rattle.std.specs.Global.{Global}
+use Rattle.std.specs.Str.Parse.{IsNumeral, digits_value, without_leading_plus}
 
 -- the letter that stands for this byte behind a backslash, if it is escaped: t for a tab, n for a line feed, r for a carriage return, and
 -- the backslash for itself
@@ -34,6 +35,21 @@ unescaped false [] = Some []
 unescaped true [] = None
 unescaped false (b ∷ bs) = if b == 92 then unescaped true bs else option_map (λ t. b ∷ t) (unescaped false bs)
 unescaped true (b ∷ bs) = option_and_then (λ byte. option_map (λ t. byte ∷ t) (unescaped false bs)) (byte_of b)
+
+-- these bytes are read as that number: digits, behind a plus sign or not, of a number of 64 bits
+pub record IsNumber (digits : List ℕ) (count : ℕ) : Type 0 where
+  pub numeral : IsNumeral 10 (without_leading_plus digits)
+  pub value : digits_value 10 (without_leading_plus digits) ≡ count
+  pub fits : count < 2 ^ 64
+
+-- this line is read as that token and count: the token as it is written, the first tab, and the count
+pub record IsLineOf (line token : List ℕ) (count : ℕ) : Type 0 where
+  pub written : List ℕ
+  pub digits : List ℕ
+  pub parts : line ≡ written ++ 9 ∷ digits
+  pub first : (i : ℕ) → i < length written → slice_index written i ≢ 9
+  pub means : unescaped false written ≡ Some token
+  pub number : IsNumber digits count
 
 -- the same, where these bytes of the token have been read, and those are to come; none where they have been found bad
 abbrev pub resumed : List ℕ → Option Bool → List ℕ → Option (List ℕ)

@@ -8,20 +8,21 @@ ghost use Rattle.hashbag_words_core.specs.Choice.{DropsBelow, IsShown};
 use hashbag::{BagError, HashBag};
 use hashbag_ops::{most_common, sorted};
 use std::alloc::Global;
+use std::hash::BuildHasher;
 
 /// Which counts are shown, and in what order.
 #[derive(Clone, Copy, Debug, PartialEq, Eq)]
 pub enum Order {
     /// All, the bytes of the tokens rising.
     Rising,
-    /// All, in the order of a walk over the bag, which is open.
+    /// All, in the order of a walk over the bag.
     Open,
-    /// So many of the commonest, counts falling, and tokens that occur as often rising.
+    /// The k commonest, counts falling, and tokens that occur as often rising.
     Commonest(usize),
 }
 
-/// Takes out all tokens that occur less often than this. It looks at each token once, and takes no memory.
-pub fn drop_below(bag: &mut HashBag<String>, least: usize)
+/// Removes all tokens that occur less often than `least`. It reads each token once and doesn't allocate.
+pub fn drop_below<S: BuildHasher + Drop>(bag: &mut HashBag<String, S>, least: usize)
     ensures { DropsBelow least bag.old bag.new }
 {
     bag.retain(
@@ -32,7 +33,10 @@ pub fn drop_below(bag: &mut HashBag<String>, least: usize)
 }
 
 // The tokens with their counts, in the order of a walk. Room for all of them is taken at once.
-fn listed<'a>(alloc: Global, bag: &'a HashBag<String>) -> Result<Vec<(&'a String, usize)>, BagError>
+fn listed<'a, S: BuildHasher + Drop>(
+    alloc: Global,
+    bag: &'a HashBag<String, S>,
+) -> Result<Vec<(&'a String, usize)>, BagError>
     ensures { IfOk result (λ rows. IsSetWalkOf string_eq bag.now (map shown rows.items)) }
 {
     let mut rows = Vec::with_capacity(alloc, bag.set_len())?;
@@ -46,11 +50,16 @@ fn listed<'a>(alloc: Global, bag: &'a HashBag<String>) -> Result<Vec<(&'a String
 
 /// The tokens with their counts, as they are shown.
 ///
-/// It takes memory for a list of all tokens, at once, and answers `Memory` where that is refused. It compares as often as a sort does,
-/// in an open order not at all.
-pub fn chosen<'a>(
+/// # Errors
+///
+/// `Memory`: an allocation fails.
+///
+/// # Complexity
+///
+/// It allocates a list of all tokens, at once, and sorts it, if an order is asked for.
+pub fn chosen<'a, S: BuildHasher + Drop>(
     alloc: Global,
-    bag: &'a HashBag<String>,
+    bag: &'a HashBag<String, S>,
     order: Order,
 ) -> Result<Vec<(&'a String, usize)>, BagError>
     ensures { IfOk result (λ rows. IsShown order bag.now (map shown rows.items)) }

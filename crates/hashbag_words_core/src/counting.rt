@@ -14,12 +14,16 @@ use caseless::default_case_fold_str;
 use hashbag::{BagError, HashBag};
 use regex::Regex;
 use std::alloc::Global;
+use std::hash::BuildHasher;
 use std::io::BufRead;
 use std::str;
 use unicode_segmentation::UnicodeSegmentation;
 
 // Counts a piece of a line once, as it is. A `String` is made of it only where it isn't in the bag.
-fn add_plain(bag: &mut HashBag<String>, piece: &str) -> Result<(), BagError>
+fn add_plain<S: BuildHasher + Drop>(
+    bag: &mut HashBag<String, S>,
+    piece: &str,
+) -> Result<(), BagError>
     ensures { OnOk result (Adds bag.old bag.new (piece.now ∷ [])) }
 {
     bag.insert_key(piece)?;
@@ -27,7 +31,11 @@ fn add_plain(bag: &mut HashBag<String>, piece: &str) -> Result<(), BagError>
 }
 
 // Counts a piece of a line once, upper and lower case as one.
-fn add_folded(alloc: Global, bag: &mut HashBag<String>, piece: &str) -> Result<(), BagError>
+fn add_folded<S: BuildHasher + Drop>(
+    alloc: Global,
+    bag: &mut HashBag<String, S>,
+    piece: &str,
+) -> Result<(), BagError>
     ensures { OnOk result (Adds bag.old bag.new (token_of true piece.now ∷ [])) }
 {
     let token = default_case_fold_str(alloc, piece)?;
@@ -36,9 +44,9 @@ fn add_folded(alloc: Global, bag: &mut HashBag<String>, piece: &str) -> Result<(
 }
 
 // Counts a piece of a line once.
-fn add_piece(
+fn add_piece<S: BuildHasher + Drop>(
     alloc: Global,
-    bag: &mut HashBag<String>,
+    bag: &mut HashBag<String, S>,
     fold: bool,
     piece: &str,
 ) -> Result<(), BagError>
@@ -51,9 +59,9 @@ fn add_piece(
 }
 
 // Counts each piece that comes.
-fn add_pieces<'a, I: Iterator<Item = &'a str> + Drop>(
+fn add_pieces<'a, I: Iterator<Item = &'a str> + Drop, S: BuildHasher + Drop>(
     alloc: Global,
-    bag: &mut HashBag<String>,
+    bag: &mut HashBag<String, S>,
     fold: bool,
     pieces: I,
 ) -> Result<(), BagError>
@@ -68,9 +76,9 @@ fn add_pieces<'a, I: Iterator<Item = &'a str> + Drop>(
 }
 
 // Counts what stands between white space.
-fn add_words(
+fn add_words<S: BuildHasher + Drop>(
     alloc: Global,
-    bag: &mut HashBag<String>,
+    bag: &mut HashBag<String, S>,
     fold: bool,
     line: &str,
 ) -> Result<(), BagError>
@@ -80,9 +88,9 @@ fn add_words(
 }
 
 // Counts the words by the rules of Unicode.
-fn add_unicode_words(
+fn add_unicode_words<S: BuildHasher + Drop>(
     alloc: Global,
-    bag: &mut HashBag<String>,
+    bag: &mut HashBag<String, S>,
     fold: bool,
     line: &str,
 ) -> Result<(), BagError>
@@ -92,9 +100,9 @@ fn add_unicode_words(
 }
 
 // Counts a match of a pattern, unless it is empty.
-fn add_match(
+fn add_match<S: BuildHasher + Drop>(
     alloc: Global,
-    bag: &mut HashBag<String>,
+    bag: &mut HashBag<String, S>,
     fold: bool,
     piece: &str,
 ) -> Result<(), BagError>
@@ -107,9 +115,9 @@ fn add_match(
 }
 
 // Counts what matches a pattern.
-fn add_matches(
+fn add_matches<S: BuildHasher + Drop>(
     alloc: Global,
-    bag: &mut HashBag<String>,
+    bag: &mut HashBag<String, S>,
     fold: bool,
     pattern: &Regex,
     line: &str,
@@ -124,7 +132,7 @@ fn add_matches(
 }
 
 // The line without a byte order mark at its beginning.
-fn past_mark(line: &str) -> &str
+pub(crate) fn past_mark(line: &str) -> &str
     ensures { result.now ≡ without_mark line.now }
 {
     match line.strip_prefix("\u{feff}") {
@@ -137,9 +145,9 @@ fn past_mark(line: &str) -> &str
 ///
 /// A byte order mark at the beginning of the line is no part of it. Where the bag refuses a token, those before it have been added.
 /// It takes the time of a look at each character, and an insertion a token.
-pub fn add_line(
+pub fn add_line<S: BuildHasher + Drop>(
     alloc: Global,
-    bag: &mut HashBag<String>,
+    bag: &mut HashBag<String, S>,
     rule: &Rule<'_>,
     line: &str,
 ) -> Result<(), BagError>
@@ -155,9 +163,9 @@ pub fn add_line(
 }
 
 // Counts a line that has been read. One that isn't UTF-8 is bad.
-fn add_read(
+fn add_read<S: BuildHasher + Drop>(
     alloc: Global,
-    bag: &mut HashBag<String>,
+    bag: &mut HashBag<String, S>,
     rule: &Rule<'_>,
     line: &[u8],
     reading: &mut Reading,
@@ -173,13 +181,13 @@ fn add_read(
     }
 }
 
-/// Counts at most `most` lines of an input, and answers whether there may be more.
+/// Counts at most `most` lines of an input. Returns whether there may be more.
 ///
 /// A line that isn't UTF-8 is bad. Where the reading ends by a fault, `reading` has the number of its line, and the lines before it
 /// have been counted. One line at a time is kept in memory.
-pub fn count_lines<R: BufRead>(
+pub fn count_lines<R: BufRead, S: BuildHasher + Drop>(
     alloc: Global,
-    bag: &mut HashBag<String>,
+    bag: &mut HashBag<String, S>,
     rule: &Rule<'_>,
     input: &mut R,
     reading: &mut Reading,

@@ -1,4 +1,6 @@
 //! Why an input isn't counted.
+ghost use Rattle.std.specs.Prelude.{◌≡◌};
+
 use hashbag::{BagError, JsonError};
 use std::alloc::AllocError;
 use std::io;
@@ -19,6 +21,9 @@ pub enum BadLine {
     /// A backslash is followed by none of `t`, `n`, `r` and a backslash.
     #[error("bad escape")]
     BadEscape,
+    /// The last line of a file of counts has no line feed at its end: the file may have been cut off there.
+    #[error("no line feed")]
+    CutOff,
 }
 
 /// Why an input isn't counted to its end.
@@ -42,18 +47,31 @@ pub enum Fault {
 }
 
 impl From<BagError> for Fault {
+    ghost use Rattle.hashbag_words_core.specs.declared.errors.Fault.{Fault};
+
+    ghost from_gives = { λ refused fault. fault ≡ Fault.Bag refused };
+
     fn from(refused: BagError) -> Fault {
         Fault::Bag(refused)
     }
 }
 
 impl From<AllocError> for Fault {
+    ghost use Rattle.hashbag_words_core.specs.declared.errors.Fault.{Fault};
+    ghost use Rattle.hashbag_core.specs.declared.bag.BagError.{BagError};
+
+    ghost from_gives = { λ _ fault. fault ≡ Fault.Bag BagError.Memory };
+
     fn from(_refused: AllocError) -> Fault {
         Fault::Bag(BagError::Memory)
     }
 }
 
 impl From<io::Error> for Fault {
+    ghost use Rattle.hashbag_words_core.specs.declared.errors.Fault.{Fault};
+
+    ghost from_gives = { λ failed fault. fault ≡ Fault.Read failed };
+
     fn from(failed: io::Error) -> Fault {
         Fault::Read(failed)
     }

@@ -1,6 +1,6 @@
 //! The lines of an input, one by one.
-ghost use Rattle.std.specs.Prelude.{◌≡◌, IfOk, IfSome};
-ghost use Rattle.std.specs.Io.BufRead.{ends_with_byte, strip_last};
+ghost use Rattle.std.specs.Prelude.{◌≡◌, ◌+◌, ◌-◌, ◌^◌, min, Err, IsOk, IfOk, OnOk, IfSome};
+ghost use Rattle.std.specs.Io.BufRead.{ends_with_byte, strip_last, take_through};
 ghost use Rattle.hashbag_words_core.specs.Reading.{ReadsLine, without_end};
 
 use crate::errors::{BadLine, Fault};
@@ -28,7 +28,9 @@ pub struct Reading {
 
 impl Reading {
     /// Before the first line.
-    pub fn new(bad_lines: BadLines) -> Reading {
+    pub fn new(bad_lines: BadLines) -> Reading
+        ensures { (result.bad_lines ≡ bad_lines) × (result.line ≡ 0) × (result.skipped ≡ 0) }
+    {
         Reading {
             bad_lines,
             line: 0,
@@ -37,12 +39,22 @@ impl Reading {
     }
 
     // One more line was read.
-    pub(crate) fn count_line(&mut self) {
+    pub(crate) fn count_line(&mut self)
+        ensures line { self.new.line ≡ min (self.old.line + 1) (2 ^ 64 - 1) }
+        ensures skipped { self.new.skipped ≡ self.old.skipped }
+        ensures bad_lines { self.new.bad_lines ≡ self.old.bad_lines }
+    {
         self.line = self.line.saturating_add(1);
     }
 
-    // Skips a bad line, or answers that it is bad.
-    pub(crate) fn pass_over(&mut self, bad: BadLine) -> Result<(), Fault> {
+    // Skips a bad line, or rejects it.
+    pub(crate) fn pass_over(&mut self, bad: BadLine) -> Result<(), Fault>
+        ensures refused { self.old.bad_lines ≡ BadLines.Refused → result ≡ Err (Fault.Line bad) }
+        ensures passed { self.old.bad_lines ≡ BadLines.Skipped → IsOk result }
+        ensures skipped { OnOk result (self.new.skipped ≡ min (self.old.skipped + 1) (2 ^ 64 - 1)) }
+        ensures line { self.new.line ≡ self.old.line }
+        ensures bad_lines { self.new.bad_lines ≡ self.old.bad_lines }
+    {
         match self.bad_lines {
             BadLines::Refused => Err(Fault::Line(bad)),
             BadLines::Skipped => {
@@ -53,7 +65,7 @@ impl Reading {
     }
 }
 
-// Takes this byte off the end of a line, if it stands there, and answers whether it did.
+// Removes this byte from the end of a line, if it is there. Returns whether it was.
 fn strip(line: &mut Vec<u8>, byte: u8) -> bool
     ensures rest { line.new.items ≡ strip_last byte line.old.items }
     ensures was { result ≡ ends_with_byte byte line.old.items }
@@ -69,25 +81,36 @@ fn strip(line: &mut Vec<u8>, byte: u8) -> bool
     true
 }
 
-// Takes the line feed at the end of a line off, and a carriage return before that.
-fn strip_end(line: &mut Vec<u8>)
-    ensures { line.new.items ≡ without_end line.old.items }
+// Removes the line feed at the end of a line, and a carriage return before that. Returns whether there was a line feed.
+fn strip_end(line: &mut Vec<u8>) -> bool
+    ensures rest { line.new.items ≡ without_end line.old.items }
+    ensures was { result ≡ ends_with_byte 10 line.old.items }
 {
     if !strip(line, b'\n') {
-        return;
+        return false;
     }
     let _was = strip(line, b'\r');
+    true
 }
 
-/// Reads the next line into `line`, without the line feed at its end and a carriage return before that, and answers whether there
-/// was one. What `line` had is gone.
-pub fn next_line<R: BufRead>(input: &mut R, line: &mut Vec<u8>) -> io::Result<bool>
-    ensures { IfOk result (λ there. IfSome (R.remaining input.old) (λ bytes. ReadsLine there bytes line.new.items (R.remaining input.new))) }
+/// Reads the next line as [`next_line`] does. Returns whether there was one, and whether a line feed ended it.
+pub fn next_ended_line<R: BufRead>(input: &mut R, line: &mut Vec<u8>) -> io::Result<(bool, bool)>
+    ensures line { IfOk result (λ met. IfSome (R.remaining input.old)
+        (λ bytes. ReadsLine met.0 bytes line.new.items (R.remaining input.new))) }
+    ensures ended { IfOk result (λ met. IfSome (R.remaining input.old) (λ bytes. met.1 ≡ ends_with_byte 10 (take_through 10 bytes))) }
 {
     line.clear();
     if input.read_until(b'\n', line)? == 0 {
-        return Ok(false);
+        return Ok((false, false));
     }
-    strip_end(line);
-    Ok(true)
+    Ok((true, strip_end(line)))
+}
+
+/// Reads the next line into `line`, in place of what `line` had, without the line feed at its end and a carriage return before that.
+/// Returns whether there was one.
+pub fn next_line<R: BufRead>(input: &mut R, line: &mut Vec<u8>) -> io::Result<bool>
+    ensures { IfOk result (λ there. IfSome (R.remaining input.old) (λ bytes. ReadsLine there bytes line.new.items (R.remaining input.new))) }
+{
+    let (there, _ended) = next_ended_line(input, line)?;
+    Ok(there)
 }

@@ -1,26 +1,56 @@
 //! Files of counts are added up.
-ghost use Rattle.std.specs.Prelude.{OnOk};
+ghost use Rattle.std.specs.Prelude.{◌≡◌, true, string_bytes, IfErr, IfOk, IfSome, OnErr, OnOk};
 ghost use Rattle.hashbag_words_core.specs.Counts.{AddsTimes};
-ghost use Rattle.hashbag_words_core.specs.Rows.{IfRow};
+ghost use Rattle.hashbag_words_core.specs.Merging.{AddsLine, AddsTree, IsNoRow, TakesFirst, TakesLine, TakesRows};
+ghost use Rattle.hashbag_words_core.specs.Rows.{IfRow, IsLineOf, IsRead};
+ghost use Rattle.hashbag_words_core.specs.Tokens.{without_mark};
 
 use crate::errors::{BadLine, Fault};
-use crate::lines::{Reading, next_line};
-use crate::rows::read_row;
+use crate::lines::{Reading, next_ended_line};
+use crate::rows::{RowForm, read_row, read_uniq_row};
 use hashbag::HashBag;
 use hashbag_ops::merge;
 use serde_json::Value;
-use std::alloc::Global;
+use std::alloc::{AllocError, Global};
+use std::hash::BuildHasher;
 use std::io::BufRead;
 use std::str;
 
-/// Adds the token of a line of counts as often as its count says, or answers what is wrong with the line.
-pub fn add_row(alloc: Global, bag: &mut HashBag<String>, line: &[u8]) -> Result<(), Fault>
-    ensures { IfRow line.now (λ token count. OnOk result (AddsTimes bag.old bag.new token count)) }
+// The token and the count of a line in that form, or what is wrong with it.
+fn read_in_form(
+    alloc: Global,
+    form: RowForm,
+    line: &str,
+) -> Result<Result<(String, usize), BadLine>, AllocError>
+    ensures row { form ≡ RowForm.Tsv → IfOk result (λ read. IfRow line.now (λ token count. IsRead token count read)) }
+    ensures line { form ≡ RowForm.Tsv → IfOk result (λ read. IfOk read (λ p. IsLineOf line.now (string_bytes p.0) p.1)) }
+{
+    match form {
+        RowForm::Tsv => read_row(alloc, line),
+        RowForm::Uniq => read_uniq_row(alloc, line),
+    }
+}
+
+/// Adds the token of a line of counts as often as its count says.
+///
+/// # Errors
+///
+/// `Fault::Line`: the line is bad; `Fault::Bag`: an allocation fails, or the total doesn't fit. Then nothing has been added.
+pub fn add_row<S: BuildHasher + Drop>(
+    alloc: Global,
+    bag: &mut HashBag<String, S>,
+    form: RowForm,
+    line: &[u8],
+) -> Result<(), Fault>
+    ensures row { form ≡ RowForm.Tsv → IfRow line.now (λ token count. OnOk result (AddsTimes bag.old bag.new token count)) }
+    ensures line { form ≡ RowForm.Tsv → OnOk result (AddsLine line.now bag.old bag.new) }
+    ensures bad { form ≡ RowForm.Tsv → IfErr result (λ e. (b : BadLine) → e ≡ Fault.Line b → IsNoRow line.now) }
+    ensures err { OnErr result (bag.new ≡ bag.old) }
 {
     let Ok(text) = str::from_utf8(line) else {
         return Err(Fault::Line(BadLine::NotText));
     };
-    match read_row(alloc, text)? {
+    match read_in_form(alloc, form, text)? {
         Ok((token, count)) => {
             bag.insert_many(token, count)?;
             Ok(())
@@ -29,36 +59,113 @@ pub fn add_row(alloc: Global, bag: &mut HashBag<String>, line: &[u8]) -> Result<
     }
 }
 
-/// Adds at most `most` lines of a file of counts, and answers whether there may be more.
-///
-/// A line is bad that isn't a token, a tab and a count. Where the reading ends by a fault, `reading` has the number of its line, and
-/// the lines before it have been added.
-pub fn add_rows<R: BufRead>(
+// Adds a line that has been read. One that is bad, or that no line feed ended, is passed over or rejected.
+fn add_read_row<S: BuildHasher + Drop>(
     alloc: Global,
-    bag: &mut HashBag<String>,
+    bag: &mut HashBag<String, S>,
+    form: RowForm,
+    line: &[u8],
+    is_ended: bool,
+    reading: &mut Reading,
+) -> Result<(), Fault>
+    ensures { form ≡ RowForm.Tsv → OnOk result (TakesLine (is_ended ≡ true) line.now bag.old bag.new) }
+{
+    if !is_ended {
+        return reading.pass_over(BadLine::CutOff);
+    }
+    match add_row(alloc, bag, form, line) {
+        Ok(()) => Ok(()),
+        Err(Fault::Line(bad)) => reading.pass_over(bad),
+        Err(fault) => Err(fault),
+    }
+}
+
+// A line without the byte order mark at its beginning.
+fn past_mark(line: &[u8]) -> &[u8]
+    ensures { result.now ≡ without_mark line.now }
+{
+    if line.starts_with(b"\xef\xbb\xbf") {
+        return &line[3..];
+    }
+    line
+}
+
+/// Adds the first line of a file of counts, as [`add_rows`] does. A byte order mark at its beginning is no part of it. Returns whether
+/// there was a line.
+pub fn add_first_row<R: BufRead, S: BuildHasher + Drop>(
+    alloc: Global,
+    bag: &mut HashBag<String, S>,
+    form: RowForm,
+    input: &mut R,
+    reading: &mut Reading,
+) -> Result<bool, Fault>
+    ensures { form ≡ RowForm.Tsv → IfOk result (λ there. IfSome (R.remaining input.old)
+        (λ bytes. TakesFirst there bytes bag.old bag.new (R.remaining input.new))) }
+{
+    let mut line = Vec::new(alloc);
+    let (there, is_ended) = next_ended_line(input, &mut line)?;
+    if !there {
+        return Ok(false);
+    }
+    reading.count_line();
+    add_read_row(alloc, bag, form, past_mark(&line), is_ended, reading)?;
+    Ok(true)
+}
+
+/// Adds at most `most` lines of a file of counts. Returns whether there may be more.
+///
+/// A line is bad that isn't a token and a count in that form, or that no line feed ends.
+///
+/// # Errors
+///
+/// `Fault::Line`, if bad lines are rejected; `Fault::Bag`: an allocation fails, or the total doesn't fit; `Fault::Read`. Then `reading`
+/// has the number of the line, and the lines before it have been added.
+pub fn add_rows<R: BufRead, S: BuildHasher + Drop>(
+    alloc: Global,
+    bag: &mut HashBag<String, S>,
+    form: RowForm,
     input: &mut R,
     reading: &mut Reading,
     most: u64,
-) -> Result<bool, Fault> {
+) -> Result<bool, Fault>
+    ensures { form ≡ RowForm.Tsv → IfOk result (λ more. IfSome (R.remaining input.old)
+        (λ bytes. TakesRows most bytes more bag.old bag.new (R.remaining input.new))) }
+{
     let mut line = Vec::new(alloc);
-    for _ in 0..most {
-        if !next_line(input, &mut line).map_err(Fault::Read)? {
+    'lines: for _read in 0..most {
+        let (there, is_ended) = next_ended_line(input, &mut line)?;
+        if !there {
             return Ok(false);
         }
         reading.count_line();
-        match add_row(alloc, bag, &line) {
-            Ok(()) => {}
-            Err(Fault::Line(bad)) => reading.pass_over(bad)?,
-            Err(fault) => return Err(fault),
-        }
+        add_read_row(alloc, bag, form, &line, is_ended, reading)?;
     }
     Ok(true)
 }
 
-/// Adds the bag whose tree is this JSON text, all of it or nothing.
-pub fn add_tree(alloc: Global, bag: &mut HashBag<String>, text: &str) -> Result<(), Fault> {
-    let tree = Value::from_str(alloc, text).map_err(Fault::Text)?;
-    let counts: HashBag<String> = HashBag::from_value(alloc, &tree).map_err(Fault::Tree)?;
+/// Adds the bag whose tree is this JSON text, all of it or nothing. It is read into a bag with the hash state `state`.
+///
+/// # Errors
+///
+/// `Fault::Text`: the text isn't JSON; `Fault::Tree`: it isn't the tree of a bag; `Fault::Bag`: an allocation fails, or the total
+/// doesn't fit. Then the bag is unchanged.
+pub fn add_tree<S: BuildHasher + Drop, S2: BuildHasher + Drop>(
+    alloc: Global,
+    state: S2,
+    bag: &mut HashBag<String, S>,
+    text: &str,
+) -> Result<(), Fault>
+    ensures tree { OnOk result (AddsTree text.now bag.old bag.new) }
+    ensures err { OnErr result (bag.new ≡ bag.old) }
+{
+    let tree = match Value::from_str(alloc, text) {
+        Ok(tree) => tree,
+        Err(error) => return Err(Fault::Text(error)),
+    };
+    let counts = match HashBag::from_value_with_hasher(alloc, state, usize::MAX, &tree) {
+        Ok(counts) => counts,
+        Err(error) => return Err(Fault::Tree(error)),
+    };
     merge(bag, counts)?;
     Ok(())
 }

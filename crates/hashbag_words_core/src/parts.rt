@@ -11,35 +11,47 @@ use crate::rule::Rule;
 use hashbag::HashBag;
 use hashbag_ops::merge;
 use std::alloc::Global;
+use std::hash::BuildHasher;
 
-/// The counts of an input that is at hand: each text is counted as often as it is one of the tokens of its lines.
+/// Returns the counts of an input, in a bag with that hash state: each text occurs as often as it is one of the tokens of the lines.
 ///
-/// Lines that aren't UTF-8 are passed over. It is refused memory, or a total that doesn't fit.
-pub fn counts_of(alloc: Global, rule: &Rule<'_>, input: &[u8]) -> Result<HashBag<String>, Fault>
+/// Lines that aren't UTF-8 are passed over.
+///
+/// # Errors
+///
+/// `Fault::Bag`: an allocation fails, or the total doesn't fit.
+pub fn counts_of<S: BuildHasher + Drop>(
+    alloc: Global,
+    state: S,
+    rule: &Rule<'_>,
+    input: &[u8],
+) -> Result<HashBag<String, S>, Fault>
     ensures { IfOk result (λ bag. HasCountsOf (tokens_of rule.now input.now) bag) }
 {
     let _len = input.len();
-    let mut bag: HashBag<String> = HashBag::new(alloc);
+    let mut bag = HashBag::with_hasher(alloc, state);
     let mut rest = input;
     let mut reading = Reading::new(BadLines::Skipped);
     let _more = count_lines(alloc, &mut bag, rule, &mut rest, &mut reading, u64::MAX)?;
     Ok(bag)
 }
 
-/// Counts an input in two parts, which are split at a line end, and merges them: those are the counts of the whole.
+/// Counts an input in two parts, which are split at a line end, and merges them: those are the counts of the whole. Each part may have
+/// a hash state of its own.
 ///
 /// So any number of parts may be counted side by side, and merged in any order and in any groups.
-pub fn counts_of_parts(
+pub fn counts_of_parts<S: BuildHasher + Drop, S2: BuildHasher + Drop>(
     alloc: Global,
+    states: (S, S2),
     rule: &Rule<'_>,
     first: &[u8],
     second: &[u8],
-) -> Result<HashBag<String>, Fault>
+) -> Result<HashBag<String, S>, Fault>
     requires { EndsLine first.now }
     ensures { IfOk result (λ bag. HasCountsOf (tokens_of rule.now (first.now ++ second.now)) bag) }
 {
-    let mut whole = counts_of(alloc, rule, first)?;
-    let part = counts_of(alloc, rule, second)?;
+    let mut whole = counts_of(alloc, states.0, rule, first)?;
+    let part = counts_of(alloc, states.1, rule, second)?;
     merge(&mut whole, part)?;
     Ok(whole)
 }

@@ -2,12 +2,21 @@
 //!
 //! A tab, a line feed, a carriage return and a backslash in a token are written `\t`, `\n`, `\r` and `\\`, so that each token is one
 //! line, and its line is read as that token again.
-ghost use Rattle.std.specs.Prelude.{◌≡◌, ◌∷◌, ◌++◌, ℕ, [], List, Some, false, option_map, IfOk, OnOk};
-ghost use Rattle.hashbag_words_core.specs.Rows.{byte_of, escaped, letter_of, resumed, row, shown_as, unescaped, IfRow, IsRead};
+ghost use Rattle.std.specs.Prelude.{◌≡◌, ◌∷◌, ◌++◌, ℕ, [], List, Some, false, option_map, string_bytes, IfOk, OnOk};
+ghost use Rattle.hashbag_words_core.specs.Rows.{byte_of, escaped, letter_of, resumed, row, shown_as, unescaped, IfRow, IsLineOf, IsRead};
 
 use crate::errors::BadLine;
 use std::alloc::{AllocError, Global};
 use std::io::{self, Write};
+
+/// How the lines of a file of counts are written.
+#[derive(Clone, Copy, Debug, PartialEq, Eq)]
+pub enum RowForm {
+    /// Token, tab, count.
+    Tsv,
+    /// As `uniq -c` does: spaces, count, a space, token.
+    Uniq,
+}
 
 // The letter that stands for this byte behind a backslash, if it is escaped.
 fn escape_of(byte: u8) -> Option<u8>
@@ -78,7 +87,11 @@ fn push_token(text: &mut Vec<u8>, token: &[u8]) -> Result<(), AllocError>
     Ok(())
 }
 
-/// Appends the line of a token and its count, with its end. It is refused memory alone.
+/// Appends the line of a token and its count, with its end.
+///
+/// # Errors
+///
+/// An allocation fails.
 pub fn push_row(text: &mut Vec<u8>, token: &str, count: usize) -> io::Result<()>
     ensures { OnOk result (text.new.items ≡ text.old.items ++ (row token.now count ++ 10 ∷ [])) }
 {
@@ -86,8 +99,8 @@ pub fn push_row(text: &mut Vec<u8>, token: &str, count: usize) -> io::Result<()>
     writeln!(text, "\t{count}")
 }
 
-// Reads one byte more of an escaped token, and answers whether it is a backslash that escapes the next one; nothing where the last
-// one was such a backslash, and this byte is no letter.
+// Reads the next byte of an escaped token. Returns whether it is a backslash that escapes the byte after it, or `None` if the byte before
+// it was such a backslash and this one is no letter.
 fn take_byte(token: &mut Vec<u8>, is_marked: bool, byte: u8) -> Result<Option<bool>, AllocError>
     ensures { IfOk result (λ marked. (rest : List ℕ)
         → resumed token.old.items (Some is_marked) (byte ∷ rest) ≡ resumed token.new.items marked rest) }
@@ -124,9 +137,14 @@ fn token_of(alloc: Global, written: &[u8]) -> Result<Option<Vec<u8>>, AllocError
     Ok(Some(token))
 }
 
-/// The token and the count of a line of counts, without its end, or what is wrong with it. It is refused memory alone.
+/// Returns the token and the count of a line of counts, without its end, or what is wrong with it.
+///
+/// # Errors
+///
+/// An allocation fails.
 pub fn read_row(alloc: Global, line: &str) -> Result<Result<(String, usize), BadLine>, AllocError>
-    ensures { IfOk result (λ read. IfRow line.now (λ token count. IsRead token count read)) }
+    ensures row { IfOk result (λ read. IfRow line.now (λ token count. IsRead token count read)) }
+    ensures line { IfOk result (λ read. IfOk read (λ p. IsLineOf line.now (string_bytes p.0) p.1)) }
 {
     let Some((written, digits)) = line.split_once('\t') else {
         return Ok(Err(BadLine::NoTab));
@@ -141,4 +159,24 @@ pub fn read_row(alloc: Global, line: &str) -> Result<Result<(String, usize), Bad
         return Ok(Err(BadLine::BadEscape));
     };
     Ok(Ok((token, count)))
+}
+
+/// Returns the count and the token of a line that `uniq -c` wrote, without its end, or what is wrong with it.
+///
+/// The token is all that follows the space behind the count.
+///
+/// # Errors
+///
+/// An allocation fails.
+pub fn read_uniq_row(
+    alloc: Global,
+    line: &str,
+) -> Result<Result<(String, usize), BadLine>, AllocError> {
+    let Some((digits, token)) = line.trim_start_matches(' ').split_once(' ') else {
+        return Ok(Err(BadLine::NoCount));
+    };
+    let Ok(count) = digits.parse::<usize>() else {
+        return Ok(Err(BadLine::NoCount));
+    };
+    Ok(Ok((token.to_string(alloc)?, count)))
 }

@@ -1,14 +1,18 @@
 //! What no clause says: which words of Unicode, folds and matches there are, what is wrong with a bad line, and how counts are written.
-//! What is wanted was found by hand, and by `tr`, `sort` and `uniq -c` where these find it.
-use hashbag::HashBag;
+//! What is wanted was found by hand, and by `tr`, `sort` and `uniq -c` where these find it. Each row is tried under two hash states.
+use hashbag::{FixedState, HashBag};
 use hashbag_words_core::choice::{Order, chosen};
+use hashbag_words_core::counting::count_lines;
+use hashbag_words_core::errors::Fault;
 use hashbag_words_core::lines::{BadLines, Reading};
-use hashbag_words_core::merging::{add_rows, add_tree};
+use hashbag_words_core::merging::{add_first_row, add_rows, add_tree};
 use hashbag_words_core::parts::counts_of;
+use hashbag_words_core::rows::RowForm;
 use hashbag_words_core::rule::{Pieces, Rule};
 use hashbag_words_core::writing::{Format, write_rows};
 use regex::Regex;
 use std::alloc::Global;
+use std::hash::{BuildHasher, RandomState};
 use std::test::Fail;
 
 // What is counted, the input, and the counts as TSV.
@@ -38,24 +42,54 @@ const COUNTS: [(&str, &str, &str); 9] = [
 
 // A file of counts, whether bad lines are skipped, and what adding it up gives: the counts, or the number of the line and what is
 // wrong with it.
-const MERGES: [(&[u8], bool, &str); 14] = [
-    (b"a\t2\nb\t1\r\na\t3", false, "a\t5\nb\t1\n"),
+const MERGES: [(&[u8], bool, &str); 20] = [
+    (b"a\t2\nb\t1\r\na\t3\n", false, "a\t5\nb\t1\n"),
     (b"\\t\\n\\r\\\\\t007\n", false, "\\t\\n\\r\\\\\t7\n"),
     (b"a\t0\n\t2\n", false, "\t2\n"),
     (b"a\t+2\na\t1\n", false, "a\t3\n"),
+    (b"\xef\xbb\xbfa\t1\na\t1\n", false, "a\t2\n"),
+    (b"a\t1\n\xef\xbb\xbfa\t1\n", false, "a\t1\n\u{feff}a\t1\n"),
     (b"a\t1\n\nb\t1\n", false, "2: no tab"),
     (b"a\t1\nb 1\n", false, "2: no tab"),
     (b"a\tb\t1\n", false, "1: no count"),
     (b"a\t\n", false, "1: no count"),
     (b"a\t-1\n", false, "1: no count"),
+    (b"a\t 1\n", false, "1: no count"),
+    (b"a\t1 \n", false, "1: no count"),
     (b"a\t18446744073709551616\n", false, "1: no count"),
     (b"a\t1\na\\q\t1\n", false, "2: bad escape"),
     (b"a\t1\na\\\t1\n", false, "2: bad escape"),
     (b"a\t1\n\xff\t1\n", false, "2: not UTF-8"),
     (b"a\t1\n\xff\t1\nb\nc\t4\n", true, "a\t1\nc\t4\n"),
+    (b"a\t1\nb\t1", false, "2: no line feed"),
+    (b"a\t1\nb\t1", true, "a\t1\n"),
 ];
 
-fn written(alloc: Global, bag: &HashBag<String>, format: Format) -> Result<String, Fail> {
+// The same of what `uniq -c` writes.
+const UNIQ_MERGES: [(&[u8], bool, &str); 8] = [
+    (
+        b"      2 a\n1234567 b  c \n",
+        false,
+        "a\t2\nb  c \t1234567\n",
+    ),
+    (
+        b"12345678 a\tb\n      1 \n",
+        false,
+        "\t1\na\\tb\t12345678\n",
+    ),
+    (b"\xef\xbb\xbf      1 a\\t\r\n", false, "a\\\\t\t1\n"),
+    (b"      1 a\n      a\n", false, "2: no count"),
+    (b"      1\n", false, "1: no count"),
+    (b"\n", false, "1: no count"),
+    (b"      1 a\n      1 b", false, "2: no line feed"),
+    (b"      1 a\na\t1\n      2 a\n", true, "a\t3\n"),
+];
+
+fn written<S: BuildHasher + Drop>(
+    alloc: Global,
+    bag: &HashBag<String, S>,
+    format: Format,
+) -> Result<String, Fail> {
     let rows = chosen(alloc, bag, Order::Rising)?;
     let mut out = Vec::new(alloc);
     write_rows(alloc, &mut out, format, &rows)?;
@@ -69,7 +103,12 @@ fn is_text(found: &String, wanted: &str) -> Result<(), Fail> {
     Err(Fail::new(format_args!("{found:?}, not {wanted:?}")))
 }
 
-fn counted(alloc: Global, by: &str, input: &str) -> Result<String, Fail> {
+fn counted<S: BuildHasher + Drop>(
+    alloc: Global,
+    state: S,
+    by: &str,
+    input: &str,
+) -> Result<String, Fail> {
     let pattern = Regex::new(alloc, by)?;
     let pieces = match by {
         "words" | "fold" => Pieces::Words,
@@ -78,28 +117,54 @@ fn counted(alloc: Global, by: &str, input: &str) -> Result<String, Fail> {
         _ => Pieces::Matches(&pattern),
     };
     let fold = by == "fold";
-    let bag = counts_of(alloc, &Rule { pieces, fold }, input.as_bytes())?;
+    let bag = counts_of(alloc, state, &Rule { pieces, fold }, input.as_bytes())?;
     written(alloc, &bag, Format::Tsv)
 }
 
 #[test]
 fn counts_of_text(rt: HostRuntime) -> Result<(), Fail> {
+    let alloc = rt.alloc();
     for (by, input, wanted) in COUNTS {
-        is_text(&counted(rt.alloc(), by, input)?, wanted)?;
+        is_text(&counted(alloc, FixedState::new(), by, input)?, wanted)?;
+        is_text(&counted(alloc, RandomState::new(&rt)?, by, input)?, wanted)?;
     }
     Ok(())
 }
 
-fn merged(alloc: Global, file: &[u8], is_skipped: bool) -> Result<String, Fail> {
-    let mut bag: HashBag<String> = HashBag::new(alloc);
+// Adds a file in portions of two lines after its first line.
+fn add_file<S: BuildHasher + Drop>(
+    alloc: Global,
+    bag: &mut HashBag<String, S>,
+    form: RowForm,
+    file: &[u8],
+    reading: &mut Reading,
+) -> Result<(), Fault> {
     let mut rest = file;
+    let mut more = add_first_row(alloc, bag, form, &mut rest, reading)?;
+    for _ in 0..u64::MAX {
+        if !more {
+            break;
+        }
+        more = add_rows(alloc, bag, form, &mut rest, reading, 2)?;
+    }
+    Ok(())
+}
+
+fn merged<S: BuildHasher + Drop>(
+    alloc: Global,
+    state: S,
+    form: RowForm,
+    file: &[u8],
+    is_skipped: bool,
+) -> Result<String, Fail> {
+    let mut bag = HashBag::with_hasher(alloc, state);
     let mut reading = Reading::new(if is_skipped {
         BadLines::Skipped
     } else {
         BadLines::Refused
     });
-    match add_rows(alloc, &mut bag, &mut rest, &mut reading, 1000) {
-        Ok(_) => written(alloc, &bag, Format::Tsv),
+    match add_file(alloc, &mut bag, form, file, &mut reading) {
+        Ok(()) => written(alloc, &bag, Format::Tsv),
         Err(fault) => {
             let line = reading.line;
             Ok(format!(in alloc; "{line}: {fault}")?)
@@ -107,19 +172,50 @@ fn merged(alloc: Global, file: &[u8], is_skipped: bool) -> Result<String, Fail> 
     }
 }
 
-#[test]
-fn counts_added_up(rt: HostRuntime) -> Result<(), Fail> {
-    for (file, is_skipped, wanted) in MERGES {
-        is_text(&merged(rt.alloc(), file, is_skipped)?, wanted)?;
+fn merges(rt: &HostRuntime, form: RowForm, rows: &[(&[u8], bool, &str)]) -> Result<(), Fail> {
+    let alloc = rt.alloc();
+    for (file, is_skipped, wanted) in rows {
+        let fixed = merged(alloc, FixedState::new(), form, file, *is_skipped)?;
+        is_text(&fixed, wanted)?;
+        let random = merged(alloc, RandomState::new(rt)?, form, file, *is_skipped)?;
+        is_text(&random, wanted)?;
     }
     Ok(())
 }
 
 #[test]
+fn counts_added_up(rt: HostRuntime) -> Result<(), Fail> {
+    merges(&rt, RowForm::Tsv, &MERGES)?;
+    merges(&rt, RowForm::Uniq, &UNIQ_MERGES)
+}
+
+// Seven lines in portions of two: where each portion ends, and what is said of a bad line behind the first portions.
+#[test]
+fn portions(rt: HostRuntime) -> Result<(), Fail> {
+    let alloc = rt.alloc();
+    let rule = Rule {
+        pieces: Pieces::Words,
+        fold: false,
+    };
+    let mut bag = HashBag::with_hasher(alloc, RandomState::new(&rt)?);
+    let mut reading = Reading::new(BadLines::Refused);
+    let mut rest: &[u8] = b"a\nb\na\nb\nc\na\nd \xff\n";
+    for line in [2, 4, 6] {
+        assert!(rt; count_lines(alloc, &mut bag, &rule, &mut rest, &mut reading, 2)?);
+        assert_eq!(rt; reading.line, line);
+    }
+    is_text(&written(alloc, &bag, Format::Tsv)?, "a\t3\nb\t2\nc\t1\n")?;
+    assert!(rt; count_lines(alloc, &mut bag, &rule, &mut rest, &mut reading, 2).is_err());
+    assert_eq!(rt; reading.line, 7);
+    is_text(&written(alloc, &bag, Format::Tsv)?, "a\t3\nb\t2\nc\t1\n")
+}
+
+#[test]
 fn forms(rt: HostRuntime) -> Result<(), Fail> {
     let alloc = rt.alloc();
-    let mut bag: HashBag<String> = HashBag::new(alloc);
-    add_tree(alloc, &mut bag, "[[\"the\",3],[\"a\\\"\\t\",1]]")?;
+    let mut bag = HashBag::with_hasher(alloc, RandomState::new(&rt)?);
+    let state = FixedState::new();
+    add_tree(alloc, state, &mut bag, "[[\"the\",3],[\"a\\\"\\t\",1]]")?;
     is_text(&written(alloc, &bag, Format::Tsv)?, "a\"\\t\t1\nthe\t3\n")?;
     is_text(
         &written(alloc, &bag, Format::Uniq)?,
@@ -128,5 +224,12 @@ fn forms(rt: HostRuntime) -> Result<(), Fail> {
     is_text(
         &written(alloc, &bag, Format::Json)?,
         "[[\"a\\\"\\t\",1],[\"the\",3]]\n",
+    )?;
+    let state = RandomState::new(&rt)?;
+    add_tree(alloc, state, &mut bag, "[[\"b\",2],[\"the\",1]]")?;
+    assert!(rt; add_tree(alloc, state, &mut bag, "[[\"c\",2],[\"the\"]]").is_err());
+    is_text(
+        &written(alloc, &bag, Format::Tsv)?,
+        "a\"\\t\t1\nb\t2\nthe\t4\n",
     )
 }

@@ -17,10 +17,10 @@ both P Q (Ok x) p q = (p, q)
 both P Q (Err e) p q = tt
 
 pub returns-in-Rising : goal.returns-in-Rising
-returns-in-Rising c = by_order c.sorted.result c.args.bag.now c.args.order Rising c.in-Rising.is (both _ _ c.sorted.result c.sorted.ensures.walk c.sorted.ensures.rising)
+returns-in-Rising g c = by_order c.sorted.result c.args.bag.now c.args.order Rising c.in-Rising.is (both _ _ c.sorted.result c.sorted.ensures.walk c.sorted.ensures.rising)
 
 pub returns-in-Open : goal.returns-in-Open
-returns-in-Open c = by_order c.listed.result c.args.bag.now c.args.order Open c.in-Open.is c.listed.ensures
+returns-in-Open g c = by_order c.listed.result c.args.bag.now c.args.order Open c.in-Open.is c.listed.ensures
 
 pub returns-in-Commonest : goal.returns-in-Commonest
-returns-in-Commonest c = by_order c.most_common.result c.args.bag.now c.args.order (Commonest c.in-Commonest.k) c.in-Commonest.is c.most_common.ensures.first
+returns-in-Commonest g c = by_order c.most_common.result c.args.bag.now c.args.order (Commonest c.in-Commonest.k) c.in-Commonest.is c.most_common.ensures.first

@@ -10,7 +10,7 @@ no_more false n = omega arith
 
 -- the closure answers by the count
 pub returns : goal.returns
-returns c =
+returns g c =
     let least = c.args.least in
     let done = c.retain.ensures.retained in
     let answers = answers_by_count _ (λ p. p.0.now ≡ least) (λ x n. cond (nat_lt n least) 0 n) (λ p q x n a same t. search rules) _ done.walk done.answers done.last refl done.asked in

@@ -15,13 +15,13 @@ by_rule r old new rule pieces line past is marked h =
     (subst (λ (l : List ℕ). OnOk r (Adds old new (map (token_of rule.fold) (pieces_of pieces l)))) marked h)
 
 pub returns-in-Words : goal.returns-in-Words
-returns-in-Words c =
+returns-in-Words g c =
     by_rule c.add_words.result c.args.bag.now c.add_words.new.bag c.args.rule.now Words c.args.line.now c.past_mark-line.result.now c.in-Words.is c.past_mark-line.ensures c.add_words.ensures
 
 pub returns-in-UnicodeWords : goal.returns-in-UnicodeWords
-returns-in-UnicodeWords c =
+returns-in-UnicodeWords g c =
     by_rule c.add_unicode_words.result c.args.bag.now c.add_unicode_words.new.bag c.args.rule.now UnicodeWords c.args.line.now c.past_mark-line.result.now c.in-UnicodeWords.is c.past_mark-line.ensures c.add_unicode_words.ensures
 
 pub returns-in-Matches : goal.returns-in-Matches
-returns-in-Matches c =
+returns-in-Matches g c =
     by_rule c.add_matches.result c.args.bag.now c.add_matches.new.bag c.args.rule.now (Matches c.in-Matches.pattern) c.args.line.now c.past_mark-line.result.now c.in-Matches.is c.past_mark-line.ensures c.add_matches.ensures

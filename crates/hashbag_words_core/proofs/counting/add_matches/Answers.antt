@@ -11,10 +11,10 @@ use Rattle.hashbag.proofs.CallerLemmas.{items_that_came}
 use Rattle.hashbag_words_core.proofs.counting.add_matches.Goals as goal
 
 pub loop-found-init : goal.loop-found-init
-loop-found-init c = Adds-nil c.args.bag.now
+loop-found-init g c = Adds-nil c.args.bag.now
 
 pub loop-found-preserved : goal.loop-found-preserved
-loop-found-preserved c =
+loop-found-preserved g c =
     let tokens = λ (l : List (List ℕ)). map (token_of c.args.fold) (nonempty l) in
     let seen = map match_bytes c.loop-found.yielded in
     let piece = match_bytes c.in-Some.found in
@@ -26,7 +26,7 @@ loop-found-preserved c =
     (Adds-append c.args.bag.now c.loop-found.bag c.add_match.new.bag (tokens seen) (tokens (piece ∷ [])) c.loop-found.invariant one)
 
 pub returns : goal.returns
-returns c =
+returns g c =
     let line = c.args.line.now in
     let it = c.find_iter-found-items.result in
     let places = map span (find_all_str (regex_pattern c.args.pattern.now) line) in

@@ -6,4 +6,4 @@ use Rattle.hashbag_words_core.proofs.counting.add_matches.Given as goal
 
 -- the matches so far are counted
 abbrev pub invariant-loop-found : goal.invariant-loop-found
-invariant-loop-found l = Adds l.fn.bag l.bag (map (token_of l.fn.fold) (nonempty (map match_bytes l.yielded)))
+invariant-loop-found g l = Adds l.fn.bag l.bag (map (token_of l.fn.fold) (nonempty (map match_bytes l.yielded)))

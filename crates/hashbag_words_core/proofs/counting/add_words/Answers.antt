@@ -9,7 +9,7 @@ use Rattle.hashbag_words_core.proofs.WordLemmas.{YieldsList-from_split_whitespac
 use Rattle.hashbag_words_core.proofs.counting.add_words.Goals as goal
 
 pub returns : goal.returns
-returns c = on_ok_weaker c.add_pieces.result (λ h.
+returns g c = on_ok_weaker c.add_pieces.result (λ h.
     let token = token_of c.args.fold in
     let came : map (λ (x : Bor (List ℕ)). x.now) h.0 ≡ spaced_words c.args.line.now = items_that_came h.0 h.1 (YieldsList-from_split_whitespace c.args.line.now c.utf8.line c.split_whitespace.ensures.rest) in
     subst (λ (l : List (List ℕ)). Adds c.args.bag.now c.add_pieces.new.bag l) (map-map token (λ (x : Bor (List ℕ)). x.now) h.0 ∙ ap (λ (l : List (List ℕ)). map token l) came) h.2)

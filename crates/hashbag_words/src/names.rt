@@ -1,0 +1,70 @@
+//! The names of the inputs.
+use crate::failure::Failure;
+use crate::settings::{Job, Settings};
+use hashbag_shell::one_file::is_one_file;
+use std::alloc::{AllocError, Global};
+use std::{fs, io};
+
+/// What the file that `--files-from` names has.
+pub fn read_list<'a>(rt: &HostRuntime, name: &'a str) -> Result<String, Failure<'a>> {
+    let (name, read) = match name {
+        "-" => ("standard input", io::read_to_string(rt.alloc(), rt.stdin())),
+        _ => (name, fs::read_to_string(rt, name)),
+    };
+    read.map_err(|error| Failure::of_file(name, error))
+}
+
+// The names in a list, one a line. Empty lines are passed over.
+fn listed(alloc: Global, list: &str) -> Result<Vec<&str>, AllocError> {
+    let mut names = Vec::new(alloc);
+    for line in list.lines() {
+        if !line.is_empty() {
+            names.push(line)?;
+        }
+    }
+    Ok(names)
+}
+
+/// The names of all inputs of a job, those of a list if there is one.
+pub fn inputs_of<'a>(
+    alloc: Global,
+    settings: &Settings<'a, '_>,
+    list: Option<&'a String>,
+) -> Result<Vec<&'a str>, AllocError> {
+    if let Some(list) = list {
+        return listed(alloc, list.as_str());
+    }
+    let mut names = Vec::new(alloc);
+    match (settings.job, settings.files) {
+        (Job::Less | Job::Common, _) => {
+            names.push(settings.pair.0)?;
+            names.push(settings.pair.1)?;
+        }
+        (_, Some(files)) => names.extend_from_slice(files)?,
+        (_, None) => names.push("-")?,
+    }
+    Ok(names)
+}
+
+/// Rejects standard input that is to be read twice, and an output that is one of the inputs.
+pub fn check<'a>(
+    rt: &HostRuntime,
+    settings: &Settings<'a, '_>,
+    names: &[&'a str],
+) -> Result<(), Failure<'a>> {
+    let mut reads = u64::from(settings.files_from == Some("-"));
+    for name in names {
+        if *name == "-" {
+            reads = reads.saturating_add(1);
+        }
+        if let Some(output) = settings.output
+            && is_one_file(rt, name, output)
+        {
+            return Err(Failure::OutputIsInput { name: output });
+        }
+    }
+    if reads > 1 {
+        return Err(Failure::ReadTwice);
+    }
+    Ok(())
+}
