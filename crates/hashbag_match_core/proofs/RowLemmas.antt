@@ -1,18 +1,17 @@
 -- The rows that a walk over names gives, sorted by their articles.
-use Rattle.std.proofs.Common.{◌≡◌, ℕ, zero, suc, ◌+◌, ◌-◌, ◌<◌, ◌≤◌, ◌==◌, ◌↔◌, Bool, true, false, IsTrue, List, [], ◌∷◌, ◌++◌, cond, get_or, length, map, take, sum_by, All, Ordering, is_eq, is_lt, refl, sym, ◌∙◌, ap, subst, arith}
-use borrow.Author.Tests.{eqb-true, eq-eqb}
+use Rattle.std.proofs.Common.{◌≡◌, ℕ, ◌+◌, ◌<◌, ◌≤◌, ◌↔◌, Bool, IsTrue, List, [], ◌∷◌, ◌++◌, cond, get_or, length, map, take, sum_by, Ordering, is_eq, is_lt, refl, sym, ◌∙◌, ap, subst, arith}
 use Rattle.std.specs.Borrow.{Bor}
 use Rattle.std.specs.Cmp.{IsEquivalence, IsTotalOrder, IsStrictWeakOrder}
 use Rattle.std.specs.Ordering.{ordering_then}
-use Rattle.std.specs.List.{Contains, IsDistinct, AllByRecursion}
+use Rattle.std.specs.List.{Contains}
 use Rattle.std.specs.List.Sorted.{IsPermutation, IsSorted}
 use Rattle.std.proofs.lemmas.List.{append-nil, get_or-map, length-map, map-id}
 use Rattle.std.specs.Map.{keys_of}
 use Rattle.hashbag.proofs.CallerLemmas.{count_take_next}
-use Rattle.std.proofs.lemmas.List.Elements.{All-contains, All-head, All-tail, All-weaker, Contains-append_left, Contains-append_right}
+use Rattle.std.proofs.lemmas.List.Elements.{All-contains}
 use Rattle.std.proofs.lemmas.List.Sorted.{Contains-permutation, IsPermutation-map, IsPermutation-sym, sum_by-IsPermutation}
 use Rattle.std.proofs.lemmas.List.Sums.{sum_by-cons}
-use Rattle.std.proofs.lemmas.Map.Keys.{IsDistinct-IsPermutation, IsDistinct-cons, IsDistinct-head, IsDistinct-tail}
+use Rattle.std.proofs.lemmas.Map.Keys.{IsDistinct-IsPermutation}
 use Rattle.hashbag.specs.Bag.{Bag}
 use Rattle.hashbag.specs.Equality.{bag_eq}
 use Rattle.hashbag.specs.EqualityLaws.{same_counts-Decides}
@@ -129,10 +128,11 @@ equal_exactly laws a b ordered delivered has_ordered has_delivered =
     )
 
 -- one entry more of a list that a loop goes over, and one name more in its bag
-pub one_name_more : {T : Type 0} {eq : T → T → Bool} (laws : IsEquivalence eq) (v : T) (L : List (T × ℕ)) (k : ℕ) (d : T × ℕ) (first before after : ℕ) → k < length L
-    → before ≡ first + count eq v (take k (keys_of L)) → after ≡ before + cond (eq v (get_or L k d).0) 1 0 → after ≡ first + count eq v (take (k + 1) (keys_of L))
-one_name_more {eq = eq} laws v L k d first before after below so_far more =
-    let next = count_take_next laws v (keys_of L) k d.0 (let same = length-map L (λ (e : _ × ℕ). e.0) in omega (arith, same, below)) in
-    let is = get_or-map (λ (e : _ × ℕ). e.0) L k d d.0 below in
-    let one : cond (eq v (get_or (keys_of L) k d.0)) 1 0 ≡ cond (eq v (get_or L k d).0) 1 0 = ap (λ x. cond (eq v x) 1 0) is in
+pub one_name_more : {T : Type 0} {eq : T → T → Bool} (laws : IsEquivalence eq) (v : T) (L : List (T × ℕ)) (k : ℕ) (x : T × ℕ) (first before after : ℕ) → k < length L → x ≡ get_or L k x
+    → before ≡ first + count eq v (take k (keys_of L)) → after ≡ before + cond (eq v x.0) 1 0 → after ≡ first + count eq v (take (k + 1) (keys_of L))
+one_name_more {T = T} {eq = eq} laws v L k x first before after below is so_far more =
+    let same = length-map L (λ (e : T × ℕ). e.0) in
+    let next = count_take_next laws v (keys_of L) k x.0 (omega (arith, same, below)) in
+    let named : get_or (keys_of L) k x.0 ≡ x.0 = get_or-map (λ (e : T × ℕ). e.0) L k x x.0 below ∙ ap (λ (e : T × ℕ). e.0) (sym is) in
+    let one : ◌≡◌ {A = ℕ} (cond (eq v (get_or (keys_of L) k x.0)) 1 0) (cond (eq v x.0) 1 0) = ap (λ (y : T). cond {A = ℕ} (eq v y) 1 0) named in
     omega (arith, next, one, so_far, more)

@@ -1,12 +1,14 @@
 //! Articles by the fields of their key columns.
+ghost use Rattle.std.specs.Prelude.{◌≡◌, map, IfOk};
+
 use std::alloc::{AllocError, Global};
 
-/// Names of columns, separated by commas.
+/// Splits names of columns at commas.
 pub fn names_in(alloc: Global, text: &str) -> Result<Vec<&str>, AllocError> {
     text.split(',').collect(alloc)
 }
 
-/// The first name that is there twice.
+/// Returns the first name that occurs twice.
 pub fn repeated<'n>(names: &[&'n str]) -> Option<&'n str> {
     for (index, name) in names.iter().enumerate() {
         let before = names.get(..index).unwrap_or(&[]);
@@ -17,10 +19,12 @@ pub fn repeated<'n>(names: &[&'n str]) -> Option<&'n str> {
     None
 }
 
-/// The same list with its articles lent.
+/// Returns the same list with its articles borrowed.
 pub fn lent(
     alloc: Global,
     list: &Vec<(Vec<String>, usize)>,
-) -> Result<Vec<(&Vec<String>, usize)>, AllocError> {
+) -> Result<Vec<(&Vec<String>, usize)>, AllocError>
+    ensures { IfOk result (λ borrowed. map (λ e. (e.0.now, e.1)) borrowed.items ≡ list.now.items) }
+{
     list.iter().map(|entry| (&entry.0, entry.1)).collect(alloc)
 }

@@ -22,21 +22,21 @@ pub struct Row<T> {
 }
 
 impl<T> Row<T> {
-    /// How many were ordered that weren't delivered.
+    /// Returns how many were ordered and not delivered.
     pub fn missing(&self) -> usize
         ensures { result ≡ missing_of self.now }
     {
         self.ordered.saturating_sub(self.delivered)
     }
 
-    /// How many were delivered that weren't ordered.
+    /// Returns how many were delivered and not ordered.
     pub fn surplus(&self) -> usize
         ensures { result ≡ surplus_of self.now }
     {
         self.delivered.saturating_sub(self.ordered)
     }
 
-    /// Whether as many were delivered as ordered.
+    /// Returns whether as many were delivered as ordered.
     pub fn agrees(&self) -> bool
         ensures { result ≡ agrees self.now }
     {
@@ -56,8 +56,8 @@ pub struct Matched<T> {
 }
 
 impl<T> Matched<T> {
-    /// The exit status of a program that compares, as that of `diff`: 0 where as many of each article were delivered as ordered, and
-    /// 1 where some article differs.
+    /// Returns the exit status of a program that compares, as `diff` does: 0 if as many of each article were delivered as ordered, and
+    /// 1 if some article differs.
     pub fn status(&self) -> u8
         ensures { result ≡ (if self.now.agree then 0 else 1) }
     {
@@ -92,7 +92,8 @@ fn add_names<T: Eq + Hash + Copy + Drop, S: BuildHasher + Drop>(
     Ok(())
 }
 
-/// The bag of the articles that two lists name, each as often as they name it, under this hash state.
+/// Returns the bag of the articles that two lists name, each as often as they name it, under this hash state. A number of 0 counts as
+/// a name too.
 pub fn names_of<T: Eq + Hash + Copy + Drop, S: BuildHasher + Drop>(
     alloc: Global,
     state: S,
@@ -107,12 +108,12 @@ pub fn names_of<T: Eq + Hash + Copy + Drop, S: BuildHasher + Drop>(
     Ok(bag)
 }
 
-/// The rows of two bags: each article that is named in one row, beside its quantity in both bags, articles rising. So the sums of the
-/// rows are at most the totals of the bags.
+/// Returns the rows of two bags: each article that is named in one row, with its quantity in both bags, articles rising. The sums of
+/// the rows are at most the totals of the bags.
 ///
 /// # Complexity
 ///
-/// It allocates the rows. Each article is looked up once in both bags; then the rows are sorted.
+/// Allocates the rows. Looks each article up once in both bags, and sorts the rows.
 pub fn rows_of<T: Ord + Hash + Copy + Drop, S: BuildHasher + Drop>(
     alloc: Global,
     named: &HashBag<T, S>,
@@ -137,15 +138,15 @@ pub fn rows_of<T: Ord + Hash + Copy + Drop, S: BuildHasher + Drop>(
 }
 
 /// Matches what was ordered with what was delivered. An article may be in a list more than once; its numbers add up. The bags hash by
-/// this state, on which the rows don't depend.
+/// this state, and the rows don't depend on it.
 ///
 /// # Errors
 ///
-/// `TooMany` if the numbers of a list are more than `usize::MAX` together, and else only `Memory`.
+/// `TooMany` if the numbers of a list are more than `usize::MAX` together. Else only `Memory`, if an allocation fails.
 ///
 /// # Complexity
 ///
-/// It allocates three bags and the rows. Each entry is hashed twice, and each article is looked up once in both bags of quantities.
+/// Allocates three bags and the rows. Inserts each entry into two bags, and looks each article up once in both bags of quantities.
 pub fn match_lists<T: Ord + Hash + Copy + Drop, S: BuildHasher + Copy + Drop>(
     alloc: Global,
     state: S,

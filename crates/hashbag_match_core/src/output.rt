@@ -25,7 +25,7 @@ pub enum Only {
 }
 
 impl Only {
-    /// Whether the row is written.
+    /// Returns whether the row is written.
     pub fn shows<T>(self, row: &Row<T>) -> bool
         ensures missing { self ≡ Only.Missing → IsTrue result ↔ (0 < missing_of row.now) }
         ensures surplus { self ≡ Only.Surplus → IsTrue result ↔ (0 < surplus_of row.now) }
@@ -68,7 +68,7 @@ pub struct Layout<'a> {
 // The names of the columns of numbers.
 static NUMBERS: [&str; 4] = ["ordered", "delivered", "missing", "surplus"];
 
-/// Whether a name is that of a column of numbers, which no key column may have.
+/// Returns whether a name is that of a column of numbers, which no key column may have.
 pub fn is_reserved(name: &str) -> bool {
     NUMBERS.iter().any(|number| *number == name)
 }
@@ -78,7 +78,7 @@ fn numbers_in<T>(row: &Row<T>) -> [usize; 4] {
     [row.ordered, row.delivered, row.missing(), row.surplus()]
 }
 
-/// The numbers of a row in the order of their columns, as they are written.
+/// Returns the numbers of a row in the order of their columns, as they are written.
 pub fn numbers_of<T>(alloc: Global, row: &Row<T>, scale: Scale) -> Result<Vec<String>, AllocError> {
     let mut texts = Vec::new(alloc);
     for number in &numbers_in(row) {
@@ -117,9 +117,10 @@ fn csv_of(
 
 // A row as an object with a member for each column.
 #[derive(Drop)]
-struct Object<'r, 'a> {
-    keys: &'r [&'r str],
-    row: &'r Row<&'a Vec<String>>,
+struct Object<'k, 'a> {
+    keys: &'k [&'k str],
+    article: &'a Vec<String>,
+    numbers: [usize; 4],
     // The numbers as texts, if they have decimals.
     texts: Option<Vec<String>>,
 }
@@ -129,7 +130,7 @@ impl Described for Object<'_, '_> {}
 impl Serialize for Object<'_, '_> {
     fn serialize<S: Serializer>(&self, out: &mut S) -> Result<(), S::Error> {
         out.begin_map(None)?;
-        for (name, field) in self.keys.iter().zip(self.row.article.iter()) {
+        for (name, field) in self.keys.iter().zip(self.article.iter()) {
             out.key(*name)?;
             field.serialize(out)?;
         }
@@ -141,8 +142,7 @@ impl Serialize for Object<'_, '_> {
                 }
             }
             None => {
-                let numbers = numbers_in(self.row);
-                for (name, number) in NUMBERS.iter().zip(numbers.iter()) {
+                for (name, number) in NUMBERS.iter().zip(self.numbers.iter()) {
                     out.key(*name)?;
                     number.serialize(out)?;
                 }
@@ -168,7 +168,8 @@ fn json_of(
             };
             objects.push(Object {
                 keys: layout.keys,
-                row,
+                article: row.article,
+                numbers: numbers_in(row),
                 texts,
             })?;
         }
@@ -178,7 +179,7 @@ fn json_of(
     Ok(text)
 }
 
-/// The text of what was matched.
+/// Returns the text of matched lists.
 pub fn text_of(
     alloc: Global,
     matched: &Matched<&Vec<String>>,

@@ -109,7 +109,7 @@ fn push_totals(
     }
 }
 
-/// The rows in columns, the articles' at the left, and the sums of all rows below them.
+/// Returns the rows in columns, articles at the left, and the sums of all rows below them.
 pub fn table_of(
     alloc: Global,
     matched: &Matched<&Vec<String>>,

@@ -1,6 +1,5 @@
 use Rattle.std.proofs.Common.{◌≡◌, ◌++◌, map}
 use Rattle.hashbag.specs.Occurrences.{count}
-use Rattle.hashbag_match_core.specs.declared.matching.Row.{Row}
 use Rattle.hashbag_match_core.proofs.RowLemmas.{shown}
 use Rattle.hashbag_match_core.proofs.matching.rows_of.Given as goal
 
