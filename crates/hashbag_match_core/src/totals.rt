@@ -17,8 +17,11 @@ pub struct Totals {
     pub surplus: usize,
 }
 
-/// The sums of these rows. The caller sees to it that each of them fits a `usize`, as those of [`rows_of`](crate::matching::rows_of)
-/// do. It takes no memory, and looks at each row once.
+/// Returns the sums of these rows. Each must fit a `usize`, as those of [`rows_of`](crate::matching::rows_of) do.
+///
+/// # Complexity
+///
+/// Reads each row once, and allocates nothing.
 pub fn totals_of<T>(rows: &[Row<T>]) -> Totals
     requires missing { sum_by missing_of rows.now ≤ usize.MAX }
     requires surplus { sum_by surplus_of rows.now ≤ usize.MAX }

@@ -1,40 +1,37 @@
-use Rattle.std.proofs.Common.{◌≡◌, ◌≤◌, ℕ, List, [], length, sym, ◌∙◌, ap, arith, rules}
-use Rattle.std.specs.Vec.Iter.{into_iter_steps}
+use Rattle.std.proofs.Common.{sym, ◌∙◌, rules}
 use Rattle.std.proofs.lemmas.Iterator.Adapters.{YieldsList-from_vec}
-use Rattle.std.proofs.lemmas.List.{map-id}
-use Rattle.std.proofs.lemmas.Result.{IfOk-weaker}
-use Rattle.hashbag.specs.Extends.{AsItIs}
-use Rattle.hashbag.specs.Inserts.{InsertsAll, empty_bag}
-use Rattle.hashbag.specs.Occurrences.{greatest_total, count}
-use Rattle.hashbag.proofs.CallerLemmas.{count_extended, pairs_as_they_are, items_that_came}
-use Rattle.hashbag.proofs.InsertLemmas.{all_added}
-use Rattle.hashbag_lists.specs.Quantities.{numbers, quantity}
-use Rattle.hashbag_lists.proofs.QuantityLemmas.{length_made, numbers_fit, only_memory}
+use Rattle.hashbag.proofs.ExtendLemmas.{handed_on}
+use Rattle.hashbag.proofs.InsertLemmas.{all_made, some_made}
+use Rattle.hashbag.proofs.OccurrenceLemmas.{count_rearranged}
+use Rattle.hashbag_lists.proofs.QuantityLemmas.{counts_made, length_made, numbers_fit, only_memory}
 use Rattle.hashbag_lists.proofs.quantities.bag_of.Goals as goal
 
--- the pairs that came are those of the list
+-- the pairs that came are those of the list, and carrying moves no occurrence
 pub returns-clause-counts : goal.returns-clause-counts
-returns-clause-counts g c =
-    let eq = g.T.PartialEq.eq in
-    IfOk-weaker c.from_counts.result (λ bag. InsertsAll eq into_iter_steps AsItIs c.into_iter.result (empty_bag bag.hasher) bag) (λ bag. (v : g.row.T.Denot) → count eq v bag.items ≡ quantity eq v c.args.list.items)
-    (λ bag h v.
-    let came = pairs_as_they_are h.items h.pairs h.went ∙ sym (map-id h.items) ∙ items_that_came h.items h.came (YieldsList-from_vec {s = c.into_iter.result} c.args.list.items (search rules) (search rules)) in
-    let whole = count_extended g.met.T.Eq.laws v [] h.pairs bag (all_added g.met.T.Eq.laws h).means in
-    let each = ap (λ (l : List (g.row.T.Denot × ℕ)). quantity eq v l) came in
-    omega arith)
-    c.from_counts.ensures.all
+returns-clause-counts g c = λ v.
+    let laws = g.met.T.Eq.laws in
+    let made = c.extend_many.new.self in
+    let all = all_made laws {after = made} c.with_hasher-bag.ensures.empty c.with_hasher-bag.ensures.slots c.with_hasher-bag.ensures.limit c.in_ok-extend_many.ensures.all in
+    sym (count_rearranged laws v made.items c.finish_carry.new.self.items c.finish_carry.ensures.kept.means)
+    ∙ counts_made laws (YieldsList-from_vec {s = c.into_iter.result} c.args.list.items (search rules) (search rules)) made.hasher made all v
 
 pub returns-clause-len : goal.returns-clause-len
 returns-clause-len g c =
-    IfOk-weaker c.from_counts.result (λ bag. InsertsAll g.T.PartialEq.eq into_iter_steps AsItIs c.into_iter.result (empty_bag bag.hasher) bag) (λ bag. length bag.items ≡ numbers c.args.list.items)
-    (λ bag h. length_made g.met.T.Eq.laws (YieldsList-from_vec {s = c.into_iter.result} c.args.list.items (search rules) (search rules)) bag.hasher bag h)
-    c.from_counts.ensures.all
+    let laws = g.met.T.Eq.laws in
+    let made = c.extend_many.new.self in
+    let all = all_made laws {after = made} c.with_hasher-bag.ensures.empty c.with_hasher-bag.ensures.slots c.with_hasher-bag.ensures.limit c.in_ok-extend_many.ensures.all in
+    c.finish_carry.ensures.len ∙ length_made laws (YieldsList-from_vec {s = c.into_iter.result} c.args.list.items (search rules) (search rules)) made.hasher made all
 
 pub returns-clause-fits : goal.returns-clause-fits
 returns-clause-fits g c =
-    IfOk-weaker c.from_counts.result (λ bag. InsertsAll g.T.PartialEq.eq into_iter_steps AsItIs c.into_iter.result (empty_bag bag.hasher) bag) (λ bag. numbers c.args.list.items ≤ greatest_total)
-    (λ bag h. numbers_fit g.met.T.Eq.laws (YieldsList-from_vec {s = c.into_iter.result} c.args.list.items (search rules) (search rules)) bag.hasher bag h)
-    c.from_counts.ensures.all
+    let laws = g.met.T.Eq.laws in
+    let made = c.extend_many.new.self in
+    let all = all_made laws {after = made} c.with_hasher-bag.ensures.empty c.with_hasher-bag.ensures.slots c.with_hasher-bag.ensures.limit c.in_ok-extend_many.ensures.all in
+    numbers_fit laws (YieldsList-from_vec {s = c.into_iter.result} c.args.list.items (search rules) (search rules)) made.hasher made all
 
-pub returns-clause-memory : goal.returns-clause-memory
-returns-clause-memory g c = λ fits. only_memory g.met.T.Eq.laws (YieldsList-from_vec {s = c.into_iter.result} c.args.list.items (search rules) (search rules)) fits c.from_counts.result c.from_counts.ensures.refused
+pub returns-in_err-extend_many-clause-memory : goal.returns-in_err-extend_many-clause-memory
+returns-in_err-extend_many-clause-memory g c = λ fits.
+    let laws = g.met.T.Eq.laws in
+    only_memory laws (YieldsList-from_vec {s = c.into_iter.result} c.args.list.items (search rules) (search rules)) fits c.from_residual.result
+    (handed_on c.from_residual.result c.in_err-extend_many.field-0.0 _ _ (λ x is. cc) c.from_residual.ensures.1
+    (c.extend_many.new.self, some_made laws {after = c.extend_many.new.self} c.with_hasher-bag.ensures.empty c.with_hasher-bag.ensures.slots c.with_hasher-bag.ensures.limit c.in_err-extend_many.ensures.refused))
