@@ -5,7 +5,7 @@ ghost use Rattle.hashbag_lists.specs.Quantities.{numbers, quantity, IsBalance};
 
 use hashbag::{BagError, HashBag};
 use std::alloc::{AllocError, Global};
-use std::hash::Hash;
+use std::hash::{BuildHasher, Hash};
 
 /// The bag of a list: it has as many of each article as the list names in all.
 ///
@@ -27,9 +27,9 @@ pub fn bag_of<T: Eq + Hash + Drop>(
 /// as the bag has, and [`bag_of`] gives an equal bag again.
 ///
 /// It takes memory for the list, and compares as often as a sort of so many pairs does.
-pub fn balance_of<T: Ord + Hash + Drop>(
+pub fn balance_of<T: Ord + Hash + Drop, S: BuildHasher + Drop>(
     alloc: Global,
-    bag: HashBag<T>,
+    bag: HashBag<T, S>,
 ) -> Result<Vec<(T, usize)>, AllocError>
     ensures balance { IfOk result (λ list. IsBalance T.eq T.cmp (λ v. count T.eq v bag.items) list.items) }
     ensures quantities { IfOk result (λ list. (v : T) → quantity T.eq v list.items ≡ count T.eq v bag.items) }

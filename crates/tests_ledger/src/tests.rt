@@ -1,11 +1,13 @@
 //! What no clause says of movements: how texts are read, what is said of bad ones, and how a balance and refusals are written. What
 //! is wanted was found by hand.
+use hashbag::FixedState;
 use hashbag_ledger_core::entering::LedgerError;
 use hashbag_ledger_core::movements::Change;
-use hashbag_ledger_core::output::{balance_text, refusals_text};
+use hashbag_ledger_core::output::{balance_text, refusals_table, refusals_text};
 use hashbag_ledger_core::reading::{ChangeColumns, Columns, read_movements};
 use hashbag_ledger_core::settling::settle;
 use std::alloc::{AllocError, Global};
+use std::hash::{BuildHasher, RandomState};
 use std::test::Fail;
 
 // Movements with a sign, and by their kinds.
@@ -92,7 +94,7 @@ fn texts_are_read(rt: HostRuntime) -> Result<(), Fail> {
 }
 
 // A stock at the beginning, a text of movements, and what they leave and what is refused.
-const LEDGERS: [(&[(&str, usize)], &str, &str); 5] = [
+const LEDGERS: [(&[(&str, usize)], &str, &str); 6] = [
     (&[], "article,change\n", "article,number\n"),
     (
         &[("nut", 2), ("bolt", 0), ("nut", 3)],
@@ -114,18 +116,35 @@ const LEDGERS: [(&[(&str, usize)], &str, &str); 5] = [
         "article,change\n",
         "too many at the start",
     ),
+    (
+        &[("5\" tube", 1)],
+        "article,change\n\"5\"\" tube\",-2\n\"a\\\",-1\n",
+        "article,number\n\"5\"\" tube\",1\nm.csv:2: refused: out 2 of \"5\\\" tube\", 1 there\nm.csv:3: refused: out 1 of \"a\\\\\", 0 there\n",
+    ),
 ];
 
-// What a stock and movements leave.
-fn left_by(alloc: Global, start: &[(&str, usize)], text: &str) -> Result<String, Fail> {
+// A stock of texts that are owned.
+fn stock_of(alloc: Global, start: &[(&str, usize)]) -> Result<Vec<(String, usize)>, Fail> {
     let mut stock = Vec::new(alloc);
     for (article, number) in start {
         stock.push((article.to_string(alloc)?, *number))?;
     }
+    Ok(stock)
+}
+
+// What a stock and movements leave.
+fn left_by<S: BuildHasher + Drop>(
+    alloc: Global,
+    state: S,
+    start: &[(&str, usize)],
+    text: &str,
+) -> Result<String, Fail> {
+    let stock = stock_of(alloc, start)?;
     let movements = read_movements(alloc, text.as_bytes(), 0, SIGNED)?;
-    match settle(alloc, stock, movements) {
+    match settle(alloc, state, stock, movements) {
         Ok(entered) => {
-            let mut said = String::from_utf8(balance_text(alloc, &entered.balance)?)?;
+            let balance = balance_text(alloc, ("article", "number"), &entered.balance)?;
+            let mut said = String::from_utf8(balance)?;
             said.push_str(refusals_text(alloc, &["m.csv"], &entered.refusals)?.as_str())?;
             Ok(said)
         }
@@ -138,7 +157,38 @@ fn left_by(alloc: Global, start: &[(&str, usize)], text: &str) -> Result<String,
 #[test]
 fn movements_are_entered(rt: HostRuntime) -> Result<(), Fail> {
     for (start, text, wanted) in LEDGERS {
-        assert_eq!(rt; left_by(rt.alloc(), start, text)?.as_str(), wanted);
+        let fixed = left_by(rt.alloc(), FixedState::new(), start, text)?;
+        assert_eq!(rt; fixed.as_str(), wanted);
+        let random = left_by(rt.alloc(), RandomState::new(&rt)?, start, text)?;
+        assert_eq!(rt; random.as_str(), wanted);
     }
+    Ok(())
+}
+
+// Movements of which all are refused, as CSV.
+const REFUSED: &str = "\
+file,line,article,asked,there
+\"a,b.csv\",2,\"5\"\" tube\",2,1
+\"a,b.csv\",3,\"x
+y\",18446744073709551615,0
+\"a,b.csv\",5,nut,1,0
+";
+
+#[test]
+fn refusals_are_written_as_csv(rt: HostRuntime) -> Result<(), Fail> {
+    let alloc = rt.alloc();
+    let stock = stock_of(alloc, &[("5\" tube", 1)])?;
+    let text = "article,change\n\"5\"\" tube\",-2\n\"x\ny\",-18446744073709551615\nnut,-1\n";
+    let movements = read_movements(alloc, text.as_bytes(), 0, SIGNED)?;
+    let Ok(entered) = settle(alloc, FixedState::new(), stock, movements) else {
+        return Err(Fail::from("not entered"));
+    };
+    let table = refusals_table(alloc, &["a,b.csv"], &entered.refusals)?;
+    assert_eq!(rt; String::from_utf8(table)?.as_str(), REFUSED);
+    let none = refusals_table(alloc, &["a,b.csv"], &[])?;
+    assert_eq!(rt;
+        String::from_utf8(none)?.as_str(),
+        "file,line,article,asked,there\n"
+    );
     Ok(())
 }

@@ -1,0 +1,81 @@
+//! The command line, as its help has it.
+use clap::{Arg, ArgAction, Command};
+use hashbag_shell::VERSION;
+use std::alloc::{AllocError, Global};
+
+/// The name of the program, with which its lines on standard error begin.
+pub const PROGRAM: &str = "hashbag_ledger";
+
+/// The columns of movements where no others are named.
+pub const COLUMNS: &str = "article,change";
+
+/// The columns of the stock at the beginning where no others are named.
+pub const START_COLUMNS: &str = "article,number";
+
+const ABOUT: &str = "Enters movements into a stock, and writes the balance.";
+
+const AFTER: &str = "\
+All files are CSV with a header. `-` is standard input, and is read where no file is named.
+A movement's change is `5` or `+5` for what comes in, and `-5` for what goes out. With three columns the second is the kind, `in` or
+`out`. A movement that asks for more than there is at that time is refused: it is named with its file and line, and the others go on.
+The balance is CSV with the columns `article` and `number`, articles rising, and may be the --start of the next run. All is read
+before anything is written, so the balance may replace the stock: hashbag_ledger --start stock.csv monday.csv -o stock.csv
+
+Status: 0 all entered, 1 some refused, 2 bad arguments or a bad line (FILE:LINE is named), 3 no memory, 4 a file can't be opened, or
+a read or a write failed. With 2, 3 and 4 the file of -o is as it was.";
+
+// What is read.
+fn with_inputs<'a>(alloc: Global, command: Command<'a>) -> Result<Command<'a>, AllocError> {
+    let moves = Arg::new(alloc, "MOVES.csv")
+        .num_args(0..)
+        .action(ArgAction::Append)
+        .help("Movements, in the order of the files and of their lines");
+    let start = Arg::new(alloc, "start")
+        .long("start")
+        .value_name("STOCK.csv")
+        .help("The stock at the beginning");
+    let start_columns = Arg::new(alloc, "start-columns")
+        .long("start-columns")
+        .value_name("NAMES")
+        .default_value(START_COLUMNS)
+        .help("The columns of the stock at the beginning");
+    let columns = Arg::new(alloc, "columns")
+        .long("columns")
+        .value_name("NAMES")
+        .default_value(COLUMNS)
+        .help("The columns of movements: article,change or article,kind,number");
+    command
+        .arg(start)?
+        .arg(start_columns)?
+        .arg(columns)?
+        .arg(moves)
+}
+
+// What is written, and where.
+fn with_outputs<'a>(alloc: Global, command: Command<'a>) -> Result<Command<'a>, AllocError> {
+    let output = Arg::new(alloc, "output")
+        .short('o')
+        .long("output")
+        .value_name("FILE")
+        .help(
+            "Where the balance is written, in place of standard output; the old file is replaced once all is written",
+        );
+    let refused = Arg::new(alloc, "refused")
+        .long("refused")
+        .value_name("FILE")
+        .help("Where refusals are written as CSV, in place of standard error");
+    let strict = Arg::new(alloc, "strict")
+        .long("strict")
+        .action(ArgAction::SetTrue)
+        .help("Ends at the first refusal, without a balance");
+    command.arg(output)?.arg(refused)?.arg(strict)
+}
+
+/// The command line of the program.
+pub fn command<'a>(alloc: Global) -> Result<Command<'a>, AllocError> {
+    let command = Command::new(alloc, PROGRAM)
+        .version(VERSION)
+        .about(ABOUT)
+        .after_help(AFTER);
+    with_outputs(alloc, with_inputs(alloc, command)?)
+}
