@@ -3,6 +3,9 @@ use crate::command::{COLUMNS, PROGRAM, START_COLUMNS, command};
 use clap::error::ErrorKind;
 use clap::{ArgMatches, Error};
 use hashbag_ledger_core::reading::{ChangeColumns, Columns};
+use hashbag_lists::counts::Reading;
+use hashbag_lists::delimiter::Delimiter;
+use hashbag_lists::scale::{Mark, Scale};
 use hashbag_lists::trouble::Trouble;
 use hashbag_shell::status::{BAD_INPUT, DONE, IO_FAILED};
 use std::alloc::{AllocError, Global};
@@ -18,6 +21,8 @@ pub struct Request<'a> {
     pub files: Vec<&'a str>,
     /// The columns of movements.
     pub columns: Columns<&'a str>,
+    /// What is between fields, and how numbers are written.
+    pub reading: Reading,
     /// The file to which the balance is written, standard output if there is none.
     pub output: Option<&'a str>,
     /// The file to which refusals are written, standard error if there is none.
@@ -51,6 +56,19 @@ fn pair_of(names: &str) -> Option<(&str, &str)> {
     Some((first, second))
 }
 
+// What is between fields, and how numbers are written.
+fn reading_of(matches: &ArgMatches<'_>) -> Reading {
+    let decimals = matches.get_str("scale").unwrap_or("0").parse().unwrap_or(0);
+    let mark = match matches.get_str("mark") {
+        Some(",") => Mark::Comma,
+        _ => Mark::Point,
+    };
+    Reading {
+        delimiter: Delimiter::named(matches.get_str("delimiter").unwrap_or(",")),
+        scale: Scale::new(decimals, mark).unwrap_or(Scale::whole()),
+    }
+}
+
 // What the words ask for.
 fn request_of<'a>(
     alloc: Global,
@@ -70,6 +88,7 @@ fn request_of<'a>(
         start_columns,
         files,
         columns,
+        reading: reading_of(matches),
         output: matches.get_str("output"),
         refused: matches.get_str("refused"),
         strict: matches.get_flag("strict"),

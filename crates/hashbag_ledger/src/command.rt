@@ -1,5 +1,6 @@
 //! The command line, as its help has it.
 use clap::{Arg, ArgAction, Command};
+use hashbag_lists::delimiter::NAMES;
 use hashbag_shell::VERSION;
 use std::alloc::{AllocError, Global};
 
@@ -12,6 +13,10 @@ pub const COLUMNS: &str = "article,change";
 /// The columns of the stock at the beginning where no others are named.
 pub const START_COLUMNS: &str = "article,number";
 
+static SCALES: [&str; 10] = ["0", "1", "2", "3", "4", "5", "6", "7", "8", "9"];
+
+static MARKS: [&str; 2] = [".", ","];
+
 const ABOUT: &str = "Enters movements into a stock, and writes the balance.";
 
 const AFTER: &str = "\
@@ -22,7 +27,7 @@ The balance is CSV with the columns `article` and `number`, articles rising, and
 before anything is written, so the balance may replace the stock: hashbag_ledger --start stock.csv monday.csv -o stock.csv
 
 Status: 0 all entered, 1 some refused, 2 bad arguments or a bad line (FILE:LINE is named), 3 no memory, 4 a file can't be opened, or
-a read or a write failed. With 2, 3 and 4 the file of -o is as it was.";
+a read or a write failed, 5 a total of more than 2^64-1. With 2 to 5 the file of -o is as it was.";
 
 // What is read.
 fn with_inputs<'a>(alloc: Global, command: Command<'a>) -> Result<Command<'a>, AllocError> {
@@ -51,6 +56,29 @@ fn with_inputs<'a>(alloc: Global, command: Command<'a>) -> Result<Command<'a>, A
         .arg(moves)
 }
 
+// How files are read, and written.
+fn with_reading<'a>(alloc: Global, command: Command<'a>) -> Result<Command<'a>, AllocError> {
+    let scale = Arg::new(alloc, "scale")
+        .long("scale")
+        .value_name("D")
+        .value_parser(SCALES.as_slice())
+        .default_value("0")
+        .help("How many decimals numbers may have; all D are written");
+    let mark = Arg::new(alloc, "mark")
+        .long("mark")
+        .value_name("MARK")
+        .value_parser(MARKS.as_slice())
+        .default_value(".")
+        .help("What is before decimals");
+    let delimiter = Arg::new(alloc, "delimiter")
+        .long("delimiter")
+        .value_name("DELIMITER")
+        .value_parser(NAMES.as_slice())
+        .default_value(",")
+        .help("What is between fields, also of CSV that is written");
+    command.arg(scale)?.arg(mark)?.arg(delimiter)
+}
+
 // What is written, and where.
 fn with_outputs<'a>(alloc: Global, command: Command<'a>) -> Result<Command<'a>, AllocError> {
     let output = Arg::new(alloc, "output")
@@ -77,5 +105,6 @@ pub fn command<'a>(alloc: Global) -> Result<Command<'a>, AllocError> {
         .version(VERSION)
         .about(ABOUT)
         .after_help(AFTER);
-    with_outputs(alloc, with_inputs(alloc, command)?)
+    let command = with_reading(alloc, with_inputs(alloc, command)?)?;
+    with_outputs(alloc, command)
 }

@@ -16,7 +16,13 @@ pub fn start_of<'a>(
     };
     let text = read_file(rt, file)?;
     let (article, number) = request.start_columns;
-    let counts = read_counts(rt.alloc(), text.as_slice(), article, number);
+    let counts = read_counts(
+        rt.alloc(),
+        text.as_slice(),
+        article,
+        number,
+        request.reading,
+    );
     in_file(file, counts)
 }
 
@@ -29,7 +35,13 @@ pub fn movements_of<'a>(
     for i in 0..request.files.len() {
         let file = request.files[i];
         let text = read_file(rt, file)?;
-        let read = read_movements(rt.alloc(), text.as_slice(), i, request.columns);
+        let read = read_movements(
+            rt.alloc(),
+            text.as_slice(),
+            i,
+            request.columns,
+            request.reading,
+        );
         let mut movements = in_file(file, read)?;
         all.append(&mut movements)?;
     }

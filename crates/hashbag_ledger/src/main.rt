@@ -13,42 +13,32 @@ use crate::outputs::{Outputs, Report, conflict};
 use hashbag_ledger_core::entering::LedgerError;
 use hashbag_ledger_core::output::{balance_text, refusals_table, refusals_text};
 use hashbag_ledger_core::settling::{Entered, settle};
-use hashbag_lists::fault::{Fault, SheetError};
+use hashbag_lists::fault::SheetError;
 use hashbag_lists::files::arguments;
+use hashbag_lists::numbers::total_too_large;
 use hashbag_lists::trouble::Trouble;
 use hashbag_shell::status::{BAD_INPUT, DENIED, DONE};
 use std::hash::RandomState;
 use std::process::ExitCode;
 
-// A total that is too large with that line.
-fn too_large(line: u64) -> SheetError {
-    let fault = Fault::TotalTooLarge;
-    SheetError::Line { line, fault }
+// That the total is too large with that line of a file.
+fn too_large<'a>(rt: &HostRuntime, request: &Request<'a>, file: &'a str, line: u64) -> Trouble<'a> {
+    let error = match total_too_large(rt.alloc(), request.reading.scale) {
+        Ok(fault) => SheetError::Line { line, fault },
+        Err(_) => return Trouble::Memory,
+    };
+    Trouble::BadLine { file, error }
 }
 
 // What is wrong if the movements weren't entered. That the stock at the beginning isn't too large was seen when it was read.
-fn trouble_of<'a>(request: &Request<'a>, error: LedgerError) -> Trouble<'a> {
+fn trouble_of<'a>(rt: &HostRuntime, request: &Request<'a>, error: LedgerError) -> Trouble<'a> {
     match error {
         LedgerError::Memory => Trouble::Memory,
-        LedgerError::StartTooMany => Trouble::BadLine {
-            file: request.start.unwrap_or("-"),
-            error: too_large(1),
-        },
-        LedgerError::TooMany(place) => Trouble::BadLine {
-            file: request.files.get(place.file).copied().unwrap_or("-"),
-            error: too_large(place.line),
-        },
-    }
-}
-
-// The state that hashes articles: its keys are random, so nobody can choose articles that hash alike.
-fn state_of<'a>(rt: &HostRuntime) -> Result<RandomState, Trouble<'a>> {
-    match RandomState::new(rt) {
-        Ok(state) => Ok(state),
-        Err(error) => Err(Trouble::Read {
-            file: "random numbers",
-            error,
-        }),
+        LedgerError::StartTooMany => too_large(rt, request, request.start.unwrap_or("-"), 1),
+        LedgerError::TooMany(place) => {
+            let file = request.files.get(place.file).copied().unwrap_or("-");
+            too_large(rt, request, file, place.line)
+        }
     }
 }
 
@@ -56,9 +46,11 @@ fn state_of<'a>(rt: &HostRuntime) -> Result<RandomState, Trouble<'a>> {
 fn entered_of<'a>(rt: &HostRuntime, request: &Request<'a>) -> Result<Entered<String>, Trouble<'a>> {
     let start = start_of(rt, request)?;
     let movements = movements_of(rt, request)?;
-    match settle(rt.alloc(), state_of(rt)?, start, movements) {
+    // Its keys are random, so nobody can choose articles that hash alike.
+    let state = RandomState::new(rt).map_err(Trouble::Random)?;
+    match settle(rt.alloc(), state, start, movements) {
         Ok(entered) => Ok(entered),
-        Err(error) => Err(trouble_of(request, error)),
+        Err(error) => Err(trouble_of(rt, request, error)),
     }
 }
 
@@ -73,13 +65,20 @@ fn report_of<'a>(rt: &HostRuntime, request: &Request<'a>) -> Result<Report, Trou
         all
     };
     let refusals = match request.refused {
-        Some(_) => refusals_table(alloc, &request.files, named)?,
-        None => refusals_text(alloc, &request.files, named)?.into_bytes(),
+        Some(_) => refusals_table(alloc, &request.files, request.reading, named)?,
+        None => {
+            refusals_text(alloc, &request.files, request.reading.scale, named)?.into_bytes()
+        },
     };
     let balance = if request.strict && !all.is_empty() {
         None
     } else {
-        Some(balance_text(alloc, request.start_columns, &entered.balance)?)
+        Some(balance_text(
+            alloc,
+            request.start_columns,
+            request.reading,
+            &entered.balance,
+        )?)
     };
     Ok(Report {
         refusals,

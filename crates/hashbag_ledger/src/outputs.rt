@@ -60,10 +60,10 @@ pub fn conflict<'a>(rt: &HostRuntime, request: &Request<'a>) -> Option<&'a str> 
 }
 
 // The trouble with a file that is written.
-fn trouble_with<'a>(name: &'a str, error: io::Error) -> Trouble<'a> {
+fn trouble_with<'a>(file: &'a str, error: io::Error) -> Trouble<'a> {
     match error.kind() {
         ErrorKind::OutOfMemory => Trouble::Memory,
-        _ => Trouble::Read { file: name, error },
+        _ => Trouble::Output { file, error },
     }
 }
 

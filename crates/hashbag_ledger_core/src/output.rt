@@ -1,19 +1,32 @@
 //! What movements leave, as it is written.
 use crate::movements::Refusal;
-use csv::{Writer, WriterBuilder};
+use hashbag_lists::counts::Reading;
+use hashbag_lists::decimals::write_decimal;
 use hashbag_lists::records::Records;
+use hashbag_lists::scale::Scale;
 use std::alloc::{AllocError, Global};
 use std::fmt;
+
+// Appends a record of these fields.
+fn push_record(records: &mut Records, fields: &[&str]) -> Result<(), AllocError> {
+    for field in fields {
+        records.field(field)?;
+    }
+    records.end()
+}
 
 /// The balance as CSV under these names of the columns of articles and of numbers.
 pub fn balance_text(
     alloc: Global,
     names: (&str, &str),
+    reading: Reading,
     balance: &[(String, usize)],
 ) -> Result<Vec<u8>, AllocError> {
-    let mut records = Records::new(alloc, [names.0, names.1].as_slice())?;
+    let mut records = Records::empty(alloc, reading.delimiter);
+    push_record(&mut records, [names.0, names.1].as_slice())?;
     for entry in balance {
-        records.push(entry.0.as_str(), &[entry.1])?;
+        let number = write_decimal(alloc, entry.1, reading.scale)?;
+        push_record(&mut records, [entry.0.as_str(), number.as_str()].as_slice())?;
     }
     records.into_text()
 }
@@ -45,13 +58,15 @@ impl fmt::Display for Quoted<'_> {
 pub fn refusals_text(
     alloc: Global,
     files: &[&str],
+    scale: Scale,
     refusals: &[Refusal<String>],
 ) -> Result<String, AllocError> {
     let mut text = String::new(alloc);
     for refusal in refusals {
         let file = file_of(files, refusal);
         let line = refusal.place.line;
-        let (asked, there) = (refusal.asked, refusal.there);
+        let asked = write_decimal(alloc, refusal.asked, scale)?;
+        let there = write_decimal(alloc, refusal.there, scale)?;
         let article = Quoted(refusal.article.as_str());
         writeln!(
             text,
@@ -61,34 +76,24 @@ pub fn refusals_text(
     Ok(text)
 }
 
-// Appends a record of a refusal.
-fn push_refusal(
-    alloc: Global,
-    writer: &mut Writer<Vec<u8>>,
-    file: &str,
-    refusal: &Refusal<String>,
-) -> Result<(), AllocError> {
-    let line = format!(in alloc; "{}", refusal.place.line)?;
-    let asked = format!(in alloc; "{}", refusal.asked)?;
-    let there = format!(in alloc; "{}", refusal.there)?;
-    let article = refusal.article.as_str();
-    writer
-        .write_record([file, line.as_str(), article, asked.as_str(), there.as_str()])
-        .map_err(|_| AllocError)
-}
-
 /// The refusals as CSV, with the header `file,line,article,asked,there`.
 pub fn refusals_table(
     alloc: Global,
     files: &[&str],
+    reading: Reading,
     refusals: &[Refusal<String>],
 ) -> Result<Vec<u8>, AllocError> {
-    let mut writer = WriterBuilder::new().from_writer(Vec::new(alloc));
-    writer
-        .write_record(["file", "line", "article", "asked", "there"])
-        .map_err(|_| AllocError)?;
+    let mut records = Records::empty(alloc, reading.delimiter);
+    let header = ["file", "line", "article", "asked", "there"];
+    push_record(&mut records, header.as_slice())?;
     for refusal in refusals {
-        push_refusal(alloc, &mut writer, file_of(files, refusal), refusal)?;
+        let file = file_of(files, refusal);
+        let line = format!(in alloc; "{}", refusal.place.line)?;
+        let article = refusal.article.as_str();
+        let asked = write_decimal(alloc, refusal.asked, reading.scale)?;
+        let there = write_decimal(alloc, refusal.there, reading.scale)?;
+        let fields = [file, line.as_str(), article, asked.as_str(), there.as_str()];
+        push_record(&mut records, fields.as_slice())?;
     }
-    writer.into_inner().map_err(|_| AllocError)
+    records.into_text()
 }

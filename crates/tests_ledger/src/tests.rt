@@ -6,6 +6,9 @@ use hashbag_ledger_core::movements::Change;
 use hashbag_ledger_core::output::{balance_text, refusals_table, refusals_text};
 use hashbag_ledger_core::reading::{ChangeColumns, Columns, read_movements};
 use hashbag_ledger_core::settling::settle;
+use hashbag_lists::counts::Reading;
+use hashbag_lists::delimiter::Delimiter;
+use hashbag_lists::scale::{Mark, Scale};
 use std::alloc::{AllocError, Global};
 use std::hash::{BuildHasher, RandomState};
 use std::test::Fail;
@@ -21,8 +24,11 @@ const BY_KIND: Columns<&str> = Columns {
     change: ChangeColumns::ByKind("kind", "number"),
 };
 
+// The columns of a balance.
+const NAMES: (&str, &str) = ("article", "number");
+
 // The columns of a text, the text, and what it says: its movements, or its first bad line and what is wrong with that.
-const TEXTS: [(Columns<&str>, &str, &str); 12] = [
+const TEXTS: [(Columns<&str>, &str, &str); 18] = [
     (
         SIGNED,
         "article,change\nbolt,5\nnut,+7\n\nbolt,-4\n",
@@ -63,11 +69,46 @@ const TEXTS: [(Columns<&str>, &str, &str); 12] = [
         "3: 3 fields wanted, 2 found",
     ),
     (BY_KIND, "", "1: no header"),
+    (
+        SIGNED,
+        "article,change\nbolt,5\nnut,7,\"12 inch\nbolt,-2\n",
+        "3: quote never closed",
+    ),
+    (
+        SIGNED,
+        "article,change,note\nbolt,5,\nnut,7,\"12 inch\nbolt,-2,\n",
+        "3: quote never closed",
+    ),
+    (
+        SIGNED,
+        "article,change\n\"bolt\" x,5\n",
+        "2: text after a closing quote",
+    ),
+    (
+        SIGNED,
+        "article,change\n12\" bolt,5\n",
+        "2: quote in a field without quotes",
+    ),
+    (
+        SIGNED,
+        "article,change\nbolt,-1.5\n",
+        "2: whole numbers only: `-1.5`",
+    ),
+    (
+        SIGNED,
+        "article,change\nbolt,\"1,5\"\n",
+        "2: whole numbers only: `1,5`",
+    ),
 ];
 
 // What a text says.
-fn said_of(alloc: Global, names: Columns<&str>, text: &str) -> Result<String, AllocError> {
-    match read_movements(alloc, text.as_bytes(), 0, names) {
+fn said_of(
+    alloc: Global,
+    names: Columns<&str>,
+    text: &str,
+    reading: Reading,
+) -> Result<String, AllocError> {
+    match read_movements(alloc, text.as_bytes(), 0, names, reading) {
         Ok(movements) => {
             let mut said = String::new(alloc);
             for movement in &movements {
@@ -88,7 +129,39 @@ fn said_of(alloc: Global, names: Columns<&str>, text: &str) -> Result<String, Al
 #[test]
 fn texts_are_read(rt: HostRuntime) -> Result<(), Fail> {
     for (names, text, wanted) in TEXTS {
-        assert_eq!(rt; said_of(rt.alloc(), names, text)?.as_str(), wanted);
+        assert_eq!(rt;
+            said_of(rt.alloc(), names, text, Reading::plain())?.as_str(),
+            wanted
+        );
+    }
+    Ok(())
+}
+
+// Semicolons between fields, and two decimals after a comma.
+fn european() -> Reading {
+    Reading {
+        delimiter: Delimiter::Semicolon,
+        scale: Scale::new(2, Mark::Comma).unwrap_or(Scale::whole()),
+    }
+}
+
+#[test]
+fn decimals_are_read(rt: HostRuntime) -> Result<(), Fail> {
+    for (text, wanted) in [
+        (
+            "article;change\nbolt;1,5\nnut;-0,25\nnut;+3\n",
+            "[2 bolt in 150][3 nut out 25][4 nut in 300]",
+        ),
+        (
+            "article;change\nbolt;1,555\n",
+            "2: more than 2 decimals: `1,555`",
+        ),
+        ("article;change\nbolt;1.5\n", "2: no number: `1.5`"),
+    ] {
+        assert_eq!(rt;
+            said_of(rt.alloc(), SIGNED, text, european())?.as_str(),
+            wanted
+        );
     }
     Ok(())
 }
@@ -140,12 +213,17 @@ fn left_by<S: BuildHasher + Drop>(
     text: &str,
 ) -> Result<String, Fail> {
     let stock = stock_of(alloc, start)?;
-    let movements = read_movements(alloc, text.as_bytes(), 0, SIGNED)?;
+    let movements = read_movements(alloc, text.as_bytes(), 0, SIGNED, Reading::plain())?;
     match settle(alloc, state, stock, movements) {
         Ok(entered) => {
-            let balance = balance_text(alloc, ("article", "number"), &entered.balance)?;
+            let balance = balance_text(alloc, NAMES, Reading::plain(), &entered.balance)?;
             let mut said = String::from_utf8(balance)?;
-            said.push_str(refusals_text(alloc, &["m.csv"], &entered.refusals)?.as_str())?;
+            said.push_str(refusals_text(
+                alloc,
+                &["m.csv"],
+                Scale::whole(),
+                &entered.refusals,
+            )?.as_str())?;
             Ok(said)
         }
         Err(LedgerError::TooMany(place)) => Ok(format!(in alloc; "{}: too many", place.line)?),
@@ -165,6 +243,34 @@ fn movements_are_entered(rt: HostRuntime) -> Result<(), Fail> {
     Ok(())
 }
 
+#[test]
+fn decimals_are_written(rt: HostRuntime) -> Result<(), Fail> {
+    let alloc = rt.alloc();
+    let stock = stock_of(alloc, &[("nut", 20)])?;
+    let text = "article;change\nbolt;1,5\nnut;-0,25\nnut;+3\n";
+    let movements = read_movements(alloc, text.as_bytes(), 0, SIGNED, european())?;
+    let Ok(entered) = settle(alloc, FixedState::new(), stock, movements) else {
+        return Err(Fail::from("not entered"));
+    };
+    let balance = balance_text(alloc, ("sku", "kg"), european(), &entered.balance)?;
+    assert_eq!(rt;
+        String::from_utf8(balance)?.as_str(),
+        "sku;kg\nbolt;1,50\nnut;3,20\n"
+    );
+    let refusals = entered.refusals.as_slice();
+    let said = refusals_text(alloc, &["m.csv"], european().scale, refusals)?;
+    assert_eq!(rt;
+        said.as_str(),
+        "m.csv:3: refused: out 0,25 of \"nut\", 0,20 there\n"
+    );
+    let table = refusals_table(alloc, &["m.csv"], european(), refusals)?;
+    assert_eq!(rt;
+        String::from_utf8(table)?.as_str(),
+        "file;line;article;asked;there\nm.csv;3;nut;0,25;0,20\n"
+    );
+    Ok(())
+}
+
 // Movements of which all are refused, as CSV.
 const REFUSED: &str = "\
 file,line,article,asked,there
@@ -179,13 +285,13 @@ fn refusals_are_written_as_csv(rt: HostRuntime) -> Result<(), Fail> {
     let alloc = rt.alloc();
     let stock = stock_of(alloc, &[("5\" tube", 1)])?;
     let text = "article,change\n\"5\"\" tube\",-2\n\"x\ny\",-18446744073709551615\nnut,-1\n";
-    let movements = read_movements(alloc, text.as_bytes(), 0, SIGNED)?;
+    let movements = read_movements(alloc, text.as_bytes(), 0, SIGNED, Reading::plain())?;
     let Ok(entered) = settle(alloc, FixedState::new(), stock, movements) else {
         return Err(Fail::from("not entered"));
     };
-    let table = refusals_table(alloc, &["a,b.csv"], &entered.refusals)?;
+    let table = refusals_table(alloc, &["a,b.csv"], Reading::plain(), &entered.refusals)?;
     assert_eq!(rt; String::from_utf8(table)?.as_str(), REFUSED);
-    let none = refusals_table(alloc, &["a,b.csv"], &[])?;
+    let none = refusals_table(alloc, &["a,b.csv"], Reading::plain(), &[])?;
     assert_eq!(rt;
         String::from_utf8(none)?.as_str(),
         "file,line,article,asked,there\n"
