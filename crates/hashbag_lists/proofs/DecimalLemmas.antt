@@ -1,15 +1,24 @@
 -- Numbers with decimals: their texts, and the units that they are.
-use Rattle.std.proofs.Common.{◌≡◌, ℕ, zero, suc, ◌+◌, ◌-◌, ◌*◌, ◌^◌, ◌<◌, ◌≤◌, ◌==◌, Bool, true, false, List, [], ◌∷◌, ◌++◌, length, get_or, take, drop, replicate, Option, Some, None, MatchOption, refl, sym, ◌∙◌, ap, subst, arith, inl, inr}
+use Rattle.std.proofs.Common.{◌≡◌, ℕ, zero, suc, ◌+◌, ◌-◌, ◌*◌, ◌/◌, ◌%◌, ◌^◌, ◌<◌, ◌≤◌, ◌==◌, Bool, true, false, List, [], ◌∷◌, ◌++◌, length, get_or, take, drop, replicate, Option, Some, None, MatchOption, Result, Ok, Err, result_ok, ◌≢◌, refl, sym, ◌∙◌, ap, subst, arith, inl, inr}
 use borrow.Author.Tests.{eq-eqb, eqb-true}
 use Rattle.std.specs.List.{position_or_len}
-use Rattle.std.specs.Str.Parse.{IsNumeral, AllDigits, digits_value, digits_value_after}
-use Rattle.std.proofs.Math.Nat.{one-le-pow, le-mul_of_pos_right}
+use Rattle.std.specs.Result.{OkIff}
+use Rattle.std.specs.Str.Parse.{IsNumeral, AllDigits, ParsesUnsigned, digits_value}
+use Rattle.std.proofs.Math.Nat.{div-add-mod', le-mul_of_pos_right, one-le-pow, pow-le-pow_right}
 use Rattle.std.proofs.lemmas.Bool.Decides.{nat_tests}
 use Rattle.std.proofs.lemmas.Int.Digits.{digits_value-lt}
-use Rattle.std.proofs.lemmas.List.{drop_all, drop_at, drop-drop, get_or_append_left, get_or_at, length-append, take_all, take_at}
+use Rattle.std.proofs.lemmas.List.{drop_all, drop_at, drop-drop, get_or_append_left, get_or_at, length-append, replicate-append-replicate, take_all, take_at}
 use Rattle.std.proofs.lemmas.List.Sums.{passes_at_first, position_or_len_is, split_at_first}
-use Rattle.std.proofs.lemmas.Str.Parse.{digit_at}
+use Rattle.std.proofs.lemmas.Str.Parse.{digit_at, numerals_by_value, parse_plain, tells_digits}
+use Rattle.hashbag_lists.specs.declared.scale.Mark.{Mark}
+use Rattle.hashbag_lists.specs.declared.scale.Mark.TheVariants.{Point, Comma}
+use Rattle.hashbag_lists.specs.Marks.{code_of}
 use Rattle.hashbag_lists.specs.Decimals.{ArePartsOf, IsDecimal, units, units_of, whole_of, part_of}
+
+-- a mark is before the digits
+pub code_low : (m : Mark) → code_of m < 48
+code_low Point = omega arith
+code_low Comma = omega arith
 
 module _ (mark : ℕ) (low : mark < 48) where
   abbrev is_mark : ℕ → Bool
@@ -116,3 +125,50 @@ zeros_digits (suc k) ds h = (omega arith, zeros_digits k ds h)
 pub zeros_value : (k : ℕ) (ds : List ℕ) → digits_value 10 (replicate k 48 ++ ds) ≡ digits_value 10 ds
 zeros_value zero ds = refl
 zeros_value (suc k) ds = zeros_value k ds
+
+-- ---- powers of ten
+
+pub unit_fits : (D : ℕ) → D ≤ 9 → 10 ^ D < 2 ^ 64
+unit_fits D few = let most : 10 ^ D ≤ 10 ^ 9 = pow-le-pow_right (lit≤ tt) few in omega (arith, most)
+
+pub unit_some : (D : ℕ) → 0 < 10 ^ D
+unit_some D = let some = one-le-pow D 10 (omega arith) in omega (arith, some)
+
+-- a number that doesn't fit has no units that fit
+pub none_alone : (D : ℕ) (s : List ℕ) → ¬ (IsNumeral 10 s × (digits_value 10 s ≤ 2 ^ 64 - 1)) → ¬ (IsNumeral 10 s × (digits_value 10 s * 10 ^ D ≤ 2 ^ 64 - 1))
+none_alone D s h = λ q. h (q.0, let more = le-mul_of_pos_right {m = 10 ^ D} (digits_value 10 s) (unit_some D) in omega (arith, more, q.1))
+
+-- the parts of what is written
+pub parts_value : (D n : ℕ) (w p : List ℕ) → digits_value 10 w ≡ n / 10 ^ D → digits_value 10 p ≡ n % 10 ^ D → length p ≡ D → units_of D w p ≡ n
+parts_value D n w p whole part long =
+    let sum = div-add-mod' n (10 ^ D) in
+    let none : D - length p ≡ 0 = omega (arith, long) in
+    let is : units_of D w p ≡ n / 10 ^ D * 10 ^ D + n % 10 ^ D * 10 ^ 0 = λ i. whole i * 10 ^ D + part i * 10 ^ none i in
+    omega (arith, is, sum)
+
+-- one zero more
+pub one_zero_more : (bs : List ℕ) (n : ℕ) → bs ≡ replicate n 48 → bs ++ 48 ∷ [] ≡ replicate (n + 1) 48
+one_zero_more bs n h = ap (λ (l : List ℕ). l ++ 48 ∷ []) h ∙ replicate-append-replicate n 1 48
+
+-- parts that don't fit
+pub none_whole : (D : ℕ) (w p : List ℕ) → ¬ (IsNumeral 10 w × (digits_value 10 w * 10 ^ D ≤ 2 ^ 64 - 1)) → ¬ (ArePartsOf D w p × (units_of D w p ≤ 2 ^ 64 - 1))
+none_whole D w p h = λ q. h (q.0.0, omega (arith, q.1))
+
+pub none_part : (D : ℕ) (w p : List ℕ) → ¬ (IsNumeral 10 p × (digits_value 10 p * 10 ^ (D - length p) ≤ 2 ^ 64 - 1)) → ¬ (ArePartsOf D w p × (units_of D w p ≤ 2 ^ 64 - 1))
+none_part D w p h = λ q. h (q.0.1, omega (arith, q.1))
+
+-- ---- what `parse` reads
+
+abbrev IsRead : List ℕ → Option ℕ → Type 0
+IsRead bs o = MatchOption o (¬ (IsNumeral 10 bs × (digits_value 10 bs ≤ 2 ^ 64 - 1))) (λ n. IsNumeral 10 bs × (digits_value 10 bs ≡ n))
+
+read_if : {E : Type 0} (bs : List ℕ) (r : Result ℕ E) → OkIff r (AllDigits 10 bs × (0 < length bs) × (digits_value 10 bs < 2 ^ 64)) (digits_value 10 bs) → IsRead bs (result_ok r)
+read_if bs (Ok x) h = ((h.0.1, h.0.0), sym h.1)
+read_if bs (Err e) h = λ q. h (q.0.1, q.0.0, omega (arith, q.1))
+
+pub number_read : {E : Type 0} (bs : List ℕ) (r : Result ℕ E) (o : Option ℕ) → get_or bs 0 0 ≢ 43 → ParsesUnsigned 64 10 bs r → o ≡ result_ok r → IsRead bs o
+number_read bs r o plain h is = subst (λ (o : Option ℕ). IsRead bs o) (sym is) (read_if bs r (parse_plain (numerals_by_value (AllDigits 10) tells_digits) 64 bs r h plain))
+
+-- a sign is no digit
+pub plus_is_none : (bs : List ℕ) → get_or bs 0 0 ≡ 43 → IsRead bs None
+plus_is_none bs plus = λ q. let r = digit_at bs 0 q.0.1 q.0.0 in absurd (omega (arith, r, plus))

@@ -33,7 +33,10 @@ fn alone(digits: &str, decimals: u32) -> Option<usize>
     ensures { MatchOption result (¬ (IsNumeral 10 digits.now × (digits_value 10 digits.now * 10 ^ decimals ≤ usize.MAX)))
         (λ n. IsNumeral 10 digits.now × (digits_value 10 digits.now * 10 ^ decimals ≡ n)) }
 {
-    number_of(digits)?.checked_mul(unit_of(decimals))
+    let Some(number) = number_of(digits) else {
+        return None;
+    };
+    number.checked_mul(unit_of(decimals))
 }
 
 // The units of a whole part and the decimals after it.
@@ -45,8 +48,12 @@ fn joined(whole: &str, part: &str, decimals: u32) -> Option<usize>
     if part.len() > decimals as usize {
         return None;
     }
-    let ones = number_of(whole)?.checked_mul(unit_of(decimals))?;
-    let parts = number_of(part)?.checked_mul(unit_of(decimals - part.len() as u32))?;
+    let Some(ones) = alone(whole, decimals) else {
+        return None;
+    };
+    let Some(parts) = alone(part, decimals - part.len() as u32) else {
+        return None;
+    };
     ones.checked_add(parts)
 }
 
@@ -73,8 +80,9 @@ fn padded(alloc: Global, number: usize, width: u32) -> Result<String, AllocError
     ensures { IfOk result (λ text. AllDigits 10 (string_bytes text) × (length (string_bytes text) ≡ width) × (digits_value 10 (string_bytes text) ≡ number)) }
 {
     let digits = format!(in alloc; "{number}")?;
+    let missing = (width as usize).saturating_sub(digits.len());
     let mut text = String::new(alloc);
-    'zeros: for _ in digits.len()..width as usize {
+    'zeros: while text.len() < missing {
         text.push('0')?;
     }
     text.push_str(digits.as_str())?;
@@ -88,10 +96,11 @@ pub fn write_decimal(alloc: Global, number: usize, scale: Scale) -> Result<Strin
 {
     let unit = unit_of(scale.decimals);
     let mut text = format!(in alloc; "{}", number / unit)?;
-    if scale.decimals > 0 {
-        text.push(scale.mark.character())?;
-        text.push_str(padded(alloc, number % unit, scale.decimals)?.as_str())?;
+    if scale.decimals == 0 {
+        return Ok(text);
     }
+    text.push(scale.mark.character())?;
+    text.push_str(padded(alloc, number % unit, scale.decimals)?.as_str())?;
     Ok(text)
 }
 
