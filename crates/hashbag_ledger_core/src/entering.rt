@@ -1,12 +1,12 @@
 //! A stock into which movements are entered, in turn.
-ghost use Rattle.std.specs.Prelude.{◌≡◌, ◌≢◌, ◌⊎◌, ◌+◌, ◌<◌, length, OnOk, OnErr, IfOk, IfErr, IfSome, IsSome};
+ghost use Rattle.std.specs.Prelude.{◌≡◌, ◌≢◌, ◌⊎◌, ◌+◌, ◌<◌, ◌≤◌, length, OnOk, OnErr, IfOk, IfErr, IfSome, IsSome};
 ghost use Rattle.hashbag_ledger_core.specs.declared.movements.Place.{Place};
 ghost use Rattle.hashbag_ledger_core.specs.Ledger.{coming, going, stock_of, refused_of, Changes, IsRefused, Leaves, IsPastLimit};
 
 use crate::movements::{Change, Movement, Place, Refusal};
 use hashbag::{BagError, HashBag};
 use std::alloc::{AllocError, Global};
-use std::hash::Hash;
+use std::hash::{BuildHasher, Hash};
 
 /// Why movements weren't entered.
 #[derive(Clone, Copy, PartialEq, Eq, Debug)]
@@ -34,8 +34,8 @@ impl From<AllocError> for LedgerError {
 ///
 /// What comes in is hashed once, and takes memory where its article is absent and no room is left. What goes out is hashed at most
 /// twice, and takes no memory.
-pub fn enter<T: Eq + Hash + Drop>(
-    stock: &mut HashBag<T>,
+pub fn enter<T: Eq + Hash + Drop, S: BuildHasher + Drop>(
+    stock: &mut HashBag<T, S>,
     movement: Movement<T>,
 ) -> Result<Option<Refusal<T>>, LedgerError>
     ensures entered { IfOk result (λ r. r ≡ None → Changes T.eq movement (stock_of T.eq stock.old.items) (stock_of T.eq stock.new.items)) }
@@ -45,6 +45,7 @@ pub fn enter<T: Eq + Hash + Drop>(
     ensures limit { stock.new.most ≡ stock.old.most }
     ensures why { IfErr result (λ e. (e ≡ LedgerError.Memory) ⊎ (e ≡ LedgerError.TooMany movement.place)) }
     ensures too_many { IfErr result (λ e. e ≢ LedgerError.Memory → stock.old.most < length stock.old.items + coming movement.change) }
+    ensures memory { IfErr result (λ e. e ≡ LedgerError.Memory → length stock.old.items + coming movement.change ≤ stock.old.most) }
     ensures err { OnErr result (stock.new ≡ stock.old) }
 {
     let Movement {
@@ -78,9 +79,9 @@ pub fn enter<T: Eq + Hash + Drop>(
 ///
 /// It answers `TooMany` with the place of a movement with which the total would pass the limit of the stock, and else only `Memory`:
 /// no clause says what the stock is then. It takes memory for absent articles and for the refusals.
-pub fn enter_all<T: Eq + Hash + Drop>(
+pub fn enter_all<T: Eq + Hash + Drop, S: BuildHasher + Drop>(
     alloc: Global,
-    stock: &mut HashBag<T>,
+    stock: &mut HashBag<T, S>,
     movements: Vec<Movement<T>>,
 ) -> Result<Vec<Refusal<T>>, LedgerError>
     ensures leaves { OnOk result (Leaves T.eq (stock_of T.eq stock.old.items) movements.items (stock_of T.eq stock.new.items)) }

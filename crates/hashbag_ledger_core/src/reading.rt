@@ -1,8 +1,10 @@
 //! Movements in CSV texts.
 use crate::movements::{Change, Movement, Place};
+use hashbag_lists::counts::Reading;
 use hashbag_lists::escaped::shown;
 use hashbag_lists::fault::{Fault, SheetError};
-use hashbag_lists::numbers::number;
+use hashbag_lists::numbers::scaled_number;
+use hashbag_lists::scale::Scale;
 use hashbag_lists::sheet::{Column, Sheet};
 use std::alloc::{AllocError, Global};
 
@@ -41,12 +43,18 @@ fn columns_of<'n>(
 }
 
 // The change of a number with a sign.
-fn signed_change(alloc: Global, line: u64, field: &str) -> Result<Change, SheetError> {
+fn signed_change(
+    alloc: Global,
+    line: u64,
+    field: &str,
+    scale: Scale,
+) -> Result<Change, SheetError> {
     if let Some(digits) = field.strip_prefix('-') {
-        return Ok(Change::Out(number(alloc, line, digits, field)?));
+        let n = scaled_number(alloc, line, digits, field, scale)?;
+        return Ok(Change::Out(n));
     }
     let digits = field.strip_prefix('+').unwrap_or(field);
-    Ok(Change::In(number(alloc, line, digits, field)?))
+    Ok(Change::In(scaled_number(alloc, line, digits, field, scale)?))
 }
 
 // The change of a kind and a number.
@@ -67,25 +75,29 @@ fn change_of(
     sheet: &Sheet<'_>,
     line: u64,
     columns: ChangeColumns<Column<'_>>,
+    scale: Scale,
 ) -> Result<Change, SheetError> {
     match columns {
-        ChangeColumns::Signed(change) => signed_change(alloc, line, sheet.field(change)?),
+        ChangeColumns::Signed(change) => {
+            signed_change(alloc, line, sheet.field(change)?, scale)
+        },
         ChangeColumns::ByKind(kind, quantity) => {
             let digits = sheet.field(quantity)?;
-            let n = number(alloc, line, digits, digits)?;
+            let n = scaled_number(alloc, line, digits, digits, scale)?;
             change_of_kind(alloc, line, sheet.field(kind)?, n)
         }
     }
 }
 
-/// The movements of a text, in the order of its lines. `file` is the number of the file that it stands in.
+/// The movements of a text, in the order of its lines. `file` is the number of its file. Numbers are in units of the scale.
 pub fn read_movements(
     alloc: Global,
     text: &[u8],
     file: usize,
     names: Columns<&str>,
+    reading: Reading,
 ) -> Result<Vec<Movement<String>>, SheetError> {
-    let mut sheet = Sheet::open(alloc, text)?;
+    let mut sheet = Sheet::open_with(alloc, text, reading.delimiter)?;
     let columns = columns_of(&sheet, names)?;
     let mut movements = Vec::new(alloc);
     'records: for _ in 0..u64::MAX {
@@ -94,7 +106,7 @@ pub fn read_movements(
         }
         let line = sheet.line();
         let article = String::from_str(alloc, sheet.field(columns.article)?)?;
-        let change = change_of(alloc, &sheet, line, columns.change)?;
+        let change = change_of(alloc, &sheet, line, columns.change, reading.scale)?;
         let place = Place { file, line };
         let movement = Movement {
             place,

@@ -19,7 +19,7 @@ use Rattle.hashbag.specs.Inserts.{InsertsAll, InsertsUpTo, RefusesPair, empty_ba
 use Rattle.hashbag.specs.Occurrences.{greatest_total, count}
 use Rattle.hashbag.specs.Walks.{IsSetWalk, IsSetWalkOf}
 use Rattle.hashbag.proofs.ContainsLemmas.{All-from_Contains, Contains-map, Contains-same}
-use Rattle.hashbag.proofs.CallerLemmas.{items_that_came, pairs_as_they_are}
+use Rattle.hashbag.proofs.CallerLemmas.{count_extended, items_that_came, pairs_as_they_are}
 use Rattle.hashbag.proofs.ExcessLemmas.{an_instance}
 use Rattle.hashbag.proofs.InsertLemmas.{all_added, length_in_turn, longer_by_numbers, some_added}
 use Rattle.hashbag.proofs.JoinLemmas.{in_walk, count_of_item}
@@ -93,6 +93,13 @@ module _ {T : Type 0} {eq : T → T → Bool} (laws : IsEquivalence eq) where
         let long : length bag.items ≡ 0 + sum_by number h.items = longer_by_numbers h number (λ x p is. ap number is) in
         let came : sum_by number h.items ≡ numbers all = ap (sum_by number) (sym (map-id h.items) ∙ items_that_came h.items h.came yields) in
         omega (arith, long, came)
+
+    pub counts_made : (v : T) → count eq v bag.items ≡ quantity eq v all
+    counts_made v =
+        let came = pairs_as_they_are h.items h.pairs h.went ∙ sym (map-id h.items) ∙ items_that_came h.items h.came yields in
+        let whole = count_extended laws v [] h.pairs bag (all_added laws h).means in
+        let each = ap (λ (l : List (T × ℕ)). quantity eq v l) came in
+        omega (arith, whole, each)
 
     pub numbers_fit : numbers all ≤ greatest_total
     numbers_fit =

@@ -1,1 +1,3 @@
+pub mod Decimals
+pub mod Marks
 pub mod Quantities

@@ -4,6 +4,7 @@ use Rattle.std.specs.List.{Contains}
 use Rattle.std.specs.List.Sorted.{IsStrictlySortedBy}
 use Rattle.std.specs.Map.{keys_of}
 use Rattle.std.specs.declared.cmp.Ordering.{Ordering}
+use Rattle.hashbag.specs.Occurrences.{count}
 
 -- how many articles a list names in all, the numbers beside them added up
 abbrev pub numbers : {T : Type 0} → List (T × ℕ) → ℕ
@@ -13,6 +14,10 @@ module _ {T : Type 0} (eq : T → T → Bool) where
   -- how many of v a list names in all
   abbrev pub quantity : T → List (T × ℕ) → ℕ
   quantity v L = sum_by (λ e. if eq v e.0 then e.1 else 0) L
+
+  -- how many entries of a list name v
+  abbrev pub times : T → List (T × ℕ) → ℕ
+  times v L = count eq v (keys_of L)
 
   -- L names each article of which there are some, once, beside how many there are, articles rising
   pub record IsBalance (cmp : T → T → Ordering) (there : T → ℕ) (L : List (T × ℕ)) : Type 0 where

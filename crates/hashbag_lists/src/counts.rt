@@ -1,23 +1,120 @@
 //! Lists of articles with quantities in CSV texts.
-ghost use Rattle.std.specs.Prelude.{◌≤◌, IfOk};
+ghost use Rattle.std.specs.Prelude.{◌≡◌, ◌+◌, ◌≤◌, IfOk};
 ghost use Rattle.hashbag_lists.specs.Quantities.{numbers};
 
-use crate::fault::{Fault, SheetError};
-use crate::numbers::number;
-use crate::sheet::Sheet;
+use crate::delimiter::Delimiter;
+use crate::fault::SheetError;
+use crate::numbers::{scaled_number, total_too_large};
+use crate::scale::Scale;
+use crate::sheet::{Column, Sheet};
 use std::alloc::{AllocError, Global};
 
-/// The articles of a text, each with the number beside it, in the order of the lines. An article may stand there more than once. All
-/// numbers together fit a `usize`.
-pub fn read_counts(
+/// How a text is read.
+#[derive(Clone, Copy)]
+pub struct Reading {
+    /// What is between fields.
+    pub delimiter: Delimiter,
+    /// How numbers are written.
+    pub scale: Scale,
+}
+
+impl Reading {
+    /// Commas between fields, and whole numbers.
+    pub fn plain() -> Reading {
+        Reading {
+            delimiter: Delimiter::Comma,
+            scale: Scale::whole(),
+        }
+    }
+}
+
+// The fields of several columns in the record that was read last.
+fn fields_of(
+    alloc: Global,
+    sheet: &Sheet<'_>,
+    columns: &Vec<Column<'_>>,
+) -> Result<Vec<String>, SheetError> {
+    let mut fields = Vec::new(alloc);
+    for column in columns {
+        let field = sheet.field(*column)?;
+        fields
+            .push(String::from_str(alloc, field)?)
+            .map_err(AllocError::from)?;
+    }
+    Ok(fields)
+}
+
+// The columns of these names.
+fn columns_of<'n>(
+    alloc: Global,
+    sheet: &Sheet<'_>,
+    names: &[&'n str],
+) -> Result<Vec<Column<'n>>, SheetError> {
+    let mut columns = Vec::new(alloc);
+    for name in names {
+        let column = sheet.column(*name)?;
+        columns.push(column).map_err(AllocError::from)?;
+    }
+    Ok(columns)
+}
+
+// A total and one number more, which is that of the record that was read last.
+fn sum_of(
+    alloc: Global,
+    sheet: &Sheet<'_>,
+    total: usize,
+    number: usize,
+    scale: Scale,
+) -> Result<usize, SheetError>
+    ensures { IfOk result (λ sum. sum ≡ total + number) }
+{
+    match total.checked_add(number) {
+        Some(sum) => Ok(sum),
+        None => Err(sheet.bad_line(total_too_large(alloc, scale)?)),
+    }
+}
+
+/// The articles of a text, each with the number beside it, in the order of the lines. An article may be there more than once. All
+/// numbers together fit a `usize`. An article is the fields of the columns that `keys` names, and numbers are in units of the scale.
+pub fn read_keyed_counts(
+    alloc: Global,
+    text: &[u8],
+    keys: &[&str],
+    number_column: &str,
+    reading: Reading,
+) -> Result<Vec<(Vec<String>, usize)>, SheetError>
+    ensures fits { IfOk result (λ counts. numbers counts.items ≤ usize.MAX) }
+{
+    let mut sheet = Sheet::open_with(alloc, text, reading.delimiter)?;
+    let articles = columns_of(alloc, &sheet, keys)?;
+    let numbers = sheet.column(number_column)?;
+    let mut counts = Vec::new(alloc);
+    let mut total = 0usize;
+    'records: for _ in 0..u64::MAX {
+        if !sheet.read()? {
+            break;
+        }
+        let article = fields_of(alloc, &sheet, &articles)?;
+        let digits = sheet.field(numbers)?;
+        let n = scaled_number(alloc, sheet.line(), digits, digits, reading.scale)?;
+        total = sum_of(alloc, &sheet, total, n, reading.scale)?;
+        counts.push((article, n)).map_err(AllocError::from)?;
+    }
+    Ok(counts)
+}
+
+/// The articles of one column of a text, each with the number beside it, in the order of the lines. An article may be there more than
+/// once. All numbers together fit a `usize`.
+pub fn read_counts_as(
     alloc: Global,
     text: &[u8],
     article: &str,
     number_column: &str,
+    reading: Reading,
 ) -> Result<Vec<(String, usize)>, SheetError>
     ensures fits { IfOk result (λ counts. numbers counts.items ≤ usize.MAX) }
 {
-    let mut sheet = Sheet::open(alloc, text)?;
+    let mut sheet = Sheet::open_with(alloc, text, reading.delimiter)?;
     let articles = sheet.column(article)?;
     let numbers = sheet.column(number_column)?;
     let mut counts = Vec::new(alloc);
@@ -28,14 +125,23 @@ pub fn read_counts(
         }
         let name = sheet.field(articles)?;
         let digits = sheet.field(numbers)?;
-        let n = number(alloc, sheet.line(), digits, digits)?;
-        let Some(sum) = total.checked_add(n) else {
-            return Err(sheet.bad_line(Fault::TotalTooLarge));
-        };
-        total = sum;
+        let n = scaled_number(alloc, sheet.line(), digits, digits, reading.scale)?;
+        total = sum_of(alloc, &sheet, total, n, reading.scale)?;
         counts
             .push((String::from_str(alloc, name)?, n))
             .map_err(AllocError::from)?;
     }
     Ok(counts)
+}
+
+/// The same of a text with commas between fields and with whole numbers.
+pub fn read_counts(
+    alloc: Global,
+    text: &[u8],
+    article: &str,
+    number_column: &str,
+) -> Result<Vec<(String, usize)>, SheetError>
+    ensures fits { IfOk result (λ counts. numbers counts.items ≤ usize.MAX) }
+{
+    read_counts_as(alloc, text, article, number_column, Reading::plain())
 }

@@ -14,6 +14,15 @@ pub enum Fault {
     /// The header has several columns of this name.
     #[error("more than one column `{0}`")]
     TwoColumns(String),
+    /// A quote that opens a field is never closed.
+    #[error("quote never closed")]
+    OpenQuote,
+    /// Text follows the quote that closes a field.
+    #[error("text after a closing quote")]
+    TextAfterQuote,
+    /// A field that doesn't begin with a quote has one.
+    #[error("quote in a field without quotes")]
+    StrayQuote,
     /// A record has another number of fields than the header.
     #[error("{header} fields wanted, {found} found")]
     Fields {
@@ -28,15 +37,37 @@ pub enum Fault {
     /// A field is no number.
     #[error("no number: `{0}`")]
     NoNumber(String),
+    /// A field is a number with decimals, and whole numbers are wanted.
+    #[error("whole numbers only: `{0}`")]
+    NotWhole(String),
+    /// A number has more decimals than are read.
+    #[error("more than {most} decimals: `{field}`")]
+    TooManyDecimals {
+        /// How many are read.
+        most: u32,
+        /// The field.
+        field: String,
+    },
     /// A number is past `usize::MAX`.
     #[error("number past {most}: `{0}`", most = usize::MAX)]
     TooLarge(String),
+    /// A number with decimals is past `usize::MAX` of its units.
+    #[error("number past {most}: `{field}`")]
+    PastMost {
+        /// The greatest number, with its decimals.
+        most: String,
+        /// The field.
+        field: String,
+    },
     /// A field names no kind of movement.
     #[error("neither `in` nor `out`: `{0}`")]
     NoKind(String),
     /// With this line the total is past `usize::MAX`.
     #[error("total past {most}", most = usize::MAX)]
     TotalTooLarge,
+    /// With this line the total is past `usize::MAX` units of numbers with decimals.
+    #[error("total past {0}")]
+    TotalPastMost(String),
 }
 
 /// Why a CSV text wasn't read.
@@ -53,6 +84,19 @@ pub enum SheetError {
     /// Memory was refused.
     #[error("no memory")]
     Memory,
+}
+
+impl SheetError {
+    /// Whether a total is too large.
+    pub fn is_total(&self) -> bool {
+        matches!(
+            self,
+            SheetError::Line {
+                fault: Fault::TotalTooLarge | Fault::TotalPastMost(_),
+                ..
+            }
+        )
+    }
 }
 
 impl From<AllocError> for SheetError {

@@ -2,11 +2,15 @@
 #![tactic(auto)]
 
 pub mod counts;
+pub mod decimals;
+pub mod delimiter;
 pub mod escaped;
 pub mod fault;
 pub mod files;
 pub mod numbers;
 pub mod quantities;
+pub mod quotes;
 pub mod records;
+pub mod scale;
 pub mod sheet;
 pub mod trouble;

@@ -1,4 +1,5 @@
 //! CSV texts that are written.
+use crate::delimiter::Delimiter;
 use csv::{Writer, WriterBuilder};
 use itoa::Buffer;
 use std::alloc::{AllocError, Global};
@@ -10,29 +11,45 @@ pub struct Records {
 }
 
 impl Records {
-    /// A text of one record, the header.
-    pub fn new(alloc: Global, header: &[&str]) -> Result<Records, AllocError> {
-        let mut writer = WriterBuilder::new().from_writer(Vec::new(alloc));
-        for name in header {
-            writer.write_field(name.as_bytes()).map_err(|_| AllocError)?;
+    /// An empty text with that delimiter between fields.
+    pub fn empty(alloc: Global, delimiter: Delimiter) -> Records {
+        Records {
+            writer: WriterBuilder::new()
+                .delimiter(delimiter.byte())
+                .from_writer(Vec::new(alloc)),
         }
-        writer.end_record().map_err(|_| AllocError)?;
-        Ok(Records { writer })
+    }
+
+    /// A text of one record, the header, with commas between fields.
+    pub fn new(alloc: Global, header: &[&str]) -> Result<Records, AllocError> {
+        let mut records = Records::empty(alloc, Delimiter::Comma);
+        for name in header {
+            records.field(*name)?;
+        }
+        records.end()?;
+        Ok(records)
+    }
+
+    /// Appends a field to the record that is being written.
+    pub fn field(&mut self, text: &str) -> Result<(), AllocError> {
+        self.writer
+            .write_field(text.as_bytes())
+            .map_err(|_| AllocError)
+    }
+
+    /// Ends the record that is being written.
+    pub fn end(&mut self) -> Result<(), AllocError> {
+        self.writer.end_record().map_err(|_| AllocError)
     }
 
     /// Appends a record of an article and numbers.
     pub fn push(&mut self, article: &str, numbers: &[usize]) -> Result<(), AllocError> {
-        let writer = &mut self.writer;
-        writer
-            .write_field(article.as_bytes())
-            .map_err(|_| AllocError)?;
+        self.field(article)?;
         for number in numbers {
             let mut digits = Buffer::new();
-            writer
-                .write_field(digits.format(*number).as_bytes())
-                .map_err(|_| AllocError)?;
+            self.field(digits.format(*number))?;
         }
-        writer.end_record().map_err(|_| AllocError)
+        self.end()
     }
 
     /// The whole text.

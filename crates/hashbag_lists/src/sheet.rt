@@ -1,12 +1,25 @@
 //! The records of a CSV text under its header.
+use crate::delimiter::Delimiter;
 use crate::escaped::shown;
 use crate::fault::{Fault, SheetError};
+use crate::quotes::misplaced_quote;
 use csv::{ByteRecord, Error, ErrorKind, Position, Reader, ReaderBuilder};
 use std::alloc::Global;
 use std::str;
 
 // What some programs write at the beginning of a text.
 const BYTE_ORDER_MARK: &[u8] = b"\xef\xbb\xbf";
+
+// How many lines end in these bytes.
+fn lines_in(bytes: &[u8]) -> u64 {
+    let mut lines = 0u64;
+    for byte in bytes {
+        if *byte == b'\n' {
+            lines = lines.saturating_add(1);
+        }
+    }
+    lines
+}
 
 // The line on which the record begins that was read from there on: the ends of empty lines before it are passed over.
 fn line_of(text: &[u8], position: Position) -> u64 {
@@ -32,25 +45,37 @@ pub struct Column<'n> {
 /// A CSV text whose records are read one after the other.
 ///
 /// Its first record is the header, and each other one has as many fields. A byte order mark, the ends of lines as `\n` or `\r\n`,
-/// fields in quotes and empty lines are read as most programs write them.
+/// fields in quotes and empty lines are read as most programs write them. A quote that is out of place is an error.
 #[derive(Drop)]
 pub struct Sheet<'a> {
     alloc: Global,
     text: &'a [u8],
+    delimiter: Delimiter,
     reader: Reader<&'a [u8]>,
     // The record that was read last, the header at first.
     record: ByteRecord,
 }
 
 impl<'a> Sheet<'a> {
-    /// The sheet of a text, with its header read.
+    /// The sheet of a text with commas between fields, with its header read.
     pub fn open(alloc: Global, text: &'a [u8]) -> Result<Sheet<'a>, SheetError> {
+        Sheet::open_with(alloc, text, Delimiter::Comma)
+    }
+
+    /// The sheet of a text with that delimiter between fields, with its header read.
+    pub fn open_with(
+        alloc: Global,
+        text: &'a [u8],
+        delimiter: Delimiter,
+    ) -> Result<Sheet<'a>, SheetError> {
         let text = text.strip_prefix(BYTE_ORDER_MARK).unwrap_or(text);
         let mut sheet = Sheet {
             alloc,
             text,
+            delimiter,
             reader: ReaderBuilder::new()
                 .has_headers(false)
+                .delimiter(delimiter.byte())
                 .from_reader(alloc, text),
             record: ByteRecord::new(alloc),
         };
@@ -62,15 +87,35 @@ impl<'a> Sheet<'a> {
         }
     }
 
-    /// Reads the next record, and answers whether there was one.
+    /// Reads the next record, and returns whether there was one.
     pub fn read(&mut self) -> Result<bool, SheetError> {
-        match self.reader.read_byte_record(&mut self.record) {
+        let read = self.reader.read_byte_record(&mut self.record);
+        if let Some(error) = self.quote_error() {
+            return Err(error);
+        }
+        match read {
             Ok(found) => Ok(found),
             Err(error) => Err(self.error_of(&error)),
         }
     }
 
-    // What a record was refused for. The text is in memory, so no read of it fails.
+    // The error that a quote of the record that was read last is out of place.
+    fn quote_error(&self) -> Option<SheetError> {
+        let start = self.record.position()?;
+        let (from, end) = (
+            start.byte() as usize,
+            self.reader.position().byte() as usize,
+        );
+        let bytes = self.text.get(from..end).unwrap_or(&[]);
+        let (index, misplaced) = misplaced_quote(bytes, self.delimiter.byte())?;
+        let before = lines_in(bytes.get(..index).unwrap_or(&[]));
+        Some(SheetError::Line {
+            line: start.line().saturating_add(before),
+            fault: misplaced.fault(),
+        })
+    }
+
+    // Why a record wasn't read. The text is in memory, so no read of it fails.
     fn error_of(&self, error: &Error) -> SheetError {
         match error.kind() {
             ErrorKind::UnequalLengths {

@@ -1,19 +1,12 @@
 //! Why a program over lists came to no end, its message and its status.
-ghost use Rattle.std.specs.Prelude.{◌≡◌, ◌⊎◌};
+ghost use Rattle.std.specs.Prelude.{◌<◌};
 
 use crate::fault::SheetError;
+use hashbag_shell::status::TOTAL_TOO_LARGE;
+pub use hashbag_shell::status::{BAD_INPUT, IO_FAILED, NO_MEMORY};
 use std::alloc::AllocError;
 use std::io::{self, ErrorKind};
 use thiserror::Error;
-
-/// Bad arguments, no such file, or a bad line.
-pub const BAD_INPUT: u8 = 2;
-
-/// Memory was refused.
-pub const NO_MEMORY: u8 = 3;
-
-/// A read or a write failed.
-pub const IO_FAILED: u8 = 4;
 
 /// Why a program came to no end.
 #[derive(Debug, Drop, Error)]
@@ -48,13 +41,24 @@ pub enum Trouble<'a> {
     /// Memory was refused.
     #[error("no memory")]
     Memory,
+    /// An output file wasn't opened or written.
+    #[error("{file}: {error}")]
+    Output {
+        /// Its name.
+        file: &'a str,
+        /// Why.
+        error: io::Error,
+    },
+    /// The system gives no random numbers.
+    #[error("random numbers: {0}")]
+    Random(io::Error),
     /// A write failed.
     #[error("{0}")]
     Write(io::Error),
 }
 
 impl Trouble<'_> {
-    /// Whether it is said: not where nobody reads the output any more.
+    /// Whether it is said: not if nobody reads the output any more.
     pub fn is_said(&self) -> bool {
         match self {
             Trouble::Write(error) => error.kind() != ErrorKind::BrokenPipe,
@@ -64,18 +68,23 @@ impl Trouble<'_> {
 
     /// The exit status of a program that came to no end for this reason.
     pub fn status(&self) -> u8
-        ensures { (result ≡ BAD_INPUT) ⊎ ((result ≡ NO_MEMORY) ⊎ (result ≡ IO_FAILED)) }
+        ensures { (1 < result) × (result < 6) }
     {
         match self {
-            Trouble::NotText | Trouble::Open { .. } | Trouble::BadLine { .. } => BAD_INPUT,
+            Trouble::BadLine { error, .. } if error.is_total() => TOTAL_TOO_LARGE,
+            Trouble::NotText | Trouble::BadLine { .. } => BAD_INPUT,
             Trouble::Memory => NO_MEMORY,
-            Trouble::Read { .. } | Trouble::Write(_) => IO_FAILED,
+            Trouble::Open { .. }
+            | Trouble::Read { .. }
+            | Trouble::Output { .. }
+            | Trouble::Random(_)
+            | Trouble::Write(_) => IO_FAILED,
         }
     }
 
-    /// Writes it to standard error in a line that begins with the program's name, where it is said, and answers the exit status.
+    /// Writes it to standard error in a line that begins with the program's name, if it is said, and returns the exit status.
     pub fn report<R: Eprint>(&self, rt: &R, program: &str) -> u8
-        ensures { (result ≡ BAD_INPUT) ⊎ ((result ≡ NO_MEMORY) ⊎ (result ≡ IO_FAILED)) }
+        ensures { (1 < result) × (result < 6) }
     {
         if self.is_said() {
             let _ = eprintln!(rt; "{program}: {self}");

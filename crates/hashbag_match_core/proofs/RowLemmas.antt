@@ -1,24 +1,26 @@
--- The rows that an outer join gives, sorted by their articles.
-use Rattle.std.proofs.Common.{◌≡◌, ℕ, zero, suc, ◌+◌, ◌-◌, ◌<◌, ◌≤◌, ◌==◌, ◌↔◌, Bool, true, false, IsTrue, List, [], ◌∷◌, ◌++◌, length, map, sum_by, All, Ordering, is_eq, is_lt, refl, sym, ◌∙◌, ap, subst, arith}
+-- The rows that a walk over names gives, sorted by their articles.
+use Rattle.std.proofs.Common.{◌≡◌, ℕ, zero, suc, ◌+◌, ◌-◌, ◌<◌, ◌≤◌, ◌==◌, ◌↔◌, Bool, true, false, IsTrue, List, [], ◌∷◌, ◌++◌, cond, get_or, length, map, take, sum_by, All, Ordering, is_eq, is_lt, refl, sym, ◌∙◌, ap, subst, arith}
 use borrow.Author.Tests.{eqb-true, eq-eqb}
 use Rattle.std.specs.Borrow.{Bor}
 use Rattle.std.specs.Cmp.{IsEquivalence, IsTotalOrder, IsStrictWeakOrder}
 use Rattle.std.specs.Ordering.{ordering_then}
 use Rattle.std.specs.List.{Contains, IsDistinct, AllByRecursion}
 use Rattle.std.specs.List.Sorted.{IsPermutation, IsSorted}
-use Rattle.std.proofs.lemmas.List.{append-nil, map-id}
+use Rattle.std.proofs.lemmas.List.{append-nil, get_or-map, length-map, map-id}
+use Rattle.std.specs.Map.{keys_of}
+use Rattle.hashbag.proofs.CallerLemmas.{count_take_next}
 use Rattle.std.proofs.lemmas.List.Elements.{All-contains, All-head, All-tail, All-weaker, Contains-append_left, Contains-append_right}
 use Rattle.std.proofs.lemmas.List.Sorted.{Contains-permutation, IsPermutation-map, IsPermutation-sym, sum_by-IsPermutation}
 use Rattle.std.proofs.lemmas.List.Sums.{sum_by-cons}
 use Rattle.std.proofs.lemmas.Map.Keys.{IsDistinct-IsPermutation, IsDistinct-cons, IsDistinct-head, IsDistinct-tail}
 use Rattle.hashbag.specs.Bag.{Bag}
 use Rattle.hashbag.specs.Equality.{bag_eq}
-use Rattle.hashbag.specs.EqualityLaws.{count_congr, same_counts-Decides}
-use Rattle.hashbag.specs.Joins.{alone, IsOuterJoin}
+use Rattle.hashbag.specs.EqualityLaws.{same_counts-Decides}
 use Rattle.hashbag.specs.Occurrences.{count}
-use Rattle.hashbag.proofs.ContainsLemmas.{All-from_Contains, Contains-filter, Contains-filter_back, Contains-map, Contains-map_back, Contains-same}
+use Rattle.hashbag.specs.Walks.{IsSetWalk}
+use Rattle.hashbag.proofs.ContainsLemmas.{All-from_Contains, Contains-map, Contains-map_back, Contains-same}
 use Rattle.hashbag.proofs.ExcessLemmas.{an_instance}
-use Rattle.hashbag.proofs.JoinLemmas.{count_of_item, outer_none_zero}
+use Rattle.hashbag.proofs.JoinLemmas.{count_of_item}
 use Rattle.hashbag.proofs.MemberLemmas.{map-map}
 use Rattle.hashbag_lists.proofs.SortedLemmas.{keys_rise}
 use Rattle.hashbag_match_core.specs.declared.matching.Row.{Row}
@@ -26,102 +28,63 @@ use Rattle.hashbag_match_core.specs.Matching.{missing_of, surplus_of, IsTable}
 use Rattle.hashbag_match_core.proofs.SumLemmas.{sum_of_counts}
 
 module _ {T : Type 0} where
-  abbrev pub row_at : T × ℕ × ℕ → Row T
-  row_at j = record { article = j.0; ordered = j.1; delivered = j.2 }
+  abbrev pub shown : Bor T × ℕ → T × ℕ
+  shown e = (e.0.now, e.1)
 
-  abbrev pub shown : Bor T × ℕ × ℕ → T × ℕ × ℕ
-  shown j = (j.0.now, j.1, j.2)
-
-  -- rows that were made of all that a join gave, in another order
-  pub rows_of_join : (J left all : List (T × ℕ × ℕ)) (given : List (Bor T × ℕ × ℕ)) (made rows : List (Row T)) → map shown given ++ left ≡ all → left ≡ [] → all ≡ J → made ≡ map row_at (map shown given)
-      → IsPermutation made rows → IsPermutation (map row_at J) rows
-  rows_of_join J left all given made rows parts none is made_so p =
-      let whole : map shown given ≡ J = sym (append-nil (map shown given)) ∙ ap (λ l. map shown given ++ l) (sym none) ∙ parts ∙ is in
-      subst (λ (l : List (Row T)). IsPermutation l rows) (made_so ∙ ap (map row_at) whole) p
+  -- rows that were made of all that a walk gave, in another order
+  pub rows_of_walk : (row_for : T → Row T) (W left all : List (T × ℕ)) (given : List (Bor T × ℕ)) (made rows : List (Row T)) → map shown given ++ left ≡ all → left ≡ [] → all ≡ W
+      → made ≡ map (λ e. row_for e.0) (map shown given) → IsPermutation made rows → IsPermutation (map (λ e. row_for e.0) W) rows
+  rows_of_walk row_for W left all given made rows parts none is made_so p =
+      let whole : map shown given ≡ W = sym (append-nil (map shown given)) ∙ ap (λ l. map shown given ++ l) (sym none) ∙ parts ∙ is in
+      subst (λ (l : List (Row T)). IsPermutation l rows) (made_so ∙ ap (map (λ (e : T × ℕ). row_for e.0)) whole) p
 
   -- a table of what is as many
-  pub table_same : {eq : T → T → Bool} {cmp : T → T → Ordering} (ordered delivered ordered' delivered' : T → ℕ) (rows : List (Row T)) → ((v : T) → ordered v ≡ ordered' v) → ((v : T) → delivered v ≡ delivered' v)
-      → IsTable eq cmp ordered delivered rows → IsTable eq cmp ordered' delivered' rows
-  table_same {eq = eq} {cmp = cmp} ordered delivered ordered' delivered' rows same_ordered same_delivered h =
-      subst (λ (q : T → ℕ). IsTable eq cmp q delivered' rows) (λ i v. same_ordered v i) (subst (λ (q : T → ℕ). IsTable eq cmp ordered q rows) (λ i v. same_delivered v i) h)
+  pub table_same : {eq : T → T → Bool} {cmp : T → T → Ordering} (named ordered delivered named' ordered' delivered' : T → ℕ) (rows : List (Row T))
+      → ((v : T) → named v ≡ named' v) → ((v : T) → ordered v ≡ ordered' v) → ((v : T) → delivered v ≡ delivered' v)
+      → IsTable eq cmp named ordered delivered rows → IsTable eq cmp named' ordered' delivered' rows
+  table_same {eq = eq} {cmp = cmp} named ordered delivered named' ordered' delivered' rows same_named same_ordered same_delivered h =
+      subst (λ (q : T → ℕ). IsTable eq cmp q ordered' delivered' rows) (λ i v. same_named v i)
+      (subst (λ (q : T → ℕ). IsTable eq cmp named q delivered' rows) (λ i v. same_ordered v i)
+      (subst (λ (q : T → ℕ). IsTable eq cmp named ordered q rows) (λ i v. same_delivered v i) h))
 
-module _ {T : Type 0} {eq : T → T → Bool} (laws : IsEquivalence eq) (X Y : List T) (J : List (T × ℕ × ℕ)) (h : IsOuterJoin eq X Y J) where
-  abbrev articles : List T
-  articles = h.first ++ h.second
-
-  abbrev both : T → T × ℕ × ℕ
-  both v = (v, count eq v X, count eq v Y)
-
-  abbrev row_of : T → Row T
+module _ {T : Type 0} {eq : T → T → Bool} (laws : IsEquivalence eq) (N X Y : List T) (W : List (T × ℕ)) (w : IsSetWalk eq N W) where
+  abbrev pub row_of : T → Row T
   row_of v = record { article = v; ordered = count eq v X; delivered = count eq v Y }
 
-  rows_are : map row_at J ≡ map row_of articles
-  rows_are = ap (map row_at) h.counts ∙ map-map both row_at articles
+  abbrev row_at : T × ℕ → Row T
+  row_at e = row_of e.0
 
-  articles_are : map (λ row. row.article) (map row_at J) ≡ articles
-  articles_are = ap (map (λ (row : Row T). row.article)) rows_are ∙ map-map row_of (λ row. row.article) articles ∙ map-id articles
+  rows_are : map row_at W ≡ map row_of w.values
+  rows_are = ap (map row_at) w.counts ∙ map-map (λ (v : T). (v, count eq v N)) row_at w.values
 
-  -- ---- no article stands there twice
+  articles_are : map (λ row. row.article) (map row_at W) ≡ w.values
+  articles_are = ap (map (λ (row : Row T). row.article)) rows_are ∙ map-map row_of (λ row. row.article) w.values ∙ map-id w.values
 
-  apart : (v w : T) (b : Bool) → eq v w ≡ b → 0 < count eq v X → count eq w X ≡ 0 → eq v w ≡ false
-  apart v w true is some none = let same = count_congr laws X v w is in absurd (omega arith)
-  apart v w false is some none = is
-
-  all_apart : (v : T) (V W : List T) → AllByRecursion (λ y. eq v y ≡ false) V → 0 < count eq v X → All (λ w. count eq w X ≡ 0) W → AllByRecursion (λ y. eq v y ≡ false) (V ++ W)
-  all_apart v [] [] h some none = tt
-  all_apart v [] (w ∷ W) h some none = (
-    apart v w (eq v w) refl some (All-head (λ w. count eq w X ≡ 0) w W none),
-    all_apart v [] W tt some (All-tail (λ w. count eq w X ≡ 0) w W none),
-  )
-  all_apart v (u ∷ V) W h some none = (h.0, all_apart v V W h.1 some none)
-
-  distinct_parts : (V W : List T) → IsDistinct eq V → IsDistinct eq W → All (λ v. 0 < count eq v X) V → All (λ w. count eq w X ≡ 0) W → IsDistinct eq (V ++ W)
-  distinct_parts [] W once later some none = later
-  distinct_parts (v ∷ V) W once later some none =
-      IsDistinct-cons eq v (V ++ W) (all_apart v V W (IsDistinct-head eq v V once) (All-head (λ v. 0 < count eq v X) v V some) none)
-      (distinct_parts V W (IsDistinct-tail eq v V once) later (All-tail (λ v. 0 < count eq v X) v V some) none)
-
-  distinct : IsDistinct eq articles
-  distinct = distinct_parts h.first h.second h.of_first.once h.of_second.once
-      (All-weaker (λ v. Contains X v) (λ v. 0 < count eq v X) (λ v there. count_of_item laws v X there) h.first h.of_first.only)
-      (All-weaker (λ w. Contains (alone eq X Y) w) (λ w. count eq w X ≡ 0) (λ w there. eqb-true _ _ (Contains-filter_back (λ y. count eq y X == 0) w Y there).1) h.second h.of_second.only)
-
-  -- ---- each row has the counts, and each article has a row
+  -- ---- each row has the counts, and each article that is named has a row
 
   abbrev IsRow : Row T → Type 0
-  IsRow row = (row.ordered ≡ count eq row.article X) × (row.delivered ≡ count eq row.article Y) × (0 < row.ordered + row.delivered)
+  IsRow row = (row.ordered ≡ count eq row.article X) × (row.delivered ≡ count eq row.article Y) × (0 < count eq row.article N)
 
-  is_row : (row : Row T) → Contains (map row_at J) row → IsRow row
+  is_row : (row : Row T) → Contains (map row_at W) row → IsRow row
   is_row row there =
-      let j = Contains-map_back row_at row J there in
-      let v = Contains-map_back both j.0 articles (Contains-same J _ j.0 h.counts j.1) in
-      let counts = subst (λ (j : T × ℕ × ℕ). (j.1 ≡ count eq j.0 X) × (j.2 ≡ count eq j.0 Y)) v.2 (refl, refl) in
-      let some = All-contains (λ j. 0 < j.1 + j.2) J j.0 (outer_none_zero laws X Y J h) j.1 in
-      subst IsRow j.2 (counts.0, counts.1, some)
+      let v = Contains-map_back row_of row w.values (Contains-same (map row_at W) _ row rows_are there) in
+      let some = count_of_item laws v.0 N (All-contains (λ y. Contains N y) w.values v.0 w.each.only v.1) in
+      subst IsRow v.2 (refl, refl, some)
 
-  listed : (v : T) (n : ℕ) → count eq v X ≡ n → 0 < n + count eq v Y → (x : T) × Contains articles x × (eq v x ≡ true)
-  listed v zero none some =
-      let y = an_instance laws v Y (omega arith) in
-      let not_ordered : count eq y.0 X ≡ 0 = sym (count_congr laws X v y.0 y.2) ∙ none in
-      let there = Contains-filter (λ y. count eq y X == 0) y.0 Y y.1 (eq-eqb _ _ not_ordered) in
-      (y.0, Contains-append_right h.first h.second y.0 (All-contains (λ u. Contains h.second u) (alone eq X Y) y.0 h.of_second.all there), y.2)
-  listed v (suc n) is some =
-      let x = an_instance laws v X (omega arith) in
-      (x.0, Contains-append_left h.first h.second x.0 (All-contains (λ u. Contains h.first u) X x.0 h.of_first.all x.1), x.2)
-
-  module _ (rows : List (Row T)) (p : IsPermutation (map row_at J) rows) where
-    pub table_from_join : {cmp : T → T → Ordering} (total : IsTotalOrder cmp) → ((x y : T) → eq x y ≡ is_eq (cmp x y)) → (rest : Row T → Row T → Ordering)
+  module _ (rows : List (Row T)) (p : IsPermutation (map row_at W) rows) where
+    pub table_from_walk : {cmp : T → T → Ordering} (total : IsTotalOrder cmp) → ((x y : T) → eq x y ≡ is_eq (cmp x y)) → (rest : Row T → Row T → Ordering)
         → IsStrictWeakOrder (λ x y. is_lt (ordering_then (cmp x.article y.article) (rest x y))) → IsSorted (λ x y. ordering_then (cmp x.article y.article) (rest x y)) rows
-        → IsTable eq cmp (λ v. count eq v X) (λ v. count eq v Y) rows
-    table_from_join {cmp = cmp} total ties rest weak up =
-        let moved : IsPermutation articles (map (λ row. row.article) rows) = subst (λ (l : List T). IsPermutation l (map (λ (row : Row T). row.article) rows)) articles_are (IsPermutation-map (λ (row : Row T). row.article) (map row_at J) rows p) in
+        → IsTable eq cmp (λ v. count eq v N) (λ v. count eq v X) (λ v. count eq v Y) rows
+    table_from_walk {cmp = cmp} total ties rest weak up =
+        let moved : IsPermutation w.values (map (λ row. row.article) rows) = subst (λ (l : List T). IsPermutation l (map (λ (row : Row T). row.article) rows)) articles_are (IsPermutation-map (λ (row : Row T). row.article) (map row_at W) rows p) in
         record {
-          rising = keys_rise laws total ties (λ (row : Row T). row.article) rest weak rows up (IsDistinct-IsPermutation eq laws.symm articles (map (λ row. row.article) rows) moved distinct);
-          counts = All-from_Contains IsRow rows (λ row there. is_row row (Contains-permutation rows (map row_at J) row (IsPermutation-sym _ _ p) there));
+          rising = keys_rise laws total ties (λ (row : Row T). row.article) rest weak rows up (IsDistinct-IsPermutation eq laws.symm w.values (map (λ row. row.article) rows) moved w.each.once);
+          counts = All-from_Contains IsRow rows (λ row there. is_row row (Contains-permutation rows (map row_at W) row (IsPermutation-sym _ _ p) there));
           each = λ v some.
-              let x = listed v (count eq v X) refl some in
-              let there = Contains-same _ (map row_at J) (row_of x.0) (sym rows_are) (Contains-map row_of x.0 articles x.1) in
-              (row_of x.0, Contains-permutation (map row_at J) rows (row_of x.0) p there, x.2);
+              let x = an_instance laws v N some in
+              let listed = All-contains (λ u. Contains w.values u) N x.0 w.each.all x.1 in
+              let there = Contains-same _ (map row_at W) (row_of x.0) (sym rows_are) (Contains-map row_of x.0 w.values listed) in
+              (row_of x.0, Contains-permutation (map row_at W) rows (row_of x.0) p there, x.2);
         }
 
     -- ---- sums of rows are at most those of the lists
@@ -144,16 +107,16 @@ module _ {T : Type 0} {eq : T → T → Bool} (laws : IsEquivalence eq) (X Y : L
 
     pub missing_fits : sum_by missing_of rows ≤ length X
     missing_fits =
-        let same : sum_by missing_of rows ≡ sum_by missing_of (map row_of articles) = sum_by-IsPermutation missing_of (map row_at J) rows p ∙ ap (sum_by missing_of) rows_are in
-        let few = few_missing articles in
-        let fits = sum_of_counts laws articles distinct X in
+        let same : sum_by missing_of rows ≡ sum_by missing_of (map row_of w.values) = sum_by-IsPermutation missing_of (map row_at W) rows p ∙ ap (sum_by missing_of) rows_are in
+        let few = few_missing w.values in
+        let fits = sum_of_counts laws w.values w.each.once X in
         omega (arith, same, few, fits)
 
     pub surplus_fits : sum_by surplus_of rows ≤ length Y
     surplus_fits =
-        let same : sum_by surplus_of rows ≡ sum_by surplus_of (map row_of articles) = sum_by-IsPermutation surplus_of (map row_at J) rows p ∙ ap (sum_by surplus_of) rows_are in
-        let few = few_surplus articles in
-        let fits = sum_of_counts laws articles distinct Y in
+        let same : sum_by surplus_of rows ≡ sum_by surplus_of (map row_of w.values) = sum_by-IsPermutation surplus_of (map row_at W) rows p ∙ ap (sum_by surplus_of) rows_are in
+        let few = few_surplus w.values in
+        let fits = sum_of_counts laws w.values w.each.once Y in
         omega (arith, same, few, fits)
 
 -- bags are equal exactly where all their counts agree
@@ -164,3 +127,12 @@ equal_exactly laws a b ordered delivered has_ordered has_delivered =
       λ equal v. sym (has_ordered v) ∙ decides.0 equal v ∙ has_delivered v,
       λ same. decides.1 (λ v. has_ordered v ∙ same v ∙ sym (has_delivered v)),
     )
+
+-- one entry more of a list that a loop goes over, and one name more in its bag
+pub one_name_more : {T : Type 0} {eq : T → T → Bool} (laws : IsEquivalence eq) (v : T) (L : List (T × ℕ)) (k : ℕ) (d : T × ℕ) (first before after : ℕ) → k < length L
+    → before ≡ first + count eq v (take k (keys_of L)) → after ≡ before + cond (eq v (get_or L k d).0) 1 0 → after ≡ first + count eq v (take (k + 1) (keys_of L))
+one_name_more {eq = eq} laws v L k d first before after below so_far more =
+    let next = count_take_next laws v (keys_of L) k d.0 (let same = length-map L (λ (e : _ × ℕ). e.0) in omega (arith, same, below)) in
+    let is = get_or-map (λ (e : _ × ℕ). e.0) L k d d.0 below in
+    let one : cond (eq v (get_or (keys_of L) k d.0)) 1 0 ≡ cond (eq v (get_or L k d).0) 1 0 = ap (λ x. cond (eq v x) 1 0) is in
+    omega (arith, next, one, so_far, more)

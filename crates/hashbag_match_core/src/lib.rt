@@ -1,6 +1,7 @@
 //! What was ordered beside what was delivered: the pure part of the program `hashbag_match`.
 #![tactic(auto)]
 
+pub mod keys;
 pub mod matching;
 pub mod output;
 mod table;

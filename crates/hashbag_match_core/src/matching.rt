@@ -1,14 +1,14 @@
 //! Rows of what was ordered and what was delivered.
-ghost use Rattle.std.specs.Prelude.{◌≡◌, ◌-◌, ◌≤◌, ◌↔◌, if◌then◌else◌, length, sum_by, IsTrue, IfOk, OnErr};
+ghost use Rattle.std.specs.Prelude.{◌≡◌, ◌+◌, ◌-◌, ◌≤◌, ◌↔◌, if◌then◌else◌, length, sum_by, IsTrue, IfOk, OnOk, OnErr};
 ghost use Rattle.hashbag.specs.Occurrences.{count};
-ghost use Rattle.hashbag_lists.specs.Quantities.{numbers, quantity};
+ghost use Rattle.hashbag_lists.specs.Quantities.{numbers, quantity, times};
 ghost use Rattle.hashbag_match_core.specs.Matching.{missing_of, surplus_of, agrees, AreTotals, IsTable};
 
 use crate::totals::{Totals, totals_of};
 use hashbag::{BagError, HashBag};
 use hashbag_lists::quantities::bag_of;
 use std::alloc::{AllocError, Global};
-use std::hash::Hash;
+use std::hash::{BuildHasher, Hash};
 
 /// One article of either list.
 #[derive(Clone, Copy, PartialEq, Eq, PartialOrd, Ord, Debug)]
@@ -65,49 +65,104 @@ impl<T> Matched<T> {
     }
 }
 
-/// The rows of two bags: each article of either in one row, articles rising. So their sums are at most the totals of the bags.
-///
-/// It takes memory for the rows. Each article is looked up once in the other bag; then the rows are sorted.
-pub fn rows_of<T: Ord + Hash + Copy + Drop>(
+// Adds an article to a bag once.
+fn add_name<T: Eq + Hash + Drop, S: BuildHasher + Drop>(
+    bag: &mut HashBag<T, S>,
+    article: T,
+) -> Result<(), AllocError>
+    ensures { OnOk result ((v : T) → count T.eq v bag.new.items ≡ count T.eq v bag.old.items + (if T.eq v article then 1 else 0)) }
+{
+    match bag.insert(article) {
+        Ok(_) => Ok(()),
+        // `TooMany` can't be: memory has no room for so many entries.
+        Err(_) => Err(AllocError),
+    }
+}
+
+// Adds each article that a list names to a bag, once for each entry.
+fn add_names<T: Eq + Hash + Copy + Drop, S: BuildHasher + Drop>(
+    bag: &mut HashBag<T, S>,
+    list: &[(T, usize)],
+) -> Result<(), AllocError>
+    ensures { OnOk result ((v : T) → count T.eq v bag.new.items ≡ count T.eq v bag.old.items + times T.eq v list.now) }
+{
+    for entry in list {
+        add_name(bag, entry.0)?;
+    }
+    Ok(())
+}
+
+/// The bag of the articles that two lists name, each as often as they name it, under this hash state.
+pub fn names_of<T: Eq + Hash + Copy + Drop, S: BuildHasher + Drop>(
     alloc: Global,
-    ordered: &HashBag<T>,
-    delivered: &HashBag<T>,
+    state: S,
+    ordered: &[(T, usize)],
+    delivered: &[(T, usize)],
+) -> Result<HashBag<T, S>, AllocError>
+    ensures { IfOk result (λ bag. (v : T) → count T.eq v bag.items ≡ times T.eq v ordered.now + times T.eq v delivered.now) }
+{
+    let mut bag = HashBag::with_hasher(alloc, state);
+    add_names(&mut bag, ordered)?;
+    add_names(&mut bag, delivered)?;
+    Ok(bag)
+}
+
+/// The rows of two bags: each article that is named in one row, beside its quantity in both bags, articles rising. So the sums of the
+/// rows are at most the totals of the bags.
+///
+/// # Complexity
+///
+/// It allocates the rows. Each article is looked up once in both bags; then the rows are sorted.
+pub fn rows_of<T: Ord + Hash + Copy + Drop, S: BuildHasher + Drop>(
+    alloc: Global,
+    named: &HashBag<T, S>,
+    ordered: &HashBag<T, S>,
+    delivered: &HashBag<T, S>,
 ) -> Result<Vec<Row<T>>, AllocError>
-    ensures table { IfOk result (λ rows. IsTable T.eq T.cmp (λ v. count T.eq v ordered.now.items) (λ v. count T.eq v delivered.now.items) rows.items) }
+    ensures table { IfOk result (λ rows. IsTable T.eq T.cmp
+        (λ v. count T.eq v named.now.items) (λ v. count T.eq v ordered.now.items) (λ v. count T.eq v delivered.now.items) rows.items) }
     ensures missing { IfOk result (λ rows. sum_by missing_of rows.items ≤ length ordered.now.items) }
     ensures surplus { IfOk result (λ rows. sum_by surplus_of rows.items ≤ length delivered.now.items) }
 {
     let mut rows = Vec::new(alloc);
-    for (article, ordered, delivered) in ordered.outer_join(delivered) {
+    for (article, _) in named.set_iter() {
         rows.push(Row {
             article: *article,
-            ordered,
-            delivered,
+            ordered: ordered.contains(article),
+            delivered: delivered.contains(article),
         })?;
     }
     rows.sort_unstable();
     Ok(rows)
 }
 
-/// Matches what was ordered with what was delivered. An article may stand in a list more than once; its numbers add up.
+/// Matches what was ordered with what was delivered. An article may be in a list more than once; its numbers add up. The bags hash by
+/// this state, on which the rows don't depend.
 ///
-/// It answers `TooMany` where the numbers of a list are more than `usize::MAX` together, and else only `Memory`. It takes memory for
-/// two bags and the rows.
-pub fn match_lists<T: Ord + Hash + Copy + Drop>(
+/// # Errors
+///
+/// `TooMany` if the numbers of a list are more than `usize::MAX` together, and else only `Memory`.
+///
+/// # Complexity
+///
+/// It allocates three bags and the rows. Each entry is hashed twice, and each article is looked up once in both bags of quantities.
+pub fn match_lists<T: Ord + Hash + Copy + Drop, S: BuildHasher + Copy + Drop>(
     alloc: Global,
+    state: S,
     ordered: Vec<(T, usize)>,
     delivered: Vec<(T, usize)>,
 ) -> Result<Matched<T>, BagError>
-    ensures table { IfOk result (λ matched. IsTable T.eq T.cmp
+    ensures table { IfOk result (λ matched. IsTable T.eq T.cmp (λ v. times T.eq v ordered.items + times T.eq v delivered.items)
         (λ v. quantity T.eq v ordered.items) (λ v. quantity T.eq v delivered.items) matched.rows.items) }
     ensures totals { IfOk result (λ matched. AreTotals matched.rows.items matched.totals) }
     ensures agree { IfOk result (λ matched. IsTrue matched.agree ↔ ((v : T) → quantity T.eq v ordered.items ≡ quantity T.eq v delivered.items)) }
     ensures memory { numbers ordered.items ≤ usize.MAX → numbers delivered.items ≤ usize.MAX → OnErr result (result ≡ Err BagError.Memory) }
 {
-    let ordered = bag_of(alloc, ordered)?;
-    let delivered = bag_of(alloc, delivered)?;
+    let named = names_of(alloc, state, &ordered, &delivered)?;
+    let ordered = bag_of(alloc, state, ordered)?;
+    let delivered = bag_of(alloc, state, delivered)?;
     let agree = ordered == delivered;
-    let rows = rows_of(alloc, &ordered, &delivered)?;
+    let rows = rows_of(alloc, &named, &ordered, &delivered)?;
     let totals = totals_of(&rows);
     Ok(Matched {
         rows,

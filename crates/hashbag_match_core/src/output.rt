@@ -4,8 +4,11 @@ ghost use Rattle.hashbag_match_core.specs.Matching.{missing_of, surplus_of, agre
 
 use crate::matching::{Matched, Row};
 use crate::table::table_of;
+use hashbag_lists::decimals::write_decimal;
+use hashbag_lists::delimiter::Delimiter;
 use hashbag_lists::records::Records;
-use serde::Serialize;
+use hashbag_lists::scale::Scale;
+use serde::{Described, Serialize, Serializer};
 use std::alloc::{AllocError, Global};
 
 /// Which rows are written.
@@ -43,50 +46,134 @@ impl Only {
 pub enum Form {
     /// In columns, with the sums on the last line.
     Table,
-    /// As CSV, with a header.
+    /// As CSV, with a header and the delimiter of the input.
     Csv,
     /// As a JSON array of an object for each row.
     Json,
 }
 
-// A row of five members.
-#[derive(Clone, Copy, Serialize)]
-struct Line<'a> {
-    article: &'a str,
-    ordered: usize,
-    delivered: usize,
-    missing: usize,
-    surplus: usize,
+/// What is written of the rows, and how.
+#[derive(Clone, Copy)]
+pub struct Layout<'a> {
+    /// The names of the key columns.
+    pub keys: &'a [&'a str],
+    /// Which rows.
+    pub only: Only,
+    /// How numbers are written.
+    pub scale: Scale,
+    /// What is between the fields of CSV.
+    pub delimiter: Delimiter,
+}
+
+// The names of the columns of numbers.
+static NUMBERS: [&str; 4] = ["ordered", "delivered", "missing", "surplus"];
+
+/// Whether a name is that of a column of numbers, which no key column may have.
+pub fn is_reserved(name: &str) -> bool {
+    NUMBERS.iter().any(|number| *number == name)
+}
+
+// The numbers of a row in the order of their columns.
+fn numbers_in<T>(row: &Row<T>) -> [usize; 4] {
+    [row.ordered, row.delivered, row.missing(), row.surplus()]
+}
+
+/// The numbers of a row in the order of their columns, as they are written.
+pub fn numbers_of<T>(alloc: Global, row: &Row<T>, scale: Scale) -> Result<Vec<String>, AllocError> {
+    let mut texts = Vec::new(alloc);
+    for number in &numbers_in(row) {
+        texts.push(write_decimal(alloc, *number, scale)?)?;
+    }
+    Ok(texts)
 }
 
 // The rows as CSV.
-fn csv_of(alloc: Global, rows: &[Row<&str>], only: Only) -> Result<Vec<u8>, AllocError> {
-    let header = ["article", "ordered", "delivered", "missing", "surplus"];
-    let mut records = Records::new(alloc, header.as_slice())?;
+fn csv_of(
+    alloc: Global,
+    rows: &[Row<&Vec<String>>],
+    layout: Layout<'_>,
+) -> Result<Vec<u8>, AllocError> {
+    let mut records = Records::empty(alloc, layout.delimiter);
+    for key in layout.keys {
+        records.field(*key)?;
+    }
+    for name in &NUMBERS {
+        records.field(*name)?;
+    }
+    records.end()?;
     for row in rows {
-        if only.shows(row) {
-            let numbers = [row.ordered, row.delivered, row.missing(), row.surplus()];
-            records.push(row.article, &numbers)?;
+        if layout.only.shows(row) {
+            for field in row.article {
+                records.field(field.as_str())?;
+            }
+            for number in numbers_of(alloc, row, layout.scale)? {
+                records.field(number.as_str())?;
+            }
+            records.end()?;
         }
     }
     records.into_text()
 }
 
+// A row as an object with a member for each column.
+#[derive(Drop)]
+struct Object<'r, 'a> {
+    keys: &'r [&'r str],
+    row: &'r Row<&'a Vec<String>>,
+    // The numbers as texts, if they have decimals.
+    texts: Option<Vec<String>>,
+}
+
+impl Described for Object<'_, '_> {}
+
+impl Serialize for Object<'_, '_> {
+    fn serialize<S: Serializer>(&self, out: &mut S) -> Result<(), S::Error> {
+        out.begin_map(None)?;
+        for (name, field) in self.keys.iter().zip(self.row.article.iter()) {
+            out.key(*name)?;
+            field.serialize(out)?;
+        }
+        match &self.texts {
+            Some(texts) => {
+                for (name, text) in NUMBERS.iter().zip(texts.iter()) {
+                    out.key(*name)?;
+                    text.serialize(out)?;
+                }
+            }
+            None => {
+                let numbers = numbers_in(self.row);
+                for (name, number) in NUMBERS.iter().zip(numbers.iter()) {
+                    out.key(*name)?;
+                    number.serialize(out)?;
+                }
+            }
+        }
+        out.end_map()
+    }
+}
+
 // The rows as JSON.
-fn json_of(alloc: Global, rows: &[Row<&str>], only: Only) -> Result<Vec<u8>, AllocError> {
-    let mut lines = Vec::new(alloc);
+fn json_of(
+    alloc: Global,
+    rows: &[Row<&Vec<String>>],
+    layout: Layout<'_>,
+) -> Result<Vec<u8>, AllocError> {
+    let mut objects = Vec::new(alloc);
     for row in rows {
-        if only.shows(row) {
-            lines.push(Line {
-                article: row.article,
-                ordered: row.ordered,
-                delivered: row.delivered,
-                missing: row.missing(),
-                surplus: row.surplus(),
+        if layout.only.shows(row) {
+            let texts = if layout.scale.decimals == 0 {
+                None
+            } else {
+                Some(numbers_of(alloc, row, layout.scale)?)
+            };
+            objects.push(Object {
+                keys: layout.keys,
+                row,
+                texts,
             })?;
         }
     }
-    let mut text = serde_json::to_vec(alloc, &lines).map_err(|_| AllocError)?;
+    let mut text = serde_json::to_vec(alloc, &objects).map_err(|_| AllocError)?;
     text.push(b'\n')?;
     Ok(text)
 }
@@ -94,13 +181,13 @@ fn json_of(alloc: Global, rows: &[Row<&str>], only: Only) -> Result<Vec<u8>, All
 /// The text of what was matched.
 pub fn text_of(
     alloc: Global,
-    matched: &Matched<&str>,
-    only: Only,
+    matched: &Matched<&Vec<String>>,
+    layout: Layout<'_>,
     form: Form,
 ) -> Result<Vec<u8>, AllocError> {
     match form {
-        Form::Table => table_of(alloc, matched, only),
-        Form::Csv => csv_of(alloc, &matched.rows, only),
-        Form::Json => json_of(alloc, &matched.rows, only),
+        Form::Table => table_of(alloc, matched, layout),
+        Form::Csv => csv_of(alloc, &matched.rows, layout),
+        Form::Json => json_of(alloc, &matched.rows, layout),
     }
 }

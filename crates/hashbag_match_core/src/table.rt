@@ -1,128 +1,108 @@
 //! Rows in columns.
 use crate::matching::{Matched, Row};
-use crate::output::Only;
+use crate::output::{Layout, numbers_of};
 use crate::totals::Totals;
+use hashbag_lists::decimals::write_decimal;
 use hashbag_lists::escaped::Escaped;
+use hashbag_lists::scale::Scale;
 use std::alloc::{AllocError, Global};
 use unicode_width::UnicodeWidthStr;
 
-// The titles of the columns.
-const ARTICLE: &str = "ARTICLE";
+// The titles of the columns of numbers.
+static NUMBERS: [&str; 4] = ["ORDERED", "DELIVERED", "MISSING", "SURPLUS"];
 
-const ORDERED: &str = "ORDERED";
-
-const DELIVERED: &str = "DELIVERED";
-
-const MISSING: &str = "MISSING";
-
-const SURPLUS: &str = "SURPLUS";
-
-// How wide the columns are.
-#[derive(Clone, Copy)]
-struct Widths {
-    article: usize,
-    ordered: usize,
-    delivered: usize,
-    missing: usize,
-    surplus: usize,
-}
-
-// How many digits a number has.
-fn digits(number: usize) -> usize {
-    match number.checked_ilog10() {
-        Some(tens) => (tens as usize).saturating_add(1),
-        None => 1,
+// The titles: the names of the key columns in capitals, then those of the numbers.
+fn titles_of(alloc: Global, keys: &[&str]) -> Result<Vec<String>, AllocError> {
+    let mut titles = Vec::new(alloc);
+    for key in keys {
+        let title = format!(in alloc; "{}", Escaped(key.to_uppercase(alloc)?.as_str()))?;
+        titles.push(title)?;
     }
-}
-
-impl Widths {
-    // Those of the titles.
-    fn new() -> Widths {
-        Widths {
-            article: ARTICLE.len(),
-            ordered: ORDERED.len(),
-            delivered: DELIVERED.len(),
-            missing: MISSING.len(),
-            surplus: SURPLUS.len(),
-        }
+    for title in &NUMBERS {
+        titles.push(String::from_str(alloc, *title)?)?;
     }
+    Ok(titles)
+}
 
-    // As wide as before, and as a row with so wide an article needs.
-    fn with(self, article: usize, row: &Row<&str>) -> Widths {
-        Widths {
-            article: self.article.max(article),
-            ordered: self.ordered.max(digits(row.ordered)),
-            delivered: self.delivered.max(digits(row.delivered)),
-            missing: self.missing.max(digits(row.missing())),
-            surplus: self.surplus.max(digits(row.surplus())),
-        }
+// The cells of a row: the fields of its article with control characters escaped, then its numbers.
+fn cells_of(
+    alloc: Global,
+    row: &Row<&Vec<String>>,
+    scale: Scale,
+) -> Result<Vec<String>, AllocError> {
+    let mut cells = Vec::new(alloc);
+    for field in row.article {
+        cells.push(format!(in alloc; "{}", Escaped(field.as_str()))?)?;
     }
+    for number in numbers_of(alloc, row, scale)? {
+        cells.push(number)?;
+    }
+    Ok(cells)
 }
 
-// An article as it is shown.
-fn cell_of(alloc: Global, article: &str) -> Result<String, AllocError> {
-    format!(in alloc; "{}", Escaped(article))
+// The widths of columns that have these cells too.
+fn widened(
+    alloc: Global,
+    widths: &Vec<usize>,
+    cells: &Vec<String>,
+) -> Result<Vec<usize>, AllocError> {
+    let mut wide = Vec::new(alloc);
+    for (index, cell) in cells.iter().enumerate() {
+        let width = widths.get(index).copied().unwrap_or(0);
+        wide.push(width.max(cell.as_str().width()))?;
+    }
+    Ok(wide)
 }
 
-// Appends a text, and spaces up to that width.
-fn push_padded(table: &mut String, text: &str, width: usize) -> Result<(), AllocError> {
-    table.push_str(text)?;
-    for _ in text.width()..width {
+// Appends n spaces.
+fn push_spaces(table: &mut String, n: usize) -> Result<(), AllocError> {
+    for _ in 0..n {
         table.push(' ')?;
     }
     Ok(())
 }
 
-// Appends the titles.
-fn push_titles(table: &mut String, widths: Widths) -> Result<(), AllocError> {
-    let Widths {
-        article,
-        ordered,
-        delivered,
-        missing,
-        surplus,
-    } = widths;
-    push_padded(table, ARTICLE, article)?;
-    writeln!(
-        table,
-        "  {ORDERED:>ordered$}  {DELIVERED:>delivered$}  {MISSING:>missing$}  {SURPLUS:>surplus$}"
-    )
-}
-
-// Appends a row.
-fn push_row(
-    alloc: Global,
+// Appends a line: the first cells, those of the article, at the left of their columns, the others at the right.
+fn push_line(
     table: &mut String,
-    row: &Row<&str>,
-    widths: Widths,
+    cells: &Vec<String>,
+    widths: &Vec<usize>,
+    keys: usize,
 ) -> Result<(), AllocError> {
-    push_padded(table, cell_of(alloc, row.article)?.as_str(), widths.article)?;
-    write!(table, "  {:>width$}", row.ordered, width = widths.ordered)?;
-    write!(
-        table,
-        "  {:>width$}",
-        row.delivered,
-        width = widths.delivered
-    )?;
-    write!(table, "  {:>width$}", row.missing(), width = widths.missing)?;
-    writeln!(table, "  {:>width$}", row.surplus(), width = widths.surplus)
+    for (index, cell) in cells.iter().enumerate() {
+        let width = widths.get(index).copied().unwrap_or(0);
+        let spaces = width.saturating_sub(cell.as_str().width());
+        if index > 0 {
+            push_spaces(table, 2)?;
+        }
+        if index < keys {
+            table.push_str(cell.as_str())?;
+            push_spaces(table, spaces)?;
+        } else {
+            push_spaces(table, spaces)?;
+            table.push_str(cell.as_str())?;
+        }
+    }
+    table.push('\n')
 }
 
 // Appends the last line.
-fn push_totals(table: &mut String, totals: &Totals) -> Result<(), AllocError> {
-    let Totals {
-        articles,
-        differing,
-        missing,
-        surplus,
-    } = *totals;
-    match differing {
+fn push_totals(
+    alloc: Global,
+    table: &mut String,
+    totals: &Totals,
+    scale: Scale,
+) -> Result<(), AllocError> {
+    let articles = totals.articles;
+    let missing = write_decimal(alloc, totals.missing, scale)?;
+    let surplus = write_decimal(alloc, totals.surplus, scale)?;
+    match totals.differing {
         0 => writeln!(table, "no article of {articles} differs"),
         1 => writeln!(
             table,
             "1 article differs: {missing} missing, {surplus} surplus"
         ),
-        _ => writeln!(
+        differing => writeln!(
             table,
             "{differing} articles differ: {missing} missing, {surplus} surplus"
         ),
@@ -130,21 +110,26 @@ fn push_totals(table: &mut String, totals: &Totals) -> Result<(), AllocError> {
 }
 
 /// The rows in columns, the articles' at the left, and the sums of all rows below them.
-pub fn table_of(alloc: Global, matched: &Matched<&str>, only: Only) -> Result<Vec<u8>, AllocError> {
-    let mut widths = Widths::new();
+pub fn table_of(
+    alloc: Global,
+    matched: &Matched<&Vec<String>>,
+    layout: Layout<'_>,
+) -> Result<Vec<u8>, AllocError> {
+    let titles = titles_of(alloc, layout.keys)?;
+    let mut widths = widened(alloc, &Vec::new(alloc), &titles)?;
     for row in &matched.rows {
-        if only.shows(row) {
-            let cell = cell_of(alloc, row.article)?;
-            widths = widths.with(cell.width(), row);
+        if layout.only.shows(row) {
+            widths = widened(alloc, &widths, &cells_of(alloc, row, layout.scale)?)?;
         }
     }
     let mut table = String::new(alloc);
-    push_titles(&mut table, widths)?;
+    push_line(&mut table, &titles, &widths, layout.keys.len())?;
     for row in &matched.rows {
-        if only.shows(row) {
-            push_row(alloc, &mut table, row, widths)?;
+        if layout.only.shows(row) {
+            let cells = cells_of(alloc, row, layout.scale)?;
+            push_line(&mut table, &cells, &widths, layout.keys.len())?;
         }
     }
-    push_totals(&mut table, &matched.totals)?;
+    push_totals(alloc, &mut table, &matched.totals, layout.scale)?;
     Ok(table.into_bytes())
 }

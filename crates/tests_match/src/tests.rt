@@ -1,13 +1,19 @@
 //! What no clause says of lists with quantities: how texts are read, what is said of bad ones, and how rows are written. What is wanted
 //! was found by hand; that the good texts are read so by others too, by Python's `csv`.
-use hashbag_lists::counts::read_counts;
+use hashbag::{BagError, FixedState};
+use hashbag_lists::counts::{Reading, read_keyed_counts};
+use hashbag_lists::decimals::{read_decimal, write_decimal};
+use hashbag_lists::delimiter::Delimiter;
+use hashbag_lists::scale::{Mark, Scale};
+use hashbag_match_core::keys::{lent, names_in, repeated};
 use hashbag_match_core::matching::match_lists;
-use hashbag_match_core::output::{Form, Only, text_of};
+use hashbag_match_core::output::{Form, Layout, Only, is_reserved, text_of};
 use std::alloc::{AllocError, Global};
+use std::hash::{BuildHasher, RandomState};
 use std::test::Fail;
 
 // A text, and what it says: its articles, or its first bad line and what is wrong with that.
-const TEXTS: [(&[u8], &str); 29] = [
+const TEXTS: [(&[u8], &str); 44] = [
     (b"article,number\n", ""),
     (
         b"article,number\nbolt,5\nnut,0\nbolt,007",
@@ -45,7 +51,53 @@ const TEXTS: [(&[u8], &str); 29] = [
     ),
     (
         b"article,number\n\"bolt,5\nnut,6\n",
-        "2: 2 fields wanted, 1 found",
+        "2: quote never closed",
+    ),
+    (
+        b"article,number,remark\nbolt,5,\nnut,7,\"12 inch\nbolt,2,\n",
+        "3: quote never closed",
+    ),
+    (
+        b"article,number\nbolt,\"5\r\n\r\nnut,7\r\n",
+        "2: quote never closed",
+    ),
+    (b"article,number\nbolt,5\n\"", "3: quote never closed"),
+    (b"\"article,number\n", "1: quote never closed"),
+    (
+        b"article,number\n\"a\nb\",\"1\nc,2\n",
+        "3: quote never closed",
+    ),
+    (
+        b"article,number\nnut,\"7\" \n",
+        "2: text after a closing quote",
+    ),
+    (
+        b"article,number\n\"12\"\" \"inch,7\n",
+        "2: text after a closing quote",
+    ),
+    (
+        b"article,number\n\"a\n\"b,7\n",
+        "2: text after a closing quote",
+    ),
+    (
+        b"article,number\nnut 12\",7\n",
+        "2: quote in a field without quotes",
+    ),
+    (
+        b"article,number\n\"a\nb\",1\"\n",
+        "3: quote in a field without quotes",
+    ),
+    (
+        b"article,number\n \"nut\",7\n",
+        "2: quote in a field without quotes",
+    ),
+    (
+        b"article,number\n\"\",5\n\"\"\"\",6\n\"\"",
+        "4: 2 fields wanted, 1 found",
+    ),
+    (
+        b"article,number\n\"\"\"\",5\r\n\"\r\",\"6\"",
+        "[\" 5][\r 6]",
     ),
     (
         b"article,number\nbo\xfft,5\n",
@@ -60,7 +112,15 @@ const TEXTS: [(&[u8], &str); 29] = [
     (b"article,number\nbolt,-1\n", "2: no number: `-1`"),
     (b"article,number\nbolt,+1\n", "2: no number: `+1`"),
     (b"article,number\nbolt, 1\n", "2: no number: ` 1`"),
-    (b"article,number\nbolt,1.5\n", "2: no number: `1.5`"),
+    (
+        b"article,number\nbolt,1.5\n",
+        "2: whole numbers only: `1.5`",
+    ),
+    (
+        b"article,number\nbolt,\"1.000,25\"\n",
+        "2: whole numbers only: `1.000,25`",
+    ),
+    (b"article,number\nbolt,1.\n", "2: no number: `1.`"),
     (
         b"article,number\nbolt,\xd9\xa3\n",
         "2: no number: `\u{663}`",
@@ -84,13 +144,18 @@ const TEXTS: [(&[u8], &str); 29] = [
     (b"article,number\nbolt,x\nbo\xfft,1\n", "2: no number: `x`"),
 ];
 
-// What a text says.
-fn said_of(alloc: Global, text: &[u8]) -> Result<String, AllocError> {
-    match read_counts(alloc, text, "article", "number") {
+// What a text says that is read so.
+fn said_of(alloc: Global, text: &[u8], keys: &str, reading: Reading) -> Result<String, AllocError> {
+    let keys = names_in(alloc, keys)?;
+    match read_keyed_counts(alloc, text, &keys, "number", reading) {
         Ok(list) => {
             let mut said = String::new(alloc);
-            for (article, number) in &list {
-                write!(said, "[{article} {number}]")?;
+            for (fields, number) in &list {
+                write!(said, "[")?;
+                for field in fields {
+                    write!(said, "{} ", field.as_str())?;
+                }
+                write!(said, "{number}]")?;
             }
             Ok(said)
         }
@@ -101,23 +166,315 @@ fn said_of(alloc: Global, text: &[u8]) -> Result<String, AllocError> {
 #[test]
 fn texts_are_read(rt: HostRuntime) -> Result<(), Fail> {
     for (text, wanted) in TEXTS {
-        assert_eq!(rt; said_of(rt.alloc(), text)?.as_str(), wanted);
+        let said = said_of(rt.alloc(), text, "article", Reading::plain())?;
+        assert_eq!(rt; said.as_str(), wanted);
     }
     Ok(())
 }
 
-// What was ordered and what was delivered, which rows and how, and what is then written.
-const ROWS: [(&[(&str, usize)], &[(&str, usize)], Only, Form, &str); 8] = [
+// A text, its key columns, its delimiter, decimals and mark, and what it says.
+const READINGS: [(&[u8], &str, &str, u32, &str, &str); 22] = [
+    (
+        b"article;number\nbolt;1,5\n",
+        "article",
+        ";",
+        2,
+        ",",
+        "[bolt 150]",
+    ),
+    (
+        b"article\tnumber\nnut, M4\t7\n",
+        "article",
+        "tab",
+        0,
+        ".",
+        "[nut, M4 7]",
+    ),
+    (
+        b"article\tnumber\nnut\t7\n",
+        "article",
+        "\\t",
+        1,
+        ".",
+        "[nut 70]",
+    ),
+    (
+        b"article;number\n\"a;\"\"b\";7\n",
+        "article",
+        ";",
+        0,
+        ".",
+        "[a;\"b 7]",
+    ),
+    (
+        b"article;number\na;7\"\n",
+        "article",
+        ";",
+        0,
+        ".",
+        "2: quote in a field without quotes",
+    ),
+    (
+        b"article,number\na,7\n",
+        "article",
+        ";",
+        0,
+        ".",
+        "1: no column `article`",
+    ),
+    (
+        b"number,lot,article\n1,L1,a\n2,,b\n",
+        "article,lot",
+        ",",
+        0,
+        ".",
+        "[a L1 1][b  2]",
+    ),
+    (
+        b"number,article\n1,a\n",
+        "article,lot",
+        ",",
+        0,
+        ".",
+        "1: no column `lot`",
+    ),
+    (
+        b"article,number\na,1.5\na,0.25\na,007.10\na,3\n",
+        "article",
+        ",",
+        2,
+        ".",
+        "[a 150][a 25][a 710][a 300]",
+    ),
+    (
+        b"article,number\na,184467440737095516.15\n",
+        "article",
+        ",",
+        2,
+        ".",
+        "[a 18446744073709551615]",
+    ),
+    (
+        b"article,number\na,184467440737095516.16\n",
+        "article",
+        ",",
+        2,
+        ".",
+        "2: number past 184467440737095516.15: `184467440737095516.16`",
+    ),
+    (
+        b"article,number\na,18446744074\n",
+        "article",
+        ",",
+        9,
+        ".",
+        "2: number past 18446744073.709551615: `18446744074`",
+    ),
+    (
+        b"article,number\na,184467440737095516.15\nb,0.01\n",
+        "article",
+        ",",
+        2,
+        ".",
+        "3: total past 184467440737095516.15",
+    ),
+    (
+        b"article,number\na,1.555\n",
+        "article",
+        ",",
+        2,
+        ".",
+        "2: more than 2 decimals: `1.555`",
+    ),
+    (
+        b"article,number\na,1.550\n",
+        "article",
+        ",",
+        2,
+        ".",
+        "2: more than 2 decimals: `1.550`",
+    ),
+    (
+        b"article,number\na,.5\n",
+        "article",
+        ",",
+        2,
+        ".",
+        "2: no number: `.5`",
+    ),
+    (
+        b"article,number\na,5.\n",
+        "article",
+        ",",
+        2,
+        ".",
+        "2: no number: `5.`",
+    ),
+    (
+        b"article,number\na,\"1,5\"\n",
+        "article",
+        ",",
+        2,
+        ".",
+        "2: no number: `1,5`",
+    ),
+    (
+        b"article,number\na,1.2.3\n",
+        "article",
+        ",",
+        9,
+        ".",
+        "2: no number: `1.2.3`",
+    ),
+    (
+        b"article,number\na,+1.5\n",
+        "article",
+        ",",
+        2,
+        ".",
+        "2: no number: `+1.5`",
+    ),
+    (
+        b"article,number\na,1.+5\n",
+        "article",
+        ",",
+        2,
+        ".",
+        "2: no number: `1.+5`",
+    ),
+    (
+        b"article,number\na,1e1\n",
+        "article",
+        ",",
+        2,
+        ".",
+        "2: no number: `1e1`",
+    ),
+];
+
+// The scale of so many decimals after that mark.
+fn scale_of(decimals: u32, mark: &str) -> Scale {
+    let mark = if mark == "," {
+        Mark::Comma
+    } else {
+        Mark::Point
+    };
+    Scale::new(decimals, mark).unwrap_or(Scale::whole())
+}
+
+#[test]
+fn other_texts_are_read(rt: HostRuntime) -> Result<(), Fail> {
+    for (text, keys, delimiter, decimals, mark, wanted) in READINGS {
+        let reading = Reading {
+            delimiter: Delimiter::named(delimiter),
+            scale: scale_of(decimals, mark),
+        };
+        let said = said_of(rt.alloc(), text, keys, reading)?;
+        assert_eq!(rt; said.as_str(), wanted);
+    }
+    Ok(())
+}
+
+// Numbers of units, decimals, mark, and how they are written.
+const NUMBERS: [(usize, u32, &str, &str); 8] = [
+    (0, 0, ".", "0"),
+    (0, 3, ".", "0.000"),
+    (5, 2, ".", "0.05"),
+    (150, 2, ",", "1,50"),
+    (100, 1, ".", "10.0"),
+    (1000000007, 9, ".", "1.000000007"),
+    (18446744073709551615, 0, ".", "18446744073709551615"),
+    (18446744073709551615, 9, ",", "18446744073,709551615"),
+];
+
+#[test]
+fn numbers_are_written_and_read(rt: HostRuntime) -> Result<(), Fail> {
+    for (number, decimals, mark, wanted) in NUMBERS {
+        let scale = scale_of(decimals, mark);
+        let text = write_decimal(rt.alloc(), number, scale)?;
+        assert_eq!(rt; text.as_str(), wanted);
+        assert_eq!(rt; read_decimal(wanted, scale), Some(number));
+    }
+    assert!(rt; Scale::new(10, Mark::Point).is_none());
+    Ok(())
+}
+
+#[test]
+fn names_are_told_apart(rt: HostRuntime) -> Result<(), Fail> {
+    let names = names_in(rt.alloc(), "article,lot,,lot")?;
+    assert_eq!(rt; names.len(), 4);
+    assert_eq!(rt; repeated(&names), Some("lot"));
+    assert_eq!(rt; repeated(&["a", "b"]), None);
+    assert!(rt; is_reserved("missing") && !is_reserved("Missing"));
+    Ok(())
+}
+
+// What was ordered and what was delivered, an article's fields separated by bars; the key columns, decimals, which rows and how; and what
+// is then written.
+const ROWS: [(
+    &[(&str, usize)],
+    &[(&str, usize)],
+    &str,
+    u32,
+    Only,
+    Form,
+    &str,
+); 14] = [
     (
         &[],
-        &[("bolt", 0)],
+        &[],
+        "article",
+        0,
         Only::All,
         Form::Table,
         "ARTICLE  ORDERED  DELIVERED  MISSING  SURPLUS\nno article of 0 differs\n",
     ),
     (
+        &[("nut", 0)],
+        &[("bolt", 0), ("nut", 0)],
+        "article",
+        0,
+        Only::All,
+        Form::Table,
+        "ARTICLE  ORDERED  DELIVERED  MISSING  SURPLUS
+bolt           0          0        0        0
+nut            0          0        0        0
+no article of 2 differs
+",
+    ),
+    (
+        &[("a", 3), ("b", 1), ("c", 18446744073709551611)],
+        &[("b", 1), ("c", 18446744073709551611), ("a", 3)],
+        "article",
+        0,
+        Only::All,
+        Form::Table,
+        "ARTICLE               ORDERED             DELIVERED  MISSING  SURPLUS
+a                           3                     3        0        0
+b                           1                     1        0        0
+c        18446744073709551611  18446744073709551611        0        0
+no article of 3 differs
+",
+    ),
+    (
+        &[("x", 18446744073709551614), ("y", 1)],
+        &[("z", 18446744073709551615)],
+        "article",
+        0,
+        Only::All,
+        Form::Table,
+        "ARTICLE               ORDERED             DELIVERED               MISSING               SURPLUS
+x        18446744073709551614                     0  18446744073709551614                     0
+y                           1                     0                     1                     0
+z                           0  18446744073709551615                     0  18446744073709551615
+3 articles differ: 18446744073709551615 missing, 18446744073709551615 surplus
+",
+    ),
+    (
         &[("b\u{1b}\n", 3), ("a", 1), ("b\u{1b}\n", 4)],
         &[("a", 1), ("b\u{1b}\n", 10000000)],
+        "article",
+        0,
         Only::All,
         Form::Table,
         "ARTICLE    ORDERED  DELIVERED  MISSING  SURPLUS
@@ -129,6 +486,8 @@ b\\u{1b}\\n        7   10000000        0  9999993
     (
         &[("x", 2), ("y", 1), ("\u{30cd}\u{30b8}\u{30cd}\u{30b8}", 7)],
         &[("z", 1), ("y", 1)],
+        "article",
+        0,
         Only::Missing,
         Form::Table,
         "ARTICLE   ORDERED  DELIVERED  MISSING  SURPLUS
@@ -138,32 +497,67 @@ x               2          0        2        0
 ",
     ),
     (
-        &[("x", 2), ("y", 1)],
-        &[("y", 1)],
-        Only::Surplus,
-        Form::Csv,
-        "article,ordered,delivered,missing,surplus\n",
+        &[("a|L10", 150), ("a|L9", 5), ("a|", 1)],
+        &[("a|L10", 50), ("a|L9", 5)],
+        "article,l\u{f6}s",
+        2,
+        Only::All,
+        Form::Table,
+        "ARTICLE  L\u{d6}S  ORDERED  DELIVERED  MISSING  SURPLUS
+a                0.01       0.00     0.01     0.00
+a        L10     1.50       0.50     1.00     0.00
+a        L9      0.05       0.05     0.00     0.00
+2 articles differ: 1.01 missing, 0.00 surplus
+",
     ),
     (
-        &[("a, \"b\"", 18446744073709551615), ("y", 0)],
-        &[("c\nd", 18446744073709551615)],
+        &[("a|L1", 150)],
+        &[("a;|L1", 5)],
+        "sku,lot",
+        2,
         Only::All,
         Form::Csv,
-        "article,ordered,delivered,missing,surplus
-\"a, \"\"b\"\"\",18446744073709551615,0,18446744073709551615,0
-\"c\nd\",0,18446744073709551615,0,18446744073709551615
+        "sku;lot;ordered;delivered;missing;surplus
+a;L1;1.50;0.00;1.50;0.00
+\"a;\";L1;0.00;0.05;0.00;0.05
+",
+    ),
+    (
+        &[("x", 2), ("y", 1)],
+        &[("y", 1)],
+        "article",
+        0,
+        Only::Surplus,
+        Form::Csv,
+        "article;ordered;delivered;missing;surplus\n",
+    ),
+    (
+        &[("a; \"b\"", 18446744073709551615), ("y", 0)],
+        &[("c\nd", 18446744073709551615)],
+        "article",
+        0,
+        Only::All,
+        Form::Csv,
+        "article;ordered;delivered;missing;surplus
+\"a; \"\"b\"\"\";18446744073709551615;0;18446744073709551615;0
+\"c\nd\";0;18446744073709551615;0;18446744073709551615
+y;0;0;0;0
 ",
     ),
     (
         &[("x", 2), ("y", 1)],
         &[("y", 1), ("z", 3), ("x", 1)],
+        "article",
+        0,
         Only::Differing,
         Form::Csv,
-        "article,ordered,delivered,missing,surplus\nx,2,1,1,0\nz,0,3,0,3\n",
+        "article;ordered;delivered;missing;surplus\nx;2;1;1;0\nz;0;3;0;3\n",
     ),
     (
         &[("x", 2)],
         &[("x", 2)],
+        "article",
+        0,
         Only::Differing,
         Form::Json,
         "[]\n",
@@ -171,20 +565,68 @@ x               2          0        2        0
     (
         &[("a \"b\"", 2)],
         &[("\u{e4}", 1)],
+        "article",
+        0,
         Only::All,
         Form::Json,
         "[{\"article\":\"a \\\"b\\\"\",\"ordered\":2,\"delivered\":0,\"missing\":2,\"surplus\":0},{\"article\":\"\u{e4}\",\"ordered\":0,\"delivered\":1,\"missing\":0,\"surplus\":1}]\n",
     ),
+    (
+        &[("a|1", 2)],
+        &[],
+        "sku,lot",
+        1,
+        Only::All,
+        Form::Json,
+        "[{\"sku\":\"a\",\"lot\":\"1\",\"ordered\":\"0.2\",\"delivered\":\"0.0\",\"missing\":\"0.2\",\"surplus\":\"0.0\"}]\n",
+    ),
 ];
+
+// A list whose articles are the fields of its texts.
+fn list_of(
+    alloc: Global,
+    texts: &[(&str, usize)],
+) -> Result<Vec<(Vec<String>, usize)>, AllocError> {
+    let mut list = Vec::new(alloc);
+    for (text, number) in texts {
+        let mut fields = Vec::new(alloc);
+        for field in text.split('|') {
+            fields.push(String::from_str(alloc, field)?)?;
+        }
+        list.push((fields, *number))?;
+    }
+    Ok(list)
+}
+
+// What is written of two lists that are matched under this hash state.
+fn written<S: BuildHasher + Copy + Drop>(
+    alloc: Global,
+    state: S,
+    ordered: &Vec<(Vec<String>, usize)>,
+    delivered: &Vec<(Vec<String>, usize)>,
+    layout: Layout<'_>,
+    form: Form,
+) -> Result<Vec<u8>, BagError> {
+    let matched = match_lists(alloc, state, lent(alloc, ordered)?, lent(alloc, delivered)?)?;
+    Ok(text_of(alloc, &matched, layout, form)?)
+}
 
 #[test]
 fn rows_are_written(rt: HostRuntime) -> Result<(), Fail> {
     let alloc = rt.alloc();
-    for (ordered, delivered, only, form, wanted) in ROWS {
-        let ordered = Vec::from_slice(alloc, ordered)?;
-        let delivered = Vec::from_slice(alloc, delivered)?;
-        let matched = match_lists(alloc, ordered, delivered)?;
-        let text = text_of(alloc, &matched, only, form)?;
+    for (ordered, delivered, keys, decimals, only, form, wanted) in ROWS {
+        let (ordered, delivered) = (list_of(alloc, ordered)?, list_of(alloc, delivered)?);
+        let keys = names_in(alloc, keys)?;
+        let layout = Layout {
+            keys: &keys,
+            only,
+            scale: scale_of(decimals, "."),
+            delimiter: Delimiter::Semicolon,
+        };
+        let text = written(alloc, FixedState::new(), &ordered, &delivered, layout, form)?;
+        assert_eq!(rt; String::from_utf8(text)?.as_str(), wanted);
+        let random = RandomState::new(&rt)?;
+        let text = written(alloc, random, &ordered, &delivered, layout, form)?;
         assert_eq!(rt; String::from_utf8(text)?.as_str(), wanted);
     }
     Ok(())

@@ -1,5 +1,5 @@
 use Rattle.std.proofs.Common.{◌≡◌, ◌-◌, ◌^◌, ◌≤◌, sum_by}
-use Rattle.hashbag_lists.proofs.counts.read_counts.Given as goal
+use Rattle.hashbag_lists.proofs.counts.read_keyed_counts.Given as goal
 
 -- the numbers so far add up to the total, which fits
 abbrev pub invariant-records : goal.invariant-records

@@ -1,0 +1,30 @@
+-- Numbers with decimals, in units of the last one.
+use Rattle.std.specs.Prelude.{◌≡◌, ℕ, ◌+◌, ◌-◌, ◌*◌, ◌^◌, ◌<◌, ◌≤◌, ◌==◌, ◌++◌, ◌∷◌, ◌⊎◌, List, [], length}
+use Rattle.std.specs.List.{before_first, after_first}
+use Rattle.std.specs.Str.Parse.{IsNumeral, AllDigits, digits_value}
+
+-- the most decimals that a scale has
+abbrev pub most_decimals : ℕ
+most_decimals = 9
+
+-- a whole part, and one decimal to D
+abbrev pub ArePartsOf : ℕ → List ℕ → List ℕ → Type 0
+ArePartsOf D whole part = IsNumeral 10 whole × IsNumeral 10 part × (length part ≤ D)
+
+-- how many units of 10^-D they are
+abbrev pub units_of : ℕ → List ℕ → List ℕ → ℕ
+units_of D whole part = digits_value 10 whole * 10 ^ D + digits_value 10 part * 10 ^ (D - length part)
+
+-- the text before the first mark, and the text after it; a text without a mark is before it
+abbrev pub whole_of : ℕ → List ℕ → List ℕ
+whole_of mark text = before_first (λ c. c == mark) text
+
+abbrev pub part_of : ℕ → List ℕ → List ℕ
+part_of mark text = after_first (λ c. c == mark) text
+
+-- digits, or two parts with the mark between them
+abbrev pub IsDecimal : ℕ → ℕ → List ℕ → Type 0
+IsDecimal mark D text = IsNumeral 10 text ⊎ ((text ≡ whole_of mark text ++ mark ∷ part_of mark text) × ArePartsOf D (whole_of mark text) (part_of mark text))
+
+abbrev pub units : ℕ → ℕ → List ℕ → ℕ
+units mark D text = units_of D (whole_of mark text) (part_of mark text)

@@ -1,0 +1,35 @@
+//! What is between the fields of a record.
+
+/// The byte between two fields.
+#[derive(Clone, Copy, PartialEq, Eq, Debug)]
+pub enum Delimiter {
+    /// `,`
+    Comma,
+    /// `;`
+    Semicolon,
+    /// A tab.
+    Tab,
+}
+
+/// The names by which arguments choose a delimiter.
+pub static NAMES: [&str; 4] = [",", ";", "tab", "\\t"];
+
+impl Delimiter {
+    /// The byte itself.
+    pub fn byte(self) -> u8 {
+        match self {
+            Delimiter::Comma => b',',
+            Delimiter::Semicolon => b';',
+            Delimiter::Tab => b'\t',
+        }
+    }
+
+    /// The delimiter of one of the [`NAMES`], and a comma for another name.
+    pub fn named(name: &str) -> Delimiter {
+        match name {
+            ";" => Delimiter::Semicolon,
+            "tab" | "\\t" => Delimiter::Tab,
+            _ => Delimiter::Comma,
+        }
+    }
+}

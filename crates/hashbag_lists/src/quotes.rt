@@ -1,0 +1,73 @@
+//! Quotes that are out of place in a record.
+use crate::fault::Fault;
+
+const QUOTE: u8 = b'"';
+
+// Where in a record a byte is.
+#[derive(Clone, Copy)]
+enum Place {
+    // At the beginning of a field.
+    Start,
+    // In a field without quotes.
+    Bare,
+    // In a field in quotes.
+    Quoted,
+    // After a quote in such a field: its end, or the first of two.
+    Closed,
+}
+
+/// What is wrong with a quote.
+#[derive(Clone, Copy, PartialEq, Eq, Debug)]
+pub enum Misplaced {
+    /// A quote that opens a field is never closed.
+    Open,
+    /// Text follows the quote that closes a field.
+    Closed,
+    /// A field that doesn't begin with a quote has one.
+    Bare,
+}
+
+impl Misplaced {
+    /// The fault of its line.
+    pub fn fault(self) -> Fault {
+        match self {
+            Misplaced::Open => Fault::OpenQuote,
+            Misplaced::Closed => Fault::TextAfterQuote,
+            Misplaced::Bare => Fault::StrayQuote,
+        }
+    }
+}
+
+// The place after a byte, or what is wrong there.
+fn next_place(place: Place, byte: u8, delimiter: u8) -> Result<Place, Misplaced> {
+    let ends_field = byte == delimiter || byte == b'\n' || byte == b'\r';
+    match place {
+        Place::Quoted if byte == QUOTE => Ok(Place::Closed),
+        Place::Quoted => Ok(Place::Quoted),
+        Place::Start | Place::Closed if byte == QUOTE => Ok(Place::Quoted),
+        _ if ends_field => Ok(Place::Start),
+        Place::Closed => Err(Misplaced::Closed),
+        _ if byte == QUOTE => Err(Misplaced::Bare),
+        _ => Ok(Place::Bare),
+    }
+}
+
+/// The first quote of a record that is out of place, by its index in the bytes of the record, and what is wrong with it. Of a field
+/// in quotes that is the quote that opens it.
+pub fn misplaced_quote(record: &[u8], delimiter: u8) -> Option<(usize, Misplaced)> {
+    let mut place = Place::Start;
+    let mut opened = 0;
+    for (index, byte) in record.iter().enumerate() {
+        if *byte == QUOTE && !matches!(place, Place::Quoted | Place::Closed) {
+            opened = index;
+        }
+        match next_place(place, *byte, delimiter) {
+            Ok(next) => place = next,
+            Err(misplaced) => return Some((opened, misplaced)),
+        }
+    }
+    match place {
+        Place::Quoted => Some((opened, Misplaced::Open)),
+        _ => None,
+    }
+}

@@ -1,0 +1,24 @@
+//! Whether an output is one of the inputs.
+use std::fs;
+use std::os::unix::fs::MetadataExt;
+use std::rt::Files;
+
+/// Returns whether two names are of one regular file, however they are written: `a`, `./a` and a link to it are.
+///
+/// The numbers of the device and of the file on it decide. `-` is standard input. A name without a file is that of no other file.
+pub fn is_one_file<R: Files>(rt: &R, first: &str, second: &str) -> bool {
+    match (
+        fs::metadata(rt, path_of(first)),
+        fs::metadata(rt, path_of(second)),
+    ) {
+        (Ok(one), Ok(other)) => {
+            one.is_file() && one.dev() == other.dev() && one.ino() == other.ino()
+        }
+        _ => false,
+    }
+}
+
+// The path behind the name of an input.
+fn path_of(name: &str) -> &str {
+    if name == "-" { "/dev/stdin" } else { name }
+}

@@ -1,0 +1,128 @@
+//! A file that is written whole or not at all.
+//!
+//! The text goes into a temporary file in the same folder, which is renamed onto the name of the output at the end. So a failed write,
+//! a signal or a second writer leaves the file of that name as it was.
+use std::fs::{self, OpenFile, OpenOptions};
+use std::io::{self, ErrorKind, Write};
+use std::rt::Files;
+
+// At most so many names are tried for the temporary file.
+const NAMES: u32 = 1000;
+
+// What is renamed onto what.
+#[derive(Drop)]
+struct Names {
+    // The name of the temporary file.
+    temporary: String,
+    // The name of the output, with its links resolved.
+    output: String,
+}
+
+/// An output that has been opened, and not yet written.
+#[derive(Drop)]
+pub struct OutputFile<F> {
+    file: F,
+    // `None`: what is named is no regular file, as a terminal, and is written as it is.
+    names: Option<Names>,
+}
+
+// Creates a file whose name begins with that of the output.
+fn create_beside<R: Files + AllocGlobal>(
+    rt: &R,
+    output: String,
+) -> io::Result<OutputFile<R::File>> {
+    for i in 0..NAMES {
+        let temporary = format!(in rt.alloc(); "{output}.tmp{i}")?;
+        match OpenOptions::new()
+            .write(true)
+            .create_new(true)
+            .open(rt, temporary.as_str())
+        {
+            Ok(file) => {
+                let names = Some(Names { temporary, output });
+                return Ok(OutputFile { file, names });
+            }
+            Err(error) if error.kind() == ErrorKind::AlreadyExists => {}
+            Err(error) => return Err(error),
+        }
+    }
+    Err(io::Error::from(ErrorKind::AlreadyExists))
+}
+
+// Opens an output that exists: one that may not be written is rejected here. A regular file gets a temporary file with its permissions.
+fn open_existing<R: Files + AllocGlobal>(
+    rt: &R,
+    name: &str,
+    is_file: bool,
+) -> io::Result<OutputFile<R::File>> {
+    let file = OpenOptions::new().write(true).open(rt, name)?;
+    if !is_file {
+        return Ok(OutputFile { file, names: None });
+    }
+    let permissions = file.metadata()?.permissions();
+    let opened = create_beside(rt, fs::canonicalize(rt, name)?.into_string())?;
+    match opened.file.set_permissions(permissions) {
+        Ok(()) => Ok(opened),
+        Err(error) => {
+            opened.abandon(rt);
+            Err(error)
+        }
+    }
+}
+
+// Writes a text, all of it.
+fn put<F: Write>(file: &mut F, text: &[u8]) -> io::Result<()> {
+    file.write_all(text)?;
+    file.flush()
+}
+
+impl<F: Write + OpenFile + Drop> OutputFile<F> {
+    /// Opens the output of that name, before there is anything to write.
+    ///
+    /// # Errors
+    ///
+    /// What the system says: the folder doesn't exist, or the file may not be written. Then nothing is left behind.
+    pub fn open<R: Files<File = F> + AllocGlobal>(rt: &R, name: &str) -> io::Result<OutputFile<F>> {
+        match fs::metadata(rt, name) {
+            Ok(found) => open_existing(rt, name, found.is_file()),
+            Err(error) if error.kind() == ErrorKind::NotFound => {
+                create_beside(rt, name.to_string(rt.alloc())?)
+            }
+            Err(error) => Err(error),
+        }
+    }
+
+    // Writes a text, until the device has it.
+    fn put_durably(&mut self, text: &[u8]) -> io::Result<()> {
+        put(&mut self.file, text)?;
+        if self.names.is_some() {
+            self.file.sync_all()?;
+        }
+        Ok(())
+    }
+
+    /// Writes the text, and gives it the name of the output.
+    ///
+    /// # Errors
+    ///
+    /// What the system says of a write. Then the temporary file is removed, and a file of that name is as it was.
+    pub fn write_whole<R: Files<File = F>>(mut self, rt: &R, text: &[u8]) -> io::Result<()> {
+        let mut written = self.put_durably(text);
+        if let Some(names) = &self.names
+            && written.is_ok()
+        {
+            written = fs::rename(rt, names.temporary.as_str(), names.output.as_str());
+        }
+        if written.is_err() {
+            self.abandon(rt);
+        }
+        written
+    }
+
+    /// Removes the temporary file, where there is nothing to write after all.
+    pub fn abandon<R: Files<File = F>>(self, rt: &R) {
+        if let Some(names) = &self.names {
+            let _ = fs::remove_file(rt, names.temporary.as_str());
+        }
+    }
+}

@@ -1,0 +1,19 @@
+//! The exit statuses: one number means the same in each program.
+
+/// All was done.
+pub const DONE: u8 = 0;
+
+/// All was done, and what the program is asked is denied: lists differ, movements were rejected, nothing is shown.
+pub const DENIED: u8 = 1;
+
+/// The arguments are bad, or what an input has.
+pub const BAD_INPUT: u8 = 2;
+
+/// An allocation failed.
+pub const NO_MEMORY: u8 = 3;
+
+/// A file can't be opened, or a read or a write failed.
+pub const IO_FAILED: u8 = 4;
+
+/// The numbers add up to more than 2^64-1.
+pub const TOTAL_TOO_LARGE: u8 = 5;
