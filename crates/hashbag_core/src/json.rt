@@ -287,34 +287,73 @@ fn tree_with_limit(alloc: Global, limit: usize, pairs: Value) -> Result<Value, B
 }
 
 impl<T: JsonItem + Hash + Drop, S: BuildHasher + Drop> HashBag<T, S> {
-    // The bag of an array's pairs, under the default state, with the limit `most`.
-    fn from_pairs(alloc: Global, most: usize, list: &Vec<Value>) -> Result<HashBag<T, S>, JsonError>
-    where
-        S: Default,
+    // The bag of an array's pairs, with that hash state and the limit `most`.
+    fn from_pairs(
+        alloc: Global,
+        state: S,
+        most: usize,
+        list: &Vec<Value>,
+    ) -> Result<HashBag<T, S>, JsonError>
         ensures no_fault { OnOk result (first_fault most T.has_item 0 0 (map view list.now.items) ≡ None) }
         ensures read { IfOk result (λ bag. (pairs : List (T × ℕ)) × AllZip (IsPair T.reads) (map view list.now.items) pairs × IsMadeOf T.eq pairs bag) }
         ensures limit { IfOk result (λ bag. bag.most ≡ most) }
         ensures bag { IfOk result (λ bag. IsBag T.eq bag.most bag.items) }
-        ensures hasher { IfOk result (λ bag. S.is_default bag.hasher) }
+        ensures hasher { IfOk result (λ bag. bag.hasher ≡ state) }
         ensures fault { IfErr result (λ e. e ≢ JsonError.Memory → first_fault most T.has_item 0 0 (map view list.now.items) ≡ Some e) }
         ensures memory { IfErr result (λ e. e ≡ JsonError.Memory → MayEndAmong most T.has_item (map view list.now.items)) }
     {
-        let mut bag = HashBag::with_limit(alloc, S::default(), most);
+        let mut bag = HashBag::with_limit(alloc, state, most);
         for (number, pair) in list.iter().enumerate() {
             read_pair(alloc, &mut bag, pair, number)?;
         }
         Ok(bag)
     }
 
-    /// The bag of a tree, under the default state, with the limit of the tree or `most`, whichever is less: its pairs are read
-    /// and inserted in turn. An array of pairs has the limit `usize::MAX`; an object has a member `limit` and a member `pairs`,
-    /// which is such an array.
+    /// Reads a bag from its tree, with the hash state `state` and the limit of the tree or `most`, whichever is less. Its pairs are
+    /// read and inserted in turn.
     ///
-    /// A tree that is neither is `NotAnArray`, and an object with a bad limit `BadLimit`. Of each pair it checks then that it is
-    /// an array of two, then its count, then its item, then that the total stays within the limit, and the first pair with a
-    /// fault decides. A pair with the count 0 is checked and adds nothing. Equal items add up, and the first instance stays. It
-    /// answers `Memory` where memory is refused, which it asks for at no pair after the first with a fault, and at that one
-    /// for its item alone. Where it is refused there is no bag.
+    /// The tree is an array of pairs, whose limit is `usize::MAX`, or an object with a member `limit` and a member `pairs`, which is
+    /// such an array. A pair with the count 0 is checked and adds nothing. Equal items add up, and the first instance is kept.
+    ///
+    /// Keys of a tree that strangers wrote want a state with random keys.
+    ///
+    /// # Errors
+    ///
+    /// There is no bag then. A tree that is neither is `NotAnArray`, and an object with a bad limit `BadLimit`. The first pair with a
+    /// fault decides. In each pair the checks are, in this order: an array of two (`NotAPair`), the count (`BadCount`), the item
+    /// (`BadItem`), the total within the limit (`TooMany`). `Memory`: an allocation fails. After the first pair with a fault nothing
+    /// is allocated, and for that pair its item alone.
+    ///
+    /// # Examples
+    ///
+    /// ```
+    /// let tree = Value::from_str(alloc, "[[\"apple\",2],[\"pear\",1]]")?;
+    /// let state = FixedState::new();
+    /// let bag: HashBag<String> = HashBag::from_value_with_hasher(alloc, state, 100, &tree)?;
+    /// bag.contains_key("apple"); // 2
+    /// Ok(())
+    /// ```
+    pub fn from_value_with_hasher(
+        alloc: Global,
+        state: S,
+        most: usize,
+        tree: &Value,
+    ) -> Result<HashBag<T, S>, JsonError>
+        ensures no_fault { OnOk result (fault most T.has_item (view tree.now) ≡ None) }
+        ensures read { IfOk result (λ bag. (pairs : List (T × ℕ)) × IsReading T.reads (view tree.now) pairs × IsMadeOf T.eq pairs bag) }
+        ensures limit { IfOk result (λ bag. bag.most ≡ min most (limit_of (view tree.now))) }
+        ensures bag { IfOk result (λ bag. IsBag T.eq bag.most bag.items) }
+        ensures hasher { IfOk result (λ bag. bag.hasher ≡ state) }
+        ensures fault { IfErr result (λ e. e ≢ JsonError.Memory → fault most T.has_item (view tree.now) ≡ Some e) }
+        ensures memory { IfErr result (λ e. e ≡ JsonError.Memory → MayEnd most T.has_item (view tree.now)) }
+    {
+        match limit_and_pairs(tree) {
+            Ok((limit, pairs)) => HashBag::from_pairs(alloc, state, most.min(limit), pairs),
+            Err(error) => Err(error),
+        }
+    }
+
+    /// Reads a bag from its tree, with the default hash state, as [`HashBag::from_value_with_hasher`] does.
     ///
     /// ```
     /// let tree = Value::from_str(alloc, "[[\"apple\",2],[\"pear\",1]]")?;
@@ -337,10 +376,7 @@ impl<T: JsonItem + Hash + Drop, S: BuildHasher + Drop> HashBag<T, S> {
         ensures fault { IfErr result (λ e. e ≢ JsonError.Memory → fault most T.has_item (view tree.now) ≡ Some e) }
         ensures memory { IfErr result (λ e. e ≡ JsonError.Memory → MayEnd most T.has_item (view tree.now)) }
     {
-        match limit_and_pairs(tree) {
-            Ok((limit, pairs)) => HashBag::from_pairs(alloc, most.min(limit), pairs),
-            Err(error) => Err(error),
-        }
+        HashBag::from_value_with_hasher(alloc, S::default(), most, tree)
     }
 
     /// The bag of a tree, under the default state, with the limit of the tree: [`HashBag::from_value_within`] with `usize::MAX`.

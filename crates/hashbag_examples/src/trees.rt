@@ -1,6 +1,6 @@
 //! Bags as JSON trees.
 use anyhow::Result;
-use hashbag::{HashBag, ItemError, JsonError, JsonItem};
+use hashbag::{FixedState, HashBag, ItemError, JsonError, JsonItem};
 use serde_json::Value;
 use std::alloc::Global;
 
@@ -21,6 +21,14 @@ pub fn from_json(alloc: Global) -> Result<()> {
     let tree = Value::from_str(alloc, "5")?;
     u64::from_json(alloc, &tree)?; // 5
     String::from_json(alloc, &tree).err(); // Some(NotAnItem)
+    Ok(())
+}
+
+pub fn from_value_with_hasher(alloc: Global) -> Result<()> {
+    let tree = Value::from_str(alloc, "[[\"apple\",2],[\"pear\",1]]")?;
+    let state = FixedState::new();
+    let bag: HashBag<String> = HashBag::from_value_with_hasher(alloc, state, 100, &tree)?;
+    bag.contains_key("apple"); // 2
     Ok(())
 }
 

@@ -6,7 +6,7 @@ use Rattle.hashbag_core.specs.Inserts.{IsMadeOf}
 use Rattle.hashbag_core.specs.JsonFaults.{first_fault, opened_fault, fault, limit_of, limit_opened}
 use Rattle.hashbag_core.specs.JsonTrees.{IsPair, IsReading}
 use Rattle.hashbag_core.proofs.JsonLimitLemmas.{not_memory}
-use Rattle.hashbag_core.proofs.bag.HashBag.from_value_within.Goals as goal
+use Rattle.hashbag_core.proofs.bag.HashBag.from_value_with_hasher.Goals as goal
 
 pub returns-in-Ok-clause-no_fault : goal.returns-in-Ok-clause-no_fault
 returns-in-Ok-clause-no_fault g c =
