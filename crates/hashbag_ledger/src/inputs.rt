@@ -2,7 +2,7 @@
 use crate::arguments::Request;
 use hashbag_ledger_core::movements::Movement;
 use hashbag_ledger_core::reading::read_movements;
-use hashbag_lists::counts::read_counts;
+use hashbag_lists::counts::read_counts_as;
 use hashbag_lists::files::{in_file, read_file};
 use hashbag_lists::trouble::Trouble;
 
@@ -16,7 +16,7 @@ pub fn start_of<'a>(
     };
     let text = read_file(rt, file)?;
     let (article, number) = request.start_columns;
-    let counts = read_counts(
+    let counts = read_counts_as(
         rt.alloc(),
         text.as_slice(),
         article,

@@ -1,4 +1,4 @@
-//! What movements leave, as it is written.
+//! A balance and refusals as text.
 use crate::movements::Refusal;
 use hashbag_lists::counts::Reading;
 use hashbag_lists::decimals::write_decimal;
@@ -15,7 +15,11 @@ fn push_record(records: &mut Records, fields: &[&str]) -> Result<(), AllocError>
     records.end()
 }
 
-/// The balance as CSV under these names of the columns of articles and of numbers.
+/// Returns the balance as CSV. `names` are the columns of articles and of numbers.
+///
+/// # Errors
+///
+/// An error if an allocation fails.
 pub fn balance_text(
     alloc: Global,
     names: (&str, &str),
@@ -31,12 +35,12 @@ pub fn balance_text(
     records.into_text()
 }
 
-// The name of the file in which a refused movement is.
+// Returns the name of the file of a refused movement.
 fn file_of<'a>(files: &[&'a str], refusal: &Refusal<String>) -> &'a str {
     files.get(refusal.place.file).copied().unwrap_or("-")
 }
 
-// A text between quotes, with quotes, backslashes and control characters escaped.
+// A text that is shown between quotes, with quotes, backslashes and control characters escaped.
 #[derive(Clone, Copy)]
 struct Quoted<'a>(&'a str);
 
@@ -54,7 +58,13 @@ impl fmt::Display for Quoted<'_> {
     }
 }
 
-/// A line for each refusal: file, line, how many were asked for, article and how many were there.
+/// Returns a line for each refusal: the file, the line, how many it asks for, the article, and how many there are.
+///
+/// `files` are the names of the files. Quotes, backslashes and control characters of an article are escaped.
+///
+/// # Errors
+///
+/// An error if an allocation fails.
 pub fn refusals_text(
     alloc: Global,
     files: &[&str],
@@ -76,7 +86,11 @@ pub fn refusals_text(
     Ok(text)
 }
 
-/// The refusals as CSV, with the header `file,line,article,asked,there`.
+/// Returns the refusals as CSV, with the header `file,line,article,asked,there`. `files` are the names of the files.
+///
+/// # Errors
+///
+/// An error if an allocation fails.
 pub fn refusals_table(
     alloc: Global,
     files: &[&str],

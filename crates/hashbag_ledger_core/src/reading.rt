@@ -1,4 +1,4 @@
-//! Movements in CSV texts.
+//! Movements read from CSV texts.
 use crate::movements::{Change, Movement, Place};
 use hashbag_lists::counts::Reading;
 use hashbag_lists::escaped::shown;
@@ -8,16 +8,16 @@ use hashbag_lists::scale::Scale;
 use hashbag_lists::sheet::{Column, Sheet};
 use std::alloc::{AllocError, Global};
 
-/// In which columns of a text movements stand.
+/// The columns of movements: names, or places under a header.
 #[derive(Clone, Copy)]
 pub struct Columns<C> {
     /// The article.
     pub article: C,
-    /// What it does.
+    /// The change.
     pub change: ChangeColumns<C>,
 }
 
-/// In which columns changes stand.
+/// The columns of a change.
 #[derive(Clone, Copy)]
 pub enum ChangeColumns<C> {
     /// One column: `5` or `+5` comes in, `-5` goes out.
@@ -26,7 +26,7 @@ pub enum ChangeColumns<C> {
     ByKind(C, C),
 }
 
-// The columns of these names under a header.
+// Finds the columns of these names in the header.
 fn columns_of<'n>(
     sheet: &Sheet<'_>,
     names: Columns<&'n str>,
@@ -42,7 +42,7 @@ fn columns_of<'n>(
     })
 }
 
-// The change of a number with a sign.
+// Reads the change from a number with a sign.
 fn signed_change(
     alloc: Global,
     line: u64,
@@ -57,7 +57,7 @@ fn signed_change(
     Ok(Change::In(scaled_number(alloc, line, digits, field, scale)?))
 }
 
-// The change of a kind and a number.
+// Returns the change of a kind and a number.
 fn change_of_kind(alloc: Global, line: u64, kind: &str, n: usize) -> Result<Change, SheetError> {
     match kind {
         "in" => Ok(Change::In(n)),
@@ -69,7 +69,7 @@ fn change_of_kind(alloc: Global, line: u64, kind: &str, n: usize) -> Result<Chan
     }
 }
 
-// The change of the record that was read last, which begins on that line.
+// Reads the change of the current record, which begins on that line.
 fn change_of(
     alloc: Global,
     sheet: &Sheet<'_>,
@@ -89,7 +89,13 @@ fn change_of(
     }
 }
 
-/// The movements of a text, in the order of its lines. `file` is the number of its file. Numbers are in units of the scale.
+/// Reads the movements of a text, in the order of its lines.
+///
+/// `file` is the number of the file, for their places. Numbers are counted in units of the last decimal of the scale.
+///
+/// # Errors
+///
+/// `Line` with the first bad line and what is wrong with it, or `Memory` if an allocation fails.
 pub fn read_movements(
     alloc: Global,
     text: &[u8],

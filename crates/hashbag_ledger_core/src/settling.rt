@@ -1,5 +1,5 @@
-//! A stock that begins as a list, and its balance once movements were entered.
-ghost use Rattle.std.specs.Prelude.{◌≡◌, ◌≢◌, ◌<◌, ◌≤◌, ◌↔◌, length, IsTrue, IfOk, IfErr, OnErr};
+//! A stock that begins as a list, and its balance after movements.
+ghost use Rattle.std.specs.Prelude.{◌≡◌, ◌≢◌, ◌<◌, ◌≤◌, ◌↔◌, length, IsTrue, IfOk, IfErr, OnOk, OnErr};
 ghost use Rattle.hashbag.specs.Occurrences.{count};
 ghost use Rattle.hashbag_lists.specs.Quantities.{numbers, quantity, IsBalance};
 ghost use Rattle.hashbag_ledger_core.specs.declared.movements.Place.{Place};
@@ -13,16 +13,16 @@ use hashbag_lists::quantities::balance_of;
 use std::alloc::Global;
 use std::hash::{BuildHasher, Hash};
 
-/// What movements leave.
+/// A stock after movements, and the refusals.
 #[derive(Drop)]
 pub struct Entered<T> {
-    /// The articles that there are then, each once with how many, articles rising.
+    /// Each article that there is, once, with how many there are, articles rising.
     pub balance: Vec<(T, usize)>,
-    /// The movements that were refused, in their order.
+    /// The refusals, in the order of their movements.
     pub refusals: Vec<Refusal<T>>,
 }
 
-// Whether the numbers of a list are at most `usize::MAX` together.
+// Returns whether the numbers of a list are at most `usize::MAX` together.
 fn numbers_fit<T>(list: &[(T, usize)]) -> bool
     ensures { IsTrue result ↔ (numbers list.now ≤ usize.MAX) }
 {
@@ -36,7 +36,7 @@ fn numbers_fit<T>(list: &[(T, usize)]) -> bool
     true
 }
 
-// The stock that a list names, whose limit is `usize::MAX`.
+// Returns the stock that a list names. Its limit is `usize::MAX`.
 fn stock_at_start<T: Eq + Hash + Drop, S: BuildHasher + Drop>(
     alloc: Global,
     state: S,
@@ -46,7 +46,9 @@ fn stock_at_start<T: Eq + Hash + Drop, S: BuildHasher + Drop>(
     ensures len { IfOk result (λ stock. length stock.items ≡ numbers list.items) }
     ensures limit { IfOk result (λ stock. stock.most ≡ usize.MAX) }
     ensures too_many { usize.MAX < numbers list.items → result ≡ Err LedgerError.StartTooMany }
-    ensures memory { numbers list.items ≤ usize.MAX → OnErr result (result ≡ Err LedgerError.Memory) }
+    ensures fits { OnOk result (numbers list.items ≤ usize.MAX) }
+    ensures memory { IfErr result (λ e. e ≡ LedgerError.Memory → numbers list.items ≤ usize.MAX) }
+    ensures only_memory { numbers list.items ≤ usize.MAX → OnErr result (result ≡ Err LedgerError.Memory) }
 {
     if !numbers_fit(&list) {
         return Err(LedgerError::StartTooMany);
@@ -60,13 +62,17 @@ fn stock_at_start<T: Eq + Hash + Drop, S: BuildHasher + Drop>(
 
 /// Enters movements in turn into a stock that begins as a list, and returns the balance and the refusals.
 ///
-/// An article may be in the list more than once. The balance and the refusals don't depend on the state that hashes the articles.
-/// Each movement is hashed at most twice; then the balance is sorted. It allocates for the articles, the refusals and the balance.
+/// An article may be in the list more than once: its numbers add up. The balance and the refusals don't depend on `state`.
 ///
 /// # Errors
 ///
-/// `StartTooMany` if the numbers of that list are more than `usize::MAX` together, before anything is allocated. `TooMany` with the
-/// place of a movement only if the total would pass `usize::MAX` with it. `Memory` if an allocation fails.
+/// `StartTooMany` exactly if the numbers of the list are more than `usize::MAX` together, before anything is allocated. `TooMany` with
+/// the place of a movement only if the total would pass `usize::MAX` with it. `Memory` if an allocation fails.
+///
+/// # Complexity
+///
+/// Each entry of the list is hashed once and each movement at most twice; then the balance is sorted. It allocates for the articles,
+/// the refusals and the balance.
 pub fn settle<T: Ord + Hash + Drop, S: BuildHasher + Drop>(
     alloc: Global,
     state: S,
@@ -78,6 +84,7 @@ pub fn settle<T: Ord + Hash + Drop, S: BuildHasher + Drop>(
     ensures refused { IfOk result (λ e. e.refusals.items ≡ refused_of T.eq (listed T.eq start.items) movements.items) }
     ensures fits { numbers start.items ≤ usize.MAX → IfErr result (λ e. e ≢ LedgerError.StartTooMany) }
     ensures too_many { usize.MAX < numbers start.items → result ≡ Err LedgerError.StartTooMany }
+    ensures memory { IfErr result (λ e. e ≡ LedgerError.Memory → numbers start.items ≤ usize.MAX) }
     ensures past { IfErr result (λ e. (p : Place) → e ≡ LedgerError.TooMany p → IsPastFrom T.eq start.items movements.items p) }
 {
     let mut stock = stock_at_start(alloc, state, start)?;
