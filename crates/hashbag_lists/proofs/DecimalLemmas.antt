@@ -1,15 +1,17 @@
 -- Numbers with decimals: their texts, and the units that they are.
-use Rattle.std.proofs.Common.{◌≡◌, ℕ, zero, suc, ◌+◌, ◌-◌, ◌*◌, ◌/◌, ◌%◌, ◌^◌, ◌<◌, ◌≤◌, ◌==◌, Bool, true, false, List, [], ◌∷◌, ◌++◌, length, get_or, take, drop, replicate, Option, Some, None, MatchOption, Result, Ok, Err, result_ok, ◌≢◌, refl, sym, ◌∙◌, ap, subst, arith, inl, inr}
+use Rattle.std.proofs.Common.{◌≡◌, ℕ, zero, suc, ◌+◌, ◌-◌, ◌*◌, ◌/◌, ◌%◌, ◌^◌, ◌<◌, ◌≤◌, ◌==◌, Bool, true, false, List, [], ◌∷◌, ◌++◌, length, get_or, drop, replicate, Option, Some, None, MatchOption, refl, sym, ◌∙◌, ap, subst, arith, inl, inr}
 use borrow.Author.Tests.{eq-eqb, eqb-true}
+use Rattle.std.specs.Borrow.{Bor}
+use Rattle.std.specs.Fmt.{decimal}
 use Rattle.std.specs.List.{position_or_len}
-use Rattle.std.specs.Result.{OkIff}
-use Rattle.std.specs.Str.Parse.{IsNumeral, AllDigits, ParsesUnsigned, digits_value}
-use Rattle.std.proofs.Math.Nat.{div-add-mod', le-mul_of_pos_right, one-le-pow, pow-le-pow_right}
+use Rattle.std.specs.Str.Parse.{IsNumeral, AllDigits, digits_value}
+use Rattle.std.proofs.Math.Nat.{div-add-mod', mod-lt, div-one, mul-one, div-le_self, le-mul_of_pos_right, one-le-pow}
 use Rattle.std.proofs.lemmas.Bool.Decides.{nat_tests}
-use Rattle.std.proofs.lemmas.Int.Digits.{digits_value-lt}
-use Rattle.std.proofs.lemmas.List.{drop_all, drop_at, drop-drop, get_or_append_left, get_or_at, length-append, replicate-append-replicate, take_all, take_at}
+use Rattle.std.proofs.lemmas.Fmt.{decimal_is_IsNumeral, length-decimal-le}
+use Rattle.std.proofs.lemmas.List.{append_assoc, drop_all, drop_at, drop-drop, get_or_append_left, get_or_at, length-append, length-replicate, take_all, take_at}
 use Rattle.std.proofs.lemmas.List.Sums.{passes_at_first, position_or_len_is, split_at_first}
-use Rattle.std.proofs.lemmas.Str.Parse.{digit_at, numerals_by_value, parse_plain, tells_digits}
+use Rattle.std.proofs.lemmas.Str.Pattern.{IsSplitOnceResult, split_once_first}
+use Rattle.std.proofs.lemmas.Str.Parse.{digit_at}
 use Rattle.hashbag_lists.specs.declared.scale.Mark.{Mark}
 use Rattle.hashbag_lists.specs.declared.scale.Mark.TheVariants.{Point, Comma}
 use Rattle.hashbag_lists.specs.Marks.{code_of}
@@ -94,27 +96,12 @@ module _ (mark : ℕ) (low : mark < 48) where
     )
   ]
 
-  longer : (s : List ℕ) → position_or_len is_mark s ≡ length s → ¬ (s ≡ whole_of mark s ++ mark ∷ part_of mark s)
-  longer s none is =
-      let whole = whole_alone s none in
-      let long : length s ≡ length (whole_of mark s) + length (mark ∷ part_of mark s) = ap length is ∙ length-append (whole_of mark s) (mark ∷ part_of mark s) in
-      let same : length (whole_of mark s) ≡ length s = ap length whole in
-      absurd (omega (arith, long, same))
-
-  -- a text without a mark
-  pub read_alone : (D : ℕ) (s : List ℕ) (r : Option ℕ) → position_or_len is_mark s ≡ length s
-      → MatchOption r (¬ (IsNumeral 10 s × (digits_value 10 s * 10 ^ D ≤ 2 ^ 64 - 1))) (λ n. IsNumeral 10 s × (digits_value 10 s * 10 ^ D ≡ n)) → Reads D s r
-  read_alone D s (Some n) none h = (inl h.0, units_alone D s none ∙ h.1)
-  read_alone D s None none h = λ q. elim q.0 [
-    | inl numeral ↦ h (numeral, subst (λ (m : ℕ). m ≤ 2 ^ 64 - 1) (units_alone D s none) q.1)
-    | inr cut ↦ longer s none cut.0
-  ]
-
--- what is read of a text is one number
-pub reads_back : (mark D n : ℕ) (s : List ℕ) (r : Option ℕ) → n ≤ 2 ^ 64 - 1 → IsDecimal mark D s × (units mark D s ≡ n)
-    → MatchOption r (¬ (IsDecimal mark D s × (units mark D s ≤ 2 ^ 64 - 1))) (λ m. IsDecimal mark D s × (units mark D s ≡ m)) → r ≡ Some n
-reads_back mark D n s (Some m) fits is h = ap Some (sym h.1 ∙ is.1)
-reads_back mark D n s None fits is h = absurd (h (is.0, omega (arith, is.1, fits)))
+  -- a text that `split_once` cuts at its first mark
+  pub read_cut : (D c : ℕ) (s : List ℕ) (x : Bor (List ℕ) × Bor (List ℕ)) (r : Option ℕ) → c ≡ mark → IsSplitOnceResult c s (Some x)
+      → MatchOption r (¬ (ArePartsOf D x.0.now x.1.now × (units_of D x.0.now x.1.now ≤ 2 ^ 64 - 1))) (λ n. ArePartsOf D x.0.now x.1.now × (units_of D x.0.now x.1.now ≡ n)) → Reads D s r
+  read_cut D c s x r is cut h =
+      let first = split_once_first mark s (Some x) (subst (λ (k : ℕ). IsSplitOnceResult k s (Some x)) is cut) (omega (arith, low)) in
+      read_joined D s x.0.now x.1.now r first.0 first.1 first.2 h
 
 -- ---- zeros before digits
 
@@ -127,9 +114,6 @@ zeros_value zero ds = refl
 zeros_value (suc k) ds = zeros_value k ds
 
 -- ---- powers of ten
-
-pub unit_fits : (D : ℕ) → D ≤ 9 → 10 ^ D < 2 ^ 64
-unit_fits D few = let most : 10 ^ D ≤ 10 ^ 9 = pow-le-pow_right (lit≤ tt) few in omega (arith, most)
 
 pub unit_some : (D : ℕ) → 0 < 10 ^ D
 unit_some D = let some = one-le-pow D 10 (omega arith) in omega (arith, some)
@@ -146,29 +130,40 @@ parts_value D n w p whole part long =
     let is : units_of D w p ≡ n / 10 ^ D * 10 ^ D + n % 10 ^ D * 10 ^ 0 = λ i. whole i * 10 ^ D + part i * 10 ^ none i in
     omega (arith, is, sum)
 
--- one zero more
-pub one_zero_more : (bs : List ℕ) (n : ℕ) → bs ≡ replicate n 48 → bs ++ 48 ∷ [] ≡ replicate (n + 1) 48
-one_zero_more bs n h = ap (λ (l : List ℕ). l ++ 48 ∷ []) h ∙ replicate-append-replicate n 1 48
+-- ---- digits with zeros before them
 
--- parts that don't fit
-pub none_whole : (D : ℕ) (w p : List ℕ) → ¬ (IsNumeral 10 w × (digits_value 10 w * 10 ^ D ≤ 2 ^ 64 - 1)) → ¬ (ArePartsOf D w p × (units_of D w p ≤ 2 ^ 64 - 1))
-none_whole D w p h = λ q. h (q.0.0, omega (arith, q.1))
+pub padded_is : (width n k : ℕ) (text zeros ds : List ℕ) → 0 < width → n < 10 ^ width → n < 2 ^ 64 → ds ≡ decimal n → zeros ≡ replicate k 48 → k ≡ width - length ds → text ≡ zeros ++ ds
+    → AllDigits 10 text × (length text ≡ width) × (digits_value 10 text ≡ n)
+padded_is width n k text zeros ds wide fits small is zeros_are missing whole =
+    let parts : text ≡ replicate k 48 ++ ds = whole ∙ ap (λ (l : List ℕ). l ++ ds) zeros_are in
+    let numeral = decimal_is_IsNumeral n small in
+    let digits : AllDigits 10 ds = subst (AllDigits 10) (sym is) numeral.0.1 in
+    let value : digits_value 10 ds ≡ n = ap (digits_value 10) is ∙ numeral.1 in
+    let short : length ds ≤ width = subst (λ (l : List ℕ). length l ≤ width) (sym is) (length-decimal-le width n wide fits small) in
+    let long : length text ≡ length (replicate k 48) + length ds = ap length parts ∙ length-append (replicate k 48) ds in
+    let zeros_long = length-replicate {A = ℕ} k 48 in
+    (subst (AllDigits 10) (sym parts) (zeros_digits k ds digits), omega (arith, long, zeros_long, missing, short), ap (digits_value 10) parts ∙ zeros_value k ds ∙ value)
 
-pub none_part : (D : ℕ) (w p : List ℕ) → ¬ (IsNumeral 10 p × (digits_value 10 p * 10 ^ (D - length p) ≤ 2 ^ 64 - 1)) → ¬ (ArePartsOf D w p × (units_of D w p ≤ 2 ^ 64 - 1))
-none_part D w p h = λ q. h (q.0.1, omega (arith, q.1))
+-- ---- what is written
 
--- ---- what `parse` reads
+pub alone_written : (m : Mark) (D n u : ℕ) (text : List ℕ) → n < 2 ^ 64 → D ≡ 0 → u ≡ 10 ^ D → text ≡ decimal (n / u) → IsDecimal (code_of m) D text × (units (code_of m) D text ≡ n)
+alone_written m D n u text small none unit is =
+    let one : u ≡ 1 = unit ∙ ap (λ (k : ℕ). 10 ^ k) none in
+    let same : text ≡ decimal n = is ∙ ap (λ (k : ℕ). decimal (n / k)) one ∙ ap decimal (div-one n) in
+    let numeral = decimal_is_IsNumeral n small in
+    let power : 10 ^ D ≡ 1 = sym unit ∙ one in
+    alone_is (code_of m) (code_low m) D n text (subst (IsNumeral 10) (sym same) numeral.0) ((λ i. digits_value 10 (same i) * power i) ∙ mul-one (digits_value 10 (decimal n)) ∙ numeral.1)
 
-abbrev IsRead : List ℕ → Option ℕ → Type 0
-IsRead bs o = MatchOption o (¬ (IsNumeral 10 bs × (digits_value 10 bs ≤ 2 ^ 64 - 1))) (λ n. IsNumeral 10 bs × (digits_value 10 bs ≡ n))
+pub joined_written : (m : Mark) (D n u c : ℕ) (ones text part whole : List ℕ) → n < 2 ^ 64 → 0 < D → u ≡ 10 ^ D → ones ≡ decimal (n / u) → c ≡ code_of m → text ≡ ones ++ c ∷ [] → whole ≡ text ++ part
+    → AllDigits 10 part × (length part ≡ D) × (digits_value 10 part ≡ n % u) → IsDecimal (code_of m) D whole × (units (code_of m) D whole ≡ n)
+joined_written m D n u c ones text part whole small some unit ones_are mark text_is whole_is part_is =
+    let few : n / u ≤ n = div-le_self n u in
+    let numeral = decimal_is_IsNumeral (n / u) (omega (arith, few, small)) in
+    let is : whole ≡ decimal (n / u) ++ code_of m ∷ part = whole_is ∙ ap (λ (l : List ℕ). l ++ part) (text_is ∙ λ i. ones_are i ++ mark i ∷ []) ∙ append_assoc (decimal (n / u)) (code_of m ∷ []) part in
+    let parts : ArePartsOf D (decimal (n / u)) part = (numeral.0, (omega (arith, part_is.1, some), part_is.0), omega (arith, part_is.1)) in
+    let value : units_of D (decimal (n / u)) part ≡ n = parts_value D n (decimal (n / u)) part (numeral.1 ∙ ap (λ (k : ℕ). n / k) unit) (part_is.2 ∙ ap (λ (k : ℕ). n % k) unit) part_is.1 in
+    let said = joined_is (code_of m) (code_low m) D n (decimal (n / u)) part parts value in
+    subst (λ (l : List ℕ). IsDecimal (code_of m) D l × (units (code_of m) D l ≡ n)) (sym is) said
 
-read_if : {E : Type 0} (bs : List ℕ) (r : Result ℕ E) → OkIff r (AllDigits 10 bs × (0 < length bs) × (digits_value 10 bs < 2 ^ 64)) (digits_value 10 bs) → IsRead bs (result_ok r)
-read_if bs (Ok x) h = ((h.0.1, h.0.0), sym h.1)
-read_if bs (Err e) h = λ q. h (q.0.1, q.0.0, omega (arith, q.1))
-
-pub number_read : {E : Type 0} (bs : List ℕ) (r : Result ℕ E) (o : Option ℕ) → get_or bs 0 0 ≢ 43 → ParsesUnsigned 64 10 bs r → o ≡ result_ok r → IsRead bs o
-number_read bs r o plain h is = subst (λ (o : Option ℕ). IsRead bs o) (sym is) (read_if bs r (parse_plain (numerals_by_value (AllDigits 10) tells_digits) 64 bs r h plain))
-
--- a sign is no digit
-pub plus_is_none : (bs : List ℕ) → get_or bs 0 0 ≡ 43 → IsRead bs None
-plus_is_none bs plus = λ q. let r = digit_at bs 0 q.0.1 q.0.0 in absurd (omega (arith, r, plus))
+pub under_unit : (D n u : ℕ) → u ≡ 10 ^ D → n % u < 10 ^ D
+under_unit D n u unit = subst (λ (k : ℕ). n % u < k) unit (mod-lt n (subst (λ (k : ℕ). 0 < k) (sym unit) (unit_some D)))

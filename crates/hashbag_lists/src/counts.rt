@@ -19,7 +19,7 @@ pub struct Reading {
 }
 
 impl Reading {
-    /// Commas between fields, and whole numbers.
+    /// Returns the reading of commas between fields, and of whole numbers.
     pub fn plain() -> Reading {
         Reading {
             delimiter: Delimiter::Comma,
@@ -58,7 +58,7 @@ fn columns_of<'n>(
     Ok(columns)
 }
 
-// A total and one number more, which is that of the record that was read last.
+// A total and the number of the record that was read last.
 fn sum_of(
     alloc: Global,
     sheet: &Sheet<'_>,
@@ -74,8 +74,12 @@ fn sum_of(
     }
 }
 
-/// The articles of a text, each with the number beside it, in the order of the lines. An article may be there more than once. All
-/// numbers together fit a `usize`. An article is the fields of the columns that `keys` names, and numbers are in units of the scale.
+/// Reads the articles of a text, each with its number, in the order of the lines. An article is the fields of the columns that `keys`
+/// names, and may occur more than once. Numbers are in units of the scale, and all together fit a `usize`.
+///
+/// # Errors
+///
+/// `Line` for the first bad line, and what is wrong with it. `Memory` if an allocation fails.
 pub fn read_keyed_counts(
     alloc: Global,
     text: &[u8],
@@ -103,8 +107,7 @@ pub fn read_keyed_counts(
     Ok(counts)
 }
 
-/// The articles of one column of a text, each with the number beside it, in the order of the lines. An article may be there more than
-/// once. All numbers together fit a `usize`.
+/// Reads a list as [`read_keyed_counts`] does. An article is the field of one column.
 pub fn read_counts_as(
     alloc: Global,
     text: &[u8],
@@ -134,7 +137,7 @@ pub fn read_counts_as(
     Ok(counts)
 }
 
-/// The same of a text with commas between fields and with whole numbers.
+/// Reads a list as [`read_counts_as`] does, with commas between fields and whole numbers.
 pub fn read_counts(
     alloc: Global,
     text: &[u8],

@@ -57,11 +57,9 @@ fn joined(whole: &str, part: &str, decimals: u32) -> Option<usize>
     ones.checked_add(parts)
 }
 
-/// The number that a text is, in units of its scale: digits, or digits, the mark and as many decimals as the scale has or fewer.
+/// Returns the number that a text is, in units of its scale. The text is digits, or digits, the mark and at least one decimal.
 ///
-/// # Errors
-///
-/// `None` for another text, for more decimals, and for a number of more than `usize::MAX` units.
+/// Returns `None` for another text, for more decimals than the scale has, and for a number of more than `usize::MAX` units.
 pub fn read_decimal(text: &str, scale: Scale) -> Option<usize>
     ensures { MatchOption result
         (¬ (IsDecimal (code_of scale.mark) scale.decimals text.now × (units (code_of scale.mark) scale.decimals text.now ≤ usize.MAX)))
@@ -77,7 +75,8 @@ pub fn read_decimal(text: &str, scale: Scale) -> Option<usize>
 fn padded(alloc: Global, number: usize, width: u32) -> Result<String, AllocError>
     requires fits { number < 10 ^ width }
     requires wide { 0 < width }
-    ensures { IfOk result (λ text. AllDigits 10 (string_bytes text) × (length (string_bytes text) ≡ width) × (digits_value 10 (string_bytes text) ≡ number)) }
+    ensures { IfOk result (λ text. AllDigits 10 (string_bytes text) × (length (string_bytes text) ≡ width)
+        × (digits_value 10 (string_bytes text) ≡ number)) }
 {
     let digits = format!(in alloc; "{number}")?;
     let missing = (width as usize).saturating_sub(digits.len());
@@ -89,7 +88,7 @@ fn padded(alloc: Global, number: usize, width: u32) -> Result<String, AllocError
     Ok(text)
 }
 
-/// A number of units as a text: with all the decimals of the scale, and so that [`read_decimal`] gives it again.
+/// Writes a number of units with all decimals of the scale. [`read_decimal`] returns the number again.
 pub fn write_decimal(alloc: Global, number: usize, scale: Scale) -> Result<String, AllocError>
     ensures { IfOk result (λ text. IsDecimal (code_of scale.mark) scale.decimals (string_bytes text)
         × (units (code_of scale.mark) scale.decimals (string_bytes text) ≡ number)) }
@@ -104,7 +103,7 @@ pub fn write_decimal(alloc: Global, number: usize, scale: Scale) -> Result<Strin
     Ok(text)
 }
 
-/// Writes a number of units and reads the text again, which gives the number.
+/// Writes a number of units, reads the text again, and returns what was read, which is the number.
 pub fn read_back(alloc: Global, number: usize, scale: Scale) -> Result<Option<usize>, AllocError>
     ensures { IfOk result (λ read. read ≡ Some number) }
 {

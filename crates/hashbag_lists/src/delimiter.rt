@@ -1,4 +1,5 @@
 //! What is between the fields of a record.
+ghost use Rattle.std.specs.Prelude.{◌≡◌};
 
 /// The byte between two fields.
 #[derive(Clone, Copy, PartialEq, Eq, Debug)]
@@ -15,8 +16,12 @@ pub enum Delimiter {
 pub static NAMES: [&str; 4] = [",", ";", "tab", "\\t"];
 
 impl Delimiter {
-    /// The byte itself.
-    pub fn byte(self) -> u8 {
+    /// Returns the byte itself.
+    pub fn byte(self) -> u8
+        ensures comma { self ≡ Delimiter.Comma → result ≡ 44 }
+        ensures semicolon { self ≡ Delimiter.Semicolon → result ≡ 59 }
+        ensures tab { self ≡ Delimiter.Tab → result ≡ 9 }
+    {
         match self {
             Delimiter::Comma => b',',
             Delimiter::Semicolon => b';',
@@ -24,7 +29,7 @@ impl Delimiter {
         }
     }
 
-    /// The delimiter of one of the [`NAMES`], and a comma for another name.
+    /// Returns the delimiter of one of the [`NAMES`], and a comma for another name.
     pub fn named(name: &str) -> Delimiter {
         match name {
             ";" => Delimiter::Semicolon,

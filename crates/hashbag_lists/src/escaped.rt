@@ -2,7 +2,7 @@
 use std::alloc::{AllocError, Global};
 use std::fmt;
 
-// Of a longer field so many characters are shown in a message.
+// A message shows at most this many characters of a field.
 const SHOWN: usize = 60;
 
 /// A text with its control characters escaped, so that it stays on its line.
@@ -22,7 +22,7 @@ impl fmt::Display for Escaped<'_> {
     }
 }
 
-/// The beginning of a field, as a message shows it.
+/// Returns the beginning of a field, as a message shows it.
 pub fn shown(alloc: Global, field: &str) -> Result<String, AllocError> {
     match field.char_indices().nth(SHOWN) {
         Some((end, _)) => format!(in alloc; "{}..", Escaped(&field[..end])),

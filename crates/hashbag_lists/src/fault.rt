@@ -81,13 +81,13 @@ pub enum SheetError {
         /// What is wrong with it.
         fault: Fault,
     },
-    /// Memory was refused.
+    /// An allocation failed.
     #[error("no memory")]
     Memory,
 }
 
 impl SheetError {
-    /// Whether a total is too large.
+    /// Returns whether a total is too large.
     pub fn is_total(&self) -> bool {
         matches!(
             self,

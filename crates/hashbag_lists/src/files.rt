@@ -5,7 +5,7 @@ use std::io::{self, ErrorKind, Read, Write};
 use std::rt::{Env, Files};
 use std::{env, fs};
 
-/// The arguments of the program, its own name first.
+/// Returns the arguments of the program, its own name first.
 pub fn arguments<'a, R: Env + AllocGlobal>(rt: &R) -> Result<Vec<String>, Trouble<'a>> {
     match env::args(rt) {
         Ok(words) => Ok(words.collect(rt.alloc())?),
@@ -28,7 +28,7 @@ fn read_all<'a, R: AllocGlobal, F: Read>(
     }
 }
 
-/// What a file has, or standard input, which is named `-`.
+/// Reads a whole file, or standard input, which is named `-`.
 pub fn read_file<'a, R: Files + Input + AllocGlobal>(
     rt: &R,
     file: &'a str,

@@ -1,4 +1,8 @@
 //! Numbers in fields.
+ghost use Rattle.std.specs.Prelude.{◌≡◌, IfOk};
+ghost use Rattle.hashbag_lists.specs.Decimals.{IsDecimal, units};
+ghost use Rattle.hashbag_lists.specs.Marks.{code_of};
+
 use crate::decimals::{read_decimal, write_decimal};
 use crate::escaped::shown;
 use crate::fault::{Fault, SheetError};
@@ -23,8 +27,14 @@ fn has_decimals(text: &str) -> bool {
     after_digit
 }
 
-/// The number of decimal digits that are in a field.
-pub fn number(alloc: Global, line: u64, digits: &str, field: &str) -> Result<usize, SheetError> {
+/// Returns the whole number that `digits` are. `field` is the text that an error shows.
+///
+/// # Errors
+///
+/// As of [`scaled_number`].
+pub fn number(alloc: Global, line: u64, digits: &str, field: &str) -> Result<usize, SheetError>
+    ensures { IfOk result (λ n. IsDecimal 46 0 digits.now × (units 46 0 digits.now ≡ n)) }
+{
     scaled_number(alloc, line, digits, field, Scale::whole())
 }
 
@@ -65,14 +75,21 @@ fn too_large(alloc: Global, field: String, scale: Scale) -> Result<Fault, AllocE
     Ok(Fault::PastMost { most, field })
 }
 
-/// The number of units that are in a field, whose digits and mark are `digits`.
+/// Returns the number that `digits` are, in units of this scale. `field` is the text that an error shows.
+///
+/// # Errors
+///
+/// `Line` with this line if [`read_decimal`] returns `None`. `Memory` if the message can't be allocated.
 pub fn scaled_number(
     alloc: Global,
     line: u64,
     digits: &str,
     field: &str,
     scale: Scale,
-) -> Result<usize, SheetError> {
+) -> Result<usize, SheetError>
+    ensures { IfOk result (λ n. IsDecimal (code_of scale.mark) scale.decimals digits.now
+        × (units (code_of scale.mark) scale.decimals digits.now ≡ n)) }
+{
     match read_decimal(digits, scale) {
         Some(number) => Ok(number),
         None => {
@@ -82,7 +99,7 @@ pub fn scaled_number(
     }
 }
 
-/// The fault of a line with which a total is too large.
+/// Returns the fault of a line with which a total is too large.
 pub fn total_too_large(alloc: Global, scale: Scale) -> Result<Fault, AllocError> {
     if scale.decimals == 0 {
         return Ok(Fault::TotalTooLarge);

@@ -7,16 +7,16 @@ use hashbag::{BagError, HashBag};
 use std::alloc::{AllocError, Global};
 use std::hash::{BuildHasher, Hash};
 
-/// The bag of a list, under this hash state: it has as many of each article as the list names in all. Nothing is left to be carried,
-/// so each look-up probes one table.
+/// Returns the bag of a list, under this hash state. It has as many of each article as the list names in all. Nothing is left to be
+/// carried, so each look-up probes one table.
 ///
 /// # Errors
 ///
-/// `TooMany` if the numbers of the list are more than `usize::MAX` together, and else only `Memory`.
+/// `TooMany` if the numbers of the list are more than `usize::MAX` together. Else only `Memory`, if an allocation fails.
 ///
 /// # Complexity
 ///
-/// Each entry of the list is hashed once, and looked up.
+/// Hashes each entry of the list once, and each value that is carried into a larger table once more.
 pub fn bag_of<T: Eq + Hash + Drop, S: BuildHasher + Drop>(
     alloc: Global,
     state: S,
@@ -34,12 +34,12 @@ pub fn bag_of<T: Eq + Hash + Drop, S: BuildHasher + Drop>(
     Ok(bag)
 }
 
-/// The balance of a bag: each article that it has, once, with how many there are, articles rising. So the list names as many of each
-/// as the bag has, and [`bag_of`] gives an equal bag again.
+/// Returns the balance of a bag: each article that it has, once, with its count, articles rising. The list names as many of each as
+/// the bag has, so [`bag_of`] returns an equal bag.
 ///
 /// # Complexity
 ///
-/// It allocates the list, and compares as often as a sort of n pairs does.
+/// Allocates the list, and compares as often as a sort of n pairs does.
 pub fn balance_of<T: Ord + Hash + Drop, S: BuildHasher + Drop>(
     alloc: Global,
     bag: HashBag<T, S>,

@@ -28,7 +28,7 @@ pub enum Misplaced {
 }
 
 impl Misplaced {
-    /// The fault of its line.
+    /// Returns the fault of its line.
     pub fn fault(self) -> Fault {
         match self {
             Misplaced::Open => Fault::OpenQuote,
@@ -52,8 +52,8 @@ fn next_place(place: Place, byte: u8, delimiter: u8) -> Result<Place, Misplaced>
     }
 }
 
-/// The first quote of a record that is out of place, by its index in the bytes of the record, and what is wrong with it. Of a field
-/// in quotes that is the quote that opens it.
+/// Returns the first quote of a record that is out of place, by its index in the bytes of the record, and what is wrong with it. For
+/// a field in quotes that is the quote that opens it.
 pub fn misplaced_quote(record: &[u8], delimiter: u8) -> Option<(usize, Misplaced)> {
     let mut place = Place::Start;
     let mut opened = 0;

@@ -11,7 +11,7 @@ pub struct Records {
 }
 
 impl Records {
-    /// An empty text with that delimiter between fields.
+    /// Returns an empty text with this delimiter between fields.
     pub fn empty(alloc: Global, delimiter: Delimiter) -> Records {
         Records {
             writer: WriterBuilder::new()
@@ -20,7 +20,7 @@ impl Records {
         }
     }
 
-    /// A text of one record, the header, with commas between fields.
+    /// Returns a text of one record, the header, with commas between fields.
     pub fn new(alloc: Global, header: &[&str]) -> Result<Records, AllocError> {
         let mut records = Records::empty(alloc, Delimiter::Comma);
         for name in header {
@@ -52,7 +52,7 @@ impl Records {
         self.end()
     }
 
-    /// The whole text.
+    /// Returns the whole text.
     pub fn into_text(self) -> Result<Vec<u8>, AllocError> {
         self.writer.into_inner().map_err(|_| AllocError)
     }

@@ -1,5 +1,5 @@
 //! How numbers with decimals are written.
-ghost use Rattle.std.specs.Prelude.{◌≡◌, ◌≤◌};
+ghost use Rattle.std.specs.Prelude.{◌≡◌, ◌≤◌, ◌<◌, MatchOption};
 ghost use Rattle.hashbag_lists.specs.Decimals.{most_decimals};
 
 /// What is between the whole part of a number and its decimals.
@@ -14,7 +14,7 @@ pub enum Mark {
 impl Mark {
     ghost use Rattle.hashbag_lists.specs.Marks.{code_of};
 
-    /// The mark itself.
+    /// Returns the mark itself.
     pub fn character(self) -> char
         ensures { result ≡ code_of self }
     {
@@ -36,9 +36,10 @@ pub struct Scale {
 }
 
 impl Scale {
-    /// Whole numbers.
+    /// Returns the scale of whole numbers: no decimals, and the mark `.`.
     pub fn whole() -> Scale
-        ensures { result.decimals ≡ 0 }
+        ensures decimals { result.decimals ≡ 0 }
+        ensures mark { result.mark ≡ Mark.Point }
     {
         Scale {
             decimals: 0,
@@ -46,8 +47,10 @@ impl Scale {
         }
     }
 
-    /// Numbers with that many decimals, if they are 9 at most.
-    pub fn new(decimals: u32, mark: Mark) -> Option<Scale> {
+    /// Returns the scale with this number of decimals after this mark, or `None` if there are more than 9.
+    pub fn new(decimals: u32, mark: Mark) -> Option<Scale>
+        ensures { MatchOption result (most_decimals < decimals) (λ scale. (scale.decimals ≡ decimals) × (scale.mark ≡ mark)) }
+    {
         if decimals > 9 {
             return None;
         }

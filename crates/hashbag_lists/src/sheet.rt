@@ -57,12 +57,12 @@ pub struct Sheet<'a> {
 }
 
 impl<'a> Sheet<'a> {
-    /// The sheet of a text with commas between fields, with its header read.
+    /// Opens the sheet of a text with commas between fields, and reads its header.
     pub fn open(alloc: Global, text: &'a [u8]) -> Result<Sheet<'a>, SheetError> {
         Sheet::open_with(alloc, text, Delimiter::Comma)
     }
 
-    /// The sheet of a text with that delimiter between fields, with its header read.
+    /// Opens the sheet of a text with this delimiter between fields, and reads its header.
     pub fn open_with(
         alloc: Global,
         text: &'a [u8],
@@ -133,7 +133,7 @@ impl<'a> Sheet<'a> {
         }
     }
 
-    /// The line on which the record that was read last begins, from 1.
+    /// Returns the line on which the record that was read last begins, from 1.
     pub fn line(&self) -> u64 {
         match self.record.position() {
             Some(position) => line_of(self.text, position),
@@ -141,7 +141,7 @@ impl<'a> Sheet<'a> {
         }
     }
 
-    /// The column of that name in the header, which has to be the record that was read last.
+    /// Returns the column of this name in the header, which must be the record that was read last.
     pub fn column<'n>(&self, name: &'n str) -> Result<Column<'n>, SheetError> {
         let mut found = None;
         for place in 0..self.record.len() {
@@ -162,7 +162,7 @@ impl<'a> Sheet<'a> {
         }
     }
 
-    /// The text of a column in the record that was read last.
+    /// Returns the text of a column in the record that was read last.
     pub fn field(&self, column: Column<'_>) -> Result<&str, SheetError> {
         let field = self.record.get(column.place).unwrap_or(&[]);
         match str::from_utf8(field) {
@@ -174,7 +174,7 @@ impl<'a> Sheet<'a> {
         }
     }
 
-    /// The error that the record that was read last has this fault.
+    /// Returns the error that the record that was read last has this fault.
     pub fn bad_line(&self, fault: Fault) -> SheetError {
         let line = self.line();
         SheetError::Line { line, fault }

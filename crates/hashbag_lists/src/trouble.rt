@@ -8,7 +8,7 @@ use std::alloc::AllocError;
 use std::io::{self, ErrorKind};
 use thiserror::Error;
 
-/// Why a program came to no end.
+/// Why a program failed.
 #[derive(Debug, Drop, Error)]
 pub enum Trouble<'a> {
     /// An argument isn't UTF-8.
@@ -38,7 +38,7 @@ pub enum Trouble<'a> {
         /// The line and what is wrong with it.
         error: SheetError,
     },
-    /// Memory was refused.
+    /// An allocation failed.
     #[error("no memory")]
     Memory,
     /// An output file wasn't opened or written.
@@ -58,7 +58,7 @@ pub enum Trouble<'a> {
 }
 
 impl Trouble<'_> {
-    /// Whether it is said: not if nobody reads the output any more.
+    /// Returns whether a message is written: not if nobody reads the output any more.
     pub fn is_said(&self) -> bool {
         match self {
             Trouble::Write(error) => error.kind() != ErrorKind::BrokenPipe,
@@ -66,7 +66,7 @@ impl Trouble<'_> {
         }
     }
 
-    /// The exit status of a program that came to no end for this reason.
+    /// Returns the exit status of a program that ends for this reason.
     pub fn status(&self) -> u8
         ensures { (1 < result) × (result < 6) }
     {
