@@ -1,4 +1,4 @@
-//! What the command line asks for.
+//! The request that the arguments make.
 use crate::command::{COLUMNS, PROGRAM, START_COLUMNS, command};
 use clap::error::ErrorKind;
 use clap::{ArgMatches, Error};
@@ -10,7 +10,7 @@ use hashbag_lists::trouble::Trouble;
 use hashbag_shell::status::{BAD_INPUT, DONE, IO_FAILED};
 use std::alloc::{AllocError, Global};
 
-/// What is asked for.
+/// What the program is asked to do.
 #[derive(Drop)]
 pub struct Request<'a> {
     /// The file of the stock at the beginning, if there is one.
@@ -21,17 +21,17 @@ pub struct Request<'a> {
     pub files: Vec<&'a str>,
     /// The columns of movements.
     pub columns: Columns<&'a str>,
-    /// What is between fields, and how numbers are written.
+    /// The delimiter of fields, and how numbers are written.
     pub reading: Reading,
-    /// The file to which the balance is written, standard output if there is none.
+    /// The file to which the balance is written; `None` is standard output.
     pub output: Option<&'a str>,
-    /// The file to which refusals are written, standard error if there is none.
+    /// The file to which refusals are written; `None` is standard error.
     pub refused: Option<&'a str>,
-    /// Whether nothing is written after a refusal but the first one.
+    /// Whether, after a refusal, only the first refusal is written.
     pub strict: bool,
 }
 
-// The columns of two or three names with commas between them.
+// Returns the columns of two or three names with commas between them.
 fn columns_of(names: &str) -> Option<Columns<&str>> {
     let mut parts = names.split(',');
     let article = parts.next()?;
@@ -47,7 +47,7 @@ fn columns_of(names: &str) -> Option<Columns<&str>> {
     Some(Columns { article, change })
 }
 
-// Two names with a comma between them.
+// Returns two names that have a comma between them.
 fn pair_of(names: &str) -> Option<(&str, &str)> {
     let (first, second) = names.split_once(',')?;
     if second.contains(',') {
@@ -56,7 +56,7 @@ fn pair_of(names: &str) -> Option<(&str, &str)> {
     Some((first, second))
 }
 
-// What is between fields, and how numbers are written.
+// Returns the delimiter, and how numbers are written.
 fn reading_of(matches: &ArgMatches<'_>) -> Reading {
     let decimals = matches.get_str("scale").unwrap_or("0").parse().unwrap_or(0);
     let mark = match matches.get_str("mark") {
@@ -69,7 +69,7 @@ fn reading_of(matches: &ArgMatches<'_>) -> Reading {
     }
 }
 
-// What the words ask for.
+// Returns the request of the arguments.
 fn request_of<'a>(
     alloc: Global,
     matches: &ArgMatches<'a>,
@@ -95,7 +95,7 @@ fn request_of<'a>(
     })
 }
 
-// Says why the words ask for nothing, or gives the help or the version, and returns the status.
+// Prints the error, the help or the version, and returns the status.
 fn said<R: Print + Eprint>(rt: &R, error: &Error) -> u8 {
     if error.kind() == ErrorKind::OutOfMemory {
         return Trouble::Memory.report(rt, PROGRAM);
@@ -106,8 +106,12 @@ fn said<R: Print + Eprint>(rt: &R, error: &Error) -> u8 {
     if error.use_stderr() { BAD_INPUT } else { DONE }
 }
 
-/// What the words ask for, or the status with which the program ends at once: after the help, the version, bad words, or a failed
-/// allocation.
+/// Parses the arguments.
+///
+/// # Errors
+///
+/// The status with which the program ends at once: after the help, the version, bad arguments or a failed allocation. The message has
+/// been printed.
 pub fn parse<'a, R: Print + Eprint + AllocGlobal>(
     rt: &R,
     words: &'a [String],

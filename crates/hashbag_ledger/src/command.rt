@@ -1,16 +1,16 @@
-//! The command line, as its help has it.
+//! The arguments and their help.
 use clap::{Arg, ArgAction, Command};
 use hashbag_lists::delimiter::NAMES;
 use hashbag_shell::VERSION;
 use std::alloc::{AllocError, Global};
 
-/// The name of the program, with which its lines on standard error begin.
+/// The name of the program. Its messages on standard error begin with it.
 pub const PROGRAM: &str = "hashbag_ledger";
 
-/// The columns of movements where no others are named.
+/// The default columns of movements.
 pub const COLUMNS: &str = "article,change";
 
-/// The columns of the stock at the beginning where no others are named.
+/// The default columns of the stock at the beginning.
 pub const START_COLUMNS: &str = "article,number";
 
 static SCALES: [&str; 10] = ["0", "1", "2", "3", "4", "5", "6", "7", "8", "9"];
@@ -20,16 +20,16 @@ static MARKS: [&str; 2] = [".", ","];
 const ABOUT: &str = "Enters movements into a stock, and writes the balance.";
 
 const AFTER: &str = "\
-All files are CSV with a header. `-` is standard input, and is read where no file is named.
-A movement's change is `5` or `+5` for what comes in, and `-5` for what goes out. With three columns the second is the kind, `in` or
-`out`. A movement that asks for more than there is at that time is refused: it is named with its file and line, and the others go on.
-The balance is CSV with the columns `article` and `number`, articles rising, and may be the --start of the next run. All is read
-before anything is written, so the balance may replace the stock: hashbag_ledger --start stock.csv monday.csv -o stock.csv
+All files are CSV with a header. `-` is standard input, which is read if no file is named.
+A change is `5` or `+5` for what comes in, and `-5` for what goes out. With three columns the second is the kind, `in` or `out`.
+A movement that asks for more than is there at that time is refused, and named with its file and line. The others are entered.
+The balance is CSV with the columns of the stock, articles rising, and may be the --start of the next run. All is read before
+anything is written, so the balance may replace the stock: hashbag_ledger --start stock.csv monday.csv -o stock.csv
 
 Status: 0 all entered, 1 some refused, 2 bad arguments or a bad line (FILE:LINE is named), 3 no memory, 4 a file can't be opened, or
-a read or a write failed, 5 a total of more than 2^64-1. With 2 to 5 the file of -o is as it was.";
+a read or a write failed, 5 a total of more than 2^64-1. With 2 to 5 the file of -o is unchanged.";
 
-// What is read.
+// Adds the inputs.
 fn with_inputs<'a>(alloc: Global, command: Command<'a>) -> Result<Command<'a>, AllocError> {
     let moves = Arg::new(alloc, "MOVES.csv")
         .num_args(0..)
@@ -56,7 +56,7 @@ fn with_inputs<'a>(alloc: Global, command: Command<'a>) -> Result<Command<'a>, A
         .arg(moves)
 }
 
-// How files are read, and written.
+// Adds how files are read and written.
 fn with_reading<'a>(alloc: Global, command: Command<'a>) -> Result<Command<'a>, AllocError> {
     let scale = Arg::new(alloc, "scale")
         .long("scale")
@@ -79,7 +79,7 @@ fn with_reading<'a>(alloc: Global, command: Command<'a>) -> Result<Command<'a>, 
     command.arg(scale)?.arg(mark)?.arg(delimiter)
 }
 
-// What is written, and where.
+// Adds the outputs.
 fn with_outputs<'a>(alloc: Global, command: Command<'a>) -> Result<Command<'a>, AllocError> {
     let output = Arg::new(alloc, "output")
         .short('o')
@@ -99,7 +99,11 @@ fn with_outputs<'a>(alloc: Global, command: Command<'a>) -> Result<Command<'a>, 
     command.arg(output)?.arg(refused)?.arg(strict)
 }
 
-/// The command line of the program.
+/// Returns the command with its arguments.
+///
+/// # Errors
+///
+/// An error if an allocation fails.
 pub fn command<'a>(alloc: Global) -> Result<Command<'a>, AllocError> {
     let command = Command::new(alloc, PROGRAM)
         .version(VERSION)

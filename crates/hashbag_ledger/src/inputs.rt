@@ -1,4 +1,4 @@
-//! What is read: the stock at the beginning, and the movements.
+//! The inputs: the stock at the beginning, and the movements.
 use crate::arguments::Request;
 use hashbag_ledger_core::movements::Movement;
 use hashbag_ledger_core::reading::read_movements;
@@ -6,7 +6,11 @@ use hashbag_lists::counts::read_counts_as;
 use hashbag_lists::files::{in_file, read_file};
 use hashbag_lists::trouble::Trouble;
 
-/// The stock at the beginning.
+/// Reads the stock at the beginning; it is empty if no file is named.
+///
+/// # Errors
+///
+/// What is wrong with the file or one of its lines, or `Memory`.
 pub fn start_of<'a>(
     rt: &HostRuntime,
     request: &Request<'a>,
@@ -26,7 +30,11 @@ pub fn start_of<'a>(
     in_file(file, counts)
 }
 
-/// The movements of all files.
+/// Reads the movements of all files, in their order.
+///
+/// # Errors
+///
+/// What is wrong with the first bad file or one of its lines, or `Memory`.
 pub fn movements_of<'a>(
     rt: &HostRuntime,
     request: &Request<'a>,

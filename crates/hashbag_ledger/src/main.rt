@@ -1,4 +1,4 @@
-//! Enters movements into a stock, refuses those that ask for more than there is, and writes the balance.
+//! Enters movements into a stock, refuses those that ask for more than is there, and writes the balance.
 #![tactic(auto)]
 
 mod arguments;
@@ -21,7 +21,7 @@ use hashbag_shell::status::{BAD_INPUT, DENIED, DONE};
 use std::hash::RandomState;
 use std::process::ExitCode;
 
-// That the total is too large with that line of a file.
+// Returns the trouble that the total is too large with that line of a file.
 fn too_large<'a>(rt: &HostRuntime, request: &Request<'a>, file: &'a str, line: u64) -> Trouble<'a> {
     let error = match total_too_large(rt.alloc(), request.reading.scale) {
         Ok(fault) => SheetError::Line { line, fault },
@@ -30,7 +30,7 @@ fn too_large<'a>(rt: &HostRuntime, request: &Request<'a>, file: &'a str, line: u
     Trouble::BadLine { file, error }
 }
 
-// What is wrong if the movements weren't entered. That the stock at the beginning isn't too large was seen when it was read.
+// Returns the trouble for an error. The stock at the beginning isn't too large: that was checked when it was read.
 fn trouble_of<'a>(rt: &HostRuntime, request: &Request<'a>, error: LedgerError) -> Trouble<'a> {
     match error {
         LedgerError::Memory => Trouble::Memory,
@@ -42,11 +42,11 @@ fn trouble_of<'a>(rt: &HostRuntime, request: &Request<'a>, error: LedgerError) -
     }
 }
 
-// What the movements left.
+// Reads the inputs, and enters the movements.
 fn entered_of<'a>(rt: &HostRuntime, request: &Request<'a>) -> Result<Entered<String>, Trouble<'a>> {
     let start = start_of(rt, request)?;
     let movements = movements_of(rt, request)?;
-    // Its keys are random, so nobody can choose articles that hash alike.
+    // The keys are random, so nobody can choose articles whose hashes collide.
     let state = RandomState::new(rt).map_err(Trouble::Random)?;
     match settle(rt.alloc(), state, start, movements) {
         Ok(entered) => Ok(entered),
@@ -54,7 +54,7 @@ fn entered_of<'a>(rt: &HostRuntime, request: &Request<'a>) -> Result<Entered<Str
     }
 }
 
-// What is written in the end.
+// Returns what is to be written.
 fn report_of<'a>(rt: &HostRuntime, request: &Request<'a>) -> Result<Report, Trouble<'a>> {
     let alloc = rt.alloc();
     let entered = entered_of(rt, request)?;
@@ -87,7 +87,7 @@ fn report_of<'a>(rt: &HostRuntime, request: &Request<'a>) -> Result<Report, Trou
     })
 }
 
-// Does what was asked for, and returns the status.
+// Does what is asked, and returns the status.
 fn answer<'a>(rt: &HostRuntime, request: &Request<'a>) -> Result<u8, Trouble<'a>> {
     let outputs = Outputs::open(rt, request)?;
     match report_of(rt, request) {

@@ -1,4 +1,4 @@
-//! Where the refusals and the balance are written.
+//! The outputs: the refusals and the balance.
 use crate::arguments::Request;
 use hashbag_lists::files::write_text;
 use hashbag_lists::trouble::Trouble;
@@ -7,37 +7,37 @@ use hashbag_shell::output_file::OutputFile;
 use std::fs::File;
 use std::io::{self, ErrorKind};
 
-/// What is written in the end.
+/// What is to be written.
 #[derive(Drop)]
 pub struct Report {
     /// The refusals.
     pub refusals: Vec<u8>,
-    /// The balance, if there is to be one.
+    /// The balance; `None` if none is written.
     pub balance: Option<Vec<u8>>,
     /// The status with which the program ends.
     pub status: u8,
 }
 
-/// Outputs that were opened before anything was read, `None` for a standard stream.
+/// The opened outputs; `None` is a standard stream.
 #[derive(Drop)]
 pub struct Outputs<'a> {
     refusals: Option<NamedOutput<'a>>,
     balance: Option<NamedOutput<'a>>,
 }
 
-// An output under its name.
+// An output with its name.
 #[derive(Drop)]
 struct NamedOutput<'a> {
     name: &'a str,
     file: OutputFile<File>,
 }
 
-// Whether two names are of one file. A name of which there is no file yet is that of the same name alone.
+// Returns whether two names are of one file. If there is no file of a name, only the same name is.
 fn is_same(rt: &HostRuntime, first: &str, second: &str) -> bool {
     first == second || is_one_file(rt, first, second)
 }
 
-/// An output that is an input too, or the other output. The balance alone may be written where the stock at the beginning is.
+/// Returns an output that is also an input or the other output, if there is one. The balance may replace the stock at the beginning.
 pub fn conflict<'a>(rt: &HostRuntime, request: &Request<'a>) -> Option<&'a str> {
     for output in [request.output, request.refused] {
         if let Some(name) = output {
@@ -59,7 +59,7 @@ pub fn conflict<'a>(rt: &HostRuntime, request: &Request<'a>) -> Option<&'a str> 
     None
 }
 
-// The trouble with a file that is written.
+// Returns the trouble for an error of an output.
 fn trouble_with<'a>(file: &'a str, error: io::Error) -> Trouble<'a> {
     match error.kind() {
         ErrorKind::OutOfMemory => Trouble::Memory,
@@ -67,7 +67,7 @@ fn trouble_with<'a>(file: &'a str, error: io::Error) -> Trouble<'a> {
     }
 }
 
-// Opens an output.
+// Opens an output, if one is named.
 fn open<'a>(
     rt: &HostRuntime,
     name: Option<&'a str>,
@@ -82,7 +82,11 @@ fn open<'a>(
 }
 
 impl<'a> Outputs<'a> {
-    /// Opens the outputs that are asked for.
+    /// Opens the outputs that are named.
+    ///
+    /// # Errors
+    ///
+    /// Which output can't be opened, and why. Then the files are unchanged.
     pub fn open(rt: &HostRuntime, request: &Request<'a>) -> Result<Outputs<'a>, Trouble<'a>> {
         let refusals = open(rt, request.refused)?;
         match open(rt, request.output) {
@@ -94,13 +98,17 @@ impl<'a> Outputs<'a> {
         }
     }
 
-    /// Leaves the files as they were.
+    /// Writes nothing: the files are unchanged.
     pub fn abandon(self, rt: &HostRuntime) {
         abandon(rt, self.refusals);
         abandon(rt, self.balance);
     }
 
     /// Writes the refusals, and then the balance.
+    ///
+    /// # Errors
+    ///
+    /// Which output can't be written, and why. A file that can't be written is unchanged.
     pub fn write(self, rt: &HostRuntime, report: &Report) -> Result<(), Trouble<'a>> {
         let refusals = report.refusals.as_slice();
         let written = match self.refusals {
@@ -122,14 +130,14 @@ impl<'a> Outputs<'a> {
     }
 }
 
-// Leaves a file as it was.
+// Writes nothing to an output.
 fn abandon(rt: &HostRuntime, output: Option<NamedOutput<'_>>) {
     if let Some(NamedOutput { file, .. }) = output {
         file.abandon(rt);
     }
 }
 
-// Writes a text to a file.
+// Writes a text to an output.
 fn write_file<'a>(
     rt: &HostRuntime,
     output: NamedOutput<'a>,

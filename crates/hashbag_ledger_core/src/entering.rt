@@ -50,6 +50,7 @@ pub fn enter<T: Eq + Hash + Drop, S: BuildHasher + Drop>(
     ensures len { IfOk result (λ r. r ≡ None → length stock.new.items + going movement.change ≡ length stock.old.items + coming movement.change) }
     ensures refused { IfOk result (λ r. IfSome r (IsRefused T.eq movement (stock_of T.eq stock.old.items))) }
     ensures same { IfOk result (λ r. IsSome r → stock.new ≡ stock.old) }
+    ensures fits { OnOk result (length stock.old.items + coming movement.change ≤ stock.old.most) }
     ensures limit { stock.new.most ≡ stock.old.most }
     ensures why { IfErr result (λ e. (e ≡ LedgerError.Memory) ⊎ (e ≡ LedgerError.TooMany movement.place)) }
     ensures too_many { IfErr result (λ e. e ≢ LedgerError.Memory → stock.old.most < length stock.old.items + coming movement.change) }
@@ -100,6 +101,7 @@ pub fn enter_all<T: Eq + Hash + Drop, S: BuildHasher + Drop>(
 ) -> Result<Vec<Refusal<T>>, LedgerError>
     ensures leaves { OnOk result (Leaves T.eq (stock_of T.eq stock.old.items) movements.items (stock_of T.eq stock.new.items)) }
     ensures refused { IfOk result (λ r. r.items ≡ refused_of T.eq (stock_of T.eq stock.old.items) movements.items) }
+    ensures fit { OnOk result ((p : Place) → ¬ (IsPastLimit T.eq stock.old.items stock.old.most movements.items p)) }
     ensures why { IfErr result (λ e. e ≢ LedgerError.StartTooMany) }
     ensures past { IfErr result (λ e. (p : Place) → e ≡ LedgerError.TooMany p
         → IsPastLimit T.eq stock.old.items stock.old.most movements.items p) }

@@ -1,4 +1,6 @@
 //! Movements read from CSV texts.
+ghost use Rattle.std.specs.Prelude.{◌≡◌, All, IfOk};
+
 use crate::movements::{Change, Movement, Place};
 use hashbag_lists::counts::Reading;
 use hashbag_lists::escaped::shown;
@@ -102,7 +104,9 @@ pub fn read_movements(
     file: usize,
     names: Columns<&str>,
     reading: Reading,
-) -> Result<Vec<Movement<String>>, SheetError> {
+) -> Result<Vec<Movement<String>>, SheetError>
+    ensures places { IfOk result (λ movements. All (λ m. m.place.file ≡ file) movements.items) }
+{
     let mut sheet = Sheet::open_with(alloc, text, reading.delimiter)?;
     let columns = columns_of(&sheet, names)?;
     let mut movements = Vec::new(alloc);

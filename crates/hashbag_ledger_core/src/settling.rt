@@ -85,6 +85,7 @@ pub fn settle<T: Ord + Hash + Drop, S: BuildHasher + Drop>(
     ensures fits { numbers start.items ≤ usize.MAX → IfErr result (λ e. e ≢ LedgerError.StartTooMany) }
     ensures too_many { usize.MAX < numbers start.items → result ≡ Err LedgerError.StartTooMany }
     ensures memory { IfErr result (λ e. e ≡ LedgerError.Memory → numbers start.items ≤ usize.MAX) }
+    ensures fit { OnOk result ((p : Place) → ¬ (IsPastFrom T.eq start.items movements.items p)) }
     ensures past { IfErr result (λ e. (p : Place) → e ≡ LedgerError.TooMany p → IsPastFrom T.eq start.items movements.items p) }
 {
     let mut stock = stock_at_start(alloc, state, start)?;

@@ -1,5 +1,5 @@
-//! What no clause says of movements: how texts are read, what is said of bad ones, and how a balance and refusals are written. What
-//! is wanted was found by hand.
+//! What no clause says of movements: which texts are read, what is said of bad ones, and how a balance and refusals are written. The
+//! expected values were found by hand.
 use hashbag::FixedState;
 use hashbag_ledger_core::entering::LedgerError;
 use hashbag_ledger_core::movements::Change;
@@ -27,7 +27,7 @@ const BY_KIND: Columns<&str> = Columns {
 // The columns of a balance.
 const NAMES: (&str, &str) = ("article", "number");
 
-// The columns of a text, the text, and what it says: its movements, or its first bad line and what is wrong with that.
+// The columns of a text, the text, and its movements, or its first bad line and what is wrong with it.
 const TEXTS: [(Columns<&str>, &str, &str); 18] = [
     (
         SIGNED,
@@ -101,7 +101,7 @@ const TEXTS: [(Columns<&str>, &str, &str); 18] = [
     ),
 ];
 
-// What a text says.
+// Returns the movements of a text, or its fault, in one line.
 fn said_of(
     alloc: Global,
     names: Columns<&str>,
@@ -166,7 +166,7 @@ fn decimals_are_read(rt: HostRuntime) -> Result<(), Fail> {
     Ok(())
 }
 
-// A stock at the beginning, a text of movements, and what they leave and what is refused.
+// A stock at the beginning, a text of movements, and the balance and the refusals.
 const LEDGERS: [(&[(&str, usize)], &str, &str); 6] = [
     (&[], "article,change\n", "article,number\n"),
     (
@@ -196,7 +196,7 @@ const LEDGERS: [(&[(&str, usize)], &str, &str); 6] = [
     ),
 ];
 
-// A stock of texts that are owned.
+// Returns a stock of owned texts.
 fn stock_of(alloc: Global, start: &[(&str, usize)]) -> Result<Vec<(String, usize)>, Fail> {
     let mut stock = Vec::new(alloc);
     for (article, number) in start {
@@ -205,7 +205,7 @@ fn stock_of(alloc: Global, start: &[(&str, usize)]) -> Result<Vec<(String, usize
     Ok(stock)
 }
 
-// What a stock and movements leave.
+// Returns the balance and the refusals, or the error, as text.
 fn left_by<S: BuildHasher + Drop>(
     alloc: Global,
     state: S,
@@ -271,7 +271,7 @@ fn decimals_are_written(rt: HostRuntime) -> Result<(), Fail> {
     Ok(())
 }
 
-// Movements of which all are refused, as CSV.
+// Refusals as CSV.
 const REFUSED: &str = "\
 file,line,article,asked,there
 \"a,b.csv\",2,\"5\"\" tube\",2,1
