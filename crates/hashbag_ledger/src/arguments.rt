@@ -1,72 +1,37 @@
-//! The command line.
+//! The request that the arguments make.
+use crate::command::{COLUMNS, PROGRAM, START_COLUMNS, command};
 use clap::error::ErrorKind;
-use clap::{Arg, ArgAction, ArgMatches, Command, Error};
+use clap::{ArgMatches, Error};
 use hashbag_ledger_core::reading::{ChangeColumns, Columns};
-use hashbag_lists::trouble::{BAD_INPUT, IO_FAILED, Trouble};
+use hashbag_lists::counts::Reading;
+use hashbag_lists::delimiter::Delimiter;
+use hashbag_lists::scale::{Mark, Scale};
+use hashbag_lists::trouble::Trouble;
+use hashbag_shell::status::{BAD_INPUT, DONE, IO_FAILED};
 use std::alloc::{AllocError, Global};
 
-/// The name of the program, with which its lines on standard error begin.
-pub const PROGRAM: &str = "hashbag_ledger";
-
-/// What is asked for.
+/// What the program is asked to do.
 #[derive(Drop)]
 pub struct Request<'a> {
     /// The file of the stock at the beginning, if there is one.
     pub start: Option<&'a str>,
+    /// Its columns of articles and of numbers.
+    pub start_columns: (&'a str, &'a str),
     /// The files of movements.
     pub files: Vec<&'a str>,
     /// The columns of movements.
     pub columns: Columns<&'a str>,
-    /// The file to which refusals are written, standard error if there is none.
+    /// The delimiter of fields, and how numbers are written.
+    pub reading: Reading,
+    /// The file to which the balance is written; `None` is standard output.
+    pub output: Option<&'a str>,
+    /// The file to which refusals are written; `None` is standard error.
     pub refused: Option<&'a str>,
-    /// Whether nothing is written after a refusal but the first one.
+    /// Whether, after a refusal, only the first refusal is written.
     pub strict: bool,
 }
 
-const ABOUT: &str = "Enters movements into a stock, and writes the balance.";
-
-const AFTER: &str = "\
-All files are CSV with a header. `-` is standard input, and is read where no file is named.
-A movement's change is `5` or `+5` for what comes in, and `-5` for what goes out. With three columns the second is the kind, `in` or
-`out`. A movement that asks for more than there is at that time is refused: it is named with its file and line, and the others go on.
-The balance is CSV with the columns `article` and `number`, articles rising, and may be the --start of the next run.
-
-Status: 0 all entered, 1 some refused, 2 bad arguments, no such file or a bad line (FILE:LINE is named, nothing is written),
-3 no memory, 4 a read or a write failed.";
-
-// The options.
-fn with_options<'a>(alloc: Global, command: Command<'a>) -> Result<Command<'a>, AllocError> {
-    let start = Arg::new(alloc, "start")
-        .long("start")
-        .value_name("STOCK.csv")
-        .help("The stock at the beginning, with the columns `article` and `number`");
-    let columns = Arg::new(alloc, "columns")
-        .long("columns")
-        .value_name("NAMES")
-        .default_value("article,change")
-        .help("The columns of movements: article,change or article,kind,number");
-    let refused = Arg::new(alloc, "refused")
-        .long("refused")
-        .value_name("FILE")
-        .help("Where refusals are written, in place of standard error");
-    let strict = Arg::new(alloc, "strict")
-        .long("strict")
-        .action(ArgAction::SetTrue)
-        .help("Ends at the first refusal, without a balance");
-    command.arg(start)?.arg(columns)?.arg(refused)?.arg(strict)
-}
-
-// The command line of the program.
-fn command<'a>(alloc: Global) -> Result<Command<'a>, AllocError> {
-    let moves = Arg::new(alloc, "MOVES.csv")
-        .num_args(0..)
-        .action(ArgAction::Append)
-        .help("Movements, in the order of the files and of their lines");
-    let command = Command::new(alloc, PROGRAM).about(ABOUT).after_help(AFTER);
-    with_options(alloc, command)?.arg(moves)
-}
-
-// The columns of two or three names with commas between them.
+// Returns the columns of two or three names with commas between them.
 fn columns_of(names: &str) -> Option<Columns<&str>> {
     let mut parts = names.split(',');
     let article = parts.next()?;
@@ -82,10 +47,33 @@ fn columns_of(names: &str) -> Option<Columns<&str>> {
     Some(Columns { article, change })
 }
 
-// What the words ask for.
+// Returns two names that have a comma between them.
+fn pair_of(names: &str) -> Option<(&str, &str)> {
+    let (first, second) = names.split_once(',')?;
+    if second.contains(',') {
+        return None;
+    }
+    Some((first, second))
+}
+
+// Returns the delimiter, and how numbers are written.
+fn reading_of(matches: &ArgMatches<'_>) -> Reading {
+    let decimals = matches.get_str("scale").unwrap_or("0").parse().unwrap_or(0);
+    let mark = match matches.get_str("mark") {
+        Some(",") => Mark::Comma,
+        _ => Mark::Point,
+    };
+    Reading {
+        delimiter: Delimiter::named(matches.get_str("delimiter").unwrap_or(",")),
+        scale: Scale::new(decimals, mark).unwrap_or(Scale::whole()),
+    }
+}
+
+// Returns the request of the arguments.
 fn request_of<'a>(
     alloc: Global,
     matches: &ArgMatches<'a>,
+    start_columns: (&'a str, &'a str),
     columns: Columns<&'a str>,
 ) -> Result<Request<'a>, AllocError> {
     let mut files = Vec::new(alloc);
@@ -97,14 +85,17 @@ fn request_of<'a>(
     }
     Ok(Request {
         start: matches.get_str("start"),
+        start_columns,
         files,
         columns,
+        reading: reading_of(matches),
+        output: matches.get_str("output"),
         refused: matches.get_str("refused"),
         strict: matches.get_flag("strict"),
     })
 }
 
-// Says why the words ask for nothing, or gives the help, and answers the status.
+// Prints the error, the help or the version, and returns the status.
 fn said<R: Print + Eprint>(rt: &R, error: &Error) -> u8 {
     if error.kind() == ErrorKind::OutOfMemory {
         return Trouble::Memory.report(rt, PROGRAM);
@@ -112,10 +103,15 @@ fn said<R: Print + Eprint>(rt: &R, error: &Error) -> u8 {
     if error.print(rt).is_err() {
         return IO_FAILED;
     }
-    if error.use_stderr() { BAD_INPUT } else { 0 }
+    if error.use_stderr() { BAD_INPUT } else { DONE }
 }
 
-/// What the words ask for, or the status with which the program ends at once: after the help, bad words, or want of memory.
+/// Parses the arguments.
+///
+/// # Errors
+///
+/// The status with which the program ends at once: after the help, the version, bad arguments or a failed allocation. The message has
+/// been printed.
 pub fn parse<'a, R: Print + Eprint + AllocGlobal>(
     rt: &R,
     words: &'a [String],
@@ -127,10 +123,17 @@ pub fn parse<'a, R: Print + Eprint + AllocGlobal>(
         Ok(matches) => matches,
         Err(error) => return Err(said(rt, &error)),
     };
-    let names = matches.get_str("columns").unwrap_or("article,change");
+    let names = matches.get_str("columns").unwrap_or(COLUMNS);
     let Some(columns) = columns_of(names) else {
         let _ = eprintln!(rt; "{PROGRAM}: --columns takes two or three names: {names}");
         return Err(BAD_INPUT);
     };
-    request_of(rt.alloc(), &matches, columns).map_err(|_| Trouble::Memory.report(rt, PROGRAM))
+    let names = matches.get_str("start-columns").unwrap_or(START_COLUMNS);
+    let Some(start_columns) = pair_of(names) else {
+        let _ = eprintln!(rt; "{PROGRAM}: --start-columns takes two names: {names}");
+        return Err(BAD_INPUT);
+    };
+    request_of(rt.alloc(), &matches, start_columns, columns).map_err(|_| Trouble::Memory.report(
+        rt, PROGRAM,
+    ))
 }

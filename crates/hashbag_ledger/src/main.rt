@@ -1,122 +1,104 @@
-//! Enters movements into a stock, refuses those that ask for more than there is, and writes the balance.
+//! Enters movements into a stock, refuses those that ask for more than is there, and writes the balance.
 #![tactic(auto)]
 
 mod arguments;
+mod command;
+mod inputs;
+mod outputs;
 
-use crate::arguments::{PROGRAM, Request, parse};
+use crate::arguments::{Request, parse};
+use crate::command::PROGRAM;
+use crate::inputs::{movements_of, start_of};
+use crate::outputs::{Outputs, Report, conflict};
 use hashbag_ledger_core::entering::LedgerError;
-use hashbag_ledger_core::movements::Movement;
-use hashbag_ledger_core::output::{balance_text, refusals_text};
-use hashbag_ledger_core::reading::read_movements;
+use hashbag_ledger_core::output::{balance_text, refusals_table, refusals_text};
 use hashbag_ledger_core::settling::{Entered, settle};
-use hashbag_lists::counts::read_counts;
-use hashbag_lists::fault::{Fault, SheetError};
-use hashbag_lists::files::{arguments, in_file, read_file, write_text};
+use hashbag_lists::fault::SheetError;
+use hashbag_lists::files::arguments;
+use hashbag_lists::numbers::total_too_large;
 use hashbag_lists::trouble::Trouble;
+use hashbag_shell::status::{BAD_INPUT, DENIED, DONE};
+use std::hash::RandomState;
 use std::process::ExitCode;
-use std::{fs, io};
 
-// All movements were entered.
-const ENTERED: u8 = 0;
-
-// Some were refused.
-const REFUSED: u8 = 1;
-
-// The stock at the beginning.
-fn start_of<'a>(
-    rt: &HostRuntime,
-    request: &Request<'a>,
-) -> Result<Vec<(String, usize)>, Trouble<'a>> {
-    let Some(file) = request.start else {
-        return Ok(Vec::new(rt.alloc()));
+// Returns the trouble that the total is too large with that line of a file.
+fn too_large<'a>(rt: &HostRuntime, request: &Request<'a>, file: &'a str, line: u64) -> Trouble<'a> {
+    let error = match total_too_large(rt.alloc(), request.reading.scale) {
+        Ok(fault) => SheetError::Line { line, fault },
+        Err(_) => return Trouble::Memory,
     };
-    let text = read_file(rt, file)?;
-    let counts = read_counts(rt.alloc(), text.as_slice(), "article", "number");
-    in_file(file, counts)
+    Trouble::BadLine { file, error }
 }
 
-// The movements of all files.
-fn movements_of<'a>(
-    rt: &HostRuntime,
-    request: &Request<'a>,
-) -> Result<Vec<Movement<String>>, Trouble<'a>> {
-    let mut all = Vec::new(rt.alloc());
-    for i in 0..request.files.len() {
-        let file = request.files[i];
-        let text = read_file(rt, file)?;
-        let read = read_movements(rt.alloc(), text.as_slice(), i, request.columns);
-        let mut movements = in_file(file, read)?;
-        all.append(&mut movements)?;
-    }
-    Ok(all)
-}
-
-// A total that is too large with that line.
-fn too_large(line: u64) -> SheetError {
-    let fault = Fault::TotalTooLarge;
-    SheetError::Line { line, fault }
-}
-
-// What is wrong where the movements weren't entered. That the stock at the beginning isn't too large was seen when it was read.
-fn trouble_of<'a>(request: &Request<'a>, error: LedgerError) -> Trouble<'a> {
+// Returns the trouble for an error. The stock at the beginning isn't too large: that was checked when it was read.
+fn trouble_of<'a>(rt: &HostRuntime, request: &Request<'a>, error: LedgerError) -> Trouble<'a> {
     match error {
         LedgerError::Memory => Trouble::Memory,
-        LedgerError::StartTooMany => Trouble::BadLine {
-            file: request.start.unwrap_or("-"),
-            error: too_large(1),
-        },
-        LedgerError::TooMany(place) => Trouble::BadLine {
-            file: request.files.get(place.file).copied().unwrap_or("-"),
-            error: too_large(place.line),
-        },
+        LedgerError::StartTooMany => too_large(rt, request, request.start.unwrap_or("-"), 1),
+        LedgerError::TooMany(place) => {
+            let file = request.files.get(place.file).copied().unwrap_or("-");
+            too_large(rt, request, file, place.line)
+        }
     }
 }
 
-// Writes the refusals where they belong.
-fn write_refusals<'a>(
-    rt: &HostRuntime,
-    request: &Request<'a>,
-    refusals: &str,
-) -> Result<(), Trouble<'a>> {
-    match request.refused {
-        Some(file) => match fs::create(rt, file) {
-            Ok(mut created) => write_text(&mut created, refusals.as_bytes()),
-            Err(error) => Err(Trouble::Open { file, error }),
-        },
-        None => write_text(&mut rt.stderr(), refusals.as_bytes()),
+// Reads the inputs, and enters the movements.
+fn entered_of<'a>(rt: &HostRuntime, request: &Request<'a>) -> Result<Entered<String>, Trouble<'a>> {
+    let start = start_of(rt, request)?;
+    let movements = movements_of(rt, request)?;
+    // The keys are random, so nobody can choose articles whose hashes collide.
+    let state = RandomState::new(rt).map_err(Trouble::Random)?;
+    match settle(rt.alloc(), state, start, movements) {
+        Ok(entered) => Ok(entered),
+        Err(error) => Err(trouble_of(rt, request, error)),
     }
 }
 
-// Writes what the movements left, and answers the status.
-fn write_all<'a>(
-    rt: &HostRuntime,
-    request: &Request<'a>,
-    entered: &Entered<String>,
-) -> Result<u8, Trouble<'a>> {
+// Returns what is to be written.
+fn report_of<'a>(rt: &HostRuntime, request: &Request<'a>) -> Result<Report, Trouble<'a>> {
     let alloc = rt.alloc();
+    let entered = entered_of(rt, request)?;
     let all = entered.refusals.as_slice();
     let named = if request.strict {
         &all[..all.len().min(1)]
     } else {
         all
     };
-    let refusals = refusals_text(alloc, &request.files, named)?;
-    let balance = balance_text(alloc, &entered.balance)?;
-    write_refusals(rt, request, refusals.as_str())?;
-    if request.strict && !all.is_empty() {
-        return Ok(REFUSED);
-    }
-    write_text(&mut io::writer(rt), balance.as_slice())?;
-    Ok(if all.is_empty() { ENTERED } else { REFUSED })
+    let refusals = match request.refused {
+        Some(_) => refusals_table(alloc, &request.files, request.reading, named)?,
+        None => {
+            refusals_text(alloc, &request.files, request.reading.scale, named)?.into_bytes()
+        },
+    };
+    let balance = if request.strict && !all.is_empty() {
+        None
+    } else {
+        Some(balance_text(
+            alloc,
+            request.start_columns,
+            request.reading,
+            &entered.balance,
+        )?)
+    };
+    Ok(Report {
+        refusals,
+        balance,
+        status: if all.is_empty() { DONE } else { DENIED },
+    })
 }
 
-// Does what was asked for, and answers the status.
+// Does what is asked, and returns the status.
 fn answer<'a>(rt: &HostRuntime, request: &Request<'a>) -> Result<u8, Trouble<'a>> {
-    let start = start_of(rt, request)?;
-    let movements = movements_of(rt, request)?;
-    match settle(rt.alloc(), start, movements) {
-        Ok(entered) => write_all(rt, request, &entered),
-        Err(error) => Err(trouble_of(request, error)),
+    let outputs = Outputs::open(rt, request)?;
+    match report_of(rt, request) {
+        Ok(report) => {
+            outputs.write(rt, &report)?;
+            Ok(report.status)
+        }
+        Err(trouble) => {
+            outputs.abandon(rt);
+            Err(trouble)
+        }
     }
 }
 
@@ -129,6 +111,10 @@ fn run(rt: &HostRuntime) -> u8 {
         Ok(request) => request,
         Err(status) => return status,
     };
+    if let Some(name) = conflict(rt, &request) {
+        let _ = eprintln!(rt; "{PROGRAM}: {name}: both an input and an output, or two outputs");
+        return BAD_INPUT;
+    }
     match answer(rt, &request) {
         Ok(status) => status,
         Err(trouble) => trouble.report(rt, PROGRAM),

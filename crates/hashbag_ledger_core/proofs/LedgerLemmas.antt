@@ -1,9 +1,9 @@
 -- Movements that are entered in turn: what they leave, and that nothing is lost.
-use Rattle.std.proofs.Common.{◌≡◌, ℕ, ◌+◌, ◌<◌, ◌≤◌, nat_lt, Bool, true, false, cond, List, [], ◌∷◌, ◌++◌, length, sum_by, refl, sym, ◌∙◌, ap, subst, inl, inr, arith}
+use Rattle.std.proofs.Common.{◌≡◌, ℕ, ◌+◌, ◌<◌, ◌≤◌, nat_lt, Bool, true, false, cond, List, [], ◌∷◌, ◌++◌, length, sum_by, take, drop, refl, sym, ◌∙◌, ap, subst, inl, inr, arith}
 use Rattle.std.proofs.lemmas.Bool.{cases_lt, ltb-true, lt-ltb}
 use Rattle.std.proofs.lemmas.List.{append_assoc, append-nil, length-append, take_all, take-append-le}
 use Rattle.std.proofs.lemmas.List.Sums.{sum_by_push}
-use Rattle.std.proofs.Math.Seq.{take-length, take-nil}
+use Rattle.std.proofs.Math.Seq.{take-length, take-nil, take-append_seam, drop-append_seam}
 use Rattle.hashbag_ledger_core.specs.declared.movements.Movement.{Movement}
 use Rattle.hashbag_ledger_core.specs.declared.movements.Place.{Place}
 use Rattle.hashbag_ledger_core.specs.declared.movements.Refusal.{Refusal}
@@ -144,6 +144,46 @@ module _ {T : Type 0} (eq : T → T → Bool) (start : T → ℕ) where
         at_place = at;
         over = subst (λ (l : List (Movement T)). most < total_after total l + coming m.change) (sym h.entered_is) so_far;
       }
+
+  -- with none of the movements that have come would the total have passed the most
+  abbrev pub FitSoFar : ℕ → ℕ → List (Movement T) → List (Movement T) → Type 0
+  FitSoFar total most all to_come = (before : List (Movement T)) (m : Movement T) (later : List (Movement T)) → before ++ m ∷ later ≡ all
+      → length before + length to_come < length all → total_after total (entered_of eq start before) + coming m.change ≤ most
+
+  pub none_fit_yet : (total most : ℕ) (all : List (Movement T)) → FitSoFar total most all all
+  none_fit_yet total most all = λ before m later is few. absurd (omega arith)
+
+  -- the next movement fits
+  pub next_fits : {total now most : ℕ} {all l to_come : List (Movement T)} {m : Movement T} {refusals : List (Refusal T)} {stock : T → ℕ} → l ≡ m ∷ to_come → SoFar total all l refusals now stock
+      → now + coming m.change ≤ most → FitSoFar total most all l → FitSoFar total most all to_come
+  next_fits {total = total} {most = most} {all = all} {l = l} {to_come = to_come} {m = m} steps so_far within fits before x later is few =
+      let h = comes_next steps so_far in
+      let long : length (h.gone ++ m ∷ to_come) ≡ length all = ap (λ (l : List (Movement T)). length l) h.in_turn in
+      let parts = length-append h.gone (m ∷ to_come) in
+      let was : length l ≡ length (m ∷ to_come) = ap (λ (l : List (Movement T)). length l) steps in
+      elim (cases_lt (length before) (length h.gone)) [
+        | inl less ↦ fits before x later is (omega arith)
+        | inr many ↦
+            let same : length before ≡ length h.gone = omega arith in
+            let lists : before ++ x ∷ later ≡ h.gone ++ m ∷ to_come = is ∙ sym h.in_turn in
+            let front : before ≡ h.gone = sym (take-append_seam before (x ∷ later)) ∙ (λ i. take (same i) (lists i)) ∙ take-append_seam h.gone (m ∷ to_come) in
+            let back : x ∷ later ≡ m ∷ to_come = sym (drop-append_seam before (x ∷ later)) ∙ (λ i. drop (same i) (lists i)) ∙ drop-append_seam h.gone (m ∷ to_come) in
+            let next : x ≡ m = cc in
+            let total_is = h.total_is in
+            let now_fits : total_after total h.entered + coming m.change ≤ most = omega arith in
+            let here : total_after total (entered_of eq start h.gone) + coming m.change ≤ most = subst (λ (l : List (Movement T)). total_after total l + coming m.change ≤ most) (sym h.entered_is) now_fits in
+            subst (λ (l : List (Movement T)). total_after total (entered_of eq start l) + coming x.change ≤ most) (sym front)
+            (subst (λ (y : Movement T). total_after total (entered_of eq start h.gone) + coming y.change ≤ most) (sym next) here)
+      ]
+
+  -- once all have come, none was past the most
+  pub none_past : {total most : ℕ} {all : List (Movement T)} → FitSoFar total most all [] → (p : Place) → ¬ (IsPast eq start total most all p)
+  none_past {total = total} {most = most} {all = all} fits p past =
+      let long : length (past.before ++ past.movement ∷ past.later) ≡ length all = ap (λ (l : List (Movement T)). length l) past.in_turn in
+      let parts = length-append past.before (past.movement ∷ past.later) in
+      let within : total_after total (entered_of eq start past.before) + coming past.movement.change ≤ most = fits past.before past.movement past.later past.in_turn (omega arith) in
+      let over = past.over in
+      omega arith
 
   -- once all have come
   module _ {total now : ℕ} {all : List (Movement T)} {refusals : List (Refusal T)} {stock : T → ℕ} (h : SoFar total all [] refusals now stock) where

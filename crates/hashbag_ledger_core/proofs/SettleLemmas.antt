@@ -35,3 +35,8 @@ module _ {T : Type 0} (eq : T → T → Bool) (stock start : T → ℕ) (same : 
   past_of_start total most total_at_start most_at_start p long limit h =
       subst (λ (s : T → ℕ). IsPast eq s total_at_start most_at_start ms p) is_start
       (subst (λ (n : ℕ). IsPast eq stock n most_at_start ms p) long (subst (λ (n : ℕ). IsPast eq stock total n ms p) limit h))
+
+  pub fit_of_start : (total most total_at_start most_at_start : ℕ) (p : Place) → total ≡ total_at_start → most ≡ most_at_start → ¬ (IsPast eq stock total most ms p) → ¬ (IsPast eq start total_at_start most_at_start ms p)
+  fit_of_start total most total_at_start most_at_start p long limit h =
+      subst (λ (s : T → ℕ). ¬ (IsPast eq s total_at_start most_at_start ms p)) is_start
+      (subst (λ (n : ℕ). ¬ (IsPast eq stock n most_at_start ms p)) long (subst (λ (n : ℕ). ¬ (IsPast eq stock total n ms p)) limit h))

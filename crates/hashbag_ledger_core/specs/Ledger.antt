@@ -86,7 +86,7 @@ module _ {T : Type 0} (eq : T → T → Bool) where
       pub conserved : (v : T) → start v + came v (entered_of ms) ≡ end v + went v (entered_of ms)
       pub never : IsNeverBelowZero (entered_of ms)
 
-    -- the movement at this place comes in when the total, which was so many at first, would pass the most
+    -- with the movement at this place the total, which was so many at first, would pass the most
     pub record IsPast (total most : ℕ) (ms : List (Movement T)) (place : Place) : Type 0 where
       pub before : List (Movement T)
       pub movement : Movement T

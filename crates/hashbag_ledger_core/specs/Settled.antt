@@ -1,4 +1,4 @@
--- A stock that begins as a list, in which an article may stand more than once.
+-- A stock that begins as a list. An article may be in the list more than once.
 use Rattle.std.specs.Prelude.{ℕ, Bool, List}
 use Rattle.hashbag.specs.Occurrences.{greatest_total}
 use Rattle.hashbag_lists.specs.Quantities.{numbers, quantity}
@@ -11,6 +11,6 @@ module _ {T : Type 0} (eq : T → T → Bool) where
   abbrev pub listed : List (T × ℕ) → T → ℕ
   listed L v = quantity eq v L
 
-  -- the movement at this place comes in when the total, which the list names at first, would pass `usize::MAX`
+  -- with the movement at this place the total, which at first is that of the list, would pass `usize::MAX`
   abbrev pub IsPastFrom : List (T × ℕ) → List (Movement T) → Place → Type 0
   IsPastFrom L ms place = IsPast eq (listed L) (numbers L) greatest_total ms place

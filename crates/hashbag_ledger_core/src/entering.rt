@@ -1,21 +1,21 @@
-//! A stock into which movements are entered, in turn.
-ghost use Rattle.std.specs.Prelude.{◌≡◌, ◌≢◌, ◌⊎◌, ◌+◌, ◌<◌, length, OnOk, OnErr, IfOk, IfErr, IfSome, IsSome};
+//! Movements entered into a stock, in turn.
+ghost use Rattle.std.specs.Prelude.{◌≡◌, ◌≢◌, ◌⊎◌, ◌+◌, ◌<◌, ◌≤◌, length, OnOk, OnErr, IfOk, IfErr, IfSome, IsSome};
 ghost use Rattle.hashbag_ledger_core.specs.declared.movements.Place.{Place};
 ghost use Rattle.hashbag_ledger_core.specs.Ledger.{coming, going, stock_of, refused_of, Changes, IsRefused, Leaves, IsPastLimit};
 
 use crate::movements::{Change, Movement, Place, Refusal};
 use hashbag::{BagError, HashBag};
 use std::alloc::{AllocError, Global};
-use std::hash::Hash;
+use std::hash::{BuildHasher, Hash};
 
-/// Why movements weren't entered.
+/// Why movements can't be entered.
 #[derive(Clone, Copy, PartialEq, Eq, Debug)]
 pub enum LedgerError {
-    /// Memory was refused.
+    /// An allocation failed.
     Memory,
-    /// The stock at the beginning is more than `usize::MAX` in all.
+    /// The numbers of the stock at the beginning are more than `usize::MAX` together.
     StartTooMany,
-    /// With the movement that stands there the total of the stock would pass its limit.
+    /// With the movement at that place the total of the stock would pass its limit.
     TooMany(Place),
 }
 
@@ -29,22 +29,32 @@ impl From<AllocError> for LedgerError {
     }
 }
 
-/// Enters a movement, or answers why it is refused: where it takes out more than is there. Nothing changes then, nor where it answers
-/// an error: `TooMany`, where the total would pass the limit of the stock, or `Memory`.
+/// Enters a movement into the stock and returns `None`, or returns its refusal if it takes out more than is there.
 ///
-/// What comes in is hashed once, and takes memory where its article is absent and no room is left. What goes out is hashed at most
-/// twice, and takes no memory.
-pub fn enter<T: Eq + Hash + Drop>(
-    stock: &mut HashBag<T>,
+/// After a refusal the stock is unchanged.
+///
+/// # Errors
+///
+/// `TooMany` with the place of the movement exactly if the total would pass the limit of the stock. `Memory` if an allocation fails.
+/// After an error the stock is unchanged.
+///
+/// # Complexity
+///
+/// An article that comes in is hashed once, and allocates only if it is absent and no room is left. An article that goes out is
+/// hashed at most twice, and never allocates.
+pub fn enter<T: Eq + Hash + Drop, S: BuildHasher + Drop>(
+    stock: &mut HashBag<T, S>,
     movement: Movement<T>,
 ) -> Result<Option<Refusal<T>>, LedgerError>
     ensures entered { IfOk result (λ r. r ≡ None → Changes T.eq movement (stock_of T.eq stock.old.items) (stock_of T.eq stock.new.items)) }
     ensures len { IfOk result (λ r. r ≡ None → length stock.new.items + going movement.change ≡ length stock.old.items + coming movement.change) }
     ensures refused { IfOk result (λ r. IfSome r (IsRefused T.eq movement (stock_of T.eq stock.old.items))) }
     ensures same { IfOk result (λ r. IsSome r → stock.new ≡ stock.old) }
+    ensures fits { OnOk result (length stock.old.items + coming movement.change ≤ stock.old.most) }
     ensures limit { stock.new.most ≡ stock.old.most }
     ensures why { IfErr result (λ e. (e ≡ LedgerError.Memory) ⊎ (e ≡ LedgerError.TooMany movement.place)) }
     ensures too_many { IfErr result (λ e. e ≢ LedgerError.Memory → stock.old.most < length stock.old.items + coming movement.change) }
+    ensures memory { IfErr result (λ e. e ≡ LedgerError.Memory → length stock.old.items + coming movement.change ≤ stock.old.most) }
     ensures err { OnErr result (stock.new ≡ stock.old) }
 {
     let Movement {
@@ -74,17 +84,24 @@ pub fn enter<T: Eq + Hash + Drop>(
     }
 }
 
-/// Enters movements in turn, and answers those that were refused, in their order.
+/// Enters movements into the stock, in turn, and returns the refusals in their order.
 ///
-/// It answers `TooMany` with the place of a movement with which the total would pass the limit of the stock, and else only `Memory`:
-/// no clause says what the stock is then. It takes memory for absent articles and for the refusals.
-pub fn enter_all<T: Eq + Hash + Drop>(
+/// # Errors
+///
+/// `TooMany` with the place of a movement only if the total would pass the limit of the stock with it. `Memory` if an allocation
+/// fails. After an error some of the movements are entered, and no clause says which.
+///
+/// # Complexity
+///
+/// Each article is hashed at most twice. It allocates for absent articles and for the refusals.
+pub fn enter_all<T: Eq + Hash + Drop, S: BuildHasher + Drop>(
     alloc: Global,
-    stock: &mut HashBag<T>,
+    stock: &mut HashBag<T, S>,
     movements: Vec<Movement<T>>,
 ) -> Result<Vec<Refusal<T>>, LedgerError>
     ensures leaves { OnOk result (Leaves T.eq (stock_of T.eq stock.old.items) movements.items (stock_of T.eq stock.new.items)) }
     ensures refused { IfOk result (λ r. r.items ≡ refused_of T.eq (stock_of T.eq stock.old.items) movements.items) }
+    ensures fit { OnOk result ((p : Place) → ¬ (IsPastLimit T.eq stock.old.items stock.old.most movements.items p)) }
     ensures why { IfErr result (λ e. e ≢ LedgerError.StartTooMany) }
     ensures past { IfErr result (λ e. (p : Place) → e ≡ LedgerError.TooMany p
         → IsPastLimit T.eq stock.old.items stock.old.most movements.items p) }

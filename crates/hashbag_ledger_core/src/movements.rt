@@ -1,7 +1,7 @@
-//! Movements, and why they are refused.
+//! Movements, and those that are refused.
 ghost use Rattle.std.specs.Prelude.{◌≡◌};
 
-/// Where a movement stands.
+/// Where a movement is.
 #[derive(Clone, Copy, PartialEq, Eq, Debug)]
 pub struct Place {
     /// The number of its file, from 0.
@@ -13,16 +13,16 @@ pub struct Place {
 /// What a movement does.
 #[derive(Clone, Copy, PartialEq, Eq, Debug)]
 pub enum Change {
-    /// So many come in.
+    /// This many come in.
     In(usize),
-    /// So many go out.
+    /// This many go out.
     Out(usize),
 }
 
 /// One movement of an article.
 #[derive(PartialEq, Eq, Debug, Drop)]
 pub struct Movement<T> {
-    /// Where it stands.
+    /// Where it is.
     pub place: Place,
     /// The article.
     pub article: T,
@@ -30,15 +30,15 @@ pub struct Movement<T> {
     pub change: Change,
 }
 
-/// A movement that asked for more than there was.
+/// A movement that asks for more than there is.
 #[derive(PartialEq, Eq, Debug, Drop)]
 pub struct Refusal<T> {
-    /// Where it stands.
+    /// Where it is.
     pub place: Place,
     /// The article.
     pub article: T,
-    /// How many it asked for.
+    /// How many it asks for.
     pub asked: usize,
-    /// How many there were.
+    /// How many there are.
     pub there: usize,
 }

@@ -1,21 +1,25 @@
-//! Movements in CSV texts.
+//! Movements read from CSV texts.
+ghost use Rattle.std.specs.Prelude.{◌≡◌, All, IfOk};
+
 use crate::movements::{Change, Movement, Place};
+use hashbag_lists::counts::Reading;
 use hashbag_lists::escaped::shown;
 use hashbag_lists::fault::{Fault, SheetError};
-use hashbag_lists::numbers::number;
+use hashbag_lists::numbers::scaled_number;
+use hashbag_lists::scale::Scale;
 use hashbag_lists::sheet::{Column, Sheet};
 use std::alloc::{AllocError, Global};
 
-/// In which columns of a text movements stand.
+/// The columns of movements: names, or places under a header.
 #[derive(Clone, Copy)]
 pub struct Columns<C> {
     /// The article.
     pub article: C,
-    /// What it does.
+    /// The change.
     pub change: ChangeColumns<C>,
 }
 
-/// In which columns changes stand.
+/// The columns of a change.
 #[derive(Clone, Copy)]
 pub enum ChangeColumns<C> {
     /// One column: `5` or `+5` comes in, `-5` goes out.
@@ -24,7 +28,7 @@ pub enum ChangeColumns<C> {
     ByKind(C, C),
 }
 
-// The columns of these names under a header.
+// Finds the columns of these names in the header.
 fn columns_of<'n>(
     sheet: &Sheet<'_>,
     names: Columns<&'n str>,
@@ -40,16 +44,22 @@ fn columns_of<'n>(
     })
 }
 
-// The change of a number with a sign.
-fn signed_change(alloc: Global, line: u64, field: &str) -> Result<Change, SheetError> {
+// Reads the change from a number with a sign.
+fn signed_change(
+    alloc: Global,
+    line: u64,
+    field: &str,
+    scale: Scale,
+) -> Result<Change, SheetError> {
     if let Some(digits) = field.strip_prefix('-') {
-        return Ok(Change::Out(number(alloc, line, digits, field)?));
+        let n = scaled_number(alloc, line, digits, field, scale)?;
+        return Ok(Change::Out(n));
     }
     let digits = field.strip_prefix('+').unwrap_or(field);
-    Ok(Change::In(number(alloc, line, digits, field)?))
+    Ok(Change::In(scaled_number(alloc, line, digits, field, scale)?))
 }
 
-// The change of a kind and a number.
+// Returns the change of a kind and a number.
 fn change_of_kind(alloc: Global, line: u64, kind: &str, n: usize) -> Result<Change, SheetError> {
     match kind {
         "in" => Ok(Change::In(n)),
@@ -61,31 +71,43 @@ fn change_of_kind(alloc: Global, line: u64, kind: &str, n: usize) -> Result<Chan
     }
 }
 
-// The change of the record that was read last, which begins on that line.
+// Reads the change of the current record, which begins on that line.
 fn change_of(
     alloc: Global,
     sheet: &Sheet<'_>,
     line: u64,
     columns: ChangeColumns<Column<'_>>,
+    scale: Scale,
 ) -> Result<Change, SheetError> {
     match columns {
-        ChangeColumns::Signed(change) => signed_change(alloc, line, sheet.field(change)?),
+        ChangeColumns::Signed(change) => {
+            signed_change(alloc, line, sheet.field(change)?, scale)
+        },
         ChangeColumns::ByKind(kind, quantity) => {
             let digits = sheet.field(quantity)?;
-            let n = number(alloc, line, digits, digits)?;
+            let n = scaled_number(alloc, line, digits, digits, scale)?;
             change_of_kind(alloc, line, sheet.field(kind)?, n)
         }
     }
 }
 
-/// The movements of a text, in the order of its lines. `file` is the number of the file that it stands in.
+/// Reads the movements of a text, in the order of its lines.
+///
+/// `file` is the number of the file, for their places. Numbers are counted in units of the last decimal of the scale.
+///
+/// # Errors
+///
+/// `Line` with the first bad line and what is wrong with it, or `Memory` if an allocation fails.
 pub fn read_movements(
     alloc: Global,
     text: &[u8],
     file: usize,
     names: Columns<&str>,
-) -> Result<Vec<Movement<String>>, SheetError> {
-    let mut sheet = Sheet::open(alloc, text)?;
+    reading: Reading,
+) -> Result<Vec<Movement<String>>, SheetError>
+    ensures places { IfOk result (λ movements. All (λ m. m.place.file ≡ file) movements.items) }
+{
+    let mut sheet = Sheet::open_with(alloc, text, reading.delimiter)?;
     let columns = columns_of(&sheet, names)?;
     let mut movements = Vec::new(alloc);
     'records: for _ in 0..u64::MAX {
@@ -94,7 +116,7 @@ pub fn read_movements(
         }
         let line = sheet.line();
         let article = String::from_str(alloc, sheet.field(columns.article)?)?;
-        let change = change_of(alloc, &sheet, line, columns.change)?;
+        let change = change_of(alloc, &sheet, line, columns.change, reading.scale)?;
         let place = Place { file, line };
         let movement = Movement {
             place,

@@ -1,5 +1,5 @@
-//! A stock that begins as a list, and its balance once movements were entered.
-ghost use Rattle.std.specs.Prelude.{◌≡◌, ◌≢◌, ◌⊎◌, ◌≤◌, length, IfOk, IfErr, OnErr};
+//! A stock that begins as a list, and its balance after movements.
+ghost use Rattle.std.specs.Prelude.{◌≡◌, ◌≢◌, ◌<◌, ◌≤◌, ◌↔◌, length, IsTrue, IfOk, IfErr, OnOk, OnErr};
 ghost use Rattle.hashbag.specs.Occurrences.{count};
 ghost use Rattle.hashbag_lists.specs.Quantities.{numbers, quantity, IsBalance};
 ghost use Rattle.hashbag_ledger_core.specs.declared.movements.Place.{Place};
@@ -8,45 +8,74 @@ ghost use Rattle.hashbag_ledger_core.specs.Settled.{listed, IsPastFrom};
 
 use crate::entering::{LedgerError, enter_all};
 use crate::movements::{Movement, Refusal};
-use hashbag::{BagError, HashBag};
+use hashbag::HashBag;
 use hashbag_lists::quantities::balance_of;
 use std::alloc::Global;
-use std::hash::Hash;
+use std::hash::{BuildHasher, Hash};
 
-/// What movements leave.
+/// A stock after movements, and the refusals.
 #[derive(Drop)]
 pub struct Entered<T> {
-    /// The articles that there are then, each once with how many, articles rising.
+    /// Each article that there is, once, with how many there are, articles rising.
     pub balance: Vec<(T, usize)>,
-    /// The movements that were refused, in their order.
+    /// The refusals, in the order of their movements.
     pub refusals: Vec<Refusal<T>>,
 }
 
-// The stock that a list names, with no limit but `usize::MAX`.
-fn stock_at_start<T: Eq + Hash + Drop>(
+// Returns whether the numbers of a list are at most `usize::MAX` together.
+fn numbers_fit<T>(list: &[(T, usize)]) -> bool
+    ensures { IsTrue result ↔ (numbers list.now ≤ usize.MAX) }
+{
+    let mut total = 0usize;
+    for entry in list {
+        match total.checked_add(entry.1) {
+            Some(sum) => total = sum,
+            None => return false,
+        }
+    }
+    true
+}
+
+// Returns the stock that a list names. Its limit is `usize::MAX`.
+fn stock_at_start<T: Eq + Hash + Drop, S: BuildHasher + Drop>(
     alloc: Global,
+    state: S,
     list: Vec<(T, usize)>,
-) -> Result<HashBag<T>, LedgerError>
+) -> Result<HashBag<T, S>, LedgerError>
     ensures counts { IfOk result (λ stock. (v : T) → count T.eq v stock.items ≡ quantity T.eq v list.items) }
     ensures len { IfOk result (λ stock. length stock.items ≡ numbers list.items) }
     ensures limit { IfOk result (λ stock. stock.most ≡ usize.MAX) }
-    ensures why { IfErr result (λ e. (e ≡ LedgerError.Memory) ⊎ (e ≡ LedgerError.StartTooMany)) }
-    ensures fits { numbers list.items ≤ usize.MAX → IfErr result (λ e. e ≢ LedgerError.StartTooMany) }
+    ensures too_many { usize.MAX < numbers list.items → result ≡ Err LedgerError.StartTooMany }
+    ensures fits { OnOk result (numbers list.items ≤ usize.MAX) }
+    ensures memory { IfErr result (λ e. e ≡ LedgerError.Memory → numbers list.items ≤ usize.MAX) }
+    ensures only_memory { numbers list.items ≤ usize.MAX → OnErr result (result ≡ Err LedgerError.Memory) }
 {
-    match HashBag::from_counts(alloc, list.into_iter()) {
-        Ok(stock) => Ok(stock),
-        Err(BagError::TooMany) => Err(LedgerError::StartTooMany),
+    if !numbers_fit(&list) {
+        return Err(LedgerError::StartTooMany);
+    }
+    let mut stock = HashBag::with_hasher(alloc, state);
+    match stock.extend_many(list.into_iter()) {
+        Ok(()) => Ok(stock),
         Err(_) => Err(LedgerError::Memory),
     }
 }
 
-/// Enters movements in turn into a stock that begins as a list, in which an article may stand more than once.
+/// Enters movements in turn into a stock that begins as a list, and returns the balance and the refusals.
 ///
-/// It answers `StartTooMany` only where the numbers of that list are more than `usize::MAX` together, and `TooMany` only with the
-/// place of a movement with which the total would be. It takes memory for the articles, the refusals and the balance. Each movement
-/// is hashed at most twice; then the balance is sorted.
-pub fn settle<T: Ord + Hash + Drop>(
+/// An article may be in the list more than once: its numbers add up. The balance and the refusals don't depend on `state`.
+///
+/// # Errors
+///
+/// `StartTooMany` exactly if the numbers of the list are more than `usize::MAX` together, before anything is allocated. `TooMany` with
+/// the place of a movement only if the total would pass `usize::MAX` with it. `Memory` if an allocation fails.
+///
+/// # Complexity
+///
+/// Each entry of the list is hashed once and each movement at most twice; then the balance is sorted. It allocates for the articles,
+/// the refusals and the balance.
+pub fn settle<T: Ord + Hash + Drop, S: BuildHasher + Drop>(
     alloc: Global,
+    state: S,
     start: Vec<(T, usize)>,
     movements: Vec<Movement<T>>,
 ) -> Result<Entered<T>, LedgerError>
@@ -54,9 +83,12 @@ pub fn settle<T: Ord + Hash + Drop>(
     ensures leaves { IfOk result (λ e. Leaves T.eq (listed T.eq start.items) movements.items (listed T.eq e.balance.items)) }
     ensures refused { IfOk result (λ e. e.refusals.items ≡ refused_of T.eq (listed T.eq start.items) movements.items) }
     ensures fits { numbers start.items ≤ usize.MAX → IfErr result (λ e. e ≢ LedgerError.StartTooMany) }
+    ensures too_many { usize.MAX < numbers start.items → result ≡ Err LedgerError.StartTooMany }
+    ensures memory { IfErr result (λ e. e ≡ LedgerError.Memory → numbers start.items ≤ usize.MAX) }
+    ensures fit { OnOk result ((p : Place) → ¬ (IsPastFrom T.eq start.items movements.items p)) }
     ensures past { IfErr result (λ e. (p : Place) → e ≡ LedgerError.TooMany p → IsPastFrom T.eq start.items movements.items p) }
 {
-    let mut stock = stock_at_start(alloc, start)?;
+    let mut stock = stock_at_start(alloc, state, start)?;
     let refusals = enter_all(alloc, &mut stock, movements)?;
     let balance = balance_of(alloc, stock)?;
     Ok(Entered { balance, refusals })

@@ -1,4 +1,4 @@
-//! The tests of movements of a stock.
+//! Tests of movements of a stock.
 #![tactic(auto)]
 
 #[cfg(test)]

@@ -1,11 +1,16 @@
-//! What no clause says of movements: how texts are read, what is said of bad ones, and how a balance and refusals are written. What
-//! is wanted was found by hand.
+//! What no clause says of movements: which texts are read, what is said of bad ones, and how a balance and refusals are written. The
+//! expected values were found by hand.
+use hashbag::FixedState;
 use hashbag_ledger_core::entering::LedgerError;
 use hashbag_ledger_core::movements::Change;
-use hashbag_ledger_core::output::{balance_text, refusals_text};
+use hashbag_ledger_core::output::{balance_text, refusals_table, refusals_text};
 use hashbag_ledger_core::reading::{ChangeColumns, Columns, read_movements};
 use hashbag_ledger_core::settling::settle;
+use hashbag_lists::counts::Reading;
+use hashbag_lists::delimiter::Delimiter;
+use hashbag_lists::scale::{Mark, Scale};
 use std::alloc::{AllocError, Global};
+use std::hash::{BuildHasher, RandomState};
 use std::test::Fail;
 
 // Movements with a sign, and by their kinds.
@@ -19,8 +24,11 @@ const BY_KIND: Columns<&str> = Columns {
     change: ChangeColumns::ByKind("kind", "number"),
 };
 
-// The columns of a text, the text, and what it says: its movements, or its first bad line and what is wrong with that.
-const TEXTS: [(Columns<&str>, &str, &str); 12] = [
+// The columns of a balance.
+const NAMES: (&str, &str) = ("article", "number");
+
+// The columns of a text, the text, and its movements, or its first bad line and what is wrong with it.
+const TEXTS: [(Columns<&str>, &str, &str); 18] = [
     (
         SIGNED,
         "article,change\nbolt,5\nnut,+7\n\nbolt,-4\n",
@@ -61,11 +69,46 @@ const TEXTS: [(Columns<&str>, &str, &str); 12] = [
         "3: 3 fields wanted, 2 found",
     ),
     (BY_KIND, "", "1: no header"),
+    (
+        SIGNED,
+        "article,change\nbolt,5\nnut,7,\"12 inch\nbolt,-2\n",
+        "3: quote never closed",
+    ),
+    (
+        SIGNED,
+        "article,change,note\nbolt,5,\nnut,7,\"12 inch\nbolt,-2,\n",
+        "3: quote never closed",
+    ),
+    (
+        SIGNED,
+        "article,change\n\"bolt\" x,5\n",
+        "2: text after a closing quote",
+    ),
+    (
+        SIGNED,
+        "article,change\n12\" bolt,5\n",
+        "2: quote in a field without quotes",
+    ),
+    (
+        SIGNED,
+        "article,change\nbolt,-1.5\n",
+        "2: whole numbers only: `-1.5`",
+    ),
+    (
+        SIGNED,
+        "article,change\nbolt,\"1,5\"\n",
+        "2: whole numbers only: `1,5`",
+    ),
 ];
 
-// What a text says.
-fn said_of(alloc: Global, names: Columns<&str>, text: &str) -> Result<String, AllocError> {
-    match read_movements(alloc, text.as_bytes(), 0, names) {
+// Returns the movements of a text, or its fault, in one line.
+fn said_of(
+    alloc: Global,
+    names: Columns<&str>,
+    text: &str,
+    reading: Reading,
+) -> Result<String, AllocError> {
+    match read_movements(alloc, text.as_bytes(), 0, names, reading) {
         Ok(movements) => {
             let mut said = String::new(alloc);
             for movement in &movements {
@@ -86,13 +129,45 @@ fn said_of(alloc: Global, names: Columns<&str>, text: &str) -> Result<String, Al
 #[test]
 fn texts_are_read(rt: HostRuntime) -> Result<(), Fail> {
     for (names, text, wanted) in TEXTS {
-        assert_eq!(rt; said_of(rt.alloc(), names, text)?.as_str(), wanted);
+        assert_eq!(rt;
+            said_of(rt.alloc(), names, text, Reading::plain())?.as_str(),
+            wanted
+        );
     }
     Ok(())
 }
 
-// A stock at the beginning, a text of movements, and what they leave and what is refused.
-const LEDGERS: [(&[(&str, usize)], &str, &str); 5] = [
+// Semicolons between fields, and two decimals after a comma.
+fn european() -> Reading {
+    Reading {
+        delimiter: Delimiter::Semicolon,
+        scale: Scale::new(2, Mark::Comma).unwrap_or(Scale::whole()),
+    }
+}
+
+#[test]
+fn decimals_are_read(rt: HostRuntime) -> Result<(), Fail> {
+    for (text, wanted) in [
+        (
+            "article;change\nbolt;1,5\nnut;-0,25\nnut;+3\n",
+            "[2 bolt in 150][3 nut out 25][4 nut in 300]",
+        ),
+        (
+            "article;change\nbolt;1,555\n",
+            "2: more than 2 decimals: `1,555`",
+        ),
+        ("article;change\nbolt;1.5\n", "2: no number: `1.5`"),
+    ] {
+        assert_eq!(rt;
+            said_of(rt.alloc(), SIGNED, text, european())?.as_str(),
+            wanted
+        );
+    }
+    Ok(())
+}
+
+// A stock at the beginning, a text of movements, and the balance and the refusals.
+const LEDGERS: [(&[(&str, usize)], &str, &str); 6] = [
     (&[], "article,change\n", "article,number\n"),
     (
         &[("nut", 2), ("bolt", 0), ("nut", 3)],
@@ -114,19 +189,41 @@ const LEDGERS: [(&[(&str, usize)], &str, &str); 5] = [
         "article,change\n",
         "too many at the start",
     ),
+    (
+        &[("5\" tube", 1)],
+        "article,change\n\"5\"\" tube\",-2\n\"a\\\",-1\n",
+        "article,number\n\"5\"\" tube\",1\nm.csv:2: refused: out 2 of \"5\\\" tube\", 1 there\nm.csv:3: refused: out 1 of \"a\\\\\", 0 there\n",
+    ),
 ];
 
-// What a stock and movements leave.
-fn left_by(alloc: Global, start: &[(&str, usize)], text: &str) -> Result<String, Fail> {
+// Returns a stock of owned texts.
+fn stock_of(alloc: Global, start: &[(&str, usize)]) -> Result<Vec<(String, usize)>, Fail> {
     let mut stock = Vec::new(alloc);
     for (article, number) in start {
         stock.push((article.to_string(alloc)?, *number))?;
     }
-    let movements = read_movements(alloc, text.as_bytes(), 0, SIGNED)?;
-    match settle(alloc, stock, movements) {
+    Ok(stock)
+}
+
+// Returns the balance and the refusals, or the error, as text.
+fn left_by<S: BuildHasher + Drop>(
+    alloc: Global,
+    state: S,
+    start: &[(&str, usize)],
+    text: &str,
+) -> Result<String, Fail> {
+    let stock = stock_of(alloc, start)?;
+    let movements = read_movements(alloc, text.as_bytes(), 0, SIGNED, Reading::plain())?;
+    match settle(alloc, state, stock, movements) {
         Ok(entered) => {
-            let mut said = String::from_utf8(balance_text(alloc, &entered.balance)?)?;
-            said.push_str(refusals_text(alloc, &["m.csv"], &entered.refusals)?.as_str())?;
+            let balance = balance_text(alloc, NAMES, Reading::plain(), &entered.balance)?;
+            let mut said = String::from_utf8(balance)?;
+            said.push_str(refusals_text(
+                alloc,
+                &["m.csv"],
+                Scale::whole(),
+                &entered.refusals,
+            )?.as_str())?;
             Ok(said)
         }
         Err(LedgerError::TooMany(place)) => Ok(format!(in alloc; "{}: too many", place.line)?),
@@ -138,7 +235,66 @@ fn left_by(alloc: Global, start: &[(&str, usize)], text: &str) -> Result<String,
 #[test]
 fn movements_are_entered(rt: HostRuntime) -> Result<(), Fail> {
     for (start, text, wanted) in LEDGERS {
-        assert_eq!(rt; left_by(rt.alloc(), start, text)?.as_str(), wanted);
+        let fixed = left_by(rt.alloc(), FixedState::new(), start, text)?;
+        assert_eq!(rt; fixed.as_str(), wanted);
+        let random = left_by(rt.alloc(), RandomState::new(&rt)?, start, text)?;
+        assert_eq!(rt; random.as_str(), wanted);
     }
+    Ok(())
+}
+
+#[test]
+fn decimals_are_written(rt: HostRuntime) -> Result<(), Fail> {
+    let alloc = rt.alloc();
+    let stock = stock_of(alloc, &[("nut", 20)])?;
+    let text = "article;change\nbolt;1,5\nnut;-0,25\nnut;+3\n";
+    let movements = read_movements(alloc, text.as_bytes(), 0, SIGNED, european())?;
+    let Ok(entered) = settle(alloc, FixedState::new(), stock, movements) else {
+        return Err(Fail::from("not entered"));
+    };
+    let balance = balance_text(alloc, ("sku", "kg"), european(), &entered.balance)?;
+    assert_eq!(rt;
+        String::from_utf8(balance)?.as_str(),
+        "sku;kg\nbolt;1,50\nnut;3,20\n"
+    );
+    let refusals = entered.refusals.as_slice();
+    let said = refusals_text(alloc, &["m.csv"], european().scale, refusals)?;
+    assert_eq!(rt;
+        said.as_str(),
+        "m.csv:3: refused: out 0,25 of \"nut\", 0,20 there\n"
+    );
+    let table = refusals_table(alloc, &["m.csv"], european(), refusals)?;
+    assert_eq!(rt;
+        String::from_utf8(table)?.as_str(),
+        "file;line;article;asked;there\nm.csv;3;nut;0,25;0,20\n"
+    );
+    Ok(())
+}
+
+// Refusals as CSV.
+const REFUSED: &str = "\
+file,line,article,asked,there
+\"a,b.csv\",2,\"5\"\" tube\",2,1
+\"a,b.csv\",3,\"x
+y\",18446744073709551615,0
+\"a,b.csv\",5,nut,1,0
+";
+
+#[test]
+fn refusals_are_written_as_csv(rt: HostRuntime) -> Result<(), Fail> {
+    let alloc = rt.alloc();
+    let stock = stock_of(alloc, &[("5\" tube", 1)])?;
+    let text = "article,change\n\"5\"\" tube\",-2\n\"x\ny\",-18446744073709551615\nnut,-1\n";
+    let movements = read_movements(alloc, text.as_bytes(), 0, SIGNED, Reading::plain())?;
+    let Ok(entered) = settle(alloc, FixedState::new(), stock, movements) else {
+        return Err(Fail::from("not entered"));
+    };
+    let table = refusals_table(alloc, &["a,b.csv"], Reading::plain(), &entered.refusals)?;
+    assert_eq!(rt; String::from_utf8(table)?.as_str(), REFUSED);
+    let none = refusals_table(alloc, &["a,b.csv"], Reading::plain(), &[])?;
+    assert_eq!(rt;
+        String::from_utf8(none)?.as_str(),
+        "file,line,article,asked,there\n"
+    );
     Ok(())
 }

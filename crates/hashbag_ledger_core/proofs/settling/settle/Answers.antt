@@ -4,7 +4,7 @@ use Rattle.hashbag.specs.Occurrences.{greatest_total}
 use Rattle.hashbag_lists.specs.Quantities.{numbers}
 use Rattle.hashbag_ledger_core.specs.Ledger.{stock_of}
 use Rattle.hashbag_ledger_core.specs.Settled.{listed}
-use Rattle.hashbag_ledger_core.proofs.SettleLemmas.{leaves_of_start, balance_of_start, refused_of_start, past_of_start}
+use Rattle.hashbag_ledger_core.proofs.SettleLemmas.{leaves_of_start, balance_of_start, refused_of_start, past_of_start, fit_of_start}
 use Rattle.hashbag_ledger_core.proofs.settling.settle.Goals as goal
 
 pub returns-clause-balance : goal.returns-clause-balance
@@ -21,6 +21,13 @@ pub returns-clause-refused : goal.returns-clause-refused
 returns-clause-refused g c =
     let eq = g.T.PartialEq.eq in
     refused_of_start eq (stock_of eq c.in_ok-stock.stock.items) (listed eq c.args.start.items) c.in_ok-stock.ensures.counts c.args.movements.items c.in_ok-refusals.refusals.items c.in_ok-refusals.ensures.refused
+
+pub returns-clause-fit : goal.returns-clause-fit
+returns-clause-fit g c = λ p.
+    let eq = g.T.PartialEq.eq in
+    let stock = c.in_ok-stock.stock in
+    fit_of_start eq (stock_of eq stock.items) (listed eq c.args.start.items) c.in_ok-stock.ensures.counts c.args.movements.items (length stock.items) stock.most (numbers c.args.start.items) greatest_total p c.in_ok-stock.ensures.len c.in_ok-stock.ensures.limit
+    (c.in_ok-refusals.ensures.fit p)
 
 pub returns-in_err-refusals-clause-past : goal.returns-in_err-refusals-clause-past
 returns-in_err-refusals-clause-past g c =

@@ -1,0 +1,114 @@
+//! The arguments and their help.
+use clap::{Arg, ArgAction, Command};
+use hashbag_lists::delimiter::NAMES;
+use hashbag_shell::VERSION;
+use std::alloc::{AllocError, Global};
+
+/// The name of the program. Its messages on standard error begin with it.
+pub const PROGRAM: &str = "hashbag_ledger";
+
+/// The default columns of movements.
+pub const COLUMNS: &str = "article,change";
+
+/// The default columns of the stock at the beginning.
+pub const START_COLUMNS: &str = "article,number";
+
+static SCALES: [&str; 10] = ["0", "1", "2", "3", "4", "5", "6", "7", "8", "9"];
+
+static MARKS: [&str; 2] = [".", ","];
+
+const ABOUT: &str = "Enters movements into a stock, and writes the balance.";
+
+const AFTER: &str = "\
+All files are CSV with a header. `-` is standard input, which is read if no file is named.
+A change is `5` or `+5` for what comes in, and `-5` for what goes out. With three columns the second is the kind, `in` or `out`.
+A movement that asks for more than is there at that time is refused, and named with its file and line. The others are entered.
+The balance is CSV with the columns of the stock, articles rising, and may be the --start of the next run. All is read before
+anything is written, so the balance may replace the stock: hashbag_ledger --start stock.csv monday.csv -o stock.csv
+
+Status: 0 all entered, 1 some refused, 2 bad arguments or a bad line (FILE:LINE is named), 3 no memory, 4 a file can't be opened, or
+a read or a write failed, 5 a total of more than 2^64-1. With 2 to 5 the file of -o is unchanged.";
+
+// Adds the inputs.
+fn with_inputs<'a>(alloc: Global, command: Command<'a>) -> Result<Command<'a>, AllocError> {
+    let moves = Arg::new(alloc, "MOVES.csv")
+        .num_args(0..)
+        .action(ArgAction::Append)
+        .help("Movements, in the order of the files and of their lines");
+    let start = Arg::new(alloc, "start")
+        .long("start")
+        .value_name("STOCK.csv")
+        .help("The stock at the beginning");
+    let start_columns = Arg::new(alloc, "start-columns")
+        .long("start-columns")
+        .value_name("NAMES")
+        .default_value(START_COLUMNS)
+        .help("The columns of the stock at the beginning");
+    let columns = Arg::new(alloc, "columns")
+        .long("columns")
+        .value_name("NAMES")
+        .default_value(COLUMNS)
+        .help("The columns of movements: article,change or article,kind,number");
+    command
+        .arg(start)?
+        .arg(start_columns)?
+        .arg(columns)?
+        .arg(moves)
+}
+
+// Adds how files are read and written.
+fn with_reading<'a>(alloc: Global, command: Command<'a>) -> Result<Command<'a>, AllocError> {
+    let scale = Arg::new(alloc, "scale")
+        .long("scale")
+        .value_name("D")
+        .value_parser(SCALES.as_slice())
+        .default_value("0")
+        .help("How many decimals numbers may have; all D are written");
+    let mark = Arg::new(alloc, "mark")
+        .long("mark")
+        .value_name("MARK")
+        .value_parser(MARKS.as_slice())
+        .default_value(".")
+        .help("What is before decimals");
+    let delimiter = Arg::new(alloc, "delimiter")
+        .long("delimiter")
+        .value_name("DELIMITER")
+        .value_parser(NAMES.as_slice())
+        .default_value(",")
+        .help("What is between fields, also of CSV that is written");
+    command.arg(scale)?.arg(mark)?.arg(delimiter)
+}
+
+// Adds the outputs.
+fn with_outputs<'a>(alloc: Global, command: Command<'a>) -> Result<Command<'a>, AllocError> {
+    let output = Arg::new(alloc, "output")
+        .short('o')
+        .long("output")
+        .value_name("FILE")
+        .help(
+            "Where the balance is written, in place of standard output; the old file is replaced once all is written",
+        );
+    let refused = Arg::new(alloc, "refused")
+        .long("refused")
+        .value_name("FILE")
+        .help("Where refusals are written as CSV, in place of standard error");
+    let strict = Arg::new(alloc, "strict")
+        .long("strict")
+        .action(ArgAction::SetTrue)
+        .help("Ends at the first refusal, without a balance");
+    command.arg(output)?.arg(refused)?.arg(strict)
+}
+
+/// Returns the command with its arguments.
+///
+/// # Errors
+///
+/// An error if an allocation fails.
+pub fn command<'a>(alloc: Global) -> Result<Command<'a>, AllocError> {
+    let command = Command::new(alloc, PROGRAM)
+        .version(VERSION)
+        .about(ABOUT)
+        .after_help(AFTER);
+    let command = with_reading(alloc, with_inputs(alloc, command)?)?;
+    with_outputs(alloc, command)
+}

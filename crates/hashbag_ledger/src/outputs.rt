@@ -1,0 +1,151 @@
+//! The outputs: the refusals and the balance.
+use crate::arguments::Request;
+use hashbag_lists::files::write_text;
+use hashbag_lists::trouble::Trouble;
+use hashbag_shell::one_file::is_one_file;
+use hashbag_shell::output_file::OutputFile;
+use std::fs::File;
+use std::io::{self, ErrorKind};
+
+/// What is to be written.
+#[derive(Drop)]
+pub struct Report {
+    /// The refusals.
+    pub refusals: Vec<u8>,
+    /// The balance; `None` if none is written.
+    pub balance: Option<Vec<u8>>,
+    /// The status with which the program ends.
+    pub status: u8,
+}
+
+/// The opened outputs; `None` is a standard stream.
+#[derive(Drop)]
+pub struct Outputs<'a> {
+    refusals: Option<NamedOutput<'a>>,
+    balance: Option<NamedOutput<'a>>,
+}
+
+// An output with its name.
+#[derive(Drop)]
+struct NamedOutput<'a> {
+    name: &'a str,
+    file: OutputFile<File>,
+}
+
+// Returns whether two names are of one file. If there is no file of a name, only the same name is.
+fn is_same(rt: &HostRuntime, first: &str, second: &str) -> bool {
+    first == second || is_one_file(rt, first, second)
+}
+
+/// Returns an output that is also an input or the other output, if there is one. The balance may replace the stock at the beginning.
+pub fn conflict<'a>(rt: &HostRuntime, request: &Request<'a>) -> Option<&'a str> {
+    for output in [request.output, request.refused] {
+        if let Some(name) = output {
+            for file in request.files.iter().copied() {
+                if is_same(rt, name, file) {
+                    return Some(name);
+                }
+            }
+        }
+    }
+    let refused = request.refused?;
+    for other in [request.start, request.output] {
+        if let Some(name) = other
+            && is_same(rt, refused, name)
+        {
+            return Some(refused);
+        }
+    }
+    None
+}
+
+// Returns the trouble for an error of an output.
+fn trouble_with<'a>(file: &'a str, error: io::Error) -> Trouble<'a> {
+    match error.kind() {
+        ErrorKind::OutOfMemory => Trouble::Memory,
+        _ => Trouble::Output { file, error },
+    }
+}
+
+// Opens an output, if one is named.
+fn open<'a>(
+    rt: &HostRuntime,
+    name: Option<&'a str>,
+) -> Result<Option<NamedOutput<'a>>, Trouble<'a>> {
+    let Some(name) = name else {
+        return Ok(None);
+    };
+    match OutputFile::open(rt, name) {
+        Ok(file) => Ok(Some(NamedOutput { name, file })),
+        Err(error) => Err(trouble_with(name, error)),
+    }
+}
+
+impl<'a> Outputs<'a> {
+    /// Opens the outputs that are named.
+    ///
+    /// # Errors
+    ///
+    /// Which output can't be opened, and why. Then the files are unchanged.
+    pub fn open(rt: &HostRuntime, request: &Request<'a>) -> Result<Outputs<'a>, Trouble<'a>> {
+        let refusals = open(rt, request.refused)?;
+        match open(rt, request.output) {
+            Ok(balance) => Ok(Outputs { refusals, balance }),
+            Err(trouble) => {
+                abandon(rt, refusals);
+                Err(trouble)
+            }
+        }
+    }
+
+    /// Writes nothing: the files are unchanged.
+    pub fn abandon(self, rt: &HostRuntime) {
+        abandon(rt, self.refusals);
+        abandon(rt, self.balance);
+    }
+
+    /// Writes the refusals, and then the balance.
+    ///
+    /// # Errors
+    ///
+    /// Which output can't be written, and why. A file that can't be written is unchanged.
+    pub fn write(self, rt: &HostRuntime, report: &Report) -> Result<(), Trouble<'a>> {
+        let refusals = report.refusals.as_slice();
+        let written = match self.refusals {
+            Some(output) => write_file(rt, output, refusals),
+            None => write_text(&mut rt.stderr(), refusals),
+        };
+        if let Err(trouble) = written {
+            abandon(rt, self.balance);
+            return Err(trouble);
+        }
+        match (self.balance, &report.balance) {
+            (Some(output), Some(text)) => write_file(rt, output, text.as_slice()),
+            (None, Some(text)) => write_text(&mut io::writer(rt), text.as_slice()),
+            (output, None) => {
+                abandon(rt, output);
+                Ok(())
+            }
+        }
+    }
+}
+
+// Writes nothing to an output.
+fn abandon(rt: &HostRuntime, output: Option<NamedOutput<'_>>) {
+    if let Some(NamedOutput { file, .. }) = output {
+        file.abandon(rt);
+    }
+}
+
+// Writes a text to an output.
+fn write_file<'a>(
+    rt: &HostRuntime,
+    output: NamedOutput<'a>,
+    text: &[u8],
+) -> Result<(), Trouble<'a>> {
+    let NamedOutput { name, file } = output;
+    match file.write_whole(rt, text) {
+        Ok(()) => Ok(()),
+        Err(error) => Err(trouble_with(name, error)),
+    }
+}
