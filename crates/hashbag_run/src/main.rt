@@ -14,7 +14,8 @@ use std::process::ExitCode;
 
 const PROGRAM: &str = "hashbag_run";
 
-const ABOUT: &str = "Runs steps on two bags of numbers, and prints their replies, the joins of the bags and both as JSON";
+const ABOUT: &str =
+    "Runs steps on two bags of numbers, and prints their replies, the joins of the bags and both as JSON";
 
 const AFTER: &str = "\
 Standard input is read: a line each, `a` or `b` for the bag, a verb, and its numbers, each after one space.
