@@ -1,5 +1,5 @@
 -- Texts that are added to a bag, one after the other.
-use Rattle.std.proofs.Common.{◌≡◌, ℕ, ◌+◌, Bool, cond, List, [], ◌∷◌, ◌++◌, map, String, string_bytes, string_eq, bytes_eq, Global, refl, sym, ◌∙◌, ap, subst, arith}
+use Rattle.std.proofs.Common.{◌≡◌, ℕ, ◌+◌, cond, List, [], ◌∷◌, ◌++◌, map, String, string_bytes, string_eq, bytes_eq, Global, refl, sym, ◌∙◌, ap, arith}
 use Rattle.std.specs.Cmp.Lexicographic.{nat_list_eq_equiv}
 use Rattle.std.specs.String.{string_eq_equiv}
 use Rattle.hashbag.specs.Bag.{Bag, IsBagOf}

@@ -1,11 +1,11 @@
 -- The lines of an input, from the first on: what reading them one by one takes and leaves, and inputs that are split at a line end.
-use Rattle.std.proofs.Common.{◌≡◌, ◌≢◌, ℕ, zero, suc, ◌+◌, ◌-◌, ◌<◌, ◌≤◌, Bool, true, false, cond, ◌&&◌, eqb, nat_lt, ◌⊎◌, inl, inr, List, [], ◌∷◌, ◌++◌, length, take, drop, get_or, refl, sym, ◌∙◌, ap, subst, arith, ne_eqb, eq-eqb, length-append, append_assoc, All}
+use Rattle.std.proofs.Common.{◌≡◌, ◌≢◌, ℕ, zero, suc, ◌+◌, ◌-◌, ◌<◌, ◌≤◌, Bool, true, false, cond, ◌&&◌, eqb, ◌⊎◌, inl, inr, List, [], ◌∷◌, ◌++◌, length, take, drop, get_or, refl, sym, ◌∙◌, ap, subst, arith, ne_eqb, eq-eqb, length-append, append_assoc, All}
 use borrow.Author.Tests.{eqb-true, eqb-false, lt-ltb}
 use Rattle.std.specs.List.{slice_split}
-use Rattle.std.specs.Io.BufRead.{take_through, drop_through, ends_with_byte, strip_last, first_piece, first_line}
+use Rattle.std.specs.Io.BufRead.{take_through, drop_through, ends_with_byte, strip_last, first_line}
 use Rattle.std.specs.Str.Lines.{lines, lines_of_parts, strip_carriage_return}
 use Rattle.std.proofs.BufReadLemmas.{take_through-append, drop_through-append}
-use Rattle.std.proofs.lemmas.List.{take_at, drop_all, get_or_at, get_or-append_right, get_or-drop, length-drop, length-take, take_more, take-append-drop, nil_from_length, append-nil}
+use Rattle.std.proofs.lemmas.List.{take_at, get_or_at, get_or-append_right, get_or-drop, length-drop, take_more, append-nil}
 use Rattle.std.proofs.lemmas.List.Elements.{All-nil, All-cons, All-get_or}
 use Rattle.std.proofs.lemmas.List.Splits.{slice_split_at, slice_split_none, length-slice_split}
 use Rattle.hashbag_words_core.specs.Reading.{drop_lines, EndsLine}

@@ -1,6 +1,6 @@
 -- Lines of counts that are added, one after the other.
-use Rattle.std.proofs.Common.{◌≡◌, ℕ, zero, suc, ◌+◌, ◌-◌, ◌<◌, ◌≤◌, ◌⊎◌, Bool, true, false, List, [], ◌∷◌, ◌++◌, length, take, String, string_bytes, string_eq, Global, Option, None, Some, IfSome, refl, sym, ◌∙◌, ap, subst, arith, inl, inr}
-use Rattle.std.specs.Io.BufRead.{ends_with_byte, take_through, first_line, drop_through}
+use Rattle.std.proofs.Common.{◌≡◌, ℕ, ◌+◌, ◌≤◌, Bool, true, false, List, [], ◌∷◌, ◌++◌, length, take, String, string_bytes, string_eq, Global, Option, None, Some, IfSome, refl, sym, ◌∙◌, ap, subst, arith, inl, inr}
+use Rattle.std.specs.Io.BufRead.{ends_with_byte, take_through}
 use Rattle.std.specs.Str.Lines.{lines}
 use Rattle.std.proofs.lemmas.List.{take_all}
 use Rattle.std.specs.String.{string_eq_equiv}

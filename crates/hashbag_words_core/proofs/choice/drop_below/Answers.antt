@@ -1,4 +1,4 @@
-use Rattle.std.proofs.Common.{◌≡◌, ℕ, min, Bool, true, false, cond, nat_lt, string_eq, refl, sym, ◌∙◌, arith, rules}
+use Rattle.std.proofs.Common.{◌≡◌, ℕ, min, Bool, true, false, cond, nat_lt, string_eq, refl, ◌∙◌, arith, rules}
 use Rattle.std.specs.String.{string_eq_equiv}
 use Rattle.hashbag.specs.Occurrences.{count}
 use Rattle.hashbag_ops.proofs.ByCount.{answers_by_count, count_retained_by}

@@ -3,7 +3,7 @@ use Rattle.hashbag.specs.Bag.{Bag}
 use Rattle.hashbag_words_core.specs.Counts.{Adds}
 use Rattle.hashbag_words_core.specs.Tokens.{pieces_of, token_of, tokens_of_line, without_mark}
 use Rattle.hashbag_words_core.specs.declared.rule.Pieces.{Pieces}
-use Rattle.hashbag_words_core.specs.declared.rule.Pieces.TheVariants.{Words, UnicodeWords, Lines, Matches}
+use Rattle.hashbag_words_core.specs.declared.rule.Pieces.TheVariants.{Words, UnicodeWords, Matches}
 use Rattle.hashbag_words_core.specs.declared.rule.Rule.{Rule}
 use Rattle.hashbag_words_core.proofs.counting.add_line.Goals as goal
 

@@ -1,4 +1,4 @@
-use Rattle.std.proofs.Common.{◌≡◌, ℕ, ◌≤◌, Bool, true, false, List, [], ◌∷◌, IfSome, subst, arith}
+use Rattle.std.proofs.Common.{◌≡◌, ℕ, ◌≤◌, Bool, List, [], ◌∷◌, IfSome, subst, arith}
 use Rattle.hashbag_words_core.specs.Counts.{Adds}
 use Rattle.hashbag_words_core.specs.Reading.{ReadsLine}
 use Rattle.hashbag_words_core.specs.Tokens.{tokens_of_lines}

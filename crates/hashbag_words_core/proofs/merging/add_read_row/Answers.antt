@@ -1,5 +1,4 @@
-use Rattle.std.proofs.Common.{◌≡◌, Bool, false, true, OnOk, Result, sym, ◌∙◌, subst, refl, inl, inr}
-use Rattle.hashbag_words_core.specs.Merging.{AddsLine}
+use Rattle.std.proofs.Common.{◌≡◌, false, true, sym, ◌∙◌, refl, inr}
 use Rattle.hashbag_words_core.proofs.ReadLemmas.{on_any_ok}
 use Rattle.hashbag_words_core.proofs.merging.add_read_row.Goals as goal
 

@@ -1,5 +1,4 @@
-use Rattle.std.proofs.Common.{◌≡◌, ℕ, ◌≤◌, Bool, true, false, List, IfSome, subst, arith}
-use Rattle.std.specs.Io.BufRead.{ends_with_byte, take_through}
+use Rattle.std.proofs.Common.{◌≡◌, ℕ, ◌≤◌, Bool, true, List, IfSome, subst, arith}
 use Rattle.hashbag_words_core.specs.Merging.{TakesLine}
 use Rattle.hashbag_words_core.specs.Reading.{ReadsLine}
 use Rattle.hashbag_words_core.proofs.MergeLemmas.{Taken, taken_none, taken_one, taken_most, taken_all}
