@@ -2,4 +2,6 @@
 #![tactic(auto)]
 
 #[cfg(test)]
-mod tests;
+mod rows;
+#[cfg(test)]
+mod texts;

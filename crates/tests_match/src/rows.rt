@@ -1,0 +1,233 @@
+//! What no clause says of matched lists: how their rows are written. What is wanted was found by hand.
+use hashbag::{BagError, FixedState};
+use hashbag_lists::delimiter::Delimiter;
+use hashbag_lists::scale::{Mark, Scale};
+use hashbag_match_core::keys::{lent, names_in};
+use hashbag_match_core::matching::match_lists;
+use hashbag_match_core::output::{Form, Layout, Only, text_of};
+use std::alloc::{AllocError, Global};
+use std::hash::{BuildHasher, RandomState};
+use std::test::Fail;
+
+// What was ordered and what was delivered, an article's fields separated by bars; the key columns, decimals, which rows and how; and what
+// is then written.
+const ROWS: [(
+    &[(&str, usize)],
+    &[(&str, usize)],
+    &str,
+    u32,
+    Only,
+    Form,
+    &str,
+); 14] = [
+    (
+        &[],
+        &[],
+        "article",
+        0,
+        Only::All,
+        Form::Table,
+        "ARTICLE  ORDERED  DELIVERED  MISSING  SURPLUS\nno article of 0 differs\n",
+    ),
+    (
+        &[("nut", 0)],
+        &[("bolt", 0), ("nut", 0)],
+        "article",
+        0,
+        Only::All,
+        Form::Table,
+        "ARTICLE  ORDERED  DELIVERED  MISSING  SURPLUS
+bolt           0          0        0        0
+nut            0          0        0        0
+no article of 2 differs
+",
+    ),
+    (
+        &[("a", 3), ("b", 1), ("c", 18446744073709551611)],
+        &[("b", 1), ("c", 18446744073709551611), ("a", 3)],
+        "article",
+        0,
+        Only::All,
+        Form::Table,
+        "ARTICLE               ORDERED             DELIVERED  MISSING  SURPLUS
+a                           3                     3        0        0
+b                           1                     1        0        0
+c        18446744073709551611  18446744073709551611        0        0
+no article of 3 differs
+",
+    ),
+    (
+        &[("x", 18446744073709551614), ("y", 1)],
+        &[("z", 18446744073709551615)],
+        "article",
+        0,
+        Only::All,
+        Form::Table,
+        "ARTICLE               ORDERED             DELIVERED               MISSING               SURPLUS
+x        18446744073709551614                     0  18446744073709551614                     0
+y                           1                     0                     1                     0
+z                           0  18446744073709551615                     0  18446744073709551615
+3 articles differ: 18446744073709551615 missing, 18446744073709551615 surplus
+",
+    ),
+    (
+        &[("b\u{1b}\n", 3), ("a", 1), ("b\u{1b}\n", 4)],
+        &[("a", 1), ("b\u{1b}\n", 10000000)],
+        "article",
+        0,
+        Only::All,
+        Form::Table,
+        "ARTICLE    ORDERED  DELIVERED  MISSING  SURPLUS
+a                1          1        0        0
+b\\u{1b}\\n        7   10000000        0  9999993
+1 article differs: 0 missing, 9999993 surplus
+",
+    ),
+    (
+        &[("x", 2), ("y", 1), ("\u{30cd}\u{30b8}\u{30cd}\u{30b8}", 7)],
+        &[("z", 1), ("y", 1)],
+        "article",
+        0,
+        Only::Missing,
+        Form::Table,
+        "ARTICLE   ORDERED  DELIVERED  MISSING  SURPLUS
+x               2          0        2        0
+\u{30cd}\u{30b8}\u{30cd}\u{30b8}        7          0        7        0
+3 articles differ: 9 missing, 1 surplus
+",
+    ),
+    (
+        &[("a|L10", 150), ("a|L9", 5), ("a|", 1)],
+        &[("a|L10", 50), ("a|L9", 5)],
+        "article,l\u{f6}s",
+        2,
+        Only::All,
+        Form::Table,
+        "ARTICLE  L\u{d6}S  ORDERED  DELIVERED  MISSING  SURPLUS
+a                0.01       0.00     0.01     0.00
+a        L10     1.50       0.50     1.00     0.00
+a        L9      0.05       0.05     0.00     0.00
+2 articles differ: 1.01 missing, 0.00 surplus
+",
+    ),
+    (
+        &[("a|L1", 150)],
+        &[("a;|L1", 5)],
+        "sku,lot",
+        2,
+        Only::All,
+        Form::Csv,
+        "sku;lot;ordered;delivered;missing;surplus
+a;L1;1.50;0.00;1.50;0.00
+\"a;\";L1;0.00;0.05;0.00;0.05
+",
+    ),
+    (
+        &[("x", 2), ("y", 1)],
+        &[("y", 1)],
+        "article",
+        0,
+        Only::Surplus,
+        Form::Csv,
+        "article;ordered;delivered;missing;surplus\n",
+    ),
+    (
+        &[("a; \"b\"", 18446744073709551615), ("y", 0)],
+        &[("c\nd", 18446744073709551615)],
+        "article",
+        0,
+        Only::All,
+        Form::Csv,
+        "article;ordered;delivered;missing;surplus
+\"a; \"\"b\"\"\";18446744073709551615;0;18446744073709551615;0
+\"c\nd\";0;18446744073709551615;0;18446744073709551615
+y;0;0;0;0
+",
+    ),
+    (
+        &[("x", 2), ("y", 1)],
+        &[("y", 1), ("z", 3), ("x", 1)],
+        "article",
+        0,
+        Only::Differing,
+        Form::Csv,
+        "article;ordered;delivered;missing;surplus\nx;2;1;1;0\nz;0;3;0;3\n",
+    ),
+    (
+        &[("x", 2)],
+        &[("x", 2)],
+        "article",
+        0,
+        Only::Differing,
+        Form::Json,
+        "[]\n",
+    ),
+    (
+        &[("a \"b\"", 2)],
+        &[("\u{e4}", 1)],
+        "article",
+        0,
+        Only::All,
+        Form::Json,
+        "[{\"article\":\"a \\\"b\\\"\",\"ordered\":2,\"delivered\":0,\"missing\":2,\"surplus\":0},{\"article\":\"\u{e4}\",\"ordered\":0,\"delivered\":1,\"missing\":0,\"surplus\":1}]\n",
+    ),
+    (
+        &[("a|1", 2)],
+        &[],
+        "sku,lot",
+        1,
+        Only::All,
+        Form::Json,
+        "[{\"sku\":\"a\",\"lot\":\"1\",\"ordered\":\"0.2\",\"delivered\":\"0.0\",\"missing\":\"0.2\",\"surplus\":\"0.0\"}]\n",
+    ),
+];
+
+// A list whose articles are the fields of its texts.
+fn list_of(
+    alloc: Global,
+    texts: &[(&str, usize)],
+) -> Result<Vec<(Vec<String>, usize)>, AllocError> {
+    let mut list = Vec::new(alloc);
+    for (text, number) in texts {
+        let mut fields = Vec::new(alloc);
+        for field in text.split('|') {
+            fields.push(String::from_str(alloc, field)?)?;
+        }
+        list.push((fields, *number))?;
+    }
+    Ok(list)
+}
+
+// What is written of two lists that are matched under this hash state.
+fn written<S: BuildHasher + Copy + Drop>(
+    alloc: Global,
+    state: S,
+    ordered: &Vec<(Vec<String>, usize)>,
+    delivered: &Vec<(Vec<String>, usize)>,
+    layout: Layout<'_>,
+    form: Form,
+) -> Result<Vec<u8>, BagError> {
+    let matched = match_lists(alloc, state, lent(alloc, ordered)?, lent(alloc, delivered)?)?;
+    Ok(text_of(alloc, &matched, layout, form)?)
+}
+
+#[test]
+fn rows_are_written(rt: HostRuntime) -> Result<(), Fail> {
+    let alloc = rt.alloc();
+    for (ordered, delivered, keys, decimals, only, form, wanted) in ROWS {
+        let (ordered, delivered) = (list_of(alloc, ordered)?, list_of(alloc, delivered)?);
+        let keys = names_in(alloc, keys)?;
+        let layout = Layout {
+            keys: &keys,
+            only,
+            scale: Scale::new(decimals, Mark::Point).unwrap_or(Scale::whole()),
+            delimiter: Delimiter::Semicolon,
+        };
+        let text = written(alloc, FixedState::new(), &ordered, &delivered, layout, form)?;
+        assert_eq!(rt; String::from_utf8(text)?.as_str(), wanted);
+        let random = RandomState::new(&rt)?;
+        let text = written(alloc, random, &ordered, &delivered, layout, form)?;
+        assert_eq!(rt; String::from_utf8(text)?.as_str(), wanted);
+    }
+    Ok(())
+}
