@@ -5,9 +5,10 @@
 #[cfg(test)]
 mod tests;
 
-use clap::{Command, Error};
+use clap::Command;
 use hashbag_shell::VERSION;
 use hashbag_shell::arguments::{arguments, explain};
+use hashbag_shell::status::NO_MEMORY;
 use hashbag_text::execute::execute;
 use std::alloc::Global;
 use std::process::ExitCode;
@@ -38,20 +39,26 @@ fn command<'a>(alloc: Global) -> Command<'a> {
         .after_help(AFTER)
 }
 
-// Whether the words ask for a run; else the help, the version, or what is wrong.
-fn check(rt: &HostRuntime, words: &Vec<String>) -> Result<(), Error> {
-    let _matches = command(rt.alloc()).try_get_matches_from(words.as_slice())?;
-    Ok(())
+// Reads the words of the command line. If they don't ask for a run, the help, the version, or what is wrong has been printed, and the
+// status is returned.
+fn read_words(rt: &HostRuntime) -> Result<(), u8> {
+    let words = arguments(rt, PROGRAM)?;
+    match command(rt.alloc()).try_get_matches_from(words.as_slice()) {
+        Ok(_) => Ok(()),
+        Err(error) => Err(explain(rt, &error)),
+    }
 }
 
 fn run(rt: &HostRuntime) -> u8 {
-    let words = match arguments(rt, PROGRAM) {
-        Ok(words) => words,
-        Err(status) => return status,
-    };
-    match check(rt, &words) {
+    match read_words(rt) {
         Ok(()) => execute(rt.alloc(), &mut rt.stdin(), &mut rt.stdout()),
-        Err(error) => explain(rt, &error),
+        Err(status) => {
+            if status == NO_MEMORY {
+                // As for each other allocation that fails.
+                let _ = println!(rt; "no memory");
+            }
+            status
+        }
     }
 }
 
