@@ -35,8 +35,8 @@ static SCALES: [&str; 10] = ["0", "1", "2", "3", "4", "5", "6", "7", "8", "9"];
 
 static MARKS: [&str; 2] = [".", ","];
 
-// The options that say how files are read.
-fn with_reading<'a>(alloc: Global, command: Command<'a>) -> Result<Command<'a>, AllocError> {
+// The options that name columns.
+fn with_columns<'a>(alloc: Global, command: Command<'a>) -> Result<Command<'a>, AllocError> {
     let key = Arg::new(alloc, "key")
         .long("key")
         .value_name("COLUMNS")
@@ -55,6 +55,12 @@ fn with_reading<'a>(alloc: Global, command: Command<'a>) -> Result<Command<'a>, 
         .long("delivered-number")
         .value_name("COLUMN")
         .help("The name of the column of numbers in DELIVERED.csv, if it is another");
+    let command = command.arg(key)?.arg(number)?;
+    command.arg(delivered_key)?.arg(delivered_number)
+}
+
+// The options that say how files are read.
+fn with_reading<'a>(alloc: Global, command: Command<'a>) -> Result<Command<'a>, AllocError> {
     let delimiter = Arg::new(alloc, "delimiter")
         .long("delimiter")
         .value_name("DELIMITER")
@@ -73,14 +79,7 @@ fn with_reading<'a>(alloc: Global, command: Command<'a>) -> Result<Command<'a>, 
         .value_parser(MARKS.as_slice())
         .default_value(".")
         .help("What is before decimals");
-    command
-        .arg(key)?
-        .arg(number)?
-        .arg(delivered_key)?
-        .arg(delivered_number)?
-        .arg(delimiter)?
-        .arg(scale)?
-        .arg(mark)
+    command.arg(delimiter)?.arg(scale)?.arg(mark)
 }
 
 // The options that say what is written.
@@ -117,7 +116,8 @@ fn command<'a>(alloc: Global) -> Result<Command<'a>, AllocError> {
         .version(VERSION)
         .about(ABOUT)
         .after_help(AFTER);
-    let command = with_writing(alloc, with_reading(alloc, command)?)?;
+    let command = with_reading(alloc, with_columns(alloc, command)?)?;
+    let command = with_writing(alloc, command)?;
     command.arg(ordered)?.arg(delivered)
 }
 
