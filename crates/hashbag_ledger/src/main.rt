@@ -47,7 +47,10 @@ fn entered_of<'a>(rt: &HostRuntime, request: &Request<'a>) -> Result<Entered<Str
     let start = start_of(rt, request)?;
     let movements = movements_of(rt, request)?;
     // The keys are random, so nobody can choose articles whose hashes collide.
-    let state = RandomState::new(rt).map_err(Trouble::Random)?;
+    let state = match RandomState::new(rt) {
+        Ok(state) => state,
+        Err(error) => return Err(Trouble::Random(error)),
+    };
     match settle(rt.alloc(), state, start, movements) {
         Ok(entered) => Ok(entered),
         Err(error) => Err(trouble_of(rt, request, error)),

@@ -110,21 +110,12 @@ impl<'a> Outputs<'a> {
     ///
     /// Which output can't be written, and why. A file that can't be written is unchanged.
     pub fn write(self, rt: &HostRuntime, report: &Report) -> Result<(), Trouble<'a>> {
-        let refusals = report.refusals.as_slice();
-        let written = match self.refusals {
-            Some(output) => write_file(rt, output, refusals),
-            None => write_text(&mut rt.stderr(), refusals),
-        };
-        if let Err(trouble) = written {
-            abandon(rt, self.balance);
-            return Err(trouble);
-        }
-        match (self.balance, &report.balance) {
-            (Some(output), Some(text)) => write_file(rt, output, text.as_slice()),
-            (None, Some(text)) => write_text(&mut io::writer(rt), text.as_slice()),
-            (output, None) => {
-                abandon(rt, output);
-                Ok(())
+        let Outputs { refusals, balance } = self;
+        match write_refusals(rt, refusals, report.refusals.as_slice()) {
+            Ok(()) => write_balance(rt, balance, report),
+            Err(trouble) => {
+                abandon(rt, balance);
+                Err(trouble)
             }
         }
     }
@@ -134,6 +125,34 @@ impl<'a> Outputs<'a> {
 fn abandon(rt: &HostRuntime, output: Option<NamedOutput<'_>>) {
     if let Some(NamedOutput { file, .. }) = output {
         file.abandon(rt);
+    }
+}
+
+// Writes the refusals to their output, or to standard error.
+fn write_refusals<'a>(
+    rt: &HostRuntime,
+    output: Option<NamedOutput<'a>>,
+    text: &[u8],
+) -> Result<(), Trouble<'a>> {
+    match output {
+        Some(output) => write_file(rt, output, text),
+        None => write_text(&mut rt.stderr(), text),
+    }
+}
+
+// Writes the balance, if there is one, to its output, or to standard output.
+fn write_balance<'a>(
+    rt: &HostRuntime,
+    output: Option<NamedOutput<'a>>,
+    report: &Report,
+) -> Result<(), Trouble<'a>> {
+    let Some(text) = &report.balance else {
+        abandon(rt, output);
+        return Ok(());
+    };
+    match output {
+        Some(output) => write_file(rt, output, text.as_slice()),
+        None => write_text(&mut io::writer(rt), text.as_slice()),
     }
 }
 
