@@ -4,8 +4,8 @@ use hashbag_ops::most_common;
 use std::fs;
 use std::test::Fail;
 
-// How many values the bag has. A list of them with their counts is 3,200,000 bytes.
-const VALUES: usize = 200_000;
+// How many values the bag has. A list of them with their counts is 480,000 bytes.
+const VALUES: usize = 30_000;
 
 // How many kilobytes the process has addressed at most. Where that is past all memory, as where each access is checked, `None`.
 fn peak(rt: &HostRuntime) -> Result<Option<usize>, Fail> {
@@ -46,7 +46,7 @@ fn few_take_little_memory(rt: HostRuntime) -> Result<(), Fail> {
     let (Some(few), Some(all)) = (few, all) else {
         return Ok(());
     };
-    if few > 1_000 || all < 2_000 {
+    if few > 200 || all < 300 {
         return Err(Fail::new(format_args!("{few} and {all} kilobytes")));
     }
     Ok(())
