@@ -64,7 +64,10 @@ fn bag_of<'a>(
         names,
         progress,
     };
-    let counts = settings.rows.map_or(Intake::Tree, Intake::Rows);
+    let counts = match settings.rows {
+        Some(form) => Intake::Rows(form),
+        None => Intake::Tree,
+    };
     match settings.job {
         Job::Count(by) => count(&mut inputs, by, &mut bag)?,
         Job::Merge => inputs.take_all(counts, &mut bag)?,
