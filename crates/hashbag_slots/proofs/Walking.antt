@@ -1,5 +1,5 @@
 -- The entries that are still to come.
-use Rattle.std.proofs.Common.{◌≡◌, ◌≢◌, ℕ, zero, suc, ◌+◌, ◌-◌, ◌*◌, ◌/◌, ◌%◌, ◌<◌, ◌≤◌, Bool, true, false, cond, leb, nat_eq, List, [], ◌∷◌, ◌++◌, length, drop, map, get_or, Some, refl, sym, ap, subst, ◌∙◌, inl, inr, arith}
+use Rattle.std.proofs.Common.{◌≡◌, ◌≢◌, ℕ, zero, suc, ◌+◌, ◌-◌, ◌*◌, ◌/◌, ◌%◌, ◌<◌, ◌≤◌, Bool, true, false, cond, leb, nat_eq, List, [], ◌∷◌, ◌++◌, length, drop, map, get_or, Some, refl, ap, subst, ◌∙◌, inl, inr, arith}
 use Rattle.std.specs.List.{filter}
 use Rattle.std.proofs.lemmas.List.{drop_all}
 use Rattle.std.proofs.lemmas.Bool.{cases_lt, le-leb, lt-leb, leb-true, leb-false}
@@ -66,11 +66,18 @@ filter_in f x xs h = ap (λ b. cond b (x ∷ filter f xs) (filter f xs)) h
 
 -- the slots of 16 that begin at a multiple of 16 are of one pass
 pub same_pass : (at p : ℕ) → at % 16 ≡ 0 → at ≤ p → p < at + 16 → pass_of p ≡ pass_of at
-same_pass at p sixteen a b = let e : p / 256 ≡ at / 256 = omega arith in ap (λ k. k % 3) e
+same_pass at p sixteen a b = let e : p / 16 ≡ at / 16 = omega arith in ap (λ k. k % 3) e
 
--- the rest of a block that is not of a pass
-pub other_pass : (at p pass : ℕ) → pass_of at ≢ pass → at ≤ p → p < (at / 256 + 1) * 256 → pass_of p ≢ pass
-other_pass at p pass other a b is = let e : p / 256 ≡ at / 256 = omega arith in other (sym (ap (λ k. k % 3) e) ∙ is)
+-- the two groups after one of a pass aren't of it
+pub other_pass : (at p pass : ℕ) → at % 16 ≡ 0 → pass_of at ≡ pass → at + 16 ≤ p → p < at + 48 → pass_of p ≢ pass
+other_pass at p pass sixteen here a b is = omega arith
+
+-- the first group of a pass from a place on
+pub first_group : (from pass : ℕ) → pass < 3 → from % 16 ≡ 0 → pass_of (from + (pass + 2 * (from / 16)) % 3 * 16) ≡ pass
+first_group from pass few sixteen = omega arith
+
+pub none_earlier : (from pass p : ℕ) → pass < 3 → from % 16 ≡ 0 → from ≤ p → p < from + (pass + 2 * (from / 16)) % 3 * 16 → pass_of p ≢ pass
+none_earlier from pass p few sixteen a b is = omega arith
 
 module _ (ts : List ℕ) (pass : ℕ) where
   skip_one : (n : ℕ) → (pass_of n ≡ pass → tag_at ts n < 128) → in_pass pass (marks_from n ts) ≡ in_pass pass (marks_from (suc n) ts)

@@ -32,10 +32,7 @@ pub fn next_live(tags: &[u8], from: usize) -> Option<usize>
     None
 }
 
-/// How many slots of a table a walk goes through before it jumps.
-const BLOCK: usize = 256;
-
-/// How many passes a walk makes over each of its tables.
+/// How many passes a walk makes over each of its tables. Each pass takes every third group of 16 slots.
 const PASSES: usize = 3;
 
 /// How far a walk over two tables is.
@@ -65,8 +62,8 @@ impl Course {
     }
 }
 
-// The next 16 slots of a pass, from the place `from` on, of which one is Live: where they begin, and a bit for each. A block that is
-// not the pass's is skipped.
+// The next 16 slots of a pass, from the place `from` on, of which one is Live: where they begin, and a bit for each. Only groups of the
+// pass are read.
 #[inline(always)]
 fn live_group(tags: &[u8], pass: usize, from: usize) -> Option<(usize, u64)>
     requires sixteens { length tags.now % 16 ≡ 0 }
@@ -75,19 +72,18 @@ fn live_group(tags: &[u8], pass: usize, from: usize) -> Option<(usize, u64)>
     ensures some { IfSome result (IsNextGroup tags.now pass from) }
     ensures none { IfNone result (NoneLive tags.now pass from) }
 {
+    if pass >= PASSES {
+        return None;
+    }
     let count = tags.len();
-    let mut at = from;
+    let skipped = (pass + (PASSES - 1) * (from / GROUP_WIDTH)) % PASSES;
+    let mut at = from + skipped * GROUP_WIDTH;
     'groups: while at + GROUP_WIDTH <= count {
-        let block = at / BLOCK;
-        if block % PASSES == pass {
-            let ahead = match_live(tags, at);
-            if ahead != 0 {
-                return Some((at, ahead));
-            }
-            at += GROUP_WIDTH;
-        } else {
-            at = (block + 1) * BLOCK;
+        let ahead = match_live(tags, at);
+        if ahead != 0 {
+            return Some((at, ahead));
         }
+        at += PASSES * GROUP_WIDTH;
     }
     None
 }

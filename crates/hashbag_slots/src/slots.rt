@@ -306,8 +306,7 @@ impl<T: Eq + Hash> Slots<T> {
         self.find_key(state, hash, value)
     }
 
-    /// As `find_hashed`, where no slot before the place `from` is Live: a path that meets an Empty slot before that place ends there,
-    /// so that most paths that begin before it are not gone along.
+    /// As `find_hashed`, if no slot before the place `from` is Live.
     #[inline(always)]
     pub fn find_uncarried<S: BuildHasher>(
         &self,

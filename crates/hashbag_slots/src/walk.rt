@@ -3,7 +3,7 @@
 //! A walk knows how many are still to come, and gives `None` for good after the last. It hashes nothing and takes no memory. A
 //! whole walk looks at each slot once.
 //!
-//! It makes three passes over each table, one over the newer, one over the older, and so on. A pass takes each third block of 256
+//! It makes three passes over each table, one over the newer, one over the older, and so on. A pass takes every third group of 16
 //! slots. So what has come of both tables at any time has homes that are spread over all slots, and a table that is filled by a
 //! walk of others is not filled place after place: there the second sweep would fall on the slots that the first has filled.
 ghost use Rattle.std.specs.Prelude.{◌≡◌, ℕ, length, Some, IfSome, ⊤};

@@ -35,8 +35,7 @@ impl<T: Eq + Hash> Slots<T> {
         find_place(self.tags.as_slice(), &self.cells, state, hash, key)
     }
 
-    /// As `find_key`, where no slot before the place `from` is Live: a path that meets an Empty slot before that place ends there,
-    /// so that most paths that begin before it are not gone along.
+    /// As `find_key`, if no slot before the place `from` is Live.
     #[inline(always)]
     pub fn find_key_uncarried<S: BuildHasher, Q: Key<T>>(
         &self,
@@ -53,6 +52,7 @@ impl<T: Eq + Hash> Slots<T> {
         ensures absent { IfNone result (IsAbsent (Q.names key) self.now.slots) }
         ensures map { entry_at self.now.slots result ≡ lookup_entry (Q.names key) (entries self.now.slots) }
     {
+        // If an Empty slot lies between home and `from`, the value is absent.
         if is_empty_before(self.tags.as_slice(), hash, from) {
             return None;
         }

@@ -2,9 +2,9 @@ use Rattle.std.proofs.Common.{◌≡◌, ℕ, ◌+◌, ◌-◌, ◌%◌, ◌<◌
 use Rattle.hashbag_slots.specs.Walks.{pass_of}
 use Rattle.hashbag_slots.proofs.live.live_group.Given as goal
 
--- no slot of the pass that was passed is Live
+-- the group at `at` is of the pass, and no slot of the pass before it is Live
 abbrev pub invariant-groups : goal.invariant-groups
-invariant-groups l = (l.from ≤ l.at) × (l.at ≤ length l.tags + 256) × (l.at % 16 ≡ 0) × ((q : ℕ) → l.from ≤ q → q < l.at → pass_of q ≡ l.pass → get_or l.tags q 0 < 128)
+invariant-groups l = (l.from ≤ l.at) × (l.at ≤ length l.tags + 48) × (l.at % 16 ≡ 0) × (pass_of l.at ≡ l.pass) × ((q : ℕ) → l.from ≤ q → q < l.at → pass_of q ≡ l.pass → get_or l.tags q 0 < 128)
 
 abbrev pub decreases-groups : goal.decreases-groups
-decreases-groups l = l.count - l.at
+decreases-groups l = l.count + 48 - l.at
