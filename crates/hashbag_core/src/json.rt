@@ -384,7 +384,7 @@ impl<T: JsonItem + Hash + Drop, S: BuildHasher + Drop> HashBag<T, S> {
     /// ```
     /// let tree = Value::from_str(alloc, "[[\"apple\",2],[\"pear\",1]]")?;
     /// let bag: HashBag<String> = HashBag::from_value(alloc, &tree)?;
-    /// bag.contains_key("apple"); // 2
+    /// bag.contains("apple"); // 2
     /// Ok(())
     /// ```
     pub fn from_value(alloc: Global, tree: &Value) -> Result<HashBag<T, S>, JsonError>

@@ -10,7 +10,7 @@ pub fn hash_bag(alloc: Global) -> Result<(), BagError> {
     }
     words.len(); // 5
     words.set_len(); // 4
-    words.contains_key("the"); // 2
+    words.contains("the"); // 2
     Ok(())
 }
 
@@ -292,16 +292,16 @@ pub fn clone(alloc: Global) -> Result<(), BagError> {
 pub fn contains_key(alloc: Global) -> Result<(), BagError> {
     let mut words: HashBag<String> = HashBag::new(alloc);
     words.insert_many_key("the", 2)?;
-    words.contains_key("the"); // 2
-    words.contains_key("cat"); // 0
+    words.contains("the"); // 2
+    words.contains("cat"); // 0
     Ok(())
 }
 
 pub fn get_key(alloc: Global) -> Result<(), BagError> {
     let mut words: HashBag<String> = HashBag::new(alloc);
     words.insert_many_key("the", 2)?;
-    words.get_key("the"); // Some(("the", 2))
-    words.get_key("cat"); // None
+    words.get("the"); // Some(("the", 2))
+    words.get("cat"); // None
     Ok(())
 }
 
@@ -322,8 +322,8 @@ pub fn insert_many_key(alloc: Global) -> Result<(), BagError> {
 pub fn remove_key(alloc: Global) -> Result<(), BagError> {
     let mut words: HashBag<String> = HashBag::new(alloc);
     words.insert_key("the")?;
-    words.remove_key("the"); // 1
-    words.remove_key("the"); // 0
+    words.remove("the"); // 1
+    words.remove("the"); // 0
     Ok(())
 }
 

@@ -41,8 +41,8 @@ module _ {T : Type 0} where
         | inl x ↦ absurd (let z = x.1 in cc)
         | inr x ↦
             let there : slot_at older p ≡ Live w m = sym x.1 ∙ here in
-            IsAbsent-Places (λ y. eq y w) v n self next (apart p w m there) put
-            (false_by (eq v w) (λ yes. absurd (x.0 (sym (set.apart at p v w n m was there yes)))))
+            IsAbsent-Places (eq w) v n self next (apart p w m there) put
+            (false_by (eq w v) (λ yes. absurd (x.0 (set.apart p at w v m n there was yes))))
       ]
 
   pub PlacesAll-append : (hash : T → ℕ) (es fs : List (T × ℕ)) (a b c : List (Slot T)) → PlacesAll hash es a b → PlacesAll hash fs b c → PlacesAll hash (es ++ fs) a c

@@ -91,7 +91,7 @@ module _ {T : Type 0} (eq : T → T → Bool) (laws : IsEquivalence eq) (ss : Li
       }
 
   -- a slot that is not Live gets a new value
-  pub IsTable-put : (v : T) (n : ℕ) → is_live (slot_at ss p) ≡ false → p < length ss → IsAbsent (λ w. eq w v) ss → 0 < n → IsTable eq (slice_set ss p (Live v n)) (live + 1) (removed - cond (is_removed (slot_at ss p)) 1 0)
+  pub IsTable-put : (v : T) (n : ℕ) → is_live (slot_at ss p) ≡ false → p < length ss → IsAbsent (eq v) ss → 0 < n → IsTable eq (slice_set ss p (Live v n)) (live + 1) (removed - cond (is_removed (slot_at ss p)) 1 0)
   IsTable-put v n was within absent pos =
       let lives = rw was at (count-set ss p (Live v n) within is_live) in
       let removes = count-set ss p (Live v n) within is_removed in
@@ -103,7 +103,7 @@ module _ {T : Type 0} (eq : T → T → Bool) (laws : IsEquivalence eq) (ss : Li
             (λ x w k j q new ne at.
             let e : x ≡ v = cc in
             let no = absent q (within_table ss q (ap is_live at)) in
-            ap (λ y. eq y w) e ∙ laws.symm v w ∙ sym (ap (holds (λ y. eq y v)) at) ∙ no)
+            ap (λ y. eq y w) e ∙ sym (ap (holds (eq v)) at) ∙ no)
             (λ x k new. let e : n ≡ k = cc in omega arith);
       }
 

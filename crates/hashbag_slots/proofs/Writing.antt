@@ -214,7 +214,7 @@ module _ {T : Type 0} (eq : T → T → Bool) (laws : IsEquivalence eq) (ts : Li
   abbrev slots : List (Slot T)
   slots = slots_of ts cs
 
-  pub IsColumns-put : (v : T) (n t : ℕ) → p < length ts → get_or ts p 0 < 128 → 128 ≤ t → IsAbsent (λ w. eq w v) slots → 0 < n
+  pub IsColumns-put : (v : T) (n t : ℕ) → p < length ts → get_or ts p 0 < 128 → 128 ≤ t → IsAbsent (eq v) slots → 0 < n
       → IsColumns eq (slice_set ts p t) (slice_set cs p (Some (v, n))) (live + 1) (removed - cond (nat_eq (get_or ts p 0) 1) 1 0)
   IsColumns-put v n t within low high absent pos =
       let len = length-slots_of ts cs cols.agree.same_length in

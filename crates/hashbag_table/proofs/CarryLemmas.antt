@@ -277,7 +277,7 @@ IsTables-blank {T = T} eq hash newer older n e f r s =
       tables = record {
         newer_reached = r;
         older_reached = s;
-        apart = λ p v k here q lt. ap (λ ss. holds (λ w. eq w v) (slot_at ss q)) e ∙ ap (holds (λ w. eq w v)) (slot_at-replicate n q);
+        apart = λ p v k here q lt. ap (λ ss. holds (eq v) (slot_at ss q)) e ∙ ap (holds (eq v)) (slot_at-replicate n q);
         unmoved = unmoved_blank newer.slots n e;
         looked_within = omega arith;
         looked_dead = λ p lt. absurd (omega arith);
@@ -344,7 +344,7 @@ module _ {T : Type 0} (eq : T → T → Bool) (hash : T → ℕ) (newer fresh : 
       let x = roomy.some in let y = roomy.carries in
       record {
         reached = reached;
-        apart = λ p v n here q lt. ap (λ ss. holds (λ w. eq w v) (slot_at ss q)) empty ∙ ap (holds (λ w. eq w v)) (slot_at-replicate (length fresh.slots) q);
+        apart = λ p v n here q lt. ap (λ ss. holds (eq v) (slot_at ss q)) empty ∙ ap (holds (eq v)) (slot_at-replicate (length fresh.slots) q);
         unmoved = unmoved_blank fresh.slots (length fresh.slots) empty;
         counted = subst (λ es. IsCounted eq (es ++ entries newer.slots)) (sym (entries_fresh fresh.slots empty)) counted;
         fits = omega (arith, a, b, x);
@@ -381,7 +381,7 @@ module _ {T : Type 0} (eq : T → T → Bool) (laws : IsEquivalence eq) (hash : 
           let e : looked + (p - looked) ≡ p = omega arith in
           let at : slot_at w (p - looked) ≡ Live x m = get_or-drop looked older.slots (p - looked) Empty ∙ ap (slot_at older.slots) e ∙ here in
           let inside = within_table w (p - looked) (ap is_live at) in
-          laws.symm v x ∙ sym (ap (holds (λ y. eq y v)) at) ∙ (absent_both eq laws v newer.slots w absent).1 (p - looked) inside
+          sym (ap (holds (eq v)) at) ∙ (absent_both eq v newer.slots w absent).1 (p - looked) inside
     ]
 
     pub IsTables-settled : IsTables eq hash newer1 older looked
@@ -394,7 +394,7 @@ module _ {T : Type 0} (eq : T → T → Bool) (laws : IsEquivalence eq) (hash : 
           tables = record {
             newer_reached = reached;
             older_reached = before.tables.older_reached;
-            apart = λ p x m here. IsAbsent-Places (λ y. eq y x) v n newer.slots newer1.slots (before.tables.apart p x m here) put (other x m p here);
+            apart = λ p x m here. IsAbsent-Places (eq x) v n newer.slots newer1.slots (before.tables.apart p x m here) put (other x m p here);
             unmoved = unmoved_filled 1 newer.slots newer1.slots (Fills-Places v n newer.slots newer1.slots put) before.tables.unmoved;
             looked_within = before.tables.looked_within;
             looked_dead = before.tables.looked_dead;

@@ -30,9 +30,6 @@ module _ {T : Type 0} (names : T → Bool) where
 
 module _ {T : Type 0} (eq : T → T → Bool) (laws : IsEquivalence eq) (names : T → Bool) (one : (v w : T) → names v ≡ true → names w ≡ eq w v) where
   -- the test is that of being equal to a value that the key names
-  pub named_equals : (v : T) → names v ≡ true → names ≡ (λ w. eq w v)
-  named_equals v does = λ i w. one v w does i
-
   pub named_is : (v : T) → names v ≡ true → names ≡ eq v
   named_is v does = λ i w. (one v w does ∙ laws.symm w v) i
 
@@ -53,8 +50,8 @@ module _ {T : Type 0} (eq : T → T → Bool) (laws : IsEquivalence eq) (names :
           → new.hasher ≡ old.hasher → IsCounted eq new.entries → AddsNamed eq names n old new
       named_raised new was after swap hasher counted =
           let h = held_named names old.tables spot held in let v = h.0 in
-          let at : HoldsIn (λ w. eq w v) old.tables spot = subst (λ (test : T → Bool). HoldsIn test old.tables spot) (named_equals v h.1) held in
-          let found : slot_entry (slot_in old.tables spot) ≡ lookup_entry (λ w. eq w v) old.entries = is ∙ ap (λ (test : T → Bool). lookup_entry test old.entries) (named_equals v h.1) in
+          let at : HoldsIn (eq v) old.tables spot = subst (λ (test : T → Bool). HoldsIn test old.tables spot) (named_is v h.1) held in
+          let found : slot_entry (slot_in old.tables spot) ≡ lookup_entry (eq v) old.entries = is ∙ ap (λ (test : T → Bool). lookup_entry test old.entries) (named_is v h.1) in
           let kept = raised_kept eq laws v n old.entries old.tables spot found at before count new.tables after in (
             v,
             h.1,

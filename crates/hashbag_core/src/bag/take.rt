@@ -6,6 +6,7 @@ ghost use Rattle.hashbag_core.specs.Occurrences.{count, counted, stored, IsBag};
 ghost use Rattle.hashbag_core.specs.Held.{HasFewer};
 
 use crate::bag::HashBag;
+use hashbag_table::Key;
 use std::hash::{BuildHasher, Hash};
 
 impl<T: Eq + Hash + Drop, S: BuildHasher + Drop> HashBag<T, S> {
@@ -24,7 +25,7 @@ impl<T: Eq + Hash + Drop, S: BuildHasher + Drop> HashBag<T, S> {
     /// bag.remove(&"apple"); // 0
     /// Ok(())
     /// ```
-    pub fn remove(&mut self, value: &T) -> usize
+    pub fn remove<Q: Key<T>>(&mut self, value: Q) -> usize
         ensures before { result ≡ count T.eq value.now self.old.items }
         ensures fewer { HasFewer T.eq value.now 1 self.old self.new }
         ensures len { IsShorterBy (min result 1) self.old self.new }
@@ -44,7 +45,7 @@ impl<T: Eq + Hash + Drop, S: BuildHasher + Drop> HashBag<T, S> {
     /// bag.remove_up_to(&"apple", 3); // 0
     /// Ok(())
     /// ```
-    pub fn remove_up_to(&mut self, value: &T, quantity: usize) -> usize
+    pub fn remove_up_to<Q: Key<T>>(&mut self, value: Q, quantity: usize) -> usize
         ensures after { result ≡ count T.eq value.now self.old.items - quantity }
         ensures fewer { HasFewer T.eq value.now quantity self.old self.new }
         ensures len { length self.new.items + count T.eq value.now self.old.items ≡ length self.old.items + result }
@@ -53,12 +54,12 @@ impl<T: Eq + Hash + Drop, S: BuildHasher + Drop> HashBag<T, S> {
     }
 
     // Takes `quantity` occurrences of a value, or all where they are fewer, and answers how many there were.
-    fn take_up_to(&mut self, value: &T, quantity: usize) -> usize
+    fn take_up_to<Q: Key<T>>(&mut self, value: Q, quantity: usize) -> usize
         ensures before { result ≡ count T.eq value.now self.old.items }
         ensures fewer { HasFewer T.eq value.now quantity self.old self.new }
         ensures len { IsShorterBy (min result quantity) self.old self.new }
     {
-        let before = self.table.take(value, quantity);
+        let before = self.table.take_key(value, quantity);
         self.len -= before.min(quantity);
         before
     }
@@ -79,7 +80,7 @@ impl<T: Eq + Hash + Drop, S: BuildHasher + Drop> HashBag<T, S> {
     /// bag.try_take(&"apple").err(); // Some(None)
     /// Ok(())
     /// ```
-    pub fn try_take(&mut self, value: &T) -> Result<T, Option<(&T, usize)>>
+    pub fn try_take<Q: Key<T>>(&mut self, value: Q) -> Result<T, Option<(&T, usize)>>
         // Once the loan is over.
         ensures* left { sem 𝓛 (ends_taking T.row S.row S.Hasher.row T.Hash S.BuildHasher S.Hasher.Hasher self.entry value.now) }
         ensures last { IfOk result (λ instance. stored T.eq value.now self.old.items ≡ Some (instance, 1)) }
@@ -89,10 +90,10 @@ impl<T: Eq + Hash + Drop, S: BuildHasher + Drop> HashBag<T, S> {
     }
 
     // What was taken, or else the stored instance, of which some are left, with how many there were.
-    fn taken_or_lent<'a>(
+    fn taken_or_lent<'a, Q: Key<T>>(
         taken: Result<T, usize>,
         bag: &'a HashBag<T, S>,
-        value: &T,
+        value: Q,
     ) -> Result<T, Option<(&'a T, usize)>>
         ensures last { IfOk taken (λ instance. result ≡ Ok instance) }
         ensures absent { IfErr taken (λ before. before ≡ 0 → result ≡ Err None) }
@@ -122,7 +123,7 @@ impl<T: Eq + Hash + Drop, S: BuildHasher + Drop> HashBag<T, S> {
     /// bag.take_one(&"apple").err(); // Some(0)
     /// Ok(())
     /// ```
-    pub fn take_one(&mut self, value: &T) -> Result<T, usize>
+    pub fn take_one<Q: Key<T>>(&mut self, value: Q) -> Result<T, usize>
         ensures fewer { HasFewer T.eq value.now 1 self.old self.new }
         ensures len { MatchResult result (λ _. IsShorterBy 1 self.old self.new) (λ before. IsShorterBy (min before 1) self.old self.new) }
         ensures last { IfOk result (λ instance. stored T.eq value.now self.old.items ≡ Some (instance, 1)) }
@@ -151,7 +152,7 @@ impl<T: Eq + Hash + Drop, S: BuildHasher + Drop> HashBag<T, S> {
     /// bag.take_all(&"apple"); // None
     /// Ok(())
     /// ```
-    pub fn take_all(&mut self, value: &T) -> Option<(T, usize)>
+    pub fn take_all<Q: Key<T>>(&mut self, value: Q) -> Option<(T, usize)>
         ensures taken { result ≡ stored T.eq value.now self.old.items }
         ensures fewer { HasFewer T.eq value.now (count T.eq value.now self.old.items) self.old self.new }
         ensures len { MatchOption result (length self.new.items ≡ length self.old.items) (λ taken. IsShorterBy taken.1 self.old self.new) }

@@ -2,7 +2,6 @@ use Rattle.std.proofs.Common.{sym, refl, ◌∙◌, subst}
 use Rattle.std.specs.Option.{IsSome}
 use Rattle.hashbag_slots.proofs.Hashing.{fed_alike}
 use Rattle.hashbag_table.proofs.EntryLemmas.{OnErr-from}
-use Rattle.hashbag_table.proofs.SlotLemmas.{turned}
 use Rattle.hashbag_table.proofs.SpotLemmas.{count_absent, added_absent}
 use Rattle.hashbag_table.proofs.RaisedLemmas.{raised_there, raised_fits, raised_before, raised_added, raised_slot, raised_kept}
 use Rattle.hashbag_table.proofs.RoomKeptLemmas.{keeps_more, keeps_Arrives}
@@ -13,16 +12,16 @@ spot_after_first_group-requires-clause-hashed g c =
     c.requires.hashed ∙ fed_alike g.T.Hash.hash_input (λ r. g.T.Hash.hash_input r.now) g.S.BuildHasher g.S.Hasher.Hasher c.args.self.now.hasher c.args.value _ refl
 
 pub insert_hashed-requires-clause-absent : goal.insert_hashed-requires-clause-absent
-insert_hashed-requires-clause-absent g c = sym (c.in_default.ensures.map ∙ turned g.T.PartialEq.eq g.met.T.Eq.laws c.args.value c.args.self.now.entries)
+insert_hashed-requires-clause-absent g c = sym (c.in_default.ensures.map)
 
 pub returns-in_err-insert_hashed-clause-absent : goal.returns-in_err-insert_hashed-clause-absent
-returns-in_err-insert_hashed-clause-absent g c = OnErr-from c.from_residual.result (sym (c.in_default.ensures.map ∙ turned g.T.PartialEq.eq g.met.T.Eq.laws c.args.value c.args.self.now.entries))
+returns-in_err-insert_hashed-clause-absent g c = OnErr-from c.from_residual.result (sym (c.in_default.ensures.map))
 
 pub returns-in_err-insert_hashed-clause-slot : goal.returns-in_err-insert_hashed-clause-slot
-returns-in_err-insert_hashed-clause-slot g c some = let no = subst IsSome (sym (c.in_default.ensures.map ∙ turned g.T.PartialEq.eq g.met.T.Eq.laws c.args.value c.args.self.now.entries)) some in absurd (cc)
+returns-in_err-insert_hashed-clause-slot g c some = let no = subst IsSome (sym (c.in_default.ensures.map)) some in absurd (cc)
 
 pub returns-clause-slot : goal.returns-clause-slot
-returns-clause-slot g c some = let no = subst IsSome (sym (c.in_default.ensures.map ∙ turned g.T.PartialEq.eq g.met.T.Eq.laws c.args.value c.args.self.now.entries)) some in absurd (cc)
+returns-clause-slot g c some = let no = subst IsSome (sym (c.in_default.ensures.map)) some in absurd (cc)
 
 pub raise_spot-before-requires-clause-fits : goal.raise_spot-before-requires-clause-fits
 raise_spot-before-requires-clause-fits g c =
@@ -66,12 +65,12 @@ pub returns-clause-room : goal.returns-clause-room
 returns-clause-room g c some = keeps_Arrives _ _ c.in_ok-insert_hashed.ensures.arrives some
 
 pub returns-clause-before : goal.returns-clause-before
-returns-clause-before g c = sym (count_absent g.T.PartialEq.eq c.args.value c.args.self.now.entries (sym (c.in_default.ensures.map ∙ turned g.T.PartialEq.eq g.met.T.Eq.laws c.args.value c.args.self.now.entries)))
+returns-clause-before g c = sym (count_absent g.T.PartialEq.eq c.args.value c.args.self.now.entries (sym (c.in_default.ensures.map)))
 
 pub returns-clause-added : goal.returns-clause-added
 returns-clause-added g c =
     record {
-      means = added_absent g.T.PartialEq.eq c.args.value c.args.self.now.entries c.args.n c.insert_hashed.new.self.entries (sym (c.in_default.ensures.map ∙ turned g.T.PartialEq.eq g.met.T.Eq.laws c.args.value c.args.self.now.entries)) c.in_ok-insert_hashed.ensures.inserted.means;
+      means = added_absent g.T.PartialEq.eq c.args.value c.args.self.now.entries c.args.n c.insert_hashed.new.self.entries (sym (c.in_default.ensures.map)) c.in_ok-insert_hashed.ensures.inserted.means;
       hasher = c.in_ok-insert_hashed.ensures.inserted.hasher;
       counted = c.in_ok-insert_hashed.ensures.inserted.counted;
     }

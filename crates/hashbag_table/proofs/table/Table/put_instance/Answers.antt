@@ -9,7 +9,7 @@ use Rattle.hashbag_table.proofs.table.Table.put_instance.Goals as goal
 pub returns-in-Some-clause-before : goal.returns-in-Some-clause-before
 returns-in-Some-clause-before g c =
     let eq = g.T.PartialEq.eq in let v = c.args.value in let es = c.args.self.now.entries in
-    let held = held_entry (λ w. eq w v) c.args.self.now.tables c.in-Some.spot c.in-Some.ensures.held in
+    let held = held_entry (eq v) c.args.self.now.tables c.in-Some.spot c.in-Some.ensures.held in
     let e = held.0 in
     let found : lookup_entry (eq v) es ≡ Some e = sym c.in-Some.ensures.map ∙ held.1 in
     let count : c.count_at-before.result ≡ e.1 = c.count_at-before.ensures.count e held.1 in
@@ -19,7 +19,7 @@ returns-in-Some-clause-before g c =
 pub returns-in-Some-clause-put : goal.returns-in-Some-clause-put
 returns-in-Some-clause-put g c =
     let eq = g.T.PartialEq.eq in let v = c.args.value in let es = c.args.self.now.entries in
-    let held = held_entry (λ w. eq w v) c.args.self.now.tables c.in-Some.spot c.in-Some.ensures.held in
+    let held = held_entry (eq v) c.args.self.now.tables c.in-Some.spot c.in-Some.ensures.held in
     let e = held.0 in
     let found : lookup_entry (eq v) es ≡ Some e = sym c.in-Some.ensures.map ∙ held.1 in
     record {
@@ -34,12 +34,12 @@ returns-clause-before g c =
 
 pub returns-in-Some-clause-room : goal.returns-in-Some-clause-room
 returns-in-Some-clause-room g c some =
-    keeps_more 1 _ _ (kept_Rewrites (λ w. g.T.PartialEq.eq w c.args.value) (λ _. Live c.args.value 1) c.args.self.now.tables c.put_spot-former.new.self.tables (λ v n. refl)
+    keeps_more 1 _ _ (kept_Rewrites (g.T.PartialEq.eq c.args.value) (λ _. Live c.args.value 1) c.args.self.now.tables c.put_spot-former.new.self.tables (λ v n. refl)
     (record { spot = c.in-Some.spot; held = c.in-Some.ensures.held; after = c.put_spot-former.ensures.after }))
 
 pub returns-in-Some-clause-same_room : goal.returns-in-Some-clause-same_room
 returns-in-Some-clause-same_room g c some =
-    kept_Rewrites (λ w. g.T.PartialEq.eq w c.args.value) (λ _. Live c.args.value 1) c.args.self.now.tables c.put_spot-former.new.self.tables (λ v n. refl)
+    kept_Rewrites (g.T.PartialEq.eq c.args.value) (λ _. Live c.args.value 1) c.args.self.now.tables c.put_spot-former.new.self.tables (λ v n. refl)
     (record { spot = c.in-Some.spot; held = c.in-Some.ensures.held; after = c.put_spot-former.ensures.after })
 
 pub returns-clause-room : goal.returns-clause-room
