@@ -374,14 +374,14 @@ module _ {T : Type 0} (eq : T → T → Bool) (laws : IsEquivalence eq) (hash : 
     entries_settled = IsPermutation-append_left (entries w) _ _ (entries-Places v n newer.slots newer1.slots put)
 
     -- what is Live in the older table waits, and is not the new value
-    other : (x : T) (m p : ℕ) → slot_at older.slots p ≡ Live x m → eq v x ≡ false
+    other : (x : T) (m p : ℕ) → slot_at older.slots p ≡ Live x m → eq x v ≡ false
     other x m p here = elim (cases_lt p looked) [
       | inl a ↦ absurd (let d = before.tables.looked_dead p a in let h : is_live (slot_at older.slots p) ≡ true = ap is_live here in cc)
       | inr b ↦
           let e : looked + (p - looked) ≡ p = omega arith in
           let at : slot_at w (p - looked) ≡ Live x m = get_or-drop looked older.slots (p - looked) Empty ∙ ap (slot_at older.slots) e ∙ here in
           let inside = within_table w (p - looked) (ap is_live at) in
-          sym (ap (holds (eq v)) at) ∙ (absent_both eq v newer.slots w absent).1 (p - looked) inside
+          laws.symm x v ∙ sym (ap (holds (eq v)) at) ∙ (absent_both eq v newer.slots w absent).1 (p - looked) inside
     ]
 
     pub IsTables-settled : IsTables eq hash newer1 older looked

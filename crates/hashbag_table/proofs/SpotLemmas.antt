@@ -137,7 +137,7 @@ module _ {T : Type 0} (eq : T → T → Bool) (hash : T → ℕ) (newer older : 
   pub waiting_at : (p : ℕ) → looked ≤ p → slot_at (drop looked older.slots) (p - looked) ≡ slot_at older.slots p
   waiting_at p le = let e : looked + (p - looked) ≡ p = omega arith in get_or-drop looked older.slots (p - looked) Empty ∙ ap (slot_at older.slots) e
 
-  module _ (p : ℕ) (v : T) (m : ℕ) (s : Slot T) (quiet : (x : T) → eq v x ≡ false → holds (eq x) s ≡ false) (used : one_if (is_live s) + one_if (is_removed s) ≡ 1) where
+  module _ (p : ℕ) (v : T) (m : ℕ) (s : Slot T) (quiet : (x : T) → eq x v ≡ false → holds (eq x) s ≡ false) (used : one_if (is_live s) + one_if (is_removed s) ≡ 1) where
     not_moved : s ≡ Moved → ⊥
     not_moved e = absurd (let z : one_if (is_live {T = T} Moved) + one_if (is_removed {T = T} Moved) ≡ 1 = subst (λ x. one_if (is_live x) + one_if (is_removed x) ≡ 1) e used in omega arith)
 
@@ -330,8 +330,8 @@ module _ {T : Type 0} (eq : T → T → Bool) (laws : IsEquivalence eq) (v x : T
       let before = counted_rearranged laws _ _ swap.before h in
       counted_rearranged laws _ _ swap.after (IsCounted-cons eq x 1 swap.rest (none_equal swap.rest (IsDistinct-head eq v (keys_of swap.rest) before.distinct)) (omega arith) (tail_counted eq laws (v, m) swap.rest before))
 
-  quiet_put : (y : T) → eq v y ≡ false → holds (eq y) (Live x 1) ≡ false
-  quiet_put y h = sym (laws.congr v x y equal) ∙ h
+  quiet_put : (y : T) → eq y v ≡ false → holds (eq y) (Live x 1) ≡ false
+  quiet_put y h = laws.symm y x ∙ sym (laws.congr v x y equal) ∙ laws.symm v y ∙ h
 
   absent_put : (ss : List (Slot T)) → IsAbsent (eq v) ss → IsAbsent (eq x) ss
   absent_put ss h p lt = same (slot_at ss p) ∙ h p lt where
@@ -339,7 +339,7 @@ module _ {T : Type 0} (eq : T → T → Bool) (laws : IsEquivalence eq) (v x : T
     same Empty = refl
     same Removed = refl
     same Moved = refl
-    same (Live y n) = laws.symm y x ∙ sym (laws.congr v x y equal) ∙ laws.symm v y
+    same (Live y n) = sym (laws.congr v x y equal)
 
   module _ (hash : T → ℕ) (newer older : Columns T) (looked : ℕ) (before : IsTables eq hash newer older looked) (p m : ℕ) where
     module _ (newer1 : Columns T) (was : slot_at newer.slots p ≡ Live v m) (now : newer1.slots ≡ slice_set newer.slots p (Live x 1)) (reached : IsReached hash newer1) where

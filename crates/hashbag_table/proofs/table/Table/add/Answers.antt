@@ -6,7 +6,7 @@ use Rattle.std.specs.List.Sorted.{IsPermutation}
 use Rattle.std.specs.Map.{lookup_entry}
 use Rattle.hashbag_slots.specs.declared.slots.Slot.{Slot}
 use Rattle.hashbag_slots.specs.Slots.{IsAbsent, entries, slot_entry}
-use Rattle.hashbag_slots.proofs.Hashing.{fed_alike}
+use Rattle.hashbag_slots.specs.Hashing.{hash_under}
 use Rattle.hashbag_slots.proofs.Maps.{lookup-IsAbsent}
 use Rattle.hashbag_slots.specs.FirstGroup.{IfFound, IfAbsent}
 use Rattle.hashbag_table.specs.declared.table.Spot.TheVariants.{Newer}
@@ -17,6 +17,7 @@ use Rattle.hashbag_table.proofs.EntryLemmas.{without_absent}
 use Rattle.hashbag_table.proofs.RaisedLemmas.{raised_there, raised_fits, raised_before, raised_added, raised_slot, raised_kept}
 use Rattle.hashbag_table.proofs.RoomKeptLemmas.{keeps_more, keeps_Arrives}
 use Rattle.hashbag_table.proofs.SpotLemmas.{count_absent, added_absent}
+use Rattle.hashbag_table.proofs.table.Table.add.Goals.{in-Absent+else-can_place_at_once, in_default-first}
 use Rattle.hashbag_table.proofs.table.Table.add.Goals as goal
 
 -- a value that is in no slot of the one table is absent
@@ -24,8 +25,24 @@ absent : {T : Type 0} (eq : T → T → Bool) (laws : IsEquivalence eq) (v : T) 
 absent eq laws v newer es is apart = ap (lookup_entry (eq v)) is ∙ lookup-IsAbsent (eq v) newer apart
 
 pub probe_first_group-first-requires : goal.probe_first_group-first-requires
-probe_first_group-first-requires g c =
-    record { hashed = c.hash-hash.ensures ∙ fed_alike g.T.Hash.hash_input (λ r. g.T.Hash.hash_input r.now) g.S.BuildHasher g.S.Hasher.Hasher c.args.self.now.hasher c.args.value _ refl }
+unfolding hash_under
+probe_first_group-first-requires g c = record { hashed = c.hash-hash.ensures }
+
+pub place_absent-requires-clause-hashed : goal.place_absent-requires-clause-hashed
+unfolding hash_under
+place_absent-requires-clause-hashed g c = c.hash-hash.ensures
+
+pub add_slow-requires : goal.add_slow-requires
+unfolding hash_under
+add_slow-requires g c = record {
+  hashed = c.hash-hash.ensures;
+  shown = elim c.match-first-2.branch [
+    | in-Absent+else-can_place_at_once w ↦ subst (λ r. IfAbsent r (λ x. IsAbsent (g.T.PartialEq.eq c.args.value) c.args.self.now.tables.newer)) (w.in-Absent.is ∙ sym w.first-is) c.probe_first_group-first.ensures.absent
+    | in_default-first w ↦ subst (λ r. IfAbsent r (λ x. IsAbsent (g.T.PartialEq.eq c.args.value) c.args.self.now.tables.newer)) (sym w.first-is) c.probe_first_group-first.ensures.absent
+  ];
+  some = c.requires.some;
+  fits = c.requires.fits;
+}
 
 pub raise_spot-before-requires-clause-fits : goal.raise_spot-before-requires-clause-fits
 raise_spot-before-requires-clause-fits g c =

@@ -1,6 +1,6 @@
 use Rattle.std.proofs.Common.{sym, refl, ◌∙◌, subst}
 use Rattle.std.specs.Option.{IsSome}
-use Rattle.hashbag_slots.proofs.Hashing.{fed_alike}
+use Rattle.hashbag_slots.specs.Hashing.{hash_under}
 use Rattle.hashbag_table.proofs.EntryLemmas.{OnErr-from}
 use Rattle.hashbag_table.proofs.SpotLemmas.{count_absent, added_absent}
 use Rattle.hashbag_table.proofs.RaisedLemmas.{raised_there, raised_fits, raised_before, raised_added, raised_slot, raised_kept}
@@ -8,8 +8,8 @@ use Rattle.hashbag_table.proofs.RoomKeptLemmas.{keeps_more, keeps_Arrives}
 use Rattle.hashbag_table.proofs.table.Table.add_slow.Goals as goal
 
 pub spot_after_first_group-requires-clause-hashed : goal.spot_after_first_group-requires-clause-hashed
-spot_after_first_group-requires-clause-hashed g c =
-    c.requires.hashed ∙ fed_alike g.T.Hash.hash_input (λ r. g.T.Hash.hash_input r.now) g.S.BuildHasher g.S.Hasher.Hasher c.args.self.now.hasher c.args.value _ refl
+unfolding hash_under
+spot_after_first_group-requires-clause-hashed g c = c.requires.hashed
 
 pub insert_hashed-requires-clause-absent : goal.insert_hashed-requires-clause-absent
 insert_hashed-requires-clause-absent g c = sym (c.in_default.ensures.map)

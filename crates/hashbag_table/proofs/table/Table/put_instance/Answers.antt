@@ -2,9 +2,18 @@ use Rattle.std.proofs.Common.{◌≡◌, refl, Some, sym, ◌∙◌}
 use Rattle.std.specs.Map.{lookup_entry}
 use Rattle.hashbag_table.specs.Entries.{count_of}
 use Rattle.hashbag_table.proofs.SpotLemmas.{held_entry, count_present, count_absent, put_swapped}
+use Rattle.hashbag_slots.specs.Hashing.{hash_under}
 use Rattle.hashbag_slots.specs.declared.slots.Slot.TheVariants.{Live}
 use Rattle.hashbag_table.proofs.RoomKeptLemmas.{kept_Rewrites, keeps_more, keeps_Arrives}
 use Rattle.hashbag_table.proofs.table.Table.put_instance.Goals as goal
+
+pub spot_of-requires : goal.spot_of-requires
+unfolding hash_under
+spot_of-requires g c = record { hashed = c.hash-hash.ensures }
+
+pub insert_hashed-requires-clause-hashed : goal.insert_hashed-requires-clause-hashed
+unfolding hash_under
+insert_hashed-requires-clause-hashed g c = c.hash-hash.ensures
 
 pub returns-in-Some-clause-before : goal.returns-in-Some-clause-before
 returns-in-Some-clause-before g c =
