@@ -16,8 +16,7 @@ use Rattle.hashbag_table.proofs.ListLemmas.{filter-replicate, find-filter}
 use Rattle.hashbag_core.specs.Bag.{occurrences, IsTallied}
 use Rattle.hashbag_core.specs.Held.{AreHeld}
 use Rattle.hashbag_core.specs.Inserts.{Inserts}
-use Rattle.hashbag_core.specs.Keys.{count_named, stored_named}
-use Rattle.hashbag_core.specs.Occurrences.{less}
+use Rattle.hashbag_core.specs.Occurrences.{count_named, stored_named, less}
 use Rattle.hashbag_core.proofs.DistinctLemmas.{distinct_added, distinct_same, distinct_one_more}
 use Rattle.hashbag_core.proofs.HeldLemmas.{shown, absent_in_table, present_in_table, recounts_some}
 use Rattle.hashbag_core.proofs.OccurrenceLemmas.{add_occurrences, bag_from_tally, count_occurrences, count_in_tally, tally_less}

@@ -6,9 +6,8 @@ ghost use Rattle.hashbag_table.specs.Entries.{count_of, IsCounted};
 ghost use Rattle.hashbag_table.specs.Tables.{limit, room, Arrives, KeepsRoom};
 ghost use Rattle.hashbag_table.specs.Retained.{RetainsTables};
 ghost use Rattle.hashbag_core.specs.Bag.{occurrences, limited, HasOneValueMore, Lends};
-ghost use Rattle.hashbag_core.specs.Occurrences.{count, stored, add, put, recount, distinct_count, IsBag};
+ghost use Rattle.hashbag_core.specs.Occurrences.{count_named, stored_named, count, stored, add, put, recount, distinct_count, IsBag};
 ghost use Rattle.hashbag_core.specs.Extends.{Refuses};
-ghost use Rattle.hashbag_core.specs.Keys.{count_named, stored_named};
 ghost use Rattle.hashbag_core.specs.Inserts.{Inserts, IsRefused};
 ghost use Rattle.hashbag_core.specs.Held.{cleared, Recounts, Restores};
 ghost use Rattle.hashbag_core.specs.Retain.{IsRetained};
@@ -250,7 +249,7 @@ impl<T: Eq + Hash + Drop, S: BuildHasher + Drop> HashBag<T, S> {
         ensures count { result ≡ count_named (Q.names key) self.now.items }
         ensures bag { IsBag T.eq self.now.most self.now.items }
     {
-        match self.table.get_key(key) {
+        match self.table.get(key) {
             Some((_, count)) => count,
             None => 0,
         }
@@ -270,7 +269,7 @@ impl<T: Eq + Hash + Drop, S: BuildHasher + Drop> HashBag<T, S> {
         ensures found { Lends result (stored_named (Q.names key) self.now.items) }
         ensures bag { IsBag T.eq self.now.most self.now.items }
     {
-        self.table.get_key(key)
+        self.table.get(key)
     }
 
     /// Adds one occurrence of a value, and answers how many there were: [`HashBag::insert_many`] with 1.

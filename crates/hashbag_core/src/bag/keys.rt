@@ -3,13 +3,11 @@
 //! In the Rust crate `contains`, `get` and `remove` take whatever a value can be borrowed as. Here these calls take a [`Key`], and
 //! insertions a [`ToValue`], which makes the value only where it is absent.
 ghost use Rattle.std.specs.Prelude.{◌≡◌, ◌+◌, ◌<◌, ◌≤◌, length, min, IsTrue, IsOk, IfOk, IfErr, OnOk, OnErr};
-ghost use Rattle.hashbag_core.specs.Bag.{IsShorterBy, Lends};
-ghost use Rattle.hashbag_core.specs.Held.{HasFewer};
-ghost use Rattle.hashbag_core.specs.Keys.{count_named, stored_named, RefusesNamed, InsertsNamed};
-ghost use Rattle.hashbag_core.specs.Occurrences.{IsBag};
+ghost use Rattle.hashbag_core.specs.Keys.{RefusesNamed, InsertsNamed};
+ghost use Rattle.hashbag_core.specs.Occurrences.{count_named, stored_named, IsBag};
 
 use crate::bag::{BagError, HashBag};
-use hashbag_table::{Key, ToValue};
+use hashbag_table::ToValue;
 use std::hash::{BuildHasher, Hash};
 
 impl<T: Eq + Hash + Drop, S: BuildHasher + Drop> HashBag<T, S> {
@@ -79,5 +77,4 @@ impl<T: Eq + Hash + Drop, S: BuildHasher + Drop> HashBag<T, S> {
         self.table.held();
         Ok(before)
     }
-
 }

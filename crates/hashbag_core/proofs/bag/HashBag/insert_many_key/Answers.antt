@@ -1,7 +1,7 @@
 use Rattle.std.proofs.Common.{◌≡◌, ◌<◌, arith, sym, ◌∙◌}
 use Rattle.std.proofs.lemmas.Result.{err_from_is_err_and}
 use Rattle.hashbag_core.specs.Bag.{occurrences}
-use Rattle.hashbag_core.specs.Keys.{count_named}
+use Rattle.hashbag_core.specs.Occurrences.{count_named}
 use Rattle.hashbag_core.proofs.HeldLemmas.{held_by}
 use Rattle.hashbag_core.proofs.KeyLemmas.{named_occurrences, none_named_there, named_in_tally, inserts_added}
 use Rattle.hashbag_core.proofs.OccurrenceLemmas.{add_occurrences, tally_added}

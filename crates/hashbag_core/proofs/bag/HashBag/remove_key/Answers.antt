@@ -1,8 +1,7 @@
 use Rattle.std.proofs.Common.{◌≡◌, arith, ap, sym, ◌∙◌, refl}
 use Rattle.hashbag_table.proofs.KeyLemmas.{named_equals, named_is}
 use Rattle.hashbag_core.specs.Bag.{occurrences}
-use Rattle.hashbag_core.specs.Keys.{count_named}
-use Rattle.hashbag_core.specs.Occurrences.{count}
+use Rattle.hashbag_core.specs.Occurrences.{count_named, count}
 use Rattle.hashbag_core.proofs.HeldLemmas.{shown, recounts_fewer}
 use Rattle.hashbag_core.proofs.KeyLemmas.{named_occurrences, named_in_tally, tally_named_less}
 use Rattle.hashbag_core.proofs.OccurrenceLemmas.{bag_from_tally, fewer_occurrences}
