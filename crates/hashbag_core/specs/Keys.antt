@@ -11,7 +11,7 @@ module _ {T : Type 0} (names : T → Bool) where
   -- names nothing that is there
   abbrev pub RefusesNamed : ℕ → List T → ℕ → BagError → Type 0
   RefusesNamed most X n TooMany = most < length X + n
-  RefusesNamed most X n Memory = (length X + n ≤ most) × (0 < n) × (count_named X ≡ 0)
+  RefusesNamed most X n Memory = (length X + n ≤ most) × (0 < n) × (count_named names X ≡ 0)
   RefusesNamed most X n BelowTotal = ⊥
 
 -- n of some value that the key names went in
