@@ -29,11 +29,6 @@ more_than_one zero some several = absurd (omega arith)
 more_than_one (suc zero) some several = absurd (several refl)
 more_than_one (suc (suc k)) some several = omega arith
 
--- whatever the error is
-pub err_from : {A E P : Type 0} (r : Result A E) (Q : E → Type 0) → P → IfErr r (λ e. Q e → P)
-err_from (Ok a) Q p = tt
-err_from (Err e) Q p = λ _. p
-
 module _ {T : Type 0} where
   pub tables_from : (t u : Tables T) → t.newer ≡ u.newer → t.waiting ≡ u.waiting → t.older ≡ u.older → t.built ≡ u.built → t ≡ u
   tables_from t u p q o r = λ i. record { newer = p i; waiting = q i; older = o i; built = r i }

@@ -303,18 +303,6 @@ module _ {T : Type 0} where
   entries_fresh ss e = ap entries e ∙ entries_empty T (length ss)
 
 module _ {T : Type 0} (eq : T → T → Bool) (hash : T → ℕ) (newer fresh : Columns T) (many : ℕ) (reached : IsReached hash newer) (may : MayAdopt eq hash fresh newer.slots many) where
-  -- the former newer table waits beside the one that takes its place
-  pub tables_adopted : AreTables eq hash fresh newer 0
-  tables_adopted = record {
-    newer_reached = may.reached;
-    older_reached = reached;
-    apart = may.apart;
-    unmoved = may.unmoved;
-    looked_within = omega arith;
-    looked_dead = λ p lt. absurd (omega arith);
-    fits = may.fits;
-  }
-
   pub IsTables-adopted : IsEquivalence eq → (newer1 older1 : Columns T) (looked1 : ℕ) → AreTables eq hash newer1 older1 looked1 → Carried many fresh.slots newer.slots newer1.slots (drop looked1 older1.slots)
       → (length older1.slots ≤ looked1 → length older1.slots ≡ 0) → IsTables eq hash newer1 older1 looked1
   IsTables-adopted laws newer1 older1 looked1 tables h freed =
@@ -363,9 +351,6 @@ module _ {T : Type 0} (eq : T → T → Bool) (hash : T → ℕ) (newer fresh : 
 module _ {T : Type 0} (eq : T → T → Bool) (laws : IsEquivalence eq) (hash : T → ℕ) (newer older newer1 : Columns T) (looked : ℕ) (v : T) (n : ℕ)
     (before : IsTables eq hash newer older looked) (absent : lookup_entry (eq v) (entries_of newer.slots (drop looked older.slots)) ≡ None) (some : 0 < n)
     (room : 0 < room_of newer.slots (drop looked older.slots)) (carries : length (drop looked older.slots) ≤ 16 * (room_of newer.slots (drop looked older.slots) - 1)) where
-  pub free_slot : live_count newer.slots < length newer.slots
-  free_slot = omega (arith, room)
-
   module _ (put : Places v n newer.slots newer1.slots) (reached : IsReached hash newer1) where
     abbrev pub w : List (Slot T)
     w = drop looked older.slots

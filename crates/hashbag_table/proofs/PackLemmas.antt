@@ -121,9 +121,6 @@ module _ {T : Type 0} (eq : T → T → Bool) (laws : IsEquivalence eq) (hash : 
         }
 
     module _ (k : ℕ) (most : length newer.slots ≤ k) (new : Tables T) (h : Carried k blank1.slots newer.slots new.newer new.waiting) where
-      pub slots_packed : length new.newer ≡ length blank.slots
-      slots_packed = h.fills.same_length ∙ slots
-
       pub packed : IsPacked new
       packed = record {
         waiting = h.waits ∙ drop_all k newer.slots most;

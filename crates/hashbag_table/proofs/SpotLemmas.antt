@@ -418,6 +418,3 @@ module _ {T : Type 0} (eq : T → T → Bool) (x : T) (es : List (T × ℕ)) whe
 pub held_entry : {T : Type 0} (test : T → Bool) (t : Tables T) (spot : Spot) → HoldsIn test t spot → (e : T × ℕ) × (slot_entry (slot_in t spot) ≡ Some e)
 held_entry test t (Newer p) h = let l = holder test (slot_at t.newer p) h.1 in ((l.0, l.1), ap slot_entry l.2)
 held_entry test t (Waiting p) h = let l = holder test (slot_at t.waiting p) h.1 in ((l.0, l.1), ap slot_entry l.2)
-
-pub positive_found : {T : Type 0} (eq : T → T → Bool) → IsEquivalence eq → (x : T) (es : List (T × ℕ)) (e : T × ℕ) → IsCounted eq es → lookup_entry (eq x) es ≡ Some e → 0 < e.1
-positive_found eq laws x es e h found = (counted_rearranged laws _ _ (entry_to_front (eq x) es e found) h).positive 0 e.1 (omega arith)
