@@ -10,7 +10,6 @@ use Rattle.hashbag_table.proofs.ListLemmas.{find-filter}
 use Rattle.hashbag_core.specs.Occurrences.{count_named, counted_named, stored_named, less_named, IsBag}
 use Rattle.hashbag_core.proofs.TakeLemmas.{instance_less}
 
-
 module _ {T : Type 0} (names : T → Bool) where
   -- nothing is stored where nothing passes
   none_stored : (X : List T) → count_named names X ≡ 0 → None ≡ stored_named names X

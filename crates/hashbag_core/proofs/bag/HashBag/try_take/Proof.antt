@@ -1,27 +1,31 @@
 -- `try_take`, by hand: Rattle writes no proof of its `left`, since its result has a `T` beside a `&T`.
 --
--- The body is two calls: `taken_or_lent(self.take_one(value), self, value)`. The walk is in the borrow checker's own rules,
+-- The body is two calls: `taken_or_lent(self.take_one(key), self, key)`. The walk is in the borrow checker's own rules,
 -- and follows what Rattle writes where it covers such a clause. The bag is lent again to `take_one` for a lifetime that is
 -- made for the call, and comes back. Then it is shared for all the time that the caller's loan has left, which says its
--- last value. That stays in the local of `self` until the function returns, and the clause is made of it.
+-- last value. That stays in the local of `self` until the function returns, and the clause is made of it. The key is a
+-- `Copy` value: each call is passed a copy, and its own is let go at the end.
 --
 -- What stands where, from the top:
 --
--- 1. The types: of the bag (`R`), of what `take_one` returns (`Taken`) and of the answer (`Answer`), as the logic holds them,
---    and as the code writes them (`tA`, `tM` and so on). `taken_kind` and `answer_kind` are the two results as kinds.
--- 2. What the walk owes of `self` (`owe`): nothing while the bag is lent, and then its last value.
--- 3. The locals before and after each statement, from `entry` to `leaving`. Each has six rows: the result, `self`, `value`, what
+-- 1. The types: of the bag (`R`), of the key (`pQ`), of what `take_one` returns (`Taken`) and of the answer (`Answer`), as the
+--    logic holds them, and as the code writes them (`tA`, `tM` and so on). `taken_kind` and `answer_kind` are the two results as
+--    kinds.
+-- 2. What the walk owes of `self` (`owe`): nothing while the bag is lent, and then its last value. `key` is the key as a parameter.
+-- 3. The locals before and after each statement, from `entry` to `leaving`. Each has six rows: the result, `self`, `key`, what
 --    was taken, the bag lent again, the bag shared.
 -- 4. The statements as steps on the values that these locals show: `lends`, `shortens`, `takes`, `comes`, `shares`, `answers`,
---    `lands`, `drops`, `owes`. `Φ-9` down to `Φ-0` chain them from the end, so that `Φ-0` is what is to be shown of the values.
+--    `lands`, `drops`, `lets_key`, `owes`. `Φ-10` down to `Φ-0` chain them from the end, so that `Φ-0` is what is to be shown of the
+--    values.
 -- 5. The code from each statement on, from `lends-s` to `lends-t`.
 -- 6. The walk itself, for any lifetimes `κs` and shares `qs` of their tokens. First the tables of lifetimes: eight places, of the bag's
---    loan, of the value's, of T, of S, of the hasher, the static one, the one made for the call, and what it has in common with those
+--    loan, of T, of S, of the hasher, of the key, the static one, the one made for the call, and what it has in common with those
 --    of T and S. Then one context for each place in the code (`G-entry` to `G-leaving`). Then the proofs, the last
 --    statement first: `returns`, `lets_go`, `gives_answer`, `shares_self`, `ends`, `takes_one`, `meets`, and `typed` for the whole body.
--- 7. What is owed gives the clause (`meaning`, `gives_left`, `owed`): the last value is the bag less one of the value.
+-- 7. What is owed gives the clause (`meaning`, `gives_left`, `owed`): the last value is the bag less one of what the key names.
 -- 8. What is left to show of the values (`asked`): that both calls may be made, and at the return the clauses. This is all that is
---    particular to bags: it is `answer_of` of `TakeLemmas`, by the clauses of `take_one` and `taken_or_lent`.
+--    particular to bags: it is `answer_named` of `AnswerLemmas`, by the clauses of `take_one` and `taken_or_lent`, and by the law that
+--    a key names one value (`NamesOne`).
 -- 9. The function meets its contract (`met`), and that under the names that other proofs use (`try_take_spec`).
 --
 -- A change of `take_one`'s or `taken_or_lent`'s clauses asks for a change of `asked` alone, and one of the body for 3 to 6.
@@ -126,8 +130,8 @@ use borrow.Rule.Way.{Told-and}
 
 module _ (T S H Q : RattleType) (lT : Laws T) (lS : Laws S) (lH : Laws H) (lQ : Laws Q) (cQ : IsCopy Q) (e : EqGhosts T.Denot) (ed : Dict) (p : PartialEqGhosts T.Denot) (pd : Dict) (h : HashGhosts T.Denot) (hd : Dict)
     (b : BuildHasherGhosts S.Denot H.Denot) (bd : Dict) (s : HasherGhosts H.Denot) (sd : Dict) (dT : Dict) (dS : Dict) (dH : Dict)
-    (k : KeyGhosts Q.Denot T.Denot) (kd : Dict) (c : CloneGhosts Q.Denot) (cd : Dict) (hQ : HashGhosts Q.Denot) (hQd : Dict) (eQ : EqGhosts Q.Denot) (eQd : Dict) (pQ : PartialEqGhosts Q.Denot) (pQd : Dict) where
-  -- ---- the types: of the bag, of what `take_one` and `try_take` return, and of the locals
+    (k : KeyGhosts Q.Denot T.Denot) (kd : Dict) (c : CloneGhosts Q.Denot) (cd : Dict) (h' : HashGhosts Q.Denot) (hd' : Dict) (e' : EqGhosts Q.Denot) (ed' : Dict) (p' : PartialEqGhosts Q.Denot) (pd' : Dict) where
+  -- ---- the types: of the bag, of the key, of what `take_one` and `try_take` return, and of the locals
   abbrev pT : RattleType
   pT = param 0 T
 
@@ -137,8 +141,8 @@ module _ (T S H Q : RattleType) (lT : Laws T) (lS : Laws S) (lH : Laws H) (lQ : 
   abbrev pH : RattleType
   pH = param 2 H
 
-  abbrev pK : RattleType
-  pK = copied 3 Q
+  abbrev pQ : RattleType
+  pQ = copied 3 Q
 
   abbrev R : RattleType
   R = the_row pT pS pH p h b s
@@ -151,7 +155,7 @@ module _ (T S H Q : RattleType) (lT : Laws T) (lS : Laws S) (lH : Laws H) (lQ : 
   at κ = record { mir = named 0; lft = κ }
 
   abbrev Others : Lft → RattleType
-  Others κ = lts.of-4 T S H Q lT lS lH lQ cQ e ed p pd h hd b bd s sd dT dS dH k kd c cd hQ hQd eQ eQd pQ pQd (at κ)
+  Others κ = lts.of-4 T S H Q lT lS lH lQ cQ e ed p pd h hd b bd s sd dT dS dH k kd c cd h' hd' e' ed' p' pd' (at κ)
 
   abbrev Answer : Lft → RattleType
   Answer κ = row (result_rows.the_type pT (Others κ))
@@ -160,19 +164,19 @@ module _ (T S H Q : RattleType) (lT : Laws T) (lS : Laws S) (lH : Laws H) (lQ : 
   Value = (result_rows.the_type pT (Others [])).D
 
   abbrev ps-0 : List (ParamKind 5)
-  ps-0 = lts.ps-0 T S H Q lT lS lH lQ cQ e ed p pd h hd b bd s sd dT dS dH k kd c cd hQ hQd eQ eQd pQ pQd
+  ps-0 = lts.ps-0 T S H Q lT lS lH lQ cQ e ed p pd h hd b bd s sd dT dS dH k kd c cd h' hd' e' ed' p' pd'
 
   abbrev r-0 : ResultKind 5
-  r-0 = lts.r-0 T S H Q lT lS lH lQ cQ e ed p pd h hd b bd s sd dT dS dH k kd c cd hQ hQd eQ eQd pQ pQd
+  r-0 = lts.r-0 T S H Q lT lS lH lQ cQ e ed p pd h hd b bd s sd dT dS dH k kd c cd h' hd' e' ed' p' pd'
 
   abbrev ps-1 : List (ParamKind 5)
-  ps-1 = lts.ps-1 T S H Q lT lS lH lQ cQ e ed p pd h hd b bd s sd dT dS dH k kd c cd hQ hQd eQ eQd pQ pQd
+  ps-1 = lts.ps-1 T S H Q lT lS lH lQ cQ e ed p pd h hd b bd s sd dT dS dH k kd c cd h' hd' e' ed' p' pd'
 
   abbrev r-1 : ResultKind 5
-  r-1 = lts.r-1 T S H Q lT lS lH lQ cQ e ed p pd h hd b bd s sd dT dS dH k kd c cd hQ hQd eQ eQd pQ pQd
+  r-1 = lts.r-1 T S H Q lT lS lH lQ cQ e ed p pd h hd b bd s sd dT dS dH k kd c cd h' hd' e' ed' p' pd'
 
   abbrev r : ResultKind 5
-  r = lts.r T S H Q lT lS lH lQ cQ e ed p pd h hd b bd s sd dT dS dH k kd c cd hQ hQd eQ eQd pQ pQd
+  r = lts.r T S H Q lT lS lH lQ cQ e ed p pd h hd b bd s sd dT dS dH k kd c cd h' hd' e' ed' p' pd'
 
   abbrev tA : Ty
   tA = ty_r r
@@ -203,7 +207,7 @@ module _ (T S H Q : RattleType) (lT : Laws T) (lS : Laws S) (lH : Laws H) (lQ : 
   answer_kind = r_owned_to (record {
     keeps = no;
     F = λ κs. result_rows.the_field pT (Others κs.0);
-    L = λ κs. result_laws.the_field_loose pT (Others κs.0) (param_laws 0 T lT) (lts.of-5 T S H Q lT lS lH lQ cQ e ed p pd h hd b bd s sd dT dS dH k kd c cd hQ hQd eQ eQd pQ pQd (at κs.0));
+    L = λ κs. result_laws.the_field_loose pT (Others κs.0) (param_laws 0 T lT) (lts.of-5 T S H Q lT lS lH lQ cQ e ed p pd h hd b bd s sd dT dS dH k kd c cd h' hd' e' ed' p' pd' (at κs.0));
     mir = tA;
     same = λ κs. refl;
     single = λ κs. tt;
@@ -225,33 +229,33 @@ module _ (T S H Q : RattleType) (lT : Laws T) (lS : Laws S) (lH : Laws H) (lQ : 
   abbrev self : Lender 5 R
   self = of_ref R 0 tt
 
-  abbrev key_value : Owned
-  key_value = record { ty = pK; one = refl; val = (copy_told pK (copied_copy 3 Q cQ)).val; tells = (copy_told pK (copied_copy 3 Q cQ)).tells }
+  abbrev key : Owned
+  key = record { ty = pQ; one = refl; val = (copy_told pQ (copied_copy 3 Q cQ)).val; tells = (copy_told pQ (copied_copy 3 Q cQ)).tells }
 
   abbrev others : List (ParamKind 5)
-  others = p_copied key_value no Mute-still (λ M 𝓤 𝓛. (copied_laws 3 Q lQ).lawful 𝓛) ∷ []
+  others = p_copied key no Mute-still (λ M 𝓤 𝓛. (copied_laws 3 Q lQ).lawful 𝓛) ∷ []
 
   abbrev ps : List (ParamKind 5)
   ps = p_lends R last self ∷ others
 
   -- ---- the locals: the result, `self`, `key`, what was taken, the bag lent again, the bag shared
   abbrev rows : Row → Row → Row → Row → Row → Row → List Entry
-  rows result bag asked taken lent shared = (0, result) ∷ (1, bag) ∷ (2, asked) ∷ (3, taken) ∷ (4, lent) ∷ (5, shared) ∷ []
+  rows result bag by taken lent shared = (0, result) ∷ (1, bag) ∷ (2, by) ∷ (3, taken) ∷ (4, lent) ∷ (5, shared) ∷ []
 
   abbrev entry : List Entry
-  entry = rows (any_gone tA) (mref R tM 0) (whole pK) (any_gone tK) (any_gone tE) (any_gone tS)
+  entry = rows (any_gone tA) (mref R tM 0) (whole pQ) (any_gone tK) (any_gone tE) (any_gone tS)
 
   abbrev lending : Life → ℕ → List Entry
-  lending l slot = rows (any_gone tA) (mref_owed R tM 0 6 l) (whole pK) (any_gone tK) (mref R tE slot) (any_gone tS)
+  lending l slot = rows (any_gone tA) (mref_owed R tM 0 6 l) (whole pQ) (any_gone tK) (mref R tE slot) (any_gone tS)
 
   abbrev called : Life → List Entry
-  called l = rows (any_gone tA) (mref_owed R tM 0 6 l) (whole pK) (whole Taken) (mleft R tE) (any_gone tS)
+  called l = rows (any_gone tA) (mref_owed R tM 0 6 l) (whole pQ) (whole Taken) (mleft R tE) (any_gone tS)
 
   abbrev back : List Entry
-  back = rows (any_gone tA) (mref R tM 0) (whole pK) (whole Taken) (any_gone tE) (any_gone tS)
+  back = rows (any_gone tA) (mref R tM 0) (whole pQ) (whole Taken) (any_gone tE) (any_gone tS)
 
   abbrev sharing : List Entry
-  sharing = rows (any_gone tA) (mleft R tM) (whole pK) (whole Taken) (any_gone tE) (sref R tS 0)
+  sharing = rows (any_gone tA) (mleft R tM) (whole pQ) (whole Taken) (any_gone tE) (sref R tS 0)
 
   abbrev own : List ℕ
   own = 0 ∷ 1 ∷ 2 ∷ 3 ∷ 4 ∷ []
@@ -260,16 +264,16 @@ module _ (T S H Q : RattleType) (lT : Laws T) (lS : Laws S) (lH : Laws H) (lQ : 
   lent = 7 ∷ 1 ∷ 2 ∷ 3 ∷ 4 ∷ []
 
   abbrev answered : List Entry
-  answered = rows (val_at 5 (λ κs. Answer κs.0) Value (λ κs v. v) own tA) (mleft R tM) (whole pK) (any_gone tK) (any_gone tE) (sref R tS 0)
+  answered = rows (val_at 5 (λ κs. Answer κs.0) Value (λ κs v. v) own tA) (mleft R tM) (whole pQ) (any_gone tK) (any_gone tE) (sref R tS 0)
 
   abbrev landed : Lft → List Entry
-  landed κ = rows (whole (Answer κ)) (mleft R tM) (whole pK) (any_gone tK) (any_gone tE) (sref R tS 0)
+  landed κ = rows (whole (Answer κ)) (mleft R tM) (whole pQ) (any_gone tK) (any_gone tE) (sref R tS 0)
 
   abbrev dropped : Lft → List Entry
-  dropped κ = rows (whole (Answer κ)) (mleft R tM) (whole pK) (any_gone tK) (any_gone tE) (any_gone tS)
+  dropped κ = rows (whole (Answer κ)) (mleft R tM) (whole pQ) (any_gone tK) (any_gone tE) (any_gone tS)
 
-  abbrev done : Lft → List Entry
-  done κ = rows (whole (Answer κ)) (mleft R tM) (any_gone tQ) (any_gone tK) (any_gone tE) (any_gone tS)
+  abbrev keyless : Lft → List Entry
+  keyless κ = rows (whole (Answer κ)) (mleft R tM) (any_gone tQ) (any_gone tK) (any_gone tE) (any_gone tS)
 
   abbrev leaving : Lft → List Entry
   leaving κ = rows (whole (Answer κ)) (owing_by R last tM) (any_gone tQ) (any_gone tK) (any_gone tE) (any_gone tS)
@@ -281,8 +285,8 @@ module _ (T S H Q : RattleType) (lT : Laws T) (lS : Laws S) (lH : Laws H) (lQ : 
   abbrev Out : Outs
   Out = record { next = none; exits = []; returns = some (cx (leaving [])) }
 
-  abbrev claims : lts.Claims T S H Q lT lS lH lQ cQ e ed p pd h hd b bd s sd dT dS dH k kd c cd hQ hQd eQ eQd pQ pQd
-  claims = tie.the-claims T S H Q lT lS lH lQ cQ e ed p pd h hd b bd s sd dT dS dH k kd c cd hQ hQd eQ eQd pQ pQd
+  abbrev claims : lts.Claims T S H Q lT lS lH lQ cQ e ed p pd h hd b bd s sd dT dS dH k kd c cd h' hd' e' ed' p' pd'
+  claims = tie.the-claims T S H Q lT lS lH lQ cQ e ed p pd h hd b bd s sd dT dS dH k kd c cd h' hd' e' ed' p' pd'
 
   abbrev Lives : Lfts 5 → Type 0
   Lives κs = (κs.1.0 ⊑ T.lives) × ((κs.1.1.0 ⊑ S.lives) × ((κs.1.1.1.0 ⊑ H.lives) × (κs.1.1.1.1.0 ⊑ Q.lives)))
@@ -317,20 +321,20 @@ module _ (T S H Q : RattleType) (lT : Laws T) (lS : Laws S) (lH : Laws H) (lQ : 
   abbrev drops : Mo (cx (landed [])) → Mo (cx (dropped []))
   drops = n_room (cx (landed [])) 5 tS
 
-  abbrev lets : Mo (cx (dropped [])) → Mo (cx (done []))
-  lets = n_room (cx (dropped [])) 2 tQ
+  abbrev lets_key : Mo (cx (dropped [])) → Mo (cx (keyless []))
+  lets_key = n_room (cx (dropped [])) 2 tQ
 
-  abbrev owes : Mo (cx (done [])) → Mo (cx (leaving []))
-  owes = k_owing_here (cx (done [])) 1 tM R last (λ x. (x, some x.now))
+  abbrev owes : Mo (cx (keyless [])) → Mo (cx (leaving []))
+  owes = k_owing_here (cx (keyless [])) 1 tM R last (λ x. (x, some x.now))
 
   abbrev Φ-10 : TF (cx (leaving [])) Out
   Φ-10 = at_ret Out
 
-  abbrev Φ-9 : TF (cx (done [])) Out
-  Φ-9 Ψ = pass (cx (done [])) (cx (leaving [])) owes (Φ-10 Ψ)
+  abbrev Φ-9 : TF (cx (keyless [])) Out
+  Φ-9 Ψ = pass (cx (keyless [])) (cx (leaving [])) owes (Φ-10 Ψ)
 
   abbrev Φ-8 : TF (cx (dropped [])) Out
-  Φ-8 Ψ = pass (cx (dropped [])) (cx (done [])) lets (Φ-9 Ψ)
+  Φ-8 Ψ = pass (cx (dropped [])) (cx (keyless [])) lets_key (Φ-9 Ψ)
 
   abbrev Φ-7 : TF (cx (landed [])) Out
   Φ-7 Ψ = pass (cx (landed [])) (cx (dropped [])) drops (Φ-8 Ψ)
@@ -361,13 +365,13 @@ module _ (T S H Q : RattleType) (lT : Laws T) (lS : Laws S) (lH : Laws H) (lQ : 
   lends-s = assign (place 4 []) (addr_of (place 1 (deref deep ∷ [])))
 
   abbrev takes-s : Body
-  takes-s = call (#take-one (lts.passed-0 T S H Q lT lS lH lQ cQ e ed p pd h hd b bd s sd dT dS dH k kd c cd hQ hQd eQ eQd pQ pQd)) (copy (place 4 []) ∷ copy (place 2 []) ∷ []) (place 3 [])
+  takes-s = call (#take-one (lts.passed-0 T S H Q lT lS lH lQ cQ e ed p pd h hd b bd s sd dT dS dH k kd c cd h' hd' e' ed' p' pd')) (copy (place 4 []) ∷ copy (place 2 []) ∷ []) (place 3 [])
 
   abbrev shares-s : Body
   shares-s = assign (place 5 []) (addr_of (place 1 (deref deep ∷ [])))
 
   abbrev answers-s : Body
-  answers-s = call (#taken-or-lent (lts.passed-1 T S H Q lT lS lH lQ cQ e ed p pd h hd b bd s sd dT dS dH k kd c cd hQ hQd eQ eQd pQ pQd)) (copy (place 3 []) ∷ copy (place 5 []) ∷ copy (place 2 []) ∷ []) (place 0 [])
+  answers-s = call (#taken-or-lent (lts.passed-1 T S H Q lT lS lH lQ cQ e ed p pd h hd b bd s sd dT dS dH k kd c cd h' hd' e' ed' p' pd')) (copy (place 3 []) ∷ copy (place 5 []) ∷ copy (place 2 []) ∷ []) (place 0 [])
 
   abbrev answers-t : Body
   answers-t = seq answers-s return
@@ -485,8 +489,8 @@ module _ (T S H Q : RattleType) (lT : Laws T) (lS : Laws S) (lH : Laws H) (lQ : 
     abbrev G-dropped : Cx
     G-dropped = record { locals = dropped κs.0; slots = with_static }
 
-    abbrev G-done : Cx
-    G-done = record { locals = done κs.0; slots = with_static }
+    abbrev G-keyless : Cx
+    G-keyless = record { locals = keyless κs.0; slots = with_static }
 
     abbrev G-owing : Cx
     G-owing = record { locals = leaving κs.0; slots = with_static }
@@ -497,16 +501,16 @@ module _ (T S H Q : RattleType) (lT : Laws T) (lS : Laws S) (lH : Laws H) (lQ : 
     abbrev Δ : Outs
     Δ = record { next = none; exits = []; returns = some G-leaving }
 
-    module _ {M : Type 1} {𝓤 : Ura M} (𝓛 : Logic 𝓤) (𝓣 : Tables 𝓤 𝓛.H) (take_one : lts.Known-0 T S H Q lT lS lH lQ cQ e ed p pd h hd b bd s sd dT dS dH k kd c cd hQ hQd eQ eQd pQ pQd claims 𝓛 𝓣) (taken_or_lent : lts.Known-1 T S H Q lT lS lH lQ cQ e ed p pd h hd b bd s sd dT dS dH k kd c cd hQ hQd eQ eQd pQ pQd claims 𝓛 𝓣)
+    module _ {M : Type 1} {𝓤 : Ura M} (𝓛 : Logic 𝓤) (𝓣 : Tables 𝓤 𝓛.H) (take_one : lts.Known-0 T S H Q lT lS lH lQ cQ e ed p pd h hd b bd s sd dT dS dH k kd c cd h' hd' e' ed' p' pd' claims 𝓛 𝓣) (taken_or_lent : lts.Known-1 T S H Q lT lS lH lQ cQ e ed p pd h hd b bd s sd dT dS dH k kd c cd h' hd' e' ed' p' pd' claims 𝓛 𝓣)
         (lives : (κT ⊑ T.lives) × ((κS ⊑ S.lives) × ((κH ⊑ H.lives) × ((κQ ⊑ Q.lives) × Unit {0})))) (bs : List ℕ) (below : AllOutlive 5 (os_r r) κs) where
       abbrev E : Env 𝓤 𝓛.H
-      E = EnvOf 𝓛 (ty_r r ∷ tys_p ps (lts.xs T S H Q lT lS lH lQ cQ e ed p pd h hd b bd s sd dT dS dH k kd c cd hQ hQd eQ eQd pQ pQd)) bs
+      E = EnvOf 𝓛 (ty_r r ∷ tys_p ps (lts.xs T S H Q lT lS lH lQ cQ e ed p pd h hd b bd s sd dT dS dH k kd c cd h' hd' e' ed' p' pd')) bs
 
       -- the key is let go, and the function returns with what is owed of `self`
       returns : Typed 𝓛 𝓣 E G-dropped return Δ Φ-8
       returns =
-          g_pre_lem 𝓛 𝓣 E G-dropped G-done return Δ (pass (cx (dropped [])) (cx (done [])) lets) Φ-9 (g_room 𝓛 E G-dropped 2 tQ (room_whole 𝓛 pK tQ refl))
-          (g_pre_lem 𝓛 𝓣 E G-done G-owing return Δ (pass (cx (done [])) (cx (leaving [])) owes) Φ-10 (g_owing_here 𝓛 E G-done 1 tM R last (λ x. (x, some x.now)) (λ ρ x a. id⊢ 𝓤 _))
+          g_pre_lem 𝓛 𝓣 E G-dropped G-keyless return Δ (pass (cx (dropped [])) (cx (keyless [])) lets_key) Φ-9 (g_room 𝓛 E G-dropped 2 tQ (room_whole 𝓛 pQ tQ refl))
+          (g_pre_lem 𝓛 𝓣 E G-keyless G-owing return Δ (pass (cx (keyless [])) (cx (leaving [])) owes) Φ-10 (g_owing_here 𝓛 E G-keyless 1 tM R last (λ x. (x, some x.now)) (λ ρ x a. id⊢ 𝓤 _))
           (g_pre_lem 𝓛 𝓣 E G-owing G-leaving return Δ (λ Ψ. Ψ) Φ-10 (g_forget 𝓛 E G-owing 5 static refl) (t_return 𝓛 𝓣 E Δ tt)))
 
       -- the answer is in the result, and the shared bag is let go
@@ -531,14 +535,14 @@ module _ (T S H Q : RattleType) (lT : Laws T) (lS : Laws S) (lH : Laws H) (lQ : 
           (within_lease 𝓛 4 with_static κQ qs.1.1.1.1.0 refl Q.lives lives.1.1.1.0)))
 
       -- a copy of the key is passed, and the key stays
-      spares_key : Spares 𝓛 key_value (whole pK) (λ x. x)
-      spares_key = Spares-whole 𝓛 key_value ((copied_copy 3 Q cQ).copies M 𝓤 𝓛)
+      spares_key : Spares 𝓛 key (whole pQ) (λ x. x)
+      spares_key = Spares-whole 𝓛 key ((copied_copy 3 Q cQ).copies M 𝓤 𝓛)
 
       gives_answer : Typed 𝓛 𝓣 E G-shared answers-t Δ Φ-5
       gives_answer =
           s_seq 𝓛 𝓣 E G-shared G-answered answers-s return Δ (both answers) Φ-6
-          (t_call_plain_by_Pin 𝓛 𝓣 5 ps-1 r-1 claims.2 claims.3 (#taken-or-lent (lts.passed-1 T S H Q lT lS lH lQ cQ e ed p pd h hd b bd s sd dT dS dH k kd c cd hQ hQd eQ eQd pQ pQd)) taken_or_lent Lives E (λ pos β. β) G-shared args-1 0 own Q-lives (sub_id 𝓛 with_static)
-          (mem_whole 𝓛 Taken, refl, (lR, Spares-sref 𝓛 R lR tS 0, reads_sref 𝓛 R tS 0, refl, (spares_key, reads_whole 𝓛 key_value, refl, tt)))
+          (t_call_plain_by_Pin 𝓛 𝓣 5 ps-1 r-1 claims.2 claims.3 (#taken-or-lent (lts.passed-1 T S H Q lT lS lH lQ cQ e ed p pd h hd b bd s sd dT dS dH k kd c cd h' hd' e' ed' p' pd')) taken_or_lent Lives E (λ pos β. β) G-shared args-1 0 own Q-lives (sub_id 𝓛 with_static)
+          (mem_whole 𝓛 Taken, refl, (lR, Spares-sref 𝓛 R lR tS 0, reads_sref 𝓛 R tS 0, refl, (spares_key, reads_whole 𝓛 key, refl, tt)))
           (room_gone 𝓛 tA) (tt, (tt, (tt, (tt, (tt, tt)))))
           (Told-bounds 𝓛 5 with_static own (os_r r-1)
           (Told-and 𝓛 with_static (Below 1 0) (λ ρ. Below 2 0 ρ × Unit {0}) (Told-Below 𝓛 with_static 1 0 κT κs.0 (pin_lease 𝓛 1 with_static κT qs.1.0 refl) (pin_lease 𝓛 0 with_static κs.0 qs.0 refl) below.0)
@@ -653,8 +657,8 @@ module _ (T S H Q : RattleType) (lT : Laws T) (lS : Laws S) (lH : Laws H) (lQ : 
       takes_one : (a : ℕ) → Typed 𝓛 𝓣 E (G-short a) takes-t Δ Φ-2
       takes_one a =
           s_seq 𝓛 𝓣 E (G-short a) (G-called a) takes-s shares-t Δ (both takes) Φ-3
-          (t_call_plain_by_Pin 𝓛 𝓣 5 ps-0 r-0 claims.0 claims.1 (#take-one (lts.passed-0 T S H Q lT lS lH lQ cQ e ed p pd h hd b bd s sd dT dS dH k kd c cd hQ hQd eQ eQd pQ pQd)) take_one Lives E (λ pos β. β) (G-short a) (args-0 l0) 3 lent (lives_in_call a) (sub_id 𝓛 (in_call a))
-          (as_is 𝓛 (mref R tE 7), reads_mref 𝓛 R tE 7, refl, (spares_key, reads_whole 𝓛 key_value, refl, tt))
+          (t_call_plain_by_Pin 𝓛 𝓣 5 ps-0 r-0 claims.0 claims.1 (#take-one (lts.passed-0 T S H Q lT lS lH lQ cQ e ed p pd h hd b bd s sd dT dS dH k kd c cd h' hd' e' ed' p' pd')) take_one Lives E (λ pos β. β) (G-short a) (args-0 l0) 3 lent (lives_in_call a) (sub_id 𝓛 (in_call a))
+          (as_is 𝓛 (mref R tE 7), reads_mref 𝓛 R tE 7, refl, (spares_key, reads_whole 𝓛 key, refl, tt))
           (room_gone 𝓛 tK) (tt, (tt, (tt, (tt, (tt, tt)))))
           (Told-bounds 𝓛 5 (in_call a) lent (os_r r-0)
           (Told-and 𝓛 (in_call a) (Below 1 7) (λ ρ. Below 2 7 ρ × Unit {0})
@@ -679,7 +683,7 @@ module _ (T S H Q : RattleType) (lT : Laws T) (lS : Laws S) (lH : Laws H) (lQ : 
           (takes_one a))
 
       -- `self` is lent again for a new lifetime
-      typed : Typed 𝓛 𝓣 E (Γin 5 ps r (lts.xs T S H Q lT lS lH lQ cQ e ed p pd h hd b bd s sd dT dS dH k kd c cd hQ hQd eQ eQd pQ pQd) (lts.m T S H Q lT lS lH lQ cQ e ed p pd h hd b bd s sd dT dS dH k kd c cd hQ hQd eQ eQd pQ pQd) κs qs) lends-t (Δret 5 ps r (lts.xs T S H Q lT lS lH lQ cQ e ed p pd h hd b bd s sd dT dS dH k kd c cd hQ hQd eQ eQd pQ pQd) (lts.m T S H Q lT lS lH lQ cQ e ed p pd h hd b bd s sd dT dS dH k kd c cd hQ hQd eQ eQd pQ pQd) κs qs) Φ-0
+      typed : Typed 𝓛 𝓣 E (Γin 5 ps r (lts.xs T S H Q lT lS lH lQ cQ e ed p pd h hd b bd s sd dT dS dH k kd c cd h' hd' e' ed' p' pd') (lts.m T S H Q lT lS lH lQ cQ e ed p pd h hd b bd s sd dT dS dH k kd c cd h' hd' e' ed' p' pd') κs qs) lends-t (Δret 5 ps r (lts.xs T S H Q lT lS lH lQ cQ e ed p pd h hd b bd s sd dT dS dH k kd c cd h' hd' e' ed' p' pd') (lts.m T S H Q lT lS lH lQ cQ e ed p pd h hd b bd s sd dT dS dH k kd c cd h' hd' e' ed' p' pd') κs qs) Φ-0
       typed =
           g_pre_lem 𝓛 𝓣 E G-entry G-static lends-t Δ (λ Ψ. Ψ) Φ-0 (g_static 𝓛 E G-entry 5 (tt, (tt, (tt, (tt, (tt, (tt, tt)))))))
           (g_pre_lem 𝓛 𝓣 E G-static G-begun lends-t Δ (λ Ψ. Ψ) Φ-0 (g_begin 𝓛 E G-static 6 (tt, (tt, (tt, (tt, (tt, (tt, tt)))))))
@@ -701,7 +705,7 @@ module _ (T S H Q : RattleType) (lT : Laws T) (lS : Laws S) (lH : Laws H) (lQ : 
   gives_left w γ bag by none left = absurd left
   gives_left w γ bag by (some v) left = meaning w γ _ v left
 
-  abbrev owed : Owed 5 R last self others (kinds.r T S H Q lT lS lH lQ cQ e ed p pd h hd b bd s sd dT dS dH k kd c cd hQ hQd eQ eQd pQ pQd)
+  abbrev owed : Owed 5 R last self others (kinds.r T S H Q lT lS lH lQ cQ e ed p pd h hd b bd s sd dT dS dH k kd c cd h' hd' e' ed' p' pd')
   owed = record {
     X = λ κs a x e'. follows_so R R a.0.ghost_name none (λ _ _. ⊤) (HasFewer (read PartialEqGhosts.eq p) (read KeyGhosts.names k a.1.0) 1 a.0.now);
     Beside = λ κs a x e' t C. Left a.0.now a.1.0 t × C;
@@ -716,8 +720,8 @@ module _ (T S H Q : RattleType) (lT : Laws T) (lS : Laws S) (lH : Laws H) (lQ : 
   NamesOne = (by : Q.Denot) (v w : T.Denot) → k.names by v ≡ true → k.names by w ≡ p.eq w v
 
   -- what is left to show of the values: that both calls may be made, and at the return the clauses
-  asked : IsEquivalence p.eq → NamesOne → (κs : Lfts 5) (qs : ShareList 5) (a : Dens κs ps) → GoodsP κs ps a → reads.Pre T S H Q lT lS lH lQ cQ e ed p pd h hd b bd s sd dT dS dH k kd c cd hQ hQd eQ eQd pQ pQd κs a → (bs : List ℕ)
-      → Φ-0 (want_q 5 ps r (lts.xs T S H Q lT lS lH lQ cQ e ed p pd h hd b bd s sd dT dS dH k kd c cd hQ hQd eQ eQd pQ pQd) (lts.m T S H Q lT lS lH lQ cQ e ed p pd h hd b bd s sd dT dS dH k kd c cd hQ hQd eQ eQd pQ pQd) κs qs a (Owing 5 R last self others r owed (reads.Post T S H Q lT lS lH lQ cQ e ed p pd h hd b bd s sd dT dS dH k kd c cd hQ hQd eQ eQd pQ pQd) κs a)) (init 5 ps r (lts.xs T S H Q lT lS lH lQ cQ e ed p pd h hd b bd s sd dT dS dH k kd c cd hQ hQd eQ eQd pQ pQd) (lts.m T S H Q lT lS lH lQ cQ e ed p pd h hd b bd s sd dT dS dH k kd c cd hQ hQd eQ eQd pQ pQd) κs qs a)
+  asked : IsEquivalence p.eq → NamesOne → (κs : Lfts 5) (qs : ShareList 5) (a : Dens κs ps) → GoodsP κs ps a → reads.Pre T S H Q lT lS lH lQ cQ e ed p pd h hd b bd s sd dT dS dH k kd c cd h' hd' e' ed' p' pd' κs a → (bs : List ℕ)
+      → Φ-0 (want_q 5 ps r (lts.xs T S H Q lT lS lH lQ cQ e ed p pd h hd b bd s sd dT dS dH k kd c cd h' hd' e' ed' p' pd') (lts.m T S H Q lT lS lH lQ cQ e ed p pd h hd b bd s sd dT dS dH k kd c cd h' hd' e' ed' p' pd') κs qs a (Owing 5 R last self others r owed (reads.Post T S H Q lT lS lH lQ cQ e ed p pd h hd b bd s sd dT dS dH k kd c cd h' hd' e' ed' p' pd') κs a)) (init 5 ps r (lts.xs T S H Q lT lS lH lQ cQ e ed p pd h hd b bd s sd dT dS dH k kd c cd h' hd' e' ed' p' pd') (lts.m T S H Q lT lS lH lQ cQ e ed p pd h hd b bd s sd dT dS dH k kd c cd h' hd' e' ed' p' pd') κs qs a)
   asked laws one_named κs qs a good pre bs = λ new. (
     λ κs' l. l,
     λ taken. (
@@ -739,20 +743,20 @@ module _ (T S H Q : RattleType) (lT : Laws T) (lS : Laws S) (lH : Laws H) (lQ : 
     ),
   )
 
-  met : IsEquivalence p.eq → NamesOne → {M : Type 1} {𝓤 : Ura M} (𝓛 : Logic 𝓤) (𝓣 : Tables 𝓤 𝓛.H) → lts.Known-0 T S H Q lT lS lH lQ cQ e ed p pd h hd b bd s sd dT dS dH k kd c cd hQ hQd eQ eQd pQ pQd claims 𝓛 𝓣 → lts.Known-1 T S H Q lT lS lH lQ cQ e ed p pd h hd b bd s sd dT dS dH k kd c cd hQ hQd eQ eQd pQ pQd claims 𝓛 𝓣
-      → Triple 𝓤 (WpFn 𝓤 𝓛.H 𝓣.C 𝓣.Λ (lts.function T S H Q lT lS lH lQ cQ e ed p pd h hd b bd s sd dT dS dH k kd c cd hQ hQd eQ eQd pQ pQd)) (plain_of 𝓛 5 ps r (reads.Pre T S H Q lT lS lH lQ cQ e ed p pd h hd b bd s sd dT dS dH k kd c cd hQ hQd eQ eQd pQ pQd) (Owing 5 R last self others r owed (reads.Post T S H Q lT lS lH lQ cQ e ed p pd h hd b bd s sd dT dS dH k kd c cd hQ hQd eQ eQd pQ pQd)))
+  met : IsEquivalence p.eq → NamesOne → {M : Type 1} {𝓤 : Ura M} (𝓛 : Logic 𝓤) (𝓣 : Tables 𝓤 𝓛.H) → lts.Known-0 T S H Q lT lS lH lQ cQ e ed p pd h hd b bd s sd dT dS dH k kd c cd h' hd' e' ed' p' pd' claims 𝓛 𝓣 → lts.Known-1 T S H Q lT lS lH lQ cQ e ed p pd h hd b bd s sd dT dS dH k kd c cd h' hd' e' ed' p' pd' claims 𝓛 𝓣
+      → Triple 𝓤 (WpFn 𝓤 𝓛.H 𝓣.C 𝓣.Λ (lts.function T S H Q lT lS lH lQ cQ e ed p pd h hd b bd s sd dT dS dH k kd c cd h' hd' e' ed' p' pd')) (plain_of 𝓛 5 ps r (reads.Pre T S H Q lT lS lH lQ cQ e ed p pd h hd b bd s sd dT dS dH k kd c cd h' hd' e' ed' p' pd') (Owing 5 R last self others r owed (reads.Post T S H Q lT lS lH lQ cQ e ed p pd h hd b bd s sd dT dS dH k kd c cd h' hd' e' ed' p' pd')))
   met laws one_named 𝓛 𝓣 take_one taken_or_lent =
-      t_fn_plain_given 𝓛 𝓣 5 ps r (lts.xs T S H Q lT lS lH lQ cQ e ed p pd h hd b bd s sd dT dS dH k kd c cd hQ hQd eQ eQd pQ pQd) (lts.m T S H Q lT lS lH lQ cQ e ed p pd h hd b bd s sd dT dS dH k kd c cd hQ hQd eQ eQd pQ pQd) (lts.hs T S H Q lT lS lH lQ cQ e ed p pd h hd b bd s sd dT dS dH k kd c cd hQ hQd eQ eQd pQ pQd) lends-t (λ κs qs bs. Φ-0) (λ κs. (κs.1.0 ⊑ T.lives) × ((κs.1.1.0 ⊑ S.lives) × ((κs.1.1.1.0 ⊑ H.lives) × ((κs.1.1.1.1.0 ⊑ Q.lives) × Unit {0}))))
-      (λ κs qs bs below lives. typed κs qs 𝓛 𝓣 take_one taken_or_lent lives bs below) (reads.Pre T S H Q lT lS lH lQ cQ e ed p pd h hd b bd s sd dT dS dH k kd c cd hQ hQd eQ eQd pQ pQd) (Owing 5 R last self others r owed (reads.Post T S H Q lT lS lH lQ cQ e ed p pd h hd b bd s sd dT dS dH k kd c cd hQ hQd eQ eQd pQ pQd)) (λ κs a pre. let known = (reads.pre_read T S H Q lT lS lH lQ cQ e ed p pd h hd b bd s sd dT dS dH k kd c cd hQ hQd eQ eQd pQ pQd κs a tt).tells in (All-at 0 known pre, (All-at 1 known pre, (All-at 2 known pre, (All-at 3 known pre, tt))))) (asked laws one_named)
+      t_fn_plain_given 𝓛 𝓣 5 ps r (lts.xs T S H Q lT lS lH lQ cQ e ed p pd h hd b bd s sd dT dS dH k kd c cd h' hd' e' ed' p' pd') (lts.m T S H Q lT lS lH lQ cQ e ed p pd h hd b bd s sd dT dS dH k kd c cd h' hd' e' ed' p' pd') (lts.hs T S H Q lT lS lH lQ cQ e ed p pd h hd b bd s sd dT dS dH k kd c cd h' hd' e' ed' p' pd') lends-t (λ κs qs bs. Φ-0) (λ κs. (κs.1.0 ⊑ T.lives) × ((κs.1.1.0 ⊑ S.lives) × ((κs.1.1.1.0 ⊑ H.lives) × ((κs.1.1.1.1.0 ⊑ Q.lives) × Unit {0}))))
+      (λ κs qs bs below lives. typed κs qs 𝓛 𝓣 take_one taken_or_lent lives bs below) (reads.Pre T S H Q lT lS lH lQ cQ e ed p pd h hd b bd s sd dT dS dH k kd c cd h' hd' e' ed' p' pd') (Owing 5 R last self others r owed (reads.Post T S H Q lT lS lH lQ cQ e ed p pd h hd b bd s sd dT dS dH k kd c cd h' hd' e' ed' p' pd')) (λ κs a pre. let known = (reads.pre_read T S H Q lT lS lH lQ cQ e ed p pd h hd b bd s sd dT dS dH k kd c cd h' hd' e' ed' p' pd' κs a tt).tells in (All-at 0 known pre, (All-at 1 known pre, (All-at 2 known pre, (All-at 3 known pre, tt))))) (asked laws one_named)
 
 pub try_take_spec : {M : Type 1} → statement M
 unfolding tables_of such_by
-try_take_spec {M = M} 𝓤 𝓛 𝓜 𝓡 wired T S H Q lT lS lH lQ cQ e ed p pd h hd b bd s sd dT dS dH k kd c cd hQ hQd eQ eQd pQ pQd b1 b2 b3 b4 b5 b6 b7 b8 b9 b10 b11 b12 b13 =
+try_take_spec {M = M} 𝓤 𝓛 𝓜 𝓡 wired T S H Q lT lS lH lQ cQ e ed p pd h hd b bd s sd dT dS dH k kd c cd h' hd' e' ed' p' pd' b1 b2 b3 b4 b5 b6 b7 b8 b9 b10 b11 b12 b13 =
     let world : World = record { M = M; 𝓤 = 𝓤; 𝓛 = 𝓛; 𝓜 = 𝓜; 𝓡 = 𝓡 } in
-    let dicts : Dicts = dcons ed (dcons pd (dcons hd (dcons bd (dcons sd (dcons dT (dcons dS (dcons dH (dcons kd (dcons cd (dcons hQd (dcons eQd (dcons pQd dnil)))))))))))) in
+    let dicts : Dicts = dcons ed (dcons pd (dcons hd (dcons bd (dcons sd (dcons dT (dcons dS (dcons dH (dcons kd (dcons cd (dcons hd' (dcons ed' (dcons pd' dnil)))))))))))) in
     let types : Args = bounded (a_type ∷ a_type ∷ a_type ∷ a_type ∷ []) (T, (S, (H, (Q, tt)))) dicts in
-    close_follows 5 (R T S H Q lT lS lH lQ cQ e ed p pd h hd b bd s sd dT dS dH k kd c cd hQ hQd eQ eQd pQ pQd) (last T S H Q lT lS lH lQ cQ e ed p pd h hd b bd s sd dT dS dH k kd c cd hQ hQd eQ eQd pQ pQd) (self T S H Q lT lS lH lQ cQ e ed p pd h hd b bd s sd dT dS dH k kd c cd hQ hQd eQ eQd pQ pQd) (others T S H Q lT lS lH lQ cQ e ed p pd h hd b bd s sd dT dS dH k kd c cd hQ hQd eQ eQd pQ pQd) (kinds.r T S H Q lT lS lH lQ cQ e ed p pd h hd b bd s sd dT dS dH k kd c cd hQ hQd eQ eQd pQ pQd) (owed T S H Q lT lS lH lQ cQ e ed p pd h hd b bd s sd dT dS dH k kd c cd hQ hQd eQ eQd pQ pQd) (reads.Ghost T S H Q lT lS lH lQ cQ e ed p pd h hd b bd s sd dT dS dH k kd c cd hQ hQd eQ eQd pQ pQd) (reads.requires T S H Q lT lS lH lQ cQ e ed p pd h hd b bd s sd dT dS dH k kd c cd hQ hQd eQ eQd pQ pQd) (reads.ensures T S H Q lT lS lH lQ cQ e ed p pd h hd b bd s sd dT dS dH k kd c cd hQ hQd eQ eQd pQ pQd) (reads.pre_read T S H Q lT lS lH lQ cQ e ed p pd h hd b bd s sd dT dS dH k kd c cd hQ hQd eQ eQd pQ pQd) (reads.Pinned T S H Q lT lS lH lQ cQ e ed p pd h hd b bd s sd dT dS dH k kd c cd hQ hQd eQ eQd pQ pQd) (reads.Owned T S H Q lT lS lH lQ cQ e ed p pd h hd b bd s sd dT dS dH k kd c cd hQ hQd eQ eQd pQ pQd) (reads.post_read T S H Q lT lS lH lQ cQ e ed p pd h hd b bd s sd dT dS dH k kd c cd hQ hQd eQ eQd pQ pQd) world 𝓡.env
-    (symbol types) (inst_fn types code.function) (code.unfolded 𝓤 𝓛.H 𝓜 𝓡 wired (T, (S, (H, (Q, tt)))) ed pd hd bd sd dT dS dH kd cd hQd eQd pQd) (λ κs a g. tt) (λ κs. reads.owns T S H Q lT lS lH lQ cQ e ed p pd h hd b bd s sd dT dS dH k kd c cd hQ hQd eQ eQd pQ pQd κs world) (λ κs a g x e'. all∗_one world _)
-    (λ g. at_code 𝓤 𝓛.H (Over 𝓛 𝓜 𝓡 𝓡.env).C (Over 𝓛 𝓜 𝓡 𝓡.env).Λ (lts.function T S H Q lT lS lH lQ cQ e ed p pd h hd b bd s sd dT dS dH k kd c cd hQ hQd eQ eQd pQ pQd) (inst_fn types code.function) (tie.same_locals T S H Q lT lS lH lQ cQ e ed p pd h hd b bd s sd dT dS dH k kd c cd hQ hQd eQ eQd pQ pQd) (tie.same_body T S H Q lT lS lH lQ cQ e ed p pd h hd b bd s sd dT dS dH k kd c cd hQ hQd eQ eQd pQ pQd)
-    (plain_of 𝓛 5 (ps T S H Q lT lS lH lQ cQ e ed p pd h hd b bd s sd dT dS dH k kd c cd hQ hQd eQ eQd pQ pQd) (r T S H Q lT lS lH lQ cQ e ed p pd h hd b bd s sd dT dS dH k kd c cd hQ hQd eQ eQd pQ pQd) (reads.Pre T S H Q lT lS lH lQ cQ e ed p pd h hd b bd s sd dT dS dH k kd c cd hQ hQd eQ eQd pQ pQd) (Owing 5 (R T S H Q lT lS lH lQ cQ e ed p pd h hd b bd s sd dT dS dH k kd c cd hQ hQd eQ eQd pQ pQd) (last T S H Q lT lS lH lQ cQ e ed p pd h hd b bd s sd dT dS dH k kd c cd hQ hQd eQ eQd pQ pQd) (self T S H Q lT lS lH lQ cQ e ed p pd h hd b bd s sd dT dS dH k kd c cd hQ hQd eQ eQd pQ pQd) (others T S H Q lT lS lH lQ cQ e ed p pd h hd b bd s sd dT dS dH k kd c cd hQ hQd eQ eQd pQ pQd) (r T S H Q lT lS lH lQ cQ e ed p pd h hd b bd s sd dT dS dH k kd c cd hQ hQd eQ eQd pQ pQd) (owed T S H Q lT lS lH lQ cQ e ed p pd h hd b bd s sd dT dS dH k kd c cd hQ hQd eQ eQd pQ pQd) (reads.Post T S H Q lT lS lH lQ cQ e ed p pd h hd b bd s sd dT dS dH k kd c cd hQ hQd eQ eQd pQ pQd)))
-    (met T S H Q lT lS lH lQ cQ e ed p pd h hd b bd s sd dT dS dH k kd c cd hQ hQd eQ eQd pQ pQd b1.laws b9.names_one 𝓛 (Over 𝓛 𝓜 𝓡 𝓡.env) (tie.known-0 𝓤 𝓛 𝓜 𝓡 wired T S H Q lT lS lH lQ cQ e ed p pd h hd b bd s sd dT dS dH k kd c cd hQ hQd eQ eQd pQ pQd b1 b2 b3 b4 b5 b6 b7 b8 b9 b10 b11 b12 b13) (tie.known-1 𝓤 𝓛 𝓜 𝓡 wired T S H Q lT lS lH lQ cQ e ed p pd h hd b bd s sd dT dS dH k kd c cd hQ hQd eQ eQd pQ pQd b1 b2 b3 b4 b5 b6 b7 b8 b9 b10 b11 b12 b13)))
+    close_follows 5 (R T S H Q lT lS lH lQ cQ e ed p pd h hd b bd s sd dT dS dH k kd c cd h' hd' e' ed' p' pd') (last T S H Q lT lS lH lQ cQ e ed p pd h hd b bd s sd dT dS dH k kd c cd h' hd' e' ed' p' pd') (self T S H Q lT lS lH lQ cQ e ed p pd h hd b bd s sd dT dS dH k kd c cd h' hd' e' ed' p' pd') (others T S H Q lT lS lH lQ cQ e ed p pd h hd b bd s sd dT dS dH k kd c cd h' hd' e' ed' p' pd') (kinds.r T S H Q lT lS lH lQ cQ e ed p pd h hd b bd s sd dT dS dH k kd c cd h' hd' e' ed' p' pd') (owed T S H Q lT lS lH lQ cQ e ed p pd h hd b bd s sd dT dS dH k kd c cd h' hd' e' ed' p' pd') (reads.Ghost T S H Q lT lS lH lQ cQ e ed p pd h hd b bd s sd dT dS dH k kd c cd h' hd' e' ed' p' pd') (reads.requires T S H Q lT lS lH lQ cQ e ed p pd h hd b bd s sd dT dS dH k kd c cd h' hd' e' ed' p' pd') (reads.ensures T S H Q lT lS lH lQ cQ e ed p pd h hd b bd s sd dT dS dH k kd c cd h' hd' e' ed' p' pd') (reads.pre_read T S H Q lT lS lH lQ cQ e ed p pd h hd b bd s sd dT dS dH k kd c cd h' hd' e' ed' p' pd') (reads.Pinned T S H Q lT lS lH lQ cQ e ed p pd h hd b bd s sd dT dS dH k kd c cd h' hd' e' ed' p' pd') (reads.Owned T S H Q lT lS lH lQ cQ e ed p pd h hd b bd s sd dT dS dH k kd c cd h' hd' e' ed' p' pd') (reads.post_read T S H Q lT lS lH lQ cQ e ed p pd h hd b bd s sd dT dS dH k kd c cd h' hd' e' ed' p' pd') world 𝓡.env
+    (symbol types) (inst_fn types code.function) (code.unfolded 𝓤 𝓛.H 𝓜 𝓡 wired (T, (S, (H, (Q, tt)))) ed pd hd bd sd dT dS dH kd cd hd' ed' pd') (λ κs a g. tt) (λ κs. reads.owns T S H Q lT lS lH lQ cQ e ed p pd h hd b bd s sd dT dS dH k kd c cd h' hd' e' ed' p' pd' κs world) (λ κs a g x e'. all∗_one world _)
+    (λ g. at_code 𝓤 𝓛.H (Over 𝓛 𝓜 𝓡 𝓡.env).C (Over 𝓛 𝓜 𝓡 𝓡.env).Λ (lts.function T S H Q lT lS lH lQ cQ e ed p pd h hd b bd s sd dT dS dH k kd c cd h' hd' e' ed' p' pd') (inst_fn types code.function) (tie.same_locals T S H Q lT lS lH lQ cQ e ed p pd h hd b bd s sd dT dS dH k kd c cd h' hd' e' ed' p' pd') (tie.same_body T S H Q lT lS lH lQ cQ e ed p pd h hd b bd s sd dT dS dH k kd c cd h' hd' e' ed' p' pd')
+    (plain_of 𝓛 5 (ps T S H Q lT lS lH lQ cQ e ed p pd h hd b bd s sd dT dS dH k kd c cd h' hd' e' ed' p' pd') (r T S H Q lT lS lH lQ cQ e ed p pd h hd b bd s sd dT dS dH k kd c cd h' hd' e' ed' p' pd') (reads.Pre T S H Q lT lS lH lQ cQ e ed p pd h hd b bd s sd dT dS dH k kd c cd h' hd' e' ed' p' pd') (Owing 5 (R T S H Q lT lS lH lQ cQ e ed p pd h hd b bd s sd dT dS dH k kd c cd h' hd' e' ed' p' pd') (last T S H Q lT lS lH lQ cQ e ed p pd h hd b bd s sd dT dS dH k kd c cd h' hd' e' ed' p' pd') (self T S H Q lT lS lH lQ cQ e ed p pd h hd b bd s sd dT dS dH k kd c cd h' hd' e' ed' p' pd') (others T S H Q lT lS lH lQ cQ e ed p pd h hd b bd s sd dT dS dH k kd c cd h' hd' e' ed' p' pd') (r T S H Q lT lS lH lQ cQ e ed p pd h hd b bd s sd dT dS dH k kd c cd h' hd' e' ed' p' pd') (owed T S H Q lT lS lH lQ cQ e ed p pd h hd b bd s sd dT dS dH k kd c cd h' hd' e' ed' p' pd') (reads.Post T S H Q lT lS lH lQ cQ e ed p pd h hd b bd s sd dT dS dH k kd c cd h' hd' e' ed' p' pd')))
+    (met T S H Q lT lS lH lQ cQ e ed p pd h hd b bd s sd dT dS dH k kd c cd h' hd' e' ed' p' pd' b1.laws b9.names_one 𝓛 (Over 𝓛 𝓜 𝓡 𝓡.env) (tie.known-0 𝓤 𝓛 𝓜 𝓡 wired T S H Q lT lS lH lQ cQ e ed p pd h hd b bd s sd dT dS dH k kd c cd h' hd' e' ed' p' pd' b1 b2 b3 b4 b5 b6 b7 b8 b9 b10 b11 b12 b13) (tie.known-1 𝓤 𝓛 𝓜 𝓡 wired T S H Q lT lS lH lQ cQ e ed p pd h hd b bd s sd dT dS dH k kd c cd h' hd' e' ed' p' pd' b1 b2 b3 b4 b5 b6 b7 b8 b9 b10 b11 b12 b13)))
