@@ -9,7 +9,8 @@ use Rattle.std.proofs.lemmas.List.Elements.{filter-append}
 use Rattle.std.proofs.lemmas.List.Sums.{length-filter}
 use Rattle.std.proofs.lemmas.Map.Made.{lookup_key_passes}
 use Rattle.hashbag_table.specs.Entries.{count_of, IsCounted}
-use Rattle.hashbag_table.specs.Named.{named_entry, named_count, Adds}
+use Rattle.hashbag_table.specs.Additions.{Adds}
+use Rattle.hashbag_table.specs.Named.{named_entry, named_count}
 use Rattle.hashbag_table.specs.Table.{Table}
 use Rattle.hashbag_table.specs.Tables.{KeepsRoom, Rewrites}
 use Rattle.hashbag_table.proofs.EntryLemmas.{lookup_key-entry}

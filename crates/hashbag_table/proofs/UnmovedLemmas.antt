@@ -6,7 +6,7 @@ use Rattle.hashbag_slots.specs.declared.slots.Slot.TheVariants.{Empty, Removed, 
 use Rattle.hashbag_slots.specs.Slots.{is_live, is_removed, live_count, removed_count, slot_at}
 use Rattle.hashbag_slots.proofs.Edits.{set_cases}
 use Rattle.hashbag_slots.proofs.Tables.{slot_at-replicate}
-use Rattle.hashbag_table.specs.Tables.{NoneMoved, is_used, Fills}
+use Rattle.hashbag_table.specs.Tables.{NoneMoved, Fills}
 
 module _ {T : Type 0} where
   pub unmoved_blank : (ss : List (Slot T)) (n : ℕ) → ss ≡ replicate n Empty → NoneMoved ss

@@ -39,6 +39,7 @@ pub record Roomy (n s m : ℕ) : Type 0 where
   pub carries : n ≤ 16 * (limit m - s)
   pub smaller : n ≤ m
 
+module _ {T : Type 0} where
   -- no value of these slots was carried to another table
   abbrev pub NoneMoved : List (Slot T) → Type 0
   NoneMoved ss = (p : ℕ) → slot_at ss p ≢ Moved

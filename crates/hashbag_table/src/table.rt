@@ -8,6 +8,7 @@ ghost use Rattle.std.specs.List.Sorted.{IsPermutation};
 ghost use Rattle.hashbag_slots.specs.FirstGroup.{IfAbsent};
 ghost use Rattle.hashbag_slots.specs.Hashing.{hash_under};
 ghost use Rattle.hashbag_slots.specs.Slots.{IsSlotCount, entries, IsAbsent, IsFirstFree, Places, recounted, live_count, removed_count};
+ghost use Rattle.hashbag_table.specs.Additions.{Adds, Stores, FailsIfFull};
 ghost use Rattle.hashbag_table.specs.Asked.{MayAskInTurn, Retains};
 ghost use Rattle.hashbag_table.specs.Named.{named_count, named_entry};
 ghost use Rattle.hashbag_table.specs.Entries.{entry_of, count_of, without, with_count, with_fewer, with_instance, total, IsCounted};
@@ -179,13 +180,9 @@ impl<T: Eq + Hash + Drop, S: BuildHasher + Drop> Table<T, S> {
     pub fn insert_new(&mut self, value: T, count: usize) -> Result<(), AllocError>
         requires absent { entry_of T.eq value self.old.entries ≡ None }
         requires some { 0 < count }
-        ensures inserted { OnOk result (IsMapOf T.eq self.old (with_instance T.eq value count self.old.entries) self.new) }
-        ensures new_set { OnOk result (length self.new.entries ≡ length self.old.entries + 1) }
+        ensures stored { OnOk result (Stores T.eq value count self.old self.new) }
         ensures counted { IsCounted T.eq self.new.entries }
-        ensures err { OnErr result (self.new ≡ self.old) }
-        ensures takes { 0 < room self.old.tables → IsOk result }
-        ensures arrives { OnOk result (Arrives self.old.tables self.new.tables) }
-        ensures room { OnOk result (0 < room self.old.tables → KeepsRoom 1 self.old.tables self.new.tables) }
+        ensures fails { FailsIfFull T.eq value self.old self.new result }
     {
         let hash = self.hash(&value);
         self.insert_hashed(hash, value, count)
@@ -196,12 +193,9 @@ impl<T: Eq + Hash + Drop, S: BuildHasher + Drop> Table<T, S> {
         requires hashed { hash ≡ hash_under T.hash_input S.BuildHasher S.Hasher.Hasher self.old.hasher value }
         requires absent { entry_of T.eq value self.old.entries ≡ None }
         requires some { 0 < count }
-        ensures inserted { OnOk result (IsMapOf T.eq self.old (with_instance T.eq value count self.old.entries) self.new) }
-        ensures new_set { OnOk result (length self.new.entries ≡ length self.old.entries + 1) }
+        ensures stored { OnOk result (Stores T.eq value count self.old self.new) }
         ensures counted { IsCounted T.eq self.new.entries }
-        ensures err { OnErr result (self.new ≡ self.old) }
-        ensures takes { 0 < room self.old.tables → IsOk result }
-        ensures arrives { OnOk result (Arrives self.old.tables self.new.tables) }
+        ensures fails { FailsIfFull T.eq value self.old self.new result }
     {
         self.held();
         self.carry_or_grow()?;
@@ -313,16 +307,9 @@ impl<T: Eq + Hash + Drop, S: BuildHasher + Drop> Table<T, S> {
         requires some { 0 < n }
         requires fits { count_of T.eq value self.old.entries + n < 2 ^ 64 }
         ensures before { IfOk result (λ before. before ≡ count_of T.eq value self.old.entries) }
-        ensures added { OnOk result (IsMapOf T.eq self.old (with_count T.eq value (count_of T.eq value self.old.entries + n) self.old.entries) self.new) }
-        ensures new_set { entry_of T.eq value self.old.entries ≡ None → OnOk result (length self.new.entries ≡ length self.old.entries + 1) }
+        ensures added { OnOk result (Adds T.eq value n self.old self.new) }
         ensures counted { IsCounted T.eq self.new.entries }
-        ensures absent { OnErr result (entry_of T.eq value self.old.entries ≡ None) }
-        ensures err { OnErr result (self.new ≡ self.old) }
-        ensures takes { 0 < room self.old.tables → IsOk result }
-        ensures slot { ChangesSlot T.eq value (recounted (count_of T.eq value self.old.entries + n)) self.old self.new }
-        ensures arrives { entry_of T.eq value self.old.entries ≡ None → OnOk result (Arrives self.old.tables self.new.tables) }
-        ensures room { OnOk result (0 < room self.old.tables → KeepsRoom 1 self.old.tables self.new.tables) }
-        ensures same_room { IfOk result (λ before. 0 < before → KeepsRoom 0 self.old.tables self.new.tables) }
+        ensures fails { FailsIfFull T.eq value self.old self.new result }
     {
         self.held();
         if let Some(spot) = self.spot_after_first_group(hash, &value, first) {
@@ -342,16 +329,9 @@ impl<T: Eq + Hash + Drop, S: BuildHasher + Drop> Table<T, S> {
         requires some { 0 < n }
         requires fits { count_of T.eq value self.old.entries + n < 2 ^ 64 }
         ensures before { IfOk result (λ before. before ≡ count_of T.eq value self.old.entries) }
-        ensures added { OnOk result (IsMapOf T.eq self.old (with_count T.eq value (count_of T.eq value self.old.entries + n) self.old.entries) self.new) }
-        ensures new_set { entry_of T.eq value self.old.entries ≡ None → OnOk result (length self.new.entries ≡ length self.old.entries + 1) }
+        ensures added { OnOk result (Adds T.eq value n self.old self.new) }
         ensures counted { IsCounted T.eq self.new.entries }
-        ensures absent { OnErr result (entry_of T.eq value self.old.entries ≡ None) }
-        ensures err { OnErr result (self.new ≡ self.old) }
-        ensures takes { 0 < room self.old.tables → IsOk result }
-        ensures slot { ChangesSlot T.eq value (recounted (count_of T.eq value self.old.entries + n)) self.old self.new }
-        ensures arrives { entry_of T.eq value self.old.entries ≡ None → OnOk result (Arrives self.old.tables self.new.tables) }
-        ensures room { OnOk result (0 < room self.old.tables → KeepsRoom 1 self.old.tables self.new.tables) }
-        ensures same_room { IfOk result (λ before. 0 < before → KeepsRoom 0 self.old.tables self.new.tables) }
+        ensures fails { FailsIfFull T.eq value self.old self.new result }
     {
         let hash = self.hash(&value);
         let first = self.probe_first_group(hash, &value);
@@ -375,16 +355,9 @@ impl<T: Eq + Hash + Drop, S: BuildHasher + Drop> Table<T, S> {
     /// room is left: the table is then unchanged, and the value is dropped.
     pub fn put_instance(&mut self, value: T) -> Result<usize, AllocError>
         ensures before { IfOk result (λ before. before ≡ count_of T.eq value self.old.entries) }
-        ensures put { OnOk result (IsMapOf T.eq self.old (with_instance T.eq value 1 self.old.entries) self.new) }
-        ensures new_set { entry_of T.eq value self.old.entries ≡ None → OnOk result (length self.new.entries ≡ length self.old.entries + 1) }
+        ensures stored { OnOk result (Stores T.eq value 1 self.old self.new) }
         ensures counted { IsCounted T.eq self.new.entries }
-        ensures absent { OnErr result (entry_of T.eq value self.old.entries ≡ None) }
-        ensures err { OnErr result (self.new ≡ self.old) }
-        ensures takes { 0 < room self.old.tables → IsOk result }
-        ensures slot { ChangesSlot T.eq value (λ _. Slot.Live value 1) self.old self.new }
-        ensures arrives { entry_of T.eq value self.old.entries ≡ None → OnOk result (Arrives self.old.tables self.new.tables) }
-        ensures room { OnOk result (0 < room self.old.tables → KeepsRoom 1 self.old.tables self.new.tables) }
-        ensures same_room { IfOk result (λ before. 0 < before → KeepsRoom 0 self.old.tables self.new.tables) }
+        ensures fails { FailsIfFull T.eq value self.old self.new result }
     {
         let hash = self.hash(&value);
         if let Some(spot) = self.spot_of(hash, &value) {

@@ -4,7 +4,8 @@ ghost use Rattle.hashbag_slots.specs.FirstGroup.{IfAbsent};
 ghost use Rattle.hashbag_slots.specs.Hashing.{hash_under};
 ghost use Rattle.hashbag_slots.specs.Slots.{IsAbsent, recounted};
 ghost use Rattle.hashbag_table.specs.Entries.{with_fewer, IsCounted};
-ghost use Rattle.hashbag_table.specs.Named.{named_entry, named_count, AddsNamed};
+ghost use Rattle.hashbag_table.specs.Additions.{AddsNamed};
+ghost use Rattle.hashbag_table.specs.Named.{named_entry, named_count};
 ghost use Rattle.hashbag_table.specs.Table.{IsMapOf};
 ghost use Rattle.hashbag_table.specs.Tables.{KeepsRoom, Rewrites};
 
