@@ -145,12 +145,12 @@ pub inserts_added : {T S : Type 0} {eq : T → T → Bool} (laws : IsEquivalence
 inserts_added {eq = eq} laws v n total before after some was now adds holds =
     let same = count_occurrences laws v before.entries was.counted.distinct in
     record {
-      added = record { means = add_occurrences laws v n _ _ was.counted adds.added.means; hasher = adds.added.hasher; limit = refl; bag = bag_from_tally laws _ _ now };
+      added = record { means = add_occurrences laws v n _ _ was.counted adds.map.means; hasher = adds.map.hasher; limit = refl; bag = bag_from_tally laws _ _ now };
       none = λ is. absurd (omega (arith, some, is));
       len = let before = was.sum in let after = now.sum in omega (arith, before, after);
-      set_len = distinct_added laws v _ _ _ was.counted now.counted adds.added.means;
-      same_set = distinct_same laws v _ _ _ was.counted now.counted adds.added.means;
-      new_set = λ _ none. distinct_one_more laws v _ _ _ was.counted now.counted adds.added.means none;
+      set_len = distinct_added laws v _ _ _ was.counted now.counted adds.map.means;
+      same_set = distinct_same laws v _ _ _ was.counted now.counted adds.map.means;
+      new_set = λ _ none. distinct_one_more laws v _ _ _ was.counted now.counted adds.map.means none;
       arrives = λ _ none. adds.arrives (absent_in_table laws v _ was.counted none);
       slot = λ _ there. rw same (recounts_some (eq v) _ _ _ (omega (arith, some)) (adds.slot (present_in_table laws v _ was.counted there)));
       less_room = adds.room;
