@@ -23,5 +23,5 @@ pub fn count_texts(alloc: Global, words: &[&str]) -> Result<HashBag<String>, Bag
 pub fn how_often<S: BuildHasher + Drop>(bag: &HashBag<String, S>, word: &str) -> usize
     ensures { (v : _) → string_bytes v ≡ word.now → result ≡ count string_eq v bag.now.items }
 {
-    bag.contains_key(word)
+    bag.contains(word)
 }

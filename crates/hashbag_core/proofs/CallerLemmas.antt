@@ -28,8 +28,8 @@ use Rattle.hashbag_core.specs.Equality.{bag_eq}
 use Rattle.hashbag_core.specs.EqualityLaws.{count_congr, count_append, same_counts-Decides}
 use Rattle.hashbag_core.specs.Extends.{add_all, Once, AsItIs}
 use Rattle.hashbag_core.specs.Joins.{IsDifference}
-use Rattle.hashbag_core.specs.Keys.{count_named, InsertsNamed}
-use Rattle.hashbag_core.specs.Occurrences.{alike, others, count, instance_or_itself, add, less, put, SameCounts}
+use Rattle.hashbag_core.specs.Keys.{InsertsNamed}
+use Rattle.hashbag_core.specs.Occurrences.{count_named, alike, others, count, instance_or_itself, add, less, put, SameCounts}
 use Rattle.hashbag_core.specs.Retain.{IsRetained}
 use Rattle.hashbag_core.specs.Walks.{IsSetWalk}
 use Rattle.hashbag_core.proofs.DistinctLemmas.{absent_later}

@@ -6,7 +6,7 @@ ghost use Rattle.hashbag_table.specs.Entries.{count_of, IsCounted};
 ghost use Rattle.hashbag_table.specs.Tables.{limit, room, Arrives, KeepsRoom};
 ghost use Rattle.hashbag_table.specs.Retained.{RetainsTables};
 ghost use Rattle.hashbag_core.specs.Bag.{occurrences, limited, HasOneValueMore, Lends};
-ghost use Rattle.hashbag_core.specs.Occurrences.{count, stored, add, put, recount, distinct_count, IsBag};
+ghost use Rattle.hashbag_core.specs.Occurrences.{count_named, stored_named, count, stored, add, put, recount, distinct_count, IsBag};
 ghost use Rattle.hashbag_core.specs.Extends.{Refuses};
 ghost use Rattle.hashbag_core.specs.Inserts.{Inserts, IsRefused};
 ghost use Rattle.hashbag_core.specs.Held.{cleared, Recounts, Restores};
@@ -22,7 +22,7 @@ mod make;
 mod spare;
 mod take;
 
-use hashbag_table::Table;
+use hashbag_table::{Key, Table};
 use std::alloc::AllocError;
 use std::hash::{BuildHasher, BuildHasherDefault, FoldHasher, Hash};
 use std::marker::Model;
@@ -92,7 +92,7 @@ pub type FixedState = BuildHasherDefault<FoldHasher>;
 /// }
 /// words.len(); // 5
 /// words.set_len(); // 4
-/// words.contains_key("the"); // 2
+/// words.contains("the"); // 2
 /// Ok(())
 /// ```
 #[derive(Drop)]
@@ -245,11 +245,11 @@ impl<T: Eq + Hash + Drop, S: BuildHasher + Drop> HashBag<T, S> {
     /// Ok(())
     /// ```
     #[inline(always)]
-    pub fn contains(&self, value: &T) -> usize
-        ensures count { result ≡ count T.eq value.now self.now.items }
+    pub fn contains<Q: Key<T>>(&self, key: Q) -> usize
+        ensures count { result ≡ count_named (Q.names key) self.now.items }
         ensures bag { IsBag T.eq self.now.most self.now.items }
     {
-        match self.table.get(value) {
+        match self.table.get(key) {
             Some((_, count)) => count,
             None => 0,
         }
@@ -265,11 +265,11 @@ impl<T: Eq + Hash + Drop, S: BuildHasher + Drop> HashBag<T, S> {
     /// Ok(())
     /// ```
     #[inline(always)]
-    pub fn get(&self, value: &T) -> Option<(&T, usize)>
-        ensures found { Lends result (stored T.eq value.now self.now.items) }
+    pub fn get<Q: Key<T>>(&self, key: Q) -> Option<(&T, usize)>
+        ensures found { Lends result (stored_named (Q.names key) self.now.items) }
         ensures bag { IsBag T.eq self.now.most self.now.items }
     {
-        self.table.get(value)
+        self.table.get(key)
     }
 
     /// Adds one occurrence of a value, and answers how many there were: [`HashBag::insert_many`] with 1.

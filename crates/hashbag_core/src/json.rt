@@ -330,7 +330,7 @@ impl<T: JsonItem + Hash + Drop, S: BuildHasher + Drop> HashBag<T, S> {
     /// let tree = Value::from_str(alloc, "[[\"apple\",2],[\"pear\",1]]")?;
     /// let state = FixedState::new();
     /// let bag: HashBag<String> = HashBag::from_value_with_hasher(alloc, state, 100, &tree)?;
-    /// bag.contains_key("apple"); // 2
+    /// bag.contains("apple"); // 2
     /// Ok(())
     /// ```
     pub fn from_value_with_hasher(
@@ -384,7 +384,7 @@ impl<T: JsonItem + Hash + Drop, S: BuildHasher + Drop> HashBag<T, S> {
     /// ```
     /// let tree = Value::from_str(alloc, "[[\"apple\",2],[\"pear\",1]]")?;
     /// let bag: HashBag<String> = HashBag::from_value(alloc, &tree)?;
-    /// bag.contains_key("apple"); // 2
+    /// bag.contains("apple"); // 2
     /// Ok(())
     /// ```
     pub fn from_value(alloc: Global, tree: &Value) -> Result<HashBag<T, S>, JsonError>

@@ -1,6 +1,6 @@
 //! What a value is looked up by.
 ghost use Rattle.std.specs.Prelude.{◌≡◌, Bool, IsTrue};
-ghost use Rattle.std.proofs.Common.{ap, ◌∙◌, refl};
+ghost use Rattle.std.proofs.Common.{ap, sym, ◌∙◌, refl};
 ghost use Rattle.std.specs.Cmp.Lexicographic.{bytes_decides, nat_list_eq_equiv};
 ghost use Rattle.std.specs.Hash as fed;
 ghost use Rattle.std.specs.Str.{bytes_eq};
@@ -28,15 +28,15 @@ pub trait Key<T: Eq + Hash>: Copy + Hash {
 }
 
 impl<T: Eq + Hash> Key<T> for &T {
-    ghost names = { λ key v. T.eq v key.now };
+    ghost names = { λ key. T.eq key.now };
 
-    ghost hashed_alike = { λ key v. T.respects_eq v key.now };
+    ghost hashed_alike = { λ key v e. sym (T.respects_eq key.now v e) };
 
-    ghost names_one = { λ key v w yes. T.Eq.laws.symm w key.now ∙ T.Eq.laws.congr key.now v w (T.Eq.laws.symm key.now v ∙ yes) ∙ T.Eq.laws.symm v w };
+    ghost names_one = { λ key v w yes. T.Eq.laws.congr key.now v w yes ∙ T.Eq.laws.symm v w };
 
     #[inline(always)]
     fn names(&self, value: &T) -> bool {
-        *value == **self
+        (*self).eq(value)
     }
 }
 

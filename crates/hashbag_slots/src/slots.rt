@@ -17,7 +17,7 @@ ghost use Rattle.hashbag_slots.specs.Slots.{IsSlotCount, is_live, holds, live_co
 ghost use Rattle.hashbag_slots.specs.Columns.{IsReached, IsAlike};
 
 mod carry;
-pub mod keys;
+mod find;
 
 use crate::cells::Cells;
 use crate::live::{Course, drop_if_live, next_live};
@@ -42,12 +42,12 @@ pub enum Slot<T> {
     Live(T, usize),
 }
 
-/// The 64-bit hash of a value under a state.
+/// Returns the 64-bit hash of a key under a state.
 #[inline(always)]
-pub fn hash_of<T: Hash, S: BuildHasher>(state: &S, value: &T) -> u64
-    ensures { result ≡ hash_under T.hash_input S.BuildHasher S.Hasher.Hasher state.now value.now }
+pub fn hash_of<Q: Hash + Copy, S: BuildHasher>(state: &S, key: Q) -> u64
+    ensures { result ≡ hash_under Q.hash_input S.BuildHasher S.Hasher.Hasher state.now key }
 {
-    state.hash_one(value)
+    state.hash_one(key)
 }
 
 /// A table of slots. No two Live slots have equal values.
@@ -194,7 +194,7 @@ impl<T: Eq> Slots<T> {
     /// Stores another equal instance of the value at a place, which keeps its count, and gives the former back. It hashes
     /// nothing: equal values have one hash.
     pub fn put_at(&mut self, place: usize, value: T) -> T
-        requires equal { holds (λ v. T.eq v value) (slot_at self.old.slots place) ≡ true }
+        requires equal { holds (T.eq value) (slot_at self.old.slots place) ≡ true }
         ensures given { slot_at self.old.slots place ≡ Slot.Live result (count_in (slot_at self.old.slots place)) }
         ensures after { self.new.slots ≡ slice_set self.old.slots place (Slot.Live value (count_in (slot_at self.old.slots place))) }
         ensures reached { (hash : T → ℕ) → IsAlike T.eq hash → IsReached hash self.old → IsReached hash self.new }
@@ -279,67 +279,6 @@ impl<T: Eq> Slots<T> {
 }
 
 impl<T: Eq + Hash> Slots<T> {
-    /// The place of the Live slot with an equal value, or `None` where the value is absent.
-    ///
-    /// It hashes the value once, under a state under which the table's values are found, and probes once, past Removed and Moved
-    /// slots.
-    #[inline(always)]
-    pub fn find<S: BuildHasher>(&self, state: &S, value: &T) -> Option<usize>
-        requires reached { IsReached (hash_under T.hash_input S.BuildHasher S.Hasher.Hasher state.now) self.now }
-        ensures found { IfSome result (HoldsAt (λ v. T.eq v value.now) self.now.slots) }
-        ensures absent { IfNone result (IsAbsent (λ v. T.eq v value.now) self.now.slots) }
-        ensures map { entry_at self.now.slots result ≡ lookup_entry (λ v. T.eq v value.now) (entries self.now.slots) }
-    {
-        let hash = hash_of(state, value);
-        self.find_hashed(state, hash, value)
-    }
-
-    /// As `find`, of a value whose hash under the state is handed in: it hashes nothing.
-    #[inline(always)]
-    pub fn find_hashed<S: BuildHasher>(&self, state: &S, hash: u64, value: &T) -> Option<usize>
-        requires hashed { hash ≡ hash_under T.hash_input S.BuildHasher S.Hasher.Hasher state.now value.now }
-        requires reached { IsReached (hash_under T.hash_input S.BuildHasher S.Hasher.Hasher state.now) self.now }
-        ensures found { IfSome result (HoldsAt (λ v. T.eq v value.now) self.now.slots) }
-        ensures absent { IfNone result (IsAbsent (λ v. T.eq v value.now) self.now.slots) }
-        ensures map { entry_at self.now.slots result ≡ lookup_entry (λ v. T.eq v value.now) (entries self.now.slots) }
-    {
-        self.find_key(state, hash, value)
-    }
-
-    /// As `find_hashed`, if no slot before the place `from` is Live.
-    #[inline(always)]
-    pub fn find_uncarried<S: BuildHasher>(
-        &self,
-        state: &S,
-        hash: u64,
-        value: &T,
-        from: usize,
-    ) -> Option<usize>
-        requires hashed { hash ≡ hash_under T.hash_input S.BuildHasher S.Hasher.Hasher state.now value.now }
-        requires within { from ≤ length self.now.slots }
-        requires dead { (p : ℕ) → p < from → is_live (slot_at self.now.slots p) ≡ false }
-        requires reached { IsReached (hash_under T.hash_input S.BuildHasher S.Hasher.Hasher state.now) self.now }
-        ensures found { IfSome result (HoldsAt (λ v. T.eq v value.now) self.now.slots) }
-        ensures absent { IfNone result (IsAbsent (λ v. T.eq v value.now) self.now.slots) }
-        ensures map { entry_at self.now.slots result ≡ lookup_entry (λ v. T.eq v value.now) (entries self.now.slots) }
-    {
-        self.find_key_uncarried(state, hash, value, from)
-    }
-
-    /// What the first 16 slots on the path of a value's hash show, which is handed in: the place of the slot with an equal value, or, if
-    /// the value is absent, the place into which `place_at` puts it. If it is `Open`, `find_hashed` knows.
-    #[inline(always)]
-    pub fn probe_first_group<S: BuildHasher>(&self, state: &S, hash: u64, value: &T) -> FirstGroup
-        requires hashed { hash ≡ hash_under T.hash_input S.BuildHasher S.Hasher.Hasher state.now value.now }
-        requires reached { IsReached (hash_under T.hash_input S.BuildHasher S.Hasher.Hasher state.now) self.now }
-        ensures found { IfFound result (HoldsAt (λ v. T.eq v value.now) self.now.slots) }
-        ensures absent { IfAbsent result (λ _. IsAbsent (λ v. T.eq v value.now) self.now.slots) }
-        ensures free { IfAbsent result (IsFirstFree hash self.now.slots) }
-        ensures map { IfFound result (λ p. entry_at self.now.slots (Some p) ≡ lookup_entry (λ v. T.eq v value.now) (entries self.now.slots)) }
-    {
-        self.probe_key_first_group(state, hash, value)
-    }
-
     /// Puts in an absent value with the count `n`. It goes into the first slot on its path that is not Live, and all others
     /// stay as they are.
     ///
@@ -347,7 +286,7 @@ impl<T: Eq + Hash> Slots<T> {
     #[inline(always)]
     pub fn place<S: BuildHasher>(&mut self, state: &S, value: T, n: usize)
         requires counted { 0 < n }
-        requires absent { IsAbsent (λ v. T.eq v value) self.old.slots }
+        requires absent { IsAbsent (T.eq value) self.old.slots }
         requires room { live_count self.old.slots < length self.old.slots }
         requires reached { IsReached (hash_under T.hash_input S.BuildHasher S.Hasher.Hasher state.now) self.old }
         ensures placed { Places value n self.old.slots self.new.slots }
@@ -372,7 +311,7 @@ impl<T: Eq + Hash> Slots<T> {
     pub fn place_hashed<S: BuildHasher>(&mut self, state: &S, hash: u64, value: T, n: usize)
         requires hashed { hash ≡ hash_under T.hash_input S.BuildHasher S.Hasher.Hasher state.now value }
         requires counted { 0 < n }
-        requires absent { IsAbsent (λ v. T.eq v value) self.old.slots }
+        requires absent { IsAbsent (T.eq value) self.old.slots }
         requires room { live_count self.old.slots < length self.old.slots }
         requires reached { IsReached (hash_under T.hash_input S.BuildHasher S.Hasher.Hasher state.now) self.old }
         ensures placed { Places value n self.old.slots self.new.slots }
@@ -395,7 +334,7 @@ impl<T: Eq + Hash> Slots<T> {
     )
         requires hashed { hash ≡ hash_under T.hash_input S.BuildHasher S.Hasher.Hasher state.now value }
         requires counted { 0 < n }
-        requires absent { IsAbsent (λ v. T.eq v value) self.old.slots }
+        requires absent { IsAbsent (T.eq value) self.old.slots }
         requires free { IsFirstFree hash self.old.slots place }
         requires reached { IsReached (hash_under T.hash_input S.BuildHasher S.Hasher.Hasher state.now) self.old }
         ensures placed { Places value n self.old.slots self.new.slots }

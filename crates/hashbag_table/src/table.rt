@@ -2,13 +2,15 @@
 //!
 //! The newer table takes what comes. When it has no room left it becomes the older one, and a new one takes its place. Each value
 //! that comes after that takes the next 16 slots of the older table along, so that no insertion moves all values at once.
-ghost use Rattle.std.specs.Prelude.{◌≡◌, ◌+◌, ◌-◌, ◌*◌, ◌<◌, ◌≤◌, ◌^◌, [], ◌∷◌, length, replicate, true, Some, None, IfOk, IfErr, OnOk, OnErr, IsOk, IsSome};
+ghost use Rattle.std.specs.Prelude.{◌≡◌, ◌+◌, ◌-◌, ◌*◌, ◌<◌, ◌≤◌, ◌^◌, [], ◌∷◌, length, replicate, true, Some, None, IfOk, IfErr, OnOk, OnErr, IsOk, IsSome, IsTrue};
 ghost use Rattle.std.specs.Borrow.{sem};
 ghost use Rattle.std.specs.List.Sorted.{IsPermutation};
 ghost use Rattle.hashbag_slots.specs.FirstGroup.{IfAbsent};
 ghost use Rattle.hashbag_slots.specs.Hashing.{hash_under};
 ghost use Rattle.hashbag_slots.specs.Slots.{IsSlotCount, entries, IsAbsent, IsFirstFree, Places, recounted, live_count, removed_count};
+ghost use Rattle.hashbag_table.specs.Additions.{Adds, Stores, FailsIfFull};
 ghost use Rattle.hashbag_table.specs.Asked.{MayAskInTurn, Retains};
+ghost use Rattle.hashbag_table.specs.Named.{named_count, named_entry};
 ghost use Rattle.hashbag_table.specs.Entries.{entry_of, count_of, without, with_count, with_fewer, with_instance, total, IsCounted};
 ghost use Rattle.hashbag_table.specs.Retained.{RetainsTables};
 ghost use Rattle.hashbag_table.specs.Table.{IsMapOf, ChangesSlot};
@@ -22,6 +24,7 @@ mod spots;
 
 use crate::built::Built;
 use crate::capacity::{MOST_SLOTS, clear_slots, limit, no_slots};
+use crate::key::Key;
 use crate::retain::retain_slots;
 use crate::walk::{DrainWalk, IntoWalk, Walk};
 use hashbag_slots::slots::{FirstGroup, Slot, Slots};
@@ -144,14 +147,6 @@ impl<T: Eq + Hash + Drop, S: BuildHasher + Drop> Table<T, S> {
         self.set_len() + self.room()
     }
 
-    // The hash of a value under the table's own state, by which alone its values are found.
-    #[inline(always)]
-    fn hash(&self, value: &T) -> u64
-        ensures { result ≡ hash_under T.hash_input S.BuildHasher S.Hasher.Hasher self.now.hasher value.now }
-    {
-        self.hash_key(value)
-    }
-
     // Whether an absent value can be put in with no way made for it: no slot waits, and there is room.
     #[inline(always)]
     fn can_place_at_once(&self) -> bool
@@ -185,13 +180,9 @@ impl<T: Eq + Hash + Drop, S: BuildHasher + Drop> Table<T, S> {
     pub fn insert_new(&mut self, value: T, count: usize) -> Result<(), AllocError>
         requires absent { entry_of T.eq value self.old.entries ≡ None }
         requires some { 0 < count }
-        ensures inserted { OnOk result (IsMapOf T.eq self.old (with_instance T.eq value count self.old.entries) self.new) }
-        ensures new_set { OnOk result (length self.new.entries ≡ length self.old.entries + 1) }
+        ensures stored { OnOk result (Stores T.eq value count self.old self.new) }
         ensures counted { IsCounted T.eq self.new.entries }
-        ensures err { OnErr result (self.new ≡ self.old) }
-        ensures takes { 0 < room self.old.tables → IsOk result }
-        ensures arrives { OnOk result (Arrives self.old.tables self.new.tables) }
-        ensures room { OnOk result (0 < room self.old.tables → KeepsRoom 1 self.old.tables self.new.tables) }
+        ensures fails { FailsIfFull T.eq value self.old self.new result }
     {
         let hash = self.hash(&value);
         self.insert_hashed(hash, value, count)
@@ -202,12 +193,9 @@ impl<T: Eq + Hash + Drop, S: BuildHasher + Drop> Table<T, S> {
         requires hashed { hash ≡ hash_under T.hash_input S.BuildHasher S.Hasher.Hasher self.old.hasher value }
         requires absent { entry_of T.eq value self.old.entries ≡ None }
         requires some { 0 < count }
-        ensures inserted { OnOk result (IsMapOf T.eq self.old (with_instance T.eq value count self.old.entries) self.new) }
-        ensures new_set { OnOk result (length self.new.entries ≡ length self.old.entries + 1) }
+        ensures stored { OnOk result (Stores T.eq value count self.old self.new) }
         ensures counted { IsCounted T.eq self.new.entries }
-        ensures err { OnErr result (self.new ≡ self.old) }
-        ensures takes { 0 < room self.old.tables → IsOk result }
-        ensures arrives { OnOk result (Arrives self.old.tables self.new.tables) }
+        ensures fails { FailsIfFull T.eq value self.old self.new result }
     {
         self.held();
         self.carry_or_grow()?;
@@ -221,7 +209,7 @@ impl<T: Eq + Hash + Drop, S: BuildHasher + Drop> Table<T, S> {
         requires present { IsSome (entry_of T.eq value.now self.old.entries) }
         requires some { 0 < n }
         ensures set { IsMapOf T.eq self.old (with_count T.eq value.now n self.old.entries) self.new }
-        ensures slot { Rewrites (λ w. T.eq w value.now) (recounted n) self.old.tables self.new.tables }
+        ensures slot { Rewrites (T.eq value.now) (recounted n) self.old.tables self.new.tables }
         ensures room { KeepsRoom 0 self.old.tables self.new.tables }
     {
         let hash = self.hash(value);
@@ -230,17 +218,17 @@ impl<T: Eq + Hash + Drop, S: BuildHasher + Drop> Table<T, S> {
         }
     }
 
-    /// Takes a value out, and answers its stored instance and its count, or `None` where it was absent. Its slot, in whichever
-    /// table it is, becomes Removed. It takes no memory.
-    pub fn remove(&mut self, value: &T) -> Option<(T, usize)>
-        ensures taken { result ≡ entry_of T.eq value.now self.old.entries }
-        ensures left { IsMapOf T.eq self.old (without T.eq value.now self.old.entries) self.new }
-        ensures slot { IsSome result → Rewrites (λ w. T.eq w value.now) (λ _. Slot.Removed) self.old.tables self.new.tables }
+    /// Removes the value that a key names, and returns its stored instance and its count, or `None` if it is absent. Its slot, in
+    /// whichever table it is, becomes Removed. It doesn't allocate.
+    pub fn remove<Q: Key<T>>(&mut self, key: Q) -> Option<(T, usize)>
+        ensures taken { result ≡ named_entry (Q.names key) self.old.entries }
+        ensures left { (v : T) → IsTrue (Q.names key v) → IsMapOf T.eq self.old (without T.eq v self.old.entries) self.new }
+        ensures slot { IsSome result → Rewrites (Q.names key) (λ _. Slot.Removed) self.old.tables self.new.tables }
         ensures none { result ≡ None → self.new ≡ self.old }
         ensures room { KeepsRoom 0 self.old.tables self.new.tables }
     {
-        let hash = self.hash(value);
-        match self.spot_of(hash, value) {
+        let hash = self.hash(key);
+        match self.spot_of(hash, key) {
             Some(spot) => {
                 let entry = self.take_spot(spot);
                 return Some(entry);
@@ -249,36 +237,51 @@ impl<T: Eq + Hash + Drop, S: BuildHasher + Drop> Table<T, S> {
         }
     }
 
-    /// Takes `n` from the count of a value, and answers what the count was, 0 where the value was absent. Where no more
-    /// than `n` are there, the value goes, and its stored instance is dropped.
+    /// Subtracts `n` from the count of the value that a key names, and returns the count before, 0 if the value is absent. If the count
+    /// is at most `n`, the value is removed, and its stored instance is dropped.
     ///
-    /// It takes no memory. The value is hashed once.
-    pub fn take(&mut self, value: &T, n: usize) -> usize
-        ensures before { result ≡ count_of T.eq value.now self.old.entries }
-        ensures taken { IsMapOf T.eq self.old (with_fewer T.eq value.now n self.old.entries) self.new }
-        ensures fewer { n < result → Rewrites (λ w. T.eq w value.now) (recounted (result - n)) self.old.tables self.new.tables }
-        ensures gone { 0 < result → result ≤ n → Rewrites (λ w. T.eq w value.now) (λ _. Slot.Removed) self.old.tables self.new.tables }
+    /// # Complexity
+    ///
+    /// It hashes the key once and doesn't allocate.
+    pub fn take<Q: Key<T>>(&mut self, key: Q, n: usize) -> usize
+        ensures before { result ≡ named_count (Q.names key) self.old.entries }
+        ensures taken { (v : T) → IsTrue (Q.names key v) → IsMapOf T.eq self.old (with_fewer T.eq v n self.old.entries) self.new }
+        ensures fewer { n < result → Rewrites (Q.names key) (recounted (result - n)) self.old.tables self.new.tables }
+        ensures gone { 0 < result → result ≤ n → Rewrites (Q.names key) (λ _. Slot.Removed) self.old.tables self.new.tables }
         ensures none { result ≡ 0 → self.new ≡ self.old }
         ensures room { KeepsRoom 0 self.old.tables self.new.tables }
     {
-        self.take_key(value, n)
+        let hash = self.hash(key);
+        if let Some(spot) = self.spot_of(hash, key) {
+            let before = self.count_at(spot);
+            if n < before {
+                self.set_spot(spot, before - n);
+                return before;
+            }
+            let (former, count) = self.take_spot(spot);
+            drop(former);
+            return count;
+        }
+        0
     }
 
-    /// Takes one of a value: the last one itself in `Ok`, and else one of several, of which `Err` says how many there were. `Err(0)`
-    /// where the value is absent.
+    /// Removes one occurrence of the value that a key names. Returns the value itself in `Ok` if it was the last one, and else in `Err`
+    /// how many there were, 0 if the value is absent.
     ///
-    /// It takes no memory. The value is hashed once.
-    pub fn take_one(&mut self, value: &T) -> Result<T, usize>
-        ensures last { IfOk result (λ instance. entry_of T.eq value.now self.old.entries ≡ Some (instance, 1)) }
-        ensures others { IfErr result (λ before. (before ≡ count_of T.eq value.now self.old.entries) × (before ≢ 1)) }
-        ensures taken { IsMapOf T.eq self.old (with_fewer T.eq value.now 1 self.old.entries) self.new }
-        ensures fewer { IfErr result (λ before. 0 < before → Rewrites (λ w. T.eq w value.now) (recounted (before - 1)) self.old.tables self.new.tables) }
-        ensures gone { IfOk result (λ _. Rewrites (λ w. T.eq w value.now) (λ _. Slot.Removed) self.old.tables self.new.tables) }
+    /// # Complexity
+    ///
+    /// It hashes the key once and doesn't allocate.
+    pub fn take_one<Q: Key<T>>(&mut self, key: Q) -> Result<T, usize>
+        ensures last { IfOk result (λ instance. named_entry (Q.names key) self.old.entries ≡ Some (instance, 1)) }
+        ensures others { IfErr result (λ before. (before ≡ named_count (Q.names key) self.old.entries) × (before ≢ 1)) }
+        ensures taken { (v : T) → IsTrue (Q.names key v) → IsMapOf T.eq self.old (with_fewer T.eq v 1 self.old.entries) self.new }
+        ensures fewer { IfErr result (λ before. 0 < before → Rewrites (Q.names key) (recounted (before - 1)) self.old.tables self.new.tables) }
+        ensures gone { IfOk result (λ _. Rewrites (Q.names key) (λ _. Slot.Removed) self.old.tables self.new.tables) }
         ensures none { IfErr result (λ before. before ≡ 0 → self.new ≡ self.old) }
         ensures room { KeepsRoom 0 self.old.tables self.new.tables }
     {
-        let hash = self.hash(value);
-        if let Some(spot) = self.spot_of(hash, value) {
+        let hash = self.hash(key);
+        if let Some(spot) = self.spot_of(hash, key) {
             let before = self.count_at(spot);
             if before > 1 {
                 self.set_spot(spot, before - 1);
@@ -300,20 +303,13 @@ impl<T: Eq + Hash + Drop, S: BuildHasher + Drop> Table<T, S> {
         first: FirstGroup,
     ) -> Result<usize, AllocError>
         requires hashed { hash ≡ hash_under T.hash_input S.BuildHasher S.Hasher.Hasher self.old.hasher value }
-        requires shown { IfAbsent first (λ _. IsAbsent (λ w. T.eq w value) self.old.tables.newer) }
+        requires shown { IfAbsent first (λ _. IsAbsent (T.eq value) self.old.tables.newer) }
         requires some { 0 < n }
         requires fits { count_of T.eq value self.old.entries + n < 2 ^ 64 }
         ensures before { IfOk result (λ before. before ≡ count_of T.eq value self.old.entries) }
-        ensures added { OnOk result (IsMapOf T.eq self.old (with_count T.eq value (count_of T.eq value self.old.entries + n) self.old.entries) self.new) }
-        ensures new_set { entry_of T.eq value self.old.entries ≡ None → OnOk result (length self.new.entries ≡ length self.old.entries + 1) }
+        ensures added { OnOk result (Adds T.eq value n self.old self.new) }
         ensures counted { IsCounted T.eq self.new.entries }
-        ensures absent { OnErr result (entry_of T.eq value self.old.entries ≡ None) }
-        ensures err { OnErr result (self.new ≡ self.old) }
-        ensures takes { 0 < room self.old.tables → IsOk result }
-        ensures slot { ChangesSlot T.eq value (recounted (count_of T.eq value self.old.entries + n)) self.old self.new }
-        ensures arrives { entry_of T.eq value self.old.entries ≡ None → OnOk result (Arrives self.old.tables self.new.tables) }
-        ensures room { OnOk result (0 < room self.old.tables → KeepsRoom 1 self.old.tables self.new.tables) }
-        ensures same_room { IfOk result (λ before. 0 < before → KeepsRoom 0 self.old.tables self.new.tables) }
+        ensures fails { FailsIfFull T.eq value self.old self.new result }
     {
         self.held();
         if let Some(spot) = self.spot_after_first_group(hash, &value, first) {
@@ -333,16 +329,9 @@ impl<T: Eq + Hash + Drop, S: BuildHasher + Drop> Table<T, S> {
         requires some { 0 < n }
         requires fits { count_of T.eq value self.old.entries + n < 2 ^ 64 }
         ensures before { IfOk result (λ before. before ≡ count_of T.eq value self.old.entries) }
-        ensures added { OnOk result (IsMapOf T.eq self.old (with_count T.eq value (count_of T.eq value self.old.entries + n) self.old.entries) self.new) }
-        ensures new_set { entry_of T.eq value self.old.entries ≡ None → OnOk result (length self.new.entries ≡ length self.old.entries + 1) }
+        ensures added { OnOk result (Adds T.eq value n self.old self.new) }
         ensures counted { IsCounted T.eq self.new.entries }
-        ensures absent { OnErr result (entry_of T.eq value self.old.entries ≡ None) }
-        ensures err { OnErr result (self.new ≡ self.old) }
-        ensures takes { 0 < room self.old.tables → IsOk result }
-        ensures slot { ChangesSlot T.eq value (recounted (count_of T.eq value self.old.entries + n)) self.old self.new }
-        ensures arrives { entry_of T.eq value self.old.entries ≡ None → OnOk result (Arrives self.old.tables self.new.tables) }
-        ensures room { OnOk result (0 < room self.old.tables → KeepsRoom 1 self.old.tables self.new.tables) }
-        ensures same_room { IfOk result (λ before. 0 < before → KeepsRoom 0 self.old.tables self.new.tables) }
+        ensures fails { FailsIfFull T.eq value self.old self.new result }
     {
         let hash = self.hash(&value);
         let first = self.probe_first_group(hash, &value);
@@ -366,16 +355,9 @@ impl<T: Eq + Hash + Drop, S: BuildHasher + Drop> Table<T, S> {
     /// room is left: the table is then unchanged, and the value is dropped.
     pub fn put_instance(&mut self, value: T) -> Result<usize, AllocError>
         ensures before { IfOk result (λ before. before ≡ count_of T.eq value self.old.entries) }
-        ensures put { OnOk result (IsMapOf T.eq self.old (with_instance T.eq value 1 self.old.entries) self.new) }
-        ensures new_set { entry_of T.eq value self.old.entries ≡ None → OnOk result (length self.new.entries ≡ length self.old.entries + 1) }
+        ensures stored { OnOk result (Stores T.eq value 1 self.old self.new) }
         ensures counted { IsCounted T.eq self.new.entries }
-        ensures absent { OnErr result (entry_of T.eq value self.old.entries ≡ None) }
-        ensures err { OnErr result (self.new ≡ self.old) }
-        ensures takes { 0 < room self.old.tables → IsOk result }
-        ensures slot { ChangesSlot T.eq value (λ _. Slot.Live value 1) self.old self.new }
-        ensures arrives { entry_of T.eq value self.old.entries ≡ None → OnOk result (Arrives self.old.tables self.new.tables) }
-        ensures room { OnOk result (0 < room self.old.tables → KeepsRoom 1 self.old.tables self.new.tables) }
-        ensures same_room { IfOk result (λ before. 0 < before → KeepsRoom 0 self.old.tables self.new.tables) }
+        ensures fails { FailsIfFull T.eq value self.old self.new result }
     {
         let hash = self.hash(&value);
         if let Some(spot) = self.spot_of(hash, &value) {

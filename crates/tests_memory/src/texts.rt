@@ -76,7 +76,7 @@ fn insert_text(
 ) -> Result<bool, Wrong> {
     let (total, tables) = (bag.len(), tables_of(bag));
     let Some(answer) = refusals.answer(bag.insert_key(name))? else {
-        check(bag.contains_key(name) == 0, "texts: refused")?;
+        check(bag.contains(name) == 0, "texts: refused")?;
         check(bag.len() == total, "texts: the total after a refusal")?;
         check(tables_of(bag) == tables, "texts: the slots after a refusal")?;
         return Ok(false);
@@ -95,7 +95,7 @@ pub fn inserted_texts(alloc: Global, refusals: &mut Refusals) -> Result<(), Wron
         }
         let done = insert_text(&mut bag, name, 1, refusals)?;
         check(done, "texts: of a name that is there, refused")?;
-        check(bag.contains_key(name) == 2, "texts: the count")?;
+        check(bag.contains(name) == 2, "texts: the count")?;
     }
     check(bag.len() == 4, "texts: the total")
 }

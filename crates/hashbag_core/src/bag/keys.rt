@@ -3,58 +3,14 @@
 //! In the Rust crate `contains`, `get` and `remove` take whatever a value can be borrowed as. Here these calls take a [`Key`], and
 //! insertions a [`ToValue`], which makes the value only where it is absent.
 ghost use Rattle.std.specs.Prelude.{◌≡◌, ◌+◌, ◌<◌, ◌≤◌, length, min, IsTrue, IsOk, IfOk, IfErr, OnOk, OnErr};
-ghost use Rattle.hashbag_core.specs.Bag.{IsShorterBy, Lends};
-ghost use Rattle.hashbag_core.specs.Held.{HasFewer};
-ghost use Rattle.hashbag_core.specs.Keys.{count_named, stored_named, RefusesNamed, InsertsNamed};
-ghost use Rattle.hashbag_core.specs.Occurrences.{IsBag};
+ghost use Rattle.hashbag_core.specs.Keys.{RefusesNamed, InsertsNamed};
+ghost use Rattle.hashbag_core.specs.Occurrences.{count_named, stored_named, IsBag};
 
 use crate::bag::{BagError, HashBag};
-use hashbag_table::{Key, ToValue};
+use hashbag_table::ToValue;
 use std::hash::{BuildHasher, Hash};
 
 impl<T: Eq + Hash + Drop, S: BuildHasher + Drop> HashBag<T, S> {
-    /// How often the value occurs that a key names, 0 where it is absent: `words.contains_key("the")`, for a bag of `String`s.
-    ///
-    /// It takes no memory, and hashes the key once.
-    ///
-    /// ```
-    /// let mut words: HashBag<String> = HashBag::new(alloc);
-    /// words.insert_many_key("the", 2)?;
-    /// words.contains_key("the"); // 2
-    /// words.contains_key("cat"); // 0
-    /// Ok(())
-    /// ```
-    #[inline(always)]
-    pub fn contains_key<Q: Key<T>>(&self, key: Q) -> usize
-        ensures count { result ≡ count_named (Q.names key) self.now.items }
-        ensures bag { IsBag T.eq self.now.most self.now.items }
-    {
-        match self.table.get_key(key) {
-            Some((_, count)) => count,
-            None => 0,
-        }
-    }
-
-    /// The stored instance of the value that a key names and how often it occurs, or `None` where it is absent:
-    /// `if let Some((word, many)) = words.get_key("the") { .. }`.
-    ///
-    /// It takes no memory, and hashes the key once.
-    ///
-    /// ```
-    /// let mut words: HashBag<String> = HashBag::new(alloc);
-    /// words.insert_many_key("the", 2)?;
-    /// words.get_key("the"); // Some(("the", 2))
-    /// words.get_key("cat"); // None
-    /// Ok(())
-    /// ```
-    #[inline(always)]
-    pub fn get_key<Q: Key<T>>(&self, key: Q) -> Option<(&T, usize)>
-        ensures found { Lends result (stored_named (Q.names key) self.now.items) }
-        ensures bag { IsBag T.eq self.now.most self.now.items }
-    {
-        self.table.get_key(key)
-    }
-
     /// Adds one occurrence of the value that a key names, and answers how many there were: [`HashBag::insert_many_key`] with 1.
     ///
     /// `words.insert_key("the")?` makes a `String` only the first time.
@@ -113,35 +69,12 @@ impl<T: Eq + Hash + Drop, S: BuildHasher + Drop> HashBag<T, S> {
             return Err(BagError::TooMany);
         }
         if n == 0 {
-            return Ok(self.contains_key(key));
+            return Ok(self.contains(key));
         }
         let before = self.table.add_key(key, n)?;
         self.len += n;
         // `held` is called for its clause on what the slots hold, which the proof cites.
         self.table.held();
         Ok(before)
-    }
-
-    /// Takes one occurrence of the value that a key names, if there is one, and answers how many there were: `words.remove_key("the")`.
-    /// With the last occurrence the stored instance is dropped.
-    ///
-    /// It takes no memory, and hashes the key once.
-    ///
-    /// ```
-    /// let mut words: HashBag<String> = HashBag::new(alloc);
-    /// words.insert_key("the")?;
-    /// words.remove_key("the"); // 1
-    /// words.remove_key("the"); // 0
-    /// Ok(())
-    /// ```
-    pub fn remove_key<Q: Key<T>>(&mut self, key: Q) -> usize
-        ensures before { result ≡ count_named (Q.names key) self.old.items }
-        ensures fewer { (v : T) → IsTrue (Q.names key v) → HasFewer T.eq v 1 self.old self.new }
-        ensures none { result ≡ 0 → self.new ≡ self.old }
-        ensures len { IsShorterBy (min result 1) self.old self.new }
-    {
-        let before = self.table.take_key(key, 1);
-        self.len -= before.min(1);
-        before
     }
 }

@@ -32,7 +32,7 @@ fn move_value<T: Eq + Hash, S: BuildHasher>(
     requires fits { live < 2 ^ 63 }
     requires filled { IsFilled older.old place }
     requires counted { (e : T × ℕ) → cell_at older.old place ≡ Some e → 0 < e.1 }
-    requires absent { (e : T × ℕ) → cell_at older.old place ≡ Some e → IsAbsent (λ v. T.eq v e.0) (slots_of tags.old cells.old) }
+    requires absent { (e : T × ℕ) → cell_at older.old place ≡ Some e → IsAbsent (T.eq e.0) (slots_of tags.old cells.old) }
     requires reached { IsReached (hash_under T.hash_input S.BuildHasher S.Hasher.Hasher state.now) (columns tags.old cells.old) }
     ensures live { result ≡ live + 1 }
     ensures kept { IsColumns T.eq tags.new cells.new (live + 1) removed.new }

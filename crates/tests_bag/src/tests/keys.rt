@@ -44,11 +44,11 @@ fn insert_rest(bag: &mut HashBag<String>, word: &str) -> Result<usize, BagError>
 }
 
 fn get(alloc: Global, bag: &HashBag<String>, word: &str) -> Result<String, Fail> {
-    debug_of(alloc, &bag.get_key(word))
+    debug_of(alloc, &bag.get(word))
 }
 
 fn remove(bag: &mut HashBag<String>, word: &str) -> usize {
-    bag.remove_key(word)
+    bag.remove(word)
 }
 
 fn answer(

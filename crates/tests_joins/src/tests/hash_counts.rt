@@ -397,11 +397,11 @@ fn texts_to(alloc: Global, n: usize) -> Result<HashBag<String, CountingState>, F
 fn call_by_a_key(bag: &mut HashBag<String, CountingState>, call: &str) -> Result<(), Fail> {
     let (verb, key) = halves(call, " ")?;
     match verb {
-        "contains_key" => done(bag.contains_key(key)),
-        "get_key" => done(bag.get_key(key).is_some()),
+        "contains_key" => done(bag.contains(key)),
+        "get_key" => done(bag.get(key).is_some()),
         "insert_key" => done(bag.insert_key(key)?),
         "insert_many_key" => done(bag.insert_many_key(key, 3)?),
-        "remove_key" => done(bag.remove_key(key)),
+        "remove_key" => done(bag.remove(key)),
         _ => Err(Fail::new(format_args!("no such call: {call}"))),
     }
 }

@@ -151,7 +151,7 @@ fn rising<T: Ord + Debug + Copy>(alloc: Global, items: Vec<T>) -> Result<String,
 fn is_first_before<S: BuildHasher + Drop>(bag: &HashBag<u64, S>, values: &[&u64]) -> bool {
     let mut ended = false;
     for value in values {
-        if bag.contains(value) == 0 {
+        if bag.contains(*value) == 0 {
             ended = true;
         } else if ended {
             return false;

@@ -51,15 +51,15 @@ invariant_of-self-2 g c =
     ] in
     subst (λ (k : ℕ). IsTallied eq c.put_instance.new.self.entries (c.self.inside.len - k + 1) c.self.inside.most) (sym c.in_ok-before.ensures.before)
     (tally_put g.met.T.Eq.laws v 1 es c.put_instance.new.self.entries c.self.inside.len c.self.invariant c.put_instance.ensures.counted (omega arith)
-    (put_occurrences g.met.T.Eq.laws v 1 es c.put_instance.new.self.entries c.self.invariant.counted c.in_ok-before.ensures.put.means))
+    (put_occurrences g.met.T.Eq.laws v 1 es c.put_instance.new.self.entries c.self.invariant.counted c.in_ok-before.ensures.stored.map.means))
 
 pub returns-clause-before : goal.returns-clause-before
 returns-clause-before g c = rw (← c.self.view_is) (c.in_ok-before.ensures.before ∙ sym (count_occurrences g.met.T.Eq.laws c.args.value _ c.self.invariant.counted.distinct))
 
 pub returns-clause-put : goal.returns-clause-put
 returns-clause-put g c = rw (← c.self.view_is) (record {
-  means = put_occurrences g.met.T.Eq.laws c.args.value 1 _ _ c.self.invariant.counted c.in_ok-before.ensures.put.means;
-  hasher = c.in_ok-before.ensures.put.hasher;
+  means = put_occurrences g.met.T.Eq.laws c.args.value 1 _ _ c.self.invariant.counted c.in_ok-before.ensures.stored.map.means;
+  hasher = c.in_ok-before.ensures.stored.map.hasher;
   limit = refl;
   bag = bag_from_tally g.met.T.Eq.laws _ _ (invariant_of-self-2 g c);
 })
@@ -76,14 +76,14 @@ returns-clause-len g c =
 pub returns-in_err-before-clause-absent : goal.returns-in_err-before-clause-absent
 returns-in_err-before-clause-absent g c =
     let absent : count g.T.PartialEq.eq c.args.value c.args.self.now.items ≡ 0 =
-    rw (← c.self.view_is) (count_occurrences g.met.T.Eq.laws c.args.value _ c.self.invariant.counted.distinct ∙ count_of_entry g.met.T.Eq.laws c.args.value _ _ (sym c.in_err-before.ensures.absent)) in
+    rw (← c.self.view_is) (count_occurrences g.met.T.Eq.laws c.args.value _ c.self.invariant.counted.distinct ∙ count_of_entry g.met.T.Eq.laws c.args.value _ _ (sym c.in_err-before.ensures.fails.absent)) in
     OnErr-from _ absent
 
 pub returns-in_err-before-clause-refused : goal.returns-in_err-before-clause-refused
 returns-in_err-before-clause-refused g c =
     let error = err_from_is_err_and c.from_residual.result c.from_residual.ensures.1 in
     let absent : count g.T.PartialEq.eq c.args.value (occurrences c.self.inside.table.entries) ≡ 0 =
-    count_occurrences g.met.T.Eq.laws c.args.value _ c.self.invariant.counted.distinct ∙ count_of_entry g.met.T.Eq.laws c.args.value _ _ (sym c.in_err-before.ensures.absent) in
+    count_occurrences g.met.T.Eq.laws c.args.value _ c.self.invariant.counted.distinct ∙ count_of_entry g.met.T.Eq.laws c.args.value _ _ (sym c.in_err-before.ensures.fails.absent) in
     let sum = c.self.invariant.sum in
     let within = c.self.invariant.fits in
     let fits : length (occurrences c.self.inside.table.entries) - count g.T.PartialEq.eq c.args.value (occurrences c.self.inside.table.entries) + 1 ≤ c.self.inside.most = elim c.else-self.branch [
@@ -96,19 +96,19 @@ returns-in_err-before-clause-refused g c =
     rw (error.1, error.2, ← c.self.view_is) (omega (arith, absent, fits), omega arith, absent)
 
 pub returns-in_err-before-clause-takes : goal.returns-in_err-before-clause-takes
-returns-in_err-before-clause-takes g c = λ fits some. absurd (false≢true (c.in_err-before.ensures.takes (rw (← c.self.view_is) at some)))
+returns-in_err-before-clause-takes g c = λ fits some. absurd (false≢true (c.in_err-before.ensures.fails.takes (rw (← c.self.view_is) at some)))
 
 pub returns-clause-arrives : goal.returns-clause-arrives
-returns-clause-arrives g c = λ none. rw (← c.self.view_is) (c.in_ok-before.ensures.arrives (absent_in_table g.met.T.Eq.laws c.args.value _ c.self.invariant.counted (rw (← c.self.view_is) at none)))
+returns-clause-arrives g c = λ none. rw (← c.self.view_is) (c.in_ok-before.ensures.stored.arrives (absent_in_table g.met.T.Eq.laws c.args.value _ c.self.invariant.counted (rw (← c.self.view_is) at none)))
 
 pub returns-clause-slot : goal.returns-clause-slot
-returns-clause-slot g c = λ there. rw (← c.self.view_is) (c.put_instance.ensures.slot (present_in_table g.met.T.Eq.laws c.args.value _ c.self.invariant.counted (rw (← c.self.view_is) at there)))
+returns-clause-slot g c = λ there. rw (← c.self.view_is) (c.in_ok-before.ensures.stored.slot (present_in_table g.met.T.Eq.laws c.args.value _ c.self.invariant.counted (rw (← c.self.view_is) at there)))
 
 pub returns-clause-room : goal.returns-clause-room
-returns-clause-room g c = λ some. rw (← c.self.view_is) (c.in_ok-before.ensures.room (rw (← c.self.view_is) at some))
+returns-clause-room g c = λ some. rw (← c.self.view_is) (c.in_ok-before.ensures.stored.room (rw (← c.self.view_is) at some))
 
 pub returns-clause-same_room : goal.returns-clause-same_room
-returns-clause-same_room g c = λ some. rw (← c.self.view_is) (c.in_ok-before.ensures.same_room some)
+returns-clause-same_room g c = λ some. rw (← c.self.view_is) (c.in_ok-before.ensures.stored.same_room (let before = c.in_ok-before.ensures.before in omega (arith, before, some)))
 
 pub returns-clause-new_set : goal.returns-clause-new_set
-returns-clause-new_set g c = λ none. rw (← c.self.view_is) (distinct_put g.met.T.Eq.laws c.args.value 1 _ _ c.self.invariant.counted c.put_instance.ensures.counted (rw (← c.self.view_is) at none) c.in_ok-before.ensures.put.means)
+returns-clause-new_set g c = λ none. rw (← c.self.view_is) (distinct_put g.met.T.Eq.laws c.args.value 1 _ _ c.self.invariant.counted c.put_instance.ensures.counted (rw (← c.self.view_is) at none) c.in_ok-before.ensures.stored.map.means)

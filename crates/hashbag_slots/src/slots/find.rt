@@ -1,5 +1,5 @@
-//! Look-ups by keys: by a value that is lent, or by what names it.
-ghost use Rattle.std.specs.Prelude.{◌≡◌, ℕ, ◌<◌, ◌≤◌, length, false, IfSome, IfNone, IfOk, IfErr, OnErr, Some};
+//! Look-ups by a key: by a value that is lent, or by what names it.
+ghost use Rattle.std.specs.Prelude.{◌≡◌, ℕ, ◌<◌, ◌≤◌, length, false, IfSome, IfNone, Some};
 ghost use Rattle.std.specs.Map.{lookup_entry};
 ghost use Rattle.hashbag_slots.specs.FirstGroup.{IfFound, IfAbsent};
 ghost use Rattle.hashbag_slots.specs.Hashing.{hash_under};
@@ -8,24 +8,29 @@ ghost use Rattle.hashbag_slots.specs.Columns.{IsReached};
 
 use crate::key::Key;
 use crate::probe::{FirstGroup, find_place, is_empty_before, probe_first_group};
-use crate::slots::Slots;
+use crate::slots::{Slots, hash_of};
 use std::hash::{BuildHasher, Hash};
 
-/// The 64-bit hash of a key under a state.
-#[inline(always)]
-pub fn hash_key<Q: Hash + Copy, S: BuildHasher>(state: &S, key: Q) -> u64
-    ensures { result ≡ hash_under Q.hash_input S.BuildHasher S.Hasher.Hasher state.now key }
-{
-    state.hash_one(key)
-}
-
 impl<T: Eq + Hash> Slots<T> {
-    /// The place of the Live slot whose value a key names, or `None` where there is none.
+    /// Returns the place of the Live slot whose value a key names, or `None` if there is none.
     ///
-    /// The key's hash is handed in, under a state under which the table's values are found. It probes once, past Removed and Moved
-    /// slots.
+    /// # Complexity
+    ///
+    /// It hashes the key once, under a state under which the table's values are found, and probes once, past Removed and Moved slots.
     #[inline(always)]
-    pub fn find_key<S: BuildHasher, Q: Key<T>>(&self, state: &S, hash: u64, key: Q) -> Option<usize>
+    pub fn find<S: BuildHasher, Q: Key<T>>(&self, state: &S, key: Q) -> Option<usize>
+        requires reached { IsReached (hash_under T.hash_input S.BuildHasher S.Hasher.Hasher state.now) self.now }
+        ensures found { IfSome result (HoldsAt (Q.names key) self.now.slots) }
+        ensures absent { IfNone result (IsAbsent (Q.names key) self.now.slots) }
+        ensures map { entry_at self.now.slots result ≡ lookup_entry (Q.names key) (entries self.now.slots) }
+    {
+        let hash = hash_of(state, key);
+        self.find_hashed(state, hash, key)
+    }
+
+    /// Finds as [`Slots::find`] does, with the key's hash under the state. It hashes nothing.
+    #[inline(always)]
+    pub fn find_hashed<S: BuildHasher, Q: Key<T>>(&self, state: &S, hash: u64, key: Q) -> Option<usize>
         requires hashed { hash ≡ hash_under Q.hash_input S.BuildHasher S.Hasher.Hasher state.now key }
         requires reached { IsReached (hash_under T.hash_input S.BuildHasher S.Hasher.Hasher state.now) self.now }
         ensures found { IfSome result (HoldsAt (Q.names key) self.now.slots) }
@@ -35,9 +40,9 @@ impl<T: Eq + Hash> Slots<T> {
         find_place(self.tags.as_slice(), &self.cells, state, hash, key)
     }
 
-    /// As `find_key`, if no slot before the place `from` is Live.
+    /// Finds as [`Slots::find_hashed`] does, if none of the first `from` slots is Live.
     #[inline(always)]
-    pub fn find_key_uncarried<S: BuildHasher, Q: Key<T>>(
+    pub fn find_uncarried<S: BuildHasher, Q: Key<T>>(
         &self,
         state: &S,
         hash: u64,
@@ -56,14 +61,14 @@ impl<T: Eq + Hash> Slots<T> {
         if is_empty_before(self.tags.as_slice(), hash, from) {
             return None;
         }
-        self.find_key(state, hash, key)
+        self.find_hashed(state, hash, key)
     }
 
-    /// What the first 16 slots on the path of a key's hash show, which is handed in: the place of the Live slot whose value the key
-    /// names, or, where no slot has it, the first place whose slot is not Live, into which `place_at` puts it. `Open` where they don't
-    /// tell, or where the table ends before the sixteenth: `find_key` then does.
+    /// Returns what the first 16 slots on the path of a key's hash show: the place of the Live slot whose value the key names, or, if no
+    /// slot has it, the first place whose slot is not Live, into which `place_at` puts it. It is `Open` if they don't decide, or if the
+    /// table ends before the sixteenth: [`Slots::find_hashed`] then decides.
     #[inline(always)]
-    pub fn probe_key_first_group<S: BuildHasher, Q: Key<T>>(
+    pub fn probe_first_group<S: BuildHasher, Q: Key<T>>(
         &self,
         state: &S,
         hash: u64,
