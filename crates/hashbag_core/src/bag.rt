@@ -389,7 +389,7 @@ impl<T: Eq + Hash + Drop, S: BuildHasher + Drop> HashBag<T, S> {
         }
         let before = self.table.add(value, n)?;
         self.len += n;
-        // `held` is called for its clause on what the slots hold, which the proof cites.
+        // `held` is called for its clause on what the slots hold, which the proof names.
         self.table.held();
         Ok(before)
     }

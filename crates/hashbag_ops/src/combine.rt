@@ -107,7 +107,7 @@ fn insert_beside_spare<T: Eq + Hash + Drop, S: BuildHasher + Drop, S2: BuildHash
     ensures slots { length into.old.tables.newer ≤ length into.new.tables.newer }
     ensures kept { HasRoomForLacked T.eq from into.old.items into.old.tables → into.new.tables.built ≡ into.old.tables.built }
 {
-    // `len` is called for its clause that the list is a bag's, which the proof cites.
+    // `len` is called for its clause that the list is a bag's, which the proof names.
     let _len = into.len();
     let mut pairs = from.into_iter();
     'pairs: while let Some((value, n)) = pairs.next() {
@@ -156,7 +156,7 @@ fn lacked_by<T: Eq + Hash + Drop, S: BuildHasher + Drop, S2: BuildHasher + Drop>
     if bag.is_empty() {
         return from.set_iter().len();
     }
-    // `limit` is called for its clause that the occurrences can be counted, which the proof cites.
+    // `limit` is called for its clause that the occurrences can be counted, which the proof names.
     let _limit = from.limit();
     from.not_in(bag).count()
 }

@@ -86,7 +86,7 @@ fn insert<T: Eq + Hash + Drop, S: BuildHasher + Drop>(
     ensures takes { HasRoomFor T.eq bag.old (insert_row T.eq bag.old.most value n bag.old.items).0 → IsOk result }
     ensures room { OnOk result (MovesIn T.eq (insert_row T.eq bag.old.most value n bag.old.items).0 bag.old bag.new) }
 {
-    // `len` is called for its clause that the list is a bag's, which the proof cites.
+    // `len` is called for its clause that the list is a bag's, which the proof names.
     let _len = bag.len();
     match bag.insert_many(value, n) {
         Ok(before) => Ok(Reply::Count(before)),
@@ -109,7 +109,7 @@ fn replace<T: Eq + Hash + Drop, S: BuildHasher + Drop>(
     ensures takes { HasRoomFor T.eq bag.old (replace_row T.eq bag.old.most value bag.old.items).0 → IsOk result }
     ensures room { OnOk result (MovesIn T.eq (replace_row T.eq bag.old.most value bag.old.items).0 bag.old bag.new) }
 {
-    // `len` is called for its clause that the list is a bag's, which the proof cites.
+    // `len` is called for its clause that the list is a bag's, which the proof names.
     let _len = bag.len();
     match bag.replace(value) {
         Ok(before) => Ok(Reply::Count(before)),
@@ -191,7 +191,7 @@ fn entry_or<T: Eq + Hash + Drop, S: BuildHasher + Drop>(
     ensures takes { HasRoomFor T.eq bag.old (entry_or_row T.eq bag.old.most value quantity bag.old.items).0 → IsOk result }
     ensures room { OnOk result (MovesIn T.eq (entry_or_row T.eq bag.old.most value quantity bag.old.items).0 bag.old bag.new) }
 {
-    // `len` is called for its clause that the list is a bag's, which the proof cites.
+    // `len` is called for its clause that the list is a bag's, which the proof names.
     let _len = bag.len();
     match bag.entry(value).or_insert_many(quantity) {
         Ok(count) => Ok(Reply::Count(count)),
@@ -216,7 +216,7 @@ fn retain<T: Eq + Hash + Drop, S: BuildHasher + Drop>(bag: &mut HashBag<T, S>, l
     ensures left { IsBagOf T.eq bag.old (retain_row T.eq list.now bag.old.items).0 bag.new }
     ensures room { KeepsRoom 0 bag.old.tables bag.new.tables }
 {
-    // `len` is called for its clause that the list is a bag's, which the proof cites.
+    // `len` is called for its clause that the list is a bag's, which the proof names.
     let _len = bag.len();
     bag.retain(
         |value: &T, _count: usize| -> usize
@@ -263,7 +263,7 @@ fn apply<T: Eq + Hash + Drop, S: BuildHasher + Drop>(
     ensures fewer { OnOk result (is_about_room step ≡ true → is_reserve step ≡ false
         → length bag.new.tables.newer ≤ length bag.old.tables.newer) }
 {
-    // `len` is called for its clause that the list is a bag's, which the proof cites.
+    // `len` is called for its clause that the list is a bag's, which the proof names.
     let _len = bag.len();
     match step {
         Step::Insert(value) => insert(bag, value, 1),
@@ -344,14 +344,14 @@ pub fn run<T: Eq + Hash + Drop, S: BuildHasher + Drop>(
     // it back left a smaller table, or all stayed.
     ensures tables { AreTablesInTurn T.eq (ran bag.old bag.new steps.items replies.old.items replies.new.items) }
 {
-    // `slots` and `waiting` are called for their clauses on the tables, which the proof cites.
+    // `slots` and `waiting` are called for their clauses on the tables, which the proof names.
     let _slots = bag.slots();
     let _waiting = bag.waiting();
     replies.reserve(steps.len())?;
     for step in steps {
         let reply = apply(bag, step)?;
         replies.push_reserved(reply);
-        // `slots` and `waiting` are called for their clauses on the tables, which the proof cites.
+        // `slots` and `waiting` are called for their clauses on the tables, which the proof names.
         let _slots = bag.slots();
         let _waiting = bag.waiting();
     }

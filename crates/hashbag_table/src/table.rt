@@ -126,7 +126,7 @@ impl<T: Eq + Hash + Drop, S: BuildHasher + Drop> Table<T, S> {
         ensures len { result ≡ length self.now.entries }
         ensures counted { IsCounted T.eq self.now.entries }
     {
-        // `slots` is called for its clauses, which the proof cites: how many slots there can be.
+        // `slots` is called for its clauses, which the proof names: how many slots there can be.
         let _slots = self.newer.slots();
         self.newer.live() + self.older.live()
     }

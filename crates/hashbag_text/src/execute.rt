@@ -17,7 +17,7 @@ pub const DONE: u8 = 0;
 /// A line of the input was bad.
 pub const BAD_LINE: u8 = 2;
 
-/// Memory was refused.
+/// An allocation failed.
 pub const NO_MEMORY: u8 = 3;
 
 /// A read or a write failed.

@@ -7,7 +7,7 @@ use std::str::{self, Split};
 pub enum LinesError {
     /// The line of this number is no step. Lines are counted from 1.
     BadLine(u64),
-    /// Memory was refused.
+    /// An allocation failed.
     Memory,
 }
 

@@ -58,7 +58,7 @@ impl<T: Eq + Hash + Drop> HashBag<T, FixedState> {
         ensures beyond { MOST_VALUES < n → result ≡ Err BagError.Memory }
         ensures memory { OnErr result (result ≡ Err BagError.Memory) }
 
-        // The table of slots that was made.
+        // The new table of slots.
         ensures least { IfOk result (λ bag. IsLeast 0 n (length bag.tables.newer)) }
         ensures packed { IfOk result (λ bag. IsPacked bag.tables) }
         ensures room { IfOk result (λ bag. n ≤ room bag.tables) }

@@ -58,7 +58,7 @@ pub fn run_pair<T: Eq + Hash + Drop, S: BuildHasher + Drop, S2: BuildHasher + Dr
     ensures first_bounded { IsBoundedRun T.eq (ran a.old a.new steps_a.items replies_a.old.items replies_a.new.items) }
     ensures second_bounded { IsBoundedRun T.eq (ran b.old b.new steps_b.items replies_b.old.items replies_b.new.items) }
 {
-    // `waiting` is called for its clause that an older table is smaller, which the proof cites.
+    // `waiting` is called for its clause that an older table is smaller, which the proof names.
     let _waiting_a = a.waiting();
     let _waiting_b = b.waiting();
     replies_a.reserve(steps_a.len())?;

@@ -167,7 +167,7 @@ impl<T: Eq + Hash + Drop, S: BuildHasher + Drop> Table<T, S> {
         ensures hasher { self.new.hasher ≡ self.old.hasher }
         ensures counted { IsCounted T.eq self.new.entries }
     {
-        // `slots` is called for its clauses, which the proof cites: how many slots there can be.
+        // `slots` is called for its clauses, which the proof names: how many slots there can be.
         let _slots = self.older.slots();
         if let Spot::Newer(place) = spot {
             self.newer.set_at(place, n);
