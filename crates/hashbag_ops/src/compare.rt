@@ -5,10 +5,13 @@ ghost use Rattle.hashbag.specs.Occurrences.{count};
 use hashbag::HashBag;
 use std::hash::{BuildHasher, Hash};
 
-/// Whether a bag holds all of another: of each value at least as many as `other` has.
+/// Returns whether a bag holds all of another: of each value at least as many as `other` has.
 ///
-/// It takes no memory, and stops at the first value of which there are too few. Each distinct value of `other` is hashed once at
-/// most.
+/// # Complexity
+///
+/// It hashes each distinct value of `other` at most once, stops at the first value of which there are too few, and doesn't allocate.
+///
+/// # Examples
 ///
 ///     let mut stock: HashBag<&str> = HashBag::new(alloc);
 ///     stock.insert_many("bolt", 5)?;
@@ -25,10 +28,13 @@ pub fn contains_all<T: Eq + Hash + Drop, S: BuildHasher + Drop, S2: BuildHasher 
     other.difference(bag).next().is_none()
 }
 
-/// Whether no value is in both bags.
+/// Returns whether no value is in both bags.
 ///
-/// It takes no memory, walks over the bag that has fewer distinct values, and stops at the first that the other has too. Each of
-/// these is hashed once.
+/// # Complexity
+///
+/// It walks over the bag that has fewer distinct values, hashes each once, stops at the first that the other has too, and doesn't allocate.
+///
+/// # Examples
 ///
 ///     let mut fruit: HashBag<&str> = HashBag::new(alloc);
 ///     fruit.insert("apple")?;
@@ -49,7 +55,7 @@ pub fn is_disjoint<T: Eq + Hash + Drop, S: BuildHasher + Drop, S2: BuildHasher +
     }
 }
 
-// Whether no value of the bag that is walked over is in the other one.
+// Returns whether no value of the bag that is walked over is in the other one.
 fn has_none_of<T: Eq + Hash + Drop, S: BuildHasher + Drop, S2: BuildHasher + Drop>(
     walked: &HashBag<T, S>,
     other: &HashBag<T, S2>,
