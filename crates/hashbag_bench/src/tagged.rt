@@ -6,7 +6,7 @@ ghost use Rattle.std.specs.Hash as fed;
 
 use std::hash::{Hash, Hasher};
 
-/// A key with a tag. Two of them are equal where their keys are, so the tag tells equal instances apart.
+/// A key with a tag. Two of them are equal if their keys are, so the tag distinguishes equal instances.
 #[derive(Clone, Copy, Debug)]
 pub struct Tagged {
     /// What is compared and hashed.

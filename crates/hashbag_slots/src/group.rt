@@ -97,7 +97,7 @@ pub fn match_tag_before_empty(tags: &[u8], from: usize, tag: u8) -> (u64, bool)
 {
     let empty = match_tag(tags, from, EMPTY);
     let equal = match_tag(tags, from, tag);
-    // `empty` less one has the bits below the first Empty tag set, that of this tag not, and else those of `empty`, which `equal` hasn't. If no
-    // tag is Empty, all bits are set.
+    // `empty` less one has the bits below the first Empty tag set, that of this tag not, and above it those of `empty`, which aren't set in
+    // `equal`. If no tag is Empty, all bits are set.
     (equal & empty.wrapping_sub(1), empty != 0)
 }
