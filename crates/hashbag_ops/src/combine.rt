@@ -35,14 +35,17 @@ use std::iter::ExactSizeIterator;
 ///
 /// # Examples
 ///
-///     let mut stock: HashBag<&str> = HashBag::new(alloc);
-///     stock.insert_many("bolt", 2)?;
-///     let mut delivery: HashBag<&str> = HashBag::new(alloc);
-///     delivery.insert_many("bolt", 3)?;
-///     delivery.insert("nut")?;
-///     merge(&mut stock, delivery)?;
-///     assert_eq!(stock.contains(&"bolt"), 5);
-///     assert_eq!(stock.len(), 6);
+/// ```
+/// let mut stock: HashBag<&str> = HashBag::new(alloc);
+/// stock.insert_many("bolt", 2)?;
+/// let mut delivery: HashBag<&str> = HashBag::new(alloc);
+/// delivery.insert_many("bolt", 3)?;
+/// delivery.insert("nut")?;
+/// hashbag_ops::merge(&mut stock, delivery)?;
+/// stock.contains(&"bolt"); // 5
+/// stock.len(); // 6
+/// Ok(())
+/// ```
 pub fn merge<T: Eq + Hash + Drop, S: BuildHasher + Drop, S2: BuildHasher + Drop>(
     into: &mut HashBag<T, S>,
     from: HashBag<T, S2>,
@@ -178,13 +181,16 @@ fn lacked_by<T: Eq + Hash + Drop, S: BuildHasher + Drop, S2: BuildHasher + Drop>
 ///
 /// # Examples
 ///
-///     let mut all: HashBag<&str> = HashBag::new(alloc);
-///     let mut day: HashBag<&str> = HashBag::new(alloc);
-///     day.insert_many("bolt", 3)?;
-///     merge_ref(&mut all, &day)?;
-///     merge_ref(&mut all, &day)?;
-///     assert_eq!(all.contains(&"bolt"), 6);
-///     assert_eq!(day.contains(&"bolt"), 3);
+/// ```
+/// let mut all: HashBag<&str> = HashBag::new(alloc);
+/// let mut day: HashBag<&str> = HashBag::new(alloc);
+/// day.insert_many("bolt", 3)?;
+/// hashbag_ops::merge_ref(&mut all, &day)?;
+/// hashbag_ops::merge_ref(&mut all, &day)?;
+/// all.contains(&"bolt"); // 6
+/// day.contains(&"bolt"); // 3
+/// Ok(())
+/// ```
 pub fn merge_ref<
     T: Eq + Hash + Clone + Drop,
     S: BuildHasher + Drop,
@@ -216,14 +222,17 @@ pub fn merge_ref<
 ///
 /// # Examples
 ///
-///     let mut stock: HashBag<&str> = HashBag::new(alloc);
-///     stock.insert_many("bolt", 5)?;
-///     stock.insert("nut")?;
-///     let mut order: HashBag<&str> = HashBag::new(alloc);
-///     order.insert_many("bolt", 3)?;
-///     keep_common(&mut stock, &order);
-///     assert_eq!(stock.contains(&"bolt"), 3);
-///     assert_eq!(stock.contains(&"nut"), 0);
+/// ```
+/// let mut stock: HashBag<&str> = HashBag::new(alloc);
+/// stock.insert_many("bolt", 5)?;
+/// stock.insert("nut")?;
+/// let mut order: HashBag<&str> = HashBag::new(alloc);
+/// order.insert_many("bolt", 3)?;
+/// hashbag_ops::keep_common(&mut stock, &order);
+/// stock.contains(&"bolt"); // 3
+/// stock.contains(&"nut"); // 0
+/// Ok(())
+/// ```
 pub fn keep_common<T: Eq + Hash + Drop, S: BuildHasher + Drop, S2: BuildHasher + Drop>(
     bag: &mut HashBag<T, S>,
     other: &HashBag<T, S2>,
@@ -250,14 +259,17 @@ pub fn keep_common<T: Eq + Hash + Drop, S: BuildHasher + Drop, S2: BuildHasher +
 ///
 /// # Examples
 ///
-///     let mut stock: HashBag<&str> = HashBag::new(alloc);
-///     stock.insert_many("bolt", 5)?;
-///     let mut sold: HashBag<&str> = HashBag::new(alloc);
-///     sold.insert_many("bolt", 3)?;
-///     sold.insert("nut")?;
-///     take_away(&mut stock, &sold);
-///     assert_eq!(stock.contains(&"bolt"), 2);
-///     assert_eq!(stock.contains(&"nut"), 0);
+/// ```
+/// let mut stock: HashBag<&str> = HashBag::new(alloc);
+/// stock.insert_many("bolt", 5)?;
+/// let mut sold: HashBag<&str> = HashBag::new(alloc);
+/// sold.insert_many("bolt", 3)?;
+/// sold.insert("nut")?;
+/// hashbag_ops::take_away(&mut stock, &sold);
+/// stock.contains(&"bolt"); // 2
+/// stock.contains(&"nut"); // 0
+/// Ok(())
+/// ```
 pub fn take_away<T: Eq + Hash + Drop, S: BuildHasher + Drop, S2: BuildHasher + Drop>(
     bag: &mut HashBag<T, S>,
     other: &HashBag<T, S2>,
@@ -293,14 +305,17 @@ pub fn take_away<T: Eq + Hash + Drop, S: BuildHasher + Drop, S2: BuildHasher + D
 ///
 /// # Examples
 ///
-///     let mut needed: HashBag<&str> = HashBag::new(alloc);
-///     needed.insert_many("bolt", 2)?;
-///     let mut other: HashBag<&str> = HashBag::new(alloc);
-///     other.insert_many("bolt", 3)?;
-///     other.insert("nut")?;
-///     keep_most(&mut needed, other)?;
-///     assert_eq!(needed.contains(&"bolt"), 3);
-///     assert_eq!(needed.contains(&"nut"), 1);
+/// ```
+/// let mut needed: HashBag<&str> = HashBag::new(alloc);
+/// needed.insert_many("bolt", 2)?;
+/// let mut other: HashBag<&str> = HashBag::new(alloc);
+/// other.insert_many("bolt", 3)?;
+/// other.insert("nut")?;
+/// hashbag_ops::keep_most(&mut needed, other)?;
+/// needed.contains(&"bolt"); // 3
+/// needed.contains(&"nut"); // 1
+/// Ok(())
+/// ```
 pub fn keep_most<T: Eq + Hash + Drop, S: BuildHasher + Drop, S2: BuildHasher + Drop>(
     into: &mut HashBag<T, S>,
     mut from: HashBag<T, S2>,

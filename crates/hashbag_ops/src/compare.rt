@@ -13,12 +13,15 @@ use std::hash::{BuildHasher, Hash};
 ///
 /// # Examples
 ///
-///     let mut stock: HashBag<&str> = HashBag::new(alloc);
-///     stock.insert_many("bolt", 5)?;
-///     let mut order: HashBag<&str> = HashBag::new(alloc);
-///     order.insert_many("bolt", 3)?;
-///     assert!(contains_all(&stock, &order));
-///     assert!(!contains_all(&order, &stock));
+/// ```
+/// let mut stock: HashBag<&str> = HashBag::new(alloc);
+/// stock.insert_many("bolt", 5)?;
+/// let mut order: HashBag<&str> = HashBag::new(alloc);
+/// order.insert_many("bolt", 3)?;
+/// hashbag_ops::contains_all(&stock, &order); // true
+/// hashbag_ops::contains_all(&order, &stock); // false
+/// Ok(())
+/// ```
 pub fn contains_all<T: Eq + Hash + Drop, S: BuildHasher + Drop, S2: BuildHasher + Drop>(
     bag: &HashBag<T, S>,
     other: &HashBag<T, S2>,
@@ -36,12 +39,15 @@ pub fn contains_all<T: Eq + Hash + Drop, S: BuildHasher + Drop, S2: BuildHasher 
 ///
 /// # Examples
 ///
-///     let mut fruit: HashBag<&str> = HashBag::new(alloc);
-///     fruit.insert("apple")?;
-///     let mut nuts: HashBag<&str> = HashBag::new(alloc);
-///     nuts.insert("hazel")?;
-///     assert!(is_disjoint(&fruit, &nuts));
-///     assert!(!is_disjoint(&fruit, &fruit));
+/// ```
+/// let mut fruit: HashBag<&str> = HashBag::new(alloc);
+/// fruit.insert("apple")?;
+/// let mut nuts: HashBag<&str> = HashBag::new(alloc);
+/// nuts.insert("hazel")?;
+/// hashbag_ops::is_disjoint(&fruit, &nuts); // true
+/// hashbag_ops::is_disjoint(&fruit, &fruit); // false
+/// Ok(())
+/// ```
 pub fn is_disjoint<T: Eq + Hash + Drop, S: BuildHasher + Drop, S2: BuildHasher + Drop>(
     a: &HashBag<T, S>,
     b: &HashBag<T, S2>,

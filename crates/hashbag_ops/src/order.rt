@@ -26,12 +26,15 @@ use std::hash::{BuildHasher, Hash};
 ///
 /// # Examples
 ///
-///     let mut words: HashBag<&str> = HashBag::new(alloc);
-///     words.insert_many("the", 3)?;
-///     words.insert("cat")?;
-///     let pairs = sorted(alloc, &words)?;
-///     assert_eq!(*pairs[0].0, "cat");
-///     assert_eq!(pairs[1].1, 3);
+/// ```
+/// let mut words: HashBag<&str> = HashBag::new(alloc);
+/// words.insert_many("the", 3)?;
+/// words.insert("cat")?;
+/// let pairs = hashbag_ops::sorted(alloc, &words)?;
+/// pairs[0].0; // "cat"
+/// pairs[1].1; // 3
+/// Ok(())
+/// ```
 pub fn sorted<'a, T: Ord + Hash + Drop, S: BuildHasher + Drop>(
     alloc: Global,
     bag: &'a HashBag<T, S>,
@@ -63,13 +66,16 @@ pub fn sorted<'a, T: Ord + Hash + Drop, S: BuildHasher + Drop>(
 ///
 /// # Examples
 ///
-///     let mut words: HashBag<&str> = HashBag::new(alloc);
-///     words.insert_many("the", 3)?;
-///     words.insert("sat")?;
-///     words.insert("cat")?;
-///     let pairs = most_common(alloc, &words, 2)?;
-///     assert_eq!(*pairs[0].0, "the");
-///     assert_eq!(*pairs[1].0, "cat");
+/// ```
+/// let mut words: HashBag<&str> = HashBag::new(alloc);
+/// words.insert_many("the", 3)?;
+/// words.insert("sat")?;
+/// words.insert("cat")?;
+/// let pairs = hashbag_ops::most_common(alloc, &words, 2)?;
+/// pairs[0].0; // "the"
+/// pairs[1].0; // "cat"
+/// Ok(())
+/// ```
 pub fn most_common<'a, T: Ord + Hash + Drop, S: BuildHasher + Drop>(
     alloc: Global,
     bag: &'a HashBag<T, S>,
@@ -98,10 +104,13 @@ pub fn most_common<'a, T: Ord + Hash + Drop, S: BuildHasher + Drop>(
 ///
 /// # Examples
 ///
-///     let mut words: HashBag<&str> = HashBag::new(alloc);
-///     words.insert_many("the", 3)?;
-///     words.insert("cat")?;
-///     assert_eq!(max_count(&words), 3);
+/// ```
+/// let mut words: HashBag<&str> = HashBag::new(alloc);
+/// words.insert_many("the", 3)?;
+/// words.insert("cat")?;
+/// hashbag_ops::max_count(&words); // 3
+/// Ok(())
+/// ```
 pub fn max_count<T: Eq + Hash + Drop, S: BuildHasher + Drop>(bag: &HashBag<T, S>) -> usize
     ensures most { (v : T) → count T.eq v bag.now.items ≤ result }
     ensures reached { 0 < result → (v : T) × (count T.eq v bag.now.items ≡ result) }
