@@ -1,4 +1,4 @@
-//! `Tagged`: values whose equal instances can be told apart.
+//! `Tagged`: values whose equal instances can be distinguished.
 ghost use Rattle.std.specs.Prelude.{◌==◌};
 ghost use Rattle.std.proofs.Common.{rules};
 ghost use Rattle.std.specs.Cmp.Rules.{comparing, hashing};

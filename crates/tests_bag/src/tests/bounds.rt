@@ -63,7 +63,7 @@ impl Left {
     }
 }
 
-// How many values came, and the slots of the tables that were made for them.
+// How many values were inserted, and the slots of the tables that were made for them.
 #[derive(Clone, Copy)]
 struct Paid {
     arrivals: usize,
@@ -120,7 +120,7 @@ fn run_all<S: BuildHasher + Drop>(
     Ok(())
 }
 
-// Does one step, and counts what it brings: a value that came where there was no room has a new table made for it.
+// Does one step, and counts what it brings: a value that was inserted without room has a new table made for it.
 fn run_one<S: BuildHasher + Drop>(
     alloc: Global,
     bag: &mut HashBag<u64, S>,
@@ -145,7 +145,7 @@ fn run_one<S: BuildHasher + Drop>(
     Ok(Paid { arrivals, ..paid })
 }
 
-// Does the steps one by one, and answers the slots of all tables that were made.
+// Does the steps one by one, and returns the slots of all tables that were made.
 fn built_by<S: BuildHasher + Drop>(
     alloc: Global,
     bag: &mut HashBag<u64, S>,

@@ -13,7 +13,7 @@ fn next_of(walk: &mut Walk<'_, u64>) -> Option<(u64, usize)> {
     }
 }
 
-// Checks what a walk gives, one after another, and that it has so many left before each.
+// Checks what a walk gives, one after another, and that it knows before each how many are left.
 fn gives(rt: &impl Abort, mut walk: Walk<'_, u64>, wanted: &[(u64, usize)]) {
     let mut left = wanted.len();
     for entry in wanted {
