@@ -362,7 +362,7 @@ fn runs_without_room(alloc: Global, values: &Values, refusals: &mut Refusals) ->
     run_both(alloc, values, (a, first), (b, second), refusals)
 }
 
-// Each bag is where its replies are.
+// Each bag is as its replies say.
 fn run_both<'a>(
     alloc: Global,
     values: &'a Values,

@@ -1,4 +1,4 @@
-//! What no clause says: that calls succeed and lie as the table of steps has them, that memory is given back and each value is
+//! What no clause says: that calls succeed, and values are where the table of steps has them, that memory is given back and each value is
 //! dropped once. It also has what the tests need: a state under which all values collide if a test wants that, and tables
 //! that know that their values are found.
 //!

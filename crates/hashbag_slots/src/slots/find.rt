@@ -57,7 +57,7 @@ impl<T: Eq + Hash> Slots<T> {
         ensures absent { IfNone result (IsAbsent (Q.names key) self.now.slots) }
         ensures map { entry_at self.now.slots result ≡ lookup_entry (Q.names key) (entries self.now.slots) }
     {
-        // If an Empty slot lies between home and `from`, the value is absent.
+        // If an Empty slot is between home and `from`, the value is absent.
         if is_empty_before(self.tags.as_slice(), hash, from) {
             return None;
         }

@@ -31,14 +31,14 @@ fn has_slots(rt: &impl Abort, slots: &Slots<u64>, wanted: (usize, usize, usize))
     answers(rt, "slots", 0, &got, &wanted);
 }
 
-// Checks at which places values lie.
+// Checks at which places values are.
 fn lie_at(rt: &impl Abort, table: &Numbers, rows: &[(u64, Option<usize>)]) {
     for (value, place) in rows {
         answers(rt, "find", *value, &table.find(value), place);
     }
 }
 
-// Checks at which places of the newer and of the older table values lie.
+// Checks at which places of the newer and of the older table values are.
 fn lie_in(
     rt: &impl Abort,
     pair: &Pair<u64, Constant>,

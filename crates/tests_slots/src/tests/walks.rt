@@ -57,7 +57,7 @@ fn both_give(
     Ok(())
 }
 
-// The values go past the last slot: 2 and 3 lie at the places 0 and 1.
+// The values go past the last slot: 2 and 3 are at the places 0 and 1.
 #[test]
 fn lent(rt: HostRuntime) -> Result<(), Fail> {
     let mut table = numbers(&rt, rt.alloc(), 15, 4)?;

@@ -69,7 +69,7 @@ fn quotas<T: Sample + Drop>(
     Ok(list)
 }
 
-// A step that seldom comes. All totals are far below the number that it says, if it says one.
+// A step that is rare. All totals are far below the number that it says, if it says one.
 fn rare_step<T: Drop>(choice: u64, value: T, amount: usize) -> Step<T> {
     match choice % 8 {
         0 => Step::InsertMany(value, usize::MAX - amount.min(3)),
