@@ -332,7 +332,7 @@ impl<T: JsonItem + Hash + Drop, S: BuildHasher + Drop> HashBag<T, S> {
     ///
     /// The first fault of the tree is returned, in this order:
     ///
-    /// - `NotAnArray` if the tree is neither, `BadLimit` if an object has a bad limit.
+    /// - `NotAnArray` if the tree has neither form of a bag's tree, `BadLimit` if an object has a bad limit.
     /// - Of the first pair with a fault: `NotAPair` if it is no array of two; `BadCount`; `BadItem`; `TooMany` if the total would pass the
     ///   limit.
     ///

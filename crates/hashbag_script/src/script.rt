@@ -308,7 +308,7 @@ fn apply<T: Eq + Hash + Drop, S: BuildHasher + Drop>(
 ///
 /// # Complexity
 ///
-/// The replies are allocated at once. Each step costs what its call costs, and a `Retain` reads its list once for each distinct value.
+/// The replies are allocated at once. Each step costs what its call costs, and a `Retain` reads its list for each distinct value.
 ///
 /// # Examples
 ///

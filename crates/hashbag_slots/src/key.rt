@@ -8,7 +8,7 @@ ghost use Rattle.std.specs.String.{string_bytes};
 
 use std::hash::Hash;
 
-/// What a value is looked up by: the value itself, lent, or a key that names it, as a text names a `String`.
+/// What values are looked up and removed by: a value that is lent, `&T`, or what names one, as a `&str` names a `String`.
 ///
 /// A key is hashed as the values that it names, so their slots are on its path. It names one value: all that are equal to one that it
 /// names, and no other.
