@@ -73,8 +73,10 @@ pub fn match_live(tags: &[u8], from: usize) -> u64
     live.to_bitmask()
 }
 
-/// Returns the place of the lowest set bit, and the bits without it. Bit i is of the place `from + i`. No place before `at` has its bit
-/// set; in the bits that are left, none up to the returned place has.
+/// Returns the place of the lowest set bit, and the bits without it. Bit i is of the place `from + i`.
+///
+/// The clauses say it of a test, if each bit shows whether its place passes it. The place is then the first that does, and the bits that are
+/// left show the places after it.
 #[inline(always)]
 pub fn take_lowest(bits: u64, from: usize) -> (usize, u64)
     requires some { 0 < bits }
