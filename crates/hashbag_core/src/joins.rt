@@ -189,7 +189,7 @@ impl<'a, T: Eq + Hash + Drop, S: BuildHasher + Drop, S2: BuildHasher + Drop> Mod
     ghost view = { λ a. subtracted a.counts };
 }
 
-/// Returns the first count less the second, limited to an `isize`: `isize::MAX` or `isize::MIN` if the difference is beyond it. It is the
+/// Returns the first count less the second: `isize::MAX` if the difference is above that, and `isize::MIN` if it is below that. It is the
 /// number that [`HashBag::signed_difference`] gives with a value.
 ///
 /// # Examples
