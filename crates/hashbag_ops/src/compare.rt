@@ -35,8 +35,8 @@ pub fn contains_all<T: Eq + Hash + Drop, S: BuildHasher + Drop, S2: BuildHasher 
 ///
 /// # Complexity
 ///
-/// It walks over the bag that has fewer distinct values, hashes each at most once, and stops at the first that the other has too. It doesn't
-/// allocate.
+/// It walks over the bag that has fewer distinct values, hashes each at most once, and stops at the first that the other has too. It
+/// doesn't allocate.
 ///
 /// # Examples
 ///

@@ -75,8 +75,8 @@ pub fn match_live(tags: &[u8], from: usize) -> u64
 
 /// Returns the place of the lowest set bit, and the bits without it. Bit i is of the place `from + i`.
 ///
-/// The clauses say it of a test, if each bit shows whether its place passes it. The place is then the first that does, and the bits that are
-/// left show the places after it.
+/// The clauses say it of a test, if each bit shows whether its place passes it. The place is then the first that does, and the bits that
+/// are left show the places after it.
 #[inline(always)]
 pub fn take_lowest(bits: u64, from: usize) -> (usize, u64)
     requires some { 0 < bits }
