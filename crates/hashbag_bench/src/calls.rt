@@ -1,10 +1,9 @@
 //! Rows of calls on a bag of numbers.
 //!
-//! A row is a line such as `insert_many 2 4 = 3`: a call and what it answers, as `Debug` writes it. Of a call that can be
-//! refused that is what it gives, or else the name of the error. A line such as `[inserts]` names the rows after it, which
-//! are on a new bag.
+//! A row is a line such as `insert_many 2 4 = 3`: a call and what it returns, as `Debug` writes it. Of a call that can fail that is the
+//! value in `Ok`, or else the name of the error. A line such as `[inserts]` names the rows after it, which are on a new bag.
 //!
-//! Each kind of call has a function with no contract of its own. So the proof carries nothing from one call to the next.
+//! Each kind of call has a function without a contract of its own. So the proof carries nothing from one call to the next.
 use crate::texts::{count, counts, debug_of, halves, is_text, number, rows_of, values};
 use hashbag::{BagError, HashBag};
 use std::alloc::Global;
@@ -15,7 +14,7 @@ use std::test::Fail;
 // A value with its count.
 type Count = (u64, usize);
 
-// What a call that can be refused gives, or its error.
+// Returns the text of what a call returned in `Ok`, or of its error.
 fn text_of<T: Debug + Drop>(alloc: Global, answered: Result<T, BagError>) -> Result<String, Fail> {
     match answered {
         Ok(answer) => debug_of(alloc, &answer),
@@ -58,7 +57,7 @@ fn set_limit<S: BuildHasher + Drop>(
     bag.set_limit(most)
 }
 
-/// Takes one of a value out.
+/// Removes one of a value.
 pub fn remove<S: BuildHasher + Drop>(bag: &mut HashBag<u64, S>, value: u64) -> usize {
     bag.remove(&value)
 }
@@ -105,7 +104,7 @@ fn finish_carry<S: BuildHasher + Drop>(bag: &mut HashBag<u64, S>) {
     bag.finish_carry();
 }
 
-// How many values a drain gives.
+// Returns how many values a drain gives.
 fn drain<S: BuildHasher + Drop>(bag: &mut HashBag<u64, S>) -> usize {
     bag.drain().count()
 }
@@ -118,22 +117,22 @@ fn shrink_to_fit<S: BuildHasher + Drop>(bag: &mut HashBag<u64, S>) -> Result<(),
     bag.shrink_to_fit()
 }
 
-// Whether there is room for `n` values more than there are.
+// Returns whether there is room for `n` more values.
 fn has_room<S: BuildHasher + Drop>(bag: &HashBag<u64, S>, n: usize) -> bool {
     bag.capacity() >= bag.set_len().saturating_add(n)
 }
 
-// The slots of the newer table, those of the older one that wait, and the room.
+// Returns the number of slots of the newer table, of those of the older one that wait, and the room.
 fn tables<S: BuildHasher + Drop>(bag: &HashBag<u64, S>) -> (usize, usize, usize) {
     (bag.slots(), bag.waiting(), bag.room())
 }
 
-// An entry that is dropped at once.
+// Makes an entry that is dropped at once.
 fn entry<S: BuildHasher + Drop>(bag: &mut HashBag<u64, S>, value: u64) {
     let _ = bag.entry(value);
 }
 
-// `and_modify` that sets the count.
+// Calls `and_modify` with a closure that sets the count.
 fn set<S: BuildHasher + Drop>(
     bag: &mut HashBag<u64, S>,
     value: u64,
@@ -145,7 +144,7 @@ fn set<S: BuildHasher + Drop>(
     }
 }
 
-// `and_modify` that adds to the count.
+// Calls `and_modify` with a closure that adds to the count.
 fn raise<S: BuildHasher + Drop>(
     bag: &mut HashBag<u64, S>,
     value: u64,
@@ -182,7 +181,7 @@ fn retain_odd<S: BuildHasher + Drop>(bag: &mut HashBag<u64, S>) {
     bag.retain(|value: &u64, _count: usize| if *value % 2 == 0 { 0 } else { usize::MAX });
 }
 
-// Keeps of each value as many as it is, and answers how often the closure was called.
+// Keeps of each value as many as it is, and returns how often the closure was called.
 fn retain_itself<S: BuildHasher + Drop>(bag: &mut HashBag<u64, S>) -> usize {
     let mut calls = 0usize;
     bag.retain(|value: &u64, _count: usize| {
@@ -197,7 +196,7 @@ fn default_in<S: BuildHasher + Default + Drop>(alloc: Global, bag: &mut HashBag<
     *bag = HashBag::default_in(alloc);
 }
 
-// Puts an empty bag with that limit in the place of this one.
+// Puts an empty bag with this limit in the place of this one.
 fn with_limit<S: BuildHasher + Default + Drop>(
     alloc: Global,
     bag: &mut HashBag<u64, S>,
@@ -258,7 +257,7 @@ fn extend_refs_many<S: BuildHasher + Drop>(
     bag.extend_refs_many(pairs.iter().map(|pair| (&pair.0, pair.1)))
 }
 
-/// The counts of these values.
+/// Returns the counts of these values.
 pub fn counts_of<S: BuildHasher + Drop>(
     alloc: Global,
     bag: &HashBag<u64, S>,
@@ -271,7 +270,7 @@ pub fn counts_of<S: BuildHasher + Drop>(
     debug_of(alloc, &counts)
 }
 
-/// A bag of these values, inserted one by one.
+/// Returns a bag of these values, inserted one by one.
 pub fn bag_of<S: BuildHasher + Drop>(
     alloc: Global,
     state: S,
@@ -284,7 +283,7 @@ pub fn bag_of<S: BuildHasher + Drop>(
     Ok(bag)
 }
 
-/// A bag of these values, each inserted as often as the number beside it.
+/// Returns a bag of these values, each inserted as often as its number.
 pub fn bag_of_counts<S: BuildHasher + Drop>(
     alloc: Global,
     state: S,
@@ -297,14 +296,14 @@ pub fn bag_of_counts<S: BuildHasher + Drop>(
     Ok(bag)
 }
 
-/// A clone of a bag.
+/// Returns a clone of a bag.
 pub fn clone_of<S: BuildHasher + Clone + Drop>(
     bag: &HashBag<u64, S>,
 ) -> Result<HashBag<u64, S>, BagError> {
     bag.clone()
 }
 
-// Whether the bag equals a bag of these values, and whether that equals the bag.
+// Returns whether the bag equals a bag of these values, and whether that equals the bag.
 fn equals<S: BuildHasher + Default + Drop>(
     alloc: Global,
     bag: &HashBag<u64, S>,
@@ -314,7 +313,7 @@ fn equals<S: BuildHasher + Default + Drop>(
     debug_of(alloc, &(*bag == other, other == *bag))
 }
 
-// What a call with nothing answers.
+// Returns the text of what a call with nothing returns.
 fn with_nothing<S: BuildHasher + Default + Drop>(
     alloc: Global,
     bag: &mut HashBag<u64, S>,
@@ -342,7 +341,7 @@ fn with_nothing<S: BuildHasher + Default + Drop>(
     }
 }
 
-// What a call with one number answers: a value, or how many values.
+// Returns the text of what a call with one number returns: a value, or how many values.
 fn with_number<S: BuildHasher + Default + Drop>(
     alloc: Global,
     bag: &mut HashBag<u64, S>,
@@ -369,7 +368,7 @@ fn with_number<S: BuildHasher + Default + Drop>(
     }
 }
 
-// What a call on a value with a count answers.
+// Returns the text of what a call on a value with a count returns.
 fn with_count<S: BuildHasher + Drop>(
     alloc: Global,
     bag: &mut HashBag<u64, S>,
@@ -387,7 +386,7 @@ fn with_count<S: BuildHasher + Drop>(
     }
 }
 
-// What a call on a list of values answers.
+// Returns the text of what a call on a list of values returns.
 fn with_values<S: BuildHasher + Default + Drop>(
     alloc: Global,
     bag: &mut HashBag<u64, S>,
@@ -408,7 +407,7 @@ fn with_values<S: BuildHasher + Default + Drop>(
     }
 }
 
-// What a call on a list of values with counts answers.
+// Returns the text of what a call on a list of values with counts returns.
 fn with_counts<S: BuildHasher + Default + Drop>(
     alloc: Global,
     bag: &mut HashBag<u64, S>,
@@ -423,7 +422,7 @@ fn with_counts<S: BuildHasher + Default + Drop>(
     }
 }
 
-/// What a call answers. What it is called with tells its kind.
+/// Returns the text of what a call returns. Its arguments decide its kind.
 pub fn answer<S: BuildHasher + Default + Drop>(
     alloc: Global,
     bag: &mut HashBag<u64, S>,
@@ -444,7 +443,7 @@ pub fn answer<S: BuildHasher + Default + Drop>(
     }
 }
 
-// Makes the call of a row, and compares what it answers.
+// Makes the call of a row, and compares what it returns.
 fn make_row<S: BuildHasher + Default + Drop>(
     alloc: Global,
     bag: &mut HashBag<u64, S>,
@@ -458,7 +457,7 @@ fn make_row<S: BuildHasher + Default + Drop>(
     Ok(())
 }
 
-/// Makes the calls of so many rows in turn.
+/// Makes the calls of the rows in turn. There have to be as many rows as the number says.
 pub fn make_calls<S: BuildHasher + Default + Drop>(
     alloc: Global,
     bag: &mut HashBag<u64, S>,
@@ -471,7 +470,7 @@ pub fn make_calls<S: BuildHasher + Default + Drop>(
     Ok(())
 }
 
-/// Makes the calls of so many rows, the names among them, each name on a new bag.
+/// Makes the calls of the rows, each name on a new bag. There have to be as many rows, with the names, as the number says.
 pub fn make_rows<S: BuildHasher + Default + Copy>(
     alloc: Global,
     state: S,

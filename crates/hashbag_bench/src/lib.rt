@@ -1,6 +1,6 @@
-//! What the counted multiset is tested against: a plain, slow bag with the same contracts, values that show which instance
-//! is stored, values whose trees are objects, and hash states under which values collide. And tests as rows of text: how rows
-//! are read, and the calls on a bag of numbers that they name.
+//! What the counted multiset is tested against: a plain, slow bag with the same contracts, values that show which instance is stored,
+//! values whose trees are objects, and hash states under which values collide. It also has tests as rows of text: how rows are read, and
+//! the calls on a bag of numbers that they name.
 #![tactic(auto)]
 
 pub mod calls;

@@ -6,7 +6,7 @@ use hashbag::{BagError, ItemError, JsonItem};
 use serde_json::{Map, Value};
 use std::alloc::Global;
 
-/// A value that is told from others by its name. Its tree is the object `{"name": ..}`.
+/// A value that differs from others by its name. Its tree is the object `{"name": ..}`.
 #[derive(Debug, PartialEq, Eq, PartialOrd, Ord, Hash, Drop)]
 pub struct Named {
     /// What is compared, ordered and hashed.

@@ -12,13 +12,13 @@ use std::marker::Model;
 /// A bag of values as the plain list of its occurrences, in an order that means nothing, and a limit: the steps don't make the list
 /// longer than that.
 ///
-/// It needs no hash and no order of the values, and is slow: most calls look at each occurrence. Contracts see a plain bag
-/// as that list and that limit.
+/// It needs no hash and no order of the values, and is slow: most calls read each occurrence. Contracts see a plain bag as that list and
+/// that limit.
 #[derive(Drop)]
 pub struct PlainBag<T: Eq + Copy> {
     items: Vec<T>,
     most: usize,
-    // What a list that is made anew lies on.
+    // The allocator of a list that is made anew.
     alloc: Global,
 }
 
@@ -30,7 +30,7 @@ impl<T: Eq + Copy> Model for PlainBag<T> {
     ghost view = { λ a. record { items = a.items.items; most = a.most } };
 }
 
-// The number beside the first value of the list that is equal to this one, 0 where there is none.
+// Returns the number of the first value in the list that is equal to this one, 0 if there is none.
 fn quota<T: Eq>(list: &[(T, usize)], value: &T) -> usize
     ensures { result ≡ quota_of T.eq list.now value.now }
 {
@@ -41,7 +41,7 @@ fn quota<T: Eq>(list: &[(T, usize)], value: &T) -> usize
 }
 
 impl<T: Eq + Copy> PlainBag<T> {
-    /// An empty bag whose limit is `usize::MAX`. It takes no memory.
+    /// Returns an empty bag whose limit is `usize::MAX`. It doesn't allocate.
     pub fn new(alloc: Global) -> PlainBag<T>
         ensures empty { result.items ≡ [] }
         ensures limit { result.most ≡ greatest_total }
@@ -53,49 +53,49 @@ impl<T: Eq + Copy> PlainBag<T> {
         }
     }
 
-    // Whether the list would be longer than the limit if it had so many items and `n` more.
+    // Returns whether a list of `len` items and `n` more would be longer than the limit.
     fn passes(&self, len: usize, n: usize) -> bool
         ensures { IsTrue result ↔ (self.now.most < len + n) }
     {
         self.most < len || n > self.most - len
     }
 
-    /// The occurrences, each with its instance, in the list's order.
+    /// Returns the occurrences, each with its instance, in the list's order.
     pub fn items(&self) -> &[T]
         ensures { result.now ≡ self.now.items }
     {
         &self.items
     }
 
-    /// The number of occurrences: the sum of all counts.
+    /// Returns the number of occurrences: the sum of all counts.
     pub fn len(&self) -> usize
         ensures { result ≡ length self.now.items }
     {
         self.items.len()
     }
 
-    /// Whether there are no occurrences.
+    /// Returns whether there are no occurrences.
     pub fn is_empty(&self) -> bool
         ensures { IsTrue result ↔ (self.now.items ≡ []) }
     {
         self.items.is_empty()
     }
 
-    /// How often a value occurs, 0 where it is absent. It looks at each occurrence.
+    /// Returns the count of a value, 0 if it is absent. It reads each occurrence.
     pub fn count(&self, value: &T) -> usize
         ensures { result ≡ count T.eq value.now self.now.items }
     {
         self.items.iter().filter(|item| *value == **item).count()
     }
 
-    // The instance that is there of a value, or `None` where the value is absent.
+    // Returns the stored instance of a value, or `None` if the value is absent.
     fn instance(&self, value: &T) -> Option<T>
         ensures { result ≡ instance T.eq value.now self.now.items }
     {
         self.items.iter().copied().find(|item| *value == *item)
     }
 
-    // The occurrences of all other values, in a list of their own.
+    // Returns the occurrences of all other values, in a list of their own.
     fn others(&self, value: &T) -> Result<Vec<T>, AllocError>
         ensures { IfOk result (λ items. items.items ≡ others T.eq value.now self.now.items) }
     {
@@ -103,7 +103,7 @@ impl<T: Eq + Copy> PlainBag<T> {
         others.copied().collect(self.alloc)
     }
 
-    // All occurrences but `n` of a value, or all of it where they are fewer, in a list of their own.
+    // Returns all occurrences but `n` of a value, or but all of it if there are fewer, in a list of their own.
     fn fewer(&self, value: &T, n: usize) -> Result<Vec<T>, AllocError>
         ensures { IfOk result (λ items. items.items ≡ less T.eq value.now n self.now.items) }
     {
@@ -112,8 +112,8 @@ impl<T: Eq + Copy> PlainBag<T> {
         others.chain(alike.skip(n)).copied().collect(self.alloc)
     }
 
-    /// Adds `n` occurrences of a value at the end of the list: of the instance that is there, or else of the value handed
-    /// in. Where memory is refused, nothing changes.
+    /// Adds `n` occurrences of a value at the end of the list: of the stored instance, or else of the given value. If an allocation fails,
+    /// nothing changes.
     pub fn add(&mut self, value: T, n: usize) -> Result<(), AllocError>
         ensures added { OnOk result (self.new ≡ holding (add T.eq value n self.old.items) self.old) }
         ensures err { OnErr result (self.new ≡ self.old) }
@@ -123,10 +123,10 @@ impl<T: Eq + Copy> PlainBag<T> {
         self.items.resize(self.items.len() + n, instance)
     }
 
-    /// Takes `n` occurrences of a value out, or all of them where they are fewer. What is left of the value moves to the
-    /// end of the list.
+    /// Removes `n` occurrences of a value, or all of them if there are fewer. The other occurrences of the value move to the end of the
+    /// list.
     ///
-    /// The list is made anew. Where memory for it is refused, nothing changes.
+    /// The list is made anew. If its allocation fails, nothing changes.
     pub fn less(&mut self, value: &T, n: usize) -> Result<(), AllocError>
         ensures taken { OnOk result (self.new ≡ holding (less T.eq value.now n self.old.items) self.old) }
         ensures err { OnErr result (self.new ≡ self.old) }
@@ -137,7 +137,7 @@ impl<T: Eq + Copy> PlainBag<T> {
 
     /// Puts a value, `n` times, at the end of the list, in the place of all occurrences that equal it.
     ///
-    /// The list is made anew. Where memory for it is refused, nothing changes.
+    /// The list is made anew. If its allocation fails, nothing changes.
     pub fn put(&mut self, value: T, n: usize) -> Result<(), AllocError>
         ensures put { OnOk result (self.new ≡ holding (put T.eq value n self.old.items) self.old) }
         ensures err { OnErr result (self.new ≡ self.old) }
@@ -149,10 +149,9 @@ impl<T: Eq + Copy> PlainBag<T> {
         Ok(())
     }
 
-    /// Leaves of each value at most as many as the number beside the first value of the list that is equal to it, 0 where there is
-    /// none.
+    /// Keeps of each value at most as many as the number of the first value in the list that is equal to it, 0 if there is none.
     ///
-    /// The list of occurrences is made anew. Where memory for it is refused, nothing changes.
+    /// The list of occurrences is made anew. If its allocation fails, nothing changes.
     pub fn retain(&mut self, list: &[(T, usize)]) -> Result<(), AllocError>
         ensures kept { OnOk result (self.new ≡ holding (retained T.eq (quota_of T.eq list.now) self.old.items) self.old) }
         ensures err { OnErr result (self.new ≡ self.old) }
@@ -169,7 +168,7 @@ impl<T: Eq + Copy> PlainBag<T> {
         Ok(())
     }
 
-    /// Takes all occurrences out. It takes no memory.
+    /// Removes all occurrences. It doesn't allocate.
     pub fn clear(&mut self)
         ensures { self.new ≡ holding [] self.old }
     {
@@ -261,7 +260,7 @@ impl<T: Eq + Copy> PlainBag<T> {
         Ok(Reply::Taken(instance, before))
     }
 
-    // What an entry's `and_modify` does where it sets the count.
+    // What an entry's `and_modify` does if it sets the count.
     fn entry_set_row(&mut self, value: &T, n: usize) -> Result<Reply<T>, AllocError>
         ensures done { IfOk result (λ reply. (self.new.items, reply) ≡ entry_set_row T.eq self.old.most value.now n self.old.items) }
         ensures limit { self.new.most ≡ self.old.most }
@@ -325,8 +324,7 @@ impl<T: Eq + Copy> PlainBag<T> {
         Reply::Count(self.count(value))
     }
 
-    /// Does one step, and answers it. Where memory is refused, nothing changes. The steps that make or give room change
-    /// nothing here.
+    /// Does one step, and returns its reply. If an allocation fails, nothing changes. The steps about room change nothing here.
     pub fn apply(&mut self, step: Step<T>) -> Result<Reply<T>, AllocError>
         ensures done { IfOk result (λ reply. (self.new.items, reply) ≡ step_of T.eq self.old.most self.old.items step) }
         ensures limit { OnOk result (self.new.most ≡ limit_after T.eq self.old.most self.old.items step) }

@@ -6,7 +6,7 @@ use std::alloc::AllocError;
 use std::cell::Cell;
 use std::hash::{BuildHasher, Hash, Hasher};
 
-/// Takes in nothing, and answers 0.
+/// Takes in nothing, and returns 0.
 #[derive(Clone, Copy, Debug, Default)]
 pub struct Nothing;
 
@@ -22,8 +22,7 @@ impl Hasher for Nothing {
     fn write(&mut self, _bytes: &[u8]) {}
 }
 
-/// Answers the last eight bytes that were written, read as a number with the lowest byte first. Before the first byte it
-/// answers 0.
+/// Returns the last eight bytes that were written, read as a number with the lowest byte first. Before the first byte it returns 0.
 #[derive(Clone, Copy, Debug, Default)]
 pub struct LastNumber {
     number: u64,
@@ -45,7 +44,7 @@ impl Hasher for LastNumber {
     }
 }
 
-/// Answers the last bit of what [`LastNumber`] answers.
+/// Returns the last bit of what [`LastNumber`] returns.
 #[derive(Clone, Copy, Debug, Default)]
 pub struct LastBit {
     last: LastNumber,
@@ -116,7 +115,7 @@ pub struct CountingState {
 }
 
 impl CountingState {
-    /// How many values were hashed since the state was made. A clone goes on from the number of its original.
+    /// Returns how many values were hashed since the state was made. A clone goes on from the number of its original.
     pub fn hashed(&self) -> u64 {
         self.hashed.get()
     }
@@ -149,21 +148,21 @@ impl BuildHasher for CountingState {
     }
 }
 
-/// The hash of a value under [`OneState`], which is 0.
+/// Returns the hash of a value under [`OneState`], which is 0.
 pub fn one_hash<T: Hash + Drop>(x: T) -> u64
     ensures { result ≡ 0 }
 {
     OneState.hash_one(x)
 }
 
-/// The hash of a number under [`IdentityState`], which is the number.
+/// Returns the hash of a number under [`IdentityState`], which is the number.
 pub fn identity_hash(x: u64) -> u64
     ensures { result ≡ x }
 {
     IdentityState.hash_one(x)
 }
 
-/// The hash of a number under [`ParityState`], which is its last bit.
+/// Returns the hash of a number under [`ParityState`], which is its last bit.
 pub fn parity_hash(x: u64) -> u64
     ensures { result ≡ x % 2 }
 {

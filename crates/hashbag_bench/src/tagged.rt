@@ -1,4 +1,4 @@
-//! `Tagged`: values whose equal instances can be told apart.
+//! `Tagged`: values whose equal instances can be distinguished.
 ghost use Rattle.std.specs.Prelude.{◌==◌};
 ghost use Rattle.std.proofs.Common.{rules};
 ghost use Rattle.std.specs.Cmp.Rules.{comparing, hashing};
@@ -6,7 +6,7 @@ ghost use Rattle.std.specs.Hash as fed;
 
 use std::hash::{Hash, Hasher};
 
-/// A key with a tag. Two of them are equal where their keys are, so the tag tells equal instances apart.
+/// A key with a tag. Two of them are equal if their keys are, so the tag distinguishes equal instances.
 #[derive(Clone, Copy, Debug)]
 pub struct Tagged {
     /// What is compared and hashed.

@@ -1,11 +1,11 @@
-//! Rows of text: how they are read, and how what came out is compared.
+//! Rows of text: how they are read, and how results are compared.
 //!
 //! A row that can't be read fails its test: nothing is skipped.
 use std::alloc::Global;
 use std::fmt::Debug;
 use std::test::Fail;
 
-/// The rows of a text, one a line. There have to be so many of them.
+/// Returns the rows of a text, one a line. There have to be `wanted` of them.
 pub fn rows_of<'a>(alloc: Global, text: &'a str, wanted: usize) -> Result<Vec<&'a str>, Fail> {
     let mut rows = Vec::new(alloc);
     for line in text.lines() {
@@ -20,7 +20,7 @@ pub fn rows_of<'a>(alloc: Global, text: &'a str, wanted: usize) -> Result<Vec<&'
     Ok(rows)
 }
 
-/// What stands before and after a mark, which has to be there.
+/// Returns the texts before and after a mark, which has to be there.
 pub fn halves<'a>(row: &'a str, mark: &str) -> Result<(&'a str, &'a str), Fail> {
     match row.split_once(mark) {
         Some((before, after)) => Ok((before.trim(), after.trim())),
@@ -28,7 +28,7 @@ pub fn halves<'a>(row: &'a str, mark: &str) -> Result<(&'a str, &'a str), Fail> 
     }
 }
 
-/// The number that a word of decimal digits stands for, and `None` at any other word.
+/// Returns the number of a word of decimal digits, and `None` for any other word.
 pub fn decimal(word: &str) -> Option<u64> {
     if !word.bytes().all(|byte| byte.is_ascii_digit()) {
         return None;
@@ -36,7 +36,7 @@ pub fn decimal(word: &str) -> Option<u64> {
     word.parse().ok()
 }
 
-/// The number that a word of decimal digits stands for.
+/// Returns the number of a word of decimal digits.
 pub fn number(word: &str) -> Result<u64, Fail> {
     match decimal(word) {
         Some(number) => Ok(number),
@@ -44,12 +44,12 @@ pub fn number(word: &str) -> Result<u64, Fail> {
     }
 }
 
-/// The count that a word of decimal digits stands for.
+/// Returns the count of a word of decimal digits.
 pub fn count(word: &str) -> Result<usize, Fail> {
     Ok(number(word)? as usize)
 }
 
-/// The values and counts of a list as `5:2 6:1`.
+/// Returns the values and counts of a list as `5:2 6:1`.
 pub fn counts(alloc: Global, text: &str) -> Result<Vec<(u64, usize)>, Fail> {
     let mut pairs = Vec::new(alloc);
     for word in text.split_whitespace() {
@@ -59,12 +59,12 @@ pub fn counts(alloc: Global, text: &str) -> Result<Vec<(u64, usize)>, Fail> {
     Ok(pairs)
 }
 
-/// What stands in brackets, and `None` where there are none.
+/// Returns the text in brackets, and `None` if there are none.
 pub fn inside(text: &str) -> Option<&str> {
     text.strip_prefix('[')?.strip_suffix(']')
 }
 
-/// The values of a list as `[1, 2, 3, 3]`.
+/// Returns the values of a list as `[1, 2, 3, 3]`.
 pub fn values(alloc: Global, text: &str) -> Result<Vec<u64>, Fail> {
     let mut list = Vec::new(alloc);
     let Some(inner) = inside(text) else {
@@ -78,7 +78,7 @@ pub fn values(alloc: Global, text: &str) -> Result<Vec<u64>, Fail> {
     Ok(list)
 }
 
-/// Compares two texts. The failure names the row that they come from.
+/// Compares two texts. The failure names the row that they are from.
 pub fn is_text(row: &str, got: &str, want: &str) -> Result<(), Fail> {
     if got == want {
         return Ok(());
@@ -86,7 +86,7 @@ pub fn is_text(row: &str, got: &str, want: &str) -> Result<(), Fail> {
     Err(Fail::new(format_args!("{got}, not {want}, in the row: {row}")))
 }
 
-/// The text that `Debug` writes of a value.
+/// Returns the text that `Debug` writes of a value.
 pub fn debug_of<T: Debug>(alloc: Global, value: &T) -> Result<String, Fail> {
     Ok(format!(in alloc; "{value:?}")?)
 }

@@ -8,7 +8,7 @@ ghost use Rattle.hashbag.specs.Tables.{room};
 use hashbag::{BagError, HashBag};
 use std::hash::{BuildHasher, Hash};
 
-/// Takes so many occurrences of a value, and says each fact of `HasFewer` by itself.
+/// Removes `n` occurrences of a value, and says each fact of `HasFewer` by itself.
 pub fn take_some<T: Eq + Hash + Drop, S: BuildHasher + Drop>(
     bag: &mut HashBag<T, S>,
     value: &T,
@@ -25,7 +25,7 @@ pub fn take_some<T: Eq + Hash + Drop, S: BuildHasher + Drop>(
     bag.remove_up_to(value, n)
 }
 
-/// Puts a value in, and says by itself what `Inserts` has of the slots and of the room.
+/// Inserts a value, and says by itself what `Inserts` has of the slots and of the room.
 pub fn put_in<T: Eq + Hash + Drop, S: BuildHasher + Drop>(
     bag: &mut HashBag<T, S>,
     value: T,

@@ -11,9 +11,9 @@ use crate::bag::{BagError, FixedState, HashBag};
 use std::fmt::{self, Debug, Formatter, Write};
 use std::hash::{BuildHasher, Hash};
 
-/// The place of a value in a bag: a borrow of the bag, and the value that was handed in.
+/// The place of a value in a bag: a borrow of the bag, and the given value.
 ///
-/// It is occupied where the bag has the value, and else vacant. An entry that is dropped changes nothing.
+/// It is occupied if the bag has the value, and else vacant. An entry that is dropped changes nothing.
 pub struct Entry<'a, T: Eq + Hash + Drop, S: BuildHasher + Drop = FixedState> {
     bag: &'a mut HashBag<T, S>,
     value: T,
@@ -29,7 +29,9 @@ impl<'a, T: Eq + Hash + Drop, S: BuildHasher + Drop> Drop for Entry<'a, T, S> {
 }
 
 impl<T: Eq + Hash + Drop, S: BuildHasher + Drop> HashBag<T, S> {
-    /// The place of a value in the bag. It takes no memory, and looks nothing up.
+    /// Returns the place of a value in the bag. It doesn't allocate, and looks nothing up.
+    ///
+    /// # Examples
     ///
     /// ```
     /// let mut bag = HashBag::new(alloc);
@@ -51,8 +53,13 @@ impl<'a, T: Eq + Hash + Drop, S: BuildHasher + Drop> Entry<'a, T, S> {
     ghost use Rattle.hashbag_core.specs.EntryCalls.{entry_count, IsOccupied, IsVacant, PutsIn, KeepsOthers, ChangesCount, PassesEnd};
     ghost use Rattle.hashbag_core.specs.Lending.{rests_if_refused};
 
-    /// The stored instance where the entry is occupied, else the value that was handed in. It takes no memory, and hashes the
-    /// value once.
+    /// Returns the stored instance if the entry is occupied, else the given value.
+    ///
+    /// # Complexity
+    ///
+    /// It hashes the value once and doesn't allocate.
+    ///
+    /// # Examples
     ///
     /// ```
     /// let mut bag = HashBag::new(alloc);
@@ -69,12 +76,20 @@ impl<'a, T: Eq + Hash + Drop, S: BuildHasher + Drop> Entry<'a, T, S> {
         }
     }
 
-    /// Runs `f` on a copy of the count, and makes the number that it leaves the count. On a vacant entry `f` isn't called.
+    /// Calls `f` on a copy of the count, and sets the count to the number that it leaves. On a vacant entry `f` isn't called.
     ///
-    /// Where `f` leaves 0, the value is taken out, its stored instance is dropped, and the entry is vacant with the value
-    /// handed in. The old count leaves the total before the new one comes, so `TooMany` is answered exactly where the new
-    /// total passes the bag's limit: the bag is then as before the call, and the entry is gone. It takes no memory, and hashes the value
-    /// twice where the count is set, and else once.
+    /// If `f` leaves 0, the value is removed, its stored instance is dropped, and the entry is vacant with the given value.
+    ///
+    /// # Errors
+    ///
+    /// `TooMany` exactly if the new total would pass the bag's limit; the old count is subtracted first. The bag is then unchanged, and the
+    /// entry is dropped with its value.
+    ///
+    /// # Complexity
+    ///
+    /// It hashes the value twice if the count is set, and else once. It doesn't allocate.
+    ///
+    /// # Examples
     ///
     /// ```
     /// let mut bag = HashBag::new(alloc);
@@ -111,7 +126,16 @@ impl<'a, T: Eq + Hash + Drop, S: BuildHasher + Drop> Entry<'a, T, S> {
         Ok(Entry { bag, value })
     }
 
-    /// Puts in the value handed in, once, where the entry is vacant: [`Entry::or_insert_many`] with 1.
+    /// Inserts the given value once if the entry is vacant, and returns the count after: [`Entry::or_insert_many`] with 1.
+    ///
+    /// # Errors
+    ///
+    /// - `TooMany` if the entry is vacant and the total would pass the bag's limit. That is tested first.
+    /// - `Memory` if the entry is vacant, there is no room, and an allocation fails.
+    ///
+    /// Then the bag is unchanged, and the value is dropped.
+    ///
+    /// # Examples
     ///
     /// ```
     /// let mut bag = HashBag::new(alloc);
@@ -136,12 +160,23 @@ impl<'a, T: Eq + Hash + Drop, S: BuildHasher + Drop> Entry<'a, T, S> {
         self.or_insert_many(1)
     }
 
-    /// Puts in `quantity` occurrences of the value handed in where the entry is vacant, and answers the count after.
+    /// Inserts `quantity` occurrences of the given value if the entry is vacant, and returns the count after.
     ///
-    /// Where the entry is occupied, it answers the count that is there, ignores `quantity`, drops the value handed in and is
-    /// never refused. A `quantity` of 0 adds nothing, and is never refused either. Else `TooMany` is answered where the total
-    /// would pass the bag's limit, and only then memory is asked for where there is no room, which may be refused: the bag is then
-    /// as before the call, the value is dropped and the entry is gone. It hashes the value twice where it goes in, and else once.
+    /// If the entry is occupied, nothing changes: it returns the present count, and the given value is dropped. A `quantity` of 0 adds
+    /// nothing. Neither can fail.
+    ///
+    /// # Errors
+    ///
+    /// - `TooMany` if the entry is vacant and the total would pass the bag's limit. That is tested first.
+    /// - `Memory` if the entry is vacant, there is no room, and an allocation fails.
+    ///
+    /// Then the bag is unchanged, and the value is dropped.
+    ///
+    /// # Complexity
+    ///
+    /// It hashes the value twice if it inserts it, and else once. It allocates only if it inserts the value and there is no room.
+    ///
+    /// # Examples
     ///
     /// ```
     /// let mut bag = HashBag::new(alloc);
@@ -181,7 +216,9 @@ impl<'a, T: Eq + Hash + Drop, S: BuildHasher + Drop> Entry<'a, T, S> {
 }
 
 impl<'a, T: Eq + Hash + Drop + Debug, S: BuildHasher + Drop> Debug for Entry<'a, T, S> {
-    /// Writes the value that the entry gives and how often it occurs, as `Entry(5, 3)`.
+    /// Writes the value that the entry shows and its count, as `Entry(5, 3)`.
+    ///
+    /// # Examples
     ///
     /// ```
     /// let mut bag = HashBag::new(alloc);

@@ -74,7 +74,7 @@ fn add_name<T: Eq + Hash + Drop, S: BuildHasher + Drop>(
 {
     match bag.insert(article) {
         Ok(_) => Ok(()),
-        // `TooMany` can't be: memory has no room for so many entries.
+        // `TooMany` can't be: memory has no room for as many entries.
         Err(_) => Err(AllocError),
     }
 }

@@ -11,24 +11,24 @@ use serde_json::Value;
 use std::alloc::{AllocError, Global};
 use std::io::{Read, Write};
 
-/// All went well.
+/// The status if all was done.
 pub const DONE: u8 = 0;
 
-/// A line of the input was bad.
+/// The status after a bad line of the input.
 pub const BAD_LINE: u8 = 2;
 
-/// Memory was refused.
+/// The status after a failed allocation.
 pub const NO_MEMORY: u8 = 3;
 
-/// A read or a write failed.
+/// The status after a failed read or write.
 pub const IO_FAILED: u8 = 4;
 
-// At most so many reads are made. An input that hasn't ended by then is a failed read.
+// The greatest number of reads. An input that hasn't ended by then is a failed read.
 const READS: u64 = 1 << 32;
 
 // Why there is no output.
 enum Failure {
-    // What is said of the bad line.
+    // The message about the bad line.
     BadLine(String),
     Memory,
     Read,
@@ -46,7 +46,7 @@ impl From<BagError> for Failure {
     }
 }
 
-// The whole input.
+// Returns the whole input.
 fn read_all<R: Read>(alloc: Global, input: &mut R) -> Result<Vec<u8>, Failure> {
     let mut text = Vec::new(alloc);
     let mut buffer = [0u8; 4096];
@@ -60,7 +60,7 @@ fn read_all<R: Read>(alloc: Global, input: &mut R) -> Result<Vec<u8>, Failure> {
     Err(Failure::Read)
 }
 
-// The steps of the whole input.
+// Returns the steps of the whole input.
 fn steps_of(alloc: Global, text: &[u8]) -> Result<Scripts, Failure> {
     match lines::steps(alloc, text) {
         Ok(steps) => Ok(steps),
@@ -71,7 +71,7 @@ fn steps_of(alloc: Global, text: &[u8]) -> Result<Scripts, Failure> {
     }
 }
 
-// What the steps of two bags answer.
+// The replies to the steps of two bags.
 #[derive(Drop)]
 struct Answers {
     replies_a: Vec<Reply<u64>>,
@@ -82,7 +82,7 @@ struct Answers {
     tree_b: Value,
 }
 
-// What the steps answer on two empty bags.
+// Returns the replies to the steps of two empty bags.
 fn answers_to(
     alloc: Global,
     steps_a: Vec<Step<u64>>,
@@ -112,7 +112,7 @@ fn answers_to(
     })
 }
 
-// What the whole input makes the program write.
+// Returns what the program writes after the whole input.
 fn output_of<R: Read>(alloc: Global, input: &mut R) -> Result<String, Failure> {
     let text = read_all(alloc, input)?;
     let Scripts { a, b } = steps_of(alloc, text.as_slice())?;
@@ -126,7 +126,7 @@ fn output_of<R: Read>(alloc: Global, input: &mut R) -> Result<String, Failure> {
     Ok(output)
 }
 
-// Writes the text, and answers the status, or that the write failed.
+// Writes the text, and returns the status, or that of a failed write.
 fn send<W: Write>(output: &mut W, text: &str, status: u8) -> u8
     ensures { (result ≡ status) ⊎ (result ≡ IO_FAILED) }
 {
@@ -137,13 +137,19 @@ fn send<W: Write>(output: &mut W, text: &str, status: u8) -> u8
     }
 }
 
-/// Reads steps, runs them on two empty bags, writes what each replies, then the joins of the bags and then their trees,
-/// and answers the exit status.
+/// Reads steps, runs them on two empty bags, writes what each replies, then the joins of the bags and then their trees, and returns the
+/// exit status.
 ///
-/// The whole input is read before any line is judged, all lines are judged before any step is run, and the whole output
-/// is made before any of it is written. The status is 0 where all went well, 2 after a bad line (`bad line ` and its
-/// number are written), 3 where memory was refused (`no memory` is written), and 4 where a read failed (nothing is
-/// written) or a write did (a beginning of the text is written).
+/// The whole input is read before any line is judged, all lines are judged before any step is run, and the whole output is made before any
+/// of it is written.
+///
+/// | Status | If | Written |
+/// |---|---|---|
+/// | 0 | all was done | the output |
+/// | 2 | a line is bad | `bad line ` and its number |
+/// | 3 | an allocation failed | `no memory` |
+/// | 4 | a read failed | nothing |
+/// | 4 | a write failed | a beginning of the text |
 pub fn execute<R: Read, W: Write>(alloc: Global, input: &mut R, output: &mut W) -> u8
     ensures { (result ≡ DONE) ⊎ ((result ≡ BAD_LINE) ⊎ ((result ≡ NO_MEMORY) ⊎ (result ≡ IO_FAILED))) }
 {

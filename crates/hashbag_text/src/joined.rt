@@ -21,7 +21,7 @@ pub struct JoinLists<T> {
     pub not_in: Vec<(T, usize)>,
 }
 
-// Copies of values with a number each.
+// Returns copies of values with a number each.
 fn copied_pairs<T: Copy, N: Copy>(
     alloc: Global,
     pairs: &Vec<(&T, N)>,
@@ -31,7 +31,7 @@ fn copied_pairs<T: Copy, N: Copy>(
     pairs.iter().map(|pair| (*pair.0, pair.1)).collect(alloc)
 }
 
-// Copies of values with two counts each.
+// Returns copies of values with two counts each.
 fn copied_joins<T: Copy>(
     alloc: Global,
     joins: &Vec<(&T, usize, usize)>,
@@ -44,7 +44,7 @@ fn copied_joins<T: Copy>(
         .collect(alloc)
 }
 
-// The joins by value.
+// Returns the joins by value.
 fn copied<T: Copy + Drop>(alloc: Global, joins: &Joins<'_, T>) -> Result<JoinLists<T>, AllocError>
     ensures outer { IfOk result (λ lists. lists.outer.items ≡ map (λ j. (j.0.now, j.1, j.2)) joins.now.outer.items) }
     ensures difference { IfOk result (λ lists. lists.difference.items ≡ map (λ e. (e.0.now, e.1)) joins.now.difference.items) }
@@ -59,10 +59,12 @@ fn copied<T: Copy + Drop>(alloc: Global, joins: &Joins<'_, T>) -> Result<JoinLis
     })
 }
 
-/// Does the steps of two bags, those of the first before those of the second, appends a reply for each, and answers the joins
-/// of what the two runs leave.
+/// Does the steps of two bags, those of the first before those of the second, appends a reply for each, and returns the joins of what the
+/// two runs leave.
 ///
-/// Where memory is refused there are no joins. Then either the runs are as [`run_pair`] leaves them, or both were done.
+/// # Errors
+///
+/// `Memory` if an allocation fails. Then there are no joins. Either the runs are as [`run_pair`] leaves them, or both were done.
 pub fn run_and_join<T: Eq + Hash + Copy + Drop, S: BuildHasher + Drop, S2: BuildHasher + Drop>(
     alloc: Global,
     a: &mut HashBag<T, S>,
@@ -79,7 +81,7 @@ pub fn run_and_join<T: Eq + Hash + Copy + Drop, S: BuildHasher + Drop, S2: Build
     ensures first_hasher { a.new.hasher ≡ a.old.hasher }
     ensures second_hasher { b.new.hasher ≡ b.old.hasher }
 
-    // Only memory is refused.
+    // Only an allocation can fail.
     ensures memory { OnErr result (result ≡ Err BagError.Memory) }
     ensures stopped { OnErr result (IsCutOffAfter T.eq (HasNoRoom replies_a.old steps_a ⊎ HasNoRoom replies_b.old steps_b)
         (ran a.old a.new steps_a.items replies_a.old.items replies_a.new.items)

@@ -3,11 +3,11 @@ use hashbag::script::Step;
 use std::alloc::{AllocError, Global};
 use std::str::{self, Split};
 
-/// Why an input was refused.
+/// Why an input can't be read.
 pub enum LinesError {
-    /// The line of this number is no step. Lines are counted from 1.
+    /// The line with this number is no step. Lines are counted from 1.
     BadLine(u64),
-    /// Memory was refused.
+    /// An allocation failed.
     Memory,
 }
 
@@ -17,10 +17,10 @@ impl From<AllocError> for LinesError {
     }
 }
 
-// The most digits that a number may have, leading zeros among them.
+// The greatest number of digits of a number, with leading zeros.
 const DIGITS: usize = 20;
 
-// A number of 1 to 20 decimal digits that fits a `u64`.
+// Returns the number of 1 to 20 decimal digits that fits a `u64`.
 fn number(word: &str) -> Option<u64> {
     let digits = word.as_bytes();
     if digits.len() > DIGITS || !digits.iter().all(|digit| digit.is_ascii_digit()) {
@@ -29,7 +29,7 @@ fn number(word: &str) -> Option<u64> {
     word.parse().ok()
 }
 
-// The number of a word, if there is a word. `None` where it is no number.
+// Returns the number of a word, if there is a word. `None` if it is no number.
 fn optional_number(word: Option<&str>) -> Option<Option<u64>> {
     match word {
         Some(word) => Some(Some(number(word)?)),
@@ -37,7 +37,7 @@ fn optional_number(word: Option<&str>) -> Option<Option<u64>> {
     }
 }
 
-// The step of a verb and its numbers.
+// Returns the step of a verb and its numbers.
 fn step_of(verb: &str, first: Option<u64>, second: Option<u64>) -> Option<Step<u64>> {
     match (verb, first, second) {
         ("insert", Some(value), None) => Some(Step::Insert(value)),
@@ -58,7 +58,7 @@ fn step_of(verb: &str, first: Option<u64>, second: Option<u64>) -> Option<Step<u
     }
 }
 
-// The step of a verb and the words after it, of which there may be two.
+// Returns the step of a verb and the words after it, of which there may be two.
 fn short_step(verb: &str, mut words: Split<'_, char>) -> Option<Step<u64>> {
     let first = optional_number(words.next())?;
     let second = optional_number(words.next())?;
@@ -68,7 +68,7 @@ fn short_step(verb: &str, mut words: Split<'_, char>) -> Option<Step<u64>> {
     step_of(verb, first, second)
 }
 
-// The step of `retain` and the words after it: pairs of a value and a number, one after the other.
+// Returns the step of `retain` and the words after it: pairs of a value and a number, one after the other.
 fn retain_step(alloc: Global, words: Split<'_, char>) -> Result<Option<Step<u64>>, AllocError> {
     let mut pairs = Vec::new(alloc);
     let mut value = None;
@@ -90,7 +90,7 @@ fn retain_step(alloc: Global, words: Split<'_, char>) -> Result<Option<Step<u64>
     Ok(Some(Step::Retain(pairs)))
 }
 
-// The step of the words after the name of the bag.
+// Returns the step of the words after the name of the bag.
 fn step(alloc: Global, mut words: Split<'_, char>) -> Result<Option<Step<u64>>, AllocError> {
     match words.next() {
         Some("retain") => retain_step(alloc, words),
@@ -99,7 +99,7 @@ fn step(alloc: Global, mut words: Split<'_, char>) -> Result<Option<Step<u64>>, 
     }
 }
 
-// The words of a line, with one space between each two.
+// Returns the words of a line, with one space between each two.
 fn words(line: &[u8]) -> Option<Split<'_, char>> {
     Some(str::from_utf8(line).ok()?.split(' '))
 }
@@ -107,9 +107,9 @@ fn words(line: &[u8]) -> Option<Split<'_, char>> {
 /// The steps of an input, in the order of its lines.
 #[derive(Drop)]
 pub struct Scripts {
-    /// Those of bag a.
+    /// The steps of bag a.
     pub a: Vec<Step<u64>>,
-    /// Those of bag b.
+    /// The steps of bag b.
     pub b: Vec<Step<u64>>,
 }
 
@@ -122,7 +122,7 @@ impl Scripts {
         }
     }
 
-    // Appends the step of a line to those of the bag that it names, and answers whether it is one.
+    // Appends the step of a line to those of the bag that it names, and returns whether the line is one.
     fn push(&mut self, alloc: Global, line: &[u8]) -> Result<bool, AllocError> {
         let Some(mut words) = words(line) else {
             return Ok(false);
@@ -140,7 +140,11 @@ impl Scripts {
     }
 }
 
-/// The steps of an input, or the first line that is none. Empty lines are counted and skipped.
+/// Returns the steps of an input. Empty lines are counted and skipped.
+///
+/// # Errors
+///
+/// `BadLine` for the first line that is no step, or `Memory` if an allocation fails.
 pub fn steps(alloc: Global, text: &[u8]) -> Result<Scripts, LinesError> {
     let mut scripts = Scripts::new(alloc);
     let mut number = 0u64;

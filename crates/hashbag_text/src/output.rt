@@ -18,7 +18,7 @@ fn print_reply(text: &mut String, bag: &str, reply: &Reply<u64>) -> Result<(), A
     }
 }
 
-/// Appends the lines of the replies of the bag of that name.
+/// Appends the lines of the replies of the bag with this name.
 pub fn print_replies(
     text: &mut String,
     bag: &str,
@@ -30,7 +30,7 @@ pub fn print_replies(
     Ok(())
 }
 
-// Appends a line of that kind for each value with its count.
+// Appends a line of this kind for each value with its count.
 fn print_counts(
     text: &mut String,
     kind: &str,
@@ -64,7 +64,7 @@ pub fn print_joins(text: &mut String, joins: JoinLists<u64>) -> Result<(), Alloc
     print_counts(text, "not_in", &not_in)
 }
 
-/// Appends the line of the tree of the bag of that name, with no space in the tree.
+/// Appends the line of the tree of the bag with this name, with no space in the tree.
 pub fn print_tree(
     alloc: Global,
     text: &mut String,
@@ -75,8 +75,7 @@ pub fn print_tree(
     writeln!(text, "{bag} json {compact}")
 }
 
-/// Writes the whole text, and answers whether that went well. Any error of the writer is a failure, and so is a write
-/// that takes no byte.
+/// Writes the whole text, and returns whether that was done. Any error of the writer is a failure, and so is a write of no byte.
 pub fn write_all<W: Write>(output: &mut W, text: &[u8]) -> bool {
     let mut left = text;
     while !left.is_empty() {

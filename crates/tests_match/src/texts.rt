@@ -350,7 +350,7 @@ const READINGS: [(&[u8], &str, &str, u32, &str, &str); 22] = [
     ),
 ];
 
-// The scale of so many decimals after that mark.
+// Returns the scale of `decimals` decimals after this mark.
 fn scale_of(decimals: u32, mark: &str) -> Scale {
     let mark = if mark == "," {
         Mark::Comma

@@ -1,7 +1,7 @@
-//! Calls by keys: where a value is not at hand, but what names it, as a text names a `String`.
+//! Insertions by keys, for callers that have no value but a key that names it, as a text names a `String`.
 //!
-//! In the Rust crate `contains`, `get` and `remove` take whatever a value can be borrowed as. Here these calls take a [`Key`], and
-//! insertions a [`ToValue`], which makes the value only where it is absent.
+//! In the Rust crate look-ups and removals take whatever a value can be borrowed as. Here they take a `Key`, and these insertions a
+//! [`ToValue`], which builds the value only if it is absent.
 ghost use Rattle.std.specs.Prelude.{◌≡◌, ◌+◌, ◌<◌, ◌≤◌, length, min, IsTrue, IsOk, IfOk, IfErr, OnOk, OnErr};
 ghost use Rattle.hashbag_core.specs.Keys.{RefusesNamed, InsertsNamed};
 ghost use Rattle.hashbag_core.specs.Occurrences.{count_named, stored_named, IsBag};
@@ -11,9 +11,22 @@ use hashbag_table::ToValue;
 use std::hash::{BuildHasher, Hash};
 
 impl<T: Eq + Hash + Drop, S: BuildHasher + Drop> HashBag<T, S> {
-    /// Adds one occurrence of the value that a key names, and answers how many there were: [`HashBag::insert_many_key`] with 1.
+    /// Inserts one occurrence of the value that a key names and returns the count before: [`HashBag::insert_many_key`] with 1.
     ///
-    /// `words.insert_key("the")?` makes a `String` only the first time.
+    /// `words.insert_key("the")?` makes a `String` only if the word is absent.
+    ///
+    /// # Errors
+    ///
+    /// - `TooMany` if the total would pass the limit. That is tested first.
+    /// - `Memory` if the value is absent, and an allocation for the value or for slots fails.
+    ///
+    /// Then the bag is unchanged.
+    ///
+    /// # Complexity
+    ///
+    /// As of [`HashBag::insert_many_key`].
+    ///
+    /// # Examples
     ///
     /// ```
     /// let mut words: HashBag<String> = HashBag::new(alloc);
@@ -27,7 +40,7 @@ impl<T: Eq + Hash + Drop, S: BuildHasher + Drop> HashBag<T, S> {
         ensures inserted { OnOk result (InsertsNamed T.eq (Q.names key) 1 self.old self.new) }
         ensures len { OnOk result (length self.new.items ≡ length self.old.items + 1) }
 
-        // The total is tested first; then only memory can be refused, and only where the value is absent.
+        // The total is tested first. Then only an allocation can fail, and only if the value is absent.
         ensures too_many { self.old.most < length self.old.items + 1 → result ≡ Err BagError.TooMany }
         ensures refused { IfErr result (RefusesNamed (Q.names key) self.old.most self.old.items 1) }
         ensures memory { length self.old.items + 1 ≤ self.old.most → OnErr result (result ≡ Err BagError.Memory) }
@@ -37,13 +50,24 @@ impl<T: Eq + Hash + Drop, S: BuildHasher + Drop> HashBag<T, S> {
         self.insert_many_key(key, 1)
     }
 
-    /// Adds `n` occurrences of the value that a key names, and answers how many there were: `words.insert_many_key("the", 3)?`.
+    /// Inserts `n` occurrences of the value that a key names and returns the count before: `words.insert_many_key("the", 3)?`.
     ///
-    /// A stored instance stays, and where there is one no memory is taken. It answers `TooMany` exactly where the total would pass the
-    /// limit, before anything is made: the bag is then unchanged. An insertion of 0 changes nothing and is never refused.
+    /// If the value is present, the stored instance stays. If it is absent, it is built from the key. An insertion of 0 changes nothing and
+    /// can't fail.
     ///
-    /// Where the value is absent it is made of the key, and put in as by [`HashBag::insert_many`]. That may be refused for memory,
-    /// to the value itself or where there is no room: the bag is then unchanged. The key is hashed once.
+    /// # Errors
+    ///
+    /// - `TooMany` exactly if the total would pass the limit. That is tested first.
+    /// - `Memory` if `n` isn't 0, the value is absent, and an allocation for the value or for slots fails.
+    ///
+    /// Then the bag is unchanged.
+    ///
+    /// # Complexity
+    ///
+    /// It hashes the key once. A present value allocates nothing. An absent one is allocated, and is inserted as by
+    /// [`HashBag::insert_many`].
+    ///
+    /// # Examples
     ///
     /// ```
     /// let mut words: HashBag<String> = HashBag::new(alloc);
@@ -58,7 +82,7 @@ impl<T: Eq + Hash + Drop, S: BuildHasher + Drop> HashBag<T, S> {
         ensures none { n ≡ 0 → IsOk result × (self.new ≡ self.old) }
         ensures len { OnOk result (length self.new.items ≡ length self.old.items + n) }
 
-        // The total is tested first; then only memory can be refused, and only to some occurrences of a value that is absent.
+        // The total is tested first. Then only an allocation can fail, and only if n isn't 0 and the value is absent.
         ensures too_many { self.old.most < length self.old.items + n → result ≡ Err BagError.TooMany }
         ensures refused { IfErr result (RefusesNamed (Q.names key) self.old.most self.old.items n) }
         ensures memory { length self.old.items + n ≤ self.old.most → OnErr result (result ≡ Err BagError.Memory) }
@@ -73,7 +97,7 @@ impl<T: Eq + Hash + Drop, S: BuildHasher + Drop> HashBag<T, S> {
         }
         let before = self.table.add_key(key, n)?;
         self.len += n;
-        // `held` is called for its clause on what the slots hold, which the proof cites.
+        // `held` is called for its clause on what the slots hold, which the proof names.
         self.table.held();
         Ok(before)
     }

@@ -13,7 +13,9 @@ use std::alloc::Global;
 use std::hash::{BuildHasher, Hash};
 
 impl<T: Eq + Hash + Drop> HashBag<T, FixedState> {
-    /// An empty bag of no slots, whose values are hashed with fixed keys. It takes no memory.
+    /// Returns an empty bag without slots, whose values are hashed with fixed keys. It doesn't allocate.
+    ///
+    /// # Examples
     ///
     /// ```
     /// let mut bag = HashBag::new(alloc);
@@ -30,11 +32,18 @@ impl<T: Eq + Hash + Drop> HashBag<T, FixedState> {
         HashBag::with_hasher(alloc, FixedState::new())
     }
 
-    /// An empty bag with room for `n` distinct values, which are hashed with fixed keys: `n` insertions of absent values take no
-    /// memory then. It has the least table of slots with that room.
+    /// Returns an empty bag with room for `n` distinct values, which are hashed with fixed keys. It has the least table of slots with that
+    /// room.
     ///
-    /// It answers `Memory` where memory is refused, and for more than 3 * 2^57 distinct values before memory is asked for.
-    /// With `n` 0 it takes no memory and succeeds.
+    /// # Errors
+    ///
+    /// `Memory` if the allocation fails, or if `n` is more than 3 * 2^57. With `n` 0 it can't fail.
+    ///
+    /// # Complexity
+    ///
+    /// It allocates the slots at once, none with `n` 0. The first `n` insertions of absent values don't allocate slots.
+    ///
+    /// # Examples
     ///
     /// ```
     /// let mut bag = HashBag::with_capacity(alloc, 20)?;
@@ -49,7 +58,7 @@ impl<T: Eq + Hash + Drop> HashBag<T, FixedState> {
         ensures beyond { MOST_VALUES < n → result ≡ Err BagError.Memory }
         ensures memory { OnErr result (result ≡ Err BagError.Memory) }
 
-        // The table of slots that was made.
+        // The new table of slots.
         ensures least { IfOk result (λ bag. IsLeast 0 n (length bag.tables.newer)) }
         ensures packed { IfOk result (λ bag. IsPacked bag.tables) }
         ensures room { IfOk result (λ bag. n ≤ room bag.tables) }
@@ -61,7 +70,9 @@ impl<T: Eq + Hash + Drop> HashBag<T, FixedState> {
 }
 
 impl<T: Eq + Hash + Drop, S: BuildHasher + Drop> HashBag<T, S> {
-    /// An empty bag of no slots, whose values `hasher` hashes. It takes no memory.
+    /// Returns an empty bag without slots, whose values `hasher` hashes. It doesn't allocate.
+    ///
+    /// # Examples
     ///
     /// ```
     /// let mut bag = HashBag::with_hasher(alloc, state);
@@ -78,7 +89,9 @@ impl<T: Eq + Hash + Drop, S: BuildHasher + Drop> HashBag<T, S> {
         HashBag::with_limit(alloc, hasher, usize::MAX)
     }
 
-    /// An empty bag of no slots, whose values `hasher` hashes, and whose total is never above `most`. It takes no memory.
+    /// Returns an empty bag without slots, whose values `hasher` hashes, and whose total is never above `most`. It doesn't allocate.
+    ///
+    /// # Examples
     ///
     /// ```
     /// let mut bag = HashBag::with_limit(alloc, FixedState::new(), 2);
@@ -99,11 +112,17 @@ impl<T: Eq + Hash + Drop, S: BuildHasher + Drop> HashBag<T, S> {
         }
     }
 
-    /// An empty bag with room for `n` distinct values, which `hasher` hashes: `n` insertions of absent values take no memory then.
-    /// It has the least table of slots with that room.
+    /// Returns an empty bag with room for `n` distinct values, which `hasher` hashes. It has the least table of slots with that room.
     ///
-    /// It answers `Memory` where memory is refused, and for more than 3 * 2^57 distinct values before memory is asked for.
-    /// With `n` 0 it takes no memory and succeeds.
+    /// # Errors
+    ///
+    /// `Memory` if the allocation fails, or if `n` is more than 3 * 2^57. With `n` 0 it can't fail.
+    ///
+    /// # Complexity
+    ///
+    /// It allocates the slots at once, none with `n` 0. The first `n` insertions of absent values don't allocate slots.
+    ///
+    /// # Examples
     ///
     /// ```
     /// let mut bag = HashBag::with_capacity_and_hasher(alloc, 3, state)?;
@@ -122,7 +141,7 @@ impl<T: Eq + Hash + Drop, S: BuildHasher + Drop> HashBag<T, S> {
         ensures beyond { MOST_VALUES < n → result ≡ Err BagError.Memory }
         ensures memory { OnErr result (result ≡ Err BagError.Memory) }
 
-        // The table of slots that was made.
+        // The new table of slots.
         ensures least { IfOk result (λ bag. IsLeast 0 n (length bag.tables.newer)) }
         ensures packed { IfOk result (λ bag. IsPacked bag.tables) }
         ensures room { IfOk result (λ bag. n ≤ room bag.tables) }
@@ -137,11 +156,19 @@ impl<T: Eq + Hash + Drop, S: BuildHasher + Drop> HashBag<T, S> {
         })
     }
 
-    /// A bag with clones of all stored instances, each as often as here, under a clone of the state. This bag stays as it is.
+    /// Returns a bag with clones of all stored instances, each with its count here, under a clone of the state. It has this bag's limit.
     ///
-    /// The caller sees to it that clones of the values equal them. It answers `Memory` where memory is refused, to a clone of a
-    /// value or of the state too: there is then no new bag. It makes the least table of slots that has room for all values, and hashes
-    /// each clone once.
+    /// The caller ensures that clones of the values equal them.
+    ///
+    /// # Errors
+    ///
+    /// `Memory` if an allocation fails, or the clone of a value or of the state. Then there is no new bag.
+    ///
+    /// # Complexity
+    ///
+    /// It allocates the least table of slots that has room for all values, and hashes each clone once.
+    ///
+    /// # Examples
     ///
     /// ```
     /// let mut bag = HashBag::new(alloc);

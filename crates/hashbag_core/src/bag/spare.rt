@@ -16,7 +16,7 @@ impl<T: Eq + Hash + Drop, S: BuildHasher + Drop> HashBag<T, S> {
     /// Allocates the slots that [`HashBag::reserve`] would build for `n` more distinct values, and leaves them unused.
     ///
     /// They are the least table of slots that has room for all distinct values, and is not smaller than the newer one. A caller that
-    /// may need them takes them into use by [`HashBag::use_spare`], which can't fail, or else drops them.
+    /// needs them later calls [`HashBag::use_spare`], which can't fail. One that doesn't drops them.
     ///
     /// # Errors
     ///
@@ -41,10 +41,10 @@ impl<T: Eq + Hash + Drop, S: BuildHasher + Drop> HashBag<T, S> {
         Ok(spare)
     }
 
-    /// Takes spare slots into use in place of the bag's own, which are freed. What occurs stays.
+    /// Moves all values into spare slots, which replace the bag's own. These are freed, and what occurs stays.
     ///
-    /// The caller ensures that the distinct values have room in them, as after [`HashBag::spare`] they have until more than `n` are
-    /// inserted.
+    /// The caller ensures that the distinct values have room in them. After [`HashBag::spare`] they have it until more than `n` absent
+    /// values are inserted.
     ///
     /// # Complexity
     ///

@@ -57,16 +57,18 @@ impl<T: Eq + Hash> Slots<T> {
         ensures absent { IfNone result (IsAbsent (Q.names key) self.now.slots) }
         ensures map { entry_at self.now.slots result ≡ lookup_entry (Q.names key) (entries self.now.slots) }
     {
-        // If an Empty slot lies between home and `from`, the value is absent.
+        // If an Empty slot is between home and `from`, the value is absent.
         if is_empty_before(self.tags.as_slice(), hash, from) {
             return None;
         }
         self.find_hashed(state, hash, key)
     }
 
-    /// Returns what the first 16 slots on the path of a key's hash show: the place of the Live slot whose value the key names, or, if no
-    /// slot has it, the first place whose slot is not Live, into which `place_at` puts it. It is `Open` if they don't decide, or if the
-    /// table ends before the sixteenth: [`Slots::find_hashed`] then decides.
+    /// Returns what the first 16 slots on the path of a key's hash show.
+    ///
+    /// - `Found`: the place of the Live slot whose value the key names.
+    /// - `Absent`: no slot has the value, and this is the first place on the path whose slot is not Live, for [`Slots::place_at`].
+    /// - `Open`: they don't decide, or the table ends before the sixteenth. [`Slots::find_hashed`] then decides.
     #[inline(always)]
     pub fn probe_first_group<S: BuildHasher, Q: Key<T>>(
         &self,

@@ -1,4 +1,4 @@
-//! Additions by keys: by a value that is lent, or by what names it, as a text names a `String`.
+//! Additions by keys: by what names a value, as a text names a `String`.
 ghost use Rattle.std.specs.Prelude.{◌≡◌, ◌+◌, ◌-◌, ◌<◌, ◌≤◌, ◌^◌, true, None, IfOk, OnOk, OnErr, IsTrue};
 ghost use Rattle.hashbag_slots.specs.FirstGroup.{IfAbsent};
 ghost use Rattle.hashbag_slots.specs.Hashing.{hash_under};
@@ -45,11 +45,16 @@ impl<T: Eq + Hash + Drop, S: BuildHasher + Drop> Table<T, S> {
         Ok(0)
     }
 
-    /// Adds `n` to the count of the value that a key names, and answers what the count was, 0 where the value was absent.
+    /// Adds `n` to the count of the value that a key names and returns the count before, 0 if the value was absent. If the value is
+    /// present, the stored instance stays. If it is absent, it is built from the key and inserted.
     ///
-    /// A stored instance stays, and where there is one it takes no memory. Where there is none a value is made of the key, which is
-    /// put in. That may be refused for memory, to the value or where no room is left: the table is then unchanged. The key is hashed
-    /// once.
+    /// # Errors
+    ///
+    /// `AllocError` if the value is absent, and an allocation for it or for slots fails. The table is then unchanged.
+    ///
+    /// # Complexity
+    ///
+    /// It hashes the key once, and each value that it carries. A present value allocates nothing.
     #[inline(always)]
     pub fn add_key<Q: ToValue<T>>(&mut self, key: Q, n: usize) -> Result<usize, AllocError>
         requires some { 0 < n }

@@ -1,4 +1,4 @@
-//! Look-ups: the spot in the two tables of slots where a value is, what is there, and what is changed there.
+//! Look-ups: the spot of a value in the two tables of slots, what is there, and what is changed there.
 ghost use Rattle.std.specs.Prelude.{◌≡◌, ◌+◌, ◌-◌, ◌<◌, ◌≤◌, ◌^◌, ℕ, [], ◌∷◌, true, false, length, Some, None, IfSome, IfNone, IfOk, IfErr, OnErr, IsSome, slice_set, option_map};
 ghost use Rattle.std.specs.List.Sorted.{IsPermutation};
 ghost use Rattle.std.specs.Map.{lookup_entry};
@@ -15,7 +15,7 @@ use hashbag_slots::key::Key;
 use hashbag_slots::slots::{FirstGroup, Slot, Slots, hash_of};
 use std::hash::{BuildHasher, Hash};
 
-// Stores another equal instance at a place, with the count 1, and gives the former one back.
+// Stores another equal instance at a place, with the count 1, and returns the former one.
 fn store_once<T: Eq>(slots: &mut Slots<T>, place: usize, value: T) -> T
     requires equal { holds (T.eq value) (slot_at slots.old.slots place) ≡ true }
     ensures given { slot_at slots.old.slots place ≡ Slot.Live result (count_in (slot_at slots.old.slots place)) }
@@ -27,7 +27,7 @@ fn store_once<T: Eq>(slots: &mut Slots<T>, place: usize, value: T) -> T
     former
 }
 
-// As `find_uncarried`, of the older table, which seldom has slots: look-ups of the newer one alone are to be short.
+// As `find_uncarried`, of the older table, which seldom has slots. It is out of line, so that look-ups of the newer table alone are short.
 #[inline(never)]
 fn find_waiting_slow<T: Eq + Hash, S: BuildHasher, Q: Key<T>>(
     older: &Slots<T>,
@@ -46,7 +46,7 @@ fn find_waiting_slow<T: Eq + Hash, S: BuildHasher, Q: Key<T>>(
     older.find_uncarried(state, hash, key, looked)
 }
 
-// The place of the value that a key names in the older table, of which so many slots were looked at.
+// Returns the place of the value that a key names in the older table, of which the first `looked` slots were carried.
 #[inline(always)]
 fn find_waiting<T: Eq + Hash, S: BuildHasher, Q: Key<T>>(
     older: &Slots<T>,
@@ -69,7 +69,7 @@ fn find_waiting<T: Eq + Hash, S: BuildHasher, Q: Key<T>>(
 }
 
 impl<T: Eq + Hash + Drop, S: BuildHasher + Drop> Table<T, S> {
-    // The hash of a key under the table's own state, by which alone the value is found that it names.
+    // Returns the hash of a key under the table's own state, which alone finds the value that the key names.
     #[inline(always)]
     pub(super) fn hash<Q: Key<T>>(&self, key: Q) -> u64
         ensures { result ≡ hash_under Q.hash_input S.BuildHasher S.Hasher.Hasher self.now.hasher key }
@@ -77,8 +77,11 @@ impl<T: Eq + Hash + Drop, S: BuildHasher + Drop> Table<T, S> {
         hash_of(&self.hasher, key)
     }
 
-    /// Returns the stored instance of the value that a key names and its count, or `None` if there is none. It hashes the key once for
-    /// both tables.
+    /// Returns the stored instance of the value that a key names and its count, or `None` if there is none.
+    ///
+    /// # Complexity
+    ///
+    /// It hashes the key once for both tables and doesn't allocate.
     #[inline(always)]
     pub fn get<Q: Key<T>>(&self, key: Q) -> Option<(&T, usize)>
         ensures found { option_map (λ e. (e.0.now, e.1)) result ≡ named_entry (Q.names key) self.now.entries }
@@ -94,7 +97,7 @@ impl<T: Eq + Hash + Drop, S: BuildHasher + Drop> Table<T, S> {
         }
     }
 
-    // Where the value is that a key names and the newer table doesn't have. The key's hash is handed in.
+    // Returns the spot of the value that a key with this hash names, if the newer table doesn't have it.
     #[inline(always)]
     fn waiting_spot<Q: Key<T>>(&self, hash: u64, key: Q) -> Option<Spot>
         requires hashed { hash ≡ hash_under Q.hash_input S.BuildHasher S.Hasher.Hasher self.now.hasher key }
@@ -108,7 +111,7 @@ impl<T: Eq + Hash + Drop, S: BuildHasher + Drop> Table<T, S> {
         }
     }
 
-    // Where the value is that a key names. The key's hash is handed in.
+    // Returns the spot of the value that a key with this hash names.
     #[inline(always)]
     pub(super) fn spot_of<Q: Key<T>>(&self, hash: u64, key: Q) -> Option<Spot>
         requires hashed { hash ≡ hash_under Q.hash_input S.BuildHasher S.Hasher.Hasher self.now.hasher key }
@@ -123,8 +126,8 @@ impl<T: Eq + Hash + Drop, S: BuildHasher + Drop> Table<T, S> {
         self.waiting_spot(hash, key)
     }
 
-    // Where the value is that a key names, which the first group of its path in the newer table didn't show. If that has shown that it
-    // is absent, the newer table isn't asked again.
+    // Returns the spot of the value that a key names, if the first group of its path in the newer table didn't show it. If that has shown
+    // that the value is absent there, the newer table isn't probed again.
     #[inline(always)]
     pub(super) fn spot_after_first_group<Q: Key<T>>(
         &self,
@@ -143,7 +146,7 @@ impl<T: Eq + Hash + Drop, S: BuildHasher + Drop> Table<T, S> {
         self.spot_of(hash, key)
     }
 
-    // What the first 16 slots of a key's path in the newer table show.
+    // Returns what the first 16 slots of a key's path in the newer table show.
     #[inline(always)]
     pub(super) fn probe_first_group<Q: Key<T>>(&self, hash: u64, key: Q) -> FirstGroup
         requires hashed { hash ≡ hash_under Q.hash_input S.BuildHasher S.Hasher.Hasher self.now.hasher key }
@@ -157,7 +160,7 @@ impl<T: Eq + Hash + Drop, S: BuildHasher + Drop> Table<T, S> {
         self.newer.probe_first_group(&self.hasher, hash, key)
     }
 
-    // Gives the value at a spot another count.
+    // Sets the count of the value at a spot.
     #[inline(always)]
     pub(super) fn set_spot(&mut self, spot: Spot, n: usize)
         requires live { is_live (slot_in self.old.tables spot) ≡ true }
@@ -167,7 +170,7 @@ impl<T: Eq + Hash + Drop, S: BuildHasher + Drop> Table<T, S> {
         ensures hasher { self.new.hasher ≡ self.old.hasher }
         ensures counted { IsCounted T.eq self.new.entries }
     {
-        // `slots` is called for its clauses, which the proof cites: how many slots there can be.
+        // `slots` is called for its clauses, which the proof names: how many slots there can be.
         let _slots = self.older.slots();
         if let Spot::Newer(place) = spot {
             self.newer.set_at(place, n);
@@ -178,7 +181,7 @@ impl<T: Eq + Hash + Drop, S: BuildHasher + Drop> Table<T, S> {
         }
     }
 
-    // Takes the value at a spot out, and leaves Removed there.
+    // Removes the value at a spot, and leaves Removed there.
     pub(super) fn take_spot(&mut self, spot: Spot) -> (T, usize)
         requires live { is_live (slot_in self.old.tables spot) ≡ true }
         ensures taken { slot_in self.old.tables spot ≡ Slot.Live result.0 result.1 }
@@ -201,7 +204,7 @@ impl<T: Eq + Hash + Drop, S: BuildHasher + Drop> Table<T, S> {
         }
     }
 
-    // The count of the value at a spot.
+    // Returns the count of the value at a spot.
     #[inline(always)]
     pub(super) fn count_at(&self, spot: Spot) -> usize
         requires live { is_live (slot_in self.now.tables spot) ≡ true }
@@ -221,7 +224,7 @@ impl<T: Eq + Hash + Drop, S: BuildHasher + Drop> Table<T, S> {
         }
     }
 
-    // Adds to the count of the value at a spot, and answers what the count was.
+    // Adds to the count of the value at a spot, and returns the count before.
     #[inline(always)]
     pub(super) fn raise_spot(&mut self, spot: Spot, n: usize) -> usize
         requires live { is_live (slot_in self.old.tables spot) ≡ true }
@@ -238,7 +241,7 @@ impl<T: Eq + Hash + Drop, S: BuildHasher + Drop> Table<T, S> {
         before
     }
 
-    // Stores another equal instance at a spot, with the count 1, and gives the former one back.
+    // Stores another equal instance at a spot, with the count 1, and returns the former one.
     pub(super) fn put_spot(&mut self, spot: Spot, value: T) -> T
         requires equal { holds (T.eq value) (slot_in self.old.tables spot) ≡ true }
         ensures after { Writes spot (Slot.Live value 1) self.old.tables self.new.tables }

@@ -1,4 +1,4 @@
-//! Single calls on the bag, with the answers found by hand.
+//! Single calls on the bag, with the results found by hand.
 use hashbag::{BagError, FixedState, HashBag};
 use hashbag_bench::calls::{clone_of, make_rows};
 use hashbag_bench::texts::is_text;

@@ -12,7 +12,7 @@ use std::cell::Cell;
 use std::hash::{BuildHasher, Hash, Hasher};
 use std::test::Fail;
 
-// Pairs of a value and a number, and what extending with them gives. Each pair takes one clone, and none where its number is 0
+// Pairs of a value and a number, and what extending with them gives. Each pair takes one clone, and none if its number is 0
 // or the total would pass its end.
 const ROWS: &str = "\
     1:2 2:0 3:5 = Ok(()) after 2 clones

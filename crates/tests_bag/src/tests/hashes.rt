@@ -1,4 +1,4 @@
-//! What the hash states answer.
+//! What the hash states return.
 use hashbag_bench::states::{identity_hash, one_hash, parity_hash};
 use hashbag_bench::texts::{halves, is_text, number, rows_of};
 use hashbag_bench::{IdentityState, OneState, ParityState, Tagged};

@@ -5,7 +5,7 @@ use hashbag_callers::text_uses::{count_texts, how_often};
 use std::alloc::Global;
 use std::test::Fail;
 
-// One bag throughout. What comes is more than once a text that is there.
+// One bag throughout. Some of the texts are present already.
 const ROWS: &str = "\
     contains the = 0
     get the = None

@@ -22,7 +22,7 @@ struct Owning<'a> {
     states: &'a States,
 }
 
-// Takes in nothing, and answers the number.
+// Takes in nothing, and returns the number.
 #[derive(Clone, Copy)]
 struct Answer {
     hash: u64,

@@ -88,7 +88,7 @@ fn filled<T: Made, S: BuildHasher + Drop>(
     Ok(format!(in alloc; "{len} of {set_len} in {tables:?}, {found} found")?)
 }
 
-// What stands after a removal, a take and an insertion: the numbers of items of the walks, and of a clone.
+// What is left after a removal, a take and an insertion: the numbers of items of the walks, and of a clone.
 fn walked<T: Made, S: BuildHasher + Copy>(
     bag: &HashBag<T, S>,
 ) -> Result<(usize, usize, usize, usize), BagError> {

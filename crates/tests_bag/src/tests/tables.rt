@@ -7,7 +7,7 @@ use std::alloc::Global;
 use std::hash::BuildHasher;
 use std::test::Fail;
 
-// `tables` answers the slots of the newer table, the slots that wait, and the room.
+// `tables` returns the slots of the newer table, the slots that wait, and the room.
 const ROWS: &str = "\
     [no table]
     tables = (0, 0, 0)
@@ -356,7 +356,7 @@ const ONE_ROWS: &str = "\
     insert 3 = 0
     set_len = 1";
 
-// What a clone answers of a bag in the middle of a carry.
+// What the calls of a clone return, of a bag in the middle of a carry.
 const CLONE: &str = "\
     tables = (64, 0, 23)
     set_len = 25

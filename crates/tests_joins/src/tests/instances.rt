@@ -32,7 +32,7 @@ fn joined<S: BuildHasher + Drop, S2: BuildHasher + Drop>(
     Ok(items)
 }
 
-// A value of both bags comes as the instance of the first, and one of the second bag alone after all others.
+// A value of both bags is given as the instance of the first, and one of the second bag alone after all others.
 #[test]
 fn instances_of_outer_joins(rt: HostRuntime) -> Result<(), Fail> {
     let alloc = rt.alloc();

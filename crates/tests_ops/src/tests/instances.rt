@@ -1,4 +1,4 @@
-//! Which instances stay: those of the first bag, and of the second only where the first had none.
+//! Which instances stay: those of the first bag, and of the second only if the first had none.
 use crate::tests::calls::{kept_common, kept_most, merged, taken_away};
 use hashbag::{BagError, HashBag};
 use hashbag_bench::texts::{debug_of, halves, is_text, rows_of};

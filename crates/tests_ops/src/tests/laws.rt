@@ -1,4 +1,4 @@
-//! The callers that are laws, once each: what they answer, and the counts that are left.
+//! The callers that are laws, once each: what they return, and the counts that are left.
 use crate::tests::bags::{bag_of, counts_of, pairs_of, text_of_list, thirds};
 use hashbag::{BagError, FixedState, HashBag};
 use hashbag_bench::texts::{debug_of, is_text, rows_of};

@@ -8,7 +8,7 @@ use std::fmt::Debug;
 use std::hash::BuildHasher;
 use std::test::Fail;
 
-/// A plain list of occurrences, and beside it so many of the ballast.
+/// A plain list of occurrences, and how many there are of the ballast.
 #[derive(Drop)]
 pub struct Plain<T: Eq + Copy + Drop> {
     /// The list.

@@ -1,5 +1,5 @@
-//! What `Debug` writes of a bag of three values and of its four walks. The order of the values is open, so only how often each of them
-//! stands there is looked at.
+//! What `Debug` writes of a bag of three values and of its four walks. The values are in no particular order, so only how often each
+//! occurs there is compared.
 use crate::tests::walks::bag_of_names;
 use hashbag::{FixedState, HashBag};
 use hashbag_bench::OneState;
