@@ -3,9 +3,9 @@ use crate::checks::{Refusals, Wrong, check};
 use crate::counts::tables_of;
 use hashbag::HashBag;
 use hashbag::script::{Reply, Step, joins_of, run, run_pair};
-use hashbag_bench::OneState;
 use serde_json::Value;
 use std::alloc::Global;
+use tests_kit::OneState;
 
 // A bag of numbers whose hashes are all alike.
 type Bag = HashBag<u64, OneState>;

@@ -4,9 +4,9 @@ use crate::counted::{Counted, Values};
 use crate::counts::tables_of;
 use hashbag::script::{Step, run, run_pair};
 use hashbag::{BagError, HashBag};
-use hashbag_bench::OneState;
 use std::alloc::Global;
 use std::hash::Hash;
+use tests_kit::OneState;
 
 // A bag of such values.
 type Bag<'a> = HashBag<Counted<'a>, OneState>;

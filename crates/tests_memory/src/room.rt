@@ -2,9 +2,9 @@
 use crate::checks::{Refusals, Wrong, check};
 use crate::counts::{has_counts, insert_two, tables_of, two_fives};
 use hashbag::{BagError, FixedState, HashBag};
-use hashbag_bench::{IdentityState, OneState, ParityState};
 use std::alloc::Global;
 use std::hash::BuildHasher;
+use tests_kit::{IdentityState, OneState, ParityState};
 
 /// Checks that a bag has room for this number of values more.
 pub fn has_room(bag: &HashBag<u64>, n: usize, wrong: &'static str) -> Result<(), Wrong> {

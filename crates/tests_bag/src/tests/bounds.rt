@@ -1,11 +1,11 @@
 //! Slots along whole runs: how many there are in the end, and how many were built on the way, which the inserted values bound.
 use hashbag::script::{Step, run};
 use hashbag::{FixedState, HashBag};
-use hashbag_bench::texts::{count, halves, number, rows_of};
-use hashbag_bench::{IdentityState, OneState, ParityState};
 use std::alloc::{AllocError, Global};
 use std::hash::BuildHasher;
 use std::test::Fail;
+use tests_kit::texts::{count, halves, number, rows_of};
+use tests_kit::{IdentityState, OneState, ParityState};
 
 // A run and what it leaves. `in 100` inserts 1 to 100; `in_and_out` takes each value out at once; `window` takes out, from the ninth on,
 // the value of eight before; `limited` sets the limit to each number before its insertion. `clear` and `shrink` are the last steps.

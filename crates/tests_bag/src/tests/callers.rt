@@ -1,8 +1,6 @@
 //! The callers to copy, as rows of text: what no clause says of them is that they succeed, and what they return on bags, found by hand.
 use hashbag::script::Reply;
 use hashbag::{BagError, FixedState, HashBag};
-use hashbag_bench::texts::{count, counts, debug_of, halves, is_text, number, rows_of, values};
-use hashbag_bench::{IdentityState, OneState, ParityState, calls};
 use hashbag_callers::deliveries::{greatest_surplus, greatest_surplus_by_fold, is_complete};
 use hashbag_callers::ledger::{deliver, keep_at_most, list, sell, sell_out, take_was_last};
 use hashbag_callers::run_uses::insert_and_count;
@@ -10,6 +8,8 @@ use hashbag_callers::words::{count_words, equal_in_any_order, insert_each, two_w
 use std::alloc::Global;
 use std::hash::BuildHasher;
 use std::test::Fail;
+use tests_kit::texts::{count, counts, debug_of, halves, is_text, number, rows_of, values};
+use tests_kit::{IdentityState, OneState, ParityState, calls};
 
 // One bag throughout. What is no caller's name is a call on the bag.
 const ROWS: &str = "\

@@ -1,13 +1,13 @@
 //! Retaining, extending, collecting, cloning and comparing, with the results found by hand.
 use hashbag::script::{Reply, Step, run};
 use hashbag::{FixedState, HashBag};
-use hashbag_bench::calls::{clone_of, make_calls, make_rows};
-use hashbag_bench::texts::{count, counts, debug_of, halves, is_text, number, rows_of};
-use hashbag_bench::{IdentityState, OneState, ParityState};
 use std::alloc::Global;
 use std::hash::BuildHasher;
 use std::process::Abort;
 use std::test::Fail;
+use tests_kit::calls::{clone_of, make_calls, make_rows};
+use tests_kit::texts::{count, counts, debug_of, halves, is_text, number, rows_of};
+use tests_kit::{IdentityState, OneState, ParityState};
 
 // `counts` returns how often each of the values occurs. `retain_itself` keeps of each value as many as it is, and returns how
 // often the closure was called.

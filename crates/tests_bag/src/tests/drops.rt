@@ -1,12 +1,12 @@
 //! Each value is dropped once, by the call that takes it out or by the bag, while the tables grow, carry and are built anew.
 use hashbag::{BagError, FixedState, HashBag};
-use hashbag_bench::OneState;
-use hashbag_bench::calls::{insert, replace};
 use std::alloc::Global;
 use std::cell::Cell;
 use std::hash::BuildHasher;
 use std::process::Abort;
 use std::test::Fail;
+use tests_kit::OneState;
+use tests_kit::calls::{insert, replace};
 use tests_slots::counted::Counted;
 
 // Checks how many values were dropped.

@@ -2,13 +2,13 @@
 //!
 //! A value is written as its key and its tag, as `1:10`. Two values with one key are equal.
 use hashbag::{BagError, FixedState, HashBag};
-use hashbag_bench::calls::{insert, replace};
-use hashbag_bench::texts::{count, debug_of, halves, is_text, number, rows_of};
-use hashbag_bench::{IdentityState, OneState, ParityState, Tagged};
 use std::alloc::Global;
 use std::hash::BuildHasher;
 use std::process::Abort;
 use std::test::Fail;
+use tests_kit::calls::{insert, replace};
+use tests_kit::texts::{count, debug_of, halves, is_text, number, rows_of};
+use tests_kit::{IdentityState, OneState, ParityState, Tagged};
 
 // The first instance of a value stays until all of it is taken out or replaced, in a clone too. An entry gives the stored
 // instance, and keeps the given value.

@@ -1,9 +1,9 @@
 //! Calls by texts on a bag of texts, as rows of text: what no clause says of them is that they succeed.
 use hashbag::{BagError, HashBag};
-use hashbag_bench::texts::{debug_of, halves, is_text, rows_of};
 use hashbag_callers::text_uses::{count_texts, how_often};
 use std::alloc::Global;
 use std::test::Fail;
+use tests_kit::texts::{debug_of, halves, is_text, rows_of};
 
 // One bag throughout. Some of the texts are present already.
 const ROWS: &str = "\

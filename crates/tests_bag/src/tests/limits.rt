@@ -1,12 +1,12 @@
 //! Bags with a limit, with the results found by hand, and what a failed call leaves.
 use hashbag::script::{Step, run};
 use hashbag::{FixedState, HashBag};
-use hashbag_bench::calls::{answer, clone_of, make_calls, make_rows};
-use hashbag_bench::texts::{debug_of, is_text};
-use hashbag_bench::{IdentityState, OneState, ParityState};
 use std::alloc::{AllocError, Global};
 use std::hash::BuildHasher;
 use std::test::Fail;
+use tests_kit::calls::{answer, clone_of, make_calls, make_rows};
+use tests_kit::texts::{debug_of, is_text};
+use tests_kit::{IdentityState, OneState, ParityState};
 
 // `set` is `and_modify` that sets the count.
 const ROWS: &str = "\

@@ -1,8 +1,8 @@
 //! How many bytes a bag and its walks have themselves.
 use hashbag::{Drain, FixedState, HashBag, IntoIter, Iter, SetIter};
-use hashbag_bench::OneState;
 use std::fs;
 use std::test::Fail;
+use tests_kit::OneState;
 
 #[test]
 fn sizes_of_bags_and_walks(_rt: HostRuntime) -> Result<(), Fail> {

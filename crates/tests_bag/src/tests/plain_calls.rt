@@ -1,10 +1,10 @@
 //! Calls on the plain bag, with the results found by hand.
 use crate::tests::instances::tagged;
 use hashbag::script::{Reply, Step};
-use hashbag_bench::texts::{count, debug_of, halves, is_text, rows_of};
-use hashbag_bench::{PlainBag, Tagged};
 use std::alloc::{AllocError, Global};
 use std::test::Fail;
+use tests_kit::texts::{count, debug_of, halves, is_text, rows_of};
+use tests_kit::{PlainBag, Tagged};
 
 // A value is written as its key and its tag. `tags` returns the tags of all occurrences, in the order of the list.
 const ROWS: &str = "\

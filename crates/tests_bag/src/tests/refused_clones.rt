@@ -6,14 +6,14 @@ ghost use Rattle.std.specs.Cmp.Rules.{comparing, hashing};
 ghost use Rattle.std.specs.Hash as fed;
 
 use hashbag::{BagError, FixedState, HashBag};
-use hashbag_bench::OneState;
-use hashbag_bench::calls::insert;
-use hashbag_bench::texts::{count, halves, is_text, rows_of};
 use std::alloc::{AllocError, Global};
 use std::cell::Cell;
 use std::hash::{BuildHasher, Hash, Hasher};
 use std::process::Abort;
 use std::test::Fail;
+use tests_kit::OneState;
+use tests_kit::calls::insert;
+use tests_kit::texts::{count, halves, is_text, rows_of};
 
 // The number of the clone that fails, and what an extend by 26, 27, 28 and 27 returns and leaves: the total, the distinct values,
 // the tables, and how many values are alive but for the four given ones.

@@ -1,12 +1,12 @@
 //! Room for distinct values. No clause can promise it, since an allocation may fail.
 use hashbag::{BagError, FixedState, HashBag};
-use hashbag_bench::calls::make_calls;
-use hashbag_bench::texts::{debug_of, is_text};
-use hashbag_bench::{IdentityState, OneState, ParityState};
 use std::alloc::Global;
 use std::hash::BuildHasher;
 use std::process::Abort;
 use std::test::Fail;
+use tests_kit::calls::make_calls;
+use tests_kit::texts::{debug_of, is_text};
+use tests_kit::{IdentityState, OneState, ParityState};
 
 // How many distinct values the bags have for which room is made.
 const SIZES: [u64; 8] = [0, 1, 5, 12, 13, 24, 25, 100];

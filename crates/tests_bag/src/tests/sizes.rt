@@ -1,11 +1,11 @@
 //! Values of no size, and of two hundred bytes.
 use hashbag::{BagError, FixedState, HashBag};
-use hashbag_bench::OneState;
-use hashbag_bench::calls::insert;
-use hashbag_bench::texts::is_text;
 use std::alloc::Global;
 use std::hash::{BuildHasher, Hash};
 use std::test::Fail;
+use tests_kit::OneState;
+use tests_kit::calls::insert;
+use tests_kit::texts::is_text;
 
 // Values made of numbers.
 trait Made: Eq + Hash + Copy + Drop {

@@ -2,12 +2,12 @@
 use crate::tests::joins::{bag_of, bags_of, quarters};
 use hashbag::script::joins_of;
 use hashbag::{BagError, HashBag};
-use hashbag_bench::calls::{answer, clone_of};
-use hashbag_bench::states::CountingState;
-use hashbag_bench::texts::{count, debug_of, halves, is_text, number, rows_of};
 use serde_json::Value;
 use std::alloc::Global;
 use std::test::Fail;
+use tests_kit::calls::{answer, clone_of};
+use tests_kit::states::CountingState;
+use tests_kit::texts::{count, debug_of, halves, is_text, number, rows_of};
 
 // The counts of a bag, a call on it, and how often its state hashes in the call. A call is named as in the rows of calls.
 const CALLS: &str = "

@@ -1,10 +1,10 @@
 //! Which instances joins give.
 use hashbag::HashBag;
-use hashbag_bench::texts::{debug_of, is_text};
-use hashbag_bench::{IdentityState, OneState, Tagged};
 use std::alloc::Global;
 use std::hash::BuildHasher;
 use std::test::Fail;
+use tests_kit::texts::{debug_of, is_text};
+use tests_kit::{IdentityState, OneState, Tagged};
 
 // A bag of values with these keys and tags, each so often.
 fn tagged<S: BuildHasher + Default + Drop>(

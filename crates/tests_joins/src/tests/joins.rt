@@ -1,14 +1,14 @@
 //! Joins of two bags, with the items found by hand, between each two of the four hash states.
 use hashbag::script::{Joins, joins_of};
 use hashbag::{FixedState, HashBag};
-use hashbag_bench::calls::{bag_of_counts, insert};
-use hashbag_bench::texts::{counts, debug_of, halves, is_text, number, rows_of, values};
-use hashbag_bench::{IdentityState, OneState, ParityState};
 use hashbag_callers::join_uses::excess_of;
 use std::alloc::{AllocError, Global};
 use std::fmt::Debug;
 use std::hash::BuildHasher;
 use std::test::Fail;
+use tests_kit::calls::{bag_of_counts, insert};
+use tests_kit::texts::{counts, debug_of, halves, is_text, number, rows_of, values};
+use tests_kit::{IdentityState, OneState, ParityState};
 
 // A join, two bags, and the items of the join, values rising. A bag in brackets is collected from these values; else each value is
 // inserted as often as its number. Bags of 25 values are in the middle of a carry.

@@ -1,7 +1,5 @@
 //! Trees of bags, read and written, with the results found by hand.
 use hashbag::{FixedState, HashBag, ItemError, JsonError, JsonItem};
-use hashbag_bench::texts::{debug_of, halves, is_text, rows_of};
-use hashbag_bench::{IdentityState, Named, OneState, ParityState};
 use hashbag_callers::json_uses::{both_trees, read_again};
 use serde_json::Value;
 use std::alloc::{AllocError, Global};
@@ -9,6 +7,8 @@ use std::fmt::{Debug, Display};
 use std::hash::{BuildHasher, Hash};
 use std::process::Abort;
 use std::test::Fail;
+use tests_kit::texts::{debug_of, halves, is_text, rows_of};
+use tests_kit::{IdentityState, Named, OneState, ParityState};
 
 // What the items are, a tree, and why it can't be read, or else the total of its bag, the number of distinct values, and the tree that is
 // written of it.

@@ -1,11 +1,11 @@
 //! Bags of letters, with the results found by hand.
 use hashbag::{BagError, FixedState, HashBag};
-use hashbag_bench::OneState;
-use hashbag_bench::texts::is_text;
 use std::alloc::Global;
 use std::hash::BuildHasher;
 use std::process::Abort;
 use std::test::Fail;
+use tests_kit::OneState;
+use tests_kit::texts::is_text;
 
 // The outer join of the letters of "hash" with those of "math".
 const HASH_AND_MATH: &str =

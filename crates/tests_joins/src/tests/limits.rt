@@ -1,11 +1,11 @@
 //! Trees read within a limit, with the results found by hand.
 use crate::tests::json::{tree_of, written};
 use hashbag::{FixedState, HashBag, JsonError};
-use hashbag_bench::texts::{count, debug_of, halves, is_text, rows_of};
-use hashbag_bench::{IdentityState, OneState, ParityState};
 use std::alloc::Global;
 use std::hash::BuildHasher;
 use std::test::Fail;
+use tests_kit::texts::{count, debug_of, halves, is_text, rows_of};
+use tests_kit::{IdentityState, OneState, ParityState};
 
 // A limit, a tree of texts, and why it can't be read, or else the limit of its bag, the total, the number of distinct values, and the tree
 // that is written of it.

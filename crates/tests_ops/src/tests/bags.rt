@@ -1,10 +1,10 @@
 //! Bags of numbers from rows of text, and their text.
 use hashbag::HashBag;
-use hashbag_bench::calls::bag_of_counts;
-use hashbag_bench::texts::{counts, debug_of, halves, number};
 use std::alloc::Global;
 use std::hash::BuildHasher;
 use std::test::Fail;
+use tests_kit::calls::bag_of_counts;
+use tests_kit::texts::{counts, debug_of, halves, number};
 
 /// The three parts of a row.
 pub fn thirds(row: &str) -> Result<(&str, &str, &str), Fail> {

@@ -1,10 +1,10 @@
 //! The calls on two bags. Each has a function with no contract of its own, so that the proof carries nothing from one call to the next.
 use hashbag::{BagError, HashBag};
-use hashbag_bench::texts::debug_of;
 use hashbag_ops::{contains_all, is_disjoint, keep_common, keep_most, merge, merge_ref, take_away};
 use std::alloc::Global;
 use std::hash::{BuildHasher, Hash};
 use std::test::Fail;
+use tests_kit::texts::debug_of;
 
 /// Merges a bag into another.
 pub fn merged<T: Eq + Hash + Drop, S: BuildHasher + Drop, S2: BuildHasher + Drop>(

@@ -2,11 +2,11 @@
 use crate::tests::bags::{bag_of, counts_of, text_of_list, thirds};
 use crate::tests::calls::answer;
 use hashbag::{FixedState, HashBag};
-use hashbag_bench::texts::{count, halves, is_text, rows_of};
-use hashbag_bench::{IdentityState, OneState, ParityState, calls};
 use std::alloc::Global;
 use std::hash::BuildHasher;
 use std::test::Fail;
+use tests_kit::texts::{count, halves, is_text, rows_of};
+use tests_kit::{IdentityState, OneState, ParityState, calls};
 
 // A call, and the limit of the first bag, with `-` if none is set; the two bags; the result, and the total that is left; the counts
 // that are left. `1..25` are these values, once each: 25 values are in the middle of a carry. The second bag is at a limit of its own.

@@ -7,12 +7,12 @@ use crate::tests::met::{Met, state_of};
 use crate::tests::steps::{MOST, STEPS, Sample, ballast, next_number, step_of, with_ballast};
 use hashbag::script::{Reply, Step, joins_of, run};
 use hashbag::{FixedState, HashBag};
-use hashbag_bench::texts::{debug_of, is_text};
-use hashbag_bench::{IdentityState, OneState, ParityState, Tagged};
 use std::alloc::{AllocError, Global};
 use std::fmt::Debug;
 use std::hash::BuildHasher;
 use std::test::Fail;
+use tests_kit::texts::{debug_of, is_text};
+use tests_kit::{IdentityState, OneState, ParityState, Tagged};
 
 // How often the ballast occurs in the first bag and in the second: never, or so often in the first that its totals come to the end of a
 // `usize`, and that the signed difference passes the end of an `isize`.

@@ -1,14 +1,14 @@
 //! Walks over a bag in the middle of a carry, dropped after each number of items. The bag is asked again after each.
 use crate::tests::walks::{has_left, next_of};
 use hashbag::{BagError, FixedState, HashBag};
-use hashbag_bench::calls::{insert, make_calls};
-use hashbag_bench::texts::{debug_of, is_text};
-use hashbag_bench::{IdentityState, OneState, ParityState};
 use std::alloc::Global;
 use std::fmt::Debug;
 use std::hash::BuildHasher;
 use std::process::Abort;
 use std::test::Fail;
+use tests_kit::calls::{insert, make_calls};
+use tests_kit::texts::{debug_of, is_text};
+use tests_kit::{IdentityState, OneState, ParityState};
 
 // So many distinct values leave 16 slots that wait.
 const VALUES: usize = 25;

@@ -2,10 +2,10 @@
 //!
 //! Over two hundred steps the bag is filled and then emptied, so that its tables grow, carry and shrink again and again.
 use hashbag::script::Step;
-use hashbag_bench::Tagged;
 use std::alloc::{AllocError, Global};
 use std::fmt::Debug;
 use std::hash::Hash;
+use tests_kit::Tagged;
 
 /// How many steps a list has.
 pub const STEPS: u64 = 2000;

@@ -1,8 +1,5 @@
 //! Walks over the bag, with the items found by hand, and the texts of `Debug`.
 use hashbag::{Drain, FixedState, HashBag, IntoIter, Iter, SetIter};
-use hashbag_bench::calls::{bag_of, bag_of_counts, counts_of, make_calls};
-use hashbag_bench::texts::{debug_of, is_text};
-use hashbag_bench::{IdentityState, OneState, ParityState};
 use hashbag_callers::uses::{
     first_moved_out, moved_out, number_by_loop, number_of_items, sum_by_loop, sum_of_counts,
     sum_used_up,
@@ -12,6 +9,9 @@ use std::fmt::Debug;
 use std::hash::{BuildHasher, Hash};
 use std::process::Abort;
 use std::test::Fail;
+use tests_kit::calls::{bag_of, bag_of_counts, counts_of, make_calls};
+use tests_kit::texts::{debug_of, is_text};
+use tests_kit::{IdentityState, OneState, ParityState};
 
 // Occurrences of `sample_bag`.
 const ITEMS: usize = 6;
