@@ -1,5 +1,5 @@
 //! How bags are made: empty ones, with room or with a limit, and clones.
-ghost use Rattle.std.specs.Prelude.{◌≡◌, ◌<◌, ◌≤◌, [], All, true, length, IsOk, IfOk, OnErr};
+ghost use Rattle.std.specs.Prelude.{◌≡◌, ◌<◌, ◌≤◌, [], All, true, length, IsOk, IfOk, IfErr};
 ghost use Rattle.hashbag_table.specs.Entries.{HasClones};
 ghost use Rattle.hashbag_table.specs.Tables.{room, IsLeast, IsPacked};
 ghost use Rattle.hashbag_core.specs.Occurrences.{greatest_total, SameCounts};
@@ -47,7 +47,7 @@ impl<T: Eq + Hash + Drop> HashBag<T, FixedState> {
         ensures hasher { IfOk result (λ bag. ⟦<FixedState as Default>⟧.is_default bag.hasher) }
         ensures none { n ≡ 0 → IsOk result }
         ensures beyond { MOST_VALUES < n → result ≡ Err BagError.Memory }
-        ensures memory { OnErr result (result ≡ Err BagError.Memory) }
+        ensures memory { IfErr result (λ e. e ≡ BagError.Memory) }
 
         // The table of slots that was made.
         ensures least { IfOk result (λ bag. IsLeast 0 n (length bag.tables.newer)) }
@@ -120,7 +120,7 @@ impl<T: Eq + Hash + Drop, S: BuildHasher + Drop> HashBag<T, S> {
         ensures hasher { IfOk result (λ bag. bag.hasher ≡ hasher) }
         ensures none { n ≡ 0 → IsOk result }
         ensures beyond { MOST_VALUES < n → result ≡ Err BagError.Memory }
-        ensures memory { OnErr result (result ≡ Err BagError.Memory) }
+        ensures memory { IfErr result (λ e. e ≡ BagError.Memory) }
 
         // The table of slots that was made.
         ensures least { IfOk result (λ bag. IsLeast 0 n (length bag.tables.newer)) }
@@ -161,7 +161,7 @@ impl<T: Eq + Hash + Drop, S: BuildHasher + Drop> HashBag<T, S> {
         ensures len { IfOk result (λ bag. length bag.items ≡ length self.now.items) }
         ensures hasher { IfOk result (λ bag. S.is_clone self.now.hasher bag.hasher) }
         ensures limit { IfOk result (λ bag. bag.most ≡ self.now.most) }
-        ensures memory { OnErr result (result ≡ Err BagError.Memory) }
+        ensures memory { IfErr result (λ e. e ≡ BagError.Memory) }
         ensures least { IfOk result (λ bag. NeedsSlots T.eq self.now (length bag.tables.newer)) }
         ensures packed { IfOk result (λ bag. IsPacked bag.tables) }
         ensures built { IfOk result (λ bag. bag.tables.built ≡ length bag.tables.newer) }

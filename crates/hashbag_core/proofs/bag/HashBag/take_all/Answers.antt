@@ -1,4 +1,4 @@
-use Rattle.std.proofs.Common.{◌≡◌, ◌-◌, ℕ, None, arith, sym, ◌∙◌, ap, subst, refl}
+use Rattle.std.proofs.Common.{arith, sym, ◌∙◌, subst, refl}
 use Rattle.hashbag_core.specs.Bag.{occurrences, IsTallied}
 use Rattle.hashbag_core.specs.Occurrences.{count_named}
 use Rattle.hashbag_core.proofs.OccurrenceLemmas.{less_all_occurrences}
@@ -25,8 +25,8 @@ returns-in_err-instance-clause-fewer g c =
     rw (← c.self.view_is)
     (fewer_named g.met.T.Eq.laws names one (count_named names (occurrences es)) _ _ 0 c.self.inside.table c.remove.new.self c.self.invariant (invariant_of-self g c) (sym none)
     (λ v does. let left = c.remove.ensures.left v does in
-        let all = counts_all g.met.T.Eq.laws names one v does es c.self.invariant.counted.distinct in
-        (less_all_occurrences g.met.T.Eq.laws v _ es _ c.self.invariant.counted (omega (arith, all)) left.means, left.hasher))
+    let all = counts_all g.met.T.Eq.laws names one v does es c.self.invariant.counted.distinct in
+    (less_all_occurrences g.met.T.Eq.laws v _ es _ c.self.invariant.counted (omega (arith, all)) left.means, left.hasher))
     (λ some. absurd (omega (arith, some))) (λ _. c.in_err-instance.ensures.none refl) c.remove.ensures.room)
 
 pub returns-in_err-instance-clause-len : goal.returns-in_err-instance-clause-len
@@ -52,8 +52,8 @@ invariant_of-self-2 g c =
     tally_named_less g.met.T.Eq.laws names one (count_named names (occurrences es)) c.in_ok-instance.count es c.remove.new.self.entries c.self.inside.len c.self.invariant (omega (arith, n, same))
     (λ none. absurd (omega (arith, n, some, none)))
     (λ v does. let left = c.remove.ensures.left v does in
-        let all = counts_all g.met.T.Eq.laws names one v does es c.self.invariant.counted.distinct in
-        (left.counted, less_all_occurrences g.met.T.Eq.laws v _ es _ c.self.invariant.counted (omega (arith, all)) left.means))
+    let all = counts_all g.met.T.Eq.laws names one v does es c.self.invariant.counted.distinct in
+    (left.counted, less_all_occurrences g.met.T.Eq.laws v _ es _ c.self.invariant.counted (omega (arith, all)) left.means))
 
 pub returns-clause-taken : goal.returns-clause-taken
 returns-clause-taken g c =
@@ -70,8 +70,8 @@ returns-clause-fewer g c =
     rw (← c.self.view_is)
     (fewer_named g.met.T.Eq.laws names one (count_named names (occurrences es)) _ _ c.in_ok-instance.count c.self.inside.table c.remove.new.self c.self.invariant (invariant_of-self-2 g c) (sym n)
     (λ v does. let left = c.remove.ensures.left v does in
-        let all = counts_all g.met.T.Eq.laws names one v does es c.self.invariant.counted.distinct in
-        (less_all_occurrences g.met.T.Eq.laws v _ es _ c.self.invariant.counted (omega (arith, all)) left.means, left.hasher))
+    let all = counts_all g.met.T.Eq.laws names one v does es c.self.invariant.counted.distinct in
+    (less_all_occurrences g.met.T.Eq.laws v _ es _ c.self.invariant.counted (omega (arith, all)) left.means, left.hasher))
     (λ _. recounts_none names _ _ _ (omega (arith, n, same)) (c.in_ok-instance.ensures.slot refl)) (λ none. absurd (omega (arith, some, none))) c.remove.ensures.room)
 
 pub returns-clause-len : goal.returns-clause-len

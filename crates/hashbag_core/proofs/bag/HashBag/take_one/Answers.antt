@@ -1,4 +1,4 @@
-use Rattle.std.proofs.Common.{◌≡◌, arith, sym, ◌∙◌, ap, refl}
+use Rattle.std.proofs.Common.{arith, sym, ◌∙◌, ap, refl}
 use Rattle.hashbag_core.proofs.OccurrenceLemmas.{bag_from_tally, fewer_occurrences}
 use Rattle.hashbag_table.proofs.KeyLemmas.{named_present}
 use Rattle.hashbag_core.proofs.KeyLemmas.{fewer_named, named_occurrences, named_in_tally, stored_named_occurrences, tally_named_less}
