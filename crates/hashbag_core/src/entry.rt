@@ -84,6 +84,7 @@ impl<'a, T: Eq + Hash + Drop, S: BuildHasher + Drop> Entry<'a, T, S> {
     /// Ok(())
     /// ```
     pub fn and_modify<F: FnOnce(&mut usize) + Drop>(self, f: F) -> Result<Entry<'a, T, S>, BagError>
+        // Nine clauses, since the entry that comes back is a loan: three say which one it is, and what the bag is if there is none.
         requires { (p : MutBor ℕ) → p.now ≡ count T.eq self.value self.bag.now.items → 0 < p.now → F.pre f p }
         ensures same_bag { IfOk result (λ e. e.bag.ghost_name ≡ self.entry.bag.ghost_name) }
         ensures same_value { IfOk result (λ e. e.value ≡ self.entry.value) }
@@ -145,11 +146,10 @@ impl<'a, T: Eq + Hash + Drop, S: BuildHasher + Drop> Entry<'a, T, S> {
     pub fn or_insert_many(self, quantity: usize) -> Result<usize, BagError>
         ensures occupied { IsOccupied T.eq self.entry → (result ≡ Ok (entry_count T.eq self.entry)) × (self.exit.0.now ≡ self.entry.bag.now) }
         ensures vacant { IsVacant T.eq self.entry → IfOk result (λ after. (after ≡ quantity) × Inserts T.eq self.entry.value quantity self.entry.bag.now self.exit.0.now) }
-        ensures none { quantity ≡ 0 → IsOk result }
+        ensures none { quantity ≡ 0 → IsOk result × (self.exit.0.now ≡ self.entry.bag.now) }
         ensures too_many { (result ≡ Err BagError.TooMany) ↔ (IsVacant T.eq self.entry × (self.entry.bag.now.most < length self.entry.bag.now.items + quantity)) }
         ensures refused { IfErr result (IsRefused T.eq self.entry.bag.now self.entry.value quantity) }
         ensures err { OnErr result (self.exit.0.now ≡ self.entry.bag.now) }
-        ensures same { quantity ≡ 0 → self.exit.0.now ≡ self.entry.bag.now }
         ensures takes { length self.entry.bag.now.items + quantity ≤ self.entry.bag.now.most → 0 < room self.entry.bag.now.tables → IsOk result }
     {
         let Entry { bag, value } = self;

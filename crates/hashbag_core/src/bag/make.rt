@@ -43,6 +43,7 @@ impl<T: Eq + Hash + Drop> HashBag<T, FixedState> {
     /// Ok(())
     /// ```
     pub fn with_capacity(alloc: Global, n: usize) -> Result<HashBag<T, FixedState>, BagError>
+        // Ten clauses, since they say what two things are: the bag, and the table of slots that was made.
         ensures empty { IfOk result (λ bag. bag.items ≡ []) }
         ensures hasher { IfOk result (λ bag. ⟦<FixedState as Default>⟧.is_default bag.hasher) }
         ensures none { n ≡ 0 → IsOk result }
@@ -116,6 +117,7 @@ impl<T: Eq + Hash + Drop, S: BuildHasher + Drop> HashBag<T, S> {
         n: usize,
         hasher: S,
     ) -> Result<HashBag<T, S>, BagError>
+        // Ten clauses, since they say what two things are: the bag, and the table of slots that was made.
         ensures empty { IfOk result (λ bag. bag.items ≡ []) }
         ensures hasher { IfOk result (λ bag. bag.hasher ≡ hasher) }
         ensures none { n ≡ 0 → IsOk result }
@@ -155,6 +157,7 @@ impl<T: Eq + Hash + Drop, S: BuildHasher + Drop> HashBag<T, S> {
     where
         T: Clone,
         S: Clone,
+        // Ten clauses, since they say what two things are: the new bag, and the table of slots that was made.
         requires equal { All (λ x. (y : _) → T.is_clone x y → T.eq x y ≡ true) self.now.items }
         ensures clones { IfOk result (λ bag. HasClones T.is_clone self.now.items bag.items) }
         ensures counts { IfOk result (λ bag. SameCounts T.eq self.now.items bag.items) }

@@ -10,8 +10,8 @@ use Rattle.hashbag_core.proofs.entry.Entry.or_insert_many.Goals as goal
 pub returns-then-before-gt0-clause-occupied : goal.returns-then-before-gt0-clause-occupied
 returns-then-before-gt0-clause-occupied g c = λ _. (cc (c.contains-before.ensures.count), refl)
 
-pub returns-then-before-gt0-clause-same : goal.returns-then-before-gt0-clause-same
-returns-then-before-gt0-clause-same g c = λ _. refl
+pub returns-then-before-gt0-clause-none : goal.returns-then-before-gt0-clause-none
+returns-then-before-gt0-clause-none g c = λ _. (refl, refl)
 
 pub insert_new-requires-clause-some : goal.insert_new-requires-clause-some
 insert_new-requires-clause-some g c = omega arith
@@ -19,8 +19,8 @@ insert_new-requires-clause-some g c = omega arith
 pub returns-in_err-insert_new-clause-none : goal.returns-in_err-insert_new-clause-none
 returns-in_err-insert_new-clause-none g c = λ none. absurd (omega (arith, none))
 
-pub returns-clause-same : goal.returns-clause-same
-returns-clause-same g c = λ none. absurd (omega (arith, none))
+pub returns-clause-none : goal.returns-clause-none
+returns-clause-none g c = λ none. absurd (omega (arith, none))
 
 pub returns-in_err-insert_new-clause-refused : goal.returns-in_err-insert_new-clause-refused
 returns-in_err-insert_new-clause-refused g c =
