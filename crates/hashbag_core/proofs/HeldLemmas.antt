@@ -1,5 +1,5 @@
 -- What calls leave of the slots of a bag, from what the calls of its table leave of them.
-use Rattle.std.proofs.Common.{◌≡◌, ℕ, zero, suc, ◌+◌, ◌-◌, ◌<◌, ◌≤◌, Bool, cond, List, [], length, replicate, None, IsSome, Result, Ok, Err, IfErr, refl, sym, ap, subst, ◌∙◌, inl, inr, arith}
+use Rattle.std.proofs.Common.{◌≡◌, ℕ, zero, suc, ◌+◌, ◌-◌, ◌<◌, ◌≤◌, Bool, cond, List, [], length, replicate, None, IsSome, refl, sym, ap, subst, ◌∙◌, inl, inr, arith}
 use Rattle.std.specs.Cmp.{IsEquivalence}
 use Rattle.std.proofs.lemmas.Bool.{cases_lt, ne_eqb}
 use Rattle.std.proofs.lemmas.List.{nil_from_length, length-replicate}
@@ -12,7 +12,7 @@ use Rattle.hashbag_table.specs.Tables.{Tables, limit, room, entries_of, IsLeast,
 use Rattle.hashbag_table.proofs.CarryLemmas.{live_fresh, live_empty, removed_empty}
 use Rattle.hashbag_core.specs.Bag.{Bag, occurrences}
 use Rattle.hashbag_core.specs.Occurrences.{count}
-use Rattle.hashbag_core.specs.Held.{no_slots, cleared, left_in, AreHeld, Recounts}
+use Rattle.hashbag_core.specs.Held.{no_slots, cleared, left_in, AreHeld}
 use Rattle.hashbag_core.proofs.OccurrenceLemmas.{count_occurrences, absent_from_count, present_from_count}
 use Rattle.hashbag_core.proofs.WalkLemmas.{length_occurrences, length_le_total}
 

@@ -7,7 +7,6 @@ use Rattle.serde_json.specs.Find.{as_array, as_object, get, get_member}
 use Rattle.serde_json.specs.View.{view, items_of, items_view}
 use Rattle.serde_json.specs.Written.{has_float}
 use Rattle.serde_json.specs.declared.value.Value.{Value}
-use Rattle.hashbag_core.specs.declared.json.JsonError.{JsonError}
 use Rattle.hashbag_core.specs.declared.json.JsonError.TheVariants.{Memory}
 use Rattle.hashbag_core.specs.Extends.{add_all}
 use Rattle.hashbag_core.specs.JsonFaults.{list_of, array_of, limit_name, pairs_name, has_no_other, pairs_in, limit_in, opened_object, opened, limit_opened, limit_of, first_fault, opened_fault, fault}

@@ -9,7 +9,7 @@ use Rattle.std.proofs.lemmas.List.Elements.{filter-append}
 use Rattle.std.proofs.lemmas.List.Sums.{length-filter}
 use Rattle.std.proofs.lemmas.Map.Made.{lookup_key_passes}
 use Rattle.hashbag_table.specs.Entries.{count_of, IsCounted}
-use Rattle.hashbag_table.specs.Additions.{Adds}
+use Rattle.hashbag_table.specs.Additions.{Adds, Stores}
 use Rattle.hashbag_table.specs.Named.{named_entry, named_count}
 use Rattle.hashbag_table.specs.Table.{Table}
 use Rattle.hashbag_table.specs.Tables.{KeepsRoom, Rewrites}
@@ -19,10 +19,10 @@ use Rattle.hashbag_table.proofs.ListLemmas.{IsPermutation-same, filter-replicate
 use Rattle.hashbag_core.specs.Bag.{occurrences, IsBagOf, IsTallied}
 use Rattle.hashbag_core.specs.Held.{left_in, AreHeld, HasFewer}
 use Rattle.hashbag_core.specs.Inserts.{Inserts}
-use Rattle.hashbag_core.specs.Occurrences.{count_named, stored_named, less_named, less}
-use Rattle.hashbag_core.proofs.DistinctLemmas.{distinct_added, distinct_same, distinct_one_more}
+use Rattle.hashbag_core.specs.Occurrences.{count_named, stored_named, less_named, count, less}
+use Rattle.hashbag_core.proofs.DistinctLemmas.{distinct_added, distinct_same, distinct_one_more, distinct_put}
 use Rattle.hashbag_core.proofs.HeldLemmas.{shown, absent_in_table, present_in_table, recounts_some}
-use Rattle.hashbag_core.proofs.OccurrenceLemmas.{add_occurrences, bag_from_tally, count_occurrences, count_in_tally, tally_less}
+use Rattle.hashbag_core.proofs.OccurrenceLemmas.{add_occurrences, new_occurrences, bag_from_tally, count_occurrences, count_in_tally, tally_less}
 use Rattle.hashbag_core.proofs.TakeLemmas.{stored_occurrences}
 
 module _ {T : Type 0} (names : T → Bool) where
@@ -155,5 +155,25 @@ inserts_added {eq = eq} laws v n total before after some was now adds holds =
       slot = λ _ there. rw same (recounts_some (eq v) _ _ _ (omega (arith, some)) (adds.slot (present_in_table laws v _ was.counted there)));
       less_room = adds.room;
       same_room = λ there. adds.same_room (omega (arith, same, there));
+      held = λ _. holds;
+    }
+
+-- the same of a value that was absent
+pub inserts_stored : {T S : Type 0} {eq : T → T → Bool} (laws : IsEquivalence eq) {most : ℕ} (v : T) (n total : ℕ) (before after : Table T S)
+    → 0 < n → count eq v (occurrences before.entries) ≡ 0 → IsTallied eq before.entries total most → IsTallied eq after.entries (total + n) most → Stores eq v n before after → AreHeld eq (occurrences after.entries) after.tables
+    → Inserts eq v n (shown most before) (shown most after)
+inserts_stored laws v n total before after some absent was now stores holds =
+    let more = distinct_put laws v n _ _ was.counted now.counted absent stores.map.means in
+    record {
+      added = record { means = new_occurrences laws v n _ _ was.counted absent stores.map.means; hasher = stores.map.hasher; limit = refl; bag = bag_from_tally laws _ _ now };
+      none = λ is. absurd (omega (arith, some, is));
+      len = let before = was.sum in let after = now.sum in omega (arith, before, after);
+      set_len = omega (arith, more);
+      same_set = λ there. absurd (omega (arith, absent, there));
+      new_set = λ _ _. more;
+      arrives = λ _ _. stores.arrives (absent_in_table laws v _ was.counted absent);
+      slot = λ _ there. absurd (omega (arith, absent, there));
+      less_room = stores.room;
+      same_room = λ there. absurd (omega (arith, absent, there));
       held = λ _. holds;
     }

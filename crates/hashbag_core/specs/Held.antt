@@ -44,10 +44,6 @@ module _ {T S : Type 0} (eq : T → T → Bool) where
   abbrev pub NeedsSlots : Bag T S → ℕ → Type 0
   NeedsSlots bag m = IsLeast 0 (distinct_count eq bag.items) m
 
-  -- the newer table of `after` is the least, no smaller than that of `before`, with room for the distinct values and n more
-  abbrev pub HasLeastFor : ℕ → Bag T S → Bag T S → Type 0
-  HasLeastFor n before after = IsLeast (length before.tables.newer) (distinct_count eq before.items + n) (length after.tables.newer)
-
 -- one table of m slots was built
 abbrev pub BuildsSlots : {T S : Type 0} → ℕ → Bag T S → Bag T S → Type 0
 BuildsSlots m before after = after.tables.built ≡ before.tables.built + m

@@ -3,13 +3,12 @@ ghost use Rattle.std.specs.Prelude.{◌≡◌, ◌+◌, ◌-◌, ◌<◌, ◌≤
 ghost use Rattle.std.specs.List.Sorted.{IsPermutation};
 ghost use Rattle.hashbag_table.specs.Asked.{MayAskInTurn};
 ghost use Rattle.hashbag_table.specs.Entries.{count_of, IsCounted};
-ghost use Rattle.hashbag_table.specs.Tables.{limit, room, Arrives, KeepsRoom};
+ghost use Rattle.hashbag_table.specs.Tables.{limit, room, KeepsRoom};
 ghost use Rattle.hashbag_table.specs.Retained.{RetainsTables};
-ghost use Rattle.hashbag_core.specs.Bag.{occurrences, limited, HasOneValueMore, Lends};
-ghost use Rattle.hashbag_core.specs.Occurrences.{count_named, stored_named, count, stored, add, put, recount, distinct_count, IsBag};
-ghost use Rattle.hashbag_core.specs.Extends.{Refuses};
-ghost use Rattle.hashbag_core.specs.Inserts.{Inserts, IsRefused};
-ghost use Rattle.hashbag_core.specs.Held.{cleared, Recounts, Restores};
+ghost use Rattle.hashbag_core.specs.Bag.{occurrences, limited, Lends};
+ghost use Rattle.hashbag_core.specs.Occurrences.{count_named, stored_named, count, recount, distinct_count, IsBag};
+ghost use Rattle.hashbag_core.specs.Inserts.{Inserts, Replaces, IsRefused};
+ghost use Rattle.hashbag_core.specs.Held.{cleared, Recounts};
 ghost use Rattle.hashbag_core.specs.Retain.{IsRetained};
 ghost use Rattle.hashbag_core.specs.Walks.{IsSetWalkOf};
 ghost use Rattle.hashbag_core.specs.declared.bag.BagError.TheVariants.{Memory};
@@ -51,9 +50,9 @@ impl BagError {
     /// BagError::TooMany.number() // 2
     /// ```
     pub fn number(&self) -> u8
-        ensures memory { self.now ≡ BagError.Memory → result ≡ 1 }
-        ensures too_many { self.now ≡ BagError.TooMany → result ≡ 2 }
-        ensures below_total { self.now ≡ BagError.BelowTotal → result ≡ 9 }
+        ensures number_of_memory { self.now ≡ BagError.Memory → result ≡ 1 }
+        ensures number_of_too_many { self.now ≡ BagError.TooMany → result ≡ 2 }
+        ensures number_of_below_total { self.now ≡ BagError.BelowTotal → result ≡ 9 }
     {
         match self {
             BagError::Memory => 1,
@@ -173,8 +172,8 @@ impl<T: Eq + Hash + Drop, S: BuildHasher + Drop> HashBag<T, S> {
     /// ```
     pub fn set_limit(&mut self, most: usize) -> Result<(), BagError>
         ensures set { OnOk result (self.new ≡ limited most self.old) }
-        ensures below { most < length self.old.items → result ≡ Err BagError.BelowTotal }
-        ensures refused { OnErr result ((result ≡ Err BagError.BelowTotal) × (most < length self.old.items)) }
+        ensures below { (result ≡ Err BagError.BelowTotal) ↔ (most < length self.old.items) }
+        ensures only { IfErr result (λ e. e ≡ BagError.BelowTotal) }
         ensures err { OnErr result (self.new ≡ self.old) }
     {
         if most < self.len {
@@ -331,9 +330,8 @@ impl<T: Eq + Hash + Drop, S: BuildHasher + Drop> HashBag<T, S> {
         ensures inserted { OnOk result (Inserts T.eq value 1 self.old self.new) }
 
         // The total is tested first. Then only an allocation can fail, and only if the value is absent and there is no room.
-        ensures too_many { self.old.most < length self.old.items + 1 → result ≡ Err BagError.TooMany }
-        ensures refused { IfErr result (Refuses T.eq self.old.most self.old.items value 1) }
-        ensures memory { length self.old.items + 1 ≤ self.old.most → OnErr result (result ≡ Err BagError.Memory) }
+        ensures too_many { (result ≡ Err BagError.TooMany) ↔ (self.old.most < length self.old.items + 1) }
+        ensures refused { IfErr result (IsRefused T.eq self.old value 1) }
         ensures err { OnErr result (self.new ≡ self.old) }
         ensures takes { length self.old.items + 1 ≤ self.old.most → 0 < room self.old.tables → IsOk result }
         ensures present { length self.old.items + 1 ≤ self.old.most → 0 < count T.eq value self.old.items → IsOk result }
@@ -373,9 +371,8 @@ impl<T: Eq + Hash + Drop, S: BuildHasher + Drop> HashBag<T, S> {
         ensures inserted { OnOk result (Inserts T.eq value n self.old self.new) }
 
         // The total is tested first. Then only an allocation can fail, and only if n isn't 0, the value is absent and there is no room.
-        ensures too_many { self.old.most < length self.old.items + n → result ≡ Err BagError.TooMany }
-        ensures refused { IfErr result (Refuses T.eq self.old.most self.old.items value n) }
-        ensures memory { length self.old.items + n ≤ self.old.most → OnErr result (result ≡ Err BagError.Memory) }
+        ensures too_many { (result ≡ Err BagError.TooMany) ↔ (self.old.most < length self.old.items + n) }
+        ensures refused { IfErr result (IsRefused T.eq self.old value n) }
         ensures err { OnErr result (self.new ≡ self.old) }
         ensures takes { length self.old.items + n ≤ self.old.most → 0 < room self.old.tables → IsOk result }
         ensures present { length self.old.items + n ≤ self.old.most → 0 < count T.eq value self.old.items → IsOk result }
@@ -420,22 +417,14 @@ impl<T: Eq + Hash + Drop, S: BuildHasher + Drop> HashBag<T, S> {
     /// ```
     pub fn replace(&mut self, value: T) -> Result<usize, BagError>
         ensures before { IfOk result (λ before. before ≡ count T.eq value self.old.items) }
-        ensures put { OnOk result (IsBagOf T.eq self.old (put T.eq value 1 self.old.items) self.new) }
-        ensures len { IfOk result (λ before. length self.new.items + before ≡ length self.old.items + 1) }
-        ensures new_set { OnOk result (count T.eq value self.old.items ≡ 0 → HasOneValueMore T.eq self.old self.new) }
+        ensures replaced { OnOk result (Replaces T.eq value self.old self.new) }
 
         // The total is tested first. Then only an allocation can fail, and only if the value is absent and there is no room.
-        ensures too_many { self.old.most < length self.old.items - count T.eq value self.old.items + 1 → result ≡ Err BagError.TooMany }
-        ensures refused { IfErr result (Refuses T.eq self.old.most self.old.items value 1) }
+        ensures too_many { (result ≡ Err BagError.TooMany) ↔ (self.old.most < length self.old.items - count T.eq value self.old.items + 1) }
+        ensures refused { IfErr result (IsRefused T.eq self.old value 1) }
         ensures absent { OnErr result (count T.eq value self.old.items ≡ 0) }
         ensures err { OnErr result (self.new ≡ self.old) }
         ensures takes { length self.old.items - count T.eq value self.old.items + 1 ≤ self.old.most → 0 < room self.old.tables → IsOk result }
-
-        // What the slots are then: a present value is replaced in its own.
-        ensures arrives { OnOk result (count T.eq value self.old.items ≡ 0 → Arrives self.old.tables self.new.tables) }
-        ensures slot { OnOk result (0 < count T.eq value self.old.items → Restores T.eq value self.old.tables self.new.tables) }
-        ensures room { OnOk result (0 < room self.old.tables → KeepsRoom 1 self.old.tables self.new.tables) }
-        ensures same_room { IfOk result (λ before. 0 < before → KeepsRoom 0 self.old.tables self.new.tables) }
     {
         if self.len == self.most && self.contains(&value) == 0 {
             return Err(BagError::TooMany);
@@ -516,17 +505,15 @@ impl<T: Eq + Hash + Drop, S: BuildHasher + Drop> HashBag<T, S> {
         requires absent { count T.eq value self.old.items ≡ 0 }
         requires some { 0 < quantity }
         requires fits { length self.old.items + quantity ≤ self.old.most }
-        ensures added { OnOk result (IsBagOf T.eq self.old (add T.eq value quantity self.old.items) self.new) }
-        ensures len { OnOk result (length self.new.items ≡ length self.old.items + quantity) }
-        ensures new_set { OnOk result (HasOneValueMore T.eq self.old self.new) }
-        ensures memory { OnErr result (result ≡ Err BagError.Memory) }
+        ensures inserted { OnOk result (Inserts T.eq value quantity self.old self.new) }
+        ensures memory { IfErr result (λ e. e ≡ BagError.Memory) }
         ensures err { OnErr result (self.new ≡ self.old) }
         ensures takes { 0 < room self.old.tables → IsOk result }
-        ensures arrives { OnOk result (Arrives self.old.tables self.new.tables) }
-        ensures room { OnOk result (0 < room self.old.tables → KeepsRoom 1 self.old.tables self.new.tables) }
     {
         self.table.insert_new(value, quantity)?;
         self.len += quantity;
+        // `held` is called for its clause on what the slots hold, which the proof cites.
+        self.table.held();
         Ok(())
     }
 

@@ -1,10 +1,9 @@
 //! `Entry`: the place of a value in a bag.
-ghost use Rattle.std.specs.Prelude.{◌≡◌, ◌+◌, ◌<◌, ◌≤◌, ℕ, length, IsOk, IfOk, IfErr, OnOk, OnErr};
-ghost use Rattle.hashbag_table.specs.Tables.{room, Arrives, KeepsRoom};
+ghost use Rattle.std.specs.Prelude.{◌≡◌, ◌+◌, ◌<◌, ◌≤◌, ◌↔◌, ℕ, length, IsOk, IfOk, IfErr, OnErr};
+ghost use Rattle.hashbag_table.specs.Tables.{room, KeepsRoom};
 ghost use Rattle.hashbag_core.specs.Held.{RecountsAs};
 ghost use Rattle.std.specs.Borrow.{sem, MutBor};
-ghost use Rattle.hashbag_core.specs.Bag.{HasOneValueMore};
-ghost use Rattle.hashbag_core.specs.Extends.{Refuses};
+ghost use Rattle.hashbag_core.specs.Inserts.{Inserts, IsRefused};
 ghost use Rattle.hashbag_core.specs.Occurrences.{count, instance_or_itself};
 
 use crate::bag::{BagError, FixedState, HashBag};
@@ -50,7 +49,7 @@ impl<T: Eq + Hash + Drop, S: BuildHasher + Drop> HashBag<T, S> {
 }
 
 impl<'a, T: Eq + Hash + Drop, S: BuildHasher + Drop> Entry<'a, T, S> {
-    ghost use Rattle.hashbag_core.specs.EntryCalls.{entry_count, IsOccupied, IsVacant, PutsIn, KeepsOthers, ChangesCount, PassesEnd};
+    ghost use Rattle.hashbag_core.specs.EntryCalls.{entry_count, IsOccupied, IsVacant, KeepsOthers, ChangesCount, PassesEnd};
     ghost use Rattle.hashbag_core.specs.Lending.{rests_if_refused};
 
     /// Returns the stored instance if the entry is occupied, else the given value.
@@ -100,12 +99,12 @@ impl<'a, T: Eq + Hash + Drop, S: BuildHasher + Drop> Entry<'a, T, S> {
     /// Ok(())
     /// ```
     pub fn and_modify<F: FnOnce(&mut usize) + Drop>(self, f: F) -> Result<Entry<'a, T, S>, BagError>
+        // Nine clauses, since the entry that comes back is a loan: three say which one it is, and what the bag is if there is none.
         requires { (p : MutBor ℕ) → p.now ≡ count T.eq self.value self.bag.now.items → 0 < p.now → F.pre f p }
         ensures same_bag { IfOk result (λ e. e.bag.ghost_name ≡ self.entry.bag.ghost_name) }
         ensures same_value { IfOk result (λ e. e.value ≡ self.entry.value) }
         ensures changes { IfOk result (λ e. ChangesCount T.eq F.FnOnce f self.entry.value self.entry.bag.now e.bag.now) }
-        ensures too_many { OnErr result (result ≡ Err BagError.TooMany) }
-        ensures passes { OnErr result (PassesEnd T.eq F.FnOnce f self.entry.value self.entry.bag.now) }
+        ensures passes { IfErr result (λ e. (e ≡ BagError.TooMany) × PassesEnd T.eq F.FnOnce f self.entry.value self.entry.bag.now) }
         ensures len { IfOk result (λ e. KeepsOthers T.eq self.entry.value self.entry.bag.now e.bag.now) }
         ensures slot { IfOk result (λ e. IsOccupied T.eq self.entry → RecountsAs T.eq self.entry.value self.entry.bag.now e.bag.now) }
         ensures room { IfOk result (λ e. KeepsRoom 0 self.entry.bag.now.tables e.bag.now.tables) }
@@ -146,16 +145,11 @@ impl<'a, T: Eq + Hash + Drop, S: BuildHasher + Drop> Entry<'a, T, S> {
     /// ```
     pub fn or_insert(self) -> Result<usize, BagError>
         ensures occupied { IsOccupied T.eq self.entry → (result ≡ Ok (entry_count T.eq self.entry)) × (self.exit.0.now ≡ self.entry.bag.now) }
-        ensures vacant { IsVacant T.eq self.entry → IfOk result (λ after. (after ≡ 1) × PutsIn T.eq self.entry 1 self.exit.0.now) }
-        ensures len { IfOk result (λ after. length self.exit.0.now.items + entry_count T.eq self.entry ≡ length self.entry.bag.now.items + after) }
-        ensures new_set { OnOk result (IsVacant T.eq self.entry → HasOneValueMore T.eq self.entry.bag.now self.exit.0.now) }
-        ensures too_many { result ≡ Err BagError.TooMany → self.entry.bag.now.most < length self.entry.bag.now.items + 1 }
-        ensures memory { result ≡ Err BagError.Memory → length self.entry.bag.now.items + 1 ≤ self.entry.bag.now.most }
-        ensures refused { IfErr result (Refuses T.eq self.entry.bag.now.most self.entry.bag.now.items self.entry.value 1) }
+        ensures vacant { IsVacant T.eq self.entry → IfOk result (λ after. (after ≡ 1) × Inserts T.eq self.entry.value 1 self.entry.bag.now self.exit.0.now) }
+        ensures too_many { (result ≡ Err BagError.TooMany) ↔ (IsVacant T.eq self.entry × (self.entry.bag.now.most < length self.entry.bag.now.items + 1)) }
+        ensures refused { IfErr result (IsRefused T.eq self.entry.bag.now self.entry.value 1) }
         ensures err { OnErr result (self.exit.0.now ≡ self.entry.bag.now) }
         ensures takes { length self.entry.bag.now.items + 1 ≤ self.entry.bag.now.most → 0 < room self.entry.bag.now.tables → IsOk result }
-        ensures arrives { OnOk result (IsVacant T.eq self.entry → Arrives self.entry.bag.now.tables self.exit.0.now.tables) }
-        ensures room { OnOk result (0 < room self.entry.bag.now.tables → KeepsRoom 1 self.entry.bag.now.tables self.exit.0.now.tables) }
     {
         self.or_insert_many(1)
     }
@@ -186,18 +180,12 @@ impl<'a, T: Eq + Hash + Drop, S: BuildHasher + Drop> Entry<'a, T, S> {
     /// ```
     pub fn or_insert_many(self, quantity: usize) -> Result<usize, BagError>
         ensures occupied { IsOccupied T.eq self.entry → (result ≡ Ok (entry_count T.eq self.entry)) × (self.exit.0.now ≡ self.entry.bag.now) }
-        ensures vacant { IsVacant T.eq self.entry → IfOk result (λ after. (after ≡ quantity) × PutsIn T.eq self.entry quantity self.exit.0.now) }
-        ensures none { quantity ≡ 0 → IsOk result }
-        ensures len { IfOk result (λ after. length self.exit.0.now.items + entry_count T.eq self.entry ≡ length self.entry.bag.now.items + after) }
-        ensures new_set { OnOk result (0 < quantity → IsVacant T.eq self.entry → HasOneValueMore T.eq self.entry.bag.now self.exit.0.now) }
-        ensures too_many { result ≡ Err BagError.TooMany → self.entry.bag.now.most < length self.entry.bag.now.items + quantity }
-        ensures memory { result ≡ Err BagError.Memory → length self.entry.bag.now.items + quantity ≤ self.entry.bag.now.most }
-        ensures refused { IfErr result (Refuses T.eq self.entry.bag.now.most self.entry.bag.now.items self.entry.value quantity) }
+        ensures vacant { IsVacant T.eq self.entry → IfOk result (λ after. (after ≡ quantity) × Inserts T.eq self.entry.value quantity self.entry.bag.now self.exit.0.now) }
+        ensures none { quantity ≡ 0 → IsOk result × (self.exit.0.now ≡ self.entry.bag.now) }
+        ensures too_many { (result ≡ Err BagError.TooMany) ↔ (IsVacant T.eq self.entry × (self.entry.bag.now.most < length self.entry.bag.now.items + quantity)) }
+        ensures refused { IfErr result (IsRefused T.eq self.entry.bag.now self.entry.value quantity) }
         ensures err { OnErr result (self.exit.0.now ≡ self.entry.bag.now) }
-        ensures same { quantity ≡ 0 → self.exit.0.now ≡ self.entry.bag.now }
         ensures takes { length self.entry.bag.now.items + quantity ≤ self.entry.bag.now.most → 0 < room self.entry.bag.now.tables → IsOk result }
-        ensures arrives { OnOk result (0 < quantity → IsVacant T.eq self.entry → Arrives self.entry.bag.now.tables self.exit.0.now.tables) }
-        ensures room { OnOk result (0 < room self.entry.bag.now.tables → KeepsRoom 1 self.entry.bag.now.tables self.exit.0.now.tables) }
     {
         let Entry { bag, value } = self;
         let before = bag.contains(&value);

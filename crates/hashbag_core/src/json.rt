@@ -42,8 +42,8 @@ impl ItemError {
     /// ItemError::NotAnItem.number() // 11
     /// ```
     pub fn number(&self) -> u8
-        ensures not_an_item { self.now ≡ ItemError.NotAnItem → result ≡ 11 }
-        ensures memory { self.now ≡ ItemError.Memory → result ≡ 12 }
+        ensures number_of_not_an_item { self.now ≡ ItemError.NotAnItem → result ≡ 11 }
+        ensures number_of_memory { self.now ≡ ItemError.Memory → result ≡ 12 }
     {
         match self {
             ItemError::NotAnItem => 11,
@@ -98,13 +98,13 @@ impl JsonError {
     /// JsonError::BadCount(0).number() // 5
     /// ```
     pub fn number(&self) -> u8
-        ensures not_an_array { self.now ≡ JsonError.NotAnArray → result ≡ 3 }
-        ensures not_a_pair { (i : ℕ) → self.now ≡ JsonError.NotAPair i → result ≡ 4 }
-        ensures bad_count { (i : ℕ) → self.now ≡ JsonError.BadCount i → result ≡ 5 }
-        ensures bad_item { (i : ℕ) → self.now ≡ JsonError.BadItem i → result ≡ 6 }
-        ensures too_many { (i : ℕ) → self.now ≡ JsonError.TooMany i → result ≡ 7 }
-        ensures memory { self.now ≡ JsonError.Memory → result ≡ 8 }
-        ensures bad_limit { self.now ≡ JsonError.BadLimit → result ≡ 10 }
+        ensures number_of_not_an_array { self.now ≡ JsonError.NotAnArray → result ≡ 3 }
+        ensures number_of_not_a_pair { (i : ℕ) → self.now ≡ JsonError.NotAPair i → result ≡ 4 }
+        ensures number_of_bad_count { (i : ℕ) → self.now ≡ JsonError.BadCount i → result ≡ 5 }
+        ensures number_of_bad_item { (i : ℕ) → self.now ≡ JsonError.BadItem i → result ≡ 6 }
+        ensures number_of_too_many { (i : ℕ) → self.now ≡ JsonError.TooMany i → result ≡ 7 }
+        ensures number_of_memory { self.now ≡ JsonError.Memory → result ≡ 8 }
+        ensures number_of_bad_limit { self.now ≡ JsonError.BadLimit → result ≡ 10 }
     {
         match self {
             JsonError::NotAnArray => 3,
@@ -168,7 +168,7 @@ pub trait JsonItem: Eq + Sized {
     /// ```
     fn from_json(alloc: Global, v: &Value) -> Result<Self, ItemError>
         ensures item { IfOk result (λ x. is_item x × reads (view v.now) x) }
-        ensures none { (result ≡ Err ItemError.NotAnItem) ↔ (has_item (view v.now) ≡ false) };
+        ensures not_an_item { (result ≡ Err ItemError.NotAnItem) ↔ (has_item (view v.now) ≡ false) };
 
     /// A value that equals an item is an item.
     ghost equal_is_item: { (x y : Self) → is_item x → Self.eq x y ≡ true → is_item y };
@@ -251,7 +251,7 @@ fn read_pair<T: JsonItem + Hash + Drop, S: BuildHasher + Drop>(
     ensures no_fault { OnOk result (fault_after T.has_item number bag.old (view pair.now) ≡ None) }
     ensures read { OnOk result ((p : T × ℕ) × IsPair T.reads (view pair.now) p × Inserts T.eq p.0 p.1 bag.old bag.new) }
     ensures fault { IfErr result (λ e. e ≢ JsonError.Memory → fault_after T.has_item number bag.old (view pair.now) ≡ Some e) }
-    ensures memory { IfErr result (λ e. e ≡ JsonError.Memory → IsCountedItem T.has_item (view pair.now)) }
+    ensures may_end { IfErr result (λ e. e ≡ JsonError.Memory → IsCountedItem T.has_item (view pair.now)) }
 {
     let Some((tree, count)) = parts_of(pair) else {
         return Err(JsonError::NotAPair(number));
@@ -312,7 +312,7 @@ impl<T: JsonItem + Hash + Drop, S: BuildHasher + Drop> HashBag<T, S> {
         ensures bag { IfOk result (λ bag. IsBag T.eq bag.most bag.items) }
         ensures hasher { IfOk result (λ bag. bag.hasher ≡ state) }
         ensures fault { IfErr result (λ e. e ≢ JsonError.Memory → first_fault most T.has_item 0 0 (map view list.now.items) ≡ Some e) }
-        ensures memory { IfErr result (λ e. e ≡ JsonError.Memory → MayEndAmong most T.has_item (map view list.now.items)) }
+        ensures may_end { IfErr result (λ e. e ≡ JsonError.Memory → MayEndAmong most T.has_item (map view list.now.items)) }
     {
         let mut bag = HashBag::with_limit(alloc, state, most);
         for (number, pair) in list.iter().enumerate() {
@@ -359,7 +359,7 @@ impl<T: JsonItem + Hash + Drop, S: BuildHasher + Drop> HashBag<T, S> {
         ensures bag { IfOk result (λ bag. IsBag T.eq bag.most bag.items) }
         ensures hasher { IfOk result (λ bag. bag.hasher ≡ state) }
         ensures fault { IfErr result (λ e. e ≢ JsonError.Memory → fault most T.has_item (view tree.now) ≡ Some e) }
-        ensures memory { IfErr result (λ e. e ≡ JsonError.Memory → MayEnd most T.has_item (view tree.now)) }
+        ensures may_end { IfErr result (λ e. e ≡ JsonError.Memory → MayEnd most T.has_item (view tree.now)) }
     {
         match limit_and_pairs(tree) {
             Ok((limit, pairs)) => HashBag::from_pairs(alloc, state, most.min(limit), pairs),
@@ -394,7 +394,7 @@ impl<T: JsonItem + Hash + Drop, S: BuildHasher + Drop> HashBag<T, S> {
         ensures bag { IfOk result (λ bag. IsBag T.eq bag.most bag.items) }
         ensures hasher { IfOk result (λ bag. S.is_default bag.hasher) }
         ensures fault { IfErr result (λ e. e ≢ JsonError.Memory → fault most T.has_item (view tree.now) ≡ Some e) }
-        ensures memory { IfErr result (λ e. e ≡ JsonError.Memory → MayEnd most T.has_item (view tree.now)) }
+        ensures may_end { IfErr result (λ e. e ≡ JsonError.Memory → MayEnd most T.has_item (view tree.now)) }
     {
         HashBag::from_value_with_hasher(alloc, S::default(), most, tree)
     }
@@ -423,7 +423,7 @@ impl<T: JsonItem + Hash + Drop, S: BuildHasher + Drop> HashBag<T, S> {
         ensures bag { IfOk result (λ bag. IsBag T.eq bag.most bag.items) }
         ensures hasher { IfOk result (λ bag. S.is_default bag.hasher) }
         ensures fault { IfErr result (λ e. e ≢ JsonError.Memory → fault greatest_total T.has_item (view tree.now) ≡ Some e) }
-        ensures memory { IfErr result (λ e. e ≡ JsonError.Memory → MayEnd greatest_total T.has_item (view tree.now)) }
+        ensures may_end { IfErr result (λ e. e ≡ JsonError.Memory → MayEnd greatest_total T.has_item (view tree.now)) }
     {
         HashBag::from_value_within(alloc, usize::MAX, tree)
     }

@@ -82,7 +82,7 @@ pub fn take_lowest(bits: u64, from: usize) -> (usize, u64)
     requires some { 0 < bits }
     requires fits { from + 64 ≤ 2 ^ 64 }
     ensures first { (test : ℕ → Bool) (at until : ℕ) → from ≤ at → IsMaskIn test from at until bits → IsFirstPlace test at until result.0 }
-    ensures below { (test : ℕ → Bool) (at until : ℕ) → IsMaskIn test from at until bits → result.0 < until }
+    ensures before_until { (test : ℕ → Bool) (at until : ℕ) → IsMaskIn test from at until bits → result.0 < until }
     ensures rest { (test : ℕ → Bool) (at until : ℕ) → IsMaskIn test from at until bits → IsMaskIn test from (result.0 + 1) until result.1 }
     ensures fewer { result.1 < bits }
 {

@@ -70,7 +70,7 @@ pub fn grown_slots(count: usize, live: usize) -> Result<usize, AllocError>
     requires live { live ≤ count }
     ensures grown { IfOk result (λ n. n ≡ grown_slots count live) }
     ensures slots { IfOk result (λ n. IsSlotCount n) }
-    ensures refused { IsErr result → 2 ^ 59 < grown_slots count live }
+    ensures past_most { IsErr result → 2 ^ 59 < grown_slots count live }
 {
     if count == 0 {
         return Ok(FIRST_SLOTS);
@@ -92,7 +92,7 @@ pub fn grown_slots(count: usize, live: usize) -> Result<usize, AllocError>
 pub fn least_slots(from: usize, values: usize) -> Result<usize, AllocError>
     requires count { IsSlotCount from }
     ensures least { IfOk result (λ n. IsLeast from values n) }
-    ensures refused { IsErr result → limit (2 ^ 59) < values }
+    ensures past_most { IsErr result → limit (2 ^ 59) < values }
 {
     let mut count = from;
     'count: while limit(count) < values {

@@ -287,7 +287,7 @@ impl<T: Eq + Hash + Drop, S: BuildHasher + Drop> Table<T, S> {
         ensures taken { (v : T) → IsTrue (Q.names key v) → IsMapOf T.eq self.old (with_fewer T.eq v 1 self.old.entries) self.new }
         ensures fewer { IfErr result (λ before. 0 < before → Rewrites (Q.names key) (recounted (before - 1)) self.old.tables self.new.tables) }
         ensures gone { IfOk result (λ _. Rewrites (Q.names key) (λ _. Slot.Removed) self.old.tables self.new.tables) }
-        ensures none { IfErr result (λ before. before ≡ 0 → self.new ≡ self.old) }
+        ensures absent { IfErr result (λ before. before ≡ 0 → self.new ≡ self.old) }
         ensures room { KeepsRoom 0 self.old.tables self.new.tables }
     {
         let hash = self.hash(key);

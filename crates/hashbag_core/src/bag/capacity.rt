@@ -1,9 +1,9 @@
 //! Room and slots of a bag: how much there is, what is allocated, and what is freed.
-ghost use Rattle.std.specs.Prelude.{◌≡◌, ℕ, ◌+◌, ◌*◌, ◌<◌, ◌≤◌, [], length, IsOk, OnOk, OnErr};
+ghost use Rattle.std.specs.Prelude.{◌≡◌, ℕ, ◌+◌, ◌*◌, ◌<◌, ◌≤◌, [], length, IsOk, IfErr, OnOk, OnErr};
 ghost use Rattle.hashbag_slots.specs.Slots.{IsSlotCount, live_count, removed_count};
-ghost use Rattle.hashbag_table.specs.Tables.{limit, room, values, IsPacked, Carried, KeepsRoom, ReservesOrStays, ShrinksOrStays, NoneMoved};
+ghost use Rattle.hashbag_table.specs.Tables.{limit, room, values, Carried, KeepsRoom, ReservesOrStays, ShrinksOrStays, NoneMoved};
 ghost use Rattle.hashbag_core.specs.Occurrences.{distinct_count};
-ghost use Rattle.hashbag_core.specs.Held.{no_slots, AreHeld, NeedsSlots, HasLeastFor, BuildsSlots};
+ghost use Rattle.hashbag_core.specs.Held.{no_slots, AreHeld, NeedsSlots};
 ghost use Rattle.hashbag_table.specs.declared.table.TheConstants.{MOST_VALUES};
 ghost use Rattle.hashbag_core.specs.declared.bag.BagError.TheVariants.{Memory};
 
@@ -148,18 +148,13 @@ impl<T: Eq + Hash + Drop, S: BuildHasher + Drop> HashBag<T, S> {
     pub fn reserve(&mut self, n: usize) -> Result<(), BagError>
         ensures kept { IsBagOf T.eq self.old self.old.items self.new }
         ensures len { length self.new.items ≡ length self.old.items }
-        ensures none { n ≡ 0 → IsOk result }
         ensures beyond { 0 < n → MOST_VALUES < distinct_count T.eq self.old.items + n → result ≡ Err BagError.Memory }
-        ensures memory { OnErr result (result ≡ Err BagError.Memory) }
+        ensures memory { IfErr result (λ e. e ≡ BagError.Memory) }
         ensures err { OnErr result (self.new ≡ self.old) }
         ensures room { OnOk result (n ≤ room self.new.tables) }
 
         // If there is room already nothing is done; else what the new table is.
-        ensures enough { n ≤ room self.old.tables → IsOk result }
-        ensures same { n ≤ room self.old.tables → self.new ≡ self.old }
-        ensures least { OnOk result (room self.old.tables < n → HasLeastFor T.eq n self.old self.new) }
-        ensures packed { OnOk result (room self.old.tables < n → IsPacked self.new.tables) }
-        ensures built { OnOk result (room self.old.tables < n → BuildsSlots (length self.new.tables.newer) self.old self.new) }
+        ensures enough { n ≤ room self.old.tables → IsOk result × (self.new ≡ self.old) }
         ensures reserves { OnOk result (ReservesOrStays n (distinct_count T.eq self.old.items) self.old.tables self.new.tables) }
     {
         self.table.reserve(n)?;
@@ -190,19 +185,14 @@ impl<T: Eq + Hash + Drop, S: BuildHasher + Drop> HashBag<T, S> {
     pub fn shrink_to_fit(&mut self) -> Result<(), BagError>
         ensures kept { IsBagOf T.eq self.old self.old.items self.new }
         ensures len { length self.new.items ≡ length self.old.items }
-        ensures memory { OnErr result (result ≡ Err BagError.Memory) }
+        ensures memory { IfErr result (λ e. e ≡ BagError.Memory) }
         ensures err { OnErr result (self.new ≡ self.old) }
 
         // An empty bag is left with no slots. If the least table, of m slots, isn't smaller, nothing is done; else it is the new table.
         ensures none { self.old.items ≡ [] → IsOk result }
         ensures freed { OnOk result (self.old.items ≡ [] → self.new.tables ≡ no_slots self.old.tables.built) }
-        ensures fewer { length self.new.tables.newer ≤ length self.old.tables.newer }
         ensures shrinks { OnOk result (ShrinksOrStays (distinct_count T.eq self.old.items) self.old.tables self.new.tables) }
-        ensures enough { NeedsSlots T.eq self.old (length self.old.tables.newer) → IsOk result }
-        ensures same { (m : ℕ) → NeedsSlots T.eq self.old m → length self.old.tables.newer ≤ m → self.new ≡ self.old }
-        ensures least { OnOk result ((m : ℕ) → NeedsSlots T.eq self.old m → m < length self.old.tables.newer → length self.new.tables.newer ≡ m) }
-        ensures packed { OnOk result ((m : ℕ) → NeedsSlots T.eq self.old m → m < length self.old.tables.newer → IsPacked self.new.tables) }
-        ensures built { OnOk result ((m : ℕ) → NeedsSlots T.eq self.old m → m < length self.old.tables.newer → BuildsSlots m self.old self.new) }
+        ensures enough { (m : ℕ) → NeedsSlots T.eq self.old m → length self.old.tables.newer ≤ m → IsOk result × (self.new ≡ self.old) }
     {
         self.table.shrink_to_fit()?;
         // `waiting` is called for its clauses on what waits if there are no slots, which the proof names.

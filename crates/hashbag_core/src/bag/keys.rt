@@ -2,9 +2,9 @@
 //!
 //! In the Rust crate look-ups and removals take whatever a value can be borrowed as. Here they take a `Key`, and these insertions a
 //! [`ToValue`], which builds the value only if it is absent.
-ghost use Rattle.std.specs.Prelude.{◌≡◌, ◌+◌, ◌<◌, ◌≤◌, length, min, IsTrue, IsOk, IfOk, IfErr, OnOk, OnErr};
+ghost use Rattle.std.specs.Prelude.{◌≡◌, ◌+◌, ◌<◌, ◌≤◌, ◌↔◌, length, IsOk, IfOk, IfErr, OnOk, OnErr};
 ghost use Rattle.hashbag_core.specs.Keys.{RefusesNamed, InsertsNamed};
-ghost use Rattle.hashbag_core.specs.Occurrences.{count_named, stored_named, IsBag};
+ghost use Rattle.hashbag_core.specs.Occurrences.{count_named};
 
 use crate::bag::{BagError, HashBag};
 use hashbag_table::ToValue;
@@ -41,9 +41,8 @@ impl<T: Eq + Hash + Drop, S: BuildHasher + Drop> HashBag<T, S> {
         ensures len { OnOk result (length self.new.items ≡ length self.old.items + 1) }
 
         // The total is tested first. Then only an allocation can fail, and only if the value is absent.
-        ensures too_many { self.old.most < length self.old.items + 1 → result ≡ Err BagError.TooMany }
+        ensures too_many { (result ≡ Err BagError.TooMany) ↔ (self.old.most < length self.old.items + 1) }
         ensures refused { IfErr result (RefusesNamed (Q.names key) self.old.most self.old.items 1) }
-        ensures memory { length self.old.items + 1 ≤ self.old.most → OnErr result (result ≡ Err BagError.Memory) }
         ensures err { OnErr result (self.new ≡ self.old) }
         ensures present { length self.old.items + 1 ≤ self.old.most → 0 < count_named (Q.names key) self.old.items → IsOk result }
     {
@@ -83,9 +82,8 @@ impl<T: Eq + Hash + Drop, S: BuildHasher + Drop> HashBag<T, S> {
         ensures len { OnOk result (length self.new.items ≡ length self.old.items + n) }
 
         // The total is tested first. Then only an allocation can fail, and only if n isn't 0 and the value is absent.
-        ensures too_many { self.old.most < length self.old.items + n → result ≡ Err BagError.TooMany }
+        ensures too_many { (result ≡ Err BagError.TooMany) ↔ (self.old.most < length self.old.items + n) }
         ensures refused { IfErr result (RefusesNamed (Q.names key) self.old.most self.old.items n) }
-        ensures memory { length self.old.items + n ≤ self.old.most → OnErr result (result ≡ Err BagError.Memory) }
         ensures err { OnErr result (self.new ≡ self.old) }
         ensures present { length self.old.items + n ≤ self.old.most → 0 < count_named (Q.names key) self.old.items → IsOk result }
     {

@@ -1,5 +1,5 @@
 //! How bags are made: empty ones, with room or with a limit, and clones.
-ghost use Rattle.std.specs.Prelude.{◌≡◌, ◌<◌, ◌≤◌, [], All, true, length, IsOk, IfOk, OnErr};
+ghost use Rattle.std.specs.Prelude.{◌≡◌, ◌<◌, ◌≤◌, [], All, true, length, IsOk, IfOk, IfErr};
 ghost use Rattle.hashbag_table.specs.Entries.{HasClones};
 ghost use Rattle.hashbag_table.specs.Tables.{room, IsLeast, IsPacked};
 ghost use Rattle.hashbag_core.specs.Occurrences.{greatest_total, SameCounts};
@@ -52,11 +52,12 @@ impl<T: Eq + Hash + Drop> HashBag<T, FixedState> {
     /// Ok(())
     /// ```
     pub fn with_capacity(alloc: Global, n: usize) -> Result<HashBag<T, FixedState>, BagError>
+        // Ten clauses, since they say what two things are: the bag, and the table of slots that was made.
         ensures empty { IfOk result (λ bag. bag.items ≡ []) }
         ensures hasher { IfOk result (λ bag. ⟦<FixedState as Default>⟧.is_default bag.hasher) }
         ensures none { n ≡ 0 → IsOk result }
         ensures beyond { MOST_VALUES < n → result ≡ Err BagError.Memory }
-        ensures memory { OnErr result (result ≡ Err BagError.Memory) }
+        ensures memory { IfErr result (λ e. e ≡ BagError.Memory) }
 
         // The new table of slots.
         ensures least { IfOk result (λ bag. IsLeast 0 n (length bag.tables.newer)) }
@@ -135,11 +136,12 @@ impl<T: Eq + Hash + Drop, S: BuildHasher + Drop> HashBag<T, S> {
         n: usize,
         hasher: S,
     ) -> Result<HashBag<T, S>, BagError>
+        // Ten clauses, since they say what two things are: the bag, and the table of slots that was made.
         ensures empty { IfOk result (λ bag. bag.items ≡ []) }
         ensures hasher { IfOk result (λ bag. bag.hasher ≡ hasher) }
         ensures none { n ≡ 0 → IsOk result }
         ensures beyond { MOST_VALUES < n → result ≡ Err BagError.Memory }
-        ensures memory { OnErr result (result ≡ Err BagError.Memory) }
+        ensures memory { IfErr result (λ e. e ≡ BagError.Memory) }
 
         // The new table of slots.
         ensures least { IfOk result (λ bag. IsLeast 0 n (length bag.tables.newer)) }
@@ -182,13 +184,14 @@ impl<T: Eq + Hash + Drop, S: BuildHasher + Drop> HashBag<T, S> {
     where
         T: Clone,
         S: Clone,
+        // Ten clauses, since they say what two things are: the new bag, and the table of slots that was made.
         requires equal { All (λ x. (y : _) → T.is_clone x y → T.eq x y ≡ true) self.now.items }
         ensures clones { IfOk result (λ bag. HasClones T.is_clone self.now.items bag.items) }
         ensures counts { IfOk result (λ bag. SameCounts T.eq self.now.items bag.items) }
         ensures len { IfOk result (λ bag. length bag.items ≡ length self.now.items) }
         ensures hasher { IfOk result (λ bag. S.is_clone self.now.hasher bag.hasher) }
         ensures limit { IfOk result (λ bag. bag.most ≡ self.now.most) }
-        ensures memory { OnErr result (result ≡ Err BagError.Memory) }
+        ensures memory { IfErr result (λ e. e ≡ BagError.Memory) }
         ensures least { IfOk result (λ bag. NeedsSlots T.eq self.now (length bag.tables.newer)) }
         ensures packed { IfOk result (λ bag. IsPacked bag.tables) }
         ensures built { IfOk result (λ bag. bag.tables.built ≡ length bag.tables.newer) }

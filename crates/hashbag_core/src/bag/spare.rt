@@ -1,5 +1,5 @@
 //! Spare slots of a bag: allocated ahead, and taken into use later.
-ghost use Rattle.std.specs.Prelude.{◌≡◌, ◌+◌, ◌-◌, ◌<◌, ◌≤◌, length, IfOk, OnErr};
+ghost use Rattle.std.specs.Prelude.{◌≡◌, ◌+◌, ◌-◌, ◌<◌, ◌≤◌, length, IfOk, IfErr};
 ghost use Rattle.hashbag_table.specs.Tables.{limit, room, IsLeast, IsPacked};
 ghost use Rattle.hashbag_core.specs.Occurrences.{distinct_count};
 ghost use Rattle.hashbag_core.specs.Held.{BuildsSlots};
@@ -35,7 +35,7 @@ impl<T: Eq + Hash + Drop, S: BuildHasher + Drop> HashBag<T, S> {
     pub fn spare(&self, n: usize) -> Result<Spare<T>, BagError>
         ensures least { IfOk result (λ slots. IsLeast (length self.now.tables.newer) (distinct_count T.eq self.now.items + n) slots) }
         ensures beyond { MOST_VALUES < distinct_count T.eq self.now.items + n → result ≡ Err BagError.Memory }
-        ensures memory { OnErr result (result ≡ Err BagError.Memory) }
+        ensures memory { IfErr result (λ e. e ≡ BagError.Memory) }
     {
         let spare = self.table.spare(n)?;
         Ok(spare)

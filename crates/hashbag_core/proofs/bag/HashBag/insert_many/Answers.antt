@@ -1,12 +1,13 @@
 use Rattle.std.proofs.Common.{◌≡◌, ◌<◌, arith, sym, ◌∙◌}
 use Rattle.std.proofs.lemmas.Result.{err_from_is_err_and}
+use Rattle.hashbag_table.specs.Tables.{room}
 use Rattle.hashbag_core.specs.Bag.{occurrences}
 use Rattle.hashbag_core.specs.Occurrences.{count}
 use Rattle.hashbag_core.proofs.InsertLemmas.{inserts_none}
 use Rattle.hashbag_core.proofs.KeyLemmas.{inserts_added}
 use Rattle.hashbag_core.proofs.OccurrenceLemmas.{add_occurrences, tally_added, count_occurrences, count_of_entry, count_in_tally}
 use Rattle.std.proofs.lemmas.Bool.{false≢true}
-use Rattle.hashbag_core.proofs.HeldLemmas.{held_by}
+use Rattle.hashbag_core.proofs.HeldLemmas.{held_by, none_left}
 use Rattle.hashbag_core.proofs.bag.HashBag.insert_many.Goals as goal
 
 pub add-requires-clause-fits : goal.add-requires-clause-fits
@@ -27,7 +28,18 @@ returns-in_err-before-clause-refused g c =
     let within = c.self.invariant.fits in
     let fits = c.if-n-self.false in
     let some = c.if-n-eq0.false in
-    rw (error.1, error.2, ← c.self.view_is) (omega (arith, sum, within, fits), omega (arith, some), absent)
+    rw (error.1, error.2, ← c.self.view_is) (record {
+      why = (omega (arith, sum, within, fits), omega (arith, some), absent);
+      full = λ _. none_left (room c.self.inside.table.tables) (λ space. false≢true (c.in_err-before.ensures.fails.takes space));
+    })
+
+pub returns-in_err-before-clause-too_many : goal.returns-in_err-before-clause-too_many
+returns-in_err-before-clause-too_many g c =
+    let error = err_from_is_err_and c.from_residual.result c.from_residual.ensures.1 in
+    let sum = c.self.invariant.sum in
+    let within = c.self.invariant.fits in
+    let fits = c.if-n-self.false in
+    rw (error.1, error.2, ← c.self.view_is) ((λ is. absurd (cc)), (λ over. absurd (omega (arith, sum, within, fits, over))))
 
 -- the total with n more
 pub invariant_of-self-2 : goal.invariant_of-self-2

@@ -26,6 +26,14 @@ returns-in_err-before-clause-refused g c =
     let some = c.if-n-eq0.false in
     rw (error.1, error.2, ← c.self.view_is) (omega (arith, sum, within, fits), omega (arith, some), absent)
 
+pub returns-in_err-before-clause-too_many : goal.returns-in_err-before-clause-too_many
+returns-in_err-before-clause-too_many g c =
+    let error = err_from_is_err_and c.from_residual.result c.from_residual.ensures.1 in
+    let sum = c.self.invariant.sum in
+    let within = c.self.invariant.fits in
+    let fits = c.if-n-self.false in
+    rw (error.1, error.2, ← c.self.view_is) ((λ is. absurd (cc)), (λ over. absurd (omega (arith, sum, within, fits, over))))
+
 -- the total with n more
 pub invariant_of-self-2 : goal.invariant_of-self-2
 invariant_of-self-2 g c =

@@ -1,4 +1,4 @@
-use Rattle.std.proofs.Common.{◌≡◌, ◌-◌, ℕ, None, arith, sym, ◌∙◌, ap, subst, refl}
+use Rattle.std.proofs.Common.{arith, sym, ◌∙◌, subst, refl}
 use Rattle.hashbag_core.specs.Bag.{occurrences, IsTallied}
 use Rattle.hashbag_core.specs.Occurrences.{count_named}
 use Rattle.hashbag_core.proofs.OccurrenceLemmas.{less_all_occurrences}

@@ -1,4 +1,4 @@
-use Rattle.std.proofs.Common.{◌≡◌, arith, sym, ◌∙◌, ap, refl}
+use Rattle.std.proofs.Common.{arith, sym, ◌∙◌, ap, refl}
 use Rattle.hashbag_core.proofs.OccurrenceLemmas.{bag_from_tally, fewer_occurrences}
 use Rattle.hashbag_table.proofs.KeyLemmas.{named_present}
 use Rattle.hashbag_core.proofs.KeyLemmas.{fewer_named, named_occurrences, named_in_tally, stored_named_occurrences, tally_named_less}
@@ -63,7 +63,7 @@ invariant_of-self-in-Err g c =
     let before = c.in-Err.ensures.others.0 in
     let one = c.min.ensures in
     tally_named_less g.met.T.Eq.laws (g.Q.Key.names c.args.key) (g.met.Q.Key.names_one c.args.key) 1 c.min.result es c.take_one.new.self.entries c.self.inside.len c.self.invariant (omega (arith, before, one))
-    (λ none. ap (λ t. t.entries) (c.in-Err.ensures.none (before ∙ none)))
+    (λ none. ap (λ t. t.entries) (c.in-Err.ensures.absent (before ∙ none)))
     (λ v does. let left = c.take_one.ensures.taken v does in (left.counted, fewer_occurrences g.met.T.Eq.laws v 1 es c.take_one.new.self.entries c.self.invariant.counted left.means))
 
 pub returns-in-Err-clause-fewer : goal.returns-in-Err-clause-fewer
@@ -73,7 +73,7 @@ returns-in-Err-clause-fewer g c =
     rw (← c.self.view_is)
     (fewer_named g.met.T.Eq.laws names (g.met.Q.Key.names_one c.args.key) 1 _ _ c.in-Err.before c.self.inside.table c.take_one.new.self c.self.invariant (invariant_of-self-in-Err g c) c.in-Err.ensures.others.0
     (λ v does. let left = c.take_one.ensures.taken v does in (fewer_occurrences g.met.T.Eq.laws v 1 _ _ c.self.invariant.counted left.means, left.hasher))
-    (λ some. recounts_some names _ _ _ (more_than_one c.in-Err.before some several) (c.in-Err.ensures.fewer some)) c.in-Err.ensures.none c.take_one.ensures.room)
+    (λ some. recounts_some names _ _ _ (more_than_one c.in-Err.before some several) (c.in-Err.ensures.fewer some)) c.in-Err.ensures.absent c.take_one.ensures.room)
 
 pub returns-in-Err-clause-len : goal.returns-in-Err-clause-len
 returns-in-Err-clause-len g c =

@@ -1,4 +1,4 @@
-use Rattle.std.proofs.Common.{◌≡◌, arith, ap, sym, ◌∙◌}
+use Rattle.std.proofs.Common.{arith, ap, sym, ◌∙◌}
 use Rattle.hashbag_core.proofs.HeldLemmas.{recounts_fewer}
 use Rattle.hashbag_core.proofs.KeyLemmas.{fewer_named, named_occurrences, named_in_tally, tally_named_less}
 use Rattle.hashbag_core.proofs.OccurrenceLemmas.{fewer_occurrences}

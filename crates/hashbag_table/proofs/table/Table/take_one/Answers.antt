@@ -36,8 +36,8 @@ returns-then-before-gt1-clause-taken g c v does =
 pub returns-then-before-gt1-clause-fewer : goal.returns-then-before-gt1-clause-fewer
 returns-then-before-gt1-clause-fewer g c = λ some. record { spot = c.in-Some.spot; held = c.in-Some.ensures.held; after = c.set_spot.ensures.after }
 
-pub returns-then-before-gt1-clause-none : goal.returns-then-before-gt1-clause-none
-returns-then-before-gt1-clause-none g c = λ none. let more = c.if-before-gt1.true in absurd (omega (arith, more, none))
+pub returns-then-before-gt1-clause-absent : goal.returns-then-before-gt1-clause-absent
+returns-then-before-gt1-clause-absent g c = λ none. let more = c.if-before-gt1.true in absurd (omega (arith, more, none))
 
 pub returns-in-Some-clause-last : goal.returns-in-Some-clause-last
 returns-in-Some-clause-last g c =
