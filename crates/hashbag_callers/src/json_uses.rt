@@ -31,7 +31,7 @@ pub fn both_trees<T: JsonItem + Ord + Hash + Drop, S: BuildHasher + Drop>(
     a: &HashBag<T, S>,
     b: &HashBag<T, S>,
 ) -> Result<(Value, Value), BagError>
-    ensures same { IfOk result (λ trees. ((bag_eq T.eq a.now b.now ≡ true) × (a.now.most ≡ b.now.most)) ↔ (view trees.0 ≡ view trees.1)) }
+    ensures same_trees { IfOk result (λ trees. ((bag_eq T.eq a.now b.now ≡ true) × (a.now.most ≡ b.now.most)) ↔ (view trees.0 ≡ view trees.1)) }
     ensures memory { IfErr result (λ e. e ≡ BagError.Memory) }
 {
     // By the contract of `len`, b is a bag, of which the clauses of `a.to_value` speak.

@@ -18,7 +18,7 @@ pub fn deliver<T: Eq + Hash + Drop, S: BuildHasher + Drop>(
     ensures entered { OnOk result (count T.eq article stock.new.items ≡ count T.eq article stock.old.items + n) }
     ensures others { (v : T) → T.eq v article ≡ false → count T.eq v stock.new.items ≡ count T.eq v stock.old.items }
     ensures len { OnOk result (length stock.new.items ≡ length stock.old.items + n) }
-    ensures too_many { result ≡ Err BagError.TooMany → stock.old.most < length stock.old.items + n }
+    ensures too_many { (result ≡ Err BagError.TooMany) ↔ (stock.old.most < length stock.old.items + n) }
     ensures err { OnErr result (stock.new ≡ stock.old) }
 {
     stock.insert_many(article, n)?;
@@ -36,7 +36,7 @@ pub fn sell<T: Eq + Hash + Drop, S: BuildHasher + Drop>(
     ensures sold { OnTrue result (count T.eq article.now stock.new.items + n ≡ count T.eq article.now stock.old.items) }
     ensures others { (v : T) → T.eq v article.now ≡ false → count T.eq v stock.new.items ≡ count T.eq v stock.old.items }
     ensures len { OnTrue result (length stock.new.items + n ≡ length stock.old.items) }
-    ensures refused { OnFalse result (stock.new ≡ stock.old) }
+    ensures too_few { OnFalse result (stock.new ≡ stock.old) }
 {
     if stock.contains(article) < n {
         return false;

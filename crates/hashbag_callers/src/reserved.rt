@@ -1,5 +1,5 @@
 //! Callers to copy: after room was made once, no insertion can run out of memory.
-ghost use Rattle.std.specs.Prelude.{◌≡◌, ◌+◌, ◌<◌, ◌≤◌, length, OnOk, OnErr};
+ghost use Rattle.std.specs.Prelude.{◌≡◌, ◌+◌, ◌<◌, ◌≤◌, ◌↔◌, length, OnOk, OnErr};
 ghost use Rattle.hashbag.specs.Occurrences.{count};
 ghost use Rattle.hashbag.specs.Tables.{room};
 
@@ -19,9 +19,9 @@ pub fn insert_all<T: Eq + Hash + Drop, S: BuildHasher + Drop>(
     ensures slots { OnOk result (length values.items ≤ room bag.old.tables → length bag.new.tables.newer ≡ length bag.old.tables.newer) }
     ensures none_lost { OnErr result ((v : T) → count T.eq v bag.old.items ≤ count T.eq v bag.new.items) }
     ensures full { result ≡ Err BagError.TooMany → length bag.new.items ≡ bag.old.most }
-    ensures too_many { result ≡ Err BagError.TooMany → bag.old.most < length bag.old.items + length values.items }
-    ensures err { result ≡ Err BagError.Memory → bag.new ≡ bag.old }
-    ensures memory { result ≡ Err BagError.Memory → room bag.old.tables < length values.items }
+    ensures past { result ≡ Err BagError.TooMany → bag.old.most < length bag.old.items + length values.items }
+    ensures unchanged { result ≡ Err BagError.Memory → bag.new ≡ bag.old }
+    ensures no_room { result ≡ Err BagError.Memory → room bag.old.tables < length values.items }
 {
     bag.reserve(values.len())?;
     for value in values {
@@ -41,8 +41,8 @@ pub fn extend_all<T: Eq + Hash + Drop, S: BuildHasher + Drop>(
     ensures slots { OnOk result (length values.items ≤ room bag.old.tables → length bag.new.tables.newer ≡ length bag.old.tables.newer) }
     ensures built { OnOk result (length values.items ≤ room bag.old.tables → bag.new.tables.built ≡ bag.old.tables.built) }
     ensures err { OnErr result (bag.new ≡ bag.old) }
-    ensures too_many { result ≡ Err BagError.TooMany → bag.old.most < length bag.old.items + length values.items }
-    ensures memory { result ≡ Err BagError.Memory → room bag.old.tables < length values.items }
+    ensures too_many { (result ≡ Err BagError.TooMany) ↔ (bag.old.most < length bag.old.items + length values.items) }
+    ensures no_room { result ≡ Err BagError.Memory → room bag.old.tables < length values.items }
 {
     let more = values.len();
     if more > bag.limit() - bag.len() {

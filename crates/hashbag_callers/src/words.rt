@@ -24,7 +24,7 @@ pub fn insert_each<S: BuildHasher + Drop>(
 ) -> Result<(), BagError>
     ensures counts { OnOk result ((v : ℕ) → count nat_eq v bag.new.items ≡ count nat_eq v bag.old.items + count nat_eq v words.now) }
     ensures len { OnOk result (length bag.new.items ≡ length bag.old.items + length words.now) }
-    ensures memory { length bag.old.items + length words.now ≤ bag.old.most → IfErr result (λ e. e ≡ BagError.Memory) }
+    ensures only_memory { length bag.old.items + length words.now ≤ bag.old.most → IfErr result (λ e. e ≡ BagError.Memory) }
 {
     for word in words {
         bag.insert(*word)?;

@@ -1,5 +1,5 @@
 //! Sums of two bags, and what one bag keeps of its own by comparison with another.
-ghost use Rattle.std.specs.Prelude.{◌≡◌, ℕ, ◌+◌, ◌-◌, ◌<◌, ◌≤◌, min, max, List, length, All, true, false, OnOk, OnErr};
+ghost use Rattle.std.specs.Prelude.{◌≡◌, ℕ, ◌+◌, ◌-◌, ◌<◌, ◌≤◌, ◌↔◌, min, max, List, length, All, true, false, IfErr, OnOk, OnErr};
 ghost use Rattle.hashbag.specs.Joins.{IsNotIn};
 ghost use Rattle.hashbag.specs.Occurrences.{count, distinct_count};
 ghost use Rattle.hashbag.specs.Tables.{limit, room};
@@ -50,6 +50,7 @@ pub fn merge<T: Eq + Hash + Drop, S: BuildHasher + Drop, S2: BuildHasher + Drop>
     into: &mut HashBag<T, S>,
     from: HashBag<T, S2>,
 ) -> Result<(), BagError>
+    // Eleven clauses, since a caller with room, and one without, is told when it fails and which slots are built.
     ensures counts { OnOk result ((v : T) → count T.eq v into.new.items ≡ count T.eq v into.old.items + count T.eq v from.items) }
     ensures len { OnOk result (length into.new.items ≡ length into.old.items + length from.items) }
     ensures limit { into.new.most ≡ into.old.most }
@@ -57,9 +58,8 @@ pub fn merge<T: Eq + Hash + Drop, S: BuildHasher + Drop, S2: BuildHasher + Drop>
     ensures err { OnErr result (into.new ≡ into.old) }
 
     // The total is tested first. Then only an allocation can fail, and only if there isn't room for the values of `from` that `into` lacks.
-    ensures too_many { into.old.most < length into.old.items + length from.items → result ≡ Err BagError.TooMany }
-    ensures refused { result ≡ Err BagError.TooMany → into.old.most < length into.old.items + length from.items }
-    ensures memory { length into.old.items + length from.items ≤ into.old.most → OnErr result (result ≡ Err BagError.Memory) }
+    ensures too_many { (result ≡ Err BagError.TooMany) ↔ (into.old.most < length into.old.items + length from.items) }
+    ensures only_memory { length into.old.items + length from.items ≤ into.old.most → IfErr result (λ e. e ≡ BagError.Memory) }
     ensures full { result ≡ Err BagError.Memory → room into.old.tables < distinct_count T.eq from.items }
     ensures lacks { result ≡ Err BagError.Memory → LacksMoreThan T.eq (room into.old.tables) from.items into.old.items }
 
@@ -134,7 +134,7 @@ fn make_room<T: Eq + Hash + Drop, S: BuildHasher + Drop, S2: BuildHasher + Drop>
     ensures hasher { into.new.hasher ≡ into.old.hasher }
     ensures room { OnOk result (HasRoomForLacked T.eq from.now into.old.items into.new.tables) }
     ensures err { OnErr result (into.new ≡ into.old) }
-    ensures memory { OnErr result (result ≡ Err BagError.Memory) }
+    ensures memory { IfErr result (λ e. e ≡ BagError.Memory) }
     ensures full { OnErr result (room into.old.tables < distinct_count T.eq from.now.items) }
     ensures lacks { OnErr result (LacksMoreThan T.eq (room into.old.tables) from.now.items into.old.items) }
     ensures slots { length into.old.tables.newer ≤ length into.new.tables.newer }
@@ -202,9 +202,8 @@ pub fn merge_ref<
     ensures limit { into.new.most ≡ into.old.most }
     ensures hasher { into.new.hasher ≡ into.old.hasher }
     ensures err { OnErr result (into.new ≡ into.old) }
-    ensures too_many { into.old.most < length into.old.items + length from.now.items → result ≡ Err BagError.TooMany }
-    ensures refused { result ≡ Err BagError.TooMany → into.old.most < length into.old.items + length from.now.items }
-    ensures memory { length into.old.items + length from.now.items ≤ into.old.most → OnErr result (result ≡ Err BagError.Memory) }
+    ensures too_many { (result ≡ Err BagError.TooMany) ↔ (into.old.most < length into.old.items + length from.now.items) }
+    ensures only_memory { length into.old.items + length from.now.items ≤ into.old.most → IfErr result (λ e. e ≡ BagError.Memory) }
 {
     if into.limit() - into.len() < from.len() {
         return Err(BagError::TooMany);
@@ -325,13 +324,13 @@ pub fn keep_most<T: Eq + Hash + Drop, S: BuildHasher + Drop, S2: BuildHasher + D
     ensures limit { into.new.most ≡ into.old.most }
     ensures hasher { into.new.hasher ≡ into.old.hasher }
     ensures err { OnErr result (into.new ≡ into.old) }
-    ensures fits { length into.old.items + length from.items ≤ into.old.most → OnErr result (result ≡ Err BagError.Memory) }
+    ensures fits { length into.old.items + length from.items ≤ into.old.most → IfErr result (λ e. e ≡ BagError.Memory) }
 
     // The total is that of every list with the greater counts: all these are equally long.
-    ensures too_many { (Z : List T) → IsUnion T.eq into.old.items from.items Z → into.old.most < length Z → result ≡ Err BagError.TooMany }
-    ensures refused { result ≡ Err BagError.TooMany → (Z : List T) → IsUnion T.eq into.old.items from.items Z → into.old.most < length Z }
-    ensures memory { (Z : List T) → IsUnion T.eq into.old.items from.items Z → length Z ≤ into.old.most
-        → OnErr result (result ≡ Err BagError.Memory) }
+    ensures too_many { (Z : List T) → IsUnion T.eq into.old.items from.items Z
+        → (result ≡ Err BagError.TooMany) ↔ (into.old.most < length Z) }
+    ensures only_memory { (Z : List T) → IsUnion T.eq into.old.items from.items Z → length Z ≤ into.old.most
+        → IfErr result (λ e. e ≡ BagError.Memory) }
 {
     take_away(&mut from, into);
     merge(into, from)

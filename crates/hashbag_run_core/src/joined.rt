@@ -1,5 +1,5 @@
 //! Two runs of steps, and the joins of what they leave.
-ghost use Rattle.std.specs.Prelude.{◌≡◌, ◌⊎◌, map, IfOk, OnErr};
+ghost use Rattle.std.specs.Prelude.{◌≡◌, ◌⊎◌, map, IfOk, IfErr, OnErr};
 ghost use Rattle.hashbag.specs.Pairs.{ran, HasNoRoom, IsCutOffAfter};
 ghost use Rattle.hashbag_run_core.specs.RunAndJoin.{IsRunAndJoined};
 
@@ -82,7 +82,7 @@ pub fn run_and_join<T: Eq + Hash + Copy + Drop, S: BuildHasher + Drop, S2: Build
     ensures second_hasher { b.new.hasher ≡ b.old.hasher }
 
     // Only an allocation can fail.
-    ensures memory { OnErr result (result ≡ Err BagError.Memory) }
+    ensures memory { IfErr result (λ e. e ≡ BagError.Memory) }
     ensures stopped { OnErr result (IsCutOffAfter T.eq (HasNoRoom replies_a.old steps_a ⊎ HasNoRoom replies_b.old steps_b)
         (ran a.old a.new steps_a.items replies_a.old.items replies_a.new.items)
         (ran b.old b.new steps_b.items replies_b.old.items replies_b.new.items)) }

@@ -1,5 +1,5 @@
 //! Whole runs of steps on a bag.
-ghost use Rattle.std.specs.Prelude.{◌≡◌, ◌+◌, ◌≤◌, ◌++◌, List, true, false, length, IsOk, IfOk, OnOk, OnErr};
+ghost use Rattle.std.specs.Prelude.{◌≡◌, ◌+◌, ◌≤◌, ◌++◌, List, true, false, length, IsOk, IfOk, IfErr, OnOk, OnErr};
 ghost use Rattle.hashbag_core.specs.Bag.{Means, IsBagOf, limited};
 ghost use Rattle.hashbag_core.specs.Occurrences.{IsBag};
 ghost use Rattle.hashbag_script.specs.Pairs.{ran, HasNoRoom, IsNotBegun, IsRunCutOff};
@@ -80,8 +80,8 @@ fn insert<T: Eq + Hash + Drop, S: BuildHasher + Drop>(
 ) -> Result<Reply<T>, BagError>
     ensures reply { IfOk result (λ reply. reply ≡ (insert_row T.eq bag.old.most value n bag.old.items).1) }
     ensures left { OnOk result (IsBagOf T.eq bag.old (insert_row T.eq bag.old.most value n bag.old.items).0 bag.new) }
-    ensures memory { OnErr result (result ≡ Err BagError.Memory) }
-    ensures refused { OnErr result (IsRefusedInsertion T.eq bag.old.most value n bag.old.items) }
+    ensures memory { IfErr result (λ e. e ≡ BagError.Memory) }
+    ensures asked { OnErr result (IsRefusedInsertion T.eq bag.old.most value n bag.old.items) }
     ensures err { OnErr result (bag.new ≡ bag.old) }
     ensures takes { HasRoomFor T.eq bag.old (insert_row T.eq bag.old.most value n bag.old.items).0 → IsOk result }
     ensures room { OnOk result (MovesIn T.eq (insert_row T.eq bag.old.most value n bag.old.items).0 bag.old bag.new) }
@@ -103,8 +103,8 @@ fn replace<T: Eq + Hash + Drop, S: BuildHasher + Drop>(
 ) -> Result<Reply<T>, BagError>
     ensures reply { IfOk result (λ reply. reply ≡ (replace_row T.eq bag.old.most value bag.old.items).1) }
     ensures left { OnOk result (IsBagOf T.eq bag.old (replace_row T.eq bag.old.most value bag.old.items).0 bag.new) }
-    ensures memory { OnErr result (result ≡ Err BagError.Memory) }
-    ensures refused { OnErr result (IsRefusedInsertion T.eq bag.old.most value 1 bag.old.items) }
+    ensures memory { IfErr result (λ e. e ≡ BagError.Memory) }
+    ensures asked { OnErr result (IsRefusedInsertion T.eq bag.old.most value 1 bag.old.items) }
     ensures err { OnErr result (bag.new ≡ bag.old) }
     ensures takes { HasRoomFor T.eq bag.old (replace_row T.eq bag.old.most value bag.old.items).0 → IsOk result }
     ensures room { OnOk result (MovesIn T.eq (replace_row T.eq bag.old.most value bag.old.items).0 bag.old bag.new) }
@@ -185,8 +185,8 @@ fn entry_or<T: Eq + Hash + Drop, S: BuildHasher + Drop>(
 ) -> Result<Reply<T>, BagError>
     ensures reply { IfOk result (λ reply. reply ≡ (entry_or_row T.eq bag.old.most value quantity bag.old.items).1) }
     ensures left { OnOk result (IsBagOf T.eq bag.old (entry_or_row T.eq bag.old.most value quantity bag.old.items).0 bag.new) }
-    ensures memory { OnErr result (result ≡ Err BagError.Memory) }
-    ensures refused { OnErr result (IsRefusedInsertion T.eq bag.old.most value quantity bag.old.items) }
+    ensures memory { IfErr result (λ e. e ≡ BagError.Memory) }
+    ensures asked { OnErr result (IsRefusedInsertion T.eq bag.old.most value quantity bag.old.items) }
     ensures err { OnErr result (bag.new ≡ bag.old) }
     ensures takes { HasRoomFor T.eq bag.old (entry_or_row T.eq bag.old.most value quantity bag.old.items).0 → IsOk result }
     ensures room { OnOk result (MovesIn T.eq (entry_or_row T.eq bag.old.most value quantity bag.old.items).0 bag.old bag.new) }
@@ -252,8 +252,8 @@ fn apply<T: Eq + Hash + Drop, S: BuildHasher + Drop>(
     ensures bag { IsBag T.eq bag.old.most bag.old.items }
 
     // Only an allocation can fail, and only in a step that allocates.
-    ensures memory { OnErr result (result ≡ Err BagError.Memory) }
-    ensures refused { OnErr result (AsksForMemory T.eq bag.old.most bag.old.items step) }
+    ensures memory { IfErr result (λ e. e ≡ BagError.Memory) }
+    ensures asked { OnErr result (AsksForMemory T.eq bag.old.most bag.old.items step) }
     ensures err { OnErr result (bag.new ≡ bag.old) }
 
     // What it leaves of the tables: a step that isn't about room keeps them but for an absent value that it inserts; without room a new
@@ -325,6 +325,8 @@ pub fn run<T: Eq + Hash + Drop, S: BuildHasher + Drop>(
     steps: Vec<Step<T>>,
     replies: &mut Vec<Reply<T>>,
 ) -> Result<(), BagError>
+    // Ten clauses, since a run is told of as a list, as one that memory stops, and as tables of slots.
+    //
     // Each step replies as the plain list of occurrences replies, whichever list the bag means, and the bag then means
     // what that list has become.
     ensures replies { OnOk result ((X : List T) → Means bag.old X
@@ -335,14 +337,14 @@ pub fn run<T: Eq + Hash + Drop, S: BuildHasher + Drop>(
 
     // Only a failed allocation stops a run. Either it was that of the replies, and nothing was done; or the steps that have replies are the
     // run.
-    ensures memory { OnErr result (result ≡ Err BagError.Memory) }
+    ensures memory { IfErr result (λ e. e ≡ BagError.Memory) }
     ensures stopped { OnErr result (IsRunCutOff T.eq (HasNoRoom replies.old steps)
         (ran bag.old bag.new steps.items replies.old.items replies.new.items)) }
 
     // If the tables have room for all values that arrive, and no step is about room, a run keeps its slots. Then only the allocation of the
     // replies can fail.
     ensures slots { IfRoomy T.eq bag.old steps.items (length bag.new.tables.newer ≡ length bag.old.tables.newer) }
-    ensures takes { IfRoomy T.eq bag.old steps.items (OnErr result (IsNotBegun (HasNoRoom replies.old steps)
+    ensures roomy { IfRoomy T.eq bag.old steps.items (OnErr result (IsNotBegun (HasNoRoom replies.old steps)
         (ran bag.old bag.new steps.items replies.old.items replies.new.items))) }
 
     // What the steps that have replies leave of an empty bag without slots, whether or not the run was stopped: the most distinct values on

@@ -1,5 +1,5 @@
 //! The joins of two bags, collected.
-ghost use Rattle.std.specs.Prelude.{◌≡◌, List, map, IfOk, OnErr};
+ghost use Rattle.std.specs.Prelude.{◌≡◌, List, map, IfOk, IfErr};
 ghost use Rattle.hashbag_core.specs.Bag.{Means};
 ghost use Rattle.hashbag_core.specs.Joins.{IsOuterJoin, IsDifference, IsNotIn, IsSignedDifference};
 ghost use Rattle.hashbag_core.specs.JoinsLeft.{exceeding, subtracted, unmatched};
@@ -99,7 +99,7 @@ pub fn joins_of<'a, T: Eq + Hash + Drop, S: BuildHasher + Drop, S2: BuildHasher 
         → IsSignedDifference T.eq X Y (map (λ e. (e.0.now, e.1)) joins.signed.items)) }
     ensures not_in { IfOk result (λ joins. (X Y : List T) → Means a.now X → Means b.now Y
         → IsNotIn T.eq X Y (map (λ e. (e.0.now, e.1)) joins.not_in.items)) }
-    ensures memory { OnErr result (result ≡ Err BagError.Memory) }
+    ensures memory { IfErr result (λ e. e ≡ BagError.Memory) }
 {
     let outer = a.outer_join(b).collect(alloc)?;
     let difference = difference_of(alloc, &outer)?;

@@ -1,5 +1,5 @@
 //! Runs of steps on two bags, one after the other.
-ghost use Rattle.std.specs.Prelude.{◌≡◌, ◌⊎◌, length, OnOk, OnErr};
+ghost use Rattle.std.specs.Prelude.{◌≡◌, ◌⊎◌, length, IfErr, OnOk, OnErr};
 ghost use Rattle.hashbag_script.specs.Pairs.{ran, HasNoRoom, IsDone, IsPairCutOff};
 ghost use Rattle.hashbag_script.specs.Script.{IfRoomy};
 ghost use Rattle.hashbag_script.specs.Turns.{AreTablesInTurn, IsBoundedRun};
@@ -36,6 +36,8 @@ pub fn run_pair<T: Eq + Hash + Drop, S: BuildHasher + Drop, S2: BuildHasher + Dr
     replies_a: &mut Vec<Reply<T>>,
     replies_b: &mut Vec<Reply<T>>,
 ) -> Result<(), BagError>
+    // Thirteen clauses, since what `run` says is said of two runs.
+    //
     // Each step replies as the plain list of occurrences replies, whichever list its bag means, and each bag then means what
     // its list has become.
     ensures first { OnOk result (IsDone T.eq (ran a.old a.new steps_a.items replies_a.old.items replies_a.new.items)) }
@@ -44,7 +46,7 @@ pub fn run_pair<T: Eq + Hash + Drop, S: BuildHasher + Drop, S2: BuildHasher + Dr
     ensures second_hasher { b.new.hasher ≡ b.old.hasher }
 
     // Only a failed allocation stops the runs.
-    ensures memory { OnErr result (result ≡ Err BagError.Memory) }
+    ensures memory { IfErr result (λ e. e ≡ BagError.Memory) }
     ensures stopped { OnErr result (IsPairCutOff T.eq (HasNoRoom replies_a.old steps_a ⊎ HasNoRoom replies_b.old steps_b)
         (ran a.old a.new steps_a.items replies_a.old.items replies_a.new.items)
         (ran b.old b.new steps_b.items replies_b.old.items replies_b.new.items)) }
@@ -52,7 +54,7 @@ pub fn run_pair<T: Eq + Hash + Drop, S: BuildHasher + Drop, S2: BuildHasher + Dr
     // If the tables have room for all values that arrive, each run keeps its slots, and only the allocation of the replies can fail.
     ensures first_slots { IfRoomy T.eq a.old steps_a.items (length a.new.tables.newer ≡ length a.old.tables.newer) }
     ensures second_slots { IfRoomy T.eq b.old steps_b.items (length b.new.tables.newer ≡ length b.old.tables.newer) }
-    ensures takes { IfRoomy T.eq a.old steps_a.items (IfRoomy T.eq b.old steps_b.items (OnErr result
+    ensures roomy { IfRoomy T.eq a.old steps_a.items (IfRoomy T.eq b.old steps_b.items (OnErr result
         (HasNoRoom replies_a.old steps_a ⊎ HasNoRoom replies_b.old steps_b))) }
 
     // The tables of each bag follow from those before, and are bounded if it was empty and had no slots, as in one run.
