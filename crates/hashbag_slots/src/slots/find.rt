@@ -30,7 +30,12 @@ impl<T: Eq + Hash> Slots<T> {
 
     /// Finds as [`Slots::find`] does, with the key's hash under the state. It hashes nothing.
     #[inline(always)]
-    pub fn find_hashed<S: BuildHasher, Q: Key<T>>(&self, state: &S, hash: u64, key: Q) -> Option<usize>
+    pub fn find_hashed<S: BuildHasher, Q: Key<T>>(
+        &self,
+        state: &S,
+        hash: u64,
+        key: Q,
+    ) -> Option<usize>
         requires hashed { hash ≡ hash_under Q.hash_input S.BuildHasher S.Hasher.Hasher state.now key }
         requires reached { IsReached (hash_under T.hash_input S.BuildHasher S.Hasher.Hasher state.now) self.now }
         ensures found { IfSome result (HoldsAt (Q.names key) self.now.slots) }

@@ -52,7 +52,7 @@ returns-clause-reserves g c =
       beyond,
       record {
         least = subst (λ from. IsLeast from (length c.args.self.now.entries + c.args.n) (length c.move_all_into.new.self.tables.newer)) (ap (λ t. length t.tables.newer) c.self.view_is)
-        (subst (IsLeast (length c.self.inside.newer.slots) (length c.args.self.now.entries + c.args.n)) (sym size) same);
+            (subst (IsLeast (length c.self.inside.newer.slots) (length c.args.self.now.entries + c.args.n)) (sym size) same);
         packed = c.move_all_into.ensures.packed;
         built = c.move_all_into.ensures.built ∙ ap (λ k. c.args.self.now.tables.built + k) (sym c.move_all_into.ensures.slots);
       },
