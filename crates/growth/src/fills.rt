@@ -1,4 +1,4 @@
-//! What inserts values, removes them and looks them up, and what goes over a bag that has none.
+//! Uses that insert values, remove them and look them up, and that walk over a bag that has none.
 use crate::bags::{FIRST, risen};
 use anyhow::Result;
 use hashbag::{BagError, FixedState, HashBag};
@@ -64,7 +64,7 @@ fn turned(bag: &mut HashBag<u64>, n: u64) -> Result<usize, BagError> {
     Ok(bag.set_len())
 }
 
-// Clears the bag, and `n` times goes over its slots while they have no value: how many values were found.
+// Clears the bag, and `n` times walks over its slots while they have no value. Returns how many values were found.
 fn idled(bag: &mut HashBag<u64>, n: u64) -> u64 {
     let mut met = 0u64;
     bag.clear();

@@ -1,4 +1,4 @@
-//! What two bags are used for together.
+//! Uses of two bags together.
 use anyhow::Result;
 use hashbag::HashBag;
 use hashbag_ops::{contains_all, is_disjoint, keep_common, merge, take_away};

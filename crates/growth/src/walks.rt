@@ -1,4 +1,4 @@
-//! What goes over all values of one bag.
+//! Uses that walk over all values of one bag.
 use anyhow::Result;
 use hashbag::{BagError, HashBag};
 use hashbag_ops::{most_common, sorted};

@@ -1,6 +1,6 @@
 //! A counted hash multiset: how often each of several values occurs, and how many occurrences there are in all.
 //!
-//! This is the one name by which users call the crates below it. A crate that walks over a `&HashBag` by `for` lists `hashbag_core` beside it
+//! This is the one name by which users call the crates below it. A crate that walks over a `&HashBag` by `for` also lists `hashbag_core`
 //! among its libraries: an impl for a reference is found by the crate of the type behind it.
 #![tactic(auto)]
 

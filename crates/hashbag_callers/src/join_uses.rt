@@ -1,12 +1,12 @@
-//! Callers to copy: what the contracts of the joins are good for.
+//! Callers to copy: uses of the contracts of the joins.
 ghost use Rattle.std.specs.Prelude.{◌≡◌, ◌+◌, min};
 ghost use Rattle.hashbag.specs.Occurrences.{count};
 
 use hashbag::HashBag;
 use std::hash::{BuildHasher, Hash};
 
-/// How many more of a value one bag has than another, 0 where it has no more: found in their difference. With the lesser of
-/// both counts it is the count in the first bag.
+/// Returns how many more of a value one bag has than another, 0 if it has no more, from their difference. With the lesser of both counts it
+/// is the count in the first bag.
 pub fn excess_of<T: Eq + Hash + Drop, S: BuildHasher + Drop, S2: BuildHasher + Drop>(
     a: &HashBag<T, S>,
     b: &HashBag<T, S2>,

@@ -1,4 +1,4 @@
-//! Callers to copy: what the contracts of trees are good for.
+//! Callers to copy: uses of the contracts of trees.
 ghost use Rattle.std.specs.Prelude.{◌≡◌, ◌↔◌, true, IfOk, IfErr};
 ghost use Rattle.serde_json.specs.View.{view};
 ghost use Rattle.hashbag.specs.Equality.{same_counts, bag_eq};
@@ -8,7 +8,8 @@ use serde_json::Value;
 use std::alloc::Global;
 use std::hash::{BuildHasher, Hash};
 
-/// Writes a bag as a tree and reads that back. Only memory is refused, and what is read has the counts and the limit of the bag.
+/// Writes a bag as a tree and reads that back. Only an allocation can fail, and the bag that is read has the counts and the limit of the
+/// first.
 pub fn read_again<
     T: JsonItem + Ord + Hash + Drop,
     S: BuildHasher + Drop,
@@ -24,13 +25,13 @@ pub fn read_again<
     }
 }
 
-/// The trees of two bags: they are the same exactly if the bags are equal and have the same limit.
+/// Returns the trees of two bags: they are the same exactly if the bags are equal and have the same limit.
 pub fn both_trees<T: JsonItem + Ord + Hash + Drop, S: BuildHasher + Drop>(
     alloc: Global,
     a: &HashBag<T, S>,
     b: &HashBag<T, S>,
 ) -> Result<(Value, Value), BagError>
-    ensures same { IfOk result (λ trees. ((bag_eq T.eq a.now b.now ≡ true) × (a.now.most ≡ b.now.most)) ↔ (view trees.0 ≡ view trees.1)) }
+    ensures same_trees { IfOk result (λ trees. ((bag_eq T.eq a.now b.now ≡ true) × (a.now.most ≡ b.now.most)) ↔ (view trees.0 ≡ view trees.1)) }
     ensures memory { IfErr result (λ e. e ≡ BagError.Memory) }
 {
     // By the contract of `len`, b is a bag, of which the clauses of `a.to_value` speak.

@@ -9,7 +9,7 @@ ghost use Rattle.hashbag_callers.specs.Ledger.{ChangesOnly};
 use hashbag::{BagError, HashBag};
 use std::hash::{BuildHasher, Hash};
 
-/// Enters goods that came in. Where the ledger can't hold them or memory is refused, nothing changes.
+/// Enters goods that arrived. If the ledger can't hold them or an allocation fails, nothing changes.
 pub fn deliver<T: Eq + Hash + Drop, S: BuildHasher + Drop>(
     stock: &mut HashBag<T, S>,
     article: T,
@@ -18,15 +18,15 @@ pub fn deliver<T: Eq + Hash + Drop, S: BuildHasher + Drop>(
     ensures entered { OnOk result (count T.eq article stock.new.items ≡ count T.eq article stock.old.items + n) }
     ensures others { (v : T) → T.eq v article ≡ false → count T.eq v stock.new.items ≡ count T.eq v stock.old.items }
     ensures len { OnOk result (length stock.new.items ≡ length stock.old.items + n) }
-    ensures too_many { result ≡ Err BagError.TooMany → stock.old.most < length stock.old.items + n }
+    ensures too_many { (result ≡ Err BagError.TooMany) ↔ (stock.old.most < length stock.old.items + n) }
     ensures err { OnErr result (stock.new ≡ stock.old) }
 {
     stock.insert_many(article, n)?;
     Ok(())
 }
 
-/// Takes sold goods out, and answers whether there were enough of them. Where there weren't, nothing changes: so no count ever goes
-/// below zero, and what is sold and what is left are what was there.
+/// Removes sold goods, and returns whether there were enough of them. If there weren't, nothing changes. So no count is ever below zero,
+/// and what is sold and what is left are what was there.
 pub fn sell<T: Eq + Hash + Drop, S: BuildHasher + Drop>(
     stock: &mut HashBag<T, S>,
     article: &T,
@@ -36,7 +36,7 @@ pub fn sell<T: Eq + Hash + Drop, S: BuildHasher + Drop>(
     ensures sold { OnTrue result (count T.eq article.now stock.new.items + n ≡ count T.eq article.now stock.old.items) }
     ensures others { (v : T) → T.eq v article.now ≡ false → count T.eq v stock.new.items ≡ count T.eq v stock.old.items }
     ensures len { OnTrue result (length stock.new.items + n ≡ length stock.old.items) }
-    ensures refused { OnFalse result (stock.new ≡ stock.old) }
+    ensures too_few { OnFalse result (stock.new ≡ stock.old) }
 {
     if stock.contains(article) < n {
         return false;
@@ -45,7 +45,7 @@ pub fn sell<T: Eq + Hash + Drop, S: BuildHasher + Drop>(
     true
 }
 
-/// Takes an article's goods out one by one, and answers the last one itself, as it was stored, or `None` where there were none.
+/// Removes an article's goods one by one, and returns the last one itself, as it was stored, or `None` if there were none.
 pub fn sell_out<T: Eq + Hash + Drop, S: BuildHasher + Drop>(
     stock: &mut HashBag<T, S>,
     article: &T,
@@ -65,8 +65,9 @@ pub fn sell_out<T: Eq + Hash + Drop, S: BuildHasher + Drop>(
     }
 }
 
-/// Takes one of an article, and answers whether it was the last: then `try_take` gives it, and else lends the one that stays. What
-/// the bag then means a caller isn't told while the loan may last: whoever needs that calls `take_one`, as `sell_out` does.
+/// Removes one of an article, and returns whether it was the last: then `try_take` returns it, and else lends the one that stays.
+///
+/// What the bag then means can't be said while the loan may last. A caller that needs that calls `take_one`, as `sell_out` does.
 pub fn take_was_last<T: Eq + Hash + Drop, S: BuildHasher + Drop>(
     stock: &mut HashBag<T, S>,
     article: &T,
@@ -76,7 +77,7 @@ pub fn take_was_last<T: Eq + Hash + Drop, S: BuildHasher + Drop>(
     stock.try_take(article).is_ok()
 }
 
-/// Sees to it that an article is listed, and answers how many of it there are then: an article that is there stays as it is.
+/// Ensures that an article is listed, and returns its count then. A present article is unchanged.
 pub fn list<T: Eq + Hash + Drop, S: BuildHasher + Drop>(
     stock: &mut HashBag<T, S>,
     article: T,
@@ -90,7 +91,7 @@ pub fn list<T: Eq + Hash + Drop, S: BuildHasher + Drop>(
     stock.entry(article).or_insert()
 }
 
-/// Keeps at most so many of each article, as shelves do.
+/// Keeps at most `most` of each article, as shelves do.
 pub fn keep_at_most<T: Eq + Hash + Drop, S: BuildHasher + Drop>(
     stock: &mut HashBag<T, S>,
     most: usize,

@@ -1,5 +1,5 @@
 //! Callers that read the plain facts out of the records that a bag's clauses name. None of them has a proof of its own.
-ghost use Rattle.std.specs.Prelude.{◌≡◌, ◌+◌, ◌-◌, ◌<◌, ◌≤◌, length, IfOk, OnOk};
+ghost use Rattle.std.specs.Prelude.{◌≡◌, ◌+◌, ◌-◌, ◌<◌, ◌≤◌, length, IsOk, IfOk, OnOk, OnErr};
 ghost use Rattle.hashbag.specs.Bag.{IsBagOf};
 ghost use Rattle.hashbag.specs.Held.{Recounts};
 ghost use Rattle.hashbag.specs.Occurrences.{count, less};
@@ -8,7 +8,7 @@ ghost use Rattle.hashbag.specs.Tables.{room};
 use hashbag::{BagError, HashBag};
 use std::hash::{BuildHasher, Hash};
 
-/// Takes so many occurrences of a value, and says each fact of `HasFewer` by itself.
+/// Removes `n` occurrences of a value, and says each fact of `HasFewer` by itself.
 pub fn take_some<T: Eq + Hash + Drop, S: BuildHasher + Drop>(
     bag: &mut HashBag<T, S>,
     value: &T,
@@ -25,7 +25,7 @@ pub fn take_some<T: Eq + Hash + Drop, S: BuildHasher + Drop>(
     bag.remove_up_to(value, n)
 }
 
-/// Puts a value in, and says by itself what `Inserts` has of the slots and of the room.
+/// Inserts a value, and says by itself what `Inserts` has of the slots and of the room.
 pub fn put_in<T: Eq + Hash + Drop, S: BuildHasher + Drop>(
     bag: &mut HashBag<T, S>,
     value: T,
@@ -34,6 +34,20 @@ pub fn put_in<T: Eq + Hash + Drop, S: BuildHasher + Drop>(
     ensures room { OnOk result (0 < room bag.old.tables → room bag.old.tables ≤ room bag.new.tables + 1) }
     ensures same_slots { OnOk result (0 < count T.eq value bag.old.items → length bag.new.tables.newer ≡ length bag.old.tables.newer) }
     ensures same_room { OnOk result (0 < count T.eq value bag.old.items → room bag.old.tables ≤ room bag.new.tables) }
+{
+    bag.insert(value)
+}
+
+/// Inserts a value, and says by itself when it fails, and with which error.
+pub fn insert_plainly<T: Eq + Hash + Drop, S: BuildHasher + Drop>(
+    bag: &mut HashBag<T, S>,
+    value: T,
+) -> Result<usize, BagError>
+    ensures passes { bag.old.most < length bag.old.items + 1 → result ≡ Err BagError.TooMany }
+    ensures memory_if_within { length bag.old.items + 1 ≤ bag.old.most → OnErr result (result ≡ Err BagError.Memory) }
+    ensures err { OnErr result (bag.new ≡ bag.old) }
+    ensures takes { length bag.old.items + 1 ≤ bag.old.most → 0 < room bag.old.tables → IsOk result }
+    ensures present { length bag.old.items + 1 ≤ bag.old.most → 0 < count T.eq value bag.old.items → IsOk result }
 {
     bag.insert(value)
 }

@@ -1,15 +1,15 @@
-//! Callers to copy: room is made once, and what is inserted after that can't be refused.
-ghost use Rattle.std.specs.Prelude.{◌≡◌, ◌+◌, ◌<◌, ◌≤◌, length, OnOk, OnErr};
+//! Callers to copy: after room was made once, no insertion can run out of memory.
+ghost use Rattle.std.specs.Prelude.{◌≡◌, ◌+◌, ◌<◌, ◌≤◌, ◌↔◌, length, OnOk, OnErr};
 ghost use Rattle.hashbag.specs.Occurrences.{count};
 ghost use Rattle.hashbag.specs.Tables.{room};
 
 use hashbag::{BagError, HashBag};
 use std::hash::{BuildHasher, Hash};
 
-/// Inserts the values in turn, up to the first that the limit refuses.
+/// Inserts the values in turn, up to the first with which the total would pass the limit.
 ///
-/// It makes room for all of them before the first: memory is refused there, where nothing has changed yet, or not at all. No total
-/// is tested here. Where the limit refuses a value the bag is full: the values before it are in, and nothing is lost.
+/// It makes room for all of them before the first. So an allocation fails there, if any does, and nothing has changed yet. No total is
+/// tested here. If the limit is reached, the bag is full: the values before are inserted, and nothing is lost.
 pub fn insert_all<T: Eq + Hash + Drop, S: BuildHasher + Drop>(
     bag: &mut HashBag<T, S>,
     values: Vec<T>,
@@ -19,9 +19,9 @@ pub fn insert_all<T: Eq + Hash + Drop, S: BuildHasher + Drop>(
     ensures slots { OnOk result (length values.items ≤ room bag.old.tables → length bag.new.tables.newer ≡ length bag.old.tables.newer) }
     ensures none_lost { OnErr result ((v : T) → count T.eq v bag.old.items ≤ count T.eq v bag.new.items) }
     ensures full { result ≡ Err BagError.TooMany → length bag.new.items ≡ bag.old.most }
-    ensures too_many { result ≡ Err BagError.TooMany → bag.old.most < length bag.old.items + length values.items }
-    ensures err { result ≡ Err BagError.Memory → bag.new ≡ bag.old }
-    ensures memory { result ≡ Err BagError.Memory → room bag.old.tables < length values.items }
+    ensures past { result ≡ Err BagError.TooMany → bag.old.most < length bag.old.items + length values.items }
+    ensures unchanged { result ≡ Err BagError.Memory → bag.new ≡ bag.old }
+    ensures no_room { result ≡ Err BagError.Memory → room bag.old.tables < length values.items }
 {
     bag.reserve(values.len())?;
     for value in values {
@@ -32,7 +32,7 @@ pub fn insert_all<T: Eq + Hash + Drop, S: BuildHasher + Drop>(
 
 /// Inserts all values, or none, by one extend.
 ///
-/// With the room made and the total seen to fit, the extend is refused nothing and builds no table, which is proved.
+/// As room is made and the total is tested before, the extend can't fail and builds no table, which is proved.
 pub fn extend_all<T: Eq + Hash + Drop, S: BuildHasher + Drop>(
     bag: &mut HashBag<T, S>,
     values: Vec<T>,
@@ -41,8 +41,8 @@ pub fn extend_all<T: Eq + Hash + Drop, S: BuildHasher + Drop>(
     ensures slots { OnOk result (length values.items ≤ room bag.old.tables → length bag.new.tables.newer ≡ length bag.old.tables.newer) }
     ensures built { OnOk result (length values.items ≤ room bag.old.tables → bag.new.tables.built ≡ bag.old.tables.built) }
     ensures err { OnErr result (bag.new ≡ bag.old) }
-    ensures too_many { result ≡ Err BagError.TooMany → bag.old.most < length bag.old.items + length values.items }
-    ensures memory { result ≡ Err BagError.Memory → room bag.old.tables < length values.items }
+    ensures too_many { (result ≡ Err BagError.TooMany) ↔ (bag.old.most < length bag.old.items + length values.items) }
+    ensures no_room { result ≡ Err BagError.Memory → room bag.old.tables < length values.items }
 {
     let more = values.len();
     if more > bag.limit() - bag.len() {

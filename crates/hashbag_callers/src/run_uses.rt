@@ -1,4 +1,4 @@
-//! Callers to copy: a run of steps, and what it replies.
+//! Callers to copy: a run of steps, and its replies.
 ghost use Rattle.std.specs.Prelude.{◌≡◌, ◌+◌, ◌≤◌, [], ◌∷◌, length, OnOk, IfOk};
 ghost use Rattle.hashbag.specs.Bag.{Means};
 ghost use Rattle.hashbag.specs.Occurrences.{count, add};

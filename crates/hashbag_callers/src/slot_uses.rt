@@ -1,4 +1,4 @@
-//! A caller that speaks of the slots behind a bag, in words that `hashbag` passes on.
+//! A caller that speaks of the slots behind a bag, in words that `hashbag` re-exports.
 ghost use Rattle.std.specs.Prelude.{◌≡◌, ◌+◌, ℕ, false, length};
 ghost use Rattle.hashbag.specs.Growths.{GrowAsListed};
 ghost use Rattle.hashbag.specs.Slots.{IsSlotCount, is_live, live_count, slot_at};
@@ -7,8 +7,8 @@ ghost use Rattle.hashbag.specs.SlotWords.{Slot};
 use hashbag::HashBag;
 use std::hash::{BuildHasher, Hash};
 
-/// Keeps one of each value, and answers how many there are: one in each Live slot of the two tables. A slot of the newer table that has
-/// no value stays as it is, so no value came to another slot.
+/// Keeps one of each value, and returns how many there are: one in each Live slot of the two tables. A slot of the newer table without a
+/// value is unchanged, so no value is in another slot than before.
 pub fn keep_one_of_each<T: Eq + Hash + Drop, S: BuildHasher + Drop>(
     bag: &mut HashBag<T, S>,
 ) -> usize

@@ -1,4 +1,4 @@
-//! Callers to copy: the words of a text, which are counted and looked up as they are. A `String` is made only for each distinct one.
+//! Callers to copy: the words of a text, which are counted and looked up as they are. A `String` is allocated only for each distinct one.
 ghost use Rattle.std.specs.Prelude.{◌≡◌, length, string_bytes, string_eq, IfOk};
 ghost use Rattle.hashbag.specs.Occurrences.{count};
 ghost use Rattle.hashbag_callers.specs.Texts.{text_count};
@@ -7,7 +7,7 @@ use hashbag::{BagError, HashBag};
 use std::alloc::Global;
 use std::hash::BuildHasher;
 
-/// Counts words: the bag has each as often as it comes.
+/// Counts words: the bag has each as often as the list.
 pub fn count_texts(alloc: Global, words: &[&str]) -> Result<HashBag<String>, BagError>
     ensures counts { IfOk result (λ bag. (v : _) → count string_eq v bag.items ≡ text_count (string_bytes v) words.now) }
     ensures len { IfOk result (λ bag. length bag.items ≡ length words.now) }
@@ -19,9 +19,9 @@ pub fn count_texts(alloc: Global, words: &[&str]) -> Result<HashBag<String>, Bag
     Ok(bag)
 }
 
-/// How often a word was counted.
+/// Returns how often a word was counted.
 pub fn how_often<S: BuildHasher + Drop>(bag: &HashBag<String, S>, word: &str) -> usize
     ensures { (v : _) → string_bytes v ≡ word.now → result ≡ count string_eq v bag.now.items }
 {
-    bag.contains_key(word)
+    bag.contains(word)
 }

@@ -1,4 +1,4 @@
-//! Callers to copy: what the contracts of the walks are good for. Each has its clause from those contracts alone.
+//! Callers to copy: uses of the contracts of the walks. Each has its clause from those contracts alone.
 ghost use Rattle.std.specs.Prelude.{◌≡◌, List, [], length, IfOk};
 ghost use Rattle.hashbag.specs.Bag.{Means};
 ghost use Rattle.hashbag.specs.Occurrences.{distinct_count};
@@ -8,14 +8,14 @@ use hashbag::HashBag;
 use std::alloc::{AllocError, Global};
 use std::hash::{BuildHasher, Hash};
 
-/// The sum of all counts, by a chain over the distinct values: it is the number of occurrences.
+/// Returns the sum of all counts, by a chain over the distinct values: it is the number of occurrences.
 pub fn sum_of_counts<T: Eq + Hash + Drop, S: BuildHasher + Drop>(bag: &HashBag<T, S>) -> usize
     ensures { result ≡ length bag.now.items }
 {
     bag.set_iter().map(|entry| entry.1).sum()
 }
 
-/// The sum of all counts, by a loop over the distinct values.
+/// Returns the sum of all counts, by a loop over the distinct values.
 pub fn sum_by_loop<T: Eq + Hash + Drop, S: BuildHasher + Drop>(bag: &HashBag<T, S>) -> usize
     ensures { result ≡ length bag.now.items }
 {
@@ -26,7 +26,7 @@ pub fn sum_by_loop<T: Eq + Hash + Drop, S: BuildHasher + Drop>(bag: &HashBag<T, 
     sum
 }
 
-/// The sum of all counts of a bag that is used up, by a loop over its distinct values.
+/// Returns the sum of all counts of a bag that is used up, by a loop over its distinct values.
 pub fn sum_used_up<T: Eq + Hash + Drop, S: BuildHasher + Drop>(bag: HashBag<T, S>) -> usize
     ensures { result ≡ length bag.items }
 {
@@ -37,14 +37,14 @@ pub fn sum_used_up<T: Eq + Hash + Drop, S: BuildHasher + Drop>(bag: HashBag<T, S
     sum
 }
 
-/// The number of occurrences, by a chain that takes them one by one.
+/// Returns the number of occurrences, by a chain that takes them one by one.
 pub fn number_of_items<T: Eq + Hash + Drop, S: BuildHasher + Drop>(bag: &HashBag<T, S>) -> usize
     ensures { result ≡ length bag.now.items }
 {
     bag.iter().count()
 }
 
-/// The number of occurrences, by a loop over them.
+/// Returns the number of occurrences, by a loop over them.
 pub fn number_by_loop<T: Eq + Hash + Drop, S: BuildHasher + Drop>(bag: &HashBag<T, S>) -> usize
     ensures { result ≡ length bag.now.items }
 {
@@ -55,8 +55,7 @@ pub fn number_by_loop<T: Eq + Hash + Drop, S: BuildHasher + Drop>(bag: &HashBag<
     number
 }
 
-/// Moves everything out of a bag into a list of the distinct values with their counts. Where memory is refused, the bag is
-/// empty too.
+/// Moves everything out of a bag into a list of the distinct values with their counts. If an allocation fails, the bag is empty too.
 pub fn moved_out<T: Eq + Hash + Drop, S: BuildHasher + Drop>(
     alloc: Global,
     bag: &mut HashBag<T, S>,
@@ -69,8 +68,7 @@ pub fn moved_out<T: Eq + Hash + Drop, S: BuildHasher + Drop>(
     bag.drain().collect(alloc)
 }
 
-/// Takes one value with its count out of a bag, whichever comes first, and drops all others. It is `None` where the bag was
-/// empty.
+/// Removes all values of a bag, and returns the one that the walk gives first, with its count, or `None` if the bag was empty.
 pub fn first_moved_out<T: Eq + Hash + Drop, S: BuildHasher + Drop>(
     bag: &mut HashBag<T, S>,
 ) -> Option<(T, usize)>

@@ -1,4 +1,4 @@
-//! Callers to copy: words that are counted, one by one or all at once, and bags that are equal whatever the order in which the words came.
+//! Callers to copy: words that are counted, one by one or all at once, and bags that are equal whatever the order of their insertions.
 ghost use Rattle.std.specs.Prelude.{◌≡◌, ◌+◌, ◌≤◌, ℕ, nat_eq, length, IsTrue, OnOk, IfOk, IfErr};
 ghost use Rattle.std.specs.List.Sorted.{IsPermutation};
 ghost use Rattle.hashbag.specs.Occurrences.{count};
@@ -7,7 +7,7 @@ use hashbag::{BagError, HashBag};
 use std::alloc::Global;
 use std::hash::{BuildHasher, Hash};
 
-/// Two words in a new bag: each call says the length that it leaves.
+/// Inserts two words into a new bag: each call says the length that it leaves.
 pub fn two_words(alloc: Global) -> Result<HashBag<u64>, BagError>
     ensures { IfOk result (λ bag. length bag.items ≡ 2) }
 {
@@ -17,14 +17,14 @@ pub fn two_words(alloc: Global) -> Result<HashBag<u64>, BagError>
     Ok(bag)
 }
 
-/// Inserts words one by one, each a number here. Where the total stays within the limit, only memory is refused.
+/// Inserts words one by one, each a number here. If the total stays within the limit, only an allocation can fail.
 pub fn insert_each<S: BuildHasher + Drop>(
     bag: &mut HashBag<u64, S>,
     words: &[u64],
 ) -> Result<(), BagError>
     ensures counts { OnOk result ((v : ℕ) → count nat_eq v bag.new.items ≡ count nat_eq v bag.old.items + count nat_eq v words.now) }
     ensures len { OnOk result (length bag.new.items ≡ length bag.old.items + length words.now) }
-    ensures memory { length bag.old.items + length words.now ≤ bag.old.most → IfErr result (λ e. e ≡ BagError.Memory) }
+    ensures only_memory { length bag.old.items + length words.now ≤ bag.old.most → IfErr result (λ e. e ≡ BagError.Memory) }
 {
     for word in words {
         bag.insert(*word)?;
@@ -43,7 +43,7 @@ pub fn count_words<T: Eq + Hash + Drop>(
     HashBag::from_iter(alloc, words.into_iter())
 }
 
-/// Whether two bags are equal that are made by the same insertions in any two orders: they are.
+/// Returns whether two bags are equal that the same insertions build in any two orders: they are.
 pub fn equal_in_any_order<T: Eq + Hash + Drop>(
     alloc: Global,
     pairs: Vec<(T, usize)>,

@@ -2,7 +2,7 @@
 -- `Extends`, `IsRetained`). docs/CALLING.md shows which call needs which.
 --
 -- `laws` is `g.met.T.Eq.laws` under a bound `T: Eq`, and `nat_eq_equiv` of `Rattle.std.specs.Cmp` at unsigned numbers.
-use Rattle.std.proofs.Common.{◌≡◌, ℕ, zero, suc, ◌+◌, ◌-◌, ◌<◌, ◌≤◌, min, Bool, true, false, cond, nat_lt, List, [], ◌∷◌, ◌++◌, length, replicate, take, drop, get_or, filter, map, count_by, sum_by, Option, String, string_bytes, refl, sym, ◌∙◌, ap, subst, arith}
+use Rattle.std.proofs.Common.{◌≡◌, ℕ, zero, suc, ◌+◌, ◌-◌, ◌<◌, ◌≤◌, min, Bool, true, false, cond, nat_lt, List, [], ◌∷◌, ◌++◌, length, replicate, take, drop, get_or, filter, map, count_by, sum_by, Option, String, string_bytes, Result, Ok, Err, IfErr, refl, sym, ◌∙◌, ap, subst, arith}
 use borrow.Author.Tests.{ltb-false}
 use denote.Ref.{Bor}
 use denote.Param.Members.{Mut}
@@ -23,13 +23,16 @@ use Rattle.std.proofs.lemmas.Map.Keys.{IsDistinct-tail}
 use Rattle.hashbag_table.specs.Asked.{kept}
 use Rattle.hashbag_table.proofs.CloneLemmas.{all_to_recursion}
 use Rattle.hashbag_table.proofs.KeyLemmas.{named_is}
+use Rattle.hashbag_core.specs.declared.bag.BagError.{BagError}
+use Rattle.hashbag_core.specs.declared.bag.BagError.TheVariants.{Memory, TooMany, BelowTotal}
 use Rattle.hashbag_core.specs.Bag.{Bag, Means, occurrences, IsBagOf}
 use Rattle.hashbag_core.specs.Equality.{bag_eq}
 use Rattle.hashbag_core.specs.EqualityLaws.{count_congr, count_append, same_counts-Decides}
 use Rattle.hashbag_core.specs.Extends.{add_all, Once, AsItIs}
+use Rattle.hashbag_core.specs.Inserts.{IsRefused}
 use Rattle.hashbag_core.specs.Joins.{IsDifference}
-use Rattle.hashbag_core.specs.Keys.{count_named, InsertsNamed}
-use Rattle.hashbag_core.specs.Occurrences.{alike, others, count, instance_or_itself, add, less, put, SameCounts}
+use Rattle.hashbag_core.specs.Keys.{InsertsNamed}
+use Rattle.hashbag_core.specs.Occurrences.{count_named, alike, others, count, instance_or_itself, add, less, put, SameCounts}
 use Rattle.hashbag_core.specs.Retain.{IsRetained}
 use Rattle.hashbag_core.specs.Walks.{IsSetWalk}
 use Rattle.hashbag_core.proofs.DistinctLemmas.{absent_later}
@@ -310,6 +313,13 @@ module _ {T : Type 0} {eq : T → T → Bool} (laws : IsEquivalence eq) where
         count_means before after v (occurrences (kept done.walk done.answers)) done.left.means ∙ ap (λ (a : List ℕ). count eq v (occurrences (kept done.walk a))) are
         ∙ count_of_kept v done.walk (set_walk_distinct before.items done.walk (done.set_walk.walk before.items (IsPermutation-refl _)))
         ∙ ap (λ (n : ℕ). min (many v) n) (count_rearranged laws v (occurrences done.walk) before.items done.set_walk.means)
+
+-- an insertion that the limit allows fails for memory alone: for the clauses `refused` of `insert`, `insert_many` and an entry's `or_insert`
+pub refused_for_memory : {T S A : Type 0} (eq : T → T → Bool) (bag : Bag T S) (v : T) (n : ℕ) (r : Result A BagError) → IfErr r (IsRefused eq bag v n) → length bag.items + n ≤ bag.most → IfErr r (λ e. e ≡ Memory)
+refused_for_memory eq bag v n (Ok a) refused fits = tt
+refused_for_memory eq bag v n (Err TooMany) refused fits = let over = refused.why in absurd (omega (arith, over, fits))
+refused_for_memory eq bag v n (Err Memory) refused fits = refl
+refused_for_memory eq bag v n (Err BelowTotal) refused fits = absurd refused.why
 
 -- what an iterator gave to its end is the list that it yields: for the items of `Extends` and of the clause `len` of an extend
 pub items_that_came : {S A B : Type 0} {steps : S → Option A → S → Type 0} {v : A → B} {it : S} {all : List B} → (came : List A) → Drains steps it came → YieldsList steps v it all → map v came ≡ all

@@ -1,5 +1,5 @@
 -- What calls leave of the slots of a bag, from what the calls of its table leave of them.
-use Rattle.std.proofs.Common.{◌≡◌, ℕ, zero, suc, ◌+◌, ◌-◌, ◌<◌, ◌≤◌, Bool, cond, List, [], length, replicate, None, IsSome, Result, Ok, Err, IfErr, refl, sym, ap, subst, ◌∙◌, inl, inr, arith}
+use Rattle.std.proofs.Common.{◌≡◌, ℕ, zero, suc, ◌+◌, ◌-◌, ◌<◌, ◌≤◌, Bool, cond, List, [], length, replicate, None, IsSome, refl, sym, ap, subst, ◌∙◌, inl, inr, arith}
 use Rattle.std.specs.Cmp.{IsEquivalence}
 use Rattle.std.proofs.lemmas.Bool.{cases_lt, ne_eqb}
 use Rattle.std.proofs.lemmas.List.{nil_from_length, length-replicate}
@@ -12,7 +12,7 @@ use Rattle.hashbag_table.specs.Tables.{Tables, limit, room, entries_of, IsLeast,
 use Rattle.hashbag_table.proofs.CarryLemmas.{live_fresh, live_empty, removed_empty}
 use Rattle.hashbag_core.specs.Bag.{Bag, occurrences}
 use Rattle.hashbag_core.specs.Occurrences.{count}
-use Rattle.hashbag_core.specs.Held.{no_slots, cleared, left_in, AreHeld, Recounts}
+use Rattle.hashbag_core.specs.Held.{no_slots, cleared, left_in, AreHeld}
 use Rattle.hashbag_core.proofs.OccurrenceLemmas.{count_occurrences, absent_from_count, present_from_count}
 use Rattle.hashbag_core.proofs.WalkLemmas.{length_occurrences, length_le_total}
 
@@ -28,11 +28,6 @@ pub more_than_one : (k : ℕ) → 0 < k → (k ≡ 1 → ⊥) → 0 < k - 1
 more_than_one zero some several = absurd (omega arith)
 more_than_one (suc zero) some several = absurd (several refl)
 more_than_one (suc (suc k)) some several = omega arith
-
--- whatever the error is
-pub err_from : {A E P : Type 0} (r : Result A E) (Q : E → Type 0) → P → IfErr r (λ e. Q e → P)
-err_from (Ok a) Q p = tt
-err_from (Err e) Q p = λ _. p
 
 module _ {T : Type 0} where
   pub tables_from : (t u : Tables T) → t.newer ≡ u.newer → t.waiting ≡ u.waiting → t.older ≡ u.older → t.built ≡ u.built → t ≡ u
@@ -77,18 +72,19 @@ module _ {T : Type 0} (eq : T → T → Bool) where
   pub held_by : (es : List (T × ℕ)) (t : Tables T) → es ≡ entries_of t.newer t.waiting → IsCounted eq es → AreHeld eq (occurrences es) t
   held_by es t are counted = record { entries = ap occurrences are; counted = subst (λ fs. IsCounted eq fs) are counted }
 
+module _ {T : Type 0} (test : T → Bool) where
   -- some of a value are left, or none
-  pub recounts_some : (v : T) (n : ℕ) (old new : Tables T) → 0 < n → Rewrites (λ w. eq w v) (recounted n) old new → Recounts eq v n old new
-  recounts_some v n old new some r = rewrites_by (λ w. eq w v) (recounted n) (left_in n) old new (λ s. left_some n s some) r
+  pub recounts_some : (n : ℕ) (old new : Tables T) → 0 < n → Rewrites test (recounted n) old new → Rewrites test (left_in n) old new
+  recounts_some n old new some r = rewrites_by test (recounted n) (left_in n) old new (λ s. left_some n s some) r
 
-  pub recounts_none : (v : T) (n : ℕ) (old new : Tables T) → n ≡ 0 → Rewrites (λ w. eq w v) (λ _. Removed) old new → Recounts eq v n old new
-  recounts_none v n old new none r = rewrites_by (λ w. eq w v) (λ _. Removed) (left_in n) old new (λ s. left_none n s none) r
+  pub recounts_none : (n : ℕ) (old new : Tables T) → n ≡ 0 → Rewrites test (λ _. Removed) old new → Rewrites test (left_in n) old new
+  recounts_none n old new none r = rewrites_by test (λ _. Removed) (left_in n) old new (λ s. left_none n s none) r
 
   -- of m of a value q are taken
-  pub recounts_fewer : (v : T) (m q : ℕ) (old new : Tables T) → 0 < m → (q < m → Rewrites (λ w. eq w v) (recounted (m - q)) old new) → (0 < m → m ≤ q → Rewrites (λ w. eq w v) (λ _. Removed) old new) → Recounts eq v (m - q) old new
-  recounts_fewer v m q old new some fewer gone = elim (cases_lt q m) [
-    | inl less ↦ recounts_some v (m - q) old new (omega (arith, less)) (fewer less)
-    | inr all ↦ recounts_none v (m - q) old new (omega (arith, all)) (gone some (omega (arith, all)))
+  pub recounts_fewer : (m q : ℕ) (old new : Tables T) → 0 < m → (q < m → Rewrites test (recounted (m - q)) old new) → (0 < m → m ≤ q → Rewrites test (λ _. Removed) old new) → Rewrites test (left_in (m - q)) old new
+  recounts_fewer m q old new some fewer gone = elim (cases_lt q m) [
+    | inl less ↦ recounts_some (m - q) old new (omega (arith, less)) (fewer less)
+    | inr all ↦ recounts_none (m - q) old new (omega (arith, all)) (gone some (omega (arith, all)))
   ]
 
 module _ {T : Type 0} {eq : T → T → Bool} (laws : IsEquivalence eq) where

@@ -7,7 +7,6 @@ use Rattle.serde_json.specs.Find.{as_array, as_object, get, get_member}
 use Rattle.serde_json.specs.View.{view, items_of, items_view}
 use Rattle.serde_json.specs.Written.{has_float}
 use Rattle.serde_json.specs.declared.value.Value.{Value}
-use Rattle.hashbag_core.specs.declared.json.JsonError.{JsonError}
 use Rattle.hashbag_core.specs.declared.json.JsonError.TheVariants.{Memory}
 use Rattle.hashbag_core.specs.Extends.{add_all}
 use Rattle.hashbag_core.specs.JsonFaults.{list_of, array_of, limit_name, pairs_name, has_no_other, pairs_in, limit_in, opened_object, opened, limit_opened, limit_of, first_fault, opened_fault, fault}
@@ -31,14 +30,6 @@ array_opened (number n) vs e = absurd (cc)
 array_opened (string s) vs e = absurd (cc)
 array_opened (array ds) vs e = ap (λ (l : Items). Ok (greatest_total, list_of l)) (sym (same_some _ _ e)) ∙ ap (λ (l : List Data). Ok (greatest_total, l)) (list_of-items_of (map view vs))
 array_opened (object ms) vs e = absurd (cc)
-
-pub other_opened : (d : Data) → None ≡ as_array d → None ≡ as_object d → opened d ≡ Err JsonError.NotAnArray
-other_opened null a o = refl
-other_opened (boolean b) a o = refl
-other_opened (number n) a o = refl
-other_opened (string s) a o = refl
-other_opened (array ds) a o = absurd (cc)
-other_opened (object ms) a o = absurd (cc)
 
 pub object_opened : (d : Data) (ms : Members) (b : Bool) (p : Option (List Data)) (l : Option ℕ) → Some ms ≡ as_object d → has_no_other ms ≡ b → option_and_then array_of (get pairs_name d) ≡ p → option_and_then u64_item (get limit_name d) ≡ l
     → opened d ≡ opened_object (cond b p None) l

@@ -1,26 +1,28 @@
 -- What a key names in a bag is what it names in the map of its table; and what an insertion by a key leaves.
-use Rattle.std.proofs.Common.{◌≡◌, ℕ, ◌+◌, ◌-◌, ◌<◌, ◌≤◌, min, Bool, true, false, cond, List, [], ◌∷◌, ◌++◌, length, replicate, filter, slice_get, Option, Some, None, option_map, refl, sym, ap, subst, ◌∙◌, arith}
+use Rattle.std.proofs.Common.{◌≡◌, ℕ, ◌+◌, ◌-◌, ◌<◌, ◌≤◌, min, Bool, true, false, cond, not, List, [], ◌∷◌, ◌++◌, length, replicate, drop, filter, slice_get, Option, Some, None, option_map, refl, sym, ap, subst, ◌∙◌, arith}
 use Rattle.std.specs.Cmp.{IsEquivalence}
 use Rattle.std.specs.List.{IsDistinct}
 use Rattle.std.specs.List.Sorted.{IsPermutation}
 use Rattle.std.specs.Map.{keys_of, lookup_entry}
+use Rattle.std.proofs.lemmas.List.{append-nil, drop_all}
 use Rattle.std.proofs.lemmas.List.Elements.{filter-append}
 use Rattle.std.proofs.lemmas.List.Sums.{length-filter}
 use Rattle.std.proofs.lemmas.Map.Made.{lookup_key_passes}
-use Rattle.hashbag_table.specs.Entries.{IsCounted}
-use Rattle.hashbag_table.specs.Named.{named_entry, named_count, Adds}
+use Rattle.hashbag_table.specs.Entries.{count_of, IsCounted}
+use Rattle.hashbag_table.specs.Additions.{Adds, Stores}
+use Rattle.hashbag_table.specs.Named.{named_entry, named_count}
 use Rattle.hashbag_table.specs.Table.{Table}
+use Rattle.hashbag_table.specs.Tables.{KeepsRoom, Rewrites}
 use Rattle.hashbag_table.proofs.EntryLemmas.{lookup_key-entry}
 use Rattle.hashbag_table.proofs.KeyLemmas.{named_is, named_absent}
-use Rattle.hashbag_table.proofs.ListLemmas.{filter-replicate, find-filter}
-use Rattle.hashbag_core.specs.Bag.{occurrences, IsTallied}
-use Rattle.hashbag_core.specs.Held.{AreHeld}
+use Rattle.hashbag_table.proofs.ListLemmas.{IsPermutation-same, filter-replicate, find-filter}
+use Rattle.hashbag_core.specs.Bag.{occurrences, IsBagOf, IsTallied}
+use Rattle.hashbag_core.specs.Held.{left_in, AreHeld, HasFewer}
 use Rattle.hashbag_core.specs.Inserts.{Inserts}
-use Rattle.hashbag_core.specs.Keys.{count_named, stored_named}
-use Rattle.hashbag_core.specs.Occurrences.{less}
-use Rattle.hashbag_core.proofs.DistinctLemmas.{distinct_added, distinct_same, distinct_one_more}
+use Rattle.hashbag_core.specs.Occurrences.{count_named, stored_named, less_named, count, less}
+use Rattle.hashbag_core.proofs.DistinctLemmas.{distinct_added, distinct_same, distinct_one_more, distinct_put}
 use Rattle.hashbag_core.proofs.HeldLemmas.{shown, absent_in_table, present_in_table, recounts_some}
-use Rattle.hashbag_core.proofs.OccurrenceLemmas.{add_occurrences, bag_from_tally, count_occurrences, count_in_tally, tally_less}
+use Rattle.hashbag_core.proofs.OccurrenceLemmas.{add_occurrences, new_occurrences, bag_from_tally, count_occurrences, count_in_tally, tally_less}
 use Rattle.hashbag_core.proofs.TakeLemmas.{stored_occurrences}
 
 module _ {T : Type 0} (names : T → Bool) where
@@ -34,6 +36,20 @@ module _ {T : Type 0} (names : T → Bool) where
   none_named (e ∷ es) h =
       filter-append names (replicate e.1 e.0) (occurrences es) ∙ ap (λ (l : List T). l ++ filter names (occurrences es)) (filter-replicate names e.1 e.0)
       ∙ none_step (names e.0) e _ (replicate e.1 e.0) _ (none_named es) h
+
+  others_step : (b : Bool) (x : T) (passed rest xs : List T) → (passed ≡ [] → rest ≡ xs) → cond b (x ∷ passed) passed ≡ [] → cond (not b) (x ∷ rest) rest ≡ x ∷ xs
+  others_step true x passed rest xs f h = absurd (cc)
+  others_step false x passed rest xs f h = ap (λ (l : List T). x ∷ l) (f h)
+
+  -- where none passes, all are left
+  others_all : (xs : List T) → filter names xs ≡ [] → filter (λ x. not (names x)) xs ≡ xs
+  others_all [] h = refl
+  others_all (x ∷ xs) h = others_step (names x) x (filter names xs) (filter (λ y. not (names y)) xs) xs (others_all xs) h
+
+  less_none : (n : ℕ) (X : List T) → filter names X ≡ [] → less_named names n X ≡ X
+  less_none n X none =
+      let rest = filter (λ x. not (names x)) X in
+      ap (λ (l : List T). rest ++ drop n l) none ∙ ap (λ (l : List T). rest ++ l) (drop_all n [] (omega arith)) ∙ append-nil rest ∙ others_all X none
 
   -- the entry that it names
   entry_named : (es : List (T × ℕ)) (e : T × ℕ) → named_entry names es ≡ Some e → names e.0 ≡ true
@@ -86,21 +102,78 @@ module _ {T : Type 0} {eq : T → T → Bool} (laws : IsEquivalence eq) (names :
         let now = left e.0 does in
         tally_less laws e.0 n taken es fs total tally (number ∙ ap (λ (test : T → Bool). min n (named_count test es)) (named_is eq laws names one e.0 does)) now.0 now.1
 
+  -- and all that it names are the count of any value that it names
+  pub counts_all : (v : T) → names v ≡ true → (es : List (T × ℕ)) → IsDistinct eq (keys_of es) → count_of eq v es ≡ count_named names (occurrences es)
+  counts_all v does es distinct = sym (named_occurrences es distinct ∙ ap (λ (test : T → Bool). named_count test es) (named_is eq laws names one v does))
+
+  -- what a removal from the table of a bag leaves of the bag
+  pub fewer_named : {S : Type 0} {most : ℕ} (n total now before : ℕ) (old new : Table T S) → IsTallied eq old.entries total most → IsTallied eq new.entries now most → before ≡ named_count names old.entries
+      → ((v : T) → names v ≡ true → IsPermutation (less eq v n (occurrences old.entries)) (occurrences new.entries) × (new.hasher ≡ old.hasher))
+      → (0 < before → Rewrites names (left_in (before - n)) old.tables new.tables) → (before ≡ 0 → new ≡ old) → KeepsRoom 0 old.tables new.tables
+      → HasFewer eq names n (shown most old) (shown most new)
+  fewer_named {most = most} n total now before old new was is number left slot none room =
+      let same : before ≡ count_named names (occurrences old.entries) = number ∙ sym (named_occurrences old.entries was.counted.distinct) in
+      record {
+        left = cases (lookup_entry names old.entries) refl;
+        slot = λ there. subst (λ (k : ℕ). Rewrites names (left_in (k - n)) old.tables new.tables) same (slot (omega (arith, same, there)));
+        none = λ zero. ap (shown most) (none (same ∙ zero));
+        room = room;
+      }
+    where
+      cases : (o : Option (T × ℕ)) → lookup_entry names old.entries ≡ o → IsBagOf eq (shown most old) (less_named names n (occurrences old.entries)) (shown most new)
+      cases None h =
+          let stays = none (number ∙ named_absent names old.entries h) in
+          record {
+            means = IsPermutation-same _ _ (less_none names n (occurrences old.entries) (none_named names old.entries h) ∙ sym (ap (λ t. occurrences t.entries) stays));
+            hasher = ap (λ t. t.hasher) stays;
+            limit = refl;
+            bag = bag_from_tally laws new.entries now is;
+          }
+      cases (Some e) h =
+          let does = entry_named names old.entries e h in
+          let after = left e.0 does in
+          record {
+            means = subst (λ (test : T → Bool). IsPermutation (less_named test n (occurrences old.entries)) (occurrences new.entries)) (sym (named_is eq laws names one e.0 does)) after.0;
+            hasher = after.1;
+            limit = refl;
+            bag = bag_from_tally laws new.entries now is;
+          }
+
 -- what an addition to the table of a bag leaves of the bag
 pub inserts_added : {T S : Type 0} {eq : T → T → Bool} (laws : IsEquivalence eq) {most : ℕ} (v : T) (n total : ℕ) (before after : Table T S)
     → 0 < n → IsTallied eq before.entries total most → IsTallied eq after.entries (total + n) most → Adds eq v n before after → AreHeld eq (occurrences after.entries) after.tables → Inserts eq v n (shown most before) (shown most after)
 inserts_added {eq = eq} laws v n total before after some was now adds holds =
     let same = count_occurrences laws v before.entries was.counted.distinct in
     record {
-      added = record { means = add_occurrences laws v n _ _ was.counted adds.added.means; hasher = adds.added.hasher; limit = refl; bag = bag_from_tally laws _ _ now };
+      added = record { means = add_occurrences laws v n _ _ was.counted adds.map.means; hasher = adds.map.hasher; limit = refl; bag = bag_from_tally laws _ _ now };
       none = λ is. absurd (omega (arith, some, is));
       len = let before = was.sum in let after = now.sum in omega (arith, before, after);
-      set_len = distinct_added laws v _ _ _ was.counted now.counted adds.added.means;
-      same_set = distinct_same laws v _ _ _ was.counted now.counted adds.added.means;
-      new_set = λ _ none. distinct_one_more laws v _ _ _ was.counted now.counted adds.added.means none;
+      set_len = distinct_added laws v _ _ _ was.counted now.counted adds.map.means;
+      same_set = distinct_same laws v _ _ _ was.counted now.counted adds.map.means;
+      new_set = λ _ none. distinct_one_more laws v _ _ _ was.counted now.counted adds.map.means none;
       arrives = λ _ none. adds.arrives (absent_in_table laws v _ was.counted none);
-      slot = λ _ there. rw same (recounts_some eq v _ _ _ (omega (arith, some)) (adds.slot (present_in_table laws v _ was.counted there)));
+      slot = λ _ there. rw same (recounts_some (eq v) _ _ _ (omega (arith, some)) (adds.slot (present_in_table laws v _ was.counted there)));
       less_room = adds.room;
       same_room = λ there. adds.same_room (omega (arith, same, there));
+      held = λ _. holds;
+    }
+
+-- the same of a value that was absent
+pub inserts_stored : {T S : Type 0} {eq : T → T → Bool} (laws : IsEquivalence eq) {most : ℕ} (v : T) (n total : ℕ) (before after : Table T S)
+    → 0 < n → count eq v (occurrences before.entries) ≡ 0 → IsTallied eq before.entries total most → IsTallied eq after.entries (total + n) most → Stores eq v n before after → AreHeld eq (occurrences after.entries) after.tables
+    → Inserts eq v n (shown most before) (shown most after)
+inserts_stored laws v n total before after some absent was now stores holds =
+    let more = distinct_put laws v n _ _ was.counted now.counted absent stores.map.means in
+    record {
+      added = record { means = new_occurrences laws v n _ _ was.counted absent stores.map.means; hasher = stores.map.hasher; limit = refl; bag = bag_from_tally laws _ _ now };
+      none = λ is. absurd (omega (arith, some, is));
+      len = let before = was.sum in let after = now.sum in omega (arith, before, after);
+      set_len = omega (arith, more);
+      same_set = λ there. absurd (omega (arith, absent, there));
+      new_set = λ _ _. more;
+      arrives = λ _ _. stores.arrives (absent_in_table laws v _ was.counted absent);
+      slot = λ _ there. absurd (omega (arith, absent, there));
+      less_room = stores.room;
+      same_room = λ there. absurd (omega (arith, absent, there));
       held = λ _. holds;
     }

@@ -1,3 +1,4 @@
+pub mod AnswerLemmas
 pub mod CallerLemmas
 pub mod ContainsLemmas
 pub mod CopyLemmas

@@ -210,14 +210,6 @@ module _ {T : Type 0} {eq : T → T → Bool} (laws : IsEquivalence eq) where
       length_permutation (less eq v n X) Y h ∙ length-append (others eq v X) (drop n (alike eq v X)) ∙ ap (λ (k : ℕ). length (others eq v X) + k) (length-drop n (alike eq v X)) in
       omega arith
 
-  pub length_put : (v : T) (n : ℕ) (X Y : List T) → IsPermutation (put eq v n X) Y → length Y + count eq v X ≡ length X + n
-  length_put v n X Y h =
-      let whole = length_split v X in
-      let alike_count = length-filter (eq v) X in
-      let copies = length-replicate n v in
-      let parts : length Y ≡ length (others eq v X) + length (replicate n v) = length_permutation (put eq v n X) Y h ∙ length-append (others eq v X) (replicate n v) in
-      omega arith
-
   -- a count is at most the length
   pub count_le : (v : T) (X : List T) → count eq v X ≤ length X
   count_le v X = count_by-le-length (eq v) X

@@ -1,5 +1,5 @@
 -- What is left of a value of which some were taken.
-use Rattle.std.proofs.Common.{◌≡◌, ◌≢◌, ℕ, zero, suc, ◌<◌, Bool, true, false, cond, not, List, [], ◌∷◌, ◌++◌, length, drop, filter, slice_get, All, Option, Some, None, option_map, unwrap_or, Result, Ok, Err, IfOk, IfErr, IsErrAnd, refl, subst, sym, ◌∙◌, ap, arith}
+use Rattle.std.proofs.Common.{◌≡◌, ℕ, zero, suc, ◌<◌, Bool, true, false, cond, not, List, [], ◌∷◌, ◌++◌, length, drop, filter, slice_get, All, Option, Some, None, option_map, unwrap_or, refl, sym, ◌∙◌, ap, arith}
 use Rattle.std.specs.Cmp.{IsEquivalence}
 use Rattle.std.specs.List.Sorted.{IsPermutation}
 use Rattle.std.specs.Map.{lookup_entry}
@@ -103,26 +103,3 @@ module _ {T : Type 0} {eq : T → T → Bool} (laws : IsEquivalence eq) where
       by_count : (k : ℕ) → count eq v X ≡ k → 0 < k
       by_count zero h = let none : None ≡ stored eq v X = stored_absent v X h in let wrong : Some p ≡ None = e ∙ sym none in absurd (cc)
       by_count (suc k) h = omega arith
-
-  -- what `try_take` answers, from what was taken of X, which left Y
-  pub answer_of : {most end : ℕ} {F : Type 0} (shown : F → T × ℕ) (v : T) (X Y : List T) → IsBag eq most X → IsBag eq end Y → IsPermutation (less eq v 1 X) Y → (taken : Result T ℕ) (answer : Result T (Option F))
-      → IfOk taken (λ i. stored eq v X ≡ Some (i, 1)) → IfErr taken (λ before. (before ≡ count eq v X) × (before ≢ 1))
-      → IfOk taken (λ i. answer ≡ Ok i) → IfErr taken (λ before. before ≡ 0 → answer ≡ Err None) → IfErr taken (λ before. before ≢ 0 → IsErrAnd answer (λ found. option_map shown found ≡ counted eq v before Y))
-      → IfOk answer (λ i. stored eq v X ≡ Some (i, 1)) × IfErr answer (λ found. (option_map shown found ≡ stored eq v X) × (count eq v X ≢ 1))
-  answer_of shown v X Y bag after left (Ok i) answer last several is absent lent =
-      subst (λ (a : Result T (Option _)). IfOk a (λ i. stored eq v X ≡ Some (i, 1)) × IfErr a (λ found. (option_map shown found ≡ stored eq v X) × (count eq v X ≢ 1))) (sym is) (last, tt)
-  answer_of shown v X Y bag after left (Err zero) answer last several is absent lent =
-      let none : 0 ≡ count eq v X = several.0 in
-      subst (λ (a : Result T (Option _)). IfOk a (λ i. stored eq v X ≡ Some (i, 1)) × IfErr a (λ found. (option_map shown found ≡ stored eq v X) × (count eq v X ≢ 1))) (sym (absent refl))
-      (tt, (stored_absent v X (sym none), λ one. omega arith))
-  answer_of shown v X Y bag after left (Err (suc k)) (Ok i) last several is absent lent = absurd (lent (λ e. omega arith))
-  answer_of shown v X Y bag after left (Err (suc k)) (Err found) last several is absent lent =
-      let many : suc k ≡ count eq v X = several.0 in
-      let not_one : suc k ≢ 1 = several.1 in (
-        tt,
-        (
-          lent (λ e. omega arith) ∙ ap (λ (o : Option T). option_map {U = T × ℕ} (λ i. (i, suc k)) o) (instance_less v X Y bag after (omega arith) left)
-              ∙ ap (λ (n : ℕ). option_map {U = T × ℕ} (λ i. (i, n)) (instance eq v X)) many,
-          λ one. omega arith,
-        ),
-      )

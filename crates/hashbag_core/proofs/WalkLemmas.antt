@@ -53,13 +53,6 @@ module _ {T : Type 0} {eq : T → T → Bool} (laws : IsEquivalence eq) where
     counts = h.counts ∙ λ i. map (λ v. (v, count_rearranged laws v X Y p i)) h.values;
   }
 
-  pub walk_rearranged : (X Y W : List T) → IsPermutation X Y → IsWalk eq X W → IsWalk eq Y W
-  walk_rearranged X Y W p h = record {
-    values = h.values;
-    each = each_rearranged X Y h.values p h.each;
-    pieces = h.pieces ∙ λ i. flat_map (λ v. replicate (count_rearranged laws v X Y p i) v) h.values;
-  }
-
   -- ---- from the entries of a map
 
   copies_have : (n : ℕ) (x : T) → 0 < n → Contains (replicate n x) x

@@ -5,7 +5,7 @@ use Rattle.std.specs.Fn.{FnOnceReturnsAtMut}
 use denote.Param.Members.{Once}
 use Rattle.hashbag_core.specs.Bag.{Bag, IsBagOf}
 use Rattle.hashbag_core.specs.declared.entry.Entry.{Entry}
-use Rattle.hashbag_core.specs.Occurrences.{count, add, recount}
+use Rattle.hashbag_core.specs.Occurrences.{count, recount}
 
 module _ {T S H : Type 0} (eq : T → T → Bool) where
   -- how often the bag has the value that the entry was handed
@@ -19,10 +19,6 @@ module _ {T S H : Type 0} (eq : T → T → Bool) where
   -- the bag doesn't have it
   abbrev pub IsVacant : Entry T S H → Type 0
   IsVacant e = entry_count e ≡ 0
-
-  -- n of that value went into the bag, and `after` is what it means now
-  abbrev pub PutsIn : Entry T S H → ℕ → Bag T S → Type 0
-  PutsIn e n after = IsBagOf eq e.bag.now (add eq e.value n e.bag.now.items) after
 
 module _ {T S : Type 0} (eq : T → T → Bool) where
   -- the bags have as many occurrences of values other than v

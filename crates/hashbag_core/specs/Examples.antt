@@ -10,8 +10,7 @@ use Rattle.hashbag_table.specs.Asked.{kept as kept_of}
 use Rattle.hashbag_core.specs.Bag.{occurrences}
 use Rattle.hashbag_core.specs.Equality.{same_counts}
 use Rattle.hashbag_core.specs.Extends.{add_all}
-use Rattle.hashbag_core.specs.Keys.{count_named, stored_named}
-use Rattle.hashbag_core.specs.Occurrences.{greatest_total, alike, others, count, instance, instance_or_itself, stored, add, less, put, distinct_count, SameCounts}
+use Rattle.hashbag_core.specs.Occurrences.{count_named, stored_named, greatest_total, alike, others, count, instance, instance_or_itself, stored, add, less, put, distinct_count, SameCounts}
 use Rattle.hashbag_core.specs.Walks.{IsEach, IsSetWalk, IsWalk}
 
 abbrev pub Tagged : Type 0

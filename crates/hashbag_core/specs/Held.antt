@@ -6,7 +6,7 @@ use Rattle.hashbag_slots.specs.Slots.{recounted}
 use Rattle.hashbag_table.specs.Entries.{IsCounted}
 use Rattle.hashbag_table.specs.Tables.{Tables, entries_of, IsLeast, Rewrites, KeepsRoom}
 use Rattle.hashbag_core.specs.Bag.{Bag, IsBagOf, occurrences}
-use Rattle.hashbag_core.specs.Occurrences.{count, less, distinct_count}
+use Rattle.hashbag_core.specs.Occurrences.{count_named, less_named, count, distinct_count}
 
 module _ {T : Type 0} where
   -- no slots in either table, after so many were built
@@ -29,11 +29,11 @@ module _ {T : Type 0} (eq : T → T → Bool) where
 
   -- of v, which was there, n are left: its slot alone is changed, in whichever table it is
   abbrev pub Recounts : T → ℕ → Tables T → Tables T → Type 0
-  Recounts v n old new = Rewrites (λ w. eq w v) (left_in n) old new
+  Recounts v n old new = Rewrites (eq v) (left_in n) old new
 
   -- v itself is stored, once, in the slot of the value that is equal to it, and no other slot is changed
   abbrev pub Restores : T → Tables T → Tables T → Type 0
-  Restores v old new = Rewrites (λ w. eq w v) (λ _. Live v 1) old new
+  Restores v old new = Rewrites (eq v) (λ _. Live v 1) old new
 
 module _ {T S : Type 0} (eq : T → T → Bool) where
   -- the slot of v alone is changed, and has the count that v has in `after`
@@ -44,18 +44,14 @@ module _ {T S : Type 0} (eq : T → T → Bool) where
   abbrev pub NeedsSlots : Bag T S → ℕ → Type 0
   NeedsSlots bag m = IsLeast 0 (distinct_count eq bag.items) m
 
-  -- the newer table of `after` is the least, no smaller than that of `before`, with room for the distinct values and n more
-  abbrev pub HasLeastFor : ℕ → Bag T S → Bag T S → Type 0
-  HasLeastFor n before after = IsLeast (length before.tables.newer) (distinct_count eq before.items + n) (length after.tables.newer)
-
 -- one table of m slots was built
 abbrev pub BuildsSlots : {T S : Type 0} → ℕ → Bag T S → Bag T S → Type 0
 BuildsSlots m before after = after.tables.built ≡ before.tables.built + m
 
--- the bag `after` is the bag `before` less n occurrences of v, or less all where they were fewer: its list; the slot of v, where v
--- was there; and as many slots, and no less room
-pub record HasFewer {T S : Type 0} (eq : T → T → Bool) (v : T) (n : ℕ) (before after : Bag T S) : Type 0 where
-  pub left : IsBagOf eq before (less eq v n before.items) after
-  pub slot : 0 < count eq v before.items → Recounts eq v (count eq v before.items - n) before.tables after.tables
-  pub none : count eq v before.items ≡ 0 → after ≡ before
+-- the bag `after` is the bag `before` less n occurrences of the value that a key names, or less all where they were fewer: its list;
+-- the slot of the value, where it was there; and as many slots, and no less room
+pub record HasFewer {T S : Type 0} (eq : T → T → Bool) (names : T → Bool) (n : ℕ) (before after : Bag T S) : Type 0 where
+  pub left : IsBagOf eq before (less_named names n before.items) after
+  pub slot : 0 < count_named names before.items → Rewrites names (left_in (count_named names before.items - n)) before.tables after.tables
+  pub none : count_named names before.items ≡ 0 → after ≡ before
   pub room : KeepsRoom 0 before.tables after.tables

@@ -6,10 +6,10 @@ use Rattle.std.specs.Iterator.{Drains, YieldsThen}
 use Rattle.hashbag_table.specs.Tables.{room, Arrives, KeepsRoom}
 use Rattle.hashbag_core.specs.declared.bag.BagError.{BagError}
 use Rattle.hashbag_core.specs.declared.bag.BagError.TheVariants.{Memory}
-use Rattle.hashbag_core.specs.Bag.{Bag, IsBagOf, limited}
+use Rattle.hashbag_core.specs.Bag.{Bag, IsBagOf, HasOneValueMore, limited}
 use Rattle.hashbag_core.specs.Extends.{CloneOnce, CloneAsOften, Refuses, RefusesClones}
-use Rattle.hashbag_core.specs.Held.{AreHeld, Recounts, no_slots}
-use Rattle.hashbag_core.specs.Occurrences.{greatest_total, count, add, distinct_count, IsBag}
+use Rattle.hashbag_core.specs.Held.{AreHeld, Recounts, Restores, no_slots}
+use Rattle.hashbag_core.specs.Occurrences.{greatest_total, count, add, put, distinct_count, IsBag}
 
 -- an empty bag of no slots under this state, for which no limit is set
 abbrev pub empty_bag : {T S : Type 0} → S → Bag T S
@@ -30,6 +30,17 @@ module _ {T S : Type 0} (eq : T → T → Bool) where
     pub less_room : 0 < room before.tables → KeepsRoom 1 before.tables after.tables
     pub same_room : 0 < count eq v before.items → KeepsRoom 0 before.tables after.tables
     pub held : 0 < n → AreHeld eq after.items after.tables
+
+  -- v took the place of all values equal to it in the bag `before`, once, and `after` is what is left. The occurrences; how many there
+  -- are, and how many distinct values; the slots, if v was absent and if it was present; and how many slots and how much room there are
+  pub record Replaces (v : T) (before after : Bag T S) : Type 0 where
+    pub stored : IsBagOf eq before (put eq v 1 before.items) after
+    pub len : length after.items + count eq v before.items ≡ length before.items + 1
+    pub new_set : count eq v before.items ≡ 0 → HasOneValueMore eq before after
+    pub arrives : count eq v before.items ≡ 0 → Arrives before.tables after.tables
+    pub slot : 0 < count eq v before.items → Restores eq v before.tables after.tables
+    pub less_room : 0 < room before.tables → KeepsRoom 1 before.tables after.tables
+    pub same_room : 0 < count eq v before.items → KeepsRoom 0 before.tables after.tables
 
   -- n of v may be refused to a bag, for this reason: for memory only where no room is left
   pub record IsRefused (bag : Bag T S) (v : T) (n : ℕ) (e : BagError) : Type 0 where

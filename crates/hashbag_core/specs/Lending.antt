@@ -1,5 +1,5 @@
 -- What a bag is once a loan of it is over.
-use Rattle.std.specs.Prelude.{◌≡◌, ⊤, Result}
+use Rattle.std.specs.Prelude.{◌≡◌, ⊤, Bool, Result}
 use Rattle.std.specs.Borrow.{Fml, RattleType, MutBor, follows_so, RestsIfErr}
 use Rattle.std.specs.HashMap.Lent.{HashMembers}
 use Rattle.std.specs.declared.hash.Hasher as hasher
@@ -16,9 +16,9 @@ module _ (T S H : RattleType) (key : HashMembers T.Denot) (build : builder.Ghost
   abbrev pub bag_row : RattleType
   bag_row = the_row T S H (record { eq = key.eq }) (record { hash_input = key.hash_input }) build hash
 
-  -- once the loan is over, the bag behind b has one occurrence of v fewer
-  abbrev pub ends_taking : MutBor (Bag T.Denot S.Denot) → T.Denot → Fml
-  ends_taking b v = follows_so bag_row bag_row b.ghost_name none (λ _ _. ⊤) (HasFewer key.eq v 1 b.now)
+  -- once the loan is over, the bag behind b has one occurrence fewer of what passes the test
+  abbrev pub ends_taking : MutBor (Bag T.Denot S.Denot) → (T.Denot → Bool) → Fml
+  ends_taking b names = follows_so bag_row bag_row b.ghost_name none (λ _ _. ⊤) (HasFewer key.eq names 1 b.now)
 
   -- a call that took an entry of the bag behind b gives it back with the loan; where it was refused, the bag is as it was
   abbrev pub rests_if_refused : MutBor (Bag T.Denot S.Denot) → Result (Entry T.Denot S.Denot H.Denot) BagError → Fml

@@ -3,13 +3,12 @@ ghost use Rattle.std.specs.Prelude.{◌≡◌, ◌+◌, ◌-◌, ◌<◌, ◌≤
 ghost use Rattle.std.specs.List.Sorted.{IsPermutation};
 ghost use Rattle.hashbag_table.specs.Asked.{MayAskInTurn};
 ghost use Rattle.hashbag_table.specs.Entries.{count_of, IsCounted};
-ghost use Rattle.hashbag_table.specs.Tables.{limit, room, Arrives, KeepsRoom};
+ghost use Rattle.hashbag_table.specs.Tables.{limit, room, KeepsRoom};
 ghost use Rattle.hashbag_table.specs.Retained.{RetainsTables};
-ghost use Rattle.hashbag_core.specs.Bag.{occurrences, limited, HasOneValueMore, Lends};
-ghost use Rattle.hashbag_core.specs.Occurrences.{count, stored, add, put, recount, distinct_count, IsBag};
-ghost use Rattle.hashbag_core.specs.Extends.{Refuses};
-ghost use Rattle.hashbag_core.specs.Inserts.{Inserts, IsRefused};
-ghost use Rattle.hashbag_core.specs.Held.{cleared, Recounts, Restores};
+ghost use Rattle.hashbag_core.specs.Bag.{occurrences, limited, Lends};
+ghost use Rattle.hashbag_core.specs.Occurrences.{count_named, stored_named, count, recount, distinct_count, IsBag};
+ghost use Rattle.hashbag_core.specs.Inserts.{Inserts, Replaces, IsRefused};
+ghost use Rattle.hashbag_core.specs.Held.{cleared, Recounts};
 ghost use Rattle.hashbag_core.specs.Retain.{IsRetained};
 ghost use Rattle.hashbag_core.specs.Walks.{IsSetWalkOf};
 ghost use Rattle.hashbag_core.specs.declared.bag.BagError.TheVariants.{Memory};
@@ -22,16 +21,16 @@ mod make;
 mod spare;
 mod take;
 
-use hashbag_table::Table;
+use hashbag_table::{Key, Table};
 use std::alloc::AllocError;
 use std::hash::{BuildHasher, BuildHasherDefault, FoldHasher, Hash};
 use std::marker::Model;
 use thiserror::Error;
 
-/// Why a call was refused.
+/// Why a call failed.
 #[derive(Clone, Copy, Debug, PartialEq, Eq, Error)]
 pub enum BagError {
-    /// Memory was refused.
+    /// An allocation failed, or a call would make room for more than 3 * 2^57 distinct values.
     #[error("no memory")]
     Memory,
     /// The total would pass the bag's limit.
@@ -43,15 +42,17 @@ pub enum BagError {
 }
 
 impl BagError {
-    /// The number by which programs report the error: 1 for `Memory`, 2 for `TooMany`, 9 for `BelowTotal`.
+    /// Returns the number by which programs report the error: 1 for `Memory`, 2 for `TooMany`, 9 for `BelowTotal`.
+    ///
+    /// # Examples
     ///
     /// ```
     /// BagError::TooMany.number() // 2
     /// ```
     pub fn number(&self) -> u8
-        ensures memory { self.now ≡ BagError.Memory → result ≡ 1 }
-        ensures too_many { self.now ≡ BagError.TooMany → result ≡ 2 }
-        ensures below_total { self.now ≡ BagError.BelowTotal → result ≡ 9 }
+        ensures number_of_memory { self.now ≡ BagError.Memory → result ≡ 1 }
+        ensures number_of_too_many { self.now ≡ BagError.TooMany → result ≡ 2 }
+        ensures number_of_below_total { self.now ≡ BagError.BelowTotal → result ≡ 9 }
     {
         match self {
             BagError::Memory => 1,
@@ -72,18 +73,19 @@ impl From<AllocError> for BagError {
 /// The state that hashes the values of a bag if no other is given. Its keys are fixed, so a bag hashes alike in every run of a
 /// program.
 ///
-/// Whoever chooses the values can therefore choose many with one hash, and then each insertion takes time in proportion to their
-/// number. For values that strangers choose, take `HashBag::with_hasher(alloc, RandomState::new(&rt)?)`, whose keys are random.
+/// Whoever chooses the values can therefore choose many with one hash. Each insertion then takes time in proportion to their number.
+/// For values that strangers choose, use `HashBag::with_hasher(alloc, RandomState::new(&rt)?)`, whose keys are random.
 pub type FixedState = BuildHasherDefault<FoldHasher>;
 
 /// A bag of values, also called a counted multiset: how often each distinct value occurs.
 ///
-/// Values that `==` calls equal are one value, stored once, as the instance that came first. A count is a `usize` of
-/// occurrences and at least 1 for a value that is there, and the total of all counts is at most the bag's limit, which is
-/// `usize::MAX` where no other is set.
+/// Values that `==` calls equal are one value, which is stored once, as the instance that was inserted first. The count of a present
+/// value is a `usize` of at least 1. The total of all counts is at most the bag's limit, which is `usize::MAX` if no other is set.
 ///
-/// Contracts see a bag as the plain list of its occurrences, in an order that means nothing, and the state that hashes
-/// its values; beside it the slots of its newer table, those of its older one that wait to be carried, and the limit.
+/// Contracts see a bag as the plain list of its occurrences, in an order that means nothing, and the state that hashes its values. They
+/// also see the slots of its newer table, those of its older one that aren't carried yet, and the limit.
+///
+/// # Examples
 ///
 /// ```
 /// let mut words: HashBag<String> = HashBag::new(alloc);
@@ -92,7 +94,7 @@ pub type FixedState = BuildHasherDefault<FoldHasher>;
 /// }
 /// words.len(); // 5
 /// words.set_len(); // 4
-/// words.contains_key("the"); // 2
+/// words.contains("the"); // 2
 /// Ok(())
 /// ```
 #[derive(Drop)]
@@ -112,7 +114,7 @@ impl<T: Eq + Hash + Drop, S: BuildHasher + Drop> Model for HashBag<T, S> {
     ghost invariant = { λ a. IsTallied T.eq a.table.entries a.len a.most };
 }
 
-// Gives a value that is there another count, and takes it out where that is 0.
+// Sets the count of a present value, or removes it if the count is 0.
 fn set_or_remove<T: Eq + Hash + Drop, S: BuildHasher + Drop>(
     table: &mut Table<T, S>,
     value: &T,
@@ -136,7 +138,9 @@ fn set_or_remove<T: Eq + Hash + Drop, S: BuildHasher + Drop>(
 impl<T: Eq + Hash + Drop, S: BuildHasher + Drop> HashBag<T, S> {
     ghost use Rattle.hashbag_core.specs.Bag.{IsBagOf};
 
-    /// The limit: the greatest total that the bag may have.
+    /// Returns the limit: the greatest total that the bag may have.
+    ///
+    /// # Examples
     ///
     /// ```
     /// let bag: HashBag<u64> = HashBag::with_limit(alloc, FixedState::new(), 1_000);
@@ -150,9 +154,13 @@ impl<T: Eq + Hash + Drop, S: BuildHasher + Drop> HashBag<T, S> {
         self.most
     }
 
-    /// Sets the limit. Nothing else changes.
+    /// Sets the limit. Nothing else changes, and it doesn't allocate.
     ///
-    /// It answers `BelowTotal` where `most` is below the total: the bag is then unchanged. It takes no memory.
+    /// # Errors
+    ///
+    /// `BelowTotal` if `most` is below the total. The bag is then unchanged.
+    ///
+    /// # Examples
     ///
     /// ```
     /// let mut bag = HashBag::new(alloc);
@@ -164,8 +172,8 @@ impl<T: Eq + Hash + Drop, S: BuildHasher + Drop> HashBag<T, S> {
     /// ```
     pub fn set_limit(&mut self, most: usize) -> Result<(), BagError>
         ensures set { OnOk result (self.new ≡ limited most self.old) }
-        ensures below { most < length self.old.items → result ≡ Err BagError.BelowTotal }
-        ensures refused { OnErr result ((result ≡ Err BagError.BelowTotal) × (most < length self.old.items)) }
+        ensures below { (result ≡ Err BagError.BelowTotal) ↔ (most < length self.old.items) }
+        ensures only { IfErr result (λ e. e ≡ BagError.BelowTotal) }
         ensures err { OnErr result (self.new ≡ self.old) }
     {
         if most < self.len {
@@ -175,7 +183,9 @@ impl<T: Eq + Hash + Drop, S: BuildHasher + Drop> HashBag<T, S> {
         Ok(())
     }
 
-    /// The number of occurrences: the sum of all counts.
+    /// Returns the number of occurrences: the sum of all counts.
+    ///
+    /// # Examples
     ///
     /// ```
     /// let mut bag = HashBag::new(alloc);
@@ -191,7 +201,9 @@ impl<T: Eq + Hash + Drop, S: BuildHasher + Drop> HashBag<T, S> {
         self.len
     }
 
-    /// The number of distinct values.
+    /// Returns the number of distinct values.
+    ///
+    /// # Examples
     ///
     /// ```
     /// let mut bag = HashBag::new(alloc);
@@ -206,7 +218,9 @@ impl<T: Eq + Hash + Drop, S: BuildHasher + Drop> HashBag<T, S> {
         self.table.set_len()
     }
 
-    /// Whether there are no occurrences.
+    /// Returns whether there are no occurrences.
+    ///
+    /// # Examples
     ///
     /// ```
     /// let mut bag = HashBag::new(alloc);
@@ -222,7 +236,9 @@ impl<T: Eq + Hash + Drop, S: BuildHasher + Drop> HashBag<T, S> {
         self.len == 0
     }
 
-    /// The state that hashes the values.
+    /// Returns the state that hashes the values.
+    ///
+    /// # Examples
     ///
     /// ```
     /// let first: HashBag<u64> = HashBag::new(alloc);
@@ -235,7 +251,15 @@ impl<T: Eq + Hash + Drop, S: BuildHasher + Drop> HashBag<T, S> {
         self.table.hasher()
     }
 
-    /// How often a value occurs, 0 where it is absent. The value is hashed once.
+    /// Returns the count of a value, 0 if it is absent.
+    ///
+    /// The value is given as itself, lent, or as a key that names it: `bag.contains(&value)`, `words.contains("the")`.
+    ///
+    /// # Complexity
+    ///
+    /// It hashes the key once and doesn't allocate.
+    ///
+    /// # Examples
     ///
     /// ```
     /// let mut bag = HashBag::new(alloc);
@@ -245,17 +269,23 @@ impl<T: Eq + Hash + Drop, S: BuildHasher + Drop> HashBag<T, S> {
     /// Ok(())
     /// ```
     #[inline(always)]
-    pub fn contains(&self, value: &T) -> usize
-        ensures count { result ≡ count T.eq value.now self.now.items }
+    pub fn contains<Q: Key<T>>(&self, key: Q) -> usize
+        ensures count { result ≡ count_named (Q.names key) self.now.items }
         ensures bag { IsBag T.eq self.now.most self.now.items }
     {
-        match self.table.get(value) {
+        match self.table.get(key) {
             Some((_, count)) => count,
             None => 0,
         }
     }
 
-    /// The stored instance of a value and how often it occurs, or `None` where it is absent. The value is hashed once.
+    /// Returns the stored instance of a value with its count, or `None` if the value is absent.
+    ///
+    /// # Complexity
+    ///
+    /// It hashes the key once and doesn't allocate.
+    ///
+    /// # Examples
     ///
     /// ```
     /// let mut bag = HashBag::new(alloc);
@@ -265,14 +295,27 @@ impl<T: Eq + Hash + Drop, S: BuildHasher + Drop> HashBag<T, S> {
     /// Ok(())
     /// ```
     #[inline(always)]
-    pub fn get(&self, value: &T) -> Option<(&T, usize)>
-        ensures found { Lends result (stored T.eq value.now self.now.items) }
+    pub fn get<Q: Key<T>>(&self, key: Q) -> Option<(&T, usize)>
+        ensures found { Lends result (stored_named (Q.names key) self.now.items) }
         ensures bag { IsBag T.eq self.now.most self.now.items }
     {
-        self.table.get(value)
+        self.table.get(key)
     }
 
-    /// Adds one occurrence of a value, and answers how many there were: [`HashBag::insert_many`] with 1.
+    /// Inserts one occurrence of a value and returns the count before: [`HashBag::insert_many`] with 1.
+    ///
+    /// # Errors
+    ///
+    /// - `TooMany` if the total would pass the limit. That is tested first.
+    /// - `Memory` if the value is absent, there is no room, and an allocation fails.
+    ///
+    /// Then the bag is unchanged, and the value is dropped.
+    ///
+    /// # Complexity
+    ///
+    /// As of [`HashBag::insert_many`].
+    ///
+    /// # Examples
     ///
     /// ```
     /// let mut bag = HashBag::new(alloc);
@@ -286,10 +329,9 @@ impl<T: Eq + Hash + Drop, S: BuildHasher + Drop> HashBag<T, S> {
         ensures before { IfOk result (λ before. before ≡ count T.eq value self.old.items) }
         ensures inserted { OnOk result (Inserts T.eq value 1 self.old self.new) }
 
-        // The total is tested first; then only memory can be refused, and only to a value that is absent where there is no room.
-        ensures too_many { self.old.most < length self.old.items + 1 → result ≡ Err BagError.TooMany }
-        ensures refused { IfErr result (Refuses T.eq self.old.most self.old.items value 1) }
-        ensures memory { length self.old.items + 1 ≤ self.old.most → OnErr result (result ≡ Err BagError.Memory) }
+        // The total is tested first. Then only an allocation can fail, and only if the value is absent and there is no room.
+        ensures too_many { (result ≡ Err BagError.TooMany) ↔ (self.old.most < length self.old.items + 1) }
+        ensures refused { IfErr result (IsRefused T.eq self.old value 1) }
         ensures err { OnErr result (self.new ≡ self.old) }
         ensures takes { length self.old.items + 1 ≤ self.old.most → 0 < room self.old.tables → IsOk result }
         ensures present { length self.old.items + 1 ≤ self.old.most → 0 < count T.eq value self.old.items → IsOk result }
@@ -297,14 +339,23 @@ impl<T: Eq + Hash + Drop, S: BuildHasher + Drop> HashBag<T, S> {
         self.insert_many(value, 1)
     }
 
-    /// Adds `n` occurrences of a value, and answers how many there were.
+    /// Inserts `n` occurrences of a value and returns the count before.
     ///
-    /// A stored instance stays, and the value handed in is dropped. It is hashed once. It answers `TooMany` exactly where the total
-    /// would pass the limit, before anything grows: the bag is then unchanged. An insertion of 0 changes nothing and is never refused.
-    /// A value that is there takes no memory.
+    /// If the value is present, the stored instance stays, and the given one is dropped. An insertion of 0 changes nothing and can't fail.
     ///
-    /// A value that is absent takes no memory while there is room. Else it may be refused for memory: the bag is then unchanged, and
-    /// the value is dropped. It carries up to 16 slots of an older table along, and hashes each value in them once.
+    /// # Errors
+    ///
+    /// - `TooMany` exactly if the total would pass the limit. That is tested first.
+    /// - `Memory` if `n` isn't 0, the value is absent, there is no room, and an allocation fails.
+    ///
+    /// Then the bag is unchanged, and the value is dropped.
+    ///
+    /// # Complexity
+    ///
+    /// It hashes the value once. It allocates only if the value is absent and there is no room. If the value is absent, up to 16 slots of
+    /// an older table are carried, and each value in them is hashed once.
+    ///
+    /// # Examples
     ///
     /// ```
     /// let mut bag = HashBag::new(alloc);
@@ -319,11 +370,9 @@ impl<T: Eq + Hash + Drop, S: BuildHasher + Drop> HashBag<T, S> {
         ensures before { IfOk result (λ before. before ≡ count T.eq value self.old.items) }
         ensures inserted { OnOk result (Inserts T.eq value n self.old self.new) }
 
-        // The total is tested first; then only memory can be refused, and only to some occurrences of a value that is absent where
-        // there is no room.
-        ensures too_many { self.old.most < length self.old.items + n → result ≡ Err BagError.TooMany }
-        ensures refused { IfErr result (Refuses T.eq self.old.most self.old.items value n) }
-        ensures memory { length self.old.items + n ≤ self.old.most → OnErr result (result ≡ Err BagError.Memory) }
+        // The total is tested first. Then only an allocation can fail, and only if n isn't 0, the value is absent and there is no room.
+        ensures too_many { (result ≡ Err BagError.TooMany) ↔ (self.old.most < length self.old.items + n) }
+        ensures refused { IfErr result (IsRefused T.eq self.old value n) }
         ensures err { OnErr result (self.new ≡ self.old) }
         ensures takes { length self.old.items + n ≤ self.old.most → 0 < room self.old.tables → IsOk result }
         ensures present { length self.old.items + n ≤ self.old.most → 0 < count T.eq value self.old.items → IsOk result }
@@ -337,19 +386,27 @@ impl<T: Eq + Hash + Drop, S: BuildHasher + Drop> HashBag<T, S> {
         }
         let before = self.table.add(value, n)?;
         self.len += n;
-        // `held` is called for its clause on what the slots hold, which the proof cites.
+        // `held` is called for its clause on what the slots hold, which the proof names.
         self.table.held();
         Ok(before)
     }
 
-    /// Stores a value with the count 1 in the place of all occurrences that equal it, and answers how many there were. The
-    /// instance that was stored is dropped.
+    /// Replaces all occurrences of a value by the given instance, with the count 1, and returns the count before. The instance that was
+    /// stored is dropped.
     ///
-    /// It answers `TooMany` exactly where the total would pass the limit, before anything grows: the bag is then unchanged. The value
-    /// is hashed once, and twice where the total is at the limit. One that is there takes no memory and is never refused.
+    /// # Errors
     ///
-    /// A value that is absent takes no memory while there is room. Else it may be refused for memory: the bag is then unchanged, and
-    /// the value is dropped. It carries up to 16 slots of an older table along, and hashes each value in them once.
+    /// - `TooMany` exactly if the total would pass the limit. That is tested first, and can't be if the value is present.
+    /// - `Memory` if the value is absent, there is no room, and an allocation fails.
+    ///
+    /// Then the bag is unchanged, and the value is dropped.
+    ///
+    /// # Complexity
+    ///
+    /// It hashes the value once, and twice if the total is at the limit. It allocates only if the value is absent and there is no room. If
+    /// the value is absent, up to 16 slots of an older table are carried, and each value in them is hashed once.
+    ///
+    /// # Examples
     ///
     /// ```
     /// let mut bag = HashBag::new(alloc);
@@ -360,22 +417,14 @@ impl<T: Eq + Hash + Drop, S: BuildHasher + Drop> HashBag<T, S> {
     /// ```
     pub fn replace(&mut self, value: T) -> Result<usize, BagError>
         ensures before { IfOk result (λ before. before ≡ count T.eq value self.old.items) }
-        ensures put { OnOk result (IsBagOf T.eq self.old (put T.eq value 1 self.old.items) self.new) }
-        ensures len { IfOk result (λ before. length self.new.items + before ≡ length self.old.items + 1) }
-        ensures new_set { OnOk result (count T.eq value self.old.items ≡ 0 → HasOneValueMore T.eq self.old self.new) }
+        ensures replaced { OnOk result (Replaces T.eq value self.old self.new) }
 
-        // The total is tested first; then only memory can be refused, and only where there is no room; to a value that is there nothing.
-        ensures too_many { self.old.most < length self.old.items - count T.eq value self.old.items + 1 → result ≡ Err BagError.TooMany }
-        ensures refused { IfErr result (Refuses T.eq self.old.most self.old.items value 1) }
+        // The total is tested first. Then only an allocation can fail, and only if the value is absent and there is no room.
+        ensures too_many { (result ≡ Err BagError.TooMany) ↔ (self.old.most < length self.old.items - count T.eq value self.old.items + 1) }
+        ensures refused { IfErr result (IsRefused T.eq self.old value 1) }
         ensures absent { OnErr result (count T.eq value self.old.items ≡ 0) }
         ensures err { OnErr result (self.new ≡ self.old) }
         ensures takes { length self.old.items - count T.eq value self.old.items + 1 ≤ self.old.most → 0 < room self.old.tables → IsOk result }
-
-        // What becomes of the slots: a value that is there is replaced in its own.
-        ensures arrives { OnOk result (count T.eq value self.old.items ≡ 0 → Arrives self.old.tables self.new.tables) }
-        ensures slot { OnOk result (0 < count T.eq value self.old.items → Restores T.eq value self.old.tables self.new.tables) }
-        ensures room { OnOk result (0 < room self.old.tables → KeepsRoom 1 self.old.tables self.new.tables) }
-        ensures same_room { IfOk result (λ before. 0 < before → KeepsRoom 0 self.old.tables self.new.tables) }
     {
         if self.len == self.most && self.contains(&value) == 0 {
             return Err(BagError::TooMany);
@@ -385,7 +434,13 @@ impl<T: Eq + Hash + Drop, S: BuildHasher + Drop> HashBag<T, S> {
         Ok(before)
     }
 
-    /// Takes all occurrences out. It takes no memory: the newer table keeps its slots, all of them Empty, and an older one is freed.
+    /// Removes all occurrences. The newer table keeps its slots, all of them Empty, and an older one is freed.
+    ///
+    /// # Complexity
+    ///
+    /// It doesn't allocate and hashes nothing.
+    ///
+    /// # Examples
     ///
     /// ```
     /// let mut bag = HashBag::new(alloc);
@@ -406,10 +461,14 @@ impl<T: Eq + Hash + Drop, S: BuildHasher + Drop> HashBag<T, S> {
         self.len = 0;
     }
 
-    /// Asks `f` once for each distinct value, with its count, in an open order, how many of it are to stay. The value keeps the
-    /// lesser of its count and the answer, and goes with its stored instance where that is 0.
+    /// Calls `f` once for each distinct value, with its count, in no particular order, and keeps of the value the lesser of its count and
+    /// what `f` returns. If that is 0 the value is removed, and its stored instance is dropped.
     ///
-    /// It takes no memory and hashes nothing.
+    /// # Complexity
+    ///
+    /// It doesn't allocate and hashes nothing.
+    ///
+    /// # Examples
     ///
     /// ```
     /// let mut bag = HashBag::new(alloc);
@@ -431,7 +490,7 @@ impl<T: Eq + Hash + Drop, S: BuildHasher + Drop> HashBag<T, S> {
         self.len = self.table.retain(f);
     }
 
-    // Adds occurrences of a value if the total can have them.
+    // Inserts occurrences of a value, if the total can have them.
     pub(crate) fn insert_within(&mut self, value: T, n: usize) -> Result<(), BagError>
         ensures inserted { OnOk result (Inserts T.eq value n self.old self.new) }
         ensures refused { IfErr result (IsRefused T.eq self.old value n) }
@@ -441,26 +500,24 @@ impl<T: Eq + Hash + Drop, S: BuildHasher + Drop> HashBag<T, S> {
         Ok(())
     }
 
-    // Puts in some occurrences of a value that is absent.
+    // Inserts one or more occurrences of an absent value.
     pub(crate) fn insert_new(&mut self, value: T, quantity: usize) -> Result<(), BagError>
         requires absent { count T.eq value self.old.items ≡ 0 }
         requires some { 0 < quantity }
         requires fits { length self.old.items + quantity ≤ self.old.most }
-        ensures added { OnOk result (IsBagOf T.eq self.old (add T.eq value quantity self.old.items) self.new) }
-        ensures len { OnOk result (length self.new.items ≡ length self.old.items + quantity) }
-        ensures new_set { OnOk result (HasOneValueMore T.eq self.old self.new) }
-        ensures memory { OnErr result (result ≡ Err BagError.Memory) }
+        ensures inserted { OnOk result (Inserts T.eq value quantity self.old self.new) }
+        ensures memory { IfErr result (λ e. e ≡ BagError.Memory) }
         ensures err { OnErr result (self.new ≡ self.old) }
         ensures takes { 0 < room self.old.tables → IsOk result }
-        ensures arrives { OnOk result (Arrives self.old.tables self.new.tables) }
-        ensures room { OnOk result (0 < room self.old.tables → KeepsRoom 1 self.old.tables self.new.tables) }
     {
         self.table.insert_new(value, quantity)?;
         self.len += quantity;
+        // `held` is called for its clause on what the slots hold, which the proof cites.
+        self.table.held();
         Ok(())
     }
 
-    // Gives a value that is there, as often as `before`, another count, and takes it out where that is 0.
+    // Sets the count of a present value, whose count is `before`, or removes it if the new count is 0.
     pub(crate) fn set_count(&mut self, value: &T, before: usize, n: usize)
         requires before { before ≡ count T.eq value.now self.old.items }
         requires present { 0 < before }

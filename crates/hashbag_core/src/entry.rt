@@ -1,19 +1,18 @@
 //! `Entry`: the place of a value in a bag.
-ghost use Rattle.std.specs.Prelude.{◌≡◌, ◌+◌, ◌<◌, ◌≤◌, ℕ, length, IsOk, IfOk, IfErr, OnOk, OnErr};
-ghost use Rattle.hashbag_table.specs.Tables.{room, Arrives, KeepsRoom};
+ghost use Rattle.std.specs.Prelude.{◌≡◌, ◌+◌, ◌<◌, ◌≤◌, ◌↔◌, ℕ, length, IsOk, IfOk, IfErr, OnErr};
+ghost use Rattle.hashbag_table.specs.Tables.{room, KeepsRoom};
 ghost use Rattle.hashbag_core.specs.Held.{RecountsAs};
 ghost use Rattle.std.specs.Borrow.{sem, MutBor};
-ghost use Rattle.hashbag_core.specs.Bag.{HasOneValueMore};
-ghost use Rattle.hashbag_core.specs.Extends.{Refuses};
+ghost use Rattle.hashbag_core.specs.Inserts.{Inserts, IsRefused};
 ghost use Rattle.hashbag_core.specs.Occurrences.{count, instance_or_itself};
 
 use crate::bag::{BagError, FixedState, HashBag};
 use std::fmt::{self, Debug, Formatter, Write};
 use std::hash::{BuildHasher, Hash};
 
-/// The place of a value in a bag: a borrow of the bag, and the value that was handed in.
+/// The place of a value in a bag: a borrow of the bag, and the given value.
 ///
-/// It is occupied where the bag has the value, and else vacant. An entry that is dropped changes nothing.
+/// It is occupied if the bag has the value, and else vacant. An entry that is dropped changes nothing.
 pub struct Entry<'a, T: Eq + Hash + Drop, S: BuildHasher + Drop = FixedState> {
     bag: &'a mut HashBag<T, S>,
     value: T,
@@ -29,7 +28,9 @@ impl<'a, T: Eq + Hash + Drop, S: BuildHasher + Drop> Drop for Entry<'a, T, S> {
 }
 
 impl<T: Eq + Hash + Drop, S: BuildHasher + Drop> HashBag<T, S> {
-    /// The place of a value in the bag. It takes no memory, and looks nothing up.
+    /// Returns the place of a value in the bag. It doesn't allocate, and looks nothing up.
+    ///
+    /// # Examples
     ///
     /// ```
     /// let mut bag = HashBag::new(alloc);
@@ -48,11 +49,16 @@ impl<T: Eq + Hash + Drop, S: BuildHasher + Drop> HashBag<T, S> {
 }
 
 impl<'a, T: Eq + Hash + Drop, S: BuildHasher + Drop> Entry<'a, T, S> {
-    ghost use Rattle.hashbag_core.specs.EntryCalls.{entry_count, IsOccupied, IsVacant, PutsIn, KeepsOthers, ChangesCount, PassesEnd};
+    ghost use Rattle.hashbag_core.specs.EntryCalls.{entry_count, IsOccupied, IsVacant, KeepsOthers, ChangesCount, PassesEnd};
     ghost use Rattle.hashbag_core.specs.Lending.{rests_if_refused};
 
-    /// The stored instance where the entry is occupied, else the value that was handed in. It takes no memory, and hashes the
-    /// value once.
+    /// Returns the stored instance if the entry is occupied, else the given value.
+    ///
+    /// # Complexity
+    ///
+    /// It hashes the value once and doesn't allocate.
+    ///
+    /// # Examples
     ///
     /// ```
     /// let mut bag = HashBag::new(alloc);
@@ -69,12 +75,20 @@ impl<'a, T: Eq + Hash + Drop, S: BuildHasher + Drop> Entry<'a, T, S> {
         }
     }
 
-    /// Runs `f` on a copy of the count, and makes the number that it leaves the count. On a vacant entry `f` isn't called.
+    /// Calls `f` on a copy of the count, and sets the count to the number that it leaves. On a vacant entry `f` isn't called.
     ///
-    /// Where `f` leaves 0, the value is taken out, its stored instance is dropped, and the entry is vacant with the value
-    /// handed in. The old count leaves the total before the new one comes, so `TooMany` is answered exactly where the new
-    /// total passes the bag's limit: the bag is then as before the call, and the entry is gone. It takes no memory, and hashes the value
-    /// twice where the count is set, and else once.
+    /// If `f` leaves 0, the value is removed, its stored instance is dropped, and the entry is vacant with the given value.
+    ///
+    /// # Errors
+    ///
+    /// `TooMany` exactly if the new total would pass the bag's limit; the old count is subtracted first. The bag is then unchanged, and the
+    /// entry is dropped with its value.
+    ///
+    /// # Complexity
+    ///
+    /// It hashes the value twice if the count is set, and else once. It doesn't allocate.
+    ///
+    /// # Examples
     ///
     /// ```
     /// let mut bag = HashBag::new(alloc);
@@ -85,12 +99,12 @@ impl<'a, T: Eq + Hash + Drop, S: BuildHasher + Drop> Entry<'a, T, S> {
     /// Ok(())
     /// ```
     pub fn and_modify<F: FnOnce(&mut usize) + Drop>(self, f: F) -> Result<Entry<'a, T, S>, BagError>
+        // Nine clauses, since the entry that comes back is a loan: three say which one it is, and what the bag is if there is none.
         requires { (p : MutBor ℕ) → p.now ≡ count T.eq self.value self.bag.now.items → 0 < p.now → F.pre f p }
         ensures same_bag { IfOk result (λ e. e.bag.ghost_name ≡ self.entry.bag.ghost_name) }
         ensures same_value { IfOk result (λ e. e.value ≡ self.entry.value) }
         ensures changes { IfOk result (λ e. ChangesCount T.eq F.FnOnce f self.entry.value self.entry.bag.now e.bag.now) }
-        ensures too_many { OnErr result (result ≡ Err BagError.TooMany) }
-        ensures passes { OnErr result (PassesEnd T.eq F.FnOnce f self.entry.value self.entry.bag.now) }
+        ensures passes { IfErr result (λ e. (e ≡ BagError.TooMany) × PassesEnd T.eq F.FnOnce f self.entry.value self.entry.bag.now) }
         ensures len { IfOk result (λ e. KeepsOthers T.eq self.entry.value self.entry.bag.now e.bag.now) }
         ensures slot { IfOk result (λ e. IsOccupied T.eq self.entry → RecountsAs T.eq self.entry.value self.entry.bag.now e.bag.now) }
         ensures room { IfOk result (λ e. KeepsRoom 0 self.entry.bag.now.tables e.bag.now.tables) }
@@ -111,7 +125,16 @@ impl<'a, T: Eq + Hash + Drop, S: BuildHasher + Drop> Entry<'a, T, S> {
         Ok(Entry { bag, value })
     }
 
-    /// Puts in the value handed in, once, where the entry is vacant: [`Entry::or_insert_many`] with 1.
+    /// Inserts the given value once if the entry is vacant, and returns the count after: [`Entry::or_insert_many`] with 1.
+    ///
+    /// # Errors
+    ///
+    /// - `TooMany` if the entry is vacant and the total would pass the bag's limit. That is tested first.
+    /// - `Memory` if the entry is vacant, there is no room, and an allocation fails.
+    ///
+    /// Then the bag is unchanged, and the value is dropped.
+    ///
+    /// # Examples
     ///
     /// ```
     /// let mut bag = HashBag::new(alloc);
@@ -122,26 +145,32 @@ impl<'a, T: Eq + Hash + Drop, S: BuildHasher + Drop> Entry<'a, T, S> {
     /// ```
     pub fn or_insert(self) -> Result<usize, BagError>
         ensures occupied { IsOccupied T.eq self.entry → (result ≡ Ok (entry_count T.eq self.entry)) × (self.exit.0.now ≡ self.entry.bag.now) }
-        ensures vacant { IsVacant T.eq self.entry → IfOk result (λ after. (after ≡ 1) × PutsIn T.eq self.entry 1 self.exit.0.now) }
-        ensures len { IfOk result (λ after. length self.exit.0.now.items + entry_count T.eq self.entry ≡ length self.entry.bag.now.items + after) }
-        ensures new_set { OnOk result (IsVacant T.eq self.entry → HasOneValueMore T.eq self.entry.bag.now self.exit.0.now) }
-        ensures too_many { result ≡ Err BagError.TooMany → self.entry.bag.now.most < length self.entry.bag.now.items + 1 }
-        ensures memory { result ≡ Err BagError.Memory → length self.entry.bag.now.items + 1 ≤ self.entry.bag.now.most }
-        ensures refused { IfErr result (Refuses T.eq self.entry.bag.now.most self.entry.bag.now.items self.entry.value 1) }
+        ensures vacant { IsVacant T.eq self.entry → IfOk result (λ after. (after ≡ 1) × Inserts T.eq self.entry.value 1 self.entry.bag.now self.exit.0.now) }
+        ensures too_many { (result ≡ Err BagError.TooMany) ↔ (IsVacant T.eq self.entry × (self.entry.bag.now.most < length self.entry.bag.now.items + 1)) }
+        ensures refused { IfErr result (IsRefused T.eq self.entry.bag.now self.entry.value 1) }
         ensures err { OnErr result (self.exit.0.now ≡ self.entry.bag.now) }
         ensures takes { length self.entry.bag.now.items + 1 ≤ self.entry.bag.now.most → 0 < room self.entry.bag.now.tables → IsOk result }
-        ensures arrives { OnOk result (IsVacant T.eq self.entry → Arrives self.entry.bag.now.tables self.exit.0.now.tables) }
-        ensures room { OnOk result (0 < room self.entry.bag.now.tables → KeepsRoom 1 self.entry.bag.now.tables self.exit.0.now.tables) }
     {
         self.or_insert_many(1)
     }
 
-    /// Puts in `quantity` occurrences of the value handed in where the entry is vacant, and answers the count after.
+    /// Inserts `quantity` occurrences of the given value if the entry is vacant, and returns the count after.
     ///
-    /// Where the entry is occupied, it answers the count that is there, ignores `quantity`, drops the value handed in and is
-    /// never refused. A `quantity` of 0 adds nothing, and is never refused either. Else `TooMany` is answered where the total
-    /// would pass the bag's limit, and only then memory is asked for where there is no room, which may be refused: the bag is then
-    /// as before the call, the value is dropped and the entry is gone. It hashes the value twice where it goes in, and else once.
+    /// If the entry is occupied, nothing changes: it returns the present count, and the given value is dropped. A `quantity` of 0 adds
+    /// nothing. Neither can fail.
+    ///
+    /// # Errors
+    ///
+    /// - `TooMany` if the entry is vacant and the total would pass the bag's limit. That is tested first.
+    /// - `Memory` if the entry is vacant, there is no room, and an allocation fails.
+    ///
+    /// Then the bag is unchanged, and the value is dropped.
+    ///
+    /// # Complexity
+    ///
+    /// It hashes the value twice if it inserts it, and else once. It allocates only if it inserts the value and there is no room.
+    ///
+    /// # Examples
     ///
     /// ```
     /// let mut bag = HashBag::new(alloc);
@@ -151,18 +180,12 @@ impl<'a, T: Eq + Hash + Drop, S: BuildHasher + Drop> Entry<'a, T, S> {
     /// ```
     pub fn or_insert_many(self, quantity: usize) -> Result<usize, BagError>
         ensures occupied { IsOccupied T.eq self.entry → (result ≡ Ok (entry_count T.eq self.entry)) × (self.exit.0.now ≡ self.entry.bag.now) }
-        ensures vacant { IsVacant T.eq self.entry → IfOk result (λ after. (after ≡ quantity) × PutsIn T.eq self.entry quantity self.exit.0.now) }
-        ensures none { quantity ≡ 0 → IsOk result }
-        ensures len { IfOk result (λ after. length self.exit.0.now.items + entry_count T.eq self.entry ≡ length self.entry.bag.now.items + after) }
-        ensures new_set { OnOk result (0 < quantity → IsVacant T.eq self.entry → HasOneValueMore T.eq self.entry.bag.now self.exit.0.now) }
-        ensures too_many { result ≡ Err BagError.TooMany → self.entry.bag.now.most < length self.entry.bag.now.items + quantity }
-        ensures memory { result ≡ Err BagError.Memory → length self.entry.bag.now.items + quantity ≤ self.entry.bag.now.most }
-        ensures refused { IfErr result (Refuses T.eq self.entry.bag.now.most self.entry.bag.now.items self.entry.value quantity) }
+        ensures vacant { IsVacant T.eq self.entry → IfOk result (λ after. (after ≡ quantity) × Inserts T.eq self.entry.value quantity self.entry.bag.now self.exit.0.now) }
+        ensures none { quantity ≡ 0 → IsOk result × (self.exit.0.now ≡ self.entry.bag.now) }
+        ensures too_many { (result ≡ Err BagError.TooMany) ↔ (IsVacant T.eq self.entry × (self.entry.bag.now.most < length self.entry.bag.now.items + quantity)) }
+        ensures refused { IfErr result (IsRefused T.eq self.entry.bag.now self.entry.value quantity) }
         ensures err { OnErr result (self.exit.0.now ≡ self.entry.bag.now) }
-        ensures same { quantity ≡ 0 → self.exit.0.now ≡ self.entry.bag.now }
         ensures takes { length self.entry.bag.now.items + quantity ≤ self.entry.bag.now.most → 0 < room self.entry.bag.now.tables → IsOk result }
-        ensures arrives { OnOk result (0 < quantity → IsVacant T.eq self.entry → Arrives self.entry.bag.now.tables self.exit.0.now.tables) }
-        ensures room { OnOk result (0 < room self.entry.bag.now.tables → KeepsRoom 1 self.entry.bag.now.tables self.exit.0.now.tables) }
     {
         let Entry { bag, value } = self;
         let before = bag.contains(&value);
@@ -181,7 +204,9 @@ impl<'a, T: Eq + Hash + Drop, S: BuildHasher + Drop> Entry<'a, T, S> {
 }
 
 impl<'a, T: Eq + Hash + Drop + Debug, S: BuildHasher + Drop> Debug for Entry<'a, T, S> {
-    /// Writes the value that the entry gives and how often it occurs, as `Entry(5, 3)`.
+    /// Writes the value that the entry shows and its count, as `Entry(5, 3)`.
+    ///
+    /// # Examples
     ///
     /// ```
     /// let mut bag = HashBag::new(alloc);

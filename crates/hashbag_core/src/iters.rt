@@ -1,7 +1,7 @@
 //! Walks over a bag: what it holds, one after another.
 //!
-//! The order in which a walk comes to the values is open. Every walk knows how many items are still to come, and gives
-//! `None` for good after the last. It hashes nothing and takes no memory.
+//! A walk gives the values in no particular order. It knows how many items are left, and after the last one it gives `None` for good. It
+//! hashes nothing and doesn't allocate.
 ghost use Rattle.std.specs.Prelude.{◌≡◌, length, Some, IfSome, ⊤};
 ghost use Rattle.std.specs.Borrow.{sem};
 ghost use Rattle.std.specs.Iterator.{YieldsFirst, YieldsFirstBy, YieldsFirstRef, item_count, at_most, UpTo};
@@ -17,17 +17,17 @@ use std::hash::{BuildHasher, Hash};
 use std::iter::ExactSizeIterator;
 use std::marker::Model;
 
-/// The occurrences of a bag that is lent. A value comes once for each of its occurrences, as the stored instance, before
-/// the next value does.
+/// The occurrences of a bag that is lent: [`HashBag::iter`]. A value is given once for each of its occurrences, as the stored instance,
+/// before the next value is.
 ///
-/// Contracts see it as the list of the occurrences that are still to come.
+/// Contracts see it as the list of the occurrences that are left.
 #[derive(Drop)]
 pub struct Iter<'a, T> {
-    // The entries after the value that is being given.
+    // The entries after that of the present value.
     walk: Walk<'a, T>,
-    // The value that is being given, and how often it still comes.
+    // The present value, and how many of its occurrences are left.
     at: Option<(&'a T, usize)>,
-    // How many occurrences are still to come, of all values.
+    // How many occurrences are left, of all values.
     to_come: usize,
 }
 
@@ -47,7 +47,9 @@ impl<'a, T> Clone for Iter<'a, T> {
 
     ghost is_infallible = { λ _. ⊤ };
 
-    /// A walk that goes on from the same place. It takes no memory, and is never refused.
+    /// Returns a walk that goes on from the same place. It doesn't allocate and can't fail.
+    ///
+    /// # Examples
     ///
     /// ```
     /// let mut bag = HashBag::new(alloc);
@@ -104,15 +106,15 @@ impl<'a, T> ExactSizeIterator for Iter<'a, T> {
 }
 
 impl<'a, T: Debug> Debug for Iter<'a, T> {
-    /// Writes the occurrences that are still to come as a set of them, as `{5, 5, 5}`.
+    /// Writes the occurrences that are left as a set of them, as `{5, 5, 5}`.
     fn fmt<W: Write>(&self, f: &mut Formatter<W>) -> fmt::Result {
         f.debug_set().entries(self.clone().unwrap()).finish()
     }
 }
 
-/// The distinct values of a bag that is lent, each with its count.
+/// The distinct values of a bag that is lent, each with its count: [`HashBag::set_iter`].
 ///
-/// Contracts see it as the list of the values with their counts that are still to come.
+/// Contracts see it as the list of the values that are left, with their counts.
 #[derive(Drop)]
 pub struct SetIter<'a, T> {
     walk: Walk<'a, T>,
@@ -131,7 +133,9 @@ impl<'a, T> Clone for SetIter<'a, T> {
 
     ghost is_infallible = { λ _. ⊤ };
 
-    /// A walk that goes on from the same place. It takes no memory, and is never refused.
+    /// Returns a walk that goes on from the same place. It doesn't allocate and can't fail.
+    ///
+    /// # Examples
     ///
     /// ```
     /// let mut bag = HashBag::new(alloc);
@@ -176,16 +180,16 @@ impl<'a, T> ExactSizeIterator for SetIter<'a, T> {
 }
 
 impl<'a, T: Debug> Debug for SetIter<'a, T> {
-    /// Writes the values with their counts that are still to come as a set of pairs, as `{(5, 3)}`.
+    /// Writes the values that are left, with their counts, as a set of pairs, as `{(5, 3)}`.
     fn fmt<W: Write>(&self, f: &mut Formatter<W>) -> fmt::Result {
         f.debug_set().entries(self.clone().unwrap()).finish()
     }
 }
 
-/// The distinct values that were taken out of a bag, by value, each with its count. The bag is empty from the start, and
-/// those that are not taken are dropped with the walk.
+/// The distinct values that were removed from a bag, by value, each with its count: [`HashBag::drain`]. The bag is empty from the start,
+/// and values that aren't read are dropped with the walk.
 ///
-/// Contracts see the list of the values with their counts that are still to come as `drain_rest`.
+/// Contracts see the list of the values that are left, with their counts, as `drain_rest`.
 pub struct Drain<'a, T> {
     drained: DrainWalk<'a, T>,
 }
@@ -224,8 +228,10 @@ impl<'a, T: Drop> ExactSizeIterator for Drain<'a, T> {
 }
 
 impl<'a, T> Drain<'a, T> {
-    /// Walks over what is still to come, which it lends, and leaves this walk where it is. It takes no memory and hashes nothing,
-    /// here and at each step.
+    /// Returns a walk over what is left, which lends it, and leaves this walk where it is. It doesn't allocate and hashes nothing, here and
+    /// at each step.
+    ///
+    /// # Examples
     ///
     /// ```
     /// let mut bag = HashBag::new(alloc);
@@ -245,16 +251,15 @@ impl<'a, T> Drain<'a, T> {
 }
 
 impl<'a, T: Debug> Debug for Drain<'a, T> {
-    /// Writes the values with their counts that are still to come as a list of pairs, as `[(5, 3)]`.
+    /// Writes the values that are left, with their counts, as a list of pairs, as `[(5, 3)]`.
     fn fmt<W: Write>(&self, f: &mut Formatter<W>) -> fmt::Result {
         f.debug_list().entries(self.rest()).finish()
     }
 }
 
-/// The distinct values of a bag that is gone, by value, each with its count. Those that are not taken are dropped with the
-/// walk.
+/// The distinct values of a bag that was used up, by value, each with its count. Values that aren't read are dropped with the walk.
 ///
-/// Contracts see it as the list of the values with their counts that are still to come.
+/// Contracts see it as the list of the values that are left, with their counts.
 pub struct IntoIter<T> {
     owned: IntoWalk<T>,
 }
@@ -301,8 +306,10 @@ impl<T: Drop> ExactSizeIterator for IntoIter<T> {
 }
 
 impl<T> IntoIter<T> {
-    /// Walks over what is still to come, which it lends, and leaves this walk where it is. It takes no memory and hashes nothing,
-    /// here and at each step.
+    /// Returns a walk over what is left, which lends it, and leaves this walk where it is. It doesn't allocate and hashes nothing, here and
+    /// at each step.
+    ///
+    /// # Examples
     ///
     /// ```
     /// let mut bag = HashBag::new(alloc);
@@ -322,17 +329,21 @@ impl<T> IntoIter<T> {
 }
 
 impl<T: Debug> Debug for IntoIter<T> {
-    /// Writes the values with their counts that are still to come as a list of pairs, as `[(5, 3)]`.
+    /// Writes the values that are left, with their counts, as a list of pairs, as `[(5, 3)]`.
     fn fmt<W: Write>(&self, f: &mut Formatter<W>) -> fmt::Result {
         f.debug_list().entries(self.rest()).finish()
     }
 }
 
 impl<T: Eq + Hash + Drop, S: BuildHasher + Drop> HashBag<T, S> {
-    /// Walks over the occurrences, of which there are `len()`. A value comes once for each of its occurrences, as the stored
-    /// instance, before the next value does.
+    /// Walks over the occurrences, of which there are `len()`. A value is given once for each of its occurrences, as the stored instance,
+    /// before the next value is.
     ///
-    /// It takes no memory and hashes nothing, here and at each step.
+    /// # Complexity
+    ///
+    /// It doesn't allocate and hashes nothing, here and at each step.
+    ///
+    /// # Examples
     ///
     /// ```
     /// let mut bag = HashBag::new(alloc);
@@ -355,7 +366,11 @@ impl<T: Eq + Hash + Drop, S: BuildHasher + Drop> HashBag<T, S> {
 
     /// Walks over the distinct values: each stored instance once, with its count. The counts add up to `len()`.
     ///
-    /// It takes no memory and hashes nothing, here and at each step.
+    /// # Complexity
+    ///
+    /// It doesn't allocate and hashes nothing, here and at each step.
+    ///
+    /// # Examples
     ///
     /// ```
     /// let mut bag = HashBag::new(alloc);
@@ -375,10 +390,16 @@ impl<T: Eq + Hash + Drop, S: BuildHasher + Drop> HashBag<T, S> {
         }
     }
 
-    /// Takes everything out, and walks over the distinct values: each stored instance once, by value, with its count.
+    /// Removes everything, and walks over the distinct values: each stored instance once, by value, with its count.
     ///
-    /// The bag is empty at once and keeps its state, however many values are taken. The others are dropped with the walk.
-    /// The bag has no slots then. It takes no memory and hashes nothing, here and at each step.
+    /// The bag is empty at once, has no slots, and keeps its state, however many values are read. The unread ones are dropped with the
+    /// walk.
+    ///
+    /// # Complexity
+    ///
+    /// It doesn't allocate and hashes nothing, here and at each step.
+    ///
+    /// # Examples
     ///
     /// ```
     /// let mut bag = HashBag::new(alloc);
@@ -408,6 +429,8 @@ impl<'a, T: Eq + Hash + Drop, S: BuildHasher + Drop> IntoIterator for &'a HashBa
 
     /// Walks over the occurrences, as [`HashBag::iter`] does.
     ///
+    /// # Examples
+    ///
     /// ```
     /// let mut bag = HashBag::new(alloc);
     /// bag.insert_many("apple", 2)?;
@@ -430,9 +453,14 @@ impl<T: Eq + Hash + Drop, S: BuildHasher + Drop> IntoIterator for HashBag<T, S> 
 
     ghost into_iter_gives = { λ bag r. IsSetWalkOf T.eq bag r };
 
-    /// Makes a walk of the bag over its distinct values: each stored instance once, by value, with its count.
+    /// Turns the bag into a walk over its distinct values: each stored instance once, by value, with its count. Unread values are dropped
+    /// with the walk.
     ///
-    /// Values that are not taken are dropped with the walk. It takes no memory and hashes nothing, here and at each step.
+    /// # Complexity
+    ///
+    /// It doesn't allocate and hashes nothing, here and at each step.
+    ///
+    /// # Examples
     ///
     /// ```
     /// let mut first = HashBag::new(alloc);
@@ -454,6 +482,8 @@ impl<T: Eq + Hash + Drop, S: BuildHasher + Drop> IntoIterator for HashBag<T, S> 
 
 impl<T: Eq + Hash + Drop + Debug, S: BuildHasher + Drop> Debug for HashBag<T, S> {
     /// Writes the occurrences as a set of them, as `{5, 5, 5}`.
+    ///
+    /// # Examples
     ///
     /// ```
     /// let mut bag = HashBag::new(alloc);

@@ -1,9 +1,8 @@
 //! Joins of two bags of the same type of values: what each value's counts in the two are, and how they differ.
 //!
-//! The states that hash the values of the two bags may be of different types: a join looks a value up in a bag under that
-//! bag's own state. The order in which a join comes to the values is open, but for an outer join's two parts. A join hashes
-//! each value once, to look it up in the bag that it doesn't come from, and takes no memory. After its end it gives `None`
-//! for good.
+//! The states that hash the values of the two bags may be of different types: a join looks a value up in a bag under that bag's own state.
+//! A join gives the values in no particular order, but an outer join gives those of the first bag first. It hashes each value once, to look
+//! it up in the other bag, and doesn't allocate. After its end it gives `None` for good.
 ghost use Rattle.std.specs.Prelude.{◌≡◌, List, pos, ◌-ℤ◌, length, IfSome};
 ghost use Rattle.std.specs.Iterator.{YieldsFirstBy, item_count, at_most, UpTo};
 ghost use Rattle.std.specs.Iterator.SizeHint.{IsWithinCount};
@@ -18,7 +17,7 @@ use std::marker::{Model, PhantomData};
 
 /// The values that one bag has more often than another, each with the excess: [`HashBag::difference`].
 ///
-/// Contracts see it as the list of what is still to come.
+/// Contracts see it as the list of what is left.
 #[derive(Drop)]
 pub struct Difference<'a, T: Eq + Hash + Drop, S: BuildHasher + Drop, S2: BuildHasher + Drop> {
     // The values that weren't looked up yet.
@@ -56,7 +55,7 @@ impl<'a, T: Eq + Hash + Drop, S: BuildHasher + Drop, S2: BuildHasher + Drop> Ite
         None
     }
 
-    /// At least 0, and at most the number of values that weren't looked up yet.
+    /// Returns 0 and the number of values that weren't looked up yet.
     fn size_hint(&self) -> (usize, Option<usize>)
         ensures lower { IsWithinCount result.0 (at_most (length self.now)) }
         ensures upper { IfSome result.1 (UpTo (at_most (length self.now))) }
@@ -67,7 +66,7 @@ impl<'a, T: Eq + Hash + Drop, S: BuildHasher + Drop, S2: BuildHasher + Drop> Ite
 
 /// The values of one bag that another lacks, each with its count: [`HashBag::not_in`].
 ///
-/// Contracts see it as the list of what is still to come.
+/// Contracts see it as the list of what is left.
 #[derive(Drop)]
 pub struct NotIn<'a, T: Eq + Hash + Drop, S: BuildHasher + Drop, S2: BuildHasher + Drop> {
     // The values that weren't looked up yet.
@@ -105,7 +104,7 @@ impl<'a, T: Eq + Hash + Drop, S: BuildHasher + Drop, S2: BuildHasher + Drop> Ite
         None
     }
 
-    /// At least 0, and at most the number of values that weren't looked up yet.
+    /// Returns 0 and the number of values that weren't looked up yet.
     fn size_hint(&self) -> (usize, Option<usize>)
         ensures lower { IsWithinCount result.0 (at_most (length self.now)) }
         ensures upper { IfSome result.1 (UpTo (at_most (length self.now))) }
@@ -114,15 +113,15 @@ impl<'a, T: Eq + Hash + Drop, S: BuildHasher + Drop, S2: BuildHasher + Drop> Ite
     }
 }
 
-/// The values of two bags, each with its count in either, those of the first bag first: [`HashBag::outer_join`].
+/// The values of two bags, each with both counts, those of the first bag first: [`HashBag::outer_join`].
 ///
-/// Contracts see it as the list of what is still to come.
+/// Contracts see it as the list of what is left.
 #[derive(Drop)]
 pub struct OuterJoin<'a, T: Eq + Hash + Drop, S: BuildHasher + Drop, S2: BuildHasher + Drop> {
     // The values of the first bag.
     first: SetIter<'a, T>,
     other: &'a HashBag<T, S2>,
-    // Those of the second bag that the first lacks.
+    // The values of the second bag that the first lacks.
     second: NotIn<'a, T, S2, S>,
 }
 
@@ -153,8 +152,7 @@ impl<'a, T: Eq + Hash + Drop, S: BuildHasher + Drop, S2: BuildHasher + Drop> Ite
         Some((value, 0, count))
     }
 
-    /// At least the number of values of the first bag that weren't looked up yet, and at most this and that of the second
-    /// bag together.
+    /// Returns the number of values of the first bag that weren't looked up yet, and the sum of it and of that of the second bag.
     fn size_hint(&self) -> (usize, Option<usize>)
         ensures lower { IsWithinCount result.0 (at_most (length self.now)) }
         ensures upper { IfSome result.1 (UpTo (at_most (length self.now))) }
@@ -168,9 +166,9 @@ impl<'a, T: Eq + Hash + Drop, S: BuildHasher + Drop, S2: BuildHasher + Drop> Ite
     }
 }
 
-/// The values of two bags, each with its count in the first less that in the second: [`HashBag::signed_difference`].
+/// The values of two bags, each with its count in the first less its count in the second: [`HashBag::signed_difference`].
 ///
-/// Contracts see it as the list of what is still to come.
+/// Contracts see it as the list of what is left.
 #[derive(Drop)]
 pub struct SignedDifference<
     'a,
@@ -191,8 +189,10 @@ impl<'a, T: Eq + Hash + Drop, S: BuildHasher + Drop, S2: BuildHasher + Drop> Mod
     ghost view = { λ a. subtracted a.counts };
 }
 
-/// The first count less the second, or where that is no `isize` the end that is nearer: what [`HashBag::signed_difference`] puts
-/// beside a value.
+/// Returns the first count less the second: `isize::MAX` if the difference is above that, and `isize::MIN` if it is below that. It is the
+/// number that [`HashBag::signed_difference`] gives with a value.
+///
+/// # Examples
 ///
 /// ```
 /// joins::limited_difference(2, 5) // -3
@@ -231,7 +231,7 @@ impl<'a, T: Eq + Hash + Drop, S: BuildHasher + Drop, S2: BuildHasher + Drop> Ite
         Some((value, limited_difference(first, second)))
     }
 
-    /// As that of the outer join.
+    /// Returns the bounds of the outer join.
     fn size_hint(&self) -> (usize, Option<usize>)
         ensures lower { IsWithinCount result.0 (at_most (length self.now)) }
         ensures upper { IfSome result.1 (UpTo (at_most (length self.now))) }
@@ -241,10 +241,15 @@ impl<'a, T: Eq + Hash + Drop, S: BuildHasher + Drop, S2: BuildHasher + Drop> Ite
 }
 
 impl<T: Eq + Hash + Drop, S: BuildHasher + Drop> HashBag<T, S> {
-    /// Every value that either bag has, once, with its count in this bag and its count in the other.
+    /// Gives every value that either bag has, once, with its count in this bag and its count in the other.
     ///
-    /// All values of this bag come first, as this bag's instances; then those that the other bag alone has, as its instances.
-    /// It takes no memory; each step hashes the values that it looks up, each of them once.
+    /// All values of this bag are given first, as this bag's instances; then those that the other bag alone has, as its instances.
+    ///
+    /// # Complexity
+    ///
+    /// It doesn't allocate. Each step hashes the values that it looks up, each of them once.
+    ///
+    /// # Examples
     ///
     /// ```
     /// let mut ordered = HashBag::new(alloc);
@@ -269,9 +274,13 @@ impl<T: Eq + Hash + Drop, S: BuildHasher + Drop> HashBag<T, S> {
         }
     }
 
-    /// The values that this bag has more often than the other, each once, as this bag's instance, with how many more.
+    /// Gives the values that this bag has more often than the other, each once, as this bag's instance, with how many more.
     ///
-    /// It takes no memory; each step hashes the values that it looks up, each of them once.
+    /// # Complexity
+    ///
+    /// It doesn't allocate. Each step hashes the values that it looks up, each of them once.
+    ///
+    /// # Examples
     ///
     /// ```
     /// let mut ordered = HashBag::new(alloc);
@@ -296,10 +305,14 @@ impl<T: Eq + Hash + Drop, S: BuildHasher + Drop> HashBag<T, S> {
         }
     }
 
-    /// Every value that either bag has, once, with its count in this bag less its count in the other, in the order of
-    /// [`HashBag::outer_join`]. A difference above `isize::MAX` is given as that, and one below `isize::MIN` as that.
+    /// Gives every value that either bag has, once, with its count in this bag less its count in the other. The order is that of
+    /// [`HashBag::outer_join`]. A difference above `isize::MAX` or below `isize::MIN` is given as the bound that it passes.
     ///
-    /// It takes no memory; each step hashes the values that it looks up, each of them once.
+    /// # Complexity
+    ///
+    /// It doesn't allocate. Each step hashes the values that it looks up, each of them once.
+    ///
+    /// # Examples
     ///
     /// ```
     /// let mut ordered = HashBag::new(alloc);
@@ -320,9 +333,13 @@ impl<T: Eq + Hash + Drop, S: BuildHasher + Drop> HashBag<T, S> {
         }
     }
 
-    /// The values of this bag that the other lacks, each once, as this bag's instance, with its count.
+    /// Gives the values of this bag that the other lacks, each once, as this bag's instance, with its count.
     ///
-    /// It takes no memory; each step hashes the values that it looks up, each of them once.
+    /// # Complexity
+    ///
+    /// It doesn't allocate. Each step hashes the values that it looks up, each of them once.
+    ///
+    /// # Examples
     ///
     /// ```
     /// let mut ordered = HashBag::new(alloc);

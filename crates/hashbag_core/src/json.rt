@@ -1,4 +1,4 @@
-//! Bags as JSON trees: an array of pairs, each of an item and its count, and beside it the limit where one was set.
+//! Bags as JSON trees: an array of pairs of an item and its count, within an object with the limit if that isn't `usize::MAX`.
 ghost use Rattle.std.specs.Prelude.{◌≡◌, ◌≢◌, ◌↔◌, ℕ, List, length, map, min, All, Bool, true, false, None, Some, option_map, IfOk, OnOk, IfErr};
 ghost use Rattle.std.specs.List.{AllZip};
 ghost use Rattle.std.specs.List.Sorted.{IsStrictlySortedBy};
@@ -22,26 +22,28 @@ use std::alloc::{AllocError, Global};
 use std::hash::{BuildHasher, Hash};
 use thiserror::Error;
 
-/// Why a tree was not read as an item.
+/// Why a tree can't be read as an item.
 #[derive(Clone, Copy, Debug, PartialEq, Eq, Error)]
 pub enum ItemError {
-    /// The tree is no item's.
+    /// The tree isn't that of an item.
     #[error("not an item")]
     NotAnItem,
-    /// Memory was refused.
+    /// An allocation failed.
     #[error("no memory")]
     Memory,
 }
 
 impl ItemError {
-    /// The number by which programs report the error: 11 for `NotAnItem`, 12 for `Memory`.
+    /// Returns the number by which programs report the error: 11 for `NotAnItem`, 12 for `Memory`.
+    ///
+    /// # Examples
     ///
     /// ```
     /// ItemError::NotAnItem.number() // 11
     /// ```
     pub fn number(&self) -> u8
-        ensures not_an_item { self.now ≡ ItemError.NotAnItem → result ≡ 11 }
-        ensures memory { self.now ≡ ItemError.Memory → result ≡ 12 }
+        ensures number_of_not_an_item { self.now ≡ ItemError.NotAnItem → result ≡ 11 }
+        ensures number_of_memory { self.now ≡ ItemError.Memory → result ≡ 12 }
     {
         match self {
             ItemError::NotAnItem => 11,
@@ -60,7 +62,7 @@ impl From<AllocError> for ItemError {
     }
 }
 
-/// Why a tree was not read as a bag. Pairs are numbered from 0.
+/// Why a tree can't be read as a bag. Pairs are numbered from 0.
 #[derive(Clone, Copy, Debug, PartialEq, Eq, Error)]
 pub enum JsonError {
     /// The tree is no array and no object, or an object without a member `pairs` that is an array, or one with a member besides
@@ -70,37 +72,39 @@ pub enum JsonError {
     /// The pair is no array of exactly two.
     #[error("pair {0}: not a pair")]
     NotAPair(usize),
-    /// The second part of the pair is no whole number from 0 to `usize::MAX`. A float is none, 1.0 neither.
+    /// The second part of the pair is no whole number from 0 to `usize::MAX`. A float isn't one, not even 1.0.
     #[error("pair {0}: bad count")]
     BadCount(usize),
-    /// The first part of the pair is no item's tree.
+    /// The first part of the pair isn't the tree of an item.
     #[error("pair {0}: bad item")]
     BadItem(usize),
     /// The total would pass the limit with the pair.
     #[error("pair {0}: total past its end")]
     TooMany(usize),
-    /// Memory was refused.
+    /// An allocation failed.
     #[error("no memory")]
     Memory,
-    /// The member `limit` of an object is absent, or no whole number from 0 to `usize::MAX`. A float is none, 1.0 neither.
+    /// The member `limit` of an object is absent, or no whole number from 0 to `usize::MAX`. A float isn't one, not even 1.0.
     #[error("bad limit")]
     BadLimit,
 }
 
 impl JsonError {
-    /// The number by which programs report the error: 3 to 8 in the order of the names, and 10 for `BadLimit`.
+    /// Returns the number by which programs report the error: 3 to 8 in the order of the names, and 10 for `BadLimit`.
+    ///
+    /// # Examples
     ///
     /// ```
     /// JsonError::BadCount(0).number() // 5
     /// ```
     pub fn number(&self) -> u8
-        ensures not_an_array { self.now ≡ JsonError.NotAnArray → result ≡ 3 }
-        ensures not_a_pair { (i : ℕ) → self.now ≡ JsonError.NotAPair i → result ≡ 4 }
-        ensures bad_count { (i : ℕ) → self.now ≡ JsonError.BadCount i → result ≡ 5 }
-        ensures bad_item { (i : ℕ) → self.now ≡ JsonError.BadItem i → result ≡ 6 }
-        ensures too_many { (i : ℕ) → self.now ≡ JsonError.TooMany i → result ≡ 7 }
-        ensures memory { self.now ≡ JsonError.Memory → result ≡ 8 }
-        ensures bad_limit { self.now ≡ JsonError.BadLimit → result ≡ 10 }
+        ensures number_of_not_an_array { self.now ≡ JsonError.NotAnArray → result ≡ 3 }
+        ensures number_of_not_a_pair { (i : ℕ) → self.now ≡ JsonError.NotAPair i → result ≡ 4 }
+        ensures number_of_bad_count { (i : ℕ) → self.now ≡ JsonError.BadCount i → result ≡ 5 }
+        ensures number_of_bad_item { (i : ℕ) → self.now ≡ JsonError.BadItem i → result ≡ 6 }
+        ensures number_of_too_many { (i : ℕ) → self.now ≡ JsonError.TooMany i → result ≡ 7 }
+        ensures number_of_memory { self.now ≡ JsonError.Memory → result ≡ 8 }
+        ensures number_of_bad_limit { self.now ≡ JsonError.BadLimit → result ≡ 10 }
     {
         match self {
             JsonError::NotAnArray => 3,
@@ -116,8 +120,8 @@ impl JsonError {
 
 /// Values that are written as JSON trees and read back.
 ///
-/// An implementation says, for contracts alone, which values are items, which tree is an item's, which trees have an item, and
-/// when a tree is read as an item; and it proves that these agree with `==` and with one another.
+/// An implementation defines for contracts which values are items, which tree an item has, which trees have an item, and when a tree is
+/// read as an item. It proves that these agree with `==` and with one another.
 pub trait JsonItem: Eq + Sized {
     /// Holds of the values of the type.
     ghost is_item: { Self → Type 0 };
@@ -131,9 +135,13 @@ pub trait JsonItem: Eq + Sized {
     /// Holds of a tree and the item that it is read as.
     ghost reads: { Data → Self → Type 0 };
 
-    /// The tree of an item.
+    /// Returns the tree of an item.
     ///
-    /// It answers `Memory` where memory is refused, and no other error.
+    /// # Errors
+    ///
+    /// `Memory` if an allocation fails.
+    ///
+    /// # Examples
     ///
     /// ```
     /// 5u64.to_json(alloc)?.to_string(alloc)?; // 5
@@ -144,9 +152,13 @@ pub trait JsonItem: Eq + Sized {
         ensures tree { IfOk result (λ v. view v ≡ tree_of self.now) }
         ensures memory { IfErr result (λ e. e ≡ BagError.Memory) };
 
-    /// The item of a tree.
+    /// Returns the item of a tree.
     ///
-    /// It answers `NotAnItem` where the tree has none, whether or not there is memory, and `Memory` where memory is refused.
+    /// # Errors
+    ///
+    /// `NotAnItem` exactly if the tree has none, even if memory runs out. `Memory` if an allocation fails.
+    ///
+    /// # Examples
     ///
     /// ```
     /// let tree = Value::from_str(alloc, "5")?;
@@ -156,7 +168,7 @@ pub trait JsonItem: Eq + Sized {
     /// ```
     fn from_json(alloc: Global, v: &Value) -> Result<Self, ItemError>
         ensures item { IfOk result (λ x. is_item x × reads (view v.now) x) }
-        ensures none { (result ≡ Err ItemError.NotAnItem) ↔ (has_item (view v.now) ≡ false) };
+        ensures not_an_item { (result ≡ Err ItemError.NotAnItem) ↔ (has_item (view v.now) ≡ false) };
 
     /// A value that equals an item is an item.
     ghost equal_is_item: { (x y : Self) → is_item x → Self.eq x y ≡ true → is_item y };
@@ -170,20 +182,20 @@ pub trait JsonItem: Eq + Sized {
     /// A tree that is read as an item has one.
     ghost read_has_item: { (d : Data) (x : Self) → reads d x → has_item d ≡ true };
 
-    /// A tree that has an item is read as one. So no more than memory can keep `from_json` from an item there.
+    /// A tree that has an item is read as one. So `from_json` of such a tree fails only if an allocation fails.
     ghost item_is_read: { (v : Value) → has_item (view v) ≡ true → (x : Self) × is_item x × reads (view v) x };
 
     /// What the tree of an item is read as equals that item.
     ghost reads_back: { (x y : Self) → is_item x → reads (tree_of x) y → Self.eq x y ≡ true };
 
-    /// What one tree is read as is equal.
+    /// Any two items as which one tree is read are equal.
     ghost reads_one: { (d : Data) (x y : Self) → is_item x → is_item y → reads d x → reads d y → Self.eq x y ≡ true };
 
     /// No item's tree holds a float.
     ghost no_float: { (x : Self) → is_item x → has_float (tree_of x) ≡ false };
 }
 
-// Whether no member has another name than `limit` or `pairs`.
+// Whether each member has the name `limit` or `pairs`.
 fn has_two_names(members: &Map<String, Value>) -> bool
     ensures { result ≡ has_no_other (members_view members.now.entries) }
 {
@@ -196,7 +208,7 @@ fn has_two_names(members: &Map<String, Value>) -> bool
     true
 }
 
-// The limit of a tree and its pairs.
+// Returns the limit of a tree and its pairs.
 fn limit_and_pairs(tree: &Value) -> Result<(usize, &Vec<Value>), JsonError>
     ensures { result_map_both (λ p. (p.0, map view p.1.now.items)) (λ e. e) result ≡ opened (view tree.now) }
 {
@@ -218,7 +230,7 @@ fn limit_and_pairs(tree: &Value) -> Result<(usize, &Vec<Value>), JsonError>
     Ok((limit as usize, pairs))
 }
 
-// The two parts of an array of exactly two.
+// Returns the two parts of an array of exactly two.
 fn parts_of(pair: &Value) -> Option<(&Value, &Value)>
     ensures { option_map (λ p. (view p.0.now, view p.1.now)) result ≡ pair_of (view pair.now) }
 {
@@ -229,7 +241,7 @@ fn parts_of(pair: &Value) -> Option<(&Value, &Value)>
     Some((&list[0], &list[1]))
 }
 
-// Reads the pair of that number, and adds its item as often as its count.
+// Reads the pair with this number, and inserts its item as often as its count.
 fn read_pair<T: JsonItem + Hash + Drop, S: BuildHasher + Drop>(
     alloc: Global,
     bag: &mut HashBag<T, S>,
@@ -239,7 +251,7 @@ fn read_pair<T: JsonItem + Hash + Drop, S: BuildHasher + Drop>(
     ensures no_fault { OnOk result (fault_after T.has_item number bag.old (view pair.now) ≡ None) }
     ensures read { OnOk result ((p : T × ℕ) × IsPair T.reads (view pair.now) p × Inserts T.eq p.0 p.1 bag.old bag.new) }
     ensures fault { IfErr result (λ e. e ≢ JsonError.Memory → fault_after T.has_item number bag.old (view pair.now) ≡ Some e) }
-    ensures memory { IfErr result (λ e. e ≡ JsonError.Memory → IsCountedItem T.has_item (view pair.now)) }
+    ensures may_end { IfErr result (λ e. e ≡ JsonError.Memory → IsCountedItem T.has_item (view pair.now)) }
 {
     let Some((tree, count)) = parts_of(pair) else {
         return Err(JsonError::NotAPair(number));
@@ -259,7 +271,7 @@ fn read_pair<T: JsonItem + Hash + Drop, S: BuildHasher + Drop>(
     }
 }
 
-// The pair of an item and its count.
+// Returns the pair of an item and its count.
 fn pair_value<T: JsonItem>(alloc: Global, item: &T, count: usize) -> Result<Value, BagError>
     ensures item { T.is_item item.now }
     ensures pair { IfOk result (λ v. view v ≡ pair_tree T.tree_of (item.now, count)) }
@@ -272,7 +284,7 @@ fn pair_value<T: JsonItem>(alloc: Global, item: &T, count: usize) -> Result<Valu
     Ok(Value::Array(pair))
 }
 
-// The tree of a bag whose pairs are an array, and which has that limit.
+// Returns the tree of a bag with this array of pairs and this limit.
 fn tree_with_limit(alloc: Global, limit: usize, pairs: Value) -> Result<Value, BagError>
     ensures tree { IfOk result (λ v. view v ≡ written limit (view pairs)) }
     ensures memory { IfErr result (λ e. e ≡ BagError.Memory) }
@@ -287,7 +299,7 @@ fn tree_with_limit(alloc: Global, limit: usize, pairs: Value) -> Result<Value, B
 }
 
 impl<T: JsonItem + Hash + Drop, S: BuildHasher + Drop> HashBag<T, S> {
-    // The bag of an array's pairs, with that hash state and the limit `most`.
+    // Returns the bag of an array's pairs, with this hash state and the limit `most`.
     fn from_pairs(
         alloc: Global,
         state: S,
@@ -300,7 +312,7 @@ impl<T: JsonItem + Hash + Drop, S: BuildHasher + Drop> HashBag<T, S> {
         ensures bag { IfOk result (λ bag. IsBag T.eq bag.most bag.items) }
         ensures hasher { IfOk result (λ bag. bag.hasher ≡ state) }
         ensures fault { IfErr result (λ e. e ≢ JsonError.Memory → first_fault most T.has_item 0 0 (map view list.now.items) ≡ Some e) }
-        ensures memory { IfErr result (λ e. e ≡ JsonError.Memory → MayEndAmong most T.has_item (map view list.now.items)) }
+        ensures may_end { IfErr result (λ e. e ≡ JsonError.Memory → MayEndAmong most T.has_item (map view list.now.items)) }
     {
         let mut bag = HashBag::with_limit(alloc, state, most);
         for (number, pair) in list.iter().enumerate() {
@@ -309,20 +321,22 @@ impl<T: JsonItem + Hash + Drop, S: BuildHasher + Drop> HashBag<T, S> {
         Ok(bag)
     }
 
-    /// Reads a bag from its tree, with the hash state `state` and the limit of the tree or `most`, whichever is less. Its pairs are
-    /// read and inserted in turn.
+    /// Reads a bag from its tree, with the hash state `state` and the limit of the tree or `most`, whichever is less. Its pairs are read
+    /// and inserted in turn.
     ///
-    /// The tree is an array of pairs, whose limit is `usize::MAX`, or an object with a member `limit` and a member `pairs`, which is
-    /// such an array. A pair with the count 0 is checked and adds nothing. Equal items add up, and the first instance is kept.
-    ///
-    /// Keys of a tree that strangers wrote want a state with random keys.
+    /// The tree is an array of pairs, whose limit is `usize::MAX`, or an object with a member `limit` and a member `pairs`, which is such
+    /// an array. A pair with the count 0 is checked and adds nothing. Equal items add up, and the first instance is kept. If strangers
+    /// wrote the tree, use a state with random keys.
     ///
     /// # Errors
     ///
-    /// There is no bag then. A tree that is neither is `NotAnArray`, and an object with a bad limit `BadLimit`. The first pair with a
-    /// fault decides. In each pair the checks are, in this order: an array of two (`NotAPair`), the count (`BadCount`), the item
-    /// (`BadItem`), the total within the limit (`TooMany`). `Memory`: an allocation fails. After the first pair with a fault nothing
-    /// is allocated, and for that pair its item alone.
+    /// The first fault of the tree is returned, in this order:
+    ///
+    /// - `NotAnArray` if the tree has neither form of a bag's tree, `BadLimit` if an object has a bad limit.
+    /// - Of the first pair with a fault: `NotAPair` if it is no array of two; `BadCount`; `BadItem`; `TooMany` if the total would pass the
+    ///   limit.
+    ///
+    /// `Memory` if an allocation fails before such a pair or for its item. Then there is no bag.
     ///
     /// # Examples
     ///
@@ -330,7 +344,7 @@ impl<T: JsonItem + Hash + Drop, S: BuildHasher + Drop> HashBag<T, S> {
     /// let tree = Value::from_str(alloc, "[[\"apple\",2],[\"pear\",1]]")?;
     /// let state = FixedState::new();
     /// let bag: HashBag<String> = HashBag::from_value_with_hasher(alloc, state, 100, &tree)?;
-    /// bag.contains_key("apple"); // 2
+    /// bag.contains("apple"); // 2
     /// Ok(())
     /// ```
     pub fn from_value_with_hasher(
@@ -345,7 +359,7 @@ impl<T: JsonItem + Hash + Drop, S: BuildHasher + Drop> HashBag<T, S> {
         ensures bag { IfOk result (λ bag. IsBag T.eq bag.most bag.items) }
         ensures hasher { IfOk result (λ bag. bag.hasher ≡ state) }
         ensures fault { IfErr result (λ e. e ≢ JsonError.Memory → fault most T.has_item (view tree.now) ≡ Some e) }
-        ensures memory { IfErr result (λ e. e ≡ JsonError.Memory → MayEnd most T.has_item (view tree.now)) }
+        ensures may_end { IfErr result (λ e. e ≡ JsonError.Memory → MayEnd most T.has_item (view tree.now)) }
     {
         match limit_and_pairs(tree) {
             Ok((limit, pairs)) => HashBag::from_pairs(alloc, state, most.min(limit), pairs),
@@ -353,7 +367,13 @@ impl<T: JsonItem + Hash + Drop, S: BuildHasher + Drop> HashBag<T, S> {
         }
     }
 
-    /// Reads a bag from its tree, with the default hash state, as [`HashBag::from_value_with_hasher`] does.
+    /// Reads a bag from its tree, under the default hash state, with the limit of the tree or `most`, whichever is less.
+    ///
+    /// # Errors
+    ///
+    /// Those of [`HashBag::from_value_with_hasher`].
+    ///
+    /// # Examples
     ///
     /// ```
     /// let tree = Value::from_str(alloc, "[[\"apple\",2],[\"pear\",1]]")?;
@@ -374,17 +394,24 @@ impl<T: JsonItem + Hash + Drop, S: BuildHasher + Drop> HashBag<T, S> {
         ensures bag { IfOk result (λ bag. IsBag T.eq bag.most bag.items) }
         ensures hasher { IfOk result (λ bag. S.is_default bag.hasher) }
         ensures fault { IfErr result (λ e. e ≢ JsonError.Memory → fault most T.has_item (view tree.now) ≡ Some e) }
-        ensures memory { IfErr result (λ e. e ≡ JsonError.Memory → MayEnd most T.has_item (view tree.now)) }
+        ensures may_end { IfErr result (λ e. e ≡ JsonError.Memory → MayEnd most T.has_item (view tree.now)) }
     {
         HashBag::from_value_with_hasher(alloc, S::default(), most, tree)
     }
 
-    /// The bag of a tree, under the default state, with the limit of the tree: [`HashBag::from_value_within`] with `usize::MAX`.
+    /// Reads a bag from its tree, under the default hash state, with the limit of the tree: [`HashBag::from_value_within`] with
+    /// `usize::MAX`.
+    ///
+    /// # Errors
+    ///
+    /// Those of [`HashBag::from_value_with_hasher`].
+    ///
+    /// # Examples
     ///
     /// ```
     /// let tree = Value::from_str(alloc, "[[\"apple\",2],[\"pear\",1]]")?;
     /// let bag: HashBag<String> = HashBag::from_value(alloc, &tree)?;
-    /// bag.contains_key("apple"); // 2
+    /// bag.contains("apple"); // 2
     /// Ok(())
     /// ```
     pub fn from_value(alloc: Global, tree: &Value) -> Result<HashBag<T, S>, JsonError>
@@ -396,12 +423,12 @@ impl<T: JsonItem + Hash + Drop, S: BuildHasher + Drop> HashBag<T, S> {
         ensures bag { IfOk result (λ bag. IsBag T.eq bag.most bag.items) }
         ensures hasher { IfOk result (λ bag. S.is_default bag.hasher) }
         ensures fault { IfErr result (λ e. e ≢ JsonError.Memory → fault greatest_total T.has_item (view tree.now) ≡ Some e) }
-        ensures memory { IfErr result (λ e. e ≡ JsonError.Memory → MayEnd greatest_total T.has_item (view tree.now)) }
+        ensures may_end { IfErr result (λ e. e ≡ JsonError.Memory → MayEnd greatest_total T.has_item (view tree.now)) }
     {
         HashBag::from_value_within(alloc, usize::MAX, tree)
     }
 
-    // The distinct values with their counts, values rising. Room for all of them is taken at once.
+    // Returns the distinct values with their counts, values rising. Room for all of them is allocated at once.
     fn sorted_pairs(&self, alloc: Global) -> Result<Vec<(&T, usize)>, BagError>
     where
         T: Ord,
@@ -419,7 +446,7 @@ impl<T: JsonItem + Hash + Drop, S: BuildHasher + Drop> HashBag<T, S> {
         Ok(pairs)
     }
 
-    // The array of pairs, items rising.
+    // Returns the array of pairs, items rising.
     fn pairs_value(&self, alloc: Global) -> Result<Value, BagError>
     where
         T: Ord,
@@ -436,11 +463,17 @@ impl<T: JsonItem + Hash + Drop, S: BuildHasher + Drop> HashBag<T, S> {
         Ok(Value::Array(list))
     }
 
-    /// The tree of the bag: an array with an array `[item, count]` for each distinct value, items rising. Where the limit is not
+    /// Returns the tree of the bag: an array with an array `[item, count]` for each distinct value, items rising. If the limit isn't
     /// `usize::MAX`, it is an object with two members: `limit`, and `pairs`, which is that array.
     ///
-    /// Equal bags with the same limit have equal trees, whatever their instances, states and history. What is written is read
-    /// back as an equal bag with the same limit, where there is memory for it. It answers `Memory` where memory is refused.
+    /// Equal bags with the same limit have equal trees, whatever their instances, states and history. The tree is read back as an equal bag
+    /// with the same limit, unless an allocation fails.
+    ///
+    /// # Errors
+    ///
+    /// `Memory` if an allocation fails.
+    ///
+    /// # Examples
     ///
     /// ```
     /// let mut bag: HashBag<String> = HashBag::new(alloc);
@@ -456,7 +489,7 @@ impl<T: JsonItem + Hash + Drop, S: BuildHasher + Drop> HashBag<T, S> {
         ensures tree { IfOk result (λ v. IsTreeOfCounts T.eq T.cmp T.tree_of self.now.items self.now.most (view v)) }
         ensures items { OnOk result (All T.is_item self.now.items) }
 
-        // The tree has no fault, and is read as a list with the counts of the bag, with its limit.
+        // The tree has no fault. It is read as a list with the counts of the bag, with its limit.
         ensures no_fault { IfOk result (λ v. fault greatest_total T.has_item (view v) ≡ None) }
         ensures counts { IfOk result (λ v. ReadsBack T.eq T.reads self.now.items (view v)) }
         ensures limit { IfOk result (λ v. limit_of (view v) ≡ self.now.most) }

@@ -10,7 +10,7 @@ pub fn hash_bag(alloc: Global) -> Result<(), BagError> {
     }
     words.len(); // 5
     words.set_len(); // 4
-    words.contains_key("the"); // 2
+    words.contains("the"); // 2
     Ok(())
 }
 
@@ -289,22 +289,6 @@ pub fn clone(alloc: Global) -> Result<(), BagError> {
     Ok(())
 }
 
-pub fn contains_key(alloc: Global) -> Result<(), BagError> {
-    let mut words: HashBag<String> = HashBag::new(alloc);
-    words.insert_many_key("the", 2)?;
-    words.contains_key("the"); // 2
-    words.contains_key("cat"); // 0
-    Ok(())
-}
-
-pub fn get_key(alloc: Global) -> Result<(), BagError> {
-    let mut words: HashBag<String> = HashBag::new(alloc);
-    words.insert_many_key("the", 2)?;
-    words.get_key("the"); // Some(("the", 2))
-    words.get_key("cat"); // None
-    Ok(())
-}
-
 pub fn insert_key(alloc: Global) -> Result<(), BagError> {
     let mut words: HashBag<String> = HashBag::new(alloc);
     words.insert_key("the")?; // 0
@@ -316,14 +300,6 @@ pub fn insert_many_key(alloc: Global) -> Result<(), BagError> {
     let mut words: HashBag<String> = HashBag::new(alloc);
     words.insert_many_key("the", 3)?; // 0
     words.insert_many_key("the", 2)?; // 3
-    Ok(())
-}
-
-pub fn remove_key(alloc: Global) -> Result<(), BagError> {
-    let mut words: HashBag<String> = HashBag::new(alloc);
-    words.insert_key("the")?;
-    words.remove_key("the"); // 1
-    words.remove_key("the"); // 0
     Ok(())
 }
 

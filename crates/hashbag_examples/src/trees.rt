@@ -28,7 +28,7 @@ pub fn from_value_with_hasher(alloc: Global) -> Result<()> {
     let tree = Value::from_str(alloc, "[[\"apple\",2],[\"pear\",1]]")?;
     let state = FixedState::new();
     let bag: HashBag<String> = HashBag::from_value_with_hasher(alloc, state, 100, &tree)?;
-    bag.contains_key("apple"); // 2
+    bag.contains("apple"); // 2
     Ok(())
 }
 
@@ -42,7 +42,7 @@ pub fn from_value_within(alloc: Global) -> Result<()> {
 pub fn from_value(alloc: Global) -> Result<()> {
     let tree = Value::from_str(alloc, "[[\"apple\",2],[\"pear\",1]]")?;
     let bag: HashBag<String> = HashBag::from_value(alloc, &tree)?;
-    bag.contains_key("apple"); // 2
+    bag.contains("apple"); // 2
     Ok(())
 }
 

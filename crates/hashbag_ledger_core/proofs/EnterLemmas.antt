@@ -64,5 +64,5 @@ module _ {T S : Type 0} {eq : T → T → Bool} {start : T → ℕ} {total : ℕ
       subst (λ (b : Bag T S). SoFar eq start total all rest noted (length b.items) (stock_of eq b.items)) (sym same)
       (subst (λ (n : List (Refusal T)). SoFar eq start total all rest n (length before.items) (stock_of eq before.items)) (sym is) one)
 
-  pub next_past : (e : LedgerError) (p : Place) (most : ℕ) → e ≡ TooMany p → (e ≡ Memory) ⊎ (e ≡ TooMany m.place) → (e ≢ Memory → most < length before.items + coming m.change) → IsPast eq start total most all p
-  next_past e p most is why over = past_most eq start p so_far (place_of e p m.place is why) (over (not_memory e p is))
+  pub next_past : (e : LedgerError) (p : Place) (most : ℕ) → e ≡ TooMany p → (e ≡ Memory) ⊎ (e ≡ TooMany m.place) → (e ≡ TooMany m.place → most < length before.items + coming m.change) → IsPast eq start total most all p
+  next_past e p most is why over = past_most eq start p so_far (place_of e p m.place is why) (over (elim why [ inl memory ↦ absurd (not_memory e p is memory) | inr place ↦ place ]))

@@ -1,5 +1,5 @@
 //! Movements entered into a stock, in turn.
-ghost use Rattle.std.specs.Prelude.{◌≡◌, ◌≢◌, ◌⊎◌, ◌+◌, ◌<◌, ◌≤◌, length, OnOk, OnErr, IfOk, IfErr, IfSome, IsSome};
+ghost use Rattle.std.specs.Prelude.{◌≡◌, ◌≢◌, ◌⊎◌, ◌+◌, ◌<◌, ◌≤◌, ◌↔◌, length, OnOk, OnErr, IfOk, IfErr, IfSome, IsSome};
 ghost use Rattle.hashbag_ledger_core.specs.declared.movements.Place.{Place};
 ghost use Rattle.hashbag_ledger_core.specs.Ledger.{coming, going, stock_of, refused_of, Changes, IsRefused, Leaves, IsPastLimit};
 
@@ -46,15 +46,15 @@ pub fn enter<T: Eq + Hash + Drop, S: BuildHasher + Drop>(
     stock: &mut HashBag<T, S>,
     movement: Movement<T>,
 ) -> Result<Option<Refusal<T>>, LedgerError>
+    // Nine clauses, since there are three outcomes: a movement is entered, or refused, or fails.
     ensures entered { IfOk result (λ r. r ≡ None → Changes T.eq movement (stock_of T.eq stock.old.items) (stock_of T.eq stock.new.items)) }
-    ensures len { IfOk result (λ r. r ≡ None → length stock.new.items + going movement.change ≡ length stock.old.items + coming movement.change) }
-    ensures refused { IfOk result (λ r. IfSome r (IsRefused T.eq movement (stock_of T.eq stock.old.items))) }
-    ensures same { IfOk result (λ r. IsSome r → stock.new ≡ stock.old) }
+    ensures total { IfOk result (λ r. r ≡ None → length stock.new.items + going movement.change ≡ length stock.old.items + coming movement.change) }
+    ensures refusal { IfOk result (λ r. IfSome r (IsRefused T.eq movement (stock_of T.eq stock.old.items))) }
+    ensures unchanged { IfOk result (λ r. IsSome r → stock.new ≡ stock.old) }
     ensures fits { OnOk result (length stock.old.items + coming movement.change ≤ stock.old.most) }
     ensures limit { stock.new.most ≡ stock.old.most }
     ensures why { IfErr result (λ e. (e ≡ LedgerError.Memory) ⊎ (e ≡ LedgerError.TooMany movement.place)) }
-    ensures too_many { IfErr result (λ e. e ≢ LedgerError.Memory → stock.old.most < length stock.old.items + coming movement.change) }
-    ensures memory { IfErr result (λ e. e ≡ LedgerError.Memory → length stock.old.items + coming movement.change ≤ stock.old.most) }
+    ensures too_many { (result ≡ Err (LedgerError.TooMany movement.place)) ↔ (stock.old.most < length stock.old.items + coming movement.change) }
     ensures err { OnErr result (stock.new ≡ stock.old) }
 {
     let Movement {
@@ -100,7 +100,7 @@ pub fn enter_all<T: Eq + Hash + Drop, S: BuildHasher + Drop>(
     movements: Vec<Movement<T>>,
 ) -> Result<Vec<Refusal<T>>, LedgerError>
     ensures leaves { OnOk result (Leaves T.eq (stock_of T.eq stock.old.items) movements.items (stock_of T.eq stock.new.items)) }
-    ensures refused { IfOk result (λ r. r.items ≡ refused_of T.eq (stock_of T.eq stock.old.items) movements.items) }
+    ensures refusals { IfOk result (λ r. r.items ≡ refused_of T.eq (stock_of T.eq stock.old.items) movements.items) }
     ensures fit { OnOk result ((p : Place) → ¬ (IsPastLimit T.eq stock.old.items stock.old.most movements.items p)) }
     ensures why { IfErr result (λ e. e ≢ LedgerError.StartTooMany) }
     ensures past { IfErr result (λ e. (p : Place) → e ≡ LedgerError.TooMany p

@@ -1,5 +1,5 @@
 //! A stock that begins as a list, and its balance after movements.
-ghost use Rattle.std.specs.Prelude.{◌≡◌, ◌≢◌, ◌<◌, ◌≤◌, ◌↔◌, length, IsTrue, IfOk, IfErr, OnOk, OnErr};
+ghost use Rattle.std.specs.Prelude.{◌≡◌, ◌<◌, ◌≤◌, ◌↔◌, length, IsTrue, IfOk, IfErr, OnOk};
 ghost use Rattle.hashbag.specs.Occurrences.{count};
 ghost use Rattle.hashbag_lists.specs.Quantities.{numbers, quantity, IsBalance};
 ghost use Rattle.hashbag_ledger_core.specs.declared.movements.Place.{Place};
@@ -45,10 +45,9 @@ fn stock_at_start<T: Eq + Hash + Drop, S: BuildHasher + Drop>(
     ensures counts { IfOk result (λ stock. (v : T) → count T.eq v stock.items ≡ quantity T.eq v list.items) }
     ensures len { IfOk result (λ stock. length stock.items ≡ numbers list.items) }
     ensures limit { IfOk result (λ stock. stock.most ≡ usize.MAX) }
-    ensures too_many { usize.MAX < numbers list.items → result ≡ Err LedgerError.StartTooMany }
+    ensures too_many { (result ≡ Err LedgerError.StartTooMany) ↔ (usize.MAX < numbers list.items) }
     ensures fits { OnOk result (numbers list.items ≤ usize.MAX) }
-    ensures memory { IfErr result (λ e. e ≡ LedgerError.Memory → numbers list.items ≤ usize.MAX) }
-    ensures only_memory { numbers list.items ≤ usize.MAX → OnErr result (result ≡ Err LedgerError.Memory) }
+    ensures only_memory { numbers list.items ≤ usize.MAX → IfErr result (λ e. e ≡ LedgerError.Memory) }
 {
     if !numbers_fit(&list) {
         return Err(LedgerError::StartTooMany);
@@ -81,10 +80,8 @@ pub fn settle<T: Ord + Hash + Drop, S: BuildHasher + Drop>(
 ) -> Result<Entered<T>, LedgerError>
     ensures balance { IfOk result (λ e. IsBalance T.eq T.cmp (in_the_end T.eq (listed T.eq start.items) movements.items) e.balance.items) }
     ensures leaves { IfOk result (λ e. Leaves T.eq (listed T.eq start.items) movements.items (listed T.eq e.balance.items)) }
-    ensures refused { IfOk result (λ e. e.refusals.items ≡ refused_of T.eq (listed T.eq start.items) movements.items) }
-    ensures fits { numbers start.items ≤ usize.MAX → IfErr result (λ e. e ≢ LedgerError.StartTooMany) }
-    ensures too_many { usize.MAX < numbers start.items → result ≡ Err LedgerError.StartTooMany }
-    ensures memory { IfErr result (λ e. e ≡ LedgerError.Memory → numbers start.items ≤ usize.MAX) }
+    ensures refusals { IfOk result (λ e. e.refusals.items ≡ refused_of T.eq (listed T.eq start.items) movements.items) }
+    ensures too_many { (result ≡ Err LedgerError.StartTooMany) ↔ (usize.MAX < numbers start.items) }
     ensures fit { OnOk result ((p : Place) → ¬ (IsPastFrom T.eq start.items movements.items p)) }
     ensures past { IfErr result (λ e. (p : Place) → e ≡ LedgerError.TooMany p → IsPastFrom T.eq start.items movements.items p) }
 {

@@ -120,6 +120,6 @@ module _ {T : Type 0} {eq : T → T → Bool} (laws : IsEquivalence eq) where
         within bag h.refused.0 h.refused.1 e h.why.why (omega (arith, long, same, few, fits, limit))
 
     -- only memory is refused
-    pub only_memory : (r : Result (Bag T S) BagError) → IfErr r (λ e. (bag : Bag T S) × InsertsUpTo eq steps AsItIs (RefusesPair eq) it (empty_bag bag.hasher) bag e) → OnErr r (r ≡ Err Memory)
+    pub only_memory : (r : Result (Bag T S) BagError) → IfErr r (λ e. (bag : Bag T S) × InsertsUpTo eq steps AsItIs (RefusesPair eq) it (empty_bag bag.hasher) bag e) → IfErr r (λ e. e ≡ Memory)
     only_memory (Ok bag) h = tt
-    only_memory (Err e) h = ap Err (declined h.0.hasher h.0 e h.1)
+    only_memory (Err e) h = declined h.0.hasher h.0 e h.1

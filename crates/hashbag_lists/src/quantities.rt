@@ -1,5 +1,5 @@
 //! Lists of articles with quantities, as values: put into bags, and taken out of them.
-ghost use Rattle.std.specs.Prelude.{◌≡◌, ◌≤◌, [], length, IfOk, OnOk, OnErr};
+ghost use Rattle.std.specs.Prelude.{◌≡◌, ◌≤◌, [], length, IfOk, IfErr, OnOk};
 ghost use Rattle.hashbag.specs.Occurrences.{count};
 ghost use Rattle.hashbag_lists.specs.Quantities.{numbers, quantity, IsBalance};
 
@@ -26,7 +26,7 @@ pub fn bag_of<T: Eq + Hash + Drop, S: BuildHasher + Drop>(
     ensures len { IfOk result (λ bag. length bag.items ≡ numbers list.items) }
     ensures fits { OnOk result (numbers list.items ≤ usize.MAX) }
     ensures carried { IfOk result (λ bag. bag.tables.waiting ≡ []) }
-    ensures memory { numbers list.items ≤ usize.MAX → OnErr result (result ≡ Err BagError.Memory) }
+    ensures only_memory { numbers list.items ≤ usize.MAX → IfErr result (λ e. e ≡ BagError.Memory) }
 {
     let mut bag = HashBag::with_hasher(alloc, state);
     bag.extend_many(list.into_iter())?;

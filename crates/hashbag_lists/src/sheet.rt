@@ -7,7 +7,7 @@ use csv::{ByteRecord, Error, ErrorKind, Position, Reader, ReaderBuilder};
 use std::alloc::Global;
 use std::str;
 
-// What some programs write at the beginning of a text.
+// What some programs write at the beginning of a text: a byte order mark.
 const BYTE_ORDER_MARK: &[u8] = b"\xef\xbb\xbf";
 
 // How many lines end in these bytes.

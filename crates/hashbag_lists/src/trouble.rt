@@ -1,4 +1,4 @@
-//! Why a program over lists came to no end, its message and its status.
+//! Why a program over lists failed, its message and its status.
 ghost use Rattle.std.specs.Prelude.{◌<◌};
 
 use crate::fault::SheetError;

@@ -131,7 +131,7 @@ fn scale_in(matches: &ArgMatches<'_>) -> Scale {
     Scale::new(decimals, mark).unwrap_or(Scale::whole())
 }
 
-// What the words ask for beside the columns.
+// What the words ask for, without the columns.
 fn options_in<'a>(matches: &ArgMatches<'a>) -> Options<'a> {
     Options {
         output: matches.get_str("output"),
@@ -196,7 +196,7 @@ fn request_of<'a, R: Eprint + AllocGlobal>(
     Ok(request)
 }
 
-/// What the words ask for, or the status with which the program ends at once: after the help, bad words, or want of memory.
+/// Returns what the words ask for, or the status with which the program ends at once: after the help, bad words, or a failed allocation.
 pub fn parse<'a, R: Print + Eprint + AllocGlobal>(
     rt: &R,
     words: &'a [String],

@@ -39,7 +39,7 @@ fn list_of<'a>(
     in_file(columns.file, list)
 }
 
-// What is written of two lists, and the status. The numbers of each fit, so only memory is refused.
+// Returns what is written of two lists, and the status. The numbers of each fit, so only an allocation can fail.
 fn compare(
     alloc: Global,
     state: RandomState,

@@ -7,7 +7,7 @@ use hashbag_match_core::keys::{names_in, repeated};
 use hashbag_match_core::output::is_reserved;
 use hashbag_shell::status::BAD_INPUT;
 
-/// The columns of a file, or the status with which the program ends if a key column is named twice.
+/// Returns the columns of a file, or the status with which the program ends if a key column is named twice.
 pub fn columns_of<'a, R: Eprint + AllocGlobal>(
     rt: &R,
     file: &'a str,
@@ -24,7 +24,7 @@ pub fn columns_of<'a, R: Eprint + AllocGlobal>(
     Ok(Columns { file, keys, number })
 }
 
-/// Whether a key column has the name of a column of numbers of the output, which is then said.
+/// Returns whether a key column has the name of a column of numbers of the output. If so, a message is written.
 pub fn is_taken<R: Eprint>(rt: &R, columns: &Columns<'_>) -> bool {
     for name in &columns.keys {
         if is_reserved(name) {

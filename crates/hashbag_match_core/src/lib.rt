@@ -1,4 +1,4 @@
-//! What was ordered beside what was delivered: the pure part of the program `hashbag_match`.
+//! What was ordered and what was delivered, compared: the pure part of the program `hashbag_match`.
 #![tactic(auto)]
 
 pub mod keys;

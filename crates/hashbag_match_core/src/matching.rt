@@ -1,5 +1,5 @@
 //! Rows of what was ordered and what was delivered.
-ghost use Rattle.std.specs.Prelude.{◌≡◌, ◌+◌, ◌-◌, ◌≤◌, ◌↔◌, if◌then◌else◌, length, sum_by, IsTrue, IfOk, OnOk, OnErr};
+ghost use Rattle.std.specs.Prelude.{◌≡◌, ◌+◌, ◌-◌, ◌≤◌, ◌↔◌, if◌then◌else◌, length, sum_by, IsTrue, IfOk, IfErr, OnOk};
 ghost use Rattle.hashbag.specs.Occurrences.{count};
 ghost use Rattle.hashbag_lists.specs.Quantities.{numbers, quantity, times};
 ghost use Rattle.hashbag_match_core.specs.Matching.{missing_of, surplus_of, agrees, AreTotals, IsTable};
@@ -74,7 +74,7 @@ fn add_name<T: Eq + Hash + Drop, S: BuildHasher + Drop>(
 {
     match bag.insert(article) {
         Ok(_) => Ok(()),
-        // `TooMany` can't be: memory has no room for so many entries.
+        // `TooMany` can't be: memory has no room for as many entries.
         Err(_) => Err(AllocError),
     }
 }
@@ -157,7 +157,7 @@ pub fn match_lists<T: Ord + Hash + Copy + Drop, S: BuildHasher + Copy + Drop>(
         (λ v. quantity T.eq v ordered.items) (λ v. quantity T.eq v delivered.items) matched.rows.items) }
     ensures totals { IfOk result (λ matched. AreTotals matched.rows.items matched.totals) }
     ensures agree { IfOk result (λ matched. IsTrue matched.agree ↔ ((v : T) → quantity T.eq v ordered.items ≡ quantity T.eq v delivered.items)) }
-    ensures memory { numbers ordered.items ≤ usize.MAX → numbers delivered.items ≤ usize.MAX → OnErr result (result ≡ Err BagError.Memory) }
+    ensures only_memory { numbers ordered.items ≤ usize.MAX → numbers delivered.items ≤ usize.MAX → IfErr result (λ e. e ≡ BagError.Memory) }
 {
     let named = names_of(alloc, state, &ordered, &delivered)?;
     let ordered = bag_of(alloc, state, ordered)?;

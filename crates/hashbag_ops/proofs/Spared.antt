@@ -7,8 +7,7 @@ use Rattle.std.proofs.lemmas.List.Sums.{length-filter, sum_by-append, sum_by-con
 use Rattle.hashbag.specs.declared.bag.BagError.{BagError}
 use Rattle.hashbag.specs.declared.bag.BagError.TheVariants.{Memory, TooMany, BelowTotal}
 use Rattle.hashbag.specs.Bag.{Bag, IsBagOf}
-use Rattle.hashbag.specs.Extends.{Refuses}
-use Rattle.hashbag.specs.Inserts.{Inserts, InTurn}
+use Rattle.hashbag.specs.Inserts.{Inserts, InTurn, IsRefused}
 use Rattle.hashbag.specs.JoinsLeft.{lacking}
 use Rattle.hashbag.specs.Occurrences.{count, distinct_count, IsBag}
 use Rattle.hashbag.specs.Tables.{room}
@@ -161,12 +160,8 @@ module _ {T S : Type 0} {eq : T → T → Bool} (laws : IsEquivalence eq) where
   -- ---- nothing is refused
 
   -- a pair that fits isn't refused where its value is there, or where there is room
-  pub takes_one : {A : Type 0} (bag : Bag T S) (v : T) (n : ℕ) (r : Result A BagError) → length bag.items + n ≤ bag.most → (0 < room bag.tables → IsOk r) → IfErr r (Refuses eq bag.most bag.items v n)
-      → (room bag.tables ≡ 0 → 0 < count eq v bag.items) → IsOk r
-  takes_one bag v n (Ok a) fits takes why there = refl
-  takes_one bag v n (Err TooMany) fits takes why there = absurd (omega (arith, fits, why))
-  takes_one bag v n (Err BelowTotal) fits takes why there = absurd why
-  takes_one bag v n (Err Memory) fits takes why there = elim (cases_lt 0 (room bag.tables)) [
-    | inl some ↦ takes some
-    | inr none ↦ let is = there (omega (arith, none)) in let absent = why.2 in absurd (omega (arith, is, absent))
-  ]
+  pub takes_one : {A : Type 0} (bag : Bag T S) (v : T) (n : ℕ) (r : Result A BagError) → length bag.items + n ≤ bag.most → IfErr r (IsRefused eq bag v n) → (room bag.tables ≡ 0 → 0 < count eq v bag.items) → IsOk r
+  takes_one bag v n (Ok a) fits refused there = refl
+  takes_one bag v n (Err TooMany) fits refused there = let over = refused.why in absurd (omega (arith, fits, over))
+  takes_one bag v n (Err BelowTotal) fits refused there = absurd refused.why
+  takes_one bag v n (Err Memory) fits refused there = let is = there (refused.full refl) in let absent = refused.why.2 in absurd (omega (arith, is, absent))

@@ -1,5 +1,5 @@
-//! Sums of two bags, and what one bag keeps of its own beside another.
-ghost use Rattle.std.specs.Prelude.{◌≡◌, ℕ, ◌+◌, ◌-◌, ◌<◌, ◌≤◌, min, max, List, length, All, true, false, OnOk, OnErr};
+//! Sums of two bags, and what one bag keeps of its own by comparison with another.
+ghost use Rattle.std.specs.Prelude.{◌≡◌, ℕ, ◌+◌, ◌-◌, ◌<◌, ◌≤◌, ◌↔◌, min, max, List, length, All, true, false, IfErr, OnOk, OnErr};
 ghost use Rattle.hashbag.specs.Joins.{IsNotIn};
 ghost use Rattle.hashbag.specs.Occurrences.{count, distinct_count};
 ghost use Rattle.hashbag.specs.Tables.{limit, room};
@@ -13,11 +13,11 @@ use std::iter::ExactSizeIterator;
 
 /// Adds all occurrences of `from` to `into`: each count is then the sum of both.
 ///
-/// Everything is added, or nothing. If a value is in both bags, the instance stored in `into` stays. The limit of `into` stays, and that
-/// of `from` doesn't matter.
+/// Everything is added, or nothing. If a value is in both bags, the instance stored in `into` stays. The limit of `into` stays, and that of
+/// `from` doesn't matter.
 ///
-/// If `into` has room for the values that it lacks, its slots stay. Else it gets a table of slots that has room for the distinct values
-/// of both, or, where that one can't be allocated, for those that it lacks.
+/// If `into` has room for the values that it lacks, its slots stay. Else it gets a table of slots that has room for the distinct values of
+/// both, or, if that one can't be allocated, for those that it lacks.
 ///
 /// # Errors
 ///
@@ -28,40 +28,42 @@ use std::iter::ExactSizeIterator;
 ///
 /// # Complexity
 ///
-/// Each distinct value of `from` is hashed once, and again if `into` has no room left when it comes. Those of `into` are hashed once if
-/// it gets other slots. If `into` isn't empty and may not have room, slots for the distinct values of both are allocated first. They are
+/// Each distinct value of `from` is hashed once, and again if it is inserted when `into` has no room left. Those of `into` are hashed once
+/// if it gets other slots. If `into` isn't empty and may not have room, slots for the distinct values of both are allocated first. They are
 /// at most twice as many as are needed, and are freed if they weren't used. If that allocation fails, each distinct value of `from` is
 /// hashed once more, to count those that `into` lacks.
 ///
 /// # Examples
 ///
-///     let mut stock: HashBag<&str> = HashBag::new(alloc);
-///     stock.insert_many("bolt", 2)?;
-///     let mut delivery: HashBag<&str> = HashBag::new(alloc);
-///     delivery.insert_many("bolt", 3)?;
-///     delivery.insert("nut")?;
-///     merge(&mut stock, delivery)?;
-///     assert_eq!(stock.contains(&"bolt"), 5);
-///     assert_eq!(stock.len(), 6);
+/// ```
+/// let mut stock: HashBag<&str> = HashBag::new(alloc);
+/// stock.insert_many("bolt", 2)?;
+/// let mut delivery: HashBag<&str> = HashBag::new(alloc);
+/// delivery.insert_many("bolt", 3)?;
+/// delivery.insert("nut")?;
+/// hashbag_ops::merge(&mut stock, delivery)?;
+/// stock.contains(&"bolt"); // 5
+/// stock.len(); // 6
+/// Ok(())
+/// ```
 pub fn merge<T: Eq + Hash + Drop, S: BuildHasher + Drop, S2: BuildHasher + Drop>(
     into: &mut HashBag<T, S>,
     from: HashBag<T, S2>,
 ) -> Result<(), BagError>
+    // Eleven clauses, since a caller with room, and one without, is told when it fails and which slots are built.
     ensures counts { OnOk result ((v : T) → count T.eq v into.new.items ≡ count T.eq v into.old.items + count T.eq v from.items) }
     ensures len { OnOk result (length into.new.items ≡ length into.old.items + length from.items) }
     ensures limit { into.new.most ≡ into.old.most }
     ensures hasher { into.new.hasher ≡ into.old.hasher }
     ensures err { OnErr result (into.new ≡ into.old) }
 
-    // The total is tested first; then only memory can be refused, and only where there isn't room for the values of `from` that `into`
-    // lacks.
-    ensures too_many { into.old.most < length into.old.items + length from.items → result ≡ Err BagError.TooMany }
-    ensures refused { result ≡ Err BagError.TooMany → into.old.most < length into.old.items + length from.items }
-    ensures memory { length into.old.items + length from.items ≤ into.old.most → OnErr result (result ≡ Err BagError.Memory) }
+    // The total is tested first. Then only an allocation can fail, and only if there isn't room for the values of `from` that `into` lacks.
+    ensures too_many { (result ≡ Err BagError.TooMany) ↔ (into.old.most < length into.old.items + length from.items) }
+    ensures only_memory { length into.old.items + length from.items ≤ into.old.most → IfErr result (λ e. e ≡ BagError.Memory) }
     ensures full { result ≡ Err BagError.Memory → room into.old.tables < distinct_count T.eq from.items }
     ensures lacks { result ≡ Err BagError.Memory → LacksMoreThan T.eq (room into.old.tables) from.items into.old.items }
 
-    // No fewer slots, and no others where there was room for the values that were lacked.
+    // There are no fewer slots, and no other ones if there was room for the values that were lacked.
     ensures slots { OnOk result (length into.old.tables.newer ≤ length into.new.tables.newer) }
     ensures kept { HasRoomForLacked T.eq from into.old.items into.old.tables → OnOk result (into.new.tables.built ≡ into.old.tables.built) }
 {
@@ -79,7 +81,7 @@ pub fn merge<T: Eq + Hash + Drop, S: BuildHasher + Drop, S2: BuildHasher + Drop>
     Ok(())
 }
 
-// Whether an insertion of the value needs more slots: it is absent, and there is no room.
+// Returns whether an insertion of the value needs more slots: it is absent, and there is no room.
 #[inline(always)]
 fn has_no_room_for<T: Eq + Hash + Drop, S: BuildHasher + Drop>(
     bag: &HashBag<T, S>,
@@ -91,7 +93,7 @@ fn has_no_room_for<T: Eq + Hash + Drop, S: BuildHasher + Drop>(
     bag.room() == 0 && bag.contains(value) == 0
 }
 
-// Inserts all of `from`. The spare slots are taken into use when an absent value comes and there is no room; else they are freed.
+// Inserts all of `from`. The spare slots replace those of `into` at the first absent value without room; else they are freed.
 fn insert_beside_spare<T: Eq + Hash + Drop, S: BuildHasher + Drop, S2: BuildHasher + Drop>(
     into: &mut HashBag<T, S>,
     from: HashBag<T, S2>,
@@ -107,7 +109,7 @@ fn insert_beside_spare<T: Eq + Hash + Drop, S: BuildHasher + Drop, S2: BuildHash
     ensures slots { length into.old.tables.newer ≤ length into.new.tables.newer }
     ensures kept { HasRoomForLacked T.eq from into.old.items into.old.tables → into.new.tables.built ≡ into.old.tables.built }
 {
-    // `len` is called for its clause that the list is a bag's, which the proof cites.
+    // `len` is called for its clause that the list is a bag's, which the proof names.
     let _len = into.len();
     let mut pairs = from.into_iter();
     'pairs: while let Some((value, n)) = pairs.next() {
@@ -121,7 +123,7 @@ fn insert_beside_spare<T: Eq + Hash + Drop, S: BuildHasher + Drop, S2: BuildHash
     }
 }
 
-// Makes room for the values of `from` that `into` lacks. They are counted only where there isn't room for all values of `from`.
+// Makes room for the values of `from` that `into` lacks. They are counted only if there isn't room for all values of `from`.
 fn make_room<T: Eq + Hash + Drop, S: BuildHasher + Drop, S2: BuildHasher + Drop>(
     into: &mut HashBag<T, S>,
     from: &HashBag<T, S2>,
@@ -132,7 +134,7 @@ fn make_room<T: Eq + Hash + Drop, S: BuildHasher + Drop, S2: BuildHasher + Drop>
     ensures hasher { into.new.hasher ≡ into.old.hasher }
     ensures room { OnOk result (HasRoomForLacked T.eq from.now into.old.items into.new.tables) }
     ensures err { OnErr result (into.new ≡ into.old) }
-    ensures memory { OnErr result (result ≡ Err BagError.Memory) }
+    ensures memory { IfErr result (λ e. e ≡ BagError.Memory) }
     ensures full { OnErr result (room into.old.tables < distinct_count T.eq from.now.items) }
     ensures lacks { OnErr result (LacksMoreThan T.eq (room into.old.tables) from.now.items into.old.items) }
     ensures slots { length into.old.tables.newer ≤ length into.new.tables.newer }
@@ -146,7 +148,7 @@ fn make_room<T: Eq + Hash + Drop, S: BuildHasher + Drop, S2: BuildHasher + Drop>
     Ok(())
 }
 
-// How many distinct values of `from` a bag lacks.
+// Returns how many distinct values of `from` a bag lacks.
 fn lacked_by<T: Eq + Hash + Drop, S: BuildHasher + Drop, S2: BuildHasher + Drop>(
     bag: &HashBag<T, S>,
     from: &HashBag<T, S2>,
@@ -156,27 +158,39 @@ fn lacked_by<T: Eq + Hash + Drop, S: BuildHasher + Drop, S2: BuildHasher + Drop>
     if bag.is_empty() {
         return from.set_iter().len();
     }
-    // `limit` is called for its clause that the occurrences can be counted, which the proof cites.
+    // `limit` is called for its clause that the occurrences can be counted, which the proof names.
     let _limit = from.limit();
     from.not_in(bag).count()
 }
 
-/// Adds clones of all of one bag to another, which stays as it is: [`merge`] of a copy.
+/// Adds clones of all occurrences of a bag to another, and leaves the first as it is: [`merge`] of a copy.
 ///
-/// All goes in, or nothing. The caller sees to it that clones of the values equal them. It answers `TooMany` exactly where the total
-/// would pass the limit of `into`, before anything is cloned, and `Memory` where memory is refused to the copy, to a clone of a value
-/// or of the state, or to the room. Then `into` is unchanged.
+/// Everything is added, or nothing. The caller ensures that clones of the values equal them.
 ///
-/// It takes memory for a copy of `from` while it runs. Each distinct value of `from` is hashed once more than by [`merge`], for that
-/// copy; those of `into` where it grows.
+/// # Errors
 ///
-///     let mut all: HashBag<&str> = HashBag::new(alloc);
-///     let mut day: HashBag<&str> = HashBag::new(alloc);
-///     day.insert_many("bolt", 3)?;
-///     merge_ref(&mut all, &day)?;
-///     merge_ref(&mut all, &day)?;
-///     assert_eq!(all.contains(&"bolt"), 6);
-///     assert_eq!(day.contains(&"bolt"), 3);
+/// - `TooMany` exactly if the total would pass the limit of `into`. That is tested before anything is cloned.
+/// - `Memory` if an allocation for the copy or for room fails, or the clone of a value or of the state.
+///
+/// Then `into` is unchanged.
+///
+/// # Complexity
+///
+/// It allocates a copy of `from` while it runs. Each distinct value of `from` is hashed once more than by [`merge`], for that copy; those
+/// of `into` if it grows.
+///
+/// # Examples
+///
+/// ```
+/// let mut all: HashBag<&str> = HashBag::new(alloc);
+/// let mut day: HashBag<&str> = HashBag::new(alloc);
+/// day.insert_many("bolt", 3)?;
+/// hashbag_ops::merge_ref(&mut all, &day)?;
+/// hashbag_ops::merge_ref(&mut all, &day)?;
+/// all.contains(&"bolt"); // 6
+/// day.contains(&"bolt"); // 3
+/// Ok(())
+/// ```
 pub fn merge_ref<
     T: Eq + Hash + Clone + Drop,
     S: BuildHasher + Drop,
@@ -188,9 +202,8 @@ pub fn merge_ref<
     ensures limit { into.new.most ≡ into.old.most }
     ensures hasher { into.new.hasher ≡ into.old.hasher }
     ensures err { OnErr result (into.new ≡ into.old) }
-    ensures too_many { into.old.most < length into.old.items + length from.now.items → result ≡ Err BagError.TooMany }
-    ensures refused { result ≡ Err BagError.TooMany → into.old.most < length into.old.items + length from.now.items }
-    ensures memory { length into.old.items + length from.now.items ≤ into.old.most → OnErr result (result ≡ Err BagError.Memory) }
+    ensures too_many { (result ≡ Err BagError.TooMany) ↔ (into.old.most < length into.old.items + length from.now.items) }
+    ensures only_memory { length into.old.items + length from.now.items ≤ into.old.most → IfErr result (λ e. e ≡ BagError.Memory) }
 {
     if into.limit() - into.len() < from.len() {
         return Err(BagError::TooMany);
@@ -199,18 +212,26 @@ pub fn merge_ref<
     merge(into, copy)
 }
 
-/// Keeps of each value as many as both bags have: the lesser of both counts. A value that `other` hasn't goes with its instance.
+/// Keeps of each value as many as both bags have: the lesser of both counts. A value that `other` lacks is removed, and its instance
+/// dropped.
 ///
-/// It takes no memory and is never refused. Each distinct value of `bag` is hashed once.
+/// # Complexity
 ///
-///     let mut stock: HashBag<&str> = HashBag::new(alloc);
-///     stock.insert_many("bolt", 5)?;
-///     stock.insert("nut")?;
-///     let mut order: HashBag<&str> = HashBag::new(alloc);
-///     order.insert_many("bolt", 3)?;
-///     keep_common(&mut stock, &order);
-///     assert_eq!(stock.contains(&"bolt"), 3);
-///     assert_eq!(stock.contains(&"nut"), 0);
+/// It hashes each distinct value of `bag` once. It doesn't allocate and can't fail.
+///
+/// # Examples
+///
+/// ```
+/// let mut stock: HashBag<&str> = HashBag::new(alloc);
+/// stock.insert_many("bolt", 5)?;
+/// stock.insert("nut")?;
+/// let mut order: HashBag<&str> = HashBag::new(alloc);
+/// order.insert_many("bolt", 3)?;
+/// hashbag_ops::keep_common(&mut stock, &order);
+/// stock.contains(&"bolt"); // 3
+/// stock.contains(&"nut"); // 0
+/// Ok(())
+/// ```
 pub fn keep_common<T: Eq + Hash + Drop, S: BuildHasher + Drop, S2: BuildHasher + Drop>(
     bag: &mut HashBag<T, S>,
     other: &HashBag<T, S2>,
@@ -229,18 +250,25 @@ pub fn keep_common<T: Eq + Hash + Drop, S: BuildHasher + Drop, S2: BuildHasher +
     );
 }
 
-/// Takes out of a bag what another has: of each value as many as there are in `other`, or all where they are fewer.
+/// Removes from a bag what another has: of each value as many as there are in `other`, or all if there are fewer.
 ///
-/// It takes no memory and is never refused. Each distinct value of `bag` is hashed once.
+/// # Complexity
 ///
-///     let mut stock: HashBag<&str> = HashBag::new(alloc);
-///     stock.insert_many("bolt", 5)?;
-///     let mut sold: HashBag<&str> = HashBag::new(alloc);
-///     sold.insert_many("bolt", 3)?;
-///     sold.insert("nut")?;
-///     take_away(&mut stock, &sold);
-///     assert_eq!(stock.contains(&"bolt"), 2);
-///     assert_eq!(stock.contains(&"nut"), 0);
+/// It hashes each distinct value of `bag` once. It doesn't allocate and can't fail.
+///
+/// # Examples
+///
+/// ```
+/// let mut stock: HashBag<&str> = HashBag::new(alloc);
+/// stock.insert_many("bolt", 5)?;
+/// let mut sold: HashBag<&str> = HashBag::new(alloc);
+/// sold.insert_many("bolt", 3)?;
+/// sold.insert("nut")?;
+/// hashbag_ops::take_away(&mut stock, &sold);
+/// stock.contains(&"bolt"); // 2
+/// stock.contains(&"nut"); // 0
+/// Ok(())
+/// ```
 pub fn take_away<T: Eq + Hash + Drop, S: BuildHasher + Drop, S2: BuildHasher + Drop>(
     bag: &mut HashBag<T, S>,
     other: &HashBag<T, S2>,
@@ -259,22 +287,34 @@ pub fn take_away<T: Eq + Hash + Drop, S: BuildHasher + Drop, S2: BuildHasher + D
     );
 }
 
-/// Brings each value up to the greater of the counts that both bags have of it, and uses `from` up.
+/// Raises each count in `into` to the greater of the counts in both bags, and uses `from` up.
 ///
-/// All goes in, or nothing. What `from` has more of is added, as [`merge`] does, so the limit of `into` stays. It answers
-/// `TooMany` exactly where the total of these greater counts would pass that limit, before anything grows, and `Memory` where memory
-/// is refused to room for the values that `into` lacks. Then `into` is unchanged, and `from` is dropped.
+/// Everything is added, or nothing. What `from` has more often is added as [`merge`] does, so the limit of `into` stays.
 ///
-/// Each distinct value of `from` is hashed three times at most; those of `into` where it grows.
+/// # Errors
 ///
-///     let mut needed: HashBag<&str> = HashBag::new(alloc);
-///     needed.insert_many("bolt", 2)?;
-///     let mut other: HashBag<&str> = HashBag::new(alloc);
-///     other.insert_many("bolt", 3)?;
-///     other.insert("nut")?;
-///     keep_most(&mut needed, other)?;
-///     assert_eq!(needed.contains(&"bolt"), 3);
-///     assert_eq!(needed.contains(&"nut"), 1);
+/// - `TooMany` exactly if the total of the greater counts would pass the limit of `into`. That is tested before anything grows.
+/// - `Memory` if an allocation of room for the values that `into` lacks fails.
+///
+/// Then `into` is unchanged, and `from` is dropped.
+///
+/// # Complexity
+///
+/// Each distinct value of `from` is hashed at most three times; those of `into` if it grows.
+///
+/// # Examples
+///
+/// ```
+/// let mut needed: HashBag<&str> = HashBag::new(alloc);
+/// needed.insert_many("bolt", 2)?;
+/// let mut other: HashBag<&str> = HashBag::new(alloc);
+/// other.insert_many("bolt", 3)?;
+/// other.insert("nut")?;
+/// hashbag_ops::keep_most(&mut needed, other)?;
+/// needed.contains(&"bolt"); // 3
+/// needed.contains(&"nut"); // 1
+/// Ok(())
+/// ```
 pub fn keep_most<T: Eq + Hash + Drop, S: BuildHasher + Drop, S2: BuildHasher + Drop>(
     into: &mut HashBag<T, S>,
     mut from: HashBag<T, S2>,
@@ -284,13 +324,13 @@ pub fn keep_most<T: Eq + Hash + Drop, S: BuildHasher + Drop, S2: BuildHasher + D
     ensures limit { into.new.most ≡ into.old.most }
     ensures hasher { into.new.hasher ≡ into.old.hasher }
     ensures err { OnErr result (into.new ≡ into.old) }
-    ensures fits { length into.old.items + length from.items ≤ into.old.most → OnErr result (result ≡ Err BagError.Memory) }
+    ensures fits { length into.old.items + length from.items ≤ into.old.most → IfErr result (λ e. e ≡ BagError.Memory) }
 
     // The total is that of every list with the greater counts: all these are equally long.
-    ensures too_many { (Z : List T) → IsUnion T.eq into.old.items from.items Z → into.old.most < length Z → result ≡ Err BagError.TooMany }
-    ensures refused { result ≡ Err BagError.TooMany → (Z : List T) → IsUnion T.eq into.old.items from.items Z → into.old.most < length Z }
-    ensures memory { (Z : List T) → IsUnion T.eq into.old.items from.items Z → length Z ≤ into.old.most
-        → OnErr result (result ≡ Err BagError.Memory) }
+    ensures too_many { (Z : List T) → IsUnion T.eq into.old.items from.items Z
+        → (result ≡ Err BagError.TooMany) ↔ (into.old.most < length Z) }
+    ensures only_memory { (Z : List T) → IsUnion T.eq into.old.items from.items Z → length Z ≤ into.old.most
+        → IfErr result (λ e. e ≡ BagError.Memory) }
 {
     take_away(&mut from, into);
     merge(into, from)

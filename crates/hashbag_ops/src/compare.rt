@@ -5,17 +5,23 @@ ghost use Rattle.hashbag.specs.Occurrences.{count};
 use hashbag::HashBag;
 use std::hash::{BuildHasher, Hash};
 
-/// Whether a bag holds all of another: of each value at least as many as `other` has.
+/// Returns whether a bag holds all of another: of each value at least as many as `other` has.
 ///
-/// It takes no memory, and stops at the first value of which there are too few. Each distinct value of `other` is hashed once at
-/// most.
+/// # Complexity
 ///
-///     let mut stock: HashBag<&str> = HashBag::new(alloc);
-///     stock.insert_many("bolt", 5)?;
-///     let mut order: HashBag<&str> = HashBag::new(alloc);
-///     order.insert_many("bolt", 3)?;
-///     assert!(contains_all(&stock, &order));
-///     assert!(!contains_all(&order, &stock));
+/// It hashes each distinct value of `other` at most once, stops at the first value of which there are too few, and doesn't allocate.
+///
+/// # Examples
+///
+/// ```
+/// let mut stock: HashBag<&str> = HashBag::new(alloc);
+/// stock.insert_many("bolt", 5)?;
+/// let mut order: HashBag<&str> = HashBag::new(alloc);
+/// order.insert_many("bolt", 3)?;
+/// hashbag_ops::contains_all(&stock, &order); // true
+/// hashbag_ops::contains_all(&order, &stock); // false
+/// Ok(())
+/// ```
 pub fn contains_all<T: Eq + Hash + Drop, S: BuildHasher + Drop, S2: BuildHasher + Drop>(
     bag: &HashBag<T, S>,
     other: &HashBag<T, S2>,
@@ -25,17 +31,24 @@ pub fn contains_all<T: Eq + Hash + Drop, S: BuildHasher + Drop, S2: BuildHasher 
     other.difference(bag).next().is_none()
 }
 
-/// Whether no value is in both bags.
+/// Returns whether no value is in both bags.
 ///
-/// It takes no memory, walks over the bag that has fewer distinct values, and stops at the first that the other has too. Each of
-/// these is hashed once.
+/// # Complexity
 ///
-///     let mut fruit: HashBag<&str> = HashBag::new(alloc);
-///     fruit.insert("apple")?;
-///     let mut nuts: HashBag<&str> = HashBag::new(alloc);
-///     nuts.insert("hazel")?;
-///     assert!(is_disjoint(&fruit, &nuts));
-///     assert!(!is_disjoint(&fruit, &fruit));
+/// It walks over the bag that has fewer distinct values, hashes each at most once, and stops at the first that the other has too. It
+/// doesn't allocate.
+///
+/// # Examples
+///
+/// ```
+/// let mut fruit: HashBag<&str> = HashBag::new(alloc);
+/// fruit.insert("apple")?;
+/// let mut nuts: HashBag<&str> = HashBag::new(alloc);
+/// nuts.insert("hazel")?;
+/// hashbag_ops::is_disjoint(&fruit, &nuts); // true
+/// hashbag_ops::is_disjoint(&fruit, &fruit); // false
+/// Ok(())
+/// ```
 pub fn is_disjoint<T: Eq + Hash + Drop, S: BuildHasher + Drop, S2: BuildHasher + Drop>(
     a: &HashBag<T, S>,
     b: &HashBag<T, S2>,
@@ -49,7 +62,7 @@ pub fn is_disjoint<T: Eq + Hash + Drop, S: BuildHasher + Drop, S2: BuildHasher +
     }
 }
 
-// Whether no value of the bag that is walked over is in the other one.
+// Returns whether no value of the bag that is walked over is in the other one.
 fn has_none_of<T: Eq + Hash + Drop, S: BuildHasher + Drop, S2: BuildHasher + Drop>(
     walked: &HashBag<T, S>,
     other: &HashBag<T, S2>,

@@ -1,5 +1,5 @@
-//! What follows from the contracts of several calls together: that bags may be merged in any order and in any groups, that what was
-//! merged can be taken away again, and that a list may be counted in parts.
+//! What follows from the contracts of several calls together: that bags may be merged in any order and in any groups, that what was merged
+//! can be taken away again, and that a list may be counted in parts.
 //!
 //! Each is a function that is proved, which callers can copy.
 ghost use Rattle.std.specs.Prelude.{◌≡◌, ◌++◌, IsTrue, OnOk, IfOk};
@@ -10,7 +10,11 @@ use hashbag::{BagError, HashBag};
 use std::alloc::Global;
 use std::hash::{BuildHasher, Hash};
 
-/// Merges two bags, and two with the same counts the other way round, and answers whether the sums are equal: they are.
+/// Merges two bags, and two with the same counts the other way round, and returns whether the sums are equal: they are.
+///
+/// # Errors
+///
+/// `TooMany` or `Memory` if a merge fails.
 pub fn merges_commute<T: Eq + Hash + Drop, S: BuildHasher + Drop>(
     mut a: HashBag<T, S>,
     b: HashBag<T, S>,
@@ -26,8 +30,11 @@ pub fn merges_commute<T: Eq + Hash + Drop, S: BuildHasher + Drop>(
     Ok(a == same_b)
 }
 
-/// Merges three bags from the left, and three with the same counts from the right, and answers whether the sums are equal: they
-/// are.
+/// Merges three bags from the left, and three with the same counts from the right, and returns whether the sums are equal: they are.
+///
+/// # Errors
+///
+/// `TooMany` or `Memory` if a merge fails.
 pub fn merges_associate<T: Eq + Hash + Drop, S: BuildHasher + Drop>(
     mut a: HashBag<T, S>,
     b: HashBag<T, S>,
@@ -49,6 +56,10 @@ pub fn merges_associate<T: Eq + Hash + Drop, S: BuildHasher + Drop>(
 }
 
 /// Merges a bag into another, and takes one with the same counts away again: each value then occurs as often as before.
+///
+/// # Errors
+///
+/// `TooMany` or `Memory` if the merge fails.
 pub fn put_in_and_taken_out<
     T: Eq + Hash + Drop,
     S: BuildHasher + Drop,
@@ -63,7 +74,11 @@ pub fn put_in_and_taken_out<
     Ok(())
 }
 
-/// Counts a list in two parts and merges them: each value is counted as often as it stands in the whole list.
+/// Counts a list in two parts and merges them: each value is counted as often as it occurs in the whole list.
+///
+/// # Errors
+///
+/// `TooMany` or `Memory` if an insertion or the merge fails.
 pub fn count_in_parts<T: Eq + Hash + Drop>(
     alloc: Global,
     first: Vec<T>,

@@ -1,8 +1,8 @@
-//! What is done with whole bags: sums, common parts, what is left of one when another is taken away, the greater of both, whether
-//! one holds all of another, the pairs in the order of their values, and the commonest.
+//! Operations on whole bags: sums, common parts, what is left of one bag after another is taken away, the greater of both, whether one
+//! holds all of another, the pairs in the order of their values, and the commonest.
 //!
-//! Each contract is a sentence about counts: how often each value occurs afterwards, by how often it occurred before. What
-//! follows from several calls together is proved in [`laws`].
+//! Each contract is a sentence about counts: how often each value occurs afterwards, from how often it occurred before. What follows from
+//! several calls together is proved in [`laws`].
 #![tactic(auto)]
 
 pub mod combine;

@@ -13,18 +13,28 @@ use std::cmp::{Ordering, Reverse};
 use std::collections::BinaryHeap;
 use std::hash::{BuildHasher, Hash};
 
-/// The distinct values of a bag with their counts, values rising: so bags with the same counts give lists with the same counts,
+/// Returns the distinct values of a bag with their counts, values rising. Bags with the same counts give lists with the same counts,
 /// whatever their history and states.
 ///
-/// It takes memory for the list, at once, and answers `Memory` where that is refused. It hashes nothing, and compares as often as a
-/// sort of so many pairs does.
+/// # Errors
 ///
-///     let mut words: HashBag<&str> = HashBag::new(alloc);
-///     words.insert_many("the", 3)?;
-///     words.insert("cat")?;
-///     let pairs = sorted(alloc, &words)?;
-///     assert_eq!(*pairs[0].0, "cat");
-///     assert_eq!(pairs[1].1, 3);
+/// `Memory` if the allocation of the list fails.
+///
+/// # Complexity
+///
+/// It allocates the list at once, hashes nothing, and compares as often as a sort of as many pairs does.
+///
+/// # Examples
+///
+/// ```
+/// let mut words: HashBag<&str> = HashBag::new(alloc);
+/// words.insert_many("the", 3)?;
+/// words.insert("cat")?;
+/// let pairs = hashbag_ops::sorted(alloc, &words)?;
+/// pairs[0].0; // "cat"
+/// pairs[1].1; // 3
+/// Ok(())
+/// ```
 pub fn sorted<'a, T: Ord + Hash + Drop, S: BuildHasher + Drop>(
     alloc: Global,
     bag: &'a HashBag<T, S>,
@@ -38,22 +48,34 @@ pub fn sorted<'a, T: Ord + Hash + Drop, S: BuildHasher + Drop>(
     Ok(pairs)
 }
 
-/// The `k` commonest values of a bag with their counts, or all where there are fewer: counts falling, and values that occur as often
-/// rising. They are the first of the one list of all values in that order, so which they are is never open.
+/// Returns the `k` commonest values of a bag with their counts, or all if there are fewer: counts falling, and values that occur equally
+/// often rising. They are the first of the one list of all values in that order.
 ///
-/// It hashes nothing. Where `k` is less than the number of distinct values, it takes memory for a heap of `k` pairs, at once, and then
-/// for the list of them, so none where `k` is 0. It compares each pair once with the last of the first `k` so far, and only where it
-/// takes the place of that one up to `3 * log2(k)` times more; and to fill and to sort the heap up to `3 * k * log2(k)` times. Else it
-/// takes memory for a list of all pairs, at once, and compares as often as a sort of them does. It answers `Memory` where memory is
-/// refused.
+/// # Errors
 ///
-///     let mut words: HashBag<&str> = HashBag::new(alloc);
-///     words.insert_many("the", 3)?;
-///     words.insert("sat")?;
-///     words.insert("cat")?;
-///     let pairs = most_common(alloc, &words, 2)?;
-///     assert_eq!(*pairs[0].0, "the");
-///     assert_eq!(*pairs[1].0, "cat");
+/// `Memory` if an allocation fails.
+///
+/// # Complexity
+///
+/// It hashes nothing. Let there be n distinct values.
+///
+/// - If `k` is at least n, it allocates a list of all pairs at once, and compares as often as a sort of them does.
+/// - Else it allocates a heap of `k` pairs at once, and then their list; nothing if `k` is 0. It compares each pair once with the last of
+///   the first `k` so far. If the pair replaces that one, it compares up to `3 * log2(k)` times more. To fill and to sort the heap it
+///   compares up to `3 * k * log2(k)` times.
+///
+/// # Examples
+///
+/// ```
+/// let mut words: HashBag<&str> = HashBag::new(alloc);
+/// words.insert_many("the", 3)?;
+/// words.insert("sat")?;
+/// words.insert("cat")?;
+/// let pairs = hashbag_ops::most_common(alloc, &words, 2)?;
+/// pairs[0].0; // "the"
+/// pairs[1].0; // "cat"
+/// Ok(())
+/// ```
 pub fn most_common<'a, T: Ord + Hash + Drop, S: BuildHasher + Drop>(
     alloc: Global,
     bag: &'a HashBag<T, S>,
@@ -74,14 +96,21 @@ pub fn most_common<'a, T: Ord + Hash + Drop, S: BuildHasher + Drop>(
     Ok(pairs)
 }
 
-/// How often the commonest values of a bag occur, and 0 where it is empty.
+/// Returns how often the commonest values of a bag occur, 0 if it is empty.
 ///
-/// It takes no memory and hashes nothing, and goes once over the distinct values.
+/// # Complexity
 ///
-///     let mut words: HashBag<&str> = HashBag::new(alloc);
-///     words.insert_many("the", 3)?;
-///     words.insert("cat")?;
-///     assert_eq!(max_count(&words), 3);
+/// It reads each distinct value once, hashes nothing and doesn't allocate.
+///
+/// # Examples
+///
+/// ```
+/// let mut words: HashBag<&str> = HashBag::new(alloc);
+/// words.insert_many("the", 3)?;
+/// words.insert("cat")?;
+/// hashbag_ops::max_count(&words); // 3
+/// Ok(())
+/// ```
 pub fn max_count<T: Eq + Hash + Drop, S: BuildHasher + Drop>(bag: &HashBag<T, S>) -> usize
     ensures most { (v : T) → count T.eq v bag.now.items ≤ result }
     ensures reached { 0 < result → (v : T) × (count T.eq v bag.now.items ≡ result) }
@@ -93,7 +122,7 @@ pub fn max_count<T: Eq + Hash + Drop, S: BuildHasher + Drop>(bag: &HashBag<T, S>
     greatest
 }
 
-// The `k` commonest, by a heap.
+// Returns the `k` commonest, by a heap.
 fn first_ranked<'a, T: Ord + Hash + Drop, S: BuildHasher + Drop>(
     alloc: Global,
     bag: &'a HashBag<T, S>,
@@ -112,7 +141,7 @@ fn first_ranked<'a, T: Ord + Hash + Drop, S: BuildHasher + Drop>(
     Ok(pairs)
 }
 
-// The heap of them, the last at its top. Room for all is taken at once.
+// Returns the heap of them, the last at its top. Room for all is allocated at once.
 fn heap_of_first<'a, T: Ord + Hash + Drop, S: BuildHasher + Drop>(
     alloc: Global,
     bag: &'a HashBag<T, S>,
@@ -129,8 +158,7 @@ fn heap_of_first<'a, T: Ord + Hash + Drop, S: BuildHasher + Drop>(
     Ok(heap)
 }
 
-// Takes a pair into a heap of the first `k`. Where they are `k` already, it does so only if the pair comes before the last of them,
-// and that one goes.
+// Offers a pair to a heap of the first `k`. If the heap has `k` already, the pair replaces the last of them if it comes before it.
 fn offer<'a, T: Ord>(
     heap: &mut BinaryHeap<(Reverse<usize>, &'a T)>,
     k: usize,
@@ -155,7 +183,7 @@ fn offer<'a, T: Ord>(
     Ok(())
 }
 
-// The distinct values with their counts, in the order of a walk. Room for all of them is taken at once.
+// Returns the distinct values with their counts, in the order of a walk. Room for all of them is allocated at once.
 fn listed<'a, T: Eq + Hash + Drop, S: BuildHasher + Drop>(
     alloc: Global,
     bag: &'a HashBag<T, S>,

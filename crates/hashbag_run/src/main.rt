@@ -6,10 +6,10 @@
 mod tests;
 
 use clap::Command;
+use hashbag_run_core::execute::execute;
 use hashbag_shell::VERSION;
 use hashbag_shell::arguments::{arguments, explain};
 use hashbag_shell::status::NO_MEMORY;
-use hashbag_text::execute::execute;
 use std::alloc::Global;
 use std::process::ExitCode;
 

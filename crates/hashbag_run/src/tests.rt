@@ -1,5 +1,5 @@
 //! Whole runs of the program over readers and writers in memory.
-use hashbag_text::execute::execute;
+use hashbag_run_core::execute::execute;
 use std::alloc::{AllocError, Global};
 use std::fmt::Write as _;
 use std::io::{ErrorKind, Read, Write};
@@ -24,7 +24,7 @@ const TWO_BAGS_OUTPUT: &str = "a count 0\na count 1\na count 3\na count 7\n\
 // The trees of two empty bags.
 const EMPTY: &str = "a json []\nb json []\n";
 
-// Gives its text in pieces of so many bytes. The read of the number `fails_at`, from 1, fails.
+// Gives its text in pieces of at most `piece` bytes. The read of the number `fails_at`, from 1, fails.
 #[derive(Drop)]
 struct Pieces<'a> {
     left: &'a [u8],
@@ -267,7 +267,7 @@ fn refuses_hostile_lines(rt: HostRuntime) -> Result<(), Fail> {
     Ok(())
 }
 
-// So many insertions of 7, eleven bytes each, and what they answer.
+// Returns `n` insertions of 7, eleven bytes each, and their replies.
 fn insertions(alloc: Global, n: usize) -> Result<(String, String), AllocError> {
     let mut input = String::new(alloc);
     let mut wanted = String::new(alloc);

@@ -26,9 +26,6 @@ pub on_ok_all : {A E : Type 0} (P Q R W : Type 0) (r : Result A E) → OnOk r P 
 on_ok_all P Q R W (Ok x) p q h all = all p q h
 on_ok_all P Q R W (Err e) p q h all = tt
 
-same_number : {T : Type 0} (n m : ℕ) (s : Step T) → s ≡ Reserve n → s ≡ Reserve m → n ≡ m
-same_number n m s p q = cc
-
 module _ {T : Type 0} (eq : T → T → Bool) (most : ℕ) (X : List T) (s : Step T) (old new : Tables T) where
   -- a step that isn't about room
   pub turns_quiet : is_about_room s ≡ false → Moves (newcomers eq X (step eq most X s).0) old new → LeavesTables eq most X s old new
@@ -41,20 +38,6 @@ module _ {T : Type 0} (eq : T → T → Bool) (most : ℕ) (X : List T) (s : Ste
   pub on_ok_quiet : {A E : Type 0} (r : Result A E) → is_about_room s ≡ false → OnOk r (Moves (newcomers eq X (step eq most X s).0) old new) → OnOk r (LeavesTables eq most X s old new)
   on_ok_quiet (Ok x) quiet moves = turns_quiet quiet moves
   on_ok_quiet (Err e) quiet moves = tt
-
-  pub turns_reserved : (n : ℕ) → s ≡ Reserve n → ReservesOrStays n (distinct_count eq X) old new → LeavesTables eq most X s old new
-  turns_reserved n is done = record {
-    moves = λ quiet. absurd (false≢true (sym quiet ∙ ap is_about_room is));
-    reserves = λ m too. subst (λ k. ReservesOrStays k (distinct_count eq X) old new) (same_number n m s is too) done;
-    shrinks = λ too. absurd (false≢true (sym (ap is_reserve too) ∙ ap is_reserve is));
-  }
-
-  pub turns_shrunk : s ≡ ShrinkToFit → ShrinksOrStays (distinct_count eq X) old new → LeavesTables eq most X s old new
-  turns_shrunk is done = record {
-    moves = λ quiet. absurd (false≢true (sym quiet ∙ ap is_about_room is));
-    reserves = λ n too. absurd (false≢true (sym (ap is_reserve is) ∙ ap is_reserve too));
-    shrinks = λ _. done;
-  }
 
 module _ {T : Type 0} (eq : T → T → Bool) where
   -- one more step at the end of a run

@@ -1,5 +1,5 @@
 //! Whole runs of steps on a bag.
-ghost use Rattle.std.specs.Prelude.{◌≡◌, ◌+◌, ◌≤◌, ◌++◌, List, true, false, length, IsOk, IfOk, OnOk, OnErr};
+ghost use Rattle.std.specs.Prelude.{◌≡◌, ◌+◌, ◌≤◌, ◌++◌, List, true, false, length, IsOk, IfOk, IfErr, OnOk, OnErr};
 ghost use Rattle.hashbag_core.specs.Bag.{Means, IsBagOf, limited};
 ghost use Rattle.hashbag_core.specs.Occurrences.{IsBag};
 ghost use Rattle.hashbag_script.specs.Pairs.{ran, HasNoRoom, IsNotBegun, IsRunCutOff};
@@ -19,27 +19,27 @@ use std::hash::{BuildHasher, Hash};
 /// A call on a bag.
 #[derive(Debug, PartialEq, Eq, Drop)]
 pub enum Step<T> {
-    /// [`HashBag::insert`], or `TooMany` where the total would pass the limit.
+    /// [`HashBag::insert`], or `TooMany` if the total would pass the limit.
     Insert(T),
-    /// [`HashBag::insert_many`], or `TooMany` where the total would pass the limit.
+    /// [`HashBag::insert_many`], or `TooMany` if the total would pass the limit.
     InsertMany(T, usize),
-    /// [`HashBag::replace`], or `TooMany` where the total would pass the limit.
+    /// [`HashBag::replace`], or `TooMany` if the total would pass the limit.
     Replace(T),
     /// [`HashBag::remove`].
     Remove(T),
     /// [`HashBag::remove_up_to`].
     RemoveUpTo(T, usize),
-    /// [`HashBag::try_take`]: `Taken` with 1 for the last occurrence, `Left` with the count before where more were there.
+    /// [`HashBag::try_take`]: `Taken` with 1 for the last occurrence, `Left` with the count before if there were more.
     TryTake(T),
     /// [`HashBag::take_all`].
     TakeAll(T),
-    /// [`HashBag::entry`] with `and_modify` that sets the count: `Absent` where the value isn't there, `TooMany` where the total
-    /// would pass the limit.
+    /// [`HashBag::entry`] with `and_modify` that sets the count: `Absent` if the value is absent, `TooMany` if the total would pass the
+    /// limit.
     EntrySet(T, usize),
-    /// [`HashBag::entry`] with `or_insert_many`, or `TooMany` where the total would pass the limit.
+    /// [`HashBag::entry`] with `or_insert_many`, or `TooMany` if the total would pass the limit.
     EntryOr(T, usize),
-    /// [`HashBag::retain`]: a value keeps at most as many as the number beside the first value of the list that is equal to it, and
-    /// goes where there is none.
+    /// [`HashBag::retain`]: a value keeps at most as many as the number of the first value in the list that is equal to it. If there is
+    /// none, it is removed.
     Retain(Vec<(T, usize)>),
     /// [`HashBag::clear`].
     Clear,
@@ -49,22 +49,22 @@ pub enum Step<T> {
     Reserve(usize),
     /// [`HashBag::shrink_to_fit`].
     ShrinkToFit,
-    /// [`HashBag::set_limit`]: `Done`, or `BelowTotal` where that is below the total.
+    /// [`HashBag::set_limit`]: `Done`, or `BelowTotal` if that is below the total.
     Limit(usize),
 }
 
-/// What a step answers.
+/// The reply of a step.
 #[derive(Debug, PartialEq, Eq, Drop)]
 pub enum Reply<T> {
     /// A number of occurrences of the value.
     Count(usize),
-    /// One occurrence was taken of as many as this.
+    /// One occurrence was removed, and this is the count before.
     Left(usize),
-    /// The stored instance, and how many occurrences were taken with it.
+    /// All occurrences were removed: the stored instance, and how many there were.
     Taken(T, usize),
-    /// The value doesn't occur.
+    /// The value is absent.
     Absent,
-    /// The call answers nothing.
+    /// The call was made, and returns nothing.
     Done,
     /// The total would have passed the limit, and nothing changed.
     TooMany,
@@ -72,7 +72,7 @@ pub enum Reply<T> {
     BelowTotal,
 }
 
-// Adds occurrences, if the bag can have them.
+// Inserts occurrences, if the total can have them.
 fn insert<T: Eq + Hash + Drop, S: BuildHasher + Drop>(
     bag: &mut HashBag<T, S>,
     value: T,
@@ -80,13 +80,13 @@ fn insert<T: Eq + Hash + Drop, S: BuildHasher + Drop>(
 ) -> Result<Reply<T>, BagError>
     ensures reply { IfOk result (λ reply. reply ≡ (insert_row T.eq bag.old.most value n bag.old.items).1) }
     ensures left { OnOk result (IsBagOf T.eq bag.old (insert_row T.eq bag.old.most value n bag.old.items).0 bag.new) }
-    ensures memory { OnErr result (result ≡ Err BagError.Memory) }
-    ensures refused { OnErr result (IsRefusedInsertion T.eq bag.old.most value n bag.old.items) }
+    ensures memory { IfErr result (λ e. e ≡ BagError.Memory) }
+    ensures asked { OnErr result (IsRefusedInsertion T.eq bag.old.most value n bag.old.items) }
     ensures err { OnErr result (bag.new ≡ bag.old) }
     ensures takes { HasRoomFor T.eq bag.old (insert_row T.eq bag.old.most value n bag.old.items).0 → IsOk result }
     ensures room { OnOk result (MovesIn T.eq (insert_row T.eq bag.old.most value n bag.old.items).0 bag.old bag.new) }
 {
-    // `len` is called for its clause that the list is a bag's, which the proof cites.
+    // `len` is called for its clause that the list is a bag's, which the proof names.
     let _len = bag.len();
     match bag.insert_many(value, n) {
         Ok(before) => Ok(Reply::Count(before)),
@@ -103,13 +103,13 @@ fn replace<T: Eq + Hash + Drop, S: BuildHasher + Drop>(
 ) -> Result<Reply<T>, BagError>
     ensures reply { IfOk result (λ reply. reply ≡ (replace_row T.eq bag.old.most value bag.old.items).1) }
     ensures left { OnOk result (IsBagOf T.eq bag.old (replace_row T.eq bag.old.most value bag.old.items).0 bag.new) }
-    ensures memory { OnErr result (result ≡ Err BagError.Memory) }
-    ensures refused { OnErr result (IsRefusedInsertion T.eq bag.old.most value 1 bag.old.items) }
+    ensures memory { IfErr result (λ e. e ≡ BagError.Memory) }
+    ensures asked { OnErr result (IsRefusedInsertion T.eq bag.old.most value 1 bag.old.items) }
     ensures err { OnErr result (bag.new ≡ bag.old) }
     ensures takes { HasRoomFor T.eq bag.old (replace_row T.eq bag.old.most value bag.old.items).0 → IsOk result }
     ensures room { OnOk result (MovesIn T.eq (replace_row T.eq bag.old.most value bag.old.items).0 bag.old bag.new) }
 {
-    // `len` is called for its clause that the list is a bag's, which the proof cites.
+    // `len` is called for its clause that the list is a bag's, which the proof names.
     let _len = bag.len();
     match bag.replace(value) {
         Ok(before) => Ok(Reply::Count(before)),
@@ -119,7 +119,7 @@ fn replace<T: Eq + Hash + Drop, S: BuildHasher + Drop>(
     }
 }
 
-// Takes one occurrence, and answers it where it was the last.
+// Removes one occurrence, and returns it if it was the last.
 fn try_take<T: Eq + Hash + Drop, S: BuildHasher + Drop>(
     bag: &mut HashBag<T, S>,
     value: &T,
@@ -135,7 +135,7 @@ fn try_take<T: Eq + Hash + Drop, S: BuildHasher + Drop>(
     }
 }
 
-// Takes all occurrences, and answers them.
+// Removes all occurrences, and returns the instance with the count.
 fn take_all<T: Eq + Hash + Drop, S: BuildHasher + Drop>(
     bag: &mut HashBag<T, S>,
     value: &T,
@@ -150,7 +150,7 @@ fn take_all<T: Eq + Hash + Drop, S: BuildHasher + Drop>(
     }
 }
 
-// Sets the count of a value that is there, if the total can have it.
+// Sets the count of a present value, if the total can have it.
 fn entry_set<T: Eq + Hash + Drop, S: BuildHasher + Drop>(
     bag: &mut HashBag<T, S>,
     value: T,
@@ -177,7 +177,7 @@ fn entry_set<T: Eq + Hash + Drop, S: BuildHasher + Drop>(
     }
 }
 
-// Puts in occurrences of a value that isn't there, if the total can have them.
+// Inserts occurrences of an absent value, if the total can have them.
 fn entry_or<T: Eq + Hash + Drop, S: BuildHasher + Drop>(
     bag: &mut HashBag<T, S>,
     value: T,
@@ -185,13 +185,13 @@ fn entry_or<T: Eq + Hash + Drop, S: BuildHasher + Drop>(
 ) -> Result<Reply<T>, BagError>
     ensures reply { IfOk result (λ reply. reply ≡ (entry_or_row T.eq bag.old.most value quantity bag.old.items).1) }
     ensures left { OnOk result (IsBagOf T.eq bag.old (entry_or_row T.eq bag.old.most value quantity bag.old.items).0 bag.new) }
-    ensures memory { OnErr result (result ≡ Err BagError.Memory) }
-    ensures refused { OnErr result (IsRefusedInsertion T.eq bag.old.most value quantity bag.old.items) }
+    ensures memory { IfErr result (λ e. e ≡ BagError.Memory) }
+    ensures asked { OnErr result (IsRefusedInsertion T.eq bag.old.most value quantity bag.old.items) }
     ensures err { OnErr result (bag.new ≡ bag.old) }
     ensures takes { HasRoomFor T.eq bag.old (entry_or_row T.eq bag.old.most value quantity bag.old.items).0 → IsOk result }
     ensures room { OnOk result (MovesIn T.eq (entry_or_row T.eq bag.old.most value quantity bag.old.items).0 bag.old bag.new) }
 {
-    // `len` is called for its clause that the list is a bag's, which the proof cites.
+    // `len` is called for its clause that the list is a bag's, which the proof names.
     let _len = bag.len();
     match bag.entry(value).or_insert_many(quantity) {
         Ok(count) => Ok(Reply::Count(count)),
@@ -201,7 +201,7 @@ fn entry_or<T: Eq + Hash + Drop, S: BuildHasher + Drop>(
     }
 }
 
-// The number beside the first value of the list that is equal to this one, 0 where there is none.
+// Returns the number of the first value in the list that is equal to this one, 0 if there is none.
 fn quota<T: Eq>(list: &[(T, usize)], value: &T) -> usize
     ensures { result ≡ quota_of T.eq list.now value.now }
 {
@@ -211,12 +211,12 @@ fn quota<T: Eq>(list: &[(T, usize)], value: &T) -> usize
     }
 }
 
-// Leaves of each value at most as many as the list says.
+// Keeps of each value at most as many as the list says.
 fn retain<T: Eq + Hash + Drop, S: BuildHasher + Drop>(bag: &mut HashBag<T, S>, list: &[(T, usize)])
     ensures left { IsBagOf T.eq bag.old (retain_row T.eq list.now bag.old.items).0 bag.new }
     ensures room { KeepsRoom 0 bag.old.tables bag.new.tables }
 {
-    // `len` is called for its clause that the list is a bag's, which the proof cites.
+    // `len` is called for its clause that the list is a bag's, which the proof names.
     let _len = bag.len();
     bag.retain(
         |value: &T, _count: usize| -> usize
@@ -240,7 +240,7 @@ fn set_limit<T: Eq + Hash + Drop, S: BuildHasher + Drop>(
     }
 }
 
-// Does one step, and answers it.
+// Does one step, and returns its reply.
 fn apply<T: Eq + Hash + Drop, S: BuildHasher + Drop>(
     bag: &mut HashBag<T, S>,
     step: Step<T>,
@@ -251,19 +251,19 @@ fn apply<T: Eq + Hash + Drop, S: BuildHasher + Drop>(
     ensures hasher { OnOk result (bag.new.hasher ≡ bag.old.hasher) }
     ensures bag { IsBag T.eq bag.old.most bag.old.items }
 
-    // Only memory can be refused, and only to a step that asks for it.
-    ensures memory { OnErr result (result ≡ Err BagError.Memory) }
-    ensures refused { OnErr result (AsksForMemory T.eq bag.old.most bag.old.items step) }
+    // Only an allocation can fail, and only in a step that allocates.
+    ensures memory { IfErr result (λ e. e ≡ BagError.Memory) }
+    ensures asked { OnErr result (AsksForMemory T.eq bag.old.most bag.old.items step) }
     ensures err { OnErr result (bag.new ≡ bag.old) }
 
-    // What it leaves of the tables: a step that isn't about room keeps them but for the value that it brings in, for which a new table is
-    // made where there is no room. Only one that asks for room makes a larger table for other reasons.
+    // What it leaves of the tables: a step that isn't about room keeps them but for an absent value that it inserts; without room a new
+    // table is made for that. Only a step that reserves room makes a larger table for another reason.
     ensures takes { is_about_room step ≡ false → HasRoomFor T.eq bag.old (step_of T.eq bag.old.most bag.old.items step).0 → IsOk result }
     ensures turns { OnOk result (LeavesTables T.eq bag.old.most bag.old.items step bag.old.tables bag.new.tables) }
     ensures fewer { OnOk result (is_about_room step ≡ true → is_reserve step ≡ false
         → length bag.new.tables.newer ≤ length bag.old.tables.newer) }
 {
-    // `len` is called for its clause that the list is a bag's, which the proof cites.
+    // `len` is called for its clause that the list is a bag's, which the proof names.
     let _len = bag.len();
     match step {
         Step::Insert(value) => insert(bag, value, 1),
@@ -296,12 +296,21 @@ fn apply<T: Eq + Hash + Drop, S: BuildHasher + Drop>(
     }
 }
 
-/// Does the steps in turn, and appends a reply for each.
+/// Does the steps in turn, and appends a reply for each. No value is copied.
 ///
-/// Room for all replies is taken first: where it is refused, nothing changes. Then only an insertion of a value that is
-/// absent (`Replace` and `EntryOr` too), `Reserve` and `ShrinkToFit` can be refused for memory. The run stops there with `Memory`: the
-/// steps before it have their replies and are done, that step left the bag as it was, and the rest of the steps is
-/// dropped. A total that would pass the limit is the reply `TooMany`, and no error. No value is copied.
+/// A total that would pass the limit is the reply `TooMany`, and no error.
+///
+/// # Errors
+///
+/// `Memory` if an allocation fails. If it is that for all replies, which is the first, nothing changes. Else the run stops at the step that
+/// failed: the steps before it are done and have their replies, the bag is as that step found it, and the other steps are dropped. A step
+/// can fail so if it inserts an absent value (also `Replace` and `EntryOr`), or is `Reserve` or `ShrinkToFit`.
+///
+/// # Complexity
+///
+/// The replies are allocated at once. Each step costs what its call costs, and a `Retain` reads its list for each distinct value.
+///
+/// # Examples
 ///
 /// ```
 /// let mut bag = HashBag::new(alloc);
@@ -316,6 +325,8 @@ pub fn run<T: Eq + Hash + Drop, S: BuildHasher + Drop>(
     steps: Vec<Step<T>>,
     replies: &mut Vec<Reply<T>>,
 ) -> Result<(), BagError>
+    // Ten clauses, since a run is told of as a list, as one that memory stops, and as tables of slots.
+    //
     // Each step replies as the plain list of occurrences replies, whichever list the bag means, and the bag then means
     // what that list has become.
     ensures replies { OnOk result ((X : List T) → Means bag.old X
@@ -324,34 +335,34 @@ pub fn run<T: Eq + Hash + Drop, S: BuildHasher + Drop>(
     ensures limit { OnOk result ((X : List T) → Means bag.old X → bag.new.most ≡ limit_left T.eq bag.old.most X steps.items) }
     ensures hasher { bag.new.hasher ≡ bag.old.hasher }
 
-    // Only memory stops a run: either nothing was done, since there was no room for the replies, or the steps that have
-    // replies are the run.
-    ensures memory { OnErr result (result ≡ Err BagError.Memory) }
+    // Only a failed allocation stops a run. Either it was that of the replies, and nothing was done; or the steps that have replies are the
+    // run.
+    ensures memory { IfErr result (λ e. e ≡ BagError.Memory) }
     ensures stopped { OnErr result (IsRunCutOff T.eq (HasNoRoom replies.old steps)
         (ran bag.old bag.new steps.items replies.old.items replies.new.items)) }
 
-    // Where the tables have room for all values that it brings in, and no step is about room, a run keeps its slots, and nothing
-    // but the room for the replies can be refused.
+    // If the tables have room for all values that arrive, and no step is about room, a run keeps its slots. Then only the allocation of the
+    // replies can fail.
     ensures slots { IfRoomy T.eq bag.old steps.items (length bag.new.tables.newer ≡ length bag.old.tables.newer) }
-    ensures takes { IfRoomy T.eq bag.old steps.items (OnErr result (IsNotBegun (HasNoRoom replies.old steps)
+    ensures roomy { IfRoomy T.eq bag.old steps.items (OnErr result (IsNotBegun (HasNoRoom replies.old steps)
         (ran bag.old bag.new steps.items replies.old.items replies.new.items))) }
 
-    // What the steps that have replies leave of an empty bag with no slots, whether or not the run was stopped: as many slots as their
-    // most distinct values need, and as many built as the values that came pay for.
+    // What the steps that have replies leave of an empty bag without slots, whether or not the run was stopped: the most distinct values on
+    // the way bound the slots, and the values that arrived bound those that were built.
     ensures bounded { IsBoundedRun T.eq (ran bag.old bag.new steps.items replies.old.items replies.new.items) }
 
-    // The tables follow from those before by what each step with a reply owes to them, in turn: what asked for room got it, and what gave
-    // it back left a smaller table, or all stayed.
+    // The tables follow from those before by the steps with a reply, in turn: a step that reserved room got it, and one that freed room
+    // left the least table, or nothing changed.
     ensures tables { AreTablesInTurn T.eq (ran bag.old bag.new steps.items replies.old.items replies.new.items) }
 {
-    // `slots` and `waiting` are called for their clauses on the tables, which the proof cites.
+    // `slots` and `waiting` are called for their clauses on the tables, which the proof names.
     let _slots = bag.slots();
     let _waiting = bag.waiting();
     replies.reserve(steps.len())?;
     for step in steps {
         let reply = apply(bag, step)?;
         replies.push_reserved(reply);
-        // `slots` and `waiting` are called for their clauses on the tables, which the proof cites.
+        // `slots` and `waiting` are called for their clauses on the tables, which the proof names.
         let _slots = bag.slots();
         let _waiting = bag.waiting();
     }

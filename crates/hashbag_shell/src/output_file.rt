@@ -6,7 +6,7 @@ use std::fs::{self, OpenFile, OpenOptions};
 use std::io::{self, ErrorKind, Write};
 use std::rt::Files;
 
-// At most so many names are tried for the temporary file.
+// The greatest number of names that are tried for the temporary file.
 const NAMES: u32 = 1000;
 
 // What is renamed onto what.
@@ -119,7 +119,7 @@ impl<F: Write + OpenFile + Drop> OutputFile<F> {
         written
     }
 
-    /// Removes the temporary file, where there is nothing to write after all.
+    /// Removes the temporary file, if there is nothing to write after all.
     pub fn abandon<R: Files<File = F>>(self, rt: &R) {
         if let Some(names) = &self.names {
             let _ = fs::remove_file(rt, names.temporary.as_str());

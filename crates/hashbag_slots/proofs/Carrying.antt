@@ -1,12 +1,12 @@
 -- Slots of the older table that are carried, and pairs that are placed in the newer one.
-use Rattle.std.proofs.Common.{◌≡◌, ℕ, zero, suc, ◌+◌, ◌-◌, ◌<◌, ◌≤◌, Bool, false, List, [], ◌∷◌, ◌++◌, length, take, drop, get_or, refl, sym, ap, subst, ◌∙◌, inl, inr, arith, slice_set}
+use Rattle.std.proofs.Common.{◌≡◌, ℕ, zero, suc, ◌+◌, ◌-◌, ◌<◌, ◌≤◌, Bool, false, List, [], ◌∷◌, ◌++◌, length, take, drop, refl, sym, ap, subst, ◌∙◌, inl, inr, arith, slice_set}
 use Rattle.std.proofs.lemmas.Bool.{cases_lt}
 use Rattle.std.proofs.Math.Seq.{take-add}
-use Rattle.std.proofs.lemmas.List.{ext_get_or, drop-drop, set-get_or, length-set, length-drop, length-take, get_or-take, take_more, get_or-drop}
+use Rattle.std.proofs.lemmas.List.{ext_get_or, drop-drop, set-get_or, length-set, length-drop, take_more, get_or-drop}
 use Rattle.hashbag_slots.specs.declared.slots.Slot.{Slot}
 use Rattle.hashbag_slots.specs.declared.slots.Slot.TheVariants.{Empty, Removed, Moved, Live}
 use Rattle.hashbag_slots.specs.Slots.{is_live, holds, live_count, removed_count, is_removed, slot_at, IsAbsent, IsSet, entries, Places, PlacesAll, carried, Carries, entries_in, AreApart}
-use Rattle.hashbag_slots.specs.Columns.{Columns, IsReached, CarriesInto}
+use Rattle.hashbag_slots.specs.Columns.{Columns, CarriesInto}
 use Rattle.hashbag_slots.proofs.Probing.{false_by}
 use Rattle.hashbag_slots.proofs.Edits.{set_cases, count-set}
 
@@ -41,8 +41,8 @@ module _ {T : Type 0} where
         | inl x ↦ absurd (let z = x.1 in cc)
         | inr x ↦
             let there : slot_at older p ≡ Live w m = sym x.1 ∙ here in
-            IsAbsent-Places (λ y. eq y w) v n self next (apart p w m there) put
-            (false_by (eq v w) (λ yes. absurd (x.0 (sym (set.apart at p v w n m was there yes)))))
+            IsAbsent-Places (eq w) v n self next (apart p w m there) put
+            (false_by (eq w v) (λ yes. absurd (x.0 (set.apart p at w v m n there was yes))))
       ]
 
   pub PlacesAll-append : (hash : T → ℕ) (es fs : List (T × ℕ)) (a b c : List (Slot T)) → PlacesAll hash es a b → PlacesAll hash fs b c → PlacesAll hash (es ++ fs) a c
@@ -169,19 +169,6 @@ module _ {T : Type 0} where
       ap (λ m. entries (take m xs)) more ∙ ap entries (take-add k n xs) ∙ entries-append (take k xs) (take n (drop k xs)) ∙ ap (λ ys. entries (take k xs) ++ entries (take n ys)) (there ∙ sym ahead) in
       subst (λ ys. PlacesAll hash ys a c) (sym es) (PlacesAll-append hash (entries_in from k old) (entries_in at n mid) a b c p q)
 
-  -- nothing is carried yet
-  pub CarriesInto-none : (eq : T → T → Bool) (hash : T → ℕ) (from : ℕ) (newer older : Columns T) → AreApart eq older.slots newer.slots → IsReached hash newer → CarriesInto eq hash from 0 newer older newer older
-  CarriesInto-none eq hash from newer older apart reached = record {
-    placed = refl;
-    left = Carries-none from older.slots;
-    apart = apart;
-    kept = refl;
-    removed = omega arith;
-    slots = refl;
-    reached = reached;
-    older_reached = λ h r. r;
-  }
-
   -- a carry goes on where another one ended, over both tables
   pub CarriesInto-join : (eq : T → T → Bool) (hash : T → ℕ) (from at n : ℕ) (newer older a b newer' older' : Columns T) → from ≤ at
       → CarriesInto eq hash from (at - from) newer older a b → CarriesInto eq hash at n a b newer' older' → CarriesInto eq hash from (at + n - from) newer older newer' older'
@@ -195,24 +182,3 @@ module _ {T : Type 0} where
     reached = d.reached;
     older_reached = λ h r. d.older_reached h (c.older_reached h r);
   }
-
-  pub IsAbsent-PlacesAll : (hash : T → ℕ) (test : T → Bool) (es : List (T × ℕ)) (a b : List (Slot T)) → IsAbsent test a → ((i : ℕ) (e : T × ℕ) → i < length es → get_or es i e ≡ e → test e.0 ≡ false) → PlacesAll hash es a b → IsAbsent test b
-  IsAbsent-PlacesAll hash test [] a b absent each h = subst (IsAbsent test) (sym h) absent
-  IsAbsent-PlacesAll hash test (e ∷ es) a b absent each h =
-      IsAbsent-PlacesAll hash test es h.0 b (IsAbsent-Places test e.0 e.1 a h.0 absent h.1.places (each 0 e (omega arith) refl)) (λ i f lt at. each (suc i) f (omega arith) at) h.2
-
-  -- the pairs of slots that do not hold the value do not have it
-  pub entries-apart : (test : T → Bool) (ss : List (Slot T)) → IsAbsent test ss → (i : ℕ) (e : T × ℕ) → i < length (entries ss) → get_or (entries ss) i e ≡ e → test e.0 ≡ false
-  entries-apart test [] absent i e lt at = absurd (omega arith)
-  entries-apart test (Empty ∷ ss) absent i e lt at = entries-apart test ss (λ p l. absent (suc p) (omega arith)) i e lt at
-  entries-apart test (Removed ∷ ss) absent i e lt at = entries-apart test ss (λ p l. absent (suc p) (omega arith)) i e lt at
-  entries-apart test (Moved ∷ ss) absent i e lt at = entries-apart test ss (λ p l. absent (suc p) (omega arith)) i e lt at
-  entries-apart test (Live v n ∷ ss) absent zero e lt at = ap (λ x. test x.0) (sym at) ∙ absent 0 (omega arith)
-  entries-apart test (Live v n ∷ ss) absent (suc i) e lt at = entries-apart test ss (λ p l. absent (suc p) (omega arith)) i e (omega arith) at
-
-  pub IsAbsent-take : (test : T → Bool) (k : ℕ) (ss : List (Slot T)) → IsAbsent test ss → IsAbsent test (take k ss)
-  IsAbsent-take test k ss absent p lt =
-      let l = length-take k ss in
-      let here : p < k = omega arith in
-      let within : p < length ss = omega arith in
-      ap (holds test) (get_or-take k ss p Empty here) ∙ absent p within

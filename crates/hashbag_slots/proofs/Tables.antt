@@ -60,22 +60,6 @@ module _ {T : Type 0} where
   }
 
 module _ {T : Type 0} (eq : T → T → Bool) (laws : IsEquivalence eq) (ss : List (Slot T)) (live removed p : ℕ) (table : IsTable eq ss live removed) where
-  -- a Live slot gets another count
-  pub IsTable-count : (v : T) (m n : ℕ) → slot_at ss p ≡ Live v m → p < length ss → 0 < n → IsTable eq (slice_set ss p (Live v n)) live removed
-  IsTable-count v m n was within pos =
-      let lives = count-set ss p (Live v n) within is_live in
-      let removes = count-set ss p (Live v n) within is_removed in
-      let was_live : is_live (slot_at ss p) ≡ true = ap is_live was in
-      let was_kept : is_removed (slot_at ss p) ≡ false = ap is_removed was in
-      record {
-        count = subst IsSlotCount (sym (length-set ss p (Live v n))) table.count;
-        live_is = let e = rw was_live at lives in omega (arith, e, table.live_is);
-        removed_is = let e = rw was_kept at removes in omega (arith, e, table.removed_is);
-        distinct = IsSet-set ss p (Live v n) within eq laws.symm table.distinct
-            (λ x w k j q new ne at. false_by (eq x w) (λ yes. let e : x ≡ v = cc in absurd (ne (table.distinct.apart q p w v j m at was (laws.symm w v ∙ ap (λ y. eq y w) (sym e) ∙ yes)))))
-            (λ x k new. let e : n ≡ k = cc in omega arith);
-      }
-
   -- a Live slot becomes one that is not
   pub IsTable-take : (s : Slot T) → is_live (slot_at ss p) ≡ true → is_live s ≡ false → p < length ss → IsTable eq (slice_set ss p s) (live - 1) (removed + cond (is_removed s) 1 0)
   IsTable-take s was now within =
@@ -91,7 +75,7 @@ module _ {T : Type 0} (eq : T → T → Bool) (laws : IsEquivalence eq) (ss : Li
       }
 
   -- a slot that is not Live gets a new value
-  pub IsTable-put : (v : T) (n : ℕ) → is_live (slot_at ss p) ≡ false → p < length ss → IsAbsent (λ w. eq w v) ss → 0 < n → IsTable eq (slice_set ss p (Live v n)) (live + 1) (removed - cond (is_removed (slot_at ss p)) 1 0)
+  pub IsTable-put : (v : T) (n : ℕ) → is_live (slot_at ss p) ≡ false → p < length ss → IsAbsent (eq v) ss → 0 < n → IsTable eq (slice_set ss p (Live v n)) (live + 1) (removed - cond (is_removed (slot_at ss p)) 1 0)
   IsTable-put v n was within absent pos =
       let lives = rw was at (count-set ss p (Live v n) within is_live) in
       let removes = count-set ss p (Live v n) within is_removed in
@@ -103,7 +87,7 @@ module _ {T : Type 0} (eq : T → T → Bool) (laws : IsEquivalence eq) (ss : Li
             (λ x w k j q new ne at.
             let e : x ≡ v = cc in
             let no = absent q (within_table ss q (ap is_live at)) in
-            ap (λ y. eq y w) e ∙ laws.symm v w ∙ sym (ap (holds (λ y. eq y v)) at) ∙ no)
+            ap (λ y. eq y w) e ∙ sym (ap (holds (eq v)) at) ∙ no)
             (λ x k new. let e : n ≡ k = cc in omega arith);
       }
 

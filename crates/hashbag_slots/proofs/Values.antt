@@ -57,9 +57,6 @@ module _ {T : Type 0} where
   pub full_cell : (xs : List T) (fs : List Bool) (p : ℕ) (v : T) → length xs ≡ length fs → get_or fs p false ≡ true → v ≡ get_or xs p v → get_or (filled_values xs fs) p None ≡ Some v
   full_cell xs fs p v e h is = at-filled_values xs fs p v e ∙ ap (λ b. cond b (Some (get_or xs p v)) None) h ∙ ap Some (sym is)
 
-  pub empty_place : (xs : List T) (fs : List Bool) (p : ℕ) (d : T) → length xs ≡ length fs → get_or (filled_values xs fs) p None ≡ None → get_or fs p false ≡ false
-  empty_place xs fs p d e h = empty_cond (get_or fs p false) (get_or xs p d) (sym (at-filled_values xs fs p d e) ∙ h)
-
   -- a place of no value holds none
   pub blank_places : (xs : List T) (fs : List Bool) → length xs ≡ length fs → IsBlank (filled_values xs fs) → (p : ℕ) → get_or fs p false ≡ false
   blank_places [] [] e h p = refl

@@ -8,7 +8,7 @@ use Rattle.hashbag_slots.specs.declared.slots.Slot.TheVariants.{Empty, Live}
 use Rattle.hashbag_slots.specs.Slots.{IsSlotCount, path_slot, slot_at, is_live, KeepsPaths, IsTable, IsAbsent}
 use Rattle.hashbag_slots.specs.Columns.{mark_of, slot_of, slots_of, columns, Agree, IsColumns, IsReached}
 use Rattle.hashbag_slots.proofs.Edits.{set_cases}
-use Rattle.hashbag_slots.proofs.Reading.{length-slots_of, dead_slot, removed_slot, live_at, dead_at, alive_at, removed_at, marked_at, no_cell}
+use Rattle.hashbag_slots.proofs.Reading.{length-slots_of, dead_slot, removed_slot, live_at, dead_at, alive_at, removed_at, marked_at}
 use Rattle.hashbag_slots.proofs.Tables.{slot_at-replicate, IsTable-empty, IsTable-put, IsTable-take, IsTable-rewrite, KeepsPaths-empty, KeepsPaths-keep, KeepsPaths-place}
 
 pub some_cell : {T : Type 0} (e f : T × ℕ) → (let c : Option (T × ℕ) = Some e in c) ≡ Some f → e ≡ f
@@ -159,11 +159,6 @@ module _ {T : Type 0} (n : ℕ) (ts : List ℕ) (cs : List (Option (T × ℕ))) 
   pub blank_reached : (hash : T → ℕ) → IsReached hash (columns ts cs)
   blank_reached hash = subst (λ us. IsReached hash (columns us cs)) (sym tags) (subst (λ ds. IsReached hash (columns (replicate n 0) ds)) (sym cells) (IsReached-blank n hash))
 
-module _ {T : Type 0} (ts : List ℕ) (cs : List (Option (T × ℕ))) (agree : Agree ts cs) where
-  -- where the tag is that of an empty cell, only the tag is written
-  pub Agree-tag : (p : ℕ) → p < length ts → get_or ts p 0 < 128 → Agree (slice_set ts p 0) cs
-  Agree-tag p within low = subst (Agree (slice_set ts p 0)) (ap (slice_set cs p) (sym (no_cell ts cs agree p low)) ∙ set_same cs p None) (Agree-empty ts cs agree p within 0 (omega arith))
-
 module _ {T : Type 0} (ts : List ℕ) (cs : List (Option (T × ℕ))) where
   -- a cell is written beside a tag that stays
   same_tag : (p : ℕ) (c : Option (T × ℕ)) → columns (slice_set ts p (get_or ts p 0)) (slice_set cs p c) ≡ columns ts (slice_set cs p c)
@@ -214,7 +209,7 @@ module _ {T : Type 0} (eq : T → T → Bool) (laws : IsEquivalence eq) (ts : Li
   abbrev slots : List (Slot T)
   slots = slots_of ts cs
 
-  pub IsColumns-put : (v : T) (n t : ℕ) → p < length ts → get_or ts p 0 < 128 → 128 ≤ t → IsAbsent (λ w. eq w v) slots → 0 < n
+  pub IsColumns-put : (v : T) (n t : ℕ) → p < length ts → get_or ts p 0 < 128 → 128 ≤ t → IsAbsent (eq v) slots → 0 < n
       → IsColumns eq (slice_set ts p t) (slice_set cs p (Some (v, n))) (live + 1) (removed - cond (nat_eq (get_or ts p 0) 1) 1 0)
   IsColumns-put v n t within low high absent pos =
       let len = length-slots_of ts cs cols.agree.same_length in

@@ -166,4 +166,4 @@ module _ {T : Type 0} where
 
   -- no value that is Live in the first table is equal to one that is Live in the second
   abbrev pub AreApart : (T → T → Bool) → List (Slot T) → List (Slot T) → Type 0
-  AreApart eq ss ts = (p : ℕ) (v : T) (n : ℕ) → slot_at ss p ≡ Live v n → IsAbsent (λ w. eq w v) ts
+  AreApart eq ss ts = (p : ℕ) (v : T) (n : ℕ) → slot_at ss p ≡ Live v n → IsAbsent (eq v) ts

@@ -1,8 +1,8 @@
-//! A block of memory for values that come later: how it is got from an allocator, used, and given back.
+//! A block of memory for values that are stored later: how it is allocated, used, and freed.
 //!
-//! The kit's row of places keeps what it knows of each place beside a value of the type, so that it can't be made before there
-//! is one. A block is what an allocator gives before that. It becomes a row with the first value, and a row that holds
-//! nothing becomes a block again, to be given back.
+//! The kit's row of places keeps what it knows of each place together with a value of the type, so it needs a value to begin with. A block
+//! is what an allocator returns before that. It becomes a row with the first value, and a row that holds nothing becomes a block again, to
+//! be freed.
 ghost use Rattle.core.specs.Prelude.{◌≡◌, ℕ, ◌*◌, ◌^◌, ◌<◌, false, replicate, IfOk, slice_index_or};
 ghost use Rattle.core.specs.Mem.Slots.{slots_ptr, slots_len, slots_filled};
 ghost use denote.RawPtr.{Ptr};
@@ -13,7 +13,7 @@ use std::alloc::{AllocError, Allocator};
 use std::marker::{Model, PhantomData};
 use std::mem::{align_of, size_of};
 
-/// Memory for `len` values, of which none is there.
+/// Memory for `len` values, which holds none yet.
 pub struct Block<T> {
     pub(crate) ptr: *mut T,
     pub(crate) len: usize,
@@ -23,7 +23,7 @@ impl<T> Model for Block<T> {
     ghost also_owns = { λ r. block_owns T.row r.ptr r.len };
 }
 
-/// The right to give a block back to its allocator. It takes no bytes of its own.
+/// The right to free a block by its allocator. It takes no bytes of its own.
 pub struct Deed<T, A: Allocator> {
     by: PhantomData<(T, A)>,
     pub ghost at: { Ptr },
@@ -35,7 +35,11 @@ impl<T, A: Allocator> Model for Deed<T, A> {
     ghost also_owns = { λ d. deed_owns (A.dealloc_token d.alloc) T.row d.at d.len };
 }
 
-/// Asks the allocator for a block for `len` values. Where it refuses there is none.
+/// Allocates a block for `len` values.
+///
+/// # Errors
+///
+/// `AllocError` if the allocator fails. Then there is no block.
 pub fn allocate<T, A: Allocator>(
     alloc: &A,
     len: usize,
@@ -53,7 +57,7 @@ pub fn allocate<T, A: Allocator>(
     }
 }
 
-/// Gives a block back to its allocator, by the deed that came with it.
+/// Frees a block by its allocator, with the deed that was returned with it.
 pub fn release<T, A: Allocator>(alloc: &A, block: Block<T>, deed: Deed<T, A>)
     requires { (deed.at ≡ block.ptr) × (deed.len ≡ block.len) × (deed.alloc ≡ alloc.now) }
 {
@@ -65,7 +69,7 @@ pub fn release<T, A: Allocator>(alloc: &A, block: Block<T>, deed: Deed<T, A>)
 }
 
 impl<T> Block<T> {
-    /// The block as a row of empty places. In the logic the value that is lent stands for each of them; it is not read.
+    /// Returns the block as a row of empty places. In the logic the lent value is the value of each of them; it is not read.
     pub fn into_row(self, _like: &T) -> Places<T>
         ensures { (slots_ptr result ≡ self.ptr) × (slots_len result ≡ self.len) × (slots_filled result ≡ replicate self.len false) }
     {
@@ -73,7 +77,7 @@ impl<T> Block<T> {
         unsafe { Places::from_raw_parts(ptr, len) }
     }
 
-    /// The block of a row that holds nothing.
+    /// Returns the block of a row that holds nothing.
     pub fn from_row(row: Places<T>) -> Block<T>
         requires { (k : ℕ) → k < slots_len row → slice_index_or (slots_filled row) k false ≡ false }
         ensures { (result.ptr ≡ slots_ptr row) × (result.len ≡ slots_len row) }

@@ -1,7 +1,6 @@
-//! A row of cells, each empty or with a value. No cell is written before its value comes.
+//! A row of cells, each empty or with a value. A cell is first written when a value is put into it.
 //!
-//! So cells for many values cost no more than their allocation, however many there are: their memory is first touched where
-//! values are put.
+//! So cells for many values cost no more than their allocation, however many there are: their memory is first touched where values are put.
 ghost use Rattle.std.specs.Prelude.{◌≡◌, ℕ, ◌<◌, length, replicate, slice_set, [], Some, None, IfOk, IsOk};
 ghost use Rattle.std.specs.declared.alloc.Global.{Global as Heap};
 ghost use Rattle.hashbag_slots.specs.Cells.{cell_at, IsFilled, IsBlank};
@@ -14,15 +13,14 @@ use std::alloc::{AllocError, Global};
 use std::marker::Model;
 use std_alloc::room::may_hold;
 
-/// Where cells lie: nowhere, in a block of which nothing was written yet, or in a row of places, which the block becomes with the
-/// first value.
+/// Where cells are: nowhere, in a block that wasn't written yet, or in a row of places. The block becomes a row with the first value.
 pub enum Store<T> {
     Nothing,
     Unwritten(Block<T>, Deed<T, Global>),
     Written(Row<T>),
 }
 
-/// A row of cells. Contracts see the list of them: each cell's value, or `None` where it is empty.
+/// A row of cells. Contracts see the list of them: each cell's value, or `None` if it is empty.
 pub struct Cells<T> {
     store: Store<T>,
     alloc: Global,
@@ -60,8 +58,12 @@ fn put_into<T>(store: Store<T>, cell: (usize, T, Global)) -> (Store<T>, ())
 }
 
 impl<T> Cells<T> {
-    /// So many empty cells. No cells take no memory and are never refused. Where memory is refused, or more bytes are
-    /// asked for than an allocation can have, there are none.
+    /// Returns `count` empty cells.
+    ///
+    /// # Errors
+    ///
+    /// `AllocError` if the allocation fails, or if the cells have more bytes than an allocation can have. No cells don't allocate and can't
+    /// fail.
     pub fn new(alloc: Global, count: usize) -> Result<Cells<T>, AllocError>
         ensures cells { IfOk result (λ c. c ≡ replicate count None) }
         ensures none { count ≡ 0 → IsOk result }
@@ -82,7 +84,7 @@ impl<T> Cells<T> {
         })
     }
 
-    /// The value in a cell, lent.
+    /// Lends the value in a cell.
     #[inline(always)]
     pub fn get(&self, place: usize) -> &T
         requires { IsFilled self.now place }
@@ -121,7 +123,7 @@ impl<T> Cells<T> {
         }
     }
 
-    /// Takes the row of cells out, where a value is in one of them. None are left here.
+    /// Takes the row of cells out, if a value is in one of them. No cells are left here.
     #[inline(always)]
     pub fn take_row(&mut self) -> Row<T>
         requires { (p : ℕ) × IsFilled self.old p }
@@ -134,7 +136,7 @@ impl<T> Cells<T> {
         }
     }
 
-    /// Puts a row that was taken out in the place of these cells, of which each is empty.
+    /// Puts a row that was taken out in the place of these cells, which are all empty.
     #[inline(always)]
     pub fn put_back(&mut self, row: Row<T>)
         requires { IsBlank self.old }
@@ -145,7 +147,7 @@ impl<T> Cells<T> {
         replace(self, Cells { store, alloc }).free();
     }
 
-    /// Gives back the memory of cells that are all empty: no value is dropped here, and none is forgotten.
+    /// Frees the memory of cells that are all empty: no value is dropped here, and none is forgotten.
     pub fn free(self)
         requires { IsBlank self }
     {

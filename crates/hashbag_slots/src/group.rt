@@ -8,10 +8,10 @@ ghost use Rattle.hashbag_slots.specs.Group.{IsMaskOf, IsMaskIn, IsTagMask, IsTag
 use crate::tags::{EMPTY, LEAST_MARK};
 use std::simd::prelude::*;
 
-/// How many tags are looked at at once.
+/// How many tags are read at once.
 pub const GROUP_WIDTH: usize = 16;
 
-// The lowest bit that is set of 16, and 16 where none is.
+// Returns the number of the lowest of 16 bits that is set, 16 if none is.
 #[inline(always)]
 fn first_set(bits: u64) -> usize
     ensures { result ≡ (if bits == 0 then 16 else trailing_zeros w64 bits) }
@@ -23,7 +23,7 @@ fn first_set(bits: u64) -> usize
     }
 }
 
-/// How many of the 16 tags from a place on come before the first that is `tag`. All 16 where none is.
+/// Returns how many of the 16 tags from a place on come before the first that is `tag`, 16 if none is.
 #[inline(always)]
 pub fn first_equal(tags: &[u8], from: usize, tag: u8) -> usize
     requires { from + 16 ≤ length tags.now }
@@ -33,7 +33,7 @@ pub fn first_equal(tags: &[u8], from: usize, tag: u8) -> usize
     first_set(equal.to_bitmask())
 }
 
-/// How many of the 16 tags from a place on come before the first of a Live slot. All 16 where none is.
+/// Returns how many of the 16 tags from a place on come before the first of a Live slot, 16 if there is none.
 #[inline(always)]
 pub fn first_live(tags: &[u8], from: usize) -> usize
     requires { from + 16 ≤ length tags.now }
@@ -43,7 +43,7 @@ pub fn first_live(tags: &[u8], from: usize) -> usize
     first_set(live.to_bitmask())
 }
 
-/// How many of the 16 tags from a place on come before the first of a slot that is not Live. All 16 where none is.
+/// Returns how many of the 16 tags from a place on come before the first of a slot that is not Live, 16 if there is none.
 #[inline(always)]
 pub fn first_not_live(tags: &[u8], from: usize) -> usize
     requires { from + 16 ≤ length tags.now }
@@ -53,7 +53,7 @@ pub fn first_not_live(tags: &[u8], from: usize) -> usize
     first_set(free.to_bitmask())
 }
 
-/// A bit for each of the 16 tags from a place on, the lowest for the first: whether it is `tag`.
+/// Returns a bit for each of the 16 tags from a place on, the lowest for the first: whether it is `tag`.
 #[inline(always)]
 pub fn match_tag(tags: &[u8], from: usize, tag: u8) -> u64
     requires { from + 16 ≤ length tags.now }
@@ -63,7 +63,7 @@ pub fn match_tag(tags: &[u8], from: usize, tag: u8) -> u64
     equal.to_bitmask()
 }
 
-/// A bit for each of the 16 tags from a place on, the lowest for the first: whether its slot is Live.
+/// Returns a bit for each of the 16 tags from a place on, the lowest for the first: whether its slot is Live.
 #[inline(always)]
 pub fn match_live(tags: &[u8], from: usize) -> u64
     requires { from + 16 ≤ length tags.now }
@@ -73,22 +73,24 @@ pub fn match_live(tags: &[u8], from: usize) -> u64
     live.to_bitmask()
 }
 
-/// The first place of which bits tell that it passes their test, and the bits with its own cleared. The bits begin at the place `from`,
-/// and tell of no place before `at`. What is left tells of none up to the place found.
+/// Returns the place of the lowest set bit, and the bits without it. Bit i is of the place `from + i`.
+///
+/// The clauses say it of a test, if each bit shows whether its place passes it. The place is then the first that does, and the bits that
+/// are left show the places after it.
 #[inline(always)]
 pub fn take_lowest(bits: u64, from: usize) -> (usize, u64)
     requires some { 0 < bits }
     requires fits { from + 64 ≤ 2 ^ 64 }
     ensures first { (test : ℕ → Bool) (at until : ℕ) → from ≤ at → IsMaskIn test from at until bits → IsFirstPlace test at until result.0 }
-    ensures below { (test : ℕ → Bool) (at until : ℕ) → IsMaskIn test from at until bits → result.0 < until }
+    ensures before_until { (test : ℕ → Bool) (at until : ℕ) → IsMaskIn test from at until bits → result.0 < until }
     ensures rest { (test : ℕ → Bool) (at until : ℕ) → IsMaskIn test from at until bits → IsMaskIn test from (result.0 + 1) until result.1 }
     ensures fewer { result.1 < bits }
 {
     (from + bits.trailing_zeros() as usize, bits & (bits - 1))
 }
 
-/// A bit for each of the 16 tags from a place on that come before the first Empty one, the lowest for the first: whether it is `tag`.
-/// And whether one of the 16 is Empty.
+/// Returns a bit for each of the 16 tags from a place on, the lowest for the first: whether it is `tag` and comes before the first Empty
+/// one. It also returns whether one of the 16 is Empty.
 #[inline(always)]
 pub fn match_tag_before_empty(tags: &[u8], from: usize, tag: u8) -> (u64, bool)
     requires room { from + 16 ≤ length tags.now }
@@ -97,6 +99,7 @@ pub fn match_tag_before_empty(tags: &[u8], from: usize, tag: u8) -> (u64, bool)
 {
     let empty = match_tag(tags, from, EMPTY);
     let equal = match_tag(tags, from, tag);
-    // One less than a number has a bit below its lowest, none at it, and the same ones above, where tags are Empty and can't be `tag`.
+    // `empty` less one has the bits below the first Empty tag set, that of this tag not, and above it those of `empty`, which aren't set in
+    // `equal`. If no tag is Empty, all bits are set.
     (equal & empty.wrapping_sub(1), empty != 0)
 }

@@ -1,6 +1,6 @@
 //! What a value is looked up by.
 ghost use Rattle.std.specs.Prelude.{◌≡◌, Bool, IsTrue};
-ghost use Rattle.std.proofs.Common.{ap, ◌∙◌, refl};
+ghost use Rattle.std.proofs.Common.{ap, sym, ◌∙◌, refl};
 ghost use Rattle.std.specs.Cmp.Lexicographic.{bytes_decides, nat_list_eq_equiv};
 ghost use Rattle.std.specs.Hash as fed;
 ghost use Rattle.std.specs.Str.{bytes_eq};
@@ -8,35 +8,35 @@ ghost use Rattle.std.specs.String.{string_bytes};
 
 use std::hash::Hash;
 
-/// What a value is looked up by: the value itself, lent, or what names it, as a text names a `String`.
+/// What values are looked up and removed by: a value that is lent, `&T`, or what names one, as a `&str` names a `String`.
 ///
-/// A key is hashed as the values that it names, so that their slots lie on its path. It names one value: all that are equal to one
-/// that it names, and no other.
+/// A key is hashed as the values that it names, so their slots are on its path. It names one value: all that are equal to one that it
+/// names, and no other.
 pub trait Key<T: Eq + Hash>: Copy + Hash {
-    // What `names` answers.
+    // What `names` returns.
     ghost names: { Self → T → Bool };
 
-    /// Whether it names a value.
+    /// Returns whether the key names a value.
     fn names(&self, value: &T) -> bool
         ensures { result ≡ names self.now value.now };
 
-    // What a key names is hashed as the key is.
+    // A value is hashed as the keys that name it.
     ghost hashed_alike: { (key : Self) (v : T) → IsTrue (names key v) → T.hash_input v ≡ Self.hash_input key };
 
-    // Of what it names one, it names all that are equal, and nothing else.
+    // If a key names a value, it names all that are equal to it, and nothing else.
     ghost names_one: { (key : Self) (v w : T) → IsTrue (names key v) → names key w ≡ T.eq w v };
 }
 
 impl<T: Eq + Hash> Key<T> for &T {
-    ghost names = { λ key v. T.eq v key.now };
+    ghost names = { λ key. T.eq key.now };
 
-    ghost hashed_alike = { λ key v. T.respects_eq v key.now };
+    ghost hashed_alike = { λ key v e. sym (T.respects_eq key.now v e) };
 
-    ghost names_one = { λ key v w yes. T.Eq.laws.symm w key.now ∙ T.Eq.laws.congr key.now v w (T.Eq.laws.symm key.now v ∙ yes) ∙ T.Eq.laws.symm v w };
+    ghost names_one = { λ key v w yes. T.Eq.laws.congr key.now v w yes ∙ T.Eq.laws.symm v w };
 
     #[inline(always)]
     fn names(&self, value: &T) -> bool {
-        *value == **self
+        (*self).eq(value)
     }
 }
 

@@ -7,7 +7,7 @@ use crate::cells::Cells;
 use crate::group::{GROUP_WIDTH, first_live, match_live, take_lowest};
 use crate::tags::LEAST_MARK;
 
-/// The first place from `from` on whose slot is Live.
+/// Returns the first place from `from` on whose slot is Live, or `None` if there is none.
 #[inline(always)]
 pub fn next_live(tags: &[u8], from: usize) -> Option<usize>
     ensures some { IfSome result (IsNextMark tags.now from) }
@@ -38,18 +38,18 @@ const PASSES: usize = 3;
 /// How far a walk over two tables is.
 #[derive(Clone, Copy)]
 pub struct Course {
-    /// How many turns come after this one. Odd ones are of the newer table, and the turn's pass is half of it.
+    /// How many turns come after this one. Odd numbers are turns of the newer table. The turn's pass is half of the number.
     pub turn: usize,
-    /// The place from which on the turn's slots are still to come.
+    /// The place from which on the turn's slots weren't given yet.
     pub next: usize,
     /// A bit for each of the 16 slots below `until`: whether it is Live and not before `next`.
     pub ahead: u64,
-    /// The place below which `ahead` tells.
+    /// The place that ends the 16 slots of `ahead`.
     pub until: usize,
 }
 
 impl Course {
-    /// That of a walk which begins.
+    /// Returns the course of a walk that begins.
     pub fn first() -> Course
         ensures { result ≡ first_course }
     {
@@ -62,8 +62,8 @@ impl Course {
     }
 }
 
-// The next 16 slots of a pass, from the place `from` on, of which one is Live: where they begin, and a bit for each. Only groups of the
-// pass are read.
+// Returns the next group of a pass, from the place `from` on, that has a Live slot: where it begins, and a bit for each of its 16 slots.
+// Only groups of the pass are read.
 #[inline(always)]
 fn live_group(tags: &[u8], pass: usize, from: usize) -> Option<(usize, u64)>
     requires sixteens { length tags.now % 16 ≡ 0 }
@@ -88,7 +88,7 @@ fn live_group(tags: &[u8], pass: usize, from: usize) -> Option<(usize, u64)>
     None
 }
 
-// As `next_on_course`, where no bit is set: from the place `from` of a turn on.
+// As `next_on_course`, if no bit is set: from the place `from` of a turn on.
 #[inline(always)]
 fn seek(newer: &[u8], older: &[u8], turn: usize, from: usize) -> Option<(usize, Course)>
     requires newer { length newer.now % 16 ≡ 0 }
@@ -120,7 +120,7 @@ fn seek(newer: &[u8], older: &[u8], turn: usize, from: usize) -> Option<(usize, 
     }
 }
 
-/// The place of the next Live slot of a walk, and how far the walk is then. That tells by its turn of which table it is.
+/// Returns the place of the next Live slot of a walk, and how far the walk is then. The turn of that shows which table the place is in.
 #[inline(always)]
 pub fn next_on_course(newer: &[u8], older: &[u8], course: Course) -> Option<(usize, Course)>
     requires newer { length newer.now % 16 ≡ 0 }
@@ -165,7 +165,7 @@ fn drop_group<T: Drop>(tags: &[u8], cells: &mut Cells<(T, usize)>, from: usize)
 
 /// Drops the value of each Live slot, and empties its cell. The tags stay as they are.
 ///
-/// Live slots are found by sixteens.
+/// Live slots are found sixteen at once.
 pub fn drop_live<T: Drop>(tags: &[u8], cells: &mut Cells<(T, usize)>)
     requires sixteens { length tags.now % 16 ≡ 0 }
     requires agree { Agree tags.now cells.old }

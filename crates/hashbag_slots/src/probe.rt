@@ -1,8 +1,8 @@
 //! Probes along the path of a hash: where a value is, and the first slot that is free for one.
 //!
-//! A path begins at the hash modulo the number of slots, goes slot by slot, and goes on at slot 0 after the last one. A probe reads
-//! tags, sixteen at once, and a cell only where the tag is the mark of its own hash: under a hash that spreads its values, that is so at
-//! one in 128 of the other values on its path.
+//! A path begins at the hash modulo the number of slots, has the slots in turn, and has slot 0 after the last one. A probe reads tags,
+//! sixteen at once, and a cell only if the tag is the mark of its own hash. Under a hash that spreads its values, one in 128 of the other
+//! values on its path has that mark.
 ghost use Rattle.std.specs.Prelude.{◌≡◌, ℕ, ◌+◌, ◌<◌, ◌≤◌, length, true, IfSome, IfNone, Some};
 ghost use Rattle.hashbag_slots.specs.Cells.{cell_at, IsFilled};
 ghost use Rattle.hashbag_slots.specs.Hashing.{hash_under};
@@ -19,19 +19,19 @@ use crate::key::Key;
 use crate::tags::{EMPTY, LEAST_MARK, mark_of};
 use std::hash::{BuildHasher, Hash};
 
-/// What the first 16 slots of a path show of the value that is looked for.
+/// What the first 16 slots of a path show of a value.
 #[derive(Clone, Copy, PartialEq, Eq, Debug)]
 pub enum FirstGroup {
-    /// It is in the slot at this place.
+    /// The value is in the slot at this place.
     Found(usize),
-    /// It is in no slot of the table, and this is the first place on its path whose slot is not Live: it is put there.
+    /// The value is in no slot of the table. This is the first place on its path whose slot is not Live, so it is put there.
     Absent(usize),
-    /// Neither: the path goes on.
+    /// They don't decide: the path goes on.
     Open,
 }
 
-// The place of the slot that a probe for a hash looks at after so many steps, among `count` slots. It begins at the hash
-// modulo `count`, and goes on at slot 0 after the last slot.
+// Returns the place of the slot that a probe for a hash reads after `step` steps, among `count` slots. The path begins at the hash modulo
+// `count`, and has slot 0 after the last slot.
 #[inline(always)]
 fn path_slot(hash: u64, step: usize, count: usize) -> usize
     requires count { IsSlotCount count }
@@ -42,7 +42,7 @@ fn path_slot(hash: u64, step: usize, count: usize) -> usize
     ((hash & (count as u64 - 1)) as usize + step) & (count - 1)
 }
 
-// Whether a key names the value in a cell.
+// Returns whether a key names the value in a cell.
 #[inline(always)]
 fn is_named<T: Eq + Hash, Q: Key<T>>(cells: &Cells<(T, usize)>, place: usize, key: Q) -> bool
     requires { IsFilled cells.now place }
@@ -52,8 +52,8 @@ fn is_named<T: Eq + Hash, Q: Key<T>>(cells: &Cells<(T, usize)>, place: usize, ke
     key.names(&entry.0)
 }
 
-// Probes for a value until it finds it or an Empty slot, or has looked at all slots, 16 tags at once where so many come before
-// the last one.
+// Probes for a value until it finds the value or an Empty slot, or has read all slots. It reads 16 tags at once if there are as many before
+// the end of the table.
 #[inline(never)]
 fn find_probing<T: Eq + Hash, S: BuildHasher, Q: Key<T>>(
     tags: &[u8],
@@ -101,7 +101,7 @@ fn find_probing<T: Eq + Hash, S: BuildHasher, Q: Key<T>>(
     None
 }
 
-// The place of an equal value among slots, at most 16 from a place on, of which bits tell whether the tag is the value's mark.
+// Returns the place of an equal value among at most 16 slots from a place on. Their bits show whether the tag is the value's mark.
 #[inline(always)]
 fn find_marked<T: Eq + Hash, Q: Key<T>>(
     tags: &[u8],
@@ -129,9 +129,10 @@ fn find_marked<T: Eq + Hash, Q: Key<T>>(
     None
 }
 
-/// Whether an Empty slot lies between the first slot of a hash's path and a place behind that, so that a probe for it ends before
-/// it comes there. It looks at sixteen slots at once, from the place backwards, and may miss one that is nearer than sixteen to
-/// the first slot.
+/// Returns whether an Empty slot is known between the first slot of a hash's path and a later place, so that a probe ends before that
+/// place.
+///
+/// It reads sixteen tags at once, from the place backwards, and may miss an Empty slot that is less than sixteen after the first slot.
 #[inline(always)]
 pub fn is_empty_before(tags: &[u8], hash: u64, place: usize) -> bool
     requires count { IsSlotCount (length tags.now) }
@@ -153,7 +154,7 @@ pub fn is_empty_before(tags: &[u8], hash: u64, place: usize) -> bool
     false
 }
 
-/// What the first 16 slots of a key's path show. It is `Open` too where fewer than 16 slots follow.
+/// Returns what the first 16 slots of a key's path show. It also returns `Open` if fewer than 16 slots follow.
 #[inline(always)]
 pub fn probe_first_group<T: Eq + Hash, S: BuildHasher, Q: Key<T>>(
     tags: &[u8],
@@ -189,7 +190,7 @@ pub fn probe_first_group<T: Eq + Hash, S: BuildHasher, Q: Key<T>>(
     FirstGroup::Open
 }
 
-// The place of the Live slot with an equal value where that slot is the first on the path of a hash. `None` says nothing.
+// Returns the place of the Live slot with an equal value if that slot is the first on the path of a hash. `None` shows nothing.
 #[inline(always)]
 fn find_at_home<T: Eq + Hash, Q: Key<T>>(
     tags: &[u8],
@@ -212,12 +213,12 @@ fn find_at_home<T: Eq + Hash, Q: Key<T>>(
     None
 }
 
-/// The place of the Live slot with an equal value, if there is one. The value's hash is handed in. It probes until it finds
-/// the value or an Empty slot, or has looked at all slots, and goes past Removed and Moved ones.
+/// Returns the place of the Live slot with an equal value, if there is one, from the value's hash. It probes until it finds the value or an
+/// Empty slot, or has read all slots, past Removed and Moved ones.
 ///
-/// Most values are in the first slot of their path. It is looked at by itself, so that its cell is read without waiting for
-/// what the other tags say. Of the first 16 slots only those before the first Empty one are looked at: none after it holds the value,
-/// and a cell there, whose tag is the mark by chance, would be read for nothing.
+/// Most values are in the first slot of their path. That one is read by itself, so that its cell is read without waiting for what the other
+/// tags are. Of the first 16 slots only those before the first Empty one are read: none after it holds the value, and a cell there, whose
+/// tag is the mark by chance, would be read for nothing.
 #[inline(always)]
 pub fn find_place<T: Eq + Hash, S: BuildHasher, Q: Key<T>>(
     tags: &[u8],
@@ -255,10 +256,10 @@ pub fn find_place<T: Eq + Hash, S: BuildHasher, Q: Key<T>>(
     find_probing(tags, cells, state, hash, key)
 }
 
-/// The first place on the path of a hash whose slot is not Live.
+/// Returns the first place on the path of a hash whose slot is not Live.
 ///
-/// It goes slot by slot at first, and then by sixteen: most values find room at once, and sixteen tags can't be read while one of
-/// them is still being written, as it is where neighbours are placed one after the other.
+/// It reads slot by slot at first, and then sixteen at once. Most values find room at once; and sixteen tags can't be read while one of
+/// them is still being written, as it is if neighbours are placed one after the other.
 #[inline(always)]
 pub fn first_free(tags: &[u8], hash: u64) -> usize
     requires count { IsSlotCount (length tags.now) }
@@ -279,7 +280,7 @@ pub fn first_free(tags: &[u8], hash: u64) -> usize
     first_free_from(tags, hash, step)
 }
 
-// As `first_free`, where so many slots of the path were passed.
+// As `first_free`, after the first `passed` slots of the path.
 #[inline(never)]
 fn first_free_from(tags: &[u8], hash: u64, passed: usize) -> usize
     requires count { IsSlotCount (length tags.now) }

@@ -1,7 +1,7 @@
 //! A row of cells in hand: those of a row of places, in which a value was put before.
 //!
-//! What goes through many cells takes them out of their table first, so that it asks but once whether there is a row, and puts
-//! them back afterwards.
+//! What handles many cells takes them out of their table first, so that it tests only once whether there is a row, and puts them back
+//! afterwards.
 ghost use Rattle.std.specs.Prelude.{◌≡◌, ◌<◌, length, slice_set, Some, None};
 ghost use Rattle.hashbag_slots.specs.Cells.{cell_at, IsFilled, IsBlank, filled_values};
 ghost use Rattle.core.specs.Mem.Slots.{slots_items, slots_filled, slots_ptr, slots_len};
@@ -11,7 +11,7 @@ use core::slots::Slots as Places;
 use std::alloc::Global;
 use std::marker::Model;
 
-/// Cells that lie in a row of places. Contracts see the list of them: each cell's value, or `None` where it is empty.
+/// Cells in a row of places. Contracts see the list of them: each cell's value, or `None` if it is empty.
 pub struct Row<T> {
     row: Places<T>,
     deed: Deed<T, Global>,
@@ -33,7 +33,7 @@ impl<T> Model for Row<T> {
 }
 
 impl<T> Row<T> {
-    /// The cells of a row of places, whose memory the deed gives back to the allocator.
+    /// Returns the cells of a row of places, whose memory is freed by the deed.
     pub fn new(row: Places<T>, deed: Deed<T, Global>, alloc: Global) -> Row<T>
         requires { (deed.at ≡ slots_ptr row) × (deed.len ≡ slots_len row) × (deed.alloc ≡ alloc) }
         ensures { result ≡ filled_values (slots_items row) (slots_filled row) }
@@ -41,7 +41,7 @@ impl<T> Row<T> {
         Row { row, deed, alloc }
     }
 
-    /// The value in a cell, lent.
+    /// Lends the value in a cell.
     #[inline(always)]
     pub fn get(&self, place: usize) -> &T
         requires { IsFilled self.now place }
@@ -70,7 +70,7 @@ impl<T> Row<T> {
         self.row.take(place)
     }
 
-    /// Gives back the memory of cells that are all empty: no value is dropped here, and none is forgotten.
+    /// Frees the memory of cells that are all empty: no value is dropped here, and none is forgotten.
     pub fn free(self)
         requires { IsBlank self }
     {

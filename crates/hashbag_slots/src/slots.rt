@@ -1,12 +1,12 @@
 //! `Slots`: one table of slots with open addressing, which holds distinct values, each with a count.
 //!
-//! A table has no slots, or a power of two from 16 to 2^59 of them. A place is the index of a slot. A probe for a value begins
-//! at its 64-bit hash modulo the number of slots, goes slot by slot, after the last one to slot 0, and ends at an Empty slot or
-//! at a Live one with an equal value. So a value is found where no Empty slot lies before its own on that path. Every call keeps
-//! this, and says so by `IsReached`.
+//! A table has no slots, or a power of two from 16 to 2^59 of them. A place is the index of a slot. A probe for a value begins at its
+//! 64-bit hash modulo the number of slots, reads slot after slot, slot 0 after the last one, and ends at an Empty slot or at a Live one
+//! with an equal value. So a value is found if no Empty slot is before its own on that path. Every call keeps this, and says so by
+//! `IsReached`.
 //!
-//! Costs are told in probes, each of which goes along a value's path, sixteen slots at once, and in hashes. A call hashes
-//! nothing and takes no memory, except where it says so. No order of slots is promised but what the contracts say.
+//! Costs are counted in hashes and in probes; a probe reads a value's path, sixteen slots at once. A call hashes nothing and doesn't
+//! allocate unless its comment says so. The order of slots is what the contracts say.
 ghost use Rattle.std.specs.Prelude.{◌≡◌, ℕ, ◌+◌, ◌<◌, ◌≤◌, ◌^◌, length, true, false, IfSome, IfNone, IfOk, IfErr, IsOk, OnErr, replicate, slice_set, ◌∷◌, ◌++◌, [], Some};
 ghost use Rattle.std.specs.List.Sorted.{IsPermutation};
 ghost use Rattle.std.specs.Map.{lookup_entry};
@@ -17,7 +17,7 @@ ghost use Rattle.hashbag_slots.specs.Slots.{IsSlotCount, is_live, holds, live_co
 ghost use Rattle.hashbag_slots.specs.Columns.{IsReached, IsAlike};
 
 mod carry;
-pub mod keys;
+mod find;
 
 use crate::cells::Cells;
 use crate::live::{Course, drop_if_live, next_live};
@@ -34,26 +34,26 @@ use std::marker::Model;
 pub enum Slot<T> {
     /// Nothing, and nothing since the table was made or cleared: a probe ends here.
     Empty,
-    /// Nothing: its value was taken out. A probe goes on.
+    /// Nothing: its value was removed. A probe goes on.
     Removed,
     /// Nothing: its value was carried to a newer table. A probe goes on.
     Moved,
-    /// A value and its count, which is at least 1. A probe goes on where the value is another.
+    /// A value and its count, which is at least 1. A probe goes on if the value isn't the sought one.
     Live(T, usize),
 }
 
-/// The 64-bit hash of a value under a state.
+/// Returns the 64-bit hash of a key under a state.
 #[inline(always)]
-pub fn hash_of<T: Hash, S: BuildHasher>(state: &S, value: &T) -> u64
-    ensures { result ≡ hash_under T.hash_input S.BuildHasher S.Hasher.Hasher state.now value.now }
+pub fn hash_of<Q: Hash + Copy, S: BuildHasher>(state: &S, key: Q) -> u64
+    ensures { result ≡ hash_under Q.hash_input S.BuildHasher S.Hasher.Hasher state.now key }
 {
-    state.hash_one(value)
+    state.hash_one(key)
 }
 
 /// A table of slots. No two Live slots have equal values.
 ///
-/// Contracts see its slots in the order of their places. A caller passes `IsReached` on as it is: it says that values are found
-/// under a hash, and nothing else shows how the table is kept. A table that is dropped drops each of its values once.
+/// Contracts see its slots in the order of their places. `IsReached` says that values are found under a hash, and nothing else shows how
+/// the table is kept. A caller only requires and ensures it. A table that is dropped drops each of its values once.
 pub struct Slots<T: Eq> {
     tags: Vec<u8>,
     cells: Cells<(T, usize)>,
@@ -87,10 +87,15 @@ impl<T: Eq + Drop> Drop for Slots<T> {
 }
 
 impl<T: Eq> Slots<T> {
-    /// A table of `n` Empty slots.
+    /// Returns a table of `n` Empty slots.
     ///
-    /// It takes memory for them, a byte and a cell each. No slots take none and are never refused. Where memory is refused there
-    /// is no table.
+    /// # Errors
+    ///
+    /// `AllocError` if an allocation fails. With `n` 0 it can't fail.
+    ///
+    /// # Complexity
+    ///
+    /// It allocates a byte and a cell for each slot, nothing with `n` 0.
     pub fn with_slots(alloc: Global, n: usize) -> Result<Slots<T>, AllocError>
         requires { IsSlotCount n }
         ensures slots { IfOk result (λ s. s.slots ≡ replicate n Slot.Empty) }
@@ -107,7 +112,7 @@ impl<T: Eq> Slots<T> {
         })
     }
 
-    /// The number of slots.
+    /// Returns the number of slots.
     #[inline]
     pub fn slots(&self) -> usize
         ensures value { result ≡ length self.now.slots }
@@ -118,21 +123,21 @@ impl<T: Eq> Slots<T> {
         self.tags.len()
     }
 
-    /// The number of Live slots, and so of values.
+    /// Returns the number of Live slots, and so of values.
     pub fn live(&self) -> usize
         ensures { result ≡ live_count self.now.slots }
     {
         self.live
     }
 
-    /// The number of Removed slots.
+    /// Returns the number of Removed slots.
     pub fn removed(&self) -> usize
         ensures { result ≡ removed_count self.now.slots }
     {
         self.removed
     }
 
-    /// The value at a place, lent, and its count, or `None` where the slot is not Live.
+    /// Lends the value at a place with its count, or returns `None` if the slot is not Live.
     #[inline(always)]
     pub fn at(&self, place: usize) -> Option<(&T, usize)>
         requires { place < length self.now.slots }
@@ -145,7 +150,7 @@ impl<T: Eq> Slots<T> {
         Some((&entry.0, entry.1))
     }
 
-    /// The value at a place, lent, and its count. The slot is Live: its tag isn't looked at.
+    /// Lends the value at a place with its count. The slot is Live: its tag isn't read.
     #[inline(always)]
     pub fn live_at(&self, place: usize) -> (&T, usize)
         requires { is_live (slot_at self.now.slots place) ≡ true }
@@ -155,9 +160,7 @@ impl<T: Eq> Slots<T> {
         (value, *count)
     }
 
-    /// The first place from `from` on whose slot is Live, or `None` if no slot from there on is.
-    ///
-    /// It looks at sixteen slots at once.
+    /// Returns the first place from `from` on whose slot is Live, or `None` if there is none. It reads sixteen tags at once.
     #[inline(always)]
     pub fn next_live(&self, from: usize) -> Option<usize>
         ensures some { IfSome result (IsNextLive self.now.slots from) }
@@ -167,7 +170,7 @@ impl<T: Eq> Slots<T> {
         next_live(self.tags.as_slice(), from)
     }
 
-    /// Gives the value at a place the count `n`. The slot is Live.
+    /// Sets the count of the value at a place to `n`. The slot is Live.
     #[inline(always)]
     pub fn set_at(&mut self, place: usize, n: usize)
         requires live { is_live (slot_at self.old.slots place) ≡ true }
@@ -191,10 +194,10 @@ impl<T: Eq> Slots<T> {
         self.cells.put(place, (value, count + n));
     }
 
-    /// Stores another equal instance of the value at a place, which keeps its count, and gives the former back. It hashes
-    /// nothing: equal values have one hash.
+    /// Stores another equal instance of the value at a place, which keeps its count, and returns the former one. It hashes nothing: equal
+    /// values have one hash.
     pub fn put_at(&mut self, place: usize, value: T) -> T
-        requires equal { holds (λ v. T.eq v value) (slot_at self.old.slots place) ≡ true }
+        requires equal { holds (T.eq value) (slot_at self.old.slots place) ≡ true }
         ensures given { slot_at self.old.slots place ≡ Slot.Live result (count_in (slot_at self.old.slots place)) }
         ensures after { self.new.slots ≡ slice_set self.old.slots place (Slot.Live value (count_in (slot_at self.old.slots place))) }
         ensures reached { (hash : T → ℕ) → IsAlike T.eq hash → IsReached hash self.old → IsReached hash self.new }
@@ -204,7 +207,7 @@ impl<T: Eq> Slots<T> {
         former
     }
 
-    /// Takes the value at a place out with its count, and leaves Removed there. The slot is Live.
+    /// Removes the value at a place, returns it with its count, and leaves Removed there. The slot is Live.
     #[inline(always)]
     pub fn take_at(&mut self, place: usize) -> (T, usize)
         requires { is_live (slot_at self.old.slots place) ≡ true }
@@ -220,7 +223,9 @@ impl<T: Eq> Slots<T> {
 
     /// Drops all values, and makes each slot Empty. It keeps the memory of the slots.
     ///
-    /// It reads all tags by sixteens if a slot is Live, and writes them all.
+    /// # Complexity
+    ///
+    /// If a slot is Live, it reads all tags, sixteen at once. It writes them all.
     pub fn clear(&mut self)
     where
         T: Drop,
@@ -233,7 +238,7 @@ impl<T: Eq> Slots<T> {
         self.removed = 0;
     }
 
-    /// Walks over the values of this table and of an older one, lent, each with its count, in an open order.
+    /// Walks over the values of this table and of an older one, lent, each with its count, in no particular order.
     pub fn walk<'a>(&'a self, older: &'a Slots<T>) -> Walk<'a, T>
         ensures entries { IsPermutation (entries self.now.slots ++ entries older.now.slots) result }
         ensures fits { length result < 2 ^ 63 }
@@ -249,8 +254,8 @@ impl<T: Eq> Slots<T> {
         }
     }
 
-    /// Makes a walk of this table and of an older one, which gives their values with their counts, in an open order. Values that are
-    /// not taken are dropped with it.
+    /// Turns this table and an older one into a walk, which gives their values with their counts, in no particular order. Unread values are
+    /// dropped with it.
     pub fn into_walk(self, older: Slots<T>) -> IntoWalk<T>
         ensures entries { IsPermutation (entries self.slots ++ entries older.slots) result }
         ensures fits { length result < 2 ^ 63 }
@@ -279,75 +284,16 @@ impl<T: Eq> Slots<T> {
 }
 
 impl<T: Eq + Hash> Slots<T> {
-    /// The place of the Live slot with an equal value, or `None` where the value is absent.
+    /// Places an absent value with the count `n` in the first slot on its path that is not Live. All other slots stay as they are. Not all
+    /// slots are Live.
     ///
-    /// It hashes the value once, under a state under which the table's values are found, and probes once, past Removed and Moved
-    /// slots.
-    #[inline(always)]
-    pub fn find<S: BuildHasher>(&self, state: &S, value: &T) -> Option<usize>
-        requires reached { IsReached (hash_under T.hash_input S.BuildHasher S.Hasher.Hasher state.now) self.now }
-        ensures found { IfSome result (HoldsAt (λ v. T.eq v value.now) self.now.slots) }
-        ensures absent { IfNone result (IsAbsent (λ v. T.eq v value.now) self.now.slots) }
-        ensures map { entry_at self.now.slots result ≡ lookup_entry (λ v. T.eq v value.now) (entries self.now.slots) }
-    {
-        let hash = hash_of(state, value);
-        self.find_hashed(state, hash, value)
-    }
-
-    /// As `find`, of a value whose hash under the state is handed in: it hashes nothing.
-    #[inline(always)]
-    pub fn find_hashed<S: BuildHasher>(&self, state: &S, hash: u64, value: &T) -> Option<usize>
-        requires hashed { hash ≡ hash_under T.hash_input S.BuildHasher S.Hasher.Hasher state.now value.now }
-        requires reached { IsReached (hash_under T.hash_input S.BuildHasher S.Hasher.Hasher state.now) self.now }
-        ensures found { IfSome result (HoldsAt (λ v. T.eq v value.now) self.now.slots) }
-        ensures absent { IfNone result (IsAbsent (λ v. T.eq v value.now) self.now.slots) }
-        ensures map { entry_at self.now.slots result ≡ lookup_entry (λ v. T.eq v value.now) (entries self.now.slots) }
-    {
-        self.find_key(state, hash, value)
-    }
-
-    /// As `find_hashed`, if no slot before the place `from` is Live.
-    #[inline(always)]
-    pub fn find_uncarried<S: BuildHasher>(
-        &self,
-        state: &S,
-        hash: u64,
-        value: &T,
-        from: usize,
-    ) -> Option<usize>
-        requires hashed { hash ≡ hash_under T.hash_input S.BuildHasher S.Hasher.Hasher state.now value.now }
-        requires within { from ≤ length self.now.slots }
-        requires dead { (p : ℕ) → p < from → is_live (slot_at self.now.slots p) ≡ false }
-        requires reached { IsReached (hash_under T.hash_input S.BuildHasher S.Hasher.Hasher state.now) self.now }
-        ensures found { IfSome result (HoldsAt (λ v. T.eq v value.now) self.now.slots) }
-        ensures absent { IfNone result (IsAbsent (λ v. T.eq v value.now) self.now.slots) }
-        ensures map { entry_at self.now.slots result ≡ lookup_entry (λ v. T.eq v value.now) (entries self.now.slots) }
-    {
-        self.find_key_uncarried(state, hash, value, from)
-    }
-
-    /// What the first 16 slots on the path of a value's hash show, which is handed in: the place of the slot with an equal value, or, if
-    /// the value is absent, the place into which `place_at` puts it. If it is `Open`, `find_hashed` knows.
-    #[inline(always)]
-    pub fn probe_first_group<S: BuildHasher>(&self, state: &S, hash: u64, value: &T) -> FirstGroup
-        requires hashed { hash ≡ hash_under T.hash_input S.BuildHasher S.Hasher.Hasher state.now value.now }
-        requires reached { IsReached (hash_under T.hash_input S.BuildHasher S.Hasher.Hasher state.now) self.now }
-        ensures found { IfFound result (HoldsAt (λ v. T.eq v value.now) self.now.slots) }
-        ensures absent { IfAbsent result (λ _. IsAbsent (λ v. T.eq v value.now) self.now.slots) }
-        ensures free { IfAbsent result (IsFirstFree hash self.now.slots) }
-        ensures map { IfFound result (λ p. entry_at self.now.slots (Some p) ≡ lookup_entry (λ v. T.eq v value.now) (entries self.now.slots)) }
-    {
-        self.probe_key_first_group(state, hash, value)
-    }
-
-    /// Puts in an absent value with the count `n`. It goes into the first slot on its path that is not Live, and all others
-    /// stay as they are.
+    /// # Complexity
     ///
-    /// It hashes the value once, and probes once. Not all slots are Live.
+    /// It hashes the value once, and probes once.
     #[inline(always)]
     pub fn place<S: BuildHasher>(&mut self, state: &S, value: T, n: usize)
         requires counted { 0 < n }
-        requires absent { IsAbsent (λ v. T.eq v value) self.old.slots }
+        requires absent { IsAbsent (T.eq value) self.old.slots }
         requires room { live_count self.old.slots < length self.old.slots }
         requires reached { IsReached (hash_under T.hash_input S.BuildHasher S.Hasher.Hasher state.now) self.old }
         ensures placed { Places value n self.old.slots self.new.slots }
@@ -358,7 +304,7 @@ impl<T: Eq + Hash> Slots<T> {
         self.place_hashed(state, hash, value, n);
     }
 
-    /// The first place on the path of a hash whose slot is not Live. Not all slots are Live.
+    /// Returns the first place on the path of a hash whose slot is not Live. Not all slots are Live.
     #[inline(always)]
     pub fn first_free(&self, hash: u64) -> usize
         requires room { live_count self.now.slots < length self.now.slots }
@@ -367,12 +313,12 @@ impl<T: Eq + Hash> Slots<T> {
         first_free(self.tags.as_slice(), hash)
     }
 
-    /// As `place`, of a value whose hash under the state is handed in: it hashes nothing.
+    /// Places a value as [`Slots::place`] does, with its hash under the state. It hashes nothing.
     #[inline(always)]
     pub fn place_hashed<S: BuildHasher>(&mut self, state: &S, hash: u64, value: T, n: usize)
         requires hashed { hash ≡ hash_under T.hash_input S.BuildHasher S.Hasher.Hasher state.now value }
         requires counted { 0 < n }
-        requires absent { IsAbsent (λ v. T.eq v value) self.old.slots }
+        requires absent { IsAbsent (T.eq value) self.old.slots }
         requires room { live_count self.old.slots < length self.old.slots }
         requires reached { IsReached (hash_under T.hash_input S.BuildHasher S.Hasher.Hasher state.now) self.old }
         ensures placed { Places value n self.old.slots self.new.slots }
@@ -383,7 +329,7 @@ impl<T: Eq + Hash> Slots<T> {
         self.place_at(place, state, hash, value, n);
     }
 
-    /// As `place_hashed`, into a slot that is handed in: the first on the path of the value's hash that is not Live.
+    /// Places a value as [`Slots::place_hashed`] does, in a given slot: the first on the path of the value's hash that is not Live.
     #[inline(always)]
     pub fn place_at<S: BuildHasher>(
         &mut self,
@@ -395,7 +341,7 @@ impl<T: Eq + Hash> Slots<T> {
     )
         requires hashed { hash ≡ hash_under T.hash_input S.BuildHasher S.Hasher.Hasher state.now value }
         requires counted { 0 < n }
-        requires absent { IsAbsent (λ v. T.eq v value) self.old.slots }
+        requires absent { IsAbsent (T.eq value) self.old.slots }
         requires free { IsFirstFree hash self.old.slots place }
         requires reached { IsReached (hash_under T.hash_input S.BuildHasher S.Hasher.Hasher state.now) self.old }
         ensures placed { Places value n self.old.slots self.new.slots }

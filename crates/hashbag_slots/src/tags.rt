@@ -23,7 +23,8 @@ pub const MOVED: u8 = 2;
 /// The least tag of a Live slot.
 pub const LEAST_MARK: u8 = 128;
 
-/// The tag of a Live slot whose value has that hash: the hash's top seven bits, above those that choose the place.
+/// Returns the tag of a Live slot whose value has this hash: 128 and the hash's top seven bits, which are above those that choose the
+/// place.
 #[inline(always)]
 pub fn mark_of(hash: u64) -> u8
     ensures mark { result ≡ mark_of hash }
@@ -32,7 +33,11 @@ pub fn mark_of(hash: u64) -> u8
     (hash >> 57) as u8 + LEAST_MARK
 }
 
-/// So many tags of Empty slots. None are never refused.
+/// Returns `count` tags of Empty slots.
+///
+/// # Errors
+///
+/// `AllocError` if the allocation fails. With `count` 0 it can't fail.
 pub fn empty_tags(alloc: Global, count: usize) -> Result<Vec<u8>, AllocError>
     ensures tags { IfOk result (λ v. v.items ≡ replicate count 0) }
     ensures none { count ≡ 0 → IsOk result }

@@ -1,11 +1,11 @@
 //! Walks over two tables of slots, a newer and an older one: their values with their counts, each once.
 //!
-//! A walk knows how many are still to come, and gives `None` for good after the last. It hashes nothing and takes no memory. A
-//! whole walk looks at each slot once.
+//! A walk knows how many values are left, and after the last one it gives `None` for good. It hashes nothing and doesn't allocate. A whole
+//! walk reads each slot once.
 //!
-//! It makes three passes over each table, one over the newer, one over the older, and so on. A pass takes every third group of 16
-//! slots. So what has come of both tables at any time has homes that are spread over all slots, and a table that is filled by a
-//! walk of others is not filled place after place: there the second sweep would fall on the slots that the first has filled.
+//! It makes three passes over each table, one over the newer, one over the older, and so on. A pass takes every third group of 16 slots. So
+//! what was given of both tables at any time has homes that are spread over all slots. A table that is filled by a walk of others is then
+//! not filled place after place, which would make the values of the second pass probe through slots that the first has filled.
 ghost use Rattle.std.specs.Prelude.{◌≡◌, ℕ, length, Some, IfSome, ⊤};
 ghost use Rattle.std.specs.Iterator.{YieldsFirst, YieldsFirstBy, item_count, at_most, UpTo};
 ghost use Rattle.std.specs.Iterator.SizeHint.{IsWithinCount};
@@ -30,14 +30,14 @@ pub(crate) fn cells_of<'a, T>(
     if turn % 2 == 1 { newer } else { older }
 }
 
-/// The values of tables that are lent, with their counts. Contracts see a walk as the list of those that are still to come.
+/// The values of tables that are lent, with their counts. Contracts see a walk as the list of those that are left.
 #[derive(Drop)]
 pub struct Walk<'a, T> {
     pub(crate) newer_tags: &'a [u8],
     pub(crate) newer: &'a Cells<(T, usize)>,
     pub(crate) older_tags: &'a [u8],
     pub(crate) older: &'a Cells<(T, usize)>,
-    // Those of the table whose turn it is.
+    // The cells of the table whose turn it is.
     pub(crate) cells: &'a Cells<(T, usize)>,
     pub(crate) course: Course,
     pub(crate) left: usize,
@@ -59,7 +59,7 @@ impl<'a, T> Clone for Walk<'a, T> {
 
     ghost is_infallible = { λ _. ⊤ };
 
-    /// A walk that goes on from the same place. It takes no memory, and is never refused.
+    /// Returns a walk that goes on from the same place. It doesn't allocate and can't fail.
     fn clone(&self) -> Result<Walk<'a, T>, AllocError> {
         let (course, left) = (self.course, self.left);
         Ok(Walk {
@@ -118,9 +118,9 @@ impl<'a, T> ExactSizeIterator for Walk<'a, T> {
     }
 }
 
-/// The values of tables that are gone, with their counts. Those that are not taken are dropped with the walk.
+/// The values of tables that were used up, with their counts. Unread values are dropped with the walk.
 ///
-/// Contracts see a walk as the list of those that are still to come.
+/// Contracts see a walk as the list of those that are left.
 pub struct IntoWalk<T> {
     pub(crate) newer_tags: Vec<u8>,
     pub(crate) newer: Cells<(T, usize)>,
@@ -205,7 +205,7 @@ impl<T: Drop> ExactSizeIterator for IntoWalk<T> {
 }
 
 impl<T> IntoWalk<T> {
-    /// A walk over what is still to come, which lends it and leaves this walk where it is.
+    /// Returns a walk over what is left, which lends it, and leaves this walk where it is.
     pub fn rest(&self) -> Walk<'_, T>
         ensures { result ≡ self.now }
     {

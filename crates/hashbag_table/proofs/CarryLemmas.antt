@@ -277,7 +277,7 @@ IsTables-blank {T = T} eq hash newer older n e f r s =
       tables = record {
         newer_reached = r;
         older_reached = s;
-        apart = λ p v k here q lt. ap (λ ss. holds (λ w. eq w v) (slot_at ss q)) e ∙ ap (holds (λ w. eq w v)) (slot_at-replicate n q);
+        apart = λ p v k here q lt. ap (λ ss. holds (eq v) (slot_at ss q)) e ∙ ap (holds (eq v)) (slot_at-replicate n q);
         unmoved = unmoved_blank newer.slots n e;
         looked_within = omega arith;
         looked_dead = λ p lt. absurd (omega arith);
@@ -303,18 +303,6 @@ module _ {T : Type 0} where
   entries_fresh ss e = ap entries e ∙ entries_empty T (length ss)
 
 module _ {T : Type 0} (eq : T → T → Bool) (hash : T → ℕ) (newer fresh : Columns T) (many : ℕ) (reached : IsReached hash newer) (may : MayAdopt eq hash fresh newer.slots many) where
-  -- the former newer table waits beside the one that takes its place
-  pub tables_adopted : AreTables eq hash fresh newer 0
-  tables_adopted = record {
-    newer_reached = may.reached;
-    older_reached = reached;
-    apart = may.apart;
-    unmoved = may.unmoved;
-    looked_within = omega arith;
-    looked_dead = λ p lt. absurd (omega arith);
-    fits = may.fits;
-  }
-
   pub IsTables-adopted : IsEquivalence eq → (newer1 older1 : Columns T) (looked1 : ℕ) → AreTables eq hash newer1 older1 looked1 → Carried many fresh.slots newer.slots newer1.slots (drop looked1 older1.slots)
       → (length older1.slots ≤ looked1 → length older1.slots ≡ 0) → IsTables eq hash newer1 older1 looked1
   IsTables-adopted laws newer1 older1 looked1 tables h freed =
@@ -344,7 +332,7 @@ module _ {T : Type 0} (eq : T → T → Bool) (hash : T → ℕ) (newer fresh : 
       let x = roomy.some in let y = roomy.carries in
       record {
         reached = reached;
-        apart = λ p v n here q lt. ap (λ ss. holds (λ w. eq w v) (slot_at ss q)) empty ∙ ap (holds (λ w. eq w v)) (slot_at-replicate (length fresh.slots) q);
+        apart = λ p v n here q lt. ap (λ ss. holds (eq v) (slot_at ss q)) empty ∙ ap (holds (eq v)) (slot_at-replicate (length fresh.slots) q);
         unmoved = unmoved_blank fresh.slots (length fresh.slots) empty;
         counted = subst (λ es. IsCounted eq (es ++ entries newer.slots)) (sym (entries_fresh fresh.slots empty)) counted;
         fits = omega (arith, a, b, x);
@@ -363,9 +351,6 @@ module _ {T : Type 0} (eq : T → T → Bool) (hash : T → ℕ) (newer fresh : 
 module _ {T : Type 0} (eq : T → T → Bool) (laws : IsEquivalence eq) (hash : T → ℕ) (newer older newer1 : Columns T) (looked : ℕ) (v : T) (n : ℕ)
     (before : IsTables eq hash newer older looked) (absent : lookup_entry (eq v) (entries_of newer.slots (drop looked older.slots)) ≡ None) (some : 0 < n)
     (room : 0 < room_of newer.slots (drop looked older.slots)) (carries : length (drop looked older.slots) ≤ 16 * (room_of newer.slots (drop looked older.slots) - 1)) where
-  pub free_slot : live_count newer.slots < length newer.slots
-  free_slot = omega (arith, room)
-
   module _ (put : Places v n newer.slots newer1.slots) (reached : IsReached hash newer1) where
     abbrev pub w : List (Slot T)
     w = drop looked older.slots
@@ -374,14 +359,14 @@ module _ {T : Type 0} (eq : T → T → Bool) (laws : IsEquivalence eq) (hash : 
     entries_settled = IsPermutation-append_left (entries w) _ _ (entries-Places v n newer.slots newer1.slots put)
 
     -- what is Live in the older table waits, and is not the new value
-    other : (x : T) (m p : ℕ) → slot_at older.slots p ≡ Live x m → eq v x ≡ false
+    other : (x : T) (m p : ℕ) → slot_at older.slots p ≡ Live x m → eq x v ≡ false
     other x m p here = elim (cases_lt p looked) [
       | inl a ↦ absurd (let d = before.tables.looked_dead p a in let h : is_live (slot_at older.slots p) ≡ true = ap is_live here in cc)
       | inr b ↦
           let e : looked + (p - looked) ≡ p = omega arith in
           let at : slot_at w (p - looked) ≡ Live x m = get_or-drop looked older.slots (p - looked) Empty ∙ ap (slot_at older.slots) e ∙ here in
           let inside = within_table w (p - looked) (ap is_live at) in
-          laws.symm v x ∙ sym (ap (holds (λ y. eq y v)) at) ∙ (absent_both eq laws v newer.slots w absent).1 (p - looked) inside
+          laws.symm x v ∙ sym (ap (holds (eq v)) at) ∙ (absent_both eq v newer.slots w absent).1 (p - looked) inside
     ]
 
     pub IsTables-settled : IsTables eq hash newer1 older looked
@@ -394,7 +379,7 @@ module _ {T : Type 0} (eq : T → T → Bool) (laws : IsEquivalence eq) (hash : 
           tables = record {
             newer_reached = reached;
             older_reached = before.tables.older_reached;
-            apart = λ p x m here. IsAbsent-Places (λ y. eq y x) v n newer.slots newer1.slots (before.tables.apart p x m here) put (other x m p here);
+            apart = λ p x m here. IsAbsent-Places (eq x) v n newer.slots newer1.slots (before.tables.apart p x m here) put (other x m p here);
             unmoved = unmoved_filled 1 newer.slots newer1.slots (Fills-Places v n newer.slots newer1.slots put) before.tables.unmoved;
             looked_within = before.tables.looked_within;
             looked_dead = before.tables.looked_dead;

@@ -24,28 +24,7 @@ pub OnErr-from : {X Y P : Type 0} (r : Result X Y) → P → OnErr r P
 OnErr-from (Ok x) p = tt
 OnErr-from (Err y) p = p
 
-pub OnOk-map : {X Y : Type 0} (r : Result X Y) (P Q : Type 0) → (P → Q) → OnOk r P → OnOk r Q
-OnOk-map (Ok x) P Q f p = f p
-OnOk-map (Err y) P Q f p = tt
-
 module _ {T : Type 0} where
-  pair_ext : (p q : T × ℕ) → p.0 ≡ q.0 → p.1 ≡ q.1 → p ≡ q
-  pair_ext p q a b = λ i. (a i, b i)
-
-  parts_step : (b : Bool) (e : T × ℕ) (key : Option T) (count : Option ℕ) (found : Option (T × ℕ)) (r : Option (T × ℕ))
-      → (option_map (λ p. p.0) r ≡ key → option_map (λ p. p.1) r ≡ count → r ≡ found)
-      → option_map (λ p. p.0) r ≡ cond b (Some e.0) key → option_map (λ p. p.1) r ≡ cond b (Some e.1) count → r ≡ cond b (Some e) found
-  parts_step true e key count found None f p q = cc
-  parts_step true e key count found (Some x) f p q = ap (λ y. Some y) (pair_ext x e (some_is x.0 e.0 p) (some_is x.1 e.1 q))
-  parts_step false e key count found r f p q = f p q
-
-  -- an entry is its key and its value
-  pub entry_from_parts : (test : T → Bool) (es : List (T × ℕ)) (r : Option (T × ℕ))
-      → option_map (λ p. p.0) r ≡ lookup_key test es → option_map (λ p. p.1) r ≡ lookup test es → r ≡ lookup_entry test es
-  entry_from_parts test [] None p q = refl
-  entry_from_parts test [] (Some x) p q = cc
-  entry_from_parts test (e ∷ es) r p q = parts_step (test e.0) e _ _ _ r (entry_from_parts test es r) p q
-
   key_step : (b : Bool) (e : T × ℕ) (key : Option T) (found : Option (T × ℕ)) → key ≡ option_map (λ p. p.0) found → cond b (Some e.0) key ≡ option_map (λ p. p.0) (cond b (Some e) found)
   key_step true e key found p = refl
   key_step false e key found p = p
@@ -75,16 +54,6 @@ module _ {T : Type 0} where
   entry_to_front test [] e p = absurd (cc)
   entry_to_front test (x ∷ xs) e p = front_step (test x.0) x xs e _ _ (entry_to_front test xs e) p
 
-  set_step : (b : Bool) (x : T × ℕ) (xs : List (T × ℕ)) (e : T × ℕ) (w : ℕ) (found : Option (T × ℕ)) (rest set : List (T × ℕ))
-      → (found ≡ Some e → IsPermutation ((e.0, w) ∷ rest) set) → cond b (Some x) found ≡ Some e
-      → IsPermutation ((e.0, w) ∷ cond b xs (x ∷ rest)) (cond b ((x.0, w) ∷ xs) (x ∷ set))
-  set_step true x xs e w found rest set f p = let same : x ≡ e = cc in subst (λ (y : T × ℕ). IsPermutation ((y.0, w) ∷ xs) ((x.0, w) ∷ xs)) same (IsPermutation-refl ((x.0, w) ∷ xs))
-  set_step false x xs e w found rest set f p = IsPermutation-trans _ _ _ (IsPermutation-middle ((e.0, w) ∷ []) x rest) (IsPermutation-cons x _ _ (f p))
-
-  pub set_to_front : (test : T → Bool) (es : List (T × ℕ)) (e : T × ℕ) (w : ℕ) → lookup_entry test es ≡ Some e → IsPermutation ((e.0, w) ∷ remove_entry test es) (set_value test es w)
-  set_to_front test [] e w p = absurd (cc)
-  set_to_front test (x ∷ xs) e w p = set_step (test x.0) x xs e w _ _ _ (set_to_front test xs e w) p
-
   without_step : (b : Bool) (x : T × ℕ) (xs : List (T × ℕ)) (found : Option (T × ℕ)) (rest : List (T × ℕ)) → (found ≡ None → rest ≡ xs) → cond b (Some x) found ≡ None → cond b xs (x ∷ rest) ≡ x ∷ xs
   without_step true x xs found rest f p = cc
   without_step false x xs found rest f p = ap (λ ys. x ∷ ys) (f p)
@@ -106,34 +75,6 @@ module _ {T : Type 0} where
       let absent : lookup_entry (eq v) es ≡ None = entry_none_from_lookup (eq v) es p in
       ap (λ (k : T). (k, w) ∷ without eq v es) (stored-absent eq v es absent) ∙ ap (λ (l : List (T × ℕ)). (v, w) ∷ l) (without_absent (eq v) es absent)
 
-  -- a value that is written where it stands
-  pub with_count_set : (eq : T → T → Bool) (v : T) (w : ℕ) (es : List (T × ℕ)) → IsSome (entry_of eq v es) → IsPermutation (with_count eq v w es) (set_value (eq v) es w)
-  with_count_set eq v w es some =
-      set_cases (lookup_entry (eq v) es) refl some
-    where
-      set_cases : (o : Option (T × ℕ)) → lookup_entry (eq v) es ≡ o → IsSome o → IsPermutation (with_count eq v w es) (set_value (eq v) es w)
-      set_cases None p some = absurd (false≢true some)
-      set_cases (Some e) p some = subst (λ (k : T). IsPermutation ((k, w) ∷ remove_entry (eq v) es) (set_value (eq v) es w)) (sym (stored-present eq v es e p)) (set_to_front (eq v) es e w p)
-
-  -- what `insert` of a hash map leaves
-  pub with_count_put : {S : Type 0} (eq : T → T → Bool) (v : T) (w : ℕ) (m n : HashMap T ℕ S) (old : Option ℕ) → old ≡ hash.get eq m v → hash.PutsEntry eq m n v w old → IsPermutation (with_count eq v w m.entries) n.entries
-  with_count_put eq v w m n None p puts =
-      subst (λ (es : List (T × ℕ)). IsPermutation es n.entries) (sym (with_count-absent eq v w m.entries (sym p))) puts
-  with_count_put eq v w m n (Some c) p puts =
-      put_cases (lookup_entry (eq v) m.entries) refl
-    where
-      put_cases : (o : Option (T × ℕ)) → lookup_entry (eq v) m.entries ≡ o → IsPermutation (with_count eq v w m.entries) n.entries
-      put_cases None q = let wrong : Some c ≡ None = p ∙ lookup-entry (eq v) m.entries ∙ ap (option_map (λ (e : T × ℕ). e.1)) q in absurd (cc)
-      put_cases (Some e) q = subst (λ (es : List (T × ℕ)). IsPermutation (with_count eq v w m.entries) es) (sym puts) (with_count_set eq v w m.entries (subst (λ (o : Option (T × ℕ)). IsSome o) (sym q) refl))
-
-  -- a count that was found stands in an entry
-  pub entry_from_lookup : (test : T → Bool) (es : List (T × ℕ)) (c : ℕ) → lookup test es ≡ Some c → IsSome (lookup_entry test es)
-  entry_from_lookup test es c p = there (lookup_entry test es) refl
-    where
-      there : (o : Option (T × ℕ)) → lookup_entry test es ≡ o → IsSome o
-      there None q = let wrong : Some c ≡ None = sym p ∙ lookup-entry test es ∙ ap (option_map (λ (e : T × ℕ). e.1)) q in absurd (cc)
-      there (Some e) q = refl
-
   -- the map with n fewer of v, where more than n are there, and where they are not
   pub with_fewer-some : (eq : T → T → Bool) (v : T) (n : ℕ) (es : List (T × ℕ)) → n < count_of eq v es → with_fewer eq v n es ≡ with_count eq v (count_of eq v es - n) es
   with_fewer-some eq v n es more = ap (λ (b : Bool). cond b (with_count eq v (count_of eq v es - n) es) (without eq v es)) (lt-ltb _ _ more)
@@ -144,12 +85,6 @@ module _ {T : Type 0} where
       not_below : (b : Bool) → ltb n (count_of eq v es) ≡ b → b ≡ false
       not_below true e = let over = ltb-true _ _ e in absurd (omega arith)
       not_below false e = refl
-
-  -- what is there has a count
-  pub absurd_entry : (test : T → Bool) (es : List (T × ℕ)) → IsSome (lookup_entry test es) → None ≡ lookup test es → ⊥
-  absurd_entry test es some p =
-      let none : lookup_entry test es ≡ None = entry_none_from_lookup test es (sym p) in
-      false≢true (subst (λ (o : Option (T × ℕ)). IsSome o) none some)
 
   -- a map of counts is one in any order
   pub counted_rearranged : {eq : T → T → Bool} → IsEquivalence eq → (es fs : List (T × ℕ)) → IsPermutation es fs → IsCounted eq es → IsCounted eq fs

@@ -135,7 +135,7 @@ module _ {F T : Type 0} (g : Mut F (Bor T × (ℕ × Unit {0})) ℕ) where
         older_reached = older_reached;
         apart = λ p v n here.
             let was = retained_live g looked f1 f2 older.slots older1.slots second p v n here in
-            retained_absent g 0 f f1 newer.slots newer1.slots first (λ w. eq w v) (before.tables.apart p v was.0 was.1);
+            retained_absent g 0 f f1 newer.slots newer1.slots first (eq v) (before.tables.apart p v was.0 was.1);
         unmoved = λ p here. before.tables.unmoved p (retained_moved g 0 f f1 newer.slots newer1.slots first p here);
         looked_within = let l = before.tables.looked_within in let same = second.same_length in omega (arith, l, same);
         looked_dead = λ p lt. ap is_live (second.before p lt) ∙ before.tables.looked_dead p lt;

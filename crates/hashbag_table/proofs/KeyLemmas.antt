@@ -7,13 +7,13 @@ use Rattle.hashbag_slots.proofs.Probing.{holder}
 use Rattle.hashbag_table.specs.declared.table.Spot.{Spot}
 use Rattle.hashbag_table.specs.declared.table.Spot.TheVariants.{Newer, Waiting}
 use Rattle.hashbag_table.specs.Entries.{IsCounted, with_instance}
-use Rattle.hashbag_table.specs.Named.{named_entry, named_count, AddsNamed}
+use Rattle.hashbag_table.specs.Additions.{AddsNamed, Stores}
+use Rattle.hashbag_table.specs.Named.{named_entry, named_count}
 use Rattle.hashbag_table.specs.Table.{Table, IsMapOf}
 use Rattle.hashbag_table.specs.Tables.{Tables, Arrives, HoldsIn, slot_in, Writes, Swaps}
+use Rattle.hashbag_table.proofs.AddLemmas.{adds_raised, adds_stored}
 use Rattle.hashbag_table.proofs.EntryLemmas.{lookup-entry, entry_to_front, counted_rearranged}
-use Rattle.hashbag_table.proofs.RaisedLemmas.{raised_there, raised_added, raised_slot, raised_kept}
-use Rattle.hashbag_table.proofs.RoomKeptLemmas.{keeps_more, keeps_Arrives}
-use Rattle.hashbag_table.proofs.SpotLemmas.{held_entry, count_absent, added_absent}
+use Rattle.hashbag_table.proofs.SpotLemmas.{held_entry}
 
 module _ {T : Type 0} (names : T → Bool) where
   -- the count of an entry that the key names, and that of none
@@ -30,9 +30,6 @@ module _ {T : Type 0} (names : T → Bool) where
 
 module _ {T : Type 0} (eq : T → T → Bool) (laws : IsEquivalence eq) (names : T → Bool) (one : (v w : T) → names v ≡ true → names w ≡ eq w v) where
   -- the test is that of being equal to a value that the key names
-  pub named_equals : (v : T) → names v ≡ true → names ≡ (λ w. eq w v)
-  named_equals v does = λ i w. one v w does i
-
   pub named_is : (v : T) → names v ≡ true → names ≡ eq v
   named_is v does = λ i w. (one v w does ∙ laws.symm w v) i
 
@@ -53,38 +50,13 @@ module _ {T : Type 0} (eq : T → T → Bool) (laws : IsEquivalence eq) (names :
           → new.hasher ≡ old.hasher → IsCounted eq new.entries → AddsNamed eq names n old new
       named_raised new was after swap hasher counted =
           let h = held_named names old.tables spot held in let v = h.0 in
-          let at : HoldsIn (λ w. eq w v) old.tables spot = subst (λ (test : T → Bool). HoldsIn test old.tables spot) (named_equals v h.1) held in
-          let found : slot_entry (slot_in old.tables spot) ≡ lookup_entry (λ w. eq w v) old.entries = is ∙ ap (λ (test : T → Bool). lookup_entry test old.entries) (named_equals v h.1) in
-          let kept = raised_kept eq laws v n old.entries old.tables spot found at before count new.tables after in (
-            v,
-            h.1,
-            record {
-              added = record { means = raised_added eq laws v n old.entries old.tables spot found at before count new.entries was swap; hasher = hasher; counted = counted };
-              new_set = λ none. absurd (raised_there eq laws v n old.entries old.tables spot found at none);
-              slot = λ _. raised_slot eq laws v n old.entries old.tables spot found at before count new.tables after;
-              arrives = λ none. absurd (raised_there eq laws v n old.entries old.tables spot found at none);
-              room = λ _. keeps_more 1 _ _ kept;
-              same_room = λ _. kept;
-            },
-          )
+          let at : HoldsIn (eq v) old.tables spot = subst (λ (test : T → Bool). HoldsIn test old.tables spot) (named_is v h.1) held in
+          let found : slot_entry (slot_in old.tables spot) ≡ lookup_entry (eq v) old.entries = is ∙ ap (λ (test : T → Bool). lookup_entry test old.entries) (named_is v h.1) in
+          (v, h.1, adds_raised eq laws v n old new spot found at before count was after swap hasher counted)
 
   -- a value that was made of the key, where it named none that was there
-  pub named_arrived : {S : Type 0} (old new : Table T S) (v : T) (n : ℕ) → names v ≡ true → named_entry names old.entries ≡ None → IsMapOf eq old (with_instance eq v n old.entries) new
-      → length new.entries ≡ length old.entries + 1 → Arrives old.tables new.tables → AddsNamed eq names n old new
-  named_arrived old new v n does none inserted more arrives =
-      let absent : lookup_entry (eq v) old.entries ≡ None = sym (named_found v does old.entries) ∙ none in
-      let zero = count_absent eq v old.entries absent in (
-        v,
-        does,
-        record {
-          added = record { means = added_absent eq v old.entries n new.entries absent inserted.means; hasher = inserted.hasher; counted = inserted.counted };
-          new_set = λ _. more;
-          slot = λ some. let no = subst (λ (o : Option (T × ℕ)). IsSome o) absent some in absurd (cc);
-          arrives = λ _. arrives;
-          room = λ some. keeps_Arrives _ _ arrives some;
-          same_room = λ some. absurd (omega (arith, zero, some));
-        },
-      )
+  pub named_arrived : {S : Type 0} (old new : Table T S) (v : T) (n : ℕ) → names v ≡ true → named_entry names old.entries ≡ None → Stores eq v n old new → AddsNamed eq names n old new
+  named_arrived old new v n does none stored = (v, does, adds_stored eq laws v n old new (sym (named_found v does old.entries) ∙ none) stored)
 
   -- a count is at least 1
   pub named_positive : (es : List (T × ℕ)) (e : T × ℕ) → IsCounted eq es → named_entry names es ≡ Some e → 0 < e.1

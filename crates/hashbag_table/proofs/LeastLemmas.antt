@@ -53,9 +53,6 @@ slot_count_first m d pos = elim (slot_count_least m d) [
 pub record Below (n k m : ℕ) : Type 0 where
   pub at : (other : ℕ) → IsSlotCount other → n ≤ other → k ≤ limit other → m ≤ other
 
-pub below_from : (n k : ℕ) → Below n k n
-below_from n k = record { at = λ other c le enough. le }
-
 -- where m is too small, the number that follows it is below every answer too
 pub below_first : (n k m : ℕ) → m ≡ 0 → limit m < k → Below n k 16
 below_first n k m none short = record { at = λ other c le enough. slot_count_first other c (omega arith) }
@@ -85,48 +82,8 @@ least_unique n k m m' h j =
 pub least_none : (m : ℕ) → IsLeast 0 0 m → m ≡ 0
 least_none m h = let a = h.least 0 (inl refl) (omega arith) (omega arith) in omega (arith, a)
 
-pub least_some : (n k m : ℕ) → 0 < k → IsLeast n k m → 0 < m
-least_some n k m pos h = let e = h.enough in let f = limit_few m in omega (arith, e, f, pos)
-
--- a number of slots that is enough is the least from itself on
-pub least_kept : (n k : ℕ) → IsSlotCount n → k ≤ limit n → IsLeast n k n
-least_kept n k c enough = least_from n k n c (omega arith) enough (below_from n k)
-
--- a table that stands is no smaller than the least one for its values
-pub least_within : (k m n : ℕ) → IsLeast 0 k m → IsSlotCount n → k ≤ limit n → m ≤ n
-least_within k m n h c enough = h.least n c (omega arith) enough
-
--- from a larger number on, the least is no smaller
-pub least_later : (n n' k m m' : ℕ) → n ≤ n' → IsLeast n k m → IsLeast n' k m' → m ≤ m'
-least_later n n' k m m' le h j = h.least m' j.count (let f = j.from in omega (arith, f, le)) j.enough
-
 -- there is none for more values than a table may have
 pub least_bound : (n k m : ℕ) → IsLeast n k m → k ≤ MOST_VALUES
 least_bound n k m h = let e = h.enough in let b = limit_bound m h.count in omega (arith, e, b)
 
 -- ---- there is one
-
-climb : (fuel j n k : ℕ) → 4 ≤ j → j + fuel ≡ 59 → n ≤ 2 ^ j → k ≤ MOST_VALUES → Below n k (2 ^ j) → (m : ℕ) × IsLeast n k m
-climb zero j n k low all le few below =
-    let e : j ≡ 59 = omega arith in
-    let l : limit (2 ^ j) ≡ MOST_VALUES = ap (λ i. limit (2 ^ i)) e ∙ limit_most in
-    (2 ^ j, least_from n k (2 ^ j) (inr (j, low, omega arith, refl)) le (omega (arith, l, few)) below)
-climb (suc fuel) j n k low all le few below =
-    let count : IsSlotCount (2 ^ j) = inr (j, low, omega arith, refl) in
-    elim (cases_lt (limit (2 ^ j)) k) [
-      | inl short ↦
-          let z : 2 ^ suc j ≡ 2 * 2 ^ j = let e = pow-suc 2 j in omega (arith, e) in
-          let some : 16 ≤ 2 ^ j = pow_mono {i = 4} {j = j} low in
-          let next : Below n k (2 ^ suc j) = subst (Below n k) (sym z) (below_double n k (2 ^ j) count (omega (arith, some)) short below) in
-          climb fuel (suc j) n k (omega arith) (omega arith) (omega (arith, z, le)) few next
-      | inr enough ↦ (2 ^ j, least_from n k (2 ^ j) count le enough below)
-    ]
-
-pub least_exists : (n k : ℕ) → IsSlotCount n → k ≤ MOST_VALUES → (m : ℕ) × IsLeast n k m
-least_exists n k c few = elim (cases_lt (limit n) k) [
-  | inr enough ↦ (n, least_kept n k c enough)
-  | inl short ↦ elim c [
-    | inl z ↦ climb 55 4 n k (omega arith) refl (omega arith) few (below_first n k n z short)
-    | inr w ↦ climb (59 - w.0) w.0 n k w.1 (let l = w.2 in omega (arith, l)) (let e = w.3 in omega (arith, e)) few (subst (Below n k) w.3 (below_from n k))
-  ]
-]

@@ -38,7 +38,7 @@ module _ {T : Type 0} (eq : T → T → Bool) (laws : IsEquivalence eq) where
   apart_counted newer former h p v n at =
       let first = counted_rearranged laws _ _ (take_first newer former p v n (within_table former p (ap is_live at)) at) h in
       let rest = entries_of newer (slice_set former p Removed) in
-      (absent_both eq laws v newer (slice_set former p Removed) (none_distinct v rest (IsDistinct-head eq v (keys_of rest) first.distinct))).0
+      (absent_both eq v newer (slice_set former p Removed) (none_distinct v rest (IsDistinct-head eq v (keys_of rest) first.distinct))).0
 
   -- what waits is in another table, and none is left behind
   pub IsTables-freed : (hash : T → ℕ) (newer older none : Columns T) (looked : ℕ) → IsTables eq hash newer older looked → none.slots ≡ [] → IsReached hash none → IsTables eq hash newer none 0
@@ -67,7 +67,7 @@ module _ {T : Type 0} (eq : T → T → Bool) (laws : IsEquivalence eq) (hash : 
     (before : IsTables eq hash newer older looked) (empty : blank.slots ≡ replicate (length blank.slots) Empty) (all : looked + many ≡ length older.slots)
     (enough : length (entries_of newer.slots (drop looked older.slots)) ≤ limit (length blank.slots)) where
   pub apart_blank : AreApart eq older.slots blank.slots
-  apart_blank p v n here q lt = ap (λ ss. holds (λ w. eq w v) (slot_at ss q)) empty ∙ ap (holds (λ w. eq w v)) (slot_at-replicate (length blank.slots) q)
+  apart_blank p v n here q lt = ap (λ ss. holds (eq v) (slot_at ss q)) empty ∙ ap (holds (eq v)) (slot_at-replicate (length blank.slots) q)
 
   pub all_values : length (entries_of newer.slots (drop looked older.slots)) ≡ live_count newer.slots + live_count (drop looked older.slots)
   all_values =
@@ -121,9 +121,6 @@ module _ {T : Type 0} (eq : T → T → Bool) (laws : IsEquivalence eq) (hash : 
         }
 
     module _ (k : ℕ) (most : length newer.slots ≤ k) (new : Tables T) (h : Carried k blank1.slots newer.slots new.newer new.waiting) where
-      pub slots_packed : length new.newer ≡ length blank.slots
-      slots_packed = h.fills.same_length ∙ slots
-
       pub packed : IsPacked new
       packed = record {
         waiting = h.waits ∙ drop_all k newer.slots most;

@@ -25,10 +25,6 @@ IsSlotCount-double n c small some = elim c [
   ]
 ]
 
--- 8 times a number of slots fits
-pub eight_fits : (n : ℕ) → IsSlotCount n → 8 * n < 2 ^ 64
-eight_fits n c = let b = count_bound n c in omega arith
-
 pub grown_none : (n s : ℕ) → n ≡ 0 → grown_slots n s ≡ 16
 grown_none n s e = ap (λ m. grown_slots m s) e
 

@@ -134,19 +134,13 @@ module _ {T : Type 0} where
       none_tail true e r h = absurd (cc)
       none_tail false e r h = h
 
-module _ {T : Type 0} (eq : T → T → Bool) (laws : IsEquivalence eq) (x : T) where
-  pub turned : (es : List (T × ℕ)) → lookup_entry (λ v. eq v x) es ≡ lookup_entry (eq x) es
-  turned es = λ i. lookup_entry (λ v. laws.symm v x i) es
-
-  pub count_turned : (es : List (T × ℕ)) → named_count (λ v. eq v x) es ≡ count_of eq x es
-  count_turned es = λ i. named_count (λ v. laws.symm v x i) es
-
+module _ {T : Type 0} (eq : T → T → Bool) (x : T) where
   -- an absent value is in no slot of either list
-  pub absent_both : (newer waiting : List (Slot T)) → lookup_entry (eq x) (entries newer ++ entries waiting) ≡ None → IsAbsent (λ w. eq w x) newer × IsAbsent (λ w. eq w x) waiting
+  pub absent_both : (newer waiting : List (Slot T)) → lookup_entry (eq x) (entries newer ++ entries waiting) ≡ None → IsAbsent (eq x) newer × IsAbsent (eq x) waiting
   absent_both newer waiting h =
       let left = lookup-append_left (eq x) (entries newer) (entries waiting) h in (
-        absent_slots (λ w. eq w x) newer (turned (entries newer) ∙ left),
-        absent_slots (λ w. eq w x) waiting (turned (entries waiting) ∙ sym (lookup-append_none (eq x) (entries newer) (entries waiting) left) ∙ h),
+        absent_slots (eq x) newer left,
+        absent_slots (eq x) waiting (sym (lookup-append_none (eq x) (entries newer) (entries waiting) left) ∙ h),
       )
 
 module _ {T : Type 0} (test : T → Bool) where

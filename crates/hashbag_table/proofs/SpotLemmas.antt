@@ -137,7 +137,7 @@ module _ {T : Type 0} (eq : T → T → Bool) (hash : T → ℕ) (newer older : 
   pub waiting_at : (p : ℕ) → looked ≤ p → slot_at (drop looked older.slots) (p - looked) ≡ slot_at older.slots p
   waiting_at p le = let e : looked + (p - looked) ≡ p = omega arith in get_or-drop looked older.slots (p - looked) Empty ∙ ap (slot_at older.slots) e
 
-  module _ (p : ℕ) (v : T) (m : ℕ) (s : Slot T) (quiet : (x : T) → eq v x ≡ false → holds (λ z. eq z x) s ≡ false) (used : one_if (is_live s) + one_if (is_removed s) ≡ 1) where
+  module _ (p : ℕ) (v : T) (m : ℕ) (s : Slot T) (quiet : (x : T) → eq x v ≡ false → holds (eq x) s ≡ false) (used : one_if (is_live s) + one_if (is_removed s) ≡ 1) where
     not_moved : s ≡ Moved → ⊥
     not_moved e = absurd (let z : one_if (is_live {T = T} Moved) + one_if (is_removed {T = T} Moved) ≡ 1 = subst (λ x. one_if (is_live x) + one_if (is_removed x) ≡ 1) e used in omega arith)
 
@@ -157,10 +157,10 @@ module _ {T : Type 0} (eq : T → T → Bool) (hash : T → ℕ) (newer older : 
             newer_reached = reached;
             older_reached = before.tables.older_reached;
             apart = λ q x n here i inside.
-                ap (λ ss. holds (λ z. eq z x) (slot_at ss i)) now
+                ap (λ ss. holds (eq x) (slot_at ss i)) now
                 ∙ elim (set_cases newer.slots p s lt i) [
-                  | inl at ↦ ap (holds (λ z. eq z x)) at.1 ∙ quiet x (sym (ap (holds (λ z. eq z x)) was) ∙ before.tables.apart q x n here p lt)
-                  | inr at ↦ ap (holds (λ z. eq z x)) at.1 ∙ before.tables.apart q x n here i (omega (arith, len, inside))
+                  | inl at ↦ ap (holds (eq x)) at.1 ∙ quiet x (sym (ap (holds (eq x)) was) ∙ before.tables.apart q x n here p lt)
+                  | inr at ↦ ap (holds (eq x)) at.1 ∙ before.tables.apart q x n here i (omega (arith, len, inside))
                 ];
             unmoved = subst NoneMoved (sym now) (unmoved_set newer.slots p s lt not_moved before.tables.unmoved);
             looked_within = before.tables.looked_within;
@@ -177,7 +177,7 @@ module _ {T : Type 0} (eq : T → T → Bool) (hash : T → ℕ) (newer older : 
         }
 
     pub IsTables-older : (older1 : Columns T) → looked + p < length older.slots → slot_at older.slots (looked + p) ≡ Live v m → older1.slots ≡ slice_set older.slots (looked + p) s → IsReached hash older1
-        → ((x : T) (n : ℕ) → s ≡ Live x n → IsAbsent (λ y. eq y v) newer.slots → IsAbsent (λ y. eq y x) newer.slots) → IsCounted eq (entries_of newer.slots (drop looked older1.slots)) → IsTables eq hash newer older1 looked
+        → ((x : T) (n : ℕ) → s ≡ Live x n → IsAbsent (eq v) newer.slots → IsAbsent (eq x) newer.slots) → IsCounted eq (entries_of newer.slots (drop looked older1.slots)) → IsTables eq hash newer older1 looked
     IsTables-older older1 lt was now reached same counted =
         let w = drop looked older.slots in
         let len : length older1.slots ≡ length older.slots = ap length now ∙ length-set older.slots (looked + p) s in
@@ -295,7 +295,7 @@ module _ {T : Type 0} (eq : T → T → Bool) (laws : IsEquivalence eq) (hash : 
         let there : slot_at older.slots (looked + p) ≡ Live l.0 l.1 = sym (get_or-drop looked older.slots p Empty) ∙ l.2 in
         IsTables-older eq hash newer older looked before p l.0 l.1 (Live l.0 k) (λ test h. h) refl older1 (omega (arith, inside, d)) there
         (now ∙ ap (λ s. slice_set older.slots (looked + p) (recounted k s)) there) reached
-        (λ x n e a. let z : l.0 ≡ x = cc in subst (λ y. IsAbsent (λ u. eq u y) newer.slots) z a)
+        (λ x n e a. let z : l.0 ≡ x = cc in subst (λ y. IsAbsent (eq y) newer.slots) z a)
         (counted_swap eq laws _ _ l.0 l.1 k pos before.counted set_waiting_swap)
 
   module _ (v : T) (m : ℕ) (older1 : Columns T) (was : slot_at older.slots (looked + p) ≡ Live v m) (now : older1.slots ≡ slice_set older.slots (looked + p) Removed) (reached : IsReached hash older1) where
@@ -330,16 +330,16 @@ module _ {T : Type 0} (eq : T → T → Bool) (laws : IsEquivalence eq) (v x : T
       let before = counted_rearranged laws _ _ swap.before h in
       counted_rearranged laws _ _ swap.after (IsCounted-cons eq x 1 swap.rest (none_equal swap.rest (IsDistinct-head eq v (keys_of swap.rest) before.distinct)) (omega arith) (tail_counted eq laws (v, m) swap.rest before))
 
-  quiet_put : (y : T) → eq v y ≡ false → holds (λ z. eq z y) (Live x 1) ≡ false
-  quiet_put y h = sym (laws.congr v x y equal) ∙ h
+  quiet_put : (y : T) → eq y v ≡ false → holds (eq y) (Live x 1) ≡ false
+  quiet_put y h = laws.symm y x ∙ sym (laws.congr v x y equal) ∙ laws.symm v y ∙ h
 
-  absent_put : (ss : List (Slot T)) → IsAbsent (λ y. eq y v) ss → IsAbsent (λ y. eq y x) ss
+  absent_put : (ss : List (Slot T)) → IsAbsent (eq v) ss → IsAbsent (eq x) ss
   absent_put ss h p lt = same (slot_at ss p) ∙ h p lt where
-    same : (s : Slot T) → holds (λ y. eq y x) s ≡ holds (λ y. eq y v) s
+    same : (s : Slot T) → holds (eq x) s ≡ holds (eq v) s
     same Empty = refl
     same Removed = refl
     same Moved = refl
-    same (Live y n) = laws.symm y x ∙ sym (laws.congr v x y equal) ∙ laws.symm v y
+    same (Live y n) = sym (laws.congr v x y equal)
 
   module _ (hash : T → ℕ) (newer older : Columns T) (looked : ℕ) (before : IsTables eq hash newer older looked) (p m : ℕ) where
     module _ (newer1 : Columns T) (was : slot_at newer.slots p ≡ Live v m) (now : newer1.slots ≡ slice_set newer.slots p (Live x 1)) (reached : IsReached hash newer1) where
@@ -377,7 +377,7 @@ module _ {T : Type 0} (eq : T → T → Bool) (laws : IsEquivalence eq) (v x : T
       pub put_waiting_tables : IsTables eq hash newer older1 looked
       put_waiting_tables =
           IsTables-older eq hash newer older looked before p v m (Live x 1) quiet_put refl older1 (within_table older.slots (looked + p) (ap is_live was)) was now reached
-          (λ y n e a. let z : x ≡ y = cc in subst (λ u. IsAbsent (λ t. eq t u) newer.slots) z (absent_put newer.slots a))
+          (λ y n e a. let z : x ≡ y = cc in subst (λ u. IsAbsent (eq u) newer.slots) z (absent_put newer.slots a))
           (counted_put _ _ m before.counted put_waiting_map)
 
 module _ {T : Type 0} (eq : T → T → Bool) (x : T) (es : List (T × ℕ)) where
@@ -418,6 +418,3 @@ module _ {T : Type 0} (eq : T → T → Bool) (x : T) (es : List (T × ℕ)) whe
 pub held_entry : {T : Type 0} (test : T → Bool) (t : Tables T) (spot : Spot) → HoldsIn test t spot → (e : T × ℕ) × (slot_entry (slot_in t spot) ≡ Some e)
 held_entry test t (Newer p) h = let l = holder test (slot_at t.newer p) h.1 in ((l.0, l.1), ap slot_entry l.2)
 held_entry test t (Waiting p) h = let l = holder test (slot_at t.waiting p) h.1 in ((l.0, l.1), ap slot_entry l.2)
-
-pub positive_found : {T : Type 0} (eq : T → T → Bool) → IsEquivalence eq → (x : T) (es : List (T × ℕ)) (e : T × ℕ) → IsCounted eq es → lookup_entry (eq x) es ≡ Some e → 0 < e.1
-positive_found eq laws x es e h found = (counted_rearranged laws _ _ (entry_to_front (eq x) es e found) h).positive 0 e.1 (omega arith)

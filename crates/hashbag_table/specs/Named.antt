@@ -14,18 +14,3 @@ module _ {T : Type 0} (names : T → Bool) where
   -- the count of the value that the key names, 0 where it names none that is there
   abbrev pub named_count : List (T × ℕ) → ℕ
   named_count es = unwrap_or (lookup names es) 0
-
-module _ {T S : Type 0} (eq : T → T → Bool) where
-  -- n of v came to the map `before`, and `after` is what is left. The entries; how many there are; the slots, where v was there and
-  -- where it was absent; and how many slots and how much room there are
-  pub record Adds (v : T) (n : ℕ) (before after : Table T S) : Type 0 where
-    pub added : IsMapOf eq before (with_count eq v (count_of eq v before.entries + n) before.entries) after
-    pub new_set : entry_of eq v before.entries ≡ None → length after.entries ≡ length before.entries + 1
-    pub slot : ChangesSlot eq v (recounted (count_of eq v before.entries + n)) before after
-    pub arrives : entry_of eq v before.entries ≡ None → Arrives before.tables after.tables
-    pub room : 0 < room before.tables → KeepsRoom 1 before.tables after.tables
-    pub same_room : 0 < count_of eq v before.entries → KeepsRoom 0 before.tables after.tables
-
-  -- n of some value came that a key names
-  abbrev pub AddsNamed : (T → Bool) → ℕ → Table T S → Table T S → Type 0
-  AddsNamed names n before after = (v : T) × IsTrue (names v) × Adds v n before after

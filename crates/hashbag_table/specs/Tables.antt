@@ -40,13 +40,6 @@ pub record Roomy (n s m : ℕ) : Type 0 where
   pub smaller : n ≤ m
 
 module _ {T : Type 0} where
-  -- the slot is not Empty
-  abbrev pub is_used : Slot T → Bool
-  is_used Empty = false
-  is_used Removed = true
-  is_used Moved = true
-  is_used (Live v n) = true
-
   -- no value of these slots was carried to another table
   abbrev pub NoneMoved : List (Slot T) → Type 0
   NoneMoved ss = (p : ℕ) → slot_at ss p ≢ Moved

@@ -5,7 +5,7 @@ use std::marker::Model;
 use std::mem;
 use std::snapshot::Snapshot;
 
-// What was counted before, and one number more.
+// The earlier number, and one that was added.
 #[derive(Drop)]
 struct Sum {
     before: Option<Snapshot<Sum>>,
@@ -28,7 +28,7 @@ impl Model for Built {
 }
 
 impl Built {
-    /// Begins at a number.
+    /// Returns the number `slots`.
     pub fn first(slots: usize) -> Built
         ensures { result ≡ slots }
     {
@@ -40,7 +40,7 @@ impl Built {
         }
     }
 
-    /// Adds a number.
+    /// Adds `slots`.
     pub fn raise(&mut self, slots: usize)
         ensures { self.new ≡ self.old + slots }
     {

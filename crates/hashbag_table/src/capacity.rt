@@ -10,16 +10,16 @@ use std::alloc::{AllocError, Global};
 use std::hash::{BuildHasher, Hash};
 use std::mem;
 
-/// The slots of the first table that a growth makes.
+/// The number of slots of the first table that a growth makes.
 pub const FIRST_SLOTS: usize = 16;
 
-/// The most slots that a table has, 2^59.
+/// The greatest number of slots of a table, 2^59.
 pub const MOST_SLOTS: usize = 1 << 59;
 
-/// The slots that one insertion of an absent value carries.
+/// How many slots one insertion of an absent value carries.
 pub const CARRIED_AT_ONCE: usize = 16;
 
-/// A table of no slots. It takes no memory.
+/// Returns a table without slots. It doesn't allocate.
 pub fn no_slots<T: Eq + Drop>(alloc: Global) -> Slots<T>
     ensures slots { result.slots ≡ [] }
     ensures reached { (hash : T → ℕ) → IsReached hash result }
@@ -30,7 +30,7 @@ pub fn no_slots<T: Eq + Drop>(alloc: Global) -> Slots<T>
     }
 }
 
-/// Makes each slot Empty, and drops all values. It does nothing if all slots are Empty.
+/// Drops all values, and makes each slot Empty. It does nothing if all slots are Empty.
 pub fn clear_slots<T: Eq + Drop>(slots: &mut Slots<T>)
     requires unmoved { NoneMoved slots.old.slots }
     ensures slots { slots.new.slots ≡ replicate (length slots.old.slots) Slot.Empty }
@@ -41,7 +41,7 @@ pub fn clear_slots<T: Eq + Drop>(slots: &mut Slots<T>)
     }
 }
 
-/// How many of so many slots may be Live or Removed: three quarters.
+/// Returns how many of `count` slots may be Live or Removed: three quarters.
 #[inline(always)]
 pub fn limit(count: usize) -> usize
     requires { count ≤ 2 ^ 59 }
@@ -50,7 +50,7 @@ pub fn limit(count: usize) -> usize
     3 * count / 4
 }
 
-// Whether at most three eighths of so many slots are Live, so that half of their limit is left to a new table of as many.
+// Returns whether at most three eighths of `count` slots are Live, so that a new table with as many slots has half of its limit left.
 fn is_sparse(count: usize, live: usize) -> bool
     requires count { count ≤ 2 ^ 59 }
     requires live { live ≤ count }
@@ -59,14 +59,18 @@ fn is_sparse(count: usize, live: usize) -> bool
     8 * live <= 3 * count
 }
 
-/// The number of slots of a new table, after one of `count` slots with `live` values: 16 where there were none, so many again
-/// where at most three eighths are Live, else twice as many. More than 2^59 are refused.
+/// Returns the number of slots of a new table, after one of `count` slots with `live` values: 16 if there were none, `count` if at most
+/// three eighths are Live, else twice as many.
+///
+/// # Errors
+///
+/// `AllocError` if that is more than 2^59.
 pub fn grown_slots(count: usize, live: usize) -> Result<usize, AllocError>
     requires count { IsSlotCount count }
     requires live { live ≤ count }
     ensures grown { IfOk result (λ n. n ≡ grown_slots count live) }
     ensures slots { IfOk result (λ n. IsSlotCount n) }
-    ensures refused { IsErr result → 2 ^ 59 < grown_slots count live }
+    ensures past_most { IsErr result → 2 ^ 59 < grown_slots count live }
 {
     if count == 0 {
         return Ok(FIRST_SLOTS);
@@ -80,11 +84,15 @@ pub fn grown_slots(count: usize, live: usize) -> Result<usize, AllocError>
     Ok(2 * count)
 }
 
-/// The least number of slots, from `from` on, of which `values` may be Live. More than 2^59 are refused.
+/// Returns the least number of slots, from `from` on, of which `values` may be Live.
+///
+/// # Errors
+///
+/// `AllocError` if that is more than 2^59.
 pub fn least_slots(from: usize, values: usize) -> Result<usize, AllocError>
     requires count { IsSlotCount from }
     ensures least { IfOk result (λ n. IsLeast from values n) }
-    ensures refused { IsErr result → limit (2 ^ 59) < values }
+    ensures past_most { IsErr result → limit (2 ^ 59) < values }
 {
     let mut count = from;
     'count: while limit(count) < values {
@@ -96,11 +104,12 @@ pub fn least_slots(from: usize, values: usize) -> Result<usize, AllocError>
     Ok(count)
 }
 
-/// Carries the next `most` waiting slots of the older table into the newer one, or all where they are fewer, and frees the older
-/// one where none waits then.
+/// Carries the next `most` waiting slots of the older table into the newer one, or all if there are fewer, and returns how many slots of
+/// the older table were carried so far. If none waits any more, the older table is freed, and that number is 0.
 ///
-/// It answers how many slots of the older one were looked at. It takes no memory, hashes each value that it carries once, and does
-/// nothing where the older table has no slots.
+/// # Complexity
+///
+/// It hashes each value that it carries once, and doesn't allocate. If the older table has no slots, it does nothing.
 pub fn carry_next<T: Eq + Hash + Drop, S: BuildHasher>(
     newer: &mut Slots<T>,
     older: &mut Slots<T>,

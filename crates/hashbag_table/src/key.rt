@@ -1,13 +1,17 @@
-//! Keys of which a value can be made.
+//! Keys from which a value can be built.
 ghost use Rattle.std.specs.Prelude.{IfOk, IsTrue};
 
 pub use hashbag_slots::key::Key;
 use std::alloc::{AllocError, Global};
 use std::hash::Hash;
 
-/// A key of which a value can be made: it is made where none is there that the key names.
+/// A key from which a value can be built: an insertion builds it if no present value is named by the key.
 pub trait ToValue<T: Eq + Hash>: Key<T> {
-    /// A value that the key names. It may be refused memory.
+    /// Builds a value that the key names.
+    ///
+    /// # Errors
+    ///
+    /// `AllocError` if an allocation fails.
     fn to_value(self, alloc: Global) -> Result<T, AllocError>
         ensures { IfOk result (λ v. IsTrue (Self.names self v)) };
 }

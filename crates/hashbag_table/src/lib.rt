@@ -1,7 +1,7 @@
-//! Distinct values with their counts, found by hashing: what a counted multiset stands on.
+//! Distinct values with their counts, found by hashing: what a counted multiset is built on.
 //!
-//! A [`table::Table`] is a finite map from each distinct value to its stored instance and its count, which is at least 1. It
-//! keeps them in two tables of [`slots`].
+//! A [`table::Table`] is a finite map from each distinct value to its stored instance and its count, which is at least 1. It keeps them in
+//! two tables of [`slots`].
 #![tactic(auto)]
 
 mod built;

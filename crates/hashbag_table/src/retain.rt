@@ -1,4 +1,4 @@
-//! What the answers of a closure leave of one table of slots.
+//! What is left of one table of slots after a closure returned a number for each value.
 ghost use Rattle.std.specs.Prelude.{◌≡◌, ℕ, ◌<◌, ◌≤◌, ◌^◌, true, Some, drop, length, slice_set};
 ghost use Rattle.hashbag_slots.specs.Slots.{is_live, slot_at, slot_entry, count_in, entries};
 ghost use Rattle.hashbag_slots.specs.Columns.{IsReached};
@@ -34,14 +34,14 @@ fn retain_at<T: Eq + Drop, F: FnMut(&T, usize) -> usize>(
     0
 }
 
-/// Calls `f` once for each value from the place `from` on, with its count, in the order of places, and returns the total of the counts
-/// that are left there. The value keeps the lesser of its count and what `f` returns. If that is 0 the value is dropped, and its
-/// slot becomes Removed.
+/// Calls `f` once for each value from the place `from` on, with its count, in the order of places, and returns the total of the counts that
+/// are left there. The value keeps the lesser of its count and what `f` returns. If that is 0 the value is dropped, and its slot becomes
+/// Removed.
 ///
 /// # Complexity
 ///
-/// It hashes nothing and allocates nothing. It looks at sixteen slots at once, and ends after as many values as the table has: if no
-/// slot before `from` is Live, that is at the last one. In a table without values it looks at no slot.
+/// It hashes nothing and doesn't allocate. It reads sixteen tags at once, and ends after as many values as the table has. If no slot before
+/// `from` is Live, that is at the last Live one. In a table without values it reads no tag.
 pub fn retain_slots<T: Eq + Drop, F: FnMut(&T, usize) -> usize>(
     slots: &mut Slots<T>,
     from: usize,

@@ -6,7 +6,7 @@ use hashbag_slots::slots::Slots;
 use std::alloc::{AllocError, Global};
 use std::marker::Model;
 
-/// Slots that are allocated ahead: [`Table::use_spare`](crate::table::Table::use_spare) takes them into use without allocating.
+/// Slots that are allocated ahead: [`Table::use_spare`](crate::table::Table::use_spare) moves all values into them without allocating.
 ///
 /// Contracts see a spare as the number of its slots, all of which are Empty. Dropping a spare frees them.
 #[derive(Drop)]

@@ -1,14 +1,16 @@
 //! `Table`: a finite map from each distinct value to its stored instance and its count, in two tables of slots.
 //!
-//! The newer table takes what comes. When it has no room left it becomes the older one, and a new one takes its place. Each value
-//! that comes after that takes the next 16 slots of the older table along, so that no insertion moves all values at once.
-ghost use Rattle.std.specs.Prelude.{◌≡◌, ◌+◌, ◌-◌, ◌*◌, ◌<◌, ◌≤◌, ◌^◌, [], ◌∷◌, length, replicate, true, Some, None, IfOk, IfErr, OnOk, OnErr, IsOk, IsSome};
+//! Values are inserted into the newer table. If it has no room left, it becomes the older one, and a new one takes its place. Each
+//! insertion of an absent value then carries the next 16 slots of the older table, so no insertion moves all values at once.
+ghost use Rattle.std.specs.Prelude.{◌≡◌, ◌+◌, ◌-◌, ◌*◌, ◌<◌, ◌≤◌, ◌^◌, [], ◌∷◌, length, replicate, true, Some, None, IfOk, IfErr, OnOk, OnErr, IsOk, IsSome, IsTrue};
 ghost use Rattle.std.specs.Borrow.{sem};
 ghost use Rattle.std.specs.List.Sorted.{IsPermutation};
 ghost use Rattle.hashbag_slots.specs.FirstGroup.{IfAbsent};
 ghost use Rattle.hashbag_slots.specs.Hashing.{hash_under};
 ghost use Rattle.hashbag_slots.specs.Slots.{IsSlotCount, entries, IsAbsent, IsFirstFree, Places, recounted, live_count, removed_count};
+ghost use Rattle.hashbag_table.specs.Additions.{Adds, Stores, FailsIfFull};
 ghost use Rattle.hashbag_table.specs.Asked.{MayAskInTurn, Retains};
+ghost use Rattle.hashbag_table.specs.Named.{named_count, named_entry};
 ghost use Rattle.hashbag_table.specs.Entries.{entry_of, count_of, without, with_count, with_fewer, with_instance, total, IsCounted};
 ghost use Rattle.hashbag_table.specs.Retained.{RetainsTables};
 ghost use Rattle.hashbag_table.specs.Table.{IsMapOf, ChangesSlot};
@@ -22,6 +24,7 @@ mod spots;
 
 use crate::built::Built;
 use crate::capacity::{MOST_SLOTS, clear_slots, limit, no_slots};
+use crate::key::Key;
 use crate::retain::retain_slots;
 use crate::walk::{DrainWalk, IntoWalk, Walk};
 use hashbag_slots::slots::{FirstGroup, Slot, Slots};
@@ -30,33 +33,32 @@ use std::hash::{BuildHasher, Hash};
 use std::marker::Model;
 use std::mem;
 
-/// The most distinct values that a table makes room for when it is asked to, 3 * 2^57.
+/// The greatest number of distinct values for which room can be made on request, 3 * 2^57.
 pub const MOST_VALUES: usize = MOST_SLOTS / 4 * 3;
 
 const _: () = prove!(MOST_VALUES == 432_345_564_227_567_616);
 
-/// Where a value is: the place of its slot among those of the newer table, or among those that wait.
+/// Where a value is: the place of its slot in the newer table, or among the waiting slots of the older one.
 #[derive(Clone, Copy)]
 pub enum Spot {
-    /// A place among the newer table's slots.
+    /// A place among the slots of the newer table.
     Newer(usize),
-    /// A place among the older table's slots that wait.
+    /// A place among the waiting slots of the older table.
     Waiting(usize),
 }
 
 /// Distinct values, each stored once with its count, a `usize` of at least 1. Values that `==` calls equal are one value.
 ///
-/// Contracts see a table as the list of its entries, in an order that means nothing, and the state that hashes its values;
-/// beside it the slots of the newer table, and those of the older one that wait to be carried. The calls, their answers
-/// and their refusals are this project's own.
+/// Contracts see a table as the list of its entries, in an order that means nothing, and the state that hashes its values. They also see
+/// the slots of the newer table, and those of the older one that wait to be carried. The calls are this project's own.
 #[derive(Drop)]
 pub struct Table<T: Eq + Hash + Drop, S: BuildHasher + Drop> {
     newer: Slots<T>,
-    // The former table, of which the first `looked` slots were carried. It has no slots where none waits.
+    // The former table, of which the first `looked` slots were carried. It has no slots if none waits.
     older: Slots<T>,
     looked: usize,
     hasher: S,
-    // What the table grows on. Its copies are made on it too.
+    // The allocator of the table and of its copies.
     alloc: Global,
     // The slots of all tables that were the newer one, for contracts alone.
     built: Built,
@@ -81,7 +83,7 @@ impl<T: Eq + Hash + Drop, S: BuildHasher + Drop> Table<T, S> {
     ghost use Rattle.std.specs.Prelude.{◌≢◌, IfErr};
     ghost use Rattle.hashbag_table.specs.DrainWalk.{drain_rest, drain_name, follows_drain};
 
-    /// The number of slots of the newer table. Those that aren't Empty are its Live and its Removed ones.
+    /// Returns the number of slots of the newer table. Those that aren't Empty are its Live and its Removed ones.
     pub fn slots(&self) -> usize
         ensures slots { result ≡ length self.now.tables.newer }
         ensures count { IsSlotCount result }
@@ -101,7 +103,7 @@ impl<T: Eq + Hash + Drop, S: BuildHasher + Drop> Table<T, S> {
         let _looked = self.looked;
     }
 
-    /// The number of slots that wait to be carried. Where none does, the older table has no slots: its memory is given back.
+    /// Returns the number of slots that wait to be carried. If it is 0, the older table has no slots: its memory is freed.
     pub fn waiting(&self) -> usize
         ensures waiting { result ≡ length self.now.tables.waiting }
         ensures carries { result ≤ 16 * room self.now.tables }
@@ -111,31 +113,31 @@ impl<T: Eq + Hash + Drop, S: BuildHasher + Drop> Table<T, S> {
         self.older.slots() - self.looked
     }
 
-    /// How many absent values may come before the table grows.
+    /// Returns how many absent values can be inserted before the table grows.
     pub fn room(&self) -> usize
         ensures { result ≡ room self.now.tables }
     {
         limit(self.newer.slots()) - self.newer.live() - self.newer.removed() - self.older.live()
     }
 
-    /// The number of distinct values.
+    /// Returns the number of distinct values.
     pub fn set_len(&self) -> usize
         ensures len { result ≡ length self.now.entries }
         ensures counted { IsCounted T.eq self.now.entries }
     {
-        // `slots` is called for its clauses, which the proof cites: how many slots there can be.
+        // `slots` is called for its clauses, which the proof names: how many slots there can be.
         let _slots = self.newer.slots();
         self.newer.live() + self.older.live()
     }
 
-    /// The state that hashes the values.
+    /// Returns the state that hashes the values.
     pub fn hasher(&self) -> &S
         ensures { result.now ≡ self.now.hasher }
     {
         &self.hasher
     }
 
-    /// How many distinct values the table can have before it grows.
+    /// Returns how many distinct values the table can have before it grows.
     pub fn capacity(&self) -> usize
         ensures { result ≡ length self.now.entries + room self.now.tables }
     {
@@ -144,15 +146,7 @@ impl<T: Eq + Hash + Drop, S: BuildHasher + Drop> Table<T, S> {
         self.set_len() + self.room()
     }
 
-    // The hash of a value under the table's own state, by which alone its values are found.
-    #[inline(always)]
-    fn hash(&self, value: &T) -> u64
-        ensures { result ≡ hash_under T.hash_input S.BuildHasher S.Hasher.Hasher self.now.hasher value.now }
-    {
-        self.hash_key(value)
-    }
-
-    // Whether an absent value can be put in with no way made for it: no slot waits, and there is room.
+    // Returns whether an absent value can be placed without a carry or a growth: no slot waits, and there is room.
     #[inline(always)]
     fn can_place_at_once(&self) -> bool
         ensures room { result ≡ true → 0 < room self.now.tables }
@@ -162,7 +156,8 @@ impl<T: Eq + Hash + Drop, S: BuildHasher + Drop> Table<T, S> {
         self.older.slots() == 0 && self.room() > 0
     }
 
-    // Places an absent value in the first slot on its path that is not Live, where way was made for it. It takes no memory.
+    // Places an absent value in the first slot on its path that is not Live, after a carry or a growth if one was needed. It doesn't
+    // allocate.
     #[inline(never)]
     fn place_absent(&mut self, place: usize, hash: u64, value: T, count: usize)
         requires hashed { hash ≡ hash_under T.hash_input S.BuildHasher S.Hasher.Hasher self.old.hasher value }
@@ -179,35 +174,34 @@ impl<T: Eq + Hash + Drop, S: BuildHasher + Drop> Table<T, S> {
         self.newer.place_at(place, &self.hasher, hash, value, count);
     }
 
-    /// Puts in a value that is absent, with a count. It hashes the value once.
+    /// Inserts an absent value with a count.
     ///
-    /// Where memory is refused the table is unchanged, and the value is dropped. While there is room none is asked for.
+    /// # Errors
+    ///
+    /// `AllocError` if there is no room and an allocation fails. The table is then unchanged, and the value is dropped.
+    ///
+    /// # Complexity
+    ///
+    /// It hashes the value once, and each value that it carries. It allocates only without room.
     pub fn insert_new(&mut self, value: T, count: usize) -> Result<(), AllocError>
         requires absent { entry_of T.eq value self.old.entries ≡ None }
         requires some { 0 < count }
-        ensures inserted { OnOk result (IsMapOf T.eq self.old (with_instance T.eq value count self.old.entries) self.new) }
-        ensures new_set { OnOk result (length self.new.entries ≡ length self.old.entries + 1) }
+        ensures stored { OnOk result (Stores T.eq value count self.old self.new) }
         ensures counted { IsCounted T.eq self.new.entries }
-        ensures err { OnErr result (self.new ≡ self.old) }
-        ensures takes { 0 < room self.old.tables → IsOk result }
-        ensures arrives { OnOk result (Arrives self.old.tables self.new.tables) }
-        ensures room { OnOk result (0 < room self.old.tables → KeepsRoom 1 self.old.tables self.new.tables) }
+        ensures fails { FailsIfFull T.eq value self.old self.new result }
     {
         let hash = self.hash(&value);
         self.insert_hashed(hash, value, count)
     }
 
-    // As `insert_new`, of a value whose hash is handed in.
+    // As `insert_new`, of a value with its hash.
     fn insert_hashed(&mut self, hash: u64, value: T, count: usize) -> Result<(), AllocError>
         requires hashed { hash ≡ hash_under T.hash_input S.BuildHasher S.Hasher.Hasher self.old.hasher value }
         requires absent { entry_of T.eq value self.old.entries ≡ None }
         requires some { 0 < count }
-        ensures inserted { OnOk result (IsMapOf T.eq self.old (with_instance T.eq value count self.old.entries) self.new) }
-        ensures new_set { OnOk result (length self.new.entries ≡ length self.old.entries + 1) }
+        ensures stored { OnOk result (Stores T.eq value count self.old self.new) }
         ensures counted { IsCounted T.eq self.new.entries }
-        ensures err { OnErr result (self.new ≡ self.old) }
-        ensures takes { 0 < room self.old.tables → IsOk result }
-        ensures arrives { OnOk result (Arrives self.old.tables self.new.tables) }
+        ensures fails { FailsIfFull T.eq value self.old self.new result }
     {
         self.held();
         self.carry_or_grow()?;
@@ -216,12 +210,12 @@ impl<T: Eq + Hash + Drop, S: BuildHasher + Drop> Table<T, S> {
         Ok(())
     }
 
-    /// Gives a value that is present another count. It takes no memory.
+    /// Sets the count of a present value. It hashes the value once and doesn't allocate.
     pub fn set_count(&mut self, value: &T, n: usize)
         requires present { IsSome (entry_of T.eq value.now self.old.entries) }
         requires some { 0 < n }
         ensures set { IsMapOf T.eq self.old (with_count T.eq value.now n self.old.entries) self.new }
-        ensures slot { Rewrites (λ w. T.eq w value.now) (recounted n) self.old.tables self.new.tables }
+        ensures slot { Rewrites (T.eq value.now) (recounted n) self.old.tables self.new.tables }
         ensures room { KeepsRoom 0 self.old.tables self.new.tables }
     {
         let hash = self.hash(value);
@@ -230,17 +224,21 @@ impl<T: Eq + Hash + Drop, S: BuildHasher + Drop> Table<T, S> {
         }
     }
 
-    /// Takes a value out, and answers its stored instance and its count, or `None` where it was absent. Its slot, in whichever
-    /// table it is, becomes Removed. It takes no memory.
-    pub fn remove(&mut self, value: &T) -> Option<(T, usize)>
-        ensures taken { result ≡ entry_of T.eq value.now self.old.entries }
-        ensures left { IsMapOf T.eq self.old (without T.eq value.now self.old.entries) self.new }
-        ensures slot { IsSome result → Rewrites (λ w. T.eq w value.now) (λ _. Slot.Removed) self.old.tables self.new.tables }
+    /// Removes the value that a key names, and returns its stored instance and its count, or `None` if it is absent. Its slot, in whichever
+    /// table it is, becomes Removed.
+    ///
+    /// # Complexity
+    ///
+    /// It hashes the key once and doesn't allocate.
+    pub fn remove<Q: Key<T>>(&mut self, key: Q) -> Option<(T, usize)>
+        ensures taken { result ≡ named_entry (Q.names key) self.old.entries }
+        ensures left { (v : T) → IsTrue (Q.names key v) → IsMapOf T.eq self.old (without T.eq v self.old.entries) self.new }
+        ensures slot { IsSome result → Rewrites (Q.names key) (λ _. Slot.Removed) self.old.tables self.new.tables }
         ensures none { result ≡ None → self.new ≡ self.old }
         ensures room { KeepsRoom 0 self.old.tables self.new.tables }
     {
-        let hash = self.hash(value);
-        match self.spot_of(hash, value) {
+        let hash = self.hash(key);
+        match self.spot_of(hash, key) {
             Some(spot) => {
                 let entry = self.take_spot(spot);
                 return Some(entry);
@@ -249,36 +247,51 @@ impl<T: Eq + Hash + Drop, S: BuildHasher + Drop> Table<T, S> {
         }
     }
 
-    /// Takes `n` from the count of a value, and answers what the count was, 0 where the value was absent. Where no more
-    /// than `n` are there, the value goes, and its stored instance is dropped.
+    /// Subtracts `n` from the count of the value that a key names, and returns the count before, 0 if the value is absent. If the count
+    /// is at most `n`, the value is removed, and its stored instance is dropped.
     ///
-    /// It takes no memory. The value is hashed once.
-    pub fn take(&mut self, value: &T, n: usize) -> usize
-        ensures before { result ≡ count_of T.eq value.now self.old.entries }
-        ensures taken { IsMapOf T.eq self.old (with_fewer T.eq value.now n self.old.entries) self.new }
-        ensures fewer { n < result → Rewrites (λ w. T.eq w value.now) (recounted (result - n)) self.old.tables self.new.tables }
-        ensures gone { 0 < result → result ≤ n → Rewrites (λ w. T.eq w value.now) (λ _. Slot.Removed) self.old.tables self.new.tables }
+    /// # Complexity
+    ///
+    /// It hashes the key once and doesn't allocate.
+    pub fn take<Q: Key<T>>(&mut self, key: Q, n: usize) -> usize
+        ensures before { result ≡ named_count (Q.names key) self.old.entries }
+        ensures taken { (v : T) → IsTrue (Q.names key v) → IsMapOf T.eq self.old (with_fewer T.eq v n self.old.entries) self.new }
+        ensures fewer { n < result → Rewrites (Q.names key) (recounted (result - n)) self.old.tables self.new.tables }
+        ensures gone { 0 < result → result ≤ n → Rewrites (Q.names key) (λ _. Slot.Removed) self.old.tables self.new.tables }
         ensures none { result ≡ 0 → self.new ≡ self.old }
         ensures room { KeepsRoom 0 self.old.tables self.new.tables }
     {
-        self.take_key(value, n)
+        let hash = self.hash(key);
+        if let Some(spot) = self.spot_of(hash, key) {
+            let before = self.count_at(spot);
+            if n < before {
+                self.set_spot(spot, before - n);
+                return before;
+            }
+            let (former, count) = self.take_spot(spot);
+            drop(former);
+            return count;
+        }
+        0
     }
 
-    /// Takes one of a value: the last one itself in `Ok`, and else one of several, of which `Err` says how many there were. `Err(0)`
-    /// where the value is absent.
+    /// Removes one occurrence of the value that a key names. Returns the value itself in `Ok` if it was the last one, and else in `Err` the
+    /// count before, 0 if the value is absent.
     ///
-    /// It takes no memory. The value is hashed once.
-    pub fn take_one(&mut self, value: &T) -> Result<T, usize>
-        ensures last { IfOk result (λ instance. entry_of T.eq value.now self.old.entries ≡ Some (instance, 1)) }
-        ensures others { IfErr result (λ before. (before ≡ count_of T.eq value.now self.old.entries) × (before ≢ 1)) }
-        ensures taken { IsMapOf T.eq self.old (with_fewer T.eq value.now 1 self.old.entries) self.new }
-        ensures fewer { IfErr result (λ before. 0 < before → Rewrites (λ w. T.eq w value.now) (recounted (before - 1)) self.old.tables self.new.tables) }
-        ensures gone { IfOk result (λ _. Rewrites (λ w. T.eq w value.now) (λ _. Slot.Removed) self.old.tables self.new.tables) }
-        ensures none { IfErr result (λ before. before ≡ 0 → self.new ≡ self.old) }
+    /// # Complexity
+    ///
+    /// It hashes the key once and doesn't allocate.
+    pub fn take_one<Q: Key<T>>(&mut self, key: Q) -> Result<T, usize>
+        ensures last { IfOk result (λ instance. named_entry (Q.names key) self.old.entries ≡ Some (instance, 1)) }
+        ensures others { IfErr result (λ before. (before ≡ named_count (Q.names key) self.old.entries) × (before ≢ 1)) }
+        ensures taken { (v : T) → IsTrue (Q.names key v) → IsMapOf T.eq self.old (with_fewer T.eq v 1 self.old.entries) self.new }
+        ensures fewer { IfErr result (λ before. 0 < before → Rewrites (Q.names key) (recounted (before - 1)) self.old.tables self.new.tables) }
+        ensures gone { IfOk result (λ _. Rewrites (Q.names key) (λ _. Slot.Removed) self.old.tables self.new.tables) }
+        ensures absent { IfErr result (λ before. before ≡ 0 → self.new ≡ self.old) }
         ensures room { KeepsRoom 0 self.old.tables self.new.tables }
     {
-        let hash = self.hash(value);
-        if let Some(spot) = self.spot_of(hash, value) {
+        let hash = self.hash(key);
+        if let Some(spot) = self.spot_of(hash, key) {
             let before = self.count_at(spot);
             if before > 1 {
                 self.set_spot(spot, before - 1);
@@ -300,20 +313,13 @@ impl<T: Eq + Hash + Drop, S: BuildHasher + Drop> Table<T, S> {
         first: FirstGroup,
     ) -> Result<usize, AllocError>
         requires hashed { hash ≡ hash_under T.hash_input S.BuildHasher S.Hasher.Hasher self.old.hasher value }
-        requires shown { IfAbsent first (λ _. IsAbsent (λ w. T.eq w value) self.old.tables.newer) }
+        requires shown { IfAbsent first (λ _. IsAbsent (T.eq value) self.old.tables.newer) }
         requires some { 0 < n }
         requires fits { count_of T.eq value self.old.entries + n < 2 ^ 64 }
         ensures before { IfOk result (λ before. before ≡ count_of T.eq value self.old.entries) }
-        ensures added { OnOk result (IsMapOf T.eq self.old (with_count T.eq value (count_of T.eq value self.old.entries + n) self.old.entries) self.new) }
-        ensures new_set { entry_of T.eq value self.old.entries ≡ None → OnOk result (length self.new.entries ≡ length self.old.entries + 1) }
+        ensures added { OnOk result (Adds T.eq value n self.old self.new) }
         ensures counted { IsCounted T.eq self.new.entries }
-        ensures absent { OnErr result (entry_of T.eq value self.old.entries ≡ None) }
-        ensures err { OnErr result (self.new ≡ self.old) }
-        ensures takes { 0 < room self.old.tables → IsOk result }
-        ensures slot { ChangesSlot T.eq value (recounted (count_of T.eq value self.old.entries + n)) self.old self.new }
-        ensures arrives { entry_of T.eq value self.old.entries ≡ None → OnOk result (Arrives self.old.tables self.new.tables) }
-        ensures room { OnOk result (0 < room self.old.tables → KeepsRoom 1 self.old.tables self.new.tables) }
-        ensures same_room { IfOk result (λ before. 0 < before → KeepsRoom 0 self.old.tables self.new.tables) }
+        ensures fails { FailsIfFull T.eq value self.old self.new result }
     {
         self.held();
         if let Some(spot) = self.spot_after_first_group(hash, &value, first) {
@@ -324,25 +330,25 @@ impl<T: Eq + Hash + Drop, S: BuildHasher + Drop> Table<T, S> {
         Ok(0)
     }
 
-    /// Adds `n` to the count of a value, and answers what the count was, 0 where the value was absent.
+    /// Adds `n` to the count of a value and returns the count before, 0 if the value was absent. If the value is present, the stored
+    /// instance stays, and the given one is dropped.
     ///
-    /// A stored instance stays, and the value handed in is dropped. It is hashed once. A value that is present takes no memory.
-    /// One that is absent may be refused for memory where no room is left: the table is then unchanged, and the value is dropped.
+    /// # Errors
+    ///
+    /// `AllocError` if the value is absent, there is no room and an allocation fails. The table is then unchanged, and the value is
+    /// dropped.
+    ///
+    /// # Complexity
+    ///
+    /// It hashes the value once, and each value that it carries. It allocates only if the value is absent and there is no room.
     #[inline(always)]
     pub fn add(&mut self, value: T, n: usize) -> Result<usize, AllocError>
         requires some { 0 < n }
         requires fits { count_of T.eq value self.old.entries + n < 2 ^ 64 }
         ensures before { IfOk result (λ before. before ≡ count_of T.eq value self.old.entries) }
-        ensures added { OnOk result (IsMapOf T.eq self.old (with_count T.eq value (count_of T.eq value self.old.entries + n) self.old.entries) self.new) }
-        ensures new_set { entry_of T.eq value self.old.entries ≡ None → OnOk result (length self.new.entries ≡ length self.old.entries + 1) }
+        ensures added { OnOk result (Adds T.eq value n self.old self.new) }
         ensures counted { IsCounted T.eq self.new.entries }
-        ensures absent { OnErr result (entry_of T.eq value self.old.entries ≡ None) }
-        ensures err { OnErr result (self.new ≡ self.old) }
-        ensures takes { 0 < room self.old.tables → IsOk result }
-        ensures slot { ChangesSlot T.eq value (recounted (count_of T.eq value self.old.entries + n)) self.old self.new }
-        ensures arrives { entry_of T.eq value self.old.entries ≡ None → OnOk result (Arrives self.old.tables self.new.tables) }
-        ensures room { OnOk result (0 < room self.old.tables → KeepsRoom 1 self.old.tables self.new.tables) }
-        ensures same_room { IfOk result (λ before. 0 < before → KeepsRoom 0 self.old.tables self.new.tables) }
+        ensures fails { FailsIfFull T.eq value self.old self.new result }
     {
         let hash = self.hash(&value);
         let first = self.probe_first_group(hash, &value);
@@ -359,23 +365,22 @@ impl<T: Eq + Hash + Drop, S: BuildHasher + Drop> Table<T, S> {
         self.add_slow(hash, value, n, first)
     }
 
-    /// Stores a value itself with the count 1, and answers what the count was, 0 where the value was absent. An instance that
-    /// was stored is dropped, in whichever table it is.
+    /// Stores a value itself with the count 1 and returns the count before, 0 if the value was absent. The instance that was stored, in
+    /// whichever table it is, is dropped.
     ///
-    /// It hashes the value once. A value that is present takes no memory. One that is absent may be refused for memory where no
-    /// room is left: the table is then unchanged, and the value is dropped.
+    /// # Errors
+    ///
+    /// `AllocError` if the value is absent, there is no room and an allocation fails. The table is then unchanged, and the value is
+    /// dropped.
+    ///
+    /// # Complexity
+    ///
+    /// It hashes the value once, and each value that it carries. It allocates only if the value is absent and there is no room.
     pub fn put_instance(&mut self, value: T) -> Result<usize, AllocError>
         ensures before { IfOk result (λ before. before ≡ count_of T.eq value self.old.entries) }
-        ensures put { OnOk result (IsMapOf T.eq self.old (with_instance T.eq value 1 self.old.entries) self.new) }
-        ensures new_set { entry_of T.eq value self.old.entries ≡ None → OnOk result (length self.new.entries ≡ length self.old.entries + 1) }
+        ensures stored { OnOk result (Stores T.eq value 1 self.old self.new) }
         ensures counted { IsCounted T.eq self.new.entries }
-        ensures absent { OnErr result (entry_of T.eq value self.old.entries ≡ None) }
-        ensures err { OnErr result (self.new ≡ self.old) }
-        ensures takes { 0 < room self.old.tables → IsOk result }
-        ensures slot { ChangesSlot T.eq value (λ _. Slot.Live value 1) self.old self.new }
-        ensures arrives { entry_of T.eq value self.old.entries ≡ None → OnOk result (Arrives self.old.tables self.new.tables) }
-        ensures room { OnOk result (0 < room self.old.tables → KeepsRoom 1 self.old.tables self.new.tables) }
-        ensures same_room { IfOk result (λ before. 0 < before → KeepsRoom 0 self.old.tables self.new.tables) }
+        ensures fails { FailsIfFull T.eq value self.old self.new result }
     {
         let hash = self.hash(&value);
         if let Some(spot) = self.spot_of(hash, &value) {
@@ -390,7 +395,9 @@ impl<T: Eq + Hash + Drop, S: BuildHasher + Drop> Table<T, S> {
 
     /// Drops all values. The newer table keeps its slots, and the older one is freed.
     ///
-    /// It allocates nothing. It does nothing to the newer table if no slot of that is Live or Removed.
+    /// # Complexity
+    ///
+    /// It doesn't allocate. It writes nothing to the newer table if no slot of that is Live or Removed.
     pub fn clear(&mut self)
         ensures empty { self.new.entries ≡ [] }
         ensures hasher { self.new.hasher ≡ self.old.hasher }
@@ -404,14 +411,14 @@ impl<T: Eq + Hash + Drop, S: BuildHasher + Drop> Table<T, S> {
         self.looked = 0;
     }
 
-    /// Calls `f` once for each value, with its count, in no particular order, and returns the total of the counts that are left. The
-    /// value keeps the lesser of its count and what `f` returns. If that is 0 the value is dropped, and its slot, in whichever table
-    /// it is, becomes Removed. No value changes its slot. The caller ensures that the total fits.
+    /// Calls `f` once for each value, with its count, in no particular order, and returns the total of the counts that are left. The value
+    /// keeps the lesser of its count and what `f` returns. If that is 0 the value is dropped, and its slot, in whichever table it is,
+    /// becomes Removed. No value changes its slot. The caller ensures that the total fits.
     ///
     /// # Complexity
     ///
-    /// It hashes nothing and allocates nothing. It looks at sixteen slots at once, and ends in each of the two tables with the last
-    /// Live slot. If there is no value it looks at no slot, however many there are.
+    /// It hashes nothing and doesn't allocate. It reads sixteen tags at once, and ends in each of the two tables with the last Live slot.
+    /// If there is no value it reads no tag, however many slots there are.
     pub fn retain<F: FnMut(&T, usize) -> usize + Drop>(&mut self, mut f: F) -> usize
         requires asks { (walk : _) → IsPermutation self.old.entries walk → MayAskInTurn F.FnMut f walk }
         requires fits { total self.old.entries < 2 ^ 64 }
@@ -428,9 +435,8 @@ impl<T: Eq + Hash + Drop, S: BuildHasher + Drop> Table<T, S> {
         newer + waiting
     }
 
-    /// Walks over the entries, in an open order: each value once, with its count.
-    ///
-    /// It takes no memory and hashes nothing, here and at each step.
+    /// Walks over the entries, in no particular order: each value once, with its count. It doesn't allocate and hashes nothing, here and at
+    /// each step.
     pub fn walk(&self) -> Walk<'_, T>
         ensures entries { IsPermutation self.now.entries result }
         ensures counted { IsCounted T.eq self.now.entries }
@@ -439,9 +445,8 @@ impl<T: Eq + Hash + Drop, S: BuildHasher + Drop> Table<T, S> {
         self.newer.walk(&self.older)
     }
 
-    /// Makes a walk of the table, in an open order: each value once, with its count.
-    ///
-    /// Entries that are not taken are dropped with the walk. It takes no memory and hashes nothing, here and at each step.
+    /// Turns the table into a walk, in no particular order: each value once, with its count. Unread entries are dropped with the walk. It
+    /// doesn't allocate and hashes nothing, here and at each step.
     pub fn into_walk(self) -> IntoWalk<T>
         ensures entries { IsPermutation self.entries result }
         ensures counted { IsCounted T.eq self.entries }
@@ -459,10 +464,10 @@ impl<T: Eq + Hash + Drop, S: BuildHasher + Drop> Table<T, S> {
         newer.into_walk(older)
     }
 
-    /// Takes all entries out, and walks over them, in an open order: each value once, with its count.
+    /// Removes all entries, and walks over them, in no particular order: each value once, with its count.
     ///
-    /// The table is empty at once and keeps its state, however many entries are taken. The others are dropped with the walk.
-    /// It keeps no room. It takes no memory and hashes nothing, here and at each step.
+    /// The table is empty at once, keeps its state, and has no room, however many entries are read. The unread ones are dropped with the
+    /// walk. It doesn't allocate and hashes nothing, here and at each step.
     pub fn drain(&mut self) -> DrainWalk<'_, T>
         ensures* writes_back { sem 𝓛 (follows_drain T.row S.row S.Hasher.row T.Hash S.BuildHasher S.Hasher.Hasher self.entry (drain_name result)) }
         ensures entries { IsPermutation self.old.entries (drain_rest result) }

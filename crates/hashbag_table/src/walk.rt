@@ -1,7 +1,7 @@
 //! Walks over a table: its entries one after another, each once.
 //!
-//! The order of a walk is open. Every walk knows how many entries are still to come, and gives `None` for good after the
-//! last. It hashes nothing and takes no memory. It goes through the slots of both tables once, as [`hashbag_slots::walk`] says.
+//! A walk gives them in no particular order. It knows how many entries are left, and after the last one it gives `None` for good. It hashes
+//! nothing and doesn't allocate. It reads the slots of both tables once, as [`hashbag_slots::walk`] says.
 ghost use Rattle.std.specs.Prelude.{◌≡◌, length, Some, IfSome};
 ghost use Rattle.std.specs.Iterator.{YieldsFirst, item_count, at_most, UpTo};
 ghost use Rattle.std.specs.Iterator.SizeHint.{IsWithinCount};
@@ -10,13 +10,12 @@ ghost use Rattle.hashbag_table.specs.DrainWalk.{drain_rest};
 pub use hashbag_slots::walk::{IntoWalk, Walk};
 use std::iter::ExactSizeIterator;
 
-/// The entries that were taken out of a table, by value. The table is empty from the start, and those that are not taken
-/// are dropped with the walk.
+/// The entries that were removed from a table, by value. The table is empty from the start, and unread entries are dropped with the walk.
 ///
-/// Contracts see the list of the entries that are still to come as `drain_rest`.
+/// Contracts see the list of the entries that are left as `drain_rest`.
 pub struct DrainWalk<'a, T> {
     pub(crate) taken: IntoWalk<T>,
-    // What it borrows of the table, which is nothing. It keeps the table from being used before the walk is over.
+    // What it borrows of the table, which is nothing. So the table can't be used before the walk is over.
     pub(crate) table: &'a mut [usize; 0],
 }
 
@@ -55,7 +54,7 @@ impl<'a, T: Drop> ExactSizeIterator for DrainWalk<'a, T> {
 }
 
 impl<'a, T> DrainWalk<'a, T> {
-    /// A walk over what is still to come, which lends it and leaves this walk where it is.
+    /// Returns a walk over what is left, which lends it, and leaves this walk where it is.
     pub fn rest(&self) -> Walk<'_, T>
         ensures { result ≡ drain_rest self.now }
     {

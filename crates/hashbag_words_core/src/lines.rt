@@ -49,7 +49,7 @@ impl Reading {
 
     // Skips a bad line, or rejects it.
     pub(crate) fn pass_over(&mut self, bad: BadLine) -> Result<(), Fault>
-        ensures refused { self.old.bad_lines ≡ BadLines.Refused → result ≡ Err (Fault.Line bad) }
+        ensures rejected { self.old.bad_lines ≡ BadLines.Refused → result ≡ Err (Fault.Line bad) }
         ensures passed { self.old.bad_lines ≡ BadLines.Skipped → IsOk result }
         ensures skipped { OnOk result (self.new.skipped ≡ min (self.old.skipped + 1) (2 ^ 64 - 1)) }
         ensures line { self.new.line ≡ self.old.line }

@@ -1,4 +1,4 @@
-//! What no clause says of calls on one bag: that they succeed, and that their answers are those found by hand, under each hash
+//! What no clause says of calls on one bag: that they succeed, and that their results are those found by hand, under each hash
 //! state.
 mod bounds;
 mod callers;

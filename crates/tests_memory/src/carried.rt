@@ -3,9 +3,9 @@ use crate::checks::{Refusals, Wrong, check};
 use crate::counts::tables_of;
 use hashbag::HashBag;
 use hashbag::script::{Reply, Step, joins_of, run, run_pair};
-use hashbag_bench::OneState;
 use serde_json::Value;
 use std::alloc::Global;
+use tests_kit::OneState;
 
 // A bag of numbers whose hashes are all alike.
 type Bag = HashBag<u64, OneState>;
@@ -16,7 +16,7 @@ const TABLES: (usize, usize, usize) = (64, 16, 23);
 // The same once there is room for 60 more.
 const TABLES_WITH_ROOM: (usize, usize, usize) = (128, 0, 71);
 
-// A bag of the values from 1 to 25, once each. `None` where one was refused.
+// A bag of the values from 1 to 25, once each. `None` if one failed.
 fn in_a_carry(alloc: Global, refusals: &mut Refusals) -> Result<Option<Bag>, Wrong> {
     let mut bag = HashBag::with_hasher(alloc, OneState);
     for value in 1..=25 {
@@ -38,7 +38,7 @@ fn stands(bag: &Bag, tables: (usize, usize, usize), wrong: &'static str) -> Resu
     Ok(())
 }
 
-/// The tree is written, or memory was refused: the bag stays as it is.
+/// The tree is written, or an allocation failed: the bag stays as it is.
 pub fn written(alloc: Global, refusals: &mut Refusals) -> Result<(), Wrong> {
     let Some(bag) = in_a_carry(alloc, refusals)? else {
         return Ok(());
@@ -52,7 +52,7 @@ pub fn written(alloc: Global, refusals: &mut Refusals) -> Result<(), Wrong> {
     stands(&bag, TABLES, "in a carry: to_value")
 }
 
-/// The joins with an empty bag are collected, or memory was refused: the bag stays as it is.
+/// The joins with an empty bag are collected, or an allocation failed: the bag stays as it is.
 pub fn joined(alloc: Global, refusals: &mut Refusals) -> Result<(), Wrong> {
     let Some(bag) = in_a_carry(alloc, refusals)? else {
         return Ok(());
@@ -71,7 +71,7 @@ pub fn joined(alloc: Global, refusals: &mut Refusals) -> Result<(), Wrong> {
     stands(&bag, TABLES, "in a carry: joins_of")
 }
 
-// The step of each bag. `None` where its list was refused.
+// The step of each bag. `None` if its list can't be allocated.
 fn steps(alloc: Global, refusals: &mut Refusals) -> Option<Vec<Step<u64>>> {
     match Vec::from_array(alloc, [Step::Reserve(60)]) {
         Ok(steps) => Some(steps),
@@ -82,7 +82,7 @@ fn steps(alloc: Global, refusals: &mut Refusals) -> Option<Vec<Step<u64>>> {
     }
 }
 
-// The tables that a bag has where these are its replies.
+// The tables that a bag has if these are its replies.
 fn tables_after(replies: &[Reply<u64>]) -> (usize, usize, usize) {
     if replies.is_empty() {
         TABLES
@@ -91,7 +91,7 @@ fn tables_after(replies: &[Reply<u64>]) -> (usize, usize, usize) {
     }
 }
 
-/// A bag is asked for room by a run of its own, or memory was refused: where its step has no reply it stays as it is.
+/// Room is reserved in a bag by a run of its own, or an allocation failed: if its step has no reply it stays as it is.
 pub fn run_alone(alloc: Global, refusals: &mut Refusals) -> Result<(), Wrong> {
     let Some(mut bag) = in_a_carry(alloc, refusals)? else {
         return Ok(());
@@ -112,7 +112,7 @@ pub fn run_alone(alloc: Global, refusals: &mut Refusals) -> Result<(), Wrong> {
     )
 }
 
-/// Each of two bags is asked for room by a run, or memory was refused: one whose step has no reply stays as it is.
+/// Room is reserved in each of two bags by a run, or an allocation failed: one whose step has no reply stays as it is.
 pub fn runs(alloc: Global, refusals: &mut Refusals) -> Result<(), Wrong> {
     let Some(mut a) = in_a_carry(alloc, refusals)? else {
         return Ok(());

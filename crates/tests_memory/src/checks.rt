@@ -1,16 +1,16 @@
-//! What a check answers, and how many refusals the calls have answered.
+//! What a check returns, and how often the calls have returned `Memory`.
 use hashbag::BagError;
 
 /// What is not as it must be.
 #[derive(Clone, Copy, Debug)]
 pub struct Wrong(pub &'static str);
 
-/// Answers what is wrong, unless it is so.
+/// Returns what is wrong, unless it is so.
 pub fn check(is_so: bool, wrong: &'static str) -> Result<(), Wrong> {
     if is_so { Ok(()) } else { Err(Wrong(wrong)) }
 }
 
-/// How many calls have answered that memory was refused.
+/// How many calls have returned that an allocation failed.
 #[derive(Drop)]
 pub struct Refusals {
     seen: usize,
@@ -32,7 +32,7 @@ impl Refusals {
         self.seen = self.seen.saturating_add(1);
     }
 
-    /// What a call on a bag answered. `None` where memory was refused, which is counted; no other error is right.
+    /// Returns what a call on a bag returned in `Ok`. `None` if an allocation failed, which is counted; no other error is right.
     pub fn answer<T: Drop>(&mut self, answer: Result<T, BagError>) -> Result<Option<T>, Wrong> {
         match answer {
             Ok(value) => Ok(Some(value)),
@@ -45,7 +45,7 @@ impl Refusals {
         }
     }
 
-    /// Whether a call on a bag was done. If not, memory was refused, which is counted.
+    /// Returns whether a call on a bag was done. If not, an allocation failed, which is counted.
     pub fn is_done(&mut self, answer: Result<(), BagError>) -> Result<bool, Wrong> {
         Ok(self.answer(answer)?.is_some())
     }

@@ -25,7 +25,7 @@ impl Values {
         }
     }
 
-    /// A value with this key.
+    /// Returns a value with this key.
     pub fn value(&self, key: u64) -> Counted<'_> {
         self.made.set(self.made.get().wrapping_add(1));
         Counted { key, values: self }
@@ -40,7 +40,7 @@ impl Values {
     }
 }
 
-/// A key. Two of them are equal where their keys are.
+/// A key. Two of them are equal if their keys are.
 pub struct Counted<'a> {
     key: u64,
     values: &'a Values,

@@ -17,7 +17,7 @@ pub fn has_counts(bag: &HashBag<u64>, counts: Counts, wrong: &'static str) -> Re
     check(bag.len() == total, wrong)
 }
 
-/// Inserts two of a value, of which there must be so many, and answers whether they went in.
+/// Inserts two of a value, checks the count before, and returns whether they were inserted.
 pub fn insert_two<S: BuildHasher + Drop>(
     bag: &mut HashBag<u64, S>,
     value: u64,
@@ -38,7 +38,7 @@ pub fn tables_of<T: Eq + Hash + Drop, S: BuildHasher + Drop>(
     (bag.slots(), bag.waiting(), bag.room())
 }
 
-/// A bag with 5 twice. Where that is refused, the bag is empty, and takes 5 with memory again.
+/// Returns a bag with 5 twice. If that fails, the bag is empty, and 5 is inserted with memory again.
 pub fn two_fives(alloc: Global, refusals: &mut Refusals) -> Result<HashBag<u64>, Wrong> {
     let mut bag = HashBag::new(alloc);
     if !insert_two(&mut bag, 5, 0, refusals)? {

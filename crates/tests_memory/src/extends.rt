@@ -4,10 +4,10 @@ use crate::counts::tables_of;
 use hashbag::{BagError, HashBag};
 use std::alloc::Global;
 
-// The values that come new, each as often as its call says.
+// The values that are new, each as often as its call says.
 const NEW: [u64; 5] = [1, 2, 3, 4, 5];
 
-// A bag that has room for two more values, so that the third new one asks for memory. `None` where a value was refused.
+// A bag that has room for two more values, so that the third new one makes an allocation. `None` if a value failed.
 fn filled(alloc: Global, refusals: &mut Refusals) -> Result<Option<HashBag<u64>>, Wrong> {
     let mut bag: HashBag<u64> = HashBag::new(alloc);
     for value in 100..130u64 {
@@ -77,7 +77,7 @@ fn extend_refs_many(mut bag: HashBag<u64>, refusals: &mut Refusals) -> Result<()
     has_new(&bag, done, before, 3, "extend_refs_many")
 }
 
-/// Each extend, of a bag whose third new value asks for memory.
+/// Each extend, of a bag whose third new value makes an allocation.
 pub fn extends(alloc: Global, refusals: &mut Refusals) -> Result<(), Wrong> {
     if let Some(bag) = filled(alloc, refusals)? {
         extend(bag, refusals)?;

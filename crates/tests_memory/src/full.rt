@@ -4,14 +4,14 @@ use crate::counted::{Counted, Values};
 use crate::counts::tables_of;
 use hashbag::script::{Step, run, run_pair};
 use hashbag::{BagError, HashBag};
-use hashbag_bench::OneState;
 use std::alloc::Global;
 use std::hash::Hash;
+use tests_kit::OneState;
 
 // A bag of such values.
 type Bag<'a> = HashBag<Counted<'a>, OneState>;
 
-// Inserts a value, and answers how many there were. `None` where it was refused.
+// Inserts a value, and returns the count before. `None` if it failed.
 fn insert<'a>(
     bag: &mut Bag<'a>,
     values: &'a Values,
@@ -39,7 +39,7 @@ fn has_first<'a>(
     check((bag.len(), bag.set_len()) == (number, number), wrong)
 }
 
-// A bag of the values from 1 to `last`, each inserted once. `None` where one was refused: the bag then had those before it.
+// A bag of the values from 1 to `last`, each inserted once. `None` if one failed: the bag then had those before it.
 fn filled<'a>(
     alloc: Global,
     values: &'a Values,
@@ -74,7 +74,7 @@ fn has_tables<'a>(
     check(tables_of(bag) == tables, wrong)
 }
 
-// Inserts a value of which there were so many, which is not refused.
+// Inserts a value, which must not fail, and checks the count before.
 fn goes_in<'a>(
     bag: &mut Bag<'a>,
     values: &'a Values,
@@ -87,7 +87,7 @@ fn goes_in<'a>(
     check(answer == Some(before), wrong)
 }
 
-// The thirteenth value finds no room in 16 slots. Where it is refused the others stay, are counted up and down, and it goes in with
+// The thirteenth value finds no room in 16 slots. If it fails the others stay, are counted up and down, and it is inserted with
 // memory again.
 fn thirteenth(alloc: Global, values: &Values, refusals: &mut Refusals) -> Result<(), Wrong> {
     match filled(alloc, values, 12, refusals)? {
@@ -136,7 +136,7 @@ fn thirteenth_refused<'a>(
     )
 }
 
-// In the middle of a carry values go in without a request for memory, until there is no room.
+// In the middle of a carry values are inserted without a request for memory, until there is no room.
 fn in_a_carry(alloc: Global, values: &Values, refusals: &mut Refusals) -> Result<(), Wrong> {
     match filled(alloc, values, 25, refusals)? {
         Some(mut bag) => carried_on(&mut bag, values, refusals),
@@ -170,10 +170,10 @@ fn carried_on<'a>(
     has_first(bag, values, 49, "49 values")
 }
 
-// What a bag has after a call by which 13 may come in: the counts of 9 and 13, and the total.
+// What a bag has after a call that may insert 13: the counts of 9 and 13, and the total.
 type After = (usize, usize, usize);
 
-// Calls that ask for memory on a bag with no room, with what it has where they are refused and where they are done.
+// Calls that make an allocation on a bag with no room, with what it has if they fail and if they are done.
 const CALLS: [(&str, After, After); 8] = [
     ("insert_many", (1, 0, 12), (1, 2, 14)),
     ("replace", (1, 0, 12), (1, 1, 13)),
@@ -185,7 +185,7 @@ const CALLS: [(&str, After, After); 8] = [
     ("reserve", (1, 0, 12), (1, 0, 12)),
 ];
 
-// Whether a call was done, and not what it answers.
+// Whether a call was done, and not what it returns.
 fn done(answer: Result<usize, BagError>) -> Result<(), BagError> {
     match answer {
         Ok(_) => Ok(()),
@@ -245,7 +245,7 @@ fn state_of<'a>(bag: &Bag<'a>, values: &'a Values) -> After {
     (count(bag, values, 9), count(bag, values, 13), bag.len())
 }
 
-// A call on a bag with no room. Where it is refused no slot changes, and 13 goes in with memory again.
+// A call on a bag with no room. If it fails no slot changes, and 13 is inserted with memory again.
 fn without_room(
     alloc: Global,
     values: &Values,
@@ -271,7 +271,7 @@ fn without_room(
     check(again == Some(0), "a call without room: with memory again")
 }
 
-// An entry on a bag of numbers with no room. Where it is refused no slot changes.
+// An entry on a bag of numbers with no room. If it fails no slot changes.
 fn entry_without_room(alloc: Global, refusals: &mut Refusals) -> Result<(), Wrong> {
     let mut bag: HashBag<u64, OneState> = HashBag::with_hasher(alloc, OneState);
     for value in 1..=12 {
@@ -291,7 +291,7 @@ fn entry_without_room(alloc: Global, refusals: &mut Refusals) -> Result<(), Wron
     )
 }
 
-// Two steps. `None` where their list was refused.
+// Two steps. `None` if their list can't be allocated.
 fn two_insertions<'a>(
     alloc: Global,
     values: &'a Values,
@@ -310,7 +310,7 @@ fn two_insertions<'a>(
     }
 }
 
-// A run of two steps on a bag with no room, of which the second asks for memory. Where the replies have no room, neither is done.
+// A run of two steps on a bag with no room, of which the second makes an allocation. If the replies have no room, neither is done.
 fn run_without_room(alloc: Global, values: &Values, refusals: &mut Refusals) -> Result<(), Wrong> {
     let Some(mut bag) = filled(alloc, values, 12, refusals)? else {
         return Ok(());
@@ -327,7 +327,7 @@ fn run_without_room(alloc: Global, values: &Values, refusals: &mut Refusals) -> 
     )
 }
 
-// The bag of such a run has what so many replies say.
+// The bag of such a run has what this number of replies says.
 fn is_after<'a>(
     bag: &Bag<'a>,
     values: &'a Values,
@@ -362,7 +362,7 @@ fn runs_without_room(alloc: Global, values: &Values, refusals: &mut Refusals) ->
     run_both(alloc, values, (a, first), (b, second), refusals)
 }
 
-// Each bag is where its replies are.
+// Each bag is as its replies say.
 fn run_both<'a>(
     alloc: Global,
     values: &'a Values,
@@ -379,7 +379,7 @@ fn run_both<'a>(
     are_in_turn((in_a.len(), in_b.len()), done)
 }
 
-// How many replies two runs have: none where the replies had no room, and none of the second where the first was stopped.
+// How many replies two runs have: none if the replies had no room, and none of the second if the first was stopped.
 fn are_in_turn(replies: (usize, usize), is_done: bool) -> Result<(), Wrong> {
     if is_done {
         return check(replies == (2, 2), "two runs: the replies");

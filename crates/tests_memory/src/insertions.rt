@@ -4,7 +4,7 @@ use crate::counts::{has_counts, insert_two, tables_of, two_fives};
 use hashbag::HashBag;
 use std::alloc::Global;
 
-// After a refused insertion of an absent value: those before it are found. 5 is there, which is inserted all the same, and so is the
+// After a failed insertion of an absent value: those before it are found. 5 is present, and is inserted all the same, and so is the
 // value with memory again.
 fn insert_after_refusal(
     bag: &mut HashBag<u64>,
@@ -21,8 +21,8 @@ fn insert_after_refusal(
     check(done, "insertion: with memory again")
 }
 
-// Inserts a value twice into a bag that has so many values, each twice, and answers whether it went in. A refusal changes no slot,
-// and comes only where no room is left.
+// Inserts a value twice into a bag of values that occur twice, and returns whether it was inserted. A failure changes no slot,
+// and occurs only if no room is left.
 fn insert_next(
     bag: &mut HashBag<u64>,
     value: u64,
@@ -48,7 +48,7 @@ fn insert_next(
     Ok(done)
 }
 
-/// Inserts 50 values in turn, each twice, so that the tables grow from 0, 16, 32 and 64 slots. A refusal leaves all that came before.
+/// Inserts 50 values in turn, each twice, so the tables grow from 0, 16, 32 and 64 slots. A failure leaves all that was inserted before.
 pub fn insertions(alloc: Global, refusals: &mut Refusals) -> Result<(), Wrong> {
     let mut bag = two_fives(alloc, refusals)?;
     for at in 0..50usize {
@@ -61,7 +61,7 @@ pub fn insertions(alloc: Global, refusals: &mut Refusals) -> Result<(), Wrong> {
     Ok(())
 }
 
-// Replaces a value, of which there must be so many, and answers whether it was done.
+// Replaces a value, checks the count before, and returns whether it was done.
 fn replace(
     bag: &mut HashBag<u64>,
     value: u64,
@@ -75,7 +75,7 @@ fn replace(
     Ok(true)
 }
 
-/// Replaces a value that is there, and one that isn't, for which there is room: neither asks for memory.
+/// Replaces a present value, and an absent one for which there is room: neither makes an allocation.
 pub fn replacements(alloc: Global, refusals: &mut Refusals) -> Result<(), Wrong> {
     let mut bag = two_fives(alloc, refusals)?;
     let done = replace(&mut bag, 5, 2, refusals)?;

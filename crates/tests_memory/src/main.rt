@@ -1,10 +1,9 @@
-//! Goes through calls that ask for memory, of which the script `tests/refused_memory` has one request refused, and says
-//! whether a call answered so and whether all is then as it must be.
+//! Makes calls that allocate, of which the script `tests/refused_memory` lets one request fail. It says whether a call returned that error,
+//! and whether all is then as it must be.
 //!
-//! Standard input is `strict`, `lenient` or `all`, or a single call such as `clone-25`, which names the calls, and how many spare requests
-//! are made before them: so
-//! where request N is refused, it is request N less that number of the calls. After the calls more spare requests are made than
-//! the script refuses: where it is one of these, the calls have made fewer. With ample memory nothing is refused.
+//! Standard input is `strict`, `lenient` or `all`, or a single call such as `clone-25`: these name the calls. After it is the number of
+//! spare requests that are made before them. If request N fails, it is request N less that number of the calls. After the calls more spare
+//! requests are made than the script lets fail: if one of these fails, the calls have made fewer. With ample memory nothing fails.
 #![tactic(auto)]
 
 mod carried;
@@ -31,7 +30,7 @@ use std::io::Read;
 use std::process::ExitCode;
 use std::str;
 
-// More requests than the script refuses of the calls.
+// More requests than the script lets fail of the calls.
 const SPARE: usize = 330;
 
 // What to do.
@@ -46,9 +45,9 @@ struct Order {
     spare: usize,
 }
 
-// Which request was refused, by what the calls answered.
+// Which request failed, by what the calls returned.
 enum Outcome {
-    // No call answered that one was.
+    // No call returned that one did.
     None,
     // One of the calls.
     InCalls,
@@ -56,7 +55,7 @@ enum Outcome {
     After(usize),
 }
 
-// Calls that answer each refusal.
+// Calls that return each failure.
 fn strict_calls(alloc: Global, refusals: &mut Refusals) -> Result<(), Wrong> {
     insertions::insertions(alloc, refusals)?;
     insertions::replacements(alloc, refusals)?;
@@ -78,7 +77,7 @@ fn strict_calls(alloc: Global, refusals: &mut Refusals) -> Result<(), Wrong> {
     runs::runs(alloc, refusals)
 }
 
-// Calls that do without some requests: std's lists are collected with less room where it is refused. What they answer is checked all
+// Calls that do without some requests: std's lists are collected with less room if it can't be allocated. What they return is checked all
 // the same.
 fn lenient_calls(alloc: Global, refusals: &mut Refusals) -> Result<(), Wrong> {
     pairs::pairs_of_runs(alloc, refusals)?;

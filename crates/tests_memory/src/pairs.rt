@@ -74,7 +74,7 @@ fn is_at(
     Ok(())
 }
 
-// The first bag is where its replies are, and so is the second. The second has replies only once the first has all.
+// Each bag is as its replies say. The second has replies only once the first has all.
 fn are_at(
     a: &HashBag<u64>,
     b: &HashBag<u64>,
@@ -115,7 +115,7 @@ fn are_at(
     )
 }
 
-// Checks the joins where there are any, and that both bags are what they were.
+// Checks the joins if there are any, and that both bags are what they were.
 fn joins(
     alloc: Global,
     a: &HashBag<u64>,

@@ -21,11 +21,11 @@ pub struct Single {
 enum Verb {
     // Nothing more than the values, inserted one after another.
     Insert,
-    // All calls that take no memory.
+    // All calls that don't allocate.
     Quiet,
-    // Calls on the limit, and those that are refused by it.
+    // Calls on the limit, and those that fail by it.
     Limits,
-    // A bag that stands is emptied, or used up.
+    // A bag is emptied, or used up.
     Clear,
     IntoIter,
     // An absent value, by other calls than `insert`.
@@ -37,13 +37,13 @@ enum Verb {
     Merge,
     MergeRef,
     KeepMost,
-    // Calls on two bags that take no memory.
+    // Calls on two bags that don't allocate.
     Parts,
     // Lists of all pairs, and of the commonest three.
     Sorted,
     MostCommon,
     Clone,
-    // Room that is there already, and room that isn't.
+    // Room that there is already, and room that there isn't.
     Within,
     Reserve,
     // With no more room than the values need, and with more.
@@ -59,7 +59,7 @@ enum Verb {
 }
 
 impl Single {
-    /// The call that is written as `clone-25`.
+    /// Returns the call that is written as `clone-25`.
     pub fn of(word: &str) -> Option<Single> {
         let (verb, size) = word.split_once('-')?;
         let verb = match verb {
@@ -97,7 +97,7 @@ impl Single {
         })
     }
 
-    /// Makes the call. Where one is refused, no other one is made.
+    /// Makes the call. If one fails, no other one is made.
     pub fn make(self, alloc: Global, refusals: &mut Refusals) -> Result<(), Wrong> {
         match self.verb {
             Verb::WithCapacity => made(HashBag::with_capacity(alloc, self.size as usize), refusals),
@@ -133,7 +133,7 @@ fn extended(bag: &mut HashBag<u64>, single: Single) -> Result<(), BagError> {
     }
 }
 
-// The numbers below `size`, inserted one after another. `None` where one was refused.
+// The numbers below `size`, inserted one after another. `None` if one failed.
 fn inserted(
     alloc: Global,
     size: u64,
@@ -209,7 +209,7 @@ fn make_on(
     }
 }
 
-// A sum of a bag with another, of whose values one is absent. Where it is refused, the bag is as it was.
+// A sum of a bag with another, of whose values one is absent. If it fails, the bag is as it was.
 fn summed(
     bag: &mut HashBag<u64>,
     other: HashBag<u64>,
@@ -253,7 +253,7 @@ fn parts(bag: &mut HashBag<u64>, other: &HashBag<u64>) -> Result<(), Wrong> {
     check(bag.is_empty(), "keep_common")
 }
 
-// A list of so many pairs.
+// A list of pairs, as long as the number says.
 fn listed(
     answer: Result<Vec<(&u64, usize)>, BagError>,
     len: usize,
@@ -270,7 +270,7 @@ fn done(answer: Result<(), BagError>, refusals: &mut Refusals) -> Result<(), Wro
     Ok(())
 }
 
-// A call that brought an absent value in.
+// A call that inserted an absent value.
 fn brought(answer: Result<usize, BagError>, refusals: &mut Refusals) -> Result<(), Wrong> {
     drop(refusals.answer(answer)?);
     Ok(())
@@ -288,7 +288,7 @@ fn used_up(bag: HashBag<u64>) -> Result<(), Wrong> {
     check(bag.into_iter().count() == values, "into_iter")
 }
 
-// A bag at its limit, whether or not it has room: nothing is asked for before the total is tested.
+// A bag at its limit, whether or not it has room: nothing is allocated before the total is tested.
 fn limits(alloc: Global, bag: &mut HashBag<u64>) -> Result<(), Wrong> {
     let other: HashBag<u64> = HashBag::with_limit(alloc, FixedState::new(), 5);
     check((other.limit(), other.slots()) == (5, 0), "with_limit")?;
@@ -301,7 +301,7 @@ fn limits(alloc: Global, bag: &mut HashBag<u64>) -> Result<(), Wrong> {
     check(kept == (len, len, len), "what is past the limit")
 }
 
-// Each of these would bring in an absent value, or one that is there once more.
+// Each of these would insert an absent value, or a present one once more.
 fn refuse_all(bag: &mut HashBag<u64>) -> Result<(), Wrong> {
     is_past(bag.insert(1000))?;
     is_past(bag.insert_many(1, 1))?;
@@ -370,7 +370,7 @@ fn number_not_in(bag: &HashBag<u64>, other: &HashBag<u64>) -> usize {
     number
 }
 
-// Calls that take no memory, on the numbers below 25 in the middle of a carry.
+// Calls that don't allocate, on the numbers below 25 in the middle of a carry.
 fn quiet(bag: &mut HashBag<u64>, refusals: &mut Refusals) -> Result<(), Wrong> {
     for value in [1, 20] {
         quiet_on(bag, value, refusals)?;
@@ -389,7 +389,7 @@ fn quiet(bag: &mut HashBag<u64>, refusals: &mut Refusals) -> Result<(), Wrong> {
     check(bag.is_empty(), "clear")
 }
 
-// On a value that is there once, and isn't there after them.
+// On a value that occurs once, and is absent after them.
 fn quiet_on(bag: &mut HashBag<u64>, value: u64, refusals: &mut Refusals) -> Result<(), Wrong> {
     check(bag.contains(&value) == 1, "contains")?;
     check(bag.get(&value).is_some(), "get")?;

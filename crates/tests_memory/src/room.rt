@@ -2,16 +2,16 @@
 use crate::checks::{Refusals, Wrong, check};
 use crate::counts::{has_counts, insert_two, tables_of, two_fives};
 use hashbag::{BagError, FixedState, HashBag};
-use hashbag_bench::{IdentityState, OneState, ParityState};
 use std::alloc::Global;
 use std::hash::BuildHasher;
+use tests_kit::{IdentityState, OneState, ParityState};
 
-/// Checks that a bag has room for so many values beside those that are there.
+/// Checks that a bag has room for this number of values more.
 pub fn has_room(bag: &HashBag<u64>, n: usize, wrong: &'static str) -> Result<(), Wrong> {
     check(bag.capacity() >= bag.set_len().saturating_add(n), wrong)
 }
 
-// Makes room for so many more values, and answers whether it was done.
+// Makes room for more values, and returns whether it was done.
 fn reserve(bag: &mut HashBag<u64>, n: usize, refusals: &mut Refusals) -> Result<bool, Wrong> {
     let done = refusals.is_done(bag.reserve(n))?;
     has_counts(bag, (2, 0, 0), "reserve: the counts")?;
@@ -23,7 +23,7 @@ fn reserve(bag: &mut HashBag<u64>, n: usize, refusals: &mut Refusals) -> Result<
     Ok(done)
 }
 
-// A bag with 5 twice and room for 100 more values. Where the room is refused, it is made with memory again.
+// A bag with 5 twice and room for 100 more values. If that room can't be allocated, it is made with memory again.
 fn roomy(alloc: Global, refusals: &mut Refusals) -> Result<HashBag<u64>, Wrong> {
     let mut bag = two_fives(alloc, refusals)?;
     if !reserve(&mut bag, 100, refusals)? {
@@ -39,7 +39,7 @@ pub fn room(alloc: Global, refusals: &mut Refusals) -> Result<(), Wrong> {
     Ok(())
 }
 
-/// Makes room in a small bag and gives it back: then there is less, or as much where that is refused.
+/// Makes room in a small bag and frees it: then there is less, or as much if that fails.
 pub fn room_given_back(alloc: Global, refusals: &mut Refusals) -> Result<(), Wrong> {
     let mut bag = roomy(alloc, refusals)?;
     let done = refusals.is_done(bag.shrink_to_fit())?;
@@ -88,8 +88,8 @@ fn has_two_each<S: BuildHasher + Drop>(
     check((bag.len(), bag.set_len()) == (26, 13), wrong)
 }
 
-// Makes room for 13 values, which then go in without a request for memory: none of them is refused, whichever request is. For more
-// values than there may be it answers `Memory`, and changes nothing.
+// Makes room for 13 values, which are then inserted without a request for memory: none of them fails, whichever request does. For more
+// values than there may be it returns `Memory`, and changes nothing.
 fn reserved_under<S: BuildHasher + Drop>(
     alloc: Global,
     state: S,

@@ -70,7 +70,7 @@ const TABLES_AFTER: [(usize, usize, usize); 17] = [
     (16, 0, 11),
 ];
 
-// A bag is what the first so many steps leave.
+// A bag is what the first steps leave, as many as the number says.
 fn is_after(bag: &HashBag<u64>, number: usize) -> Result<(), Wrong> {
     if number >= AFTER.len() {
         return Err(Wrong("run: more replies than steps"));
@@ -90,7 +90,7 @@ fn runs_of(alloc: Global, steps: Vec<Step<u64>>, refusals: &mut Refusals) -> Res
     check(!done || number == 16, "run: the number of replies")
 }
 
-/// A run with a step of each kind. Where it is stopped, the steps before are done.
+/// A run with a step of each kind. If it is stopped, the steps before are done.
 pub fn runs(alloc: Global, refusals: &mut Refusals) -> Result<(), Wrong> {
     match steps_of(alloc) {
         Ok(steps) => runs_of(alloc, steps, refusals),

@@ -1,8 +1,8 @@
 //! Spare requests for memory.
 use std::alloc::Global;
 
-/// Makes `n` requests for memory that is held until all are made. It answers the number of the request that was refused, from 1,
-/// and then makes no more; `None` where none was.
+/// Makes `n` requests for memory that is held until all are made. It returns the number of the request that failed, from 1,
+/// and then makes no more; `None` if none failed.
 pub fn refused_of(alloc: Global, n: usize) -> Option<usize> {
     if n == 0 {
         return None;

@@ -1,4 +1,4 @@
-//! Bags of texts, whose clones ask for memory themselves, and which may be inserted by what they are made of.
+//! Bags of texts, whose clones are allocated too, and which may be inserted by keys.
 use crate::checks::{Refusals, Wrong, check};
 use crate::counts::tables_of;
 use hashbag::HashBag;
@@ -11,7 +11,7 @@ fn names(alloc: Global) -> Result<(String, String), AllocError> {
     ))
 }
 
-// After an extend by Einar, Harald and Einar: all are there, or those before the one that was refused.
+// After an extend by Einar, Harald and Einar: all are there, or those before the one that failed.
 fn has_names(bag: &HashBag<String>, counts: (usize, usize), is_done: bool) -> Result<(), Wrong> {
     if is_done {
         check(counts == (2, 1), "names: the counts")?;
@@ -56,7 +56,7 @@ fn extend_and_clone(
     )
 }
 
-/// An extend by clones that ask for memory, and a clone of the bag that it leaves, which is equal where there is one.
+/// An extend by clones that are allocated, and a clone of the bag that it leaves, which is equal if there is one.
 pub fn cloned_names(alloc: Global, refusals: &mut Refusals) -> Result<(), Wrong> {
     match names(alloc) {
         Ok(names) => extend_and_clone(alloc, &names, refusals),
@@ -67,7 +67,7 @@ pub fn cloned_names(alloc: Global, refusals: &mut Refusals) -> Result<(), Wrong>
     }
 }
 
-// Inserts a name as a text, of which there must be so many, and answers whether it went in. A refusal changes nothing.
+// Inserts a name as a text, checks the count before, and returns whether it was inserted. A failure changes nothing.
 fn insert_text(
     bag: &mut HashBag<String>,
     name: &str,
@@ -76,7 +76,7 @@ fn insert_text(
 ) -> Result<bool, Wrong> {
     let (total, tables) = (bag.len(), tables_of(bag));
     let Some(answer) = refusals.answer(bag.insert_key(name))? else {
-        check(bag.contains_key(name) == 0, "texts: refused")?;
+        check(bag.contains(name) == 0, "texts: refused")?;
         check(bag.len() == total, "texts: the total after a refusal")?;
         check(tables_of(bag) == tables, "texts: the slots after a refusal")?;
         return Ok(false);
@@ -85,7 +85,7 @@ fn insert_text(
     Ok(true)
 }
 
-/// Insertions by texts, of which a `String` is made only where there is none: what is there asks for no memory.
+/// Insertions by texts, from which a `String` is made only if it is absent: a present one makes no allocation.
 pub fn inserted_texts(alloc: Global, refusals: &mut Refusals) -> Result<(), Wrong> {
     let mut bag: HashBag<String> = HashBag::new(alloc);
     for name in ["Einar", "Harald"] {
@@ -95,7 +95,7 @@ pub fn inserted_texts(alloc: Global, refusals: &mut Refusals) -> Result<(), Wron
         }
         let done = insert_text(&mut bag, name, 1, refusals)?;
         check(done, "texts: of a name that is there, refused")?;
-        check(bag.contains_key(name) == 2, "texts: the count")?;
+        check(bag.contains(name) == 2, "texts: the count")?;
     }
     check(bag.len() == 4, "texts: the total")
 }

@@ -5,7 +5,7 @@ use hashbag::{FixedState, HashBag, JsonError};
 use serde_json::Value;
 use std::alloc::Global;
 
-// The tree of a text. `None` where memory was refused.
+// The tree of a text. `None` if an allocation failed.
 fn tree_of(alloc: Global, text: &str, refusals: &mut Refusals) -> Option<Value> {
     match Value::from_str(alloc, text) {
         Ok(tree) => Some(tree),
@@ -16,7 +16,7 @@ fn tree_of(alloc: Global, text: &str, refusals: &mut Refusals) -> Option<Value> 
     }
 }
 
-// The bag is written, or memory was refused.
+// The bag is written, or an allocation failed.
 fn written(
     alloc: Global,
     bag: &HashBag<String, FixedState>,
@@ -36,7 +36,7 @@ fn written(
     }
 }
 
-/// A tree of texts with a limit is read, with equal ones in it, and the bag is written: each is done, or refused for memory.
+/// A tree of texts with a limit is read, with equal ones in it, and the bag is written: each is done, or an allocation failed.
 pub fn trees(alloc: Global, refusals: &mut Refusals) -> Result<(), Wrong> {
     let text = "{\"limit\":9,\"pairs\":[[\"b\",2],[\"a\",1],[\"b\",1]]}";
     let Some(tree) = tree_of(alloc, text, refusals) else {
@@ -58,13 +58,13 @@ pub fn trees(alloc: Global, refusals: &mut Refusals) -> Result<(), Wrong> {
     }
 }
 
-// Trees whose reading asks for memory, each with its fault. The first one has none, and is read as a bag of one value.
+// Trees whose reading makes an allocation, each with its fault. The first one has none, and is read as a bag of one value.
 const PAIRS: [(&str, Option<JsonError>); 2] = [
     ("[[\"a\",1]]", None),
     ("[[\"b\",2],[5,1]]", Some(JsonError::BadItem(1))),
 ];
 
-// A tree that is read is a bag of one value, or it has this fault, or memory was refused.
+// A tree that is read is a bag of one value, or it has this fault, or an allocation failed.
 fn is_read(
     alloc: Global,
     tree: &Value,
@@ -85,7 +85,7 @@ fn is_read(
     }
 }
 
-/// One pair, and a fault after a first pair: the bag or the fault is answered, or memory was refused.
+/// One pair, and a fault after a first pair: the bag or the fault is returned, or an allocation failed.
 pub fn pairs(alloc: Global, refusals: &mut Refusals) -> Result<(), Wrong> {
     for (text, fault) in PAIRS {
         let Some(tree) = tree_of(alloc, text, refusals) else {
@@ -104,7 +104,7 @@ const WITHOUT_MEMORY: [(&str, Option<JsonError>); 4] = [
     ("[]", None),
 ];
 
-// What is wrong with a tree. `None` where its bag is empty.
+// What is wrong with a tree. `None` if its bag is empty.
 fn fault_of(alloc: Global, tree: &Value) -> Result<Option<JsonError>, Wrong> {
     let read: Result<HashBag<String, FixedState>, JsonError> = HashBag::from_value(alloc, tree);
     match read {
@@ -116,7 +116,7 @@ fn fault_of(alloc: Global, tree: &Value) -> Result<Option<JsonError>, Wrong> {
     }
 }
 
-/// Trees that are read without a request for memory: they answer the same whichever request is refused.
+/// Trees that are read without a request for memory: the results are the same whichever request fails.
 pub fn trees_without_memory(alloc: Global, refusals: &mut Refusals) -> Result<(), Wrong> {
     for (text, fault) in WITHOUT_MEMORY {
         let Some(tree) = tree_of(alloc, text, refusals) else {

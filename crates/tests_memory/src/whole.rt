@@ -1,6 +1,6 @@
-//! Whole runs of the program's text, over a reader and a writer that take no memory.
+//! Whole runs of the program's text, over a reader and a writer that don't allocate.
 use crate::checks::{Refusals, Wrong, check};
-use hashbag_text::execute::{BAD_LINE, DONE, NO_MEMORY, execute};
+use hashbag_run_core::execute::{BAD_LINE, DONE, NO_MEMORY, execute};
 use std::alloc::Global;
 use std::io;
 use std::io::{Read, Write};
@@ -14,7 +14,7 @@ const STEPS: &str = "a insert 5\na insert 5\na remove 5\na count 5\n";
 const OUTPUT: &str = "a count 0\na count 1\na count 2\na count 1\n\
     outer 5 1 0\ndifference 5 1\nsigned 5 1\nnot_in 5 1\na json [[5,1]]\nb json []\n";
 
-// Steps on two bags, and what they, the joins of the bags and their trees answer.
+// Steps on two bags, and what is written of their replies, the joins of the bags and their trees.
 const TWO_BAGS: &str = "a many 2 7\nb insert 2\nb insert 9\n";
 
 const JOINED: &str = "a count 0\nb count 0\nb count 0\nouter 2 7 1\nouter 9 0 1\n\
@@ -65,7 +65,7 @@ impl Write for Page {
     }
 }
 
-// Runs the program on an input. Where memory was refused, it writes so and nothing else.
+// Runs the program on an input. If an allocation failed, it writes so and nothing else.
 fn answers(
     alloc: Global,
     input: &str,

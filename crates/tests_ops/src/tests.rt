@@ -1,5 +1,5 @@
-//! What no clause says of whole bags: that the calls succeed where memory is ample, that counts, limits, tables and instances are those
-//! found by hand, under each hash state, that pairs are in the order that Python finds, how much memory a few of them take, and how often
+//! What no clause says of whole bags: that the calls succeed with ample memory, and that counts, limits, tables and instances are those
+//! found by hand, under each hash state. Also that pairs are in the order that Python finds, how much a few of them allocate, and how often
 //! values are hashed.
 mod bags;
 mod calls;

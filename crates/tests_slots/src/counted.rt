@@ -1,4 +1,4 @@
-//! `Counted`: values that count their drops, and whose equal instances can be told apart.
+//! `Counted`: values that count their drops, and whose equal instances can be distinguished.
 ghost use Rattle.std.specs.Prelude.{◌==◌};
 ghost use Rattle.std.proofs.Common.{rules};
 ghost use Rattle.std.specs.Cmp.Rules.{comparing, hashing};
@@ -7,7 +7,7 @@ ghost use Rattle.std.specs.Hash as fed;
 use std::cell::Cell;
 use std::hash::{Hash, Hasher};
 
-/// A key with a tag, which raises `drops` by 1 when it is dropped. Two of them are equal where their keys are.
+/// A key with a tag, which raises `drops` by 1 when it is dropped. Two of them are equal if their keys are.
 pub struct Counted<'a> {
     /// What is compared and hashed.
     pub key: u64,

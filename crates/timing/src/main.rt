@@ -1,8 +1,8 @@
-//! Measures bags. Standard input names what is measured, a line each: `small`, `large`, `words`, `join`, `growth`, `grown`, `copy`, `merge`,
-//! `common` or `texts`, and how many values there are.
+//! Measures bags. Standard input names what is measured, a line each: `small`, `large`, `words`, `join`, `growth`, `grown`, `copy`,
+//! `merge`, `common` or `texts`, and how many values there are.
 //!
-//! Each answer is a line with what was done, how many times, in how many nanoseconds, and a sum by which `bench/map.rs`, which
-//! does the same with Rust's own map, can be seen to have come to the same.
+//! Each result is a line with what was done, how many times, in how many nanoseconds, and a sum. `bench/map.rs` does the same with Rust's
+//! own map, and its sums have to be the same.
 #![tactic(auto)]
 
 mod grown;

@@ -13,7 +13,7 @@ pub fn fill(bag: &mut HashBag<u64>, values: &[u64]) -> Result<(), BagError> {
     Ok(())
 }
 
-/// The sum of how often each occurs.
+/// Returns the sum of the counts of these values.
 pub fn look_up(bag: &HashBag<u64>, values: &[u64]) -> usize {
     let mut sum = 0usize;
     for value in values {
@@ -30,7 +30,7 @@ fn take_out(bag: &mut HashBag<u64>, values: &[u64]) -> usize {
     sum
 }
 
-/// The sum of the distinct values, each times its count.
+/// Returns the sum of the distinct values, each times its count.
 pub fn walk(bag: &HashBag<u64>) -> u64 {
     let mut sum = 0u64;
     for (value, count) in bag.set_iter() {
@@ -47,7 +47,7 @@ fn join(first: &HashBag<u64>, second: &HashBag<u64>) -> u64 {
     sum
 }
 
-/// The line of what was done since then.
+/// Prints the line of what was done since then.
 pub fn say(
     rt: &HostRuntime,
     what: &str,
@@ -118,7 +118,7 @@ fn of_joins(rt: &HostRuntime, many: u64) -> anyhow::Result<()> {
     say(rt, "outer_join", many.wrapping_mul(2), start, sum)
 }
 
-// The longest of these times but so many longer ones.
+// Returns the longest of these times after `longer` longer ones are left out.
 fn longest_but(times: &[u64], longer: usize) -> u64 {
     if longer < times.len() {
         times[times.len() - 1 - longer]
@@ -127,8 +127,8 @@ fn longest_but(times: &[u64], longer: usize) -> u64 {
     }
 }
 
-// The time of each single insertion, which is taken to be below a second, and the place in the row of the one that took
-// longest. Each value gives way to its time.
+// Measures each single insertion, which is assumed to take less than a second, and says the place in the row of the one that took longest.
+// Each value is replaced by its time.
 fn growth(rt: &HostRuntime, many: u64) -> anyhow::Result<()> {
     let mut times = distinct(rt.alloc(), 0, many, 1)?;
     let mut bag = HashBag::new(rt.alloc());
@@ -157,7 +157,7 @@ fn growth(rt: &HostRuntime, many: u64) -> anyhow::Result<()> {
     Ok(())
 }
 
-/// Measures what is named, with so many values.
+/// Measures what is named, with `many` values.
 pub fn measure(rt: &HostRuntime, what: &str, many: u64) -> anyhow::Result<()> {
     match what {
         "small" => small(rt, many),

@@ -1,7 +1,7 @@
 //! The values that go into a bag.
 use std::alloc::{AllocError, Global};
 
-/// A number by which `i` goes, and no other does.
+/// Returns a number that is different for each `i`.
 fn mixed(i: u64) -> u64 {
     let x = i.wrapping_add(0x9e37_79b9_7f4a_7c15);
     let y = (x ^ (x >> 30)).wrapping_mul(0xbf58_476d_1ce4_e5b9);
@@ -9,8 +9,8 @@ fn mixed(i: u64) -> u64 {
     z ^ (z >> 31)
 }
 
-/// `many` values from the number `from` on. They come in the order of their numbers where `step` is 1, and in another one
-/// where it has no factor in common with `many`.
+/// Returns `many` values from the number `from` on. They are in the order of their numbers if `step` is 1, and in another one if it has no
+/// factor in common with `many`.
 pub fn distinct(alloc: Global, from: u64, many: u64, step: u64) -> Result<Vec<u64>, AllocError> {
     let mut values = Vec::new(alloc);
     for i in 0..many {
@@ -19,7 +19,7 @@ pub fn distinct(alloc: Global, from: u64, many: u64, step: u64) -> Result<Vec<u6
     Ok(values)
 }
 
-/// `many` values as words come in a text, of 50,000: a few often, and many seldom.
+/// Returns `many` values of 50,000, as words are in a text: a few often, and many seldom.
 pub fn words(alloc: Global, many: u64) -> Result<Vec<u64>, AllocError> {
     let mut values = Vec::new(alloc);
     for i in 0..many {
@@ -30,7 +30,7 @@ pub fn words(alloc: Global, many: u64) -> Result<Vec<u64>, AllocError> {
     Ok(values)
 }
 
-/// `many` values with counts from 1 to 1,000.
+/// Returns `many` values with counts from 1 to 1,000.
 pub fn counts(alloc: Global, many: u64) -> Result<Vec<(u64, usize)>, AllocError> {
     let mut values = Vec::new(alloc);
     for i in 0..many {
@@ -39,7 +39,7 @@ pub fn counts(alloc: Global, many: u64) -> Result<Vec<(u64, usize)>, AllocError>
     Ok(values)
 }
 
-/// A text of `many` of these words, each a number in hexadecimal, of six digits at most.
+/// Returns a text of `many` of these words, each a number in hexadecimal, of six digits at most.
 pub fn text(alloc: Global, many: u64) -> Result<String, AllocError> {
     let mut text = String::new(alloc);
     for value in words(alloc, many)? {

@@ -17,7 +17,7 @@ pub fn of_merges(rt: &HostRuntime, many: u64) -> anyhow::Result<()> {
     say(rt, "merge", many, start, into.set_len() as u64)
 }
 
-// Inserts each of them so often.
+// Inserts each of them as often as its count.
 fn fill_counts(bag: &mut HashBag<u64>, values: &[(u64, usize)]) -> Result<(), BagError> {
     for (value, count) in values {
         bag.insert_many(*value, *count)?;

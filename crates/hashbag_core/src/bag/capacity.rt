@@ -1,9 +1,9 @@
-//! Room and slots of a bag: how much there is, what is made, and what is given back.
-ghost use Rattle.std.specs.Prelude.{◌≡◌, ℕ, ◌+◌, ◌*◌, ◌<◌, ◌≤◌, [], length, IsOk, OnOk, OnErr};
+//! Room and slots of a bag: how much there is, what is allocated, and what is freed.
+ghost use Rattle.std.specs.Prelude.{◌≡◌, ℕ, ◌+◌, ◌*◌, ◌<◌, ◌≤◌, [], length, IsOk, IfErr, OnOk, OnErr};
 ghost use Rattle.hashbag_slots.specs.Slots.{IsSlotCount, live_count, removed_count};
-ghost use Rattle.hashbag_table.specs.Tables.{limit, room, values, IsPacked, Carried, KeepsRoom, ReservesOrStays, ShrinksOrStays, NoneMoved};
+ghost use Rattle.hashbag_table.specs.Tables.{limit, room, values, Carried, KeepsRoom, ReservesOrStays, ShrinksOrStays, NoneMoved};
 ghost use Rattle.hashbag_core.specs.Occurrences.{distinct_count};
-ghost use Rattle.hashbag_core.specs.Held.{no_slots, AreHeld, NeedsSlots, HasLeastFor, BuildsSlots};
+ghost use Rattle.hashbag_core.specs.Held.{no_slots, AreHeld, NeedsSlots};
 ghost use Rattle.hashbag_table.specs.declared.table.TheConstants.{MOST_VALUES};
 ghost use Rattle.hashbag_core.specs.declared.bag.BagError.TheVariants.{Memory};
 
@@ -13,7 +13,9 @@ use std::hash::{BuildHasher, Hash};
 impl<T: Eq + Hash + Drop, S: BuildHasher + Drop> HashBag<T, S> {
     ghost use Rattle.hashbag_core.specs.Bag.{IsBagOf};
 
-    /// How many distinct values the bag can have before it grows: [`HashBag::set_len`] and [`HashBag::room`] together.
+    /// Returns how many distinct values the bag can have before it grows: [`HashBag::set_len`] and [`HashBag::room`] together.
+    ///
+    /// # Examples
     ///
     /// ```
     /// let mut bag = HashBag::new(alloc);
@@ -28,8 +30,10 @@ impl<T: Eq + Hash + Drop, S: BuildHasher + Drop> HashBag<T, S> {
         self.table.capacity()
     }
 
-    /// The number of slots of the newer table, 0 where there is none. A slot has a place for one distinct value with its count. Those
+    /// Returns the number of slots of the newer table, 0 if it has none. A slot has a place for one distinct value with its count. Those
     /// that aren't Empty are Live, which hold a value, or Removed, which held one.
+    ///
+    /// # Examples
     ///
     /// ```
     /// let mut bag = HashBag::new(alloc);
@@ -49,8 +53,10 @@ impl<T: Eq + Hash + Drop, S: BuildHasher + Drop> HashBag<T, S> {
         self.table.slots()
     }
 
-    /// The number of slots of the older table that wait to be carried, 0 where there is no older table. Each insertion of an absent
+    /// Returns the number of slots of the older table that aren't carried yet, 0 if there is no older table. Each insertion of an absent
     /// value carries the next 16 of them.
+    ///
+    /// # Examples
     ///
     /// ```
     /// let mut bag = HashBag::new(alloc);
@@ -69,10 +75,17 @@ impl<T: Eq + Hash + Drop, S: BuildHasher + Drop> HashBag<T, S> {
         self.table.waiting()
     }
 
-    /// Carries all that waits, so that from then on a look-up probes one table of slots alone. What occurs stays, and no room is lost.
+    /// Carries all slots of the older table that aren't carried yet, so that a look-up then probes one table alone. What occurs stays, and
+    /// no room is lost.
     ///
-    /// It takes no memory, hashes each waiting value once, and frees the older table. Where nothing waits it does nothing. A bag that is
-    /// filled once and then only asked is asked at less cost after it: nothing but insertions of absent values carries else.
+    /// Otherwise only insertions of absent values carry. So a bag that is filled once and then only looked up is faster after this call. If
+    /// no slot waits to be carried, the call does nothing.
+    ///
+    /// # Complexity
+    ///
+    /// It hashes each waiting value once, frees the older table, and doesn't allocate.
+    ///
+    /// # Examples
     ///
     /// ```
     /// let mut bag = HashBag::new(alloc);
@@ -94,7 +107,9 @@ impl<T: Eq + Hash + Drop, S: BuildHasher + Drop> HashBag<T, S> {
         self.table.finish_carry();
     }
 
-    /// How many absent values may be inserted before the bag grows. None of these insertions takes memory.
+    /// Returns how many absent values can be inserted before the bag grows. None of these insertions allocates slots.
+    ///
+    /// # Examples
     ///
     /// ```
     /// let mut bag = HashBag::new(alloc);
@@ -109,12 +124,19 @@ impl<T: Eq + Hash + Drop, S: BuildHasher + Drop> HashBag<T, S> {
         self.table.room()
     }
 
-    /// Makes room for `n` more distinct values: so many insertions of absent values take no memory then. What occurs stays.
+    /// Makes room for `n` more distinct values: the next `n` insertions of absent values don't allocate slots. What occurs stays.
     ///
-    /// Where there is that room it takes no memory, does nothing and succeeds. Else it makes the least table of slots that has the
-    /// room, and is not smaller than the newer one: every value is moved into it and hashed once, and the others are freed. It answers
-    /// `Memory` where memory is refused, and before memory is asked for where there would be more than 3 * 2^57 distinct values:
-    /// the bag is then unchanged.
+    /// # Errors
+    ///
+    /// `Memory` if an allocation fails, or if there would be more than 3 * 2^57 distinct values. The bag is then unchanged. With enough
+    /// room before the call it can't fail.
+    ///
+    /// # Complexity
+    ///
+    /// If there is enough room, it does nothing. Else it allocates the least table of slots that has the room, and is not smaller than the
+    /// newer one. Every value is moved into that table and hashed once, and the former tables are freed.
+    ///
+    /// # Examples
     ///
     /// ```
     /// let mut bag = HashBag::new(alloc);
@@ -126,29 +148,31 @@ impl<T: Eq + Hash + Drop, S: BuildHasher + Drop> HashBag<T, S> {
     pub fn reserve(&mut self, n: usize) -> Result<(), BagError>
         ensures kept { IsBagOf T.eq self.old self.old.items self.new }
         ensures len { length self.new.items ≡ length self.old.items }
-        ensures none { n ≡ 0 → IsOk result }
         ensures beyond { 0 < n → MOST_VALUES < distinct_count T.eq self.old.items + n → result ≡ Err BagError.Memory }
-        ensures memory { OnErr result (result ≡ Err BagError.Memory) }
+        ensures memory { IfErr result (λ e. e ≡ BagError.Memory) }
         ensures err { OnErr result (self.new ≡ self.old) }
         ensures room { OnOk result (n ≤ room self.new.tables) }
 
-        // Where there is room already nothing is done; else the table of slots that was made.
-        ensures enough { n ≤ room self.old.tables → IsOk result }
-        ensures same { n ≤ room self.old.tables → self.new ≡ self.old }
-        ensures least { OnOk result (room self.old.tables < n → HasLeastFor T.eq n self.old self.new) }
-        ensures packed { OnOk result (room self.old.tables < n → IsPacked self.new.tables) }
-        ensures built { OnOk result (room self.old.tables < n → BuildsSlots (length self.new.tables.newer) self.old self.new) }
+        // If there is room already nothing is done; else what the new table is.
+        ensures enough { n ≤ room self.old.tables → IsOk result × (self.new ≡ self.old) }
         ensures reserves { OnOk result (ReservesOrStays n (distinct_count T.eq self.old.items) self.old.tables self.new.tables) }
     {
         self.table.reserve(n)?;
         Ok(())
     }
 
-    /// Gives memory back that the bag doesn't need. What occurs stays.
+    /// Frees slots that the bag doesn't need. What occurs stays, and an empty bag is left with no slots.
     ///
-    /// It makes the least table of slots that has room for the values, where that one is smaller than the newer one: every value is
-    /// moved into it and hashed once, and the others are freed. Else it takes no memory, does nothing and succeeds. An empty bag takes
-    /// no memory, and is left with no slots. It answers `Memory` where memory is refused: the bag is then unchanged.
+    /// # Errors
+    ///
+    /// `Memory` if the allocation of a smaller table fails. The bag is then unchanged.
+    ///
+    /// # Complexity
+    ///
+    /// If the least table that has room for the values is smaller than the newer one, it is allocated. Every value is moved into it and
+    /// hashed once, and the former tables are freed. Else the call does nothing. An empty bag allocates nothing.
+    ///
+    /// # Examples
     ///
     /// ```
     /// let mut bag = HashBag::with_capacity(alloc, 1_000)?;
@@ -161,22 +185,17 @@ impl<T: Eq + Hash + Drop, S: BuildHasher + Drop> HashBag<T, S> {
     pub fn shrink_to_fit(&mut self) -> Result<(), BagError>
         ensures kept { IsBagOf T.eq self.old self.old.items self.new }
         ensures len { length self.new.items ≡ length self.old.items }
-        ensures memory { OnErr result (result ≡ Err BagError.Memory) }
+        ensures memory { IfErr result (λ e. e ≡ BagError.Memory) }
         ensures err { OnErr result (self.new ≡ self.old) }
 
-        // An empty bag is left with no slots. Where the least table, of m slots, isn't smaller, nothing is done; else it was made.
+        // An empty bag is left with no slots. If the least table, of m slots, isn't smaller, nothing is done; else it is the new table.
         ensures none { self.old.items ≡ [] → IsOk result }
         ensures freed { OnOk result (self.old.items ≡ [] → self.new.tables ≡ no_slots self.old.tables.built) }
-        ensures fewer { length self.new.tables.newer ≤ length self.old.tables.newer }
         ensures shrinks { OnOk result (ShrinksOrStays (distinct_count T.eq self.old.items) self.old.tables self.new.tables) }
-        ensures enough { NeedsSlots T.eq self.old (length self.old.tables.newer) → IsOk result }
-        ensures same { (m : ℕ) → NeedsSlots T.eq self.old m → length self.old.tables.newer ≤ m → self.new ≡ self.old }
-        ensures least { OnOk result ((m : ℕ) → NeedsSlots T.eq self.old m → m < length self.old.tables.newer → length self.new.tables.newer ≡ m) }
-        ensures packed { OnOk result ((m : ℕ) → NeedsSlots T.eq self.old m → m < length self.old.tables.newer → IsPacked self.new.tables) }
-        ensures built { OnOk result ((m : ℕ) → NeedsSlots T.eq self.old m → m < length self.old.tables.newer → BuildsSlots m self.old self.new) }
+        ensures enough { (m : ℕ) → NeedsSlots T.eq self.old m → length self.old.tables.newer ≤ m → IsOk result × (self.new ≡ self.old) }
     {
         self.table.shrink_to_fit()?;
-        // `waiting` is called for its clauses on what waits where there are no slots, which the proof cites.
+        // `waiting` is called for its clauses on what waits if there are no slots, which the proof names.
         let _waiting = self.table.waiting();
         Ok(())
     }

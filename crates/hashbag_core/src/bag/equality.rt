@@ -6,14 +6,20 @@ ghost use Rattle.hashbag_core.specs.EqualityLaws.{bag_eq_refl, bag_eq_partial};
 use crate::bag::HashBag;
 use std::hash::{BuildHasher, Hash};
 
-/// Two bags are equal where each value occurs as often in one as in the other. Which instances are stored, the states, the
-/// room and the history of the bags don't matter.
+/// Two bags are equal if each value occurs as often in one as in the other. The stored instances, the states, the limits, the room and
+/// the history of the bags don't matter.
 impl<T: Eq + Hash + Drop, S: BuildHasher + Drop> PartialEq for HashBag<T, S> {
     ghost eq = { bag_eq T.eq };
 
     ghost laws = { bag_eq_partial T.Eq.laws };
 
-    /// It compares the totals, and then looks each distinct value of one bag up in the other. It takes no memory.
+    /// Returns whether each value occurs as often in one bag as in the other.
+    ///
+    /// # Complexity
+    ///
+    /// It compares the totals, then looks up each distinct value of one bag in the other, and doesn't allocate.
+    ///
+    /// # Examples
     ///
     /// ```
     /// let mut first = HashBag::new(alloc);

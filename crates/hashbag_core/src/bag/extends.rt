@@ -1,4 +1,4 @@
-//! Bags made of the items that an iterator gives, and bags to which they are added.
+//! Bags built from the items of an iterator, and bags to which these are added.
 ghost use Rattle.std.specs.Prelude.{◌≡◌, ◌<◌, [], OnOk, IfOk, IfErr, OnErr};
 ghost use Rattle.std.specs.Iterator.{IsFinite};
 ghost use Rattle.hashbag_core.specs.Bag.{Bag};
@@ -13,7 +13,9 @@ use std::alloc::Global;
 use std::hash::{BuildHasher, Hash};
 
 impl<T: Eq + Hash + Drop, S: BuildHasher + Drop> HashBag<T, S> {
-    /// An empty bag of no slots under the default state. It takes no memory.
+    /// Returns an empty bag without slots, under the default state. It doesn't allocate.
+    ///
+    /// # Examples
     ///
     /// ```
     /// let bag: HashBag<u64> = HashBag::default_in(alloc);
@@ -30,8 +32,13 @@ impl<T: Eq + Hash + Drop, S: BuildHasher + Drop> HashBag<T, S> {
         HashBag::with_hasher(alloc, S::default())
     }
 
-    /// A bag of the items, under the default state: an empty one, extended by [`HashBag::extend`]. Where that is refused, there is no
-    /// bag.
+    /// Builds a bag of the items, under the default state: an empty bag that is extended by [`HashBag::extend`].
+    ///
+    /// # Errors
+    ///
+    /// Those of [`HashBag::extend`]. Then there is no bag.
+    ///
+    /// # Examples
     ///
     /// ```
     /// let values = ["apple", "pear", "apple"];
@@ -57,8 +64,13 @@ impl<T: Eq + Hash + Drop, S: BuildHasher + Drop> HashBag<T, S> {
         Ok(bag)
     }
 
-    /// A bag of the pairs of a value and a number, under the default state: an empty one, extended by [`HashBag::extend_many`]. Where
-    /// that is refused, there is no bag.
+    /// Builds a bag of pairs of a value and its number, under the default state: an empty bag that is extended by [`HashBag::extend_many`].
+    ///
+    /// # Errors
+    ///
+    /// Those of [`HashBag::extend_many`]. Then there is no bag.
+    ///
+    /// # Examples
     ///
     /// ```
     /// let pairs = [("apple", 2), ("pear", 1), ("apple", 3)];
@@ -84,12 +96,21 @@ impl<T: Eq + Hash + Drop, S: BuildHasher + Drop> HashBag<T, S> {
         Ok(bag)
     }
 
-    /// Inserts each item in turn, as [`HashBag::insert`] does, until the iterator ends or an item is refused. The caller sees to it
-    /// that the items end.
+    /// Inserts each item in turn, as [`HashBag::insert`] does, until the iterator ends or an item fails. The caller ensures that the items
+    /// end.
     ///
-    /// An item is refused with `TooMany` where the total would pass the limit, which is tested before anything grows, and with
-    /// `Memory` where the value is absent, there is no room and memory is refused. The items before it stay inserted. It is dropped
-    /// itself, and so is the iterator with what is still to come. Each item is hashed once.
+    /// # Errors
+    ///
+    /// - `TooMany` if the total would pass the limit with an item. That is tested first.
+    /// - `Memory` if an item is absent, there is no room, and an allocation fails.
+    ///
+    /// The items before the one that fails stay in the bag. It is dropped, and so is the iterator with the items after it.
+    ///
+    /// # Complexity
+    ///
+    /// It hashes each item once. The insertions carry and allocate as [`HashBag::insert_many`] does.
+    ///
+    /// # Examples
     ///
     /// ```
     /// let mut bag = HashBag::new(alloc);
@@ -104,7 +125,7 @@ impl<T: Eq + Hash + Drop, S: BuildHasher + Drop> HashBag<T, S> {
         ensures all { OnOk result (InsertsAll T.eq I.next_gives Once items self.old self.new) }
         ensures refused { IfErr result (InsertsUpTo T.eq I.next_gives Once (RefusesOne T.eq) items self.old self.new) }
     {
-        // `len` is called for its clause that the list is a bag's, which the proof cites.
+        // `len` is called for its clause that the list is a bag's, which the proof names.
         let _len = self.len();
         for item in items {
             self.insert_within(item, 1)?;
@@ -112,9 +133,17 @@ impl<T: Eq + Hash + Drop, S: BuildHasher + Drop> HashBag<T, S> {
         Ok(())
     }
 
-    /// Inserts the value of each pair as often as the number beside it, as [`HashBag::insert_many`] does. A pair with 0 adds nothing.
+    /// Inserts the value of each pair in turn, as often as its number, as [`HashBag::insert_many`] does. A pair with 0 adds nothing.
     ///
-    /// It answers as [`HashBag::extend`] does.
+    /// # Errors
+    ///
+    /// Those of [`HashBag::extend`], of a pair in the place of an item.
+    ///
+    /// # Complexity
+    ///
+    /// It hashes each value once. The insertions carry and allocate as [`HashBag::insert_many`] does.
+    ///
+    /// # Examples
     ///
     /// ```
     /// let mut bag = HashBag::new(alloc);
@@ -132,7 +161,7 @@ impl<T: Eq + Hash + Drop, S: BuildHasher + Drop> HashBag<T, S> {
         ensures all { OnOk result (InsertsAll T.eq I.next_gives AsItIs pairs self.old self.new) }
         ensures refused { IfErr result (InsertsUpTo T.eq I.next_gives AsItIs (RefusesPair T.eq) pairs self.old self.new) }
     {
-        // `len` is called for its clause that the list is a bag's, which the proof cites.
+        // `len` is called for its clause that the list is a bag's, which the proof names.
         let _len = self.len();
         for (value, n) in pairs {
             self.insert_within(value, n)?;
@@ -140,10 +169,18 @@ impl<T: Eq + Hash + Drop, S: BuildHasher + Drop> HashBag<T, S> {
         Ok(())
     }
 
-    /// Inserts a clone of each item.
+    /// Inserts a clone of each item in turn, until the iterator ends or an item fails. The caller ensures that the items end.
     ///
-    /// It answers as [`HashBag::extend`] does, and `Memory` also where the clone is refused it, which clones of numbers never are. The
-    /// total is tested before an item is cloned.
+    /// # Errors
+    ///
+    /// Those of [`HashBag::extend`], and `Memory` if a clone fails. Clones of numbers never fail. The total is tested before an item is
+    /// cloned.
+    ///
+    /// # Complexity
+    ///
+    /// It clones and hashes each item once. The insertions carry and allocate as [`HashBag::insert_many`] does.
+    ///
+    /// # Examples
     ///
     /// ```
     /// let values = ["apple", "pear", "apple"];
@@ -164,7 +201,7 @@ impl<T: Eq + Hash + Drop, S: BuildHasher + Drop> HashBag<T, S> {
         ensures all { OnOk result (InsertsAll T.eq I.next_gives (CloneOnce T.is_clone) items self.old self.new) }
         ensures refused { IfErr result (ClonesUpTo T.eq T.is_clone T.is_infallible I.next_gives items self.old self.new) }
     {
-        // `len` is called for its clause that the list is a bag's, which the proof cites.
+        // `len` is called for its clause that the list is a bag's, which the proof names.
         let _len = self.len();
         for item in items {
             self.insert_clone(item, 1)?;
@@ -172,10 +209,17 @@ impl<T: Eq + Hash + Drop, S: BuildHasher + Drop> HashBag<T, S> {
         Ok(())
     }
 
-    /// Inserts a clone of the value of each pair as often as the number beside it. A pair with 0 adds nothing, and its value isn't
-    /// cloned.
+    /// Inserts a clone of the value of each pair in turn, as often as its number. A pair with 0 adds nothing, and its value isn't cloned.
     ///
-    /// It answers as [`HashBag::extend_refs`] does.
+    /// # Errors
+    ///
+    /// Those of [`HashBag::extend_refs`], of a pair in the place of an item.
+    ///
+    /// # Complexity
+    ///
+    /// It clones and hashes each value once, but that of a pair with 0. The insertions carry and allocate as [`HashBag::insert_many`] does.
+    ///
+    /// # Examples
     ///
     /// ```
     /// let mut first = HashBag::new(alloc);
@@ -197,7 +241,7 @@ impl<T: Eq + Hash + Drop, S: BuildHasher + Drop> HashBag<T, S> {
         ensures all { OnOk result (InsertsAll T.eq I.next_gives (CloneAsOften T.is_clone) pairs self.old self.new) }
         ensures refused { IfErr result (ClonesManyUpTo T.eq T.is_clone T.is_infallible I.next_gives pairs self.old self.new) }
     {
-        // `len` is called for its clause that the list is a bag's, which the proof cites.
+        // `len` is called for its clause that the list is a bag's, which the proof names.
         let _len = self.len();
         for (value, n) in pairs {
             self.insert_clone(value, n)?;
@@ -205,7 +249,7 @@ impl<T: Eq + Hash + Drop, S: BuildHasher + Drop> HashBag<T, S> {
         Ok(())
     }
 
-    // Adds occurrences of a clone if the total can have them, and clones nothing for 0.
+    // Inserts occurrences of a clone, if the total can have them. It clones nothing for 0.
     fn insert_clone(&mut self, value: &T, n: usize) -> Result<(), BagError>
     where
         T: Clone,

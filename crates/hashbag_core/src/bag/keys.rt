@@ -1,63 +1,32 @@
-//! Calls by keys: where a value is not at hand, but what names it, as a text names a `String`.
+//! Insertions by keys, for callers that have no value but a key that names it, as a text names a `String`.
 //!
-//! In the Rust crate `contains`, `get` and `remove` take whatever a value can be borrowed as. Here these calls take a [`Key`], and
-//! insertions a [`ToValue`], which makes the value only where it is absent.
-ghost use Rattle.std.specs.Prelude.{◌≡◌, ◌+◌, ◌<◌, ◌≤◌, length, min, IsTrue, IsOk, IfOk, IfErr, OnOk, OnErr};
-ghost use Rattle.hashbag_core.specs.Bag.{IsShorterBy, Lends};
-ghost use Rattle.hashbag_core.specs.Held.{HasFewer};
-ghost use Rattle.hashbag_core.specs.Keys.{count_named, stored_named, RefusesNamed, InsertsNamed};
-ghost use Rattle.hashbag_core.specs.Occurrences.{IsBag};
+//! In the Rust crate look-ups and removals take whatever a value can be borrowed as. Here they take a `Key`, and these insertions a
+//! [`ToValue`], which builds the value only if it is absent.
+ghost use Rattle.std.specs.Prelude.{◌≡◌, ◌+◌, ◌<◌, ◌≤◌, ◌↔◌, length, IsOk, IfOk, IfErr, OnOk, OnErr};
+ghost use Rattle.hashbag_core.specs.Keys.{RefusesNamed, InsertsNamed};
+ghost use Rattle.hashbag_core.specs.Occurrences.{count_named};
 
 use crate::bag::{BagError, HashBag};
-use hashbag_table::{Key, ToValue};
+use hashbag_table::ToValue;
 use std::hash::{BuildHasher, Hash};
 
 impl<T: Eq + Hash + Drop, S: BuildHasher + Drop> HashBag<T, S> {
-    /// How often the value occurs that a key names, 0 where it is absent: `words.contains_key("the")`, for a bag of `String`s.
+    /// Inserts one occurrence of the value that a key names and returns the count before: [`HashBag::insert_many_key`] with 1.
     ///
-    /// It takes no memory, and hashes the key once.
+    /// `words.insert_key("the")?` makes a `String` only if the word is absent.
     ///
-    /// ```
-    /// let mut words: HashBag<String> = HashBag::new(alloc);
-    /// words.insert_many_key("the", 2)?;
-    /// words.contains_key("the"); // 2
-    /// words.contains_key("cat"); // 0
-    /// Ok(())
-    /// ```
-    #[inline(always)]
-    pub fn contains_key<Q: Key<T>>(&self, key: Q) -> usize
-        ensures count { result ≡ count_named (Q.names key) self.now.items }
-        ensures bag { IsBag T.eq self.now.most self.now.items }
-    {
-        match self.table.get_key(key) {
-            Some((_, count)) => count,
-            None => 0,
-        }
-    }
-
-    /// The stored instance of the value that a key names and how often it occurs, or `None` where it is absent:
-    /// `if let Some((word, many)) = words.get_key("the") { .. }`.
+    /// # Errors
     ///
-    /// It takes no memory, and hashes the key once.
+    /// - `TooMany` if the total would pass the limit. That is tested first.
+    /// - `Memory` if the value is absent, and an allocation for the value or for slots fails.
     ///
-    /// ```
-    /// let mut words: HashBag<String> = HashBag::new(alloc);
-    /// words.insert_many_key("the", 2)?;
-    /// words.get_key("the"); // Some(("the", 2))
-    /// words.get_key("cat"); // None
-    /// Ok(())
-    /// ```
-    #[inline(always)]
-    pub fn get_key<Q: Key<T>>(&self, key: Q) -> Option<(&T, usize)>
-        ensures found { Lends result (stored_named (Q.names key) self.now.items) }
-        ensures bag { IsBag T.eq self.now.most self.now.items }
-    {
-        self.table.get_key(key)
-    }
-
-    /// Adds one occurrence of the value that a key names, and answers how many there were: [`HashBag::insert_many_key`] with 1.
+    /// Then the bag is unchanged.
     ///
-    /// `words.insert_key("the")?` makes a `String` only the first time.
+    /// # Complexity
+    ///
+    /// As of [`HashBag::insert_many_key`].
+    ///
+    /// # Examples
     ///
     /// ```
     /// let mut words: HashBag<String> = HashBag::new(alloc);
@@ -71,23 +40,33 @@ impl<T: Eq + Hash + Drop, S: BuildHasher + Drop> HashBag<T, S> {
         ensures inserted { OnOk result (InsertsNamed T.eq (Q.names key) 1 self.old self.new) }
         ensures len { OnOk result (length self.new.items ≡ length self.old.items + 1) }
 
-        // The total is tested first; then only memory can be refused, and only where the value is absent.
-        ensures too_many { self.old.most < length self.old.items + 1 → result ≡ Err BagError.TooMany }
+        // The total is tested first. Then only an allocation can fail, and only if the value is absent.
+        ensures too_many { (result ≡ Err BagError.TooMany) ↔ (self.old.most < length self.old.items + 1) }
         ensures refused { IfErr result (RefusesNamed (Q.names key) self.old.most self.old.items 1) }
-        ensures memory { length self.old.items + 1 ≤ self.old.most → OnErr result (result ≡ Err BagError.Memory) }
         ensures err { OnErr result (self.new ≡ self.old) }
         ensures present { length self.old.items + 1 ≤ self.old.most → 0 < count_named (Q.names key) self.old.items → IsOk result }
     {
         self.insert_many_key(key, 1)
     }
 
-    /// Adds `n` occurrences of the value that a key names, and answers how many there were: `words.insert_many_key("the", 3)?`.
+    /// Inserts `n` occurrences of the value that a key names and returns the count before: `words.insert_many_key("the", 3)?`.
     ///
-    /// A stored instance stays, and where there is one no memory is taken. It answers `TooMany` exactly where the total would pass the
-    /// limit, before anything is made: the bag is then unchanged. An insertion of 0 changes nothing and is never refused.
+    /// If the value is present, the stored instance stays. If it is absent, it is built from the key. An insertion of 0 changes nothing and
+    /// can't fail.
     ///
-    /// Where the value is absent it is made of the key, and put in as by [`HashBag::insert_many`]. That may be refused for memory,
-    /// to the value itself or where there is no room: the bag is then unchanged. The key is hashed once.
+    /// # Errors
+    ///
+    /// - `TooMany` exactly if the total would pass the limit. That is tested first.
+    /// - `Memory` if `n` isn't 0, the value is absent, and an allocation for the value or for slots fails.
+    ///
+    /// Then the bag is unchanged.
+    ///
+    /// # Complexity
+    ///
+    /// It hashes the key once. A present value allocates nothing. An absent one is allocated, and is inserted as by
+    /// [`HashBag::insert_many`].
+    ///
+    /// # Examples
     ///
     /// ```
     /// let mut words: HashBag<String> = HashBag::new(alloc);
@@ -102,10 +81,9 @@ impl<T: Eq + Hash + Drop, S: BuildHasher + Drop> HashBag<T, S> {
         ensures none { n ≡ 0 → IsOk result × (self.new ≡ self.old) }
         ensures len { OnOk result (length self.new.items ≡ length self.old.items + n) }
 
-        // The total is tested first; then only memory can be refused, and only to some occurrences of a value that is absent.
-        ensures too_many { self.old.most < length self.old.items + n → result ≡ Err BagError.TooMany }
+        // The total is tested first. Then only an allocation can fail, and only if n isn't 0 and the value is absent.
+        ensures too_many { (result ≡ Err BagError.TooMany) ↔ (self.old.most < length self.old.items + n) }
         ensures refused { IfErr result (RefusesNamed (Q.names key) self.old.most self.old.items n) }
-        ensures memory { length self.old.items + n ≤ self.old.most → OnErr result (result ≡ Err BagError.Memory) }
         ensures err { OnErr result (self.new ≡ self.old) }
         ensures present { length self.old.items + n ≤ self.old.most → 0 < count_named (Q.names key) self.old.items → IsOk result }
     {
@@ -113,35 +91,12 @@ impl<T: Eq + Hash + Drop, S: BuildHasher + Drop> HashBag<T, S> {
             return Err(BagError::TooMany);
         }
         if n == 0 {
-            return Ok(self.contains_key(key));
+            return Ok(self.contains(key));
         }
         let before = self.table.add_key(key, n)?;
         self.len += n;
-        // `held` is called for its clause on what the slots hold, which the proof cites.
+        // `held` is called for its clause on what the slots hold, which the proof names.
         self.table.held();
         Ok(before)
-    }
-
-    /// Takes one occurrence of the value that a key names, if there is one, and answers how many there were: `words.remove_key("the")`.
-    /// With the last occurrence the stored instance is dropped.
-    ///
-    /// It takes no memory, and hashes the key once.
-    ///
-    /// ```
-    /// let mut words: HashBag<String> = HashBag::new(alloc);
-    /// words.insert_key("the")?;
-    /// words.remove_key("the"); // 1
-    /// words.remove_key("the"); // 0
-    /// Ok(())
-    /// ```
-    pub fn remove_key<Q: Key<T>>(&mut self, key: Q) -> usize
-        ensures before { result ≡ count_named (Q.names key) self.old.items }
-        ensures fewer { (v : T) → IsTrue (Q.names key v) → HasFewer T.eq v 1 self.old self.new }
-        ensures none { result ≡ 0 → self.new ≡ self.old }
-        ensures len { IsShorterBy (min result 1) self.old self.new }
-    {
-        let before = self.table.take_key(key, 1);
-        self.len -= before.min(1);
-        before
     }
 }

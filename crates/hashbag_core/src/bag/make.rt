@@ -1,5 +1,5 @@
 //! How bags are made: empty ones, with room or with a limit, and clones.
-ghost use Rattle.std.specs.Prelude.{◌≡◌, ◌<◌, ◌≤◌, [], All, true, length, IsOk, IfOk, OnErr};
+ghost use Rattle.std.specs.Prelude.{◌≡◌, ◌<◌, ◌≤◌, [], All, true, length, IsOk, IfOk, IfErr};
 ghost use Rattle.hashbag_table.specs.Entries.{HasClones};
 ghost use Rattle.hashbag_table.specs.Tables.{room, IsLeast, IsPacked};
 ghost use Rattle.hashbag_core.specs.Occurrences.{greatest_total, SameCounts};
@@ -13,7 +13,9 @@ use std::alloc::Global;
 use std::hash::{BuildHasher, Hash};
 
 impl<T: Eq + Hash + Drop> HashBag<T, FixedState> {
-    /// An empty bag of no slots, whose values are hashed with fixed keys. It takes no memory.
+    /// Returns an empty bag without slots, whose values are hashed with fixed keys. It doesn't allocate.
+    ///
+    /// # Examples
     ///
     /// ```
     /// let mut bag = HashBag::new(alloc);
@@ -30,11 +32,18 @@ impl<T: Eq + Hash + Drop> HashBag<T, FixedState> {
         HashBag::with_hasher(alloc, FixedState::new())
     }
 
-    /// An empty bag with room for `n` distinct values, which are hashed with fixed keys: `n` insertions of absent values take no
-    /// memory then. It has the least table of slots with that room.
+    /// Returns an empty bag with room for `n` distinct values, which are hashed with fixed keys. It has the least table of slots with that
+    /// room.
     ///
-    /// It answers `Memory` where memory is refused, and for more than 3 * 2^57 distinct values before memory is asked for.
-    /// With `n` 0 it takes no memory and succeeds.
+    /// # Errors
+    ///
+    /// `Memory` if the allocation fails, or if `n` is more than 3 * 2^57. With `n` 0 it can't fail.
+    ///
+    /// # Complexity
+    ///
+    /// It allocates the slots at once, none with `n` 0. The first `n` insertions of absent values don't allocate slots.
+    ///
+    /// # Examples
     ///
     /// ```
     /// let mut bag = HashBag::with_capacity(alloc, 20)?;
@@ -43,13 +52,14 @@ impl<T: Eq + Hash + Drop> HashBag<T, FixedState> {
     /// Ok(())
     /// ```
     pub fn with_capacity(alloc: Global, n: usize) -> Result<HashBag<T, FixedState>, BagError>
+        // Ten clauses, since they say what two things are: the bag, and the table of slots that was made.
         ensures empty { IfOk result (λ bag. bag.items ≡ []) }
         ensures hasher { IfOk result (λ bag. ⟦<FixedState as Default>⟧.is_default bag.hasher) }
         ensures none { n ≡ 0 → IsOk result }
         ensures beyond { MOST_VALUES < n → result ≡ Err BagError.Memory }
-        ensures memory { OnErr result (result ≡ Err BagError.Memory) }
+        ensures memory { IfErr result (λ e. e ≡ BagError.Memory) }
 
-        // The table of slots that was made.
+        // The new table of slots.
         ensures least { IfOk result (λ bag. IsLeast 0 n (length bag.tables.newer)) }
         ensures packed { IfOk result (λ bag. IsPacked bag.tables) }
         ensures room { IfOk result (λ bag. n ≤ room bag.tables) }
@@ -61,7 +71,9 @@ impl<T: Eq + Hash + Drop> HashBag<T, FixedState> {
 }
 
 impl<T: Eq + Hash + Drop, S: BuildHasher + Drop> HashBag<T, S> {
-    /// An empty bag of no slots, whose values `hasher` hashes. It takes no memory.
+    /// Returns an empty bag without slots, whose values `hasher` hashes. It doesn't allocate.
+    ///
+    /// # Examples
     ///
     /// ```
     /// let mut bag = HashBag::with_hasher(alloc, state);
@@ -78,7 +90,9 @@ impl<T: Eq + Hash + Drop, S: BuildHasher + Drop> HashBag<T, S> {
         HashBag::with_limit(alloc, hasher, usize::MAX)
     }
 
-    /// An empty bag of no slots, whose values `hasher` hashes, and whose total is never above `most`. It takes no memory.
+    /// Returns an empty bag without slots, whose values `hasher` hashes, and whose total is never above `most`. It doesn't allocate.
+    ///
+    /// # Examples
     ///
     /// ```
     /// let mut bag = HashBag::with_limit(alloc, FixedState::new(), 2);
@@ -99,11 +113,17 @@ impl<T: Eq + Hash + Drop, S: BuildHasher + Drop> HashBag<T, S> {
         }
     }
 
-    /// An empty bag with room for `n` distinct values, which `hasher` hashes: `n` insertions of absent values take no memory then.
-    /// It has the least table of slots with that room.
+    /// Returns an empty bag with room for `n` distinct values, which `hasher` hashes. It has the least table of slots with that room.
     ///
-    /// It answers `Memory` where memory is refused, and for more than 3 * 2^57 distinct values before memory is asked for.
-    /// With `n` 0 it takes no memory and succeeds.
+    /// # Errors
+    ///
+    /// `Memory` if the allocation fails, or if `n` is more than 3 * 2^57. With `n` 0 it can't fail.
+    ///
+    /// # Complexity
+    ///
+    /// It allocates the slots at once, none with `n` 0. The first `n` insertions of absent values don't allocate slots.
+    ///
+    /// # Examples
     ///
     /// ```
     /// let mut bag = HashBag::with_capacity_and_hasher(alloc, 3, state)?;
@@ -116,13 +136,14 @@ impl<T: Eq + Hash + Drop, S: BuildHasher + Drop> HashBag<T, S> {
         n: usize,
         hasher: S,
     ) -> Result<HashBag<T, S>, BagError>
+        // Ten clauses, since they say what two things are: the bag, and the table of slots that was made.
         ensures empty { IfOk result (λ bag. bag.items ≡ []) }
         ensures hasher { IfOk result (λ bag. bag.hasher ≡ hasher) }
         ensures none { n ≡ 0 → IsOk result }
         ensures beyond { MOST_VALUES < n → result ≡ Err BagError.Memory }
-        ensures memory { OnErr result (result ≡ Err BagError.Memory) }
+        ensures memory { IfErr result (λ e. e ≡ BagError.Memory) }
 
-        // The table of slots that was made.
+        // The new table of slots.
         ensures least { IfOk result (λ bag. IsLeast 0 n (length bag.tables.newer)) }
         ensures packed { IfOk result (λ bag. IsPacked bag.tables) }
         ensures room { IfOk result (λ bag. n ≤ room bag.tables) }
@@ -137,11 +158,19 @@ impl<T: Eq + Hash + Drop, S: BuildHasher + Drop> HashBag<T, S> {
         })
     }
 
-    /// A bag with clones of all stored instances, each as often as here, under a clone of the state. This bag stays as it is.
+    /// Returns a bag with clones of all stored instances, each with its count here, under a clone of the state. It has this bag's limit.
     ///
-    /// The caller sees to it that clones of the values equal them. It answers `Memory` where memory is refused, to a clone of a
-    /// value or of the state too: there is then no new bag. It makes the least table of slots that has room for all values, and hashes
-    /// each clone once.
+    /// The caller ensures that clones of the values equal them.
+    ///
+    /// # Errors
+    ///
+    /// `Memory` if an allocation fails, or the clone of a value or of the state. Then there is no new bag.
+    ///
+    /// # Complexity
+    ///
+    /// It allocates the least table of slots that has room for all values, and hashes each clone once.
+    ///
+    /// # Examples
     ///
     /// ```
     /// let mut bag = HashBag::new(alloc);
@@ -155,13 +184,14 @@ impl<T: Eq + Hash + Drop, S: BuildHasher + Drop> HashBag<T, S> {
     where
         T: Clone,
         S: Clone,
+        // Ten clauses, since they say what two things are: the new bag, and the table of slots that was made.
         requires equal { All (λ x. (y : _) → T.is_clone x y → T.eq x y ≡ true) self.now.items }
         ensures clones { IfOk result (λ bag. HasClones T.is_clone self.now.items bag.items) }
         ensures counts { IfOk result (λ bag. SameCounts T.eq self.now.items bag.items) }
         ensures len { IfOk result (λ bag. length bag.items ≡ length self.now.items) }
         ensures hasher { IfOk result (λ bag. S.is_clone self.now.hasher bag.hasher) }
         ensures limit { IfOk result (λ bag. bag.most ≡ self.now.most) }
-        ensures memory { OnErr result (result ≡ Err BagError.Memory) }
+        ensures memory { IfErr result (λ e. e ≡ BagError.Memory) }
         ensures least { IfOk result (λ bag. NeedsSlots T.eq self.now (length bag.tables.newer)) }
         ensures packed { IfOk result (λ bag. IsPacked bag.tables) }
         ensures built { IfOk result (λ bag. bag.tables.built ≡ length bag.tables.newer) }

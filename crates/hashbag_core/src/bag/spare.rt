@@ -1,5 +1,5 @@
 //! Spare slots of a bag: allocated ahead, and taken into use later.
-ghost use Rattle.std.specs.Prelude.{◌≡◌, ◌+◌, ◌-◌, ◌<◌, ◌≤◌, length, IfOk, OnErr};
+ghost use Rattle.std.specs.Prelude.{◌≡◌, ◌+◌, ◌-◌, ◌<◌, ◌≤◌, length, IfOk, IfErr};
 ghost use Rattle.hashbag_table.specs.Tables.{limit, room, IsLeast, IsPacked};
 ghost use Rattle.hashbag_core.specs.Occurrences.{distinct_count};
 ghost use Rattle.hashbag_core.specs.Held.{BuildsSlots};
@@ -16,7 +16,7 @@ impl<T: Eq + Hash + Drop, S: BuildHasher + Drop> HashBag<T, S> {
     /// Allocates the slots that [`HashBag::reserve`] would build for `n` more distinct values, and leaves them unused.
     ///
     /// They are the least table of slots that has room for all distinct values, and is not smaller than the newer one. A caller that
-    /// may need them takes them into use by [`HashBag::use_spare`], which can't fail, or else drops them.
+    /// needs them later calls [`HashBag::use_spare`], which can't fail. One that doesn't drops them.
     ///
     /// # Errors
     ///
@@ -35,16 +35,16 @@ impl<T: Eq + Hash + Drop, S: BuildHasher + Drop> HashBag<T, S> {
     pub fn spare(&self, n: usize) -> Result<Spare<T>, BagError>
         ensures least { IfOk result (λ slots. IsLeast (length self.now.tables.newer) (distinct_count T.eq self.now.items + n) slots) }
         ensures beyond { MOST_VALUES < distinct_count T.eq self.now.items + n → result ≡ Err BagError.Memory }
-        ensures memory { OnErr result (result ≡ Err BagError.Memory) }
+        ensures memory { IfErr result (λ e. e ≡ BagError.Memory) }
     {
         let spare = self.table.spare(n)?;
         Ok(spare)
     }
 
-    /// Takes spare slots into use in place of the bag's own, which are freed. What occurs stays.
+    /// Moves all values into spare slots, which replace the bag's own. These are freed, and what occurs stays.
     ///
-    /// The caller ensures that the distinct values have room in them, as after [`HashBag::spare`] they have until more than `n` are
-    /// inserted.
+    /// The caller ensures that the distinct values have room in them. After [`HashBag::spare`] they have it until more than `n` absent
+    /// values are inserted.
     ///
     /// # Complexity
     ///

@@ -1,20 +1,27 @@
-//! How occurrences are taken out of a bag: one, some, or all of a value.
+//! How occurrences are removed from a bag: one, some, or all of a value.
 ghost use Rattle.std.specs.Borrow.{sem};
 ghost use Rattle.std.specs.Prelude.{◌≡◌, ◌≢◌, ◌+◌, ◌-◌, length, min, IfOk, IfErr, IsErrAnd, MatchOption, MatchResult};
 ghost use Rattle.hashbag_core.specs.Bag.{IsShorterBy, Lends};
-ghost use Rattle.hashbag_core.specs.Occurrences.{count, counted, stored, IsBag};
+ghost use Rattle.hashbag_core.specs.Occurrences.{count_named, counted_named, stored_named, IsBag};
 ghost use Rattle.hashbag_core.specs.Held.{HasFewer};
 
 use crate::bag::HashBag;
+use hashbag_table::Key;
 use std::hash::{BuildHasher, Hash};
 
 impl<T: Eq + Hash + Drop, S: BuildHasher + Drop> HashBag<T, S> {
     ghost use Rattle.hashbag_core.specs.Lending.{ends_taking};
 
-    /// Takes one occurrence of a value, if there is one, and answers how many there were. With the last occurrence the
-    /// stored instance is dropped.
+    /// Removes one occurrence of a value, if there is one, and returns the count before. With the last occurrence the stored instance is
+    /// dropped.
     ///
-    /// It takes no memory, and hashes the value once.
+    /// The value is given as itself, lent, or as a key that names it: `bag.remove(&value)`, `words.remove("the")`.
+    ///
+    /// # Complexity
+    ///
+    /// It hashes the key once and doesn't allocate.
+    ///
+    /// # Examples
     ///
     /// ```
     /// let mut bag = HashBag::new(alloc);
@@ -24,18 +31,22 @@ impl<T: Eq + Hash + Drop, S: BuildHasher + Drop> HashBag<T, S> {
     /// bag.remove(&"apple"); // 0
     /// Ok(())
     /// ```
-    pub fn remove(&mut self, value: &T) -> usize
-        ensures before { result ≡ count T.eq value.now self.old.items }
-        ensures fewer { HasFewer T.eq value.now 1 self.old self.new }
+    pub fn remove<Q: Key<T>>(&mut self, key: Q) -> usize
+        ensures before { result ≡ count_named (Q.names key) self.old.items }
+        ensures fewer { HasFewer T.eq (Q.names key) 1 self.old self.new }
         ensures len { IsShorterBy (min result 1) self.old self.new }
     {
-        self.take_up_to(value, 1)
+        self.take_up_to(key, 1)
     }
 
-    /// Takes `quantity` occurrences of a value, or all where they are fewer, and answers how many are left. With the last
-    /// occurrence the stored instance is dropped.
+    /// Removes `quantity` occurrences of a value, or all if there are fewer, and returns the count after. With the last occurrence the
+    /// stored instance is dropped.
     ///
-    /// It takes no memory, and hashes the value once.
+    /// # Complexity
+    ///
+    /// It hashes the key once and doesn't allocate.
+    ///
+    /// # Examples
     ///
     /// ```
     /// let mut bag = HashBag::new(alloc);
@@ -44,32 +55,36 @@ impl<T: Eq + Hash + Drop, S: BuildHasher + Drop> HashBag<T, S> {
     /// bag.remove_up_to(&"apple", 3); // 0
     /// Ok(())
     /// ```
-    pub fn remove_up_to(&mut self, value: &T, quantity: usize) -> usize
-        ensures after { result ≡ count T.eq value.now self.old.items - quantity }
-        ensures fewer { HasFewer T.eq value.now quantity self.old self.new }
-        ensures len { length self.new.items + count T.eq value.now self.old.items ≡ length self.old.items + result }
+    pub fn remove_up_to<Q: Key<T>>(&mut self, key: Q, quantity: usize) -> usize
+        ensures after { result ≡ count_named (Q.names key) self.old.items - quantity }
+        ensures fewer { HasFewer T.eq (Q.names key) quantity self.old self.new }
+        ensures len { length self.new.items + count_named (Q.names key) self.old.items ≡ length self.old.items + result }
     {
-        self.take_up_to(value, quantity).saturating_sub(quantity)
+        self.take_up_to(key, quantity).saturating_sub(quantity)
     }
 
-    // Takes `quantity` occurrences of a value, or all where they are fewer, and answers how many there were.
-    fn take_up_to(&mut self, value: &T, quantity: usize) -> usize
-        ensures before { result ≡ count T.eq value.now self.old.items }
-        ensures fewer { HasFewer T.eq value.now quantity self.old self.new }
+    // Removes `quantity` occurrences of a value, or all if there are fewer, and returns the count before.
+    fn take_up_to<Q: Key<T>>(&mut self, key: Q, quantity: usize) -> usize
+        ensures before { result ≡ count_named (Q.names key) self.old.items }
+        ensures fewer { HasFewer T.eq (Q.names key) quantity self.old self.new }
         ensures len { IsShorterBy (min result quantity) self.old self.new }
     {
-        let before = self.table.take(value, quantity);
+        let before = self.table.take(key, quantity);
         self.len -= before.min(quantity);
         before
     }
 
-    /// Takes one occurrence of a value: the last one itself, or else one of several, and then it answers the stored instance,
-    /// which stays, with how many there were. `Err(None)` where the value is absent.
+    /// Removes one occurrence of a value. Returns the value itself in `Ok` if it was the last one. Else it returns in `Err` the stored
+    /// instance, which stays in the bag, with the count before, or `Err(None)` if the value is absent.
     ///
-    /// It lowers the count in place and takes no memory. It hashes the value once, and twice where one of several is taken.
+    /// A caller that is proved learns of this call what was removed, and what the bag is once the loan of the instance is over.
+    /// [`HashBag::take_one`] lends nothing, so it can be called in a loop.
     ///
-    /// The answer may lend the instance that stays, so a caller that is proved learns what it was, and not what the bag means
-    /// afterwards. Whoever needs that, as in a loop, calls [`HashBag::take_one`], which takes the same and lends nothing.
+    /// # Complexity
+    ///
+    /// It hashes the key once, and twice if one of several is removed. It doesn't allocate.
+    ///
+    /// # Examples
     ///
     /// ```
     /// let mut bag = HashBag::new(alloc);
@@ -79,40 +94,45 @@ impl<T: Eq + Hash + Drop, S: BuildHasher + Drop> HashBag<T, S> {
     /// bag.try_take(&"apple").err(); // Some(None)
     /// Ok(())
     /// ```
-    pub fn try_take(&mut self, value: &T) -> Result<T, Option<(&T, usize)>>
+    pub fn try_take<Q: Key<T>>(&mut self, key: Q) -> Result<T, Option<(&T, usize)>>
         // Once the loan is over.
-        ensures* left { sem 𝓛 (ends_taking T.row S.row S.Hasher.row T.Hash S.BuildHasher S.Hasher.Hasher self.entry value.now) }
-        ensures last { IfOk result (λ instance. stored T.eq value.now self.old.items ≡ Some (instance, 1)) }
-        ensures others { IfErr result (λ found. Lends found (stored T.eq value.now self.old.items) × (count T.eq value.now self.old.items ≢ 1)) }
+        ensures* left { sem 𝓛 (ends_taking T.row S.row S.Hasher.row T.Hash S.BuildHasher S.Hasher.Hasher self.entry (Q.names key)) }
+        ensures last { IfOk result (λ instance. stored_named (Q.names key) self.old.items ≡ Some (instance, 1)) }
+        ensures others { IfErr result (λ found. Lends found (stored_named (Q.names key) self.old.items) × (count_named (Q.names key) self.old.items ≢ 1)) }
     {
-        HashBag::taken_or_lent(self.take_one(value), self, value)
+        HashBag::taken_or_lent(self.take_one(key), self, key)
     }
 
     // What was taken, or else the stored instance, of which some are left, with how many there were.
-    fn taken_or_lent<'a>(
+    fn taken_or_lent<'a, Q: Key<T>>(
         taken: Result<T, usize>,
         bag: &'a HashBag<T, S>,
-        value: &T,
+        key: Q,
     ) -> Result<T, Option<(&'a T, usize)>>
         ensures last { IfOk taken (λ instance. result ≡ Ok instance) }
         ensures absent { IfErr taken (λ before. before ≡ 0 → result ≡ Err None) }
-        ensures others { IfErr taken (λ before. before ≢ 0 → IsErrAnd result (λ found. Lends found (counted T.eq value.now before bag.now.items))) }
+        ensures others { IfErr taken (λ before. before ≢ 0 → IsErrAnd result (λ found. Lends found (counted_named (Q.names key) before bag.now.items))) }
     {
         match taken {
             Ok(instance) => Ok(instance),
             Err(0) => Err(None),
-            Err(before) => match bag.get(value) {
+            Err(before) => match bag.get(key) {
                 Some((instance, _)) => Err(Some((instance, before))),
                 None => Err(None),
             },
         }
     }
 
-    /// Takes one occurrence of a value: the last one itself in `Ok`, and else one of several, of which `Err` says how many there
-    /// were. `Err(0)` where the value is absent: nothing is then taken.
+    /// Removes one occurrence of a value. Returns the value itself in `Ok` if it was the last one. Else it returns in `Err` the count
+    /// before, which is 0 if the value is absent: then nothing is removed.
     ///
-    /// It is [`HashBag::try_take`] without the loan of the instance that stays, so its contract says what the bag means
-    /// afterwards. It takes no memory, and hashes the value once.
+    /// It is [`HashBag::try_take`] without the loan of the instance that stays, so its contract says what the bag is after the call.
+    ///
+    /// # Complexity
+    ///
+    /// It hashes the key once and doesn't allocate.
+    ///
+    /// # Examples
     ///
     /// ```
     /// let mut bag = HashBag::new(alloc);
@@ -122,14 +142,14 @@ impl<T: Eq + Hash + Drop, S: BuildHasher + Drop> HashBag<T, S> {
     /// bag.take_one(&"apple").err(); // Some(0)
     /// Ok(())
     /// ```
-    pub fn take_one(&mut self, value: &T) -> Result<T, usize>
-        ensures fewer { HasFewer T.eq value.now 1 self.old self.new }
+    pub fn take_one<Q: Key<T>>(&mut self, key: Q) -> Result<T, usize>
+        ensures fewer { HasFewer T.eq (Q.names key) 1 self.old self.new }
         ensures len { MatchResult result (λ _. IsShorterBy 1 self.old self.new) (λ before. IsShorterBy (min before 1) self.old self.new) }
-        ensures last { IfOk result (λ instance. stored T.eq value.now self.old.items ≡ Some (instance, 1)) }
-        ensures others { IfErr result (λ before. (before ≡ count T.eq value.now self.old.items) × (before ≢ 1)) }
+        ensures last { IfOk result (λ instance. stored_named (Q.names key) self.old.items ≡ Some (instance, 1)) }
+        ensures others { IfErr result (λ before. (before ≡ count_named (Q.names key) self.old.items) × (before ≢ 1)) }
         ensures bag { IsBag T.eq self.old.most self.old.items }
     {
-        match self.table.take_one(value) {
+        match self.table.take_one(key) {
             Ok(instance) => {
                 self.len -= 1;
                 Ok(instance)
@@ -141,8 +161,13 @@ impl<T: Eq + Hash + Drop, S: BuildHasher + Drop> HashBag<T, S> {
         }
     }
 
-    /// Takes a value out, and answers its stored instance and its whole count, or `None` where it is absent. It takes no
-    /// memory, and hashes the value once.
+    /// Removes a value, and returns its stored instance and its whole count, or `None` if it is absent.
+    ///
+    /// # Complexity
+    ///
+    /// It hashes the key once and doesn't allocate.
+    ///
+    /// # Examples
     ///
     /// ```
     /// let mut bag = HashBag::new(alloc);
@@ -151,12 +176,12 @@ impl<T: Eq + Hash + Drop, S: BuildHasher + Drop> HashBag<T, S> {
     /// bag.take_all(&"apple"); // None
     /// Ok(())
     /// ```
-    pub fn take_all(&mut self, value: &T) -> Option<(T, usize)>
-        ensures taken { result ≡ stored T.eq value.now self.old.items }
-        ensures fewer { HasFewer T.eq value.now (count T.eq value.now self.old.items) self.old self.new }
+    pub fn take_all<Q: Key<T>>(&mut self, key: Q) -> Option<(T, usize)>
+        ensures taken { result ≡ stored_named (Q.names key) self.old.items }
+        ensures fewer { HasFewer T.eq (Q.names key) (count_named (Q.names key) self.old.items) self.old self.new }
         ensures len { MatchOption result (length self.new.items ≡ length self.old.items) (λ taken. IsShorterBy taken.1 self.old self.new) }
     {
-        let (instance, count) = self.table.remove(value)?;
+        let (instance, count) = self.table.remove(key)?;
         self.len -= count;
         Some((instance, count))
     }

@@ -1,5 +1,5 @@
 //! The joins of two bags, collected.
-ghost use Rattle.std.specs.Prelude.{◌≡◌, List, map, IfOk, OnErr};
+ghost use Rattle.std.specs.Prelude.{◌≡◌, List, map, IfOk, IfErr};
 ghost use Rattle.hashbag_core.specs.Bag.{Means};
 ghost use Rattle.hashbag_core.specs.Joins.{IsOuterJoin, IsDifference, IsNotIn, IsSignedDifference};
 ghost use Rattle.hashbag_core.specs.JoinsLeft.{exceeding, subtracted, unmatched};
@@ -22,7 +22,7 @@ pub struct Joins<'a, T> {
     pub not_in: Vec<(&'a T, usize)>,
 }
 
-// The values of an outer join of which the first bag has more, with how many more.
+// Returns the values of an outer join that the first bag has more often, with how many more.
 fn difference_of<'a, T>(
     alloc: Global,
     outer: &Vec<(&'a T, usize, usize)>,
@@ -36,7 +36,7 @@ fn difference_of<'a, T>(
         .collect(alloc)
 }
 
-// The values of an outer join, with the first count less the second. There is room for all of them from the start.
+// Returns the values of an outer join, with the first count less the second. Room for all of them is allocated at once.
 fn signed_difference_of<'a, T>(
     alloc: Global,
     outer: &Vec<(&'a T, usize, usize)>,
@@ -49,7 +49,7 @@ fn signed_difference_of<'a, T>(
         .collect(alloc)
 }
 
-// The values of an outer join that the second bag lacks, with their counts in the first.
+// Returns the values of an outer join that the second bag lacks, with their counts in the first.
 fn not_in_of<'a, T>(
     alloc: Global,
     outer: &Vec<(&'a T, usize, usize)>,
@@ -65,8 +65,15 @@ fn not_in_of<'a, T>(
 
 /// Collects the four joins of `a` with `b`. It changes neither bag.
 ///
-/// It looks each value up once, for the outer join, from which the other three follow. Memory may be refused: then there are
-/// no joins.
+/// # Errors
+///
+/// `Memory` if an allocation fails. Then there are no joins.
+///
+/// # Complexity
+///
+/// It looks each value up once, for the outer join, from which the other three follow. It allocates the four lists.
+///
+/// # Examples
 ///
 /// ```
 /// let mut ordered = HashBag::new(alloc);
@@ -83,7 +90,7 @@ pub fn joins_of<'a, T: Eq + Hash + Drop, S: BuildHasher + Drop, S2: BuildHasher 
     a: &'a HashBag<T, S>,
     b: &'a HashBag<T, S2>,
 ) -> Result<Joins<'a, T>, BagError>
-    // Whichever lists the bags mean.
+    // Of all lists that the bags mean.
     ensures outer { IfOk result (λ joins. (X Y : List T) → Means a.now X → Means b.now Y
         → IsOuterJoin T.eq X Y (map (λ j. (j.0.now, j.1, j.2)) joins.outer.items)) }
     ensures difference { IfOk result (λ joins. (X Y : List T) → Means a.now X → Means b.now Y
@@ -92,7 +99,7 @@ pub fn joins_of<'a, T: Eq + Hash + Drop, S: BuildHasher + Drop, S2: BuildHasher 
         → IsSignedDifference T.eq X Y (map (λ e. (e.0.now, e.1)) joins.signed.items)) }
     ensures not_in { IfOk result (λ joins. (X Y : List T) → Means a.now X → Means b.now Y
         → IsNotIn T.eq X Y (map (λ e. (e.0.now, e.1)) joins.not_in.items)) }
-    ensures memory { OnErr result (result ≡ Err BagError.Memory) }
+    ensures memory { IfErr result (λ e. e ≡ BagError.Memory) }
 {
     let outer = a.outer_join(b).collect(alloc)?;
     let difference = difference_of(alloc, &outer)?;

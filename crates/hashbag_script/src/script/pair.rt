@@ -1,5 +1,5 @@
 //! Runs of steps on two bags, one after the other.
-ghost use Rattle.std.specs.Prelude.{◌≡◌, ◌⊎◌, length, OnOk, OnErr};
+ghost use Rattle.std.specs.Prelude.{◌≡◌, ◌⊎◌, length, IfErr, OnOk, OnErr};
 ghost use Rattle.hashbag_script.specs.Pairs.{ran, HasNoRoom, IsDone, IsPairCutOff};
 ghost use Rattle.hashbag_script.specs.Script.{IfRoomy};
 ghost use Rattle.hashbag_script.specs.Turns.{AreTablesInTurn, IsBoundedRun};
@@ -8,12 +8,16 @@ use crate::script::{Reply, Step, run};
 use hashbag_core::{BagError, HashBag};
 use std::hash::{BuildHasher, Hash};
 
-/// Does the steps of two bags, those of the first before those of the second, and appends a reply for each. The states of
-/// the bags may be of different types.
+/// Does the steps of two bags, those of the first before those of the second, and appends a reply for each. The states of the bags may be
+/// of different types.
 ///
-/// Room for all replies of both is taken first: where it is refused, nothing changes. Then the two runs are as [`run`] does
-/// them. Where memory stops the first one, the second bag and its replies stay as they were; where it stops the second one,
-/// the first run was done. So the replies say how far each run came.
+/// # Errors
+///
+/// `Memory` if an allocation fails. If it is that for the replies of both, which comes first, nothing changes. Else the two runs are as
+/// [`run`] does them. If the first one is stopped, the second bag and its replies are unchanged. If the second one is stopped, the first
+/// run was done. So the replies show how far each run was done.
+///
+/// # Examples
 ///
 /// ```
 /// let (mut a, mut b) = (HashBag::new(alloc), HashBag::new(alloc));
@@ -32,6 +36,8 @@ pub fn run_pair<T: Eq + Hash + Drop, S: BuildHasher + Drop, S2: BuildHasher + Dr
     replies_a: &mut Vec<Reply<T>>,
     replies_b: &mut Vec<Reply<T>>,
 ) -> Result<(), BagError>
+    // Thirteen clauses, since what `run` says is said of two runs.
+    //
     // Each step replies as the plain list of occurrences replies, whichever list its bag means, and each bag then means what
     // its list has become.
     ensures first { OnOk result (IsDone T.eq (ran a.old a.new steps_a.items replies_a.old.items replies_a.new.items)) }
@@ -39,26 +45,25 @@ pub fn run_pair<T: Eq + Hash + Drop, S: BuildHasher + Drop, S2: BuildHasher + Dr
     ensures first_hasher { a.new.hasher ≡ a.old.hasher }
     ensures second_hasher { b.new.hasher ≡ b.old.hasher }
 
-    // Only memory stops the runs.
-    ensures memory { OnErr result (result ≡ Err BagError.Memory) }
+    // Only a failed allocation stops the runs.
+    ensures memory { IfErr result (λ e. e ≡ BagError.Memory) }
     ensures stopped { OnErr result (IsPairCutOff T.eq (HasNoRoom replies_a.old steps_a ⊎ HasNoRoom replies_b.old steps_b)
         (ran a.old a.new steps_a.items replies_a.old.items replies_a.new.items)
         (ran b.old b.new steps_b.items replies_b.old.items replies_b.new.items)) }
 
-    // Where the tables have room for all values that come, each run keeps its slots, and nothing but the room for the replies can be
-    // refused.
+    // If the tables have room for all values that arrive, each run keeps its slots, and only the allocation of the replies can fail.
     ensures first_slots { IfRoomy T.eq a.old steps_a.items (length a.new.tables.newer ≡ length a.old.tables.newer) }
     ensures second_slots { IfRoomy T.eq b.old steps_b.items (length b.new.tables.newer ≡ length b.old.tables.newer) }
-    ensures takes { IfRoomy T.eq a.old steps_a.items (IfRoomy T.eq b.old steps_b.items (OnErr result
+    ensures roomy { IfRoomy T.eq a.old steps_a.items (IfRoomy T.eq b.old steps_b.items (OnErr result
         (HasNoRoom replies_a.old steps_a ⊎ HasNoRoom replies_b.old steps_b))) }
 
-    // The tables of each bag follow from those before, and are bounded where it was empty and had no slots, as in one run.
+    // The tables of each bag follow from those before, and are bounded if it was empty and had no slots, as in one run.
     ensures first_tables { AreTablesInTurn T.eq (ran a.old a.new steps_a.items replies_a.old.items replies_a.new.items) }
     ensures second_tables { AreTablesInTurn T.eq (ran b.old b.new steps_b.items replies_b.old.items replies_b.new.items) }
     ensures first_bounded { IsBoundedRun T.eq (ran a.old a.new steps_a.items replies_a.old.items replies_a.new.items) }
     ensures second_bounded { IsBoundedRun T.eq (ran b.old b.new steps_b.items replies_b.old.items replies_b.new.items) }
 {
-    // `waiting` is called for its clause that an older table is smaller, which the proof cites.
+    // `waiting` is called for its clause that an older table is smaller, which the proof names.
     let _waiting_a = a.waiting();
     let _waiting_b = b.waiting();
     replies_a.reserve(steps_a.len())?;

@@ -1,6 +1,6 @@
 //! The carry of an older table's values into a newer one: slot by slot, or sixteen slots at once.
 //!
-//! Sixteen slots are carried over the tags and cells of both tables, so that what counts them is written once for all sixteen.
+//! Sixteen slots are carried on the tags and cells of both tables, so the number of Live slots is written once for all sixteen.
 ghost use Rattle.std.specs.Prelude.{◌≡◌, ℕ, ◌+◌, ◌<◌, ◌≤◌, ◌^◌, length, slice_set, true, Some, None};
 ghost use Rattle.hashbag_slots.specs.Cells.{cell_at, IsFilled};
 ghost use Rattle.hashbag_slots.specs.Hashing.{hash_under};
@@ -15,8 +15,8 @@ use crate::slots::{Slot, Slots, hash_of};
 use crate::tags::{LEAST_MARK, MOVED, REMOVED, mark_of};
 use std::hash::{BuildHasher, Hash};
 
-// Takes the value out of an older table's cell, where it is absent here, and puts it into the first slot on its path that is not
-// Live. It is hashed where it lies, so that nothing of it is kept while its place is looked for.
+// Moves an absent value from an older table's cell into the first slot on its path that is not Live. It is hashed in its cell, so that
+// nothing of it is kept while its place is sought.
 #[inline(always)]
 fn move_value<T: Eq + Hash, S: BuildHasher>(
     tags: &mut [u8],
@@ -32,7 +32,7 @@ fn move_value<T: Eq + Hash, S: BuildHasher>(
     requires fits { live < 2 ^ 63 }
     requires filled { IsFilled older.old place }
     requires counted { (e : T × ℕ) → cell_at older.old place ≡ Some e → 0 < e.1 }
-    requires absent { (e : T × ℕ) → cell_at older.old place ≡ Some e → IsAbsent (λ v. T.eq v e.0) (slots_of tags.old cells.old) }
+    requires absent { (e : T × ℕ) → cell_at older.old place ≡ Some e → IsAbsent (T.eq e.0) (slots_of tags.old cells.old) }
     requires reached { IsReached (hash_under T.hash_input S.BuildHasher S.Hasher.Hasher state.now) (columns tags.old cells.old) }
     ensures live { result ≡ live + 1 }
     ensures kept { IsColumns T.eq tags.new cells.new (live + 1) removed.new }
@@ -52,7 +52,7 @@ fn move_value<T: Eq + Hash, S: BuildHasher>(
     live + 1
 }
 
-// Writes the tags of the 16 slots from a place on as they are once carried: that of each Live one becomes Moved.
+// Writes the tags of the 16 slots from a place on as they are after a carry: the tag of each Live one becomes Moved.
 #[inline(always)]
 fn mark_moved(tags: &mut [u8], from: usize)
     requires { from + 16 ≤ length tags.old }
@@ -64,7 +64,7 @@ fn mark_moved(tags: &mut [u8], from: usize)
     }
 }
 
-// Carries the 16 slots of an older table from the place `from` on, over what both tables keep. It answers how many slots are then
+// Carries the 16 slots of an older table from the place `from` on, on the tags and cells of both tables. It returns how many slots are then
 // Live in the newer one, and in the older one.
 #[inline(always)]
 fn carry_group_cells<T: Eq + Hash, S: BuildHasher>(
@@ -100,7 +100,7 @@ fn carry_group_cells<T: Eq + Hash, S: BuildHasher>(
 }
 
 impl<T: Eq> Slots<T> {
-    // Whether the slot at a place is Live.
+    // Returns whether the slot at a place is Live.
     #[inline(always)]
     fn is_live_at(&self, place: usize) -> bool
         requires { place < length self.now.slots }
@@ -110,7 +110,7 @@ impl<T: Eq> Slots<T> {
         self.tags[place] >= LEAST_MARK
     }
 
-    // Takes the value at a place out, and leaves Moved.
+    // Takes the value at a place out, and leaves Moved there.
     #[inline(always)]
     fn move_at(&mut self, place: usize) -> (T, usize)
         requires { is_live (slot_at self.old.slots place) ≡ true }
@@ -171,10 +171,13 @@ impl<T: Eq + Hash> Slots<T> {
         older.cells.put_back(older_cells);
     }
 
-    /// Carries `many` slots of an older table, from the place `from` on: each Live value is placed here as by `place`, with its
-    /// count, and its slot becomes Moved there. All other slots of both tables stay as they are.
+    /// Carries `many` slots of an older table, from the place `from` on: each Live value is placed here as by `place`, with its count, and
+    /// its slot there becomes Moved. All other slots of both tables stay as they are. No value is Live in both tables, and all of them fit
+    /// here.
     ///
-    /// It hashes and probes once for each value that it carries. No value is Live in both tables, and all of them fit here.
+    /// # Complexity
+    ///
+    /// It hashes and probes once for each value that it carries.
     pub fn carry_from<S: BuildHasher>(
         &mut self,
         state: &S,

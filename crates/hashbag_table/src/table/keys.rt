@@ -1,10 +1,11 @@
-//! Changes by keys: by a value that is lent, or by what names it, as a text names a `String`.
+//! Additions by keys: by what names a value, as a text names a `String`.
 ghost use Rattle.std.specs.Prelude.{◌≡◌, ◌+◌, ◌-◌, ◌<◌, ◌≤◌, ◌^◌, true, None, IfOk, OnOk, OnErr, IsTrue};
 ghost use Rattle.hashbag_slots.specs.FirstGroup.{IfAbsent};
 ghost use Rattle.hashbag_slots.specs.Hashing.{hash_under};
 ghost use Rattle.hashbag_slots.specs.Slots.{IsAbsent, recounted};
 ghost use Rattle.hashbag_table.specs.Entries.{with_fewer, IsCounted};
-ghost use Rattle.hashbag_table.specs.Named.{named_entry, named_count, AddsNamed};
+ghost use Rattle.hashbag_table.specs.Additions.{AddsNamed};
+ghost use Rattle.hashbag_table.specs.Named.{named_entry, named_count};
 ghost use Rattle.hashbag_table.specs.Table.{IsMapOf};
 ghost use Rattle.hashbag_table.specs.Tables.{KeepsRoom, Rewrites};
 
@@ -44,11 +45,16 @@ impl<T: Eq + Hash + Drop, S: BuildHasher + Drop> Table<T, S> {
         Ok(0)
     }
 
-    /// Adds `n` to the count of the value that a key names, and answers what the count was, 0 where the value was absent.
+    /// Adds `n` to the count of the value that a key names and returns the count before, 0 if the value was absent. If the value is
+    /// present, the stored instance stays. If it is absent, it is built from the key and inserted.
     ///
-    /// A stored instance stays, and where there is one it takes no memory. Where there is none a value is made of the key, which is
-    /// put in. That may be refused for memory, to the value or where no room is left: the table is then unchanged. The key is hashed
-    /// once.
+    /// # Errors
+    ///
+    /// `AllocError` if the value is absent, and an allocation for it or for slots fails. The table is then unchanged.
+    ///
+    /// # Complexity
+    ///
+    /// It hashes the key once, and each value that it carries. A present value allocates nothing.
     #[inline(always)]
     pub fn add_key<Q: ToValue<T>>(&mut self, key: Q, n: usize) -> Result<usize, AllocError>
         requires some { 0 < n }
@@ -59,38 +65,12 @@ impl<T: Eq + Hash + Drop, S: BuildHasher + Drop> Table<T, S> {
         ensures absent { OnErr result (named_entry (Q.names key) self.old.entries ≡ None) }
         ensures err { OnErr result (self.new ≡ self.old) }
     {
-        let hash = self.hash_key(key);
+        let hash = self.hash(key);
         let first = self.probe_first_group(hash, key);
         if let FirstGroup::Found(place) = first {
             let before = self.raise_spot(Spot::Newer(place), n);
             return Ok(before);
         }
         self.add_key_slow(hash, key, n, first)
-    }
-
-    /// Takes `n` from the count of the value that a key names, and answers what the count was, 0 where the value was absent. Where
-    /// no more than `n` are there, the value goes, and its stored instance is dropped.
-    ///
-    /// It takes no memory. The key is hashed once.
-    pub fn take_key<Q: Key<T>>(&mut self, key: Q, n: usize) -> usize
-        ensures before { result ≡ named_count (Q.names key) self.old.entries }
-        ensures taken { (v : T) → IsTrue (Q.names key v) → IsMapOf T.eq self.old (with_fewer T.eq v n self.old.entries) self.new }
-        ensures fewer { n < result → Rewrites (Q.names key) (recounted (result - n)) self.old.tables self.new.tables }
-        ensures gone { 0 < result → result ≤ n → Rewrites (Q.names key) (λ _. Slot.Removed) self.old.tables self.new.tables }
-        ensures none { result ≡ 0 → self.new ≡ self.old }
-        ensures room { KeepsRoom 0 self.old.tables self.new.tables }
-    {
-        let hash = self.hash_key(key);
-        if let Some(spot) = self.spot_of_key(hash, key) {
-            let before = self.count_at(spot);
-            if n < before {
-                self.set_spot(spot, before - n);
-                return before;
-            }
-            let (former, count) = self.take_spot(spot);
-            drop(former);
-            return count;
-        }
-        0
     }
 }

@@ -14,7 +14,7 @@ use std::hash::{BuildHasher, Hash};
 impl<T: Eq + Hash + Drop, S: BuildHasher + Drop> Table<T, S> {
     ghost use Rattle.std.specs.Prelude.{length};
 
-    /// An empty table of no slots, whose values `hasher` hashes. It takes no memory.
+    /// Returns an empty table without slots, whose values `hasher` hashes. It doesn't allocate.
     pub fn new(alloc: Global, hasher: S) -> Table<T, S>
         ensures empty { result.entries ≡ [] }
         ensures hasher { result.hasher ≡ hasher }
@@ -36,9 +36,11 @@ impl<T: Eq + Hash + Drop, S: BuildHasher + Drop> Table<T, S> {
         }
     }
 
-    /// An empty table with room for `n` distinct values, which `hasher` hashes: the least table of slots that has it.
+    /// Returns an empty table with room for `n` distinct values, which `hasher` hashes. It has the least number of slots with that room.
     ///
-    /// With `n` 0 it takes no memory and succeeds; a request for more than [`MOST_VALUES`] is refused before memory is asked for.
+    /// # Errors
+    ///
+    /// `AllocError` if the allocation fails, or if `n` is more than [`MOST_VALUES`]. With `n` 0 it doesn't allocate and can't fail.
     pub fn with_room(alloc: Global, hasher: S, n: usize) -> Result<Table<T, S>, AllocError>
         ensures empty { IfOk result (λ table. table.entries ≡ []) }
         ensures hasher { IfOk result (λ table. table.hasher ≡ hasher) }
@@ -63,10 +65,15 @@ impl<T: Eq + Hash + Drop, S: BuildHasher + Drop> Table<T, S> {
         })
     }
 
-    /// A table with clones of all entries, under a clone of the state. This table stays as it is.
+    /// Returns a table with clones of all entries, under a clone of the state. The caller ensures that clones of the values equal them.
     ///
-    /// The caller sees to it that clones of the values equal them. It makes the least table of slots in which all entries have
-    /// room, and hashes each clone once. Where memory is refused, to a clone of a value or of the state too, there is no new table.
+    /// # Errors
+    ///
+    /// `AllocError` if an allocation fails, or the clone of a value or of the state. Then there is no new table.
+    ///
+    /// # Complexity
+    ///
+    /// It allocates the least table of slots in which all entries have room, and hashes each clone once.
     pub fn clone_in(&self) -> Result<Table<T, S>, AllocError>
     where
         T: Clone,

@@ -1,11 +1,11 @@
-//! Room: a table that grows, carries what waits, or is given other slots on request.
+//! Room: a table that grows, carries what waits, or gets other slots on request.
 ghost use Rattle.std.specs.Prelude.{◌≡◌, ◌++◌, ◌+◌, ◌-◌, ◌*◌, ◌<◌, ◌≤◌, ℕ, [], length, replicate, OnOk, OnErr, IsOk, IsErr};
 ghost use Rattle.std.specs.List.Sorted.{IsPermutation};
 ghost use Rattle.hashbag_slots.specs.Hashing.{hash_under};
 ghost use Rattle.hashbag_slots.specs.Slots.{entries};
 ghost use Rattle.hashbag_slots.specs.Columns.{IsReached};
 ghost use Rattle.hashbag_table.specs.Entries.{IsCounted};
-ghost use Rattle.hashbag_table.specs.Table.{IsMapOf, IfLarger};
+ghost use Rattle.hashbag_table.specs.Table.{IsMapOf};
 ghost use Rattle.hashbag_table.specs.Tables.{limit, room, values, IsLeast, HasLeast, IsPacked, KeepsRoom, ReservesOrStays, ShrinksOrStays, Carried, IsReady, MayAdopt};
 
 use crate::capacity::{CARRIED_AT_ONCE, carry_next, grown_slots, least_slots, no_slots};
@@ -16,7 +16,7 @@ use std::hash::{BuildHasher, Hash};
 use std::mem;
 
 impl<T: Eq + Hash + Drop, S: BuildHasher + Drop> Table<T, S> {
-    // Carries the next 16 waiting slots. It takes no memory.
+    // Carries the next 16 waiting slots. It doesn't allocate.
     #[inline(never)]
     fn carry(&mut self)
         requires room { 0 < room self.old.tables }
@@ -37,10 +37,11 @@ impl<T: Eq + Hash + Drop, S: BuildHasher + Drop> Table<T, S> {
         );
     }
 
-    /// Carries all that waits, so that from then on a look-up probes one table alone. The entries stay.
+    /// Carries all slots that wait, so that a look-up then probes one table alone. The entries stay. If no slot waits, it does nothing.
     ///
-    /// It takes no memory, hashes each waiting value once, goes through the slots that wait, and frees them. Where nothing waits it
-    /// does nothing.
+    /// # Complexity
+    ///
+    /// It hashes each waiting value once, reads the waiting slots once, frees them, and doesn't allocate.
     pub fn finish_carry(&mut self)
         ensures entries { IsMapOf T.eq self.old self.old.entries self.new }
         ensures waiting { self.new.tables.waiting ≡ [] }
@@ -58,9 +59,9 @@ impl<T: Eq + Hash + Drop, S: BuildHasher + Drop> Table<T, S> {
         );
     }
 
-    // Takes a table of slots as the newer one: in this function alone a table that stands is given one. The former newer one
-    // waits, save for its first `many` slots, which are carried; the older one, of which none waits, is freed. The slots of the new one
-    // count as built. It takes no memory.
+    // Makes a table of slots the newer one. No other function gives an existing table new slots. The former newer one waits, but for its
+    // first `many` slots, which are carried; the older one, of which none waits, is freed. The slots of the new one count as built. It
+    // doesn't allocate.
     fn adopt(&mut self, newer: Slots<T>, many: usize)
         requires none_waits { self.old.tables.waiting ≡ [] }
         requires may { MayAdopt T.eq (hash_under T.hash_input S.BuildHasher S.Hasher.Hasher self.old.hasher) newer self.old.tables.newer many }
@@ -82,7 +83,7 @@ impl<T: Eq + Hash + Drop, S: BuildHasher + Drop> Table<T, S> {
         );
     }
 
-    // Grows where no room is left: a new table, into which the first 16 slots are carried. Where memory is refused the table is
+    // Grows, as there is no room left: makes a new table, and carries the first 16 slots into it. If an allocation fails the table is
     // unchanged.
     #[inline(never)]
     fn grow(&mut self) -> Result<(), AllocError>
@@ -98,7 +99,7 @@ impl<T: Eq + Hash + Drop, S: BuildHasher + Drop> Table<T, S> {
         Ok(())
     }
 
-    // Makes way for an absent value: a growth where no room is left, and else a carry, which takes no memory.
+    // Prepares for an absent value: a growth if there is no room, and else a carry, which doesn't allocate.
     pub(super) fn carry_or_grow(&mut self) -> Result<(), AllocError>
         ensures ready { OnOk result (IsReady self.old.tables self.new.tables) }
         ensures takes { 0 < room self.old.tables → IsOk result }
@@ -115,8 +116,8 @@ impl<T: Eq + Hash + Drop, S: BuildHasher + Drop> Table<T, S> {
         self.grow()
     }
 
-    // Takes a table of Empty slots in which all values have room as the newer one, moves every value into it, and frees the
-    // others. It takes no memory, and hashes each value once.
+    // Makes a table of Empty slots in which all values have room the newer one, moves every value into it, and frees the others. It hashes
+    // each value once, and doesn't allocate.
     pub(super) fn move_all_into(&mut self, newer: Slots<T>)
         requires empty { newer.slots ≡ replicate (length newer.slots) Slot.Empty }
         requires reached { (hash : T → ℕ) → IsReached hash newer }
@@ -136,21 +137,22 @@ impl<T: Eq + Hash + Drop, S: BuildHasher + Drop> Table<T, S> {
         self.adopt(newer, many);
     }
 
-    /// Makes room for `n` more distinct values. The entries stay, and so does the table where memory is refused.
+    /// Makes room for `n` more distinct values. The entries stay.
     ///
-    /// Where there is room it takes no memory and does nothing. Else it builds the least table of slots that has the room, and is
-    /// not smaller than the newer one: every value is moved into it and hashed once, and the others are freed. A request with
-    /// which there would be more than [`MOST_VALUES`] is refused before memory is asked for.
+    /// # Errors
+    ///
+    /// `AllocError` if an allocation fails, or if there would be more than [`MOST_VALUES`] distinct values. The table is then unchanged.
+    ///
+    /// # Complexity
+    ///
+    /// If there is enough room, it does nothing. Else it allocates the least table of slots that has the room, and is not smaller than the
+    /// newer one. Every value is moved into that table and hashed once, and the former tables are freed.
     pub fn reserve(&mut self, n: usize) -> Result<(), AllocError>
         ensures entries { IsMapOf T.eq self.old self.old.entries self.new }
-        ensures none { n ≡ 0 → IsOk result }
         ensures beyond { 0 < n → MOST_VALUES < length self.old.entries + n → IsErr result }
         ensures err { OnErr result (self.new ≡ self.old) }
         ensures enough { n ≤ room self.old.tables → IsOk result }
         ensures kept { n ≤ room self.old.tables → self.new ≡ self.old }
-        ensures least { room self.old.tables < n → OnOk result (HasLeast (length self.old.tables.newer) (length self.old.entries + n) self.new.tables) }
-        ensures packed { room self.old.tables < n → OnOk result (IsPacked self.new.tables) }
-        ensures built { room self.old.tables < n → OnOk result (self.new.tables.built ≡ self.old.tables.built + length self.new.tables.newer) }
         ensures room { OnOk result (n ≤ room self.new.tables) }
         ensures reserves { OnOk result (ReservesOrStays n (length self.old.entries) self.old.tables self.new.tables) }
     {
@@ -168,24 +170,25 @@ impl<T: Eq + Hash + Drop, S: BuildHasher + Drop> Table<T, S> {
         Ok(())
     }
 
-    /// Gives memory back that the entries don't need. The entries stay, and so does the table where memory is refused.
+    /// Frees slots that the entries don't need. The entries stay. If there are none, no slots are left.
     ///
-    /// It builds the least table of slots in which the entries have room where that one is smaller than the newer one: every
-    /// value is moved into it and hashed once, and the others are freed. Else it takes no memory and does nothing. Where there
-    /// are no entries it takes no memory, and no slots are left.
+    /// # Errors
+    ///
+    /// `AllocError` if the allocation of a smaller table fails. The table is then unchanged.
+    ///
+    /// # Complexity
+    ///
+    /// If the least table of slots in which the entries have room is smaller than the newer one, it is allocated. Every value is moved into
+    /// it and hashed once, and the former tables are freed. Else it does nothing. Without entries it allocates nothing.
     pub fn shrink_to_fit(&mut self) -> Result<(), AllocError>
         ensures entries { IsMapOf T.eq self.old self.old.entries self.new }
         ensures err { OnErr result (self.new ≡ self.old) }
         ensures none { self.old.entries ≡ [] → IsOk result }
         ensures freed { self.old.entries ≡ [] → self.new.tables.newer ≡ [] }
         ensures freed_built { self.old.entries ≡ [] → self.new.tables.built ≡ self.old.tables.built }
-        ensures fewer { length self.new.tables.newer ≤ length self.old.tables.newer }
         ensures shrinks { OnOk result (ShrinksOrStays (length self.old.entries) self.old.tables self.new.tables) }
         ensures enough { (m : ℕ) → IsLeast 0 (length self.old.entries) m → length self.old.tables.newer ≤ m → IsOk result }
         ensures kept { (m : ℕ) → IsLeast 0 (length self.old.entries) m → length self.old.tables.newer ≤ m → self.new ≡ self.old }
-        ensures least { IfLarger self.old (λ m. OnOk result (length self.new.tables.newer ≡ m)) }
-        ensures packed { IfLarger self.old (λ _. OnOk result (IsPacked self.new.tables)) }
-        ensures built { IfLarger self.old (λ m. OnOk result (self.new.tables.built ≡ self.old.tables.built + m)) }
     {
         let count = least_slots(0, self.set_len())?;
         if count >= self.newer.slots() {

@@ -30,7 +30,7 @@ impl<T: Eq + Hash + Drop, S: BuildHasher + Drop> Table<T, S> {
         Spare::with_slots(self.alloc, count)
     }
 
-    /// Takes spare slots into use in place of those of both tables, which are freed. The entries stay.
+    /// Moves all values into spare slots, which replace those of both tables. These are freed, and the entries stay.
     ///
     /// # Complexity
     ///

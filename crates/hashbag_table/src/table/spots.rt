@@ -1,4 +1,4 @@
-//! Look-ups: the spot in the two tables of slots where a value is, what is there, and what is changed there.
+//! Look-ups: the spot of a value in the two tables of slots, what is there, and what is changed there.
 ghost use Rattle.std.specs.Prelude.{◌≡◌, ◌+◌, ◌-◌, ◌<◌, ◌≤◌, ◌^◌, ℕ, [], ◌∷◌, true, false, length, Some, None, IfSome, IfNone, IfOk, IfErr, OnErr, IsSome, slice_set, option_map};
 ghost use Rattle.std.specs.List.Sorted.{IsPermutation};
 ghost use Rattle.std.specs.Map.{lookup_entry};
@@ -12,13 +12,12 @@ ghost use Rattle.hashbag_table.specs.Tables.{slot_in, HoldsIn, entry_in, IfEntry
 
 use crate::table::{Spot, Table};
 use hashbag_slots::key::Key;
-use hashbag_slots::slots::keys::hash_key;
-use hashbag_slots::slots::{FirstGroup, Slot, Slots};
+use hashbag_slots::slots::{FirstGroup, Slot, Slots, hash_of};
 use std::hash::{BuildHasher, Hash};
 
-// Stores another equal instance at a place, with the count 1, and gives the former one back.
+// Stores another equal instance at a place, with the count 1, and returns the former one.
 fn store_once<T: Eq>(slots: &mut Slots<T>, place: usize, value: T) -> T
-    requires equal { holds (λ v. T.eq v value) (slot_at slots.old.slots place) ≡ true }
+    requires equal { holds (T.eq value) (slot_at slots.old.slots place) ≡ true }
     ensures given { slot_at slots.old.slots place ≡ Slot.Live result (count_in (slot_at slots.old.slots place)) }
     ensures after { slots.new.slots ≡ slice_set slots.old.slots place (Slot.Live value 1) }
     ensures reached { (hash : T → ℕ) → IsAlike T.eq hash → IsReached hash slots.old → IsReached hash slots.new }
@@ -28,7 +27,7 @@ fn store_once<T: Eq>(slots: &mut Slots<T>, place: usize, value: T) -> T
     former
 }
 
-// As `find_key_uncarried`, of the older table, which seldom has slots: look-ups of the newer one alone are to be short.
+// As `find_uncarried`, of the older table, which seldom has slots. It is out of line, so that look-ups of the newer table alone are short.
 #[inline(never)]
 fn find_waiting_slow<T: Eq + Hash, S: BuildHasher, Q: Key<T>>(
     older: &Slots<T>,
@@ -44,10 +43,10 @@ fn find_waiting_slow<T: Eq + Hash, S: BuildHasher, Q: Key<T>>(
     ensures found { IfSome result (HoldsAt (Q.names key) older.now.slots) }
     ensures map { entry_at older.now.slots result ≡ lookup_entry (Q.names key) (entries older.now.slots) }
 {
-    older.find_key_uncarried(state, hash, key, looked)
+    older.find_uncarried(state, hash, key, looked)
 }
 
-// The place of the value that a key names in the older table, of which so many slots were looked at.
+// Returns the place of the value that a key names in the older table, of which the first `looked` slots were carried.
 #[inline(always)]
 fn find_waiting<T: Eq + Hash, S: BuildHasher, Q: Key<T>>(
     older: &Slots<T>,
@@ -70,23 +69,26 @@ fn find_waiting<T: Eq + Hash, S: BuildHasher, Q: Key<T>>(
 }
 
 impl<T: Eq + Hash + Drop, S: BuildHasher + Drop> Table<T, S> {
-    // The hash of a key under the table's own state, by which alone the value is found that it names.
+    // Returns the hash of a key under the table's own state, which alone finds the value that the key names.
     #[inline(always)]
-    pub(super) fn hash_key<Q: Key<T>>(&self, key: Q) -> u64
+    pub(super) fn hash<Q: Key<T>>(&self, key: Q) -> u64
         ensures { result ≡ hash_under Q.hash_input S.BuildHasher S.Hasher.Hasher self.now.hasher key }
     {
-        hash_key(&self.hasher, key)
+        hash_of(&self.hasher, key)
     }
 
-    /// The stored instance of the value that a key names and its count, or `None` where there is none. The key is hashed once for
-    /// both tables.
+    /// Returns the stored instance of the value that a key names and its count, or `None` if there is none.
+    ///
+    /// # Complexity
+    ///
+    /// It hashes the key once for both tables and doesn't allocate.
     #[inline(always)]
-    pub fn get_key<Q: Key<T>>(&self, key: Q) -> Option<(&T, usize)>
+    pub fn get<Q: Key<T>>(&self, key: Q) -> Option<(&T, usize)>
         ensures found { option_map (λ e. (e.0.now, e.1)) result ≡ named_entry (Q.names key) self.now.entries }
         ensures counted { IsCounted T.eq self.now.entries }
     {
-        let hash = self.hash_key(key);
-        if let Some(place) = self.newer.find_key(&self.hasher, hash, key) {
+        let hash = self.hash(key);
+        if let Some(place) = self.newer.find_hashed(&self.hasher, hash, key) {
             return Some(self.newer.live_at(place));
         }
         match find_waiting(&self.older, self.looked, &self.hasher, hash, key) {
@@ -95,17 +97,7 @@ impl<T: Eq + Hash + Drop, S: BuildHasher + Drop> Table<T, S> {
         }
     }
 
-    /// The stored instance of a value and its count, or `None` where it is absent. It is hashed once for
-    /// both tables.
-    #[inline(always)]
-    pub fn get(&self, value: &T) -> Option<(&T, usize)>
-        ensures found { option_map (λ e. (e.0.now, e.1)) result ≡ entry_of T.eq value.now self.now.entries }
-        ensures counted { IsCounted T.eq self.now.entries }
-    {
-        self.get_key(value)
-    }
-
-    // Where the value is that a key names and the newer table doesn't have. The key's hash is handed in.
+    // Returns the spot of the value that a key with this hash names, if the newer table doesn't have it.
     #[inline(always)]
     fn waiting_spot<Q: Key<T>>(&self, hash: u64, key: Q) -> Option<Spot>
         requires hashed { hash ≡ hash_under Q.hash_input S.BuildHasher S.Hasher.Hasher self.now.hasher key }
@@ -119,34 +111,23 @@ impl<T: Eq + Hash + Drop, S: BuildHasher + Drop> Table<T, S> {
         }
     }
 
-    // Where the value is that a key names. The key's hash is handed in.
+    // Returns the spot of the value that a key with this hash names.
     #[inline(always)]
-    pub(super) fn spot_of_key<Q: Key<T>>(&self, hash: u64, key: Q) -> Option<Spot>
+    pub(super) fn spot_of<Q: Key<T>>(&self, hash: u64, key: Q) -> Option<Spot>
         requires hashed { hash ≡ hash_under Q.hash_input S.BuildHasher S.Hasher.Hasher self.now.hasher key }
         ensures map { entry_in self.now.tables result ≡ named_entry (Q.names key) self.now.entries }
         ensures held { IfSome result (HoldsIn (Q.names key) self.now.tables) }
         ensures counted { IsCounted T.eq self.now.entries }
     {
         self.held();
-        if let Some(place) = self.newer.find_key(&self.hasher, hash, key) {
+        if let Some(place) = self.newer.find_hashed(&self.hasher, hash, key) {
             return Some(Spot::Newer(place));
         }
         self.waiting_spot(hash, key)
     }
 
-    // Where a value is, whose hash is handed in.
-    #[inline(always)]
-    pub(super) fn spot_of(&self, hash: u64, value: &T) -> Option<Spot>
-        requires hashed { hash ≡ hash_under T.hash_input S.BuildHasher S.Hasher.Hasher self.now.hasher value.now }
-        ensures map { entry_in self.now.tables result ≡ entry_of T.eq value.now self.now.entries }
-        ensures held { IfSome result (HoldsIn (λ w. T.eq w value.now) self.now.tables) }
-        ensures counted { IsCounted T.eq self.now.entries }
-    {
-        self.spot_of_key(hash, value)
-    }
-
-    // Where the value is that a key names, which the first group of its path in the newer table didn't show. If that has shown that it
-    // is absent, the newer table isn't asked again.
+    // Returns the spot of the value that a key names, if the first group of its path in the newer table didn't show it. If that has shown
+    // that the value is absent there, the newer table isn't probed again.
     #[inline(always)]
     pub(super) fn spot_after_first_group<Q: Key<T>>(
         &self,
@@ -162,10 +143,10 @@ impl<T: Eq + Hash + Drop, S: BuildHasher + Drop> Table<T, S> {
         if let FirstGroup::Absent(_) = first {
             return self.waiting_spot(hash, key);
         }
-        self.spot_of_key(hash, key)
+        self.spot_of(hash, key)
     }
 
-    // What the first 16 slots of a key's path in the newer table show.
+    // Returns what the first 16 slots of a key's path in the newer table show.
     #[inline(always)]
     pub(super) fn probe_first_group<Q: Key<T>>(&self, hash: u64, key: Q) -> FirstGroup
         requires hashed { hash ≡ hash_under Q.hash_input S.BuildHasher S.Hasher.Hasher self.now.hasher key }
@@ -176,10 +157,10 @@ impl<T: Eq + Hash + Drop, S: BuildHasher + Drop> Table<T, S> {
         ensures counted { IsCounted T.eq self.now.entries }
     {
         self.held();
-        self.newer.probe_key_first_group(&self.hasher, hash, key)
+        self.newer.probe_first_group(&self.hasher, hash, key)
     }
 
-    // Gives the value at a spot another count.
+    // Sets the count of the value at a spot.
     #[inline(always)]
     pub(super) fn set_spot(&mut self, spot: Spot, n: usize)
         requires live { is_live (slot_in self.old.tables spot) ≡ true }
@@ -189,7 +170,7 @@ impl<T: Eq + Hash + Drop, S: BuildHasher + Drop> Table<T, S> {
         ensures hasher { self.new.hasher ≡ self.old.hasher }
         ensures counted { IsCounted T.eq self.new.entries }
     {
-        // `slots` is called for its clauses, which the proof cites: how many slots there can be.
+        // `slots` is called for its clauses, which the proof names: how many slots there can be.
         let _slots = self.older.slots();
         if let Spot::Newer(place) = spot {
             self.newer.set_at(place, n);
@@ -200,7 +181,7 @@ impl<T: Eq + Hash + Drop, S: BuildHasher + Drop> Table<T, S> {
         }
     }
 
-    // Takes the value at a spot out, and leaves Removed there.
+    // Removes the value at a spot, and leaves Removed there.
     pub(super) fn take_spot(&mut self, spot: Spot) -> (T, usize)
         requires live { is_live (slot_in self.old.tables spot) ≡ true }
         ensures taken { slot_in self.old.tables spot ≡ Slot.Live result.0 result.1 }
@@ -223,7 +204,7 @@ impl<T: Eq + Hash + Drop, S: BuildHasher + Drop> Table<T, S> {
         }
     }
 
-    // The count of the value at a spot.
+    // Returns the count of the value at a spot.
     #[inline(always)]
     pub(super) fn count_at(&self, spot: Spot) -> usize
         requires live { is_live (slot_in self.now.tables spot) ≡ true }
@@ -243,7 +224,7 @@ impl<T: Eq + Hash + Drop, S: BuildHasher + Drop> Table<T, S> {
         }
     }
 
-    // Adds to the count of the value at a spot, and answers what the count was.
+    // Adds to the count of the value at a spot, and returns the count before.
     #[inline(always)]
     pub(super) fn raise_spot(&mut self, spot: Spot, n: usize) -> usize
         requires live { is_live (slot_in self.old.tables spot) ≡ true }
@@ -260,9 +241,9 @@ impl<T: Eq + Hash + Drop, S: BuildHasher + Drop> Table<T, S> {
         before
     }
 
-    // Stores another equal instance at a spot, with the count 1, and gives the former one back.
+    // Stores another equal instance at a spot, with the count 1, and returns the former one.
     pub(super) fn put_spot(&mut self, spot: Spot, value: T) -> T
-        requires equal { holds (λ v. T.eq v value) (slot_in self.old.tables spot) ≡ true }
+        requires equal { holds (T.eq value) (slot_in self.old.tables spot) ≡ true }
         ensures after { Writes spot (Slot.Live value 1) self.old.tables self.new.tables }
         ensures map { IfEntry self.old.tables spot (λ e. Swaps self.old.entries self.new.entries e ((value, 1) ∷ [])) }
         ensures hasher { self.new.hasher ≡ self.old.hasher }

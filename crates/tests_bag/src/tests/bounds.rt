@@ -1,14 +1,14 @@
-//! Slots along whole runs: how many there are in the end, and how many were built on the way, which the values that came pay for.
+//! Slots along whole runs: how many there are in the end, and how many were built on the way, which the inserted values bound.
 use hashbag::script::{Step, run};
 use hashbag::{FixedState, HashBag};
-use hashbag_bench::texts::{count, halves, number, rows_of};
-use hashbag_bench::{IdentityState, OneState, ParityState};
 use std::alloc::{AllocError, Global};
 use std::hash::BuildHasher;
 use std::test::Fail;
+use tests_kit::texts::{count, halves, number, rows_of};
+use tests_kit::{IdentityState, OneState, ParityState};
 
 // A run and what it leaves. `in 100` inserts 1 to 100; `in_and_out` takes each value out at once; `window` takes out, from the ninth on,
-// the value that came eight before; `limited` sets the limit to each number before it comes. `clear` and `shrink` are the last steps.
+// the value of eight before; `limited` sets the limit to each number before its insertion. `clear` and `shrink` are the last steps.
 // `built` is the sum of the slots of all tables made.
 const ALL_ROWS: &str = "\
     in_and_out 1000 = slots 16
@@ -30,7 +30,7 @@ const IDENTITY_ROWS: &str = "\
 // Of many values: 16 slots and all powers of two after it up to 16384 were built.
 const MANY_ROWS: &str = "in 10000 = slots 16384, waiting 0, room 2288, built 32752";
 
-// What a run left of a bag's tables, and what was counted along it.
+// What a run left of a bag's tables, and what was counted on the way.
 #[derive(Clone, Copy)]
 struct Left {
     slots: usize,
@@ -63,7 +63,7 @@ impl Left {
     }
 }
 
-// How many values came, and the slots of the tables that were made for them.
+// How many values were inserted, and the slots of the tables that were made for them.
 #[derive(Clone, Copy)]
 struct Paid {
     arrivals: usize,
@@ -120,7 +120,7 @@ fn run_all<S: BuildHasher + Drop>(
     Ok(())
 }
 
-// Does one step, and counts what it brings: a value that came where there was no room has a new table made for it.
+// Does one step, and counts what it brings: a value that was inserted without room has a new table made for it.
 fn run_one<S: BuildHasher + Drop>(
     alloc: Global,
     bag: &mut HashBag<u64, S>,
@@ -145,7 +145,7 @@ fn run_one<S: BuildHasher + Drop>(
     Ok(Paid { arrivals, ..paid })
 }
 
-// Does the steps one by one, and answers the slots of all tables that were made.
+// Does the steps one by one, and returns the slots of all tables that were made.
 fn built_by<S: BuildHasher + Drop>(
     alloc: Global,
     bag: &mut HashBag<u64, S>,

@@ -1,8 +1,6 @@
-//! The callers to copy, as rows of text: what no clause says of them is that they succeed, and what they answer on bags found by hand.
+//! The callers to copy, as rows of text: what no clause says of them is that they succeed, and what they return on bags, found by hand.
 use hashbag::script::Reply;
 use hashbag::{BagError, FixedState, HashBag};
-use hashbag_bench::texts::{count, counts, debug_of, halves, is_text, number, rows_of, values};
-use hashbag_bench::{IdentityState, OneState, ParityState, calls};
 use hashbag_callers::deliveries::{greatest_surplus, greatest_surplus_by_fold, is_complete};
 use hashbag_callers::ledger::{deliver, keep_at_most, list, sell, sell_out, take_was_last};
 use hashbag_callers::run_uses::insert_and_count;
@@ -10,6 +8,8 @@ use hashbag_callers::words::{count_words, equal_in_any_order, insert_each, two_w
 use std::alloc::Global;
 use std::hash::BuildHasher;
 use std::test::Fail;
+use tests_kit::texts::{count, counts, debug_of, halves, is_text, number, rows_of, values};
+use tests_kit::{IdentityState, OneState, ParityState, calls};
 
 // One bag throughout. What is no caller's name is a call on the bag.
 const ROWS: &str = "\
@@ -108,7 +108,7 @@ fn replies<S: BuildHasher + Drop>(
     insert_and_count(alloc, bag, value)
 }
 
-// What a caller with one number answers.
+// Returns the text of what a caller with one number returns.
 fn with_number<S: BuildHasher + Default + Drop>(
     alloc: Global,
     bag: &mut HashBag<u64, S>,
@@ -126,7 +126,7 @@ fn with_number<S: BuildHasher + Default + Drop>(
     }
 }
 
-// What a caller with an article and a number of it answers.
+// Returns the text of what a caller with an article and a number of it returns.
 fn with_count<S: BuildHasher + Default + Drop>(
     alloc: Global,
     stock: &mut HashBag<u64, S>,
@@ -153,7 +153,7 @@ fn answer<S: BuildHasher + Default + Drop>(
     }
 }
 
-// A bag of these articles, each as often as the number beside it.
+// Returns a bag of these articles, each as often as its number.
 fn stock_of<S: BuildHasher + Default + Drop>(
     alloc: Global,
     articles: &str,

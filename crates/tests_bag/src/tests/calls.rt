@@ -1,12 +1,12 @@
-//! Single calls on the bag, with the answers found by hand.
+//! Single calls on the bag, with the results found by hand.
 use hashbag::{BagError, FixedState, HashBag};
-use hashbag_bench::calls::{clone_of, make_rows};
-use hashbag_bench::texts::is_text;
-use hashbag_bench::{IdentityState, OneState, ParityState};
 use std::alloc::Global;
 use std::hash::BuildHasher;
 use std::process::Abort;
 use std::test::Fail;
+use tests_kit::calls::{clone_of, make_rows};
+use tests_kit::texts::is_text;
+use tests_kit::{IdentityState, OneState, ParityState};
 
 // Room changes nothing of what a bag has. It is made for 3 * 2^57 values, which is 432345564227567616, and for no more.
 const ROWS: &str = "\

@@ -5,14 +5,14 @@ ghost use Rattle.std.specs.Cmp.Rules.{comparing, hashing};
 ghost use Rattle.std.specs.Hash as fed;
 
 use hashbag::{BagError, FixedState, HashBag};
-use hashbag_bench::OneState;
-use hashbag_bench::texts::{counts, halves, is_text, rows_of};
 use std::alloc::{AllocError, Global};
 use std::cell::Cell;
 use std::hash::{BuildHasher, Hash, Hasher};
 use std::test::Fail;
+use tests_kit::OneState;
+use tests_kit::texts::{counts, halves, is_text, rows_of};
 
-// Pairs of a value and a number, and what extending with them gives. Each pair takes one clone, and none where its number is 0
+// Pairs of a value and a number, and what extending with them gives. Each pair takes one clone, and none if its number is 0
 // or the total would pass its end.
 const ROWS: &str = "\
     1:2 2:0 3:5 = Ok(()) after 2 clones

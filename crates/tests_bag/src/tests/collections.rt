@@ -1,15 +1,15 @@
-//! Retaining, extending, collecting, cloning and comparing, with the answers found by hand.
+//! Retaining, extending, collecting, cloning and comparing, with the results found by hand.
 use hashbag::script::{Reply, Step, run};
 use hashbag::{FixedState, HashBag};
-use hashbag_bench::calls::{clone_of, make_calls, make_rows};
-use hashbag_bench::texts::{count, counts, debug_of, halves, is_text, number, rows_of};
-use hashbag_bench::{IdentityState, OneState, ParityState};
 use std::alloc::Global;
 use std::hash::BuildHasher;
 use std::process::Abort;
 use std::test::Fail;
+use tests_kit::calls::{clone_of, make_calls, make_rows};
+use tests_kit::texts::{count, counts, debug_of, halves, is_text, number, rows_of};
+use tests_kit::{IdentityState, OneState, ParityState};
 
-// `counts` answers how often each of the values occurs. `retain_itself` keeps of each value as many as it is, and answers how
+// `counts` returns how often each of the values occurs. `retain_itself` keeps of each value as many as it is, and returns how
 // often the closure was called.
 const ROWS: &str = "\
     [adds none]
@@ -122,7 +122,7 @@ fn clones<S: BuildHasher + Default + Copy>(rt: &impl Abort, alloc: Global) -> Re
 }
 
 // The rows of a run, with its replies. Where a run retains, of a value stay as many as the first pair that has it says, and
-// none where no pair has it.
+// none if no pair has it.
 const RUN_ROWS: &str = "\
     insert_many 0:5 = Count(0)
     insert_many 1:4 = Count(0)

@@ -1,12 +1,12 @@
 //! Each value is dropped once, by the call that takes it out or by the bag, while the tables grow, carry and are built anew.
 use hashbag::{BagError, FixedState, HashBag};
-use hashbag_bench::OneState;
-use hashbag_bench::calls::{insert, replace};
 use std::alloc::Global;
 use std::cell::Cell;
 use std::hash::BuildHasher;
 use std::process::Abort;
 use std::test::Fail;
+use tests_kit::OneState;
+use tests_kit::calls::{insert, replace};
 use tests_slots::counted::Counted;
 
 // Checks how many values were dropped.
@@ -34,7 +34,7 @@ fn carrying<'a, S: BuildHasher + Drop>(
     Ok(bag)
 }
 
-// The value handed in is dropped where an equal one stays, and the one that was stored where it is replaced.
+// The given value is dropped if an equal one stays, and the stored one if it is replaced.
 fn equal_values<'a, S: BuildHasher + Drop>(
     rt: &impl Abort,
     bag: &mut HashBag<Counted<'a>, S>,
@@ -198,7 +198,7 @@ where
     }
 }
 
-// Walks over a bag in the middle of a carry that are dropped after so many items. A drained bag takes a value in again.
+// Walks over a bag in the middle of a carry that are dropped after some of their items. A drained bag takes a value in again.
 fn walks_dropped<S: BuildHasher + Copy>(
     rt: &impl Abort,
     alloc: Global,
@@ -224,7 +224,7 @@ fn walks_dropped<S: BuildHasher + Copy>(
     Ok(())
 }
 
-// Walks that lend what a bag has, dropped after so many items, drop none of it.
+// Walks that lend what a bag has, dropped after some of their items, drop none of it.
 fn lent<'a, S: BuildHasher + Drop>(
     rt: &impl Abort,
     bag: &HashBag<Counted<'a>, S>,

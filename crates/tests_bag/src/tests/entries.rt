@@ -1,10 +1,10 @@
-//! The entry view, with the answers found by hand.
+//! The entry view, with the results found by hand.
 use hashbag::FixedState;
-use hashbag_bench::calls::make_rows;
-use hashbag_bench::{IdentityState, OneState, ParityState};
 use std::test::Fail;
+use tests_kit::calls::make_rows;
+use tests_kit::{IdentityState, OneState, ParityState};
 
-// `entry` drops an entry at once. `set` and `raise` are `and_modify`, which calls nothing where the entry is vacant.
+// `entry` drops an entry at once. `set` and `raise` are `and_modify`, which calls nothing if the entry is vacant.
 const ROWS: &str = "\
     [lens after entries]
     entry 42 = ()

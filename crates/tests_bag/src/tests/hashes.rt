@@ -1,10 +1,10 @@
-//! What the hash states answer.
-use hashbag_bench::states::{identity_hash, one_hash, parity_hash};
-use hashbag_bench::texts::{halves, is_text, number, rows_of};
-use hashbag_bench::{IdentityState, OneState, ParityState, Tagged};
+//! What the hash states return.
 use std::alloc::{AllocError, Global};
 use std::hash::{BuildHasher, Hash, Hasher};
 use std::test::Fail;
+use tests_kit::states::{identity_hash, one_hash, parity_hash};
+use tests_kit::texts::{halves, is_text, number, rows_of};
+use tests_kit::{IdentityState, OneState, ParityState, Tagged};
 
 // Numbers, and what they hash to under the identity, the parity and the one state.
 const ROWS: &str = "\

@@ -2,16 +2,16 @@
 //!
 //! A value is written as its key and its tag, as `1:10`. Two values with one key are equal.
 use hashbag::{BagError, FixedState, HashBag};
-use hashbag_bench::calls::{insert, replace};
-use hashbag_bench::texts::{count, debug_of, halves, is_text, number, rows_of};
-use hashbag_bench::{IdentityState, OneState, ParityState, Tagged};
 use std::alloc::Global;
 use std::hash::BuildHasher;
 use std::process::Abort;
 use std::test::Fail;
+use tests_kit::calls::{insert, replace};
+use tests_kit::texts::{count, debug_of, halves, is_text, number, rows_of};
+use tests_kit::{IdentityState, OneState, ParityState, Tagged};
 
 // The first instance of a value stays until all of it is taken out or replaced, in a clone too. An entry gives the stored
-// instance, and holds on to the value that was handed in.
+// instance, and keeps the given value.
 const ROWS: &str = "\
     [until replaced]
     insert 1:10 = 0
@@ -82,7 +82,7 @@ fn or_insert_many<S: BuildHasher + Drop>(
     bag.entry(value).or_insert_many(n)
 }
 
-// Sets the count to 0, and inserts at the entry that is then vacant. Its value is the one handed in.
+// Sets the count to 0, and inserts at the entry that is then vacant. Its value is the given one.
 fn set_to_none_and_insert<S: BuildHasher + Drop>(
     rt: &impl Abort,
     bag: &mut HashBag<Tagged, S>,
@@ -138,7 +138,7 @@ fn no_call(call: &str) -> Result<String, Fail> {
     Err(Fail::new(format_args!("no such call: {call}")))
 }
 
-// What a call on one value answers.
+// Returns the text of what a call on one value returns.
 fn with_value<S: BuildHasher + Drop>(
     rt: &impl Abort,
     alloc: Global,
@@ -156,7 +156,7 @@ fn with_value<S: BuildHasher + Drop>(
     }
 }
 
-// What a call on a value with a count answers.
+// Returns the text of what a call on a value with a count returns.
 fn with_count<S: BuildHasher + Drop>(
     alloc: Global,
     bag: &mut HashBag<Tagged, S>,
@@ -171,7 +171,7 @@ fn with_count<S: BuildHasher + Drop>(
     }
 }
 
-// What a call on several values answers.
+// Returns the text of what a call on several values returns.
 fn with_values<S: BuildHasher + Default + Drop>(
     alloc: Global,
     bag: &mut HashBag<Tagged, S>,
@@ -188,7 +188,7 @@ fn with_values<S: BuildHasher + Default + Drop>(
     }
 }
 
-// What a call answers.
+// Returns the text of what a call returns.
 fn answer<S: BuildHasher + Default + Copy>(
     rt: &impl Abort,
     alloc: Global,

@@ -1,11 +1,11 @@
 //! Calls by texts on a bag of texts, as rows of text: what no clause says of them is that they succeed.
 use hashbag::{BagError, HashBag};
-use hashbag_bench::texts::{debug_of, halves, is_text, rows_of};
 use hashbag_callers::text_uses::{count_texts, how_often};
 use std::alloc::Global;
 use std::test::Fail;
+use tests_kit::texts::{debug_of, halves, is_text, rows_of};
 
-// One bag throughout. What comes is more than once a text that is there.
+// One bag throughout. Some of the texts are present already.
 const ROWS: &str = "\
     contains the = 0
     get the = None
@@ -44,11 +44,11 @@ fn insert_rest(bag: &mut HashBag<String>, word: &str) -> Result<usize, BagError>
 }
 
 fn get(alloc: Global, bag: &HashBag<String>, word: &str) -> Result<String, Fail> {
-    debug_of(alloc, &bag.get_key(word))
+    debug_of(alloc, &bag.get(word))
 }
 
 fn remove(bag: &mut HashBag<String>, word: &str) -> usize {
-    bag.remove_key(word)
+    bag.remove(word)
 }
 
 fn answer(

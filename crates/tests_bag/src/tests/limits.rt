@@ -1,12 +1,12 @@
-//! Bags with a limit, with the answers found by hand, and what a refused call leaves.
+//! Bags with a limit, with the results found by hand, and what a failed call leaves.
 use hashbag::script::{Step, run};
 use hashbag::{FixedState, HashBag};
-use hashbag_bench::calls::{answer, clone_of, make_calls, make_rows};
-use hashbag_bench::texts::{debug_of, is_text};
-use hashbag_bench::{IdentityState, OneState, ParityState};
 use std::alloc::{AllocError, Global};
 use std::hash::BuildHasher;
 use std::test::Fail;
+use tests_kit::calls::{answer, clone_of, make_calls, make_rows};
+use tests_kit::texts::{debug_of, is_text};
+use tests_kit::{IdentityState, OneState, ParityState};
 
 // `set` is `and_modify` that sets the count.
 const ROWS: &str = "\
@@ -85,7 +85,7 @@ const KEPT: &str = "\
     default_in = ()
     limit = 18446744073709551615";
 
-// Calls that would pass a limit by one. The number that does so stands at the end.
+// Calls that would pass a limit by one. The number that does so is at the end.
 const BY_NUMBER: [&str; 6] = [
     "insert_many 100 ",
     "insert_many 1 ",
@@ -127,7 +127,7 @@ fn state_of<S: BuildHasher + Drop>(alloc: Global, bag: &HashBag<u64, S>) -> Resu
     Ok(format!(in alloc; "{bag:?} of {len} below {limit} in {tables:?}")?)
 }
 
-// The call answers that, and leaves the bag and its tables.
+// The call returns this error, and leaves the bag and its tables.
 fn changes_nothing<S: BuildHasher + Default + Drop>(
     alloc: Global,
     bag: &mut HashBag<u64, S>,
@@ -140,7 +140,7 @@ fn changes_nothing<S: BuildHasher + Default + Drop>(
     Ok(())
 }
 
-// Each call that would pass the limit of the bag is refused.
+// Each call that would pass the limit of the bag fails.
 fn refuses_past<S: BuildHasher + Default + Drop>(
     alloc: Global,
     bag: &mut HashBag<u64, S>,
@@ -154,7 +154,7 @@ fn refuses_past<S: BuildHasher + Default + Drop>(
         let call = format!(in alloc; "{call}{past}")?;
         changes_nothing(alloc, bag, call.as_str(), "TooMany")?;
     }
-    // These are there once where they are there.
+    // Each of these that is present is there once.
     for value in [1u64, 20] {
         if let (1, Some(n)) = (bag.contains(&value), past.checked_add(1)) {
             let call = format!(in alloc; "set {value} {n}")?;
@@ -168,7 +168,7 @@ fn refuses_past<S: BuildHasher + Default + Drop>(
     }
 }
 
-// Each call that brings something into a full bag is refused, and so is each step.
+// Each call that inserts something into a full bag fails, and so does each step.
 fn refuses_all<S: BuildHasher + Default + Drop>(
     alloc: Global,
     bag: &mut HashBag<u64, S>,
@@ -186,7 +186,7 @@ fn refuses_all<S: BuildHasher + Default + Drop>(
     is_text("a run", state_of(alloc, bag)?.as_str(), before.as_str())
 }
 
-// A bag of the values from 1 to `last`, with each limit: a limit below the total is refused, and so is what would pass one.
+// A bag of the values from 1 to `last`, with each limit: a limit below the total fails, and so does what would pass one.
 fn refuses_each<S: BuildHasher + Default + Drop>(alloc: Global, last: u64) -> Result<(), Fail> {
     let mut bag: HashBag<u64, S> = HashBag::default_in(alloc);
     for value in 1..=last {

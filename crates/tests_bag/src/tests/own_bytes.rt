@@ -1,8 +1,8 @@
 //! How many bytes a bag and its walks have themselves.
 use hashbag::{Drain, FixedState, HashBag, IntoIter, Iter, SetIter};
-use hashbag_bench::OneState;
 use std::fs;
 use std::test::Fail;
+use tests_kit::OneState;
 
 #[test]
 fn sizes_of_bags_and_walks(_rt: HostRuntime) -> Result<(), Fail> {
@@ -25,7 +25,7 @@ fn sizes_of_bags_and_walks(_rt: HostRuntime) -> Result<(), Fail> {
     Ok(())
 }
 
-// How many pages the process may address. Where that is past all memory, as where each access is checked, nothing is answered.
+// How many pages the process may address. If that is past all memory, as if each access is checked, there is no result.
 fn pages(rt: &HostRuntime) -> Result<Option<usize>, Fail> {
     let text = fs::read_to_string(rt, "/proc/self/statm")?;
     let number = text.split_whitespace().next().unwrap_or("");

@@ -1,12 +1,12 @@
 //! A hash state that has data of its own: each one is dropped once, and only a clone of the bag clones it.
 use hashbag::{BagError, HashBag};
-use hashbag_bench::calls::{clone_of, counts_of, insert};
-use hashbag_bench::texts::is_text;
 use std::alloc::{AllocError, Global};
 use std::cell::Cell;
 use std::hash::{BuildHasher, Hasher};
 use std::process::Abort;
 use std::test::Fail;
+use tests_kit::calls::{clone_of, counts_of, insert};
+use tests_kit::texts::is_text;
 
 // How many states are alive, and how many clones of them were asked for.
 #[derive(Drop)]
@@ -22,7 +22,7 @@ struct Owning<'a> {
     states: &'a States,
 }
 
-// Takes in nothing, and answers the number.
+// Takes in nothing, and returns the number.
 #[derive(Clone, Copy)]
 struct Answer {
     hash: u64,

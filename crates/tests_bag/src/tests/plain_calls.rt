@@ -1,12 +1,12 @@
-//! Calls on the plain bag, with the answers found by hand.
+//! Calls on the plain bag, with the results found by hand.
 use crate::tests::instances::tagged;
 use hashbag::script::{Reply, Step};
-use hashbag_bench::texts::{count, debug_of, halves, is_text, rows_of};
-use hashbag_bench::{PlainBag, Tagged};
 use std::alloc::{AllocError, Global};
 use std::test::Fail;
+use tests_kit::texts::{count, debug_of, halves, is_text, rows_of};
+use tests_kit::{PlainBag, Tagged};
 
-// A value is written as its key and its tag. `tags` answers the tags of all occurrences, in the order of the list.
+// A value is written as its key and its tag. `tags` returns the tags of all occurrences, in the order of the list.
 const ROWS: &str = "\
     [keeps the first instance]
     add 1:10 = ()
@@ -78,7 +78,7 @@ fn step_of(words: &str) -> Result<Step<Tagged>, Fail> {
     }
 }
 
-// What a call on a value answers.
+// Returns the text of what a call on a value returns.
 fn with_value(
     alloc: Global,
     bag: &mut PlainBag<Tagged>,
@@ -97,7 +97,7 @@ fn with_value(
     }
 }
 
-// What a call answers.
+// Returns the text of what a call returns.
 fn answer(alloc: Global, bag: &mut PlainBag<Tagged>, call: &str) -> Result<String, Fail> {
     match call {
         "len" => debug_of(alloc, &bag.len()),

@@ -1,4 +1,4 @@
-//! Values whose clones are refused memory, at each clone in turn, on a bag in the middle of a carry. They count their drops, so that
+//! Values whose clones fail, at each clone in turn, on a bag in the middle of a carry. They count their drops, so that
 //! after each refusal no value is left over and none was dropped twice.
 ghost use Rattle.std.specs.Prelude.{◌≡◌, ◌==◌};
 ghost use Rattle.std.proofs.Common.{rules};
@@ -6,17 +6,17 @@ ghost use Rattle.std.specs.Cmp.Rules.{comparing, hashing};
 ghost use Rattle.std.specs.Hash as fed;
 
 use hashbag::{BagError, FixedState, HashBag};
-use hashbag_bench::OneState;
-use hashbag_bench::calls::insert;
-use hashbag_bench::texts::{count, halves, is_text, rows_of};
 use std::alloc::{AllocError, Global};
 use std::cell::Cell;
 use std::hash::{BuildHasher, Hash, Hasher};
 use std::process::Abort;
 use std::test::Fail;
+use tests_kit::OneState;
+use tests_kit::calls::insert;
+use tests_kit::texts::{count, halves, is_text, rows_of};
 
-// The number of the clone that is refused, and what an extend by 26, 27, 28 and 27 answers and leaves: the total, the distinct values,
-// the tables, and how many values are alive beside the four handed in.
+// The number of the clone that fails, and what an extend by 26, 27, 28 and 27 returns and leaves: the total, the distinct values,
+// the tables, and how many values are alive but for the four given ones.
 const EXTENDS: &str = "\
     1 = Err(Memory), 25 of 25 in (64, 16, 23), 25 alive
     2 = Err(Memory), 26 of 26 in (64, 0, 22), 26 alive
@@ -31,7 +31,7 @@ const EXTENDS_MANY: &str = "\
     3 = Err(Memory), 78 of 27 in (64, 0, 21), 27 alive
     4 = Ok(()), 105 of 27 in (64, 0, 21), 27 alive";
 
-// What becomes of values: how many are alive, how many were cloned, and which clone is refused.
+// What becomes of values: how many are alive, how many were cloned, and which clone fails.
 #[derive(Drop)]
 struct Lives {
     alive: Cell<usize>,
@@ -54,7 +54,7 @@ impl Lives {
     }
 }
 
-// A number whose clones may be refused.
+// A number whose clones may fail.
 struct Costly<'a> {
     key: u64,
     lives: &'a Lives,
@@ -134,7 +134,7 @@ fn extend_refs<'a, S: BuildHasher + Drop>(
     bag.extend_refs(values.iter())
 }
 
-// How often a value is handed in with its number.
+// How often each value is given, with its number.
 fn times_of(value: &Costly<'_>) -> usize {
     if value.key == 28 {
         0
@@ -212,7 +212,7 @@ fn is_extended<S: BuildHasher + Drop>(
     Ok(())
 }
 
-// Where a clone of the bag is refused there is none, and all clones of values that were made are dropped.
+// If a clone of the bag fails there is none, and all clones of values that were made are dropped.
 fn is_cloned<S: BuildHasher + Clone + Drop>(
     rt: &impl Abort,
     alloc: Global,

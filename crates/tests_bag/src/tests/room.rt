@@ -1,12 +1,12 @@
-//! Room for distinct values. No clause can promise it, since it takes memory.
+//! Room for distinct values. No clause can promise it, since an allocation may fail.
 use hashbag::{BagError, FixedState, HashBag};
-use hashbag_bench::calls::make_calls;
-use hashbag_bench::texts::{debug_of, is_text};
-use hashbag_bench::{IdentityState, OneState, ParityState};
 use std::alloc::Global;
 use std::hash::BuildHasher;
 use std::process::Abort;
 use std::test::Fail;
+use tests_kit::calls::make_calls;
+use tests_kit::texts::{debug_of, is_text};
+use tests_kit::{IdentityState, OneState, ParityState};
 
 // How many distinct values the bags have for which room is made.
 const SIZES: [u64; 8] = [0, 1, 5, 12, 13, 24, 25, 100];
@@ -20,7 +20,7 @@ const BEGINNINGS: [(usize, usize, usize); 5] = [
     (100, 256, 192),
 ];
 
-// What a bag answers that began with room for 100 values.
+// What the calls of a bag return that began with room for 100 values.
 const GIVEN_BACK: &str = "\
     insert 1 = 0
     insert 2 = 0
@@ -34,7 +34,7 @@ const GIVEN_BACK: &str = "\
     tables = (0, 0, 0)
     capacity = 0";
 
-// Room is made for up to so many values more.
+// Room is made for more values, up to this number.
 const MOST: usize = 40;
 
 // The most distinct values that room is made for.

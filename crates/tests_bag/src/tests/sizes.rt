@@ -1,11 +1,11 @@
 //! Values of no size, and of two hundred bytes.
 use hashbag::{BagError, FixedState, HashBag};
-use hashbag_bench::OneState;
-use hashbag_bench::calls::insert;
-use hashbag_bench::texts::is_text;
 use std::alloc::Global;
 use std::hash::{BuildHasher, Hash};
 use std::test::Fail;
+use tests_kit::OneState;
+use tests_kit::calls::insert;
+use tests_kit::texts::is_text;
 
 // Values made of numbers.
 trait Made: Eq + Hash + Copy + Drop {
@@ -88,7 +88,7 @@ fn filled<T: Made, S: BuildHasher + Drop>(
     Ok(format!(in alloc; "{len} of {set_len} in {tables:?}, {found} found")?)
 }
 
-// What stands after a removal, a take and an insertion: the numbers of items of the walks, and of a clone.
+// What is left after a removal, a take and an insertion: the numbers of items of the walks, and of a clone.
 fn walked<T: Made, S: BuildHasher + Copy>(
     bag: &HashBag<T, S>,
 ) -> Result<(usize, usize, usize, usize), BagError> {

@@ -1,13 +1,13 @@
 //! The two tables of slots behind a bag: how many slots there are, how many wait to be carried, and how much room is left, after
 //! each call. Where nothing is said of the hash, these numbers don't depend on it.
 use hashbag::{BagError, FixedState, HashBag};
-use hashbag_bench::calls::{bag_of, clone_of, insert, make_calls, make_rows, remove};
-use hashbag_bench::{IdentityState, OneState, ParityState};
 use std::alloc::Global;
 use std::hash::BuildHasher;
 use std::test::Fail;
+use tests_kit::calls::{bag_of, clone_of, insert, make_calls, make_rows, remove};
+use tests_kit::{IdentityState, OneState, ParityState};
 
-// `tables` answers the slots of the newer table, the slots that wait, and the room.
+// `tables` returns the slots of the newer table, the slots that wait, and the room.
 const ROWS: &str = "\
     [no table]
     tables = (0, 0, 0)
@@ -356,7 +356,7 @@ const ONE_ROWS: &str = "\
     insert 3 = 0
     set_len = 1";
 
-// What a clone answers of a bag in the middle of a carry.
+// What the calls of a clone return, of a bag in the middle of a carry.
 const CLONE: &str = "\
     tables = (64, 0, 23)
     set_len = 25

@@ -1,6 +1,6 @@
 //! How rows of text are read.
-use hashbag_bench::texts::{counts, debug_of, decimal, inside, is_text, values};
 use std::test::Fail;
+use tests_kit::texts::{counts, debug_of, decimal, inside, is_text, values};
 
 #[test]
 fn lists_are_read(rt: HostRuntime) -> Result<(), Fail> {

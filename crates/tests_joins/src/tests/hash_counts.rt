@@ -2,12 +2,12 @@
 use crate::tests::joins::{bag_of, bags_of, quarters};
 use hashbag::script::joins_of;
 use hashbag::{BagError, HashBag};
-use hashbag_bench::calls::{answer, clone_of};
-use hashbag_bench::states::CountingState;
-use hashbag_bench::texts::{count, debug_of, halves, is_text, number, rows_of};
 use serde_json::Value;
 use std::alloc::Global;
 use std::test::Fail;
+use tests_kit::calls::{answer, clone_of};
+use tests_kit::states::CountingState;
+use tests_kit::texts::{count, debug_of, halves, is_text, number, rows_of};
 
 // The counts of a bag, a call on it, and how often its state hashes in the call. A call is named as in the rows of calls.
 const CALLS: &str = "
@@ -97,7 +97,7 @@ const CALLS: &str = "
     | default_in | 0
     | with_capacity 10 | 0";
 
-// In the middle of a carry: 17 to 24 wait in the older table, and an absent value takes these eight along. A call on such a bag, and
+// In the middle of a carry: 17 to 24 wait in the older table, and an absent value carries these eight. A call on such a bag, and
 // how often its state hashes in the call.
 const CARRYING: &str =
     "1:1 2:1 3:1 4:1 5:1 6:1 7:1 8:1 9:1 10:1 11:1 12:1 13:1 14:1 15:1 16:1 17:1 18:1 19:1 20:1 21:1 22:1 23:1 24:1 25:1";
@@ -167,7 +167,7 @@ const CALLS_IN_A_CARRY: &str = "
     finish_carry | 8
     set_limit 25 | 0";
 
-// The counts of two bags, a call on both, and how often the state of each hashes. The word `carrying` stands for the counts of a bag in the
+// The counts of two bags, a call on both, and how often the state of each hashes. The word `carrying` means the counts of a bag in the
 // middle of a carry.
 const CALLS_ON_TWO: &str = "
     1:1 2:5 3:2 | 2:1 4:1 5:3 6:1 | outer_join | 4 3
@@ -219,7 +219,7 @@ fn to_value(alloc: Global, bag: &CountingBag) -> bool {
     bag.to_value(alloc).is_ok()
 }
 
-// What a call answers doesn't matter here.
+// What a call returns doesn't matter here.
 fn done<T: Drop>(_answer: T) -> Result<(), Fail> {
     Ok(())
 }
@@ -313,7 +313,7 @@ fn hashed_since(
     Ok(format!(in alloc; "{first} {second}")?)
 }
 
-// The counts that stand in a row.
+// Returns the counts in a row.
 fn counts_of(text: &str) -> &str {
     if text == "carrying" { CARRYING } else { text }
 }
@@ -397,11 +397,11 @@ fn texts_to(alloc: Global, n: usize) -> Result<HashBag<String, CountingState>, F
 fn call_by_a_key(bag: &mut HashBag<String, CountingState>, call: &str) -> Result<(), Fail> {
     let (verb, key) = halves(call, " ")?;
     match verb {
-        "contains_key" => done(bag.contains_key(key)),
-        "get_key" => done(bag.get_key(key).is_some()),
+        "contains_key" => done(bag.contains(key)),
+        "get_key" => done(bag.get(key).is_some()),
         "insert_key" => done(bag.insert_key(key)?),
         "insert_many_key" => done(bag.insert_many_key(key, 3)?),
-        "remove_key" => done(bag.remove_key(key)),
+        "remove_key" => done(bag.remove(key)),
         _ => Err(Fail::new(format_args!("no such call: {call}"))),
     }
 }

@@ -1,10 +1,10 @@
 //! Which instances joins give.
 use hashbag::HashBag;
-use hashbag_bench::texts::{debug_of, is_text};
-use hashbag_bench::{IdentityState, OneState, Tagged};
 use std::alloc::Global;
 use std::hash::BuildHasher;
 use std::test::Fail;
+use tests_kit::texts::{debug_of, is_text};
+use tests_kit::{IdentityState, OneState, Tagged};
 
 // A bag of values with these keys and tags, each so often.
 fn tagged<S: BuildHasher + Default + Drop>(
@@ -32,7 +32,7 @@ fn joined<S: BuildHasher + Drop, S2: BuildHasher + Drop>(
     Ok(items)
 }
 
-// A value of both bags comes as the instance of the first, and one of the second bag alone after all others.
+// A value of both bags is given as the instance of the first, and one of the second bag alone after all others.
 #[test]
 fn instances_of_outer_joins(rt: HostRuntime) -> Result<(), Fail> {
     let alloc = rt.alloc();

@@ -1,17 +1,17 @@
 //! Joins of two bags, with the items found by hand, between each two of the four hash states.
 use hashbag::script::{Joins, joins_of};
 use hashbag::{FixedState, HashBag};
-use hashbag_bench::calls::{bag_of_counts, insert};
-use hashbag_bench::texts::{counts, debug_of, halves, is_text, number, rows_of, values};
-use hashbag_bench::{IdentityState, OneState, ParityState};
 use hashbag_callers::join_uses::excess_of;
 use std::alloc::{AllocError, Global};
 use std::fmt::Debug;
 use std::hash::BuildHasher;
 use std::test::Fail;
+use tests_kit::calls::{bag_of_counts, insert};
+use tests_kit::texts::{counts, debug_of, halves, is_text, number, rows_of, values};
+use tests_kit::{IdentityState, OneState, ParityState};
 
 // A join, two bags, and the items of the join, values rising. A bag in brackets is collected from these values; else each value is
-// inserted as often as the number beside it. Bags of 25 values are in the middle of a carry.
+// inserted as often as its number. Bags of 25 values are in the middle of a carry.
 const JOINS: &str = "
     difference | [] | [] | []
     difference | [] | [1] | []
@@ -79,8 +79,8 @@ const JOINS: &str = "
     not_in | 1:1 2:1 3:1 4:1 5:1 6:1 7:1 8:1 9:1 10:1 11:1 12:1 13:1 14:1 15:1 16:1 17:1 18:1 19:1 20:1 21:1 22:1 23:1 24:1 25:1 | 13:2 14:2 15:2 16:2 17:2 18:2 19:2 20:2 21:2 22:2 23:2 24:2 25:2 26:2 27:2 28:2 29:2 30:2 31:2 32:2 33:2 34:2 35:2 36:2 37:2 | [(1, 1), (2, 1), (3, 1), (4, 1), (5, 1), (6, 1), (7, 1), (8, 1), (9, 1), (10, 1), (11, 1), (12, 1)]
     not_in | 13:2 14:2 15:2 16:2 17:2 18:2 19:2 20:2 21:2 22:2 23:2 24:2 25:2 26:2 27:2 28:2 29:2 30:2 31:2 32:2 33:2 34:2 35:2 36:2 37:2 | 1:1 2:1 3:1 4:1 5:1 6:1 7:1 8:1 9:1 10:1 11:1 12:1 13:1 14:1 15:1 16:1 17:1 18:1 19:1 20:1 21:1 22:1 23:1 24:1 25:1 | [(26, 2), (27, 2), (28, 2), (29, 2), (30, 2), (31, 2), (32, 2), (33, 2), (34, 2), (35, 2), (36, 2), (37, 2)]";
 
-// A join, two bags, and what the join answers step by step: the fewest and the most items that may be left, and then `+` where an item
-// comes or `-` where none does. With `/` between them, one of several answers is given, since values are looked up in an open order.
+// A join, two bags, and what the join returns step by step: the fewest and the most items that may be left, and then `+` where an item
+// is given or `-` if none is. With `/` between them, one of several results is right, since values are looked up in no particular order.
 const STEPS: &str = "
     difference | [3, 2, 1] | [] | 0..3+ 0..2+ 0..1+ 0..0- 0..0-
     not_in | [1, 2, 3] | [] | 0..3+ 0..2+ 0..1+ 0..0- 0..0-
@@ -151,7 +151,7 @@ fn rising<T: Ord + Debug + Copy>(alloc: Global, items: Vec<T>) -> Result<String,
 fn is_first_before<S: BuildHasher + Drop>(bag: &HashBag<u64, S>, values: &[&u64]) -> bool {
     let mut ended = false;
     for value in values {
-        if bag.contains(value) == 0 {
+        if bag.contains(*value) == 0 {
             ended = true;
         } else if ended {
             return false;
@@ -197,7 +197,7 @@ fn is_joined<S: BuildHasher + Default + Drop, S2: BuildHasher + Default + Drop>(
     is_text(row, got.as_str(), wanted)
 }
 
-// A step of a join: the size hint before it, and whether an item came.
+// A step of a join: the size hint before it, and whether an item was given.
 fn step_text(
     alloc: Global,
     hint: (usize, Option<usize>),
@@ -323,7 +323,7 @@ fn is_as_before<S: BuildHasher + Drop>(
     is_text(row, debug_of(alloc, &inserted)?.as_str(), "(0, 1)")
 }
 
-// A join that is dropped after so many steps leaves both bags as they were.
+// A join that is dropped after some steps leaves both bags as they were.
 fn is_stepped<S: BuildHasher + Default + Drop, S2: BuildHasher + Default + Drop>(
     alloc: Global,
     row: &str,

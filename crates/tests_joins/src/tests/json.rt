@@ -1,7 +1,5 @@
-//! Trees of bags, read and written, with the answers found by hand.
+//! Trees of bags, read and written, with the results found by hand.
 use hashbag::{FixedState, HashBag, ItemError, JsonError, JsonItem};
-use hashbag_bench::texts::{debug_of, halves, is_text, rows_of};
-use hashbag_bench::{IdentityState, Named, OneState, ParityState};
 use hashbag_callers::json_uses::{both_trees, read_again};
 use serde_json::Value;
 use std::alloc::{AllocError, Global};
@@ -9,8 +7,10 @@ use std::fmt::{Debug, Display};
 use std::hash::{BuildHasher, Hash};
 use std::process::Abort;
 use std::test::Fail;
+use tests_kit::texts::{debug_of, halves, is_text, rows_of};
+use tests_kit::{IdentityState, Named, OneState, ParityState};
 
-// What the items are, a tree, and why it is refused, or else the total of its bag, the number of distinct values, and the tree that is
+// What the items are, a tree, and why it can't be read, or else the total of its bag, the number of distinct values, and the tree that is
 // written of it.
 const TREES: &str = r#"
     String | null | NotAnArray
@@ -152,7 +152,7 @@ fn is_read_again<T: JsonItem + Ord + Hash + Drop, S: BuildHasher + Default + Dro
     Ok(())
 }
 
-// What a text is answered with.
+// Returns the text of what the reading of a text returns.
 fn answer_of<T: JsonItem + Ord + Hash + Drop, S: BuildHasher + Default + Drop>(
     rt: &impl Abort,
     alloc: Global,
@@ -299,7 +299,7 @@ fn deep_items_are_refused(rt: HostRuntime) -> Result<(), Fail> {
     Ok(())
 }
 
-// The tree of so many equal pairs.
+// Returns the tree of `pairs` equal pairs.
 fn long_tree(alloc: Global, pair: &str, pairs: usize) -> Result<Value, Fail> {
     let mut text = String::new(alloc);
     text.push('[')?;

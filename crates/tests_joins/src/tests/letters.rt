@@ -1,17 +1,17 @@
-//! Bags of letters, with the answers found by hand.
+//! Bags of letters, with the results found by hand.
 use hashbag::{BagError, FixedState, HashBag};
-use hashbag_bench::OneState;
-use hashbag_bench::texts::is_text;
 use std::alloc::Global;
 use std::hash::BuildHasher;
 use std::process::Abort;
 use std::test::Fail;
+use tests_kit::OneState;
+use tests_kit::texts::is_text;
 
 // The outer join of the letters of "hash" with those of "math".
 const HASH_AND_MATH: &str =
     "[('a', 1, 1), ('h', 2, 1), ('s', 1, 0)] then [('m', 0, 1), ('t', 0, 1)]";
 
-// Of ten x, what is left of a letter when so many of it are taken out.
+// Of ten x, what is left of a letter after this number of it is removed.
 const REMOVALS: [(char, usize, usize); 4] = [('x', 0, 10), ('x', 3, 7), ('x', 10, 0), ('y', 1, 0)];
 
 // Each kind of call has a function with no contract, as in `rows`.

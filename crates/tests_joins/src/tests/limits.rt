@@ -1,13 +1,13 @@
-//! Trees read within a limit, with the answers found by hand.
+//! Trees read within a limit, with the results found by hand.
 use crate::tests::json::{tree_of, written};
 use hashbag::{FixedState, HashBag, JsonError};
-use hashbag_bench::texts::{count, debug_of, halves, is_text, rows_of};
-use hashbag_bench::{IdentityState, OneState, ParityState};
 use std::alloc::Global;
 use std::hash::BuildHasher;
 use std::test::Fail;
+use tests_kit::texts::{count, debug_of, halves, is_text, rows_of};
+use tests_kit::{IdentityState, OneState, ParityState};
 
-// A limit, a tree of texts, and why it is refused, or else the limit of its bag, the total, the number of distinct values, and the tree
+// A limit, a tree of texts, and why it can't be read, or else the limit of its bag, the total, the number of distinct values, and the tree
 // that is written of it.
 const ROWS: &str = r#"
     4 | [["a",2],["b",3]] | TooMany(1)
@@ -25,7 +25,7 @@ const ROWS: &str = r#"
     0 | {"limit":1,"pairs":[],"x":0} | NotAnArray
     0 | {} | NotAnArray"#;
 
-// What a tree is answered with, read within a limit.
+// Returns the text of what the reading of a tree within a limit returns.
 fn answer_of<S: BuildHasher + Default + Drop>(
     alloc: Global,
     most: usize,

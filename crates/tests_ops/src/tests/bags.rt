@@ -1,10 +1,10 @@
 //! Bags of numbers from rows of text, and their text.
 use hashbag::HashBag;
-use hashbag_bench::calls::bag_of_counts;
-use hashbag_bench::texts::{counts, debug_of, halves, number};
 use std::alloc::Global;
 use std::hash::BuildHasher;
 use std::test::Fail;
+use tests_kit::calls::bag_of_counts;
+use tests_kit::texts::{counts, debug_of, halves, number};
 
 /// The three parts of a row.
 pub fn thirds(row: &str) -> Result<(&str, &str, &str), Fail> {
@@ -32,7 +32,7 @@ fn add_word(alloc: Global, pairs: &mut Vec<(u64, usize)>, word: &str) -> Result<
     Ok(())
 }
 
-/// The values and counts of a list as `5:2 6..8`, where each of 6 to 8 is there once.
+/// The values and counts of a list as `5:2 6..8`, in which each of 6 to 8 occurs once.
 pub fn pairs_of(alloc: Global, text: &str) -> Result<Vec<(u64, usize)>, Fail> {
     let mut pairs = Vec::new(alloc);
     for word in text.split_whitespace() {

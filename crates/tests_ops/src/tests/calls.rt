@@ -1,10 +1,10 @@
 //! The calls on two bags. Each has a function with no contract of its own, so that the proof carries nothing from one call to the next.
 use hashbag::{BagError, HashBag};
-use hashbag_bench::texts::debug_of;
 use hashbag_ops::{contains_all, is_disjoint, keep_common, keep_most, merge, merge_ref, take_away};
 use std::alloc::Global;
 use std::hash::{BuildHasher, Hash};
 use std::test::Fail;
+use tests_kit::texts::debug_of;
 
 /// Merges a bag into another.
 pub fn merged<T: Eq + Hash + Drop, S: BuildHasher + Drop, S2: BuildHasher + Drop>(
@@ -59,7 +59,7 @@ fn has_none<S: BuildHasher + Drop, S2: BuildHasher + Drop>(
     is_disjoint(a, b)
 }
 
-// What a call that can be refused gives, or its error.
+// Returns the text of what a call returned in `Ok`, or of its error.
 fn text_of(alloc: Global, answered: Result<(), BagError>) -> Result<String, Fail> {
     match answered {
         Ok(()) => debug_of(alloc, &()),
@@ -67,7 +67,7 @@ fn text_of(alloc: Global, answered: Result<(), BagError>) -> Result<String, Fail
     }
 }
 
-/// What a call answers that only looks at the second bag.
+/// Returns the text of what a call returns that only reads the second bag.
 pub fn answer_beside<S: BuildHasher + Drop, S2: BuildHasher + Clone + Drop>(
     alloc: Global,
     call: &str,
@@ -84,7 +84,7 @@ pub fn answer_beside<S: BuildHasher + Drop, S2: BuildHasher + Clone + Drop>(
     }
 }
 
-/// What a call on two bags answers.
+/// Returns the text of what a call on two bags returns.
 pub fn answer<S: BuildHasher + Drop, S2: BuildHasher + Clone + Drop>(
     alloc: Global,
     call: &str,

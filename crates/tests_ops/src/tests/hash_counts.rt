@@ -2,10 +2,10 @@
 use crate::tests::bags::{bag_of, thirds};
 use crate::tests::calls::{answer, answer_beside};
 use hashbag::HashBag;
-use hashbag_bench::states::CountingState;
-use hashbag_bench::texts::{debug_of, halves, is_text, rows_of};
 use std::alloc::Global;
 use std::test::Fail;
+use tests_kit::states::CountingState;
+use tests_kit::texts::{debug_of, halves, is_text, rows_of};
 
 // A call that uses the second bag up, the two bags, and how often the first bag's state hashes in it.
 const SUMS: &str = "

@@ -7,7 +7,7 @@ use std::test::Fail;
 // How many values the bag has. A list of them with their counts is 480,000 bytes.
 const VALUES: usize = 30_000;
 
-// How many kilobytes the process has addressed at most. Where that is past all memory, as where each access is checked, `None`.
+// How many kilobytes the process has addressed at most. If that is past all memory, as if each access is checked, `None`.
 fn peak(rt: &HostRuntime) -> Result<Option<usize>, Fail> {
     let text = fs::read_to_string(rt, "/proc/self/status")?;
     for line in text.lines() {
@@ -34,7 +34,7 @@ fn taken(rt: &HostRuntime, bag: &HashBag<usize>, k: usize) -> Result<Option<usiz
     Ok(Some(after.saturating_sub(before)))
 }
 
-// The commonest few take memory for themselves; all of them for a list of all.
+// The commonest few allocate a list of themselves; all of them a list of all.
 #[test]
 fn few_take_little_memory(rt: HostRuntime) -> Result<(), Fail> {
     let mut bag: HashBag<usize> = HashBag::with_capacity(rt.alloc(), VALUES)?;

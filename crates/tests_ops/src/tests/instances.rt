@@ -1,12 +1,12 @@
-//! Which instances stay: those of the first bag, and of the second only where the first had none.
+//! Which instances stay: those of the first bag, and of the second only if the first had none.
 use crate::tests::calls::{kept_common, kept_most, merged, taken_away};
 use hashbag::{BagError, HashBag};
-use hashbag_bench::texts::{debug_of, halves, is_text, rows_of};
-use hashbag_bench::{IdentityState, OneState, Tagged};
 use hashbag_ops::merge_ref;
 use std::alloc::Global;
 use std::hash::BuildHasher;
 use std::test::Fail;
+use tests_kit::texts::{debug_of, halves, is_text, rows_of};
+use tests_kit::{IdentityState, OneState, Tagged};
 
 // A call on a bag with the key 1 twice, tag 10, and the key 2 once, tag 11, and one with the key 1 three times, tag 20, and the key 3
 // once, tag 21; key, tag and count of what is left.

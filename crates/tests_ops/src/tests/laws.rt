@@ -1,10 +1,10 @@
-//! The callers that are laws, once each: what they answer, and the counts that are left.
+//! The callers that are laws, once each: what they return, and the counts that are left.
 use crate::tests::bags::{bag_of, counts_of, pairs_of, text_of_list, thirds};
 use hashbag::{BagError, FixedState, HashBag};
-use hashbag_bench::texts::{debug_of, is_text, rows_of};
 use hashbag_ops::laws::{count_in_parts, merges_associate, merges_commute, put_in_and_taken_out};
 use std::alloc::Global;
 use std::test::Fail;
+use tests_kit::texts::{debug_of, is_text, rows_of};
 
 // Two bags, and the counts of their sum.
 const ROWS: &str = "

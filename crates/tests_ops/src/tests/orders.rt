@@ -2,15 +2,15 @@
 //! `sorted(counter.items(), key=lambda pair: (-pair[1], pair[0]))`.
 use crate::tests::bags::{bag_of, text_of_list, thirds};
 use hashbag::{FixedState, HashBag};
-use hashbag_bench::calls::insert;
-use hashbag_bench::states::CountingState;
-use hashbag_bench::texts::{count, debug_of, halves, is_text, rows_of};
-use hashbag_bench::{IdentityState, OneState, ParityState};
 use hashbag_ops::{max_count, most_common, sorted};
 use std::alloc::Global;
 use std::fmt::Debug;
 use std::hash::{BuildHasher, Hash};
 use std::test::Fail;
+use tests_kit::calls::insert;
+use tests_kit::states::CountingState;
+use tests_kit::texts::{count, debug_of, halves, is_text, rows_of};
+use tests_kit::{IdentityState, OneState, ParityState};
 
 // `-` for all pairs, values rising, or how many of the commonest; the bag; the pairs.
 const ROWS: &str = "

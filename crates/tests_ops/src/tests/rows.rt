@@ -1,14 +1,14 @@
-//! Each call on two bags, with what it answers and leaves found by hand, where the two bags hash alike and where they don't.
+//! Each call on two bags, with what it returns and leaves found by hand, if the two bags hash alike and if they don't.
 use crate::tests::bags::{bag_of, counts_of, text_of_list, thirds};
 use crate::tests::calls::answer;
 use hashbag::{FixedState, HashBag};
-use hashbag_bench::texts::{count, halves, is_text, rows_of};
-use hashbag_bench::{IdentityState, OneState, ParityState, calls};
 use std::alloc::Global;
 use std::hash::BuildHasher;
 use std::test::Fail;
+use tests_kit::texts::{count, halves, is_text, rows_of};
+use tests_kit::{IdentityState, OneState, ParityState, calls};
 
-// A call, and the limit of the first bag, with `-` where none is set; the two bags; the answer, and the total that is left; the counts
+// A call, and the limit of the first bag, with `-` if none is set; the two bags; the result, and the total that is left; the counts
 // that are left. `1..25` are these values, once each: 25 values are in the middle of a carry. The second bag is at a limit of its own.
 const SUMS: &str = "
     merge - | | | () 0 |
@@ -56,7 +56,7 @@ const SUMS: &str = "
     keep_most - | 1:18446744073709551615 | 1:5 | () 18446744073709551615 | 1:18446744073709551615
     keep_most - | 1:18446744073709551614 | 1:5 2:2 | TooMany 18446744073709551614 | 1:18446744073709551614";
 
-// The same of the calls that are never refused.
+// The same of the calls that can't fail.
 const PARTS: &str = "
     keep_common - | | | () 0 |
     keep_common - | | 5:2 | () 0 |
@@ -134,7 +134,7 @@ fn state_of<S: BuildHasher + Default + Drop>(
     ))
 }
 
-// Where a call was refused, the tables are as they were; the limit is so always.
+// If a call failed, the tables are as they were; the limit is so always.
 fn is_within(
     row: &str,
     got: &str,
@@ -148,7 +148,7 @@ fn is_within(
     Ok(())
 }
 
-// Makes a call, and says what it answers, and the total that is left.
+// Makes a call, and returns the text of what it returns, and the total that is left.
 fn answer_within<S: BuildHasher + Default + Drop, S2: BuildHasher + Clone + Drop>(
     alloc: Global,
     row: &str,
@@ -163,7 +163,7 @@ fn answer_within<S: BuildHasher + Default + Drop, S2: BuildHasher + Clone + Drop
     Ok(format!(in alloc; "{got} {len}")?)
 }
 
-// What a call on two bags answers, and the counts that it leaves.
+// Returns the text of what a call on two bags returns, and the counts that it leaves.
 fn answer_of<S: BuildHasher + Default + Drop, S2: BuildHasher + Default + Clone + Drop>(
     alloc: Global,
     row: &str,

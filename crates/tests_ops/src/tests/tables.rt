@@ -2,11 +2,11 @@
 use crate::tests::bags::{bag_of, thirds};
 use crate::tests::calls::answer;
 use hashbag::{FixedState, HashBag};
-use hashbag_bench::texts::{halves, is_text, rows_of};
-use hashbag_bench::{IdentityState, OneState, calls};
 use std::alloc::Global;
 use std::hash::BuildHasher;
 use std::test::Fail;
+use tests_kit::texts::{halves, is_text, rows_of};
+use tests_kit::{IdentityState, OneState, calls};
 
 // A call, two bags, and the slots, those that wait, and the room of the first bag after it. 25 values take 64 slots, of which 16 of the
 // table before wait, with room for 23.

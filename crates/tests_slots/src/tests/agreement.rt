@@ -17,7 +17,7 @@ fn next_number(number: u64) -> u64 {
         .wrapping_add(1442695040888963407)
 }
 
-// One more of a value, of which there were so many.
+// Adds one of a value, and checks the count before.
 fn insert(rt: &impl Abort, table: &mut Numbers, value: u64, before: usize) {
     if before == 0 {
         answers(rt, "place", value, &table.place(value, 1), &true);
@@ -26,7 +26,7 @@ fn insert(rt: &impl Abort, table: &mut Numbers, value: u64, before: usize) {
     }
 }
 
-// Takes a value out, of which there were so many.
+// Removes a value, and checks its count.
 fn take(rt: &impl Abort, table: &mut Numbers, value: u64, before: usize) {
     let wanted = if before == 0 {
         None

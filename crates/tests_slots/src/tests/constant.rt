@@ -8,7 +8,7 @@ pub struct Constant {
     pub hash: u64,
 }
 
-/// Takes in nothing, and answers `hash`.
+/// Takes in nothing, and returns `hash`.
 #[derive(Clone, Copy)]
 pub struct Answer {
     hash: u64,

@@ -17,7 +17,7 @@ fn has_dropped(rt: &impl Abort, call: &str, drops: &Cell<usize>, wanted: usize) 
     assert_eq!(rt; drops.get(), wanted, "after {call}");
 }
 
-// A table of so many values, which count their drops. Their path goes past the last slot.
+// Returns a table of `many` values, which count their drops. Their path goes past the last slot.
 fn values<'a>(
     rt: &impl Abort,
     alloc: Global,
@@ -63,7 +63,7 @@ fn none_by_no_values(rt: HostRuntime) -> Result<(), Fail> {
     Ok(())
 }
 
-// What was taken out, after so many drops, is dropped by its taker.
+// What was taken out is dropped by its taker; the number of drops before is checked.
 fn is_dropped_by_its_taker<'a>(
     rt: &impl Abort,
     table: &mut Values<'a>,
@@ -114,7 +114,7 @@ fn after_removal(rt: HostRuntime) -> Result<(), Fail> {
     Ok(())
 }
 
-// Another instance of a value is stored, and the former one comes back.
+// Another instance of a value is stored, and the former one is returned.
 fn put_gives_former<'a>(rt: &impl Abort, table: &mut Values<'a>, drops: &'a Cell<usize>) {
     let former = table.put(Counted {
         key: 2,
@@ -160,7 +160,7 @@ fn by_clear(rt: HostRuntime) -> Result<(), Fail> {
     Ok(())
 }
 
-// The next values of a walk, so many, each of which its taker drops.
+// Takes the next values of a walk, and drops each.
 fn drop_next(rt: &impl Abort, walk: &mut IntoWalk<Counted<'_>>, drops: &Cell<usize>, taken: usize) {
     for before in 0..taken {
         has_dropped(rt, "an item", drops, before);
@@ -168,7 +168,7 @@ fn drop_next(rt: &impl Abort, walk: &mut IntoWalk<Counted<'_>>, drops: &Cell<usi
     }
 }
 
-// A walk that is dropped after so many values.
+// A walk that is dropped after some of its values.
 fn walk_half_way(rt: &impl Abort, alloc: Global, taken: usize) -> Result<(), AllocError> {
     let drops = Cell::new(0);
     let older = values(rt, alloc, &drops, 2)?;
@@ -188,7 +188,7 @@ fn by_walks(rt: HostRuntime) -> Result<(), Fail> {
     Ok(())
 }
 
-// Two tables that are dropped after so many slots were carried.
+// Two tables that are dropped after some slots were carried.
 fn carry_half_way(rt: &impl Abort, alloc: Global, carried: usize) -> Result<(), AllocError> {
     let drops = Cell::new(0);
     let mut pair = Pair::new(alloc, values(rt, alloc, &drops, 4)?, 5)?;

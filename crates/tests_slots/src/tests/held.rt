@@ -25,7 +25,7 @@ pub fn slot_count(k: usize) -> usize
     power(k)
 }
 
-/// A table whose values are found under the state beside it.
+/// A table and the state under which its values are found.
 #[derive(Drop)]
 pub struct Held<T: Eq + Hash, S: BuildHasher> {
     /// The table.
@@ -67,7 +67,7 @@ impl<T: Eq + Hash + Drop, S: BuildHasher + Drop> Held<T, S> {
         self.slots.find(&self.state, value)
     }
 
-    /// The place of a value, where no slot before a place is Live. `None` where one is, and where there are fewer slots.
+    /// Returns the place of a value, if no slot before a place is Live. `None` if one is, or if there are fewer slots.
     pub fn find_uncarried(&self, value: &T, from: usize) -> Option<usize> {
         if from > self.slots.slots() {
             return None;
@@ -87,7 +87,7 @@ impl<T: Eq + Hash + Drop, S: BuildHasher + Drop> Held<T, S> {
         self.slots.probe_first_group(&self.state, hash, value)
     }
 
-    /// As `place`, where the first 16 slots of the path show whether the value is absent.
+    /// As `place`, if the first 16 slots of the path show whether the value is absent.
     pub fn place_sought(&mut self, value: T, n: usize) -> Option<bool> {
         if n == 0 {
             return None;
@@ -103,7 +103,7 @@ impl<T: Eq + Hash + Drop, S: BuildHasher + Drop> Held<T, S> {
         }
     }
 
-    /// The count of a value, 0 where it is absent.
+    /// Returns the count of a value, 0 if it is absent.
     pub fn count(&self, value: &T) -> usize {
         match self.slots.find(&self.state, value) {
             Some(place) => {
@@ -114,7 +114,7 @@ impl<T: Eq + Hash + Drop, S: BuildHasher + Drop> Held<T, S> {
         }
     }
 
-    /// Adds to the count of a value that is present, where the sum fits. It answers the count before.
+    /// Adds to the count of a present value, if the sum fits. It returns the count before.
     pub fn add(&mut self, value: &T, n: usize) -> usize {
         let Some(place) = self.slots.find(&self.state, value) else {
             return 0;
@@ -129,7 +129,7 @@ impl<T: Eq + Hash + Drop, S: BuildHasher + Drop> Held<T, S> {
         before
     }
 
-    /// Gives a value that is present another count, which is not 0. It answers the count after.
+    /// Sets the count of a present value, which is not 0. It returns the count after.
     pub fn set(&mut self, value: &T, n: usize) -> usize {
         if n > 0 {
             if let Some(place) = self.slots.find(&self.state, value) {
@@ -139,7 +139,7 @@ impl<T: Eq + Hash + Drop, S: BuildHasher + Drop> Held<T, S> {
         self.count(value)
     }
 
-    /// Stores another instance of a value, and gives the former back. A value that is absent comes back itself.
+    /// Stores another instance of a value, and returns the former one. A value that is absent is returned itself.
     pub fn put(&mut self, value: T) -> T {
         match self.slots.find(&self.state, &value) {
             Some(place) => self.slots.put_at(place, value),

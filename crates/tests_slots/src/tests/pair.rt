@@ -26,7 +26,7 @@ pub struct Pair<T: Eq + Hash, S: BuildHasher> {
 }
 
 impl<T: Eq + Hash + Drop, S: BuildHasher + Drop> Pair<T, S> {
-    /// A table with a newer one of 2 to the power `k` Empty slots beside it. Where memory is refused, or the newer one is too
+    /// Returns a table with a newer one of 2 to the power `k` Empty slots. If an allocation fails, or the newer one is too
     /// small, there is no pair.
     pub fn new(alloc: Global, older: Held<T, S>, k: usize) -> Result<Pair<T, S>, AllocError>
         requires { (4 ≤ k) × (k ≤ 59) }
@@ -47,7 +47,7 @@ impl<T: Eq + Hash + Drop, S: BuildHasher + Drop> Pair<T, S> {
         })
     }
 
-    /// Carries the next slots, at most so many. It answers how many were looked at in all.
+    /// Carries the next slots, at most this many. It returns how many were carried in all.
     pub fn carry(&mut self, many: usize) -> usize {
         let count = self.older.slots();
         if self.looked > count {

@@ -1,4 +1,4 @@
-//! In which slots values lie, worked out by hand: every value has one hash, so that its probe begins where all others begin.
+//! In which slots values are, worked out by hand: every value has one hash, so that its probe begins where all others begin.
 use crate::tests::checks::answers;
 use crate::tests::constant::Constant;
 use crate::tests::held::Held;
@@ -31,14 +31,14 @@ fn has_slots(rt: &impl Abort, slots: &Slots<u64>, wanted: (usize, usize, usize))
     answers(rt, "slots", 0, &got, &wanted);
 }
 
-// Checks at which places values lie.
+// Checks at which places values are.
 fn lie_at(rt: &impl Abort, table: &Numbers, rows: &[(u64, Option<usize>)]) {
     for (value, place) in rows {
         answers(rt, "find", *value, &table.find(value), place);
     }
 }
 
-// Checks at which places of the newer and of the older table values lie.
+// Checks at which places of the newer and of the older table values are.
 fn lie_in(
     rt: &impl Abort,
     pair: &Pair<u64, Constant>,
@@ -49,7 +49,7 @@ fn lie_in(
     }
 }
 
-// Carries so many slots of a pair, and checks how many were looked at in all.
+// Carries slots of a pair, and checks how many were carried in all.
 fn carry(rt: &impl Abort, pair: &mut Pair<u64, Constant>, many: usize, looked: usize) {
     answers(rt, "carry", many as u64, &pair.carry(many), &looked);
 }
@@ -64,7 +64,7 @@ fn is_not_placed(rt: &impl Abort, table: &mut Numbers, value: u64) {
     answers(rt, "place", value, &table.place(value, 1), &false);
 }
 
-/// Takes a value out, which has so many.
+/// Removes a value, and checks its count.
 pub fn take(rt: &impl Abort, table: &mut Numbers, value: u64, count: usize) {
     answers(
         rt,
@@ -151,14 +151,14 @@ fn past_removed(rt: HostRuntime) -> Result<(), Fail> {
     Ok(())
 }
 
-// Checks what the first 16 slots of a path tell: where values are, or into which slot they would go.
+// Checks what the first 16 slots of a path show: where values are, or into which slot they would be placed.
 fn are_sought(rt: &impl Abort, table: &Numbers, rows: &[(u64, FirstGroup)]) {
     for (value, place) in rows {
         answers(rt, "seek", *value, &table.seek(value), place);
     }
 }
 
-// Checks whether a value could be placed where they tell it.
+// Checks whether a value could be placed in the slot that they show.
 fn place_sought(rt: &impl Abort, table: &mut Numbers, value: u64, placed: Option<bool>) {
     answers(
         rt,
@@ -197,7 +197,7 @@ fn sought(rt: HostRuntime) -> Result<(), Fail> {
     Ok(())
 }
 
-// The path goes past the last slot, which is no longer told.
+// The path goes past the last slot, which the first group no longer shows.
 #[test]
 fn sought_past_the_last_slot(rt: HostRuntime) -> Result<(), Fail> {
     let mut table = numbers(&rt, rt.alloc(), 15, 3)?;
@@ -260,7 +260,7 @@ fn sought_among_all_live(rt: HostRuntime) -> Result<(), Fail> {
     Ok(())
 }
 
-// Checks at which places values lie, where no slot before a place is Live.
+// Checks at which places values are, if no slot before a place is Live.
 fn lie_behind(rt: &impl Abort, table: &Numbers, rows: &[(u64, usize, Option<usize>)]) {
     for (value, from, place) in rows {
         answers(
@@ -273,7 +273,7 @@ fn lie_behind(rt: &impl Abort, table: &Numbers, rows: &[(u64, usize, Option<usiz
     }
 }
 
-// A path is gone along through Removed slots to what lies behind them, and ends at an Empty one.
+// A probe goes past Removed slots to the values after them, and ends at an Empty one.
 #[test]
 fn behind(rt: HostRuntime) -> Result<(), Fail> {
     let mut table: Numbers = Held::new(rt.alloc(), Constant { hash: 2 }, 6)?;

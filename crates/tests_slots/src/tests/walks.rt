@@ -13,7 +13,7 @@ fn next_of(walk: &mut Walk<'_, u64>) -> Option<(u64, usize)> {
     }
 }
 
-// Checks what a walk gives, one after another, and that it has so many left before each.
+// Checks what a walk gives, one after another, and that it knows before each how many are left.
 fn gives(rt: &impl Abort, mut walk: Walk<'_, u64>, wanted: &[(u64, usize)]) {
     let mut left = wanted.len();
     for entry in wanted {
@@ -57,7 +57,7 @@ fn both_give(
     Ok(())
 }
 
-// The values go past the last slot: 2 and 3 lie at the places 0 and 1.
+// The values go past the last slot: 2 and 3 are at the places 0 and 1.
 #[test]
 fn lent(rt: HostRuntime) -> Result<(), Fail> {
     let mut table = numbers(&rt, rt.alloc(), 15, 4)?;

@@ -1,18 +1,18 @@
 //! Whole runs of steps on two bags side by side, against plain lists of occurrences.
 //!
-//! What both answer is compared as `Debug` writes it, which tells equal instances apart. After every fifty steps the totals and the
+//! The replies of both are compared as `Debug` writes them, which shows the instances. After every fifty steps the totals and the
 //! joins of the two bags are compared too.
 use crate::tests::definitions::{Plain, joins_one_by_one, plain_joins, text_of_joins};
 use crate::tests::met::{Met, state_of};
 use crate::tests::steps::{MOST, STEPS, Sample, ballast, next_number, step_of, with_ballast};
 use hashbag::script::{Reply, Step, joins_of, run};
 use hashbag::{FixedState, HashBag};
-use hashbag_bench::texts::{debug_of, is_text};
-use hashbag_bench::{IdentityState, OneState, ParityState, Tagged};
 use std::alloc::{AllocError, Global};
 use std::fmt::Debug;
 use std::hash::BuildHasher;
 use std::test::Fail;
+use tests_kit::texts::{debug_of, is_text};
+use tests_kit::{IdentityState, OneState, ParityState, Tagged};
 
 // How often the ballast occurs in the first bag and in the second: never, or so often in the first that its totals come to the end of a
 // `usize`, and that the signed difference passes the end of an `isize`.
@@ -180,7 +180,7 @@ fn compare_under<T: Sample + Drop, S: BuildHasher + Copy, S2: BuildHasher + Copy
     Ok(())
 }
 
-// Each state in turn beside the next.
+// Each state in turn with the next.
 fn compare_under_each_state<T: Sample + Drop>(alloc: Global) -> Result<(), Fail> {
     compare_under::<T, _, _>(alloc, FixedState::new(), OneState)?;
     compare_under::<T, _, _>(alloc, OneState, ParityState)?;

@@ -1,14 +1,14 @@
 //! Walks over a bag in the middle of a carry, dropped after each number of items. The bag is asked again after each.
 use crate::tests::walks::{has_left, next_of};
 use hashbag::{BagError, FixedState, HashBag};
-use hashbag_bench::calls::{insert, make_calls};
-use hashbag_bench::texts::{debug_of, is_text};
-use hashbag_bench::{IdentityState, OneState, ParityState};
 use std::alloc::Global;
 use std::fmt::Debug;
 use std::hash::BuildHasher;
 use std::process::Abort;
 use std::test::Fail;
+use tests_kit::calls::{insert, make_calls};
+use tests_kit::texts::{debug_of, is_text};
+use tests_kit::{IdentityState, OneState, ParityState};
 
 // So many distinct values leave 16 slots that wait.
 const VALUES: usize = 25;
@@ -17,7 +17,7 @@ const VALUES: usize = 25;
 const ALL: &str =
     "[1, 2, 3, 4, 5, 6, 7, 8, 9, 10, 11, 12, 13, 14, 15, 16, 17, 18, 19, 20, 21, 22, 23, 24, 25]";
 
-// What a bag answers that is as it was before a walk.
+// What the calls of a bag return that is as it was before a walk.
 const AS_BEFORE: &str = "\
     counts [0, 1, 2, 3, 4, 5, 6, 7, 8, 9, 10, 11, 12, 13, 14, 15, 16, 17, 18, 19, 20, 21, 22, 23, 24, 25] = [0, 1, 1, 1, 1, 1, 1, 1, 1, 1, 1, 1, 1, 1, 1, 1, 1, 1, 1, 1, 1, 1, 1, 1, 1, 1]
     len = 25
@@ -28,7 +28,7 @@ const AS_BEFORE: &str = "\
     contains 100 = 1
     contains 25 = 1";
 
-// What a bag answers that was drained.
+// What the calls of a bag return that was drained.
 const DRAINED: &str = "\
     counts [0, 1, 2, 3, 4, 5, 6, 7, 8, 9, 10, 11, 12, 13, 14, 15, 16, 17, 18, 19, 20, 21, 22, 23, 24, 25] = [0, 0, 0, 0, 0, 0, 0, 0, 0, 0, 0, 0, 0, 0, 0, 0, 0, 0, 0, 0, 0, 0, 0, 0, 0, 0]
     is_empty = true
@@ -119,7 +119,7 @@ fn values<S: BuildHasher + Drop>(
     are_all(alloc, "set_iter", got)
 }
 
-// The sum of so many values of a walk that owns them.
+// Returns the sum of the first values of a walk that owns them.
 fn sum_of_first<I: ExactSizeIterator<Item = (u64, usize)> + Drop>(
     rt: &impl Abort,
     name: &str,
@@ -148,7 +148,7 @@ fn moved<S: BuildHasher + Drop>(rt: &impl Abort, bag: HashBag<u64, S>, taken: us
     sum_of_first(rt, "into_iter", bag.into_iter(), taken)
 }
 
-// The sum of so many different numbers from 1 on is at least that of the least ones, and all together have the sum 325.
+// The sum of n different numbers from 1 on is at least that of the least ones, and all together have the sum 325.
 fn is_sum(rt: &impl Abort, sum: u64, taken: usize) {
     let least = (taken as u64).saturating_mul((taken as u64).saturating_add(1)) / 2;
     assert!(rt; sum >= least && sum <= 325, "{sum} after {taken}");

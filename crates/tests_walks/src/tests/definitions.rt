@@ -2,13 +2,13 @@
 use crate::tests::steps::{Sample, ballast};
 use hashbag::HashBag;
 use hashbag::script::Joins;
-use hashbag_bench::PlainBag;
 use std::alloc::{AllocError, Global};
 use std::fmt::Debug;
 use std::hash::BuildHasher;
 use std::test::Fail;
+use tests_kit::PlainBag;
 
-/// A plain list of occurrences, and beside it so many of the ballast.
+/// A plain list of occurrences, and how many there are of the ballast.
 #[derive(Drop)]
 pub struct Plain<T: Eq + Copy + Drop> {
     /// The list.

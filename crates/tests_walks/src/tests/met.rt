@@ -37,7 +37,7 @@ pub fn state_of<T: Eq + Hash + Drop, S: BuildHasher + Drop>(bag: &HashBag<T, S>)
 /// How many steps met what.
 #[derive(Debug, Drop)]
 pub struct Met {
-    /// New values where there was no room, for which a table was made.
+    /// New values without room, for which a table was made.
     pub growths: usize,
     /// New values that left fewer slots waiting.
     pub carries: usize,

@@ -1,13 +1,13 @@
-//! What `Debug` writes of a bag of three values and of its four walks. The order of the values is open, so only how often each of them
-//! stands there is looked at.
+//! What `Debug` writes of a bag of three values and of its four walks. The values are in no particular order, so only how often each
+//! occurs there is compared.
 use crate::tests::walks::bag_of_names;
 use hashbag::{FixedState, HashBag};
-use hashbag_bench::OneState;
-use hashbag_bench::texts::{debug_of, is_text};
 use std::alloc::Global;
 use std::fmt::Debug;
 use std::hash::BuildHasher;
 use std::test::Fail;
+use tests_kit::OneState;
+use tests_kit::texts::{debug_of, is_text};
 
 const NAMES: [&str; 4] = ["Einar", "Olaf", "Harald", "Olaf"];
 

@@ -2,10 +2,10 @@
 //!
 //! Over two hundred steps the bag is filled and then emptied, so that its tables grow, carry and shrink again and again.
 use hashbag::script::Step;
-use hashbag_bench::Tagged;
 use std::alloc::{AllocError, Global};
 use std::fmt::Debug;
 use std::hash::Hash;
+use tests_kit::Tagged;
 
 /// How many steps a list has.
 pub const STEPS: u64 = 2000;
@@ -52,7 +52,7 @@ pub fn next_number(number: u64) -> u64 {
         .wrapping_add(1442695040888963407)
 }
 
-// How many of each value but the last are to stay. The first value stands there a second time, which is not looked at.
+// How many of each value but the last are to stay. The first value is there a second time, which is not read.
 fn quotas<T: Sample + Drop>(
     alloc: Global,
     amount: usize,
@@ -69,7 +69,7 @@ fn quotas<T: Sample + Drop>(
     Ok(list)
 }
 
-// A step that seldom comes. All totals are far below the number that it says, where it says one.
+// A step that is rare. All totals are far below the number that it says, if it says one.
 fn rare_step<T: Drop>(choice: u64, value: T, amount: usize) -> Step<T> {
     match choice % 8 {
         0 => Step::InsertMany(value, usize::MAX - amount.min(3)),

@@ -1,8 +1,5 @@
 //! Walks over the bag, with the items found by hand, and the texts of `Debug`.
 use hashbag::{Drain, FixedState, HashBag, IntoIter, Iter, SetIter};
-use hashbag_bench::calls::{bag_of, bag_of_counts, counts_of, make_calls};
-use hashbag_bench::texts::{debug_of, is_text};
-use hashbag_bench::{IdentityState, OneState, ParityState};
 use hashbag_callers::uses::{
     first_moved_out, moved_out, number_by_loop, number_of_items, sum_by_loop, sum_of_counts,
     sum_used_up,
@@ -12,6 +9,9 @@ use std::fmt::Debug;
 use std::hash::{BuildHasher, Hash};
 use std::process::Abort;
 use std::test::Fail;
+use tests_kit::calls::{bag_of, bag_of_counts, counts_of, make_calls};
+use tests_kit::texts::{debug_of, is_text};
+use tests_kit::{IdentityState, OneState, ParityState};
 
 // Occurrences of `sample_bag`.
 const ITEMS: usize = 6;
@@ -101,7 +101,7 @@ fn walks_over_names<S: BuildHasher + Default + Drop>(
     Ok(())
 }
 
-// What the sample bag answers after a walk that borrowed it.
+// What the calls of the sample bag return after a walk that borrowed it.
 fn is_sample<S: BuildHasher + Drop>(
     rt: &impl Abort,
     alloc: Global,
@@ -137,7 +137,7 @@ where
     walk.next()
 }
 
-// Takes so many items of a walk, which has to have them.
+// Takes items of a walk, which has to have them.
 fn take_items<I: Iterator>(rt: &impl Abort, name: &str, walk: &mut I, taken: usize)
 where
     I::Item: Drop,
@@ -212,7 +212,7 @@ fn owned_walks_dropped<S: BuildHasher + Default + Copy>(
     Ok(())
 }
 
-// After the last of so many items there is none for good.
+// After the last item there is none for good.
 fn ends_after<I: Iterator + Drop>(rt: &impl Abort, name: &str, walk: I, items: usize)
 where
     I::Item: Drop,
@@ -225,7 +225,7 @@ where
     }
 }
 
-// The occurrences of one value stand side by side: the value changes twice over three values.
+// The occurrences of one value follow one another: the value changes twice over three values.
 fn changes_of_value<S: BuildHasher + Drop>(bag: &HashBag<u64, S>) -> usize {
     let mut changes = 0usize;
     let mut before = None;

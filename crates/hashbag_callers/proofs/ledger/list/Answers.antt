@@ -1,15 +1,16 @@
 use Rattle.std.proofs.Common.{◌≡◌, ℕ, zero, suc, ◌<◌, Bool, Result, Ok, Err, IfOk, refl, sym, ap, subst, arith, rules}
 use Rattle.std.specs.Cmp.{IsEquivalence}
-use Rattle.hashbag.specs.Bag.{Bag, IsBagOf}
-use Rattle.hashbag.specs.Occurrences.{count, add}
+use Rattle.hashbag.specs.Bag.{Bag}
+use Rattle.hashbag.specs.Inserts.{Inserts}
+use Rattle.hashbag.specs.Occurrences.{count}
 use Rattle.hashbag.proofs.CallerLemmas.{count_inserted, count_inserted_other}
 use Rattle.hashbag_callers.specs.Ledger.{ChangesOnly}
 use Rattle.hashbag_callers.proofs.ledger.list.Goals as goal
 
 module _ {T S E : Type 0} {eq : T → T → Bool} (laws : IsEquivalence eq) (before left : Bag T S) (v : T) (r : Result ℕ E) where
   -- what the clauses of `or_insert` say of the bag that the entry left
-  module _ (occupied : 0 < count eq v before.items → (r ≡ Ok (count eq v before.items)) × (left ≡ before)) (vacant : count eq v before.items ≡ 0 → IfOk r (λ n. (n ≡ 1) × IsBagOf eq before (add eq v 1 before.items) left)) where
-    there_new : (o : Result ℕ E) → IfOk o (λ n. (n ≡ 1) × IsBagOf eq before (add eq v 1 before.items) left) → IfOk o (λ n. 0 < n)
+  module _ (occupied : 0 < count eq v before.items → (r ≡ Ok (count eq v before.items)) × (left ≡ before)) (vacant : count eq v before.items ≡ 0 → IfOk r (λ n. (n ≡ 1) × Inserts eq v 1 before left)) where
+    there_new : (o : Result ℕ E) → IfOk o (λ n. (n ≡ 1) × Inserts eq v 1 before left) → IfOk o (λ n. 0 < n)
     there_new (Ok n) came = let one = came.0 in omega arith
     there_new (Err e) came = tt
 
@@ -17,11 +18,11 @@ module _ {T S E : Type 0} {eq : T → T → Bool} (laws : IsEquivalence eq) (bef
     there zero is = there_new r (vacant is)
     there (suc k) is = subst (λ (o : Result ℕ E). IfOk o (λ n. 0 < n)) (sym (occupied (omega arith)).0) (omega arith)
 
-    listed_new : (o : Result ℕ E) → count eq v before.items ≡ 0 → IfOk o (λ n. (n ≡ 1) × IsBagOf eq before (add eq v 1 before.items) left) → IfOk o (λ n. ChangesOnly eq v n before left)
+    listed_new : (o : Result ℕ E) → count eq v before.items ≡ 0 → IfOk o (λ n. (n ≡ 1) × Inserts eq v 1 before left) → IfOk o (λ n. ChangesOnly eq v n before left)
     listed_new (Ok n) none came =
         let one = came.0 in
-        let now = count_inserted laws before left v 1 came.1 in
-        record { changed = omega arith; others = λ w other. count_inserted_other laws before left w v 1 came.1 other }
+        let now = count_inserted laws before left v 1 came.1.added in
+        record { changed = omega arith; others = λ w other. count_inserted_other laws before left w v 1 came.1.added other }
     listed_new (Err e) none came = tt
 
     listed : (k : ℕ) → count eq v before.items ≡ k → IfOk r (λ n. ChangesOnly eq v n before left)

@@ -28,7 +28,7 @@ returns-clause-slots g c = λ room.
     let all = rw c.unwrap.ensures at c.extend.ensures.all in
     let came = ap (λ (l : List g.row.T.Denot). length l) (sym (map-id all.items) ∙ items_that_came all.items all.came (YieldsList-from_vec {s = c.into_iter.result} c.args.values.items (search rules) (search rules))) in
     let enough = c.in_ok-reserve.ensures.room in
-    let same = c.in_ok-reserve.ensures.same (omega (arith, room)) in
+    let same = (c.in_ok-reserve.ensures.enough (omega (arith, room))).1 in
     (stays_within all (omega (arith, came, enough))).slots ∙ ap (λ (b : _). length b.tables.newer) same
 
 pub returns-clause-built : goal.returns-clause-built
@@ -36,5 +36,5 @@ returns-clause-built g c = λ room.
     let all = rw c.unwrap.ensures at c.extend.ensures.all in
     let came = ap (λ (l : List g.row.T.Denot). length l) (sym (map-id all.items) ∙ items_that_came all.items all.came (YieldsList-from_vec {s = c.into_iter.result} c.args.values.items (search rules) (search rules))) in
     let enough = c.in_ok-reserve.ensures.room in
-    let same = c.in_ok-reserve.ensures.same (omega (arith, room)) in
+    let same = (c.in_ok-reserve.ensures.enough (omega (arith, room))).1 in
     (stays_within all (omega (arith, came, enough))).built ∙ ap (λ (b : _). b.tables.built) same

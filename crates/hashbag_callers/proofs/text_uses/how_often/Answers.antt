@@ -8,5 +8,5 @@ use Rattle.hashbag_callers.proofs.text_uses.how_often.Goals as goal
 -- the word names the `String` with its bytes
 pub returns : goal.returns
 returns g c v same =
-    c.contains_key.ensures.count
+    c.contains.ensures.count
     ∙ count_of_key string_eq_equiv v (λ w. bytes_eq (string_bytes w) c.args.word.now) (text_names_one c.args.word.now) ((bytes_decides (string_bytes v) c.args.word.now).1 same) c.args.bag.now.items

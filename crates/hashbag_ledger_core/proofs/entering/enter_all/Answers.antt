@@ -1,7 +1,8 @@
-use Rattle.std.proofs.Common.{◌≡◌, ◌+◌, ◌≤◌, ◌∷◌, ◌++◌, [], List, true, is_ok, length, refl, sym, ◌∙◌, ap, subst, arith}
+use Rattle.std.proofs.Common.{◌≡◌, ◌+◌, ◌≤◌, ◌∷◌, ◌++◌, [], List, true, is_ok, length, Err, refl, sym, ◌∙◌, ap, subst, arith}
 use Rattle.std.specs.Vec.Iter.{into_iter_items, into_iter_len}
 use Rattle.std.proofs.lemmas.List.{nil_from_length}
 use Rattle.std.proofs.lemmas.Result.{err_from_is_err_and}
+use Rattle.hashbag_ledger_core.specs.declared.entering.LedgerError.{LedgerError}
 use Rattle.hashbag_ledger_core.specs.declared.movements.Movement.{Movement}
 use Rattle.hashbag_ledger_core.specs.Ledger.{coming, stock_of, Leaves, IsPastLimit}
 use Rattle.hashbag_ledger_core.proofs.EnterLemmas.{next_entered, next_refused, next_past}
@@ -16,9 +17,9 @@ returns-in_err-refusal-clause-past g c =
     (λ p is.
     let at = c.loop-movement in
     let all = c.into_iter-movement-iterator.ensures.into_iter_gives.0 in
-    let over = rw at.invariant.limit at c.in_err-refusal.ensures.too_many in
+    let passes = rw at.invariant.limit at c.in_err-refusal.ensures.too_many in
     subst (λ (l : List (Movement g.row.T.Denot)). IsPastLimit g.T.PartialEq.eq c.args.stock.now.items c.args.stock.now.most l p) all
-    (next_past at.stock c.enter.new.stock c.in-Some.ensures.steps.0 at.invariant.so_far c.in_err-refusal.field-0.0 p c.args.stock.now.most is c.in_err-refusal.ensures.why over))
+    (next_past at.stock c.enter.new.stock c.in-Some.ensures.steps.0 at.invariant.so_far c.in_err-refusal.field-0.0 p c.args.stock.now.most is c.in_err-refusal.ensures.why (λ same. passes.0 (ap (λ (x : LedgerError). Err x) same))))
 
 -- it is refused
 pub loop-movement-preserved-in-Continue-branch-3 : goal.loop-movement-preserved-in-Continue-branch-3
@@ -33,7 +34,7 @@ loop-movement-preserved-in-Continue-branch-3 g c =
     let within : length at.stock.items + coming c.in-Some.movement.change ≤ c.args.stock.now.most = rw at.invariant.limit at c.in_ok-refusal.ensures.fits in
     record {
       long = omega arith;
-      so_far = next_refused at.stock c.enter.new.stock steps at.invariant.so_far c.in-Some-2.refusal c.push.new.self.items ((rw c.in-Some-2.is at c.in_ok-refusal.ensures.same) refl) noted (rw c.in-Some-2.is at c.in_ok-refusal.ensures.refused);
+      so_far = next_refused at.stock c.enter.new.stock steps at.invariant.so_far c.in-Some-2.refusal c.push.new.self.items ((rw c.in-Some-2.is at c.in_ok-refusal.ensures.unchanged) refl) noted (rw c.in-Some-2.is at c.in_ok-refusal.ensures.refusal);
       limit = rw at.invariant.limit at c.enter.ensures.limit;
       fit = next_fits g.T.PartialEq.eq (stock_of g.T.PartialEq.eq c.args.stock.now.items) steps at.invariant.so_far within at.invariant.fit;
     }
@@ -49,7 +50,7 @@ loop-movement-preserved g c =
     let within : length at.stock.items + coming c.in-Some.movement.change ≤ c.args.stock.now.most = rw at.invariant.limit at c.in_ok-refusal.ensures.fits in
     record {
       long = omega arith;
-      so_far = next_entered at.stock c.enter.new.stock steps at.invariant.so_far (c.in_ok-refusal.ensures.entered c.in_default.is) (c.in_ok-refusal.ensures.len c.in_default.is);
+      so_far = next_entered at.stock c.enter.new.stock steps at.invariant.so_far (c.in_ok-refusal.ensures.entered c.in_default.is) (c.in_ok-refusal.ensures.total c.in_default.is);
       limit = rw at.invariant.limit at c.enter.ensures.limit;
       fit = next_fits g.T.PartialEq.eq (stock_of g.T.PartialEq.eq c.args.stock.now.items) steps at.invariant.so_far within at.invariant.fit;
     }

@@ -17,10 +17,10 @@ returns-clause-leaves g c =
     let eq = g.T.PartialEq.eq in
     leaves_of_start eq (stock_of eq c.in_ok-stock.stock.items) (listed eq c.args.start.items) c.in_ok-stock.ensures.counts c.args.movements.items (stock_of eq c.enter_all.new.stock.items) (listed eq c.in_ok-balance.balance.items) c.in_ok-balance.ensures.quantities c.in_ok-refusals.ensures.leaves
 
-pub returns-clause-refused : goal.returns-clause-refused
-returns-clause-refused g c =
+pub returns-clause-refusals : goal.returns-clause-refusals
+returns-clause-refusals g c =
     let eq = g.T.PartialEq.eq in
-    refused_of_start eq (stock_of eq c.in_ok-stock.stock.items) (listed eq c.args.start.items) c.in_ok-stock.ensures.counts c.args.movements.items c.in_ok-refusals.refusals.items c.in_ok-refusals.ensures.refused
+    refused_of_start eq (stock_of eq c.in_ok-stock.stock.items) (listed eq c.args.start.items) c.in_ok-stock.ensures.counts c.args.movements.items c.in_ok-refusals.refusals.items c.in_ok-refusals.ensures.refusals
 
 pub returns-clause-fit : goal.returns-clause-fit
 returns-clause-fit g c = λ p.

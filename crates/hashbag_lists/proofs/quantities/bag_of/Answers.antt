@@ -29,8 +29,8 @@ returns-clause-fits g c =
     let all = all_made laws {after = made} c.with_hasher-bag.ensures.empty c.with_hasher-bag.ensures.slots c.with_hasher-bag.ensures.limit c.in_ok-extend_many.ensures.all in
     numbers_fit laws (YieldsList-from_vec {s = c.into_iter.result} c.args.list.items (search rules) (search rules)) made.hasher made all
 
-pub returns-in_err-extend_many-clause-memory : goal.returns-in_err-extend_many-clause-memory
-returns-in_err-extend_many-clause-memory g c = λ fits.
+pub returns-in_err-extend_many-clause-only_memory : goal.returns-in_err-extend_many-clause-only_memory
+returns-in_err-extend_many-clause-only_memory g c = λ fits.
     let laws = g.met.T.Eq.laws in
     only_memory laws (YieldsList-from_vec {s = c.into_iter.result} c.args.list.items (search rules) (search rules)) fits c.from_residual.result
     (handed_on c.from_residual.result c.in_err-extend_many.field-0.0 _ _ (λ x is. cc) c.from_residual.ensures.1

@@ -188,7 +188,7 @@ unwrap-requires-in-Some g c =
     let parts = sum_by-cons (λ (p : g.row.T.Denot × ℕ). p.1) (c.in-Some.value, c.in-Some.n) c.next.new.self in
     let most = (adds_in_turn g.met.T.Eq.laws far.first before c.pairs.into c.len-len.ensures.bag far.turn).limit in
     let fits_one : length c.pairs.into.items + c.in-Some.n ≤ c.pairs.into.most = omega (arith, all, sum, parts, most) in
-    takes_one g.met.T.Eq.laws c.pairs.into c.in-Some.value c.in-Some.n c.insert_many-in-Some.result fits_one (c.insert_many-in-Some.ensures.takes fits_one) c.insert_many-in-Some.ensures.refused
+    takes_one g.met.T.Eq.laws c.pairs.into c.in-Some.value c.in-Some.n c.insert_many-in-Some.result fits_one c.insert_many-in-Some.ensures.refused
     (c.has_no_room_for.ensures.there c.if-has_no_room_for.false)
 
 pub pairs-preserved : goal.pairs-preserved

@@ -17,17 +17,11 @@ union_long {eq = eq} laws X Y more Z rest union =
     ∙ length-append X more
 
 pub returns-clause-too_many : goal.returns-clause-too_many
-returns-clause-too_many g c = λ Z union over.
+returns-clause-too_many g c = λ Z union.
     let long = union_long g.met.T.Eq.laws c.args.into.now.items c.args.from.items c.take_away.new.bag.items Z c.take_away.ensures.counts union in
-    c.merge.ensures.too_many (omega (arith, long, over))
+    (λ is. let over = c.merge.ensures.too_many.0 is in omega (arith, long, over), λ over. c.merge.ensures.too_many.1 (omega (arith, long, over)))
 
-pub returns-clause-refused : goal.returns-clause-refused
-returns-clause-refused g c = λ is Z union.
+pub returns-clause-only_memory : goal.returns-clause-only_memory
+returns-clause-only_memory g c = λ Z union fits.
     let long = union_long g.met.T.Eq.laws c.args.into.now.items c.args.from.items c.take_away.new.bag.items Z c.take_away.ensures.counts union in
-    let over = c.merge.ensures.refused is in
-    omega (arith, long, over)
-
-pub returns-clause-memory : goal.returns-clause-memory
-returns-clause-memory g c = λ Z union fits.
-    let long = union_long g.met.T.Eq.laws c.args.into.now.items c.args.from.items c.take_away.new.bag.items Z c.take_away.ensures.counts union in
-    c.merge.ensures.memory (omega (arith, long, fits))
+    c.merge.ensures.only_memory (omega (arith, long, fits))

@@ -1,4 +1,4 @@
-use Rattle.std.proofs.Common.{ap, refl}
+use Rattle.std.proofs.Common.{◌≤◌, length, inl, inr, ap, arith, refl, subst, sym}
 use Rattle.hashbag_table.proofs.RoomKeptLemmas.{keeps_same, keeps_as}
 use Rattle.hashbag_script.proofs.RoomLemmas.{moves_kept}
 use Rattle.hashbag_script.specs.Script.{is_about_room}
@@ -52,3 +52,9 @@ returns-in-Count-clause-turns g c =
 pub returns-in-Limit-clause-turns : goal.returns-in-Limit-clause-turns
 returns-in-Limit-clause-turns g c =
     turns_quiet g.T.PartialEq.eq _ _ _ _ _ (ap is_about_room c.in-Limit.is) (moves_kept _ _ _ (keeps_as 0 _ _ (ap (λ b. b.tables) c.set_limit.ensures.left)))
+
+pub returns-in_ok-shrink_to_fit-in-ShrinkToFit-clause-fewer : goal.returns-in_ok-shrink_to_fit-in-ShrinkToFit-clause-fewer
+returns-in_ok-shrink_to_fit-in-ShrinkToFit-clause-fewer g c = λ about asks. elim c.in_ok-shrink_to_fit-in-ShrinkToFit.ensures.shrinks [
+  | inl stays ↦ subst (λ t. length t.newer ≤ length c.args.bag.now.tables.newer) (sym stays.1) (omega arith)
+  | inr packs ↦ let less = packs.0 in omega (arith, less)
+]

@@ -22,16 +22,16 @@ returns-in-Ok-clause-room g c =
 
 pub returns-in-Err-TooMany-clause-left : goal.returns-in-Err-TooMany-clause-left
 returns-in-Err-TooMany-clause-left g c =
-    let passes : c.args.bag.now.most < length c.args.bag.now.items + c.args.n = subst (λ (e : BagError). Refuses g.T.PartialEq.eq c.args.bag.now.most c.args.bag.now.items c.args.value c.args.n e) c.in-Err-TooMany.field-0-is c.in-Err-TooMany.ensures.refused in
+    let passes : c.args.bag.now.most < length c.args.bag.now.items + c.args.n = subst (λ (e : BagError). Refuses g.T.PartialEq.eq c.args.bag.now.most c.args.bag.now.items c.args.value c.args.n e) c.in-Err-TooMany.field-0-is c.in-Err-TooMany.ensures.refused.why in
     row_kept g.met.T.Eq.laws _ _ c.args.bag.now c.insert_many.new.self c.len-len.ensures.bag (insert_row-passes g.met.T.Eq.laws c.args.bag.now.most c.args.value c.args.n c.args.bag.now.items passes) c.in-Err-TooMany.ensures.err
 
-pub returns-in-Err-Memory-clause-refused : goal.returns-in-Err-Memory-clause-refused
-returns-in-Err-Memory-clause-refused g c =
-    let asks = refuses_memory g.met.T.Eq.laws c.args.bag.now.most c.args.bag.now.items c.args.value c.args.n c.in-Err-Memory.field-0 c.in-Err-Memory.field-0-is c.in-Err-Memory.ensures.refused in
+pub returns-in-Err-Memory-clause-asked : goal.returns-in-Err-Memory-clause-asked
+returns-in-Err-Memory-clause-asked g c =
+    let asks = refuses_memory g.met.T.Eq.laws c.args.bag.now.most c.args.bag.now.items c.args.value c.args.n c.in-Err-Memory.field-0 c.in-Err-Memory.field-0-is c.in-Err-Memory.ensures.refused.why in
     record { absent = asks.2; some = asks.1; fits = asks.0 }
 
 pub returns-in-Err-Memory-clause-takes : goal.returns-in-Err-Memory-clause-takes
 returns-in-Err-Memory-clause-takes g c = λ enough.
-    let asks = refuses_memory g.met.T.Eq.laws c.args.bag.now.most c.args.bag.now.items c.args.value c.args.n c.in-Err-Memory.field-0 c.in-Err-Memory.field-0-is c.in-Err-Memory.ensures.refused in
+    let asks = refuses_memory g.met.T.Eq.laws c.args.bag.now.most c.args.bag.now.items c.args.value c.args.n c.in-Err-Memory.field-0 c.in-Err-Memory.field-0-is c.in-Err-Memory.ensures.refused.why in
     let one = one_inserted g.met.T.Eq.laws c.args.bag.now.most c.args.value c.args.n c.args.bag.now.items asks.2 asks.1 asks.0 in
     absurd (false≢true (c.in-Err-Memory.ensures.takes asks.0 (omega (arith, one, enough))))

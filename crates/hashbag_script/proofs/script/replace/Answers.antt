@@ -9,29 +9,29 @@ use Rattle.hashbag_script.proofs.script.replace.Goals as goal
 
 pub returns-in-Ok-clause-room : goal.returns-in-Ok-clause-room
 returns-in-Ok-clause-room g c =
-    let done = c.in-Ok.ensures in
+    let before = c.in-Ok.ensures.before in
+    let done = c.in-Ok.ensures.replaced in
     let long = done.len in
-    let before = done.before in
-    let within = done.put.bag.fits in
-    let same = done.put.limit in
+    let within = done.stored.bag.fits in
+    let same = done.stored.limit in
     moves_inserted c.in-Ok.before 1 _ c.args.bag.now.tables c.replace.new.self.tables (λ none. absurd (omega (arith, none)))
-    (λ more some. done.same_room some)
-    (λ more none. done.arrives (sym done.before ∙ none))
-    (λ none some. one_replaced g.met.T.Eq.laws c.args.bag.now.most c.args.value c.args.bag.now.items (sym done.before ∙ none) (omega (arith, none, long, within, same)))
+    (λ more some. done.same_room (omega (arith, before, some)))
+    (λ more none. done.arrives (sym before ∙ none))
+    (λ none some. one_replaced g.met.T.Eq.laws c.args.bag.now.most c.args.value c.args.bag.now.items (sym before ∙ none) (omega (arith, none, before, long, within, same)))
 
 pub returns-in-Err-TooMany-clause-left : goal.returns-in-Err-TooMany-clause-left
 returns-in-Err-TooMany-clause-left g c =
-    let passes : c.args.bag.now.most < length c.args.bag.now.items + 1 = subst (λ (e : BagError). Refuses g.T.PartialEq.eq c.args.bag.now.most c.args.bag.now.items c.args.value 1 e) c.in-Err-TooMany.field-0-is c.in-Err-TooMany.ensures.refused in
+    let passes : c.args.bag.now.most < length c.args.bag.now.items + 1 = subst (λ (e : BagError). Refuses g.T.PartialEq.eq c.args.bag.now.most c.args.bag.now.items c.args.value 1 e) c.in-Err-TooMany.field-0-is c.in-Err-TooMany.ensures.refused.why in
     row_kept g.met.T.Eq.laws _ _ c.args.bag.now c.replace.new.self c.len-len.ensures.bag (replace_row-passes g.met.T.Eq.laws c.args.bag.now.most c.args.value c.args.bag.now.items c.in-Err-TooMany.ensures.absent passes) c.in-Err-TooMany.ensures.err
 
-pub returns-in-Err-Memory-clause-refused : goal.returns-in-Err-Memory-clause-refused
-returns-in-Err-Memory-clause-refused g c =
-    let asks = refuses_memory g.met.T.Eq.laws c.args.bag.now.most c.args.bag.now.items c.args.value 1 c.in-Err-Memory.field-0 c.in-Err-Memory.field-0-is c.in-Err-Memory.ensures.refused in
+pub returns-in-Err-Memory-clause-asked : goal.returns-in-Err-Memory-clause-asked
+returns-in-Err-Memory-clause-asked g c =
+    let asks = refuses_memory g.met.T.Eq.laws c.args.bag.now.most c.args.bag.now.items c.args.value 1 c.in-Err-Memory.field-0 c.in-Err-Memory.field-0-is c.in-Err-Memory.ensures.refused.why in
     record { absent = asks.2; some = asks.1; fits = asks.0 }
 
 pub returns-in-Err-Memory-clause-takes : goal.returns-in-Err-Memory-clause-takes
 returns-in-Err-Memory-clause-takes g c = λ enough.
-    let asks = refuses_memory g.met.T.Eq.laws c.args.bag.now.most c.args.bag.now.items c.args.value 1 c.in-Err-Memory.field-0 c.in-Err-Memory.field-0-is c.in-Err-Memory.ensures.refused in
+    let asks = refuses_memory g.met.T.Eq.laws c.args.bag.now.most c.args.bag.now.items c.args.value 1 c.in-Err-Memory.field-0 c.in-Err-Memory.field-0-is c.in-Err-Memory.ensures.refused.why in
     let one = one_replaced g.met.T.Eq.laws c.args.bag.now.most c.args.value c.args.bag.now.items asks.2 asks.0 in
     let none = asks.2 in
     let fits = asks.0 in

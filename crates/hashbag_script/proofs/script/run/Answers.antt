@@ -99,7 +99,7 @@ returns-in_err-reply-clause-stopped g c =
       refused =
           let before = at.invariant.means X means in
           subst (λ (m : ℕ). AsksForMemory eq m (run_of eq most X at.yielded).0 c.in-Some.step) (at.invariant.limit X means)
-          (asks_rearranged g.met.T.Eq.laws (run_of eq most X at.yielded).0 at.bag.items before (bag_rearranged g.met.T.Eq.laws _ _ (IsPermutation-sym _ _ before) c.apply.ensures.bag) c.in-Some.step c.in_err-reply.ensures.refused);
+          (asks_rearranged g.met.T.Eq.laws (run_of eq most X at.yielded).0 at.bag.items before (bag_rearranged g.met.T.Eq.laws _ _ (IsPermutation-sym _ _ before) c.apply.ensures.bag) c.in-Some.step c.in_err-reply.ensures.asked);
       full = λ about.
           let few = few_newcomers g.met.T.Eq.laws at.bag.items (step_of eq at.bag.most at.bag.items c.in-Some.step).0 in
           ap (λ b. room b.tables) c.in_err-reply.ensures.err ∙ none_left (room at.bag.tables) (λ some. false≢true (c.in_err-reply.ensures.takes about (omega (arith, few, some))));
@@ -114,8 +114,8 @@ from_start {eq = eq} {most = most} X steps all t e h = subst (λ l. IsRoomy eq m
 pub returns-clause-slots : goal.returns-clause-slots
 returns-clause-slots g c = λ X means roomy. (c.loop-step.invariant.roomy X means (from_start X _ _ c.args.bag.now.tables c.into_iter-step-iterator.ensures.into_iter_gives.0 roomy)).slots
 
-pub returns-clause-takes : goal.returns-clause-takes
-returns-clause-takes g c = λ X means roomy. tt
+pub returns-clause-roomy : goal.returns-clause-roomy
+returns-clause-roomy g c = λ X means roomy. tt
 
 -- a step that isn't about room is not refused where there is room
 not_refused : (g : _) (c : goal.After-drop-step-iterator g) (X : List g.row.T.Denot) → Means c.args.bag.now X → IsRoomy g.T.PartialEq.eq c.args.bag.now.most X c.args.steps.items c.args.bag.now.tables → ⊥
@@ -136,8 +136,8 @@ not_refused g c X means roomy =
 pub returns-in_err-reply-clause-slots : goal.returns-in_err-reply-clause-slots
 returns-in_err-reply-clause-slots g c = λ X means roomy. absurd (not_refused g c X means roomy)
 
-pub returns-in_err-reply-clause-takes : goal.returns-in_err-reply-clause-takes
-returns-in_err-reply-clause-takes g c = λ X means roomy. absurd (not_refused g c X means roomy)
+pub returns-in_err-reply-clause-roomy : goal.returns-in_err-reply-clause-roomy
+returns-in_err-reply-clause-roomy g c = λ X means roomy. absurd (not_refused g c X means roomy)
 
 -- no room for the replies: nothing was done
 pub returns-in_err-reserve-clause-stopped : goal.returns-in_err-reserve-clause-stopped

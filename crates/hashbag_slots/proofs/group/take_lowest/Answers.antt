@@ -10,8 +10,8 @@ returns-clause-first c test at until le tells =
     let lowest = bit_at-trailing_zeros w64 c.args.bits c.requires.some c.ranges.bits.fits in
     first_told test c.args.from at until c.args.bits tells (trailing_zeros w64 c.args.bits) lowest.1 lowest.2 le
 
-pub returns-clause-below : goal.returns-clause-below
-returns-clause-below c test at until tells =
+pub returns-clause-before_until : goal.returns-clause-before_until
+returns-clause-before_until c test at until tells =
     let lowest = bit_at-trailing_zeros w64 c.args.bits c.requires.some c.ranges.bits.fits in
     first_below test c.args.from at until c.args.bits tells (trailing_zeros w64 c.args.bits) lowest.1 lowest.2
 

@@ -22,7 +22,7 @@ take-requires g c =
     let ts = c.args.tags.now in let i = c.marks.invariant in let test : ℕ → Bool = is_mark ts in
     let told = c.take_lowest-place.ensures in
     let first = told.first test i.0 (c.args.from + 16) i.1 i.3 in
-    let high = leb-true _ _ (first.hit (told.below test i.0 (c.args.from + 16) i.3)) in
+    let high = leb-true _ _ (first.hit (told.before_until test i.0 (c.args.from + 16) i.3)) in
     let low = first.low in
     i.4.filled c.take_lowest-place.result.0 (omega arith) high
 
@@ -32,7 +32,7 @@ marks-preserved g c =
     let place = c.take_lowest-place.result.0 in
     let told = c.take_lowest-place.ensures in
     let first = told.first test i.0 (c.args.from + 16) i.1 i.3 in
-    let below = told.below test i.0 (c.args.from + 16) i.3 in
+    let below = told.before_until test i.0 (c.args.from + 16) i.3 in
     let low = first.low in let room = c.requires.within in let begun = i.1 in (
       place + 1,
       omega arith,

@@ -38,7 +38,7 @@ returns-then-ahead-ne0 c =
     let live = is_mark (of_turn turn ns os) in let place = c.take_lowest-place.result.0 in let rest = c.take_lowest-place.result.1 in
     let base : ℕ = until - 16 in let up : base + 16 ≡ until = omega arith in
     let e = c.take_lowest-place.ensures in
-    let below = e.below live next until course.told in let first = e.first live next until (omega arith) course.told in let low = first.low in
+    let below = e.before_until live next until course.told in let first = e.first live next until (omega arith) course.told in let low = first.low in
     let here : pass_of base ≡ turn / 2 = sym (same_pass base place (omega arith) (omega arith) (omega arith)) ∙ course.in_it place low below in
     record {
       some = subst (λ u. IsNextOn ns os turn next place (record { turn = turn; next = place + 1; ahead = rest; until = u })) up

@@ -25,7 +25,7 @@ pub returns-clause-least : goal.returns-clause-least
 returns-clause-least c =
     least_from c.args.from c.args.values c.count.count c.count.invariant.count c.count.invariant.from (let e = c.count-test.false in let l = c.limit.ensures in omega (arith, e, l)) c.count.invariant.below
 
-pub returns-then-count-ge-MOST_SLOTS-clause-refused : goal.returns-then-count-ge-MOST_SLOTS-clause-refused
-returns-then-count-ge-MOST_SLOTS-clause-refused c err =
+pub returns-then-count-ge-MOST_SLOTS-clause-past_most : goal.returns-then-count-ge-MOST_SLOTS-clause-past_most
+returns-then-count-ge-MOST_SLOTS-clause-past_most c err =
     let b = count_bound c.count.count c.count.invariant.count in let a = c.if-count-ge-MOST_SLOTS.true in let short = c.count-test.true in let l = c.limit.ensures in
     omega (arith, a, b, short, l)

@@ -35,14 +35,14 @@ returns-in_err-read_pair-clause-fault g c =
     let so = subst (λ (l : List Data). IsReadTo g.met.T.Eq.laws c.args.most g.T.JsonItem.has_item g.T.JsonItem.reads c.with_limit-bag.result (map view c.deref-pair-items.result.now) l c.loop-number.number c.loop-number.bag) left c.loop-number.invariant.read in
     fault_at g.met.T.Eq.laws c.args.most g.T.JsonItem.has_item g.T.JsonItem.reads c.with_limit-bag.result _ _ (view c.pair-item.result) c.loop-number.number _ _ so (rw c.loop-number.invariant.limit at (c.in_err-read_pair.ensures.fault other)))
 
-pub returns-in_err-read_pair-clause-memory : goal.returns-in_err-read_pair-clause-memory
-returns-in_err-read_pair-clause-memory g c =
+pub returns-in_err-read_pair-clause-may_end : goal.returns-in_err-read_pair-clause-may_end
+returns-in_err-read_pair-clause-may_end g c =
     let error = err_from_is_err_and c.from_residual.result c.from_residual.ensures.1 in
     rw (error.1, error.2, ← c.deref-pair-items.ensures.value) (λ memory.
     let inside = c.loop-number-test.true in
     let left = left_at c.deref-pair-items.result.now c.loop-number.number c.pair-item.result c.pair-item.is (omega arith) in
     let so = subst (λ (l : List Data). IsReadTo g.met.T.Eq.laws c.args.most g.T.JsonItem.has_item g.T.JsonItem.reads c.with_limit-bag.result (map view c.deref-pair-items.result.now) l c.loop-number.number c.loop-number.bag) left c.loop-number.invariant.read in
-    may_end_at g.met.T.Eq.laws c.args.most g.T.JsonItem.has_item g.T.JsonItem.reads c.with_limit-bag.result _ _ (view c.pair-item.result) c.loop-number.number _ so (c.in_err-read_pair.ensures.memory memory))
+    may_end_at g.met.T.Eq.laws c.args.most g.T.JsonItem.has_item g.T.JsonItem.reads c.with_limit-bag.result _ _ (view c.pair-item.result) c.loop-number.number _ so (c.in_err-read_pair.ensures.may_end memory))
 
 -- all pairs were read
 at_end : (g : _) (c : goal.After-loop-number g) → IsReadTo g.met.T.Eq.laws c.args.most g.T.JsonItem.has_item g.T.JsonItem.reads c.with_limit-bag.result (map view c.deref-pair-items.result.now) [] c.loop-number.number c.loop-number.bag

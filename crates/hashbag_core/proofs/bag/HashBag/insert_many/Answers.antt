@@ -1,12 +1,13 @@
-use Rattle.std.proofs.Common.{◌≡◌, ◌<◌, refl, arith, sym, ◌∙◌}
+use Rattle.std.proofs.Common.{◌≡◌, ◌<◌, arith, sym, ◌∙◌}
 use Rattle.std.proofs.lemmas.Result.{err_from_is_err_and}
+use Rattle.hashbag_table.specs.Tables.{room}
 use Rattle.hashbag_core.specs.Bag.{occurrences}
 use Rattle.hashbag_core.specs.Occurrences.{count}
-use Rattle.hashbag_core.proofs.DistinctLemmas.{distinct_added, distinct_same, distinct_one_more}
 use Rattle.hashbag_core.proofs.InsertLemmas.{inserts_none}
-use Rattle.hashbag_core.proofs.OccurrenceLemmas.{add_occurrences, bag_from_tally, tally_added, count_occurrences, count_of_entry, count_in_tally}
+use Rattle.hashbag_core.proofs.KeyLemmas.{inserts_added}
+use Rattle.hashbag_core.proofs.OccurrenceLemmas.{add_occurrences, tally_added, count_occurrences, count_of_entry, count_in_tally}
 use Rattle.std.proofs.lemmas.Bool.{false≢true}
-use Rattle.hashbag_core.proofs.HeldLemmas.{held_by, absent_in_table, present_in_table, recounts_some}
+use Rattle.hashbag_core.proofs.HeldLemmas.{held_by, none_left}
 use Rattle.hashbag_core.proofs.bag.HashBag.insert_many.Goals as goal
 
 pub add-requires-clause-fits : goal.add-requires-clause-fits
@@ -22,12 +23,23 @@ pub returns-in_err-before-clause-refused : goal.returns-in_err-before-clause-ref
 returns-in_err-before-clause-refused g c =
     let error = err_from_is_err_and c.from_residual.result c.from_residual.ensures.1 in
     let absent : count g.T.PartialEq.eq c.args.value (occurrences c.self.inside.table.entries) ≡ 0 =
-    count_occurrences g.met.T.Eq.laws c.args.value _ c.self.invariant.counted.distinct ∙ count_of_entry g.met.T.Eq.laws c.args.value _ _ (sym c.in_err-before.ensures.absent) in
+    count_occurrences g.met.T.Eq.laws c.args.value _ c.self.invariant.counted.distinct ∙ count_of_entry g.met.T.Eq.laws c.args.value _ _ (sym c.in_err-before.ensures.fails.absent) in
     let sum = c.self.invariant.sum in
     let within = c.self.invariant.fits in
     let fits = c.if-n-self.false in
     let some = c.if-n-eq0.false in
-    rw (error.1, error.2, ← c.self.view_is) (omega (arith, sum, within, fits), omega (arith, some), absent)
+    rw (error.1, error.2, ← c.self.view_is) (record {
+      why = (omega (arith, sum, within, fits), omega (arith, some), absent);
+      full = λ _. none_left (room c.self.inside.table.tables) (λ space. false≢true (c.in_err-before.ensures.fails.takes space));
+    })
+
+pub returns-in_err-before-clause-too_many : goal.returns-in_err-before-clause-too_many
+returns-in_err-before-clause-too_many g c =
+    let error = err_from_is_err_and c.from_residual.result c.from_residual.ensures.1 in
+    let sum = c.self.invariant.sum in
+    let within = c.self.invariant.fits in
+    let fits = c.if-n-self.false in
+    rw (error.1, error.2, ← c.self.view_is) ((λ is. absurd (cc)), (λ over. absurd (omega (arith, sum, within, fits, over))))
 
 -- the total with n more
 pub invariant_of-self-2 : goal.invariant_of-self-2
@@ -35,42 +47,24 @@ invariant_of-self-2 g c =
     let within = c.self.invariant.fits in
     let fits = c.if-n-self.false in
     let sum = c.self.invariant.sum in
-    tally_added g.met.T.Eq.laws c.args.value c.args.n _ c.add.new.self.entries c.self.inside.len c.self.invariant c.add.ensures.counted (omega arith) (add_occurrences g.met.T.Eq.laws c.args.value c.args.n _ _ c.self.invariant.counted c.in_ok-before.ensures.added.means)
+    tally_added g.met.T.Eq.laws c.args.value c.args.n _ c.add.new.self.entries c.self.inside.len c.self.invariant c.add.ensures.counted (omega arith) (add_occurrences g.met.T.Eq.laws c.args.value c.args.n _ _ c.self.invariant.counted c.in_ok-before.ensures.added.map.means)
 
 pub returns-clause-before : goal.returns-clause-before
 returns-clause-before g c = rw (← c.self.view_is) (c.in_ok-before.ensures.before ∙ sym (count_occurrences g.met.T.Eq.laws c.args.value _ c.self.invariant.counted.distinct))
 
 pub returns-in_err-before-clause-takes : goal.returns-in_err-before-clause-takes
-returns-in_err-before-clause-takes g c = λ fits some. absurd (false≢true (c.in_err-before.ensures.takes (rw (← c.self.view_is) at some)))
+returns-in_err-before-clause-takes g c = λ fits some. absurd (false≢true (c.in_err-before.ensures.fails.takes (rw (← c.self.view_is) at some)))
 
 pub returns-then-n-eq0-clause-inserted : goal.returns-then-n-eq0-clause-inserted
 returns-then-n-eq0-clause-inserted g c = inserts_none g.met.T.Eq.laws c.args.value c.args.n c.args.self.now (let none = c.if-n-eq0.true in omega arith) c.contains.ensures.bag
 
 pub returns-clause-inserted : goal.returns-clause-inserted
 returns-clause-inserted g c =
-    let laws = g.met.T.Eq.laws in
-    let was = c.self.invariant in
-    let now = invariant_of-self-2 g c in
-    let done = c.in_ok-before.ensures in
     let some : 0 < c.args.n = let not_none = c.if-n-eq0.false in omega arith in
-    let same = count_occurrences laws c.args.value c.self.inside.table.entries was.counted.distinct in
-    let before = done.before in
-    rw (← c.self.view_is) (record {
-      added = record { means = add_occurrences laws c.args.value c.args.n _ _ was.counted done.added.means; hasher = done.added.hasher; limit = refl; bag = bag_from_tally laws _ _ now };
-      none = λ is. absurd (omega (arith, some, is));
-      len = let before = was.sum in let after = now.sum in omega (arith, before, after);
-      set_len = distinct_added laws c.args.value _ _ _ was.counted c.add.ensures.counted done.added.means;
-      same_set = distinct_same laws c.args.value _ _ _ was.counted c.add.ensures.counted done.added.means;
-      new_set = λ _ none. distinct_one_more laws c.args.value _ _ _ was.counted c.add.ensures.counted done.added.means none;
-      arrives = λ _ none. done.arrives (absent_in_table laws c.args.value _ was.counted none);
-      slot = λ _ there. rw same (recounts_some g.T.PartialEq.eq c.args.value _ _ _ (omega (arith, some)) (c.add.ensures.slot (present_in_table laws c.args.value _ was.counted there)));
-      less_room = done.room;
-      same_room = λ there. done.same_room (omega (arith, same, before, there));
-      held = λ _. held_by g.T.PartialEq.eq _ _ c.held.ensures.held c.add.ensures.counted;
-    })
+    rw (← c.self.view_is) (inserts_added g.met.T.Eq.laws c.args.value c.args.n c.self.inside.len c.self.inside.table c.add.new.self some c.self.invariant (invariant_of-self-2 g c) c.in_ok-before.ensures.added (held_by g.T.PartialEq.eq _ _ c.held.ensures.held c.add.ensures.counted))
 
 pub returns-in_err-before-clause-present : goal.returns-in_err-before-clause-present
 returns-in_err-before-clause-present g c = λ fits there.
-    let absent = count_occurrences g.met.T.Eq.laws c.args.value _ c.self.invariant.counted.distinct ∙ count_of_entry g.met.T.Eq.laws c.args.value _ _ (sym c.in_err-before.ensures.absent) in
+    let absent = count_occurrences g.met.T.Eq.laws c.args.value _ c.self.invariant.counted.distinct ∙ count_of_entry g.met.T.Eq.laws c.args.value _ _ (sym c.in_err-before.ensures.fails.absent) in
     let some : 0 < count g.T.PartialEq.eq c.args.value (occurrences c.self.inside.table.entries) = rw (← c.self.view_is) at there in
     absurd (omega (arith, absent, some))

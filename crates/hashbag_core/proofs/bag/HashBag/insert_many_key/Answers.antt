@@ -1,7 +1,7 @@
 use Rattle.std.proofs.Common.{◌≡◌, ◌<◌, arith, sym, ◌∙◌}
 use Rattle.std.proofs.lemmas.Result.{err_from_is_err_and}
 use Rattle.hashbag_core.specs.Bag.{occurrences}
-use Rattle.hashbag_core.specs.Keys.{count_named}
+use Rattle.hashbag_core.specs.Occurrences.{count_named}
 use Rattle.hashbag_core.proofs.HeldLemmas.{held_by}
 use Rattle.hashbag_core.proofs.KeyLemmas.{named_occurrences, none_named_there, named_in_tally, inserts_added}
 use Rattle.hashbag_core.proofs.OccurrenceLemmas.{add_occurrences, tally_added}
@@ -26,13 +26,21 @@ returns-in_err-before-clause-refused g c =
     let some = c.if-n-eq0.false in
     rw (error.1, error.2, ← c.self.view_is) (omega (arith, sum, within, fits), omega (arith, some), absent)
 
+pub returns-in_err-before-clause-too_many : goal.returns-in_err-before-clause-too_many
+returns-in_err-before-clause-too_many g c =
+    let error = err_from_is_err_and c.from_residual.result c.from_residual.ensures.1 in
+    let sum = c.self.invariant.sum in
+    let within = c.self.invariant.fits in
+    let fits = c.if-n-self.false in
+    rw (error.1, error.2, ← c.self.view_is) ((λ is. absurd (cc)), (λ over. absurd (omega (arith, sum, within, fits, over))))
+
 -- the total with n more
 pub invariant_of-self-2 : goal.invariant_of-self-2
 invariant_of-self-2 g c =
     let within = c.self.invariant.fits in
     let fits = c.if-n-self.false in
     let came = c.in_ok-before.ensures.added in
-    tally_added g.met.T.Eq.laws came.0 c.args.n _ c.add_key.new.self.entries c.self.inside.len c.self.invariant c.add_key.ensures.counted (omega arith) (add_occurrences g.met.T.Eq.laws came.0 c.args.n _ _ c.self.invariant.counted came.2.added.means)
+    tally_added g.met.T.Eq.laws came.0 c.args.n _ c.add_key.new.self.entries c.self.inside.len c.self.invariant c.add_key.ensures.counted (omega arith) (add_occurrences g.met.T.Eq.laws came.0 c.args.n _ _ c.self.invariant.counted came.2.map.means)
 
 pub returns-clause-before : goal.returns-clause-before
 returns-clause-before g c = rw (← c.self.view_is) (c.in_ok-before.ensures.before ∙ sym (named_occurrences g.met.T.Eq.laws (g.Q.Key.names c.args.key) (g.met.Q.Key.names_one c.args.key) _ c.self.invariant.counted.distinct))

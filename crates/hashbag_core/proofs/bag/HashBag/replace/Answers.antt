@@ -1,4 +1,5 @@
 use Rattle.std.proofs.Common.{◌+◌, ◌-◌, ◌≤◌, length, arith, sym, ◌∙◌, subst, ℕ, refl}
+use Rattle.hashbag_table.specs.Tables.{room}
 use Rattle.hashbag_core.specs.Bag.{occurrences, IsTallied}
 use Rattle.hashbag_core.specs.Occurrences.{count}
 use Rattle.hashbag_core.proofs.OccurrenceLemmas.{bag_from_tally, count_occurrences, count_in_tally, count_le, put_occurrences, tally_put}
@@ -8,7 +9,7 @@ use Rattle.std.proofs.lemmas.Result.{err_from_is_err_and}
 use Rattle.hashbag_table.proofs.EntryLemmas.{OnErr-from}
 use Rattle.hashbag_core.proofs.OccurrenceLemmas.{count_of_entry}
 use Rattle.hashbag_core.proofs.DistinctLemmas.{distinct_put}
-use Rattle.hashbag_core.proofs.HeldLemmas.{absent_in_table, present_in_table}
+use Rattle.hashbag_core.proofs.HeldLemmas.{absent_in_table, present_in_table, none_left}
 use Rattle.hashbag_core.proofs.bag.HashBag.replace.Goals.{else-self-via-then-self+else-contains-eq0, else-self-via-else-self}
 use Rattle.hashbag_core.proofs.bag.HashBag.replace.Goals as goal
 
@@ -51,39 +52,44 @@ invariant_of-self-2 g c =
     ] in
     subst (λ (k : ℕ). IsTallied eq c.put_instance.new.self.entries (c.self.inside.len - k + 1) c.self.inside.most) (sym c.in_ok-before.ensures.before)
     (tally_put g.met.T.Eq.laws v 1 es c.put_instance.new.self.entries c.self.inside.len c.self.invariant c.put_instance.ensures.counted (omega arith)
-    (put_occurrences g.met.T.Eq.laws v 1 es c.put_instance.new.self.entries c.self.invariant.counted c.in_ok-before.ensures.put.means))
+    (put_occurrences g.met.T.Eq.laws v 1 es c.put_instance.new.self.entries c.self.invariant.counted c.in_ok-before.ensures.stored.map.means))
 
 pub returns-clause-before : goal.returns-clause-before
 returns-clause-before g c = rw (← c.self.view_is) (c.in_ok-before.ensures.before ∙ sym (count_occurrences g.met.T.Eq.laws c.args.value _ c.self.invariant.counted.distinct))
 
-pub returns-clause-put : goal.returns-clause-put
-returns-clause-put g c = rw (← c.self.view_is) (record {
-  means = put_occurrences g.met.T.Eq.laws c.args.value 1 _ _ c.self.invariant.counted c.in_ok-before.ensures.put.means;
-  hasher = c.in_ok-before.ensures.put.hasher;
-  limit = refl;
-  bag = bag_from_tally g.met.T.Eq.laws _ _ (invariant_of-self-2 g c);
-})
-
-pub returns-clause-len : goal.returns-clause-len
-returns-clause-len g c =
+pub returns-clause-replaced : goal.returns-clause-replaced
+returns-clause-replaced g c =
+    let laws = g.met.T.Eq.laws in
+    let v = c.args.value in
+    let was = c.self.invariant in
+    let now = invariant_of-self-2 g c in
+    let stored = c.in_ok-before.ensures.stored in
     let before = c.in_ok-before.ensures.before in
-    let same = count_occurrences g.met.T.Eq.laws c.args.value c.self.inside.table.entries c.self.invariant.counted.distinct in
-    let few = count_in_tally g.met.T.Eq.laws c.args.value c.self.inside.table.entries c.self.inside.len c.self.invariant in
-    let was = c.self.invariant.sum in
-    let now = (invariant_of-self-2 g c).sum in
-    rw (← c.self.view_is) (omega arith)
+    let same = count_occurrences laws v c.self.inside.table.entries was.counted.distinct in
+    let few = count_in_tally laws v c.self.inside.table.entries c.self.inside.len was in
+    let sum = was.sum in
+    let sum_now = now.sum in
+    rw (← c.self.view_is) (record {
+      stored = record { means = put_occurrences laws v 1 _ _ was.counted stored.map.means; hasher = stored.map.hasher; limit = refl; bag = bag_from_tally laws _ _ now };
+      len = omega (arith, before, same, few, sum, sum_now);
+      new_set = λ none. distinct_put laws v 1 _ _ was.counted now.counted none stored.map.means;
+      arrives = λ none. stored.arrives (absent_in_table laws v _ was.counted none);
+      slot = λ there. stored.slot (present_in_table laws v _ was.counted there);
+      less_room = stored.room;
+      same_room = λ there. stored.same_room (omega (arith, same, there));
+    })
 
 pub returns-in_err-before-clause-absent : goal.returns-in_err-before-clause-absent
 returns-in_err-before-clause-absent g c =
     let absent : count g.T.PartialEq.eq c.args.value c.args.self.now.items ≡ 0 =
-    rw (← c.self.view_is) (count_occurrences g.met.T.Eq.laws c.args.value _ c.self.invariant.counted.distinct ∙ count_of_entry g.met.T.Eq.laws c.args.value _ _ (sym c.in_err-before.ensures.absent)) in
+    rw (← c.self.view_is) (count_occurrences g.met.T.Eq.laws c.args.value _ c.self.invariant.counted.distinct ∙ count_of_entry g.met.T.Eq.laws c.args.value _ _ (sym c.in_err-before.ensures.fails.absent)) in
     OnErr-from _ absent
 
 pub returns-in_err-before-clause-refused : goal.returns-in_err-before-clause-refused
 returns-in_err-before-clause-refused g c =
     let error = err_from_is_err_and c.from_residual.result c.from_residual.ensures.1 in
     let absent : count g.T.PartialEq.eq c.args.value (occurrences c.self.inside.table.entries) ≡ 0 =
-    count_occurrences g.met.T.Eq.laws c.args.value _ c.self.invariant.counted.distinct ∙ count_of_entry g.met.T.Eq.laws c.args.value _ _ (sym c.in_err-before.ensures.absent) in
+    count_occurrences g.met.T.Eq.laws c.args.value _ c.self.invariant.counted.distinct ∙ count_of_entry g.met.T.Eq.laws c.args.value _ _ (sym c.in_err-before.ensures.fails.absent) in
     let sum = c.self.invariant.sum in
     let within = c.self.invariant.fits in
     let fits : length (occurrences c.self.inside.table.entries) - count g.T.PartialEq.eq c.args.value (occurrences c.self.inside.table.entries) + 1 ≤ c.self.inside.most = elim c.else-self.branch [
@@ -93,22 +99,37 @@ returns-in_err-before-clause-refused g c =
           let few = count_le g.met.T.Eq.laws c.args.value (occurrences c.self.inside.table.entries) in omega (arith, sum, within, often, some, few)
       | else-self-via-else-self w ↦ let fewer = w.if-self.false in omega (arith, sum, within, fewer)
     ] in
-    rw (error.1, error.2, ← c.self.view_is) (omega (arith, absent, fits), omega arith, absent)
+    rw (error.1, error.2, ← c.self.view_is) (record {
+      why = (omega (arith, absent, fits), omega arith, absent);
+      full = λ _. none_left (room c.self.inside.table.tables) (λ space. false≢true (c.in_err-before.ensures.fails.takes space));
+    })
+
+pub returns-in_err-before-clause-too_many : goal.returns-in_err-before-clause-too_many
+returns-in_err-before-clause-too_many g c =
+    let error = err_from_is_err_and c.from_residual.result c.from_residual.ensures.1 in
+    let sum = c.self.invariant.sum in
+    let within = c.self.invariant.fits in
+    let fits : length (occurrences c.self.inside.table.entries) - count g.T.PartialEq.eq c.args.value (occurrences c.self.inside.table.entries) + 1 ≤ c.self.inside.most = elim c.else-self.branch [
+      | else-self-via-then-self+else-contains-eq0 w ↦
+          let often : w.contains.result ≡ count g.T.PartialEq.eq c.args.value (occurrences c.self.inside.table.entries) = rw (← c.self.view_is) at w.contains.ensures.count in
+          let some = w.if-contains-eq0.false in
+          let few = count_le g.met.T.Eq.laws c.args.value (occurrences c.self.inside.table.entries) in omega (arith, sum, within, often, some, few)
+      | else-self-via-else-self w ↦ let fewer = w.if-self.false in omega (arith, sum, within, fewer)
+    ] in
+    rw (error.1, error.2, ← c.self.view_is) ((λ is. absurd (cc)), (λ over. absurd (omega (arith, fits, over))))
+
+pub returns-clause-too_many : goal.returns-clause-too_many
+returns-clause-too_many g c =
+    let sum = c.self.invariant.sum in
+    let within = c.self.invariant.fits in
+    let fits : length (occurrences c.self.inside.table.entries) - count g.T.PartialEq.eq c.args.value (occurrences c.self.inside.table.entries) + 1 ≤ c.self.inside.most = elim c.else-self.branch [
+      | else-self-via-then-self+else-contains-eq0 w ↦
+          let often : w.contains.result ≡ count g.T.PartialEq.eq c.args.value (occurrences c.self.inside.table.entries) = rw (← c.self.view_is) at w.contains.ensures.count in
+          let some = w.if-contains-eq0.false in
+          let few = count_le g.met.T.Eq.laws c.args.value (occurrences c.self.inside.table.entries) in omega (arith, sum, within, often, some, few)
+      | else-self-via-else-self w ↦ let fewer = w.if-self.false in omega (arith, sum, within, fewer)
+    ] in
+    rw (← c.self.view_is) ((λ is. absurd (cc)), (λ over. absurd (omega (arith, fits, over))))
 
 pub returns-in_err-before-clause-takes : goal.returns-in_err-before-clause-takes
-returns-in_err-before-clause-takes g c = λ fits some. absurd (false≢true (c.in_err-before.ensures.takes (rw (← c.self.view_is) at some)))
-
-pub returns-clause-arrives : goal.returns-clause-arrives
-returns-clause-arrives g c = λ none. rw (← c.self.view_is) (c.in_ok-before.ensures.arrives (absent_in_table g.met.T.Eq.laws c.args.value _ c.self.invariant.counted (rw (← c.self.view_is) at none)))
-
-pub returns-clause-slot : goal.returns-clause-slot
-returns-clause-slot g c = λ there. rw (← c.self.view_is) (c.put_instance.ensures.slot (present_in_table g.met.T.Eq.laws c.args.value _ c.self.invariant.counted (rw (← c.self.view_is) at there)))
-
-pub returns-clause-room : goal.returns-clause-room
-returns-clause-room g c = λ some. rw (← c.self.view_is) (c.in_ok-before.ensures.room (rw (← c.self.view_is) at some))
-
-pub returns-clause-same_room : goal.returns-clause-same_room
-returns-clause-same_room g c = λ some. rw (← c.self.view_is) (c.in_ok-before.ensures.same_room some)
-
-pub returns-clause-new_set : goal.returns-clause-new_set
-returns-clause-new_set g c = λ none. rw (← c.self.view_is) (distinct_put g.met.T.Eq.laws c.args.value 1 _ _ c.self.invariant.counted c.put_instance.ensures.counted (rw (← c.self.view_is) at none) c.in_ok-before.ensures.put.means)
+returns-in_err-before-clause-takes g c = λ fits some. absurd (false≢true (c.in_err-before.ensures.fails.takes (rw (← c.self.view_is) at some)))

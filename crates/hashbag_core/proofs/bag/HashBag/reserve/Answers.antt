@@ -44,20 +44,8 @@ returns-clause-len g c = rw (← c.self.view_is) (sym (invariant_of-self-2 g c).
 pub returns-in_err-reserve-clause-enough : goal.returns-in_err-reserve-clause-enough
 returns-in_err-reserve-clause-enough g c = λ enough. absurd (false≢true (c.in_err-reserve.ensures.enough (rw (← c.self.view_is) at enough)))
 
-pub returns-in_err-reserve-clause-same : goal.returns-in_err-reserve-clause-same
-returns-in_err-reserve-clause-same g c = λ enough. rw (← c.self.view_is) (ap (shown c.self.inside.most) (c.reserve.ensures.kept (rw (← c.self.view_is) at enough)))
-
-pub returns-clause-same : goal.returns-clause-same
-returns-clause-same g c = λ enough. rw (← c.self.view_is) (ap (shown c.self.inside.most) (c.reserve.ensures.kept (rw (← c.self.view_is) at enough)))
-
-pub returns-clause-least : goal.returns-clause-least
-returns-clause-least g c = λ more. rw (← c.self.view_is, distinct_count-occurrences g.met.T.Eq.laws c.self.inside.table.entries c.self.invariant.counted) (c.in_ok-reserve.ensures.least (rw (← c.self.view_is) at more))
-
-pub returns-clause-packed : goal.returns-clause-packed
-returns-clause-packed g c = λ more. c.in_ok-reserve.ensures.packed (rw (← c.self.view_is) at more)
-
-pub returns-clause-built : goal.returns-clause-built
-returns-clause-built g c = λ more. rw (← c.self.view_is) (c.in_ok-reserve.ensures.built (rw (← c.self.view_is) at more))
+pub returns-clause-enough : goal.returns-clause-enough
+returns-clause-enough g c = λ enough. (refl, rw (← c.self.view_is) (ap (shown c.self.inside.most) (c.reserve.ensures.kept (rw (← c.self.view_is) at enough))))
 
 pub returns-clause-reserves : goal.returns-clause-reserves
 returns-clause-reserves g c = rw (← c.self.view_is, distinct_count-occurrences g.met.T.Eq.laws c.self.inside.table.entries c.self.invariant.counted) c.in_ok-reserve.ensures.reserves

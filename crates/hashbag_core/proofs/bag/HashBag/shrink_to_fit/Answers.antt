@@ -1,4 +1,4 @@
-use Rattle.std.proofs.Common.{arith, sym, ◌∙◌, refl}
+use Rattle.std.proofs.Common.{sym, ◌∙◌, refl}
 use Rattle.hashbag_core.proofs.OccurrenceLemmas.{bag_from_tally, occurrences_rearranged, tally_rearranged}
 use Rattle.std.proofs.Common.{ap}
 use Rattle.std.proofs.lemmas.Bool.{false≢true}
@@ -35,40 +35,18 @@ pub returns-in_err-shrink_to_fit-clause-none : goal.returns-in_err-shrink_to_fit
 returns-in_err-shrink_to_fit-clause-none g c = λ empty. absurd (false≢true (c.in_err-shrink_to_fit.ensures.none (no_entries g.met.T.Eq.laws _ c.self.invariant.counted (rw (← c.self.view_is) at empty))))
 
 pub returns-in_err-shrink_to_fit-clause-enough : goal.returns-in_err-shrink_to_fit-clause-enough
-returns-in_err-shrink_to_fit-clause-enough g c = λ least.
-    absurd (false≢true (c.in_err-shrink_to_fit.ensures.enough _ (rw (← c.self.view_is, distinct_count-occurrences g.met.T.Eq.laws c.self.inside.table.entries c.self.invariant.counted) at least) (omega arith)))
+returns-in_err-shrink_to_fit-clause-enough g c = λ m least enough.
+    absurd (false≢true (c.in_err-shrink_to_fit.ensures.enough m (rw (← c.self.view_is, distinct_count-occurrences g.met.T.Eq.laws c.self.inside.table.entries c.self.invariant.counted) at least) (rw (← c.self.view_is) at enough)))
 
-pub returns-in_err-shrink_to_fit-clause-same : goal.returns-in_err-shrink_to_fit-clause-same
-returns-in_err-shrink_to_fit-clause-same g c = λ m least enough.
-    rw (← c.self.view_is) (ap (shown c.self.inside.most) (c.shrink_to_fit.ensures.kept m (rw (← c.self.view_is, distinct_count-occurrences g.met.T.Eq.laws c.self.inside.table.entries c.self.invariant.counted) at least) (rw (← c.self.view_is) at enough)))
-
-pub returns-clause-same : goal.returns-clause-same
-returns-clause-same g c = λ m least enough.
-    rw (← c.self.view_is) (ap (shown c.self.inside.most) (c.shrink_to_fit.ensures.kept m (rw (← c.self.view_is, distinct_count-occurrences g.met.T.Eq.laws c.self.inside.table.entries c.self.invariant.counted) at least) (rw (← c.self.view_is) at enough)))
+pub returns-clause-enough : goal.returns-clause-enough
+returns-clause-enough g c = λ m least enough.
+    (refl, rw (← c.self.view_is) (ap (shown c.self.inside.most) (c.shrink_to_fit.ensures.kept m (rw (← c.self.view_is, distinct_count-occurrences g.met.T.Eq.laws c.self.inside.table.entries c.self.invariant.counted) at least) (rw (← c.self.view_is) at enough))))
 
 pub returns-clause-freed : goal.returns-clause-freed
 returns-clause-freed g c = λ empty.
     let none = no_entries g.met.T.Eq.laws _ c.self.invariant.counted (rw (← c.self.view_is) at empty) in
     rw (← c.self.view_is) (none_from_newer c.shrink_to_fit.new.self.tables c.waiting-waiting.result c.self.inside.table.tables.built
     (c.shrink_to_fit.ensures.freed none) c.waiting-waiting.ensures.waiting c.waiting-waiting.ensures.smaller c.waiting-waiting.ensures.freed (c.shrink_to_fit.ensures.freed_built none))
-
-pub returns-in_err-shrink_to_fit-clause-fewer : goal.returns-in_err-shrink_to_fit-clause-fewer
-returns-in_err-shrink_to_fit-clause-fewer g c = rw (← c.self.view_is) c.shrink_to_fit.ensures.fewer
-
-pub returns-clause-fewer : goal.returns-clause-fewer
-returns-clause-fewer g c = rw (← c.self.view_is) c.shrink_to_fit.ensures.fewer
-
-pub returns-clause-built : goal.returns-clause-built
-returns-clause-built g c = λ m least more.
-    rw (← c.self.view_is) (c.in_ok-shrink_to_fit.ensures.built m (rw (← c.self.view_is, distinct_count-occurrences g.met.T.Eq.laws c.self.inside.table.entries c.self.invariant.counted) at least) (rw (← c.self.view_is) at more))
-
-pub returns-clause-least : goal.returns-clause-least
-returns-clause-least g c = λ m least more.
-    c.in_ok-shrink_to_fit.ensures.least m (rw (← c.self.view_is, distinct_count-occurrences g.met.T.Eq.laws c.self.inside.table.entries c.self.invariant.counted) at least) (rw (← c.self.view_is) at more)
-
-pub returns-clause-packed : goal.returns-clause-packed
-returns-clause-packed g c = λ m least more.
-    c.in_ok-shrink_to_fit.ensures.packed m (rw (← c.self.view_is, distinct_count-occurrences g.met.T.Eq.laws c.self.inside.table.entries c.self.invariant.counted) at least) (rw (← c.self.view_is) at more)
 
 pub returns-clause-shrinks : goal.returns-clause-shrinks
 returns-clause-shrinks g c = rw (← c.self.view_is, distinct_count-occurrences g.met.T.Eq.laws c.self.inside.table.entries c.self.invariant.counted) c.in_ok-shrink_to_fit.ensures.shrinks

@@ -1,87 +1,84 @@
-use Rattle.std.proofs.Common.{◌≡◌, ◌-◌, ℕ, None, arith, sym, ◌∙◌, subst}
+use Rattle.std.proofs.Common.{arith, sym, ◌∙◌, subst, refl}
 use Rattle.hashbag_core.specs.Bag.{occurrences, IsTallied}
-use Rattle.hashbag_core.specs.Occurrences.{count}
-use Rattle.hashbag_core.proofs.OccurrenceLemmas.{bag_from_tally, tally_less, count_occurrences, count_of_entry, count_in_tally, less_all_occurrences}
-use Rattle.hashbag_core.proofs.TakeLemmas.{stored_occurrences}
-use Rattle.std.proofs.Common.{ap, refl}
-use Rattle.hashbag_core.proofs.TakeLemmas.{stored_some}
-use Rattle.hashbag_core.proofs.HeldLemmas.{shown, recounts_none}
+use Rattle.hashbag_core.specs.Occurrences.{count_named}
+use Rattle.hashbag_core.proofs.OccurrenceLemmas.{less_all_occurrences}
+use Rattle.hashbag_core.proofs.HeldLemmas.{recounts_none}
+use Rattle.hashbag_core.proofs.KeyLemmas.{counts_all, fewer_named, named_occurrences, named_in_tally, stored_named_occurrences, tally_named_less}
+use Rattle.hashbag_table.proofs.KeyLemmas.{named_absent, named_present, named_positive}
 use Rattle.hashbag_core.proofs.bag.HashBag.take_all.Goals as goal
 
--- all that were there are taken
+-- ---- nothing is there
+
 pub invariant_of-self : goal.invariant_of-self
-invariant_of-self g c =
-    let es = c.self.inside.table.entries in
-    let v = c.args.value.now in
-    let none = count_of_entry g.met.T.Eq.laws v es None c.in_err-instance.ensures.taken in
-    subst (λ (k : ℕ). IsTallied g.T.PartialEq.eq c.remove.new.self.entries k c.self.inside.most) (let same : c.self.inside.len - 0 ≡ c.self.inside.len = omega arith in same)
-    (tally_less g.met.T.Eq.laws v (count g.T.PartialEq.eq v (occurrences es)) 0 es c.remove.new.self.entries c.self.inside.len c.self.invariant (omega arith) c.remove.ensures.left.counted
-    (less_all_occurrences g.met.T.Eq.laws v _ es _ c.self.invariant.counted (omega arith) c.remove.ensures.left.means))
+invariant_of-self g c = subst (λ t. IsTallied g.T.PartialEq.eq t.entries c.self.inside.len c.self.inside.most) (sym (c.in_err-instance.ensures.none refl)) c.self.invariant
 
 pub returns-in_err-instance-clause-taken : goal.returns-in_err-instance-clause-taken
-returns-in_err-instance-clause-taken g c = rw (← c.self.view_is) (c.from_residual.ensures ∙ c.in_err-instance.ensures.taken ∙ sym (stored_occurrences g.met.T.Eq.laws c.args.value.now _ c.self.invariant.counted))
+returns-in_err-instance-clause-taken g c =
+    rw (← c.self.view_is) (c.from_residual.ensures ∙ c.in_err-instance.ensures.taken ∙ sym (stored_named_occurrences g.met.T.Eq.laws (g.Q.Key.names c.args.key) (g.met.Q.Key.names_one c.args.key) _ c.self.invariant.counted))
 
 pub returns-in_err-instance-clause-fewer : goal.returns-in_err-instance-clause-fewer
 returns-in_err-instance-clause-fewer g c =
     let es = c.self.inside.table.entries in
-    let v = c.args.value.now in
-    let none = count_of_entry g.met.T.Eq.laws v es None c.in_err-instance.ensures.taken in
-    let same = count_occurrences g.met.T.Eq.laws v es c.self.invariant.counted.distinct in
-    rw (← c.self.view_is) (record {
-      left = record {
-        means = less_all_occurrences g.met.T.Eq.laws v _ es _ c.self.invariant.counted (omega arith) c.remove.ensures.left.means;
-        hasher = c.remove.ensures.left.hasher;
-        limit = refl;
-        bag = bag_from_tally g.met.T.Eq.laws _ _ (invariant_of-self g c);
-      };
-      slot = λ there. absurd (omega (arith, there, none, same));
-      none = λ _. ap (shown c.self.inside.most) (c.in_err-instance.ensures.none refl);
-      room = c.remove.ensures.room;
-    })
-
-pub overflow_sub-self : goal.overflow_sub-self
-overflow_sub-self g c =
-    let n = count_of_entry g.met.T.Eq.laws c.args.value.now c.self.inside.table.entries _ c.in_ok-instance.ensures.taken in
-    let few = count_in_tally g.met.T.Eq.laws c.args.value.now c.self.inside.table.entries c.self.inside.len c.self.invariant in
-    omega arith
-
-pub invariant_of-self-2 : goal.invariant_of-self-2
-invariant_of-self-2 g c =
-    let es = c.self.inside.table.entries in
-    let v = c.args.value.now in
-    let n = count_of_entry g.met.T.Eq.laws v es _ c.in_ok-instance.ensures.taken in
-    let same = count_occurrences g.met.T.Eq.laws v es c.self.invariant.counted.distinct in
-    tally_less g.met.T.Eq.laws v (count g.T.PartialEq.eq v (occurrences es)) c.in_ok-instance.count es c.remove.new.self.entries c.self.inside.len c.self.invariant (omega arith) c.remove.ensures.left.counted
-    (less_all_occurrences g.met.T.Eq.laws v _ es _ c.self.invariant.counted (omega arith) c.remove.ensures.left.means)
-
-pub returns-clause-taken : goal.returns-clause-taken
-returns-clause-taken g c = rw (← c.self.view_is) (c.in_ok-instance.ensures.taken ∙ sym (stored_occurrences g.met.T.Eq.laws c.args.value.now _ c.self.invariant.counted))
-
-pub returns-clause-fewer : goal.returns-clause-fewer
-returns-clause-fewer g c =
-    let es = c.self.inside.table.entries in
-    let v = c.args.value.now in
-    let same = count_occurrences g.met.T.Eq.laws v es c.self.invariant.counted.distinct in
-    let some = stored_some g.met.T.Eq.laws v (occurrences es) _ (c.in_ok-instance.ensures.taken ∙ sym (stored_occurrences g.met.T.Eq.laws v _ c.self.invariant.counted)) in
-    rw (← c.self.view_is) (record {
-      left = record {
-        means = less_all_occurrences g.met.T.Eq.laws v _ es _ c.self.invariant.counted (omega arith) c.remove.ensures.left.means;
-        hasher = c.remove.ensures.left.hasher;
-        limit = refl;
-        bag = bag_from_tally g.met.T.Eq.laws _ _ (invariant_of-self-2 g c);
-      };
-      slot = λ _. recounts_none g.T.PartialEq.eq v _ _ _ (omega arith) (c.in_ok-instance.ensures.slot refl);
-      none = λ none. absurd (omega (arith, none, some));
-      room = c.remove.ensures.room;
-    })
+    let names = g.Q.Key.names c.args.key in
+    let one = g.met.Q.Key.names_one c.args.key in
+    let none = named_absent names es (sym c.in_err-instance.ensures.taken) in
+    rw (← c.self.view_is)
+    (fewer_named g.met.T.Eq.laws names one (count_named names (occurrences es)) _ _ 0 c.self.inside.table c.remove.new.self c.self.invariant (invariant_of-self g c) (sym none)
+    (λ v does. let left = c.remove.ensures.left v does in
+    let all = counts_all g.met.T.Eq.laws names one v does es c.self.invariant.counted.distinct in
+    (less_all_occurrences g.met.T.Eq.laws v _ es _ c.self.invariant.counted (omega (arith, all)) left.means, left.hasher))
+    (λ some. absurd (omega (arith, some))) (λ _. c.in_err-instance.ensures.none refl) c.remove.ensures.room)
 
 pub returns-in_err-instance-clause-len : goal.returns-in_err-instance-clause-len
 returns-in_err-instance-clause-len g c = rw c.from_residual.ensures (rw (← c.self.view_is) (sym (invariant_of-self g c).sum ∙ c.self.invariant.sum))
 
+-- ---- all that were there are taken
+
+pub overflow_sub-self : goal.overflow_sub-self
+overflow_sub-self g c =
+    let names = g.Q.Key.names c.args.key in
+    let n = named_present names c.self.inside.table.entries _ (sym c.in_ok-instance.ensures.taken) in
+    let few = named_in_tally g.met.T.Eq.laws names (g.met.Q.Key.names_one c.args.key) c.self.inside.table.entries c.self.inside.len c.self.invariant in
+    omega (arith, n, few)
+
+pub invariant_of-self-2 : goal.invariant_of-self-2
+invariant_of-self-2 g c =
+    let es = c.self.inside.table.entries in
+    let names = g.Q.Key.names c.args.key in
+    let one = g.met.Q.Key.names_one c.args.key in
+    let n = named_present names es _ (sym c.in_ok-instance.ensures.taken) in
+    let some = named_positive g.T.PartialEq.eq g.met.T.Eq.laws names one es _ c.self.invariant.counted (sym c.in_ok-instance.ensures.taken) in
+    let same = named_occurrences g.met.T.Eq.laws names one es c.self.invariant.counted.distinct in
+    tally_named_less g.met.T.Eq.laws names one (count_named names (occurrences es)) c.in_ok-instance.count es c.remove.new.self.entries c.self.inside.len c.self.invariant (omega (arith, n, same))
+    (λ none. absurd (omega (arith, n, some, none)))
+    (λ v does. let left = c.remove.ensures.left v does in
+    let all = counts_all g.met.T.Eq.laws names one v does es c.self.invariant.counted.distinct in
+    (left.counted, less_all_occurrences g.met.T.Eq.laws v _ es _ c.self.invariant.counted (omega (arith, all)) left.means))
+
+pub returns-clause-taken : goal.returns-clause-taken
+returns-clause-taken g c =
+    rw (← c.self.view_is) (c.in_ok-instance.ensures.taken ∙ sym (stored_named_occurrences g.met.T.Eq.laws (g.Q.Key.names c.args.key) (g.met.Q.Key.names_one c.args.key) _ c.self.invariant.counted))
+
+pub returns-clause-fewer : goal.returns-clause-fewer
+returns-clause-fewer g c =
+    let es = c.self.inside.table.entries in
+    let names = g.Q.Key.names c.args.key in
+    let one = g.met.Q.Key.names_one c.args.key in
+    let n = named_present names es _ (sym c.in_ok-instance.ensures.taken) in
+    let some = named_positive g.T.PartialEq.eq g.met.T.Eq.laws names one es _ c.self.invariant.counted (sym c.in_ok-instance.ensures.taken) in
+    let same = named_occurrences g.met.T.Eq.laws names one es c.self.invariant.counted.distinct in
+    rw (← c.self.view_is)
+    (fewer_named g.met.T.Eq.laws names one (count_named names (occurrences es)) _ _ c.in_ok-instance.count c.self.inside.table c.remove.new.self c.self.invariant (invariant_of-self-2 g c) (sym n)
+    (λ v does. let left = c.remove.ensures.left v does in
+    let all = counts_all g.met.T.Eq.laws names one v does es c.self.invariant.counted.distinct in
+    (less_all_occurrences g.met.T.Eq.laws v _ es _ c.self.invariant.counted (omega (arith, all)) left.means, left.hasher))
+    (λ _. recounts_none names _ _ _ (omega (arith, n, same)) (c.in_ok-instance.ensures.slot refl)) (λ none. absurd (omega (arith, some, none))) c.remove.ensures.room)
+
 pub returns-clause-len : goal.returns-clause-len
 returns-clause-len g c =
-    let n = count_of_entry g.met.T.Eq.laws c.args.value.now c.self.inside.table.entries _ c.in_ok-instance.ensures.taken in
-    let few = count_in_tally g.met.T.Eq.laws c.args.value.now c.self.inside.table.entries c.self.inside.len c.self.invariant in
+    let names = g.Q.Key.names c.args.key in
+    let n = named_present names c.self.inside.table.entries _ (sym c.in_ok-instance.ensures.taken) in
+    let few = named_in_tally g.met.T.Eq.laws names (g.met.Q.Key.names_one c.args.key) c.self.inside.table.entries c.self.inside.len c.self.invariant in
     let was = c.self.invariant.sum in
     let now = (invariant_of-self-2 g c).sum in
-    rw (← c.self.view_is) (omega arith)
+    rw (← c.self.view_is) (omega (arith, n, few, was, now))

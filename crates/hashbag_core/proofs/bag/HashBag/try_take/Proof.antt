@@ -1,27 +1,31 @@
 -- `try_take`, by hand: Rattle writes no proof of its `left`, since its result has a `T` beside a `&T`.
 --
--- The body is two calls: `taken_or_lent(self.take_one(value), self, value)`. The walk is in the borrow checker's own rules,
+-- The body is two calls: `taken_or_lent(self.take_one(key), self, key)`. The walk is in the borrow checker's own rules,
 -- and follows what Rattle writes where it covers such a clause. The bag is lent again to `take_one` for a lifetime that is
 -- made for the call, and comes back. Then it is shared for all the time that the caller's loan has left, which says its
--- last value. That stays in the local of `self` until the function returns, and the clause is made of it.
+-- last value. That stays in the local of `self` until the function returns, and the clause is made of it. The key is a
+-- `Copy` value: each call is passed a copy, and its own is let go at the end.
 --
 -- What stands where, from the top:
 --
--- 1. The types: of the bag (`R`), of what `take_one` returns (`Taken`) and of the answer (`Answer`), as the logic holds them,
---    and as the code writes them (`tA`, `tM` and so on). `taken_kind` and `answer_kind` are the two results as kinds.
--- 2. What the walk owes of `self` (`owe`): nothing while the bag is lent, and then its last value.
--- 3. The locals before and after each statement, from `entry` to `leaving`. Each has six rows: the result, `self`, `value`, what
+-- 1. The types: of the bag (`R`), of the key (`pQ`), of what `take_one` returns (`Taken`) and of the answer (`Answer`), as the
+--    logic holds them, and as the code writes them (`tA`, `tM` and so on). `taken_kind` and `answer_kind` are the two results as
+--    kinds.
+-- 2. What the walk owes of `self` (`owe`): nothing while the bag is lent, and then its last value. `key` is the key as a parameter.
+-- 3. The locals before and after each statement, from `entry` to `leaving`. Each has six rows: the result, `self`, `key`, what
 --    was taken, the bag lent again, the bag shared.
 -- 4. The statements as steps on the values that these locals show: `lends`, `shortens`, `takes`, `comes`, `shares`, `answers`,
---    `lands`, `drops`, `owes`. `Φ-9` down to `Φ-0` chain them from the end, so that `Φ-0` is what is to be shown of the values.
+--    `lands`, `drops`, `lets_key`, `owes`. `Φ-10` down to `Φ-0` chain them from the end, so that `Φ-0` is what is to be shown of the
+--    values.
 -- 5. The code from each statement on, from `lends-s` to `lends-t`.
 -- 6. The walk itself, for any lifetimes `κs` and shares `qs` of their tokens. First the tables of lifetimes: eight places, of the bag's
---    loan, of the value's, of T, of S, of the hasher, the static one, the one made for the call, and what it has in common with those
+--    loan, of T, of S, of the hasher, of the key, the static one, the one made for the call, and what it has in common with those
 --    of T and S. Then one context for each place in the code (`G-entry` to `G-leaving`). Then the proofs, the last
 --    statement first: `returns`, `lets_go`, `gives_answer`, `shares_self`, `ends`, `takes_one`, `meets`, and `typed` for the whole body.
--- 7. What is owed gives the clause (`meaning`, `gives_left`, `owed`): the last value is the bag less one of the value.
+-- 7. What is owed gives the clause (`meaning`, `gives_left`, `owed`): the last value is the bag less one of what the key names.
 -- 8. What is left to show of the values (`asked`): that both calls may be made, and at the return the clauses. This is all that is
---    particular to bags: it is `answer_of` of `TakeLemmas`, by the clauses of `take_one` and `taken_or_lent`.
+--    particular to bags: it is `answer_named` of `AnswerLemmas`, by the clauses of `take_one` and `taken_or_lent`, and by the law that
+--    a key names one value (`NamesOne`).
 -- 9. The function meets its contract (`met`), and that under the names that other proofs use (`try_take_spec`).
 --
 -- A change of `take_one`'s or `taken_or_lent`'s clauses asks for a change of `asked` alone, and one of the body for 3 to 6.
@@ -29,8 +33,8 @@ use Rattle.hashbag_core.proofs.bag.HashBag.TheLaws.{the_within, the_row_laws}
 use Rattle.hashbag_core.specs.contracts.bag.HashBag.{the_row}
 use Rattle.std.specs.Cmp.{IsEquivalence}
 use Rattle.hashbag_core.specs.Held.{HasFewer}
-use Rattle.hashbag_core.proofs.TakeLemmas.{answer_of}
-use Rattle.hashbag_core.specs.contracts.bag.HashBag.try_take.Key.{name as key}
+use Rattle.hashbag_core.proofs.AnswerLemmas.{answer_named}
+use Rattle.hashbag_core.specs.contracts.bag.HashBag.try_take.Key.{name as symbol}
 use Rattle.hashbag_core.proofs.bag.HashBag.try_take.Statement.{statement}
 use Rattle.hashbag_core.proofs.bag.HashBag.try_take.Code as code
 use Rattle.hashbag_core.proofs.bag.HashBag.try_take.Kinds as kinds
@@ -41,6 +45,8 @@ use Rattle.hashbag_core.proofs.bag.HashBag.take_one.Symbol.{name as #take-one}
 use Rattle.hashbag_core.proofs.bag.HashBag.taken_or_lent.Symbol.{name as #taken-or-lent}
 use Rattle.std.specs.contracts.result.Result as result_rows
 use Rattle.std.proofs.result.Result.TheLaws as result_laws
+use Rattle.hashbag_slots.specs.declared.key.Key.{Ghosts as KeyGhosts}
+use Rattle.std.specs.declared.clone.Clone.{Ghosts as CloneGhosts}
 use Rattle.std.specs.declared.cmp.Eq.{Ghosts as EqGhosts}
 use Rattle.std.specs.declared.cmp.PartialEq.{Ghosts as PartialEqGhosts}
 use Rattle.std.specs.declared.hash.Hash.{Ghosts as HashGhosts}
@@ -49,13 +55,14 @@ use Rattle.std.specs.declared.hash.Hasher.{Ghosts as HasherGhosts}
 use Prim.Native.Nat.{ℕ}
 use mathlib.Core.List.{List, [], ◌∷◌, ◌++◌}
 use mathlib.Core.Option.{Option, none, some}
+use mathlib.Core.Bool.{true}
 use mathlib.Core.Path.{◌≡◌, refl, subst}
 use seplogic.Ra.Ura.{Ura}
 use base.Fml.{Fml, GName, fres, ftrue, Lft, Incl}
 use base.Fraction.{full_share}
 use base.FractionLaws.{Common, common}
 use base.Logic.{ent, ex_i, emp, id⊢}
-use mir.Syntax.{Args, Dict, Dicts, dcons, dnil, a_type, Ty, ty_unit, Body, ty_ref, ty_param, named, erased, mut, imm, assign, addr_of, place, deref, call, copy, return, seq}
+use mir.Syntax.{Args, Dict, Dicts, dcons, dnil, a_type, Ty, ty_unit, Body, ty_ref, named, erased, mut, imm, assign, addr_of, place, deref, call, copy, return, seq}
 use prog.Wp.{Env, Tables, WpFn}
 use contract.Running.{tables_of}
 use denote.Triple.Statement.{Triple}
@@ -63,8 +70,9 @@ use mir.MapTy.{inst_fn}
 use types.Logic.{Logic, sem}
 use contract.BorrowLft.{◌⊑◌, ⊑_trans, ⊑_meet, meet_⊑_left, meet_⊑_right}
 use contract.Lifetimes.{Lfts, Shares as ShareList, AllOutlive}
-use denote.Param.{param, read, bounded}
-use denote.Param.Laws.{Laws, param_laws, of_field}
+use denote.Param.{param, copied, layout, read, bounded}
+use denote.Param.Laws.{Laws, IsCopy, param_laws, copied_laws, copied_copy, copy_told, of_field}
+use denote.Param.Mute.{Mute-still}
 use denote.Param.Shared.{copy_shared}
 use denote.RattleType.{RattleType, RowLaws}
 use denote.Ref.{NamedLft}
@@ -103,26 +111,27 @@ use borrow.Follows.Kind.{Owes, owing_by}
 use borrow.Follows.Lender.{Lender, of_ref, p_lends}
 use borrow.Join.MeetSlot.{g_meet, g_unmeet, share, carve, to_share, to_whole, pin_carved}
 use borrow.Join.Shorter.{Below, Told-Below, Told-bounds, mref_shorter}
-use borrow.Kind.Owned.{r_owned}
+use borrow.Kind.Owned.{Owned, Spares, r_owned, p_copied, reads_whole, Spares-whole}
 use borrow.Kind.OwnedTo.{r_owned_to}
-use borrow.Kind.ShrRef.{p_shr, Spares-sref}
+use borrow.Kind.ShrRef.{Spares-sref}
 use borrow.Rule.AtSlots.{one_type, n_as_by, g_as_by}
 use borrow.Rule.Labels.ValueAt.{val_at, of_slots_Val}
 use borrow.Rule.Lifetime.{g_static, g_begin, g_end, g_forget}
 use borrow.Rule.LifetimeAt.{t_pin_one, g_unpin_by}
-use borrow.Rule.Local.{mem_whole, g_drop_sref}
+use borrow.Rule.Local.{mem_whole, room_whole, g_drop_sref}
 use borrow.Rule.Reborrow.{k_mref_relend, t_mref_relend, k_back_mref, g_Back_mref}
 use borrow.Rule.Reshare.{n_mref_share}
-use borrow.Rule.Scalar.{n_room}
+use borrow.Rule.Scalar.{n_room, g_room}
 use borrow.Rule.SharedLend.{t_mref_share_as}
 use borrow.Rule.SharedParts.{Tokens, Tokens-also, Tokens-none}
 use ghost.Rules.{Toks}
 use borrow.Rule.Token.Open.{Takes-whole, Puts-whole}
 use borrow.Rule.Way.{Told-and}
 
-module _ (T S H : RattleType) (lT : Laws T) (lS : Laws S) (lH : Laws H) (e : EqGhosts T.Denot) (ed : Dict) (p : PartialEqGhosts T.Denot) (pd : Dict) (h : HashGhosts T.Denot) (hd : Dict)
-    (b : BuildHasherGhosts S.Denot H.Denot) (bd : Dict) (s : HasherGhosts H.Denot) (sd : Dict) (dT : Dict) (dS : Dict) (dH : Dict) where
-  -- ---- the types: of the bag, of what `take_one` and `try_take` return, and of the locals
+module _ (T S H Q : RattleType) (lT : Laws T) (lS : Laws S) (lH : Laws H) (lQ : Laws Q) (cQ : IsCopy Q) (e : EqGhosts T.Denot) (ed : Dict) (p : PartialEqGhosts T.Denot) (pd : Dict) (h : HashGhosts T.Denot) (hd : Dict)
+    (b : BuildHasherGhosts S.Denot H.Denot) (bd : Dict) (s : HasherGhosts H.Denot) (sd : Dict) (dT : Dict) (dS : Dict) (dH : Dict)
+    (k : KeyGhosts Q.Denot T.Denot) (kd : Dict) (c : CloneGhosts Q.Denot) (cd : Dict) (h' : HashGhosts Q.Denot) (hd' : Dict) (e' : EqGhosts Q.Denot) (ed' : Dict) (p' : PartialEqGhosts Q.Denot) (pd' : Dict) where
+  -- ---- the types: of the bag, of the key, of what `take_one` and `try_take` return, and of the locals
   abbrev pT : RattleType
   pT = param 0 T
 
@@ -131,6 +140,9 @@ module _ (T S H : RattleType) (lT : Laws T) (lS : Laws S) (lH : Laws H) (e : EqG
 
   abbrev pH : RattleType
   pH = param 2 H
+
+  abbrev pQ : RattleType
+  pQ = copied 3 Q
 
   abbrev R : RattleType
   R = the_row pT pS pH p h b s
@@ -143,7 +155,7 @@ module _ (T S H : RattleType) (lT : Laws T) (lS : Laws S) (lH : Laws H) (e : EqG
   at κ = record { mir = named 0; lft = κ }
 
   abbrev Others : Lft → RattleType
-  Others κ = lts.of-4 T S H lT lS lH e ed p pd h hd b bd s sd dT dS dH (at κ)
+  Others κ = lts.of-4 T S H Q lT lS lH lQ cQ e ed p pd h hd b bd s sd dT dS dH k kd c cd h' hd' e' ed' p' pd' (at κ)
 
   abbrev Answer : Lft → RattleType
   Answer κ = row (result_rows.the_type pT (Others κ))
@@ -152,19 +164,19 @@ module _ (T S H : RattleType) (lT : Laws T) (lS : Laws S) (lH : Laws H) (e : EqG
   Value = (result_rows.the_type pT (Others [])).D
 
   abbrev ps-0 : List (ParamKind 5)
-  ps-0 = lts.ps-0 T S H lT lS lH e ed p pd h hd b bd s sd dT dS dH
+  ps-0 = lts.ps-0 T S H Q lT lS lH lQ cQ e ed p pd h hd b bd s sd dT dS dH k kd c cd h' hd' e' ed' p' pd'
 
   abbrev r-0 : ResultKind 5
-  r-0 = lts.r-0 T S H lT lS lH e ed p pd h hd b bd s sd dT dS dH
+  r-0 = lts.r-0 T S H Q lT lS lH lQ cQ e ed p pd h hd b bd s sd dT dS dH k kd c cd h' hd' e' ed' p' pd'
 
   abbrev ps-1 : List (ParamKind 5)
-  ps-1 = lts.ps-1 T S H lT lS lH e ed p pd h hd b bd s sd dT dS dH
+  ps-1 = lts.ps-1 T S H Q lT lS lH lQ cQ e ed p pd h hd b bd s sd dT dS dH k kd c cd h' hd' e' ed' p' pd'
 
   abbrev r-1 : ResultKind 5
-  r-1 = lts.r-1 T S H lT lS lH e ed p pd h hd b bd s sd dT dS dH
+  r-1 = lts.r-1 T S H Q lT lS lH lQ cQ e ed p pd h hd b bd s sd dT dS dH k kd c cd h' hd' e' ed' p' pd'
 
   abbrev r : ResultKind 5
-  r = lts.r T S H lT lS lH e ed p pd h hd b bd s sd dT dS dH
+  r = lts.r T S H Q lT lS lH lQ cQ e ed p pd h hd b bd s sd dT dS dH k kd c cd h' hd' e' ed' p' pd'
 
   abbrev tA : Ty
   tA = ty_r r
@@ -172,8 +184,8 @@ module _ (T S H : RattleType) (lT : Laws T) (lS : Laws S) (lH : Laws H) (e : EqG
   abbrev tM : Ty
   tM = ty_ref (named 0) mut (pointee R.written)
 
-  abbrev tV : Ty
-  tV = ty_ref (named 1) imm (ty_param 0)
+  abbrev tQ : Ty
+  tQ = layout Q
 
   abbrev tK : Ty
   tK = ty_r r-0
@@ -195,7 +207,7 @@ module _ (T S H : RattleType) (lT : Laws T) (lS : Laws S) (lH : Laws H) (e : EqG
   answer_kind = r_owned_to (record {
     keeps = no;
     F = λ κs. result_rows.the_field pT (Others κs.0);
-    L = λ κs. result_laws.the_field_loose pT (Others κs.0) (param_laws 0 T lT) (lts.of-5 T S H lT lS lH e ed p pd h hd b bd s sd dT dS dH (at κs.0));
+    L = λ κs. result_laws.the_field_loose pT (Others κs.0) (param_laws 0 T lT) (lts.of-5 T S H Q lT lS lH lQ cQ e ed p pd h hd b bd s sd dT dS dH k kd c cd h' hd' e' ed' p' pd' (at κs.0));
     mir = tA;
     same = λ κs. refl;
     single = λ κs. tt;
@@ -217,30 +229,33 @@ module _ (T S H : RattleType) (lT : Laws T) (lS : Laws S) (lH : Laws H) (e : EqG
   abbrev self : Lender 5 R
   self = of_ref R 0 tt
 
+  abbrev key : Owned
+  key = record { ty = pQ; one = refl; val = (copy_told pQ (copied_copy 3 Q cQ)).val; tells = (copy_told pQ (copied_copy 3 Q cQ)).tells }
+
   abbrev others : List (ParamKind 5)
-  others = p_shr pT 1 tt ∷ []
+  others = p_copied key no Mute-still (λ M 𝓤 𝓛. (copied_laws 3 Q lQ).lawful 𝓛) ∷ []
 
   abbrev ps : List (ParamKind 5)
   ps = p_lends R last self ∷ others
 
-  -- ---- the locals: the result, `self`, `value`, what was taken, the bag lent again, the bag shared
-  abbrev rows : Row → Row → Row → Row → Row → List Entry
-  rows result bag taken lent shared = (0, result) ∷ (1, bag) ∷ (2, sref pT tV 1) ∷ (3, taken) ∷ (4, lent) ∷ (5, shared) ∷ []
+  -- ---- the locals: the result, `self`, `key`, what was taken, the bag lent again, the bag shared
+  abbrev rows : Row → Row → Row → Row → Row → Row → List Entry
+  rows result bag by taken lent shared = (0, result) ∷ (1, bag) ∷ (2, by) ∷ (3, taken) ∷ (4, lent) ∷ (5, shared) ∷ []
 
   abbrev entry : List Entry
-  entry = rows (any_gone tA) (mref R tM 0) (any_gone tK) (any_gone tE) (any_gone tS)
+  entry = rows (any_gone tA) (mref R tM 0) (whole pQ) (any_gone tK) (any_gone tE) (any_gone tS)
 
   abbrev lending : Life → ℕ → List Entry
-  lending l slot = rows (any_gone tA) (mref_owed R tM 0 6 l) (any_gone tK) (mref R tE slot) (any_gone tS)
+  lending l slot = rows (any_gone tA) (mref_owed R tM 0 6 l) (whole pQ) (any_gone tK) (mref R tE slot) (any_gone tS)
 
   abbrev called : Life → List Entry
-  called l = rows (any_gone tA) (mref_owed R tM 0 6 l) (whole Taken) (mleft R tE) (any_gone tS)
+  called l = rows (any_gone tA) (mref_owed R tM 0 6 l) (whole pQ) (whole Taken) (mleft R tE) (any_gone tS)
 
   abbrev back : List Entry
-  back = rows (any_gone tA) (mref R tM 0) (whole Taken) (any_gone tE) (any_gone tS)
+  back = rows (any_gone tA) (mref R tM 0) (whole pQ) (whole Taken) (any_gone tE) (any_gone tS)
 
   abbrev sharing : List Entry
-  sharing = rows (any_gone tA) (mleft R tM) (whole Taken) (any_gone tE) (sref R tS 0)
+  sharing = rows (any_gone tA) (mleft R tM) (whole pQ) (whole Taken) (any_gone tE) (sref R tS 0)
 
   abbrev own : List ℕ
   own = 0 ∷ 1 ∷ 2 ∷ 3 ∷ 4 ∷ []
@@ -249,16 +264,19 @@ module _ (T S H : RattleType) (lT : Laws T) (lS : Laws S) (lH : Laws H) (e : EqG
   lent = 7 ∷ 1 ∷ 2 ∷ 3 ∷ 4 ∷ []
 
   abbrev answered : List Entry
-  answered = rows (val_at 5 (λ κs. Answer κs.0) Value (λ κs v. v) own tA) (mleft R tM) (any_gone tK) (any_gone tE) (sref R tS 0)
+  answered = rows (val_at 5 (λ κs. Answer κs.0) Value (λ κs v. v) own tA) (mleft R tM) (whole pQ) (any_gone tK) (any_gone tE) (sref R tS 0)
 
   abbrev landed : Lft → List Entry
-  landed κ = rows (whole (Answer κ)) (mleft R tM) (any_gone tK) (any_gone tE) (sref R tS 0)
+  landed κ = rows (whole (Answer κ)) (mleft R tM) (whole pQ) (any_gone tK) (any_gone tE) (sref R tS 0)
 
   abbrev dropped : Lft → List Entry
-  dropped κ = rows (whole (Answer κ)) (mleft R tM) (any_gone tK) (any_gone tE) (any_gone tS)
+  dropped κ = rows (whole (Answer κ)) (mleft R tM) (whole pQ) (any_gone tK) (any_gone tE) (any_gone tS)
+
+  abbrev keyless : Lft → List Entry
+  keyless κ = rows (whole (Answer κ)) (mleft R tM) (any_gone tQ) (any_gone tK) (any_gone tE) (any_gone tS)
 
   abbrev leaving : Lft → List Entry
-  leaving κ = rows (whole (Answer κ)) (owing_by R last tM) (any_gone tK) (any_gone tE) (any_gone tS)
+  leaving κ = rows (whole (Answer κ)) (owing_by R last tM) (any_gone tQ) (any_gone tK) (any_gone tE) (any_gone tS)
 
   -- ---- what each step makes of the values that the locals show
   abbrev cx : List Entry → Cx
@@ -267,17 +285,17 @@ module _ (T S H : RattleType) (lT : Laws T) (lS : Laws S) (lH : Laws H) (e : EqG
   abbrev Out : Outs
   Out = record { next = none; exits = []; returns = some (cx (leaving [])) }
 
-  abbrev claims : lts.Claims T S H lT lS lH e ed p pd h hd b bd s sd dT dS dH
-  claims = tie.the-claims T S H lT lS lH e ed p pd h hd b bd s sd dT dS dH
+  abbrev claims : lts.Claims T S H Q lT lS lH lQ cQ e ed p pd h hd b bd s sd dT dS dH k kd c cd h' hd' e' ed' p' pd'
+  claims = tie.the-claims T S H Q lT lS lH lQ cQ e ed p pd h hd b bd s sd dT dS dH k kd c cd h' hd' e' ed' p' pd'
 
   abbrev Lives : Lfts 5 → Type 0
-  Lives κs = (κs.1.1.0 ⊑ T.lives) × ((κs.1.1.1.0 ⊑ S.lives) × (κs.1.1.1.1.0 ⊑ H.lives))
+  Lives κs = (κs.1.0 ⊑ T.lives) × ((κs.1.1.0 ⊑ S.lives) × ((κs.1.1.1.0 ⊑ H.lives) × (κs.1.1.1.1.0 ⊑ Q.lives)))
 
   abbrev args-0 : (l : Life) → ArgsT ps-0 (lending l 7)
-  args-0 l = (record { pos = 4; ty = tE; ref = λ x. x }, (record { pos = 2; ty = tV; ref = λ x. x }, tt))
+  args-0 l = (record { pos = 4; ty = tE; ref = λ x. x }, (record { pos = 2; at = λ x. x }, tt))
 
   abbrev args-1 : ArgsT ps-1 sharing
-  args-1 = (record { pos = 3; at = λ x. x }, (record { pos = 5; ty = tS; ref = λ x. x }, (record { pos = 2; ty = tV; ref = λ x. x }, tt)))
+  args-1 = (record { pos = 3; at = λ x. x }, (record { pos = 5; ty = tS; ref = λ x. x }, (record { pos = 2; at = λ x. x }, tt)))
 
   abbrev lends : Gives (cx entry) (cx (lending off 6))
   lends = k_mref_relend (cx entry) 1 4 0 6 R tM tE off [] (λ x. x)
@@ -303,14 +321,20 @@ module _ (T S H : RattleType) (lT : Laws T) (lS : Laws S) (lH : Laws H) (e : EqG
   abbrev drops : Mo (cx (landed [])) → Mo (cx (dropped []))
   drops = n_room (cx (landed [])) 5 tS
 
-  abbrev owes : Mo (cx (dropped [])) → Mo (cx (leaving []))
-  owes = k_owing_here (cx (dropped [])) 1 tM R last (λ x. (x, some x.now))
+  abbrev lets_key : Mo (cx (dropped [])) → Mo (cx (keyless []))
+  lets_key = n_room (cx (dropped [])) 2 tQ
 
-  abbrev Φ-9 : TF (cx (leaving [])) Out
-  Φ-9 = at_ret Out
+  abbrev owes : Mo (cx (keyless [])) → Mo (cx (leaving []))
+  owes = k_owing_here (cx (keyless [])) 1 tM R last (λ x. (x, some x.now))
+
+  abbrev Φ-10 : TF (cx (leaving [])) Out
+  Φ-10 = at_ret Out
+
+  abbrev Φ-9 : TF (cx (keyless [])) Out
+  Φ-9 Ψ = pass (cx (keyless [])) (cx (leaving [])) owes (Φ-10 Ψ)
 
   abbrev Φ-8 : TF (cx (dropped [])) Out
-  Φ-8 Ψ = pass (cx (dropped [])) (cx (leaving [])) owes (Φ-9 Ψ)
+  Φ-8 Ψ = pass (cx (dropped [])) (cx (keyless [])) lets_key (Φ-9 Ψ)
 
   abbrev Φ-7 : TF (cx (landed [])) Out
   Φ-7 Ψ = pass (cx (landed [])) (cx (dropped [])) drops (Φ-8 Ψ)
@@ -341,13 +365,13 @@ module _ (T S H : RattleType) (lT : Laws T) (lS : Laws S) (lH : Laws H) (e : EqG
   lends-s = assign (place 4 []) (addr_of (place 1 (deref deep ∷ [])))
 
   abbrev takes-s : Body
-  takes-s = call (#take-one (lts.passed-0 T S H lT lS lH e ed p pd h hd b bd s sd dT dS dH)) (copy (place 4 []) ∷ copy (place 2 []) ∷ []) (place 3 [])
+  takes-s = call (#take-one (lts.passed-0 T S H Q lT lS lH lQ cQ e ed p pd h hd b bd s sd dT dS dH k kd c cd h' hd' e' ed' p' pd')) (copy (place 4 []) ∷ copy (place 2 []) ∷ []) (place 3 [])
 
   abbrev shares-s : Body
   shares-s = assign (place 5 []) (addr_of (place 1 (deref deep ∷ [])))
 
   abbrev answers-s : Body
-  answers-s = call (#taken-or-lent (lts.passed-1 T S H lT lS lH e ed p pd h hd b bd s sd dT dS dH)) (copy (place 3 []) ∷ copy (place 5 []) ∷ copy (place 2 []) ∷ []) (place 0 [])
+  answers-s = call (#taken-or-lent (lts.passed-1 T S H Q lT lS lH lQ cQ e ed p pd h hd b bd s sd dT dS dH k kd c cd h' hd' e' ed' p' pd')) (copy (place 3 []) ∷ copy (place 5 []) ∷ copy (place 2 []) ∷ []) (place 0 [])
 
   abbrev answers-t : Body
   answers-t = seq answers-s return
@@ -363,37 +387,40 @@ module _ (T S H : RattleType) (lT : Laws T) (lS : Laws S) (lH : Laws H) (e : EqG
 
   -- ---- the walk. Each part is proved to the end of the function, so the last one comes first
   module _ (κs : Lfts 5) (qs : ShareList 5) where
-    -- the lifetimes that T, S and the hasher live for
+    -- the lifetimes that T, S, the hasher and the key live for
     abbrev κT : Lft
-    κT = κs.1.1.0
+    κT = κs.1.0
 
     abbrev κS : Lft
-    κS = κs.1.1.1.0
+    κS = κs.1.1.0
 
     abbrev κH : Lft
-    κH = κs.1.1.1.1.0
+    κH = κs.1.1.1.0
 
-    -- what the caller gives of the tokens: of the bag's loan, the value's, and those three
+    abbrev κQ : Lft
+    κQ = κs.1.1.1.1.0
+
+    -- what the caller gives of the tokens: of the bag's loan, and those four
     abbrev l0 : Life
     l0 = lease κs.0 qs.0
 
-    abbrev l1 : Life
-    l1 = lease κs.1.0 qs.1.0
-
     abbrev lT' : Life
-    lT' = lease κT qs.1.1.0
+    lT' = lease κT qs.1.0
 
     abbrev lS' : Life
-    lS' = lease κS qs.1.1.1.0
+    lS' = lease κS qs.1.1.0
 
     abbrev lH' : Life
-    lH' = lease κH qs.1.1.1.1.0
+    lH' = lease κH qs.1.1.1.0
+
+    abbrev lQ' : Life
+    lQ' = lease κQ qs.1.1.1.1.0
 
     abbrev static : Life
     static = lease [] full_share
 
     abbrev slots : Life → Life → Life → Life → Life → Life → List Life
-    slots bag t s' static' new within = bag ∷ l1 ∷ t ∷ s' ∷ lH' ∷ static' ∷ new ∷ within ∷ []
+    slots bag t s' static' new within = bag ∷ t ∷ s' ∷ lH' ∷ lQ' ∷ static' ∷ new ∷ within ∷ []
 
     abbrev at_start : List Life
     at_start = slots l0 lT' lS' off off off
@@ -405,8 +432,8 @@ module _ (T S H : RattleType) (lT : Laws T) (lS : Laws S) (lH : Laws H) (e : EqG
     abbrev within : ℕ → Lft
     within a = κT ++ (κS ++ (a ∷ []))
 
-    abbrev part : Common qs.1.1.0 qs.1.1.1.0
-    part = common qs.1.1.0 qs.1.1.1.0
+    abbrev part : Common qs.1.0 qs.1.1.0
+    part = common qs.1.0 qs.1.1.0
 
     abbrev in_call : ℕ → List Life
     in_call a = slots off (lease κT part.1) (lease κS part.2) static (carved (a ∷ []) part.0) (lease (within a) part.0)
@@ -462,6 +489,9 @@ module _ (T S H : RattleType) (lT : Laws T) (lS : Laws S) (lH : Laws H) (e : EqG
     abbrev G-dropped : Cx
     G-dropped = record { locals = dropped κs.0; slots = with_static }
 
+    abbrev G-keyless : Cx
+    G-keyless = record { locals = keyless κs.0; slots = with_static }
+
     abbrev G-owing : Cx
     G-owing = record { locals = leaving κs.0; slots = with_static }
 
@@ -471,16 +501,17 @@ module _ (T S H : RattleType) (lT : Laws T) (lS : Laws S) (lH : Laws H) (e : EqG
     abbrev Δ : Outs
     Δ = record { next = none; exits = []; returns = some G-leaving }
 
-    module _ {M : Type 1} {𝓤 : Ura M} (𝓛 : Logic 𝓤) (𝓣 : Tables 𝓤 𝓛.H) (take_one : lts.Known-0 T S H lT lS lH e ed p pd h hd b bd s sd dT dS dH claims 𝓛 𝓣) (taken_or_lent : lts.Known-1 T S H lT lS lH e ed p pd h hd b bd s sd dT dS dH claims 𝓛 𝓣)
-        (lives : (κT ⊑ T.lives) × ((κS ⊑ S.lives) × ((κH ⊑ H.lives) × Unit {0}))) (bs : List ℕ) (below : AllOutlive 5 (os_r r) κs) where
+    module _ {M : Type 1} {𝓤 : Ura M} (𝓛 : Logic 𝓤) (𝓣 : Tables 𝓤 𝓛.H) (take_one : lts.Known-0 T S H Q lT lS lH lQ cQ e ed p pd h hd b bd s sd dT dS dH k kd c cd h' hd' e' ed' p' pd' claims 𝓛 𝓣) (taken_or_lent : lts.Known-1 T S H Q lT lS lH lQ cQ e ed p pd h hd b bd s sd dT dS dH k kd c cd h' hd' e' ed' p' pd' claims 𝓛 𝓣)
+        (lives : (κT ⊑ T.lives) × ((κS ⊑ S.lives) × ((κH ⊑ H.lives) × ((κQ ⊑ Q.lives) × Unit {0})))) (bs : List ℕ) (below : AllOutlive 5 (os_r r) κs) where
       abbrev E : Env 𝓤 𝓛.H
-      E = EnvOf 𝓛 (ty_r r ∷ tys_p ps (lts.xs T S H lT lS lH e ed p pd h hd b bd s sd dT dS dH)) bs
+      E = EnvOf 𝓛 (ty_r r ∷ tys_p ps (lts.xs T S H Q lT lS lH lQ cQ e ed p pd h hd b bd s sd dT dS dH k kd c cd h' hd' e' ed' p' pd')) bs
 
-      -- the function returns, with what is owed of `self`
+      -- the key is let go, and the function returns with what is owed of `self`
       returns : Typed 𝓛 𝓣 E G-dropped return Δ Φ-8
       returns =
-          g_pre_lem 𝓛 𝓣 E G-dropped G-owing return Δ (pass (cx (dropped [])) (cx (leaving [])) owes) Φ-9 (g_owing_here 𝓛 E G-dropped 1 tM R last (λ x. (x, some x.now)) (λ ρ x a. id⊢ 𝓤 _))
-          (g_pre_lem 𝓛 𝓣 E G-owing G-leaving return Δ (λ Ψ. Ψ) Φ-9 (g_forget 𝓛 E G-owing 5 static refl) (t_return 𝓛 𝓣 E Δ tt))
+          g_pre_lem 𝓛 𝓣 E G-dropped G-keyless return Δ (pass (cx (dropped [])) (cx (keyless [])) lets_key) Φ-9 (g_room 𝓛 E G-dropped 2 tQ (room_whole 𝓛 pQ tQ refl))
+          (g_pre_lem 𝓛 𝓣 E G-keyless G-owing return Δ (pass (cx (keyless [])) (cx (leaving [])) owes) Φ-10 (g_owing_here 𝓛 E G-keyless 1 tM R last (λ x. (x, some x.now)) (λ ρ x a. id⊢ 𝓤 _))
+          (g_pre_lem 𝓛 𝓣 E G-owing G-leaving return Δ (λ Ψ. Ψ) Φ-10 (g_forget 𝓛 E G-owing 5 static refl) (t_return 𝓛 𝓣 E Δ tt)))
 
       -- the answer is in the result, and the shared bag is let go
       lets_go : Typed 𝓛 𝓣 E G-answered return Δ Φ-6
@@ -494,25 +525,29 @@ module _ (T S H : RattleType) (lT : Laws T) (lS : Laws S) (lH : Laws H) (e : EqG
       lR : RowLaws R
       lR = (the_row_laws pT pS pH p h b s (param_laws 0 T lT) (param_laws 1 S lS) (param_laws 2 H lH)).shr_laws
 
-      lV : RowLaws pT
-      lV = (param_laws 0 T lT).shr_laws
+      abbrev LivesIn : Rho → Type 0
+      LivesIn ρ = (lft ρ 1 ⊑ T.lives) × ((lft ρ 2 ⊑ S.lives) × ((lft ρ 3 ⊑ H.lives) × (lft ρ 4 ⊑ Q.lives)))
 
-      T-lives : Told 𝓛 with_static (λ ρ. (lft ρ 2 ⊑ T.lives) × ((lft ρ 3 ⊑ S.lives) × (lft ρ 4 ⊑ H.lives)))
-      T-lives = Told-and 𝓛 with_static (λ ρ. lft ρ 2 ⊑ T.lives) (λ ρ. (lft ρ 3 ⊑ S.lives) × (lft ρ 4 ⊑ H.lives)) (within_lease 𝓛 2 with_static κT qs.1.1.0 refl T.lives lives.0)
-          (Told-and 𝓛 with_static (λ ρ. lft ρ 3 ⊑ S.lives) (λ ρ. lft ρ 4 ⊑ H.lives) (within_lease 𝓛 3 with_static κS qs.1.1.1.0 refl S.lives lives.1.0)
-          (within_lease 𝓛 4 with_static κH qs.1.1.1.1.0 refl H.lives lives.1.1.0))
+      Q-lives : Told 𝓛 with_static LivesIn
+      Q-lives = Told-and 𝓛 with_static (λ ρ. lft ρ 1 ⊑ T.lives) (λ ρ. (lft ρ 2 ⊑ S.lives) × ((lft ρ 3 ⊑ H.lives) × (lft ρ 4 ⊑ Q.lives))) (within_lease 𝓛 1 with_static κT qs.1.0 refl T.lives lives.0)
+          (Told-and 𝓛 with_static (λ ρ. lft ρ 2 ⊑ S.lives) (λ ρ. (lft ρ 3 ⊑ H.lives) × (lft ρ 4 ⊑ Q.lives)) (within_lease 𝓛 2 with_static κS qs.1.1.0 refl S.lives lives.1.0)
+          (Told-and 𝓛 with_static (λ ρ. lft ρ 3 ⊑ H.lives) (λ ρ. lft ρ 4 ⊑ Q.lives) (within_lease 𝓛 3 with_static κH qs.1.1.1.0 refl H.lives lives.1.1.0)
+          (within_lease 𝓛 4 with_static κQ qs.1.1.1.1.0 refl Q.lives lives.1.1.1.0)))
+
+      -- a copy of the key is passed, and the key stays
+      spares_key : Spares 𝓛 key (whole pQ) (λ x. x)
+      spares_key = Spares-whole 𝓛 key ((copied_copy 3 Q cQ).copies M 𝓤 𝓛)
 
       gives_answer : Typed 𝓛 𝓣 E G-shared answers-t Δ Φ-5
       gives_answer =
           s_seq 𝓛 𝓣 E G-shared G-answered answers-s return Δ (both answers) Φ-6
-          (t_call_plain_by_Pin 𝓛 𝓣 5 ps-1 r-1 claims.2 claims.3 (#taken-or-lent (lts.passed-1 T S H lT lS lH e ed p pd h hd b bd s sd dT dS dH)) taken_or_lent Lives E (λ pos β. β) G-shared args-1 0 own T-lives (sub_id 𝓛 with_static)
-          (mem_whole 𝓛 Taken, refl, (lR, Spares-sref 𝓛 R lR tS 0, reads_sref 𝓛 R tS 0, refl, (lV, Spares-sref 𝓛 pT lV tV 1, reads_sref 𝓛 pT tV 1, refl, tt)))
+          (t_call_plain_by_Pin 𝓛 𝓣 5 ps-1 r-1 claims.2 claims.3 (#taken-or-lent (lts.passed-1 T S H Q lT lS lH lQ cQ e ed p pd h hd b bd s sd dT dS dH k kd c cd h' hd' e' ed' p' pd')) taken_or_lent Lives E (λ pos β. β) G-shared args-1 0 own Q-lives (sub_id 𝓛 with_static)
+          (mem_whole 𝓛 Taken, refl, (lR, Spares-sref 𝓛 R lR tS 0, reads_sref 𝓛 R tS 0, refl, (spares_key, reads_whole 𝓛 key, refl, tt)))
           (room_gone 𝓛 tA) (tt, (tt, (tt, (tt, (tt, tt)))))
           (Told-bounds 𝓛 5 with_static own (os_r r-1)
-          (Told-and 𝓛 with_static (Below 2 0) (λ ρ. Below 3 0 ρ × (Below 2 1 ρ × Unit {0})) (Told-Below 𝓛 with_static 2 0 κT κs.0 (pin_lease 𝓛 2 with_static κT qs.1.1.0 refl) (pin_lease 𝓛 0 with_static κs.0 qs.0 refl) below.0)
-          (Told-and 𝓛 with_static (Below 3 0) (λ ρ. Below 2 1 ρ × Unit {0}) (Told-Below 𝓛 with_static 3 0 κS κs.0 (pin_lease 𝓛 3 with_static κS qs.1.1.1.0 refl) (pin_lease 𝓛 0 with_static κs.0 qs.0 refl) below.1.0)
-          (Told-and 𝓛 with_static (Below 2 1) (λ ρ. Unit {0}) (Told-Below 𝓛 with_static 2 1 κT κs.1.0 (pin_lease 𝓛 2 with_static κT qs.1.1.0 refl) (pin_lease 𝓛 1 with_static κs.1.0 qs.1.0 refl) below.1.1.0)
-          (Told-none 𝓛 with_static)))))
+          (Told-and 𝓛 with_static (Below 1 0) (λ ρ. Below 2 0 ρ × Unit {0}) (Told-Below 𝓛 with_static 1 0 κT κs.0 (pin_lease 𝓛 1 with_static κT qs.1.0 refl) (pin_lease 𝓛 0 with_static κs.0 qs.0 refl) below.0)
+          (Told-and 𝓛 with_static (Below 2 0) (λ ρ. Unit {0}) (Told-Below 𝓛 with_static 2 0 κS κs.0 (pin_lease 𝓛 2 with_static κS qs.1.1.0 refl) (pin_lease 𝓛 0 with_static κs.0 qs.0 refl) below.1.0)
+          (Told-none 𝓛 with_static))))
           refl (λ κs' x v i. res_typed 𝓛 5 κs' answer_kind x v i own tA refl))
           lets_go
 
@@ -521,11 +556,11 @@ module _ (T S H : RattleType) (lT : Laws T) (lS : Laws S) (lH : Laws H) (e : EqG
       All = κT ++ (κS ++ κH)
 
       abbrev Known : Rho → Type 0
-      Known ρ = (lft ρ 2 ≡ κT) × ((lft ρ 3 ≡ κS) × (lft ρ 4 ≡ κH))
+      Known ρ = (lft ρ 1 ≡ κT) × ((lft ρ 2 ≡ κS) × (lft ρ 3 ≡ κH))
 
       known : Told 𝓛 with_static Known
-      known = Told-and 𝓛 with_static (λ ρ. lft ρ 2 ≡ κT) (λ ρ. (lft ρ 3 ≡ κS) × (lft ρ 4 ≡ κH)) (pin_lease 𝓛 2 with_static κT qs.1.1.0 refl)
-          (Told-and 𝓛 with_static (λ ρ. lft ρ 3 ≡ κS) (λ ρ. lft ρ 4 ≡ κH) (pin_lease 𝓛 3 with_static κS qs.1.1.1.0 refl) (pin_lease 𝓛 4 with_static κH qs.1.1.1.1.0 refl))
+      known = Told-and 𝓛 with_static (λ ρ. lft ρ 1 ≡ κT) (λ ρ. (lft ρ 2 ≡ κS) × (lft ρ 3 ≡ κH)) (pin_lease 𝓛 1 with_static κT qs.1.0 refl)
+          (Told-and 𝓛 with_static (λ ρ. lft ρ 2 ≡ κS) (λ ρ. lft ρ 3 ≡ κH) (pin_lease 𝓛 2 with_static κS qs.1.1.0 refl) (pin_lease 𝓛 3 with_static κH qs.1.1.1.0 refl))
 
       All-lives : All ⊑ R.lives
       All-lives =
@@ -537,56 +572,56 @@ module _ (T S H : RattleType) (lT : Laws T) (lS : Laws S) (lH : Laws H) (e : EqG
       abbrev S-0 : List Life
       S-0 = set_life 0 off with_static
 
+      abbrev S-1 : List Life
+      S-1 = set_life 1 off S-0
+
       abbrev S-2 : List Life
-      S-2 = set_life 2 off S-0
+      S-2 = set_life 2 off S-1
 
       abbrev S-3 : List Life
       S-3 = set_life 3 off S-2
 
-      abbrev S-4 : List Life
-      S-4 = set_life 4 off S-3
-
-      abbrev toks-4 : Rho → Toks
-      toks-4 ρ = (lft ρ 4, share_of lH') ∷ []
-
       abbrev toks-3 : Rho → Toks
-      toks-3 ρ = (lft ρ 3, share_of lS') ∷ toks-4 ρ
+      toks-3 ρ = (lft ρ 3, share_of lH') ∷ []
 
       abbrev toks-2 : Rho → Toks
-      toks-2 ρ = (lft ρ 2, share_of lT') ∷ toks-3 ρ
+      toks-2 ρ = (lft ρ 2, share_of lS') ∷ toks-3 ρ
+
+      abbrev toks-1 : Rho → Toks
+      toks-1 ρ = (lft ρ 1, share_of lT') ∷ toks-2 ρ
 
       abbrev toks-0 : Rho → Toks
-      toks-0 ρ = (lft ρ 0, share_of l0) ∷ toks-2 ρ
+      toks-0 ρ = (lft ρ 0, share_of l0) ∷ toks-1 ρ
 
       tokens : Tokens 𝓛 Known with_static toks-0 with_static
       tokens =
-          Tokens-also 𝓛 Known 0 l0 with_static S-0 S-0 with_static toks-2 (Takes-whole 𝓛 0 with_static l0 refl tt)
-          (Tokens-also 𝓛 Known 2 lT' S-0 S-2 S-2 S-0 toks-3 (Takes-whole 𝓛 2 S-0 lT' refl tt)
-          (Tokens-also 𝓛 Known 3 lS' S-2 S-3 S-3 S-2 toks-4 (Takes-whole 𝓛 3 S-2 lS' refl tt)
-          (Tokens-also 𝓛 Known 4 lH' S-3 S-4 S-4 S-3 (λ ρ. []) (Takes-whole 𝓛 4 S-3 lH' refl tt) (Tokens-none 𝓛 Known S-4) (Puts-whole 𝓛 4 lH' S-4 refl))
-          (Puts-whole 𝓛 3 lS' S-3 refl)) (Puts-whole 𝓛 2 lT' S-2 refl)) (Puts-whole 𝓛 0 l0 S-0 refl)
+          Tokens-also 𝓛 Known 0 l0 with_static S-0 S-0 with_static toks-1 (Takes-whole 𝓛 0 with_static l0 refl tt)
+          (Tokens-also 𝓛 Known 1 lT' S-0 S-1 S-1 S-0 toks-2 (Takes-whole 𝓛 1 S-0 lT' refl tt)
+          (Tokens-also 𝓛 Known 2 lS' S-1 S-2 S-2 S-1 toks-3 (Takes-whole 𝓛 2 S-1 lS' refl tt)
+          (Tokens-also 𝓛 Known 3 lH' S-2 S-3 S-3 S-2 (λ ρ. []) (Takes-whole 𝓛 3 S-2 lH' refl tt) (Tokens-none 𝓛 Known S-3) (Puts-whole 𝓛 3 lH' S-3 refl))
+          (Puts-whole 𝓛 2 lS' S-2 refl)) (Puts-whole 𝓛 1 lT' S-1 refl)) (Puts-whole 𝓛 0 l0 S-0 refl)
 
       -- what their lifetimes have in common is within all of these
-      abbrev from-3 : Rho → Lft
-      from-3 ρ = lft ρ 3 ++ lft ρ 4
-
       abbrev from-2 : Rho → Lft
-      from-2 ρ = lft ρ 2 ++ from-3 ρ
+      from-2 ρ = lft ρ 2 ++ lft ρ 3
+
+      abbrev from-1 : Rho → Lft
+      from-1 ρ = lft ρ 1 ++ from-2 ρ
 
       abbrev from-0 : Rho → Lft
-      from-0 ρ = lft ρ 0 ++ from-2 ρ
+      from-0 ρ = lft ρ 0 ++ from-1 ρ
 
-      past-0 : (ρ : Rho) → from-0 ρ ⊑ from-2 ρ
-      past-0 ρ = meet_⊑_right (lft ρ 0) (from-2 ρ)
+      past-0 : (ρ : Rho) → from-0 ρ ⊑ from-1 ρ
+      past-0 ρ = meet_⊑_right (lft ρ 0) (from-1 ρ)
 
-      past-2 : (ρ : Rho) → from-0 ρ ⊑ from-3 ρ
-      past-2 ρ = ⊑_trans (from-0 ρ) (from-2 ρ) (from-3 ρ) (past-0 ρ) (meet_⊑_right (lft ρ 2) (from-3 ρ))
+      past-1 : (ρ : Rho) → from-0 ρ ⊑ from-2 ρ
+      past-1 ρ = ⊑_trans (from-0 ρ) (from-1 ρ) (from-2 ρ) (past-0 ρ) (meet_⊑_right (lft ρ 1) (from-2 ρ))
 
       all_within : (ρ : Rho) → Known ρ → from-0 ρ ⊑ All
-      all_within ρ k =
-          ⊑_meet (from-0 ρ) κT (κS ++ κH) (subst (Incl (from-0 ρ)) k.0 (⊑_trans (from-0 ρ) (from-2 ρ) (lft ρ 2) (past-0 ρ) (meet_⊑_left (lft ρ 2) (from-3 ρ))))
-          (⊑_meet (from-0 ρ) κS κH (subst (Incl (from-0 ρ)) k.1.0 (⊑_trans (from-0 ρ) (from-3 ρ) (lft ρ 3) (past-2 ρ) (meet_⊑_left (lft ρ 3) (lft ρ 4))))
-          (subst (Incl (from-0 ρ)) k.1.1 (⊑_trans (from-0 ρ) (from-3 ρ) (lft ρ 4) (past-2 ρ) (meet_⊑_right (lft ρ 3) (lft ρ 4)))))
+      all_within ρ is =
+          ⊑_meet (from-0 ρ) κT (κS ++ κH) (subst (Incl (from-0 ρ)) is.0 (⊑_trans (from-0 ρ) (from-1 ρ) (lft ρ 1) (past-0 ρ) (meet_⊑_left (lft ρ 1) (from-2 ρ))))
+          (⊑_meet (from-0 ρ) κS κH (subst (Incl (from-0 ρ)) is.1.0 (⊑_trans (from-0 ρ) (from-2 ρ) (lft ρ 2) (past-1 ρ) (meet_⊑_left (lft ρ 2) (lft ρ 3))))
+          (subst (Incl (from-0 ρ)) is.1.1 (⊑_trans (from-0 ρ) (from-2 ρ) (lft ρ 3) (past-1 ρ) (meet_⊑_right (lft ρ 2) (lft ρ 3)))))
 
       shares_self : Typed 𝓛 𝓣 E G-back shares-t Δ Φ-4
       shares_self =
@@ -594,14 +629,14 @@ module _ (T S H : RattleType) (lT : Laws T) (lS : Laws S) (lH : Laws H) (e : EqG
           (s_seq 𝓛 𝓣 E G-alone G-shared shares-s answers-t Δ (pass (cx back) (cx sharing) shares) Φ-5
           (t_mref_share_as 𝓛 E 𝓣 Known G-alone 1 5 0 R deep tM tS l0 (λ x. x) All toks-0 known
           (Shares-less 𝓛 R R.lives All All-lives ((the_row_laws pT pS pH p h b s (param_laws 0 T lT) (param_laws 1 S lS) (param_laws 2 H lH)).shares 𝓛))
-          tokens all_within (λ ρ k. meet_⊑_left (lft ρ 0) (from-2 ρ)) (as_is 𝓛 (mref R tM 0)) (room_gone 𝓛 tS) refl refl (λ b' o. tt))
+          tokens all_within (λ ρ is. meet_⊑_left (lft ρ 0) (from-1 ρ)) (as_is 𝓛 (mref R tM 0)) (room_gone 𝓛 tS) refl refl (λ b' o. tt))
           gives_answer)
 
       -- the lifetime of the call ends, and `self` is back
       ends : (a : ℕ) → Typed 𝓛 𝓣 E (G-called a) shares-t Δ Φ-3
       ends a =
           g_pre_lem 𝓛 𝓣 E (G-called a) (G-apart a) shares-t Δ (λ Ψ. Ψ) Φ-3
-          (g_unmeet 𝓛 E (G-called a) 7 part.0 (to_share 2 κT qs.1.1.0 part.0 part.1 part.3) (to_share 3 κS qs.1.1.1.0 part.0 part.2 part.4 ∷ to_whole 6 a ∷ []) refl ((refl, refl), ((refl, refl), (refl, tt))))
+          (g_unmeet 𝓛 E (G-called a) 7 part.0 (to_share 1 κT qs.1.0 part.0 part.1 part.3) (to_share 2 κS qs.1.1.0 part.0 part.2 part.4 ∷ to_whole 6 a ∷ []) refl ((refl, refl), ((refl, refl), (refl, tt))))
           (g_pre_lem 𝓛 𝓣 E (G-apart a) G-alive shares-t Δ (λ Ψ. Ψ) Φ-3 (g_unpin_by 𝓛 E (G-apart a) 6 a alive refl tt)
           (g_pre_lem 𝓛 𝓣 E G-alive G-dead shares-t Δ (λ Ψ. Ψ) Φ-3 (g_end 𝓛 E G-alive 6 refl)
           (g_pre_lem 𝓛 𝓣 E G-dead G-back shares-t Δ (ask comes) Φ-4
@@ -612,26 +647,26 @@ module _ (T S H : RattleType) (lT : Laws T) (lS : Laws S) (lH : Laws H) (e : EqG
       within-S : (a : ℕ) → within a ⊑ (κS ++ (a ∷ []))
       within-S a = meet_⊑_right κT (κS ++ (a ∷ []))
 
-      lives_in_call : (a : ℕ) → Told 𝓛 (in_call a) (λ ρ. (lft ρ 2 ⊑ T.lives) × ((lft ρ 3 ⊑ S.lives) × (lft ρ 4 ⊑ H.lives)))
+      lives_in_call : (a : ℕ) → Told 𝓛 (in_call a) LivesIn
       lives_in_call a =
-          Told-and 𝓛 (in_call a) (λ ρ. lft ρ 2 ⊑ T.lives) (λ ρ. (lft ρ 3 ⊑ S.lives) × (lft ρ 4 ⊑ H.lives)) (within_lease 𝓛 2 (in_call a) κT part.1 refl T.lives lives.0)
-          (Told-and 𝓛 (in_call a) (λ ρ. lft ρ 3 ⊑ S.lives) (λ ρ. lft ρ 4 ⊑ H.lives) (within_lease 𝓛 3 (in_call a) κS part.2 refl S.lives lives.1.0)
-          (within_lease 𝓛 4 (in_call a) κH qs.1.1.1.1.0 refl H.lives lives.1.1.0))
+          Told-and 𝓛 (in_call a) (λ ρ. lft ρ 1 ⊑ T.lives) (λ ρ. (lft ρ 2 ⊑ S.lives) × ((lft ρ 3 ⊑ H.lives) × (lft ρ 4 ⊑ Q.lives))) (within_lease 𝓛 1 (in_call a) κT part.1 refl T.lives lives.0)
+          (Told-and 𝓛 (in_call a) (λ ρ. lft ρ 2 ⊑ S.lives) (λ ρ. (lft ρ 3 ⊑ H.lives) × (lft ρ 4 ⊑ Q.lives)) (within_lease 𝓛 2 (in_call a) κS part.2 refl S.lives lives.1.0)
+          (Told-and 𝓛 (in_call a) (λ ρ. lft ρ 3 ⊑ H.lives) (λ ρ. lft ρ 4 ⊑ Q.lives) (within_lease 𝓛 3 (in_call a) κH qs.1.1.1.0 refl H.lives lives.1.1.0)
+          (within_lease 𝓛 4 (in_call a) κQ qs.1.1.1.1.0 refl Q.lives lives.1.1.1.0)))
 
       takes_one : (a : ℕ) → Typed 𝓛 𝓣 E (G-short a) takes-t Δ Φ-2
       takes_one a =
           s_seq 𝓛 𝓣 E (G-short a) (G-called a) takes-s shares-t Δ (both takes) Φ-3
-          (t_call_plain_by_Pin 𝓛 𝓣 5 ps-0 r-0 claims.0 claims.1 (#take-one (lts.passed-0 T S H lT lS lH e ed p pd h hd b bd s sd dT dS dH)) take_one Lives E (λ pos β. β) (G-short a) (args-0 l0) 3 lent (lives_in_call a) (sub_id 𝓛 (in_call a))
-          (as_is 𝓛 (mref R tE 7), reads_mref 𝓛 R tE 7, refl, (lV, Spares-sref 𝓛 pT lV tV 1, reads_sref 𝓛 pT tV 1, refl, tt))
+          (t_call_plain_by_Pin 𝓛 𝓣 5 ps-0 r-0 claims.0 claims.1 (#take-one (lts.passed-0 T S H Q lT lS lH lQ cQ e ed p pd h hd b bd s sd dT dS dH k kd c cd h' hd' e' ed' p' pd')) take_one Lives E (λ pos β. β) (G-short a) (args-0 l0) 3 lent (lives_in_call a) (sub_id 𝓛 (in_call a))
+          (as_is 𝓛 (mref R tE 7), reads_mref 𝓛 R tE 7, refl, (spares_key, reads_whole 𝓛 key, refl, tt))
           (room_gone 𝓛 tK) (tt, (tt, (tt, (tt, (tt, tt)))))
           (Told-bounds 𝓛 5 (in_call a) lent (os_r r-0)
-          (Told-and 𝓛 (in_call a) (Below 2 7) (λ ρ. Below 3 7 ρ × (Below 2 1 ρ × Unit {0}))
-          (Told-Below 𝓛 (in_call a) 2 7 κT (within a) (pin_lease 𝓛 2 (in_call a) κT part.1 refl) (pin_lease 𝓛 7 (in_call a) (within a) part.0 refl) (meet_⊑_left κT (κS ++ (a ∷ []))))
-          (Told-and 𝓛 (in_call a) (Below 3 7) (λ ρ. Below 2 1 ρ × Unit {0})
-          (Told-Below 𝓛 (in_call a) 3 7 κS (within a) (pin_lease 𝓛 3 (in_call a) κS part.2 refl) (pin_lease 𝓛 7 (in_call a) (within a) part.0 refl)
+          (Told-and 𝓛 (in_call a) (Below 1 7) (λ ρ. Below 2 7 ρ × Unit {0})
+          (Told-Below 𝓛 (in_call a) 1 7 κT (within a) (pin_lease 𝓛 1 (in_call a) κT part.1 refl) (pin_lease 𝓛 7 (in_call a) (within a) part.0 refl) (meet_⊑_left κT (κS ++ (a ∷ []))))
+          (Told-and 𝓛 (in_call a) (Below 2 7) (λ ρ. Unit {0})
+          (Told-Below 𝓛 (in_call a) 2 7 κS (within a) (pin_lease 𝓛 2 (in_call a) κS part.2 refl) (pin_lease 𝓛 7 (in_call a) (within a) part.0 refl)
           (⊑_trans (within a) (κS ++ (a ∷ [])) κS (within-S a) (meet_⊑_left κS (a ∷ []))))
-          (Told-and 𝓛 (in_call a) (Below 2 1) (λ ρ. Unit {0}) (Told-Below 𝓛 (in_call a) 2 1 κT κs.1.0 (pin_lease 𝓛 2 (in_call a) κT part.1 refl) (pin_lease 𝓛 1 (in_call a) κs.1.0 qs.1.0 refl) below.1.1.0)
-          (Told-none 𝓛 (in_call a))))))
+          (Told-none 𝓛 (in_call a)))))
           refl (λ κs' x v i. res_typed 𝓛 5 κs' taken_kind x v i lent tK refl))
           (ends a)
 
@@ -639,7 +674,7 @@ module _ (T S H : RattleType) (lT : Laws T) (lS : Laws S) (lH : Laws H) (e : EqG
       meets : (a : ℕ) → Typed 𝓛 𝓣 E (G-pinned a) takes-t Δ Φ-1
       meets a =
           g_pre_lem 𝓛 𝓣 E (G-pinned a) (G-met a) takes-t Δ (λ Ψ. Ψ) Φ-1
-          (g_meet 𝓛 E (G-pinned a) 7 part.0 (share 2 κT qs.1.1.0 part.0 part.1 part.3) (share 3 κS qs.1.1.1.0 part.0 part.2 part.4 ∷ carve 6 a ∷ []) ((refl, refl), ((refl, refl), (refl, tt))) (tt, ((tt, tt), (tt, (tt, (tt, (tt, tt)))))))
+          (g_meet 𝓛 E (G-pinned a) 7 part.0 (share 1 κT qs.1.0 part.0 part.1 part.3) (share 2 κS qs.1.1.0 part.0 part.2 part.4 ∷ carve 6 a ∷ []) ((refl, refl), ((refl, refl), (refl, tt))) (tt, ((tt, tt), (tt, (tt, (tt, (tt, tt)))))))
           (g_pre_lem 𝓛 𝓣 E (G-met a) (G-short a) takes-t Δ (pass (cx (lending off 6)) (cx (lending off 7)) shortens) Φ-2
           (g_as_by 𝓛 E (Below 6 7) (G-met a) 4 (mref R tE 7) (λ x. x)
           (Told-Below 𝓛 (in_call a) 6 7 (a ∷ []) (within a) (pin_carved 𝓛 6 (in_call a) (a ∷ []) part.0 refl) (pin_lease 𝓛 7 (in_call a) (within a) part.0 refl)
@@ -648,7 +683,7 @@ module _ (T S H : RattleType) (lT : Laws T) (lS : Laws S) (lH : Laws H) (e : EqG
           (takes_one a))
 
       -- `self` is lent again for a new lifetime
-      typed : Typed 𝓛 𝓣 E (Γin 5 ps r (lts.xs T S H lT lS lH e ed p pd h hd b bd s sd dT dS dH) (lts.m T S H lT lS lH e ed p pd h hd b bd s sd dT dS dH) κs qs) lends-t (Δret 5 ps r (lts.xs T S H lT lS lH e ed p pd h hd b bd s sd dT dS dH) (lts.m T S H lT lS lH e ed p pd h hd b bd s sd dT dS dH) κs qs) Φ-0
+      typed : Typed 𝓛 𝓣 E (Γin 5 ps r (lts.xs T S H Q lT lS lH lQ cQ e ed p pd h hd b bd s sd dT dS dH k kd c cd h' hd' e' ed' p' pd') (lts.m T S H Q lT lS lH lQ cQ e ed p pd h hd b bd s sd dT dS dH k kd c cd h' hd' e' ed' p' pd') κs qs) lends-t (Δret 5 ps r (lts.xs T S H Q lT lS lH lQ cQ e ed p pd h hd b bd s sd dT dS dH k kd c cd h' hd' e' ed' p' pd') (lts.m T S H Q lT lS lH lQ cQ e ed p pd h hd b bd s sd dT dS dH k kd c cd h' hd' e' ed' p' pd') κs qs) Φ-0
       typed =
           g_pre_lem 𝓛 𝓣 E G-entry G-static lends-t Δ (λ Ψ. Ψ) Φ-0 (g_static 𝓛 E G-entry 5 (tt, (tt, (tt, (tt, (tt, (tt, tt)))))))
           (g_pre_lem 𝓛 𝓣 E G-static G-begun lends-t Δ (λ Ψ. Ψ) Φ-0 (g_begin 𝓛 E G-static 6 (tt, (tt, (tt, (tt, (tt, (tt, tt)))))))
@@ -657,67 +692,71 @@ module _ (T S H : RattleType) (lT : Laws T) (lS : Laws S) (lH : Laws H) (e : EqG
           (t_pin_one 𝓛 E 𝓣 G-lent 6 alive takes-t Δ Φ-1 refl tt (λ a. meets a))))
 
   -- ---- what is owed gives the clause
-  abbrev Left : R.Denot → T.Denot → Option R.Denot → Type 0
-  Left bag value none = ⊥
-  Left bag value (some v) = HasFewer (read PartialEqGhosts.eq p) value 1 bag v
+  abbrev Left : R.Denot → Q.Denot → Option R.Denot → Type 0
+  Left bag by none = ⊥
+  Left bag by (some v) = HasFewer (read PartialEqGhosts.eq p) (read KeyGhosts.names k by) 1 bag v
 
   meaning : (w : World) (γ : GName) (P : R.Denot → Type 0) (v : R.Denot) → P v → ent w.𝓤 (sem w.𝓛 (fres γ (R.coded.code v))) (sem w.𝓛 (follows_so R R γ none (λ _ _. ⊤) P))
   unfolding such_by follows_by
   meaning w γ P v ends = ex_i w.𝓤 (λ (y : (f : (R.Denot → R.Denot) × R.Denot) × ((z : R.Denot) → ⊤) × P f.1). sem w.𝓛 (fres γ (R.coded.code y.0.1))) ((λ _. v, v), (λ _. tt), ends)
 
-  gives_left : (w : World) (γ : GName) (bag : R.Denot) (value : T.Denot) (t : Option R.Denot) → Left bag value t
-      → ent w.𝓤 (sem w.𝓛 (owe γ t)) (sem w.𝓛 (follows_so R R γ none (λ _ _. ⊤) (HasFewer (read PartialEqGhosts.eq p) value 1 bag)))
-  gives_left w γ bag value none left = absurd left
-  gives_left w γ bag value (some v) left = meaning w γ _ v left
+  gives_left : (w : World) (γ : GName) (bag : R.Denot) (by : Q.Denot) (t : Option R.Denot) → Left bag by t
+      → ent w.𝓤 (sem w.𝓛 (owe γ t)) (sem w.𝓛 (follows_so R R γ none (λ _ _. ⊤) (HasFewer (read PartialEqGhosts.eq p) (read KeyGhosts.names k by) 1 bag)))
+  gives_left w γ bag by none left = absurd left
+  gives_left w γ bag by (some v) left = meaning w γ _ v left
 
-  abbrev owed : Owed 5 R last self others (kinds.r T S H lT lS lH e ed p pd h hd b bd s sd dT dS dH)
+  abbrev owed : Owed 5 R last self others (kinds.r T S H Q lT lS lH lQ cQ e ed p pd h hd b bd s sd dT dS dH k kd c cd h' hd' e' ed' p' pd')
   owed = record {
-    X = λ κs a x e'. follows_so R R a.0.ghost_name none (λ _ _. ⊤) (HasFewer (read PartialEqGhosts.eq p) a.1.0.now 1 a.0.now);
-    Beside = λ κs a x e' t Q. Left a.0.now a.1.0.now t × Q;
-    claim = λ κs a x e' t Q q. q.1;
-    along = λ κs a x e' t Q Q' f q. (q.0, f q.1);
-    gives = λ w κs a x e' t Q q. gives_left w a.0.ghost_name a.0.now a.1.0.now t q.0;
+    X = λ κs a x e'. follows_so R R a.0.ghost_name none (λ _ _. ⊤) (HasFewer (read PartialEqGhosts.eq p) (read KeyGhosts.names k a.1.0) 1 a.0.now);
+    Beside = λ κs a x e' t C. Left a.0.now a.1.0 t × C;
+    claim = λ κs a x e' t C q. q.1;
+    along = λ κs a x e' t C C' f q. (q.0, f q.1);
+    gives = λ w κs a x e' t C q. gives_left w a.0.ghost_name a.0.now a.1.0 t q.0;
     free = λ w γ. id⊢ w.𝓤 (emp w.𝓤);
   }
 
+  -- a key that names a value names all that are equal to it, and no other
+  abbrev NamesOne : Type 0
+  NamesOne = (by : Q.Denot) (v w : T.Denot) → k.names by v ≡ true → k.names by w ≡ p.eq w v
+
   -- what is left to show of the values: that both calls may be made, and at the return the clauses
-  asked : IsEquivalence p.eq → (κs : Lfts 5) (qs : ShareList 5) (a : Dens κs ps) → GoodsP κs ps a → reads.Pre T S H lT lS lH e ed p pd h hd b bd s sd dT dS dH κs a → (bs : List ℕ)
-      → Φ-0 (want_q 5 ps r (lts.xs T S H lT lS lH e ed p pd h hd b bd s sd dT dS dH) (lts.m T S H lT lS lH e ed p pd h hd b bd s sd dT dS dH) κs qs a (Owing 5 R last self others r owed (reads.Post T S H lT lS lH e ed p pd h hd b bd s sd dT dS dH) κs a)) (init 5 ps r (lts.xs T S H lT lS lH e ed p pd h hd b bd s sd dT dS dH) (lts.m T S H lT lS lH e ed p pd h hd b bd s sd dT dS dH) κs qs a)
-  asked laws κs qs a good pre bs = λ new. (
+  asked : IsEquivalence p.eq → NamesOne → (κs : Lfts 5) (qs : ShareList 5) (a : Dens κs ps) → GoodsP κs ps a → reads.Pre T S H Q lT lS lH lQ cQ e ed p pd h hd b bd s sd dT dS dH k kd c cd h' hd' e' ed' p' pd' κs a → (bs : List ℕ)
+      → Φ-0 (want_q 5 ps r (lts.xs T S H Q lT lS lH lQ cQ e ed p pd h hd b bd s sd dT dS dH k kd c cd h' hd' e' ed' p' pd') (lts.m T S H Q lT lS lH lQ cQ e ed p pd h hd b bd s sd dT dS dH k kd c cd h' hd' e' ed' p' pd') κs qs a (Owing 5 R last self others r owed (reads.Post T S H Q lT lS lH lQ cQ e ed p pd h hd b bd s sd dT dS dH k kd c cd h' hd' e' ed' p' pd') κs a)) (init 5 ps r (lts.xs T S H Q lT lS lH lQ cQ e ed p pd h hd b bd s sd dT dS dH k kd c cd h' hd' e' ed' p' pd') (lts.m T S H Q lT lS lH lQ cQ e ed p pd h hd b bd s sd dT dS dH k kd c cd h' hd' e' ed' p' pd') κs qs a)
+  asked laws one_named κs qs a good pre bs = λ new. (
     λ κs' l. l,
     λ taken. (
       refl,
       (
         λ κs' l. l,
         λ answered. (
-          (refl, (refl, tt)),
+          (refl, (tt, tt)),
           -- the clauses of the two calls, in the order of their contracts
           let one = taken.5 in
-              let fewer : HasFewer (read PartialEqGhosts.eq p) a.1.0.now 1 a.0.now taken.2.0 = one.0 in
+              let fewer : HasFewer (read PartialEqGhosts.eq p) (read KeyGhosts.names k a.1.0) 1 a.0.now taken.2.0 = one.0 in
               let last = one.1.1.0 in
               let several = one.1.1.1.0 in
               let bag = one.1.1.1.1 in
               let rest = answered.5 in
-              (fewer, answer_of laws (λ f. (f.0.now, f.1)) a.1.0.now a.0.now.items taken.2.0.items bag fewer.left.bag fewer.left.means taken.1 answered.1 last several rest.0 rest.1.0 rest.1.1),
+              (fewer, answer_named laws (read KeyGhosts.names k a.1.0) (one_named a.1.0) (λ f. (f.0.now, f.1)) a.0.now.items taken.2.0.items bag fewer.left.bag fewer.left.means taken.1 answered.1 last several rest.0 rest.1.0 rest.1.1),
         ),
       ),
     ),
   )
 
-  met : IsEquivalence p.eq → {M : Type 1} {𝓤 : Ura M} (𝓛 : Logic 𝓤) (𝓣 : Tables 𝓤 𝓛.H) → lts.Known-0 T S H lT lS lH e ed p pd h hd b bd s sd dT dS dH claims 𝓛 𝓣 → lts.Known-1 T S H lT lS lH e ed p pd h hd b bd s sd dT dS dH claims 𝓛 𝓣
-      → Triple 𝓤 (WpFn 𝓤 𝓛.H 𝓣.C 𝓣.Λ (lts.function T S H lT lS lH e ed p pd h hd b bd s sd dT dS dH)) (plain_of 𝓛 5 ps r (reads.Pre T S H lT lS lH e ed p pd h hd b bd s sd dT dS dH) (Owing 5 R last self others r owed (reads.Post T S H lT lS lH e ed p pd h hd b bd s sd dT dS dH)))
-  met laws 𝓛 𝓣 take_one taken_or_lent =
-      t_fn_plain_given 𝓛 𝓣 5 ps r (lts.xs T S H lT lS lH e ed p pd h hd b bd s sd dT dS dH) (lts.m T S H lT lS lH e ed p pd h hd b bd s sd dT dS dH) (lts.hs T S H lT lS lH e ed p pd h hd b bd s sd dT dS dH) lends-t (λ κs qs bs. Φ-0) (λ κs. (κs.1.1.0 ⊑ T.lives) × ((κs.1.1.1.0 ⊑ S.lives) × ((κs.1.1.1.1.0 ⊑ H.lives) × Unit {0})))
-      (λ κs qs bs below lives. typed κs qs 𝓛 𝓣 take_one taken_or_lent lives bs below) (reads.Pre T S H lT lS lH e ed p pd h hd b bd s sd dT dS dH) (Owing 5 R last self others r owed (reads.Post T S H lT lS lH e ed p pd h hd b bd s sd dT dS dH)) (λ κs a pre. let known = (reads.pre_read T S H lT lS lH e ed p pd h hd b bd s sd dT dS dH κs a tt).tells in (All-at 0 known pre, (All-at 1 known pre, (All-at 2 known pre, tt)))) (asked laws)
+  met : IsEquivalence p.eq → NamesOne → {M : Type 1} {𝓤 : Ura M} (𝓛 : Logic 𝓤) (𝓣 : Tables 𝓤 𝓛.H) → lts.Known-0 T S H Q lT lS lH lQ cQ e ed p pd h hd b bd s sd dT dS dH k kd c cd h' hd' e' ed' p' pd' claims 𝓛 𝓣 → lts.Known-1 T S H Q lT lS lH lQ cQ e ed p pd h hd b bd s sd dT dS dH k kd c cd h' hd' e' ed' p' pd' claims 𝓛 𝓣
+      → Triple 𝓤 (WpFn 𝓤 𝓛.H 𝓣.C 𝓣.Λ (lts.function T S H Q lT lS lH lQ cQ e ed p pd h hd b bd s sd dT dS dH k kd c cd h' hd' e' ed' p' pd')) (plain_of 𝓛 5 ps r (reads.Pre T S H Q lT lS lH lQ cQ e ed p pd h hd b bd s sd dT dS dH k kd c cd h' hd' e' ed' p' pd') (Owing 5 R last self others r owed (reads.Post T S H Q lT lS lH lQ cQ e ed p pd h hd b bd s sd dT dS dH k kd c cd h' hd' e' ed' p' pd')))
+  met laws one_named 𝓛 𝓣 take_one taken_or_lent =
+      t_fn_plain_given 𝓛 𝓣 5 ps r (lts.xs T S H Q lT lS lH lQ cQ e ed p pd h hd b bd s sd dT dS dH k kd c cd h' hd' e' ed' p' pd') (lts.m T S H Q lT lS lH lQ cQ e ed p pd h hd b bd s sd dT dS dH k kd c cd h' hd' e' ed' p' pd') (lts.hs T S H Q lT lS lH lQ cQ e ed p pd h hd b bd s sd dT dS dH k kd c cd h' hd' e' ed' p' pd') lends-t (λ κs qs bs. Φ-0) (λ κs. (κs.1.0 ⊑ T.lives) × ((κs.1.1.0 ⊑ S.lives) × ((κs.1.1.1.0 ⊑ H.lives) × ((κs.1.1.1.1.0 ⊑ Q.lives) × Unit {0}))))
+      (λ κs qs bs below lives. typed κs qs 𝓛 𝓣 take_one taken_or_lent lives bs below) (reads.Pre T S H Q lT lS lH lQ cQ e ed p pd h hd b bd s sd dT dS dH k kd c cd h' hd' e' ed' p' pd') (Owing 5 R last self others r owed (reads.Post T S H Q lT lS lH lQ cQ e ed p pd h hd b bd s sd dT dS dH k kd c cd h' hd' e' ed' p' pd')) (λ κs a pre. let known = (reads.pre_read T S H Q lT lS lH lQ cQ e ed p pd h hd b bd s sd dT dS dH k kd c cd h' hd' e' ed' p' pd' κs a tt).tells in (All-at 0 known pre, (All-at 1 known pre, (All-at 2 known pre, (All-at 3 known pre, tt))))) (asked laws one_named)
 
 pub try_take_spec : {M : Type 1} → statement M
 unfolding tables_of such_by
-try_take_spec {M = M} 𝓤 𝓛 𝓜 𝓡 wired T S H lT lS lH e ed p pd h hd b bd s sd dT dS dH b1 b2 b3 b4 b5 b6 b7 b8 =
+try_take_spec {M = M} 𝓤 𝓛 𝓜 𝓡 wired T S H Q lT lS lH lQ cQ e ed p pd h hd b bd s sd dT dS dH k kd c cd h' hd' e' ed' p' pd' b1 b2 b3 b4 b5 b6 b7 b8 b9 b10 b11 b12 b13 =
     let world : World = record { M = M; 𝓤 = 𝓤; 𝓛 = 𝓛; 𝓜 = 𝓜; 𝓡 = 𝓡 } in
-    let dicts : Dicts = dcons ed (dcons pd (dcons hd (dcons bd (dcons sd (dcons dT (dcons dS (dcons dH dnil))))))) in
-    let types : Args = bounded (a_type ∷ a_type ∷ a_type ∷ []) (T, (S, (H, tt))) dicts in
-    close_follows 5 (R T S H lT lS lH e ed p pd h hd b bd s sd dT dS dH) (last T S H lT lS lH e ed p pd h hd b bd s sd dT dS dH) (self T S H lT lS lH e ed p pd h hd b bd s sd dT dS dH) (others T S H lT lS lH e ed p pd h hd b bd s sd dT dS dH) (kinds.r T S H lT lS lH e ed p pd h hd b bd s sd dT dS dH) (owed T S H lT lS lH e ed p pd h hd b bd s sd dT dS dH) (reads.Ghost T S H lT lS lH e ed p pd h hd b bd s sd dT dS dH) (reads.requires T S H lT lS lH e ed p pd h hd b bd s sd dT dS dH) (reads.ensures T S H lT lS lH e ed p pd h hd b bd s sd dT dS dH) (reads.pre_read T S H lT lS lH e ed p pd h hd b bd s sd dT dS dH) (reads.Pinned T S H lT lS lH e ed p pd h hd b bd s sd dT dS dH) (reads.Owned T S H lT lS lH e ed p pd h hd b bd s sd dT dS dH) (reads.post_read T S H lT lS lH e ed p pd h hd b bd s sd dT dS dH) world 𝓡.env
-    (key types) (inst_fn types code.function) (code.unfolded 𝓤 𝓛.H 𝓜 𝓡 wired (T, (S, (H, tt))) ed pd hd bd sd dT dS dH) (λ κs a g. tt) (λ κs. reads.owns T S H lT lS lH e ed p pd h hd b bd s sd dT dS dH κs world) (λ κs a g x e'. all∗_one world _)
-    (λ g. at_code 𝓤 𝓛.H (Over 𝓛 𝓜 𝓡 𝓡.env).C (Over 𝓛 𝓜 𝓡 𝓡.env).Λ (lts.function T S H lT lS lH e ed p pd h hd b bd s sd dT dS dH) (inst_fn types code.function) (tie.same_locals T S H lT lS lH e ed p pd h hd b bd s sd dT dS dH) (tie.same_body T S H lT lS lH e ed p pd h hd b bd s sd dT dS dH)
-    (plain_of 𝓛 5 (ps T S H lT lS lH e ed p pd h hd b bd s sd dT dS dH) (r T S H lT lS lH e ed p pd h hd b bd s sd dT dS dH) (reads.Pre T S H lT lS lH e ed p pd h hd b bd s sd dT dS dH) (Owing 5 (R T S H lT lS lH e ed p pd h hd b bd s sd dT dS dH) (last T S H lT lS lH e ed p pd h hd b bd s sd dT dS dH) (self T S H lT lS lH e ed p pd h hd b bd s sd dT dS dH) (others T S H lT lS lH e ed p pd h hd b bd s sd dT dS dH) (r T S H lT lS lH e ed p pd h hd b bd s sd dT dS dH) (owed T S H lT lS lH e ed p pd h hd b bd s sd dT dS dH) (reads.Post T S H lT lS lH e ed p pd h hd b bd s sd dT dS dH)))
-    (met T S H lT lS lH e ed p pd h hd b bd s sd dT dS dH b1.laws 𝓛 (Over 𝓛 𝓜 𝓡 𝓡.env) (tie.known-0 𝓤 𝓛 𝓜 𝓡 wired T S H lT lS lH e ed p pd h hd b bd s sd dT dS dH b1 b2 b3 b4 b5 b6 b7 b8) (tie.known-1 𝓤 𝓛 𝓜 𝓡 wired T S H lT lS lH e ed p pd h hd b bd s sd dT dS dH b1 b2 b3 b4 b5 b6 b7 b8)))
+    let dicts : Dicts = dcons ed (dcons pd (dcons hd (dcons bd (dcons sd (dcons dT (dcons dS (dcons dH (dcons kd (dcons cd (dcons hd' (dcons ed' (dcons pd' dnil)))))))))))) in
+    let types : Args = bounded (a_type ∷ a_type ∷ a_type ∷ a_type ∷ []) (T, (S, (H, (Q, tt)))) dicts in
+    close_follows 5 (R T S H Q lT lS lH lQ cQ e ed p pd h hd b bd s sd dT dS dH k kd c cd h' hd' e' ed' p' pd') (last T S H Q lT lS lH lQ cQ e ed p pd h hd b bd s sd dT dS dH k kd c cd h' hd' e' ed' p' pd') (self T S H Q lT lS lH lQ cQ e ed p pd h hd b bd s sd dT dS dH k kd c cd h' hd' e' ed' p' pd') (others T S H Q lT lS lH lQ cQ e ed p pd h hd b bd s sd dT dS dH k kd c cd h' hd' e' ed' p' pd') (kinds.r T S H Q lT lS lH lQ cQ e ed p pd h hd b bd s sd dT dS dH k kd c cd h' hd' e' ed' p' pd') (owed T S H Q lT lS lH lQ cQ e ed p pd h hd b bd s sd dT dS dH k kd c cd h' hd' e' ed' p' pd') (reads.Ghost T S H Q lT lS lH lQ cQ e ed p pd h hd b bd s sd dT dS dH k kd c cd h' hd' e' ed' p' pd') (reads.requires T S H Q lT lS lH lQ cQ e ed p pd h hd b bd s sd dT dS dH k kd c cd h' hd' e' ed' p' pd') (reads.ensures T S H Q lT lS lH lQ cQ e ed p pd h hd b bd s sd dT dS dH k kd c cd h' hd' e' ed' p' pd') (reads.pre_read T S H Q lT lS lH lQ cQ e ed p pd h hd b bd s sd dT dS dH k kd c cd h' hd' e' ed' p' pd') (reads.Pinned T S H Q lT lS lH lQ cQ e ed p pd h hd b bd s sd dT dS dH k kd c cd h' hd' e' ed' p' pd') (reads.Owned T S H Q lT lS lH lQ cQ e ed p pd h hd b bd s sd dT dS dH k kd c cd h' hd' e' ed' p' pd') (reads.post_read T S H Q lT lS lH lQ cQ e ed p pd h hd b bd s sd dT dS dH k kd c cd h' hd' e' ed' p' pd') world 𝓡.env
+    (symbol types) (inst_fn types code.function) (code.unfolded 𝓤 𝓛.H 𝓜 𝓡 wired (T, (S, (H, (Q, tt)))) ed pd hd bd sd dT dS dH kd cd hd' ed' pd') (λ κs a g. tt) (λ κs. reads.owns T S H Q lT lS lH lQ cQ e ed p pd h hd b bd s sd dT dS dH k kd c cd h' hd' e' ed' p' pd' κs world) (λ κs a g x e'. all∗_one world _)
+    (λ g. at_code 𝓤 𝓛.H (Over 𝓛 𝓜 𝓡 𝓡.env).C (Over 𝓛 𝓜 𝓡 𝓡.env).Λ (lts.function T S H Q lT lS lH lQ cQ e ed p pd h hd b bd s sd dT dS dH k kd c cd h' hd' e' ed' p' pd') (inst_fn types code.function) (tie.same_locals T S H Q lT lS lH lQ cQ e ed p pd h hd b bd s sd dT dS dH k kd c cd h' hd' e' ed' p' pd') (tie.same_body T S H Q lT lS lH lQ cQ e ed p pd h hd b bd s sd dT dS dH k kd c cd h' hd' e' ed' p' pd')
+    (plain_of 𝓛 5 (ps T S H Q lT lS lH lQ cQ e ed p pd h hd b bd s sd dT dS dH k kd c cd h' hd' e' ed' p' pd') (r T S H Q lT lS lH lQ cQ e ed p pd h hd b bd s sd dT dS dH k kd c cd h' hd' e' ed' p' pd') (reads.Pre T S H Q lT lS lH lQ cQ e ed p pd h hd b bd s sd dT dS dH k kd c cd h' hd' e' ed' p' pd') (Owing 5 (R T S H Q lT lS lH lQ cQ e ed p pd h hd b bd s sd dT dS dH k kd c cd h' hd' e' ed' p' pd') (last T S H Q lT lS lH lQ cQ e ed p pd h hd b bd s sd dT dS dH k kd c cd h' hd' e' ed' p' pd') (self T S H Q lT lS lH lQ cQ e ed p pd h hd b bd s sd dT dS dH k kd c cd h' hd' e' ed' p' pd') (others T S H Q lT lS lH lQ cQ e ed p pd h hd b bd s sd dT dS dH k kd c cd h' hd' e' ed' p' pd') (r T S H Q lT lS lH lQ cQ e ed p pd h hd b bd s sd dT dS dH k kd c cd h' hd' e' ed' p' pd') (owed T S H Q lT lS lH lQ cQ e ed p pd h hd b bd s sd dT dS dH k kd c cd h' hd' e' ed' p' pd') (reads.Post T S H Q lT lS lH lQ cQ e ed p pd h hd b bd s sd dT dS dH k kd c cd h' hd' e' ed' p' pd')))
+    (met T S H Q lT lS lH lQ cQ e ed p pd h hd b bd s sd dT dS dH k kd c cd h' hd' e' ed' p' pd' b1.laws b9.names_one 𝓛 (Over 𝓛 𝓜 𝓡 𝓡.env) (tie.known-0 𝓤 𝓛 𝓜 𝓡 wired T S H Q lT lS lH lQ cQ e ed p pd h hd b bd s sd dT dS dH k kd c cd h' hd' e' ed' p' pd' b1 b2 b3 b4 b5 b6 b7 b8 b9 b10 b11 b12 b13) (tie.known-1 𝓤 𝓛 𝓜 𝓡 wired T S H Q lT lS lH lQ cQ e ed p pd h hd b bd s sd dT dS dH k kd c cd h' hd' e' ed' p' pd' b1 b2 b3 b4 b5 b6 b7 b8 b9 b10 b11 b12 b13)))

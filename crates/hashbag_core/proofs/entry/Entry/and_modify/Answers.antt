@@ -18,13 +18,15 @@ returns-then-n-limit g c =
         same_bag = tt;
         same_value = tt;
         changes = tt;
-        too_many = refl;
-        passes = record {
-          present = omega arith;
-          number = c.f.new.arg2;
-          left = record { shown = _; shows = c.contains-before.ensures.count; left = _; met = c.f.ensures; leaves = refl };
-          passes = omega arith;
-        };
+        passes = (
+          refl,
+          record {
+            present = omega arith;
+            number = c.f.new.arg2;
+            left = record { shown = _; shows = c.contains-before.ensures.count; left = _; met = c.f.ensures; leaves = refl };
+            passes = omega arith;
+          },
+        );
         stays = tt;
         len = tt;
         slot = tt;
@@ -50,7 +52,6 @@ returns g c =
           absent = λ none. absurd (omega arith);
           present = λ _. (c.f.new.arg2, record { shown = _; shows = c.contains-before.ensures.count; left = _; met = c.f.ensures; leaves = refl }, omega arith, c.set_count.ensures.put);
         };
-        too_many = tt;
         passes = tt;
         len = omega (arith, c.set_count.ensures.len, c.set_count.ensures.after);
         slot = λ _. subst (λ (k : ℕ). Recounts g.T.PartialEq.eq c.args.self.value k c.args.self.bag.now.tables c.set_count.new.self.tables) (sym c.set_count.ensures.after) c.set_count.ensures.slot;

@@ -6,12 +6,12 @@ use Rattle.hashbag_script.proofs.BoundLemmas.{smaller_by}
 use Rattle.hashbag_script.proofs.TurnLemmas.{on_ok_from, on_ok_all, untouched_tables, untouched_bounded}
 use Rattle.hashbag_script.proofs.script.pair.run_pair.Goals as goal
 
-pub returns-clause-takes : goal.returns-clause-takes
-returns-clause-takes g c X means_a roomy_a Y means_b roomy_b =
+pub returns-clause-roomy : goal.returns-clause-roomy
+returns-clause-roomy g c X means_a roomy_a Y means_b roomy_b =
     on_err_weaker c.run-2.result (λ h.
     let short : vec_capacity c.reserve-2.new.self < vec_len c.reserve-2.new.self + vec_len c.args.steps_b = h.0 in
     let room = c.in_ok-reserve-2.ensures.ok in let many = c.len-2.ensures in
-    absurd (omega arith)) (c.run-2.ensures.takes Y means_b roomy_b)
+    absurd (omega arith)) (c.run-2.ensures.roomy Y means_b roomy_b)
 
 pub returns-clause-stopped : goal.returns-clause-stopped
 returns-clause-stopped g c =

@@ -1,7 +1,19 @@
-use Rattle.std.proofs.Common.{◌∙◌, refl}
-use Rattle.hashbag_slots.proofs.Hashing.{fed_alike}
+use Rattle.std.proofs.Common.{◌≡◌, length, sym, ap, subst, ◌∙◌}
+use Rattle.std.specs.Option.{IfSome, IfNone}
+use Rattle.hashbag_slots.specs.Slots.{IsSlotCount, HoldsAt, IsAbsent, IsSet}
+use Rattle.hashbag_slots.specs.Columns.{slots_of}
+use Rattle.hashbag_slots.proofs.Reading.{length-slots_of}
+use Rattle.hashbag_slots.proofs.Maps.{entry_at-lookup}
 use Rattle.hashbag_slots.proofs.slots.Slots.find_hashed.Goals as goal
 
-pub find_key-requires-clause-hashed : goal.find_key-requires-clause-hashed
-find_key-requires-clause-hashed g c =
-    c.requires.hashed ∙ fed_alike g.T.Hash.hash_input (λ r. g.T.Hash.hash_input r.now) g.S.BuildHasher g.S.Hasher.Hasher c.args.state.now c.args.value.now c.args.value refl
+pub find_place-requires-clause-count : goal.find_place-requires-clause-count
+find_place-requires-clause-count g c =
+    subst IsSlotCount (length-slots_of c.self.inside.tags.items c.self.inside.cells c.self.invariant.agree.same_length ∙ sym (ap length c.as_slice.ensures.value)) c.self.invariant.table.count
+
+pub returns-clause-map : goal.returns-clause-map
+returns-clause-map g c =
+    let eq = g.T.PartialEq.eq in let test = g.Q.Key.names c.args.key in
+    let seen : slots_of c.as_slice.result.now c.self.inside.cells ≡ c.args.self.now.slots = ap (λ ts. slots_of ts c.self.inside.cells) c.as_slice.ensures.value ∙ ap (λ s. s.slots) c.self.view_is in
+    entry_at-lookup eq c.args.self.now.slots (subst (IsSet eq) (ap (λ s. s.slots) c.self.view_is) c.self.invariant.table.distinct) test (g.met.Q.Key.names_one c.args.key) c.find_place.result
+    (subst (λ ss. IfSome c.find_place.result (HoldsAt test ss)) seen c.find_place.ensures.found)
+    (subst (λ ss. IfNone c.find_place.result (IsAbsent test ss)) seen c.find_place.ensures.absent)

@@ -9,7 +9,7 @@ use Rattle.hashbag_slots.proofs.slots.Slots.put_at.Goals as goal
 
 pub take-former-requires : goal.take-former-requires
 take-former-requires g c =
-    let m = marked_at c.self.inside.tags.items c.self.inside.cells c.self.invariant.agree c.args.place (ap (λ s. is_live (slot_at s.slots c.args.place)) c.self.view_is ∙ ap is_live (holder (λ v. g.T.PartialEq.eq v c.args.value) (slot_at c.args.self.now.slots c.args.place) c.requires.equal).2) in
+    let m = marked_at c.self.inside.tags.items c.self.inside.cells c.self.invariant.agree c.args.place (ap (λ s. is_live (slot_at s.slots c.args.place)) c.self.view_is ∙ ap is_live (holder (g.T.PartialEq.eq c.args.value) (slot_at c.args.self.now.slots c.args.place) c.requires.equal).2) in
     (m.1, m.2)
 
 pub returns-clause-given : goal.returns-clause-given
@@ -27,7 +27,7 @@ invariant_of-self g c =
     let was : slot_at c.args.self.now.slots p ≡ Live e.0 e.1 = sym (ap (λ s. slot_at s.slots p) c.self.view_is) ∙ live_at ts cs agree p e cell in
     let counted = c.self.invariant.table.distinct.counted p e.0 e.1 (live_at ts cs agree p e cell) in
     subst (λ ds. IsColumns g.T.PartialEq.eq ts ds c.self.inside.live c.self.inside.removed) (sym new)
-    (IsColumns-rewrite g.T.PartialEq.eq g.met.T.Eq.laws ts cs c.self.inside.live c.self.inside.removed p c.self.invariant e cell (c.args.value) (e.1) (sym (ap (holds (λ v. g.T.PartialEq.eq v c.args.value)) was) ∙ c.requires.equal) (counted))
+    (IsColumns-rewrite g.T.PartialEq.eq g.met.T.Eq.laws ts cs c.self.inside.live c.self.inside.removed p c.self.invariant e cell (c.args.value) (e.1) (g.met.T.Eq.laws.symm e.0 c.args.value ∙ sym (ap (holds (g.T.PartialEq.eq c.args.value)) was) ∙ c.requires.equal) (counted))
 
 pub returns-clause-after : goal.returns-clause-after
 returns-clause-after g c =
@@ -45,4 +45,4 @@ returns-clause-reached g c hash alike r =
     let cell = c.take-former.ensures.value in
     let new : c.put.new.self ≡ slice_set cs p (Some (c.args.value, e.1)) = c.put.ensures ∙ ap (λ ds. slice_set ds p (Some (c.args.value, e.1))) c.take-former.ensures.after ∙ set_twice cs p None (Some (c.args.value, e.1)) in
     let was : slot_at c.args.self.now.slots p ≡ Live e.0 e.1 = sym (ap (λ s. slot_at s.slots p) c.self.view_is) ∙ live_at ts cs agree p e cell in
-    subst (λ ds. IsReached hash (columns ts ds)) (sym new) (IsReached-rewrite ts cs agree p e cell hash (subst (IsReached hash) (sym c.self.view_is) r) (c.args.value) (e.1) (alike e.0 c.args.value (sym (ap (holds (λ v. g.T.PartialEq.eq v c.args.value)) was) ∙ c.requires.equal)))
+    subst (λ ds. IsReached hash (columns ts ds)) (sym new) (IsReached-rewrite ts cs agree p e cell hash (subst (IsReached hash) (sym c.self.view_is) r) (c.args.value) (e.1) (alike e.0 c.args.value (g.met.T.Eq.laws.symm e.0 c.args.value ∙ sym (ap (holds (g.T.PartialEq.eq c.args.value)) was) ∙ c.requires.equal)))

@@ -33,14 +33,14 @@ pub move_value-live-requires-clause-filled : goal.move_value-live-requires-claus
 move_value-live-requires-clause-filled g c =
     let i = c.told.invariant in let place : ℕ = c.take_lowest-place.result.0 in
     let first = c.take_lowest-place.ensures.first (is_mark c.args.older_tags.now) i.0 (c.args.from + 16) i.1 i.3 in
-    let high = leb-true 128 _ (first.hit (c.take_lowest-place.ensures.below (is_mark c.args.older_tags.now) i.0 (c.args.from + 16) i.3)) in
+    let high = leb-true 128 _ (first.hit (c.take_lowest-place.ensures.before_until (is_mark c.args.older_tags.now) i.0 (c.args.from + 16) i.3)) in
     cell_ahead g.T.PartialEq.eq _ g.met.T.Eq.laws c.args.from i.0 _ _ _ _ i.1 i.5 place first.low high
 
 pub move_value-live-requires-clause-room : goal.move_value-live-requires-clause-room
 move_value-live-requires-clause-room g c =
     let i = c.told.invariant in let place : ℕ = c.take_lowest-place.result.0 in
     let first = c.take_lowest-place.ensures.first (is_mark c.args.older_tags.now) i.0 (c.args.from + 16) i.1 i.3 in
-    let high = leb-true 128 _ (first.hit (c.take_lowest-place.ensures.below (is_mark c.args.older_tags.now) i.0 (c.args.from + 16) i.3)) in
+    let high = leb-true 128 _ (first.hit (c.take_lowest-place.ensures.before_until (is_mark c.args.older_tags.now) i.0 (c.args.from + 16) i.3)) in
     let some = some_waits g.T.PartialEq.eq _ g.met.T.Eq.laws c.args.from i.0 _ _ _ _ i.1 i.5 place first.low high in
     let sum = i.5.sum in let same = i.5.same_length in let room = c.requires.room in omega arith
 
@@ -60,7 +60,7 @@ told-preserved g c =
     let hash : g.row.T.Denot → ℕ = hash_under g.T.Hash.hash_input g.S.BuildHasher g.S.Hasher.Hasher c.args.state.now in
     let i = c.told.invariant in let ts = c.args.older_tags.now in let from = c.args.from in let at = i.0 in
     let place : ℕ = c.take_lowest-place.result.0 in let until : ℕ = from + 16 in let begun = i.1 in
-    let below : place < until = c.take_lowest-place.ensures.below (is_mark ts) at until i.3 in
+    let below : place < until = c.take_lowest-place.ensures.before_until (is_mark ts) at until i.3 in
     let first = c.take_lowest-place.ensures.first (is_mark ts) at until begun i.3 in let le = first.low in
     let high : 128 ≤ get_or ts place 0 = leb-true 128 _ (first.hit below) in
     let room = c.requires.within in

@@ -45,6 +45,7 @@ returns-clause-kept g c =
     (subst (λ r. IsColumns eq (slice_set ts at mark) (slice_set cs at (Some e)) (live + 1) r) (sym left) done)
 
 pub returns-clause-placed : goal.returns-clause-placed
+unfolding hash_under
 returns-clause-placed g c f here =
     let hash : g.row.T.Denot → ℕ = hash_under g.T.Hash.hash_input g.S.BuildHasher g.S.Hasher.Hasher c.args.state.now in
     let ts = c.args.tags.now in let cs = c.args.cells.now in let at = c.first_free-to.result in let mark = c.mark_of.result in let e = c.take.result in
@@ -62,6 +63,7 @@ returns-clause-placed g c f here =
     })
 
 pub returns-clause-reached : goal.returns-clause-reached
+unfolding hash_under
 returns-clause-reached g c =
     let hash : g.row.T.Denot → ℕ = hash_under g.T.Hash.hash_input g.S.BuildHasher g.S.Hasher.Hasher c.args.state.now in
     let ts = c.args.tags.now in let cs = c.args.cells.now in let at = c.first_free-to.result in let mark = c.mark_of.result in

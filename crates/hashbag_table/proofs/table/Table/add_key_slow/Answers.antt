@@ -30,4 +30,4 @@ returns-clause-before g c = sym (named_absent (g.Q.Key.names c.args.key) c.args.
 pub returns-clause-added : goal.returns-clause-added
 returns-clause-added g c =
     named_arrived g.T.PartialEq.eq g.met.T.Eq.laws (g.Q.Key.names c.args.key) (g.met.Q.Key.names_one c.args.key) c.args.self.now c.insert_hashed.new.self _ c.args.n c.in_ok-value.ensures (sym c.in_default.ensures.map)
-    c.in_ok-insert_hashed.ensures.inserted c.in_ok-insert_hashed.ensures.new_set c.in_ok-insert_hashed.ensures.arrives
+    c.in_ok-insert_hashed.ensures.stored

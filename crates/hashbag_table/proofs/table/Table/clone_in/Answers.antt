@@ -49,11 +49,11 @@ loop-value-preserved g c =
       (
         so_far.0 ++ entry ∷ [],
         rw (append_assoc so_far.0 (entry ∷ []) c.next.new.self) order,
-        copied g.met.T.Eq.laws g.T.Clone.is_clone so_far.0 c.loop-value.table.entries c.insert_new.new.self.entries entry c.in_ok-clone.clone so_far.2 c.in_ok-clone.ensures.cases absent c.in_ok-insert_new.ensures.inserted.means,
+        copied g.met.T.Eq.laws g.T.Clone.is_clone so_far.0 c.loop-value.table.entries c.insert_new.new.self.entries entry c.in_ok-clone.clone so_far.2 c.in_ok-clone.ensures.cases absent c.in_ok-insert_new.ensures.stored.map.means,
         subst (IsFilled c.insert_new.new.self.tables c.in_ok-table.table.tables) longer
-            (filled_next c.loop-value.table.tables c.insert_new.new.self.tables c.in_ok-table.table.tables (length so_far.0) so_far.3 more c.in_ok-insert_new.ensures.arrives),
+            (filled_next c.loop-value.table.tables c.insert_new.new.self.tables c.in_ok-table.table.tables (length so_far.0) so_far.3 more (c.in_ok-insert_new.ensures.stored.arrives absent)),
       ),
-      c.in_ok-insert_new.ensures.inserted.hasher ∙ c.loop-value.invariant.1,
+      c.in_ok-insert_new.ensures.stored.map.hasher ∙ c.loop-value.invariant.1,
       c.insert_new.ensures.counted,
     )
 

@@ -11,7 +11,7 @@ pub place_at-requires-clause-absent : goal.place_at-requires-clause-absent
 place_at-requires-clause-absent g c =
     let eq = g.T.PartialEq.eq in let v = c.args.value in
     let absent = subst (λ t. entry_of eq v t.entries ≡ None) (sym c.self.view_is) c.requires.absent in
-    (absent_both eq g.met.T.Eq.laws v c.self.inside.newer.slots (drop c.self.inside.looked c.self.inside.older.slots) absent).0
+    (absent_both eq v c.self.inside.newer.slots (drop c.self.inside.looked c.self.inside.older.slots) absent).0
 
 pub invariant_of-self : goal.invariant_of-self
 invariant_of-self g c =

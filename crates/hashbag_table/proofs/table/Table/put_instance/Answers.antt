@@ -1,46 +1,52 @@
-use Rattle.std.proofs.Common.{◌≡◌, refl, Some, sym, ◌∙◌}
+use Rattle.std.proofs.Common.{◌≡◌, refl, Some, None, sym, ◌∙◌}
 use Rattle.std.specs.Map.{lookup_entry}
 use Rattle.hashbag_table.specs.Entries.{count_of}
+use Rattle.hashbag_table.specs.Tables.{Rewrites}
 use Rattle.hashbag_table.proofs.SpotLemmas.{held_entry, count_present, count_absent, put_swapped}
+use Rattle.hashbag_slots.specs.Hashing.{hash_under}
 use Rattle.hashbag_slots.specs.declared.slots.Slot.TheVariants.{Live}
-use Rattle.hashbag_table.proofs.RoomKeptLemmas.{kept_Rewrites, keeps_more, keeps_Arrives}
+use Rattle.hashbag_table.proofs.RoomKeptLemmas.{kept_Rewrites, keeps_more}
 use Rattle.hashbag_table.proofs.table.Table.put_instance.Goals as goal
+
+pub spot_of-requires : goal.spot_of-requires
+unfolding hash_under
+spot_of-requires g c = record { hashed = c.hash-hash.ensures }
+
+pub insert_hashed-requires-clause-hashed : goal.insert_hashed-requires-clause-hashed
+unfolding hash_under
+insert_hashed-requires-clause-hashed g c = c.hash-hash.ensures
 
 pub returns-in-Some-clause-before : goal.returns-in-Some-clause-before
 returns-in-Some-clause-before g c =
     let eq = g.T.PartialEq.eq in let v = c.args.value in let es = c.args.self.now.entries in
-    let held = held_entry (λ w. eq w v) c.args.self.now.tables c.in-Some.spot c.in-Some.ensures.held in
+    let held = held_entry (eq v) c.args.self.now.tables c.in-Some.spot c.in-Some.ensures.held in
     let e = held.0 in
     let found : lookup_entry (eq v) es ≡ Some e = sym c.in-Some.ensures.map ∙ held.1 in
     let count : c.count_at-before.result ≡ e.1 = c.count_at-before.ensures.count e held.1 in
     let before : c.count_at-before.result ≡ count_of eq v es = count ∙ sym (count_present eq v es e found) in
     before
 
-pub returns-in-Some-clause-put : goal.returns-in-Some-clause-put
-returns-in-Some-clause-put g c =
+pub returns-in-Some-clause-stored : goal.returns-in-Some-clause-stored
+returns-in-Some-clause-stored g c =
     let eq = g.T.PartialEq.eq in let v = c.args.value in let es = c.args.self.now.entries in
-    let held = held_entry (λ w. eq w v) c.args.self.now.tables c.in-Some.spot c.in-Some.ensures.held in
+    let held = held_entry (eq v) c.args.self.now.tables c.in-Some.spot c.in-Some.ensures.held in
     let e = held.0 in
     let found : lookup_entry (eq v) es ≡ Some e = sym c.in-Some.ensures.map ∙ held.1 in
+    let slot : Rewrites (eq v) (λ _. Live v 1) c.args.self.now.tables c.put_spot-former.new.self.tables = record { spot = c.in-Some.spot; held = c.in-Some.ensures.held; after = c.put_spot-former.ensures.after } in
+    let kept = kept_Rewrites (eq v) (λ _. Live v 1) c.args.self.now.tables c.put_spot-former.new.self.tables (λ w n. refl) slot in
     record {
-      means = put_swapped eq g.met.T.Eq.laws v es c.put_spot-former.new.self.entries e c.in-Some.ensures.counted found (c.put_spot-former.ensures.map e held.1);
-      hasher = c.put_spot-former.ensures.hasher;
-      counted = c.put_spot-former.ensures.counted;
+      map = record {
+        means = put_swapped eq g.met.T.Eq.laws v es c.put_spot-former.new.self.entries e c.in-Some.ensures.counted found (c.put_spot-former.ensures.map e held.1);
+        hasher = c.put_spot-former.ensures.hasher;
+        counted = c.put_spot-former.ensures.counted;
+      };
+      new_set = λ none. let no : Some e ≡ None = sym found ∙ none in absurd (cc);
+      slot = λ _. slot;
+      arrives = λ none. let no : Some e ≡ None = sym found ∙ none in absurd (cc);
+      room = λ _. keeps_more 1 _ _ kept;
+      same_room = λ _. kept;
     }
 
 pub returns-clause-before : goal.returns-clause-before
 returns-clause-before g c =
     sym (count_absent g.T.PartialEq.eq c.args.value c.args.self.now.entries (sym c.in_default.ensures.map))
-
-pub returns-in-Some-clause-room : goal.returns-in-Some-clause-room
-returns-in-Some-clause-room g c some =
-    keeps_more 1 _ _ (kept_Rewrites (λ w. g.T.PartialEq.eq w c.args.value) (λ _. Live c.args.value 1) c.args.self.now.tables c.put_spot-former.new.self.tables (λ v n. refl)
-    (record { spot = c.in-Some.spot; held = c.in-Some.ensures.held; after = c.put_spot-former.ensures.after }))
-
-pub returns-in-Some-clause-same_room : goal.returns-in-Some-clause-same_room
-returns-in-Some-clause-same_room g c some =
-    kept_Rewrites (λ w. g.T.PartialEq.eq w c.args.value) (λ _. Live c.args.value 1) c.args.self.now.tables c.put_spot-former.new.self.tables (λ v n. refl)
-    (record { spot = c.in-Some.spot; held = c.in-Some.ensures.held; after = c.put_spot-former.ensures.after })
-
-pub returns-clause-room : goal.returns-clause-room
-returns-clause-room g c some = keeps_Arrives _ _ c.in_ok-insert_hashed.ensures.arrives some

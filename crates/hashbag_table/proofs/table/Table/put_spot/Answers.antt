@@ -13,7 +13,7 @@ invariant_of-self g c =
     let eq = g.T.PartialEq.eq in let i = c.self.inside in let x = c.args.value in
     let hash = hash_under g.T.Hash.hash_input g.S.BuildHasher g.S.Hasher.Hasher c.self.inside.hasher in
     let p = c.in-Newer.place in let v = c.store_once-former.result in let given = c.store_once-former.ensures.given in
-    let equal : eq v x ≡ true = sym (ap (holds (λ w. eq w x)) given) ∙ ap (λ t. holds (λ w. eq w x) (slot_at t.tables.newer p)) c.self.view_is ∙ ap (λ q. holds (λ w. eq w x) (slot_in c.args.self.now.tables q)) (sym c.in-Newer.is) ∙ c.requires.equal in
+    let equal : eq v x ≡ true = g.met.T.Eq.laws.symm v x ∙ sym (ap (holds (eq x)) given) ∙ ap (λ t. holds (eq x) (slot_at t.tables.newer p)) c.self.view_is ∙ ap (λ q. holds (eq x) (slot_in c.args.self.now.tables q)) (sym c.in-Newer.is) ∙ c.requires.equal in
     let reached = c.store_once-former.ensures.reached hash (λ a b e. hash_alike _ _ _ _ a b (g.met.T.Hash.respects_eq a b e)) c.self.invariant.tables.newer_reached in
     put_newer_tables eq g.met.T.Eq.laws v x equal hash i.newer i.older i.looked c.self.invariant p (count_in (slot_at i.newer.slots p)) c.store_once-former.new.slots given c.store_once-former.ensures.after reached
 
@@ -22,7 +22,7 @@ returns-in-Newer-clause-map g c e h =
     let eq = g.T.PartialEq.eq in let i = c.self.inside in let x = c.args.value in
     let hash = hash_under g.T.Hash.hash_input g.S.BuildHasher g.S.Hasher.Hasher c.self.inside.hasher in
     let p = c.in-Newer.place in let v = c.store_once-former.result in let given = c.store_once-former.ensures.given in
-    let equal : eq v x ≡ true = sym (ap (holds (λ w. eq w x)) given) ∙ ap (λ t. holds (λ w. eq w x) (slot_at t.tables.newer p)) c.self.view_is ∙ ap (λ q. holds (λ w. eq w x) (slot_in c.args.self.now.tables q)) (sym c.in-Newer.is) ∙ c.requires.equal in
+    let equal : eq v x ≡ true = g.met.T.Eq.laws.symm v x ∙ sym (ap (holds (eq x)) given) ∙ ap (λ t. holds (eq x) (slot_at t.tables.newer p)) c.self.view_is ∙ ap (λ q. holds (eq x) (slot_in c.args.self.now.tables q)) (sym c.in-Newer.is) ∙ c.requires.equal in
     let reached = c.store_once-former.ensures.reached hash (λ a b e. hash_alike _ _ _ _ a b (g.met.T.Hash.respects_eq a b e)) c.self.invariant.tables.newer_reached in
     let there = ap (λ t. slot_entry (slot_at t.tables.newer p)) c.self.view_is ∙ ap (λ q. slot_entry (slot_in c.args.self.now.tables q)) (sym c.in-Newer.is) in
     subst (λ t. Swaps t.entries (entries_of c.store_once-former.new.slots.slots (drop i.looked i.older.slots)) e ((x, 1) ∷ [])) c.self.view_is
@@ -36,7 +36,7 @@ invariant_of-self-in-Waiting g c =
     let eq = g.T.PartialEq.eq in let i = c.self.inside in let x = c.args.value in
     let hash = hash_under g.T.Hash.hash_input g.S.BuildHasher g.S.Hasher.Hasher c.self.inside.hasher in
     let p = c.in-Waiting.place in let v = c.store_once-former-in-Waiting.result in let given = c.store_once-former-in-Waiting.ensures.given in
-    let equal : eq v x ≡ true = sym (ap (holds (λ w. eq w x)) given) ∙ sym (ap (holds (λ w. eq w x)) (get_or-drop i.looked i.older.slots p Empty)) ∙ ap (λ t. holds (λ w. eq w x) (slot_at t.tables.waiting p)) c.self.view_is ∙ ap (λ q. holds (λ w. eq w x) (slot_in c.args.self.now.tables q)) (sym c.in-Waiting.is) ∙ c.requires.equal in
+    let equal : eq v x ≡ true = g.met.T.Eq.laws.symm v x ∙ sym (ap (holds (eq x)) given) ∙ sym (ap (holds (eq x)) (get_or-drop i.looked i.older.slots p Empty)) ∙ ap (λ t. holds (eq x) (slot_at t.tables.waiting p)) c.self.view_is ∙ ap (λ q. holds (eq x) (slot_in c.args.self.now.tables q)) (sym c.in-Waiting.is) ∙ c.requires.equal in
     let reached = c.store_once-former-in-Waiting.ensures.reached hash (λ a b e. hash_alike _ _ _ _ a b (g.met.T.Hash.respects_eq a b e)) c.self.invariant.tables.older_reached in
     put_waiting_tables eq g.met.T.Eq.laws v x equal hash i.newer i.older i.looked c.self.invariant p (count_in (slot_at i.older.slots (i.looked + p))) c.store_once-former-in-Waiting.new.slots given c.store_once-former-in-Waiting.ensures.after reached
 
@@ -45,7 +45,7 @@ returns-in-Waiting-clause-map g c e h =
     let eq = g.T.PartialEq.eq in let i = c.self.inside in let x = c.args.value in
     let hash = hash_under g.T.Hash.hash_input g.S.BuildHasher g.S.Hasher.Hasher c.self.inside.hasher in
     let p = c.in-Waiting.place in let v = c.store_once-former-in-Waiting.result in let given = c.store_once-former-in-Waiting.ensures.given in
-    let equal : eq v x ≡ true = sym (ap (holds (λ w. eq w x)) given) ∙ sym (ap (holds (λ w. eq w x)) (get_or-drop i.looked i.older.slots p Empty)) ∙ ap (λ t. holds (λ w. eq w x) (slot_at t.tables.waiting p)) c.self.view_is ∙ ap (λ q. holds (λ w. eq w x) (slot_in c.args.self.now.tables q)) (sym c.in-Waiting.is) ∙ c.requires.equal in
+    let equal : eq v x ≡ true = g.met.T.Eq.laws.symm v x ∙ sym (ap (holds (eq x)) given) ∙ sym (ap (holds (eq x)) (get_or-drop i.looked i.older.slots p Empty)) ∙ ap (λ t. holds (eq x) (slot_at t.tables.waiting p)) c.self.view_is ∙ ap (λ q. holds (eq x) (slot_in c.args.self.now.tables q)) (sym c.in-Waiting.is) ∙ c.requires.equal in
     let reached = c.store_once-former-in-Waiting.ensures.reached hash (λ a b e. hash_alike _ _ _ _ a b (g.met.T.Hash.respects_eq a b e)) c.self.invariant.tables.older_reached in
     let there = ap (λ t. slot_entry (slot_at t.tables.waiting p)) c.self.view_is ∙ ap (λ q. slot_entry (slot_in c.args.self.now.tables q)) (sym c.in-Waiting.is) in
     subst (λ t. Swaps t.entries (entries_of i.newer.slots (drop i.looked c.store_once-former-in-Waiting.new.slots.slots)) e ((x, 1) ∷ [])) c.self.view_is
@@ -56,7 +56,7 @@ returns-in-Waiting-clause-after g c =
     let eq = g.T.PartialEq.eq in let i = c.self.inside in let x = c.args.value in
     let hash = hash_under g.T.Hash.hash_input g.S.BuildHasher g.S.Hasher.Hasher c.self.inside.hasher in
     let p = c.in-Waiting.place in let v = c.store_once-former-in-Waiting.result in let given = c.store_once-former-in-Waiting.ensures.given in
-    let equal : eq v x ≡ true = sym (ap (holds (λ w. eq w x)) given) ∙ sym (ap (holds (λ w. eq w x)) (get_or-drop i.looked i.older.slots p Empty)) ∙ ap (λ t. holds (λ w. eq w x) (slot_at t.tables.waiting p)) c.self.view_is ∙ ap (λ q. holds (λ w. eq w x) (slot_in c.args.self.now.tables q)) (sym c.in-Waiting.is) ∙ c.requires.equal in
+    let equal : eq v x ≡ true = g.met.T.Eq.laws.symm v x ∙ sym (ap (holds (eq x)) given) ∙ sym (ap (holds (eq x)) (get_or-drop i.looked i.older.slots p Empty)) ∙ ap (λ t. holds (eq x) (slot_at t.tables.waiting p)) c.self.view_is ∙ ap (λ q. holds (eq x) (slot_in c.args.self.now.tables q)) (sym c.in-Waiting.is) ∙ c.requires.equal in
     let reached = c.store_once-former-in-Waiting.ensures.reached hash (λ a b e. hash_alike _ _ _ _ a b (g.met.T.Hash.respects_eq a b e)) c.self.invariant.tables.older_reached in
     let new = c.store_once-former-in-Waiting.new.slots.slots in
     subst (λ q. Writes q (Live x 1) c.args.self.now.tables (record { newer = i.newer.slots; waiting = drop i.looked new; older = length new; built = i.built })) (sym c.in-Waiting.is)

@@ -36,32 +36,6 @@ returns-then-n-room-clause-room g c =
     let few = c.if-n-room.true in let r = c.room.ensures in
     omega (arith, few, r)
 
-pub returns-then-n-room-clause-least : goal.returns-then-n-room-clause-least
-returns-then-n-room-clause-least g c beyond =
-    let few = c.if-n-room.true in let r = c.room.ensures in
-    absurd (omega (arith, few, r, beyond))
-
-pub returns-then-n-room-clause-packed : goal.returns-then-n-room-clause-packed
-returns-then-n-room-clause-packed g c beyond =
-    let few = c.if-n-room.true in let r = c.room.ensures in
-    absurd (omega (arith, few, r, beyond))
-
-pub returns-clause-least : goal.returns-clause-least
-returns-clause-least g c beyond =
-    let size = c.move_all_into.ensures.slots ∙ ap length c.in_ok-newer.ensures.slots ∙ length-replicate c.in_ok-count.count Empty in
-    let least = subst (λ from. IsLeast from (c.set_len-values.result + c.args.n) c.in_ok-count.count) c.slots-slots.ensures.value c.in_ok-count.ensures.least in
-    let same = subst (λ many. IsLeast (length c.self.inside.newer.slots) (many + c.args.n) c.in_ok-count.count) c.set_len-values.ensures.len least in
-    subst (λ from. IsLeast from (length c.args.self.now.entries + c.args.n) (length c.move_all_into.new.self.tables.newer)) (ap (λ t. length t.tables.newer) c.self.view_is)
-    (subst (IsLeast (length c.self.inside.newer.slots) (length c.args.self.now.entries + c.args.n)) (sym size) same)
-
-pub returns-then-n-room-clause-built : goal.returns-then-n-room-clause-built
-returns-then-n-room-clause-built g c beyond =
-    let few = c.if-n-room.true in let r = c.room.ensures in
-    absurd (omega (arith, few, r, beyond))
-
-pub returns-clause-built : goal.returns-clause-built
-returns-clause-built g c beyond = c.move_all_into.ensures.built ∙ ap (λ k. c.args.self.now.tables.built + k) (sym c.move_all_into.ensures.slots)
-
 pub returns-then-n-room-clause-reserves : goal.returns-then-n-room-clause-reserves
 returns-then-n-room-clause-reserves g c =
     let few = c.if-n-room.true in let r = c.room.ensures in
@@ -71,4 +45,15 @@ pub returns-clause-reserves : goal.returns-clause-reserves
 returns-clause-reserves g c =
     let more = c.if-n-room.false in let r = c.room.ensures in
     let beyond : room c.args.self.now.tables < c.args.n = omega (arith, more, r) in
-    inr (beyond, record { least = returns-clause-least g c beyond; packed = c.move_all_into.ensures.packed; built = returns-clause-built g c beyond })
+    let size = c.move_all_into.ensures.slots ∙ ap length c.in_ok-newer.ensures.slots ∙ length-replicate c.in_ok-count.count Empty in
+    let least = subst (λ from. IsLeast from (c.set_len-values.result + c.args.n) c.in_ok-count.count) c.slots-slots.ensures.value c.in_ok-count.ensures.least in
+    let same = subst (λ many. IsLeast (length c.self.inside.newer.slots) (many + c.args.n) c.in_ok-count.count) c.set_len-values.ensures.len least in
+    inr (
+      beyond,
+      record {
+        least = subst (λ from. IsLeast from (length c.args.self.now.entries + c.args.n) (length c.move_all_into.new.self.tables.newer)) (ap (λ t. length t.tables.newer) c.self.view_is)
+            (subst (IsLeast (length c.self.inside.newer.slots) (length c.args.self.now.entries + c.args.n)) (sym size) same);
+        packed = c.move_all_into.ensures.packed;
+        built = c.move_all_into.ensures.built ∙ ap (λ k. c.args.self.now.tables.built + k) (sym c.move_all_into.ensures.slots);
+      },
+    )

@@ -7,7 +7,7 @@ use Rattle.hashbag_table.proofs.table.Table.shrink_to_fit.Goals as goal
 
 pub returns-in_err-count-clause-enough : goal.returns-in_err-count-clause-enough
 returns-in_err-count-clause-enough g c m least le =
-    let few = least_bound 0 _ m least in let len = c.set_len.ensures.len in let most = limit_most in let many = c.in_err-count.ensures.refused refl in
+    let few = least_bound 0 _ m least in let len = c.set_len.ensures.len in let most = limit_most in let many = c.in_err-count.ensures.past_most refl in
     absurd (omega (arith, few, len, most, many))
 
 pub returns-then-count-slots-clause-freed : goal.returns-then-count-slots-clause-freed
@@ -24,26 +24,6 @@ returns-clause-freed g c none =
     let slots : length c.move_all_into.new.self.tables.newer ≡ c.in_ok-count.count = c.move_all_into.ensures.slots ∙ ap length c.in_ok-newer.ensures.slots ∙ length-replicate c.in_ok-count.count Empty in
     drop_all 0 c.move_all_into.new.self.tables.newer (omega (arith, count, slots))
 
-pub returns-clause-least : goal.returns-clause-least
-returns-clause-least g c m least less =
-    c.move_all_into.ensures.slots ∙ ap length c.in_ok-newer.ensures.slots ∙ length-replicate c.in_ok-count.count Empty
-    ∙ least_unique 0 _ c.in_ok-count.count m (subst (λ k. IsLeast 0 k c.in_ok-count.count) c.set_len.ensures.len c.in_ok-count.ensures.least) least
-
--- no table is made where the least one isn't smaller
-pub returns-then-count-slots-clause-least : goal.returns-then-count-slots-clause-least
-returns-then-count-slots-clause-least g c m least less =
-    let same = least_unique 0 _ c.in_ok-count.count m (subst (λ k. IsLeast 0 k c.in_ok-count.count) c.set_len.ensures.len c.in_ok-count.ensures.least) least in
-    let few = c.if-count-slots.true in let s = c.slots.ensures.value in
-    let seen = ap (λ t. length t.tables.newer) c.self.view_is in
-    absurd (omega (arith, same, few, s, seen, less))
-
-pub returns-then-count-slots-clause-packed : goal.returns-then-count-slots-clause-packed
-returns-then-count-slots-clause-packed g c m least less =
-    let same = least_unique 0 _ c.in_ok-count.count m (subst (λ k. IsLeast 0 k c.in_ok-count.count) c.set_len.ensures.len c.in_ok-count.ensures.least) least in
-    let few = c.if-count-slots.true in let s = c.slots.ensures.value in
-    let seen = ap (λ t. length t.tables.newer) c.self.view_is in
-    absurd (omega (arith, same, few, s, seen, less))
-
 pub returns-clause-freed_built : goal.returns-clause-freed_built
 returns-clause-freed_built g c none =
     let zero : c.set_len.result ≡ 0 = c.set_len.ensures.len ∙ ap length none in
@@ -51,25 +31,6 @@ returns-clause-freed_built g c none =
     let size : length c.in_ok-newer.newer.slots ≡ c.in_ok-count.count = ap length c.in_ok-newer.ensures.slots ∙ length-replicate c.in_ok-count.count Empty in
     let sum = c.move_all_into.ensures.built in
     omega (arith, count, size, sum)
-
-pub returns-clause-fewer : goal.returns-clause-fewer
-returns-clause-fewer g c =
-    let size : length c.move_all_into.new.self.tables.newer ≡ c.in_ok-count.count = c.move_all_into.ensures.slots ∙ ap length c.in_ok-newer.ensures.slots ∙ length-replicate c.in_ok-count.count Empty in
-    let less = c.if-count-slots.false in let s = c.slots.ensures.value in
-    let seen = ap (λ t. length t.tables.newer) c.self.view_is in
-    omega (arith, size, less, s, seen)
-
-pub returns-clause-built : goal.returns-clause-built
-returns-clause-built g c m least less =
-    c.move_all_into.ensures.built ∙ ap (λ k. c.args.self.now.tables.built + k) (ap length c.in_ok-newer.ensures.slots ∙ length-replicate c.in_ok-count.count Empty
-    ∙ least_unique 0 _ c.in_ok-count.count m (subst (λ k. IsLeast 0 k c.in_ok-count.count) c.set_len.ensures.len c.in_ok-count.ensures.least) least)
-
-pub returns-then-count-slots-clause-built : goal.returns-then-count-slots-clause-built
-returns-then-count-slots-clause-built g c m least less =
-    let same = least_unique 0 _ c.in_ok-count.count m (subst (λ k. IsLeast 0 k c.in_ok-count.count) c.set_len.ensures.len c.in_ok-count.ensures.least) least in
-    let few = c.if-count-slots.true in let s = c.slots.ensures.value in
-    let seen = ap (λ t. length t.tables.newer) c.self.view_is in
-    absurd (omega (arith, same, few, s, seen, less))
 
 pub returns-then-count-slots-clause-shrinks : goal.returns-then-count-slots-clause-shrinks
 returns-then-count-slots-clause-shrinks g c =

@@ -1,11 +1,10 @@
-use Rattle.std.proofs.Common.{◌∙◌, refl}
-use Rattle.hashbag_slots.proofs.Hashing.{fed_alike}
-use Rattle.hashbag_table.proofs.SlotLemmas.{turned}
+use Rattle.std.proofs.Common.{sym, ap, ◌∙◌, drop}
+use Rattle.hashbag_slots.specs.Slots.{entries, slot_at, slot_entry}
+use Rattle.hashbag_table.specs.Named.{named_entry}
+use Rattle.hashbag_table.proofs.SlotLemmas.{found_newer}
 use Rattle.hashbag_table.proofs.table.Table.spot_of.Goals as goal
 
-pub spot_of_key-requires : goal.spot_of_key-requires
-spot_of_key-requires g c =
-    record { hashed = c.requires.hashed ∙ fed_alike g.T.Hash.hash_input (λ r. g.T.Hash.hash_input r.now) g.S.BuildHasher g.S.Hasher.Hasher c.args.self.now.hasher c.args.value.now c.args.value refl }
-
-pub returns-clause-map : goal.returns-clause-map
-returns-clause-map g c = c.spot_of_key.ensures.map ∙ turned g.T.PartialEq.eq g.met.T.Eq.laws c.args.value.now c.args.self.now.entries
+pub returns-in-Some-clause-map : goal.returns-in-Some-clause-map
+returns-in-Some-clause-map g c =
+    let names = g.Q.Key.names c.args.key in let n = c.self.inside.newer.slots in let w = drop c.self.inside.looked c.self.inside.older.slots in
+    sym (ap (λ t. slot_entry (slot_at t.tables.newer c.in-Some.place)) c.self.view_is) ∙ found_newer names n (entries w) c.in-Some.place c.in-Some.ensures.found c.in-Some.ensures.map ∙ ap (λ m. named_entry names m.entries) c.self.view_is

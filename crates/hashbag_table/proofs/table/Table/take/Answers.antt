@@ -1,9 +1,77 @@
-use Rattle.std.proofs.Common.{◌∙◌}
-use Rattle.hashbag_table.proofs.SlotLemmas.{count_turned}
+use Rattle.std.proofs.Common.{◌≡◌, ◌-◌, ◌∷◌, [], Some, refl, sym, ap, ◌∙◌, subst, arith}
+use Rattle.hashbag_slots.specs.Slots.{slot_entry, recounted}
+use Rattle.hashbag_slots.specs.declared.slots.Slot.TheVariants.{Removed}
+use Rattle.hashbag_table.specs.Named.{named_entry}
+use Rattle.hashbag_table.specs.Tables.{Swaps}
+use Rattle.hashbag_table.proofs.KeyLemmas.{named_present, named_absent, named_found, named_positive}
+use Rattle.hashbag_table.proofs.RoomKeptLemmas.{kept_Rewrites}
+use Rattle.hashbag_table.proofs.SpotLemmas.{held_entry, fewer_swapped, gone_swapped, fewer_absent}
 use Rattle.hashbag_table.proofs.table.Table.take.Goals as goal
 
+pub returns-then-n-before-clause-before : goal.returns-then-n-before-clause-before
+returns-then-n-before-clause-before g c =
+    let names = g.Q.Key.names c.args.key in let es = c.args.self.now.entries in
+    let held = held_entry names c.args.self.now.tables c.in-Some.spot c.in-Some.ensures.held in
+    let found : named_entry names es ≡ Some held.0 = sym c.in-Some.ensures.map ∙ held.1 in
+    c.count_at-before.ensures.count held.0 held.1 ∙ sym (named_present names es held.0 found)
+
+pub returns-then-n-before-clause-taken : goal.returns-then-n-before-clause-taken
+returns-then-n-before-clause-taken g c v does =
+    let eq = g.T.PartialEq.eq in let names = g.Q.Key.names c.args.key in let es = c.args.self.now.entries in
+    let held = held_entry names c.args.self.now.tables c.in-Some.spot c.in-Some.ensures.held in
+    let e = held.0 in
+    let found = sym (named_found eq g.met.T.Eq.laws names (g.met.Q.Key.names_one c.args.key) v does es) ∙ sym c.in-Some.ensures.map ∙ held.1 in
+    let count : c.count_at-before.result ≡ e.1 = c.count_at-before.ensures.count e held.1 in
+    let more = c.if-n-before.true in
+    record {
+      means = fewer_swapped eq v es g.met.T.Eq.laws c.args.n c.set_spot.new.self.entries e c.in-Some.ensures.counted found (omega (arith, more, count))
+          (subst (λ b. Swaps es c.set_spot.new.self.entries e ((e.0, b - c.args.n) ∷ [])) count (c.set_spot.ensures.map e held.1));
+      hasher = c.set_spot.ensures.hasher;
+      counted = c.set_spot.ensures.counted;
+    }
+
+pub returns-in-Some-clause-before : goal.returns-in-Some-clause-before
+returns-in-Some-clause-before g c =
+    let names = g.Q.Key.names c.args.key in let es = c.args.self.now.entries in let r = c.take_spot-former.result in
+    let found : named_entry names es ≡ Some (r.0, r.1) = sym c.in-Some.ensures.map ∙ ap slot_entry c.take_spot-former.ensures.taken in
+    sym (named_present names es (r.0, r.1) found)
+
+pub returns-in-Some-clause-taken : goal.returns-in-Some-clause-taken
+returns-in-Some-clause-taken g c v does =
+    let eq = g.T.PartialEq.eq in let names = g.Q.Key.names c.args.key in let es = c.args.self.now.entries in let r = c.take_spot-former.result in
+    let at = ap slot_entry c.take_spot-former.ensures.taken in
+    let found = sym (named_found eq g.met.T.Eq.laws names (g.met.Q.Key.names_one c.args.key) v does es) ∙ sym c.in-Some.ensures.map ∙ at in
+    let count : c.count_at-before.result ≡ r.1 = c.count_at-before.ensures.count (r.0, r.1) at in
+    let few = c.if-n-before.false in
+    record {
+      means = gone_swapped eq v es g.met.T.Eq.laws c.args.n c.take_spot-former.new.self.entries (r.0, r.1) c.in-Some.ensures.counted found (omega (arith, few, count)) c.take_spot-former.ensures.map;
+      hasher = c.take_spot-former.ensures.hasher;
+      counted = c.take_spot-former.ensures.counted;
+    }
+
+pub returns-in-Some-clause-none : goal.returns-in-Some-clause-none
+returns-in-Some-clause-none g c none =
+    let names = g.Q.Key.names c.args.key in let es = c.args.self.now.entries in let r = c.take_spot-former.result in
+    let found : named_entry names es ≡ Some (r.0, r.1) = sym c.in-Some.ensures.map ∙ ap slot_entry c.take_spot-former.ensures.taken in
+    let pos = named_positive g.T.PartialEq.eq g.met.T.Eq.laws names (g.met.Q.Key.names_one c.args.key) es (r.0, r.1) c.in-Some.ensures.counted found in absurd (omega (arith, pos, none))
+
 pub returns-clause-before : goal.returns-clause-before
-returns-clause-before g c = c.take_key.ensures.before ∙ count_turned g.T.PartialEq.eq g.met.T.Eq.laws c.args.value.now c.args.self.now.entries
+returns-clause-before g c = sym (named_absent (g.Q.Key.names c.args.key) c.args.self.now.entries (sym c.in_default.ensures.map))
 
 pub returns-clause-taken : goal.returns-clause-taken
-returns-clause-taken g c = c.take_key.ensures.taken c.args.value.now (g.met.T.Eq.laws.refl c.args.value.now)
+returns-clause-taken g c v does =
+    record {
+      means = fewer_absent g.T.PartialEq.eq v c.args.self.now.entries c.args.n (sym (c.in_default.ensures.map ∙ named_found g.T.PartialEq.eq g.met.T.Eq.laws (g.Q.Key.names c.args.key) (g.met.Q.Key.names_one c.args.key) v does c.args.self.now.entries));
+      hasher = refl;
+      counted = c.in_default.ensures.counted;
+    }
+
+pub returns-in-Some-clause-room : goal.returns-in-Some-clause-room
+returns-in-Some-clause-room g c =
+    kept_Rewrites (g.Q.Key.names c.args.key) (λ _. Removed) c.args.self.now.tables c.take_spot-former.new.self.tables (λ v n. refl)
+    (record { spot = c.in-Some.spot; held = c.in-Some.ensures.held; after = c.take_spot-former.ensures.after })
+
+pub returns-then-n-before-clause-room : goal.returns-then-n-before-clause-room
+returns-then-n-before-clause-room g c =
+    kept_Rewrites (g.Q.Key.names c.args.key) (recounted (c.count_at-before.result - c.args.n)) c.args.self.now.tables c.set_spot.new.self.tables (λ v n. refl)
+    (record { spot = c.in-Some.spot; held = c.in-Some.ensures.held; after = c.set_spot.ensures.after })

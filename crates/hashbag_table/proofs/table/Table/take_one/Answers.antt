@@ -1,28 +1,29 @@
 use Rattle.std.proofs.Common.{◌≡◌, ℕ, ◌-◌, refl, ◌∷◌, [], Some, sym, ap, ◌∙◌, subst, arith}
-use Rattle.std.specs.Map.{lookup_entry}
 use Rattle.hashbag_slots.specs.declared.slots.Slot.TheVariants.{Removed}
 use Rattle.hashbag_slots.specs.Slots.{slot_entry, recounted}
+use Rattle.hashbag_table.specs.Named.{named_entry}
 use Rattle.hashbag_table.specs.Tables.{Swaps}
+use Rattle.hashbag_table.proofs.KeyLemmas.{named_present, named_absent, named_found, named_positive}
 use Rattle.hashbag_table.proofs.RoomKeptLemmas.{kept_Rewrites}
-use Rattle.hashbag_table.proofs.SpotLemmas.{held_entry, positive_found, count_present, count_absent, fewer_swapped, gone_swapped, fewer_absent}
+use Rattle.hashbag_table.proofs.SpotLemmas.{held_entry, fewer_swapped, gone_swapped, fewer_absent}
 use Rattle.hashbag_table.proofs.table.Table.take_one.Goals as goal
 
 pub returns-then-before-gt1-clause-others : goal.returns-then-before-gt1-clause-others
 returns-then-before-gt1-clause-others g c =
-    let eq = g.T.PartialEq.eq in let v = c.args.value.now in let es = c.args.self.now.entries in
-    let held = held_entry (λ w. eq w v) c.args.self.now.tables c.in-Some.spot c.in-Some.ensures.held in
+    let names = g.Q.Key.names c.args.key in let es = c.args.self.now.entries in
+    let held = held_entry names c.args.self.now.tables c.in-Some.spot c.in-Some.ensures.held in
     let e = held.0 in
-    let found : lookup_entry (eq v) es ≡ Some e = sym c.in-Some.ensures.map ∙ held.1 in
+    let found : named_entry names es ≡ Some e = sym c.in-Some.ensures.map ∙ held.1 in
     let count : c.count_at-before.result ≡ e.1 = c.count_at-before.ensures.count e held.1 in
     let more = c.if-before-gt1.true in
-    (count ∙ sym (count_present eq v es e found), λ one. absurd (omega (arith, more, one)))
+    (count ∙ sym (named_present names es e found), λ one. absurd (omega (arith, more, one)))
 
 pub returns-then-before-gt1-clause-taken : goal.returns-then-before-gt1-clause-taken
-returns-then-before-gt1-clause-taken g c =
-    let eq = g.T.PartialEq.eq in let v = c.args.value.now in let es = c.args.self.now.entries in
-    let held = held_entry (λ w. eq w v) c.args.self.now.tables c.in-Some.spot c.in-Some.ensures.held in
+returns-then-before-gt1-clause-taken g c v does =
+    let eq = g.T.PartialEq.eq in let names = g.Q.Key.names c.args.key in let es = c.args.self.now.entries in
+    let held = held_entry names c.args.self.now.tables c.in-Some.spot c.in-Some.ensures.held in
     let e = held.0 in
-    let found : lookup_entry (eq v) es ≡ Some e = sym c.in-Some.ensures.map ∙ held.1 in
+    let found = sym (named_found eq g.met.T.Eq.laws names (g.met.Q.Key.names_one c.args.key) v does es) ∙ sym c.in-Some.ensures.map ∙ held.1 in
     let count : c.count_at-before.result ≡ e.1 = c.count_at-before.ensures.count e held.1 in
     let more = c.if-before-gt1.true in
     record {
@@ -35,25 +36,25 @@ returns-then-before-gt1-clause-taken g c =
 pub returns-then-before-gt1-clause-fewer : goal.returns-then-before-gt1-clause-fewer
 returns-then-before-gt1-clause-fewer g c = λ some. record { spot = c.in-Some.spot; held = c.in-Some.ensures.held; after = c.set_spot.ensures.after }
 
-pub returns-then-before-gt1-clause-none : goal.returns-then-before-gt1-clause-none
-returns-then-before-gt1-clause-none g c = λ none. let more = c.if-before-gt1.true in absurd (omega (arith, more, none))
+pub returns-then-before-gt1-clause-absent : goal.returns-then-before-gt1-clause-absent
+returns-then-before-gt1-clause-absent g c = λ none. let more = c.if-before-gt1.true in absurd (omega (arith, more, none))
 
 pub returns-in-Some-clause-last : goal.returns-in-Some-clause-last
 returns-in-Some-clause-last g c =
-    let eq = g.T.PartialEq.eq in let v = c.args.value.now in let es = c.args.self.now.entries in let r = c.take_spot-former.result in
+    let names = g.Q.Key.names c.args.key in let es = c.args.self.now.entries in let r = c.take_spot-former.result in
     let at = ap slot_entry c.take_spot-former.ensures.taken in
-    let found : lookup_entry (eq v) es ≡ Some (r.0, r.1) = sym c.in-Some.ensures.map ∙ at in
+    let found : named_entry names es ≡ Some (r.0, r.1) = sym c.in-Some.ensures.map ∙ at in
     let count : c.count_at-before.result ≡ r.1 = c.count_at-before.ensures.count (r.0, r.1) at in
     let few = c.if-before-gt1.false in
-    let some = positive_found eq g.met.T.Eq.laws v es (r.0, r.1) c.in-Some.ensures.counted found in
+    let some = named_positive g.T.PartialEq.eq g.met.T.Eq.laws names (g.met.Q.Key.names_one c.args.key) es (r.0, r.1) c.in-Some.ensures.counted found in
     let one : r.1 ≡ 1 = omega (arith, count, few, some) in
     found ∙ ap (λ (n : ℕ). Some (r.0, n)) one
 
 pub returns-in-Some-clause-taken : goal.returns-in-Some-clause-taken
-returns-in-Some-clause-taken g c =
-    let eq = g.T.PartialEq.eq in let v = c.args.value.now in let es = c.args.self.now.entries in let r = c.take_spot-former.result in
+returns-in-Some-clause-taken g c v does =
+    let eq = g.T.PartialEq.eq in let names = g.Q.Key.names c.args.key in let es = c.args.self.now.entries in let r = c.take_spot-former.result in
     let at = ap slot_entry c.take_spot-former.ensures.taken in
-    let found : lookup_entry (eq v) es ≡ Some (r.0, r.1) = sym c.in-Some.ensures.map ∙ at in
+    let found = sym (named_found eq g.met.T.Eq.laws names (g.met.Q.Key.names_one c.args.key) v does es) ∙ sym c.in-Some.ensures.map ∙ at in
     let count : c.count_at-before.result ≡ r.1 = c.count_at-before.ensures.count (r.0, r.1) at in
     let few = c.if-before-gt1.false in
     record {
@@ -66,22 +67,22 @@ pub returns-in-Some-clause-gone : goal.returns-in-Some-clause-gone
 returns-in-Some-clause-gone g c = record { spot = c.in-Some.spot; held = c.in-Some.ensures.held; after = c.take_spot-former.ensures.after }
 
 pub returns-clause-others : goal.returns-clause-others
-returns-clause-others g c = (sym (count_absent g.T.PartialEq.eq c.args.value.now c.args.self.now.entries (sym c.in_default.ensures.map)), λ one. absurd (omega (arith, one)))
+returns-clause-others g c = (sym (named_absent (g.Q.Key.names c.args.key) c.args.self.now.entries (sym c.in_default.ensures.map)), λ one. absurd (omega (arith, one)))
 
 pub returns-clause-taken : goal.returns-clause-taken
-returns-clause-taken g c =
+returns-clause-taken g c v does =
     record {
-      means = fewer_absent g.T.PartialEq.eq c.args.value.now c.args.self.now.entries 1 (sym c.in_default.ensures.map);
+      means = fewer_absent g.T.PartialEq.eq v c.args.self.now.entries 1 (sym (c.in_default.ensures.map ∙ named_found g.T.PartialEq.eq g.met.T.Eq.laws (g.Q.Key.names c.args.key) (g.met.Q.Key.names_one c.args.key) v does c.args.self.now.entries));
       hasher = refl;
       counted = c.in_default.ensures.counted;
     }
 
 pub returns-in-Some-clause-room : goal.returns-in-Some-clause-room
 returns-in-Some-clause-room g c =
-    kept_Rewrites (λ w. g.T.PartialEq.eq w c.args.value.now) (λ _. Removed) c.args.self.now.tables c.take_spot-former.new.self.tables (λ v n. refl)
+    kept_Rewrites (g.Q.Key.names c.args.key) (λ _. Removed) c.args.self.now.tables c.take_spot-former.new.self.tables (λ v n. refl)
     (record { spot = c.in-Some.spot; held = c.in-Some.ensures.held; after = c.take_spot-former.ensures.after })
 
 pub returns-then-before-gt1-clause-room : goal.returns-then-before-gt1-clause-room
 returns-then-before-gt1-clause-room g c =
-    kept_Rewrites (λ w. g.T.PartialEq.eq w c.args.value.now) (recounted (c.count_at-before.result - 1)) c.args.self.now.tables c.set_spot.new.self.tables (λ v n. refl)
+    kept_Rewrites (g.Q.Key.names c.args.key) (recounted (c.count_at-before.result - 1)) c.args.self.now.tables c.set_spot.new.self.tables (λ v n. refl)
     (record { spot = c.in-Some.spot; held = c.in-Some.ensures.held; after = c.set_spot.ensures.after })

@@ -22,7 +22,7 @@ returns-in_err-newer-clause-none g c none =
     absurd (let h = c.in_err-newer.ensures.none (least_none c.in_ok-count.count least) in cc)
 
 pub returns-in_err-count-clause-none : goal.returns-in_err-count-clause-none
-returns-in_err-count-clause-none g c none = absurd (let h = c.in_err-count.ensures.refused refl in omega (arith, h, none))
+returns-in_err-count-clause-none g c none = absurd (let h = c.in_err-count.ensures.past_most refl in omega (arith, h, none))
 
 pub returns-clause-empty : goal.returns-clause-empty
 returns-clause-empty g c = entries_blank c.in_ok-newer.newer.slots c.no_slots-older.result.slots c.in_ok-count.count c.in_ok-newer.ensures.slots c.no_slots-older.ensures.slots

@@ -13,11 +13,11 @@ returns-in-Some-clause-item c =
     let same : to_z w64 (of_z w64 c.in-Some.x) ≡ c.in-Some.x = to_z-of_z w64 c.in-Some.x (search rules) in
     subst (λ z. IsI64 z × (i64_item (view c.args.v.now) ≡ Some z)) (sym same) (fits, i64_found (view c.args.v.now) c.in-Some.x c.in-Some.ensures fits)
 
-pub returns-in-Some-clause-none : goal.returns-in-Some-clause-none
-returns-in-Some-clause-none c =
+pub returns-in-Some-clause-not_an_item : goal.returns-in-Some-clause-not_an_item
+returns-in-Some-clause-not_an_item c =
     let fits : IsI64 c.in-Some.x = search rules in
     let there = i64_has (view c.args.v.now) c.in-Some.x (i64_found (view c.args.v.now) c.in-Some.x c.in-Some.ensures fits) in
     (λ e. absurd (cc), λ e. absurd (cc))
 
-pub returns-in-None-clause-none : goal.returns-in-None-clause-none
-returns-in-None-clause-none c = (λ e. i64_none (view c.args.v.now) c.in-None.ensures, λ e. refl)
+pub returns-in-None-clause-not_an_item : goal.returns-in-None-clause-not_an_item
+returns-in-None-clause-not_an_item c = (λ e. i64_none (view c.args.v.now) c.in-None.ensures, λ e. refl)

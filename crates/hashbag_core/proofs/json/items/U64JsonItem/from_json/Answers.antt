@@ -9,11 +9,11 @@ returns-in-Some-clause-item c =
     let fits : IsU64 c.in-Some.x = omega arith in
     (fits, u64_found (view c.args.v.now) c.in-Some.x c.in-Some.ensures fits)
 
-pub returns-in-Some-clause-none : goal.returns-in-Some-clause-none
-returns-in-Some-clause-none c =
+pub returns-in-Some-clause-not_an_item : goal.returns-in-Some-clause-not_an_item
+returns-in-Some-clause-not_an_item c =
     let fits : IsU64 c.in-Some.x = omega arith in
     let there = u64_has (view c.args.v.now) c.in-Some.x (u64_found (view c.args.v.now) c.in-Some.x c.in-Some.ensures fits) in
     (λ e. absurd (cc), λ e. absurd (cc))
 
-pub returns-in-None-clause-none : goal.returns-in-None-clause-none
-returns-in-None-clause-none c = (λ e. u64_none (view c.args.v.now) c.in-None.ensures, λ e. refl)
+pub returns-in-None-clause-not_an_item : goal.returns-in-None-clause-not_an_item
+returns-in-None-clause-not_an_item c = (λ e. u64_none (view c.args.v.now) c.in-None.ensures, λ e. refl)

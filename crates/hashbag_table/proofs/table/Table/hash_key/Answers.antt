@@ -1,5 +1,0 @@
-use Rattle.std.proofs.Common.{rules}
-use Rattle.hashbag_table.proofs.table.Table.hash_key.Goals as goal
-
-pub returns : goal.returns
-returns g c = search rules

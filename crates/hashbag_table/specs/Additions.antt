@@ -1,0 +1,37 @@
+-- What an addition leaves of a map and of its slots, and when one may fail.
+use Rattle.std.specs.Prelude.{◌≡◌, ℕ, ◌+◌, ◌<◌, Bool, List, length, None, IsTrue, Result, OnErr, IsOk}
+use Rattle.hashbag_slots.specs.declared.slots.Slot.{Slot}
+use Rattle.hashbag_slots.specs.declared.slots.Slot.TheVariants.{Live}
+use Rattle.hashbag_slots.specs.Slots.{recounted}
+use Rattle.hashbag_table.specs.Entries.{entry_of, count_of, with_count, with_instance}
+use Rattle.hashbag_table.specs.Table.{Table, IsMapOf, ChangesSlot}
+use Rattle.hashbag_table.specs.Tables.{room, Arrives, KeepsRoom}
+
+module _ {T S : Type 0} (eq : T → T → Bool) where
+  -- v arrived at the map `before`, or changed in it, and `after` is what is left: the entries are `now`. Then: how many there are; the
+  -- slot of v, if v was present, is changed so; the slots, if v was absent; and how many slots and how much room there are
+  pub record Puts (v : T) (now : List (T × ℕ)) (change : Slot T → Slot T) (before after : Table T S) : Type 0 where
+    pub map : IsMapOf eq before now after
+    pub new_set : entry_of eq v before.entries ≡ None → length after.entries ≡ length before.entries + 1
+    pub slot : ChangesSlot eq v change before after
+    pub arrives : entry_of eq v before.entries ≡ None → Arrives before.tables after.tables
+    pub room : 0 < room before.tables → KeepsRoom 1 before.tables after.tables
+    pub same_room : 0 < count_of eq v before.entries → KeepsRoom 0 before.tables after.tables
+
+  -- n more of v: the stored instance stays
+  abbrev pub Adds : T → ℕ → Table T S → Table T S → Type 0
+  Adds v n before after = Puts v (with_count eq v (count_of eq v before.entries + n) before.entries) (recounted (count_of eq v before.entries + n)) before after
+
+  -- v itself is stored, with the count n
+  abbrev pub Stores : T → ℕ → Table T S → Table T S → Type 0
+  Stores v n before after = Puts v (with_instance eq v n before.entries) (λ _. Live v n) before after
+
+  -- n of some value came that a key names
+  abbrev pub AddsNamed : (T → Bool) → ℕ → Table T S → Table T S → Type 0
+  AddsNamed names n before after = (v : T) × IsTrue (names v) × Adds v n before after
+
+  -- it may fail only if v is absent and there is no room, and then nothing is changed
+  pub record FailsIfFull {A E : Type 0} (v : T) (before after : Table T S) (result : Result A E) : Type 0 where
+    pub absent : OnErr result (entry_of eq v before.entries ≡ None)
+    pub err : OnErr result (after ≡ before)
+    pub takes : 0 < room before.tables → IsOk result

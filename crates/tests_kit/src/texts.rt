@@ -1,0 +1,92 @@
+//! Rows of text: how they are read, and how results are compared.
+//!
+//! A row that can't be read fails its test: nothing is skipped.
+use std::alloc::Global;
+use std::fmt::Debug;
+use std::test::Fail;
+
+/// Returns the rows of a text, one a line. There have to be `wanted` of them.
+pub fn rows_of<'a>(alloc: Global, text: &'a str, wanted: usize) -> Result<Vec<&'a str>, Fail> {
+    let mut rows = Vec::new(alloc);
+    for line in text.lines() {
+        if !line.trim().is_empty() {
+            rows.push(line.trim())?;
+        }
+    }
+    if rows.len() != wanted {
+        let found = rows.len();
+        return Err(Fail::new(format_args!("{found} rows, not {wanted}")));
+    }
+    Ok(rows)
+}
+
+/// Returns the texts before and after a mark, which has to be there.
+pub fn halves<'a>(row: &'a str, mark: &str) -> Result<(&'a str, &'a str), Fail> {
+    match row.split_once(mark) {
+        Some((before, after)) => Ok((before.trim(), after.trim())),
+        None => Err(Fail::new(format_args!("no `{mark}` in: {row}"))),
+    }
+}
+
+/// Returns the number of a word of decimal digits, and `None` for any other word.
+pub fn decimal(word: &str) -> Option<u64> {
+    if !word.bytes().all(|byte| byte.is_ascii_digit()) {
+        return None;
+    }
+    word.parse().ok()
+}
+
+/// Returns the number of a word of decimal digits.
+pub fn number(word: &str) -> Result<u64, Fail> {
+    match decimal(word) {
+        Some(number) => Ok(number),
+        None => Err(Fail::new(format_args!("no number: {word}"))),
+    }
+}
+
+/// Returns the count of a word of decimal digits.
+pub fn count(word: &str) -> Result<usize, Fail> {
+    Ok(number(word)? as usize)
+}
+
+/// Returns the values and counts of a list as `5:2 6:1`.
+pub fn counts(alloc: Global, text: &str) -> Result<Vec<(u64, usize)>, Fail> {
+    let mut pairs = Vec::new(alloc);
+    for word in text.split_whitespace() {
+        let (value, times) = halves(word, ":")?;
+        pairs.push((number(value)?, count(times)?))?;
+    }
+    Ok(pairs)
+}
+
+/// Returns the text in brackets, and `None` if there are none.
+pub fn inside(text: &str) -> Option<&str> {
+    text.strip_prefix('[')?.strip_suffix(']')
+}
+
+/// Returns the values of a list as `[1, 2, 3, 3]`.
+pub fn values(alloc: Global, text: &str) -> Result<Vec<u64>, Fail> {
+    let mut list = Vec::new(alloc);
+    let Some(inner) = inside(text) else {
+        return Err(Fail::new(format_args!("no list: {text}")));
+    };
+    if !inner.is_empty() {
+        for word in inner.split(", ") {
+            list.push(number(word)?)?;
+        }
+    }
+    Ok(list)
+}
+
+/// Compares two texts. The failure names the row that they are from.
+pub fn is_text(row: &str, got: &str, want: &str) -> Result<(), Fail> {
+    if got == want {
+        return Ok(());
+    }
+    Err(Fail::new(format_args!("{got}, not {want}, in the row: {row}")))
+}
+
+/// Returns the text that `Debug` writes of a value.
+pub fn debug_of<T: Debug>(alloc: Global, value: &T) -> Result<String, Fail> {
+    Ok(format!(in alloc; "{value:?}")?)
+}

@@ -1,5 +1,0 @@
-//! Tests of movements of a stock.
-#![tactic(auto)]
-
-#[cfg(test)]
-mod tests;

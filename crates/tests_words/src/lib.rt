@@ -1,5 +1,0 @@
-//! The tests of what counts text.
-#![tactic(auto)]
-
-#[cfg(test)]
-mod tests;
