@@ -12,9 +12,8 @@ use Rattle.std.proofs.lemmas.List.Elements.{All-weaker}
 use Rattle.std.proofs.lemmas.List.Sorted.{ranks_by, sorted_far, All-permutation, Contains-permutation, IsPermutation-map, IsPermutation-refl, IsPermutation-sym, IsPermutation-trans, length_permutation, sum_by-IsPermutation}
 use Rattle.std.proofs.lemmas.Map.Keys.{IsDistinct-IsPermutation, IsDistinct-head, IsDistinct-tail}
 use Rattle.hashbag_core.specs.Bag.{Bag}
-use Rattle.hashbag_core.specs.JsonTrees.{seen}
 use Rattle.hashbag_core.specs.Occurrences.{count}
-use Rattle.hashbag_core.specs.Walks.{IsSetWalk, IsSetWalkOf}
+use Rattle.hashbag_core.specs.Walks.{IsSetWalk, IsSetWalkOf, seen}
 use Rattle.hashbag_core.proofs.ContainsLemmas.{All-from_Contains}
 use Rattle.hashbag_core.proofs.JoinLemmas.{in_walk, keys_of_walk}
 use Rattle.hashbag_core.proofs.MemberLemmas.{map-map, map_ext}

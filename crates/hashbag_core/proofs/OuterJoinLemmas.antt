@@ -8,7 +8,7 @@ use Rattle.std.proofs.lemmas.List.{map-append, append-nil}
 use Rattle.std.proofs.lemmas.List.Elements.{All-head, All-tail, All-weaker, filter-append}
 use Rattle.hashbag_core.specs.Occurrences.{count}
 use Rattle.hashbag_core.specs.Walks.{IsSetWalk}
-use Rattle.hashbag_core.specs.Joins.{limited, alone, IsOuterJoin, IsDifference, IsNotIn, IsSignedDifference}
+use Rattle.hashbag_core.specs.Joins.{saturated, alone, IsOuterJoin, IsDifference, IsNotIn, IsSignedDifference}
 use Rattle.hashbag_core.specs.JoinsLeft.{excesses, lacking, subtracted, exceeding, unmatched}
 use Rattle.hashbag_core.proofs.ContainsLemmas.{Contains-filter_back}
 use Rattle.hashbag_core.proofs.JoinLemmas.{count_of_item, difference_from_walk, not_in_from_walk}
@@ -58,10 +58,10 @@ module _ {X Y : Type 0} (f : X → Y) where
 
   pub subtracted-map : (js : List (X × ℕ × ℕ)) → map (λ e. (f e.0, e.1)) (subtracted js) ≡ subtracted (map (λ j. (f j.0, j.1, j.2)) js)
   subtracted-map js =
-      let less : X × ℕ × ℕ → X × ℤ = λ j. (j.0, limited (pos j.1 -ℤ pos j.2)) in
+      let less : X × ℕ × ℕ → X × ℤ = λ j. (j.0, saturated (pos j.1 -ℤ pos j.2)) in
       let seen : X × ℤ → Y × ℤ = λ e. (f e.0, e.1) in
       let seen_both : X × ℕ × ℕ → Y × ℕ × ℕ = λ j. (f j.0, j.1, j.2) in
-      let seen_less : Y × ℕ × ℕ → Y × ℤ = λ j. (j.0, limited (pos j.1 -ℤ pos j.2)) in
+      let seen_less : Y × ℕ × ℕ → Y × ℤ = λ j. (j.0, saturated (pos j.1 -ℤ pos j.2)) in
       map-map less seen js ∙ sym (map-map seen_both seen_less js)
 
 -- ---- the joins

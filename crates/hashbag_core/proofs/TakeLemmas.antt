@@ -10,7 +10,7 @@ use Rattle.std.proofs.lemmas.List.Sorted.{IsPermutation-sym}
 use Rattle.hashbag_table.specs.Entries.{entry_of, count_of, IsCounted}
 use Rattle.hashbag_table.proofs.EntryLemmas.{lookup_key-entry}
 use Rattle.hashbag_core.specs.Bag.{occurrences}
-use Rattle.hashbag_core.specs.Occurrences.{alike, others, count, instance, instance_or_itself, stored, counted, less, IsBag}
+use Rattle.hashbag_core.specs.Occurrences.{alike, others, count, instance, instance_or_itself, stored, less, IsBag}
 use Rattle.hashbag_table.proofs.ListLemmas.{find-filter}
 use Rattle.hashbag_core.proofs.OccurrenceLemmas.{alike_same_instance, instance_rearranged, instance_occurrences, count_occurrences, count_of_entry}
 

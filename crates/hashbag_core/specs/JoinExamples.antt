@@ -4,7 +4,7 @@ use Rattle.std.proofs.Common.{lit<}
 use Rattle.std.proofs.lemmas.List.Elements.{All-from_recursion}
 use Rattle.std.specs.List.{IsDistinct, Contains}
 use Rattle.hashbag_core.specs.Examples.{Tagged, same_key, bag, each_value}
-use Rattle.hashbag_core.specs.Joins.{limited, alone, IsOuterJoin, IsSignedDifference}
+use Rattle.hashbag_core.specs.Joins.{saturated, alone, IsOuterJoin, IsSignedDifference}
 use Rattle.hashbag_core.specs.JoinsLeft.{with_second, excesses, lacking, with_no_first, subtracted}
 use Rattle.hashbag_core.specs.Walks.{IsEach}
 
@@ -14,16 +14,16 @@ other_bag = (3, 30) ∷ (1, 20) ∷ []
 
 -- ---- the words
 
-within : limited (pos 2 -ℤ pos 5) ≡ negsuc 2
+within : saturated (pos 2 -ℤ pos 5) ≡ negsuc 2
 within = refl
 
-too_great : limited (pos 9223372036854775808) ≡ pos 9223372036854775807
+too_great : saturated (pos 9223372036854775808) ≡ pos 9223372036854775807
 too_great = refl
 
-least : limited (negsuc 9223372036854775807) ≡ negsuc 9223372036854775807
+least : saturated (negsuc 9223372036854775807) ≡ negsuc 9223372036854775807
 least = refl
 
-too_small : limited (negsuc 9223372036854775808) ≡ negsuc 9223372036854775807
+too_small : saturated (negsuc 9223372036854775808) ≡ negsuc 9223372036854775807
 too_small = refl
 
 three_alone : alone same_key bag other_bag ≡ (3, 30) ∷ []

@@ -17,8 +17,8 @@ abbrev pub greatest_signed : ℤ
 greatest_signed = pos (2 ^ 63 - 1)
 
 -- the number between these two that is nearest to z
-abbrev pub limited : ℤ → ℤ
-limited z = int_max least_signed (int_min z greatest_signed)
+abbrev pub saturated : ℤ → ℤ
+saturated z = int_max least_signed (int_min z greatest_signed)
 
 module _ {T : Type 0} (eq : T → T → Bool) where
   -- the items of Y whose value doesn't occur in X
@@ -47,4 +47,4 @@ module _ {T : Type 0} (eq : T → T → Bool) where
   pub record IsSignedDifference (X Y : List T) (G : List (T × ℤ)) : Type 0 where
     pub outer : List (T × ℕ × ℕ)
     pub is_outer : IsOuterJoin X Y outer
-    pub signed : G ≡ map (λ j. (j.0, limited (pos j.1 -ℤ pos j.2))) outer
+    pub signed : G ≡ map (λ j. (j.0, saturated (pos j.1 -ℤ pos j.2))) outer

@@ -1,7 +1,7 @@
 -- What a join still gives, by the entries that its walk still gives and the list Y of the bag in which it looks up.
 use Rattle.std.specs.Prelude.{ℕ, ◌-◌, ◌==◌, nat_lt, ℤ, pos, ◌-ℤ◌, Bool, List, map, filter}
 use Rattle.hashbag_core.specs.Occurrences.{count}
-use Rattle.hashbag_core.specs.Joins.{limited}
+use Rattle.hashbag_core.specs.Joins.{saturated}
 
 module _ {T : Type 0} (eq : T → T → Bool) (Y : List T) where
   -- each value with its count, and its count in Y beside that
@@ -22,7 +22,7 @@ with_no_first es = map (λ e. (e.0, 0, e.1)) es
 
 -- each value with the first count less the second, as near as an isize comes
 abbrev pub subtracted : {T : Type 0} → List (T × ℕ × ℕ) → List (T × ℤ)
-subtracted js = map (λ j. (j.0, limited (pos j.1 -ℤ pos j.2))) js
+subtracted js = map (λ j. (j.0, saturated (pos j.1 -ℤ pos j.2))) js
 
 -- ---- what the other joins are, of the list of an outer join
 

@@ -102,33 +102,33 @@ may_end = record {
     after = [];
     parts = refl;
     good = refl;
-    asks = record { tree = tree_of 2; number = tree_of 1; count = 1; parts = refl; counted = refl; item = refl };
+    asks = record { tree = tree_of 2; number = tree_of 1; count = 1; parts = refl; is_count = refl; item = refl };
   };
 }
 
 -- ---- limits
 
 -- the object of a limit and pairs
-abbrev limited : Data → List Data → Data
-limited limit ds = object (member limit_name limit (member pairs_name (list ds) no_members))
+abbrev limited_tree : Data → List Data → Data
+limited_tree limit ds = object (member limit_name limit (member pairs_name (list ds) no_members))
 
 array_has_the_greatest : limit_of (list []) ≡ greatest_total
 array_has_the_greatest = refl
 
-limit_is_read : opened (limited (tree_of 5) (null ∷ [])) ≡ Ok (5, null ∷ [])
+limit_is_read : opened (limited_tree (tree_of 5) (null ∷ [])) ≡ Ok (5, null ∷ [])
 limit_is_read = refl
 
 -- the lesser of both limits holds
-lesser_limit : fault 9 has_item (limited (tree_of 5) (pair (tree_of 1) (tree_of 6) ∷ [])) ≡ Some (TooMany 0)
+lesser_limit : fault 9 has_item (limited_tree (tree_of 5) (pair (tree_of 1) (tree_of 6) ∷ [])) ≡ Some (TooMany 0)
 unfolding first_fault
 lesser_limit = refl
 
-lesser_given : fault 5 has_item (limited (tree_of 9) (pair (tree_of 1) (tree_of 6) ∷ [])) ≡ Some (TooMany 0)
+lesser_given : fault 5 has_item (limited_tree (tree_of 9) (pair (tree_of 1) (tree_of 6) ∷ [])) ≡ Some (TooMany 0)
 unfolding first_fault
 lesser_given = refl
 
 -- a bad limit is told before a pair is judged
-negative_limit : fault 9 has_item (limited (number (negative (ℤ.negsuc 0))) (null ∷ [])) ≡ Some BadLimit
+negative_limit : fault 9 has_item (limited_tree (number (negative (ℤ.negsuc 0))) (null ∷ [])) ≡ Some BadLimit
 negative_limit = refl
 
 no_limit : fault 9 has_item (object (member pairs_name (list []) no_members)) ≡ Some BadLimit
@@ -144,7 +144,7 @@ third_member = refl
 written_without_limit : written greatest_total (list []) ≡ list []
 written_without_limit = refl
 
-written_with_limit : written 0 (list []) ≡ limited (tree_of 0) []
+written_with_limit : written 0 (list []) ≡ limited_tree (tree_of 0) []
 written_with_limit = refl
 
 -- ---- readings and trees

@@ -86,7 +86,7 @@ pub record IsCountedItem (has_item : Data → Bool) (d : Data) : Type 0 where
   pub number : Data
   pub count : ℕ
   pub parts : pair_of d ≡ Some (tree, number)
-  pub counted : u64_of number ≡ Some count
+  pub is_count : u64_of number ≡ Some count
   pub item : has_item tree ≡ true
 
 -- `end` is the greatest total, and `has_item` tells which trees are those of items

@@ -43,10 +43,6 @@ module _ {T : Type 0} (eq : T → T → Bool) (reads : Data → T → Type 0) wh
 abbrev pub pair_tree : {T : Type 0} → (T → Data) → T × ℕ → Data
 pair_tree tree_of e = array (items_of (tree_of e.0 ∷ number (unsigned e.1) ∷ []))
 
--- a lent value with its count
-abbrev pub seen : {T : Type 0} → Bor T × ℕ → T × ℕ
-seen e = (e.0.now, e.1)
-
 -- the tree of a bag with the limit `most` whose pairs are the array p: that array where `most` is the greatest limit, else an
 -- object with the limit and the array
 abbrev pub written : ℕ → Data → Data

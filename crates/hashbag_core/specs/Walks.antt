@@ -1,9 +1,14 @@
 -- What the walks over a bag give in all, by the plain list X of its occurrences. The order of X means nothing, and so does
 -- the order in which a walk comes to the values.
 use Rattle.std.specs.Prelude.{◌≡◌, ℕ, ◌≤◌, Bool, List, length, sum_by, map, flat_map, replicate, All}
+use Rattle.std.specs.Borrow.{Bor}
 use Rattle.std.specs.List.{IsDistinct, Contains}
 use Rattle.hashbag_core.specs.Bag.{Bag, Means, occurrences}
 use Rattle.hashbag_core.specs.Occurrences.{greatest_total, count, distinct_count}
+
+-- a value that is lent, with its count
+abbrev pub seen : {T : Type 0} → Bor T × ℕ → T × ℕ
+seen e = (e.0.now, e.1)
 
 module _ {T : Type 0} (eq : T → T → Bool) where
   -- ys names the values of X: no value twice, each by the very instance that occurs in X, and none that doesn't occur

@@ -7,7 +7,7 @@ ghost use Rattle.std.specs.Prelude.{◌≡◌, List, pos, ◌-ℤ◌, length, If
 ghost use Rattle.std.specs.Iterator.{YieldsFirstBy, item_count, at_most, UpTo};
 ghost use Rattle.std.specs.Iterator.SizeHint.{IsWithinCount};
 ghost use Rattle.hashbag_core.specs.Bag.{Means};
-ghost use Rattle.hashbag_core.specs.Joins.{limited, IsOuterJoin, IsDifference, IsNotIn, IsSignedDifference};
+ghost use Rattle.hashbag_core.specs.Joins.{saturated, IsOuterJoin, IsDifference, IsNotIn, IsSignedDifference};
 
 use crate::bag::HashBag;
 use crate::iters::SetIter;
@@ -198,7 +198,7 @@ impl<'a, T: Eq + Hash + Drop, S: BuildHasher + Drop, S2: BuildHasher + Drop> Mod
 /// joins::limited_difference(2, 5) // -3
 /// ```
 pub fn limited_difference(first: usize, second: usize) -> isize
-    ensures { result ≡ limited (pos first -ℤ pos second) }
+    ensures { result ≡ saturated (pos first -ℤ pos second) }
 {
     let most = isize::MAX as usize;
     if second <= first {

@@ -10,9 +10,9 @@ ghost use Rattle.serde_json.specs.declared.value.Value.{Value};
 ghost use Rattle.serde_json.specs.Written.{has_float};
 ghost use Rattle.hashbag_core.specs.Inserts.{Inserts, IsMadeOf};
 ghost use Rattle.hashbag_core.specs.JsonFaults.{has_no_other, opened, limit_of, pair_of, first_fault, fault, fault_after, HasNoFaultFrom, IsCountedItem, MayEnd, MayEndAmong};
-ghost use Rattle.hashbag_core.specs.JsonTrees.{IsPair, IsReading, ReadsBack, IsTree, IsTreeOfCounts, TellsApart, pair_tree, seen, written};
+ghost use Rattle.hashbag_core.specs.JsonTrees.{IsPair, IsReading, ReadsBack, IsTree, IsTreeOfCounts, TellsApart, pair_tree, written};
 ghost use Rattle.hashbag_core.specs.Occurrences.{greatest_total, IsBag};
-ghost use Rattle.hashbag_core.specs.Walks.{IsSetWalkOf};
+ghost use Rattle.hashbag_core.specs.Walks.{IsSetWalkOf, seen};
 
 mod items;
 

@@ -81,13 +81,21 @@ pub fn is_disjoint(alloc: Global) -> Result<(), BagError> {
     Ok(())
 }
 
+pub fn counts(alloc: Global) -> Result<(), BagError> {
+    let mut words: HashBag<&str> = HashBag::new(alloc);
+    words.insert_many("the", 3)?;
+    let counts = hashbag_ops::counts(alloc, &words)?;
+    counts.len(); // 1
+    Ok(())
+}
+
 pub fn sorted(alloc: Global) -> Result<(), BagError> {
     let mut words: HashBag<&str> = HashBag::new(alloc);
     words.insert_many("the", 3)?;
     words.insert("cat")?;
     let pairs = hashbag_ops::sorted(alloc, &words)?;
-    pairs[0].0; // "cat"
-    pairs[1].1; // 3
+    pairs.first(); // Some(&(&"cat", 1))
+    pairs.last(); // Some(&(&"the", 3))
     Ok(())
 }
 
@@ -97,8 +105,8 @@ pub fn most_common(alloc: Global) -> Result<(), BagError> {
     words.insert("sat")?;
     words.insert("cat")?;
     let pairs = hashbag_ops::most_common(alloc, &words, 2)?;
-    pairs[0].0; // "the"
-    pairs[1].0; // "cat"
+    pairs.first(); // Some(&(&"the", 3))
+    pairs.last(); // Some(&(&"cat", 1))
     Ok(())
 }
 

@@ -12,7 +12,7 @@ use Rattle.hashbag_ledger_core.specs.declared.movements.Change.TheVariants.{In, 
 use Rattle.hashbag_ledger_core.specs.declared.movements.Movement.{Movement}
 use Rattle.hashbag_ledger_core.specs.declared.movements.Place.{Place}
 use Rattle.hashbag_ledger_core.specs.declared.movements.Refusal.{Refusal}
-use Rattle.hashbag_ledger_core.specs.Ledger.{coming, going, stock_of, Changes, IsRefused, IsPast}
+use Rattle.hashbag_ledger_core.specs.Ledger.{coming, going, stock_of, Changes, RefusesMovement, IsPast}
 use Rattle.hashbag_ledger_core.proofs.LedgerLemmas.{SoFar, comes_next, one_entered, one_refused, past_most}
 
 more_at : (b : Bool) (after before n : ℕ) → after ≡ before + cond b n 0 → after + cond b 0 0 ≡ before + cond b n 0
@@ -58,7 +58,7 @@ module _ {T S : Type 0} {eq : T → T → Bool} {start : T → ℕ} {total : ℕ
   pub next_entered : Changes eq m (stock_of eq before.items) (stock_of eq after.items) → length after.items + going m.change ≡ length before.items + coming m.change → SoFar eq start total all rest refusals (length after.items) (stock_of eq after.items)
   next_entered changes long = one_entered eq start so_far changes long
 
-  pub next_refused : (r : Refusal T) (noted : List (Refusal T)) → after ≡ before → noted ≡ refusals ++ r ∷ [] → IsRefused eq m (stock_of eq before.items) r → SoFar eq start total all rest noted (length after.items) (stock_of eq after.items)
+  pub next_refused : (r : Refusal T) (noted : List (Refusal T)) → after ≡ before → noted ≡ refusals ++ r ∷ [] → RefusesMovement eq m (stock_of eq before.items) r → SoFar eq start total all rest noted (length after.items) (stock_of eq after.items)
   next_refused r noted same is refused =
       let one : SoFar eq start total all rest (refusals ++ r ∷ []) (length before.items) (stock_of eq before.items) = one_refused eq start r so_far refused in
       subst (λ (b : Bag T S). SoFar eq start total all rest noted (length b.items) (stock_of eq b.items)) (sym same)

@@ -7,7 +7,7 @@ use Rattle.std.proofs.Math.Seq.{take-length, take-nil, take-append_seam, drop-ap
 use Rattle.hashbag_ledger_core.specs.declared.movements.Movement.{Movement}
 use Rattle.hashbag_ledger_core.specs.declared.movements.Place.{Place}
 use Rattle.hashbag_ledger_core.specs.declared.movements.Refusal.{Refusal}
-use Rattle.hashbag_ledger_core.specs.Ledger.{coming, going, total_after, came, went, there, asks_too_much, entered_after, refused_after, refusal, entered_of, refused_of, Changes, IsRefused, IsNeverBelowZero, Leaves, IsPast}
+use Rattle.hashbag_ledger_core.specs.Ledger.{coming, going, total_after, came, went, there, asks_too_much, entered_after, refused_after, refusal, entered_of, refused_of, Changes, RefusesMovement, IsNeverBelowZero, Leaves, IsPast}
 
 not_below : (m n : ℕ) → n ≤ m → nat_lt m n ≡ false
 not_below m n enough = by_case (nat_lt m n) refl
@@ -110,7 +110,7 @@ module _ {T : Type 0} (eq : T → T → Bool) (start : T → ℕ) where
       }
 
   pub one_refused : {total now : ℕ} {all to_come : List (Movement T)} {m : Movement T} {refusals : List (Refusal T)} {stock : T → ℕ} (r : Refusal T) → SoFar total all (m ∷ to_come) refusals now stock
-      → IsRefused eq m stock r → SoFar total all to_come (refusals ++ r ∷ []) now stock
+      → RefusesMovement eq m stock r → SoFar total all to_come (refusals ++ r ∷ []) now stock
   one_refused {to_come = to_come} {m = m} {refusals = refusals} {stock = stock} r h asked =
       let E = h.entered in
       let is = h.counts m.article in

@@ -31,7 +31,7 @@ module _ {T : Type 0} (eq : T → T → Bool) where
     pub counts : (v : T) → after v + (if eq v m.article then going m.change else 0) ≡ before v + (if eq v m.article then coming m.change else 0)
 
   -- a movement that asks for more than is there is refused, with how many there are
-  pub record IsRefused (m : Movement T) (before : T → ℕ) (r : Refusal T) : Type 0 where
+  pub record RefusesMovement (m : Movement T) (before : T → ℕ) (r : Refusal T) : Type 0 where
     pub too_much : before m.article < going m.change
     pub is : r ≡ record { place = m.place; article = m.article; asked = going m.change; there = before m.article }
 

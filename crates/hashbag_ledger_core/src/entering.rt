@@ -1,7 +1,7 @@
 //! Movements entered into a stock, in turn.
 ghost use Rattle.std.specs.Prelude.{◌≡◌, ◌≢◌, ◌⊎◌, ◌+◌, ◌<◌, ◌≤◌, ◌↔◌, length, OnOk, OnErr, IfOk, IfErr, IfSome, IsSome};
 ghost use Rattle.hashbag_ledger_core.specs.declared.movements.Place.{Place};
-ghost use Rattle.hashbag_ledger_core.specs.Ledger.{coming, going, stock_of, refused_of, Changes, IsRefused, Leaves, IsPastLimit};
+ghost use Rattle.hashbag_ledger_core.specs.Ledger.{coming, going, stock_of, refused_of, Changes, RefusesMovement, Leaves, IsPastLimit};
 
 use crate::movements::{Change, Movement, Place, Refusal};
 use hashbag::{BagError, HashBag};
@@ -49,7 +49,7 @@ pub fn enter<T: Eq + Hash + Drop, S: BuildHasher + Drop>(
     // Nine clauses, since there are three outcomes: a movement is entered, or refused, or fails.
     ensures entered { IfOk result (λ r. r ≡ None → Changes T.eq movement (stock_of T.eq stock.old.items) (stock_of T.eq stock.new.items)) }
     ensures total { IfOk result (λ r. r ≡ None → length stock.new.items + going movement.change ≡ length stock.old.items + coming movement.change) }
-    ensures refusal { IfOk result (λ r. IfSome r (IsRefused T.eq movement (stock_of T.eq stock.old.items))) }
+    ensures refusal { IfOk result (λ r. IfSome r (RefusesMovement T.eq movement (stock_of T.eq stock.old.items))) }
     ensures unchanged { IfOk result (λ r. IsSome r → stock.new ≡ stock.old) }
     ensures fits { OnOk result (length stock.old.items + coming movement.change ≤ stock.old.most) }
     ensures limit { stock.new.most ≡ stock.old.most }

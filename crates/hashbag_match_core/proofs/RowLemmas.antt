@@ -23,7 +23,7 @@ use Rattle.hashbag.proofs.JoinLemmas.{count_of_item}
 use Rattle.hashbag.proofs.MemberLemmas.{map-map}
 use Rattle.hashbag_lists.proofs.SortedLemmas.{keys_rise}
 use Rattle.hashbag_match_core.specs.declared.matching.Row.{Row}
-use Rattle.hashbag_match_core.specs.Matching.{missing_of, surplus_of, IsTable}
+use Rattle.hashbag_match_core.specs.Matching.{missing_of, surplus_of, AreRows}
 use Rattle.hashbag_match_core.proofs.SumLemmas.{sum_of_counts}
 
 module _ {T : Type 0} where
@@ -40,11 +40,11 @@ module _ {T : Type 0} where
   -- a table of what is as many
   pub table_same : {eq : T → T → Bool} {cmp : T → T → Ordering} (named ordered delivered named' ordered' delivered' : T → ℕ) (rows : List (Row T))
       → ((v : T) → named v ≡ named' v) → ((v : T) → ordered v ≡ ordered' v) → ((v : T) → delivered v ≡ delivered' v)
-      → IsTable eq cmp named ordered delivered rows → IsTable eq cmp named' ordered' delivered' rows
+      → AreRows eq cmp named ordered delivered rows → AreRows eq cmp named' ordered' delivered' rows
   table_same {eq = eq} {cmp = cmp} named ordered delivered named' ordered' delivered' rows same_named same_ordered same_delivered h =
-      subst (λ (q : T → ℕ). IsTable eq cmp q ordered' delivered' rows) (λ i v. same_named v i)
-      (subst (λ (q : T → ℕ). IsTable eq cmp named q delivered' rows) (λ i v. same_ordered v i)
-      (subst (λ (q : T → ℕ). IsTable eq cmp named ordered q rows) (λ i v. same_delivered v i) h))
+      subst (λ (q : T → ℕ). AreRows eq cmp q ordered' delivered' rows) (λ i v. same_named v i)
+      (subst (λ (q : T → ℕ). AreRows eq cmp named q delivered' rows) (λ i v. same_ordered v i)
+      (subst (λ (q : T → ℕ). AreRows eq cmp named ordered q rows) (λ i v. same_delivered v i) h))
 
 module _ {T : Type 0} {eq : T → T → Bool} (laws : IsEquivalence eq) (N X Y : List T) (W : List (T × ℕ)) (w : IsSetWalk eq N W) where
   abbrev pub row_of : T → Row T
@@ -73,7 +73,7 @@ module _ {T : Type 0} {eq : T → T → Bool} (laws : IsEquivalence eq) (N X Y :
   module _ (rows : List (Row T)) (p : IsPermutation (map row_at W) rows) where
     pub table_from_walk : {cmp : T → T → Ordering} (total : IsTotalOrder cmp) → ((x y : T) → eq x y ≡ is_eq (cmp x y)) → (rest : Row T → Row T → Ordering)
         → IsStrictWeakOrder (λ x y. is_lt (ordering_then (cmp x.article y.article) (rest x y))) → IsSorted (λ x y. ordering_then (cmp x.article y.article) (rest x y)) rows
-        → IsTable eq cmp (λ v. count eq v N) (λ v. count eq v X) (λ v. count eq v Y) rows
+        → AreRows eq cmp (λ v. count eq v N) (λ v. count eq v X) (λ v. count eq v Y) rows
     table_from_walk {cmp = cmp} total ties rest weak up =
         let moved : IsPermutation w.values (map (λ row. row.article) rows) = subst (λ (l : List T). IsPermutation l (map (λ (row : Row T). row.article) rows)) articles_are (IsPermutation-map (λ (row : Row T). row.article) (map row_at W) rows p) in
         record {

@@ -26,7 +26,7 @@ module _ {T : Type 0} where
     pub surplus : totals.surplus ≡ sum_by surplus_of rows
 
 -- the rows of the articles that are named: each in one row, beside both its numbers, articles rising
-pub record IsTable {T : Type 0} (eq : T → T → Bool) (cmp : T → T → Ordering) (named ordered delivered : T → ℕ) (rows : List (Row T)) : Type 0 where
+pub record AreRows {T : Type 0} (eq : T → T → Bool) (cmp : T → T → Ordering) (named ordered delivered : T → ℕ) (rows : List (Row T)) : Type 0 where
   pub rising : IsStrictlySortedBy cmp (map (λ row. row.article) rows)
   pub counts : All (λ row. (row.ordered ≡ ordered row.article) × (row.delivered ≡ delivered row.article) × (0 < named row.article)) rows
   pub each : (v : T) → 0 < named v → (row : Row T) × Contains rows row × (eq v row.article ≡ true)

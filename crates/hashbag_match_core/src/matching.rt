@@ -2,7 +2,7 @@
 ghost use Rattle.std.specs.Prelude.{◌≡◌, ◌+◌, ◌-◌, ◌≤◌, ◌↔◌, if◌then◌else◌, length, sum_by, IsTrue, IfOk, IfErr, OnOk};
 ghost use Rattle.hashbag.specs.Occurrences.{count};
 ghost use Rattle.hashbag_lists.specs.Quantities.{numbers, quantity, times};
-ghost use Rattle.hashbag_match_core.specs.Matching.{missing_of, surplus_of, agrees, AreTotals, IsTable};
+ghost use Rattle.hashbag_match_core.specs.Matching.{missing_of, surplus_of, agrees, AreTotals, AreRows};
 
 use crate::totals::{Totals, totals_of};
 use hashbag::{BagError, HashBag};
@@ -120,7 +120,7 @@ pub fn rows_of<T: Ord + Hash + Copy + Drop, S: BuildHasher + Drop>(
     ordered: &HashBag<T, S>,
     delivered: &HashBag<T, S>,
 ) -> Result<Vec<Row<T>>, AllocError>
-    ensures table { IfOk result (λ rows. IsTable T.eq T.cmp
+    ensures table { IfOk result (λ rows. AreRows T.eq T.cmp
         (λ v. count T.eq v named.now.items) (λ v. count T.eq v ordered.now.items) (λ v. count T.eq v delivered.now.items) rows.items) }
     ensures missing { IfOk result (λ rows. sum_by missing_of rows.items ≤ length ordered.now.items) }
     ensures surplus { IfOk result (λ rows. sum_by surplus_of rows.items ≤ length delivered.now.items) }
@@ -153,7 +153,7 @@ pub fn match_lists<T: Ord + Hash + Copy + Drop, S: BuildHasher + Copy + Drop>(
     ordered: Vec<(T, usize)>,
     delivered: Vec<(T, usize)>,
 ) -> Result<Matched<T>, BagError>
-    ensures table { IfOk result (λ matched. IsTable T.eq T.cmp (λ v. times T.eq v ordered.items + times T.eq v delivered.items)
+    ensures table { IfOk result (λ matched. AreRows T.eq T.cmp (λ v. times T.eq v ordered.items + times T.eq v delivered.items)
         (λ v. quantity T.eq v ordered.items) (λ v. quantity T.eq v delivered.items) matched.rows.items) }
     ensures totals { IfOk result (λ matched. AreTotals matched.rows.items matched.totals) }
     ensures agree { IfOk result (λ matched. IsTrue matched.agree ↔ ((v : T) → quantity T.eq v ordered.items ≡ quantity T.eq v delivered.items)) }

@@ -12,7 +12,8 @@ use Rattle.std.proofs.lemmas.Bool.{false≢true}
 use Rattle.std.proofs.lemmas.Fn.{always_returns_same}
 use Rattle.std.proofs.lemmas.List.Sorted.{ranks_by, sorted_far}
 use Rattle.std.proofs.lemmas.Map.Keys.{IsDistinct-head, IsDistinct-tail}
-use Rattle.hashbag_ops.specs.Order.{shown, rank, comes_first}
+use Rattle.hashbag_ops.specs.Order.{rank, comes_first}
+use Rattle.hashbag.specs.Walks.{seen}
 
 -- none comes before one that stands before it
 abbrev pub Rises : {X : Type 0} → (X → X → Bool) → List X → Type 0
@@ -63,10 +64,10 @@ module _ {T : Type 0} {eq : T → T → Bool} (laws : IsEquivalence eq) {cmp : T
   -- the same from a sort by a closure that compares so
   pub ranked_from_sort_by : {F : Type 0} {g : Mut F (Bor (Bor T × ℕ) × (Bor (Bor T × ℕ) × Unit {0})) Ordering} {f : F} (ps : List (Bor T × ℕ))
       → ((lt : Bor T × ℕ → Bor T × ℕ → Bool) → IsStrictWeakOrder lt → ComparesAs g lt f → IsSortedBy lt ps)
-      → ((a : Bor (Bor T × ℕ) × (Bor (Bor T × ℕ) × Unit {0})) (r : Ordering) (f' : F) → Called g f a r f' → (r ≡ rank cmp (shown a.0.now) (shown a.1.0.now)) × (f' ≡ f))
-      → IsDistinct eq (keys_of (map shown ps)) → IsStrictlySortedBy (rank cmp) (map shown ps)
+      → ((a : Bor (Bor T × ℕ) × (Bor (Bor T × ℕ) × Unit {0})) (r : Ordering) (f' : F) → Called g f a r f' → (r ≡ rank cmp (seen a.0.now) (seen a.1.0.now)) × (f' ≡ f))
+      → IsDistinct eq (keys_of (map seen ps)) → IsStrictlySortedBy (rank cmp) (map seen ps)
   ranked_from_sort_by {g = g} {f = f} ps up h distinct =
-      let before : Bor T × ℕ → Bor T × ℕ → Bool = λ x y. comes_first cmp (shown x) (shown y) in
-      let weak : IsStrictWeakOrder before = rank_weak total (λ (p : Bor T × ℕ). shown p) in
+      let before : Bor T × ℕ → Bor T × ℕ → Bool = λ x y. comes_first cmp (seen x) (seen y) in
+      let weak : IsStrictWeakOrder before = rank_weak total (λ (p : Bor T × ℕ). seen p) in
       let sorted : IsSortedBy before ps = up before weak (always_returns_same g (λ a r. is_lt r ≡ before a.0.now a.1.0.now) f (λ a r f' k. (ap is_lt (h a r f' k).0, (h a r f' k).1))) in
-      ranked_from_rising (map shown ps) (rises_from_sorted (λ (p : Bor T × ℕ). shown p) (comes_first cmp) weak ps sorted) distinct
+      ranked_from_rising (map seen ps) (rises_from_sorted (λ (p : Bor T × ℕ). seen p) (comes_first cmp) weak ps sorted) distinct

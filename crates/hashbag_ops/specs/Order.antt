@@ -11,10 +11,6 @@ use Rattle.std.specs.declared.collections.BinaryHeap.{BinaryHeap}
 use Rattle.hashbag.specs.Bag.{Bag}
 use Rattle.hashbag.specs.Walks.{IsSetWalkOf}
 
--- a value that is lent, with its count
-abbrev pub shown : {T : Type 0} → Bor T × ℕ → T × ℕ
-shown e = (e.0.now, e.1)
-
 -- the order of the commonest: what occurs oftener comes first, and of what occurs as often the lesser value
 abbrev pub rank : {T : Type 0} → (T → T → Ordering) → T × ℕ → T × ℕ → Ordering
 rank cmp x y = ordering_then (nat_cmp y.1 x.1) (cmp x.0 y.0)
@@ -40,12 +36,12 @@ abbrev pub KeepsFirst : {X : Type 0} → (X → X → Bool) → ℕ → List X �
 KeepsFirst {X} lt k H x H' = (P : List X) → IsFirstOf lt k P H → IsFirstOf lt k (P ++ x ∷ []) H'
 
 -- a count and a value that is lent, as a heap holds them. What they are compared by themselves is the order of the commonest
-abbrev pub counted : {T : Type 0} → Reverse ℕ × Bor T → T × ℕ
-counted e = (e.1.now, e.0.0)
+abbrev pub counted_pair : {T : Type 0} → Reverse ℕ × Bor T → T × ℕ
+counted_pair e = (e.1.now, e.0.0)
 
 abbrev pub counted_cmp : {T : Type 0} → (T → T → Ordering) → Reverse ℕ × Bor T → Reverse ℕ × Bor T → Ordering
-counted_cmp cmp x y = rank cmp (counted x) (counted y)
+counted_cmp cmp x y = rank cmp (counted_pair x) (counted_pair y)
 
 -- the pairs of a heap
 abbrev pub held : {T A : Type 0} → BinaryHeap (Reverse ℕ × Bor T) A → List (T × ℕ)
-held heap = map counted (heap_items heap)
+held heap = map counted_pair (heap_items heap)

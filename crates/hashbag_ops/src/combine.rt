@@ -65,7 +65,7 @@ pub fn merge<T: Eq + Hash + Drop, S: BuildHasher + Drop, S2: BuildHasher + Drop>
 
     // There are no fewer slots, and no other ones if there was room for the values that were lacked.
     ensures slots { OnOk result (length into.old.tables.newer ≤ length into.new.tables.newer) }
-    ensures kept { HasRoomForLacked T.eq from into.old.items into.old.tables → OnOk result (into.new.tables.built ≡ into.old.tables.built) }
+    ensures unbuilt { HasRoomForLacked T.eq from into.old.items into.old.tables → OnOk result (into.new.tables.built ≡ into.old.tables.built) }
 {
     if from.len() > into.limit() - into.len() {
         return Err(BagError::TooMany);
@@ -107,7 +107,7 @@ fn insert_beside_spare<T: Eq + Hash + Drop, S: BuildHasher + Drop, S2: BuildHash
     ensures limit { into.new.most ≡ into.old.most }
     ensures hasher { into.new.hasher ≡ into.old.hasher }
     ensures slots { length into.old.tables.newer ≤ length into.new.tables.newer }
-    ensures kept { HasRoomForLacked T.eq from into.old.items into.old.tables → into.new.tables.built ≡ into.old.tables.built }
+    ensures unbuilt { HasRoomForLacked T.eq from into.old.items into.old.tables → into.new.tables.built ≡ into.old.tables.built }
 {
     // `len` is called for its clause that the list is a bag's, which the proof names.
     let _len = into.len();
@@ -138,7 +138,7 @@ fn make_room<T: Eq + Hash + Drop, S: BuildHasher + Drop, S2: BuildHasher + Drop>
     ensures full { OnErr result (room into.old.tables < distinct_count T.eq from.now.items) }
     ensures lacks { OnErr result (LacksMoreThan T.eq (room into.old.tables) from.now.items into.old.items) }
     ensures slots { length into.old.tables.newer ≤ length into.new.tables.newer }
-    ensures kept { (W : _) → IsSetWalkOf T.eq from.now W → HasRoomForAll T.eq W into.old.items into.old.tables → into.new ≡ into.old }
+    ensures enough { (W : _) → IsSetWalkOf T.eq from.now W → HasRoomForAll T.eq W into.old.items into.old.tables → into.new ≡ into.old }
 {
     if from.set_len() <= into.room() {
         return Ok(());

@@ -1,5 +1,5 @@
 //! Operations on whole bags: sums, common parts, what is left of one bag after another is taken away, the greater of both, whether one
-//! holds all of another, the pairs in the order of their values, and the commonest.
+//! holds all of another, the counts in the order of their values, and the commonest.
 //!
 //! Each contract is a sentence about counts: how often each value occurs afterwards, from how often it occurred before. What follows from
 //! several calls together is proved in [`laws`].
@@ -12,4 +12,4 @@ pub mod order;
 
 pub use combine::{keep_common, keep_most, merge, merge_ref, take_away};
 pub use compare::{contains_all, is_disjoint};
-pub use order::{max_count, most_common, sorted};
+pub use order::{counts, max_count, most_common, sorted};

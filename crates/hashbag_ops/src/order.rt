@@ -4,14 +4,49 @@ ghost use Rattle.std.specs.BinaryHeap.{IsHeap, heap_items};
 ghost use Rattle.std.specs.List.Sorted.{IsStrictlySortedBy};
 ghost use Rattle.std.specs.Map.{keys_of};
 ghost use Rattle.hashbag.specs.Occurrences.{count};
-ghost use Rattle.hashbag.specs.Walks.{IsSetWalkOf};
-ghost use Rattle.hashbag_ops.specs.Order.{rank, shown, IsMostCommon, comes_first, counted, counted_cmp, held, IsFirstOf, KeepsFirst};
+ghost use Rattle.hashbag.specs.Walks.{IsSetWalkOf, seen};
+ghost use Rattle.hashbag_ops.specs.Order.{rank, IsMostCommon, comes_first, counted_pair, counted_cmp, held, IsFirstOf, KeepsFirst};
 
 use hashbag::{BagError, HashBag};
 use std::alloc::{AllocError, Global};
 use std::cmp::{Ordering, Reverse};
 use std::collections::BinaryHeap;
 use std::hash::{BuildHasher, Hash};
+
+/// Returns the distinct values of a bag with their counts, in the order of a walk, which is open.
+///
+/// # Errors
+///
+/// `Memory` if the allocation of the list fails.
+///
+/// # Complexity
+///
+/// It allocates the list at once, and hashes and compares nothing.
+///
+/// # Examples
+///
+/// ```
+/// let mut words: HashBag<&str> = HashBag::new(alloc);
+/// words.insert_many("the", 3)?;
+/// let counts = hashbag_ops::counts(alloc, &words)?;
+/// counts.len(); // 1
+/// Ok(())
+/// ```
+pub fn counts<'a, T: Eq + Hash + Drop, S: BuildHasher + Drop>(
+    alloc: Global,
+    bag: &'a HashBag<T, S>,
+) -> Result<Vec<(&'a T, usize)>, BagError>
+    ensures walk { IfOk result (λ pairs. IsSetWalkOf T.eq bag.now (map seen pairs.items)) }
+    ensures memory { IfErr result (λ e. e ≡ BagError.Memory) }
+{
+    let mut list = Vec::with_capacity(alloc, bag.set_len())?;
+    for pair in bag.set_iter() {
+        if list.push(pair).is_err() {
+            return Err(BagError::Memory);
+        }
+    }
+    Ok(list)
+}
 
 /// Returns the distinct values of a bag with their counts, values rising. Bags with the same counts give lists with the same counts,
 /// whatever their history and states.
@@ -31,19 +66,19 @@ use std::hash::{BuildHasher, Hash};
 /// words.insert_many("the", 3)?;
 /// words.insert("cat")?;
 /// let pairs = hashbag_ops::sorted(alloc, &words)?;
-/// pairs[0].0; // "cat"
-/// pairs[1].1; // 3
+/// pairs.first(); // Some(&(&"cat", 1))
+/// pairs.last(); // Some(&(&"the", 3))
 /// Ok(())
 /// ```
 pub fn sorted<'a, T: Ord + Hash + Drop, S: BuildHasher + Drop>(
     alloc: Global,
     bag: &'a HashBag<T, S>,
 ) -> Result<Vec<(&'a T, usize)>, BagError>
-    ensures walk { IfOk result (λ pairs. IsSetWalkOf T.eq bag.now (map shown pairs.items)) }
-    ensures rising { IfOk result (λ pairs. IsStrictlySortedBy T.cmp (keys_of (map shown pairs.items))) }
+    ensures walk { IfOk result (λ pairs. IsSetWalkOf T.eq bag.now (map seen pairs.items)) }
+    ensures rising { IfOk result (λ pairs. IsStrictlySortedBy T.cmp (keys_of (map seen pairs.items))) }
     ensures memory { IfErr result (λ e. e ≡ BagError.Memory) }
 {
-    let mut pairs = listed(alloc, bag)?;
+    let mut pairs = counts(alloc, bag)?;
     pairs.sort_unstable();
     Ok(pairs)
 }
@@ -72,8 +107,8 @@ pub fn sorted<'a, T: Ord + Hash + Drop, S: BuildHasher + Drop>(
 /// words.insert("sat")?;
 /// words.insert("cat")?;
 /// let pairs = hashbag_ops::most_common(alloc, &words, 2)?;
-/// pairs[0].0; // "the"
-/// pairs[1].0; // "cat"
+/// pairs.first(); // Some(&(&"the", 3))
+/// pairs.last(); // Some(&(&"cat", 1))
 /// Ok(())
 /// ```
 pub fn most_common<'a, T: Ord + Hash + Drop, S: BuildHasher + Drop>(
@@ -81,16 +116,16 @@ pub fn most_common<'a, T: Ord + Hash + Drop, S: BuildHasher + Drop>(
     bag: &'a HashBag<T, S>,
     k: usize,
 ) -> Result<Vec<(&'a T, usize)>, BagError>
-    ensures first { IfOk result (λ pairs. IsMostCommon T.eq T.cmp k bag.now (map shown pairs.items)) }
+    ensures first { IfOk result (λ pairs. IsMostCommon T.eq T.cmp k bag.now (map seen pairs.items)) }
     ensures memory { IfErr result (λ e. e ≡ BagError.Memory) }
 {
     if k < bag.set_len() {
         return first_ranked(alloc, bag, k);
     }
-    let mut pairs = listed(alloc, bag)?;
+    let mut pairs = counts(alloc, bag)?;
     pairs.sort_unstable_by(
         |a: &(&T, usize), b: &(&T, usize)| -> Ordering
-            ensures { result ≡ rank T.cmp (shown a.now) (shown b.now) }
+            ensures { result ≡ rank T.cmp (seen a.now) (seen b.now) }
         { b.1.cmp(&a.1).then(a.0.cmp(b.0)) },
     );
     Ok(pairs)
@@ -128,7 +163,7 @@ fn first_ranked<'a, T: Ord + Hash + Drop, S: BuildHasher + Drop>(
     bag: &'a HashBag<T, S>,
     k: usize,
 ) -> Result<Vec<(&'a T, usize)>, BagError>
-    ensures first { IfOk result (λ pairs. IsMostCommon T.eq T.cmp k bag.now (map shown pairs.items)) }
+    ensures first { IfOk result (λ pairs. IsMostCommon T.eq T.cmp k bag.now (map seen pairs.items)) }
     ensures memory { IfErr result (λ e. e ≡ BagError.Memory) }
 {
     let heap = heap_of_first(alloc, bag, k)?;
@@ -166,7 +201,7 @@ fn offer<'a, T: Ord>(
 ) -> Result<(), AllocError>
     requires { IsHeap (counted_cmp T.cmp) (heap_items heap.old) }
     ensures heap { OnOk result (IsHeap (counted_cmp T.cmp) (heap_items heap.new)) }
-    ensures first { OnOk result (KeepsFirst (comes_first T.cmp) k (held heap.old) (counted pair.entry) (held heap.new)) }
+    ensures first { OnOk result (KeepsFirst (comes_first T.cmp) k (held heap.old) (counted_pair pair.entry) (held heap.new)) }
 {
     if heap.len() < k {
         heap.push(pair)?;
@@ -181,21 +216,4 @@ fn offer<'a, T: Ord>(
     heap.pop();
     heap.push(pair)?;
     Ok(())
-}
-
-// Returns the distinct values with their counts, in the order of a walk. Room for all of them is allocated at once.
-fn listed<'a, T: Eq + Hash + Drop, S: BuildHasher + Drop>(
-    alloc: Global,
-    bag: &'a HashBag<T, S>,
-) -> Result<Vec<(&'a T, usize)>, BagError>
-    ensures walk { IfOk result (λ pairs. IsSetWalkOf T.eq bag.now (map shown pairs.items)) }
-    ensures memory { IfErr result (λ e. e ≡ BagError.Memory) }
-{
-    let mut pairs = Vec::with_capacity(alloc, bag.set_len())?;
-    for pair in bag.set_iter() {
-        if pairs.push(pair).is_err() {
-            return Err(BagError::Memory);
-        }
-    }
-    Ok(pairs)
 }

@@ -6,7 +6,7 @@ use Rattle.std.specs.Cmp.{IsEquivalence}
 use Rattle.hashbag_slots.specs.declared.slots.Slot.TheVariants.{Moved, Live}
 use Rattle.hashbag_slots.specs.Slots.{is_live, live_count, removed_count, slot_at, entries, PlacesFirst, PlacesAll, carried, AreApart}
 use Rattle.hashbag_slots.specs.Columns.{Columns, slots_of, columns, IsColumns, IsReached, CarriesInto}
-use Rattle.hashbag_slots.specs.Carry.{moved_tag, MovesOutTags, Kept, kept, is_kept, IsCarry}
+use Rattle.hashbag_slots.specs.Carry.{moved_tag, MovesOutTags, Parts, parts, are_parts, IsCarry}
 use Rattle.hashbag_slots.proofs.Carrying.{PlacesAll-step, Carries-step, Carries-none, skip_to, AreApart-carry}
 use Rattle.hashbag_slots.proofs.Reading.{length-slots_of, live_at, dead_at, alive_at}
 use Rattle.hashbag_slots.proofs.Tables.{some_live}
@@ -54,7 +54,7 @@ tags_step from at ts us begun within high c = record {
 
 module _ {T : Type 0} (eq : T → T → Bool) (hash : T → ℕ) where
   -- nothing is carried yet
-  pub none_carried : (from : ℕ) (newer older : Kept T) → is_kept eq newer → is_kept eq older → AreApart eq (slots_of older.tags older.cells) (slots_of newer.tags newer.cells)
+  pub none_carried : (from : ℕ) (newer older : Parts T) → are_parts eq newer → are_parts eq older → AreApart eq (slots_of older.tags older.cells) (slots_of newer.tags newer.cells)
       → IsReached hash (columns newer.tags newer.cells) → IsCarry eq hash from (from - from) newer older newer older
   none_carried from newer older stays older_stays apart reached =
       let e : 0 ≡ from - from = omega arith in
@@ -74,7 +74,7 @@ module _ {T : Type 0} (eq : T → T → Bool) (hash : T → ℕ) where
       })
 
   -- a carry over what both tables keep, as a carry over their columns
-  pub CarriesInto-cells : (from many : ℕ) (newer older a b : Kept T) (n o n' o' : Columns T)
+  pub CarriesInto-cells : (from many : ℕ) (newer older a b : Parts T) (n o n' o' : Columns T)
       → columns newer.tags newer.cells ≡ n → columns older.tags older.cells ≡ o → columns a.tags a.cells ≡ n' → columns b.tags b.cells ≡ o'
       → newer.live ≡ live_count n.slots → older.live ≡ live_count o.slots → newer.removed ≡ removed_count n.slots → length newer.tags ≡ length n.slots
       → IsCarry eq hash from many newer older a b → CarriesInto eq hash from many n o n' o'
@@ -84,7 +84,7 @@ module _ {T : Type 0} (eq : T → T → Bool) (hash : T → ℕ) where
         placed = c.placed;
         left = c.left;
         apart = c.apart;
-        kept =
+        sum =
             let l = live ∙ ap (λ s. live_count s.slots) (sym is_n) in let w = waiting ∙ ap (λ s. live_count s.slots) (sym is_o) in
             let x = c.stays.table.live_is in let y = c.older_stays.table.live_is in let s = c.sum in omega (arith, l, w, x, y, s);
         removed = let g = gone ∙ ap (λ s. removed_count s.slots) (sym is_n) in let x = c.stays.table.removed_is in let r = c.removed in omega (arith, g, x, r);
@@ -97,7 +97,7 @@ module _ {T : Type 0} (eq : T → T → Bool) (hash : T → ℕ) where
       (subst (λ k. CarriesInto eq hash from many (columns newer.tags newer.cells) (columns older.tags older.cells) k o') is_n'
       (subst (λ k. CarriesInto eq hash from many (columns newer.tags newer.cells) (columns older.tags older.cells) (columns a.tags a.cells) k) is_o' done)))
 
-  module _ (laws : IsEquivalence eq) (from at : ℕ) (newer older a b : Kept T) (begun : from ≤ at) (c : IsCarry eq hash from (at - from) newer older a b) where
+  module _ (laws : IsEquivalence eq) (from at : ℕ) (newer older a b : Parts T) (begun : from ≤ at) (c : IsCarry eq hash from (at - from) newer older a b) where
     -- a tag that wasn't come to
     tag_ahead : (q : ℕ) → at ≤ q → get_or b.tags q 0 ≡ get_or older.tags q 0
     tag_ahead q le = c.tags.outside q (inr (omega arith))
@@ -142,9 +142,9 @@ module _ {T : Type 0} (eq : T → T → Bool) (hash : T → ℕ) where
 
     -- a Live slot is carried
     pub carry_here : at < length older.tags → 128 ≤ get_or older.tags at 0 → (e : T × ℕ) → get_or b.cells at None ≡ Some e
-        → (new : Kept T) → is_kept eq new → new.live ≡ a.live + 1 → new.removed ≤ a.removed → length new.tags ≡ length a.tags
+        → (new : Parts T) → are_parts eq new → new.live ≡ a.live + 1 → new.removed ≤ a.removed → length new.tags ≡ length a.tags
         → PlacesFirst hash e.0 e.1 (slots_of a.tags a.cells) (slots_of new.tags new.cells) → IsReached hash (columns new.tags new.cells)
-        → IsCarry eq hash from (at + 1 - from) newer older new (kept (slice_set b.tags at 2) (slice_set b.cells at None) (b.live - 1) b.removed)
+        → IsCarry eq hash from (at + 1 - from) newer older new (parts (slice_set b.tags at 2) (slice_set b.cells at None) (b.live - 1) b.removed)
     carry_here within high e cell new stays one fewer same put reached =
         let ss = slots_of older.tags older.cells in let mid = slots_of b.tags b.cells in
         let here : slot_at mid at ≡ Live e.0 e.1 = live_at b.tags b.cells c.older_stays.agree at e cell in

@@ -176,7 +176,7 @@ module _ {T : Type 0} where
     placed = PlacesAll-join hash from at n older.slots b.slots newer.slots a.slots newer'.slots le c.left c.placed d.placed;
     left = Carries-join from at n older.slots b.slots older'.slots le c.left d.left;
     apart = d.apart;
-    kept = d.kept ∙ c.kept;
+    sum = d.sum ∙ c.sum;
     removed = let x = c.removed in let y = d.removed in omega arith;
     slots = d.slots ∙ c.slots;
     reached = d.reached;

@@ -35,10 +35,10 @@ module _ {T : Type 0} (ss : List (Slot T)) (p : ℕ) (s : Slot T) (within : p < 
             | inr y ↦ old.apart a b v w m n (sym x.1 ∙ at_a) (sym y.1 ∙ at_b) same
           ]
         ];
-    counted = λ a v n at_a.
+    positive = λ a v n at_a.
         elim (set_cases a) [
           | inl x ↦ counted v n (sym x.1 ∙ at_a)
-          | inr x ↦ old.counted a v n (sym x.1 ∙ at_a)
+          | inr x ↦ old.positive a v n (sym x.1 ∙ at_a)
         ];
   }
 

@@ -50,7 +50,7 @@ module _ {T : Type 0} where
     removed_is = no_removed T n;
     distinct = record {
       apart = λ p q v w m k at_p at_q same. let e = slot_at-replicate n p in absurd (cc);
-      counted = λ p v k at_p. let e = slot_at-replicate n p in absurd (cc);
+      positive = λ p v k at_p. let e = slot_at-replicate n p in absurd (cc);
     };
   }
 

@@ -241,4 +241,4 @@ module _ {T : Type 0} (eq : T → T → Bool) (laws : IsEquivalence eq) (ts : Li
   cell_at h =
       let m = marked_at ts cs cols.agree p h in
       let w = live_at ts cs cols.agree p m.1 m.2 in
-      (m.1, m.2, w, cols.table.distinct.counted p m.1.0 m.1.1 w)
+      (m.1, m.2, w, cols.table.distinct.positive p m.1.0 m.1.1 w)

@@ -15,18 +15,18 @@ pub record MovesOutTags (from many : ℕ) (old new : List ℕ) : Type 0 where
   pub outside : (p : ℕ) → (p < from) ⊎ (from + many ≤ p) → tag_at new p ≡ tag_at old p
 
 -- all that a table keeps: its tags and cells, and how many of its slots are Live, and how many Removed
-pub record Kept (T : Type 0) : Type 0 where
+pub record Parts (T : Type 0) : Type 0 where
   pub tags : List ℕ
   pub cells : List (Option (T × ℕ))
   pub live : ℕ
   pub removed : ℕ
 
 module _ {T : Type 0} where
-  abbrev pub kept : List ℕ → List (Option (T × ℕ)) → ℕ → ℕ → Kept T
-  kept ts cs live removed = record { tags = ts; cells = cs; live = live; removed = removed }
+  abbrev pub parts : List ℕ → List (Option (T × ℕ)) → ℕ → ℕ → Parts T
+  parts ts cs live removed = record { tags = ts; cells = cs; live = live; removed = removed }
 
-  abbrev pub is_kept : (T → T → Bool) → Kept T → Type 0
-  is_kept eq k = IsColumns eq k.tags k.cells k.live k.removed
+  abbrev pub are_parts : (T → T → Bool) → Parts T → Type 0
+  are_parts eq k = IsColumns eq k.tags k.cells k.live k.removed
 
   -- how many slots that tags and cells mean are Removed
   abbrev pub removed_in : List ℕ → List (Option (T × ℕ)) → ℕ
@@ -37,9 +37,9 @@ module _ {T : Type 0} where
   PlacesCell hash at older ts cs ts' cs' = (e : T × ℕ) → cell_at older at ≡ Some e → PlacesFirst hash e.0 e.1 (slots_of ts cs) (slots_of ts' cs')
 
   -- so many slots of the older table, from the place `from` on, are carried into the newer one
-  pub record IsCarry (eq : T → T → Bool) (hash : T → ℕ) (from many : ℕ) (newer older newer' older' : Kept T) : Type 0 where
-    pub stays : is_kept eq newer'
-    pub older_stays : is_kept eq older'
+  pub record IsCarry (eq : T → T → Bool) (hash : T → ℕ) (from many : ℕ) (newer older newer' older' : Parts T) : Type 0 where
+    pub stays : are_parts eq newer'
+    pub older_stays : are_parts eq older'
     pub tags : MovesOutTags from many older.tags older'.tags
     pub placed : PlacesAll hash (entries_in from many (slots_of older.tags older.cells)) (slots_of newer.tags newer.cells) (slots_of newer'.tags newer'.cells)
     pub left : Carries from many (slots_of older.tags older.cells) (slots_of older'.tags older'.cells)

@@ -66,7 +66,7 @@ module _ {T : Type 0} where
     pub placed : PlacesAll hash (entries_in from many older.slots) newer.slots newer'.slots
     pub left : Carries from many older.slots older'.slots
     pub apart : AreApart eq older'.slots newer'.slots
-    pub kept : live_count newer'.slots + live_count older'.slots ≡ live_count newer.slots + live_count older.slots
+    pub sum : live_count newer'.slots + live_count older'.slots ≡ live_count newer.slots + live_count older.slots
     pub removed : removed_count newer'.slots ≤ removed_count newer.slots
     pub slots : length newer'.slots ≡ length newer.slots
     pub reached : IsReached hash newer'

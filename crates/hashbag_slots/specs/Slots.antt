@@ -96,7 +96,7 @@ module _ {T : Type 0} where
   -- no two Live slots have equal values, and each count is at least 1
   pub record IsSet (eq : T → T → Bool) (ss : List (Slot T)) : Type 0 where
     pub apart : (p q : ℕ) (v w : T) (m n : ℕ) → slot_at ss p ≡ Live v m → slot_at ss q ≡ Live w n → eq v w ≡ true → p ≡ q
-    pub counted : (p : ℕ) (v : T) (n : ℕ) → slot_at ss p ≡ Live v n → 0 < n
+    pub positive : (p : ℕ) (v : T) (n : ℕ) → slot_at ss p ≡ Live v n → 0 < n
 
   -- the invariant of a table, over its slots and its two counters
   pub record IsTable (eq : T → T → Bool) (ss : List (Slot T)) (live removed : ℕ) : Type 0 where

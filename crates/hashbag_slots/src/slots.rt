@@ -174,7 +174,7 @@ impl<T: Eq> Slots<T> {
     #[inline(always)]
     pub fn set_at(&mut self, place: usize, n: usize)
         requires live { is_live (slot_at self.old.slots place) ≡ true }
-        requires counted { 0 < n }
+        requires positive { 0 < n }
         ensures after { self.new.slots ≡ slice_set self.old.slots place (recounted n (slot_at self.old.slots place)) }
         ensures reached { (hash : T → ℕ) → IsReached hash self.old → IsReached hash self.new }
     {
@@ -292,7 +292,7 @@ impl<T: Eq + Hash> Slots<T> {
     /// It hashes the value once, and probes once.
     #[inline(always)]
     pub fn place<S: BuildHasher>(&mut self, state: &S, value: T, n: usize)
-        requires counted { 0 < n }
+        requires positive { 0 < n }
         requires absent { IsAbsent (T.eq value) self.old.slots }
         requires room { live_count self.old.slots < length self.old.slots }
         requires reached { IsReached (hash_under T.hash_input S.BuildHasher S.Hasher.Hasher state.now) self.old }
@@ -317,7 +317,7 @@ impl<T: Eq + Hash> Slots<T> {
     #[inline(always)]
     pub fn place_hashed<S: BuildHasher>(&mut self, state: &S, hash: u64, value: T, n: usize)
         requires hashed { hash ≡ hash_under T.hash_input S.BuildHasher S.Hasher.Hasher state.now value }
-        requires counted { 0 < n }
+        requires positive { 0 < n }
         requires absent { IsAbsent (T.eq value) self.old.slots }
         requires room { live_count self.old.slots < length self.old.slots }
         requires reached { IsReached (hash_under T.hash_input S.BuildHasher S.Hasher.Hasher state.now) self.old }
@@ -340,7 +340,7 @@ impl<T: Eq + Hash> Slots<T> {
         n: usize,
     )
         requires hashed { hash ≡ hash_under T.hash_input S.BuildHasher S.Hasher.Hasher state.now value }
-        requires counted { 0 < n }
+        requires positive { 0 < n }
         requires absent { IsAbsent (T.eq value) self.old.slots }
         requires free { IsFirstFree hash self.old.slots place }
         requires reached { IsReached (hash_under T.hash_input S.BuildHasher S.Hasher.Hasher state.now) self.old }

@@ -405,7 +405,7 @@ module _ {T : Type 0} where
 -- where nothing waits and there is room, nothing is carried
 pub ready_alone : {T : Type 0} (t : Tables T) → t.waiting ≡ [] → 0 < room t → IsReady t t
 ready_alone t alone some = record {
-  kept = λ pos. record {
+  with_room = λ pos. record {
     fills = record { same_length = refl; places = []; few = omega arith; each = λ p. inl refl };
     waits = alone ∙ sym (drop_all 16 t.waiting (let l = ap length alone in omega arith));
     entries = IsPermutation-refl _;
@@ -415,17 +415,17 @@ ready_alone t alone some = record {
   grown = λ none. absurd (omega (arith, none, some));
   some = some;
   carries = let l = ap length alone in omega arith;
-  built = record { kept = λ pos. refl; grown = λ none. absurd (omega (arith, none, some)) };
+  built = record { with_room = λ pos. refl; grown = λ none. absurd (omega (arith, none, some)) };
 }
 
 module _ {T : Type 0} (old mid new : Tables T) where
   pub ready_grown : room old ≡ 0 → Carried 16 (fresh old) old.newer new.newer new.waiting → old.waiting ≡ [] → 0 < room new → length new.waiting ≤ 16 * (room new - 1) → new.built ≡ old.built + length new.newer → IsReady old new
   ready_grown full carried alone some carries built = record {
-    kept = λ pos. absurd (omega (arith, pos, full));
+    with_room = λ pos. absurd (omega (arith, pos, full));
     grown = λ none. (carried, alone);
     some = some;
     carries = carries;
-    built = record { kept = λ pos. absurd (omega (arith, pos, full)); grown = λ none. built };
+    built = record { with_room = λ pos. absurd (omega (arith, pos, full)); grown = λ none. built };
   }
 
   pub arrives_from : (v : T) (n : ℕ) → IsReady old mid → Places v n mid.newer new.newer → new.waiting ≡ mid.waiting → new.built ≡ mid.built → Arrives old new
@@ -436,10 +436,10 @@ module _ {T : Type 0} (old mid new : Tables T) where
       let limits : limit (length new.newer) ≡ limit (length mid.newer) = ap limit len in
       let waits : live_count new.waiting ≡ live_count mid.waiting = ap live_count same in
       record {
-        kept = λ pos. let h = ready.kept pos in record { fills = Fills-then 16 1 old.newer mid.newer new.newer h.fills (Fills-Places v n mid.newer new.newer put); waits = same ∙ h.waits };
+        with_room = λ pos. let h = ready.with_room pos in record { fills = Fills-then 16 1 old.newer mid.newer new.newer h.fills (Fills-Places v n mid.newer new.newer put); waits = same ∙ h.waits };
         grown = λ none. let h = (ready.grown none).0 in record { fills = Fills-then 16 1 (fresh old) mid.newer new.newer h.fills (Fills-Places v n mid.newer new.newer put); waits = same ∙ h.waits };
         room_kept = λ pos.
-            let h = ready.kept pos in
+            let h = ready.with_room pos in
             let l : limit (length mid.newer) ≡ limit (length old.newer) = ap limit h.fills.same_length in
             let a = h.live in let b = h.removed in omega (arith, l, a, b, live, fewer, limits, waits);
         room_grown = λ none.
@@ -449,5 +449,5 @@ module _ {T : Type 0} (old mid new : Tables T) where
             let x = live_empty T (grown_slots (length old.newer) (values old)) in
             let y = removed_empty T (grown_slots (length old.newer) (values old)) in
             omega (arith, e, a, b, x, y, live, fewer, limits, waits);
-        built = record { kept = λ pos. built ∙ ready.built.kept pos; grown = λ none. built ∙ ready.built.grown none ∙ ap (λ k. old.built + k) (sym len) };
+        built = record { with_room = λ pos. built ∙ ready.built.with_room pos; grown = λ none. built ∙ ready.built.grown none ∙ ap (λ k. old.built + k) (sym len) };
       }

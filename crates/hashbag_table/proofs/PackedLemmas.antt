@@ -74,14 +74,14 @@ module _ {T : Type 0} where
   pub filled_next : (t u first : Tables T) (k : ℕ) → IsFilled t first k → k < limit (length first.newer) → Arrives t u → IsFilled u first (k + 1)
   filled_next t u first k before more came =
       let some : 0 < room t = let r = before.room in omega (arith, r, more) in
-      let kept = came.kept some in
+      let kept = came.with_room some in
       let fewer = removed-Fills 17 t.newer u.newer kept.fills in
       record {
         slots = kept.fills.same_length ∙ before.slots;
         waiting = kept.waits ∙ ap (drop 16) before.waiting;
         removed = let z = before.removed in omega (arith, z, fewer);
         room = let r = before.room in let s = came.room_kept some in omega (arith, r, s);
-        built = came.built.kept some ∙ before.built;
+        built = came.built.with_room some ∙ before.built;
       }
 
   pub filled_packed : (t first : Tables T) (k : ℕ) → IsFilled t first k → IsPacked t

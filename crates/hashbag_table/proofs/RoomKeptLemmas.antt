@@ -75,4 +75,4 @@ module _ {T : Type 0} where
 
   -- an absent value takes one of the room at most, where there was some
   pub keeps_Arrives : (old new : Tables T) → Arrives old new → 0 < room old → KeepsRoom 1 old new
-  keeps_Arrives old new came some = record { slots = (came.kept some).fills.same_length; room = came.room_kept some; built = came.built.kept some }
+  keeps_Arrives old new came some = record { slots = (came.with_room some).fills.same_length; room = came.room_kept some; built = came.built.with_room some }

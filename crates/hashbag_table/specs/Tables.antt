@@ -123,12 +123,12 @@ module _ {T : Type 0} where
 
   -- where there was room no table was built, and where there was none the one that is the newer now
   pub record Builds (old new : Tables T) : Type 0 where
-    pub kept : 0 < room old → new.built ≡ old.built
+    pub with_room : 0 < room old → new.built ≡ old.built
     pub grown : room old ≡ 0 → new.built ≡ old.built + length new.newer
 
   -- what an absent value finds in the place of the tables that were: carried as far as it carries, and with room
   pub record IsReady (old new : Tables T) : Type 0 where
-    pub kept : 0 < room old → Carried 16 old.newer old.waiting new.newer new.waiting
+    pub with_room : 0 < room old → Carried 16 old.newer old.waiting new.newer new.waiting
     pub grown : room old ≡ 0 → Carried 16 (fresh old) old.newer new.newer new.waiting × (old.waiting ≡ [])
     pub some : 0 < room new
     pub carries : length new.waiting ≤ 16 * (room new - 1)
@@ -139,7 +139,7 @@ module _ {T : Type 0} where
   -- most 17, which became Live; what was the newer table waits, without its first 16; room is three quarters of the
   -- slots without all values; and their number is added to what was built.
   pub record Arrives (old new : Tables T) : Type 0 where
-    pub kept : 0 < room old → Settles 17 old.newer old.waiting new
+    pub with_room : 0 < room old → Settles 17 old.newer old.waiting new
     pub grown : room old ≡ 0 → Settles 17 (fresh old) old.newer new
     pub room_kept : 0 < room old → room old ≤ room new + 1
     pub room_grown : room old ≡ 0 → room new ≡ limit (length new.newer) - values old - 1

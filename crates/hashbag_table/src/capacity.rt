@@ -1,23 +1,17 @@
-//! Numbers of slots, and the carry from an older table of slots to a newer one.
-ghost use Rattle.std.specs.Prelude.{◌≡◌, ℕ, ◌*◌, ◌<◌, ◌≤◌, ◌^◌, [], drop, length, nat_le, replicate, IfOk, IsErr};
-ghost use Rattle.hashbag_slots.specs.Hashing.{hash_under};
+//! Numbers of slots, and tables of slots that hold nothing.
+ghost use Rattle.std.specs.Prelude.{◌≡◌, ℕ, ◌*◌, ◌<◌, ◌≤◌, ◌^◌, [], length, nat_le, replicate, IfOk, IsErr};
 ghost use Rattle.hashbag_slots.specs.Slots.{IsSlotCount};
 ghost use Rattle.hashbag_slots.specs.Columns.{IsReached};
-ghost use Rattle.hashbag_table.specs.Tables.{limit, grown_slots, IsLeast, AreTables, Carried, NoneMoved};
+ghost use Rattle.hashbag_table.specs.Tables.{limit, grown_slots, IsLeast, NoneMoved};
 
 use hashbag_slots::slots::{Slot, Slots};
 use std::alloc::{AllocError, Global};
-use std::hash::{BuildHasher, Hash};
-use std::mem;
 
 /// The number of slots of the first table that a growth makes.
 pub const FIRST_SLOTS: usize = 16;
 
 /// The greatest number of slots of a table, 2^59.
 pub const MOST_SLOTS: usize = 1 << 59;
-
-/// How many slots one insertion of an absent value carries.
-pub const CARRIED_AT_ONCE: usize = 16;
 
 /// Returns a table without slots. It doesn't allocate.
 pub fn no_slots<T: Eq + Drop>(alloc: Global) -> Slots<T>
@@ -102,38 +96,4 @@ pub fn least_slots(from: usize, values: usize) -> Result<usize, AllocError>
         count = if count == 0 { FIRST_SLOTS } else { 2 * count };
     }
     Ok(count)
-}
-
-/// Carries the next `most` waiting slots of the older table into the newer one, or all if there are fewer, and returns how many slots of
-/// the older table were carried so far. If none waits any more, the older table is freed, and that number is 0.
-///
-/// # Complexity
-///
-/// It hashes each value that it carries once, and doesn't allocate. If the older table has no slots, it does nothing.
-pub fn carry_next<T: Eq + Hash + Drop, S: BuildHasher>(
-    newer: &mut Slots<T>,
-    older: &mut Slots<T>,
-    looked: usize,
-    most: usize,
-    hasher: &S,
-    alloc: Global,
-) -> usize
-    requires tables { AreTables T.eq (hash_under T.hash_input S.BuildHasher S.Hasher.Hasher hasher.now) newer.old older.old looked }
-    ensures tables { AreTables T.eq (hash_under T.hash_input S.BuildHasher S.Hasher.Hasher hasher.now) newer.new older.new result }
-    ensures carried { Carried most newer.old.slots (drop looked older.old.slots) newer.new.slots (drop result older.new.slots) }
-    ensures freed { length older.new.slots ≤ result → length older.new.slots ≡ 0 }
-{
-    let count = older.slots();
-    if count == 0 {
-        return 0;
-    }
-    // `slots` is called for its clauses: how many slots there can be, and that no value is in two of them.
-    let _slots = newer.slots();
-    let many = (count - looked).min(most);
-    newer.carry_from(hasher, older, looked, many);
-    if looked + many == count {
-        let _freed = mem::replace(older, no_slots(alloc));
-        return 0;
-    }
-    looked + many
 }

@@ -10,11 +10,11 @@ use Rattle.std.specs.Cmp.Lexicographic.{nat_list_eq_equiv}
 use Rattle.hashbag.specs.Bag.{Bag}
 use Rattle.hashbag.specs.EqualityLaws.{count_append}
 use Rattle.hashbag.specs.Occurrences.{count}
-use Rattle.hashbag_words_core.specs.Counts.{Adds, HasCountsOf}
+use Rattle.hashbag_words_core.specs.Counts.{AddsTexts, HasCountsOf}
 use Rattle.hashbag_words_core.specs.Reading.{ReadsLine, CountsLines, EndsLine, drop_lines}
 use Rattle.hashbag_words_core.specs.Tokens.{tokens_of, tokens_of_line, tokens_of_lines}
 use Rattle.hashbag_words_core.specs.declared.rule.Rule.{Rule}
-use Rattle.hashbag_words_core.proofs.CountLemmas.{Adds-nil, Adds-append}
+use Rattle.hashbag_words_core.proofs.CountLemmas.{AddsTexts-nil, AddsTexts-append}
 use Rattle.hashbag_words_core.proofs.LineLemmas.{take_next_line, drop_lines-next, drop_lines-past, no_more_lines, length-lines, lines-append}
 
 pub tokens_of_lines-append : (rule : Rule) (xs ys : List (List ℕ)) → tokens_of_lines rule (xs ++ ys) ≡ tokens_of_lines rule xs ++ tokens_of_lines rule ys
@@ -50,16 +50,16 @@ none_before n = omega arith
 module _ {S : Type 0} where
   -- the first k lines of these bytes were counted, and the others are left
   pub record Counted (rule : Rule) (k : ℕ) (bytes : List ℕ) (old new : Bag (String Global) S) (left : Option (List ℕ)) : Type 0 where
-    pub counts : Adds old new (tokens_of_lines rule (take k (lines bytes)))
+    pub counts : AddsTexts old new (tokens_of_lines rule (take k (lines bytes)))
     pub rest : left ≡ Some (drop_lines k bytes)
 
   pub counted_none : (rule : Rule) (a : Option (List ℕ)) (bag : Bag (String Global) S) → IfSome a (λ bytes. Counted rule 0 bytes bag bag a)
   counted_none rule None bag = tt
-  counted_none rule (Some bytes) bag = record { counts = Adds-nil bag; rest = refl }
+  counted_none rule (Some bytes) bag = record { counts = AddsTexts-nil bag; rest = refl }
 
   -- one line more was read, and counted
   pub counted_one : (rule : Rule) (k : ℕ) (a b c : Option (List ℕ)) (old mid new : Bag (String Global) S) (line : List ℕ)
-      → IfSome a (λ bytes. Counted rule k bytes old mid b) → IfSome b (λ bytes. ReadsLine true bytes line c) → Adds mid new (tokens_of_lines rule (line ∷ []))
+      → IfSome a (λ bytes. Counted rule k bytes old mid b) → IfSome b (λ bytes. ReadsLine true bytes line c) → AddsTexts mid new (tokens_of_lines rule (line ∷ []))
       → IfSome a (λ bytes. Counted rule (k + 1) bytes old new c)
   counted_one rule k None b c old mid new line h r add = tt
   counted_one rule k (Some bytes) b c old mid new line h r add =
@@ -69,7 +69,7 @@ module _ {S : Type 0} where
       let tokens : tokens_of_lines rule (take (k + 1) (lines bytes)) ≡ tokens_of_lines rule (take k (lines bytes)) ++ tokens_of_lines rule (line ∷ []) =
       ap (λ (l : List (List ℕ)). tokens_of_lines rule l) next ∙ tokens_of_lines-append rule (take k (lines bytes)) (line ∷ []) in
       record {
-        counts = subst (λ (l : List (List ℕ)). Adds old new l) (sym tokens) (Adds-append old mid new (tokens_of_lines rule (take k (lines bytes))) (tokens_of_lines rule (line ∷ [])) h.counts add);
+        counts = subst (λ (l : List (List ℕ)). AddsTexts old new l) (sym tokens) (AddsTexts-append old mid new (tokens_of_lines rule (take k (lines bytes))) (tokens_of_lines rule (line ∷ [])) h.counts add);
         rest = read.2 ∙ ap Some (sym (drop_lines-next k bytes));
       }
 
@@ -89,7 +89,7 @@ module _ {S : Type 0} where
       let few : length (lines bytes) ≤ k = no_more_lines k bytes read.0 in
       let same : take k (lines bytes) ≡ take most (lines bytes) = take_all k (lines bytes) few ∙ sym (take_all most (lines bytes) (omega arith)) in
       record {
-        counts = subst (λ (l : List (List ℕ)). Adds old new (tokens_of_lines rule l)) same h.counts;
+        counts = subst (λ (l : List (List ℕ)). AddsTexts old new (tokens_of_lines rule l)) same h.counts;
         rest = read.1 ∙ ap Some (sym none);
         ended = λ is. none;
       }

@@ -14,12 +14,12 @@ abbrev pub HasCountsOf : {S : Type 0} → List (List ℕ) → Bag (String Global
 HasCountsOf texts bag = (v : String Global) → count string_eq v bag.items ≡ count bytes_eq (string_bytes v) texts
 
 -- each text is in the new bag as often as in the old one and in the list together
-abbrev pub Adds : {S : Type 0} → Bag (String Global) S → Bag (String Global) S → List (List ℕ) → Type 0
-Adds old new texts = (v : String Global) → count string_eq v new.items ≡ count string_eq v old.items + count bytes_eq (string_bytes v) texts
+abbrev pub AddsTexts : {S : Type 0} → Bag (String Global) S → Bag (String Global) S → List (List ℕ) → Type 0
+AddsTexts old new texts = (v : String Global) → count string_eq v new.items ≡ count string_eq v old.items + count bytes_eq (string_bytes v) texts
 
 -- all pieces that an iterator gave were added, each as its token
 abbrev pub AddsPieces : {I S : Type 0} → Bool → (I → Option (Bor (List ℕ)) → I → Type 0) → I → Bag (String Global) S → Bag (String Global) S → Type 0
-AddsPieces fold steps pieces old new = (came : List (Bor (List ℕ))) × Drains steps pieces came × Adds old new (map (λ piece. token_of fold piece.now) came)
+AddsPieces fold steps pieces old new = (came : List (Bor (List ℕ))) × Drains steps pieces came × AddsTexts old new (map (λ piece. token_of fold piece.now) came)
 
 -- one text is in the new bag so much oftener than in the old one, and every other as often
 abbrev pub AddsTimes : {S : Type 0} → Bag (String Global) S → Bag (String Global) S → List ℕ → ℕ → Type 0

@@ -4,7 +4,7 @@ use Rattle.std.specs.Io.BufRead.{ends_with_byte, strip_last, first_line, drop_th
 use Rattle.std.specs.Str.Lines.{lines}
 use Rattle.std.specs.Global.{Global}
 use Rattle.hashbag.specs.Bag.{Bag}
-use Rattle.hashbag_words_core.specs.Counts.{Adds}
+use Rattle.hashbag_words_core.specs.Counts.{AddsTexts}
 use Rattle.hashbag_words_core.specs.Tokens.{tokens_of_lines}
 use Rattle.hashbag_words_core.specs.declared.rule.Rule.{Rule}
 
@@ -24,7 +24,7 @@ drop_lines (suc n) input = drop_lines n (drop_through 10 input)
 
 -- the first lines of these bytes were counted, so many or all that there are, and the others are left; where the reading has ended, none are left
 pub record CountsLines {S : Type 0} (rule : Rule) (most : ℕ) (bytes : List ℕ) (more : Bool) (old new : Bag (String Global) S) (left : Option (List ℕ)) : Type 0 where
-  pub counts : Adds old new (tokens_of_lines rule (take most (lines bytes)))
+  pub counts : AddsTexts old new (tokens_of_lines rule (take most (lines bytes)))
   pub rest : left ≡ Some (drop_lines most bytes)
   pub ended : more ≡ false → drop_lines most bytes ≡ []
 

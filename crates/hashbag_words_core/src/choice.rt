@@ -1,12 +1,11 @@
 //! Which of the counts are shown, and in what order.
 ghost use Rattle.std.specs.Prelude.{◌≡◌, map, nat_lt, if◌then◌else◌, IfOk};
 ghost use Rattle.std.specs.String.{string_eq};
-ghost use Rattle.hashbag.specs.Walks.{IsSetWalkOf};
-ghost use Rattle.hashbag_ops.specs.Order.{shown};
+ghost use Rattle.hashbag.specs.Walks.{IsSetWalkOf, seen};
 ghost use Rattle.hashbag_words_core.specs.Choice.{DropsBelow, IsShown};
 
 use hashbag::{BagError, HashBag};
-use hashbag_ops::{most_common, sorted};
+use hashbag_ops::{counts, most_common, sorted};
 use std::alloc::Global;
 use std::hash::BuildHasher;
 
@@ -32,22 +31,6 @@ pub fn drop_below<S: BuildHasher + Drop>(bag: &mut HashBag<String, S>, least: us
     );
 }
 
-// The tokens with their counts, in the order of a walk. Room for all of them is taken at once.
-fn listed<'a, S: BuildHasher + Drop>(
-    alloc: Global,
-    bag: &'a HashBag<String, S>,
-) -> Result<Vec<(&'a String, usize)>, BagError>
-    ensures { IfOk result (λ rows. IsSetWalkOf string_eq bag.now (map shown rows.items)) }
-{
-    let mut rows = Vec::with_capacity(alloc, bag.set_len())?;
-    for row in bag.set_iter() {
-        if rows.push(row).is_err() {
-            return Err(BagError::Memory);
-        }
-    }
-    Ok(rows)
-}
-
 /// The tokens with their counts, as they are shown.
 ///
 /// # Errors
@@ -62,11 +45,11 @@ pub fn chosen<'a, S: BuildHasher + Drop>(
     bag: &'a HashBag<String, S>,
     order: Order,
 ) -> Result<Vec<(&'a String, usize)>, BagError>
-    ensures { IfOk result (λ rows. IsShown order bag.now (map shown rows.items)) }
+    ensures { IfOk result (λ rows. IsShown order bag.now (map seen rows.items)) }
 {
     match order {
         Order::Rising => sorted(alloc, bag),
-        Order::Open => listed(alloc, bag),
+        Order::Open => counts(alloc, bag),
         Order::Commonest(k) => most_common(alloc, bag, k),
     }
 }

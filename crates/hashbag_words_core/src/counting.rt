@@ -2,7 +2,7 @@
 ghost use Rattle.std.specs.Prelude.{◌≡◌, ◌∷◌, [], map, true, IfOk, OnOk, IfSome};
 ghost use Rattle.std.specs.Iterator.{IsFinite};
 ghost use Rattle.unicode_segmentation.specs.Word.{words};
-ghost use Rattle.hashbag_words_core.specs.Counts.{Adds, AddsPieces};
+ghost use Rattle.hashbag_words_core.specs.Counts.{AddsTexts, AddsPieces};
 ghost use Rattle.regex.specs.Strings.{regex_pattern};
 ghost use Rattle.hashbag_words_core.specs.Tokens.{matches_in, nonempty, spaced_words, token_of, tokens_of_line, tokens_of_lines, without_mark};
 ghost use Rattle.hashbag_words_core.specs.Reading.{CountsLines};
@@ -24,7 +24,7 @@ fn add_plain<S: BuildHasher + Drop>(
     bag: &mut HashBag<String, S>,
     piece: &str,
 ) -> Result<(), BagError>
-    ensures { OnOk result (Adds bag.old bag.new (piece.now ∷ [])) }
+    ensures { OnOk result (AddsTexts bag.old bag.new (piece.now ∷ [])) }
 {
     bag.insert_key(piece)?;
     Ok(())
@@ -36,7 +36,7 @@ fn add_folded<S: BuildHasher + Drop>(
     bag: &mut HashBag<String, S>,
     piece: &str,
 ) -> Result<(), BagError>
-    ensures { OnOk result (Adds bag.old bag.new (token_of true piece.now ∷ [])) }
+    ensures { OnOk result (AddsTexts bag.old bag.new (token_of true piece.now ∷ [])) }
 {
     let token = default_case_fold_str(alloc, piece)?;
     bag.insert(token)?;
@@ -50,7 +50,7 @@ fn add_piece<S: BuildHasher + Drop>(
     fold: bool,
     piece: &str,
 ) -> Result<(), BagError>
-    ensures { OnOk result (Adds bag.old bag.new (token_of fold piece.now ∷ [])) }
+    ensures { OnOk result (AddsTexts bag.old bag.new (token_of fold piece.now ∷ [])) }
 {
     if fold {
         return add_folded(alloc, bag, piece);
@@ -82,7 +82,7 @@ fn add_words<S: BuildHasher + Drop>(
     fold: bool,
     line: &str,
 ) -> Result<(), BagError>
-    ensures { OnOk result (Adds bag.old bag.new (map (token_of fold) (spaced_words line.now))) }
+    ensures { OnOk result (AddsTexts bag.old bag.new (map (token_of fold) (spaced_words line.now))) }
 {
     add_pieces(alloc, bag, fold, line.split_whitespace())
 }
@@ -94,7 +94,7 @@ fn add_unicode_words<S: BuildHasher + Drop>(
     fold: bool,
     line: &str,
 ) -> Result<(), BagError>
-    ensures { OnOk result (Adds bag.old bag.new (map (token_of fold) (words line.now))) }
+    ensures { OnOk result (AddsTexts bag.old bag.new (map (token_of fold) (words line.now))) }
 {
     add_pieces(alloc, bag, fold, line.unicode_words())
 }
@@ -106,7 +106,7 @@ fn add_match<S: BuildHasher + Drop>(
     fold: bool,
     piece: &str,
 ) -> Result<(), BagError>
-    ensures { OnOk result (Adds bag.old bag.new (map (token_of fold) (nonempty (piece.now ∷ [])))) }
+    ensures { OnOk result (AddsTexts bag.old bag.new (map (token_of fold) (nonempty (piece.now ∷ [])))) }
 {
     if piece.is_empty() {
         return Ok(());
@@ -122,7 +122,7 @@ fn add_matches<S: BuildHasher + Drop>(
     pattern: &Regex,
     line: &str,
 ) -> Result<(), BagError>
-    ensures { OnOk result (Adds bag.old bag.new (map (token_of fold) (nonempty (matches_in (regex_pattern pattern.now) line.now)))) }
+    ensures { OnOk result (AddsTexts bag.old bag.new (map (token_of fold) (nonempty (matches_in (regex_pattern pattern.now) line.now)))) }
 {
     let mut matcher = pattern.matcher(alloc)?;
     for found in matcher.find_iter(line) {
@@ -151,7 +151,7 @@ pub fn add_line<S: BuildHasher + Drop>(
     rule: &Rule<'_>,
     line: &str,
 ) -> Result<(), BagError>
-    ensures { OnOk result (Adds bag.old bag.new (tokens_of_line rule.now line.now)) }
+    ensures { OnOk result (AddsTexts bag.old bag.new (tokens_of_line rule.now line.now)) }
 {
     let line = past_mark(line);
     match rule.pieces {
@@ -170,7 +170,7 @@ fn add_read<S: BuildHasher + Drop>(
     line: &[u8],
     reading: &mut Reading,
 ) -> Result<(), Fault>
-    ensures { OnOk result (Adds bag.old bag.new (tokens_of_lines rule.now (line.now ∷ []))) }
+    ensures { OnOk result (AddsTexts bag.old bag.new (tokens_of_lines rule.now (line.now ∷ []))) }
 {
     match str::from_utf8(line) {
         Ok(text) => {

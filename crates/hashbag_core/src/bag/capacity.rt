@@ -98,7 +98,7 @@ impl<T: Eq + Hash + Drop, S: BuildHasher + Drop> HashBag<T, S> {
     /// Ok(())
     /// ```
     pub fn finish_carry(&mut self)
-        ensures kept { IsBagOf T.eq self.old self.old.items self.new }
+        ensures items { IsBagOf T.eq self.old self.old.items self.new }
         ensures len { length self.new.items ≡ length self.old.items }
         ensures waiting { self.new.tables.waiting ≡ [] }
         ensures carried { Carried (length self.old.tables.waiting) self.old.tables.newer self.old.tables.waiting self.new.tables.newer self.new.tables.waiting }
@@ -146,7 +146,7 @@ impl<T: Eq + Hash + Drop, S: BuildHasher + Drop> HashBag<T, S> {
     /// Ok(())
     /// ```
     pub fn reserve(&mut self, n: usize) -> Result<(), BagError>
-        ensures kept { IsBagOf T.eq self.old self.old.items self.new }
+        ensures items { IsBagOf T.eq self.old self.old.items self.new }
         ensures len { length self.new.items ≡ length self.old.items }
         ensures beyond { 0 < n → MOST_VALUES < distinct_count T.eq self.old.items + n → result ≡ Err BagError.Memory }
         ensures memory { IfErr result (λ e. e ≡ BagError.Memory) }
@@ -183,7 +183,7 @@ impl<T: Eq + Hash + Drop, S: BuildHasher + Drop> HashBag<T, S> {
     /// Ok(())
     /// ```
     pub fn shrink_to_fit(&mut self) -> Result<(), BagError>
-        ensures kept { IsBagOf T.eq self.old self.old.items self.new }
+        ensures items { IsBagOf T.eq self.old self.old.items self.new }
         ensures len { length self.new.items ≡ length self.old.items }
         ensures memory { IfErr result (λ e. e ≡ BagError.Memory) }
         ensures err { OnErr result (self.new ≡ self.old) }

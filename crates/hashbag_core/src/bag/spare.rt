@@ -62,7 +62,7 @@ impl<T: Eq + Hash + Drop, S: BuildHasher + Drop> HashBag<T, S> {
     /// ```
     pub fn use_spare(&mut self, spare: Spare<T>)
         requires enough { distinct_count T.eq self.old.items ≤ limit spare }
-        ensures kept { IsBagOf T.eq self.old self.old.items self.new }
+        ensures items { IsBagOf T.eq self.old self.old.items self.new }
         ensures len { length self.new.items ≡ length self.old.items }
         ensures slots { length self.new.tables.newer ≡ spare }
         ensures room { room self.new.tables ≡ limit spare - distinct_count T.eq self.old.items }

@@ -6,7 +6,7 @@ ghost use Rattle.hashbag_slots.specs.Cells.{cell_at, IsFilled};
 ghost use Rattle.hashbag_slots.specs.Hashing.{hash_under};
 ghost use Rattle.hashbag_slots.specs.Slots.{is_live, live_count, slot_at, IsSet, IsAbsent, AreApart};
 ghost use Rattle.hashbag_slots.specs.Columns.{columns, slots_of, IsReached, IsColumns, CarriesInto};
-ghost use Rattle.hashbag_slots.specs.Carry.{MovesOutTags, kept, removed_in, PlacesCell, IsCarry};
+ghost use Rattle.hashbag_slots.specs.Carry.{MovesOutTags, parts, removed_in, PlacesCell, IsCarry};
 
 use crate::group::{GROUP_WIDTH, match_live, take_lowest};
 use crate::probe::first_free;
@@ -16,7 +16,7 @@ use crate::tags::{LEAST_MARK, MOVED, REMOVED, mark_of};
 use std::hash::{BuildHasher, Hash};
 
 // Moves an absent value from an older table's cell into the first slot on its path that is not Live. It is hashed in its cell, so that
-// nothing of it is kept while its place is sought.
+// nothing of it is parts while its place is sought.
 #[inline(always)]
 fn move_value<T: Eq + Hash, S: BuildHasher>(
     tags: &mut [u8],
@@ -27,15 +27,15 @@ fn move_value<T: Eq + Hash, S: BuildHasher>(
     place: usize,
     state: &S,
 ) -> usize
-    requires kept { IsColumns T.eq tags.old cells.old live removed.old }
+    requires columns { IsColumns T.eq tags.old cells.old live removed.old }
     requires room { live < length tags.old }
     requires fits { live < 2 ^ 63 }
     requires filled { IsFilled older.old place }
-    requires counted { (e : T × ℕ) → cell_at older.old place ≡ Some e → 0 < e.1 }
+    requires positive { (e : T × ℕ) → cell_at older.old place ≡ Some e → 0 < e.1 }
     requires absent { (e : T × ℕ) → cell_at older.old place ≡ Some e → IsAbsent (T.eq e.0) (slots_of tags.old cells.old) }
     requires reached { IsReached (hash_under T.hash_input S.BuildHasher S.Hasher.Hasher state.now) (columns tags.old cells.old) }
     ensures live { result ≡ live + 1 }
-    ensures kept { IsColumns T.eq tags.new cells.new (live + 1) removed.new }
+    ensures columns { IsColumns T.eq tags.new cells.new (live + 1) removed.new }
     ensures fewer { removed.new ≤ removed.old }
     ensures length { length tags.new ≡ length tags.old }
     ensures taken { older.new ≡ slice_set older.old place None }
@@ -84,8 +84,8 @@ fn carry_group_cells<T: Eq + Hash, S: BuildHasher>(
     requires room { counts.0 + counts.1 ≤ length tags.old }
     requires reached { IsReached (hash_under T.hash_input S.BuildHasher S.Hasher.Hasher state.now) (columns tags.old cells.old) }
     ensures { IsCarry T.eq (hash_under T.hash_input S.BuildHasher S.Hasher.Hasher state.now) from 16
-        (kept tags.old cells.old counts.0 removed.old) (kept older_tags.old older_cells.old counts.1 (removed_in older_tags.old older_cells.old))
-        (kept tags.new cells.new result.0 removed.new) (kept older_tags.new older_cells.new result.1 (removed_in older_tags.old older_cells.old)) }
+        (parts tags.old cells.old counts.0 removed.old) (parts older_tags.old older_cells.old counts.1 (removed_in older_tags.old older_cells.old))
+        (parts tags.new cells.new result.0 removed.new) (parts older_tags.new older_cells.new result.1 (removed_in older_tags.old older_cells.old)) }
 {
     let (newer_live, older_live) = counts;
     let mut live = newer_live;
@@ -115,7 +115,7 @@ impl<T: Eq> Slots<T> {
     fn move_at(&mut self, place: usize) -> (T, usize)
         requires { is_live (slot_at self.old.slots place) ≡ true }
         ensures taken { slot_at self.old.slots place ≡ Slot.Live result.0 result.1 }
-        ensures counted { 0 < result.1 }
+        ensures positive { 0 < result.1 }
         ensures after { self.new.slots ≡ slice_set self.old.slots place Slot.Moved }
         ensures reached { (hash : T → ℕ) → IsReached hash self.old → IsReached hash self.new }
     {

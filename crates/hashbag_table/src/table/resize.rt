@@ -1,19 +1,54 @@
 //! Room: a table that grows, carries what waits, or gets other slots on request.
-ghost use Rattle.std.specs.Prelude.{◌≡◌, ◌++◌, ◌+◌, ◌-◌, ◌*◌, ◌<◌, ◌≤◌, ℕ, [], length, replicate, OnOk, OnErr, IsOk, IsErr};
+ghost use Rattle.std.specs.Prelude.{◌≡◌, ◌++◌, ◌+◌, ◌-◌, ◌*◌, ◌<◌, ◌≤◌, ℕ, [], drop, length, replicate, OnOk, OnErr, IsOk, IsErr};
 ghost use Rattle.std.specs.List.Sorted.{IsPermutation};
 ghost use Rattle.hashbag_slots.specs.Hashing.{hash_under};
 ghost use Rattle.hashbag_slots.specs.Slots.{entries};
 ghost use Rattle.hashbag_slots.specs.Columns.{IsReached};
 ghost use Rattle.hashbag_table.specs.Entries.{IsCounted};
 ghost use Rattle.hashbag_table.specs.Table.{IsMapOf};
-ghost use Rattle.hashbag_table.specs.Tables.{limit, room, values, IsLeast, HasLeast, IsPacked, KeepsRoom, ReservesOrStays, ShrinksOrStays, Carried, IsReady, MayAdopt};
+ghost use Rattle.hashbag_table.specs.Tables.{limit, room, values, IsLeast, AreTables, HasLeast, IsPacked, KeepsRoom, ReservesOrStays, ShrinksOrStays, Carried, IsReady, MayAdopt};
 
-use crate::capacity::{CARRIED_AT_ONCE, carry_next, grown_slots, least_slots, no_slots};
+use crate::capacity::{grown_slots, least_slots, no_slots};
 use crate::table::{MOST_VALUES, Table};
 use hashbag_slots::slots::{Slot, Slots};
-use std::alloc::AllocError;
+use std::alloc::{AllocError, Global};
 use std::hash::{BuildHasher, Hash};
 use std::mem;
+
+// How many slots one insertion of an absent value carries.
+const CARRIED_AT_ONCE: usize = 16;
+
+// Carries the next `most` waiting slots of the older table into the newer one, or all if there are fewer, and returns how many slots of
+// the older table were carried so far. If none waits any more, the older table is freed, and that number is 0.
+//
+// It hashes each value that it carries once, and doesn't allocate. If the older table has no slots, it does nothing.
+fn carry_next<T: Eq + Hash + Drop, S: BuildHasher>(
+    newer: &mut Slots<T>,
+    older: &mut Slots<T>,
+    looked: usize,
+    most: usize,
+    hasher: &S,
+    alloc: Global,
+) -> usize
+    requires tables { AreTables T.eq (hash_under T.hash_input S.BuildHasher S.Hasher.Hasher hasher.now) newer.old older.old looked }
+    ensures tables { AreTables T.eq (hash_under T.hash_input S.BuildHasher S.Hasher.Hasher hasher.now) newer.new older.new result }
+    ensures carried { Carried most newer.old.slots (drop looked older.old.slots) newer.new.slots (drop result older.new.slots) }
+    ensures freed { length older.new.slots ≤ result → length older.new.slots ≡ 0 }
+{
+    let count = older.slots();
+    if count == 0 {
+        return 0;
+    }
+    // `slots` is called for its clauses: how many slots there can be, and that no value is in two of them.
+    let _slots = newer.slots();
+    let many = (count - looked).min(most);
+    newer.carry_from(hasher, older, looked, many);
+    if looked + many == count {
+        let _freed = mem::replace(older, no_slots(alloc));
+        return 0;
+    }
+    looked + many
+}
 
 impl<T: Eq + Hash + Drop, S: BuildHasher + Drop> Table<T, S> {
     // Carries the next 16 waiting slots. It doesn't allocate.
@@ -151,8 +186,7 @@ impl<T: Eq + Hash + Drop, S: BuildHasher + Drop> Table<T, S> {
         ensures entries { IsMapOf T.eq self.old self.old.entries self.new }
         ensures beyond { 0 < n → MOST_VALUES < length self.old.entries + n → IsErr result }
         ensures err { OnErr result (self.new ≡ self.old) }
-        ensures enough { n ≤ room self.old.tables → IsOk result }
-        ensures kept { n ≤ room self.old.tables → self.new ≡ self.old }
+        ensures enough { n ≤ room self.old.tables → IsOk result × (self.new ≡ self.old) }
         ensures room { OnOk result (n ≤ room self.new.tables) }
         ensures reserves { OnOk result (ReservesOrStays n (length self.old.entries) self.old.tables self.new.tables) }
     {
@@ -187,8 +221,7 @@ impl<T: Eq + Hash + Drop, S: BuildHasher + Drop> Table<T, S> {
         ensures freed { self.old.entries ≡ [] → self.new.tables.newer ≡ [] }
         ensures freed_built { self.old.entries ≡ [] → self.new.tables.built ≡ self.old.tables.built }
         ensures shrinks { OnOk result (ShrinksOrStays (length self.old.entries) self.old.tables self.new.tables) }
-        ensures enough { (m : ℕ) → IsLeast 0 (length self.old.entries) m → length self.old.tables.newer ≤ m → IsOk result }
-        ensures kept { (m : ℕ) → IsLeast 0 (length self.old.entries) m → length self.old.tables.newer ≤ m → self.new ≡ self.old }
+        ensures enough { (m : ℕ) → IsLeast 0 (length self.old.entries) m → length self.old.tables.newer ≤ m → IsOk result × (self.new ≡ self.old) }
     {
         let count = least_slots(0, self.set_len())?;
         if count >= self.newer.slots() {

@@ -10,7 +10,7 @@ pub unwrap-requires : goal.unwrap-requires
 unwrap-requires g c =
     let enough = c.in_ok-reserve.ensures.room in
     let same = c.in_ok-reserve.ensures.len in
-    let limit = c.in_ok-reserve.ensures.kept.limit in
+    let limit = c.in_ok-reserve.ensures.items.limit in
     takes_all g.met.T.Eq.laws c.reserve.new.self c.extend.new.self c.extend.result c.extend.ensures.refused (YieldsList-from_vec {s = c.into_iter.result} c.args.values.items (search rules) (search rules)) (omega (arith, enough, same, limit)) (omega (arith, enough, same, limit))
 
 -- the items that came are the values

@@ -57,7 +57,7 @@ returns-clause-counts g c = λ v.
     let ended : into_iter_items c.loop-value.value-iterator ≡ [] = nil_from_length _ (sym c.loop-value.invariant.long ∙ c.in-None.ensures.steps.0) in
     let none = ap (λ (l : List _). count eq v l) ended in
     let values = ap (λ (l : List _). count eq v l) c.into_iter-value-iterator.ensures.into_iter_gives.0 in
-    let kept = count_kept g.met.T.Eq.laws c.args.bag.now c.reserve.new.self v c.in_ok-reserve.ensures.kept in
+    let kept = count_kept g.met.T.Eq.laws c.args.bag.now c.reserve.new.self v c.in_ok-reserve.ensures.items in
     omega arith
 
 pub returns-in_err-insert-clause-none_lost : goal.returns-in_err-insert-clause-none_lost
@@ -66,6 +66,6 @@ returns-in_err-insert-clause-none_lost g c =
     rw error.1
     (λ v.
     let so_far = c.loop-value.invariant.none_lost v in
-    let kept = count_kept g.met.T.Eq.laws c.args.bag.now c.reserve.new.self v c.in_ok-reserve.ensures.kept in
+    let kept = count_kept g.met.T.Eq.laws c.args.bag.now c.reserve.new.self v c.in_ok-reserve.ensures.items in
     let same = ap (λ (bag : Bag g.row.T.Denot g.row.S.Denot). count g.T.PartialEq.eq v bag.items) c.in_err-insert.ensures.err in
     omega arith)

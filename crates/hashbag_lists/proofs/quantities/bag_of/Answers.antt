@@ -12,7 +12,7 @@ returns-clause-counts g c = λ v.
     let laws = g.met.T.Eq.laws in
     let made = c.extend_many.new.self in
     let all = all_made laws {after = made} c.with_hasher-bag.ensures.empty c.with_hasher-bag.ensures.slots c.with_hasher-bag.ensures.limit c.in_ok-extend_many.ensures.all in
-    sym (count_rearranged laws v made.items c.finish_carry.new.self.items c.finish_carry.ensures.kept.means)
+    sym (count_rearranged laws v made.items c.finish_carry.new.self.items c.finish_carry.ensures.items.means)
     ∙ counts_made laws (YieldsList-from_vec {s = c.into_iter.result} c.args.list.items (search rules) (search rules)) made.hasher made all v
 
 pub returns-clause-len : goal.returns-clause-len

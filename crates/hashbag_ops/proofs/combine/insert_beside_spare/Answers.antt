@@ -43,7 +43,7 @@ unwrap-requires g c =
     let sum = ap (λ (l : List (g.row.T.Denot × ℕ)). sum_by (λ p. p.1) l) steps in
     let parts = sum_by-cons (λ (p : g.row.T.Denot × ℕ). p.1) (c.in-Some.value, c.in-Some.n) c.next.new.self in
     let most = (adds_in_turn g.met.T.Eq.laws far.first before c.pairs.into c.len-len.ensures.bag far.turn).limit in
-    let kept = c.use_spare.ensures.kept.limit in
+    let kept = c.use_spare.ensures.items.limit in
     let len = c.use_spare.ensures.len in
     c.insert_many.ensures.takes (omega (arith, all, sum, parts, most, kept, len)) (omega (arith, room, left, long))
 
@@ -67,7 +67,7 @@ unwrap-requires-then-has_no_room_for g c =
     let sum = ap (λ (l : List (g.row.T.Denot × ℕ)). sum_by (λ p. p.1) l) steps in
     let parts = sum_by-cons (λ (p : g.row.T.Denot × ℕ). p.1) (c.in-Some.value, c.in-Some.n) c.next.new.self in
     let most = (adds_in_turn g.met.T.Eq.laws far.first before c.pairs.into c.len-len.ensures.bag far.turn).limit in
-    let kept = c.use_spare.ensures.kept.limit in
+    let kept = c.use_spare.ensures.items.limit in
     let len = c.use_spare.ensures.len in
     let went = rw c.unwrap.ensures at c.insert_many.ensures.inserted in
     let longer = went.len in
@@ -89,7 +89,7 @@ returns-then-has_no_room_for-clause-counts g c =
     let pairs = pairs_as_they_are all.items all.pairs all.went ∙ sym (map-id all.items) ∙ items_that_came all.items all.came (YieldsList-from_first (λ x. x) (λ s. s) rest refl) in
     let turn = subst (λ l. InTurn g.T.PartialEq.eq l c.insert_many.new.self c.extend_many.new.self) pairs all.turn in
     let adds = adds_by_spare g.met.T.Eq.laws c.args.into.now c.pairs.into c.use_spare.new.self c.insert_many.new.self c.extend_many.new.self c.into_iter-pairs.result c.pairs.pairs rest c.in-Some.value c.in-Some.n
-    c.len-len.ensures.bag c.pairs.invariant c.in-Some.ensures.steps c.use_spare.ensures.kept c.use_spare.ensures.len went turn in
+    c.len-len.ensures.bag c.pairs.invariant c.in-Some.ensures.steps c.use_spare.ensures.items c.use_spare.ensures.len went turn in
     let walk = c.into_iter-pairs.ensures.into_iter_gives in
     let W = c.into_iter-pairs.result in
     let laws = g.met.T.Eq.laws in
@@ -107,7 +107,7 @@ returns-then-has_no_room_for-clause-len g c =
     let pairs = pairs_as_they_are all.items all.pairs all.went ∙ sym (map-id all.items) ∙ items_that_came all.items all.came (YieldsList-from_first (λ x. x) (λ s. s) rest refl) in
     let turn = subst (λ l. InTurn g.T.PartialEq.eq l c.insert_many.new.self c.extend_many.new.self) pairs all.turn in
     let adds = adds_by_spare g.met.T.Eq.laws c.args.into.now c.pairs.into c.use_spare.new.self c.insert_many.new.self c.extend_many.new.self c.into_iter-pairs.result c.pairs.pairs rest c.in-Some.value c.in-Some.n
-    c.len-len.ensures.bag c.pairs.invariant c.in-Some.ensures.steps c.use_spare.ensures.kept c.use_spare.ensures.len went turn in
+    c.len-len.ensures.bag c.pairs.invariant c.in-Some.ensures.steps c.use_spare.ensures.items c.use_spare.ensures.len went turn in
     let len = adds.len in
     let total = c.into_iter-pairs.ensures.into_iter_gives.total in
     omega (arith, len, total)
@@ -120,7 +120,7 @@ returns-then-has_no_room_for-clause-limit g c =
     let pairs = pairs_as_they_are all.items all.pairs all.went ∙ sym (map-id all.items) ∙ items_that_came all.items all.came (YieldsList-from_first (λ x. x) (λ s. s) rest refl) in
     let turn = subst (λ l. InTurn g.T.PartialEq.eq l c.insert_many.new.self c.extend_many.new.self) pairs all.turn in
     let adds = adds_by_spare g.met.T.Eq.laws c.args.into.now c.pairs.into c.use_spare.new.self c.insert_many.new.self c.extend_many.new.self c.into_iter-pairs.result c.pairs.pairs rest c.in-Some.value c.in-Some.n
-    c.len-len.ensures.bag c.pairs.invariant c.in-Some.ensures.steps c.use_spare.ensures.kept c.use_spare.ensures.len went turn in
+    c.len-len.ensures.bag c.pairs.invariant c.in-Some.ensures.steps c.use_spare.ensures.items c.use_spare.ensures.len went turn in
     adds.limit
 
 pub returns-then-has_no_room_for-clause-hasher : goal.returns-then-has_no_room_for-clause-hasher
@@ -131,7 +131,7 @@ returns-then-has_no_room_for-clause-hasher g c =
     let pairs = pairs_as_they_are all.items all.pairs all.went ∙ sym (map-id all.items) ∙ items_that_came all.items all.came (YieldsList-from_first (λ x. x) (λ s. s) rest refl) in
     let turn = subst (λ l. InTurn g.T.PartialEq.eq l c.insert_many.new.self c.extend_many.new.self) pairs all.turn in
     let adds = adds_by_spare g.met.T.Eq.laws c.args.into.now c.pairs.into c.use_spare.new.self c.insert_many.new.self c.extend_many.new.self c.into_iter-pairs.result c.pairs.pairs rest c.in-Some.value c.in-Some.n
-    c.len-len.ensures.bag c.pairs.invariant c.in-Some.ensures.steps c.use_spare.ensures.kept c.use_spare.ensures.len went turn in
+    c.len-len.ensures.bag c.pairs.invariant c.in-Some.ensures.steps c.use_spare.ensures.items c.use_spare.ensures.len went turn in
     adds.hasher
 
 pub returns-then-has_no_room_for-clause-slots : goal.returns-then-has_no_room_for-clause-slots
@@ -163,8 +163,8 @@ returns-then-has_no_room_for-clause-slots g c =
     omega (arith, same, stays, spare, larger)
 
 -- there wasn't room for what was lacked
-pub returns-then-has_no_room_for-clause-kept : goal.returns-then-has_no_room_for-clause-kept
-returns-then-has_no_room_for-clause-kept g c = λ room_for.
+pub returns-then-has_no_room_for-clause-unbuilt : goal.returns-then-has_no_room_for-clause-unbuilt
+returns-then-has_no_room_for-clause-unbuilt g c = λ room_for.
     let W = c.into_iter-pairs.result in
     let full = c.has_no_room_for.ensures.full c.if-has_no_room_for.true in
     absurd (no_room_for_lacked g.met.T.Eq.laws c.in-Some.value c.in-Some.n c.args.into.now c.pairs.into W c.pairs.pairs c.next.new.self c.pairs.invariant c.in-Some.ensures.steps full.0 full.1

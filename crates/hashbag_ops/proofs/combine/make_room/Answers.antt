@@ -12,7 +12,7 @@ returns-then-set_len-room-clause-room g c = λ W is.
     omega (arith, few, distinct)
 
 pub returns-clause-counts : goal.returns-clause-counts
-returns-clause-counts g c = λ v. count_kept g.met.T.Eq.laws c.args.into.now c.reserve.new.self v c.in_ok-reserve.ensures.kept
+returns-clause-counts g c = λ v. count_kept g.met.T.Eq.laws c.args.into.now c.reserve.new.self v c.in_ok-reserve.ensures.items
 
 pub returns-clause-room : goal.returns-clause-room
 returns-clause-room g c = λ W is.
@@ -28,8 +28,8 @@ returns-clause-slots g c = elim c.in_ok-reserve.ensures.reserves [
   | inr packs ↦ packs.1.least.from
 ]
 
-pub returns-clause-kept : goal.returns-clause-kept
-returns-clause-kept g c = λ W is enough.
+pub returns-clause-enough : goal.returns-clause-enough
+returns-clause-enough g c = λ W is enough.
     let X = c.args.from.now.items in
     let Y = c.args.into.now.items in
     let many = c.lacked_by-lacked.ensures (lacking g.T.PartialEq.eq Y W) (not_in_from_walk g.met.T.Eq.laws X Y W (is.walk X (IsPermutation-refl X))) in

@@ -67,8 +67,8 @@ returns-clause-slots g c =
     let more = c.in_ok-make_room.ensures.slots in
     omega (arith, same, more)
 
-pub returns-clause-kept : goal.returns-clause-kept
-returns-clause-kept g c = λ enough.
+pub returns-clause-unbuilt : goal.returns-clause-unbuilt
+returns-clause-unbuilt g c = λ enough.
     let all = rw c.unwrap.ensures at c.extend_many.ensures.all in
     let W = c.into_iter.result in
     let walk = c.into_iter.ensures.into_iter_gives in
@@ -76,4 +76,4 @@ returns-clause-kept g c = λ enough.
     let stays = stays_lacked g.met.T.Eq.laws c.args.into.now.items W c.make_room.new.into c.extend_many.new.self
     (λ v some. let kept = c.in_ok-make_room.ensures.counts v in omega (arith, kept, some))
     (subst (λ l. InTurn g.T.PartialEq.eq l c.make_room.new.into c.extend_many.new.self) pairs all.turn) (c.in_ok-make_room.ensures.room W walk) in
-    stays.built ∙ ap (λ b. b.tables.built) (c.in_ok-make_room.ensures.kept W walk (enough W walk))
+    stays.built ∙ ap (λ b. b.tables.built) (c.in_ok-make_room.ensures.enough W walk (enough W walk))

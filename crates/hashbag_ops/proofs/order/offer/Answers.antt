@@ -4,7 +4,7 @@ use Rattle.std.specs.List.Sorted.{IsPermutation}
 use Rattle.std.proofs.lemmas.Bool.{false≢true}
 use Rattle.std.proofs.lemmas.List.{length-map}
 use Rattle.std.proofs.lemmas.List.Sorted.{IsPermutation-map, length_permutation}
-use Rattle.hashbag_ops.specs.Order.{counted, comes_first}
+use Rattle.hashbag_ops.specs.Order.{counted_pair, comes_first}
 use Rattle.hashbag_ops.proofs.Commonest.{every_map, first_push, first_skip, first_swap, after_last}
 use Rattle.hashbag_ops.proofs.Ranked.{rank_weak}
 use Rattle.hashbag_ops.proofs.order.offer.Goals as goal
@@ -22,28 +22,28 @@ popped (y ∷ items) left last (Some x) some top out shown = subst (λ z. IsPerm
 pub returns-then-len-k-clause-first : goal.returns-then-len-k-clause-first
 returns-then-len-k-clause-first g c = λ P h.
     let items = heap_items c.args.heap.now in
-    let room : length (map counted items) < c.args.k = omega (arith, length-map items counted, c.args.heap.now.data.ok.0, c.len.ensures, c.if-len-k.true) in
-    first_push c.args.k P (map counted items) (map counted (heap_items c.push.new.self)) (counted c.args.pair) h room (IsPermutation-map counted (c.args.pair ∷ items) (heap_items c.push.new.self) c.in_ok-push.ensures.permutation)
+    let room : length (map counted_pair items) < c.args.k = omega (arith, length-map items counted_pair, c.args.heap.now.data.ok.0, c.len.ensures, c.if-len-k.true) in
+    first_push c.args.k P (map counted_pair items) (map counted_pair (heap_items c.push.new.self)) (counted_pair c.args.pair) h room (IsPermutation-map counted_pair (c.args.pair ∷ items) (heap_items c.push.new.self) c.in_ok-push.ensures.permutation)
 
 pub returns-in_default-clause-first : goal.returns-in_default-clause-first
 returns-in_default-clause-first g c = λ P h.
     let items = heap_items c.args.heap.now in
     let nothing : 0 < heap_len c.args.heap.now → ⊥ = λ some. false≢true (c.in_default.ensures.variant.1 some) in
-    let none : length (map counted items) ≡ 0 = omega (arith, length-map items counted, c.args.heap.now.data.ok.0, nothing) in
-    let full : c.args.k ≤ length (map counted items) = omega (arith, length-map items counted, c.args.heap.now.data.ok.0, c.len.ensures, c.if-len-k.false) in
-    first_skip c.args.k P (map counted items) (counted c.args.pair) h full (every_of_none _ (map counted items) none)
+    let none : length (map counted_pair items) ≡ 0 = omega (arith, length-map items counted_pair, c.args.heap.now.data.ok.0, nothing) in
+    let full : c.args.k ≤ length (map counted_pair items) = omega (arith, length-map items counted_pair, c.args.heap.now.data.ok.0, c.len.ensures, c.if-len-k.false) in
+    first_skip c.args.k P (map counted_pair items) (counted_pair c.args.pair) h full (every_of_none _ (map counted_pair items) none)
 
 pub returns-then-not-is_lt-clause-first : goal.returns-then-not-is_lt-clause-first
 returns-then-not-is_lt-clause-first g c = λ P h.
     let items = heap_items c.args.heap.now in
     let lt = comes_first g.T.Ord.cmp in
     let last = c.in-Some.last.now in
-    let x = counted c.args.pair in
-    let full : c.args.k ≤ length (map counted items) = omega (arith, length-map items counted, c.args.heap.now.data.ok.0, c.len.ensures, c.if-len-k.false) in
-    let bound = every_map counted (λ y. lt (counted last) y ≡ false) items (c.in-Some.ensures.greatest c.requires) in
+    let x = counted_pair c.args.pair in
+    let full : c.args.k ≤ length (map counted_pair items) = omega (arith, length-map items counted_pair, c.args.heap.now.data.ok.0, c.len.ensures, c.if-len-k.false) in
+    let bound = every_map counted_pair (λ y. lt (counted_pair last) y ≡ false) items (c.in-Some.ensures.greatest c.requires) in
     let answer : c.is_lt.result ≡ false = search rules in
-    let late : lt x (counted last) ≡ false = sym (c.is_lt.ensures ∙ ap is_lt c.cmp.ensures) ∙ answer in
-    first_skip c.args.k P (map counted items) x h full (after_last (rank_weak g.met.T.Ord.total (λ p. p)) x (counted last) (map counted items) late bound)
+    let late : lt x (counted_pair last) ≡ false = sym (c.is_lt.ensures ∙ ap is_lt c.cmp.ensures) ∙ answer in
+    first_skip c.args.k P (map counted_pair items) x h full (after_last (rank_weak g.met.T.Ord.total (λ p. p)) x (counted_pair last) (map counted_pair items) late bound)
 
 pub returns-clause-first : goal.returns-clause-first
 returns-clause-first g c = λ P h.
@@ -51,11 +51,11 @@ returns-clause-first g c = λ P h.
     let left = heap_items c.pop.new.self in
     let lt = comes_first g.T.Ord.cmp in
     let last = c.in-Some.last.now in
-    let x = counted c.args.pair in
-    let full : c.args.k ≤ length (map counted items) = omega (arith, length-map items counted, c.args.heap.now.data.ok.0, c.len.ensures, c.if-len-k.false) in
-    let bound = every_map counted (λ y. lt (counted last) y ≡ false) items (c.in-Some.ensures.greatest c.requires) in
+    let x = counted_pair c.args.pair in
+    let full : c.args.k ≤ length (map counted_pair items) = omega (arith, length-map items counted_pair, c.args.heap.now.data.ok.0, c.len.ensures, c.if-len-k.false) in
+    let bound = every_map counted_pair (λ y. lt (counted_pair last) y ≡ false) items (c.in-Some.ensures.greatest c.requires) in
     let answer : c.is_lt.result ≡ true = search rules in
-    let early : lt x (counted last) ≡ true = sym (c.is_lt.ensures ∙ ap is_lt c.cmp.ensures) ∙ answer in
+    let early : lt x (counted_pair last) ≡ true = sym (c.is_lt.ensures ∙ ap is_lt c.cmp.ensures) ∙ answer in
     let out : IsPermutation items (last ∷ left) = popped items left last c.pop.result (c.pop.ensures.variant.1 (c.in-Some.ensures.variant.0 refl)) c.pop.ensures.top c.pop.ensures.permutation c.in-Some.ensures.lookup in
-    first_swap (rank_weak g.met.T.Ord.total (λ p. p)) c.args.k P (map counted items) (map counted left) (map counted (heap_items c.push-2.new.self)) x (counted last) h full bound early
-    (IsPermutation-map counted items (last ∷ left) out) (IsPermutation-map counted (c.args.pair ∷ left) (heap_items c.push-2.new.self) c.in_ok-push-2.ensures.permutation)
+    first_swap (rank_weak g.met.T.Ord.total (λ p. p)) c.args.k P (map counted_pair items) (map counted_pair left) (map counted_pair (heap_items c.push-2.new.self)) x (counted_pair last) h full bound early
+    (IsPermutation-map counted_pair items (last ∷ left) out) (IsPermutation-map counted_pair (c.args.pair ∷ left) (heap_items c.push-2.new.self) c.in_ok-push-2.ensures.permutation)

@@ -1,6 +1,6 @@
 use Rattle.std.proofs.Common.{◌≡◌, ℕ, List, String, Global, Result, OnOk, map, sym, subst}
 use Rattle.hashbag.specs.Bag.{Bag}
-use Rattle.hashbag_words_core.specs.Counts.{Adds}
+use Rattle.hashbag_words_core.specs.Counts.{AddsTexts}
 use Rattle.hashbag_words_core.specs.Tokens.{pieces_of, token_of, tokens_of_line, without_mark}
 use Rattle.hashbag_words_core.specs.declared.rule.Pieces.{Pieces}
 use Rattle.hashbag_words_core.specs.declared.rule.Pieces.TheVariants.{Words, UnicodeWords, Matches}
@@ -9,10 +9,10 @@ use Rattle.hashbag_words_core.proofs.counting.add_line.Goals as goal
 
 -- the pieces that the rule names, of the line without its mark
 by_rule : {S E : Type 0} (r : Result (Unit {0}) E) (old new : Bag (String Global) S) (rule : Rule) (pieces : Pieces) (line past : List ℕ) → rule.pieces ≡ pieces → past ≡ without_mark line
-    → OnOk r (Adds old new (map (token_of rule.fold) (pieces_of pieces past))) → OnOk r (Adds old new (tokens_of_line rule line))
+    → OnOk r (AddsTexts old new (map (token_of rule.fold) (pieces_of pieces past))) → OnOk r (AddsTexts old new (tokens_of_line rule line))
 by_rule r old new rule pieces line past is marked h =
-    subst (λ (p : Pieces). OnOk r (Adds old new (map (token_of rule.fold) (pieces_of p (without_mark line))))) (sym is)
-    (subst (λ (l : List ℕ). OnOk r (Adds old new (map (token_of rule.fold) (pieces_of pieces l)))) marked h)
+    subst (λ (p : Pieces). OnOk r (AddsTexts old new (map (token_of rule.fold) (pieces_of p (without_mark line))))) (sym is)
+    (subst (λ (l : List ℕ). OnOk r (AddsTexts old new (map (token_of rule.fold) (pieces_of pieces l)))) marked h)
 
 pub returns-in-Words : goal.returns-in-Words
 returns-in-Words g c =

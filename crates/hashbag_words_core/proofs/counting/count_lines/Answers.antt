@@ -1,5 +1,5 @@
 use Rattle.std.proofs.Common.{◌≡◌, ℕ, ◌≤◌, Bool, List, [], ◌∷◌, IfSome, subst, arith}
-use Rattle.hashbag_words_core.specs.Counts.{Adds}
+use Rattle.hashbag_words_core.specs.Counts.{AddsTexts}
 use Rattle.hashbag_words_core.specs.Reading.{ReadsLine}
 use Rattle.hashbag_words_core.specs.Tokens.{tokens_of_lines}
 use Rattle.hashbag_words_core.proofs.ReadLemmas.{Counted, counted_none, counted_one, counted_most, counted_all}
@@ -13,7 +13,7 @@ lines-preserved g c =
     let rest = g.R.Read.remaining in
     let line = c.next_line.new.line.items in
     let read = subst (λ (b : Bool). IfSome (rest c.lines.input) (λ bytes. ReadsLine b bytes line (rest c.next_line.new.input))) c.if-not-branch.false c.in_ok-next_line.ensures in
-    let added = subst (λ (l : List ℕ). Adds c.lines.bag c.add_read.new.bag (tokens_of_lines c.args.rule.now (l ∷ []))) c.deref.ensures.value c.in_ok-add_read.ensures in
+    let added = subst (λ (l : List ℕ). AddsTexts c.lines.bag c.add_read.new.bag (tokens_of_lines c.args.rule.now (l ∷ []))) c.deref.ensures.value c.in_ok-add_read.ensures in
     counted_one c.args.rule.now c.lines._read (rest c.args.input.now) (rest c.lines.input) (rest c.next_line.new.input) c.args.bag.now c.lines.bag c.add_read.new.bag line c.lines.invariant read added
 
 pub returns-then-not-branch : goal.returns-then-not-branch

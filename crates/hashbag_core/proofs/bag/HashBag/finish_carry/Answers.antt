@@ -5,8 +5,8 @@ use Rattle.hashbag_core.proofs.bag.HashBag.finish_carry.Goals as goal
 pub invariant_of-self : goal.invariant_of-self
 invariant_of-self g c = tally_rearranged g.met.T.Eq.laws _ _ _ c.self.invariant c.finish_carry.ensures.entries.counted c.finish_carry.ensures.entries.means
 
-pub returns-clause-kept : goal.returns-clause-kept
-returns-clause-kept g c = rw (← c.self.view_is) (record {
+pub returns-clause-items : goal.returns-clause-items
+returns-clause-items g c = rw (← c.self.view_is) (record {
   means = occurrences_rearranged _ _ c.finish_carry.ensures.entries.means;
   hasher = c.finish_carry.ensures.entries.hasher;
   limit = refl;

@@ -7,7 +7,8 @@ use Rattle.std.specs.Map.{keys_of}
 use Rattle.serde_json.specs.Data.{array}
 use Rattle.serde_json.specs.View.{view, items_of}
 use Rattle.serde_json.proofs.Views.{view-Array}
-use Rattle.hashbag_core.specs.JsonTrees.{IsTree, pair_tree, seen}
+use Rattle.hashbag_core.specs.JsonTrees.{IsTree, pair_tree}
+use Rattle.hashbag_core.specs.Walks.{seen}
 use Rattle.hashbag_core.proofs.JsonTripLemmas.{all_walked, no_fault_in_pairs, same_some, trees_of}
 use Rattle.hashbag_core.proofs.bag.HashBag.pairs_value.Goals as goal
 

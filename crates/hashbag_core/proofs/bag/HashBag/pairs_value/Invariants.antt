@@ -3,7 +3,8 @@ use Rattle.std.specs.List.{AllByRecursion}
 use Rattle.std.specs.Map.{keys_of}
 use Rattle.std.specs.Vec.Iter.{into_iter_items}
 use Rattle.serde_json.specs.View.{view}
-use Rattle.hashbag_core.specs.JsonTrees.{pair_tree, seen}
+use Rattle.hashbag_core.specs.JsonTrees.{pair_tree}
+use Rattle.hashbag_core.specs.Walks.{seen}
 use Rattle.hashbag_core.proofs.bag.HashBag.pairs_value.Given as goal
 
 -- the pairs before this one were written, and their values are items

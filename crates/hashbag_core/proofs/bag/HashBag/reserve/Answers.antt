@@ -9,8 +9,8 @@ use Rattle.std.proofs.Common.{ap}
 use Rattle.hashbag_core.proofs.HeldLemmas.{shown}
 use Rattle.hashbag_core.proofs.bag.HashBag.reserve.Goals as goal
 
-pub returns-in_err-reserve-clause-kept : goal.returns-in_err-reserve-clause-kept
-returns-in_err-reserve-clause-kept g c = rw (← c.self.view_is) (record {
+pub returns-in_err-reserve-clause-items : goal.returns-in_err-reserve-clause-items
+returns-in_err-reserve-clause-items g c = rw (← c.self.view_is) (record {
   means = occurrences_rearranged _ _ c.reserve.ensures.entries.means;
   hasher = c.reserve.ensures.entries.hasher;
   limit = refl;
@@ -20,8 +20,8 @@ returns-in_err-reserve-clause-kept g c = rw (← c.self.view_is) (record {
 pub invariant_of-self-2 : goal.invariant_of-self-2
 invariant_of-self-2 g c = tally_rearranged g.met.T.Eq.laws _ _ _ c.self.invariant c.reserve.ensures.entries.counted c.reserve.ensures.entries.means
 
-pub returns-clause-kept : goal.returns-clause-kept
-returns-clause-kept g c = rw (← c.self.view_is) (record {
+pub returns-clause-items : goal.returns-clause-items
+returns-clause-items g c = rw (← c.self.view_is) (record {
   means = occurrences_rearranged _ _ c.reserve.ensures.entries.means;
   hasher = c.reserve.ensures.entries.hasher;
   limit = refl;
@@ -42,10 +42,10 @@ pub returns-clause-len : goal.returns-clause-len
 returns-clause-len g c = rw (← c.self.view_is) (sym (invariant_of-self-2 g c).sum ∙ c.self.invariant.sum)
 
 pub returns-in_err-reserve-clause-enough : goal.returns-in_err-reserve-clause-enough
-returns-in_err-reserve-clause-enough g c = λ enough. absurd (false≢true (c.in_err-reserve.ensures.enough (rw (← c.self.view_is) at enough)))
+returns-in_err-reserve-clause-enough g c = λ enough. absurd (false≢true (c.in_err-reserve.ensures.enough (rw (← c.self.view_is) at enough)).0)
 
 pub returns-clause-enough : goal.returns-clause-enough
-returns-clause-enough g c = λ enough. (refl, rw (← c.self.view_is) (ap (shown c.self.inside.most) (c.reserve.ensures.kept (rw (← c.self.view_is) at enough))))
+returns-clause-enough g c = λ enough. (refl, rw (← c.self.view_is) (ap (shown c.self.inside.most) (c.reserve.ensures.enough (rw (← c.self.view_is) at enough)).1))
 
 pub returns-clause-reserves : goal.returns-clause-reserves
 returns-clause-reserves g c = rw (← c.self.view_is, distinct_count-occurrences g.met.T.Eq.laws c.self.inside.table.entries c.self.invariant.counted) c.in_ok-reserve.ensures.reserves

@@ -6,8 +6,8 @@ use Rattle.hashbag_core.proofs.DistinctLemmas.{distinct_count-occurrences}
 use Rattle.hashbag_core.proofs.HeldLemmas.{shown, no_entries, none_from_newer}
 use Rattle.hashbag_core.proofs.bag.HashBag.shrink_to_fit.Goals as goal
 
-pub returns-in_err-shrink_to_fit-clause-kept : goal.returns-in_err-shrink_to_fit-clause-kept
-returns-in_err-shrink_to_fit-clause-kept g c = rw (← c.self.view_is) (record {
+pub returns-in_err-shrink_to_fit-clause-items : goal.returns-in_err-shrink_to_fit-clause-items
+returns-in_err-shrink_to_fit-clause-items g c = rw (← c.self.view_is) (record {
   means = occurrences_rearranged _ _ c.shrink_to_fit.ensures.entries.means;
   hasher = c.shrink_to_fit.ensures.entries.hasher;
   limit = refl;
@@ -17,8 +17,8 @@ returns-in_err-shrink_to_fit-clause-kept g c = rw (← c.self.view_is) (record {
 pub invariant_of-self-2 : goal.invariant_of-self-2
 invariant_of-self-2 g c = tally_rearranged g.met.T.Eq.laws _ _ _ c.self.invariant c.shrink_to_fit.ensures.entries.counted c.shrink_to_fit.ensures.entries.means
 
-pub returns-clause-kept : goal.returns-clause-kept
-returns-clause-kept g c = rw (← c.self.view_is) (record {
+pub returns-clause-items : goal.returns-clause-items
+returns-clause-items g c = rw (← c.self.view_is) (record {
   means = occurrences_rearranged _ _ c.shrink_to_fit.ensures.entries.means;
   hasher = c.shrink_to_fit.ensures.entries.hasher;
   limit = refl;
@@ -36,11 +36,11 @@ returns-in_err-shrink_to_fit-clause-none g c = λ empty. absurd (false≢true (c
 
 pub returns-in_err-shrink_to_fit-clause-enough : goal.returns-in_err-shrink_to_fit-clause-enough
 returns-in_err-shrink_to_fit-clause-enough g c = λ m least enough.
-    absurd (false≢true (c.in_err-shrink_to_fit.ensures.enough m (rw (← c.self.view_is, distinct_count-occurrences g.met.T.Eq.laws c.self.inside.table.entries c.self.invariant.counted) at least) (rw (← c.self.view_is) at enough)))
+    absurd (false≢true (c.in_err-shrink_to_fit.ensures.enough m (rw (← c.self.view_is, distinct_count-occurrences g.met.T.Eq.laws c.self.inside.table.entries c.self.invariant.counted) at least) (rw (← c.self.view_is) at enough)).0)
 
 pub returns-clause-enough : goal.returns-clause-enough
 returns-clause-enough g c = λ m least enough.
-    (refl, rw (← c.self.view_is) (ap (shown c.self.inside.most) (c.shrink_to_fit.ensures.kept m (rw (← c.self.view_is, distinct_count-occurrences g.met.T.Eq.laws c.self.inside.table.entries c.self.invariant.counted) at least) (rw (← c.self.view_is) at enough))))
+    (refl, rw (← c.self.view_is) (ap (shown c.self.inside.most) (c.shrink_to_fit.ensures.enough m (rw (← c.self.view_is, distinct_count-occurrences g.met.T.Eq.laws c.self.inside.table.entries c.self.invariant.counted) at least) (rw (← c.self.view_is) at enough)).1))
 
 pub returns-clause-freed : goal.returns-clause-freed
 returns-clause-freed g c = λ empty.

@@ -1,8 +1,7 @@
 use Rattle.std.proofs.Common.{◌≡◌, ◌++◌, map, sym, ◌∙◌, ap, subst}
 use Rattle.std.proofs.lemmas.List.{append-nil}
 use Rattle.std.proofs.lemmas.List.Sorted.{IsPermutation-map}
-use Rattle.hashbag_core.specs.JsonTrees.{seen}
-use Rattle.hashbag_core.specs.Walks.{IsSetWalkOf}
+use Rattle.hashbag_core.specs.Walks.{IsSetWalkOf, seen}
 use Rattle.hashbag_core.proofs.JsonWriteLemmas.{set_walk_reordered, rising_from_sorted, once_in_walk}
 use Rattle.hashbag_core.proofs.bag.HashBag.sorted_pairs.Goals as goal
 

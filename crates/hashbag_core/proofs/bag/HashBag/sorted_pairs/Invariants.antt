@@ -1,5 +1,5 @@
 use Rattle.std.proofs.Common.{◌≡◌, ◌++◌, map}
-use Rattle.hashbag_core.specs.JsonTrees.{seen}
+use Rattle.hashbag_core.specs.Walks.{seen}
 use Rattle.hashbag_core.proofs.bag.HashBag.sorted_pairs.Given as goal
 
 -- what was given so far, and what is left of the walk

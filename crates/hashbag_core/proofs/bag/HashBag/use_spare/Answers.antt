@@ -16,8 +16,8 @@ use_spare-requires g c = record {
 pub invariant_of-self : goal.invariant_of-self
 invariant_of-self g c = tally_rearranged g.met.T.Eq.laws _ _ _ c.self.invariant c.use_spare.ensures.entries.counted c.use_spare.ensures.entries.means
 
-pub returns-clause-kept : goal.returns-clause-kept
-returns-clause-kept g c = rw (← c.self.view_is) (record {
+pub returns-clause-items : goal.returns-clause-items
+returns-clause-items g c = rw (← c.self.view_is) (record {
   means = occurrences_rearranged _ _ c.use_spare.ensures.entries.means;
   hasher = c.use_spare.ensures.entries.hasher;
   limit = refl;

@@ -1,7 +1,7 @@
 use Rattle.std.proofs.Common.{◌++◌, length, take, drop, refl, sym, ap, ◌∙◌, arith}
 use Rattle.hashbag_slots.specs.Slots.{live_count, removed_count}
 use Rattle.hashbag_slots.specs.Columns.{columns, slots_of}
-use Rattle.hashbag_slots.specs.Carry.{kept, removed_in}
+use Rattle.hashbag_slots.specs.Carry.{parts, removed_in}
 use Rattle.hashbag_slots.proofs.CarriedOver.{CarriesInto-cells}
 use Rattle.hashbag_slots.proofs.Reading.{length-slots_of, marked_at}
 use Rattle.hashbag_slots.proofs.Tables.{some_alive}
@@ -47,8 +47,8 @@ returns g c =
     let older = ap (λ m. take m (new.older_tags ++ drop (length new.older_tags) us)) j ∙ whole new.older_tags us (length us) (all.tags.same_length ∙ ap length older_seen) refl in
     let gone = removed_in c.as_mut_slice-2.result.now c.take_row-older_cells.result in
     CarriesInto-cells g.T.PartialEq.eq _ c.args.from 16
-    (kept c.as_mut_slice.result.now c.take_row-cells.result c.self.inside.live c.self.inside.removed) (kept c.as_mut_slice-2.result.now c.take_row-older_cells.result c.older.inside.live gone)
-    (kept new.tags new.cells c.carry_group_cells-live.result.0 new.removed) (kept new.older_tags new.older_cells c.carry_group_cells-live.result.1 gone)
+    (parts c.as_mut_slice.result.now c.take_row-cells.result c.self.inside.live c.self.inside.removed) (parts c.as_mut_slice-2.result.now c.take_row-older_cells.result c.older.inside.live gone)
+    (parts new.tags new.cells c.carry_group_cells-live.result.0 new.removed) (parts new.older_tags new.older_cells c.carry_group_cells-live.result.1 gone)
     c.args.self.now c.args.older.now _ _
     ((λ i. columns (seen i) (c.take_row-cells.ensures.value i)) ∙ c.self.view_is) ((λ i. columns (older_seen i) (c.take_row-older_cells.ensures.value i)) ∙ c.older.view_is)
     (λ i. columns (sym tags i) (sym c.put_back.ensures i)) (λ i. columns (sym older i) (sym c.put_back-2.ensures i))

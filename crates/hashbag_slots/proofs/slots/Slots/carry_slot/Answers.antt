@@ -25,7 +25,7 @@ returns-then-is_live_at g c =
       left = Carries-one at older left c.requires.within (after ∙ sym (ap (λ s. slice_set older at (carried s)) taken));
       apart = subst (λ ss. AreApart g.T.PartialEq.eq ss new) (sym after)
           (AreApart-carry g.T.PartialEq.eq older old new at _ _ c.is_live_at.ensures.distinct c.requires.apart c.requires.within taken put);
-      kept =
+      sum =
           let one = live-Places _ _ old new put in
           let less = rw taken at (count-set older at Moved c.requires.within is_live) in
           let seen = ap live_count after in omega (arith, one, less, seen);
@@ -44,7 +44,7 @@ returns-else-is_live_at g c =
       placed = subst (λ es. PlacesAll hash es old old) (sym (entries_in_one at older c.requires.within ∙ no_entries (slot_at older at) dead)) refl;
       left = Carries-one at older older c.requires.within (sym (ap (slice_set older at) (carried_same (slot_at older at) dead) ∙ set-get_or older at Empty));
       apart = c.requires.apart;
-      kept = refl;
+      sum = refl;
       removed = omega arith;
       slots = refl;
       reached = c.requires.reached;

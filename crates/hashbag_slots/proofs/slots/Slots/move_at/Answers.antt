@@ -17,10 +17,10 @@ take-requires g c =
     let m = marked_at c.self.inside.tags.items c.self.inside.cells c.self.invariant.agree c.args.place (ap (λ s. is_live (slot_at s.slots c.args.place)) c.self.view_is ∙ c.requires) in
     (m.1, m.2)
 
-pub returns-clause-counted : goal.returns-clause-counted
-returns-clause-counted g c =
+pub returns-clause-positive : goal.returns-clause-positive
+returns-clause-positive g c =
     let e = c.take.result in
-    c.self.invariant.table.distinct.counted c.args.place e.0 e.1 (live_at c.self.inside.tags.items c.self.inside.cells c.self.invariant.agree c.args.place e c.take.ensures.value)
+    c.self.invariant.table.distinct.positive c.args.place e.0 e.1 (live_at c.self.inside.tags.items c.self.inside.cells c.self.invariant.agree c.args.place e c.take.ensures.value)
 
 pub invariant_of-self : goal.invariant_of-self
 invariant_of-self g c =

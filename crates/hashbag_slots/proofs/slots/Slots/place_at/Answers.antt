@@ -91,7 +91,7 @@ invariant_of-self g c =
     let bound = first.bound in let free = first.free in
     let read = get_or_read ts at c.index.result.now bound c.index.ensures 0 in
     let absent = subst (λ s. IsAbsent (eq v) s.slots) (sym c.self.view_is) c.requires.absent in
-    let done = IsColumns-put eq g.met.T.Eq.laws ts cs live removed at c.self.invariant v n mark bound free c.mark_of.ensures.least absent c.requires.counted in
+    let done = IsColumns-put eq g.met.T.Eq.laws ts cs live removed at c.self.invariant v n mark bound free c.mark_of.ensures.least absent c.requires.positive in
     let alike : (ins.tags.items ≡ ts) × (ins.cells ≡ cs) × (ins.live ≡ live) × (ins.removed ≡ removed - cond (nat_eq (get_or ts at 0) 1) 1 0) =
     elim c.if-index-eq-REMOVED.branch [
       | then-index-eq-REMOVED w ↦

@@ -25,7 +25,7 @@ invariant_of-self g c =
     let cell = c.take-former.ensures.value in
     let new : c.put.new.self ≡ slice_set cs p (Some (c.args.value, e.1)) = c.put.ensures ∙ ap (λ ds. slice_set ds p (Some (c.args.value, e.1))) c.take-former.ensures.after ∙ set_twice cs p None (Some (c.args.value, e.1)) in
     let was : slot_at c.args.self.now.slots p ≡ Live e.0 e.1 = sym (ap (λ s. slot_at s.slots p) c.self.view_is) ∙ live_at ts cs agree p e cell in
-    let counted = c.self.invariant.table.distinct.counted p e.0 e.1 (live_at ts cs agree p e cell) in
+    let counted = c.self.invariant.table.distinct.positive p e.0 e.1 (live_at ts cs agree p e cell) in
     subst (λ ds. IsColumns g.T.PartialEq.eq ts ds c.self.inside.live c.self.inside.removed) (sym new)
     (IsColumns-rewrite g.T.PartialEq.eq g.met.T.Eq.laws ts cs c.self.inside.live c.self.inside.removed p c.self.invariant e cell (c.args.value) (e.1) (g.met.T.Eq.laws.symm e.0 c.args.value ∙ sym (ap (holds (g.T.PartialEq.eq c.args.value)) was) ∙ c.requires.equal) (counted))
 

@@ -18,9 +18,9 @@ invariant_of-self g c =
     let cell = c.take-value.ensures.value in
     let new : c.put.new.self ≡ slice_set cs p (Some (e.0, c.args.n)) = c.put.ensures ∙ ap (λ ds. slice_set ds p (Some (e.0, c.args.n))) c.take-value.ensures.after ∙ set_twice cs p None (Some (e.0, c.args.n)) in
     let was : slot_at c.args.self.now.slots p ≡ Live e.0 e.1 = sym (ap (λ s. slot_at s.slots p) c.self.view_is) ∙ live_at ts cs agree p e cell in
-    let counted = c.self.invariant.table.distinct.counted p e.0 e.1 (live_at ts cs agree p e cell) in
+    let counted = c.self.invariant.table.distinct.positive p e.0 e.1 (live_at ts cs agree p e cell) in
     subst (λ ds. IsColumns g.T.PartialEq.eq ts ds c.self.inside.live c.self.inside.removed) (sym new)
-    (IsColumns-rewrite g.T.PartialEq.eq g.met.T.Eq.laws ts cs c.self.inside.live c.self.inside.removed p c.self.invariant e cell (e.0) (c.args.n) (g.met.T.Eq.laws.refl e.0) (c.requires.counted))
+    (IsColumns-rewrite g.T.PartialEq.eq g.met.T.Eq.laws ts cs c.self.inside.live c.self.inside.removed p c.self.invariant e cell (e.0) (c.args.n) (g.met.T.Eq.laws.refl e.0) (c.requires.positive))
 
 pub returns-clause-after : goal.returns-clause-after
 returns-clause-after g c =

@@ -3,7 +3,7 @@ use Rattle.hashbag_slots.specs.Hashing.{hash_under}
 use Rattle.hashbag_table.specs.Tables.{AreTables, Carried}
 use Rattle.hashbag_table.proofs.SlotLemmas.{live-drop}
 use Rattle.hashbag_table.proofs.CarryLemmas.{tables_after, carried_after, tables_freed, carried_freed}
-use Rattle.hashbag_table.proofs.capacity.carry_next.Goals as goal
+use Rattle.hashbag_table.proofs.table.resize.carry_next.Goals as goal
 
 pub carry_from-requires-clause-room : goal.carry_from-requires-clause-room
 carry_from-requires-clause-room g c =
@@ -14,14 +14,14 @@ pub returns-clause-tables : goal.returns-clause-tables
 returns-clause-tables g c =
     let hash = hash_under g.T.Hash.hash_input g.S.BuildHasher g.S.Hasher.Hasher c.args.hasher.now in let h = c.carry_from.ensures in let t = c.requires.tables in
     let within : c.args.looked + c.min-many.result ≤ length c.args.older.now.slots = let m = c.min-many.ensures in let s = c.slots-count.ensures.value in let w = t.looked_within in omega (arith, m, s, w) in
-    tables_after g.T.PartialEq.eq hash c.args.newer.now c.args.older.now c.carry_from.new.self c.carry_from.new.older c.args.looked c.min-many.result t within h.placed h.left h.apart h.kept h.removed h.slots h.reached (h.older_reached hash t.older_reached)
+    tables_after g.T.PartialEq.eq hash c.args.newer.now c.args.older.now c.carry_from.new.self c.carry_from.new.older c.args.looked c.min-many.result t within h.placed h.left h.apart h.sum h.removed h.slots h.reached (h.older_reached hash t.older_reached)
 
 pub returns-clause-carried : goal.returns-clause-carried
 returns-clause-carried g c =
     let hash = hash_under g.T.Hash.hash_input g.S.BuildHasher g.S.Hasher.Hasher c.args.hasher.now in let h = c.carry_from.ensures in let t = c.requires.tables in
     let within : c.args.looked + c.min-many.result ≤ length c.args.older.now.slots = let m = c.min-many.ensures in let s = c.slots-count.ensures.value in let w = t.looked_within in omega (arith, m, s, w) in
     let least : c.min-many.result ≡ min (length c.args.older.now.slots - c.args.looked) c.args.most = c.min-many.ensures ∙ ap (λ l. min (l - c.args.looked) c.args.most) c.slots-count.ensures.value in
-    carried_after g.T.PartialEq.eq hash c.args.newer.now c.args.older.now c.carry_from.new.self c.carry_from.new.older c.args.looked c.min-many.result t within h.placed h.left h.apart h.kept h.removed h.slots h.reached (h.older_reached hash t.older_reached) c.args.most least
+    carried_after g.T.PartialEq.eq hash c.args.newer.now c.args.older.now c.carry_from.new.self c.carry_from.new.older c.args.looked c.min-many.result t within h.placed h.left h.apart h.sum h.removed h.slots h.reached (h.older_reached hash t.older_reached) c.args.most least
 
 pub returns-then-looked-many-clause-tables : goal.returns-then-looked-many-clause-tables
 returns-then-looked-many-clause-tables g c =
@@ -29,7 +29,7 @@ returns-then-looked-many-clause-tables g c =
     let within : c.args.looked + c.min-many.result ≤ length c.args.older.now.slots = let m = c.min-many.ensures in let s = c.slots-count.ensures.value in let w = t.looked_within in omega (arith, m, s, w) in
     let e = c.carry_from.ensures.left.same_length in let v = c.slots-count.ensures.value in let all = c.if-looked-many.true in
     subst (λ none. AreTables g.T.PartialEq.eq hash c.carry_from.new.self none 0) (sym c.replace-freed.ensures.after)
-    (tables_freed g.T.PartialEq.eq hash c.carry_from.new.self c.carry_from.new.older c.no_slots.result (c.args.looked + c.min-many.result) (tables_after g.T.PartialEq.eq hash c.args.newer.now c.args.older.now c.carry_from.new.self c.carry_from.new.older c.args.looked c.min-many.result t within h.placed h.left h.apart h.kept h.removed h.slots h.reached (h.older_reached hash t.older_reached)) (omega (arith, e, v, all, within)) c.no_slots.ensures.slots (c.no_slots.ensures.reached hash))
+    (tables_freed g.T.PartialEq.eq hash c.carry_from.new.self c.carry_from.new.older c.no_slots.result (c.args.looked + c.min-many.result) (tables_after g.T.PartialEq.eq hash c.args.newer.now c.args.older.now c.carry_from.new.self c.carry_from.new.older c.args.looked c.min-many.result t within h.placed h.left h.apart h.sum h.removed h.slots h.reached (h.older_reached hash t.older_reached)) (omega (arith, e, v, all, within)) c.no_slots.ensures.slots (c.no_slots.ensures.reached hash))
 
 pub returns-then-looked-many-clause-carried : goal.returns-then-looked-many-clause-carried
 returns-then-looked-many-clause-carried g c =
@@ -38,7 +38,7 @@ returns-then-looked-many-clause-carried g c =
     let least : c.min-many.result ≡ min (length c.args.older.now.slots - c.args.looked) c.args.most = c.min-many.ensures ∙ ap (λ l. min (l - c.args.looked) c.args.most) c.slots-count.ensures.value in
     let e = c.carry_from.ensures.left.same_length in let v = c.slots-count.ensures.value in let all = c.if-looked-many.true in
     subst (λ none. Carried c.args.most c.args.newer.now.slots (drop c.args.looked c.args.older.now.slots) c.carry_from.new.self.slots (drop 0 none.slots)) (sym c.replace-freed.ensures.after)
-    (carried_freed g.T.PartialEq.eq hash c.args.most c.args.newer.now.slots (drop c.args.looked c.args.older.now.slots) c.carry_from.new.self.slots c.carry_from.new.older c.no_slots.result (c.args.looked + c.min-many.result) (carried_after g.T.PartialEq.eq hash c.args.newer.now c.args.older.now c.carry_from.new.self c.carry_from.new.older c.args.looked c.min-many.result t within h.placed h.left h.apart h.kept h.removed h.slots h.reached (h.older_reached hash t.older_reached) c.args.most least) (omega (arith, e, v, all, within)) c.no_slots.ensures.slots)
+    (carried_freed g.T.PartialEq.eq hash c.args.most c.args.newer.now.slots (drop c.args.looked c.args.older.now.slots) c.carry_from.new.self.slots c.carry_from.new.older c.no_slots.result (c.args.looked + c.min-many.result) (carried_after g.T.PartialEq.eq hash c.args.newer.now c.args.older.now c.carry_from.new.self c.carry_from.new.older c.args.looked c.min-many.result t within h.placed h.left h.apart h.sum h.removed h.slots h.reached (h.older_reached hash t.older_reached) c.args.most least) (omega (arith, e, v, all, within)) c.no_slots.ensures.slots)
 
 pub returns-then-looked-many-clause-freed : goal.returns-then-looked-many-clause-freed
 returns-then-looked-many-clause-freed g c = λ _. ap (λ (o : _). length o.slots) c.replace-freed.ensures.after ∙ ap length c.no_slots.ensures.slots
