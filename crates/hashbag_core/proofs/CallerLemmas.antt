@@ -29,16 +29,17 @@ use Rattle.hashbag_core.specs.Bag.{Bag, Means, occurrences, IsBagOf}
 use Rattle.hashbag_core.specs.Equality.{bag_eq}
 use Rattle.hashbag_core.specs.EqualityLaws.{count_congr, count_append, same_counts-Decides}
 use Rattle.hashbag_core.specs.Extends.{add_all, Once, AsItIs}
-use Rattle.hashbag_core.specs.Inserts.{IsRefused}
+use Rattle.hashbag_core.specs.Inserts.{IsRefused, InsertsAll}
 use Rattle.hashbag_core.specs.Joins.{IsDifference}
 use Rattle.hashbag_core.specs.Keys.{InsertsNamed}
-use Rattle.hashbag_core.specs.Occurrences.{count_named, alike, others, count, instance_or_itself, add, less, put, SameCounts}
+use Rattle.hashbag_core.specs.Occurrences.{count_named, less_named, alike, others, count, instance_or_itself, add, less, put, SameCounts}
 use Rattle.hashbag_core.specs.Retain.{IsRetained}
 use Rattle.hashbag_core.specs.Walks.{IsSetWalk}
 use Rattle.hashbag_core.proofs.DistinctLemmas.{absent_later}
 use Rattle.hashbag_core.proofs.EqualityLemmas.{count_in_others}
 use Rattle.hashbag_core.proofs.ContainsLemmas.{not_in_nil, Contains-same}
 use Rattle.hashbag_core.proofs.ExcessLemmas.{an_instance}
+use Rattle.hashbag_core.proofs.InsertLemmas.{all_added}
 use Rattle.hashbag_core.proofs.Laws.{count_added, count_all_added, insertions_in_any_order, instance_equals}
 use Rattle.hashbag_core.proofs.MemberLemmas.{map-map}
 use Rattle.hashbag_core.proofs.OccurrenceLemmas.{count_rearranged}
@@ -150,6 +151,10 @@ module _ {T : Type 0} {eq : T → T → Bool} (laws : IsEquivalence eq) where
   pub count_of_key : (v : T) (names : T → Bool) → ((x w : T) → names x ≡ true → names w ≡ eq w x) → names v ≡ true → (X : List T) → count_named names X ≡ count eq v X
   count_of_key v names one does X = ap (λ (test : T → Bool). count_named test X) (named_is eq laws names one v does)
 
+  -- a removal by a key that names x is one of x
+  pub less_of_key : (x : T) (names : T → Bool) → ((y w : T) → names y ≡ true → names w ≡ eq w y) → names x ≡ true → (n : ℕ) (X : List T) → less_named names n X ≡ less eq x n X
+  less_of_key x names one does n X = ap (λ (test : T → Bool). less_named test n X) (named_is eq laws names one x does)
+
   -- ---- bags
 
   module _ {S : Type 0} (before after : Bag T S) where
@@ -185,6 +190,15 @@ module _ {T : Type 0} {eq : T → T → Bool} (laws : IsEquivalence eq) where
 
     pub count_removed_other : (v x : T) (n : ℕ) → IsBagOf eq before (less eq x n before.items) after → eq v x ≡ false → count eq v after.items ≡ count eq v before.items
     count_removed_other v x n h other = count_means v (less eq x n before.items) h.means ∙ count_less_at v x n before.items false other
+
+    -- the same in one line, for every value v
+    pub count_removed_any : (v x : T) (n : ℕ) → IsBagOf eq before (less eq x n before.items) after → count eq v after.items ≡ cond (eq v x) (count eq v before.items - n) (count eq v before.items)
+    count_removed_any v x n h = count_means v (less eq x n before.items) h.means ∙ count_less v x n before.items
+
+    -- after a removal of n by a key that names x. `one` is the key's law `names_one`
+    pub count_removed_key : (x : T) (names : T → Bool) (n : ℕ) → ((y w : T) → names y ≡ true → names w ≡ eq w y) → names x ≡ true → IsBagOf eq before (less_named names n before.items) after → count eq x after.items ≡ count eq x before.items - n
+    count_removed_key x names n one does h =
+        count_means x (less_named names n before.items) h.means ∙ ap (λ (X : List T). count eq x X) (less_of_key x names one does n before.items) ∙ count_less_at x x n before.items true (laws.refl x)
 
     -- after `replace` (n is 1)
     pub count_replaced : (x : T) (n : ℕ) → IsBagOf eq before (put eq x n before.items) after → count eq x after.items ≡ n
@@ -324,3 +338,30 @@ refused_for_memory eq bag v n (Err BelowTotal) refused fits = absurd refused.why
 -- what an iterator gave to its end is the list that it yields: for the items of `Extends` and of the clause `len` of an extend
 pub items_that_came : {S A B : Type 0} {steps : S → Option A → S → Type 0} {v : A → B} {it : S} {all : List B} → (came : List A) → Drains steps it came → YieldsList steps v it all → map v came ≡ all
 items_that_came came h yields = items_from_drains came (h.1.0, h.1.1, λ _. (h.0, h.1.2)) yields
+
+module _ {T : Type 0} {eq : T → T → Bool} (laws : IsEquivalence eq) where
+  -- after an `extend` by the items of a known list, or `from_iter` of them
+  pub count_listed : {S I : Type 0} {steps : I → Option T → I → Type 0} {it : I} (before after : Bag T S) (xs : List T) → InsertsAll eq steps Once it before after → YieldsList steps (λ x. x) it xs
+      → (v : T) → count eq v after.items ≡ count eq v before.items + count eq v xs
+  count_listed before after xs all yields v =
+      let came = sym (map-id all.items) ∙ items_that_came all.items all.came yields in
+      let whole = count_extended laws v before.items all.pairs after (all_added laws all).means in
+      let each = count_once laws v all.items all.pairs all.went ∙ ap (λ (l : List T). count eq v l) came in
+      omega arith
+
+  moved_at : (b : Bool) (f f' t t' n : ℕ) → (b ≡ true → n ≤ f) → f' ≡ cond b (f - n) f → t' ≡ t + cond b n 0 → f' + t' ≡ f + t
+  moved_at true f f' t t' n some less more = let least = some refl in omega arith
+  moved_at false f f' t t' n some less more = omega arith
+
+  -- n of x were removed from one bag, which had them, and n of an equal y inserted into another: both together have as many of each value
+  pub count_moved : {S S2 : Type 0} (from from' : Bag T S) (to to' : Bag T S2) (v x y : T) (n : ℕ) → eq x y ≡ true
+      → n ≤ count eq x from.items → IsBagOf eq from (less eq x n from.items) from' → IsBagOf eq to (add eq y n to.items) to'
+      → count eq v from'.items + count eq v to'.items ≡ count eq v from.items + count eq v to.items
+  count_moved from from' to to' v x y n alike some less more =
+      let went = count_inserted_any laws to to' v y n more ∙ ap (λ (b : Bool). count eq v to.items + cond b n 0) (laws.symm v y ∙ sym (laws.congr x y v alike) ∙ laws.symm x v) in
+      moved_at (eq v x) _ _ _ _ n (λ same. let equal = count_congr laws from.items v x same in omega arith) (count_removed_any laws from from' v x n less) went
+
+-- of a value that is removed one by one, as far as it occurs, `seen` times so far: what is left after the next removal
+pub left_after : (b : Bool) (start old new seen seen' : ℕ) → old ≡ start - seen → new ≡ cond b (old - 1) old → seen' ≡ seen + cond b 1 0 → new ≡ start - seen'
+left_after true start old new seen seen' before gone next = omega arith
+left_after false start old new seen seen' before gone next = omega arith

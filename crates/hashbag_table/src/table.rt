@@ -420,6 +420,7 @@ impl<T: Eq + Hash + Drop, S: BuildHasher + Drop> Table<T, S> {
     /// It hashes nothing and doesn't allocate. It reads sixteen tags at once, and ends in each of the two tables with the last Live slot.
     /// If there is no value it reads no tag, however many slots there are.
     pub fn retain<F: FnMut(&T, usize) -> usize + Drop>(&mut self, mut f: F) -> usize
+        // Nine clauses: the entries, and then the slots, the room and what waits, which the bag's own call passes on.
         requires asks { (walk : _) → IsPermutation self.old.entries walk → MayAskInTurn F.FnMut f walk }
         requires fits { total self.old.entries < 2 ^ 64 }
         ensures kept { Retains F.FnMut f self.old.entries self.new.entries }
