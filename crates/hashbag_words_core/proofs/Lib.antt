@@ -2,6 +2,8 @@ pub mod CountLemmas
 pub mod LineLemmas
 pub mod MatchLemmas
 pub mod MergeLemmas
+pub mod MergedLemmas
 pub mod ReadLemmas
 pub mod RowLemmas
+pub mod SortedLemmas
 pub mod WordLemmas

@@ -2,4 +2,6 @@
 #![tactic(auto)]
 
 #[cfg(test)]
+mod sorted;
+#[cfg(test)]
 mod tests;

@@ -1,0 +1,144 @@
+//! Runs: counts of parts of the input in temporary files, tokens rising.
+use crate::bag::Bag;
+use crate::batch::Batch;
+use crate::failure::Failure;
+use hashbag_shell::temporary_file::create_unnamed;
+use hashbag_words_core::choice::{Order, chosen};
+use hashbag_words_core::shown_rows::WrittenRows;
+use hashbag_words_core::writing::{Format, RowWriter, write_rows};
+use std::fs::File;
+use std::io::{self, BufWriter, Seek};
+use std::process;
+
+/// So many bytes are read or written at once.
+pub const BUFFER: usize = 1 << 16;
+
+/// So many runs, or files, are merged at once.
+pub const FAN: usize = 32;
+
+// A run, and how often its rows have been merged.
+#[derive(Drop)]
+struct Run {
+    file: File,
+    level: u32,
+}
+
+/// The runs that were made.
+#[derive(Drop)]
+pub struct Runs<'s, 'a> {
+    rt: &'s HostRuntime,
+    folder: &'a str,
+    // The levels don't rise, and fewer than `FAN` runs are of one level.
+    runs: Vec<Run>,
+}
+
+/// Creates a temporary file in that folder.
+pub fn temporary<'a>(rt: &HostRuntime, folder: &'a str) -> Result<File, Failure<'a>> {
+    let number = process::id(rt.process());
+    create_unnamed(rt, folder, number).map_err(|error| Failure::of_file(folder, error))
+}
+
+/// The file that was written to, to be read from its beginning.
+pub fn begun(written: BufWriter<File>) -> io::Result<File> {
+    let mut file = match written.into_inner() {
+        Ok(file) => file,
+        Err(error) => return Err(error.into_error()),
+    };
+    file.rewind()?;
+    Ok(file)
+}
+
+// Writes what a bag has into a file, tokens rising.
+fn write_bag(rt: &HostRuntime, file: File, bag: &Bag) -> io::Result<File> {
+    let alloc = rt.alloc();
+    let Ok(rows) = chosen(alloc, bag, Order::Rising) else {
+        return Err(io::Error::from(io::ErrorKind::OutOfMemory));
+    };
+    let mut out = BufWriter::with_capacity(alloc, BUFFER, file)?;
+    write_rows(alloc, &mut out, Format::Tsv, &rows)?;
+    begun(out)
+}
+
+impl<'s, 'a> Runs<'s, 'a> {
+    /// Before the first run. The temporary files will be in that folder.
+    pub fn new(rt: &'s HostRuntime, folder: &'a str) -> Runs<'s, 'a> {
+        let runs = Vec::new(rt.alloc());
+        Runs { rt, folder, runs }
+    }
+
+    /// Whether there are none.
+    pub fn is_empty(&self) -> bool {
+        self.runs.is_empty()
+    }
+
+    /// Makes a run of what the bag has, and empties it. Its limit falls by what it had, so the total of all runs and of the bag is
+    /// refused as that of one bag would be.
+    pub fn spill(&mut self, bag: &mut Bag) -> Result<(), Failure<'a>> {
+        let file = temporary(self.rt, self.folder)?;
+        let written = write_bag(self.rt, file, bag);
+        let file = written.map_err(|error| Failure::of_file(self.folder, error))?;
+        let left = bag.limit().saturating_sub(bag.len());
+        bag.clear();
+        if bag.set_limit(left).is_err() {
+            return Err(Failure::NoMemoryLeft);
+        }
+        self.add(file)
+    }
+
+    /// Adds a run. If there are `FAN` of one level, they become one of the next level.
+    pub fn add(&mut self, file: File) -> Result<(), Failure<'a>> {
+        let mut file = file;
+        for level in 0..u32::MAX {
+            if self.runs.push(Run { file, level }).is_err() {
+                return Err(Failure::NoMemoryLeft);
+            }
+            if self.of_level(level) < FAN {
+                break;
+            }
+            file = self.merged(level)?;
+        }
+        Ok(())
+    }
+
+    // How many runs are of that level.
+    fn of_level(&self, level: u32) -> usize {
+        self.runs.iter().filter(|run| run.level == level).count()
+    }
+
+    // Takes the runs of that level, which are the last ones, and merges them.
+    fn merged(&mut self, level: u32) -> Result<File, Failure<'a>> {
+        let mut batch = Batch::new(self.rt);
+        for _run in 0..FAN {
+            match self.runs.pop() {
+                Some(run) if run.level == level => batch.push_run(self.folder, run.file)?,
+                _ => break,
+            }
+        }
+        merge_to_file(self.rt, self.folder, &mut batch)
+    }
+
+    /// All runs, to be merged.
+    pub fn into_batch(self) -> Result<Batch<'s, 'a>, Failure<'a>> {
+        let mut batch = Batch::new(self.rt);
+        for run in self.runs {
+            batch.push_run(self.folder, run.file)?;
+        }
+        Ok(batch)
+    }
+}
+
+/// Merges sources into a temporary file in that folder, to be read from its beginning.
+pub fn merge_to_file<'a>(
+    rt: &HostRuntime,
+    folder: &'a str,
+    batch: &mut Batch<'_, 'a>,
+) -> Result<File, Failure<'a>> {
+    let failed = |error| Failure::of_file(folder, error);
+    let file = temporary(rt, folder)?;
+    let out = BufWriter::with_capacity(rt.alloc(), BUFFER, file).map_err(failed)?;
+    let writer = RowWriter::begin(rt.alloc(), out, Format::Tsv).map_err(failed)?;
+    let mut rows = WrittenRows { writer, least: 0 };
+    batch.merge(folder, &mut rows)?;
+    let out = rows.writer.finish().map_err(failed)?;
+    begun(out).map_err(failed)
+}

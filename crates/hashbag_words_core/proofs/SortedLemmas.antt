@@ -1,0 +1,62 @@
+-- Rows whose tokens rise, one more at the end or at the front.
+use Rattle.std.proofs.Common.{◌≡◌, ◌≢◌, ℕ, zero, suc, ◌+◌, ◌<◌, Bool, true, false, List, [], ◌∷◌, ◌++◌, length, get_or, set, map, sum_by, All, Ordering, Less, Equal, Greater, is_eq, String, string_bytes, string_eq, bytes_eq, Global, Option, None, Some, refl, sym, ◌∙◌, ap, subst, arith}
+use Rattle.std.specs.Cmp.Lexicographic.{nat_list_cmp_total, texts_ties}
+use Rattle.std.specs.List.{AllByRecursion}
+use Rattle.std.specs.List.Sorted.{IsStrictlySortedBy}
+use Rattle.std.specs.Map.{keys_of}
+use Rattle.std.proofs.lemmas.Bool.{false≢true}
+use Rattle.hashbag_words_core.specs.Sorted.{text_cmp, IsAbove, IsNotBelow, Rises}
+
+-- these rows come before the text
+abbrev pub AllBelow : List ℕ → List (List ℕ × ℕ) → Type 0
+AllBelow text rows = AllByRecursion (λ key. text_cmp key text ≡ Less) (keys_of rows)
+
+-- so do they before a later text
+pub AllBelow-later : (text later : List ℕ) (rows : List (List ℕ × ℕ)) → text_cmp text later ≡ Less → AllBelow text rows → AllBelow later rows
+AllBelow-later text later [] up below = tt
+AllBelow-later text later (row ∷ rows) up below = (nat_list_cmp_total.trans row.0 text later below.0 up, AllBelow-later text later rows up below.1)
+
+pub AllBelow-push : (text : List ℕ) (rows : List (List ℕ × ℕ)) (row : List ℕ × ℕ) → AllBelow text rows → text_cmp row.0 text ≡ Less → AllBelow text (rows ++ row ∷ [])
+AllBelow-push text [] row below up = (up, tt)
+AllBelow-push text (r ∷ rows) row below up = (below.0, AllBelow-push text rows row below.1 up)
+
+-- the keys behind a key, with one more at the end
+behind_push : (key : List ℕ) (rows : List (List ℕ × ℕ)) (row : List ℕ × ℕ) → AllByRecursion (λ k. text_cmp key k ≡ Less) (keys_of rows) → text_cmp key row.0 ≡ Less
+    → AllByRecursion (λ k. text_cmp key k ≡ Less) (keys_of (rows ++ row ∷ []))
+behind_push key [] row all up = (up, tt)
+behind_push key (r ∷ rows) row all up = (all.0, behind_push key rows row all.1 up)
+
+pub Rises-nil : Rises []
+unfolding IsStrictlySortedBy
+Rises-nil = tt
+
+-- a row that comes behind all
+pub Rises-push : (rows : List (List ℕ × ℕ)) (row : List ℕ × ℕ) → Rises rows → AllBelow row.0 rows → Rises (rows ++ row ∷ [])
+unfolding IsStrictlySortedBy
+Rises-push [] row rises below = (tt, tt)
+Rises-push (r ∷ rows) row rises below = (behind_push r.0 rows row rises.0 below.0, Rises-push rows row rises.1 below.1)
+
+-- the keys behind a later one
+behind_later : (key later : List ℕ) (keys : List (List ℕ)) → text_cmp key later ≡ Less → AllByRecursion (λ k. text_cmp later k ≡ Less) keys → AllByRecursion (λ k. text_cmp key k ≡ Less) keys
+behind_later key later [] up all = tt
+behind_later key later (k ∷ keys) up all = (nat_list_cmp_total.trans key later k up all.0, behind_later key later keys up all.1)
+
+-- a row before the first of others
+pub Rises-cons : (row : List ℕ × ℕ) (rows : List (List ℕ × ℕ)) → IsAbove row.0 rows → Rises rows → Rises (row ∷ rows)
+unfolding IsStrictlySortedBy
+Rises-cons row [] above rises = (tt, tt)
+Rises-cons row (r ∷ rows) above rises = ((above, behind_later row.0 r.0 (keys_of rows) above rises.0), rises)
+
+-- what comes after doesn't come before
+pub IsNotBelow-from_above : (text : List ℕ) (rows : List (List ℕ × ℕ)) → IsAbove text rows → IsNotBelow text rows
+IsNotBelow-from_above text [] above = tt
+IsNotBelow-from_above text (row ∷ rows) above = λ is. let both : Less ≡ Greater = sym above ∙ is in absurd (cc)
+
+-- of two texts that differ, the one that doesn't come after comes before
+pub less_from : (x y : List ℕ) → text_cmp x y ≢ Greater → bytes_eq x y ≡ false → text_cmp x y ≡ Less
+less_from x y up apart = at (text_cmp x y) refl
+  where
+    at : (o : Ordering) → text_cmp x y ≡ o → text_cmp x y ≡ Less
+    at Less is = is
+    at Equal is = absurd (false≢true (sym apart ∙ texts_ties x y ∙ ap is_eq is))
+    at Greater is = absurd (up is)
