@@ -127,7 +127,11 @@ impl<F: Write + OpenFile + Drop> OutputFile<F> {
     /// # Errors
     ///
     /// As for [`OutputFile::write_whole`], also of a read.
-    pub fn copy_whole<R: Files<File = F>, I: Read>(mut self, rt: &R, from: &mut I) -> io::Result<()> {
+    pub fn copy_whole<R: Files<File = F>, I: Read>(
+        mut self,
+        rt: &R,
+        from: &mut I,
+    ) -> io::Result<()> {
         let copied = io::copy(from, &mut self.file);
         let written = match copied {
             Ok(_bytes) => Ok(()),

@@ -67,7 +67,10 @@ impl<'s, 'a> Batch<'s, 'a> {
             Err(error) => Err(error),
         };
         match opened {
-            Ok(input) => self.push(said(name), RowReader::of_file(alloc, form, input, bad_lines)),
+            Ok(input) => self.push(
+                said(name),
+                RowReader::of_file(alloc, form, input, bad_lines),
+            ),
             Err(error) => Err(Failure::of_file(said(name), error)),
         }
     }

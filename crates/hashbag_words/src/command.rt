@@ -69,9 +69,15 @@ fn form_read<'a>(alloc: Global) -> Arg<'a> {
 
 // What the jobs have that may count more than the memory holds.
 fn with_memory(alloc: Global, command: Command<'_>) -> Result<Command<'_>, Error> {
-    Ok(command
-        .arg(arg!(in alloc; --memory <SIZE> "Take about that much memory, as `64M` or `2G`, and temporary files beyond it"))?
-        .arg(arg!(in alloc; --tmp <DIR> "Where temporary files are: $TMPDIR or /tmp by default"))?)
+    Ok(
+        command
+            .arg(
+                arg!(in alloc; --memory <SIZE> "Take about that much memory, as `64M` or `2G`, and temporary files beyond it"),
+            )?
+            .arg(
+                arg!(in alloc; --tmp <DIR> "Where temporary files are: $TMPDIR or /tmp by default"),
+            )?,
+    )
 }
 
 // What every job has that reads any number of files: where their names may be.
@@ -100,7 +106,8 @@ fn count<'a>(alloc: Global) -> Result<Command<'a>, Error> {
 }
 
 fn merge<'a>(alloc: Global) -> Result<Command<'a>, Error> {
-    let sorted = arg!(in alloc; --sorted "The tokens of each file rise: merge the files line by line");
+    let sorted =
+        arg!(in alloc; --sorted "The tokens of each file rise: merge the files line by line");
     let command = Command::new(alloc, "merge")
         .about("Add up counts")
         .arg(

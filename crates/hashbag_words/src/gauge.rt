@@ -27,7 +27,9 @@ fn bytes_of(bag: &Bag, texts: usize) -> usize {
         slots
     };
     let tokens = bag.set_len().saturating_mul(TOKEN);
-    next.saturating_mul(SLOT).saturating_add(tokens).saturating_add(texts)
+    next.saturating_mul(SLOT)
+        .saturating_add(tokens)
+        .saturating_add(texts)
 }
 
 // The bytes of all texts of a bag.

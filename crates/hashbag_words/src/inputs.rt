@@ -76,7 +76,11 @@ impl<'s, 'a, 'm> Inputs<'s, 'a, 'm> {
         reading: &mut Reading,
     ) -> Result<bool, Fault> {
         let alloc = self.rt.alloc();
-        let step = if self.bound.is_some() { BOUNDED_STEP } else { STEP };
+        let step = if self.bound.is_some() {
+            BOUNDED_STEP
+        } else {
+            STEP
+        };
         match intake {
             Intake::Text(rule) => count_lines(alloc, bag, &rule, input, reading, step),
             Intake::Rows(form) if reading.line == 0 => {

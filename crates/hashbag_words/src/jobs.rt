@@ -114,23 +114,23 @@ fn made<'a>(
         bound,
     };
     take_in(&mut inputs, &mut bag)?;
-    let Some(Bound { runs, .. }) = inputs.bound else {
-        return text_of(rt, settings, &mut bag);
-    };
-    if runs.is_empty() {
-        return text_of(rt, settings, &mut bag);
+    match inputs.bound {
+        Some(bound) => show_bounded(rt, settings, folder, bound.runs, &mut bag),
+        None => text_of(rt, settings, &mut bag),
     }
-    show_runs(rt, settings, folder, runs, &mut bag)
 }
 
-// What is to be written of runs, and of what the bag has.
-fn show_runs<'a>(
+// What is to be written of runs, if there are any, and of what the bag has.
+fn show_bounded<'a>(
     rt: &HostRuntime,
     settings: &Settings<'a, '_>,
     folder: &'a str,
     mut runs: Runs<'_, 'a>,
     bag: &mut Bag,
 ) -> Result<Made, Failure<'a>> {
+    if runs.is_empty() {
+        return text_of(rt, settings, bag);
+    }
     if !bag.is_empty() {
         runs.spill(bag)?;
     }

@@ -50,8 +50,9 @@ impl Progress {
         let speed = a_second(tokens, now.duration_since(start));
         let distinct = bag.set_len();
         let of = if in_runs > 0 { " in memory" } else { "" };
-        let _ =
-            eprintln!(rt; "{lines} lines, {tokens} tokens ({speed}/s), {distinct} distinct{of}");
+        let _ = eprintln!(rt;
+            "{lines} lines, {tokens} tokens ({speed}/s), {distinct} distinct{of}"
+        );
         self.times = Some((start, now));
     }
 }

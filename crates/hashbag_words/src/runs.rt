@@ -119,9 +119,10 @@ impl<'s, 'a> Runs<'s, 'a> {
 
     /// All runs, to be merged.
     pub fn into_batch(self) -> Result<Batch<'s, 'a>, Failure<'a>> {
-        let mut batch = Batch::new(self.rt);
-        for run in self.runs {
-            batch.push_run(self.folder, run.file)?;
+        let Runs { rt, folder, runs } = self;
+        let mut batch = Batch::new(rt);
+        for run in runs {
+            batch.push_run(folder, run.file)?;
         }
         Ok(batch)
     }
@@ -133,12 +134,18 @@ pub fn merge_to_file<'a>(
     folder: &'a str,
     batch: &mut Batch<'_, 'a>,
 ) -> Result<File, Failure<'a>> {
-    let failed = |error| Failure::of_file(folder, error);
     let file = temporary(rt, folder)?;
-    let out = BufWriter::with_capacity(rt.alloc(), BUFFER, file).map_err(failed)?;
-    let writer = RowWriter::begin(rt.alloc(), out, Format::Tsv).map_err(failed)?;
+    let out = BufWriter::with_capacity(rt.alloc(), BUFFER, file).map_err(|error| Failure::of_file(
+        folder, error,
+    ))?;
+    let writer = RowWriter::begin(rt.alloc(), out, Format::Tsv).map_err(|error| Failure::of_file(
+        folder, error,
+    ))?;
     let mut rows = WrittenRows { writer, least: 0 };
     batch.merge(folder, &mut rows)?;
-    let out = rows.writer.finish().map_err(failed)?;
-    begun(out).map_err(failed)
+    let out = rows
+        .writer
+        .finish()
+        .map_err(|error| Failure::of_file(folder, error))?;
+    begun(out).map_err(|error| Failure::of_file(folder, error))
 }

@@ -19,8 +19,8 @@ fn show_top<'a>(
 ) -> Result<Made, Failure<'a>> {
     let mut top = TopRows::new(rt.alloc(), most, settings.least);
     batch.merge(folder, &mut top)?;
-    let begun = RowWriter::begin(rt.alloc(), Vec::new(rt.alloc()), settings.format);
-    let Ok(mut writer) = begun else {
+    let text = Vec::new(rt.alloc());
+    let Ok(mut writer) = RowWriter::begin(rt.alloc(), text, settings.format) else {
         return Err(Failure::NoMemoryLeft);
     };
     for (count, token) in top.into_rows() {
@@ -42,16 +42,22 @@ fn show_all<'a>(
     folder: &'a str,
     batch: &mut Batch<'_, 'a>,
 ) -> Result<Made, Failure<'a>> {
-    let failed = |error| Failure::of_file(folder, error);
     let file = temporary(rt, folder)?;
-    let out = BufWriter::with_capacity(rt.alloc(), BUFFER, file).map_err(failed)?;
-    let writer = RowWriter::begin(rt.alloc(), out, settings.format).map_err(failed)?;
+    let out = BufWriter::with_capacity(rt.alloc(), BUFFER, file).map_err(|error| Failure::of_file(
+        folder, error,
+    ))?;
+    let writer = RowWriter::begin(rt.alloc(), out, settings.format).map_err(
+        |error| Failure::of_file(folder, error),
+    )?;
     let least = settings.least;
     let mut rows = WrittenRows { writer, least };
     batch.merge(folder, &mut rows)?;
     let is_empty = rows.writer.is_empty();
-    let out = rows.writer.finish().map_err(failed)?;
-    let file = begun(out).map_err(failed)?;
+    let out = rows
+        .writer
+        .finish()
+        .map_err(|error| Failure::of_file(folder, error))?;
+    let file = begun(out).map_err(|error| Failure::of_file(folder, error))?;
     Ok(Made::File(file, is_empty))
 }
 

@@ -5,5 +5,7 @@ pub mod MergeLemmas
 pub mod MergedLemmas
 pub mod ReadLemmas
 pub mod RowLemmas
+pub mod RunLemmas
+pub mod RunTextLemmas
 pub mod SortedLemmas
 pub mod WordLemmas

@@ -65,6 +65,7 @@ module _ (old new : List (List (List ℕ × ℕ))) (row : List ℕ × ℕ) (took
     where
       long : length new ≡ length old
       long = ap length took.is ∙ length-set old took.at took.rest
+
       by_place : (k : ℕ) → k < length old → (k ≡ took.at) ⊎ (k ≡ took.at → ⊥) → Rises (get_or old k [])
       by_place k lt (inl same) =
           let rest : Rises took.rest = subst Rises (ap (λ (l : List (List (List ℕ × ℕ))). get_or l took.at []) took.is ∙ get_or-set_same old took.at took.rest [] took.within)
@@ -98,7 +99,7 @@ shown_sum text out None = ap (times_in text) (append-nil out) ∙ (let n = times
 shown_sum text out (Some row) =
     on_shown (λ (l : List (List ℕ × ℕ)). times_in text (out ++ l) ≡ times_in text out + of_row text (row_of row)) row
     (λ is. let same : times_in text (out ++ []) ≡ times_in text out = ap (times_in text) (append-nil out) in
-        let none : of_row text (row_of row) ≡ 0 = of_none (bytes_eq text (string_bytes row.0)) row.1 is in omega arith)
+    let none : of_row text (row_of row) ≡ 0 = of_none (bytes_eq text (string_bytes row.0)) row.1 is in omega arith)
     (λ some. sum_by_push (of_row text) out (row_of row))
 
 shown_all : (out : List (List ℕ × ℕ)) (held : Option (String Global × ℕ)) → All (λ row. 0 < row.1) out → All (λ row. 0 < row.1) (out ++ shown_of held)
@@ -142,9 +143,9 @@ module _ (inputs old new : List (List (List ℕ × ℕ))) (out : List (List ℕ 
     above = subst (λ (l : List (List ℕ × ℕ)). AllBelow (string_bytes row.0) (l ++ [])) (sym so.above) tt;
     first = first_left;
     sums = λ text.
-      let same : times_in text (out ++ []) ≡ times_in text out = ap (times_in text) (append-nil out) in
-      let left : sum_by (times_in text) old ≡ of_row text (row_of row) + sum_by (times_in text) new = times_left text in
-      let before = so.sums text in omega arith;
+        let same : times_in text (out ++ []) ≡ times_in text out = ap (times_in text) (append-nil out) in
+        let left : sum_by (times_in text) old ≡ of_row text (row_of row) + sum_by (times_in text) new = times_left text in
+        let before = so.sums text in omega arith;
     shown = subst (All (λ row. 0 < row.1)) (sym (append-nil out)) so.shown;
     numbered = let left : sum_by numbers old ≡ row.1 + sum_by numbers new = numbers_left in let before = so.numbered in omega arith;
   }
@@ -158,14 +159,14 @@ module _ (inputs old new : List (List (List ℕ × ℕ))) (out : List (List ℕ 
         rises = subst Rises (sym (append-nil out)) so.rises;
         above = subst (AllBelow (string_bytes held.0)) (sym (append-nil out)) so.above;
         first = all_left old new (row_of row) took (IsNotBelow (string_bytes held.0)) so.first
-          (IsNotBelow-from_above (string_bytes held.0) took.rest (subst (λ (t : List ℕ). IsAbove t took.rest) (sym one) took.above));
+            (IsNotBelow-from_above (string_bytes held.0) took.rest (subst (λ (t : List ℕ). IsAbove t took.rest) (sym one) took.above));
         sums = λ text.
-          let same : times_in text (out ++ []) ≡ times_in text out = ap (times_in text) (append-nil out) in
-          let left : sum_by (times_in text) old ≡ of_row text (row_of row) + sum_by (times_in text) new = times_left text in
-          let here : of_row text (row_of row) ≡ of_row text (string_bytes held.0, row.1) = ap (λ (t : List ℕ). of_row text (t, row.1)) (sym one) in
-          let both : of_row text (string_bytes held.0, held.1 + row.1) ≡ of_row text (string_bytes held.0, held.1) + of_row text (string_bytes held.0, row.1) =
-          both_of (bytes_eq text (string_bytes held.0)) held.1 row.1 in
-          let before = so.sums text in omega arith;
+            let same : times_in text (out ++ []) ≡ times_in text out = ap (times_in text) (append-nil out) in
+            let left : sum_by (times_in text) old ≡ of_row text (row_of row) + sum_by (times_in text) new = times_left text in
+            let here : of_row text (row_of row) ≡ of_row text (string_bytes held.0, row.1) = ap (λ (t : List ℕ). of_row text (t, row.1)) (sym one) in
+            let both : of_row text (string_bytes held.0, held.1 + row.1) ≡ of_row text (string_bytes held.0, held.1) + of_row text (string_bytes held.0, row.1) =
+            both_of (bytes_eq text (string_bytes held.0)) held.1 row.1 in
+            let before = so.sums text in omega arith;
         shown = subst (All (λ row. 0 < row.1)) (sym (append-nil out)) so.shown;
         numbered = let left : sum_by numbers old ≡ row.1 + sum_by numbers new = numbers_left in let before = so.numbered in omega arith;
       }
@@ -181,9 +182,9 @@ module _ (inputs old new : List (List (List ℕ × ℕ))) (out : List (List ℕ 
         above = shown_below (string_bytes row.0) out held so.above up;
         first = first_left;
         sums = λ text.
-          let put : times_in text (out ++ shown_of (Some held)) ≡ times_in text out + of_row text (row_of held) = shown_sum text out (Some held) in
-          let left : sum_by (times_in text) old ≡ of_row text (row_of row) + sum_by (times_in text) new = times_left text in
-          let before = so.sums text in omega arith;
+            let put : times_in text (out ++ shown_of (Some held)) ≡ times_in text out + of_row text (row_of held) = shown_sum text out (Some held) in
+            let left : sum_by (times_in text) old ≡ of_row text (row_of row) + sum_by (times_in text) new = times_left text in
+            let before = so.sums text in omega arith;
         shown = shown_all out (Some held) so.shown;
         numbered = let left : sum_by numbers old ≡ row.1 + sum_by numbers new = numbers_left in let before = so.numbered in omega arith;
       }
@@ -212,9 +213,9 @@ so_far_done inputs rows out held total fits none so = record {
   risen = so.risen (λ k d lt. subst Rises (sym (none k d lt)) Rises-nil);
   rises = shown_rises out held so.rises so.above;
   sums = λ text.
-    let put : times_in text (out ++ shown_of held) ≡ times_in text out + held_of text held = shown_sum text out held in
-    let left : sum_by (times_in text) rows ≡ 0 = sum_of_none (times_in text) refl rows none in
-    let before = so.sums text in omega arith;
+      let put : times_in text (out ++ shown_of held) ≡ times_in text out + held_of text held = shown_sum text out held in
+      let left : sum_by (times_in text) rows ≡ 0 = sum_of_none (times_in text) refl rows none in
+      let before = so.sums text in omega arith;
   shown = shown_all out held so.shown;
   fits = subst (λ (n : ℕ). n < 2 ^ 64) (let left : sum_by numbers rows ≡ 0 = sum_of_none numbers refl rows none in let before = so.numbered in omega arith) fits;
 }
@@ -226,7 +227,6 @@ Puts-append {K} gives [] ys a b c f g = subst (λ (s : K). Puts gives s ys c) f 
 Puts-append gives (x ∷ xs) ys a b c f g = (f.0, f.1, Puts-append gives xs ys f.0 b c f.2 g)
 
 -- ---- the sources
-
 
 -- the rows of the source of a place
 left_at : {S : Type 0} (left : S → Option (List (List ℕ × ℕ))) (sources : List (Source S)) (rows : List (List (List ℕ × ℕ))) (k : ℕ) (d : Source S) → AreLeft left sources rows → k < length sources
@@ -266,20 +266,23 @@ took_row {S} left sources rows i new row source within here least is takes are =
     same_at [] j d e lt h = absurd (omega arith)
     same_at (x ∷ l) zero d e lt h = sym h
     same_at (x ∷ l) (suc j) d e lt h = same_at l j d e (omega arith) h
+
     by_row : (row : Option (String Global × ℕ)) → TakesHead (get_or rows i []) row (with_head new.head (left new.rows))
         → ((k : ℕ) → k < length sources → (d : Source S) → IsNoLater row (get_or sources k d).head) → length rows ≡ length sources → TakesRow left rows row (set sources i new)
     by_row None took no long = All-from_get_or (λ (r : List (List ℕ × ℕ)). r ≡ []) rows []
         (λ k lt. none_left (get_or sources k source).head (left (get_or sources k source).rows) (get_or rows k []) (no k (omega arith) source) (left_at left sources rows k source are (omega arith)))
-    by_row (Some row) took no long =
-        (set rows i took.0, record {
-          at = i;
-          rest = took.0;
-          within = omega arith;
-          was = took.1;
-          is = refl;
-          least = All-from_get_or (IsNotBelow (string_bytes row.0)) rows []
+    by_row (Some row) took no long = (
+      set rows i took.0,
+      record {
+        at = i;
+        rest = took.0;
+        within = omega arith;
+        was = took.1;
+        is = refl;
+        least = All-from_get_or (IsNotBelow (string_bytes row.0)) rows []
             (λ k lt. not_below row (get_or sources k source).head (left (get_or sources k source).rows) (get_or rows k []) (no k (omega arith) source) (left_at left sources rows k source are (omega arith)));
-          above = took.3;
-        },
-        map-set (λ (s : Source S). with_head s.head (left s.rows)) sources i new ∙ ap (λ (l : List (Option (List (List ℕ × ℕ)))). set l i (with_head new.head (left new.rows))) are
-        ∙ ap (λ (o : Option (List (List ℕ × ℕ))). set (map Some rows) i o) took.2 ∙ sym (map-set Some rows i took.0))
+        above = took.3;
+      },
+      map-set (λ (s : Source S). with_head s.head (left s.rows)) sources i new ∙ ap (λ (l : List (Option (List (List ℕ × ℕ)))). set l i (with_head new.head (left new.rows))) are
+          ∙ ap (λ (o : Option (List (List ℕ × ℕ))). set (map Some rows) i o) took.2 ∙ sym (map-set Some rows i took.0),
+    )

@@ -45,8 +45,9 @@ pub record IsMergeOf (sources : List (List (List ℕ × ℕ))) (merged : List (L
 
 -- a source with these rows left, if they are known, gave a row or had none, and has those left
 abbrev pub GivesRow : Option (List (List ℕ × ℕ)) → Option (String Global × ℕ) → Option (List (List ℕ × ℕ)) → Type 0
-GivesRow old None new = (IfSome old (λ rows. rows ≡ [])) × (new ≡ old)
-GivesRow old (Some row) new = old ≡ option_map (λ rest. row_of row ∷ rest) new
+GivesRow None row new = Unit {0}
+GivesRow (Some rows) None new = (rows ≡ []) × (new ≡ Some [])
+GivesRow (Some rows) (Some row) new = (rest : List (List ℕ × ℕ)) × (rows ≡ row_of row ∷ rest) × (new ≡ Some rest)
 
 -- the rows of a source of which the next one has been read, or there is none: that one, and those that are left
 abbrev pub with_head : Option (String Global × ℕ) → Option (List (List ℕ × ℕ)) → Option (List (List ℕ × ℕ))

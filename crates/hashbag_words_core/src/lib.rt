@@ -14,6 +14,7 @@ pub mod parts;
 pub mod row_reader;
 pub mod rows;
 pub mod rule;
+pub mod runs;
 pub mod shown_rows;
 pub mod sorted_merge;
 pub mod sources;

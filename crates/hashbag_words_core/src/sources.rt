@@ -1,5 +1,5 @@
 //! Sources of rows whose tokens rise.
-ghost use Rattle.std.specs.Prelude.{◌≡◌, ℕ, List, Option, Some, string_bytes, IfErr, IfOk, IfSome, IsErr, IsSome};
+ghost use Rattle.std.specs.Prelude.{◌≡◌, ℕ, List, Option, Some, string_bytes, IfOk, IfSome, IsErr, IsSome};
 ghost use Rattle.std.specs.declared.cmp.Ordering.TheVariants.{Less};
 ghost use Rattle.hashbag_words_core.specs.Sorted.{text_cmp, with_head, GivesRow, TakesHead};
 
@@ -21,7 +21,7 @@ pub trait Rows {
 
 // Returns the next row whose token comes after `last`. Rows whose token doesn't are passed over or rejected.
 fn next_above<S: Rows>(rows: &mut S, last: &str) -> Result<Option<(String, usize)>, Fault>
-    ensures gives { IsSome (S.left rows.old) → IfOk result (λ row. GivesRow (S.left rows.old) row (S.left rows.new)) }
+    ensures gives { IfOk result (λ row. GivesRow (S.left rows.old) row (S.left rows.new)) }
     ensures above { IfOk result (λ row. IfSome row (λ r. text_cmp last.now (string_bytes r.0) ≡ Less)) }
 {
     'rows: for _row in 0..u64::MAX {

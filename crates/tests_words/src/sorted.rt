@@ -14,13 +14,29 @@ use std::test::Fail;
 // what is wrong with it.
 const SORTED_MERGES: [(&str, bool, &str); 8] = [
     ("", false, ""),
-    ("b\t1\nc\t2\n|a\t5\nc\t3\n||d\t1\n", false, "a\t5\nb\t1\nc\t5\nd\t1\n"),
+    (
+        "b\t1\nc\t2\n|a\t5\nc\t3\n||d\t1\n",
+        false,
+        "a\t5\nb\t1\nc\t5\nd\t1\n",
+    ),
     ("a\t0\nb\t1\n|a\t0\nb\t0\n", false, "b\t1\n"),
-    ("\u{feff}a\t1\n\u{feff}b\t2\n|\\t\t3\na\t1\n", false, "\\t\t3\na\t2\n\u{feff}b\t2\n"),
+    (
+        "\u{feff}a\t1\n\u{feff}b\t2\n|\\t\t3\na\t1\n",
+        false,
+        "\\t\t3\na\t2\n\u{feff}b\t2\n",
+    ),
     ("a\t1\n|b\t1\nc\t1\nb\t1\n", false, "1: 3: not in order"),
     ("a\t1\na\t1\n", false, "0: 2: not in order"),
-    ("b\t1\na\t1\nc\t2\nc\t7\n|b\t1\nd 1\ne\t1", true, "b\t2\nc\t2\n"),
-    ("a\t18446744073709551615\n|a\t0\nb\t1\n", false, "1: 2: total"),
+    (
+        "b\t1\na\t1\nc\t2\nc\t7\n|b\t1\nd 1\ne\t1",
+        true,
+        "b\t2\nc\t2\n",
+    ),
+    (
+        "a\t18446744073709551615\n|a\t0\nb\t1\n",
+        false,
+        "1: 2: total",
+    ),
 ];
 
 // The same of files of `uniq -c`, which stop at what is no row.
@@ -47,7 +63,11 @@ fn opened<'a>(
     files: &'a str,
     skips: bool,
 ) -> Result<Result<Sources<'a>, String>, Fail> {
-    let bad_lines = if skips { BadLines::Skipped } else { BadLines::Refused };
+    let bad_lines = if skips {
+        BadLines::Skipped
+    } else {
+        BadLines::Refused
+    };
     let mut sources = Vec::new(alloc);
     for (i, file) in files.split('|').enumerate() {
         match Source::open(RowReader::of_file(alloc, form, file.as_bytes(), bad_lines)) {
@@ -73,7 +93,9 @@ fn merge_into<K: Sink>(
     match merge_rows(&mut sources, sink) {
         Ok(()) => Ok(None),
         Err(Stop::Source(i, fault)) => {
-            let line = sources.get(i).map_or(0, |source| source.rows().reading().line);
+            let line = sources
+                .get(i)
+                .map_or(0, |source| source.rows().reading().line);
             Ok(Some(stopped(alloc, i, line, &fault)?))
         }
         Err(Stop::Sink(_)) => Err(Fail::new("the sink failed")),
