@@ -3,9 +3,9 @@ use crate::bag::Bag;
 use crate::batch::Batch;
 use crate::failure::Failure;
 use hashbag_shell::temporary_file::create_unnamed;
-use hashbag_words_core::choice::{Order, chosen};
+use hashbag_words_core::runs::write_run;
 use hashbag_words_core::shown_rows::WrittenRows;
-use hashbag_words_core::writing::{Format, RowWriter, write_rows};
+use hashbag_words_core::writing::{Format, RowWriter};
 use std::fs::File;
 use std::io::{self, BufWriter, Seek};
 use std::process;
@@ -14,7 +14,7 @@ use std::process;
 pub const BUFFER: usize = 1 << 16;
 
 /// So many runs, or files, are merged at once.
-pub const FAN: usize = 32;
+pub const FAN: usize = 16;
 
 // A run, and how often its rows have been merged.
 #[derive(Drop)]
@@ -50,12 +50,8 @@ pub fn begun(written: BufWriter<File>) -> io::Result<File> {
 
 // Writes what a bag has into a file, tokens rising.
 fn write_bag(rt: &HostRuntime, file: File, bag: &Bag) -> io::Result<File> {
-    let alloc = rt.alloc();
-    let Ok(rows) = chosen(alloc, bag, Order::Rising) else {
-        return Err(io::Error::from(io::ErrorKind::OutOfMemory));
-    };
-    let mut out = BufWriter::with_capacity(alloc, BUFFER, file)?;
-    write_rows(alloc, &mut out, Format::Tsv, &rows)?;
+    let mut out = BufWriter::with_capacity(rt.alloc(), BUFFER, file)?;
+    write_run(rt.alloc(), &mut out, bag)?;
     begun(out)
 }
 

@@ -72,7 +72,7 @@ row_is_whole token n fits =
     let long : 0 < length (row token n) = long_row token n in
     ap (λ (b : Bool). cond b (take (length (row token n) - 1) (row token n)) (row token n))
     (ne_eqb (get_or (row token n) (length (row token n) - 1) 0) 13
-      (All-get_or (λ y. y ≢ 13) (row token n) (length (row token n) - 1) 0 (omega arith) (none_in_row 13 114 refl refl (λ is. absurd (omega arith)) (λ is. absurd (omega arith)) (λ lt. absurd (omega arith)) token n fits)))
+    (All-get_or (λ y. y ≢ 13) (row token n) (length (row token n) - 1) 0 (omega arith) (none_in_row 13 114 refl refl (λ is. absurd (omega arith)) (λ is. absurd (omega arith)) (λ lt. absurd (omega arith)) token n fits)))
 
 line_again : (token rest : List ℕ) (n : ℕ) → n < 2 ^ 64 → lines ((row token n ++ 10 ∷ []) ++ rest) ≡ row token n ∷ lines rest
 line_again token rest n fits =
@@ -109,6 +109,7 @@ rows_again (p ∷ pairs) fits =
   where
     lower : (a b c n : ℕ) → c ≡ a + b → c < n → a < n
     lower a b c n e lt = omega arith
+
     upper : (a b c n : ℕ) → c ≡ a + b → c < n → b < n
     upper a b c n e lt = omega arith
 
@@ -127,6 +128,6 @@ is_run bag pairs walk up = record {
 
 pub Appends-append : (a b c : Option (List ℕ)) (xs ys : List ℕ) → Appends a b xs → Appends b c ys → Appends a c (xs ++ ys)
 Appends-append None b c xs ys f g = tt
-Appends-append (Some as) None c xs ys f g = absurd f
-Appends-append (Some as) (Some bs) None xs ys f g = g
-Appends-append (Some as) (Some bs) (Some cs) xs ys f g = g ∙ ap (λ (l : List ℕ). l ++ ys) f ∙ append_assoc as xs ys
+Appends-append (Some known) None c xs ys f g = absurd f
+Appends-append (Some known) (Some bs) None xs ys f g = g
+Appends-append (Some known) (Some bs) (Some cs) xs ys f g = g ∙ ap (λ (l : List ℕ). l ++ ys) f ∙ append_assoc known xs ys

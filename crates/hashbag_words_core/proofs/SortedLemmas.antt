@@ -1,11 +1,13 @@
 -- Rows whose tokens rise, one more at the end or at the front.
-use Rattle.std.proofs.Common.{◌≡◌, ◌≢◌, ℕ, zero, suc, ◌+◌, ◌<◌, Bool, true, false, List, [], ◌∷◌, ◌++◌, length, get_or, set, map, sum_by, All, Ordering, Less, Equal, Greater, is_eq, String, string_bytes, string_eq, bytes_eq, Global, Option, None, Some, refl, sym, ◌∙◌, ap, subst, arith}
+use Rattle.std.proofs.Common.{◌≡◌, ◌≢◌, ◌⊎◌, inl, inr, ℕ, zero, suc, ◌+◌, ◌<◌, Bool, true, false, List, [], ◌∷◌, ◌++◌, length, get_or, set, map, sum_by, All, Ordering, Less, Equal, Greater, is_eq, is_gt, String, string_bytes, string_eq, bytes_eq, Global, Option, None, Some, refl, sym, ◌∙◌, ap, subst, arith}
 use Rattle.std.specs.Cmp.Lexicographic.{nat_list_cmp_total, texts_ties}
 use Rattle.std.specs.List.{AllByRecursion}
 use Rattle.std.specs.List.Sorted.{IsStrictlySortedBy}
 use Rattle.std.specs.Map.{keys_of}
-use Rattle.std.proofs.lemmas.Bool.{false≢true}
-use Rattle.hashbag_words_core.specs.Sorted.{text_cmp, IsAbove, IsNotBelow, Rises}
+use Rattle.std.proofs.lemmas.Bool.{cases_eq, false≢true}
+use Rattle.std.proofs.lemmas.Cmp.{tied_itself, upto}
+use Rattle.hashbag_words_core.specs.Sorted.{text_cmp, IsAbove, IsNoLater, IsNotBelow, Rises}
+use Rattle.hashbag_words_core.specs.declared.sources.Source.{Source}
 
 -- these rows come before the text
 abbrev pub AllBelow : List ℕ → List (List ℕ × ℕ) → Type 0
@@ -60,3 +62,40 @@ less_from x y up apart = at (text_cmp x y) refl
     at Less is = is
     at Equal is = absurd (false≢true (sym apart ∙ texts_ties x y ∙ ap is_eq is))
     at Greater is = absurd (up is)
+
+-- ---- the least of next rows
+
+not_greater : (o : Ordering) → o ≢ Greater → is_gt o ≡ false
+not_greater Less up = refl
+not_greater Equal up = refl
+not_greater Greater up = absurd (up refl)
+
+pub no_later_itself : (x : Option (String Global × ℕ)) → IsNoLater x x
+no_later_itself None = tt
+no_later_itself (Some x) = λ is. let both : Equal ≡ Greater = sym (tied_itself nat_list_cmp_total (string_bytes x.0)) ∙ is in absurd (cc)
+
+pub no_later_both : (x y z : Option (String Global × ℕ)) → IsNoLater x y → IsNoLater y z → IsNoLater x z
+no_later_both x y None f g = tt
+no_later_both x None (Some z) f g = absurd g
+no_later_both None (Some y) (Some z) f g = absurd f
+no_later_both (Some x) (Some y) (Some z) f g = λ is.
+    false≢true (sym (upto nat_list_cmp_total (string_bytes x.0) (string_bytes y.0) (string_bytes z.0) (not_greater _ f) (not_greater _ g)) ∙ ap is_gt is)
+
+-- the source of a place has the least next row of those before a place
+abbrev pub IsLeastTo : {S : Type 0} → List (Source S) → ℕ → ℕ → Type 0
+IsLeastTo {S} sources best i = (k : ℕ) (d : Source S) → k < i → IsNoLater (get_or sources best d).head (get_or sources k d).head
+
+-- one source more, whose next row comes no earlier, or no later
+pub least_kept : {S : Type 0} (sources : List (Source S)) (best i : ℕ) → IsLeastTo sources best i → ((d : Source S) → IsNoLater (get_or sources best d).head (get_or sources i d).head) → IsLeastTo sources best (i + 1)
+least_kept {S} sources best i least one k d lt = at (cases_eq k i)
+  where
+    at : (k ≡ i) ⊎ (k ≡ i → ⊥) → IsNoLater (get_or sources best d).head (get_or sources k d).head
+    at (inl is) = subst (λ (j : ℕ). IsNoLater (get_or sources best d).head (get_or sources j d).head) (sym is) (one d)
+    at (inr other) = least k d (omega arith)
+
+pub least_taken : {S : Type 0} (sources : List (Source S)) (best i : ℕ) → IsLeastTo sources best i → ((d : Source S) → IsNoLater (get_or sources i d).head (get_or sources best d).head) → IsLeastTo sources i (i + 1)
+least_taken {S} sources best i least one k d lt = at (cases_eq k i)
+  where
+    at : (k ≡ i) ⊎ (k ≡ i → ⊥) → IsNoLater (get_or sources i d).head (get_or sources k d).head
+    at (inl is) = subst (λ (j : ℕ). IsNoLater (get_or sources i d).head (get_or sources j d).head) (sym is) (no_later_itself (get_or sources i d).head)
+    at (inr other) = no_later_both (get_or sources i d).head (get_or sources best d).head (get_or sources k d).head (one d) (least k d (omega arith))
