@@ -3,7 +3,7 @@ use crate::bag::Bag;
 use crate::batch::Batch;
 use crate::failure::Failure;
 use hashbag_shell::temporary_file::create_unnamed;
-use hashbag_words_core::runs::write_run;
+use hashbag_words_core::runs::spill;
 use hashbag_words_core::shown_rows::WrittenRows;
 use hashbag_words_core::writing::{Format, RowWriter};
 use std::fs::File;
@@ -48,10 +48,10 @@ pub fn begun(written: BufWriter<File>) -> io::Result<File> {
     Ok(file)
 }
 
-// Writes what a bag has into a file, tokens rising.
-fn write_bag(rt: &HostRuntime, file: File, bag: &Bag) -> io::Result<File> {
+// Makes a run of what a bag has in a file, and empties the bag.
+fn spill_to(rt: &HostRuntime, file: File, bag: &mut Bag) -> io::Result<File> {
     let mut out = BufWriter::with_capacity(rt.alloc(), BUFFER, file)?;
-    write_run(rt.alloc(), &mut out, bag)?;
+    spill(rt.alloc(), &mut out, bag)?;
     begun(out)
 }
 
@@ -67,18 +67,13 @@ impl<'s, 'a> Runs<'s, 'a> {
         self.runs.is_empty()
     }
 
-    /// Makes a run of what the bag has, and empties it. Its limit falls by what it had, so the total of all runs and of the bag is
-    /// refused as that of one bag would be.
+    /// Makes a run of what the bag has, and empties it.
     pub fn spill(&mut self, bag: &mut Bag) -> Result<(), Failure<'a>> {
         let file = temporary(self.rt, self.folder)?;
-        let written = write_bag(self.rt, file, bag);
-        let file = written.map_err(|error| Failure::of_file(self.folder, error))?;
-        let left = bag.limit().saturating_sub(bag.len());
-        bag.clear();
-        if bag.set_limit(left).is_err() {
-            return Err(Failure::NoMemoryLeft);
+        match spill_to(self.rt, file, bag) {
+            Ok(file) => self.add(file),
+            Err(error) => Err(Failure::of_file(self.folder, error)),
         }
-        self.add(file)
     }
 
     /// Adds a run. If there are `FAN` of one level, they become one of the next level.
