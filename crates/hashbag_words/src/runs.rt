@@ -93,7 +93,13 @@ impl<'s, 'a> Runs<'s, 'a> {
 
     // How many runs are of that level.
     fn of_level(&self, level: u32) -> usize {
-        self.runs.iter().filter(|run| run.level == level).count()
+        let mut n = 0usize;
+        for run in &self.runs {
+            if run.level == level {
+                n = n.saturating_add(1);
+            }
+        }
+        n
     }
 
     // Takes the runs of that level, which are the last ones, and merges them.

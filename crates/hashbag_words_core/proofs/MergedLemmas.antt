@@ -27,6 +27,10 @@ abbrev pub HoldsFirst : List (List (List ℕ × ℕ)) → Option (String Global 
 HoldsFirst rows None = Unit {0}
 HoldsFirst rows (Some row) = All (IsNotBelow (string_bytes row.0)) rows
 
+-- a row that counts something
+abbrev pub Counted : List ℕ × ℕ → Type 0
+Counted row = 0 < row.1
+
 -- so far the rows `out` were put, and these are left
 pub record SoFar (inputs rows : List (List (List ℕ × ℕ))) (out : List (List ℕ × ℕ)) (held : Option (String Global × ℕ)) (total : ℕ) : Type 0 where
   pub risen : All Rises rows → All Rises inputs
@@ -34,7 +38,7 @@ pub record SoFar (inputs rows : List (List (List ℕ × ℕ))) (out : List (List
   pub above : HoldsAbove out held
   pub first : HoldsFirst rows held
   pub sums : (text : List ℕ) → times_in text out + held_of text held + sum_by (times_in text) rows ≡ sum_by (times_in text) inputs
-  pub shown : All (λ row. 0 < row.1) out
+  pub shown : All Counted out
   pub numbered : total + sum_by numbers rows ≡ sum_by numbers inputs
 
 pub so_far_none : (inputs : List (List (List ℕ × ℕ))) → SoFar inputs inputs [] None 0
@@ -44,7 +48,7 @@ so_far_none inputs = record {
   above = refl;
   first = tt;
   sums = λ text. omega arith;
-  shown = All-nil (λ row. 0 < row.1);
+  shown = All-nil Counted;
   numbered = omega arith;
 }
 
@@ -102,11 +106,11 @@ shown_sum text out (Some row) =
     let none : of_row text (row_of row) ≡ 0 = of_none (bytes_eq text (string_bytes row.0)) row.1 is in omega arith)
     (λ some. sum_by_push (of_row text) out (row_of row))
 
-shown_all : (out : List (List ℕ × ℕ)) (held : Option (String Global × ℕ)) → All (λ row. 0 < row.1) out → All (λ row. 0 < row.1) (out ++ shown_of held)
-shown_all out None all = subst (All (λ row. 0 < row.1)) (sym (append-nil out)) all
+shown_all : (out : List (List ℕ × ℕ)) (held : Option (String Global × ℕ)) → All Counted out → All Counted (out ++ shown_of held)
+shown_all out None all = subst (All Counted) (sym (append-nil out)) all
 shown_all out (Some row) all =
-    on_shown (λ (l : List (List ℕ × ℕ)). All (λ row. 0 < row.1) (out ++ l)) row
-    (λ is. subst (All (λ row. 0 < row.1)) (sym (append-nil out)) all) (λ some. All-push (λ row. 0 < row.1) out (row_of row) all some)
+    on_shown (λ (l : List (List ℕ × ℕ)). All Counted (out ++ l)) row
+    (λ is. subst (All Counted) (sym (append-nil out)) all) (λ some. All-push Counted out (row_of row) all some)
 
 shown_rises : (out : List (List ℕ × ℕ)) (held : Option (String Global × ℕ)) → Rises out → HoldsAbove out held → Rises (out ++ shown_of held)
 shown_rises out None rises above = subst Rises (sym (append-nil out)) rises
@@ -146,7 +150,7 @@ module _ (inputs old new : List (List (List ℕ × ℕ))) (out : List (List ℕ 
         let same : times_in text (out ++ []) ≡ times_in text out = ap (times_in text) (append-nil out) in
         let left : sum_by (times_in text) old ≡ of_row text (row_of row) + sum_by (times_in text) new = times_left text in
         let before = so.sums text in omega arith;
-    shown = subst (All (λ row. 0 < row.1)) (sym (append-nil out)) so.shown;
+    shown = subst (All Counted) (sym (append-nil out)) so.shown;
     numbered = let left : sum_by numbers old ≡ row.1 + sum_by numbers new = numbers_left in let before = so.numbered in omega arith;
   }
 
@@ -167,7 +171,7 @@ module _ (inputs old new : List (List (List ℕ × ℕ))) (out : List (List ℕ 
             let both : of_row text (string_bytes held.0, held.1 + row.1) ≡ of_row text (string_bytes held.0, held.1) + of_row text (string_bytes held.0, row.1) =
             both_of (bytes_eq text (string_bytes held.0)) held.1 row.1 in
             let before = so.sums text in omega arith;
-        shown = subst (All (λ row. 0 < row.1)) (sym (append-nil out)) so.shown;
+        shown = subst (All Counted) (sym (append-nil out)) so.shown;
         numbered = let left : sum_by numbers old ≡ row.1 + sum_by numbers new = numbers_left in let before = so.numbered in omega arith;
       }
 
@@ -217,7 +221,11 @@ so_far_done inputs rows out held total fits none so = record {
       let left : sum_by (times_in text) rows ≡ 0 = sum_of_none (times_in text) refl rows none in
       let before = so.sums text in omega arith;
   shown = shown_all out held so.shown;
-  fits = subst (λ (n : ℕ). n < 2 ^ 64) (let left : sum_by numbers rows ≡ 0 = sum_of_none numbers refl rows none in let before = so.numbered in omega arith) fits;
+  fits =
+      let left : sum_by numbers rows ≡ 0 = sum_of_none numbers refl rows none in
+      let before = so.numbered in
+      let same : total ≡ sum_by numbers inputs = omega arith in
+      subst (λ (n : ℕ). n < 2 ^ 64) same fits;
 }
 
 -- ---- what is put

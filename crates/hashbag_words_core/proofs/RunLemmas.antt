@@ -15,12 +15,15 @@ use Rattle.hashbag_words_core.specs.declared.rows.RowForm.{RowForm}
 use Rattle.hashbag_words_core.specs.declared.rows.RowForm.TheVariants.{Tsv, Uniq}
 use Rattle.hashbag_words_core.proofs.LineLemmas.{lines-first}
 
+one_more : (n : ℕ) → 1 + n ≡ suc n
+one_more n = omega arith
+
 -- where the first tab is
 tab_at : (written digits : List ℕ) → ((i : ℕ) → i < length written → get_or written i 0 ≢ 9) → position_or_len (λ b. b == 9) (written ++ 9 ∷ digits) ≡ length written
 tab_at [] digits none = refl
 tab_at (w ∷ written) digits none =
     ap (λ (b : Bool). cond (not b) (1 + position_or_len (λ b. b == 9) (written ++ 9 ∷ digits)) 0) (ne_eqb w 9 (none 0 (omega arith)))
-    ∙ ap (λ (n : ℕ). 1 + n) (tab_at written digits (λ i lt. none (suc i) (omega arith))) ∙ (let n = length written in omega arith)
+    ∙ ap (λ (n : ℕ). 1 + n) (tab_at written digits (λ i lt. none (suc i) (omega arith))) ∙ one_more (length written)
 
 -- a line that is read as a token and a count
 pub read_as-line : (line token : List ℕ) (count : ℕ) → IsLineOf line token count → read_as line ≡ Some (token, count)

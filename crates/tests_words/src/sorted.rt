@@ -1,13 +1,18 @@
 //! The merge of files whose rows rise. What is wanted was added up by hand.
+use hashbag::HashBag;
+use hashbag_words_core::counting::count_lines;
 use hashbag_words_core::errors::Fault;
-use hashbag_words_core::lines::BadLines;
+use hashbag_words_core::lines::{BadLines, Reading};
 use hashbag_words_core::row_reader::RowReader;
 use hashbag_words_core::rows::RowForm;
+use hashbag_words_core::rule::{Pieces, Rule};
+use hashbag_words_core::runs::spill;
 use hashbag_words_core::shown_rows::{TopRows, WrittenRows};
 use hashbag_words_core::sorted_merge::{Sink, Stop, merge_rows};
 use hashbag_words_core::sources::Source;
 use hashbag_words_core::writing::{Format, RowWriter};
-use std::alloc::Global;
+use std::alloc::{AllocError, Global};
+use std::hash::RandomState;
 use std::test::Fail;
 
 // Files of counts, split at bars; whether bad lines are skipped; the merged rows, or the place of the source, the number of its line and
@@ -71,7 +76,7 @@ fn opened<'a>(
     let mut sources = Vec::new(alloc);
     for (i, file) in files.split('|').enumerate() {
         match Source::open(RowReader::of_file(alloc, form, file.as_bytes(), bad_lines)) {
-            Ok(source) => sources.push(source)?,
+            Ok(source) => sources.push(source).map_err(AllocError::from)?,
             Err((fault, rows)) => return Ok(Err(stopped(alloc, i, rows.reading().line, &fault)?)),
         }
     }
@@ -139,7 +144,7 @@ fn a_run_keeps_its_mark(rt: HostRuntime) -> Result<(), Fail> {
     let mut sources = Vec::new(alloc);
     let run: &[u8] = b"\xef\xbb\xbfa\t1\n";
     match Source::open(RowReader::of_run(alloc, run)) {
-        Ok(source) => sources.push(source)?,
+        Ok(source) => sources.push(source).map_err(AllocError::from)?,
         Err(_) => return Err(Fail::new("the run isn't read")),
     }
     assert!(rt; merge_rows(&mut sources, &mut rows).is_ok());
@@ -192,5 +197,44 @@ fn rows_are_written(rt: HostRuntime) -> Result<(), Fail> {
         assert!(rt; !writer.is_empty());
         is_text(&String::from_utf8(writer.finish()?)?, wanted)?;
     }
+    Ok(())
+}
+
+// A text in two parts: each part becomes a run. The runs are as `sort` and `uniq -c` have them, and the limit falls by what they have.
+#[test]
+fn a_bag_is_spilled(rt: HostRuntime) -> Result<(), Fail> {
+    let alloc = rt.alloc();
+    let rule = Rule {
+        pieces: Pieces::Words,
+        fold: false,
+    };
+    let mut bag = HashBag::with_limit(alloc, RandomState::new(&rt)?, 9);
+    let mut reading = Reading::new(BadLines::Refused);
+    let mut runs = Vec::new(alloc);
+    for part in ["b a\nb\n", "c \u{feff}b b\nc a\n"] {
+        let mut rest = part.as_bytes();
+        assert!(rt; !count_lines(alloc, &mut bag, &rule, &mut rest, &mut reading, 9)?);
+        let mut run = Vec::new(alloc);
+        spill(alloc, &mut run, &mut bag)?;
+        assert!(rt; bag.is_empty());
+        runs.push(run).map_err(AllocError::from)?;
+    }
+    assert_eq!(rt; bag.limit(), 1);
+    assert_eq!(rt; runs.len(), 2);
+    assert_eq!(rt; runs[0].as_slice(), b"a\t1\nb\t2\n".as_slice());
+    let mut sources = Vec::new(alloc);
+    for run in &runs {
+        match Source::open(RowReader::of_run(alloc, run.as_slice())) {
+            Ok(source) => sources.push(source).map_err(AllocError::from)?,
+            Err(_) => return Err(Fail::new("a run isn't read")),
+        }
+    }
+    let writer = RowWriter::begin(alloc, Vec::new(alloc), Format::Tsv)?;
+    let mut rows = WrittenRows { writer, least: 2 };
+    assert!(rt; merge_rows(&mut sources, &mut rows).is_ok());
+    let found = String::from_utf8(rows.writer.finish()?)?;
+    is_text(&found, "a\t2\nb\t3\nc\t2\n")?;
+    let mut more: &[u8] = b"a b\n";
+    assert!(rt; count_lines(alloc, &mut bag, &rule, &mut more, &mut reading, 9).is_err());
     Ok(())
 }
