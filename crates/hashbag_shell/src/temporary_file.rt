@@ -1,6 +1,6 @@
 //! Temporary files that have no name once they are open.
 //!
-//! So nothing is left of one when the program ends, whatever ends it.
+//! So nothing is left of one when the program ends, whatever ends it. Only a signal before the name is removed leaves an empty file.
 use std::fs::{self, OpenOptions};
 use std::io::{self, ErrorKind};
 use std::os::unix::fs::OpenOptionsExt;
