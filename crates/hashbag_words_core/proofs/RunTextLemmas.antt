@@ -1,5 +1,5 @@
 -- Rows that are written as the lines of a run, and read again.
-use Rattle.std.proofs.Common.{◌≡◌, ◌≢◌, ℕ, zero, suc, ◌+◌, ◌-◌, ◌<◌, ◌≤◌, ◌^◌, Bool, true, false, cond, List, [], ◌∷◌, ◌++◌, length, get_or, take, map, flat_map, filter_map, sum_by, All, decimal, String, string_bytes, string_eq, bytes_eq, string_cmp, Global, Option, None, Some, IfSome, Less, refl, sym, ◌∙◌, ap, subst, arith, append_assoc, append-nil, length-append, ne_eqb}
+use Rattle.std.proofs.Common.{◌≡◌, ◌≢◌, ℕ, zero, suc, ◌+◌, ◌-◌, ◌<◌, ◌≤◌, ◌^◌, Bool, true, false, cond, List, [], ◌∷◌, ◌++◌, length, get_or, take, map, flat_map, filter_map, sum_by, All, decimal, String, string_bytes, string_eq, bytes_eq, string_cmp, Global, Option, None, Some, Result, Ok, Err, OnOk, Less, refl, sym, ◌∙◌, ap, subst, arith, append_assoc, append-nil, length-append, ne_eqb}
 use Rattle.std.specs.Io.KnownBytes.{Appends}
 use Rattle.std.specs.List.{AllByRecursion, cons_option}
 use Rattle.std.specs.List.Sorted.{IsStrictlySortedBy}
@@ -131,3 +131,8 @@ Appends-append None b c xs ys f g = tt
 Appends-append (Some known) None c xs ys f g = absurd f
 Appends-append (Some known) (Some bs) None xs ys f g = g
 Appends-append (Some known) (Some bs) (Some cs) xs ys f g = g ∙ ap (λ (l : List ℕ). l ++ ys) f ∙ append_assoc known xs ys
+
+pub on_run : {X E S : Type 0} (r : Result X E) (bag : Bag (String Global) S) (old new : Option (List ℕ)) (rows : List (List ℕ × ℕ)) → IsRunOf bag rows → OnOk r (Appends old new (run_text rows))
+    → OnOk r ((run : List (List ℕ × ℕ)) × IsRunOf bag run × Appends old new (run_text run))
+on_run (Ok x) bag old new rows run done = (rows, run, done)
+on_run (Err e) bag old new rows run done = tt

@@ -1,7 +1,5 @@
 //! The rows of a file of counts, one by one.
 ghost use Rattle.std.specs.Prelude.{◌≡◌, Some, false, IfOk, IsSomeAnd};
-ghost use Rattle.hashbag_words_core.specs.declared.lines.BadLines.{BadLines};
-ghost use Rattle.hashbag_words_core.specs.declared.rows.RowForm.{RowForm};
 ghost use Rattle.hashbag_words_core.specs.Met.{Meets};
 ghost use Rattle.hashbag_words_core.specs.Runs.{read_as, rows_left};
 ghost use Rattle.hashbag_words_core.specs.Sorted.{row_of};
@@ -126,8 +124,6 @@ impl<R: BufRead> RowReader<R> {
 }
 
 impl<R: BufRead> Rows for RowReader<R> {
-    ghost use Rattle.hashbag_words_core.specs.Runs.{rows_left};
-
     // What is left of a run is known, if its bytes are: nothing of it is passed over.
     ghost left = { λ it. rows_left it.form it.reading.bad_lines it.may_be_marked (R.remaining it.input) };
 
