@@ -83,7 +83,7 @@ module _ (old new : List (List (List ℕ × ℕ))) (row : List ℕ × ℕ) (took
   pub all_left : (P : List (List ℕ × ℕ) → Type 0) → All P old → P took.rest → All P new
   all_left P all one = subst (All P) (sym took.is) (All-set P old took.at took.rest one all)
 
--- ---- a row that is done
+-- ---- a row that is put
 
 -- what is put of it, by cases
 on_shown : (P : List (List ℕ × ℕ) → Type 0) (row : String Global × ℕ) → (row.1 ≡ 0 → P []) → (0 < row.1 → P (row_of row ∷ [])) → P (shown_of (Some row))
@@ -193,12 +193,12 @@ module _ (inputs old new : List (List (List ℕ × ℕ))) (out : List (List ℕ 
         numbered = let left : sum_by numbers old ≡ row.1 + sum_by numbers new = numbers_left in let before = so.numbered in omega arith;
       }
 
-  pub so_far_more : (held done next : Option (String Global × ℕ)) → Joins held row done next → SoFar inputs old out held total → SoFar inputs new (out ++ shown_of done) next (total + row.1)
-  so_far_more None done next joins so =
+  pub so_far_more : (held put next : Option (String Global × ℕ)) → Joins held row put next → SoFar inputs old out held total → SoFar inputs new (out ++ shown_of put) next (total + row.1)
+  so_far_more None put next joins so =
       subst₂ (λ (d n : Option (String Global × ℕ)). SoFar inputs new (out ++ shown_of d) n (total + row.1)) (sym joins.0) (sym joins.1) (row_first so)
-  so_far_more (Some held) done next (inl same) so =
+  so_far_more (Some held) put next (inl same) so =
       subst₂ (λ (d n : Option (String Global × ℕ)). SoFar inputs new (out ++ shown_of d) n (total + row.1)) (sym same.1) (sym same.2) (row_same held same.0 so)
-  so_far_more (Some held) done next (inr later) so =
+  so_far_more (Some held) put next (inr later) so =
       subst₂ (λ (d n : Option (String Global × ℕ)). SoFar inputs new (out ++ shown_of d) n (total + row.1)) (sym later.1) (sym later.2) (row_later held later.0 so)
 
 -- ---- the end
@@ -241,20 +241,20 @@ left_at : {S : Type 0} (left : S → Option (List (List ℕ × ℕ))) (sources :
     → with_head (get_or sources k d).head (left (get_or sources k d).rows) ≡ Some (get_or rows k [])
 left_at {S} left sources rows k d are lt =
     let long : length rows ≡ length sources =
-    sym (length-map Some rows) ∙ sym (ap length are) ∙ length-map (λ (s : Source S). with_head s.head (left s.rows)) sources in
+    sym (length-map rows Some) ∙ sym (ap length are) ∙ length-map sources (λ (s : Source S). with_head s.head (left s.rows)) in
     sym (get_or-map (λ (s : Source S). with_head s.head (left s.rows)) sources k d None lt)
     ∙ ap (λ (l : List (Option (List (List ℕ × ℕ)))). get_or l k None) are ∙ get_or-map Some rows k [] None (omega arith)
 
 -- the next row of a source that has these rows left
 not_below : (row : String Global × ℕ) (head : Option (String Global × ℕ)) (left : Option (List (List ℕ × ℕ))) (rows : List (List ℕ × ℕ)) → IsNoLater (Some row) head → with_head head left ≡ Some rows
     → IsNotBelow (string_bytes row.0) rows
-not_below row None left rows no e = subst (IsNotBelow (string_bytes row.0)) (same_Some [] rows e) tt
-not_below row (Some h) None rows no e = absurd (cc)
-not_below row (Some h) (Some more) rows no e = subst (IsNotBelow (string_bytes row.0)) (same_Some (row_of h ∷ more) rows e) no
+not_below row None left rows nlt e = subst (IsNotBelow (string_bytes row.0)) (same_Some [] rows e) tt
+not_below row (Some h) None rows nlt e = absurd (cc)
+not_below row (Some h) (Some more) rows nlt e = subst (IsNotBelow (string_bytes row.0)) (same_Some (row_of h ∷ more) rows e) nlt
 
 none_left : (head : Option (String Global × ℕ)) (left : Option (List (List ℕ × ℕ))) (rows : List (List ℕ × ℕ)) → IsNoLater None head → with_head head left ≡ Some rows → rows ≡ []
-none_left None left rows no e = sym (same_Some [] rows e)
-none_left (Some h) left rows no e = absurd no
+none_left None left rows nlt e = sym (same_Some [] rows e)
+none_left (Some h) left rows nlt e = absurd nlt
 
 -- a row was taken from the source with the least one
 pub took_row : {S : Type 0} (left : S → Option (List (List ℕ × ℕ))) (sources : List (Source S)) (rows : List (List (List ℕ × ℕ))) (i : ℕ) (new : Source S) (row : Option (String Global × ℕ)) (source : Source S)
@@ -263,7 +263,7 @@ pub took_row : {S : Type 0} (left : S → Option (List (List ℕ × ℕ))) (sour
     → AreLeft left sources rows → TakesRow left rows row (set sources i new)
 took_row {S} left sources rows i new row source within here least is takes are =
     let long : length rows ≡ length sources =
-    sym (length-map Some rows) ∙ sym (ap length are) ∙ length-map (λ (s : Source S). with_head s.head (left s.rows)) sources in
+    sym (length-map rows Some) ∙ sym (ap length are) ∙ length-map sources (λ (s : Source S). with_head s.head (left s.rows)) in
     let at : with_head source.head (left source.rows) ≡ Some (get_or rows i []) =
     ap (λ (s : Source S). with_head s.head (left s.rows)) here ∙ left_at left sources rows i source are within in
     by_row row (takes (get_or rows i []) at)
@@ -277,9 +277,9 @@ took_row {S} left sources rows i new row source within here least is takes are =
 
     by_row : (row : Option (String Global × ℕ)) → TakesHead (get_or rows i []) row (with_head new.head (left new.rows))
         → ((k : ℕ) → k < length sources → (d : Source S) → IsNoLater row (get_or sources k d).head) → length rows ≡ length sources → TakesRow left rows row (set sources i new)
-    by_row None took no long = All-from_get_or (λ (r : List (List ℕ × ℕ)). r ≡ []) rows []
-        (λ k lt. none_left (get_or sources k source).head (left (get_or sources k source).rows) (get_or rows k []) (no k (omega arith) source) (left_at left sources rows k source are (omega arith)))
-    by_row (Some row) took no long = (
+    by_row None took nlt long = All-from_get_or (λ (r : List (List ℕ × ℕ)). r ≡ []) rows []
+        (λ k lt. none_left (get_or sources k source).head (left (get_or sources k source).rows) (get_or rows k []) (nlt k (omega arith) source) (left_at left sources rows k source are (omega arith)))
+    by_row (Some row) took nlt long = (
       set rows i took.0,
       record {
         at = i;
@@ -288,7 +288,7 @@ took_row {S} left sources rows i new row source within here least is takes are =
         was = took.1;
         is = refl;
         least = All-from_get_or (IsNotBelow (string_bytes row.0)) rows []
-            (λ k lt. not_below row (get_or sources k source).head (left (get_or sources k source).rows) (get_or rows k []) (no k (omega arith) source) (left_at left sources rows k source are (omega arith)));
+            (λ k lt. not_below row (get_or sources k source).head (left (get_or sources k source).rows) (get_or rows k []) (nlt k (omega arith) source) (left_at left sources rows k source are (omega arith)));
         above = took.3;
       },
       map-set (λ (s : Source S). with_head s.head (left s.rows)) sources i new ∙ ap (λ (l : List (Option (List (List ℕ × ℕ)))). set l i (with_head new.head (left new.rows))) are

@@ -1,9 +1,10 @@
 -- Rows whose tokens rise, one more at the end or at the front.
-use Rattle.std.proofs.Common.{◌≡◌, ◌≢◌, ◌⊎◌, inl, inr, ℕ, zero, suc, ◌+◌, ◌<◌, Bool, true, false, List, [], ◌∷◌, ◌++◌, length, get_or, set, map, sum_by, All, Ordering, Less, Equal, Greater, is_eq, is_gt, String, string_bytes, string_eq, bytes_eq, Global, Option, None, Some, refl, sym, ◌∙◌, ap, subst, arith}
+use Rattle.std.proofs.Common.{◌≡◌, ◌≢◌, ◌⊎◌, inl, inr, ℕ, zero, suc, ◌+◌, ◌<◌, Bool, true, false, List, [], ◌∷◌, ◌++◌, length, get_or, set, map, sum_by, All, Ordering, Less, Equal, Greater, is_eq, is_gt, is_lt, String, string_bytes, string_eq, bytes_eq, Global, Option, None, Some, refl, sym, ◌∙◌, ap, subst, subst₂, arith}
 use Rattle.std.specs.Cmp.Lexicographic.{nat_list_cmp_total, texts_ties}
 use Rattle.std.specs.List.{AllByRecursion}
 use Rattle.std.specs.List.Sorted.{IsStrictlySortedBy}
 use Rattle.std.specs.Map.{keys_of}
+use Rattle.std.specs.Ordering.{ordering_reverse}
 use Rattle.std.proofs.lemmas.Bool.{cases_eq, false≢true}
 use Rattle.std.proofs.lemmas.Cmp.{tied_itself, upto}
 use Rattle.hashbag_words_core.specs.Sorted.{text_cmp, IsAbove, IsNoLater, IsNotBelow, Rises}
@@ -99,3 +100,20 @@ least_taken {S} sources best i least one k d lt = at (cases_eq k i)
     at : (k ≡ i) ⊎ (k ≡ i → ⊥) → IsNoLater (get_or sources i d).head (get_or sources k d).head
     at (inl is) = subst (λ (j : ℕ). IsNoLater (get_or sources i d).head (get_or sources j d).head) (sym is) (no_later_itself (get_or sources i d).head)
     at (inr other) = no_later_both (get_or sources i d).head (get_or sources best d).head (get_or sources k d).head (one d) (least k d (omega arith))
+
+-- of two texts of which the first isn't less the second comes no later
+pub not_later : (x y : List ℕ) (b : Bool) → b ≡ is_lt (text_cmp x y) → b ≡ false → text_cmp y x ≢ Greater
+not_later x y b e f = λ is.
+    let less : text_cmp x y ≡ Less = nat_list_cmp_total.antisymm x y ∙ ap ordering_reverse is in
+    false≢true (sym f ∙ e ∙ ap is_lt less)
+
+-- what an index gives is the element of its place
+pub same_at : {X : Type 0} (l : List X) (j : ℕ) (d x : X) → j < length l → x ≡ get_or l j x → get_or l j d ≡ x
+same_at [] j d x lt h = absurd (omega arith)
+same_at (y ∷ l) zero d x lt h = sym h
+same_at (y ∷ l) (suc j) d x lt h = same_at l j d x (omega arith) h
+
+pub at_places : {S : Type 0} (sources : List (Source S)) (i j : ℕ) (x y : Source S) → i < length sources → j < length sources → x ≡ get_or sources i x → y ≡ get_or sources j y → IsNoLater x.head y.head
+    → (d : Source S) → IsNoLater (get_or sources i d).head (get_or sources j d).head
+at_places {S} sources i j x y low high at_i at_j h d =
+    subst₂ IsNoLater (ap (λ (s : Source S). s.head) (sym (same_at sources i d x low at_i))) (ap (λ (s : Source S). s.head) (sym (same_at sources j d y high at_j))) h
