@@ -1,5 +1,5 @@
 //! Rows of several sources whose tokens rise become one stream of such rows: each token once, with the sum of its counts.
-ghost use Rattle.std.specs.Prelude.{◌≡◌, ℕ, ◌+◌, ◌<◌, true, false, List, length, All, slice_index_or, string_bytes, IfOk, IfSome, OnOk};
+ghost use Rattle.std.specs.Prelude.{◌≡◌, ℕ, ◌+◌, ◌<◌, ◌^◌, true, false, List, length, All, slice_index_or, string_bytes, IfOk, IfSome, IsSome, OnOk};
 ghost use Rattle.hashbag_words_core.specs.Sorted.{count_of, shown_of, AreLeft, IsMergeOf, IsNoLater, Joins, Puts, TakesRow};
 
 use crate::errors::Fault;
@@ -54,7 +54,8 @@ fn least<S>(sources: &[Source<S>]) -> usize
 
 // The total with the count of a next row, or `None` if it doesn't fit.
 fn total_with(total: usize, head: &Option<(String, usize)>) -> Option<usize>
-    ensures { IfSome result (λ sum. sum ≡ total + count_of head.now) }
+    ensures sum { IfSome result (λ sum. sum ≡ total + count_of head.now) }
+    ensures fits { IfSome result (λ sum. sum < 2 ^ 64) }
 {
     match head {
         Some(row) => total.checked_add(row.1),
@@ -70,6 +71,7 @@ fn take_least<S: Rows + Drop>(
     ensures takes { IfOk result (λ row. (rows : List (List (List ℕ × ℕ))) → AreLeft S.left sources.old.items rows
         → TakesRow S.left rows row sources.new.items) }
     ensures total { IfOk result (λ row. total.new ≡ total.old + count_of row) }
+    ensures fits { IfOk result (λ row. IsSome row → total.new < 2 ^ 64) }
 {
     if sources.is_empty() {
         return Ok(None);
