@@ -3,7 +3,7 @@
 //! The text goes into a temporary file in the same folder, which is renamed onto the name of the output at the end. So a failed write,
 //! a signal or a second writer leaves the file of that name as it was.
 use std::fs::{self, OpenFile, OpenOptions};
-use std::io::{self, ErrorKind, Write};
+use std::io::{self, ErrorKind, Read, Write};
 use std::rt::Files;
 
 // The greatest number of names that are tried for the temporary file.
@@ -70,12 +70,6 @@ fn open_existing<R: Files + AllocGlobal>(
     }
 }
 
-// Writes a text, all of it.
-fn put<F: Write>(file: &mut F, text: &[u8]) -> io::Result<()> {
-    file.write_all(text)?;
-    file.flush()
-}
-
 impl<F: Write + OpenFile + Drop> OutputFile<F> {
     /// Opens the output of that name, before there is anything to write.
     ///
@@ -92,13 +86,30 @@ impl<F: Write + OpenFile + Drop> OutputFile<F> {
         }
     }
 
-    // Writes a text, until the device has it.
-    fn put_durably(&mut self, text: &[u8]) -> io::Result<()> {
-        put(&mut self.file, text)?;
+    // Sees to it that the device has what was written.
+    fn settle(&mut self) -> io::Result<()> {
+        self.file.flush()?;
         if self.names.is_some() {
             self.file.sync_all()?;
         }
         Ok(())
+    }
+
+    // Gives what was written the name of the output, unless a write failed.
+    fn end<R: Files<File = F>>(mut self, rt: &R, written: io::Result<()>) -> io::Result<()> {
+        let mut ended = match written {
+            Ok(()) => self.settle(),
+            Err(error) => Err(error),
+        };
+        if let Some(names) = &self.names
+            && ended.is_ok()
+        {
+            ended = fs::rename(rt, names.temporary.as_str(), names.output.as_str());
+        }
+        if ended.is_err() {
+            self.abandon(rt);
+        }
+        ended
     }
 
     /// Writes the text, and gives it the name of the output.
@@ -107,16 +118,26 @@ impl<F: Write + OpenFile + Drop> OutputFile<F> {
     ///
     /// What the system says of a write. Then the temporary file is removed, and a file of that name is as it was.
     pub fn write_whole<R: Files<File = F>>(mut self, rt: &R, text: &[u8]) -> io::Result<()> {
-        let mut written = self.put_durably(text);
-        if let Some(names) = &self.names
-            && written.is_ok()
-        {
-            written = fs::rename(rt, names.temporary.as_str(), names.output.as_str());
-        }
-        if written.is_err() {
-            self.abandon(rt);
-        }
-        written
+        let written = self.file.write_all(text);
+        self.end(rt, written)
+    }
+
+    /// Writes all that `from` has left, and gives it the name of the output.
+    ///
+    /// # Errors
+    ///
+    /// As for [`OutputFile::write_whole`], also of a read.
+    pub fn copy_whole<R: Files<File = F>, I: Read>(
+        mut self,
+        rt: &R,
+        from: &mut I,
+    ) -> io::Result<()> {
+        let copied = io::copy(from, &mut self.file);
+        let written = match copied {
+            Ok(_bytes) => Ok(()),
+            Err(error) => Err(error),
+        };
+        self.end(rt, written)
     }
 
     /// Removes the temporary file, if there is nothing to write after all.

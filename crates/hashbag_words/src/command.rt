@@ -67,6 +67,19 @@ fn form_read<'a>(alloc: Global) -> Arg<'a> {
         .default_value("tsv")
 }
 
+// What the jobs have that may count more than the memory holds.
+fn with_memory(alloc: Global, command: Command<'_>) -> Result<Command<'_>, Error> {
+    Ok(
+        command
+            .arg(
+                arg!(in alloc; --memory <SIZE> "Take about that much memory, as `64M` or `2G`, and temporary files beyond it"),
+            )?
+            .arg(
+                arg!(in alloc; --tmp <DIR> "Where temporary files are: $TMPDIR or /tmp by default"),
+            )?,
+    )
+}
+
 // What every job has that reads any number of files: where their names may be.
 fn with_list(alloc: Global, command: Command<'_>) -> Result<Command<'_>, Error> {
     let list =
@@ -88,17 +101,22 @@ fn count<'a>(alloc: Global) -> Result<Command<'a>, Error> {
         .arg(by)?
         .arg(arg!(in alloc; --pattern <REGEX> "Count what matches it, within a line"))?
         .arg(arg!(in alloc; --fold "Count upper and lower case as one"))?;
-    with_output(alloc, with_input(alloc, with_list(alloc, command)?)?)
+    let command = with_memory(alloc, with_list(alloc, command)?)?;
+    with_output(alloc, with_input(alloc, command)?)
 }
 
 fn merge<'a>(alloc: Global) -> Result<Command<'a>, Error> {
+    let sorted =
+        arg!(in alloc; --sorted "The tokens of each file rise: merge the files line by line");
     let command = Command::new(alloc, "merge")
         .about("Add up counts")
         .arg(
             arg!(in alloc; files: [FILE] ... "Files of counts: standard input where there is none, or for `-`"),
         )?
-        .arg(form_read(alloc))?;
-    with_output(alloc, with_input(alloc, with_list(alloc, command)?)?)
+        .arg(form_read(alloc))?
+        .arg(sorted.conflicts_with("memory")?)?;
+    let command = with_memory(alloc, with_list(alloc, command)?)?;
+    with_output(alloc, with_input(alloc, command)?)
 }
 
 // A job on two files of counts.

@@ -1,7 +1,10 @@
 //! Inputs are read: files by their names, `-` for standard input.
 use crate::bag::Bag;
 use crate::failure::Failure;
+use crate::gauge::Gauge;
+use crate::input::{Input, said};
 use crate::progress::Progress;
+use crate::runs::{BUFFER, Runs};
 use crate::settings::Settings;
 use hashbag_words_core::counting::count_lines;
 use hashbag_words_core::errors::Fault;
@@ -9,14 +12,13 @@ use hashbag_words_core::lines::Reading;
 use hashbag_words_core::merging::{add_first_row, add_rows, add_tree};
 use hashbag_words_core::rows::RowForm;
 use hashbag_words_core::rule::Rule;
-use std::fs;
-use std::io::{self, BufRead, BufReader, Read};
+use std::io::{self, BufRead, BufReader};
 
 // So many lines are read before it is told how far the program is.
 const STEP: u64 = 1 << 16;
 
-// So many bytes are read at once.
-const BUFFER: usize = 1 << 16;
+// So many lines are read before a bag is measured that may not grow without bound.
+const BOUNDED_STEP: u64 = 16;
 
 /// How inputs are taken in.
 #[derive(Clone, Copy)]
@@ -27,6 +29,26 @@ pub enum Intake<'r> {
     Rows(RowForm),
     /// As a JSON text.
     Tree,
+}
+
+/// Where the counts go of a bag that is full.
+#[derive(Drop)]
+pub struct Bound<'s, 'a> {
+    /// When it is full.
+    pub gauge: Gauge,
+    /// What was counted before.
+    pub runs: Runs<'s, 'a>,
+}
+
+impl<'s, 'a> Bound<'s, 'a> {
+    // Makes a run of the bag if it is full, after so many bytes more.
+    fn keep(&mut self, bag: &mut Bag, read: u64) -> Result<(), Failure<'a>> {
+        if self.gauge.is_full(bag, read) {
+            self.runs.spill(bag)?;
+            self.gauge.empty();
+        }
+        Ok(())
+    }
 }
 
 /// The inputs that the command line names.
@@ -40,6 +62,8 @@ pub struct Inputs<'s, 'a, 'm> {
     pub names: &'s [&'a str],
     /// How far it is.
     pub progress: Progress,
+    /// The bound of the memory, if there is one.
+    pub bound: Option<Bound<'s, 'a>>,
 }
 
 impl<'s, 'a, 'm> Inputs<'s, 'a, 'm> {
@@ -52,12 +76,17 @@ impl<'s, 'a, 'm> Inputs<'s, 'a, 'm> {
         reading: &mut Reading,
     ) -> Result<bool, Fault> {
         let alloc = self.rt.alloc();
+        let step = if self.bound.is_some() {
+            BOUNDED_STEP
+        } else {
+            STEP
+        };
         match intake {
-            Intake::Text(rule) => count_lines(alloc, bag, &rule, input, reading, STEP),
+            Intake::Text(rule) => count_lines(alloc, bag, &rule, input, reading, step),
             Intake::Rows(form) if reading.line == 0 => {
                 add_first_row(alloc, bag, form, input, reading)
             }
-            Intake::Rows(form) => add_rows(alloc, bag, form, input, reading, STEP),
+            Intake::Rows(form) => add_rows(alloc, bag, form, input, reading, step),
             Intake::Tree => {
                 let text = io::read_to_string(alloc, input).map_err(Fault::Read)?;
                 let state = *bag.hasher();
@@ -68,22 +97,29 @@ impl<'s, 'a, 'm> Inputs<'s, 'a, 'm> {
     }
 
     // Takes in what is read here.
-    fn take<R: Read + Drop>(
+    fn take(
         &mut self,
         intake: Intake<'_>,
         bag: &mut Bag,
         name: &'a str,
-        input: R,
+        mut input: BufReader<Input>,
     ) -> Result<(), Failure<'a>> {
-        let opened = BufReader::with_capacity(self.rt.alloc(), BUFFER, input);
-        let mut input = opened.map_err(|error| Failure::of_file(name, error))?;
         let mut reading = Reading::new(self.settings.bad_lines);
+        let mut bytes = 0;
         for _ in 0..u64::MAX {
-            match self.take_lines(intake, bag, &mut input, &mut reading) {
-                Ok(true) => self.progress.tell(self.rt, reading.line, bag),
-                Ok(false) => break,
+            let more = match self.take_lines(intake, bag, &mut input, &mut reading) {
+                Ok(more) => more,
                 Err(fault) => return Err(Failure::of_input(name, reading.line, fault)),
+            };
+            if let Some(bound) = &mut self.bound {
+                let read = input.get_ref().bytes();
+                bound.keep(bag, read.saturating_sub(bytes))?;
+                bytes = read;
             }
+            if !more {
+                break;
+            }
+            self.progress.tell(self.rt, reading.line, bag);
         }
         self.progress.end_input(reading.line);
         if reading.skipped > 0 {
@@ -100,12 +136,13 @@ impl<'s, 'a, 'm> Inputs<'s, 'a, 'm> {
         bag: &mut Bag,
         name: &'a str,
     ) -> Result<(), Failure<'a>> {
-        if name == "-" {
-            return self.take(intake, bag, "standard input", self.rt.stdin());
-        }
-        match fs::open(self.rt, name) {
-            Ok(file) => self.take(intake, bag, name, file),
-            Err(error) => Err(Failure::of_file(name, error)),
+        let opened = match Input::open(self.rt, name) {
+            Ok(input) => BufReader::with_capacity(self.rt.alloc(), BUFFER, input),
+            Err(error) => Err(error),
+        };
+        match opened {
+            Ok(input) => self.take(intake, bag, said(name), input),
+            Err(error) => Err(Failure::of_file(said(name), error)),
         }
     }
 

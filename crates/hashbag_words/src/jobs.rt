@@ -1,11 +1,15 @@
 //! What the program does: it takes inputs in, and shows what the bag then has.
 use crate::bag::{Bag, empty};
 use crate::failure::Failure;
-use crate::inputs::{Inputs, Intake};
+use crate::gauge::Gauge;
+use crate::inputs::{Bound, Inputs, Intake};
 use crate::names::check;
-use crate::output::{Output, text_of};
+use crate::output::{Made, Output, text_of};
 use crate::progress::Progress;
+use crate::runs::Runs;
 use crate::settings::{By, Job, Settings};
+use crate::shown::{show, show_sorted};
+use crate::size::bytes_of;
 use hashbag_ops::{keep_common, take_away};
 use hashbag_shell::status::{DENIED, DONE};
 use hashbag_words_core::rule::{Pieces, Rule};
@@ -50,12 +54,56 @@ fn take_pair<'a>(
     Ok(other)
 }
 
-// The bag that a job makes of its inputs.
-fn bag_of<'a>(
+// The bound of the memory, if there is one. Runs will be in that folder.
+fn bound_of<'s, 'a>(
+    rt: &'s HostRuntime,
+    settings: &Settings<'a, '_>,
+    folder: &'a str,
+) -> Result<Option<Bound<'s, 'a>>, Failure<'a>> {
+    let Some(size) = settings.memory else {
+        return Ok(None);
+    };
+    let Some(most) = bytes_of(size) else {
+        return Err(Failure::Size(size));
+    };
+    let gauge = Gauge::new(most);
+    let runs = Runs::new(rt, folder);
+    Ok(Some(Bound { gauge, runs }))
+}
+
+// Takes in the inputs of a job: what was counted is then in the bag, and in the runs that were made.
+fn take_in<'a>(inputs: &mut Inputs<'_, 'a, '_>, bag: &mut Bag) -> Result<(), Failure<'a>> {
+    let settings = inputs.settings;
+    let counts = match settings.rows {
+        Some(form) => Intake::Rows(form),
+        None => Intake::Tree,
+    };
+    match settings.job {
+        Job::Count(by) => count(inputs, by, bag)?,
+        Job::Merge => inputs.take_all(counts, bag)?,
+        Job::Less => {
+            let other = take_pair(inputs, counts, bag)?;
+            take_away(bag, &other);
+        }
+        Job::Common => {
+            let other = take_pair(inputs, counts, bag)?;
+            keep_common(bag, &other);
+        }
+    }
+    Ok(())
+}
+
+// What is to be written. Temporary files are in that folder.
+fn made<'a>(
     rt: &HostRuntime,
     settings: &Settings<'a, '_>,
     names: &[&'a str],
-) -> Result<Bag, Failure<'a>> {
+    folder: &'a str,
+) -> Result<Made, Failure<'a>> {
+    if settings.sorted {
+        return show_sorted(rt, settings, folder, names);
+    }
+    let bound = bound_of(rt, settings, folder)?;
     let mut bag = empty(rt)?;
     let progress = Progress::new(rt, settings.progress);
     let mut inputs = Inputs {
@@ -63,52 +111,50 @@ fn bag_of<'a>(
         settings,
         names,
         progress,
+        bound,
     };
-    let counts = match settings.rows {
-        Some(form) => Intake::Rows(form),
-        None => Intake::Tree,
-    };
-    match settings.job {
-        Job::Count(by) => count(&mut inputs, by, &mut bag)?,
-        Job::Merge => inputs.take_all(counts, &mut bag)?,
-        Job::Less => {
-            let other = take_pair(&mut inputs, counts, &mut bag)?;
-            take_away(&mut bag, &other);
-        }
-        Job::Common => {
-            let other = take_pair(&mut inputs, counts, &mut bag)?;
-            keep_common(&mut bag, &other);
-        }
+    take_in(&mut inputs, &mut bag)?;
+    match inputs.bound {
+        Some(bound) => show_bounded(rt, settings, folder, bound.runs, &mut bag),
+        None => text_of(rt, settings, &mut bag),
     }
-    Ok(bag)
 }
 
-// The text that is to be written, and whether it shows nothing.
-fn made<'a>(
+// What is to be written of runs, if there are any, and of what the bag has.
+fn show_bounded<'a>(
     rt: &HostRuntime,
     settings: &Settings<'a, '_>,
-    names: &[&'a str],
-) -> Result<(Vec<u8>, bool), Failure<'a>> {
-    let mut bag = bag_of(rt, settings, names)?;
-    text_of(rt, settings, &mut bag)
+    folder: &'a str,
+    mut runs: Runs<'_, 'a>,
+    bag: &mut Bag,
+) -> Result<Made, Failure<'a>> {
+    if runs.is_empty() {
+        return text_of(rt, settings, bag);
+    }
+    if !bag.is_empty() {
+        runs.spill(bag)?;
+    }
+    show(rt, settings, folder, runs.into_batch()?)
 }
 
-/// Does what the command line asks for, and returns the status.
+/// Does what the command line asks for, and returns the status. Temporary files are in that folder.
 pub fn run<'a>(
     rt: &HostRuntime,
     settings: &Settings<'a, '_>,
     names: &[&'a str],
+    folder: &'a str,
 ) -> Result<u8, Failure<'a>> {
     check(rt, settings, names)?;
     let output = Output::open(rt, settings)?;
-    let (text, is_empty) = match made(rt, settings, names) {
+    let made = match made(rt, settings, names, folder) {
         Ok(made) => made,
         Err(failure) => {
             output.abandon(rt);
             return Err(failure);
         }
     };
-    output.write(rt, text.as_slice())?;
+    let is_empty = made.is_empty();
+    output.write(rt, made)?;
     Ok(if is_empty && settings.fail_empty {
         DENIED
     } else {

@@ -2,14 +2,20 @@
 #![tactic(auto)]
 
 mod bag;
+mod batch;
 mod command;
 mod failure;
+mod gauge;
+mod input;
 mod inputs;
 mod jobs;
 mod names;
 mod output;
 mod progress;
+mod runs;
 mod settings;
+mod shown;
+mod size;
 
 use failure::Failure;
 use hashbag_shell::VERSION;
@@ -39,7 +45,12 @@ fn do_job(rt: &HostRuntime, settings: &Settings<'_, '_>, list: Option<&String>) 
     let Ok(names) = names::inputs_of(rt.alloc(), settings, list) else {
         return Failure::NoMemoryLeft.report(rt);
     };
-    match jobs::run(rt, settings, names.as_slice()) {
+    let folder = match names::temporary_folder(rt) {
+        Ok(folder) => folder,
+        Err(failure) => return failure.report(rt),
+    };
+    let folder = settings.tmp.unwrap_or(folder.as_str());
+    match jobs::run(rt, settings, names.as_slice(), folder) {
         Ok(status) => status,
         Err(failure) => failure.report(rt),
     }

@@ -3,7 +3,7 @@ use crate::failure::Failure;
 use crate::settings::{Job, Settings};
 use hashbag_shell::one_file::is_one_file;
 use std::alloc::{AllocError, Global};
-use std::{fs, io};
+use std::{env, fs, io};
 
 /// What the file that `--files-from` names has.
 pub fn read_list<'a>(rt: &HostRuntime, name: &'a str) -> Result<String, Failure<'a>> {
@@ -44,6 +44,14 @@ pub fn inputs_of<'a>(
         (_, None) => names.push("-")?,
     }
     Ok(names)
+}
+
+/// The folder where temporary files are, unless the command line names one.
+pub fn temporary_folder<'a>(rt: &HostRuntime) -> Result<String, Failure<'a>> {
+    match env::temp_dir(rt) {
+        Ok(folder) => Ok(folder.into_string()),
+        Err(error) => Err(Failure::of_file("TMPDIR", error)),
+    }
 }
 
 /// Rejects standard input that is to be read twice, and an output that is one of the inputs.

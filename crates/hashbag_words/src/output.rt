@@ -8,6 +8,25 @@ use hashbag_words_core::writing::write_rows;
 use std::fs::File;
 use std::io::{self, Write};
 
+/// What is to be written, and whether it shows nothing.
+#[derive(Drop)]
+pub enum Made {
+    /// A text in memory.
+    Text(Vec<u8>, bool),
+    /// A temporary file.
+    File(File, bool),
+}
+
+impl Made {
+    /// Whether it shows nothing.
+    pub fn is_empty(&self) -> bool {
+        match self {
+            Made::Text(_, is_empty) => *is_empty,
+            Made::File(_, is_empty) => *is_empty,
+        }
+    }
+}
+
 /// Where counts are written.
 #[derive(Drop)]
 pub enum Output<'a> {
@@ -29,11 +48,11 @@ impl<'a> Output<'a> {
         }
     }
 
-    /// Writes all of a text.
-    pub fn write(self, rt: &HostRuntime, text: &[u8]) -> Result<(), Failure<'a>> {
+    /// Writes all that was made.
+    pub fn write(self, rt: &HostRuntime, made: Made) -> Result<(), Failure<'a>> {
         let (name, written) = match self {
-            Output::Standard => ("standard output", put(io::writer(rt), text)),
-            Output::Named(name, file) => (name, file.write_whole(rt, text)),
+            Output::Standard => ("standard output", put(io::writer(rt), made)),
+            Output::Named(name, file) => (name, put_whole(rt, file, made)),
         };
         written.map_err(|error| Failure::of_file(name, error))
     }
@@ -46,20 +65,33 @@ impl<'a> Output<'a> {
     }
 }
 
-// Writes what is at hand, all of it.
-fn put<W: Write + Drop>(mut to: W, text: &[u8]) -> io::Result<()> {
-    to.write_all(text)?;
+// Writes all of it.
+fn put<W: Write + Drop>(mut to: W, made: Made) -> io::Result<()> {
+    match made {
+        Made::Text(text, _) => to.write_all(text.as_slice())?,
+        Made::File(mut file, _) => {
+            let _bytes = io::copy(&mut file, &mut to)?;
+        }
+    }
     to.flush()
 }
 
-/// Returns the text of the counts that are asked for, and whether there are none.
+// Writes all of it or nothing.
+fn put_whole(rt: &HostRuntime, to: OutputFile<File>, made: Made) -> io::Result<()> {
+    match made {
+        Made::Text(text, _) => to.write_whole(rt, text.as_slice()),
+        Made::File(mut file, _) => to.copy_whole(rt, &mut file),
+    }
+}
+
+/// Makes the text of the counts that are asked for.
 ///
 /// All of it is made in memory, so nothing is written if an allocation fails.
 pub fn text_of<'a>(
     rt: &HostRuntime,
     settings: &Settings<'a, '_>,
     bag: &mut Bag,
-) -> Result<(Vec<u8>, bool), Failure<'a>> {
+) -> Result<Made, Failure<'a>> {
     drop_below(bag, settings.least);
     let Ok(rows) = chosen(rt.alloc(), bag, settings.order) else {
         return Err(Failure::NoMemoryLeft);
@@ -68,5 +100,5 @@ pub fn text_of<'a>(
     if write_rows(rt.alloc(), &mut text, settings.format, &rows).is_err() {
         return Err(Failure::NoMemoryLeft);
     }
-    Ok((text, rows.is_empty()))
+    Ok(Made::Text(text, rows.is_empty()))
 }

@@ -44,10 +44,15 @@ impl Progress {
             return;
         }
         let lines = self.lines.saturating_add(lines);
-        let tokens = bag.len();
+        // The limit has fallen by what is in runs.
+        let in_runs = usize::MAX.saturating_sub(bag.limit());
+        let tokens = in_runs.saturating_add(bag.len());
         let speed = a_second(tokens, now.duration_since(start));
         let distinct = bag.set_len();
-        let _ = eprintln!(rt; "{lines} lines, {tokens} tokens ({speed}/s), {distinct} distinct");
+        let of = if in_runs > 0 { " in memory" } else { "" };
+        let _ = eprintln!(rt;
+            "{lines} lines, {tokens} tokens ({speed}/s), {distinct} distinct{of}"
+        );
         self.times = Some((start, now));
     }
 }

@@ -50,6 +50,12 @@ pub struct Settings<'a, 'm> {
     pub bad_lines: BadLines,
     /// Whether it is told how far it is.
     pub progress: bool,
+    /// Of `merge`: whether the rows of each input rise.
+    pub sorted: bool,
+    /// How much memory the counts may take, as it was written.
+    pub memory: Option<&'a str>,
+    /// The folder of temporary files, if it was named.
+    pub tmp: Option<&'a str>,
     /// Which counts are shown, and in what order.
     pub order: Order,
     /// What occurs less often isn't shown.
@@ -128,6 +134,9 @@ impl<'a, 'm> Settings<'a, 'm> {
             rows: rows_of(given),
             bad_lines,
             progress: given.get_flag("progress"),
+            sorted: given.get_flag("sorted"),
+            memory: given.get_str("memory"),
+            tmp: given.get_str("tmp"),
             order: order_of(given),
             least: given.get_one::<usize>("least").unwrap_or(0),
             format: format_of(given),

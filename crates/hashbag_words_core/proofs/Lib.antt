@@ -2,6 +2,10 @@ pub mod CountLemmas
 pub mod LineLemmas
 pub mod MatchLemmas
 pub mod MergeLemmas
+pub mod MergedLemmas
 pub mod ReadLemmas
 pub mod RowLemmas
+pub mod RunLemmas
+pub mod RunTextLemmas
+pub mod SortedLemmas
 pub mod WordLemmas

@@ -70,7 +70,7 @@ first_line-cut front rest h =
     ∙ ap (λ (l : List ℕ). strip_last 13 l) (strip_last-push 10 front)
     ∙ stripped_alike front
 
-lines-cut : (front rest : List ℕ) → NoLineFeed front → lines (front ++ 10 ∷ rest) ≡ strip_carriage_return front ∷ lines rest
+pub lines-cut : (front rest : List ℕ) → NoLineFeed front → lines (front ++ 10 ∷ rest) ≡ strip_carriage_return front ∷ lines rest
 lines-cut front rest h =
     ap lines_of_parts (slice_split_at (λ b. eqb b 10) front 10 rest (others front h) refl)
     ∙ lines_of_parts-cons front (slice_split (λ b. eqb b 10) rest) (omega (arith, length-slice_split (λ b. eqb b 10) rest))

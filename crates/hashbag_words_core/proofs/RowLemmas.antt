@@ -49,10 +49,10 @@ letter_at b l false false false true is9 is10 is13 is92 e = subst (λ (k : ℕ).
 letter_at b l false false false false is9 is10 is13 is92 e = absurd (cc)
 
 -- a letter stands for the byte whose letter it is
-letter_back : (b l : ℕ) → letter_of b ≡ Some l → byte_of l ≡ Some b
+pub letter_back : (b l : ℕ) → letter_of b ≡ Some l → byte_of l ≡ Some b
 letter_back b l e = letter_at b l (eqb b 9) (eqb b 10) (eqb b 13) (eqb b 92) refl refl refl refl e
 
-plain_byte : (b k l : ℕ) → letter_of k ≡ Some l → letter_of b ≡ None → b ≢ k
+pub plain_byte : (b k l : ℕ) → letter_of k ≡ Some l → letter_of b ≡ None → b ≢ k
 plain_byte b k l has e is = let both : letter_of b ≡ letter_of k = ap letter_of is in absurd (cc)
 
 letter_not_tab : (b l : ℕ) → letter_of b ≡ Some l → l ≢ 9

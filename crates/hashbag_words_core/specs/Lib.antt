@@ -1,6 +1,9 @@
 pub mod Choice
 pub mod Counts
 pub mod Merging
+pub mod Met
 pub mod Reading
 pub mod Rows
+pub mod Runs
+pub mod Sorted
 pub mod Tokens

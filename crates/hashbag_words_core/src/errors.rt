@@ -24,6 +24,9 @@ pub enum BadLine {
     /// The last line of a file of counts has no line feed at its end: the file may have been cut off there.
     #[error("no line feed")]
     CutOff,
+    /// The rows are to rise, and the token of this one doesn't come after that of the row before.
+    #[error("not in order")]
+    NotInOrder,
 }
 
 /// Why an input isn't counted to its end.

@@ -17,7 +17,7 @@ use std::io::BufRead;
 use std::str;
 
 // The token and the count of a line in that form, or what is wrong with it.
-fn read_in_form(
+pub(crate) fn read_in_form(
     alloc: Global,
     form: RowForm,
     line: &str,
@@ -81,7 +81,7 @@ fn add_read_row<S: BuildHasher + Drop>(
 }
 
 // A line without the byte order mark at its beginning.
-fn past_mark(line: &[u8]) -> &[u8]
+pub(crate) fn past_mark(line: &[u8]) -> &[u8]
     ensures { result.now ≡ without_mark line.now }
 {
     if line.starts_with(b"\xef\xbb\xbf") {

@@ -8,4 +8,6 @@ mod matches;
 #[cfg(test)]
 mod movements;
 #[cfg(test)]
+mod sorted;
+#[cfg(test)]
 mod words;

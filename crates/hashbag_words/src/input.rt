@@ -1,0 +1,59 @@
+//! An input that is open.
+use std::fs::{self, File};
+use std::io::{self, Read, Stdin};
+
+// Where the bytes come from.
+#[derive(Drop)]
+enum Origin {
+    Standard(Stdin),
+    File(File),
+}
+
+/// An input that is open, and how many bytes of it were read.
+#[derive(Drop)]
+pub struct Input {
+    origin: Origin,
+    bytes: u64,
+}
+
+impl Input {
+    /// Opens the input of that name, `-` for standard input.
+    ///
+    /// # Errors
+    ///
+    /// What the system says.
+    pub fn open(rt: &HostRuntime, name: &str) -> io::Result<Input> {
+        if name == "-" {
+            let origin = Origin::Standard(rt.stdin());
+            return Ok(Input { origin, bytes: 0 });
+        }
+        Ok(Input::of_file(fs::open(rt, name)?))
+    }
+
+    /// A file that is open.
+    pub fn of_file(file: File) -> Input {
+        let origin = Origin::File(file);
+        Input { origin, bytes: 0 }
+    }
+
+    /// How many bytes were read.
+    pub fn bytes(&self) -> u64 {
+        self.bytes
+    }
+}
+
+impl Read for Input {
+    fn read(&mut self, buf: &mut [u8]) -> io::Result<usize> {
+        let n = match &mut self.origin {
+            Origin::Standard(stdin) => stdin.read(buf)?,
+            Origin::File(file) => file.read(buf)?,
+        };
+        self.bytes = self.bytes.saturating_add(n as u64);
+        Ok(n)
+    }
+}
+
+/// What messages call the input of that name.
+pub fn said(name: &str) -> &str {
+    if name == "-" { "standard input" } else { name }
+}

@@ -1,0 +1,148 @@
+//! Runs: counts of parts of the input in temporary files, tokens rising.
+use crate::bag::Bag;
+use crate::batch::Batch;
+use crate::failure::Failure;
+use hashbag_shell::temporary_file::create_unnamed;
+use hashbag_words_core::runs::spill;
+use hashbag_words_core::shown_rows::WrittenRows;
+use hashbag_words_core::writing::{Format, RowWriter};
+use std::fs::File;
+use std::io::{self, BufWriter, Seek};
+use std::process;
+
+/// So many bytes are read or written at once.
+pub const BUFFER: usize = 1 << 16;
+
+/// So many runs, or files, are merged at once.
+pub const FAN: usize = 16;
+
+// A run, and how often its rows have been merged.
+#[derive(Drop)]
+struct Run {
+    file: File,
+    level: u32,
+}
+
+/// The runs that were made.
+#[derive(Drop)]
+pub struct Runs<'s, 'a> {
+    rt: &'s HostRuntime,
+    folder: &'a str,
+    // The levels don't rise, and fewer than `FAN` runs are of one level.
+    runs: Vec<Run>,
+}
+
+/// Creates a temporary file in that folder.
+pub fn temporary<'a>(rt: &HostRuntime, folder: &'a str) -> Result<File, Failure<'a>> {
+    let number = process::id(rt.process());
+    create_unnamed(rt, folder, number).map_err(|error| Failure::of_file(folder, error))
+}
+
+/// The file that was written to, to be read from its beginning.
+pub fn begun(written: BufWriter<File>) -> io::Result<File> {
+    let mut file = match written.into_inner() {
+        Ok(file) => file,
+        Err(error) => return Err(error.into_error()),
+    };
+    file.rewind()?;
+    Ok(file)
+}
+
+// Makes a run of what a bag has in a file, and empties the bag.
+fn spill_to(rt: &HostRuntime, file: File, bag: &mut Bag) -> io::Result<File> {
+    let mut out = BufWriter::with_capacity(rt.alloc(), BUFFER, file)?;
+    spill(rt.alloc(), &mut out, bag)?;
+    begun(out)
+}
+
+impl<'s, 'a> Runs<'s, 'a> {
+    /// Before the first run. The temporary files will be in that folder.
+    pub fn new(rt: &'s HostRuntime, folder: &'a str) -> Runs<'s, 'a> {
+        let runs = Vec::new(rt.alloc());
+        Runs { rt, folder, runs }
+    }
+
+    /// Whether there are none.
+    pub fn is_empty(&self) -> bool {
+        self.runs.is_empty()
+    }
+
+    /// Makes a run of what the bag has, and empties it.
+    pub fn spill(&mut self, bag: &mut Bag) -> Result<(), Failure<'a>> {
+        let file = temporary(self.rt, self.folder)?;
+        match spill_to(self.rt, file, bag) {
+            Ok(file) => self.add(file),
+            Err(error) => Err(Failure::of_file(self.folder, error)),
+        }
+    }
+
+    /// Adds a run. If there are `FAN` of one level, they become one of the next level.
+    pub fn add(&mut self, file: File) -> Result<(), Failure<'a>> {
+        let mut file = file;
+        for level in 0..u32::MAX {
+            if self.runs.push(Run { file, level }).is_err() {
+                return Err(Failure::NoMemoryLeft);
+            }
+            if self.of_level(level) < FAN {
+                break;
+            }
+            file = self.merged(level)?;
+        }
+        Ok(())
+    }
+
+    // How many runs are of that level.
+    fn of_level(&self, level: u32) -> usize {
+        let mut n = 0usize;
+        for run in &self.runs {
+            if run.level == level {
+                n = n.saturating_add(1);
+            }
+        }
+        n
+    }
+
+    // Takes the runs of that level, which are the last ones, and merges them.
+    fn merged(&mut self, level: u32) -> Result<File, Failure<'a>> {
+        let mut batch = Batch::new(self.rt);
+        for _run in 0..FAN {
+            match self.runs.pop() {
+                Some(run) if run.level == level => batch.push_run(self.folder, run.file)?,
+                _ => break,
+            }
+        }
+        merge_to_file(self.rt, self.folder, &mut batch)
+    }
+
+    /// All runs, to be merged.
+    pub fn into_batch(self) -> Result<Batch<'s, 'a>, Failure<'a>> {
+        let Runs { rt, folder, runs } = self;
+        let mut batch = Batch::new(rt);
+        for run in runs {
+            batch.push_run(folder, run.file)?;
+        }
+        Ok(batch)
+    }
+}
+
+/// Merges sources into a temporary file in that folder, to be read from its beginning.
+pub fn merge_to_file<'a>(
+    rt: &HostRuntime,
+    folder: &'a str,
+    batch: &mut Batch<'_, 'a>,
+) -> Result<File, Failure<'a>> {
+    let file = temporary(rt, folder)?;
+    let out = BufWriter::with_capacity(rt.alloc(), BUFFER, file).map_err(|error| Failure::of_file(
+        folder, error,
+    ))?;
+    let writer = RowWriter::begin(rt.alloc(), out, Format::Tsv).map_err(|error| Failure::of_file(
+        folder, error,
+    ))?;
+    let mut rows = WrittenRows { writer, least: 0 };
+    batch.merge(folder, &mut rows)?;
+    let out = rows
+        .writer
+        .finish()
+        .map_err(|error| Failure::of_file(folder, error))?;
+    begun(out).map_err(|error| Failure::of_file(folder, error))
+}

@@ -1,0 +1,41 @@
+-- The rows of a run: a file of `tsv` that was written here.
+use Rattle.std.specs.Prelude.{◌≡◌, ℕ, ◌==◌, Bool, true, false, List, [], ◌∷◌, ◌++◌, filter_map, flat_map, String, string_bytes, string_eq, Option, None, Some, option_map}
+use Rattle.std.specs.Global.{Global}
+use Rattle.std.specs.List.{before_first, after_first}
+use Rattle.std.specs.Str.Lines.{lines}
+use Rattle.std.specs.Str.Parse.{digits_value, without_leading_plus}
+use Rattle.hashbag.specs.Bag.{Bag}
+use Rattle.hashbag.specs.Occurrences.{count}
+use Rattle.hashbag_words_core.specs.Rows.{row, unescaped}
+use Rattle.hashbag_words_core.specs.Sorted.{times_in, Rises}
+use Rattle.hashbag_words_core.specs.declared.lines.BadLines.{BadLines}
+use Rattle.hashbag_words_core.specs.declared.lines.BadLines.TheVariants.{Refused, Skipped}
+use Rattle.hashbag_words_core.specs.declared.rows.RowForm.{RowForm}
+use Rattle.hashbag_words_core.specs.declared.rows.RowForm.TheVariants.{Tsv, Uniq}
+
+-- what a line is read as: the token before its first tab, unescaped, and the number behind it; none if that has a bad escape
+abbrev pub read_as : List ℕ → Option (List ℕ × ℕ)
+read_as line =
+    option_map (λ token. (token, digits_value 10 (without_leading_plus (after_first (λ b. b == 9) line)))) (unescaped false (before_first (λ b. b == 9) line))
+
+-- the rows of a file
+abbrev pub rows_in : List ℕ → List (List ℕ × ℕ)
+rows_in bytes = filter_map read_as (lines bytes)
+
+-- the rows that a reader has left, if its bytes are known, its lines are of `tsv`, and a bad one is neither passed over nor begins with a mark
+-- that is no part of it
+abbrev pub rows_left : RowForm → BadLines → Bool → Option (List ℕ) → Option (List (List ℕ × ℕ))
+rows_left Tsv Refused false bytes = option_map rows_in bytes
+rows_left Tsv Refused true bytes = None
+rows_left Tsv Skipped marked bytes = None
+rows_left Uniq bad_lines marked bytes = None
+
+-- the lines of rows
+abbrev pub run_text : List (List ℕ × ℕ) → List ℕ
+run_text rows = flat_map (λ r. row r.0 r.1 ++ 10 ∷ []) rows
+
+-- these rows are a run of a bag: they rise, count each text as often as the bag has it, and are read again as they were written
+pub record IsRunOf {S : Type 0} (bag : Bag (String Global) S) (rows : List (List ℕ × ℕ)) : Type 0 where
+  pub rises : Rises rows
+  pub counts : (v : String Global) → times_in (string_bytes v) rows ≡ count string_eq v bag.items
+  pub again : rows_in (run_text rows) ≡ rows

@@ -1,0 +1,240 @@
+//! The merge of files whose rows rise. What is wanted was added up by hand.
+use hashbag::HashBag;
+use hashbag_words_core::counting::count_lines;
+use hashbag_words_core::errors::Fault;
+use hashbag_words_core::lines::{BadLines, Reading};
+use hashbag_words_core::row_reader::RowReader;
+use hashbag_words_core::rows::RowForm;
+use hashbag_words_core::rule::{Pieces, Rule};
+use hashbag_words_core::runs::spill;
+use hashbag_words_core::shown_rows::{TopRows, WrittenRows};
+use hashbag_words_core::sorted_merge::{Sink, Stop, merge_rows};
+use hashbag_words_core::sources::Source;
+use hashbag_words_core::writing::{Format, RowWriter};
+use std::alloc::{AllocError, Global};
+use std::hash::RandomState;
+use std::test::Fail;
+
+// Files of counts, split at bars; whether bad lines are skipped; the merged rows, or the place of the source, the number of its line and
+// what is wrong with it.
+const SORTED_MERGES: [(&str, bool, &str); 8] = [
+    ("", false, ""),
+    (
+        "b\t1\nc\t2\n|a\t5\nc\t3\n||d\t1\n",
+        false,
+        "a\t5\nb\t1\nc\t5\nd\t1\n",
+    ),
+    ("a\t0\nb\t1\n|a\t0\nb\t0\n", false, "b\t1\n"),
+    (
+        "\u{feff}a\t1\n\u{feff}b\t2\n|\\t\t3\na\t1\n",
+        false,
+        "\\t\t3\na\t2\n\u{feff}b\t2\n",
+    ),
+    ("a\t1\n|b\t1\nc\t1\nb\t1\n", false, "1: 3: not in order"),
+    ("a\t1\na\t1\n", false, "0: 2: not in order"),
+    (
+        "b\t1\na\t1\nc\t2\nc\t7\n|b\t1\nd 1\ne\t1",
+        true,
+        "b\t2\nc\t2\n",
+    ),
+    (
+        "a\t18446744073709551615\n|a\t0\nb\t1\n",
+        false,
+        "1: 2: total",
+    ),
+];
+
+// The same of files of `uniq -c`, which stop at what is no row.
+const SORTED_UNIQ: [(&str, bool, &str); 2] = [
+    ("      1 a\n      2 b\n|      4 b\n", false, "a\t1\nb\t6\n"),
+    ("      1 a\n      2\n", false, "0: 2: no count"),
+];
+
+// What stopped at that line of that source.
+fn stopped(alloc: Global, source: usize, line: u64, fault: &Fault) -> Result<String, Fail> {
+    Ok(match fault {
+        Fault::Line(bad) => format!(in alloc; "{source}: {line}: {bad}")?,
+        Fault::Bag(_) => format!(in alloc; "{source}: {line}: total")?,
+        _ => format!(in alloc; "{source}: {line}: other")?,
+    })
+}
+
+type Sources<'a> = Vec<Source<RowReader<&'a [u8]>>>;
+
+// Opens the files; of the first one that fails, what stopped.
+fn opened<'a>(
+    alloc: Global,
+    form: RowForm,
+    files: &'a str,
+    skips: bool,
+) -> Result<Result<Sources<'a>, String>, Fail> {
+    let bad_lines = if skips {
+        BadLines::Skipped
+    } else {
+        BadLines::Refused
+    };
+    let mut sources = Vec::new(alloc);
+    for (i, file) in files.split('|').enumerate() {
+        match Source::open(RowReader::of_file(alloc, form, file.as_bytes(), bad_lines)) {
+            Ok(source) => sources.push(source).map_err(AllocError::from)?,
+            Err((fault, rows)) => return Ok(Err(stopped(alloc, i, rows.reading().line, &fault)?)),
+        }
+    }
+    Ok(Ok(sources))
+}
+
+// Merges the files; where that stops, what stopped.
+fn merge_into<K: Sink>(
+    alloc: Global,
+    form: RowForm,
+    files: &str,
+    skips: bool,
+    sink: &mut K,
+) -> Result<Option<String>, Fail> {
+    let mut sources = match opened(alloc, form, files, skips)? {
+        Ok(sources) => sources,
+        Err(text) => return Ok(Some(text)),
+    };
+    match merge_rows(&mut sources, sink) {
+        Ok(()) => Ok(None),
+        Err(Stop::Source(i, fault)) => {
+            let line = sources
+                .get(i)
+                .map_or(0, |source| source.rows().reading().line);
+            Ok(Some(stopped(alloc, i, line, &fault)?))
+        }
+        Err(Stop::Sink(_)) => Err(Fail::new("the sink failed")),
+    }
+}
+
+// The merged rows as text, or what stopped.
+fn merged(alloc: Global, form: RowForm, files: &str, skips: bool) -> Result<String, Fail> {
+    let writer = RowWriter::begin(alloc, Vec::new(alloc), Format::Tsv)?;
+    let mut rows = WrittenRows { writer, least: 0 };
+    match merge_into(alloc, form, files, skips, &mut rows)? {
+        Some(text) => Ok(text),
+        None => Ok(String::from_utf8(rows.writer.finish()?)?),
+    }
+}
+
+fn is_text(found: &String, wanted: &str) -> Result<(), Fail> {
+    if found.as_str() == wanted {
+        return Ok(());
+    }
+    Err(Fail::new(format_args!("{found:?}, not {wanted:?}")))
+}
+
+#[test]
+fn sorted_files_merged(rt: HostRuntime) -> Result<(), Fail> {
+    let alloc = rt.alloc();
+    for (files, skips, wanted) in SORTED_MERGES {
+        is_text(&merged(alloc, RowForm::Tsv, files, skips)?, wanted)?;
+    }
+    for (files, skips, wanted) in SORTED_UNIQ {
+        is_text(&merged(alloc, RowForm::Uniq, files, skips)?, wanted)?;
+    }
+    Ok(())
+}
+
+// A run may begin with a token that begins with a byte order mark.
+#[test]
+fn a_run_keeps_its_mark(rt: HostRuntime) -> Result<(), Fail> {
+    let alloc = rt.alloc();
+    let mut rows = TopRows::new(alloc, 1, 0);
+    let mut sources = Vec::new(alloc);
+    let run: &[u8] = b"\xef\xbb\xbfa\t1\n";
+    match Source::open(RowReader::of_run(alloc, run)) {
+        Ok(source) => sources.push(source).map_err(AllocError::from)?,
+        Err(_) => return Err(Fail::new("the run isn't read")),
+    }
+    assert!(rt; merge_rows(&mut sources, &mut rows).is_ok());
+    for (count, token) in rows.into_rows() {
+        assert_eq!(rt; count.0, 1);
+        is_text(&token, "\u{feff}a")?;
+    }
+    Ok(())
+}
+
+// Of the rows that come: how many are kept, the least count, and those that are, the commonest first.
+const TOPS: [(usize, usize, &str); 4] = [
+    (0, 0, ""),
+    (2, 0, "c9 a4 "),
+    (4, 0, "c9 a4 b4 e1 "),
+    (9, 2, "c9 a4 b4 "),
+];
+
+#[test]
+fn the_commonest_rows(rt: HostRuntime) -> Result<(), Fail> {
+    let alloc = rt.alloc();
+    for (most, least, wanted) in TOPS {
+        let mut top = TopRows::new(alloc, most, least);
+        let files = "a\t4\nc\t2\ne\t1\n|b\t4\nc\t7\nf\t1\n";
+        assert!(rt; merge_into(alloc, RowForm::Tsv, files, false, &mut top)?.is_none());
+        let mut found = String::new(alloc);
+        for (count, token) in top.into_rows() {
+            let row = format!(in alloc; "{token}{} ", count.0)?;
+            found.push_str(row.as_str())?;
+        }
+        is_text(&found, wanted)?;
+    }
+    Ok(())
+}
+
+#[test]
+fn rows_are_written(rt: HostRuntime) -> Result<(), Fail> {
+    let alloc = rt.alloc();
+    for (format, empty, wanted) in [
+        (Format::Tsv, "", "a\t1\nb\"\t12\n"),
+        (Format::Json, "[]\n", "[[\"a\",1],[\"b\\\"\",12]]\n"),
+        (Format::Uniq, "", "      1 a\n     12 b\"\n"),
+    ] {
+        let writer = RowWriter::begin(alloc, Vec::new(alloc), format)?;
+        assert!(rt; writer.is_empty());
+        is_text(&String::from_utf8(writer.finish()?)?, empty)?;
+        let mut writer = RowWriter::begin(alloc, Vec::new(alloc), format)?;
+        writer.write_row("a", 1)?;
+        writer.write_row("b\"", 12)?;
+        assert!(rt; !writer.is_empty());
+        is_text(&String::from_utf8(writer.finish()?)?, wanted)?;
+    }
+    Ok(())
+}
+
+// A text in two parts: each part becomes a run. The runs are as `sort` and `uniq -c` have them, and the limit falls by what they have.
+#[test]
+fn a_bag_is_spilled(rt: HostRuntime) -> Result<(), Fail> {
+    let alloc = rt.alloc();
+    let rule = Rule {
+        pieces: Pieces::Words,
+        fold: false,
+    };
+    let mut bag = HashBag::with_limit(alloc, RandomState::new(&rt)?, 9);
+    let mut reading = Reading::new(BadLines::Refused);
+    let mut runs = Vec::new(alloc);
+    for part in ["b a\nb\n", "c \u{feff}b b\nc a\n"] {
+        let mut rest = part.as_bytes();
+        assert!(rt; !count_lines(alloc, &mut bag, &rule, &mut rest, &mut reading, 9)?);
+        let mut run = Vec::new(alloc);
+        spill(alloc, &mut run, &mut bag)?;
+        assert!(rt; bag.is_empty());
+        runs.push(run).map_err(AllocError::from)?;
+    }
+    assert_eq!(rt; bag.limit(), 1);
+    assert_eq!(rt; runs.len(), 2);
+    assert_eq!(rt; runs[0].as_slice(), b"a\t1\nb\t2\n".as_slice());
+    let mut sources = Vec::new(alloc);
+    for run in &runs {
+        match Source::open(RowReader::of_run(alloc, run.as_slice())) {
+            Ok(source) => sources.push(source).map_err(AllocError::from)?,
+            Err(_) => return Err(Fail::new("a run isn't read")),
+        }
+    }
+    let writer = RowWriter::begin(alloc, Vec::new(alloc), Format::Tsv)?;
+    let mut rows = WrittenRows { writer, least: 2 };
+    assert!(rt; merge_rows(&mut sources, &mut rows).is_ok());
+    let found = String::from_utf8(rows.writer.finish()?)?;
+    is_text(&found, "a\t2\nb\t3\nc\t2\n")?;
+    let mut more: &[u8] = b"a b\n";
+    assert!(rt; count_lines(alloc, &mut bag, &rule, &mut more, &mut reading, 9).is_err());
+    Ok(())
+}
