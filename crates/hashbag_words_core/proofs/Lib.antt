@@ -1,11 +1,12 @@
 pub mod CountLemmas
+pub mod InRunsLemmas
 pub mod LineLemmas
 pub mod MatchLemmas
 pub mod MergeLemmas
-pub mod MergedLemmas
 pub mod ReadLemmas
 pub mod RowLemmas
 pub mod RunLemmas
 pub mod RunTextLemmas
 pub mod SortedLemmas
+pub mod SortedMergeLemmas
 pub mod WordLemmas

@@ -8,6 +8,7 @@
 pub mod choice;
 pub mod counting;
 pub mod errors;
+pub mod in_runs;
 pub mod lines;
 pub mod merging;
 pub mod parts;

@@ -1,7 +1,7 @@
 //! The rows of a file of counts, one by one.
-ghost use Rattle.std.specs.Prelude.{◌≡◌, Some, false, IfOk, IsSomeAnd};
+ghost use Rattle.std.specs.Prelude.{◌≡◌, Some, false, option_map, IfOk, IsSomeAnd};
 ghost use Rattle.hashbag_words_core.specs.Met.{Meets};
-ghost use Rattle.hashbag_words_core.specs.Runs.{read_as, rows_left};
+ghost use Rattle.hashbag_words_core.specs.Runs.{read_as, rows_in, rows_left};
 ghost use Rattle.hashbag_words_core.specs.Sorted.{row_of};
 
 use crate::errors::{BadLine, Fault};
@@ -88,7 +88,9 @@ impl<R: BufRead> RowReader<R> {
     }
 
     /// Before the first line of a run: rows of `tsv` that were written here. Its first token may begin with a byte order mark.
-    pub fn of_run(alloc: Global, input: R) -> RowReader<R> {
+    pub fn of_run(alloc: Global, input: R) -> RowReader<R>
+        ensures { rows_left result.form result.reading.bad_lines result.may_be_marked (R.remaining result.input) ≡ option_map rows_in (R.remaining input) }
+    {
         RowReader {
             alloc,
             form: RowForm::Tsv,

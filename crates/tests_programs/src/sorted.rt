@@ -2,6 +2,7 @@
 use hashbag::HashBag;
 use hashbag_words_core::counting::count_lines;
 use hashbag_words_core::errors::Fault;
+use hashbag_words_core::in_runs::{put_in_runs, runs_of};
 use hashbag_words_core::lines::{BadLines, Reading};
 use hashbag_words_core::row_reader::RowReader;
 use hashbag_words_core::rows::RowForm;
@@ -236,5 +237,34 @@ fn a_bag_is_spilled(rt: HostRuntime) -> Result<(), Fail> {
     is_text(&found, "a\t2\nb\t3\nc\t2\n")?;
     let mut more: &[u8] = b"a b\n";
     assert!(rt; count_lines(alloc, &mut bag, &rule, &mut more, &mut reading, 9).is_err());
+    Ok(())
+}
+
+// The lines of a text, and how many of them each run but the last takes. What is wanted was counted by hand.
+const MOMENTS: [[u64; 3]; 4] = [[0, 0, 0], [1, 0, 2], [1, 1, 1], [9, 1, 1]];
+
+#[test]
+fn a_text_is_counted_in_runs(rt: HostRuntime) -> Result<(), Fail> {
+    let alloc = rt.alloc();
+    let rule = Rule {
+        pieces: Pieces::Words,
+        fold: false,
+    };
+    let text: &[u8] = b"b a\nb\n\xff b\nc b\na";
+    for moments in MOMENTS {
+        let writer = RowWriter::begin(alloc, Vec::new(alloc), Format::Tsv)?;
+        let mut rows = WrittenRows { writer, least: 0 };
+        let mut input = text;
+        let state = RandomState::new(&rt)?;
+        assert!(rt; put_in_runs(alloc, state, &rule, &mut input, moments.as_slice(), &mut rows).is_ok());
+        is_text(&String::from_utf8(rows.writer.finish()?)?, "a\t2\nb\t3\nc\t1\n")?;
+    }
+    let mut input = text;
+    let state = RandomState::new(&rt)?;
+    let runs = runs_of(alloc, state, &rule, &mut input, [2, 1].as_slice())?;
+    assert_eq!(rt; runs.len(), 3);
+    assert_eq!(rt; runs[0].as_slice(), b"a\t1\nb\t2\n".as_slice());
+    assert!(rt; runs[1].is_empty());
+    assert_eq!(rt; runs[2].as_slice(), b"a\t1\nb\t1\nc\t1\n".as_slice());
     Ok(())
 }

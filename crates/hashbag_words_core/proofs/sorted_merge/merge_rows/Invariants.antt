@@ -1,6 +1,6 @@
 use Rattle.std.proofs.Common.{ℕ, ◌<◌, ◌^◌, List}
 use Rattle.hashbag_words_core.specs.Sorted.{AreLeft, Puts}
-use Rattle.hashbag_words_core.proofs.MergedLemmas.{SoFar}
+use Rattle.hashbag_words_core.proofs.SortedMergeLemmas.{SoFar}
 use Rattle.hashbag_words_core.proofs.sorted_merge.merge_rows.Given as goal
 
 -- the rows that were put, and those that are left

@@ -1,7 +1,7 @@
 use Rattle.std.proofs.Common.{◌≡◌, ◌<◌, List, length, get_or, All, subst}
 use Rattle.hashbag_words_core.specs.Sorted.{IsNoLater}
 use Rattle.hashbag_words_core.specs.declared.sources.Source.{Source}
-use Rattle.hashbag_words_core.proofs.MergedLemmas.{took_row}
+use Rattle.hashbag_words_core.proofs.SortedMergeLemmas.{took_row}
 use Rattle.hashbag_words_core.proofs.sorted_merge.take_least.Goals as goal
 
 pub returns-in-Ok-clause-takes : goal.returns-in-Ok-clause-takes

@@ -1,0 +1,149 @@
+-- Runs that are made one after the other, and merged.
+use Rattle.std.proofs.Common.{◌≡◌, ℕ, zero, suc, ◌+◌, ◌<◌, Bool, true, false, List, [], ◌∷◌, ◌++◌, length, get_or, take, drop, map, sum_by, String, string_bytes, string_eq, bytes_eq, Global, Option, None, Some, option_map, IfSome, refl, sym, ◌∙◌, ap, subst, arith}
+use Rattle.std.specs.Cmp.Lexicographic.{nat_list_eq_equiv}
+use Rattle.std.specs.Global.{Vec}
+use Rattle.std.specs.Str.Lines.{lines}
+use Rattle.std.proofs.lemmas.List.{map-append, take-append-drop, take_more}
+use Rattle.std.proofs.lemmas.List.Sums.{sum_by-cons, sum_by_push}
+use Rattle.hashbag.specs.Bag.{Bag}
+use Rattle.hashbag.specs.EqualityLaws.{count_append}
+use Rattle.hashbag.specs.Occurrences.{count}
+use Rattle.hashbag_words_core.specs.Counts.{AddsTexts}
+use Rattle.hashbag_words_core.specs.Reading.{drop_lines, CountsLines}
+use Rattle.hashbag_words_core.specs.Runs.{rows_in, run_text, AreCountsOf, HaveCountsOf, IsRunOf, MakesRun}
+use Rattle.hashbag_words_core.specs.Sorted.{times_in, with_head, AreLeft, IsMergeOf, Puts}
+use Rattle.hashbag_words_core.specs.Tokens.{tokens_of, tokens_of_lines}
+use Rattle.hashbag_words_core.specs.declared.rule.Rule.{Rule}
+use Rattle.hashbag_words_core.specs.declared.sources.Source.{Source}
+use Rattle.hashbag_words_core.proofs.LineLemmas.{lines-drop_lines}
+use Rattle.hashbag_words_core.proofs.ReadLemmas.{tokens_of_lines-append}
+
+none_before : (n : ℕ) → 0 + n ≡ n
+none_before n = omega arith
+
+-- ---- a run is made
+
+-- the run of a bag that was empty before these texts were added
+run_counts : {S : Type 0} (texts : List (List ℕ)) (old mid : Bag (String Global) S) (rows : List (List ℕ × ℕ)) (run : List ℕ) → old.items ≡ [] → AddsTexts old mid texts → IsRunOf mid rows → run ≡ run_text rows
+    → (v : String Global) → times_in (string_bytes v) (rows_in run) ≡ count bytes_eq (string_bytes v) texts
+run_counts texts old mid rows run none adds is written v =
+    ap (λ (l : List ℕ). times_in (string_bytes v) (rows_in l)) written
+    ∙ ap (λ (l : List (List ℕ × ℕ)). times_in (string_bytes v) l) is.again
+    ∙ is.counts v
+    ∙ adds v
+    ∙ ap (λ (l : List (String Global)). count string_eq v l + count bytes_eq (string_bytes v) texts) none
+    ∙ none_before (count bytes_eq (string_bytes v) texts)
+
+pub makes_run : {S : Type 0} (rule : Rule) (most : ℕ) (more : Bool) (a b : Option (List ℕ)) (old mid : Bag (String Global) S) (rows : List (List ℕ × ℕ)) (run : List ℕ) → old.items ≡ []
+    → IfSome a (λ bytes. CountsLines rule most bytes more old mid b) → IsRunOf mid rows → run ≡ run_text rows → IfSome a (λ bytes. MakesRun rule most bytes more run b)
+makes_run rule most more None b old mid rows run none counts is written = tt
+makes_run rule most more (Some bytes) b old mid rows run none counts is written = record {
+  counts = run_counts (tokens_of_lines rule (take most (lines bytes))) old mid rows run none counts.counts is written;
+  rest = counts.rest;
+  ended = counts.ended;
+}
+
+-- ---- one run after the other
+
+-- what runs count of a text
+abbrev pub times_in_runs : String Global → List (Vec ℕ) → ℕ
+times_in_runs v runs = sum_by (λ run. times_in (string_bytes v) (rows_in run.items)) runs
+
+-- so far these runs were made of the input, and the rest of it is left
+pub record SoFarInRuns (rule : Rule) (bytes : List ℕ) (runs : List (Vec ℕ)) (left : Option (List ℕ)) : Type 0 where
+  pub rest : List ℕ
+  pub is : left ≡ Some rest
+  pub counts : (v : String Global) → times_in_runs v runs + count bytes_eq (string_bytes v) (tokens_of rule rest) ≡ count bytes_eq (string_bytes v) (tokens_of rule bytes)
+
+pub no_runs : (rule : Rule) (a : Option (List ℕ)) → IfSome a (λ bytes. SoFarInRuns rule bytes [] a)
+no_runs rule None = tt
+no_runs rule (Some bytes) = record {
+  rest = bytes;
+  is = refl;
+  counts = λ v. none_before (count bytes_eq (string_bytes v) (tokens_of rule bytes));
+}
+
+-- the lines that are read next, and those after them
+split_tokens : (rule : Rule) (most : ℕ) (rest : List ℕ) → tokens_of rule rest ≡ tokens_of_lines rule (take most (lines rest)) ++ tokens_of rule (drop_lines most rest)
+split_tokens rule most rest =
+    ap (λ (l : List (List ℕ)). tokens_of_lines rule l) (sym (take-append-drop most (lines rest)))
+    ∙ tokens_of_lines-append rule (take most (lines rest)) (drop most (lines rest))
+    ∙ ap (λ (l : List (List ℕ)). tokens_of_lines rule (take most (lines rest)) ++ tokens_of_lines rule l) (sym (lines-drop_lines most rest))
+
+more_counts : (rule : Rule) (most : ℕ) (more : Bool) (bytes rest : List ℕ) (runs : List (Vec ℕ)) (run : Vec ℕ) (left : Option (List ℕ)) (v : String Global)
+    → times_in_runs v runs + count bytes_eq (string_bytes v) (tokens_of rule rest) ≡ count bytes_eq (string_bytes v) (tokens_of rule bytes) → MakesRun rule most rest more run.items left
+    → times_in_runs v (runs ++ run ∷ []) + count bytes_eq (string_bytes v) (tokens_of rule (drop_lines most rest)) ≡ count bytes_eq (string_bytes v) (tokens_of rule bytes)
+more_counts rule most more bytes rest runs run left v before made =
+    let pushed : times_in_runs v (runs ++ run ∷ []) ≡ times_in_runs v runs + times_in (string_bytes v) (rows_in run.items) =
+    sum_by_push (λ (r : Vec ℕ). times_in (string_bytes v) (rows_in r.items)) runs run in
+    let here : times_in (string_bytes v) (rows_in run.items) ≡ count bytes_eq (string_bytes v) (tokens_of_lines rule (take most (lines rest))) = made.counts v in
+    let split : count bytes_eq (string_bytes v) (tokens_of rule rest) ≡ count bytes_eq (string_bytes v) (tokens_of_lines rule (take most (lines rest))) + count bytes_eq (string_bytes v) (tokens_of rule (drop_lines most rest)) =
+    ap (λ (l : List (List ℕ)). count bytes_eq (string_bytes v) l) (split_tokens rule most rest)
+    ∙ count_append nat_list_eq_equiv (string_bytes v) (tokens_of_lines rule (take most (lines rest))) (tokens_of rule (drop_lines most rest)) in
+    added _ _ _ _ _ _ _ before pushed here split
+  where
+    added : (a b c d e f g : ℕ) → a + b ≡ c → d ≡ a + e → e ≡ f → b ≡ f + g → d + g ≡ c
+    added a b c d e f g p q r s = omega arith
+
+pub one_run_more : (rule : Rule) (most : ℕ) (more : Bool) (a b c : Option (List ℕ)) (runs : List (Vec ℕ)) (run : Vec ℕ) → IfSome a (λ bytes. SoFarInRuns rule bytes runs b)
+    → IfSome b (λ rest. MakesRun rule most rest more run.items c) → IfSome a (λ bytes. SoFarInRuns rule bytes (runs ++ run ∷ []) c)
+one_run_more rule most more None b c runs run so makes = tt
+one_run_more rule most more (Some bytes) b c runs run so makes =
+    let made : MakesRun rule most so.rest more run.items c = subst (λ (o : Option (List ℕ)). IfSome o (λ rest. MakesRun rule most rest more run.items c)) so.is makes in
+    record {
+      rest = drop_lines most so.rest;
+      is = made.rest;
+      counts = λ v. more_counts rule most more bytes so.rest runs run c v (so.counts v) made;
+    }
+
+-- the last run
+pub all_in_runs : (rule : Rule) (most : ℕ) (more : Bool) (a b c : Option (List ℕ)) (runs : List (Vec ℕ)) (run : Vec ℕ) → more ≡ false → IfSome a (λ bytes. SoFarInRuns rule bytes runs b)
+    → IfSome b (λ rest. MakesRun rule most rest more run.items c) → IfSome a (λ bytes. HaveCountsOf (tokens_of rule bytes) (runs ++ run ∷ []))
+all_in_runs rule most more None b c runs run over so makes = tt
+all_in_runs rule most more (Some bytes) b c runs run over so makes = λ v.
+    let made : MakesRun rule most so.rest more run.items c = subst (λ (o : Option (List ℕ)). IfSome o (λ rest. MakesRun rule most rest more run.items c)) so.is makes in
+    let all : times_in_runs v (runs ++ run ∷ []) + count bytes_eq (string_bytes v) (tokens_of rule (drop_lines most so.rest)) ≡ count bytes_eq (string_bytes v) (tokens_of rule bytes) =
+    more_counts rule most more bytes so.rest runs run c v (so.counts v) made in
+    let none : count bytes_eq (string_bytes v) (tokens_of rule (drop_lines most so.rest)) ≡ 0 = ap (λ (l : List ℕ). count bytes_eq (string_bytes v) (tokens_of rule l)) (made.ended over) in
+    whole _ _ _ all none
+  where
+    whole : (m n k : ℕ) → m + n ≡ k → n ≡ 0 → m ≡ k
+    whole m n k p q = omega arith
+
+-- ---- the runs are opened
+
+pub is_opened : (left got : Option (List (List ℕ × ℕ))) (bytes : List ℕ) → left ≡ option_map rows_in (Some bytes) → IfSome left (λ rows. got ≡ Some rows) → got ≡ Some (rows_in bytes)
+is_opened left got bytes is opened = subst (λ (o : Option (List (List ℕ × ℕ))). IfSome o (λ rows. got ≡ Some rows)) is opened
+
+-- one more is open
+pub one_more_open : {S : Type 0} (left : S → Option (List (List ℕ × ℕ))) (sources : List (Source S)) (runs : List (Vec ℕ)) (i : ℕ) (source : Source S) (run : Vec ℕ) → i < length runs → get_or runs i run ≡ run
+    → AreLeft left sources (map (λ r. rows_in r.items) (take i runs)) → with_head source.head (left source.rows) ≡ Some (rows_in run.items)
+    → AreLeft left (sources ++ source ∷ []) (map (λ r. rows_in r.items) (take (i + 1) runs))
+one_more_open {S} left sources runs i source run lt at are is =
+    let next : take (i + 1) runs ≡ take i runs ++ run ∷ [] = take_more runs i run lt ∙ ap (λ (r : Vec ℕ). take i runs ++ r ∷ []) at in
+    let rows : map (λ (r : Vec ℕ). rows_in r.items) (take (i + 1) runs) ≡ map (λ (r : Vec ℕ). rows_in r.items) (take i runs) ++ rows_in run.items ∷ [] =
+    ap (map (λ (r : Vec ℕ). rows_in r.items)) next ∙ map-append (λ (r : Vec ℕ). rows_in r.items) (take i runs) (run ∷ []) in
+    map-append (λ (s : Source S). with_head s.head (left s.rows)) sources (source ∷ [])
+    ∙ ap (λ (l : List (Option (List (List ℕ × ℕ)))). l ++ with_head source.head (left source.rows) ∷ []) are
+    ∙ ap (λ (o : Option (List (List ℕ × ℕ))). map Some (map (λ (r : Vec ℕ). rows_in r.items) (take i runs)) ++ o ∷ []) is
+    ∙ sym (map-append Some (map (λ (r : Vec ℕ). rows_in r.items) (take i runs)) (rows_in run.items ∷ []))
+    ∙ ap (map Some) (sym rows)
+
+-- ---- the runs are merged
+
+sum_of_map : {X Y : Type 0} (f : Y → ℕ) (g : X → Y) (xs : List X) → sum_by f (map g xs) ≡ sum_by (λ x. f (g x)) xs
+sum_of_map f g [] = refl
+sum_of_map {X} f g (x ∷ xs) = sum_by-cons f (g x) (map g xs) ∙ ap (λ (n : ℕ). f (g x) + n) (sum_of_map f g xs) ∙ sym (sum_by-cons (λ (y : X). f (g y)) x xs)
+
+merged_counts : (texts : List (List ℕ)) (runs : List (Vec ℕ)) (merged : List (List ℕ × ℕ)) → HaveCountsOf texts runs → IsMergeOf (map (λ run. rows_in run.items) runs) merged → AreCountsOf texts merged
+merged_counts texts runs merged have is = record {
+  rises = is.rises;
+  counts = λ v. is.sums (string_bytes v) ∙ sum_of_map (times_in (string_bytes v)) (λ (run : Vec ℕ). rows_in run.items) runs ∙ have v;
+  shown = is.shown;
+}
+
+pub puts_counts : {K : Type 0} (gives : K → List ℕ × ℕ → K → Type 0) (old new : K) (rule : Rule) (a : Option (List ℕ)) (runs : List (Vec ℕ)) → IfSome a (λ bytes. HaveCountsOf (tokens_of rule bytes) runs)
+    → (merged : List (List ℕ × ℕ)) × IsMergeOf (map (λ run. rows_in run.items) runs) merged × Puts gives old merged new
+    → IfSome a (λ bytes. (rows : List (List ℕ × ℕ)) × AreCountsOf (tokens_of rule bytes) rows × Puts gives old rows new)
+puts_counts gives old new rule None runs have merged = tt
+puts_counts gives old new rule (Some bytes) runs have merged = (merged.0, merged_counts (tokens_of rule bytes) runs merged.0 have merged.1, merged.2)

@@ -1,0 +1,12 @@
+use Rattle.std.proofs.Common.{string_bytes, IfOk, subst}
+use Rattle.hashbag_words_core.specs.Rows.{IsLineOf}
+use Rattle.hashbag_words_core.proofs.RunLemmas.{read_as-line}
+use Rattle.hashbag_words_core.proofs.row_reader.read_line.Goals as goal
+
+-- what `read_in_form` says of the line is what a run's line is read as
+pub returns-in-Ok-2-clause-row : goal.returns-in-Ok-2-clause-row
+returns-in-Ok-2-clause-row c = λ tsv refused.
+    let row = c.in-Ok-2.row in
+    read_as-line c.args.line.now (string_bytes row.0) row.1
+    (subst (λ l. IsLineOf l (string_bytes row.0) row.1) c.in-Ok.ensures.cases.0
+    (subst (λ r. IfOk r (λ p. IsLineOf c.in-Ok.text.now (string_bytes p.0) p.1)) c.in-Ok-2.is (c.in_ok-row.ensures.line tsv)))
