@@ -76,7 +76,7 @@ pub fn runs_of<R: BufRead, S: BuildHasher + Drop>(
 
 // Opens a run.
 fn open_run<'a>(alloc: Global, run: &'a [u8]) -> Result<Source<RowReader<&'a [u8]>>, Fault>
-    ensures { IfOk result (λ source. with_head source.head (⟦<RowReader<&[u8]> as Rows>⟧.left source.rows) ≡ Some (rows_in run.now)) }
+    ensures { IfOk result (λ source. with_head source.head (⟦<RowReader<&'a [u8]> as Rows>⟧.left source.rows) ≡ Some (rows_in run.now)) }
 {
     match Source::open(RowReader::of_run(alloc, run)) {
         Ok(source) => Ok(source),
@@ -89,7 +89,7 @@ fn open_runs<'a>(
     alloc: Global,
     runs: &'a Vec<Vec<u8>>,
 ) -> Result<Vec<Source<RowReader<&'a [u8]>>>, Fault>
-    ensures { IfOk result (λ sources. AreLeft ⟦<RowReader<&[u8]> as Rows>⟧.left sources.items (map (λ run. rows_in run.items) runs.now.items)) }
+    ensures { IfOk result (λ sources. AreLeft ⟦<RowReader<&'a [u8]> as Rows>⟧.left sources.items (map (λ run. rows_in run.items) runs.now.items)) }
 {
     let mut sources = Vec::new(alloc);
     'runs: for run in runs {
