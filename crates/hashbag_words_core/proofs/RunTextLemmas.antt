@@ -45,22 +45,22 @@ rows_rise (p ∷ pairs) up = (behind p.0 pairs up.0, rows_rise pairs up.1)
 -- ---- what is written is read again
 
 none_shown : (k l : ℕ) → letter_of k ≡ Some l → byte_of k ≡ None → k ≢ 92 → (b : ℕ) (rest : List ℕ) (o : Option ℕ) → letter_of b ≡ o → All (λ y. y ≢ k) rest → All (λ y. y ≢ k) (shown_as b o ++ rest)
-none_shown k l has no other b rest None e later = All-cons (λ y. y ≢ k) b rest (plain_byte b k l has e) later
-none_shown k l has no other b rest (Some m) e later =
+none_shown k l has without other b rest None e later = All-cons (λ y. y ≢ k) b rest (plain_byte b k l has e) later
+none_shown k l has without other b rest (Some m) e later =
     All-cons (λ y. y ≢ k) 92 (m ∷ rest) (λ is. other (sym is))
-    (All-cons (λ y. y ≢ k) m rest (λ is. let back : byte_of m ≡ Some b = letter_back b m e in let none : byte_of m ≡ None = ap byte_of is ∙ no in absurd (cc)) later)
+    (All-cons (λ y. y ≢ k) m rest (λ is. let back : byte_of m ≡ Some b = letter_back b m e in let none : byte_of m ≡ None = ap byte_of is ∙ without in absurd (cc)) later)
 
 -- a byte that is escaped is not in an escaped token
 none_escaped : (k l : ℕ) → letter_of k ≡ Some l → byte_of k ≡ None → k ≢ 92 → (token : List ℕ) → All (λ y. y ≢ k) (escaped token)
-none_escaped k l has no other [] = All-nil (λ y. y ≢ k)
-none_escaped k l has no other (b ∷ bs) = none_shown k l has no other b (escaped bs) (letter_of b) refl (none_escaped k l has no other bs)
+none_escaped k l has without other [] = All-nil (λ y. y ≢ k)
+none_escaped k l has without other (b ∷ bs) = none_shown k l has without other b (escaped bs) (letter_of b) refl (none_escaped k l has without other bs)
 
 no_digit : (k : ℕ) → ¬ (digit_value k < 10) → (ds : List ℕ) → AllDigits 10 ds → All (λ y. y ≢ k) ds
 no_digit k other [] all = All-nil (λ y. y ≢ k)
 no_digit k other (d ∷ ds) all = All-cons (λ y. y ≢ k) d ds (λ is. other (subst (λ (x : ℕ). digit_value x < 10) is all.0)) (no_digit k other ds all.1)
 
 none_in_row : (k l : ℕ) → letter_of k ≡ Some l → byte_of k ≡ None → k ≢ 92 → k ≢ 9 → ¬ (digit_value k < 10) → (token : List ℕ) (n : ℕ) → n < 2 ^ 64 → All (λ y. y ≢ k) (row token n)
-none_in_row k l has no other tab low token n fits =
+none_in_row k l has without other tab low token n fits =
     All-append (λ y. y ≢ k) (escaped token) (9 ∷ decimal n) (none_escaped k l has no other token)
     (All-cons (λ y. y ≢ k) 9 (decimal n) (λ is. tab (sym is)) (no_digit k low (decimal n) (decimal_is_IsNumeral n fits).0.1))
 
