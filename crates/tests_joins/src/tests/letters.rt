@@ -5,7 +5,7 @@ use std::hash::BuildHasher;
 use std::process::Abort;
 use std::test::Fail;
 use tests_kit::OneState;
-use tests_kit::texts::is_text;
+use tests_kit::texts::is_text_of;
 
 // The outer join of the letters of "hash" with those of "math".
 const HASH_AND_MATH: &str =
@@ -67,7 +67,7 @@ fn letters_are_joined<S: BuildHasher + Default + Drop>(alloc: Global) -> Result<
     let hash: HashBag<char, S> = letters_of(alloc, "hash")?;
     let math: HashBag<char, S> = letters_of(alloc, "math")?;
     let got = joined(alloc, &hash, &math)?;
-    is_text("hash and math", got.as_str(), HASH_AND_MATH)
+    is_text_of("hash and math", got.as_str(), HASH_AND_MATH)
 }
 
 fn letters_are_removed<S: BuildHasher + Default + Drop>(
