@@ -83,7 +83,7 @@ const INSERTIONS: Rows = Rows {
     1:0",
 };
 
-// Each kind of call has a function with no contract, as in `rows`.
+// Each kind of call has a function with no contract, as in `calls` of `tests_kit`.
 
 fn sold<S: BuildHasher + Drop>(stock: &mut HashBag<u64, S>, article: u64, n: usize) -> bool {
     sell(stock, &article, n)

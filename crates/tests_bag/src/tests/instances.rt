@@ -46,7 +46,7 @@ const ROWS: Rows = Rows {
     stored 1 = Some((10, 2))",
 };
 
-// Each kind of call has a function with no contract, as in `rows`.
+// Each kind of call has a function with no contract, as in `calls` of `tests_kit`.
 
 // The tag of the stored instance with this key, and how often it occurs.
 fn stored<S: BuildHasher + Drop>(bag: &HashBag<Tagged, S>, key: u64) -> Option<(u64, usize)> {

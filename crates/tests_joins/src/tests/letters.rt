@@ -14,7 +14,7 @@ const HASH_AND_MATH: &str =
 // Of ten x, what is left of a letter after this number of it is removed.
 const REMOVALS: [(char, usize, usize); 4] = [('x', 0, 10), ('x', 3, 7), ('x', 10, 0), ('y', 1, 0)];
 
-// Each kind of call has a function with no contract, as in `rows`.
+// Each kind of call has a function with no contract, as in `calls` of `tests_kit`.
 
 fn letters_of<S: BuildHasher + Default + Drop>(
     alloc: Global,

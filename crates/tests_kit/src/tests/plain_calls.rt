@@ -48,7 +48,7 @@ const ROWS: Rows = Rows {
     tags = [7, 99]",
 };
 
-// Each kind of call has a function with no contract, as in `rows`.
+// Each kind of call has a function with no contract, as in `calls`.
 
 fn add(bag: &mut PlainBag<Tagged>, value: Tagged) -> Result<(), AllocError> {
     bag.add(value, 1)
