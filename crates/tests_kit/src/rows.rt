@@ -10,7 +10,7 @@ use std::test::Fail;
 /// Rows, one a line, and how many there are.
 #[derive(Clone, Copy)]
 pub struct Rows {
-    /// How many rows the text has, counted by hand. A row that is lost is noticed by it.
+    /// How many rows the text has. If it has another number, reading them fails.
     pub count: usize,
     /// The rows. Empty lines, and spaces before and after a row, mean nothing.
     pub text: &'static str,
@@ -77,7 +77,7 @@ pub fn failure_text(fail: Fail) -> InlineText<{ TEXT_CAPACITY }> {
 }
 
 impl Row {
-    /// Returns what the test of this row returned. A failure then also says the line and the row.
+    /// Returns what the test of this row returned. If it failed, the failure also says the line and the row.
     pub fn tested(&self, outcome: Result<(), Fail>) -> Result<(), Fail> {
         let Err(fail) = outcome else {
             return Ok(());
