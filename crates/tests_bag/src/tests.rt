@@ -19,3 +19,4 @@ mod room;
 mod sizes;
 mod tables;
 mod texts;
+mod transfers;
