@@ -33,7 +33,7 @@ pub fn strike_out<S: BuildHasher + Drop>(
     n: usize,
 ) -> usize
     ensures counts { (v : _) → string_bytes v ≡ word.now → count string_eq v bag.new.items ≡ count string_eq v bag.old.items - n }
-    ensures after { (v : _) → string_bytes v ≡ word.now → result ≡ count string_eq v bag.new.items }
+    ensures left { (v : _) → string_bytes v ≡ word.now → result ≡ count string_eq v bag.new.items }
 {
     bag.remove_up_to(word, n)
 }
