@@ -42,11 +42,7 @@ pub fn transfer<T: Eq + Hash + Copy + Drop, S: BuildHasher + Drop, S2: BuildHash
 }
 
 /// Moves `n` occurrences of a value from one bag to another, by a clone of it. If it fails, nothing changes.
-pub fn transfer_clone<
-    T: Eq + Hash + Clone + Drop,
-    S: BuildHasher + Drop,
-    S2: BuildHasher + Drop,
->(
+pub fn transfer_clone<T: Eq + Hash + Clone + Drop, S: BuildHasher + Drop, S2: BuildHasher + Drop>(
     from: &mut HashBag<T, S>,
     to: &mut HashBag<T, S2>,
     value: &T,
