@@ -13,7 +13,7 @@ pub fn both_lists<T: Eq + Hash + Drop>(
     first: Vec<T>,
     second: Vec<T>,
 ) -> Result<HashBag<T>, BagError>
-    ensures counts { IfOk result (λ bag. (v : T) → count T.eq v bag.items ≡ count T.eq v first.items + count T.eq v second.items) }
+    ensures { IfOk result (λ bag. (v : T) → count T.eq v bag.items ≡ count T.eq v first.items + count T.eq v second.items) }
 {
     let mut bag = HashBag::from_iter(alloc, first.into_iter())?;
     bag.extend(second.into_iter())?;
@@ -40,7 +40,7 @@ pub fn commonest<T: Ord + Hash + Copy + Drop>(
     alloc: Global,
     values: Vec<T>,
 ) -> Result<Option<T>, BagError>
-    ensures most { IfOk result (λ found. IfSome found (λ v. (w : T) → count T.eq w values.items ≤ count T.eq v values.items)) }
+    ensures { IfOk result (λ found. IfSome found (λ v. (w : T) → count T.eq w values.items ≤ count T.eq v values.items)) }
 {
     let bag: HashBag<T> = HashBag::from_iter(alloc, values.into_iter())?;
     let pairs = most_common(alloc, &bag, 1)?;
