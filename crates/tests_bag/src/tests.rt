@@ -17,3 +17,4 @@ mod refused_clones;
 mod room;
 mod sizes;
 mod tables;
+mod transfers;
