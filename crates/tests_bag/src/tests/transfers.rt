@@ -9,11 +9,13 @@ use std::alloc::Global;
 use std::hash::BuildHasher;
 use std::test::Fail;
 use tests_kit::calls::{bag_of, bag_of_counts, counts_of};
-use tests_kit::texts::{count, counts, debug_of, halves, is_text, number, rows_of, values};
-use tests_kit::{OneState, ParityState};
+use tests_kit::texts::{count, counts, debug_of, halves, is_text, number, values};
+use tests_kit::{OneState, ParityState, Rows, rows_of};
 
 // Two bags; the limit of the second; the value and the number that are moved; the result, and the counts of 1 and 2 in each bag.
-const TRANSFERS: &str = "
+const TRANSFERS: Rows = Rows {
+    count: 8,
+    text: "
     1:5 2:1 | 1:1 | 9 | 1 3 | Ok(()) [2, 1] [4, 0]
     1:5 2:1 | 1:1 | 4 | 1 3 | Ok(()) [2, 1] [4, 0]
     1:5 2:1 | 1:1 | 3 | 1 3 | Err(Bag(TooMany)) [5, 1] [1, 0]
@@ -21,10 +23,13 @@ const TRANSFERS: &str = "
     1:5 2:1 | 2:3 | 9 | 2 1 | Ok(()) [5, 0] [0, 4]
     1:5 | 2:3 | 3 | 2 0 | Ok(()) [5, 0] [0, 3]
     1:5 | 2:3 | 3 | 2 1 | Err(TooFew) [5, 0] [0, 3]
-    1:5 | | 5 | 1 5 | Ok(()) [0, 0] [5, 0]";
+    1:5 | | 5 | 1 5 | Ok(()) [0, 0] [5, 0]",
+};
 
 // One hall, which holds four guests.
-const HALL: &str = "\
+const HALL: Rows = Rows {
+    count: 16,
+    text: "\
     enter 7 3 = Ok(())
     enter 8 2 = Err(TooMany)
     enter 8 1 = Ok(())
@@ -40,23 +45,30 @@ const HALL: &str = "\
     leave 7 = true
     leave 7 = false
     enter 6 5 = Err(TooMany)
-    enter 6 4 = Ok(())";
+    enter 6 4 = Ok(())",
+};
 
 // Two lists; the counts of 3, 5 and 9 in a bag of both; how many of the second are removed from a bag of the first, and the counts left.
-const LISTS: &str = "
+const LISTS: Rows = Rows {
+    count: 5,
+    text: "
     [] | [] | [0, 0, 0] | 0 [0, 0, 0]
     [3, 5, 3] | [5, 3, 9] | [3, 2, 1] | 2 [1, 0, 0]
     [3, 5, 3] | [] | [2, 1, 0] | 0 [2, 1, 0]
     [] | [9, 9] | [0, 0, 2] | 0 [0, 0, 0]
-    [3, 9, 3] | [3, 3, 5, 3] | [5, 1, 1] | 2 [0, 0, 1]";
+    [3, 9, 3] | [3, 3, 5, 3] | [5, 1, 1] | 2 [0, 0, 1]",
+};
 
 // A list, and its commonest value: the least if several occur equally often.
-const COMMONEST: &str = "
+const COMMONEST: Rows = Rows {
+    count: 5,
+    text: "
     [] = None
     [5] = Some(5)
     [5, 3, 3] = Some(3)
     [9, 5, 9, 5, 3] = Some(5)
-    [18446744073709551615, 0, 18446744073709551615] = Some(18446744073709551615)";
+    [18446744073709551615, 0, 18446744073709551615] = Some(18446744073709551615)",
+};
 
 // Each kind of call has a function with no contract, as in `callers`.
 
@@ -103,14 +115,19 @@ fn transferred<S: BuildHasher + Drop>(
     Ok(format!(in alloc; "{result} {left} {there}")?)
 }
 
+// The transfer of a row, by the value and by a clone of it.
+fn transfers<S: BuildHasher + Copy + Drop>(alloc: Global, state: S, row: &str) -> Result<(), Fail> {
+    let Some((call, want)) = row.rsplit_once(" | ") else {
+        return Err(Fail::new("no result"));
+    };
+    is_text(transferred(alloc, state, call, false)?.as_str(), want)?;
+    is_text(transferred(alloc, state, call, true)?.as_str(), want)
+}
+
 // The transfers under a state of the first bag.
 fn transfers_under<S: BuildHasher + Copy + Drop>(alloc: Global, state: S) -> Result<(), Fail> {
-    for row in rows_of(alloc, TRANSFERS, 8)? {
-        let Some((call, want)) = row.rsplit_once(" | ") else {
-            return Err(Fail::new(format_args!("no result in: {row}")));
-        };
-        is_text(row, transferred(alloc, state, call, false)?.as_str(), want)?;
-        is_text(row, transferred(alloc, state, call, true)?.as_str(), want)?;
+    for row in rows_of(alloc, TRANSFERS)? {
+        row.tested(transfers(alloc, state, row.text))?;
     }
     Ok(())
 }
@@ -123,6 +140,11 @@ fn stepped(alloc: Global, hall: &mut Hall, step: &str) -> Result<String, Fail> {
     }
     let (group, n) = halves(rest, " ")?;
     debug_of(alloc, &hall.enter(number(group)?, count(n)?))
+}
+
+fn step(alloc: Global, hall: &mut Hall, row: &str) -> Result<(), Fail> {
+    let (call, want) = halves(row, " = ")?;
+    is_text(stepped(alloc, hall, call)?.as_str(), want)
 }
 
 // The bag of two lists, as its counts of 3, 5 and 9.
@@ -160,33 +182,40 @@ fn guests_enter_and_leave(rt: HostRuntime) -> Result<(), Fail> {
     let mut hall = Hall {
         guests: HashBag::with_limit(alloc, FixedState::new(), 4),
     };
-    for row in rows_of(alloc, HALL, 16)? {
-        let (step, want) = halves(row, " = ")?;
-        is_text(row, stepped(alloc, &mut hall, step)?.as_str(), want)?;
+    for row in rows_of(alloc, HALL)? {
+        row.tested(step(alloc, &mut hall, row.text))?;
     }
     Ok(())
+}
+
+fn in_and_out(alloc: Global, row: &str) -> Result<(), Fail> {
+    let (first, rest) = halves(row, "|")?;
+    let (second, rest) = halves(rest, "|")?;
+    let (both, left) = halves(rest, "|")?;
+    is_text(of_both(alloc, first, second)?.as_str(), both)?;
+    is_text(taken(alloc, first, second)?.as_str(), left)
 }
 
 #[test]
 fn lists_go_in_and_out(rt: HostRuntime) -> Result<(), Fail> {
     let alloc = rt.alloc();
-    for row in rows_of(alloc, LISTS, 5)? {
-        let (first, rest) = halves(row, "|")?;
-        let (second, rest) = halves(rest, "|")?;
-        let (both, left) = halves(rest, "|")?;
-        is_text(row, of_both(alloc, first, second)?.as_str(), both)?;
-        is_text(row, taken(alloc, first, second)?.as_str(), left)?;
+    for row in rows_of(alloc, LISTS)? {
+        row.tested(in_and_out(alloc, row.text))?;
     }
     Ok(())
+}
+
+fn commonest_of(alloc: Global, row: &str) -> Result<(), Fail> {
+    let (list, want) = halves(row, " = ")?;
+    let found = commonest(alloc, values(alloc, list)?)?;
+    is_text(debug_of(alloc, &found)?.as_str(), want)
 }
 
 #[test]
 fn commonest_values(rt: HostRuntime) -> Result<(), Fail> {
     let alloc = rt.alloc();
-    for row in rows_of(alloc, COMMONEST, 5)? {
-        let (list, want) = halves(row, " = ")?;
-        let found = commonest(alloc, values(alloc, list)?)?;
-        is_text(row, debug_of(alloc, &found)?.as_str(), want)?;
+    for row in rows_of(alloc, COMMONEST)? {
+        row.tested(commonest_of(alloc, row.text))?;
     }
     Ok(())
 }

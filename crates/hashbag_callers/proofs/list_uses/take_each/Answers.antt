@@ -12,7 +12,7 @@ loop-value-preserved g c = record {
       let item = c.value-item.result in
       let so_far = count g.T.PartialEq.eq v (take c.loop-value.value-index c.args.values.now) in
       left_after _ _ _ _ _ _ (c.loop-value.invariant.counts v) (count_removed_any laws c.loop-value.bag c.remove.new.self v item 1 c.remove.ensures.fewer.left)
-      (count_take_next laws v c.args.values.now c.loop-value.value-index item c.loop-value-test.true ∙ ap (λ (x : g.row.T.Denot). so_far + cond (g.T.PartialEq.eq v x) 1 0) (sym c.value-item.ensures));
+      (count_take_next laws v c.args.values.now c.loop-value.value-index item c.loop-value-test.true ∙ ap (λ (x : g.row.T.Denot). so_far + cond (g.T.PartialEq.eq v x) 1 0) (sym c.value-item.is));
 }
 
 pub returns-clause-counts : goal.returns-clause-counts
