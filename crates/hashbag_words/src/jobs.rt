@@ -1,4 +1,4 @@
-//! What the program does: it takes inputs in, and shows what the bag then has.
+//! The jobs: each reads its inputs into a bag, and writes the counts of the bag.
 use crate::bag::{Bag, empty};
 use crate::failure::Failure;
 use crate::gauge::Gauge;
@@ -15,7 +15,7 @@ use hashbag_shell::status::{DENIED, DONE};
 use hashbag_words_core::rule::{Pieces, Rule};
 use regex::Regex;
 
-// Counts what is in the inputs.
+// Counts the tokens of the inputs.
 fn count<'a>(
     inputs: &mut Inputs<'_, 'a, '_>,
     by: By<'a>,
@@ -39,7 +39,7 @@ fn count<'a>(
     inputs.take_all(Intake::Text(Rule { pieces, fold }), bag)
 }
 
-// Takes in the two inputs of a job on a pair: the first into the bag, the second into another one, which is only looked up from then on.
+// Reads the two inputs of a job on a pair: the first into the bag, and the second into a new bag, which is only looked up afterwards.
 fn take_pair<'a>(
     inputs: &mut Inputs<'_, 'a, '_>,
     counts: Intake<'_>,
@@ -93,7 +93,7 @@ fn take_in<'a>(inputs: &mut Inputs<'_, 'a, '_>, bag: &mut Bag) -> Result<(), Fai
     Ok(())
 }
 
-// What is to be written. Temporary files are in that folder.
+// Returns what is to be written. Temporary files are in this folder.
 fn made<'a>(
     rt: &HostRuntime,
     settings: &Settings<'a, '_>,
@@ -120,7 +120,7 @@ fn made<'a>(
     }
 }
 
-// What is to be written of runs, if there are any, and of what the bag has.
+// Returns what is to be written of runs, if there are any, and of the bag.
 fn show_bounded<'a>(
     rt: &HostRuntime,
     settings: &Settings<'a, '_>,
@@ -137,7 +137,11 @@ fn show_bounded<'a>(
     show(rt, settings, folder, runs.into_batch()?)
 }
 
-/// Does what the command line asks for, and returns the status. Temporary files are in that folder.
+/// Does the job and returns the exit status. Temporary files are in this folder.
+///
+/// # Errors
+///
+/// The first failure. Then a file that the arguments name as output is unchanged.
 pub fn run<'a>(
     rt: &HostRuntime,
     settings: &Settings<'a, '_>,

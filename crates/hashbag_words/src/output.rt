@@ -1,4 +1,4 @@
-//! Counts are written.
+//! The output: standard output, or a file.
 use crate::bag::Bag;
 use crate::failure::Failure;
 use crate::settings::Settings;
@@ -27,17 +27,21 @@ impl Made {
     }
 }
 
-/// Where counts are written.
+/// Where the counts are written.
 #[derive(Drop)]
 pub enum Output<'a> {
-    /// To standard output.
+    /// Standard output.
     Standard,
-    /// To the file of that name, all or nothing.
+    /// The file of this name, which is written whole or not at all.
     Named(&'a str, OutputFile<File>),
 }
 
 impl<'a> Output<'a> {
-    /// Opens what the command line names, before anything is counted.
+    /// Opens the output that the arguments name. It is called before anything is counted.
+    ///
+    /// # Errors
+    ///
+    /// `File` if the file can't be opened, `NoMemoryLeft` if an allocation fails. Then no file is changed.
     pub fn open(rt: &HostRuntime, settings: &Settings<'a, '_>) -> Result<Output<'a>, Failure<'a>> {
         let Some(name) = settings.output else {
             return Ok(Output::Standard);
@@ -49,6 +53,10 @@ impl<'a> Output<'a> {
     }
 
     /// Writes all that was made.
+    ///
+    /// # Errors
+    ///
+    /// `File` if a write fails, `NoMemoryLeft` if an allocation fails. Then a named file is unchanged.
     pub fn write(self, rt: &HostRuntime, made: Made) -> Result<(), Failure<'a>> {
         let (name, written) = match self {
             Output::Standard => ("standard output", put(io::writer(rt), made)),
@@ -57,7 +65,7 @@ impl<'a> Output<'a> {
         written.map_err(|error| Failure::of_file(name, error))
     }
 
-    /// Leaves the file as it was.
+    /// Writes nothing: a named file is unchanged.
     pub fn abandon(self, rt: &HostRuntime) {
         if let Output::Named(_, file) = self {
             file.abandon(rt);
@@ -65,7 +73,7 @@ impl<'a> Output<'a> {
     }
 }
 
-// Writes all of it.
+// Writes all that was made and flushes.
 fn put<W: Write + Drop>(mut to: W, made: Made) -> io::Result<()> {
     match made {
         Made::Text(text, _) => to.write_all(text.as_slice())?,
@@ -76,7 +84,7 @@ fn put<W: Write + Drop>(mut to: W, made: Made) -> io::Result<()> {
     to.flush()
 }
 
-// Writes all of it or nothing.
+// Writes all that was made, or nothing.
 fn put_whole(rt: &HostRuntime, to: OutputFile<File>, made: Made) -> io::Result<()> {
     match made {
         Made::Text(text, _) => to.write_whole(rt, text.as_slice()),
@@ -84,9 +92,13 @@ fn put_whole(rt: &HostRuntime, to: OutputFile<File>, made: Made) -> io::Result<(
     }
 }
 
-/// Makes the text of the counts that are asked for.
+/// Returns the text of the counts that are shown, and whether none are.
 ///
-/// All of it is made in memory, so nothing is written if an allocation fails.
+/// Tokens that occur less often than `settings.least` are removed from the bag.
+///
+/// # Errors
+///
+/// `NoMemoryLeft` if an allocation fails. Nothing has been written then, since the whole text is built first.
 pub fn text_of<'a>(
     rt: &HostRuntime,
     settings: &Settings<'a, '_>,

@@ -61,7 +61,7 @@ no_digit k other (d ∷ ds) all = All-cons (λ y. y ≢ k) d ds (λ is. other (s
 
 none_in_row : (k l : ℕ) → letter_of k ≡ Some l → byte_of k ≡ None → k ≢ 92 → k ≢ 9 → ¬ (digit_value k < 10) → (token : List ℕ) (n : ℕ) → n < 2 ^ 64 → All (λ y. y ≢ k) (row token n)
 none_in_row k l has without other tab low token n fits =
-    All-append (λ y. y ≢ k) (escaped token) (9 ∷ decimal n) (none_escaped k l has no other token)
+    All-append (λ y. y ≢ k) (escaped token) (9 ∷ decimal n) (none_escaped k l has without other token)
     (All-cons (λ y. y ≢ k) 9 (decimal n) (λ is. tab (sym is)) (no_digit k low (decimal n) (decimal_is_IsNumeral n fits).0.1))
 
 long_row : (token : List ℕ) (n : ℕ) → 0 < length (row token n)

@@ -1,4 +1,4 @@
-//! Counts are written.
+//! Writing counts.
 use crate::rows::push_row;
 use serde_json::Value;
 use std::alloc::Global;
@@ -7,11 +7,11 @@ use std::io::{self, Write};
 /// How counts are written.
 #[derive(Clone, Copy, Debug, PartialEq, Eq)]
 pub enum Format {
-    /// A line each: the token, a tab, the count.
+    /// A line for each token: the token, a tab, the count.
     Tsv,
-    /// One array of pairs of a token and its count, on one line.
+    /// One line: a JSON array of pairs of a token and its count.
     Json,
-    /// A line each, as `uniq -c` writes it: the count in seven columns, a space, the token.
+    /// A line for each token, as `uniq -c` writes it: the count in seven columns, a space, the token.
     Uniq,
 }
 
@@ -105,7 +105,11 @@ impl<W: Write> RowWriter<W> {
     }
 }
 
-/// Writes tokens with their counts, in the order given.
+/// Writes tokens with their counts, in the order of `rows`.
+///
+/// # Errors
+///
+/// A write or an allocation fails. Then some of the text may have been written.
 pub fn write_rows<W: Write>(
     alloc: Global,
     out: &mut W,
