@@ -256,8 +256,21 @@ fn a_text_is_counted_in_runs(rt: HostRuntime) -> Result<(), Fail> {
         let mut rows = WrittenRows { writer, least: 0 };
         let mut input = text;
         let state = RandomState::new(&rt)?;
-        assert!(rt; put_in_runs(alloc, state, &rule, &mut input, moments.as_slice(), &mut rows).is_ok());
-        is_text(&String::from_utf8(rows.writer.finish()?)?, "a\t2\nb\t3\nc\t1\n")?;
+        assert!(rt;
+            put_in_runs(
+                alloc,
+                state,
+                &rule,
+                &mut input,
+                moments.as_slice(),
+                &mut rows
+            )
+            .is_ok()
+        );
+        is_text(
+            &String::from_utf8(rows.writer.finish()?)?,
+            "a\t2\nb\t3\nc\t1\n",
+        )?;
     }
     let mut input = text;
     let state = RandomState::new(&rt)?;

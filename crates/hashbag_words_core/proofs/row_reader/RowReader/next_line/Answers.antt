@@ -19,9 +19,9 @@ returns-in-Some g c =
     let reads = subst (λ (b : Bool). IfSome (rest reader.input) (λ bytes. ReadsLine b bytes line (rest c.next_ended_line.new.input))) c.if-not-there.false c.in_ok-there.ensures.line in
     let same : c.read_line.new.reading.bad_lines ≡ reader.reading.bad_lines = c.read_line.ensures.bad_lines ∙ c.count_line.ensures.bad_lines in
     let is : reader.form ≡ Tsv → reader.reading.bad_lines ≡ Refused → reader.may_be_marked ≡ false → read_as line ≡ Some (row_of row) = λ tsv refused plain.
-        let unmarked : c.if-self.is_marked ≡ false = elim c.if-self.branch [ then-self w ↦ absurd (cc) | else-self w ↦ w.is_marked-is ∙ plain ] in
-        let read = subst (λ o. IsSomeAnd o (λ r. read_as c.unmarked-line.result.now ≡ Some (row_of r))) c.in-Some.is (c.in_ok-row.ensures.row tsv (c.count_line.ensures.bad_lines ∙ refused)) in
-        ap read_as (sym (c.unmarked-line.ensures unmarked ∙ c.deref.ensures.value)) ∙ read
+    let unmarked : c.if-self.is_marked ≡ false = elim c.if-self.branch [ then-self w ↦ absurd (cc) | else-self w ↦ w.is_marked-is ∙ plain ] in
+    let read = subst (λ o. IsSomeAnd o (λ r. read_as c.unmarked-line.result.now ≡ Some (row_of r))) c.in-Some.is (c.in_ok-row.ensures.row tsv (c.count_line.ensures.bad_lines ∙ refused)) in
+    ap read_as (sym (c.unmarked-line.ensures unmarked ∙ c.deref.ensures.value)) ∙ read
     in
     subst (λ (b : BadLines). GivesRow (rows_left reader.form reader.reading.bad_lines reader.may_be_marked (rest reader.input)) (Some row) (rows_left reader.form b reader.may_be_marked (rest c.next_ended_line.new.input))) (sym same)
     (gives_row reader.form reader.reading.bad_lines reader.may_be_marked (rest reader.input) (rest c.next_ended_line.new.input) line row reads is)
