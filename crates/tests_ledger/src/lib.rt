@@ -2,4 +2,6 @@
 #![tactic(auto)]
 
 #[cfg(test)]
+mod stock;
+#[cfg(test)]
 mod tests;
