@@ -1,6 +1,6 @@
 //! The tables of a stock.
 use crate::error::StockError;
-use sqlite::{Alter, Connection, Transaction, params};
+use sqlite::{Alter, Connection, params};
 
 /// The version of the tables.
 pub const VERSION: i64 = 1;
@@ -24,6 +24,9 @@ const REFUSAL: &str =
 // The balance: the articles of which there are some.
 const ARTICLE: &str =
     "CREATE TABLE article (article TEXT PRIMARY KEY NOT NULL, number INTEGER NOT NULL CHECK (number > 0)) STRICT";
+
+/// The texts that create the tables.
+pub static TABLES: [&str; 5] = [META, BATCH, MOVEMENT, REFUSAL, ARTICLE];
 
 /// What a database has.
 #[derive(Clone, Copy, PartialEq, Eq, Debug)]
@@ -70,18 +73,4 @@ fn meta_of<S: Alter>(conn: &mut Connection<S>, name: &str) -> Result<Option<i64>
         Some(row) => Ok(Some(row.get(0)?)),
         None => Ok(None),
     }
-}
-
-/// Creates the tables of a stock whose numbers have this many decimals.
-pub fn create<S: Alter>(
-    transaction: &mut Transaction<'_, S>,
-    scale: u32,
-) -> Result<(), StockError> {
-    for text in [META, BATCH, MOVEMENT, REFUSAL, ARTICLE] {
-        transaction.execute(text, &[])?;
-    }
-    let insert = "INSERT INTO meta (name, value) VALUES (?1, ?2)";
-    transaction.execute(insert, params!["hashbag_ledger", VERSION])?;
-    transaction.execute(insert, params!["scale", i64::from(scale)])?;
-    Ok(())
 }

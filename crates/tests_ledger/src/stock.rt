@@ -279,7 +279,7 @@ fn the_first_wrong_refusal_is_found(rt: HostRuntime) -> Result<(), Fail> {
 }
 
 // Returns a batch of this number, with this hash, that undoes another, with so many movements and refusals.
-fn batch(
+fn batch_with(
     alloc: Global,
     number: i64,
     sha256: &str,
@@ -301,9 +301,9 @@ fn batch(
 // Returns three batches, of which the third undoes the first.
 fn three_batches(alloc: Global) -> Result<Vec<Batch>, Fail> {
     let mut batches = Vec::new(alloc);
-    batches.push(batch(alloc, 1, "aa", None, (2, 1))?)?;
-    batches.push(batch(alloc, 2, "bb", None, (0, 0))?)?;
-    batches.push(batch(alloc, 5, "", Some(1), (1, 0))?)?;
+    batches.push(batch_with(alloc, 1, "aa", None, (2, 1))?)?;
+    batches.push(batch_with(alloc, 2, "bb", None, (0, 0))?)?;
+    batches.push(batch_with(alloc, 5, "", Some(1), (1, 0))?)?;
     Ok(batches)
 }
 

@@ -114,12 +114,12 @@ fn ready_of<'a>(
     let entered = enter_batch(
         alloc,
         state,
-        copy_of(alloc, kept)?,
+        copy_of(alloc, kept.as_slice())?,
         copies_of(alloc, &movements)?,
     );
     match entered {
         Ok(entered) => {
-            let changed = changed_rows(alloc, kept, &entered.balance)?;
+            let changed = changed_rows(alloc, kept.as_slice(), &entered.balance)?;
             *kept = entered.balance;
             Ok(Ready {
                 movements,
@@ -198,7 +198,7 @@ fn write_batches<'a>(
     all: &[Ready],
 ) -> Result<(), Failure<'a>> {
     let mut new_scale = new_scale;
-    for (input, ready) in inputs.iter().zip(all) {
+    for (input, ready) in inputs.iter().zip(all.iter()) {
         let batch = NewBatch {
             file: input.file,
             sha256: input.sha256.as_str(),
