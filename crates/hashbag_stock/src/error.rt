@@ -1,6 +1,6 @@
 //! Why a database gives or takes no stock.
 use sqlite::ErrorCode;
-use std::alloc::AllocError;
+use std::alloc::{AllocError, AllocFailed};
 use thiserror::Error;
 
 /// Why a database gives or takes no stock.
@@ -38,6 +38,12 @@ impl From<sqlite::Error> for StockError {
 
 impl From<AllocError> for StockError {
     fn from(_e: AllocError) -> StockError {
+        StockError::Memory
+    }
+}
+
+impl<T: Drop> From<AllocFailed<T>> for StockError {
+    fn from(_e: AllocFailed<T>) -> StockError {
         StockError::Memory
     }
 }

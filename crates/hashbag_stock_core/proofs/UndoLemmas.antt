@@ -27,6 +27,31 @@ module _ {T : Type 0} where
       ap (going_back x x.change) (removals_more ms m)
       ∙ (elim x.change as (λ c. going_back x c (removals_of ms ++ going_back m m.change []) ≡ going_back x c (removals_of ms) ++ going_back m m.change []) [ In n ↦ refl | Out n ↦ refl ])
 
+-- of all movements those that are gone have been turned: what comes in, and what goes out again
+module _ {T : Type 0} where
+  pub record IsTurnedSoFar (all to_come coming_in going_out : List (Movement T)) : Type 0 where
+    pub gone : List (Movement T)
+    pub in_turn : gone ++ to_come ≡ all
+    pub back : coming_in ≡ returns_of gone
+    pub again : going_out ≡ removals_of gone
+
+  pub none_turned : (all : List (Movement T)) → IsTurnedSoFar all all [] []
+  none_turned all = record { gone = []; in_turn = refl; back = refl; again = refl }
+
+  pub one_turned : {all l rest coming_in going_out : List (Movement T)} {m : Movement T} (then_in then_out : List (Movement T)) → l ≡ m ∷ rest → IsTurnedSoFar all l coming_in going_out → then_in ≡ coming_in ++ coming_back m m.change []
+      → then_out ≡ going_out ++ going_back m m.change [] → IsTurnedSoFar all rest then_in then_out
+  one_turned {rest = rest} {m = m} then_in then_out steps h more_in more_out = record {
+    gone = h.gone ++ m ∷ [];
+    in_turn = append_assoc h.gone (m ∷ []) rest ∙ ap (λ (l : List (Movement T)). h.gone ++ l) (sym steps) ∙ h.in_turn;
+    back = more_in ∙ ap (λ (l : List (Movement T)). l ++ coming_back m m.change []) h.back ∙ sym (returns_more h.gone m);
+    again = more_out ∙ ap (λ (l : List (Movement T)). l ++ going_back m m.change []) h.again ∙ sym (removals_more h.gone m);
+  }
+
+  pub all_turned : {all coming_in going_out : List (Movement T)} → IsTurnedSoFar all [] coming_in going_out → coming_in ++ going_out ≡ opposites_of all
+  all_turned h =
+      let whole = sym (append-nil h.gone) ∙ h.in_turn in
+      (λ i. h.back i ++ h.again i) ∙ ap opposites_of whole
+
 -- a movement that comes in again, and one that goes out again
 abbrev returned : {T : Type 0} → Movement T → ℕ → Movement T
 returned m n = record { place = m.place; article = m.article; change = In n }

@@ -13,8 +13,7 @@ pub fn plain_change(change: Change) -> Change
 {
     match change {
         Change::Out(0) => Change::In(0),
-        Change::In(n) => Change::In(n),
-        Change::Out(n) => Change::Out(n),
+        _ => change,
     }
 }
 

@@ -11,12 +11,36 @@ pub enum RowChange {
     Remove(String),
 }
 
-// How the first rows of two balances are to each other: `Less` if the article of the first is in it alone.
-fn order_of(old: Option<&(String, usize)>, new: Option<&(String, usize)>) -> Ordering {
-    match (old, new) {
-        (Some(old), Some(new)) => old.0.as_str().cmp(&new.0.as_str()),
-        (Some(_), None) => Ordering::Less,
-        (None, _) => Ordering::Greater,
+// How far two balances have been read.
+#[derive(Clone, Copy)]
+struct Read {
+    before: usize,
+    after: usize,
+}
+
+// Returns how the next articles of two balances are to each other: `Less` if the next one is in the first balance alone. `None` if
+// there is no next one.
+fn order_at(before: &[(String, usize)], after: &[(String, usize)], read: Read) -> Option<Ordering> {
+    match (before.get(read.before), after.get(read.after)) {
+        (Some(old), Some(new)) => Some(old.0.as_str().cmp(&new.0.as_str())),
+        (Some(_), None) => Some(Ordering::Less),
+        (None, Some(_)) => Some(Ordering::Greater),
+        (None, None) => None,
+    }
+}
+
+// Returns what becomes of the row of the next article, or `None` if it stays as it is.
+fn change_at(
+    before: &[(String, usize)],
+    after: &[(String, usize)],
+    read: Read,
+    order: Ordering,
+) -> Result<Option<RowChange>, AllocError> {
+    match (before.get(read.before), after.get(read.after)) {
+        (Some(old), _) if order == Ordering::Less => { Ok(Some(RowChange::Remove(old.0.clone()?))) }
+        (Some(old), Some(new)) if order == Ordering::Equal && old.1 == new.1 => Ok(None),
+        (_, Some(new)) => Ok(Some(RowChange::Put(new.0.clone()?, new.1))),
+        (_, None) => Ok(None),
     }
 }
 
@@ -28,29 +52,22 @@ pub fn changed_rows(
     after: &[(String, usize)],
 ) -> Result<Vec<RowChange>, AllocError> {
     let mut changes = Vec::new(alloc);
-    let mut i = 0;
-    let mut j = 0;
-    'rows: while i < before.len() || j < after.len() {
-        match order_of(before.get(i), after.get(j)) {
-            Ordering::Less => {
-                if i < before.len() {
-                    changes.push(RowChange::Remove(before[i].0.clone()?))?;
-                }
-                i += 1;
-            }
-            Ordering::Greater => {
-                if j < after.len() {
-                    changes.push(RowChange::Put(after[j].0.clone()?, after[j].1))?;
-                }
-                j += 1;
-            }
-            Ordering::Equal => {
-                if i < before.len() && j < after.len() && before[i].1 != after[j].1 {
-                    changes.push(RowChange::Put(after[j].0.clone()?, after[j].1))?;
-                }
-                i += 1;
-                j += 1;
-            }
+    let mut read = Read {
+        before: 0,
+        after: 0,
+    };
+    'rows: for _ in 0..u64::MAX {
+        let Some(order) = order_at(before, after, read) else {
+            break;
+        };
+        if let Some(change) = change_at(before, after, read, order)? {
+            changes.push(change)?;
+        }
+        if order != Ordering::Greater {
+            read.before = read.before.saturating_add(1);
+        }
+        if order != Ordering::Less {
+            read.after = read.after.saturating_add(1);
         }
     }
     Ok(changes)

@@ -99,8 +99,40 @@ pub fn wrong_refusal(kept: &[KeptRefusal], counted: &[Refusal<String>]) -> Optio
     }
 }
 
-/// Returns the number of the first batch that has other numbers of movements or refusals than its row says, or of the first movement's
-/// batch that is out of turn.
+// How many movements and refusals have been read.
+#[derive(Clone, Copy)]
+struct Read {
+    movements: usize,
+    refusals: usize,
+}
+
+// Reads the movements of a batch, and those of them that were refused.
+fn read_batch(
+    movements: &[Movement<String>],
+    refusals: &[KeptRefusal],
+    batch: u64,
+    from: Read,
+) -> Read {
+    let mut read = from;
+    'movements: for _ in 0..movements.len() {
+        let Some(movement) = movements.get(read.movements) else {
+            break;
+        };
+        if movement.place.file as u64 != batch {
+            break;
+        }
+        read.movements = read.movements.saturating_add(1);
+        if let Some(refusal) = refusals.get(read.refusals)
+            && refusal.movement == movement.place.line
+        {
+            read.refusals = read.refusals.saturating_add(1);
+        }
+    }
+    read
+}
+
+/// Returns the number of the first batch that has other numbers of movements or refusals than its row says; or that of the batch of the
+/// first movement after them, which is then of no batch, or out of turn.
 ///
 /// The file of the place of a movement is the number of its batch, and the line is the number of the movement. Movements and refusals
 /// are in turn.
@@ -109,24 +141,19 @@ pub fn wrong_batch(
     movements: &[Movement<String>],
     refusals: &[KeptRefusal],
 ) -> Option<i64> {
-    let mut i = 0;
-    let mut j = 0;
+    let mut read = Read {
+        movements: 0,
+        refusals: 0,
+    };
     for batch in batches {
-        let (from, first) = (i, j);
-        'movements: while i < movements.len()
-            && movements[i].place.file as u64 == batch.number.unsigned_abs()
-        {
-            if j < refusals.len() && refusals[j].movement == movements[i].place.line {
-                j += 1;
-            }
-            i += 1;
-        }
-        if (i - from) as u64 != batch.movements || (j - first) as u64 != batch.refused {
+        let next = read_batch(movements, refusals, batch.number.unsigned_abs(), read);
+        let count = next.movements.saturating_sub(read.movements) as u64;
+        let refused = next.refusals.saturating_sub(read.refusals) as u64;
+        if count != batch.movements || refused != batch.refused {
             return Some(batch.number);
         }
+        read = next;
     }
-    if i < movements.len() {
-        return i64::try_from(movements[i].place.file).ok();
-    }
-    None
+    let movement = movements.get(read.movements)?;
+    i64::try_from(movement.place.file).ok()
 }

@@ -1,5 +1,5 @@
 //! Files that are entered into a stock.
-use crate::outputs::{NamedOutput, abandon, is_same, open, write_refusals};
+use crate::outputs::{abandon, is_same, open, write_refusals};
 use crate::stock::database::{
     Db, close as close_database, in_database, is_blank, open as open_stock, open_or_make,
 };

@@ -4,7 +4,7 @@ use hashbag_lists::trouble::Trouble;
 use hashbag_shell::status::{BAD_INPUT, DENIED, ENTERED_BEFORE, IN_USE, IO_FAILED, NO_MEMORY};
 use hashbag_stock::error::StockError;
 use sqlite::ErrorCode;
-use std::alloc::AllocError;
+use std::alloc::{AllocError, AllocFailed};
 use thiserror::Error;
 
 /// Why a subcommand doesn't do all that it is asked.
@@ -132,6 +132,12 @@ impl<'a> From<Trouble<'a>> for Failure<'a> {
 
 impl From<AllocError> for Failure<'_> {
     fn from(_e: AllocError) -> Self {
+        Failure::Trouble(Trouble::Memory)
+    }
+}
+
+impl<T: Drop> From<AllocFailed<T>> for Failure<'_> {
+    fn from(_e: AllocFailed<T>) -> Self {
         Failure::Trouble(Trouble::Memory)
     }
 }

@@ -10,7 +10,6 @@ use hashbag_lists::files::{in_file, read_file};
 use hashbag_stock_core::numbers::{MOST, plain_change, size_of};
 use sha2::{Digest, Sha256};
 use std::alloc::{AllocError, Global};
-use std::fmt::Write;
 
 /// A file that is to be entered.
 #[derive(Drop)]
