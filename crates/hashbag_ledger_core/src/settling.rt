@@ -46,7 +46,7 @@ fn stock_of_list<T: Eq + Hash + Drop, S: BuildHasher + Drop>(
     ensures counts { IfOk result (λ stock. (v : T) → count T.eq v stock.items ≡ quantity T.eq v list.items) }
     ensures len { IfOk result (λ stock. length stock.items ≡ numbers list.items) }
     ensures limit { IfOk result (λ stock. stock.most ≡ usize.MAX) }
-    ensures only_memory { IfErr result (λ e. e ≡ LedgerError.Memory) }
+    ensures only { IfErr result (λ e. e ≡ LedgerError.Memory) }
 {
     let mut stock = HashBag::with_hasher(alloc, state);
     match stock.extend_many(list.into_iter()) {

@@ -1,5 +1,5 @@
 //! The numbers of a database: whole, with a sign, at most 2^63-1.
-ghost use Rattle.std.specs.Prelude.{◌≡◌, ◌≤◌, ◌<◌, ◌^◌, ◌-◌, MatchOption};
+ghost use Rattle.std.specs.Prelude.{◌≡◌, ◌≤◌, ◌<◌, ◌^◌, ◌-◌, pos, MatchOption};
 ghost use Rattle.hashbag_stock_core.specs.Numbers.{change_at, plain, size};
 
 use hashbag_ledger_core::movements::Change;
@@ -43,7 +43,9 @@ pub fn number_of(change: Change) -> Option<i64>
 }
 
 /// Returns a number as a row has it. `None` if it is above [`MOST`].
-pub fn signed(n: usize) -> Option<i64> {
+pub fn signed(n: usize) -> Option<i64>
+    ensures { MatchOption result (2 ^ 63 - 1 < n) (λ number. (n ≤ 2 ^ 63 - 1) × (number ≡ pos n)) }
+{
     if n > MOST {
         return None;
     }

@@ -1,9 +1,10 @@
 //! A batch that is taken back.
-ghost use Rattle.std.specs.Prelude.{◌≡◌, ℕ, ◌+◌, ◌<◌, ◌≤◌, ◌^◌, ◌-◌, IfOk, IfErr};
+ghost use Rattle.std.specs.Prelude.{◌≡◌, ℕ, ◌+◌, ◌<◌, ◌^◌, ◌-◌, ◌↔◌, ◌++◌, [], IfOk, IfErr, OnOk};
 ghost use Rattle.hashbag_lists.specs.Quantities.{numbers};
 ghost use Rattle.hashbag_ledger_core.specs.Ledger.{came, went};
-ghost use Rattle.hashbag_ledger_core.specs.Settled.{listed};
-ghost use Rattle.hashbag_stock_core.specs.Undos.{opposites_of, IsUndo, IsAsBefore};
+ghost use Rattle.hashbag_ledger_core.specs.declared.movements.Place.{Place};
+ghost use Rattle.hashbag_ledger_core.specs.Settled.{listed, IsPastWithin};
+ghost use Rattle.hashbag_stock_core.specs.Undos.{coming_back, going_back, opposites_of, IsUndo, IsAsBefore};
 
 use crate::numbers::MOST;
 use hashbag_ledger_core::entering::LedgerError;
@@ -21,7 +22,47 @@ pub enum Undo<T> {
     Refused(Vec<Refusal<T>>),
 }
 
+// Appends the opposite of a movement to those that come in, or to those that go out.
+fn turn<T: Drop>(
+    movement: Movement<T>,
+    coming_in: &mut Vec<Movement<T>>,
+    going_out: &mut Vec<Movement<T>>,
+) -> Result<(), AllocError>
+    ensures back { OnOk result (coming_in.new.items ≡ coming_in.old.items ++ coming_back movement movement.change []) }
+    ensures again { OnOk result (going_out.new.items ≡ going_out.old.items ++ going_back movement movement.change []) }
+{
+    let Movement {
+        place,
+        article,
+        change,
+    } = movement;
+    match change {
+        Change::Out(n) => {
+            let change = Change::In(n);
+            coming_in.push(Movement {
+                place,
+                article,
+                change,
+            })?;
+            Ok(())
+        }
+        Change::In(n) => {
+            let change = Change::Out(n);
+            going_out.push(Movement {
+                place,
+                article,
+                change,
+            })?;
+            Ok(())
+        }
+    }
+}
+
 /// Returns the opposite movements of a batch: first what it took out comes in, and then what it brought in goes out, each in turn.
+///
+/// # Errors
+///
+/// An error if an allocation fails.
 pub fn opposites<T: Drop>(
     alloc: Global,
     batch: Vec<Movement<T>>,
@@ -31,23 +72,7 @@ pub fn opposites<T: Drop>(
     let mut all = Vec::new(alloc);
     let mut going = Vec::new(alloc);
     for movement in batch {
-        let Movement {
-            place,
-            article,
-            change,
-        } = movement;
-        match change {
-            Change::Out(n) => all.push(Movement {
-                place,
-                article,
-                change: Change::In(n),
-            })?,
-            Change::In(n) => going.push(Movement {
-                place,
-                article,
-                change: Change::Out(n),
-            })?,
-        }
+        turn(movement, &mut all, &mut going)?;
     }
     all.append(&mut going)?;
     Ok(all)
@@ -71,6 +96,8 @@ pub fn take_back<T: Ord + Hash + Drop, S: BuildHasher + Drop>(
     ensures undo { IfOk result (IsUndo T.eq T.cmp (listed T.eq kept.items) batch.items) }
     ensures last { IfOk result (λ u. (before : T → ℕ) → ((v : T) → listed T.eq kept.items v + went T.eq v batch.items ≡ before v + came T.eq v batch.items)
         → IsAsBefore T.eq T.cmp (listed T.eq kept.items) batch.items u before) }
+    ensures too_many { (result ≡ Err LedgerError.StartTooMany) ↔ (2 ^ 63 - 1 < numbers kept.items) }
+    ensures past { IfErr result (λ e. (p : Place) → e ≡ LedgerError.TooMany p → IsPastWithin T.eq (2 ^ 63 - 1) kept.items (opposites_of batch.items) p) }
 {
     let opposite = opposites(alloc, batch)?;
     let entered = settle_within(alloc, state, MOST, kept, opposite)?;

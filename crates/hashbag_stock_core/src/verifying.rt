@@ -1,4 +1,8 @@
 //! The balance and the refusals that are kept, compared with what the movements make.
+ghost use Rattle.std.specs.Prelude.{◌≡◌, ◌≢◌, ◌↔◌, IsTrue, IsNone, IfNone, IfSome, map, slice_get};
+ghost use Rattle.std.specs.Option.{option_copied, option_map};
+ghost use Rattle.hashbag_stock_core.specs.Rows.{row, rows_of, kept_of};
+
 use crate::once::Batch;
 use hashbag_ledger_core::movements::{Movement, Refusal};
 use std::cmp::Ordering;
@@ -23,51 +27,72 @@ pub struct WrongNumber<'a> {
     pub counted: usize,
 }
 
+// Returns whether two rows have the same article and the same number, or neither is there.
+fn is_same_row(kept: Option<&(String, usize)>, counted: Option<&(String, usize)>) -> bool
+    ensures { IsTrue result ↔ (option_map row (option_copied kept.entry) ≡ option_map row (option_copied counted.entry)) }
+{
+    match (kept, counted) {
+        (Some(old), Some(new)) => old.0.as_str() == new.0.as_str() && old.1 == new.1,
+        (None, None) => true,
+        _ => false,
+    }
+}
+
 // Returns the first place at which two balances differ.
-fn first_difference(kept: &[(String, usize)], counted: &[(String, usize)]) -> Option<usize> {
-    let both = kept.len().min(counted.len());
-    for i in 0..both {
-        let is_same = kept[i].0.as_str() == counted[i].0.as_str() && kept[i].1 == counted[i].1;
-        if !is_same {
+fn first_difference(kept: &[(String, usize)], counted: &[(String, usize)]) -> Option<usize>
+    ensures same { IfNone result (rows_of kept.now ≡ rows_of counted.now) }
+    ensures differ { IfSome result (λ i. slice_get (rows_of kept.now) i ≢ slice_get (rows_of counted.now) i) }
+{
+    let longest = kept.len().max(counted.len());
+    'rows: for i in 0..longest {
+        if !is_same_row(kept.get(i), counted.get(i)) {
             return Some(i);
         }
     }
-    if kept.len() == counted.len() {
-        return None;
-    }
-    Some(both)
+    None
 }
 
-// Returns the article at a place at which they differ.
-fn wrong_at<'a>(
-    kept: &'a [(String, usize)],
-    counted: &'a [(String, usize)],
-    at: usize,
-) -> Option<WrongNumber<'a>> {
-    let (stored, made) = (kept.get(at), counted.get(at));
-    let order = match (stored, made) {
-        (Some(old), Some(new)) => old.0.as_str().cmp(&new.0.as_str()),
-        (Some(_), None) => Ordering::Less,
-        (None, _) => Ordering::Greater,
-    };
-    let kept_number = stored.map_or(0, |entry| entry.1);
-    let counted_number = made.map_or(0, |entry| entry.1);
-    match order {
-        Ordering::Less => Some(WrongNumber {
-            article: stored?.0.as_str(),
-            kept: kept_number,
+// Returns the article of two rows that differ which comes first, with its two numbers.
+fn first_of<'a>(kept: &'a (String, usize), counted: &'a (String, usize)) -> WrongNumber<'a> {
+    match kept.0.as_str().cmp(&counted.0.as_str()) {
+        Ordering::Less => WrongNumber {
+            article: kept.0.as_str(),
+            kept: kept.1,
+            counted: 0,
+        },
+        Ordering::Greater => WrongNumber {
+            article: counted.0.as_str(),
+            kept: 0,
+            counted: counted.1,
+        },
+        Ordering::Equal => WrongNumber {
+            article: kept.0.as_str(),
+            kept: kept.1,
+            counted: counted.1,
+        },
+    }
+}
+
+// Returns what is wrong of two rows, if there is one.
+fn wrong_of<'a>(
+    kept: Option<&'a (String, usize)>,
+    counted: Option<&'a (String, usize)>,
+) -> Option<WrongNumber<'a>>
+    ensures { IsNone result ↔ (IsNone (option_copied kept.entry) × IsNone (option_copied counted.entry)) }
+{
+    match (kept, counted) {
+        (Some(old), Some(new)) => Some(first_of(old, new)),
+        (Some(old), None) => Some(WrongNumber {
+            article: old.0.as_str(),
+            kept: old.1,
             counted: 0,
         }),
-        Ordering::Greater => Some(WrongNumber {
-            article: made?.0.as_str(),
+        (None, Some(new)) => Some(WrongNumber {
+            article: new.0.as_str(),
             kept: 0,
-            counted: counted_number,
+            counted: new.1,
         }),
-        Ordering::Equal => Some(WrongNumber {
-            article: stored?.0.as_str(),
-            kept: kept_number,
-            counted: counted_number,
-        }),
+        (None, None) => None,
     }
 }
 
@@ -75,28 +100,49 @@ fn wrong_at<'a>(
 pub fn wrong_number<'a>(
     kept: &'a [(String, usize)],
     counted: &'a [(String, usize)],
-) -> Option<WrongNumber<'a>> {
-    let at = first_difference(kept, counted)?;
-    wrong_at(kept, counted, at)
+) -> Option<WrongNumber<'a>>
+    ensures agrees { IsNone result ↔ (rows_of kept.now ≡ rows_of counted.now) }
+{
+    match first_difference(kept, counted) {
+        Some(at) => wrong_of(kept.get(at), counted.get(at)),
+        None => None,
+    }
 }
 
-/// Returns the number of the first movement that is refused in one list alone, or with another number there.
-pub fn wrong_refusal(kept: &[KeptRefusal], counted: &[Refusal<String>]) -> Option<u64> {
-    let both = kept.len().min(counted.len());
-    for i in 0..both {
-        let made = KeptRefusal {
-            movement: counted[i].place.line,
-            there: counted[i].there,
-        };
-        if kept[i] != made {
-            return Some(kept[i].movement.min(made.movement));
+// Returns whether a refusal that is kept is that of the movements, or neither is there.
+fn is_same_refusal(kept: Option<&KeptRefusal>, counted: Option<&Refusal<String>>) -> bool
+    ensures { IsTrue result ↔ (option_copied kept.entry ≡ option_map kept_of (option_copied counted.entry)) }
+{
+    match (kept, counted) {
+        (Some(old), Some(new)) => old.movement == new.place.line && old.there == new.there,
+        (None, None) => true,
+        _ => false,
+    }
+}
+
+// Returns the lower number of two movements, or that of the only one.
+fn first_number(kept: Option<&KeptRefusal>, counted: Option<&Refusal<String>>) -> u64 {
+    match (kept, counted) {
+        (Some(old), Some(new)) => old.movement.min(new.place.line),
+        (Some(old), None) => old.movement,
+        (None, Some(new)) => new.place.line,
+        (None, None) => 0,
+    }
+}
+
+/// Returns the number of the first movement that is refused in one list alone, or with another number there; `None` if the refusals
+/// that are kept are those of the movements.
+pub fn wrong_refusal(kept: &[KeptRefusal], counted: &[Refusal<String>]) -> Option<u64>
+    ensures agrees { IsNone result ↔ (kept.now ≡ map kept_of counted.now) }
+{
+    let longest = kept.len().max(counted.len());
+    'refusals: for i in 0..longest {
+        let (stored, made) = (kept.get(i), counted.get(i));
+        if !is_same_refusal(stored, made) {
+            return Some(first_number(stored, made));
         }
     }
-    match (kept.get(both), counted.get(both)) {
-        (Some(old), _) => Some(old.movement),
-        (None, Some(new)) => Some(new.place.line),
-        (None, None) => None,
-    }
+    None
 }
 
 // How many movements and refusals have been read.
