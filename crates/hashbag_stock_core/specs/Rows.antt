@@ -1,5 +1,6 @@
 -- What a database keeps of a balance and of refusals: the bytes of texts, and numbers.
-use Rattle.std.specs.Prelude.{ℕ, List, map, String, Global, string_bytes}
+use Rattle.std.specs.Prelude.{ℕ, List, map, String, string_bytes}
+use Rattle.std.specs.Global.{Global}
 use Rattle.hashbag_ledger_core.specs.declared.movements.Refusal.{Refusal}
 use Rattle.hashbag_stock_core.specs.declared.verifying.KeptRefusal.{KeptRefusal}
 

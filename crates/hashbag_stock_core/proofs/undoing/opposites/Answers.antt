@@ -25,4 +25,6 @@ returns g c =
     let at = c.loop-movement in
     let all = c.into_iter-movement-iterator.ensures.into_iter_gives.0 in
     let ended : into_iter_items at.movement-iterator ≡ [] = nil_from_length _ (sym at.invariant.long ∙ c.in-None.ensures.steps.0) in
-    ?
+    c.in_ok-append.ensures.items
+    ∙ all_turned (subst (λ (l : List (Movement g.row.T.Denot)). IsTurnedSoFar (into_iter_items c.into_iter-movement-iterator.result) l at.all.items at.going.items) ended at.invariant.turned)
+    ∙ ap opposites_of all
