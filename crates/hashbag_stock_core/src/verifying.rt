@@ -1,5 +1,5 @@
 //! The balance and the refusals that are kept, compared with what the movements make.
-ghost use Rattle.std.specs.Prelude.{◌≡◌, ◌≢◌, ◌↔◌, IsTrue, IsNone, IfNone, IfSome, map, slice_get};
+ghost use Rattle.std.specs.Prelude.{◌≡◌, ◌≢◌, ◌≤◌, ◌↔◌, IsTrue, IsNone, IfNone, IfSome, map, slice_get};
 ghost use Rattle.std.specs.Option.{option_copied, option_map};
 ghost use Rattle.hashbag_stock_core.specs.Rows.{row, rows_of, kept_of};
 
@@ -27,6 +27,14 @@ pub struct WrongNumber<'a> {
     pub counted: usize,
 }
 
+// Returns the greater of two lengths.
+fn longest_of(kept: usize, counted: usize) -> usize
+    ensures first { kept ≤ result }
+    ensures second { counted ≤ result }
+{
+    if kept < counted { counted } else { kept }
+}
+
 // Returns whether two rows have the same article and the same number, or neither is there.
 fn is_same_row(kept: Option<&(String, usize)>, counted: Option<&(String, usize)>) -> bool
     ensures { IsTrue result ↔ (option_map row (option_copied kept.entry) ≡ option_map row (option_copied counted.entry)) }
@@ -43,7 +51,7 @@ fn first_difference(kept: &[(String, usize)], counted: &[(String, usize)]) -> Op
     ensures same { IfNone result (rows_of kept.now ≡ rows_of counted.now) }
     ensures differ { IfSome result (λ i. slice_get (rows_of kept.now) i ≢ slice_get (rows_of counted.now) i) }
 {
-    let longest = kept.len().max(counted.len());
+    let longest = longest_of(kept.len(), counted.len());
     'rows: for i in 0..longest {
         if !is_same_row(kept.get(i), counted.get(i)) {
             return Some(i);
@@ -135,7 +143,7 @@ fn first_number(kept: Option<&KeptRefusal>, counted: Option<&Refusal<String>>) -
 pub fn wrong_refusal(kept: &[KeptRefusal], counted: &[Refusal<String>]) -> Option<u64>
     ensures agrees { IsNone result ↔ (kept.now ≡ map kept_of counted.now) }
 {
-    let longest = kept.len().max(counted.len());
+    let longest = longest_of(kept.len(), counted.len());
     'refusals: for i in 0..longest {
         let (stored, made) = (kept.get(i), counted.get(i));
         if !is_same_refusal(stored, made) {
