@@ -1,5 +1,5 @@
 //! A batch that is taken back.
-ghost use Rattle.std.specs.Prelude.{◌≡◌, ℕ, ◌+◌, ◌<◌, ◌^◌, ◌-◌, ◌↔◌, ◌++◌, [], IfOk, IfErr, OnOk};
+ghost use Rattle.std.specs.Prelude.{◌≡◌, ℕ, ◌+◌, ◌<◌, ◌^◌, ◌-◌, ◌++◌, [], IfOk, IfErr, OnOk};
 ghost use Rattle.hashbag_lists.specs.Quantities.{numbers};
 ghost use Rattle.hashbag_ledger_core.specs.Ledger.{came, went};
 ghost use Rattle.hashbag_ledger_core.specs.declared.movements.Place.{Place};
@@ -85,7 +85,8 @@ pub fn opposites<T: Drop>(
 ///
 /// # Errors
 ///
-/// `StartTooMany` if the numbers of the balance are more than [`MOST`] together. `TooMany` if the total would pass [`MOST`] on the way.
+/// `StartTooMany` only if the numbers of the balance are more than [`MOST`] together. `TooMany` with the place of a movement only if the
+/// total would pass [`MOST`] with its opposite.
 /// `Memory` if an allocation fails.
 pub fn take_back<T: Ord + Hash + Drop, S: BuildHasher + Drop>(
     alloc: Global,
@@ -96,7 +97,7 @@ pub fn take_back<T: Ord + Hash + Drop, S: BuildHasher + Drop>(
     ensures undo { IfOk result (IsUndo T.eq T.cmp (listed T.eq kept.items) batch.items) }
     ensures last { IfOk result (λ u. (before : T → ℕ) → ((v : T) → listed T.eq kept.items v + went T.eq v batch.items ≡ before v + came T.eq v batch.items)
         → IsAsBefore T.eq T.cmp (listed T.eq kept.items) batch.items u before) }
-    ensures too_many { (result ≡ Err LedgerError.StartTooMany) ↔ (2 ^ 63 - 1 < numbers kept.items) }
+    ensures past_at_start { result ≡ Err LedgerError.StartTooMany → 2 ^ 63 - 1 < numbers kept.items }
     ensures past { IfErr result (λ e. (p : Place) → e ≡ LedgerError.TooMany p → IsPastWithin T.eq (2 ^ 63 - 1) kept.items (opposites_of batch.items) p) }
 {
     let opposite = opposites(alloc, batch)?;
