@@ -80,14 +80,13 @@ pub fn opposites<T: Drop>(
 
 /// Enters the opposite movements of a batch into the balance that is kept, all or none.
 ///
-/// They are refused exactly if an article would fall below zero. After the last batch they never are, and the balance is again the one
-/// before it.
+/// `Refused` is returned exactly if an article would fall below zero. After the last batch it never is, and the balance is again the one
+/// before that batch.
 ///
 /// # Errors
 ///
 /// `StartTooMany` only if the numbers of the balance are more than [`MOST`] together. `TooMany` with the place of a movement only if the
-/// total would pass [`MOST`] with its opposite.
-/// `Memory` if an allocation fails.
+/// total would pass [`MOST`] with its opposite. `Memory` if an allocation fails.
 pub fn take_back<T: Ord + Hash + Drop, S: BuildHasher + Drop>(
     alloc: Global,
     state: S,

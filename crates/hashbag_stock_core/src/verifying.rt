@@ -48,7 +48,7 @@ fn is_same_row(kept: Option<&(String, usize)>, counted: Option<&(String, usize)>
 
 // Returns the first place at which two balances differ.
 fn first_difference(kept: &[(String, usize)], counted: &[(String, usize)]) -> Option<usize>
-    ensures same { IfNone result (rows_of kept.now ≡ rows_of counted.now) }
+    ensures all_same { IfNone result (rows_of kept.now ≡ rows_of counted.now) }
     ensures differ { IfSome result (λ i. slice_get (rows_of kept.now) i ≢ slice_get (rows_of counted.now) i) }
 {
     let longest = longest_of(kept.len(), counted.len());

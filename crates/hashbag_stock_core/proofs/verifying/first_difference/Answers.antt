@@ -13,8 +13,8 @@ rows-preserved c =
     below_more _ _ c.rows.invariant here
 
 -- all rows are
-pub returns-clause-same : goal.returns-clause-same
-returns-clause-same c =
+pub returns-clause-all_same : goal.returns-clause-all_same
+returns-clause-all_same c =
     let kept = length-map c.args.kept.now row in
     let counted = length-map c.args.counted.now row in
     same_if_same_below (rows_of c.args.kept.now) (rows_of c.args.counted.now) c.rows.i (omega arith) (omega arith) c.rows.invariant
