@@ -200,10 +200,20 @@ module _ {T : Type 0} (eq : T → T → Bool) where
               subst (λ (s : T → ℕ). IsBalance eq cmp s left) end_is balance;
         }
 
+    -- the same of the movements that were entered, which are the opposites
+    pub taken_back_by : (cmp : T → T → Ordering) (batch entered : List (Movement T)) (left : List (T × ℕ)) → entered ≡ opposites_of batch → refused_of eq start entered ≡ [] → IsBalance eq cmp (in_the_end eq start entered) left
+        → Leaves eq start entered (listed eq left) → TakesBack eq cmp start batch left
+    taken_back_by cmp batch entered left is none balance leaves =
+        taken_back cmp batch left (subst (λ (l : List (Movement T)). refused_of eq start l ≡ []) is none) (subst (λ (l : List (Movement T)). IsBalance eq cmp (in_the_end eq start l) left) is balance)
+        (subst (λ (l : List (Movement T)). Leaves eq start l (listed eq left)) is leaves)
+
+    pub falls_by : IsEquivalence eq → (batch entered : List (Movement T)) → entered ≡ opposites_of batch → refused_of eq start entered ≢ [] → (v : T) × FallsBelowZero eq start batch v
+    falls_by laws batch entered is some = falls laws batch (subst (λ (l : List (Movement T)). refused_of eq start l ≢ []) is some)
+
 -- a batch that was the last one
-module _ {T : Type 0} (eq : T → T → Bool) (cmp : T → T → Ordering) (stock before : T → ℕ) (batch : List (Movement T)) (was : (v : T) → stock v + went eq v batch ≡ before v + came eq v batch) where
-  pub as_before : (left : List (T × ℕ)) → TakesBack eq cmp stock batch left → (v : T) → listed eq left v ≡ before v
-  as_before left h v = let now = h.counts v in let then = was v in omega arith
+module _ {T : Type 0} (eq : T → T → Bool) (stock before : T → ℕ) (batch : List (Movement T)) (was : (v : T) → stock v + went eq v batch ≡ before v + came eq v batch) where
+  pub as_before : (cmp : T → T → Ordering) (left : List (T × ℕ)) → TakesBack eq cmp stock batch left → (v : T) → listed eq left v ≡ before v
+  as_before cmp left h v = let now = h.counts v in let then = was v in omega arith
 
   pub none_falls : (v : T) → FallsBelowZero eq stock batch v → ⊥
   none_falls v below = let then = was v in omega arith

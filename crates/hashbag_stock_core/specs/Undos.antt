@@ -34,22 +34,23 @@ module _ {T : Type 0} where
   abbrev pub opposites_of : List (Movement T) → List (Movement T)
   opposites_of ms = returns_of ms ++ removals_of ms
 
-module _ {T : Type 0} (eq : T → T → Bool) (cmp : T → T → Ordering) (stock : T → ℕ) (batch : List (Movement T)) where
-  -- of this article fewer than none would be left
-  abbrev pub FallsBelowZero : T → Type 0
-  FallsBelowZero v = stock v + went eq v batch < came eq v batch
-
-  -- the batch is taken back: what it took out is there again, and what it brought in is gone
-  pub record TakesBack (left : List (T × ℕ)) : Type 0 where
-    pub counts : (v : T) → listed eq left v + came eq v batch ≡ stock v + went eq v batch
-    pub balance : IsBalance eq cmp (λ v. stock v + went eq v batch - came eq v batch) left
-
-  -- it is taken back, or an article would fall below zero
-  abbrev pub IsUndo : Undo T → Type 0
-  IsUndo (Done left) = TakesBack left.items
-  IsUndo (Refused refusals) = (v : T) × FallsBelowZero v
+module _ {T : Type 0} (eq : T → T → Bool) where
+  -- of this article fewer than none would be left once the batch is taken back
+  abbrev pub FallsBelowZero : (T → ℕ) → List (Movement T) → T → Type 0
+  FallsBelowZero stock batch v = stock v + went eq v batch < came eq v batch
 
   -- if the batch was the last one, the balance is again the one before it
   abbrev pub IsAsBefore : Undo T → (T → ℕ) → Type 0
-  IsAsBefore (Done left) before = (v : T) → listed eq left v ≡ before v
+  IsAsBefore (Done left) before = (v : T) → listed eq left.items v ≡ before v
   IsAsBefore (Refused refusals) before = ⊥
+
+  module _ (cmp : T → T → Ordering) (stock : T → ℕ) (batch : List (Movement T)) where
+    -- the batch is taken back: what it took out is there again, and what it brought in is gone
+    pub record TakesBack (left : List (T × ℕ)) : Type 0 where
+      pub counts : (v : T) → listed eq left v + came eq v batch ≡ stock v + went eq v batch
+      pub balance : IsBalance eq cmp (λ v. stock v + went eq v batch - came eq v batch) left
+
+    -- it is taken back, or an article would fall below zero
+    abbrev pub IsUndo : Undo T → Type 0
+    IsUndo (Done left) = TakesBack left.items
+    IsUndo (Refused refusals) = (v : T) × FallsBelowZero stock batch v

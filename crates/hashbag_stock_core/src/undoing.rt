@@ -95,7 +95,7 @@ pub fn take_back<T: Ord + Hash + Drop, S: BuildHasher + Drop>(
 ) -> Result<Undo<T>, LedgerError>
     ensures undo { IfOk result (IsUndo T.eq T.cmp (listed T.eq kept.items) batch.items) }
     ensures last { IfOk result (λ u. (before : T → ℕ) → ((v : T) → listed T.eq kept.items v + went T.eq v batch.items ≡ before v + came T.eq v batch.items)
-        → IsAsBefore T.eq T.cmp (listed T.eq kept.items) batch.items u before) }
+        → IsAsBefore T.eq u before) }
     ensures past_at_start { result ≡ Err LedgerError.StartTooMany → 2 ^ 63 - 1 < numbers kept.items }
     ensures past { IfErr result (λ e. (p : Place) → e ≡ LedgerError.TooMany p → IsPastWithin T.eq (2 ^ 63 - 1) kept.items (opposites_of batch.items) p) }
 {

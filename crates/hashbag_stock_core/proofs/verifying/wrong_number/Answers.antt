@@ -9,7 +9,7 @@ returns-in-Some c = record {
   agrees = (
     λ none.
         let no = c.wrong_of.ensures.0 none in
-        absurd (one_is_there row c.args.kept.now c.args.counted.now c.in-Some.at c.get.result c.get-2.result c.get.ensures.lookup c.get-2.ensures.lookup c.in-Some.ensures.differ no.0 no.1),
+        absurd (one_is_there row c.args.kept.now c.args.counted.now c.in-Some.at c.get.result c.get-in-Some.result c.get.ensures.lookup c.get-in-Some.ensures.lookup c.in-Some.ensures.differ no.0 no.1),
     λ same. absurd (c.in-Some.ensures.differ (ap (λ (l : List (List ℕ × ℕ)). slice_get l c.in-Some.at) same)),
   );
 }
