@@ -29,8 +29,8 @@ returns-clause-undo g c =
     let entered = c.in_ok-entered.entered in
     let linked = entered.refusals.ok.0 in
     let some : refused_of eq (listed eq c.args.kept.items) c.in_ok-opposite.opposite.items ≢ [] = λ none.
-        let long : length entered.refusals.items ≡ 0 = ap length (c.in_ok-entered.ensures.refusals ∙ none) in
-        first_of (absurd (omega arith), absurd (search rules), grind (arith, common_steps)) in
+    let long : length entered.refusals.items ≡ 0 = ap length (c.in_ok-entered.ensures.refusals ∙ none) in
+    first_of (absurd (omega arith), absurd (search rules), grind (arith, common_steps)) in
     falls_by eq (listed eq c.args.kept.items) g.met.T.Eq.laws c.args.batch.items c.in_ok-opposite.opposite.items c.in_ok-opposite.ensures some
 
 pub returns-clause-last : goal.returns-clause-last
