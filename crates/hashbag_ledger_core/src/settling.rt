@@ -45,7 +45,6 @@ fn stock_of_list<T: Eq + Hash + Drop, S: BuildHasher + Drop>(
     requires { numbers list.items ≤ usize.MAX }
     ensures counts { IfOk result (λ stock. (v : T) → count T.eq v stock.items ≡ quantity T.eq v list.items) }
     ensures len { IfOk result (λ stock. length stock.items ≡ numbers list.items) }
-    ensures limit { IfOk result (λ stock. stock.most ≡ usize.MAX) }
     ensures only { IfErr result (λ e. e ≡ LedgerError.Memory) }
 {
     let mut stock = HashBag::with_hasher(alloc, state);
