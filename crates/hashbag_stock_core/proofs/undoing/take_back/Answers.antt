@@ -1,5 +1,5 @@
-use Rattle.std.proofs.Common.{◌≡◌, ◌≢◌, ◌∙◌, [], ap, sym, length, subst, rules, arith}
-use Rattle.std.proofs.lemmas.Grind.{common_steps}
+use Rattle.std.proofs.Common.{◌≡◌, ◌≢◌, ◌∙◌, [], true, ap, sym, length, vec_len, arith}
+use Rattle.std.proofs.lemmas.Bool.{eqb-true, eq-eqb}
 use Rattle.std.proofs.lemmas.List.{nil_from_length}
 use Rattle.std.proofs.lemmas.Result.{err_from_is_err_and}
 use Rattle.hashbag_ledger_core.specs.Ledger.{refused_of}
@@ -13,7 +13,8 @@ returns-then-is_empty-clause-undo g c =
     let eq = g.T.PartialEq.eq in
     let entered = c.in_ok-entered.entered in
     let linked = entered.refusals.ok.0 in
-    let long : length entered.refusals.items ≡ 0 = first_of (omega arith, search rules, grind (arith, common_steps)) in
+    let zero : vec_len entered.refusals ≡ 0 = eqb-true (vec_len entered.refusals) 0 (sym c.is_empty.ensures ∙ c.if-is_empty.true) in
+    let long : length entered.refusals.items ≡ 0 = omega arith in
     let none : refused_of eq (listed eq c.args.kept.items) c.in_ok-opposite.opposite.items ≡ [] = sym c.in_ok-entered.ensures.refusals ∙ nil_from_length _ long in
     taken_back_by eq (listed eq c.args.kept.items) g.T.Ord.cmp c.args.batch.items c.in_ok-opposite.opposite.items entered.balance.items c.in_ok-opposite.ensures none c.in_ok-entered.ensures.balance c.in_ok-entered.ensures.leaves
 
@@ -30,7 +31,10 @@ returns-clause-undo g c =
     let linked = entered.refusals.ok.0 in
     let some : refused_of eq (listed eq c.args.kept.items) c.in_ok-opposite.opposite.items ≢ [] = λ none.
     let long : length entered.refusals.items ≡ 0 = ap length (c.in_ok-entered.ensures.refusals ∙ none) in
-    first_of (absurd (omega arith), absurd (search rules), grind (arith, common_steps)) in
+    let zero : vec_len entered.refusals ≡ 0 = omega arith in
+    let yes : c.is_empty.result ≡ true = c.is_empty.ensures ∙ eq-eqb (vec_len entered.refusals) 0 zero in
+    let no = c.if-is_empty.false in
+    cc in
     falls_by eq (listed eq c.args.kept.items) g.met.T.Eq.laws c.args.batch.items c.in_ok-opposite.opposite.items c.in_ok-opposite.ensures some
 
 pub returns-clause-last : goal.returns-clause-last
