@@ -1,9 +1,10 @@
-use Rattle.std.proofs.Common.{◌≡◌, ◌≢◌, ◌∙◌, [], true, ap, sym, length, vec_len, arith}
+use Rattle.std.proofs.Common.{◌≡◌, ◌≢◌, ◌-◌, ◌^◌, ◌∙◌, List, [], true, ap, sym, subst, length, vec_len, arith}
 use Rattle.std.proofs.lemmas.Bool.{eqb-true, eq-eqb}
 use Rattle.std.proofs.lemmas.List.{nil_from_length}
 use Rattle.std.proofs.lemmas.Result.{err_from_is_err_and}
+use Rattle.hashbag_ledger_core.specs.declared.movements.Movement.{Movement}
 use Rattle.hashbag_ledger_core.specs.Ledger.{refused_of}
-use Rattle.hashbag_ledger_core.specs.Settled.{listed}
+use Rattle.hashbag_ledger_core.specs.Settled.{listed, IsPastWithin}
 use Rattle.hashbag_stock_core.proofs.UndoLemmas.{taken_back_by, falls_by, as_before, none_falls}
 use Rattle.hashbag_stock_core.proofs.undoing.take_back.Goals as goal
 
@@ -47,4 +48,6 @@ returns-clause-last g c = λ before was.
 pub returns-in_err-entered-clause-past : goal.returns-in_err-entered-clause-past
 returns-in_err-entered-clause-past g c =
     let error = err_from_is_err_and c.from_residual-in_err-entered.result c.from_residual-in_err-entered.ensures.1 in
-    rw (error.1, error.2, ← c.in_ok-opposite.ensures) c.in_err-entered.ensures.past
+    rw (error.1, error.2)
+    (λ p is.
+    subst (λ (l : List (Movement g.row.T.Denot)). IsPastWithin g.T.PartialEq.eq (2 ^ 63 - 1) c.args.kept.items l p) c.in_ok-opposite.ensures (c.in_err-entered.ensures.past p is))
