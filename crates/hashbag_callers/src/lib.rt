@@ -2,13 +2,16 @@
 #![tactic(auto)]
 
 pub mod deliveries;
+pub mod hall;
 pub mod join_uses;
 pub mod json_uses;
 pub mod ledger;
+pub mod list_uses;
 pub mod record_uses;
 pub mod reserved;
 pub mod run_uses;
 pub mod slot_uses;
 pub mod text_uses;
+pub mod transfers;
 pub mod uses;
 pub mod words;

@@ -1,5 +1,5 @@
 //! Callers to copy: the words of a text, which are counted and looked up as they are. A `String` is allocated only for each distinct one.
-ghost use Rattle.std.specs.Prelude.{◌≡◌, length, string_bytes, string_eq, IfOk};
+ghost use Rattle.std.specs.Prelude.{◌≡◌, ◌-◌, length, string_bytes, string_eq, IfOk};
 ghost use Rattle.hashbag.specs.Occurrences.{count};
 ghost use Rattle.hashbag_callers.specs.Texts.{text_count};
 
@@ -24,4 +24,16 @@ pub fn how_often<S: BuildHasher + Drop>(bag: &HashBag<String, S>, word: &str) ->
     ensures { (v : _) → string_bytes v ≡ word.now → result ≡ count string_eq v bag.now.items }
 {
     bag.contains(word)
+}
+
+/// Removes `n` occurrences of a word, or all if there are fewer, and returns how many are left.
+pub fn strike_out<S: BuildHasher + Drop>(
+    bag: &mut HashBag<String, S>,
+    word: &str,
+    n: usize,
+) -> usize
+    ensures counts { (v : _) → string_bytes v ≡ word.now → count string_eq v bag.new.items ≡ count string_eq v bag.old.items - n }
+    ensures left { (v : _) → string_bytes v ≡ word.now → result ≡ count string_eq v bag.new.items }
+{
+    bag.remove_up_to(word, n)
 }

@@ -1,6 +1,5 @@
 -- Bags as JSON trees: which pairs a tree is read as, and which tree is written.
 use Rattle.std.specs.Prelude.{◌≡◌, ◌↔◌, ℕ, ◌==◌, if◌then◌else◌, Bool, true, List, [], ◌∷◌, map, All, Some, Ok}
-use Rattle.std.specs.Borrow.{Bor}
 use Rattle.std.specs.List.{AllZip}
 use Rattle.std.specs.List.Sorted.{IsStrictlySortedBy}
 use Rattle.std.specs.Map.{keys_of}

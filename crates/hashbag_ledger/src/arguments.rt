@@ -1,4 +1,4 @@
-//! The request that the arguments make.
+//! What the arguments ask for.
 use crate::command::{COLUMNS, PROGRAM, START_COLUMNS, command};
 use clap::error::ErrorKind;
 use clap::{ArgMatches, Error};
@@ -10,7 +10,7 @@ use hashbag_lists::trouble::Trouble;
 use hashbag_shell::status::{BAD_INPUT, DONE, IO_FAILED};
 use std::alloc::{AllocError, Global};
 
-/// What the program is asked to do.
+/// What the arguments ask for.
 #[derive(Drop)]
 pub struct Request<'a> {
     /// The file of the stock at the beginning, if there is one.
@@ -110,8 +110,8 @@ fn said<R: Print + Eprint>(rt: &R, error: &Error) -> u8 {
 ///
 /// # Errors
 ///
-/// The status with which the program ends at once: after the help, the version, bad arguments or a failed allocation. The message has
-/// been printed.
+/// The exit status with which the program ends at once: after the help, the version, bad arguments or a failed allocation. The message
+/// has been written.
 pub fn parse<'a, R: Print + Eprint + AllocGlobal>(
     rt: &R,
     words: &'a [String],

@@ -6,11 +6,11 @@ use hashbag_lists::counts::read_counts_as;
 use hashbag_lists::files::{in_file, read_file};
 use hashbag_lists::trouble::Trouble;
 
-/// Reads the stock at the beginning; it is empty if no file is named.
+/// Reads the stock at the beginning, which is empty if no file is named.
 ///
 /// # Errors
 ///
-/// What is wrong with the file or one of its lines, or `Memory`.
+/// What is wrong with the file or with its first bad line. `Memory` if an allocation fails.
 pub fn start_of<'a>(
     rt: &HostRuntime,
     request: &Request<'a>,
@@ -34,7 +34,7 @@ pub fn start_of<'a>(
 ///
 /// # Errors
 ///
-/// What is wrong with the first bad file or one of its lines, or `Memory`.
+/// What is wrong with the first bad file or with its first bad line. `Memory` if an allocation fails.
 pub fn movements_of<'a>(
     rt: &HostRuntime,
     request: &Request<'a>,

@@ -1,4 +1,4 @@
-//! Enters movements into a stock, refuses those that ask for more than is there, and writes the balance.
+//! Enters movements into a stock, reports those that ask for more than is there, and writes the balance.
 #![tactic(auto)]
 
 mod arguments;
@@ -91,7 +91,7 @@ fn report_of<'a>(rt: &HostRuntime, request: &Request<'a>) -> Result<Report, Trou
     })
 }
 
-// Does what is asked, and returns the status.
+// Does what the arguments ask for, and returns the exit status.
 fn answer<'a>(rt: &HostRuntime, request: &Request<'a>) -> Result<u8, Trouble<'a>> {
     let outputs = Outputs::open(rt, request)?;
     match report_of(rt, request) {

@@ -18,7 +18,7 @@ pub struct Report {
     pub status: u8,
 }
 
-/// The opened outputs; `None` is a standard stream.
+/// The outputs that were opened; `None` is a standard stream.
 #[derive(Drop)]
 pub struct Outputs<'a> {
     refusals: Option<NamedOutput<'a>>,
@@ -32,12 +32,13 @@ pub struct NamedOutput<'a> {
     file: OutputFile<File>,
 }
 
-/// Returns whether two names are of one file. If there is no file of a name, only the same name is.
+/// Returns whether two names are of one file. If there is no file of a name, the names are compared.
 pub fn is_same(rt: &HostRuntime, first: &str, second: &str) -> bool {
     first == second || is_one_file(rt, first, second)
 }
 
-/// Returns an output that is also an input or the other output, if there is one. The balance may replace the stock at the beginning.
+/// Returns the name of an output that is also an input or the other output, if there is one. The balance may replace the stock at the
+/// beginning.
 pub fn conflict<'a>(rt: &HostRuntime, request: &Request<'a>) -> Option<&'a str> {
     for output in [request.output, request.refused] {
         if let Some(name) = output {
@@ -90,7 +91,7 @@ impl<'a> Outputs<'a> {
     ///
     /// # Errors
     ///
-    /// Which output can't be opened, and why. Then the files are unchanged.
+    /// `Output` names the output that can't be opened, `Memory` if an allocation fails. Then the files are unchanged.
     pub fn open(rt: &HostRuntime, request: &Request<'a>) -> Result<Outputs<'a>, Trouble<'a>> {
         let refusals = open(rt, request.refused)?;
         match open(rt, request.output) {
@@ -112,7 +113,7 @@ impl<'a> Outputs<'a> {
     ///
     /// # Errors
     ///
-    /// Which output can't be written, and why. A file that can't be written is unchanged.
+    /// `Output` names the output that can't be written, `Memory` if an allocation fails. A file that can't be written is unchanged.
     pub fn write(self, rt: &HostRuntime, report: &Report) -> Result<(), Trouble<'a>> {
         let Outputs { refusals, balance } = self;
         match write_refusals(rt, refusals, report.refusals.as_slice()) {

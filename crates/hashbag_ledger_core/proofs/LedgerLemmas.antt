@@ -150,9 +150,6 @@ module _ {T : Type 0} (eq : T → T → Bool) (start : T → ℕ) where
   FitSoFar total most all to_come = (before : List (Movement T)) (m : Movement T) (later : List (Movement T)) → before ++ m ∷ later ≡ all
       → length before + length to_come < length all → total_after total (entered_of eq start before) + coming m.change ≤ most
 
-  pub none_fit_yet : (total most : ℕ) (all : List (Movement T)) → FitSoFar total most all all
-  none_fit_yet total most all = λ before m later is few. absurd (omega arith)
-
   -- the next movement fits
   pub next_fits : {total now most : ℕ} {all l to_come : List (Movement T)} {m : Movement T} {refusals : List (Refusal T)} {stock : T → ℕ} → l ≡ m ∷ to_come → SoFar total all l refusals now stock
       → now + coming m.change ≤ most → FitSoFar total most all l → FitSoFar total most all to_come
@@ -199,6 +196,3 @@ module _ {T : Type 0} (eq : T → T → Bool) (start : T → ℕ) where
               omega arith;
           never = never;
         }
-
-    pub refused_in_the_end : refusals ≡ refused_of eq start all
-    refused_in_the_end = sym (append-nil refusals) ∙ h.refused_in_all

@@ -8,11 +8,6 @@ use Rattle.hashbag_ledger_core.specs.declared.movements.Place.{Place}
 use Rattle.hashbag_ledger_core.specs.declared.movements.Refusal.{Refusal}
 use Rattle.hashbag_ledger_core.specs.Ledger.{in_the_end, refused_of, Leaves, IsPast}
 
--- what is refused for memory alone isn't too many
-pub not_too_many : {A : Type 0} (r : Result A BagError) → r ≡ Err TooMany → OnErr r (r ≡ Err Memory) → ⊥
-not_too_many (Ok a) is h = cc
-not_too_many (Err e) is h = cc
-
 -- a stock is known by how many of each article there are
 module _ {T : Type 0} (eq : T → T → Bool) (stock start : T → ℕ) (same : (v : T) → stock v ≡ start v) (ms : List (Movement T)) where
   is_start : stock ≡ start

@@ -1,4 +1,4 @@
-//! Movements entered into a stock, in turn.
+//! Entering movements into a stock.
 ghost use Rattle.std.specs.Prelude.{◌≡◌, ◌≢◌, ◌⊎◌, ◌+◌, ◌<◌, ◌≤◌, ◌↔◌, length, OnOk, OnErr, IfOk, IfErr, IfSome, IsSome};
 ghost use Rattle.hashbag_ledger_core.specs.declared.movements.Place.{Place};
 ghost use Rattle.hashbag_ledger_core.specs.Ledger.{coming, going, stock_of, refused_of, Changes, RefusesMovement, Leaves, IsPastLimit};
@@ -15,7 +15,7 @@ pub enum LedgerError {
     Memory,
     /// The numbers of the stock at the beginning are more than the limit together.
     StartTooMany,
-    /// With the movement at that place the total of the stock would pass its limit.
+    /// With the movement at this place the total of the stock would pass its limit.
     TooMany(Place),
 }
 
@@ -29,9 +29,8 @@ impl From<AllocError> for LedgerError {
     }
 }
 
-/// Enters a movement into the stock and returns `None`, or returns its refusal if it takes out more than is there.
-///
-/// After a refusal the stock is unchanged.
+/// Enters a movement into the stock and returns `None`. If it would remove more than is there, returns its refusal, and the stock is
+/// unchanged.
 ///
 /// # Errors
 ///
@@ -40,8 +39,8 @@ impl From<AllocError> for LedgerError {
 ///
 /// # Complexity
 ///
-/// An article that comes in is hashed once, and allocates only if it is absent and no room is left. An article that goes out is
-/// hashed at most twice, and never allocates.
+/// A movement that adds hashes its article once, and allocates only if the article is absent and no room is left. A movement that
+/// removes hashes its article at most twice, and never allocates.
 pub fn enter<T: Eq + Hash + Drop, S: BuildHasher + Drop>(
     stock: &mut HashBag<T, S>,
     movement: Movement<T>,
@@ -93,7 +92,7 @@ pub fn enter<T: Eq + Hash + Drop, S: BuildHasher + Drop>(
 ///
 /// # Complexity
 ///
-/// Each article is hashed at most twice. It allocates for absent articles and for the refusals.
+/// Each movement hashes its article at most twice. Allocates for absent articles and for the refusals.
 pub fn enter_all<T: Eq + Hash + Drop, S: BuildHasher + Drop>(
     alloc: Global,
     stock: &mut HashBag<T, S>,

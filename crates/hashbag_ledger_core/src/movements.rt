@@ -1,4 +1,4 @@
-//! Movements, and those that are refused.
+//! Movements and refusals.
 ghost use Rattle.std.specs.Prelude.{◌≡◌};
 
 /// Where a movement is.
@@ -13,9 +13,9 @@ pub struct Place {
 /// What a movement does.
 #[derive(Clone, Copy, PartialEq, Eq, Debug)]
 pub enum Change {
-    /// This many come in.
+    /// Adds this many.
     In(usize),
-    /// This many go out.
+    /// Removes this many.
     Out(usize),
 }
 
@@ -30,7 +30,7 @@ pub struct Movement<T> {
     pub change: Change,
 }
 
-/// A movement that asks for more than there is.
+/// A movement that would remove more than is there. It isn't entered.
 #[derive(PartialEq, Eq, Debug, Drop)]
 pub struct Refusal<T> {
     /// Where it is.

@@ -58,7 +58,7 @@ impl fmt::Display for Quoted<'_> {
     }
 }
 
-/// Returns a line for each refusal: the file, the line, how many it asks for, the article, and how many there are.
+/// Returns a line for each refusal: the file, the line, how many the movement asks for, the article, and how many there are.
 ///
 /// `files` are the names of the files. Quotes, backslashes and control characters of an article are escaped.
 ///

@@ -1,4 +1,4 @@
-//! Movements read from CSV texts.
+//! Reading movements from CSV texts.
 ghost use Rattle.std.specs.Prelude.{◌≡◌, All, IfOk};
 
 use crate::movements::{Change, Movement, Place};
@@ -22,7 +22,7 @@ pub struct Columns<C> {
 /// The columns of a change.
 #[derive(Clone, Copy)]
 pub enum ChangeColumns<C> {
-    /// One column: `5` or `+5` comes in, `-5` goes out.
+    /// One column: `5` or `+5` is added, `-5` is removed.
     Signed(C),
     /// Two columns: the kind, which is `in` or `out`, and the number.
     ByKind(C, C),
@@ -93,7 +93,7 @@ fn change_of(
 
 /// Reads the movements of a text, in the order of its lines.
 ///
-/// `file` is the number of the file, for their places. Numbers are counted in units of the last decimal of the scale.
+/// `file` is the number of the file, which their places have. Numbers are in units of the last decimal of the scale.
 ///
 /// # Errors
 ///

@@ -16,7 +16,7 @@ use std::hash::{BuildHasher, Hash};
 /// A stock after movements, and the refusals.
 #[derive(Drop)]
 pub struct Entered<T> {
-    /// Each article that there is, once, with how many there are, articles rising.
+    /// Each article of which there are some, once, with how many there are, articles rising.
     pub balance: Vec<(T, usize)>,
     /// The refusals, in the order of their movements.
     pub refusals: Vec<Refusal<T>>,
@@ -103,18 +103,19 @@ pub fn settle_within<T: Ord + Hash + Drop, S: BuildHasher + Drop>(
     Ok(Entered { balance, refusals })
 }
 
-/// Enters movements in turn into a stock that begins as a list, and returns the balance and the refusals.
+/// Enters movements, in turn, into a stock that begins as a list, and returns the balance and the refusals.
 ///
-/// An article may be in the list more than once: its numbers add up. The balance and the refusals don't depend on `state`.
+/// An article may be in the list more than once; its numbers add up. The balance and the refusals don't depend on `state`.
 ///
 /// # Errors
 ///
-/// `StartTooMany` exactly if the numbers of the list are more than `usize::MAX` together, before anything is allocated. `TooMany` with
-/// the place of a movement only if the total would pass `usize::MAX` with it. `Memory` if an allocation fails.
+/// - `StartTooMany` exactly if the numbers of the list are more than `usize::MAX` together. Then nothing was allocated.
+/// - `TooMany` with the place of a movement only if the total would pass `usize::MAX` with it.
+/// - `Memory` if an allocation fails.
 ///
 /// # Complexity
 ///
-/// Each entry of the list is hashed once and each movement at most twice; then the balance is sorted. It allocates for the articles,
+/// Hashes each entry of the list once, and the article of each movement at most twice. Sorts the balance. Allocates for the articles,
 /// the refusals and the balance.
 pub fn settle<T: Ord + Hash + Drop, S: BuildHasher + Drop>(
     alloc: Global,

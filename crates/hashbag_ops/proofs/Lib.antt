@@ -2,6 +2,7 @@ pub mod ByCount
 pub mod Commonest
 pub mod Lacking
 pub mod Lengths
+pub mod MostCommon
 pub mod Ranked
 pub mod Spared
 pub mod Sums

@@ -10,7 +10,7 @@ pub mod output_file;
 pub mod status;
 
 /// The version of this repository and of each program: that of the Rust crate, and behind the hyphen that of the port.
-pub const VERSION: &str = "0.1.13-1";
+pub const VERSION: &str = "0.1.13-2";
 
 #[cfg(test)]
 mod tests;

@@ -1,5 +1,5 @@
 -- What an addition leaves: of a value that is present, and of one that is absent.
-use Rattle.std.proofs.Common.{◌≡◌, ℕ, ◌+◌, Bool, List, [], ◌∷◌, length, None, IsSome, Some, sym, subst, arith}
+use Rattle.std.proofs.Common.{◌≡◌, ℕ, ◌+◌, Bool, [], ◌∷◌, None, IsSome, Some, sym, subst, arith}
 use Rattle.std.specs.Cmp.{IsEquivalence}
 use Rattle.std.specs.List.Sorted.{IsPermutation}
 use Rattle.std.specs.Map.{lookup_entry}
@@ -7,7 +7,7 @@ use Rattle.std.proofs.lemmas.List.Sorted.{length_permutation}
 use Rattle.hashbag_slots.specs.Slots.{recounted, slot_entry}
 use Rattle.hashbag_table.specs.declared.table.Spot.{Spot}
 use Rattle.hashbag_table.specs.Additions.{Adds, Stores}
-use Rattle.hashbag_table.specs.Entries.{IsCounted, with_instance}
+use Rattle.hashbag_table.specs.Entries.{IsCounted}
 use Rattle.hashbag_table.specs.Table.{Table, IsMapOf}
 use Rattle.hashbag_table.specs.Tables.{Arrives, HoldsIn, slot_in, Writes, Swaps}
 use Rattle.hashbag_table.proofs.EntryLemmas.{without_absent}

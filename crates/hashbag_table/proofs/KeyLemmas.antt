@@ -1,16 +1,16 @@
 -- What a key names is what equals any value that it names; and what an addition by a key leaves.
-use Rattle.std.proofs.Common.{◌≡◌, ℕ, ◌+◌, ◌<◌, ◌^◌, Bool, true, List, [], ◌∷◌, length, Option, Some, None, IsSome, option_map, unwrap_or, sym, ap, subst, ◌∙◌, arith}
+use Rattle.std.proofs.Common.{◌≡◌, ℕ, ◌+◌, ◌<◌, ◌^◌, Bool, true, List, [], ◌∷◌, Some, None, option_map, unwrap_or, sym, ap, subst, ◌∙◌, arith}
 use Rattle.std.specs.Cmp.{IsEquivalence}
 use Rattle.std.specs.Map.{lookup_entry}
 use Rattle.hashbag_slots.specs.Slots.{recounted, slot_at, slot_entry}
 use Rattle.hashbag_slots.proofs.Probing.{holder}
 use Rattle.hashbag_table.specs.declared.table.Spot.{Spot}
 use Rattle.hashbag_table.specs.declared.table.Spot.TheVariants.{Newer, Waiting}
-use Rattle.hashbag_table.specs.Entries.{IsCounted, with_instance}
+use Rattle.hashbag_table.specs.Entries.{IsCounted}
 use Rattle.hashbag_table.specs.Additions.{AddsNamed, Stores}
 use Rattle.hashbag_table.specs.Named.{named_entry, named_count}
-use Rattle.hashbag_table.specs.Table.{Table, IsMapOf}
-use Rattle.hashbag_table.specs.Tables.{Tables, Arrives, HoldsIn, slot_in, Writes, Swaps}
+use Rattle.hashbag_table.specs.Table.{Table}
+use Rattle.hashbag_table.specs.Tables.{Tables, HoldsIn, slot_in, Writes, Swaps}
 use Rattle.hashbag_table.proofs.AddLemmas.{adds_raised, adds_stored}
 use Rattle.hashbag_table.proofs.EntryLemmas.{lookup-entry, entry_to_front, counted_rearranged}
 use Rattle.hashbag_table.proofs.SpotLemmas.{held_entry}

@@ -1,7 +1,6 @@
 -- Numbers of slots.
 use Rattle.std.proofs.Common.{◌≡◌, ℕ, suc, ◌*◌, ◌^◌, ◌<◌, ◌≤◌, ◌⊎◌, cond, nat_le, refl, sym, ap, subst, ◌∙◌, inl, inr, arith, pow-suc}
 use Rattle.hashbag_slots.specs.Slots.{IsSlotCount}
-use Rattle.hashbag_slots.proofs.Paths.{count_bound}
 use lib.Pow.{pow_mono}
 use Rattle.std.proofs.lemmas.Bool.{cases_lt}
 use Rattle.std.proofs.lemmas.Bool.{ne_eqb, le-leb, lt-leb}

@@ -1,6 +1,5 @@
 -- The map of a list of slots, and what is looked up in two of them.
 use Rattle.std.proofs.Common.{◌≡◌, ℕ, zero, suc, ◌+◌, ◌<◌, ◌≤◌, Bool, true, false, cond, List, [], ◌∷◌, ◌++◌, length, drop, Option, Some, None, refl, sym, ap, subst, ◌∙◌, arith, slice_set, All}
-use Rattle.std.specs.Cmp.{IsEquivalence}
 use Rattle.std.specs.Map.{lookup_entry}
 use Rattle.std.specs.List.Sorted.{IsPermutation}
 use Rattle.std.proofs.lemmas.List.Sums.{sum_by-cons}
@@ -14,8 +13,7 @@ use Rattle.std.proofs.lemmas.Map.Keys.{IsDistinct-cons}
 use Rattle.std.proofs.lemmas.List.Elements.{All-cons}
 use Rattle.std.proofs.lemmas.List.Sorted.{All-permutation}
 use Rattle.hashbag_slots.proofs.Probing.{holder}
-use Rattle.hashbag_table.specs.Entries.{IsCounted, count_of}
-use Rattle.hashbag_table.specs.Named.{named_count}
+use Rattle.hashbag_table.specs.Entries.{IsCounted}
 
 module _ {T : Type 0} where
   pub entries-append : (xs ys : List (Slot T)) → entries (xs ++ ys) ≡ entries xs ++ entries ys

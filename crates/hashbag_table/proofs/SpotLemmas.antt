@@ -21,7 +21,7 @@ use Rattle.hashbag_table.specs.Entries.{IsCounted, with_count, without, with_few
 use Rattle.hashbag_table.specs.Tables.{limit, Tables, NoneMoved, entries_of, IsTables, Swaps, HoldsIn, slot_in}
 use Rattle.hashbag_table.specs.declared.table.Spot.{Spot}
 use Rattle.hashbag_table.specs.declared.table.Spot.TheVariants.{Newer, Waiting}
-use Rattle.hashbag_table.proofs.EntryLemmas.{counted_rearranged, entry_to_front, stored-present, lookup-entry, with_fewer-some, with_fewer-all, without_absent, with_count-absent}
+use Rattle.hashbag_table.proofs.EntryLemmas.{counted_rearranged, stored-present, lookup-entry, with_fewer-some, with_fewer-all, without_absent, with_count-absent}
 use Rattle.hashbag_table.proofs.UnmovedLemmas.{unmoved_set}
 use Rattle.hashbag_table.proofs.WithoutLemmas.{without_rearranged}
 use Rattle.hashbag_table.proofs.SlotLemmas.{IsCounted-cons, entries_put}

@@ -1,9 +1,7 @@
 -- Tables of slots out of which no value was carried.
-use Rattle.std.proofs.Common.{◌≡◌, ℕ, suc, ◌+◌, ◌<◌, cond, List, [], ◌∷◌, length, replicate, refl, sym, subst, ◌∙◌, arith, slice_set, count_by, inl, inr}
-use Rattle.std.proofs.lemmas.List.Sums.{sum_by-cons}
+use Rattle.std.proofs.Common.{◌≡◌, ℕ, ◌<◌, List, length, replicate, sym, subst, ◌∙◌, slice_set, inl, inr}
 use Rattle.hashbag_slots.specs.declared.slots.Slot.{Slot}
-use Rattle.hashbag_slots.specs.declared.slots.Slot.TheVariants.{Empty, Removed, Moved, Live}
-use Rattle.hashbag_slots.specs.Slots.{is_live, is_removed, live_count, removed_count, slot_at}
+use Rattle.hashbag_slots.specs.declared.slots.Slot.TheVariants.{Empty, Moved}
 use Rattle.hashbag_slots.proofs.Edits.{set_cases}
 use Rattle.hashbag_slots.proofs.Tables.{slot_at-replicate}
 use Rattle.hashbag_table.specs.Tables.{NoneMoved, Fills}

@@ -1,10 +1,6 @@
 -- What a key names in a map. `names` is the test that the values pass which the key names: one value's equals.
-use Rattle.std.specs.Prelude.{◌≡◌, ℕ, ◌+◌, ◌<◌, Bool, List, length, Option, None, IsTrue, unwrap_or}
+use Rattle.std.specs.Prelude.{ℕ, Bool, List, Option, unwrap_or}
 use Rattle.std.specs.Map.{lookup, lookup_entry}
-use Rattle.hashbag_slots.specs.Slots.{recounted}
-use Rattle.hashbag_table.specs.Entries.{entry_of, count_of, with_count}
-use Rattle.hashbag_table.specs.Table.{Table, IsMapOf, ChangesSlot}
-use Rattle.hashbag_table.specs.Tables.{room, Arrives, KeepsRoom}
 
 module _ {T : Type 0} (names : T → Bool) where
   -- the stored instance that the key names, and its count

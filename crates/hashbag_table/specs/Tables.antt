@@ -1,7 +1,7 @@
 -- Two tables of slots as one map: the newer one, and the slots of the older one that wait to be carried.
 use Rattle.std.specs.Prelude.{◌≡◌, ◌≢◌, ℕ, ◌+◌, ◌-◌, ◌*◌, ◌/◌, ◌<◌, ◌≤◌, Bool, true, false, List, [], ◌∷◌, ◌++◌, Option, Some, None, drop, length, replicate, if◌then◌else◌, nat_eq, nat_le, ◌⊎◌, slice_index, slice_set}
 use Rattle.hashbag_slots.specs.declared.slots.Slot.{Slot}
-use Rattle.hashbag_slots.specs.declared.slots.Slot.TheVariants.{Empty, Removed, Moved, Live}
+use Rattle.hashbag_slots.specs.declared.slots.Slot.TheVariants.{Empty, Moved}
 use Rattle.hashbag_slots.specs.Slots.{IsSlotCount, is_live, live_count, removed_count, slot_at, entries, AreApart, HoldsAt, slot_entry}
 use Rattle.hashbag_slots.specs.Columns.{Columns, IsReached}
 use Rattle.std.specs.List.Sorted.{IsPermutation}

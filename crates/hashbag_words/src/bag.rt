@@ -3,10 +3,14 @@ use crate::failure::Failure;
 use hashbag::HashBag;
 use std::hash::RandomState;
 
-/// A bag of texts. Strangers choose them, so each run hashes with random keys of its own.
+/// A bag of texts. Strangers choose the texts, so each run hashes with random keys.
 pub type Bag = HashBag<String, RandomState>;
 
-/// Makes an empty bag.
+/// Returns an empty bag.
+///
+/// # Errors
+///
+/// `NotRandom` if the system gives no random keys.
 pub fn empty<'a>(rt: &HostRuntime) -> Result<Bag, Failure<'a>> {
     match RandomState::new(rt) {
         Ok(state) => Ok(HashBag::with_hasher(rt.alloc(), state)),

@@ -1,4 +1,4 @@
-//! The command line.
+//! The arguments and their help.
 use clap::{Arg, Command, Error, arg, value_parser};
 use std::alloc::Global;
 
@@ -18,7 +18,7 @@ The counts of an input are the sums of those of its parts, wherever it is split 
 Exit status: 0 done; 1 nothing is shown, with --fail-empty; 2 bad arguments or a bad line; 3 an allocation failed; 4 a file can't be
 opened, or a read or a write failed; 5 the counts add up to more than 2^64-1. With 2, 3 and 5 nothing was written.";
 
-/// Whether this first word needs no `count` before it.
+/// Returns whether the first argument is a job or an option of the whole program. If not, the job is `count`.
 pub fn is_job(word: &str) -> bool {
     matches!(
         word,
@@ -26,7 +26,7 @@ pub fn is_job(word: &str) -> bool {
     )
 }
 
-// What every job has: how inputs are read.
+// Adds how inputs are read: options of every job.
 fn with_input(alloc: Global, command: Command<'_>) -> Result<Command<'_>, Error> {
     Ok(
         command
@@ -35,7 +35,7 @@ fn with_input(alloc: Global, command: Command<'_>) -> Result<Command<'_>, Error>
     )
 }
 
-// What every job has: how counts are shown.
+// Adds how counts are shown: options of every job.
 fn with_output(alloc: Global, command: Command<'_>) -> Result<Command<'_>, Error> {
     let top = arg!(in alloc; --top <K> "Show the K commonest alone, commonest first");
     let unsorted = arg!(in alloc; --unsorted "Show them in no order, which is faster");
@@ -60,14 +60,14 @@ fn with_output(alloc: Global, command: Command<'_>) -> Result<Command<'_>, Error
     )
 }
 
-// What every job has that reads counts: in which form they are.
+// Returns the form of the counts that are read: an option of every job that reads counts.
 fn form_read<'a>(alloc: Global) -> Arg<'a> {
     arg!(in alloc; --from <FORM> "How they are written")
         .value_parser(["tsv", "json", "uniq"].as_slice())
         .default_value("tsv")
 }
 
-// What every job has that reads any number of files: where their names may be.
+// Adds the file that has the names of the inputs: an option of every job that reads any number of files.
 fn with_list(alloc: Global, command: Command<'_>) -> Result<Command<'_>, Error> {
     let list =
         arg!(in alloc; --"files-from" <FILE> "Read the names of the inputs there, one a line; `-`: from standard input");
@@ -101,7 +101,7 @@ fn merge<'a>(alloc: Global) -> Result<Command<'a>, Error> {
     with_output(alloc, with_input(alloc, with_list(alloc, command)?)?)
 }
 
-// A job on two files of counts.
+// Returns a job on two files of counts.
 fn pair<'a>(alloc: Global, name: &'a str, about: &'a str) -> Result<Command<'a>, Error> {
     let command = Command::new(alloc, name)
         .about(about)
@@ -111,7 +111,11 @@ fn pair<'a>(alloc: Global, name: &'a str, about: &'a str) -> Result<Command<'a>,
     with_output(alloc, with_input(alloc, command)?)
 }
 
-/// The command line, with all its jobs. The version is what `--version` says behind the name.
+/// Returns the command with all its jobs. `--version` prints `version` after the name.
+///
+/// # Errors
+///
+/// An error if an allocation fails.
 pub fn command<'a>(alloc: Global, version: &'a str) -> Result<Command<'a>, Error> {
     Ok(
         Command::new(alloc, "hashbag_words")

@@ -1,4 +1,4 @@
-//! Why the program ends without all of its output, and with which status.
+//! Errors of the program, with their messages and exit statuses.
 use hashbag::{BagError, JsonError};
 use hashbag_shell::status::{BAD_INPUT, IO_FAILED, NO_MEMORY, TOTAL_TOO_LARGE};
 use hashbag_words_core::errors::{BadLine, Fault};
@@ -6,7 +6,7 @@ use std::alloc::AllocError;
 use std::io;
 use thiserror::Error;
 
-/// Why the program ends without all of its output.
+/// Why the program failed.
 #[derive(Debug, Drop, Error)]
 pub enum Failure<'a> {
     /// A line of an input is bad.
@@ -22,19 +22,19 @@ pub enum Failure<'a> {
         name: &'a str,
         error: serde_json::Error,
     },
-    /// An input is JSON, but no tree of counts.
+    /// An input is JSON, but not the tree of a bag.
     #[error("{name}: {error}")]
     Tree {
         name: &'a str,
         error: JsonError,
     },
-    /// The counts would add up to more than 2^64-1 with a line.
+    /// With this line the counts would add up to more than 2^64-1.
     #[error("{name}:{line}: total past 2^64-1")]
     TooMany {
         name: &'a str,
         line: u64,
     },
-    /// So with a JSON text, which has no lines.
+    /// With this JSON text, whose lines aren't counted, the counts would add up to more than 2^64-1.
     #[error("{name}: total past 2^64-1")]
     TooManyInAll {
         name: &'a str,
@@ -48,16 +48,16 @@ pub enum Failure<'a> {
     /// An allocation failed elsewhere.
     #[error("no memory")]
     NoMemoryLeft,
-    /// A file can't be opened, made, read or written, or it is to be JSON and isn't UTF-8.
+    /// A file can't be opened, created, read or written. Or it is read as one text, and isn't UTF-8.
     #[error("{name}: {error}")]
     File {
         name: &'a str,
         error: io::Error,
     },
-    /// The pattern isn't one.
+    /// The pattern isn't a regular expression.
     #[error("--pattern: {0}")]
     Pattern(regex::Error),
-    /// Two inputs are standard input.
+    /// Standard input would be read twice.
     #[error("standard input is named twice")]
     ReadTwice,
     /// The output is one of the inputs.
@@ -65,13 +65,13 @@ pub enum Failure<'a> {
     OutputIsInput {
         name: &'a str,
     },
-    /// There are no random numbers for the hash state.
+    /// The system gave no random keys for the hash state.
     #[error("no random numbers: {0}")]
     NotRandom(io::Error),
 }
 
 impl<'a> Failure<'a> {
-    // The total would be too large with that line, or, where no lines are counted, with the whole input.
+    // Returns the failure of a total that is too large with this line, or with the whole input if its lines aren't counted.
     fn too_many(name: &'a str, line: u64) -> Failure<'a> {
         match line {
             0 => Failure::TooManyInAll { name },
@@ -79,7 +79,7 @@ impl<'a> Failure<'a> {
         }
     }
 
-    /// The failure of an input of that name, after `line` of its lines.
+    /// Returns the failure for a fault of the input `name`, of which `line` lines were read.
     pub fn of_input(name: &'a str, line: u64, fault: Fault) -> Failure<'a> {
         match fault {
             Fault::Line(bad) => Failure::Line { name, line, bad },
@@ -97,7 +97,7 @@ impl<'a> Failure<'a> {
         }
     }
 
-    /// The failure of a call on a file of that name.
+    /// Returns the failure for an error of the file `name`.
     pub fn of_file(name: &'a str, error: io::Error) -> Failure<'a> {
         if error.kind() == io::ErrorKind::OutOfMemory {
             return Failure::NoMemoryLeft;
@@ -105,7 +105,7 @@ impl<'a> Failure<'a> {
         Failure::File { name, error }
     }
 
-    // The exit status.
+    // Returns the exit status.
     fn status(&self) -> u8 {
         match self {
             Failure::Line { .. } | Failure::Text { .. } | Failure::Tree { .. } => BAD_INPUT,
@@ -118,7 +118,7 @@ impl<'a> Failure<'a> {
         }
     }
 
-    // Whether nothing is said of it: whoever read the output has closed it.
+    // Returns whether no message is written: the reader of the output has closed it.
     fn is_silent(&self) -> bool {
         match self {
             Failure::File { error, .. } => error.kind() == io::ErrorKind::BrokenPipe,
@@ -126,7 +126,7 @@ impl<'a> Failure<'a> {
         }
     }
 
-    /// Says on standard error what failed, and returns the exit status.
+    /// Writes the message to standard error and returns the exit status. After a closed pipe nothing is written.
     pub fn report(&self, rt: &impl Eprint) -> u8 {
         if !self.is_silent() {
             let _ = eprintln!(rt; "hashbag_words: {self}");

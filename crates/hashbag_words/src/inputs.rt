@@ -1,4 +1,4 @@
-//! Inputs are read: files by their names, `-` for standard input.
+//! The inputs: files by their names, and `-` for standard input.
 use crate::bag::Bag;
 use crate::failure::Failure;
 use crate::progress::Progress;
@@ -12,33 +12,33 @@ use hashbag_words_core::rule::Rule;
 use std::fs;
 use std::io::{self, BufRead, BufReader, Read};
 
-// So many lines are read before it is told how far the program is.
+// How many lines are read between two reports of progress.
 const STEP: u64 = 1 << 16;
 
-// So many bytes are read at once.
+// How many bytes are read at once.
 const BUFFER: usize = 1 << 16;
 
-/// How inputs are taken in.
+/// How an input is read.
 #[derive(Clone, Copy)]
 pub enum Intake<'r> {
-    /// As text of which this is counted.
+    /// As text, whose tokens by this rule are counted.
     Text(Rule<'r>),
-    /// As lines of counts in that form.
+    /// As lines of counts in this form.
     Rows(RowForm),
     /// As a JSON text.
     Tree,
 }
 
-/// The inputs that the command line names.
+/// The inputs of a job.
 #[derive(Drop)]
 pub struct Inputs<'s, 'a, 'm> {
     /// The runtime.
     pub rt: &'s HostRuntime,
-    /// What the command line asks for.
+    /// What the arguments ask for.
     pub settings: &'s Settings<'a, 'm>,
     /// The names of all inputs.
     pub names: &'s [&'a str],
-    /// How far it is.
+    /// The reports of progress.
     pub progress: Progress,
 }
 
@@ -67,7 +67,7 @@ impl<'s, 'a, 'm> Inputs<'s, 'a, 'm> {
         }
     }
 
-    // Takes in what is read here.
+    // Reads the whole input into the bag.
     fn take<R: Read + Drop>(
         &mut self,
         intake: Intake<'_>,
@@ -93,7 +93,11 @@ impl<'s, 'a, 'm> Inputs<'s, 'a, 'm> {
         Ok(())
     }
 
-    /// Takes in the input of that name.
+    /// Reads the input of this name into the bag.
+    ///
+    /// # Errors
+    ///
+    /// What is wrong with the input or one of its lines, or a failed allocation. Then the bag may have some of its counts.
     pub fn take_named(
         &mut self,
         intake: Intake<'_>,
@@ -109,7 +113,11 @@ impl<'s, 'a, 'm> Inputs<'s, 'a, 'm> {
         }
     }
 
-    /// Takes in all inputs.
+    /// Reads all inputs into the bag, in order.
+    ///
+    /// # Errors
+    ///
+    /// The first failure of [`Inputs::take_named`]. Then the inputs after it weren't read.
     pub fn take_all(&mut self, intake: Intake<'_>, bag: &mut Bag) -> Result<(), Failure<'a>> {
         let names = self.names;
         for name in names {

@@ -1,4 +1,4 @@
-//! What the program does: it takes inputs in, and shows what the bag then has.
+//! The jobs: each reads its inputs into a bag, and writes the counts of the bag.
 use crate::bag::{Bag, empty};
 use crate::failure::Failure;
 use crate::inputs::{Inputs, Intake};
@@ -11,7 +11,7 @@ use hashbag_shell::status::{DENIED, DONE};
 use hashbag_words_core::rule::{Pieces, Rule};
 use regex::Regex;
 
-// Counts what is in the inputs.
+// Counts the tokens of the inputs.
 fn count<'a>(
     inputs: &mut Inputs<'_, 'a, '_>,
     by: By<'a>,
@@ -35,7 +35,7 @@ fn count<'a>(
     inputs.take_all(Intake::Text(Rule { pieces, fold }), bag)
 }
 
-// Takes in the two inputs of a job on a pair: the first into the bag, the second into another one, which is only looked up from then on.
+// Reads the two inputs of a job on a pair: the first into the bag, and the second into a new bag, which is only looked up afterwards.
 fn take_pair<'a>(
     inputs: &mut Inputs<'_, 'a, '_>,
     counts: Intake<'_>,
@@ -50,7 +50,7 @@ fn take_pair<'a>(
     Ok(other)
 }
 
-// The bag that a job makes of its inputs.
+// Returns the bag of a job: the counts that are shown.
 fn bag_of<'a>(
     rt: &HostRuntime,
     settings: &Settings<'a, '_>,
@@ -83,7 +83,7 @@ fn bag_of<'a>(
     Ok(bag)
 }
 
-// The text that is to be written, and whether it shows nothing.
+// Returns the text that is to be written, and whether it shows nothing.
 fn made<'a>(
     rt: &HostRuntime,
     settings: &Settings<'a, '_>,
@@ -93,7 +93,11 @@ fn made<'a>(
     text_of(rt, settings, &mut bag)
 }
 
-/// Does what the command line asks for, and returns the status.
+/// Does the job and returns the exit status.
+///
+/// # Errors
+///
+/// The first failure. Then a file that the arguments name as output is unchanged.
 pub fn run<'a>(
     rt: &HostRuntime,
     settings: &Settings<'a, '_>,

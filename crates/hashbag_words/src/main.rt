@@ -20,7 +20,7 @@ use std::alloc::{AllocError, Global};
 use std::process::ExitCode;
 use unicode_segmentation::UNICODE_VERSION;
 
-// The words of the command line. Where they name no job it is `count`, so that `hashbag_words FILE` counts.
+// Returns the arguments, with the name of the program first. If they name no job it is `count`, so `hashbag_words FILE` counts.
 fn words_of(alloc: Global, given: &Vec<String>) -> Result<Vec<&str>, AllocError> {
     let mut words = Vec::new(alloc);
     words.push("hashbag_words")?;
@@ -34,7 +34,7 @@ fn words_of(alloc: Global, given: &Vec<String>) -> Result<Vec<&str>, AllocError>
     Ok(words)
 }
 
-// Does a job on the inputs that are named in a list, if there is one, and returns the status.
+// Does a job, on the inputs of the list if there is one, and returns the exit status.
 fn do_job(rt: &HostRuntime, settings: &Settings<'_, '_>, list: Option<&String>) -> u8 {
     let Ok(names) = names::inputs_of(rt.alloc(), settings, list) else {
         return Failure::NoMemoryLeft.report(rt);
@@ -45,7 +45,7 @@ fn do_job(rt: &HostRuntime, settings: &Settings<'_, '_>, list: Option<&String>) 
     }
 }
 
-// Does what these arguments of a job ask for, and returns the status.
+// Reads the list of inputs, if one is named, does the job, and returns the exit status.
 fn do_settings(rt: &HostRuntime, settings: &Settings<'_, '_>) -> u8 {
     let Some(name) = settings.files_from else {
         return do_job(rt, settings, None);
@@ -56,13 +56,13 @@ fn do_settings(rt: &HostRuntime, settings: &Settings<'_, '_>) -> u8 {
     }
 }
 
-// What `--version` says behind the name.
+// Returns what `--version` prints after the name.
 fn version(alloc: Global) -> Result<String, AllocError> {
     let (major, minor, patch) = UNICODE_VERSION;
     format!(in alloc; "{VERSION} (Unicode {major}.{minor}.{patch})")
 }
 
-// Does what these words ask for, and returns the status.
+// Parses the arguments, does the job, and returns the exit status.
 fn obey(rt: &HostRuntime, words: &Vec<&str>) -> Result<u8, clap::Error> {
     let version = version(rt.alloc())?;
     let command = command::command(rt.alloc(), version.as_str())?;

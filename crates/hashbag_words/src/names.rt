@@ -5,7 +5,11 @@ use hashbag_shell::one_file::is_one_file;
 use std::alloc::{AllocError, Global};
 use std::{fs, io};
 
-/// What the file that `--files-from` names has.
+/// Reads the file that `--files-from` names.
+///
+/// # Errors
+///
+/// `File` if the file can't be read or isn't UTF-8, `NoMemoryLeft` if an allocation fails.
 pub fn read_list<'a>(rt: &HostRuntime, name: &'a str) -> Result<String, Failure<'a>> {
     let (name, read) = match name {
         "-" => ("standard input", io::read_to_string(rt.alloc(), rt.stdin())),
@@ -14,7 +18,7 @@ pub fn read_list<'a>(rt: &HostRuntime, name: &'a str) -> Result<String, Failure<
     read.map_err(|error| Failure::of_file(name, error))
 }
 
-// The names in a list, one a line. Empty lines are passed over.
+// Returns the names in a list, one for each line. Empty lines are skipped.
 fn listed(alloc: Global, list: &str) -> Result<Vec<&str>, AllocError> {
     let mut names = Vec::new(alloc);
     for line in list.lines() {
@@ -25,7 +29,11 @@ fn listed(alloc: Global, list: &str) -> Result<Vec<&str>, AllocError> {
     Ok(names)
 }
 
-/// The names of all inputs of a job, those of a list if there is one.
+/// Returns the names of all inputs of a job: those of the list, if there is one.
+///
+/// # Errors
+///
+/// An allocation fails.
 pub fn inputs_of<'a>(
     alloc: Global,
     settings: &Settings<'a, '_>,
@@ -46,7 +54,11 @@ pub fn inputs_of<'a>(
     Ok(names)
 }
 
-/// Rejects standard input that is to be read twice, and an output that is one of the inputs.
+/// Checks that standard input is read at most once, and that the output isn't one of the inputs.
+///
+/// # Errors
+///
+/// `ReadTwice` or `OutputIsInput`.
 pub fn check<'a>(
     rt: &HostRuntime,
     settings: &Settings<'a, '_>,

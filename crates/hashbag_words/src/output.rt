@@ -1,4 +1,4 @@
-//! Counts are written.
+//! The output: standard output, or a file.
 use crate::bag::Bag;
 use crate::failure::Failure;
 use crate::settings::Settings;
@@ -8,17 +8,21 @@ use hashbag_words_core::writing::write_rows;
 use std::fs::File;
 use std::io::{self, Write};
 
-/// Where counts are written.
+/// Where the counts are written.
 #[derive(Drop)]
 pub enum Output<'a> {
-    /// To standard output.
+    /// Standard output.
     Standard,
-    /// To the file of that name, all or nothing.
+    /// The file of this name, which is written whole or not at all.
     Named(&'a str, OutputFile<File>),
 }
 
 impl<'a> Output<'a> {
-    /// Opens what the command line names, before anything is counted.
+    /// Opens the output that the arguments name. It is called before anything is counted.
+    ///
+    /// # Errors
+    ///
+    /// `File` if the file can't be opened, `NoMemoryLeft` if an allocation fails. Then no file is changed.
     pub fn open(rt: &HostRuntime, settings: &Settings<'a, '_>) -> Result<Output<'a>, Failure<'a>> {
         let Some(name) = settings.output else {
             return Ok(Output::Standard);
@@ -29,7 +33,11 @@ impl<'a> Output<'a> {
         }
     }
 
-    /// Writes all of a text.
+    /// Writes the whole text.
+    ///
+    /// # Errors
+    ///
+    /// `File` if a write fails, `NoMemoryLeft` if an allocation fails. Then a named file is unchanged.
     pub fn write(self, rt: &HostRuntime, text: &[u8]) -> Result<(), Failure<'a>> {
         let (name, written) = match self {
             Output::Standard => ("standard output", put(io::writer(rt), text)),
@@ -38,7 +46,7 @@ impl<'a> Output<'a> {
         written.map_err(|error| Failure::of_file(name, error))
     }
 
-    /// Leaves the file as it was.
+    /// Writes nothing: a named file is unchanged.
     pub fn abandon(self, rt: &HostRuntime) {
         if let Output::Named(_, file) = self {
             file.abandon(rt);
@@ -46,15 +54,19 @@ impl<'a> Output<'a> {
     }
 }
 
-// Writes what is at hand, all of it.
+// Writes the whole text and flushes.
 fn put<W: Write + Drop>(mut to: W, text: &[u8]) -> io::Result<()> {
     to.write_all(text)?;
     to.flush()
 }
 
-/// Returns the text of the counts that are asked for, and whether there are none.
+/// Returns the text of the counts that are shown, and whether none are.
 ///
-/// All of it is made in memory, so nothing is written if an allocation fails.
+/// Tokens that occur less often than `settings.least` are removed from the bag.
+///
+/// # Errors
+///
+/// `NoMemoryLeft` if an allocation fails. Nothing has been written then, since the whole text is built first.
 pub fn text_of<'a>(
     rt: &HostRuntime,
     settings: &Settings<'a, '_>,

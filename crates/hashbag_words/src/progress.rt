@@ -1,24 +1,24 @@
-//! How far the program is, told on standard error.
+//! Reports of progress on standard error.
 use crate::bag::Bag;
 use std::time::{Duration, Instant};
 
-/// What has been told, and when.
+/// What was reported, and when.
 #[derive(Drop)]
 pub struct Progress {
-    // When it began, and when it was last told; `None` where nothing is told.
+    // When the program began, and when it last reported; `None` if it doesn't report.
     times: Option<(Instant, Instant)>,
     // The lines of the inputs that have been read to their end.
     lines: u64,
 }
 
-// How many of them a second.
+// Returns how many of `n` there were each second.
 fn a_second(n: usize, time: Duration) -> usize {
     let seconds = time.as_secs().max(1) as usize;
     n / seconds
 }
 
 impl Progress {
-    /// At the start. A clock that can't be read tells nothing.
+    /// Returns the progress at the start. Nothing is reported if the clock can't be read.
     pub fn new(rt: &HostRuntime, is_told: bool) -> Progress {
         let times = match Instant::now(rt) {
             Ok(now) if is_told => Some((now, now)),
@@ -27,12 +27,12 @@ impl Progress {
         Progress { times, lines: 0 }
     }
 
-    /// An input with `lines` lines has been read to its end.
+    /// Adds the lines of an input that has been read to its end.
     pub fn end_input(&mut self, lines: u64) {
         self.lines = self.lines.saturating_add(lines);
     }
 
-    /// Tells how far it is, if a second has gone since that was told. `lines` is how many of the present input have been read.
+    /// Reports the progress if the last report is at least a second old. `lines` is how many lines of the present input were read.
     pub fn tell(&mut self, rt: &HostRuntime, lines: u64, bag: &Bag) {
         let Some((start, last)) = self.times else {
             return;

@@ -1,64 +1,64 @@
-//! What the command line asks for.
+//! What the arguments ask for.
 use clap::ArgMatches;
 use hashbag_words_core::choice::Order;
 use hashbag_words_core::lines::BadLines;
 use hashbag_words_core::rows::RowForm;
 use hashbag_words_core::writing::Format;
 
-/// What is done.
+/// A job of the program.
 #[derive(Clone, Copy, Debug, PartialEq, Eq)]
 pub enum Job<'a> {
-    /// Text is counted by these pieces.
+    /// Counts text, cut into these pieces.
     Count(By<'a>),
-    /// Counts are added up.
+    /// Adds up counts.
     Merge,
-    /// The counts of the second file are taken from those of the first.
+    /// Subtracts the counts of the second file from those of the first.
     Less,
-    /// The lesser counts of two files.
+    /// Finds the lesser counts of two files.
     Common,
 }
 
 /// What is counted.
 #[derive(Clone, Copy, Debug, PartialEq, Eq)]
 pub enum By<'a> {
-    /// What stands between white space.
+    /// The words between white space.
     Words,
-    /// The words by the rules of Unicode.
+    /// The words by Unicode's rules.
     UnicodeWords,
     /// Whole lines.
     Lines,
-    /// What matches this pattern.
+    /// The matches of this pattern.
     Pattern(&'a str),
 }
 
-/// What the command line asks for.
+/// What the arguments ask for.
 #[derive(Drop)]
 pub struct Settings<'a, 'm> {
-    /// What is done.
+    /// The job.
     pub job: Job<'a>,
-    /// The inputs, `None` for standard input.
+    /// The names of the inputs; `None` is standard input.
     pub files: Option<&'m [&'a str]>,
-    /// The file that names the inputs.
+    /// The file that has the names of the inputs, if there is one.
     pub files_from: Option<&'a str>,
-    /// Of `less` and `common`: the two inputs.
+    /// The two inputs of `less` and `common`.
     pub pair: (&'a str, &'a str),
-    /// Whether case is folded.
+    /// Whether upper and lower case are counted as one.
     pub fold: bool,
-    /// How lines of counts are read, `None`: as JSON.
+    /// The form of the counts that are read; `None` is JSON.
     pub rows: Option<RowForm>,
-    /// What becomes of bad lines.
+    /// What a bad line does.
     pub bad_lines: BadLines,
-    /// Whether it is told how far it is.
+    /// Whether progress is reported.
     pub progress: bool,
     /// Which counts are shown, and in what order.
     pub order: Order,
-    /// What occurs less often isn't shown.
+    /// The least count that is shown.
     pub least: usize,
     /// How counts are written.
     pub format: Format,
-    /// Where they are written, if not to standard output.
+    /// The file to which they are written; `None` is standard output.
     pub output: Option<&'a str>,
-    /// Whether it is a failure that nothing is shown.
+    /// Whether the status is 1 if nothing is shown.
     pub fail_empty: bool,
 }
 
@@ -99,7 +99,7 @@ fn format_of(given: &ArgMatches<'_>) -> Format {
     }
 }
 
-// Files of text have no form, so it matters to none of them.
+// Returns the form of the counts that are read. Text has none, so `count` doesn't use it.
 fn rows_of(given: &ArgMatches<'_>) -> Option<RowForm> {
     match given.get_str("from") {
         Some("json") => None,
@@ -109,7 +109,7 @@ fn rows_of(given: &ArgMatches<'_>) -> Option<RowForm> {
 }
 
 impl<'a, 'm> Settings<'a, 'm> {
-    /// What these arguments of a job ask for.
+    /// Returns the settings of the job `name` with these arguments.
     pub fn of(name: &str, given: &'m ArgMatches<'a>) -> Settings<'a, 'm> {
         let bad_lines = if given.get_flag("skip-bad") {
             BadLines::Skipped

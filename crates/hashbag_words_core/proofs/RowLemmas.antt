@@ -16,27 +16,15 @@ onto : (token : List ℕ) (b : ℕ) (more : Option (List ℕ)) → option_map (�
 onto token b None = refl
 onto token b (Some t) = ap Some (sym (append_assoc token (b ∷ []) t))
 
-pub resumed-start : (more : Option (List ℕ)) → more ≡ option_map (λ m. [] ++ m) more
-resumed-start None = refl
-resumed-start (Some t) = refl
-
 pub resumed-plain : (token : List ℕ) (b : ℕ) (rest : List ℕ) → b ≢ 92 → resumed token (Some false) (b ∷ rest) ≡ resumed (token ++ b ∷ []) (Some false) rest
 resumed-plain token b rest other =
     ap (λ (c : Bool). option_map (λ m. token ++ m) (cond c (unescaped true rest) (option_map (λ t. b ∷ t) (unescaped false rest)))) (ne_eqb b 92 other)
     ∙ onto token b (unescaped false rest)
 
-pub resumed-backslash : (token : List ℕ) (b : ℕ) (rest : List ℕ) → b ≡ 92 → resumed token (Some false) (b ∷ rest) ≡ resumed token (Some true) rest
-resumed-backslash token b rest is =
-    ap (λ (c : Bool). option_map (λ m. token ++ m) (cond c (unescaped true rest) (option_map (λ t. b ∷ t) (unescaped false rest)))) (eq-eqb b 92 is)
-
 pub resumed-letter : (token : List ℕ) (letter byte : ℕ) (rest : List ℕ) → byte_of letter ≡ Some byte → resumed token (Some true) (letter ∷ rest) ≡ resumed (token ++ byte ∷ []) (Some false) rest
 resumed-letter token letter byte rest is =
     ap (λ (o : Option ℕ). option_map (λ m. token ++ m) (option_and_then (λ c. option_map (λ t. c ∷ t) (unescaped false rest)) o)) is
     ∙ onto token byte (unescaped false rest)
-
-pub resumed-other : (token : List ℕ) (letter : ℕ) (rest : List ℕ) → byte_of letter ≡ None → resumed token (Some true) (letter ∷ rest) ≡ None
-resumed-other token letter rest is =
-    ap (λ (o : Option ℕ). option_map (λ m. token ++ m) (option_and_then (λ c. option_map (λ t. c ∷ t) (unescaped false rest)) o)) is
 
 -- ---- what is written is read again
 

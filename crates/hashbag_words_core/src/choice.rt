@@ -1,4 +1,4 @@
-//! Which of the counts are shown, and in what order.
+//! The counts that are shown, and their order.
 ghost use Rattle.std.specs.Prelude.{◌≡◌, map, nat_lt, if◌then◌else◌, IfOk};
 ghost use Rattle.std.specs.String.{string_eq};
 ghost use Rattle.hashbag.specs.Walks.{IsSetWalkOf, seen};
@@ -12,15 +12,19 @@ use std::hash::BuildHasher;
 /// Which counts are shown, and in what order.
 #[derive(Clone, Copy, Debug, PartialEq, Eq)]
 pub enum Order {
-    /// All, the bytes of the tokens rising.
+    /// All tokens, by rising bytes.
     Rising,
-    /// All, in the order of a walk over the bag.
+    /// All tokens, in the order of a walk over the bag, which is no particular order.
     Open,
-    /// The k commonest, counts falling, and tokens that occur as often rising.
+    /// The k commonest tokens: by falling counts, and tokens that occur equally often by rising bytes.
     Commonest(usize),
 }
 
-/// Removes all tokens that occur less often than `least`. It reads each token once and doesn't allocate.
+/// Removes all tokens that occur less often than `least`.
+///
+/// # Complexity
+///
+/// Reads each token once, and allocates nothing.
 pub fn drop_below<S: BuildHasher + Drop>(bag: &mut HashBag<String, S>, least: usize)
     ensures { DropsBelow least bag.old bag.new }
 {
@@ -31,15 +35,15 @@ pub fn drop_below<S: BuildHasher + Drop>(bag: &mut HashBag<String, S>, least: us
     );
 }
 
-/// The tokens with their counts, as they are shown.
+/// Returns the tokens that are shown, with their counts, in this order.
 ///
 /// # Errors
 ///
-/// `Memory`: an allocation fails.
+/// `Memory` if an allocation fails.
 ///
 /// # Complexity
 ///
-/// It allocates a list of all tokens, at once, and sorts it, if an order is asked for.
+/// As [`sorted`], [`counts`] or [`most_common`] of `hashbag_ops`.
 pub fn chosen<'a, S: BuildHasher + Drop>(
     alloc: Global,
     bag: &'a HashBag<String, S>,

@@ -1,4 +1,4 @@
-//! The tokens of lines are counted.
+//! Counting the tokens of lines.
 ghost use Rattle.std.specs.Prelude.{◌≡◌, ◌∷◌, [], map, true, IfOk, OnOk, IfSome};
 ghost use Rattle.std.specs.Iterator.{IsFinite};
 ghost use Rattle.unicode_segmentation.specs.Word.{words};
@@ -19,7 +19,7 @@ use std::io::BufRead;
 use std::str;
 use unicode_segmentation::UnicodeSegmentation;
 
-// Counts a piece of a line once, as it is. A `String` is made of it only where it isn't in the bag.
+// Counts a piece of a line once, as it is. A `String` is allocated only for an absent piece.
 fn add_plain<S: BuildHasher + Drop>(
     bag: &mut HashBag<String, S>,
     piece: &str,
@@ -58,7 +58,7 @@ fn add_piece<S: BuildHasher + Drop>(
     add_plain(bag, piece)
 }
 
-// Counts each piece that comes.
+// Counts each piece that the iterator gives.
 fn add_pieces<'a, I: Iterator<Item = &'a str> + Drop, S: BuildHasher + Drop>(
     alloc: Global,
     bag: &mut HashBag<String, S>,
@@ -75,7 +75,7 @@ fn add_pieces<'a, I: Iterator<Item = &'a str> + Drop, S: BuildHasher + Drop>(
     Ok(())
 }
 
-// Counts what stands between white space.
+// Counts the words between white space.
 fn add_words<S: BuildHasher + Drop>(
     alloc: Global,
     bag: &mut HashBag<String, S>,
@@ -87,7 +87,7 @@ fn add_words<S: BuildHasher + Drop>(
     add_pieces(alloc, bag, fold, line.split_whitespace())
 }
 
-// Counts the words by the rules of Unicode.
+// Counts the words by Unicode's rules.
 fn add_unicode_words<S: BuildHasher + Drop>(
     alloc: Global,
     bag: &mut HashBag<String, S>,
@@ -114,7 +114,7 @@ fn add_match<S: BuildHasher + Drop>(
     add_piece(alloc, bag, fold, piece)
 }
 
-// Counts what matches a pattern.
+// Counts the matches of a pattern.
 fn add_matches<S: BuildHasher + Drop>(
     alloc: Global,
     bag: &mut HashBag<String, S>,
@@ -131,7 +131,7 @@ fn add_matches<S: BuildHasher + Drop>(
     Ok(())
 }
 
-// The line without a byte order mark at its beginning.
+// Returns the line without a byte order mark at its beginning.
 pub(crate) fn past_mark(line: &str) -> &str
     ensures { result.now ≡ without_mark line.now }
 {
@@ -141,10 +141,19 @@ pub(crate) fn past_mark(line: &str) -> &str
     }
 }
 
-/// Counts the tokens of a line: adds each to the bag as often as it is in the line.
+/// Counts the tokens of a line: inserts each into the bag as often as it is in the line.
 ///
-/// A byte order mark at the beginning of the line is no part of it. Where the bag refuses a token, those before it have been added.
-/// It takes the time of a look at each character, and an insertion a token.
+/// A byte order mark at the beginning of the line is no part of it.
+///
+/// # Errors
+///
+/// `Memory` if an allocation fails, `TooMany` if the total would pass the limit of the bag. Then the tokens before the one that failed
+/// have been inserted.
+///
+/// # Complexity
+///
+/// Reads each character, and inserts each token once. Without `fold` a `String` is allocated only for an absent token, with `fold`
+/// for each token. A pattern also allocates for each line.
 pub fn add_line<S: BuildHasher + Drop>(
     alloc: Global,
     bag: &mut HashBag<String, S>,
@@ -181,10 +190,18 @@ fn add_read<S: BuildHasher + Drop>(
     }
 }
 
-/// Counts at most `most` lines of an input. Returns whether there may be more.
+/// Counts at most `most` lines of an input and returns whether there may be more.
 ///
-/// A line that isn't UTF-8 is bad. Where the reading ends by a fault, `reading` has the number of its line, and the lines before it
-/// have been counted. One line at a time is kept in memory.
+/// A line that isn't UTF-8 is bad.
+///
+/// # Errors
+///
+/// `Fault::Line` if a line is bad and bad lines aren't skipped; `Fault::Bag` for an error of [`add_line`]; `Fault::Read` if a read
+/// fails. Then `reading.line` is the number of the last line that was read, and the lines before that one have been counted.
+///
+/// # Complexity
+///
+/// As [`add_line`] for each line. One line at a time is kept in memory.
 pub fn count_lines<R: BufRead, S: BuildHasher + Drop>(
     alloc: Global,
     bag: &mut HashBag<String, S>,

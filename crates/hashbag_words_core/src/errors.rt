@@ -1,4 +1,4 @@
-//! Why an input isn't counted.
+//! Errors of an input.
 ghost use Rattle.std.specs.Prelude.{◌≡◌};
 
 use hashbag::{BagError, JsonError};
@@ -9,36 +9,36 @@ use thiserror::Error;
 /// What is wrong with a line.
 #[derive(Clone, Copy, Debug, PartialEq, Eq, Error)]
 pub enum BadLine {
-    /// It isn't UTF-8.
+    /// The line isn't UTF-8.
     #[error("not UTF-8")]
     NotText,
     /// A line of counts has no tab.
     #[error("no tab")]
     NoTab,
-    /// What stands behind the tab isn't a number from 0 to 2^64-1.
+    /// The count isn't a number from 0 to 2^64-1.
     #[error("no count")]
     NoCount,
-    /// A backslash is followed by none of `t`, `n`, `r` and a backslash.
+    /// A backslash isn't followed by `t`, `n`, `r` or a backslash.
     #[error("bad escape")]
     BadEscape,
-    /// The last line of a file of counts has no line feed at its end: the file may have been cut off there.
+    /// The last line of a file of counts has no line feed: the file may have been cut off there.
     #[error("no line feed")]
     CutOff,
 }
 
-/// Why an input isn't counted to its end.
+/// Why an input wasn't counted to its end.
 #[derive(Debug, Drop, Error)]
 pub enum Fault {
     /// A line is bad.
     #[error("{0}")]
     Line(BadLine),
-    /// The text isn't JSON.
+    /// The text isn't JSON, or an allocation failed while it was parsed.
     #[error("{0}")]
     Text(serde_json::Error),
-    /// The JSON text isn't the tree of a bag.
+    /// The JSON text isn't the tree of a bag, or that bag can't be built.
     #[error("{0}")]
     Tree(JsonError),
-    /// The bag refused a token: memory was refused, or the total would pass its end.
+    /// An insertion failed: an allocation failed, or the total would pass the limit of the bag.
     #[error("{0}")]
     Bag(BagError),
     /// A read failed.

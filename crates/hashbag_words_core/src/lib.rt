@@ -1,8 +1,9 @@
-//! Counts of words, lines and what else is in text: what of a line is counted, how the lines of an input are counted, how files of
-//! counts are read, merged and written.
+//! Counts of words, lines or matches in text: the pure part of the program `hashbag_words`.
 //!
-//! The counts of an input are those of its lines, so an input may be split at line ends and counted in parts, which are merged:
-//! [`parts`] has that theorem.
+//! - [`rule`] decides what of a line is counted, and [`counting`] counts the lines of an input.
+//! - [`rows`] and [`merging`] read and add up files of counts, [`choice`] selects the counts that are shown, and [`writing`] writes them.
+//! - The counts of an input are those of its lines. So an input may be split at line ends, counted in parts and merged: [`parts`] has
+//!   that theorem.
 #![tactic(auto)]
 
 pub mod choice;

@@ -6,28 +6,28 @@ ghost use Rattle.hashbag_words_core.specs.Reading.{ReadsLine, without_end};
 use crate::errors::{BadLine, Fault};
 use std::io::{self, BufRead};
 
-/// What becomes of a bad line.
+/// What a bad line does.
 #[derive(Clone, Copy, Debug, PartialEq, Eq)]
 pub enum BadLines {
-    /// It ends the reading.
+    /// It is an error.
     Refused,
-    /// It adds nothing, and is counted as skipped.
+    /// It is skipped, and the skipped lines are counted.
     Skipped,
 }
 
-/// How an input is read, and how far it has been.
+/// How an input is read, and how many lines were read.
 #[derive(Clone, Copy, Debug, PartialEq, Eq)]
 pub struct Reading {
-    /// What becomes of a bad line.
+    /// What a bad line does.
     pub bad_lines: BadLines,
-    /// The number of the last line that was read, counted from 1. It stays at the greatest number.
+    /// The number of the last line that was read: 0 before the first line, at most 2^64-1.
     pub line: u64,
     /// How many bad lines were skipped.
     pub skipped: u64,
 }
 
 impl Reading {
-    /// Before the first line.
+    /// Returns the reading of an input before its first line.
     pub fn new(bad_lines: BadLines) -> Reading
         ensures { (result.bad_lines ≡ bad_lines) × (result.line ≡ 0) × (result.skipped ≡ 0) }
     {
@@ -38,7 +38,7 @@ impl Reading {
         }
     }
 
-    // One more line was read.
+    // Counts a line that was read.
     pub(crate) fn count_line(&mut self)
         ensures line { self.new.line ≡ min (self.old.line + 1) (2 ^ 64 - 1) }
         ensures skipped { self.new.skipped ≡ self.old.skipped }
@@ -93,7 +93,11 @@ fn strip_end(line: &mut Vec<u8>) -> bool
     true
 }
 
-/// Reads the next line as [`next_line`] does. Returns whether there was one, and whether a line feed ended it.
+/// Reads the next line as [`next_line`] does, and returns whether there was one, and whether a line feed ended it.
+///
+/// # Errors
+///
+/// A read or an allocation fails.
 pub fn next_ended_line<R: BufRead>(input: &mut R, line: &mut Vec<u8>) -> io::Result<(bool, bool)>
     ensures line { IfOk result (λ met. IfSome (R.remaining input.old)
         (λ bytes. ReadsLine met.0 bytes line.new.items (R.remaining input.new))) }
@@ -106,8 +110,13 @@ pub fn next_ended_line<R: BufRead>(input: &mut R, line: &mut Vec<u8>) -> io::Res
     Ok((true, strip_end(line)))
 }
 
-/// Reads the next line into `line`, in place of what `line` had, without the line feed at its end and a carriage return before that.
-/// Returns whether there was one.
+/// Replaces `line` by the next line of the input and returns whether there was one.
+///
+/// The line feed at its end and a carriage return before that are no part of it.
+///
+/// # Errors
+///
+/// A read or an allocation fails.
 pub fn next_line<R: BufRead>(input: &mut R, line: &mut Vec<u8>) -> io::Result<bool>
     ensures { IfOk result (λ there. IfSome (R.remaining input.old) (λ bytes. ReadsLine there bytes line.new.items (R.remaining input.new))) }
 {

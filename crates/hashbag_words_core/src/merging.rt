@@ -1,4 +1,4 @@
-//! Files of counts are added up.
+//! Adding up files of counts.
 ghost use Rattle.std.specs.Prelude.{◌≡◌, true, string_bytes, IfErr, IfOk, IfSome, OnErr, OnOk};
 ghost use Rattle.hashbag_words_core.specs.Counts.{AddsTimes};
 ghost use Rattle.hashbag_words_core.specs.Merging.{AddsLine, AddsTree, IsNoRow, TakesFirst, TakesLine, TakesRows};
@@ -16,7 +16,7 @@ use std::hash::BuildHasher;
 use std::io::BufRead;
 use std::str;
 
-// The token and the count of a line in that form, or what is wrong with it.
+// Returns the token and the count of a line in this form, or what is wrong with it.
 fn read_in_form(
     alloc: Global,
     form: RowForm,
@@ -31,11 +31,12 @@ fn read_in_form(
     }
 }
 
-/// Adds the token of a line of counts as often as its count says.
+/// Inserts the token of a line of counts as often as its count says.
 ///
 /// # Errors
 ///
-/// `Fault::Line`: the line is bad; `Fault::Bag`: an allocation fails, or the total doesn't fit. Then nothing has been added.
+/// `Fault::Line` if the line is bad; `Fault::Bag` if an allocation fails, or the total would pass the limit of the bag. Then the bag is
+/// unchanged.
 pub fn add_row<S: BuildHasher + Drop>(
     alloc: Global,
     bag: &mut HashBag<String, S>,
@@ -59,7 +60,7 @@ pub fn add_row<S: BuildHasher + Drop>(
     }
 }
 
-// Adds a line that has been read. One that is bad, or that no line feed ended, is passed over or rejected.
+// Adds a line that has been read. A line that is bad, or has no line feed, is skipped or rejected.
 fn add_read_row<S: BuildHasher + Drop>(
     alloc: Global,
     bag: &mut HashBag<String, S>,
@@ -80,7 +81,7 @@ fn add_read_row<S: BuildHasher + Drop>(
     }
 }
 
-// A line without the byte order mark at its beginning.
+// Returns a line without the byte order mark at its beginning.
 fn past_mark(line: &[u8]) -> &[u8]
     ensures { result.now ≡ without_mark line.now }
 {
@@ -90,8 +91,13 @@ fn past_mark(line: &[u8]) -> &[u8]
     line
 }
 
-/// Adds the first line of a file of counts, as [`add_rows`] does. A byte order mark at its beginning is no part of it. Returns whether
-/// there was a line.
+/// Adds the first line of a file of counts as [`add_rows`] does, and returns whether there was a line.
+///
+/// A byte order mark at its beginning is no part of it.
+///
+/// # Errors
+///
+/// As of [`add_rows`].
 pub fn add_first_row<R: BufRead, S: BuildHasher + Drop>(
     alloc: Global,
     bag: &mut HashBag<String, S>,
@@ -112,14 +118,15 @@ pub fn add_first_row<R: BufRead, S: BuildHasher + Drop>(
     Ok(true)
 }
 
-/// Adds at most `most` lines of a file of counts. Returns whether there may be more.
+/// Adds at most `most` lines of a file of counts and returns whether there may be more.
 ///
-/// A line is bad that isn't a token and a count in that form, or that no line feed ends.
+/// A line is bad if it isn't a token and a count in this form, or has no line feed.
 ///
 /// # Errors
 ///
-/// `Fault::Line`, if bad lines are rejected; `Fault::Bag`: an allocation fails, or the total doesn't fit; `Fault::Read`. Then `reading`
-/// has the number of the line, and the lines before it have been added.
+/// `Fault::Line` if a line is bad and bad lines aren't skipped; `Fault::Bag` if an allocation fails, or the total would pass the limit
+/// of the bag; `Fault::Read` if a read fails. Then `reading.line` is the number of the last line that was read, and the lines before
+/// that one have been added.
 pub fn add_rows<R: BufRead, S: BuildHasher + Drop>(
     alloc: Global,
     bag: &mut HashBag<String, S>,
@@ -143,12 +150,12 @@ pub fn add_rows<R: BufRead, S: BuildHasher + Drop>(
     Ok(true)
 }
 
-/// Adds the bag whose tree is this JSON text, all of it or nothing. It is read into a bag with the hash state `state`.
+/// Adds the counts of a JSON text, all of them or none. They are first read into a bag of their own, with the hash state `state`.
 ///
 /// # Errors
 ///
-/// `Fault::Text`: the text isn't JSON; `Fault::Tree`: it isn't the tree of a bag; `Fault::Bag`: an allocation fails, or the total
-/// doesn't fit. Then the bag is unchanged.
+/// `Fault::Text` if the text isn't JSON, or can't be allocated; `Fault::Tree` if it isn't the tree of a bag, or that bag fails;
+/// `Fault::Bag` if an allocation fails, or the total would pass the limit of the bag. Then the bag is unchanged.
 pub fn add_tree<S: BuildHasher + Drop, S2: BuildHasher + Drop>(
     alloc: Global,
     state: S2,

@@ -1,4 +1,4 @@
-//! What follows for an input that is counted in parts.
+//! Counting an input in parts.
 ghost use Rattle.std.specs.Prelude.{◌++◌, IfOk};
 ghost use Rattle.hashbag_words_core.specs.Counts.{HasCountsOf};
 ghost use Rattle.hashbag_words_core.specs.Reading.{EndsLine};
@@ -13,13 +13,13 @@ use hashbag_ops::merge;
 use std::alloc::Global;
 use std::hash::BuildHasher;
 
-/// Returns the counts of an input, in a bag with that hash state: each text occurs as often as it is one of the tokens of the lines.
+/// Returns the counts of an input, in a bag with this hash state. It has each token as often as the lines of the input have it.
 ///
-/// Lines that aren't UTF-8 are passed over.
+/// Lines that aren't UTF-8 are skipped.
 ///
 /// # Errors
 ///
-/// `Fault::Bag`: an allocation fails, or the total doesn't fit.
+/// `Fault::Bag` if an allocation fails, or the total would pass `usize::MAX`.
 pub fn counts_of<S: BuildHasher + Drop>(
     alloc: Global,
     state: S,
@@ -36,10 +36,14 @@ pub fn counts_of<S: BuildHasher + Drop>(
     Ok(bag)
 }
 
-/// Counts an input in two parts, which are split at a line end, and merges them: those are the counts of the whole. Each part may have
-/// a hash state of its own.
+/// Returns the counts of an input that is split at a line end. Each part is counted under its own hash state, and the counts are merged.
+/// The result has the counts of the whole input.
 ///
 /// So any number of parts may be counted side by side, and merged in any order and in any groups.
+///
+/// # Errors
+///
+/// `Fault::Bag` if an allocation fails, or the total would pass `usize::MAX`.
 pub fn counts_of_parts<S: BuildHasher + Drop, S2: BuildHasher + Drop>(
     alloc: Global,
     states: (S, S2),

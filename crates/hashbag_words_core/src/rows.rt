@@ -1,7 +1,7 @@
-//! A line of counts: a token, a tab and how often it occurs.
+//! A line of counts: a token, a tab and a count.
 //!
-//! A tab, a line feed, a carriage return and a backslash in a token are written `\t`, `\n`, `\r` and `\\`, so that each token is one
-//! line, and its line is read as that token again.
+//! A tab, a line feed, a carriage return and a backslash in a token are written `\t`, `\n`, `\r` and `\\`. So each token is on one
+//! line, which is read as that token again.
 ghost use Rattle.std.specs.Prelude.{◌≡◌, ◌∷◌, ◌++◌, ℕ, [], List, Some, false, option_map, string_bytes, IfOk, OnOk};
 ghost use Rattle.hashbag_words_core.specs.Rows.{byte_of, escaped, letter_of, resumed, row, shown_as, unescaped, IfRow, IsLineOf, IsRead};
 
@@ -12,13 +12,13 @@ use std::io::{self, Write};
 /// How the lines of a file of counts are written.
 #[derive(Clone, Copy, Debug, PartialEq, Eq)]
 pub enum RowForm {
-    /// Token, tab, count.
+    /// A token, a tab, a count.
     Tsv,
-    /// As `uniq -c` does: spaces, count, a space, token.
+    /// As `uniq -c` writes it: spaces, a count, a space, a token.
     Uniq,
 }
 
-// The letter that stands for this byte behind a backslash, if it is escaped.
+// Returns the letter that means this byte after a backslash, or `None` if the byte isn't escaped.
 fn escape_of(byte: u8) -> Option<u8>
     ensures { result ≡ letter_of byte }
 {
@@ -31,7 +31,7 @@ fn escape_of(byte: u8) -> Option<u8>
     }
 }
 
-// The byte that this letter stands for behind a backslash.
+// Returns the byte that this letter means after a backslash.
 fn meant_by(letter: u8) -> Option<u8>
     ensures { result ≡ byte_of letter }
 {
@@ -44,7 +44,7 @@ fn meant_by(letter: u8) -> Option<u8>
     }
 }
 
-// Appends a byte, escaped where it has to be.
+// Appends a byte, escaped if it has to be.
 fn push_byte(text: &mut Vec<u8>, byte: u8) -> Result<(), AllocError>
     ensures { OnOk result (text.new.items ≡ text.old.items ++ shown_as byte (letter_of byte)) }
 {
@@ -61,7 +61,7 @@ fn push_byte(text: &mut Vec<u8>, byte: u8) -> Result<(), AllocError>
     }
 }
 
-// Whether a token has a byte that is escaped. Few have one.
+// Returns whether a token has a byte that is escaped. Few tokens have one.
 fn has_escape(token: &[u8]) -> bool
     ensures { result ≡ false → escaped token.now ≡ token.now }
 {
@@ -73,7 +73,7 @@ fn has_escape(token: &[u8]) -> bool
     false
 }
 
-// Appends a token, escaped. One that needs no escape goes in at once.
+// Appends a token, escaped. A token without a byte to escape is appended as a whole.
 fn push_token(text: &mut Vec<u8>, token: &[u8]) -> Result<(), AllocError>
     ensures { OnOk result (text.new.items ≡ text.old.items ++ escaped token.now) }
 {
@@ -87,7 +87,7 @@ fn push_token(text: &mut Vec<u8>, token: &[u8]) -> Result<(), AllocError>
     Ok(())
 }
 
-/// Appends the line of a token and its count, with its end.
+/// Appends the line of a token and its count, with a line feed.
 ///
 /// # Errors
 ///
@@ -119,7 +119,7 @@ fn take_byte(token: &mut Vec<u8>, is_marked: bool, byte: u8) -> Result<Option<bo
     Ok(Some(false))
 }
 
-// The token that is written like this, or nothing where it has a bad escape.
+// Returns the token that is written like this, or `None` if it has a bad escape.
 fn token_of(alloc: Global, written: &[u8]) -> Result<Option<Vec<u8>>, AllocError>
     ensures { IfOk result (λ token. option_map (λ t. t.items) token ≡ unescaped false written.now) }
 {
@@ -137,7 +137,7 @@ fn token_of(alloc: Global, written: &[u8]) -> Result<Option<Vec<u8>>, AllocError
     Ok(Some(token))
 }
 
-/// Returns the token and the count of a line of counts, without its end, or what is wrong with it.
+/// Returns the token and the count of a line, or what is wrong with the line. It is given without its line feed.
 ///
 /// # Errors
 ///
@@ -161,9 +161,9 @@ pub fn read_row(alloc: Global, line: &str) -> Result<Result<(String, usize), Bad
     Ok(Ok((token, count)))
 }
 
-/// Returns the count and the token of a line that `uniq -c` wrote, without its end, or what is wrong with it.
+/// Returns the token and the count of a line that `uniq -c` wrote, or what is wrong with the line. It is given without its line feed.
 ///
-/// The token is all that follows the space behind the count.
+/// The token is everything after the space that follows the count.
 ///
 /// # Errors
 ///

@@ -4,13 +4,13 @@ use regex::Regex;
 /// What a line is cut into.
 #[derive(Clone, Copy)]
 pub enum Pieces<'r> {
-    /// What stands between white space.
+    /// The words between white space.
     Words,
-    /// The words by the rules of Unicode: punctuation is none, and `can't` is one.
+    /// The words by Unicode's rules: punctuation is no word, and `can't` is one word.
     UnicodeWords,
     /// The whole line.
     Lines,
-    /// What matches a pattern, from left to right; an empty match is no piece.
+    /// The matches of a pattern, from left to right. An empty match is no piece.
     Matches(&'r Regex),
 }
 
@@ -19,6 +19,6 @@ pub enum Pieces<'r> {
 pub struct Rule<'r> {
     /// What a line is cut into.
     pub pieces: Pieces<'r>,
-    /// Whether upper and lower case are counted as one, as the full case folding of Unicode has it.
+    /// Whether upper and lower case are counted as one, by Unicode's full case folding.
     pub fold: bool,
 }

@@ -1,4 +1,4 @@
-//! Counts are written.
+//! Writing counts.
 use crate::rows::push_row;
 use serde_json::Value;
 use std::alloc::Global;
@@ -7,15 +7,15 @@ use std::io::{self, Write};
 /// How counts are written.
 #[derive(Clone, Copy, Debug, PartialEq, Eq)]
 pub enum Format {
-    /// A line each: the token, a tab, the count.
+    /// A line for each token: the token, a tab, the count.
     Tsv,
-    /// One array of pairs of a token and its count, on one line.
+    /// One line: a JSON array of pairs of a token and its count.
     Json,
-    /// A line each, as `uniq -c` writes it: the count in seven columns, a space, the token.
+    /// A line for each token, as `uniq -c` writes it: the count in seven columns, a space, the token.
     Uniq,
 }
 
-// Writes a line of counts each.
+// Writes a line for each token.
 fn write_tsv<W: Write>(alloc: Global, out: &mut W, rows: &Vec<(&String, usize)>) -> io::Result<()> {
     let mut text = Vec::new(alloc);
     for (token, count) in rows {
@@ -26,7 +26,7 @@ fn write_tsv<W: Write>(alloc: Global, out: &mut W, rows: &Vec<(&String, usize)>)
     Ok(())
 }
 
-// Writes a line each as `uniq -c` does.
+// Writes a line for each token, as `uniq -c` does.
 fn write_uniq<W: Write>(out: &mut W, rows: &Vec<(&String, usize)>) -> io::Result<()> {
     for (token, count) in rows {
         writeln!(out, "{count:7} {token}")?;
@@ -34,7 +34,7 @@ fn write_uniq<W: Write>(out: &mut W, rows: &Vec<(&String, usize)>) -> io::Result
     Ok(())
 }
 
-// Writes one array.
+// Writes one JSON array.
 fn write_json<W: Write>(
     alloc: Global,
     out: &mut W,
@@ -51,7 +51,11 @@ fn write_json<W: Write>(
     writeln!(out, "]")
 }
 
-/// Writes tokens with their counts, in the order given.
+/// Writes tokens with their counts, in the order of `rows`.
+///
+/// # Errors
+///
+/// A write or an allocation fails. Then some of the text may have been written.
 pub fn write_rows<W: Write>(
     alloc: Global,
     out: &mut W,

@@ -1,4 +1,4 @@
-//! The tests of calls on one bag, and of the plain bag.
+//! The tests of calls on one bag.
 #![tactic(auto)]
 
 #[cfg(test)]

@@ -1,5 +1,5 @@
 //! What no clause says of calls on one bag: that they succeed, and that their results are those found by hand, under each hash
-//! state.
+//! state. Also how often a call hashes.
 mod bounds;
 mod callers;
 mod calls;
@@ -7,15 +7,14 @@ mod clones;
 mod collections;
 mod drops;
 mod entries;
-mod hashes;
+mod hash_counts;
 mod instances;
 mod keys;
 mod limits;
 mod own_bytes;
 mod owning_states;
-mod plain_calls;
 mod refused_clones;
 mod room;
 mod sizes;
 mod tables;
-mod texts;
+mod transfers;

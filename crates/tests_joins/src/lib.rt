@@ -1,4 +1,4 @@
-//! The tests of joins, of trees, and of how often values are hashed.
+//! The tests of joins and of trees.
 #![tactic(auto)]
 
 #[cfg(test)]

@@ -4,7 +4,8 @@
 //! value in `Ok`, or else the name of the error. A line such as `[inserts]` names the rows after it, which are on a new bag.
 //!
 //! Each kind of call has a function without a contract of its own. So the proof carries nothing from one call to the next.
-use crate::texts::{count, counts, debug_of, halves, is_text, number, rows_of, values};
+use crate::rows::{Rows, rows_of};
+use crate::texts::{count, counts, debug_of, halves, is_text, number, values};
 use hashbag::{BagError, HashBag};
 use std::alloc::Global;
 use std::fmt::Debug;
@@ -447,44 +448,46 @@ pub fn answer<S: BuildHasher + Default + Drop>(
 fn make_row<S: BuildHasher + Default + Drop>(
     alloc: Global,
     bag: &mut HashBag<u64, S>,
-    name: &str,
     row: &str,
 ) -> Result<(), Fail> {
     let (call, want) = halves(row, " = ")?;
     let got = answer(alloc, bag, call)?;
-    let place = format!(in alloc; "{row}, of {name}")?;
-    is_text(place.as_str(), got.as_str(), want)?;
-    Ok(())
+    is_text(got.as_str(), want)
 }
 
-/// Makes the calls of the rows in turn. There have to be as many rows as the number says.
+/// Makes the calls of the rows in turn.
 pub fn make_calls<S: BuildHasher + Default + Drop>(
     alloc: Global,
     bag: &mut HashBag<u64, S>,
-    text: &str,
-    wanted: usize,
+    rows: Rows,
 ) -> Result<(), Fail> {
-    for row in rows_of(alloc, text, wanted)? {
-        make_row(alloc, bag, "one bag", row)?;
+    for row in rows_of(alloc, rows)? {
+        row.tested(make_row(alloc, bag, row.text))?;
     }
     Ok(())
 }
 
-/// Makes the calls of the rows, each name on a new bag. There have to be as many rows, with the names, as the number says.
+/// Makes the call of a row that is in no text.
+pub fn make_call<S: BuildHasher + Default + Drop>(
+    alloc: Global,
+    bag: &mut HashBag<u64, S>,
+    text: &'static str,
+) -> Result<(), Fail> {
+    make_calls(alloc, bag, Rows { count: 1, text })
+}
+
+/// Makes the calls of the rows, each name on a new bag. A name is a row too.
 pub fn make_rows<S: BuildHasher + Default + Copy>(
     alloc: Global,
     state: S,
-    text: &str,
-    wanted: usize,
+    rows: Rows,
 ) -> Result<(), Fail> {
     let mut bag = HashBag::with_hasher(alloc, state);
-    let mut name = String::new(alloc);
-    for row in rows_of(alloc, text, wanted)? {
-        if row.starts_with('[') {
-            name = String::from_str(alloc, row)?;
+    for row in rows_of(alloc, rows)? {
+        if row.text.starts_with('[') {
             bag = HashBag::with_hasher(alloc, state);
         } else {
-            make_row(alloc, &mut bag, name.as_str(), row)?;
+            row.tested(make_row(alloc, &mut bag, row.text))?;
         }
     }
     Ok(())

@@ -6,11 +6,16 @@
 pub mod calls;
 pub mod named;
 pub mod plain;
+pub mod rows;
 pub mod states;
 pub mod tagged;
 pub mod texts;
 
 pub use named::Named;
 pub use plain::PlainBag;
+pub use rows::{Row, Rows, rows_of};
 pub use states::{IdentityState, OneState, ParityState};
 pub use tagged::Tagged;
+
+#[cfg(test)]
+mod tests;

@@ -1,24 +1,10 @@
-//! Rows of text: how they are read, and how results are compared.
+//! The words of rows: how they are read, and how results are compared.
 //!
 //! A row that can't be read fails its test: nothing is skipped.
+use crate::tagged::Tagged;
 use std::alloc::Global;
 use std::fmt::Debug;
 use std::test::Fail;
-
-/// Returns the rows of a text, one a line. There have to be `wanted` of them.
-pub fn rows_of<'a>(alloc: Global, text: &'a str, wanted: usize) -> Result<Vec<&'a str>, Fail> {
-    let mut rows = Vec::new(alloc);
-    for line in text.lines() {
-        if !line.trim().is_empty() {
-            rows.push(line.trim())?;
-        }
-    }
-    if rows.len() != wanted {
-        let found = rows.len();
-        return Err(Fail::new(format_args!("{found} rows, not {wanted}")));
-    }
-    Ok(rows)
-}
 
 /// Returns the texts before and after a mark, which has to be there.
 pub fn halves<'a>(row: &'a str, mark: &str) -> Result<(&'a str, &'a str), Fail> {
@@ -78,12 +64,29 @@ pub fn values(alloc: Global, text: &str) -> Result<Vec<u64>, Fail> {
     Ok(list)
 }
 
-/// Compares two texts. The failure names the row that they are from.
-pub fn is_text(row: &str, got: &str, want: &str) -> Result<(), Fail> {
+/// Returns the value that is written as its key and its tag, as `1:10`.
+pub fn tagged(word: &str) -> Result<Tagged, Fail> {
+    let (key, tag) = halves(word, ":")?;
+    Ok(Tagged {
+        key: number(key)?,
+        tag: number(tag)?,
+    })
+}
+
+/// Compares two texts.
+pub fn is_text(got: &str, want: &str) -> Result<(), Fail> {
     if got == want {
         return Ok(());
     }
-    Err(Fail::new(format_args!("{got}, not {want}, in the row: {row}")))
+    Err(Fail::new(format_args!("{got}, not {want}")))
+}
+
+/// Compares two texts. The failure says what they are of.
+pub fn is_text_of(what: &str, got: &str, want: &str) -> Result<(), Fail> {
+    if got == want {
+        return Ok(());
+    }
+    Err(Fail::new(format_args!("{what}: {got}, not {want}")))
 }
 
 /// Returns the text that `Debug` writes of a value.

@@ -8,11 +8,13 @@ use hashbag_callers::words::{count_words, equal_in_any_order, insert_each, two_w
 use std::alloc::Global;
 use std::hash::BuildHasher;
 use std::test::Fail;
-use tests_kit::texts::{count, counts, debug_of, halves, is_text, number, rows_of, values};
-use tests_kit::{IdentityState, OneState, ParityState, calls};
+use tests_kit::texts::{count, counts, debug_of, halves, is_text, is_text_of, number, values};
+use tests_kit::{IdentityState, OneState, ParityState, Rows, calls, rows_of};
 
 // One bag throughout. What is no caller's name is a call on the bag.
-const ROWS: &str = "\
+const ROWS: Rows = Rows {
+    count: 36,
+    text: "\
     deliver 7 5 = Ok(())
     sell 7 6 = false
     sell 8 1 = false
@@ -48,30 +50,40 @@ const ROWS: &str = "\
     deliver 6 18446744073709551610 = Ok(())
     insert_and_count 3 = Err(TooMany)
     add_words [1] = Err(TooMany)
-    counts [1, 3, 6] = [0, 3, 18446744073709551610]";
+    counts [1, 3, 6] = [0, 3, 18446744073709551610]",
+};
 
 // What was ordered, what was delivered, and whether that is complete, with the greatest surplus by a loop and by a fold.
-const DELIVERIES: &str = "
+const DELIVERIES: Rows = Rows {
+    count: 6,
+    text: "
     | | (true, 0, 0)
     1:2 2:4 | | (false, 0, 0)
     | 1:2 2:4 | (true, 4, 4)
     1:2 2:4 | 1:2 2:4 | (true, 0, 0)
     1:2 2:4 | 2:9 1:2 3:4 | (true, 5, 5)
-    1:2 2:4 | 1:1 2:9 3:8 | (false, 8, 8)";
+    1:2 2:4 | 1:1 2:9 3:8 | (false, 8, 8)",
+};
 
 // Words, how often the first of them occurs, and how many there are.
-const WORDS: &str = "
+const WORDS: Rows = Rows {
+    count: 3,
+    text: "
     [3, 5, 3, 8, 3] = (3, 5)
     [0] = (1, 1)
-    [18446744073709551615, 0, 18446744073709551615] = (2, 3)";
+    [18446744073709551615, 0, 18446744073709551615] = (2, 3)",
+};
 
 // Insertions, whose pairs are made in this order and in that of their values: the two bags are equal.
-const INSERTIONS: &str = "
+const INSERTIONS: Rows = Rows {
+    count: 3,
+    text: "
     9:1 2:3 9:0 1:4 2:1
     1:18446744073709551614 0:1
-    1:0";
+    1:0",
+};
 
-// Each kind of call has a function with no contract, as in `rows`.
+// Each kind of call has a function with no contract, as in `calls` of `tests_kit`.
 
 fn sold<S: BuildHasher + Drop>(stock: &mut HashBag<u64, S>, article: u64, n: usize) -> bool {
     sell(stock, &article, n)
@@ -182,19 +194,27 @@ fn matches_as<S: BuildHasher + Default + Drop>(alloc: Global, row: &str) -> Resu
     let ordered: HashBag<u64, S> = stock_of(alloc, ordered)?;
     let delivered: HashBag<u64> = stock_of(alloc, delivered)?;
     let got = debug_of(alloc, &matched(&ordered, &delivered))?;
-    is_text(row, got.as_str(), want)
+    is_text(got.as_str(), want)
+}
+
+fn is_answered<S: BuildHasher + Default + Drop>(
+    alloc: Global,
+    bag: &mut HashBag<u64, S>,
+    row: &str,
+) -> Result<(), Fail> {
+    let (call, want) = halves(row, " = ")?;
+    let got = answer(alloc, bag, call)?;
+    is_text(got.as_str(), want)
 }
 
 // The callers under a state.
 fn callers_under<S: BuildHasher + Default + Drop>(alloc: Global, state: S) -> Result<(), Fail> {
     let mut bag = HashBag::with_hasher(alloc, state);
-    for row in rows_of(alloc, ROWS, 36)? {
-        let (call, want) = halves(row, " = ")?;
-        let got = answer(alloc, &mut bag, call)?;
-        is_text(row, got.as_str(), want)?;
+    for row in rows_of(alloc, ROWS)? {
+        row.tested(is_answered(alloc, &mut bag, row.text))?;
     }
-    for row in rows_of(alloc, DELIVERIES, 6)? {
-        matches_as::<S>(alloc, row)?;
+    for row in rows_of(alloc, DELIVERIES)? {
+        row.tested(matches_as::<S>(alloc, row.text))?;
     }
     Ok(())
 }
@@ -204,6 +224,12 @@ fn first_and_all(alloc: Global, words: Vec<u64>) -> Result<(usize, usize), BagEr
     let first = words.first().map_or(0, |word| *word);
     let bag = count_words(alloc, words)?;
     Ok((bag.contains(&first), bag.len()))
+}
+
+fn are_counted(alloc: Global, row: &str) -> Result<(), Fail> {
+    let (words, want) = halves(row, " = ")?;
+    let got = first_and_all(alloc, values(alloc, words)?)?;
+    is_text(debug_of(alloc, &got)?.as_str(), want)
 }
 
 fn number_of_two_words(alloc: Global) -> Result<usize, BagError> {
@@ -216,6 +242,11 @@ fn equal_when_sorted(alloc: Global, pairs: &[(u64, usize)]) -> Result<bool, BagE
     let mut second = Vec::from_slice(alloc, pairs)?;
     second.sort()?;
     equal_in_any_order(alloc, first, second)
+}
+
+fn are_equal_when_sorted(alloc: Global, row: &str) -> Result<(), Fail> {
+    let equal = equal_when_sorted(alloc, counts(alloc, row)?.as_slice())?;
+    is_text(debug_of(alloc, &equal)?.as_str(), "true")
 }
 
 #[test]
@@ -242,11 +273,9 @@ fn callers_of_identity_state(rt: HostRuntime) -> Result<(), Fail> {
 fn words_are_counted(rt: HostRuntime) -> Result<(), Fail> {
     let alloc = rt.alloc();
     let words = debug_of(alloc, &number_of_two_words(alloc))?;
-    is_text("two words", words.as_str(), "Ok(2)")?;
-    for row in rows_of(alloc, WORDS, 3)? {
-        let (words, want) = halves(row, " = ")?;
-        let got = first_and_all(alloc, values(alloc, words)?)?;
-        is_text(row, debug_of(alloc, &got)?.as_str(), want)?;
+    is_text_of("two words", words.as_str(), "Ok(2)")?;
+    for row in rows_of(alloc, WORDS)? {
+        row.tested(are_counted(alloc, row.text))?;
     }
     Ok(())
 }
@@ -254,11 +283,8 @@ fn words_are_counted(rt: HostRuntime) -> Result<(), Fail> {
 #[test]
 fn insertions_in_any_order(rt: HostRuntime) -> Result<(), Fail> {
     let alloc = rt.alloc();
-    for row in rows_of(alloc, INSERTIONS, 3)? {
-        assert!(rt;
-            equal_when_sorted(alloc, counts(alloc, row)?.as_slice())?,
-            "{row}"
-        );
+    for row in rows_of(alloc, INSERTIONS)? {
+        row.tested(are_equal_when_sorted(alloc, row.text))?;
     }
     Ok(())
 }

@@ -5,11 +5,13 @@ use std::hash::BuildHasher;
 use std::process::Abort;
 use std::test::Fail;
 use tests_kit::calls::{clone_of, make_rows};
-use tests_kit::texts::is_text;
-use tests_kit::{IdentityState, OneState, ParityState};
+use tests_kit::texts::is_text_of;
+use tests_kit::{IdentityState, OneState, ParityState, Rows};
 
 // Room changes nothing of what a bag has. It is made for 3 * 2^57 values, which is 432345564227567616, and for no more.
-const ROWS: &str = "\
+const ROWS: Rows = Rows {
+    count: 79,
+    text: "\
     [inserts]
     is_empty = true
     insert_many 2 1 = 0
@@ -95,26 +97,27 @@ const ROWS: &str = "\
     with_capacity 10 = ()
     has_room 10 = true
     is_empty = true
-    with_capacity 432345564227567617 = Memory";
+    with_capacity 432345564227567617 = Memory",
+};
 
 #[test]
 fn calls_of_fixed_state(rt: HostRuntime) -> Result<(), Fail> {
-    make_rows(rt.alloc(), FixedState::new(), ROWS, 79)
+    make_rows(rt.alloc(), FixedState::new(), ROWS)
 }
 
 #[test]
 fn calls_of_one_state(rt: HostRuntime) -> Result<(), Fail> {
-    make_rows(rt.alloc(), OneState, ROWS, 79)
+    make_rows(rt.alloc(), OneState, ROWS)
 }
 
 #[test]
 fn calls_of_parity_state(rt: HostRuntime) -> Result<(), Fail> {
-    make_rows(rt.alloc(), ParityState, ROWS, 79)
+    make_rows(rt.alloc(), ParityState, ROWS)
 }
 
 #[test]
 fn calls_of_identity_state(rt: HostRuntime) -> Result<(), Fail> {
-    make_rows(rt.alloc(), IdentityState, ROWS, 79)
+    make_rows(rt.alloc(), IdentityState, ROWS)
 }
 
 // The state that a bag has hashes its values.
@@ -162,10 +165,10 @@ fn report_of(alloc: Global, error: BagError) -> Result<String, Fail> {
 #[test]
 fn errors_as_text_and_number(rt: HostRuntime) -> Result<(), Fail> {
     let memory = report_of(rt.alloc(), BagError::Memory)?;
-    is_text("refused", memory.as_str(), "Memory is 1: no memory")?;
+    is_text_of("refused", memory.as_str(), "Memory is 1: no memory")?;
     let many = report_of(rt.alloc(), BagError::TooMany)?;
-    is_text("full", many.as_str(), "TooMany is 2: total past its end")?;
+    is_text_of("full", many.as_str(), "TooMany is 2: total past its end")?;
     let below = report_of(rt.alloc(), BagError::BelowTotal)?;
-    is_text("low", below.as_str(), "BelowTotal is 9: limit below total")?;
+    is_text_of("low", below.as_str(), "BelowTotal is 9: limit below total")?;
     Ok(())
 }

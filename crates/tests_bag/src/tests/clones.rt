@@ -9,16 +9,19 @@ use std::alloc::{AllocError, Global};
 use std::cell::Cell;
 use std::hash::{BuildHasher, Hash, Hasher};
 use std::test::Fail;
-use tests_kit::OneState;
-use tests_kit::texts::{counts, halves, is_text, rows_of};
+use tests_kit::texts::{counts, halves, is_text};
+use tests_kit::{OneState, Rows, rows_of};
 
 // Pairs of a value and a number, and what extending with them gives. Each pair takes one clone, and none if its number is 0
 // or the total would pass its end.
-const ROWS: &str = "\
+const ROWS: Rows = Rows {
+    count: 4,
+    text: "\
     1:2 2:0 3:5 = Ok(()) after 2 clones
     1:0 2:0 = Ok(()) after 0 clones
     1:1 1:1 1:1 = Ok(()) after 3 clones
-    1:18446744073709551615 2:0 2:1 3:1 = Err(TooMany) after 1 clones";
+    1:18446744073709551615 2:0 2:1 3:1 = Err(TooMany) after 1 clones",
+};
 
 // A number whose clones are counted.
 #[derive(Drop)]
@@ -93,10 +96,14 @@ fn answer<S: BuildHasher + Drop>(alloc: Global, state: S, text: &str) -> Result<
     Ok(format!(in alloc; "{answered:?} after {made} clones")?)
 }
 
+fn is_answered<S: BuildHasher + Drop>(alloc: Global, state: S, row: &str) -> Result<(), Fail> {
+    let (text, want) = halves(row, " = ")?;
+    is_text(answer(alloc, state, text)?.as_str(), want)
+}
+
 fn clones_under<S: BuildHasher + Copy>(alloc: Global, state: S) -> Result<(), Fail> {
-    for row in rows_of(alloc, ROWS, 4)? {
-        let (text, want) = halves(row, " = ")?;
-        is_text(row, answer(alloc, state, text)?.as_str(), want)?;
+    for row in rows_of(alloc, ROWS)? {
+        row.tested(is_answered(alloc, state, row.text))?;
     }
     Ok(())
 }

@@ -5,13 +5,15 @@ use std::alloc::Global;
 use std::hash::BuildHasher;
 use std::process::Abort;
 use std::test::Fail;
-use tests_kit::calls::{clone_of, make_calls, make_rows};
-use tests_kit::texts::{count, counts, debug_of, halves, is_text, number, rows_of};
-use tests_kit::{IdentityState, OneState, ParityState};
+use tests_kit::calls::{clone_of, make_call, make_calls, make_rows};
+use tests_kit::texts::{count, counts, debug_of, halves, is_text, number};
+use tests_kit::{IdentityState, OneState, ParityState, Row, Rows, rows_of};
 
 // `counts` returns how often each of the values occurs. `retain_itself` keeps of each value as many as it is, and returns how
 // often the closure was called.
-const ROWS: &str = "\
+const ROWS: Rows = Rows {
+    count: 54,
+    text: "\
     [adds none]
     insert 100 = 0
     retain_none = ()
@@ -70,10 +72,13 @@ const ROWS: &str = "\
     counts [1] = [0]
     len = 0
     set_len = 0
-    from_counts 1:18446744073709551615 2:0 2:1 = TooMany";
+    from_counts 1:18446744073709551615 2:0 2:1 = TooMany",
+};
 
 // `insert_each` makes a bag of values inserted one by one. `equals` compares it with another such bag, in both directions.
-const EQUAL_ROWS: &str = "\
+const EQUAL_ROWS: Rows = Rows {
+    count: 22,
+    text: "\
     [values in any order]
     insert_each [] = ()
     equals [] = (true, true)
@@ -96,34 +101,43 @@ const EQUAL_ROWS: &str = "\
     remove_up_to 2 4 = 1
     equals [1, 2] = (false, false)
     or_insert 1 = 1
-    equals [1, 2] = (true, true)";
+    equals [1, 2] = (true, true)",
+};
 
 // A bag and its clone, one after the other.
-const SOURCE_ROWS: &str = "\
+const SOURCE_ROWS: Rows = Rows {
+    count: 3,
+    text: "\
     counts [5, 6, 7] = [3, 2, 1]
     len = 6
-    set_len = 3";
+    set_len = 3",
+};
 
-const CLONE_ROWS: &str = "\
+const CLONE_ROWS: Rows = Rows {
+    count: 4,
+    text: "\
     counts [5, 6, 7] = [3, 2, 1]
     len = 6
     set_len = 3
-    take_all 5 = Some((5, 3))";
+    take_all 5 = Some((5, 3))",
+};
 
 // Changes of a clone leave its source.
 fn clones<S: BuildHasher + Default + Copy>(rt: &impl Abort, alloc: Global) -> Result<(), Fail> {
     let mut bag: HashBag<u64, S> = HashBag::default_in(alloc);
-    make_calls(alloc, &mut bag, "from_iter [5, 6, 5, 7, 6, 5] = ()", 1)?;
+    make_call(alloc, &mut bag, "from_iter [5, 6, 5, 7, 6, 5] = ()")?;
     let mut copy = clone_of(&bag)?;
     assert!(rt; copy == bag);
-    make_calls(alloc, &mut copy, CLONE_ROWS, 4)?;
+    make_calls(alloc, &mut copy, CLONE_ROWS)?;
     assert!(rt; copy != bag);
-    make_calls(alloc, &mut bag, SOURCE_ROWS, 3)
+    make_calls(alloc, &mut bag, SOURCE_ROWS)
 }
 
 // The rows of a run, with its replies. Where a run retains, of a value stay as many as the first pair that has it says, and
 // none if no pair has it.
-const RUN_ROWS: &str = "\
+const RUN_ROWS: Rows = Rows {
+    count: 19,
+    text: "\
     insert_many 0:5 = Count(0)
     insert_many 1:4 = Count(0)
     insert_many 2:3 = Count(0)
@@ -142,17 +156,21 @@ const RUN_ROWS: &str = "\
     count 3 = Count(0)
     count 4 = Count(0)
     retain none = Done
-    count 1 = Count(0)";
+    count 1 = Count(0)",
+};
 
 // The rows of a run at the end of a `usize`, which leaves one occurrence.
-const FULL_ROWS: &str = "\
+const FULL_ROWS: Rows = Rows {
+    count: 7,
+    text: "\
     insert_many 1:18446744073709551615 = Count(0)
     or 2:0 = Count(0)
     or 2:1 = TooMany
     insert_many 1:0 = Count(18446744073709551615)
     set 1:18446744073709551615 = Done
     replace 2 = TooMany
-    replace 1 = Count(18446744073709551615)";
+    replace 1 = Count(18446744073709551615)",
+};
 
 // The step with a value and a number, as `5:2`.
 fn step_with_number(verb: &str, pair: &str) -> Result<Step<u64>, Fail> {
@@ -180,13 +198,25 @@ fn step_of(alloc: Global, call: &str) -> Result<Step<u64>, Fail> {
     }
 }
 
-fn steps_of(alloc: Global, rows: &[&str]) -> Result<Vec<Step<u64>>, Fail> {
+// Adds the step of a row.
+fn push_step(alloc: Global, steps: &mut Vec<Step<u64>>, row: &str) -> Result<(), Fail> {
+    let (call, _) = halves(row, " = ")?;
+    steps.push(step_of(alloc, call)?)?;
+    Ok(())
+}
+
+fn steps_of(alloc: Global, rows: &[Row]) -> Result<Vec<Step<u64>>, Fail> {
     let mut steps = Vec::new(alloc);
     for row in rows {
-        let (call, _) = halves(row, " = ")?;
-        steps.push(step_of(alloc, call)?)?;
+        row.tested(push_step(alloc, &mut steps, row.text))?;
     }
     Ok(steps)
+}
+
+// Compares the reply of a row.
+fn is_reply(alloc: Global, reply: &Reply<u64>, row: &str) -> Result<(), Fail> {
+    let (_, want) = halves(row, " = ")?;
+    is_text(debug_of(alloc, reply)?.as_str(), want)
 }
 
 // What a run on a new bag replies, and the total that it leaves.
@@ -205,16 +235,14 @@ fn replies_in_a_run<S: BuildHasher + Drop>(
     rt: &impl Abort,
     alloc: Global,
     state: S,
-    text: &str,
-    wanted: usize,
+    rows: Rows,
     total: usize,
 ) -> Result<(), Fail> {
-    let rows = rows_of(alloc, text, wanted)?;
+    let rows = rows_of(alloc, rows)?;
     let (replies, len) = replies_of(alloc, state, steps_of(alloc, rows.as_slice())?)?;
     assert_eq!(rt; (replies.len(), len), (rows.len(), total));
     for (row, reply) in rows.iter().zip(&replies) {
-        let (_, want) = halves(row, " = ")?;
-        is_text(row, debug_of(alloc, reply)?.as_str(), want)?;
+        row.tested(is_reply(alloc, reply, row.text))?;
     }
     Ok(())
 }
@@ -224,11 +252,11 @@ fn collections_under<S: BuildHasher + Default + Copy>(
     alloc: Global,
     state: S,
 ) -> Result<(), Fail> {
-    make_rows(alloc, state, ROWS, 54)?;
-    make_rows(alloc, state, EQUAL_ROWS, 22)?;
+    make_rows(alloc, state, ROWS)?;
+    make_rows(alloc, state, EQUAL_ROWS)?;
     clones::<S>(rt, alloc)?;
-    replies_in_a_run(rt, alloc, state, RUN_ROWS, 19, 0)?;
-    replies_in_a_run(rt, alloc, state, FULL_ROWS, 7, 1)
+    replies_in_a_run(rt, alloc, state, RUN_ROWS, 0)?;
+    replies_in_a_run(rt, alloc, state, FULL_ROWS, 1)
 }
 
 #[test]

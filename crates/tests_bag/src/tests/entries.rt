@@ -2,10 +2,12 @@
 use hashbag::FixedState;
 use std::test::Fail;
 use tests_kit::calls::make_rows;
-use tests_kit::{IdentityState, OneState, ParityState};
+use tests_kit::{IdentityState, OneState, ParityState, Rows};
 
 // `entry` drops an entry at once. `set` and `raise` are `and_modify`, which calls nothing if the entry is vacant.
-const ROWS: &str = "\
+const ROWS: Rows = Rows {
+    count: 47,
+    text: "\
     [lens after entries]
     entry 42 = ()
     len = 0
@@ -57,24 +59,25 @@ const ROWS: &str = "\
     set 1 18446744073709551615 = ()
     len = 18446744073709551615
     insert_many 2 0 = 0
-    contains 2 = 0";
+    contains 2 = 0",
+};
 
 #[test]
 fn entries_of_fixed_state(rt: HostRuntime) -> Result<(), Fail> {
-    make_rows(rt.alloc(), FixedState::new(), ROWS, 47)
+    make_rows(rt.alloc(), FixedState::new(), ROWS)
 }
 
 #[test]
 fn entries_of_one_state(rt: HostRuntime) -> Result<(), Fail> {
-    make_rows(rt.alloc(), OneState, ROWS, 47)
+    make_rows(rt.alloc(), OneState, ROWS)
 }
 
 #[test]
 fn entries_of_parity_state(rt: HostRuntime) -> Result<(), Fail> {
-    make_rows(rt.alloc(), ParityState, ROWS, 47)
+    make_rows(rt.alloc(), ParityState, ROWS)
 }
 
 #[test]
 fn entries_of_identity_state(rt: HostRuntime) -> Result<(), Fail> {
-    make_rows(rt.alloc(), IdentityState, ROWS, 47)
+    make_rows(rt.alloc(), IdentityState, ROWS)
 }

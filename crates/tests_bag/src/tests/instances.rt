@@ -4,15 +4,16 @@
 use hashbag::{BagError, FixedState, HashBag};
 use std::alloc::Global;
 use std::hash::BuildHasher;
-use std::process::Abort;
 use std::test::Fail;
 use tests_kit::calls::{insert, replace};
-use tests_kit::texts::{count, debug_of, halves, is_text, number, rows_of};
-use tests_kit::{IdentityState, OneState, ParityState, Tagged};
+use tests_kit::texts::{count, debug_of, halves, is_text, number, tagged};
+use tests_kit::{IdentityState, OneState, ParityState, Rows, Tagged, rows_of};
 
 // The first instance of a value stays until all of it is taken out or replaced, in a clone too. An entry gives the stored
 // instance, and keeps the given value.
-const ROWS: &str = "\
+const ROWS: Rows = Rows {
+    count: 27,
+    text: "\
     [until replaced]
     insert 1:10 = 0
     insert 1:20 = 1
@@ -20,7 +21,7 @@ const ROWS: &str = "\
     replace 1:30 = 2
     stored 1 = Some((30, 1))
     entry 1:40 = 30
-    set_to_none_and_insert 1:50 = 1
+    set_to_none_and_insert 1:50 = (50, 1)
     stored 1 = Some((50, 1))
     stored 2 = None
 
@@ -33,7 +34,7 @@ const ROWS: &str = "\
 
     [sets to none, and inserts the value handed in]
     insert_many 5:1 3 = 0
-    set_to_none_and_insert 5:2 = 1
+    set_to_none_and_insert 5:2 = (2, 1)
     stored 5 = Some((2, 1))
 
     [collections]
@@ -42,9 +43,10 @@ const ROWS: &str = "\
     equals 1:30 1:10 = (true, true)
     equals 1:10 = (false, false)
     clone = ()
-    stored 1 = Some((10, 2))";
+    stored 1 = Some((10, 2))",
+};
 
-// Each kind of call has a function with no contract, as in `rows`.
+// Each kind of call has a function with no contract, as in `calls` of `tests_kit`.
 
 // The tag of the stored instance with this key, and how often it occurs.
 fn stored<S: BuildHasher + Drop>(bag: &HashBag<Tagged, S>, key: u64) -> Option<(u64, usize)> {
@@ -82,24 +84,14 @@ fn or_insert_many<S: BuildHasher + Drop>(
     bag.entry(value).or_insert_many(n)
 }
 
-// Sets the count to 0, and inserts at the entry that is then vacant. Its value is the given one.
+// Sets the count to 0, and inserts at the entry that is then vacant. Returns the tag of its value, and the count.
 fn set_to_none_and_insert<S: BuildHasher + Drop>(
-    rt: &impl Abort,
     bag: &mut HashBag<Tagged, S>,
     value: Tagged,
-) -> Result<usize, BagError> {
+) -> Result<(u64, usize), BagError> {
     let vacated = bag.entry(value).and_modify(|count: &mut usize| *count = 0)?;
-    assert_eq!(rt; vacated.value().tag, value.tag);
-    vacated.or_insert()
-}
-
-/// The value that is written as `1:10`.
-pub fn tagged(word: &str) -> Result<Tagged, Fail> {
-    let (key, tag) = halves(word, ":")?;
-    Ok(Tagged {
-        key: number(key)?,
-        tag: number(tag)?,
-    })
+    let tag = vacated.value().tag;
+    Ok((tag, vacated.or_insert()?))
 }
 
 // The values of a list as `1:10 1:20`.
@@ -140,7 +132,6 @@ fn no_call(call: &str) -> Result<String, Fail> {
 
 // Returns the text of what a call on one value returns.
 fn with_value<S: BuildHasher + Drop>(
-    rt: &impl Abort,
     alloc: Global,
     bag: &mut HashBag<Tagged, S>,
     verb: &str,
@@ -151,7 +142,7 @@ fn with_value<S: BuildHasher + Drop>(
         "replace" => debug_of(alloc, &replace(bag, value)?),
         "entry" => debug_of(alloc, &entry(bag, value)),
         "or_insert" => debug_of(alloc, &or_insert(bag, value)?),
-        "set_to_none_and_insert" => debug_of(alloc, &set_to_none_and_insert(rt, bag, value)?),
+        "set_to_none_and_insert" => debug_of(alloc, &set_to_none_and_insert(bag, value)?),
         _ => no_call(verb),
     }
 }
@@ -190,7 +181,6 @@ fn with_values<S: BuildHasher + Default + Drop>(
 
 // Returns the text of what a call returns.
 fn answer<S: BuildHasher + Default + Copy>(
-    rt: &impl Abort,
     alloc: Global,
     bag: &mut HashBag<Tagged, S>,
     call: &str,
@@ -206,34 +196,29 @@ fn answer<S: BuildHasher + Default + Copy>(
         "from_iter" | "equals" => {
             with_values(alloc, bag, verb, tagged_values(alloc, rest)?.as_slice())
         }
-        _ => with_value(rt, alloc, bag, verb, tagged(rest)?),
+        _ => with_value(alloc, bag, verb, tagged(rest)?),
     }
 }
 
 // Makes the call of a row.
 fn make_row<S: BuildHasher + Default + Copy>(
-    rt: &impl Abort,
     alloc: Global,
     bag: &mut HashBag<Tagged, S>,
     row: &str,
 ) -> Result<(), Fail> {
     let (call, want) = halves(row, " = ")?;
-    let got = answer(rt, alloc, bag, call)?;
-    is_text(row, got.as_str(), want)
+    let got = answer(alloc, bag, call)?;
+    is_text(got.as_str(), want)
 }
 
 // A row in brackets names the rows after it, which are on a new bag.
-fn make_rows<S: BuildHasher + Default + Copy>(
-    rt: &impl Abort,
-    alloc: Global,
-    state: S,
-) -> Result<(), Fail> {
+fn make_rows<S: BuildHasher + Default + Copy>(alloc: Global, state: S) -> Result<(), Fail> {
     let mut bag = HashBag::with_hasher(alloc, state);
-    for row in rows_of(alloc, ROWS, 27)? {
-        if row.starts_with('[') {
+    for row in rows_of(alloc, ROWS)? {
+        if row.text.starts_with('[') {
             bag = HashBag::with_hasher(alloc, state);
         } else {
-            make_row(rt, alloc, &mut bag, row)?;
+            row.tested(make_row(alloc, &mut bag, row.text))?;
         }
     }
     Ok(())
@@ -242,8 +227,8 @@ fn make_rows<S: BuildHasher + Default + Copy>(
 #[test]
 fn instances_under_each_state(rt: HostRuntime) -> Result<(), Fail> {
     let alloc = rt.alloc();
-    make_rows(&rt, alloc, FixedState::new())?;
-    make_rows(&rt, alloc, OneState)?;
-    make_rows(&rt, alloc, ParityState)?;
-    make_rows(&rt, alloc, IdentityState)
+    make_rows(alloc, FixedState::new())?;
+    make_rows(alloc, OneState)?;
+    make_rows(alloc, ParityState)?;
+    make_rows(alloc, IdentityState)
 }

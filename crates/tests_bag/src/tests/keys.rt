@@ -3,10 +3,13 @@ use hashbag::{BagError, HashBag};
 use hashbag_callers::text_uses::{count_texts, how_often};
 use std::alloc::Global;
 use std::test::Fail;
-use tests_kit::texts::{debug_of, halves, is_text, rows_of};
+use tests_kit::texts::{debug_of, halves, is_text};
+use tests_kit::{Rows, rows_of};
 
 // One bag throughout. Some of the texts are present already.
-const ROWS: &str = "\
+const ROWS: Rows = Rows {
+    count: 22,
+    text: "\
     contains the = 0
     get the = None
     remove the = 0
@@ -28,7 +31,8 @@ const ROWS: &str = "\
     insert_rest the = Ok(4)
     insert the = Err(TooMany)
     insert_none the = Ok(18446744073709551612)
-    contains cat = 3";
+    contains cat = 3",
+};
 
 fn insert(bag: &mut HashBag<String>, word: &str) -> Result<usize, BagError> {
     bag.insert_key(word)
@@ -68,14 +72,18 @@ fn answer(
     }
 }
 
+fn is_answered(alloc: Global, bag: &mut HashBag<String>, row: &str) -> Result<(), Fail> {
+    let (call, want) = halves(row, " = ")?;
+    let (verb, word) = halves(call, " ")?;
+    is_text(answer(alloc, bag, verb, word)?.as_str(), want)
+}
+
 #[test]
 fn calls_by_texts(rt: HostRuntime) -> Result<(), Fail> {
     let alloc = rt.alloc();
     let mut bag = HashBag::new(alloc);
-    for row in rows_of(alloc, ROWS, 22)? {
-        let (call, want) = halves(row, " = ")?;
-        let (verb, word) = halves(call, " ")?;
-        is_text(row, answer(alloc, &mut bag, verb, word)?.as_str(), want)?;
+    for row in rows_of(alloc, ROWS)? {
+        row.tested(is_answered(alloc, &mut bag, row.text))?;
     }
     Ok(())
 }

@@ -5,11 +5,13 @@ use std::alloc::{AllocError, Global};
 use std::hash::BuildHasher;
 use std::test::Fail;
 use tests_kit::calls::{answer, clone_of, make_calls, make_rows};
-use tests_kit::texts::{debug_of, is_text};
-use tests_kit::{IdentityState, OneState, ParityState};
+use tests_kit::texts::{debug_of, is_text_of};
+use tests_kit::{IdentityState, OneState, ParityState, Rows};
 
 // `set` is `and_modify` that sets the count.
-const ROWS: &str = "\
+const ROWS: Rows = Rows {
+    count: 42,
+    text: "\
     [a limit of five]
     with_limit 5 = ()
     insert_many 1 3 = 0
@@ -54,10 +56,13 @@ const ROWS: &str = "\
     limit = 18446744073709551615
     insert 1 = 0
     insert_many 2 18446744073709551615 = TooMany
-    len = 1";
+    len = 1",
+};
 
 // What leaves the limit of a bag, and what ends it.
-const KEPT: &str = "\
+const KEPT: Rows = Rows {
+    count: 26,
+    text: "\
     [calls leave the limit]
     with_limit 9 = ()
     insert_many 1 3 = 0
@@ -83,7 +88,8 @@ const KEPT: &str = "\
     insert_many 7 5 = TooMany
     insert_many 7 4 = 0
     default_in = ()
-    limit = 18446744073709551615";
+    limit = 18446744073709551615",
+};
 
 // Calls that would pass a limit by one. The number that does so is at the end.
 const BY_NUMBER: [&str; 6] = [
@@ -135,8 +141,8 @@ fn changes_nothing<S: BuildHasher + Default + Drop>(
     wanted: &str,
 ) -> Result<(), Fail> {
     let before = state_of(alloc, bag)?;
-    is_text(call, answer(alloc, bag, call)?.as_str(), wanted)?;
-    is_text(call, state_of(alloc, bag)?.as_str(), before.as_str())?;
+    is_text_of(call, answer(alloc, bag, call)?.as_str(), wanted)?;
+    is_text_of(call, state_of(alloc, bag)?.as_str(), before.as_str())?;
     Ok(())
 }
 
@@ -182,8 +188,8 @@ fn refuses_all<S: BuildHasher + Default + Drop>(
     let before = state_of(alloc, bag)?;
     let mut replies = Vec::new(alloc);
     run(bag, steps_past(alloc)?, &mut replies)?;
-    is_text("a run", debug_of(alloc, &replies)?.as_str(), REPLIES_PAST)?;
-    is_text("a run", state_of(alloc, bag)?.as_str(), before.as_str())
+    is_text_of("a run", debug_of(alloc, &replies)?.as_str(), REPLIES_PAST)?;
+    is_text_of("a run", state_of(alloc, bag)?.as_str(), before.as_str())
 }
 
 // A bag of the values from 1 to `last`, with each limit: a limit below the total fails, and so does what would pass one.
@@ -217,19 +223,36 @@ fn make_limited<S: BuildHasher + Default + Drop>(
     changes_nothing(alloc, bag, "extend []", "()")
 }
 
+// A clone that has reached its limit, which is then raised.
+const RAISED: Rows = Rows {
+    count: 4,
+    text: "\
+    limit = 3
+    insert 1 = TooMany
+    set_limit 4 = ()
+    insert 1 = 3",
+};
+
+// Its source, of which the limit is as it was.
+const REACHED: Rows = Rows {
+    count: 2,
+    text: "\
+    limit = 3
+    insert 1 = TooMany",
+};
+
 fn clone_keeps<S: BuildHasher + Default + Copy>(alloc: Global, state: S) -> Result<(), Fail> {
     let mut bag = HashBag::with_limit(alloc, state, 3);
     bag.insert_many(1, 3)?;
     let mut copy = clone_of(&bag)?;
-    let rows = "limit = 3\ninsert 1 = TooMany\nset_limit 4 = ()\ninsert 1 = 3";
-    make_calls(alloc, &mut copy, rows, 4)?;
-    make_calls(alloc, &mut bag, "limit = 3\ninsert 1 = TooMany", 2)
+    make_calls(alloc, &mut copy, RAISED)?;
+    make_calls(alloc, &mut bag, REACHED)
 }
 
 // No values, one, as many as fill the first table, and as many as leave sixteen slots of the older table waiting.
 fn limits_under<S: BuildHasher + Default + Copy>(alloc: Global, state: S) -> Result<(), Fail> {
-    make_rows(alloc, state, ROWS, 42)?;
-    make_rows(alloc, state, KEPT, 26)?;
+    make_rows(alloc, state, ROWS)?;
+    make_rows(alloc, state, KEPT)?;
     clone_keeps(alloc, state)?;
     for last in [0, 1, 12, 25] {
         refuses_each::<S>(alloc, last)?;

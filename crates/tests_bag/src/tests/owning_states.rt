@@ -6,7 +6,7 @@ use std::hash::{BuildHasher, Hasher};
 use std::process::Abort;
 use std::test::Fail;
 use tests_kit::calls::{clone_of, counts_of, insert};
-use tests_kit::texts::is_text;
+use tests_kit::texts::is_text_of;
 
 // How many states are alive, and how many clones of them were asked for.
 #[derive(Drop)]
@@ -93,7 +93,7 @@ fn carrying<'a>(alloc: Global, states: &'a States) -> Result<HashBag<u64, Owning
 
 fn has_all(alloc: Global, bag: &HashBag<u64, Owning<'_>>) -> Result<(), Fail> {
     let counts = counts_of(alloc, bag, &[0, 1, 16, 17, 24, 25, 26])?;
-    is_text("counts", counts.as_str(), "[0, 1, 1, 1, 1, 1, 0]")
+    is_text_of("counts", counts.as_str(), "[0, 1, 1, 1, 1, 1, 0]")
 }
 
 fn builds_tables(bag: &mut HashBag<u64, Owning<'_>>) -> Result<(), BagError> {

@@ -11,25 +11,31 @@ use std::cell::Cell;
 use std::hash::{BuildHasher, Hash, Hasher};
 use std::process::Abort;
 use std::test::Fail;
-use tests_kit::OneState;
 use tests_kit::calls::insert;
-use tests_kit::texts::{count, halves, is_text, rows_of};
+use tests_kit::texts::{count, debug_of, halves, is_text, is_text_of};
+use tests_kit::{OneState, Rows, rows_of};
 
 // The number of the clone that fails, and what an extend by 26, 27, 28 and 27 returns and leaves: the total, the distinct values,
 // the tables, and how many values are alive but for the four given ones.
-const EXTENDS: &str = "\
+const EXTENDS: Rows = Rows {
+    count: 5,
+    text: "\
     1 = Err(Memory), 25 of 25 in (64, 16, 23), 25 alive
     2 = Err(Memory), 26 of 26 in (64, 0, 22), 26 alive
     3 = Err(Memory), 27 of 27 in (64, 0, 21), 27 alive
     4 = Err(Memory), 28 of 28 in (64, 0, 20), 28 alive
-    5 = Ok(()), 29 of 28 in (64, 0, 20), 28 alive";
+    5 = Ok(()), 29 of 28 in (64, 0, 20), 28 alive",
+};
 
 // The same of an extend by as many of each value as its key, but 28 with 0, which is not cloned.
-const EXTENDS_MANY: &str = "\
+const EXTENDS_MANY: Rows = Rows {
+    count: 4,
+    text: "\
     1 = Err(Memory), 25 of 25 in (64, 16, 23), 25 alive
     2 = Err(Memory), 51 of 26 in (64, 0, 22), 26 alive
     3 = Err(Memory), 78 of 27 in (64, 0, 21), 27 alive
-    4 = Ok(()), 105 of 27 in (64, 0, 21), 27 alive";
+    4 = Ok(()), 105 of 27 in (64, 0, 21), 27 alive",
+};
 
 // What becomes of values: how many are alive, how many were cloned, and which clone fails.
 #[derive(Drop)]
@@ -162,17 +168,19 @@ fn state_of<'a, S: BuildHasher + Drop>(
 
 // The keys from 1 to 25 are found.
 fn has_all<'a, S: BuildHasher + Drop>(
-    rt: &impl Abort,
     bag: &HashBag<Costly<'a>, S>,
     lives: &'a Lives,
-) {
+) -> Result<(), Fail> {
     for key in 1..=25 {
-        assert_eq!(rt; bag.contains(&lives.value(key)), 1, "of {key}");
+        let count = bag.contains(&lives.value(key));
+        if count != 1 {
+            return Err(Fail::new(format_args!("{count} of {key}")));
+        }
     }
+    Ok(())
 }
 
 fn extended<S: BuildHasher + Drop>(
-    rt: &impl Abort,
     alloc: Global,
     state: S,
     lives: &Lives,
@@ -192,13 +200,12 @@ fn extended<S: BuildHasher + Drop>(
     };
     drop(values);
     let alive = lives.alive.get();
-    has_all(rt, &bag, lives);
+    has_all(&bag, lives)?;
     let state = state_of(alloc, &bag)?;
     Ok(format!(in alloc; "{answer:?}, {state}, {alive} alive")?)
 }
 
 fn is_extended<S: BuildHasher + Drop>(
-    rt: &impl Abort,
     alloc: Global,
     state: S,
     row: &str,
@@ -206,10 +213,13 @@ fn is_extended<S: BuildHasher + Drop>(
 ) -> Result<(), Fail> {
     let (refused, want) = halves(row, " = ")?;
     let lives = Lives::new(count(refused)?);
-    let got = extended(rt, alloc, state, &lives, many)?;
-    is_text(row, got.as_str(), want)?;
-    assert_eq!(rt; lives.alive.get(), 0, "after {row}");
-    Ok(())
+    let got = extended(alloc, state, &lives, many)?;
+    is_text(got.as_str(), want)?;
+    is_text_of(
+        "alive after it",
+        debug_of(alloc, &lives.alive.get())?.as_str(),
+        "0",
+    )
 }
 
 // If a clone of the bag fails there is none, and all clones of values that were made are dropped.
@@ -232,8 +242,8 @@ fn is_cloned<S: BuildHasher + Clone + Drop>(
         ),
     }
     assert_eq!(rt; lives.alive.get(), 25, "after clone {refused}");
-    has_all(rt, &bag, &lives);
-    is_text(
+    has_all(&bag, &lives)?;
+    is_text_of(
         "a source",
         state_of(alloc, &bag)?.as_str(),
         "25 of 25 in (64, 16, 23)",
@@ -248,11 +258,11 @@ fn clones_under<S: BuildHasher + Copy>(
     alloc: Global,
     state: S,
 ) -> Result<(), Fail> {
-    for row in rows_of(alloc, EXTENDS, 5)? {
-        is_extended(rt, alloc, state, row, false)?;
+    for row in rows_of(alloc, EXTENDS)? {
+        row.tested(is_extended(alloc, state, row.text, false))?;
     }
-    for row in rows_of(alloc, EXTENDS_MANY, 4)? {
-        is_extended(rt, alloc, state, row, true)?;
+    for row in rows_of(alloc, EXTENDS_MANY)? {
+        row.tested(is_extended(alloc, state, row.text, true))?;
     }
     for refused in 1..=26 {
         is_cloned(rt, alloc, state, refused)?;

@@ -5,8 +5,8 @@ use std::hash::BuildHasher;
 use std::process::Abort;
 use std::test::Fail;
 use tests_kit::calls::make_calls;
-use tests_kit::texts::{debug_of, is_text};
-use tests_kit::{IdentityState, OneState, ParityState};
+use tests_kit::texts::{debug_of, is_text_of};
+use tests_kit::{IdentityState, OneState, ParityState, Rows};
 
 // How many distinct values the bags have for which room is made.
 const SIZES: [u64; 8] = [0, 1, 5, 12, 13, 24, 25, 100];
@@ -21,7 +21,9 @@ const BEGINNINGS: [(usize, usize, usize); 5] = [
 ];
 
 // What the calls of a bag return that began with room for 100 values.
-const GIVEN_BACK: &str = "\
+const GIVEN_BACK: Rows = Rows {
+    count: 11,
+    text: "\
     insert 1 = 0
     insert 2 = 0
     capacity = 192
@@ -32,7 +34,8 @@ const GIVEN_BACK: &str = "\
     tables = (16, 0, 12)
     shrink_to_fit = ()
     tables = (0, 0, 0)
-    capacity = 0";
+    capacity = 0",
+};
 
 // Room is made for more values, up to this number.
 const MOST: usize = 40;
@@ -191,15 +194,15 @@ fn fixed_state_by_default(rt: HostRuntime) -> Result<(), Fail> {
 #[test]
 fn room_is_given_back(rt: HostRuntime) -> Result<(), Fail> {
     let mut bag = of_fixed_state(rt.alloc(), 100)?;
-    make_calls(rt.alloc(), &mut bag, GIVEN_BACK, 11)
+    make_calls(rt.alloc(), &mut bag, GIVEN_BACK)
 }
 
 #[test]
 fn no_room_and_too_much(rt: HostRuntime) -> Result<(), Fail> {
     let alloc = rt.alloc();
     let none = debug_of(alloc, &capacity_of(alloc, 0))?;
-    is_text("no room", none.as_str(), "Ok(0)")?;
+    is_text_of("no room", none.as_str(), "Ok(0)")?;
     let much = debug_of(alloc, &capacity_of(alloc, MOST_VALUES + 1))?;
-    is_text("too much", much.as_str(), "Err(Memory)")?;
+    is_text_of("too much", much.as_str(), "Err(Memory)")?;
     Ok(())
 }

@@ -5,7 +5,7 @@ use std::hash::{BuildHasher, Hash};
 use std::test::Fail;
 use tests_kit::OneState;
 use tests_kit::calls::insert;
-use tests_kit::texts::is_text;
+use tests_kit::texts::is_text_of;
 
 // Values made of numbers.
 trait Made: Eq + Hash + Copy + Drop {
@@ -115,7 +115,7 @@ fn sized<T: Made, S: BuildHasher + Copy>(
     let got = format!(in alloc;
         "{first}, removed {removed}, taken {taken}, walked {walked:?}, drained {drained}"
     )?;
-    is_text("sizes", got.as_str(), wanted)
+    is_text_of("sizes", got.as_str(), wanted)
 }
 
 const OF_NOTHING: &str =

@@ -5,10 +5,12 @@ use std::alloc::Global;
 use std::hash::BuildHasher;
 use std::test::Fail;
 use tests_kit::calls::{bag_of, clone_of, insert, make_calls, make_rows, remove};
-use tests_kit::{IdentityState, OneState, ParityState};
+use tests_kit::{IdentityState, OneState, ParityState, Rows};
 
 // `tables` returns the slots of the newer table, the slots that wait, and the room.
-const ROWS: &str = "\
+const ROWS: Rows = Rows {
+    count: 286,
+    text: "\
     [no table]
     tables = (0, 0, 0)
     capacity = 0
@@ -316,11 +318,14 @@ const ROWS: &str = "\
     [has nothing to give back]
     insert_each [1, 2, 3, 4, 5, 6, 7, 8, 9, 10, 11, 12, 13, 14, 15, 16, 17, 18, 19, 20, 21, 22, 23, 24, 25] = ()
     shrink_to_fit = ()
-    tables = (64, 16, 23)";
+    tables = (64, 16, 23)",
+};
 
 // Which values wait depends on the hash. Where it is 0 for all, the values 17 to 24 wait, and a value that is taken out leaves more
 // room only there.
-const ONE_ROWS: &str = "\
+const ONE_ROWS: Rows = Rows {
+    count: 32,
+    text: "\
     [takes out of both tables]
     insert_each [1, 2, 3, 4, 5, 6, 7, 8, 9, 10, 11, 12, 13, 14, 15, 16, 17, 18, 19, 20, 21, 22, 23, 24, 25] = ()
     remove 24 = 1
@@ -354,13 +359,17 @@ const ONE_ROWS: &str = "\
     tables = (64, 16, 31)
     capacity = 31
     insert 3 = 0
-    set_len = 1";
+    set_len = 1",
+};
 
 // What the calls of a clone return, of a bag in the middle of a carry.
-const CLONE: &str = "\
+const CLONE: Rows = Rows {
+    count: 3,
+    text: "\
     tables = (64, 0, 23)
     set_len = 25
-    counts [0, 1, 2, 3, 4, 5, 6, 7, 8, 9, 10, 11, 12, 13, 14, 15, 16, 17, 18, 19, 20, 21, 22, 23, 24, 25, 26] = [0, 1, 1, 1, 1, 1, 1, 1, 1, 1, 1, 1, 1, 1, 1, 1, 1, 1, 1, 1, 1, 1, 1, 1, 1, 1, 0]";
+    counts [0, 1, 2, 3, 4, 5, 6, 7, 8, 9, 10, 11, 12, 13, 14, 15, 16, 17, 18, 19, 20, 21, 22, 23, 24, 25, 26] = [0, 1, 1, 1, 1, 1, 1, 1, 1, 1, 1, 1, 1, 1, 1, 1, 1, 1, 1, 1, 1, 1, 1, 1, 1, 1, 0]",
+};
 
 // Each value is inserted and at once removed: Removed slots are used again, or a table of the same size takes the place of the
 // one that has no room.
@@ -397,7 +406,7 @@ fn cloned_in_a_carry<S: BuildHasher + Default + Copy>(alloc: Global, state: S) -
         ],
     )?;
     let mut clone = clone_of(&bag)?;
-    make_calls(alloc, &mut clone, CLONE, 3)?;
+    make_calls(alloc, &mut clone, CLONE)?;
     if clone != bag {
         return Err(Fail::new("a clone differs"));
     }
@@ -405,7 +414,7 @@ fn cloned_in_a_carry<S: BuildHasher + Default + Copy>(alloc: Global, state: S) -
 }
 
 fn tables_under<S: BuildHasher + Default + Copy>(alloc: Global, state: S) -> Result<(), Fail> {
-    make_rows(alloc, state, ROWS, 286)?;
+    make_rows(alloc, state, ROWS)?;
     thousand_in_and_out(alloc, state)?;
     cloned_in_a_carry(alloc, state)
 }
@@ -418,7 +427,7 @@ fn tables_of_fixed_state(rt: HostRuntime) -> Result<(), Fail> {
 #[test]
 fn tables_of_one_state(rt: HostRuntime) -> Result<(), Fail> {
     tables_under(rt.alloc(), OneState)?;
-    make_rows(rt.alloc(), OneState, ONE_ROWS, 32)
+    make_rows(rt.alloc(), OneState, ONE_ROWS)
 }
 
 #[test]

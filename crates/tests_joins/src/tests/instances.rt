@@ -3,7 +3,7 @@ use hashbag::HashBag;
 use std::alloc::Global;
 use std::hash::BuildHasher;
 use std::test::Fail;
-use tests_kit::texts::{debug_of, is_text};
+use tests_kit::texts::{debug_of, is_text_of};
 use tests_kit::{IdentityState, OneState, Tagged};
 
 // A bag of values with these keys and tags, each so often.
@@ -39,14 +39,14 @@ fn instances_of_outer_joins(rt: HostRuntime) -> Result<(), Fail> {
     let a: HashBag<Tagged, OneState> = tagged(alloc, &[(1, 10, 2)])?;
     let b: HashBag<Tagged, IdentityState> = tagged(alloc, &[(1, 20, 1), (2, 21, 1)])?;
     let items = joined(alloc, &a, &b)?;
-    is_text(
+    is_text_of(
         "a with b",
         debug_of(alloc, &items)?.as_str(),
         "[(1, 10, 2, 1), (2, 21, 0, 1)]",
     )?;
     let mut items = joined(alloc, &b, &a)?;
     items.sort_unstable();
-    is_text(
+    is_text_of(
         "b with a",
         debug_of(alloc, &items)?.as_str(),
         "[(1, 20, 1, 2), (2, 21, 1, 0)]",

@@ -7,12 +7,14 @@ use std::fmt::Debug;
 use std::hash::BuildHasher;
 use std::test::Fail;
 use tests_kit::calls::{bag_of_counts, insert};
-use tests_kit::texts::{counts, debug_of, halves, is_text, number, rows_of, values};
-use tests_kit::{IdentityState, OneState, ParityState};
+use tests_kit::texts::{counts, debug_of, halves, is_text, number, values};
+use tests_kit::{IdentityState, OneState, ParityState, Rows, rows_of};
 
 // A join, two bags, and the items of the join, values rising. A bag in brackets is collected from these values; else each value is
 // inserted as often as its number. Bags of 25 values are in the middle of a carry.
-const JOINS: &str = "
+const JOINS: Rows = Rows {
+    count: 65,
+    text: "
     difference | [] | [] | []
     difference | [] | [1] | []
     difference | [] | [1, 1] | []
@@ -77,11 +79,14 @@ const JOINS: &str = "
     difference | 13:2 14:2 15:2 16:2 17:2 18:2 19:2 20:2 21:2 22:2 23:2 24:2 25:2 26:2 27:2 28:2 29:2 30:2 31:2 32:2 33:2 34:2 35:2 36:2 37:2 | 1:1 2:1 3:1 4:1 5:1 6:1 7:1 8:1 9:1 10:1 11:1 12:1 13:1 14:1 15:1 16:1 17:1 18:1 19:1 20:1 21:1 22:1 23:1 24:1 25:1 | [(13, 1), (14, 1), (15, 1), (16, 1), (17, 1), (18, 1), (19, 1), (20, 1), (21, 1), (22, 1), (23, 1), (24, 1), (25, 1), (26, 2), (27, 2), (28, 2), (29, 2), (30, 2), (31, 2), (32, 2), (33, 2), (34, 2), (35, 2), (36, 2), (37, 2)]
     signed_difference | 1:1 2:1 3:1 4:1 5:1 6:1 7:1 8:1 9:1 10:1 11:1 12:1 13:1 14:1 15:1 16:1 17:1 18:1 19:1 20:1 21:1 22:1 23:1 24:1 25:1 | 13:2 14:2 15:2 16:2 17:2 18:2 19:2 20:2 21:2 22:2 23:2 24:2 25:2 26:2 27:2 28:2 29:2 30:2 31:2 32:2 33:2 34:2 35:2 36:2 37:2 | [(1, 1), (2, 1), (3, 1), (4, 1), (5, 1), (6, 1), (7, 1), (8, 1), (9, 1), (10, 1), (11, 1), (12, 1), (13, -1), (14, -1), (15, -1), (16, -1), (17, -1), (18, -1), (19, -1), (20, -1), (21, -1), (22, -1), (23, -1), (24, -1), (25, -1), (26, -2), (27, -2), (28, -2), (29, -2), (30, -2), (31, -2), (32, -2), (33, -2), (34, -2), (35, -2), (36, -2), (37, -2)]
     not_in | 1:1 2:1 3:1 4:1 5:1 6:1 7:1 8:1 9:1 10:1 11:1 12:1 13:1 14:1 15:1 16:1 17:1 18:1 19:1 20:1 21:1 22:1 23:1 24:1 25:1 | 13:2 14:2 15:2 16:2 17:2 18:2 19:2 20:2 21:2 22:2 23:2 24:2 25:2 26:2 27:2 28:2 29:2 30:2 31:2 32:2 33:2 34:2 35:2 36:2 37:2 | [(1, 1), (2, 1), (3, 1), (4, 1), (5, 1), (6, 1), (7, 1), (8, 1), (9, 1), (10, 1), (11, 1), (12, 1)]
-    not_in | 13:2 14:2 15:2 16:2 17:2 18:2 19:2 20:2 21:2 22:2 23:2 24:2 25:2 26:2 27:2 28:2 29:2 30:2 31:2 32:2 33:2 34:2 35:2 36:2 37:2 | 1:1 2:1 3:1 4:1 5:1 6:1 7:1 8:1 9:1 10:1 11:1 12:1 13:1 14:1 15:1 16:1 17:1 18:1 19:1 20:1 21:1 22:1 23:1 24:1 25:1 | [(26, 2), (27, 2), (28, 2), (29, 2), (30, 2), (31, 2), (32, 2), (33, 2), (34, 2), (35, 2), (36, 2), (37, 2)]";
+    not_in | 13:2 14:2 15:2 16:2 17:2 18:2 19:2 20:2 21:2 22:2 23:2 24:2 25:2 26:2 27:2 28:2 29:2 30:2 31:2 32:2 33:2 34:2 35:2 36:2 37:2 | 1:1 2:1 3:1 4:1 5:1 6:1 7:1 8:1 9:1 10:1 11:1 12:1 13:1 14:1 15:1 16:1 17:1 18:1 19:1 20:1 21:1 22:1 23:1 24:1 25:1 | [(26, 2), (27, 2), (28, 2), (29, 2), (30, 2), (31, 2), (32, 2), (33, 2), (34, 2), (35, 2), (36, 2), (37, 2)]",
+};
 
 // A join, two bags, and what the join returns step by step: the fewest and the most items that may be left, and then `+` where an item
 // is given or `-` if none is. With `/` between them, one of several results is right, since values are looked up in no particular order.
-const STEPS: &str = "
+const STEPS: Rows = Rows {
+    count: 18,
+    text: "
     difference | [3, 2, 1] | [] | 0..3+ 0..2+ 0..1+ 0..0- 0..0-
     not_in | [1, 2, 3] | [] | 0..3+ 0..2+ 0..1+ 0..0- 0..0-
     outer_join | [1, 2, 3] | [4, 5, 5] | 3..5+ 2..4+ 1..3+ 0..2+ 0..1+ 0..0- 0..0-
@@ -99,16 +104,20 @@ const STEPS: &str = "
     outer_join | 40:1 | 1:1 2:1 3:1 4:1 5:1 6:1 7:1 8:1 9:1 10:1 11:1 12:1 13:1 14:1 15:1 16:1 17:1 18:1 19:1 20:1 21:1 22:1 23:1 24:1 25:1 | 1..26+ 0..25+ 0..24+ 0..23+ 0..22+ 0..21+ 0..20+ 0..19+ 0..18+ 0..17+ 0..16+ 0..15+ 0..14+ 0..13+ 0..12+ 0..11+ 0..10+ 0..9+ 0..8+ 0..7+ 0..6+ 0..5+ 0..4+ 0..3+ 0..2+ 0..1+ 0..0- 0..0-
     signed_difference | 40:1 | 1:1 2:1 3:1 4:1 5:1 6:1 7:1 8:1 9:1 10:1 11:1 12:1 13:1 14:1 15:1 16:1 17:1 18:1 19:1 20:1 21:1 22:1 23:1 24:1 25:1 | 1..26+ 0..25+ 0..24+ 0..23+ 0..22+ 0..21+ 0..20+ 0..19+ 0..18+ 0..17+ 0..16+ 0..15+ 0..14+ 0..13+ 0..12+ 0..11+ 0..10+ 0..9+ 0..8+ 0..7+ 0..6+ 0..5+ 0..4+ 0..3+ 0..2+ 0..1+ 0..0- 0..0-
     difference | 40:1 | 1:1 2:1 3:1 4:1 5:1 6:1 7:1 8:1 9:1 10:1 11:1 12:1 13:1 14:1 15:1 16:1 17:1 18:1 19:1 20:1 21:1 22:1 23:1 24:1 25:1 | 0..1+ 0..0- 0..0-
-    not_in | 40:1 | 1:1 2:1 3:1 4:1 5:1 6:1 7:1 8:1 9:1 10:1 11:1 12:1 13:1 14:1 15:1 16:1 17:1 18:1 19:1 20:1 21:1 22:1 23:1 24:1 25:1 | 0..1+ 0..0- 0..0-";
+    not_in | 40:1 | 1:1 2:1 3:1 4:1 5:1 6:1 7:1 8:1 9:1 10:1 11:1 12:1 13:1 14:1 15:1 16:1 17:1 18:1 19:1 20:1 21:1 22:1 23:1 24:1 25:1 | 0..1+ 0..0- 0..0-",
+};
 
 // A value, and how many more of it one bag has than another.
-const EXCESSES: &str = "
+const EXCESSES: Rows = Rows {
+    count: 6,
+    text: "
     4 | 1
     5 | 3
     6 | 1
     7 | 0
     8 | 0
-    1 | 0";
+    1 | 0",
+};
 
 /// The bag of a list of values, or with the counts of a text.
 pub fn bag_of<S: BuildHasher + Default + Drop>(
@@ -194,7 +203,7 @@ fn is_joined<S: BuildHasher + Default + Drop, S2: BuildHasher + Default + Drop>(
     let (join, first, second, wanted) = quarters(row)?;
     let (a, b) = bags_of::<S, S2>(alloc, first, second)?;
     let got = joined(alloc, join, &a, &b)?;
-    is_text(row, got.as_str(), wanted)
+    is_text(got.as_str(), wanted)
 }
 
 // A step of a join: the size hint before it, and whether an item was given.
@@ -288,12 +297,12 @@ fn counts_of<S: BuildHasher + Drop>(alloc: Global, bag: &HashBag<u64, S>) -> Res
 }
 
 // Checks the first steps of a join.
-fn has_steps(row: &str, got: &str, wanted: &str, steps: usize) -> Result<(), Fail> {
+fn has_steps(got: &str, wanted: &str, steps: usize) -> Result<(), Fail> {
     let as_wanted = steps_as_wanted(got, wanted);
     if as_wanted == steps {
         return Ok(());
     }
-    Err(Fail::new(format_args!("{as_wanted} of {steps} steps as wanted: {got}in the row: {row}")))
+    Err(Fail::new(format_args!("{as_wanted} of {steps} steps as wanted: {got}")))
 }
 
 // All counts of a bag, and its slots, those that wait, and its room.
@@ -304,23 +313,22 @@ fn state_of<S: BuildHasher + Drop>(alloc: Global, bag: &HashBag<u64, S>) -> Resu
 }
 
 // A bag of 25 values is in the middle of a carry.
-fn carries(row: &str, text: &str, state: &str) -> Result<(), Fail> {
+fn carries(text: &str, state: &str) -> Result<(), Fail> {
     if number_of_words(text) < 25 || state.ends_with("in 64 16 23") {
         return Ok(());
     }
-    Err(Fail::new(format_args!("no carry, but {state}, in the row: {row}")))
+    Err(Fail::new(format_args!("no carry, but {state}")))
 }
 
 // A bag is as it was, and takes a value in.
 fn is_as_before<S: BuildHasher + Drop>(
     alloc: Global,
-    row: &str,
     bag: &mut HashBag<u64, S>,
     before: &str,
 ) -> Result<(), Fail> {
-    is_text(row, state_of(alloc, bag)?.as_str(), before)?;
+    is_text(state_of(alloc, bag)?.as_str(), before)?;
     let inserted = (insert(bag, 1000)?, bag.contains(&1000));
-    is_text(row, debug_of(alloc, &inserted)?.as_str(), "(0, 1)")
+    is_text(debug_of(alloc, &inserted)?.as_str(), "(0, 1)")
 }
 
 // A join that is dropped after some steps leaves both bags as they were.
@@ -332,12 +340,12 @@ fn is_stepped<S: BuildHasher + Default + Drop, S2: BuildHasher + Default + Drop>
     let (join, first, second, wanted) = quarters(row)?;
     let (mut a, mut b) = bags_of::<S, S2>(alloc, first, second)?;
     let before = (state_of(alloc, &a)?, state_of(alloc, &b)?);
-    carries(row, first, before.0.as_str())?;
-    carries(row, second, before.1.as_str())?;
+    carries(first, before.0.as_str())?;
+    carries(second, before.1.as_str())?;
     let got = steps_of(alloc, join, &a, &b, steps)?;
-    has_steps(row, got.as_str(), wanted, steps)?;
-    is_as_before(alloc, row, &mut a, before.0.as_str())?;
-    is_as_before(alloc, row, &mut b, before.1.as_str())
+    has_steps(got.as_str(), wanted, steps)?;
+    is_as_before(alloc, &mut a, before.0.as_str())?;
+    is_as_before(alloc, &mut b, before.1.as_str())
 }
 
 // A join, dropped after each number of its steps.
@@ -356,11 +364,11 @@ fn is_dropped_after_each<S: BuildHasher + Default + Drop, S2: BuildHasher + Defa
 fn joins_under<S: BuildHasher + Default + Drop, S2: BuildHasher + Default + Drop>(
     alloc: Global,
 ) -> Result<(), Fail> {
-    for row in rows_of(alloc, JOINS, 65)? {
-        is_joined::<S, S2>(alloc, row)?;
+    for row in rows_of(alloc, JOINS)? {
+        row.tested(is_joined::<S, S2>(alloc, row.text))?;
     }
-    for row in rows_of(alloc, STEPS, 18)? {
-        is_dropped_after_each::<S, S2>(alloc, row)?;
+    for row in rows_of(alloc, STEPS)? {
+        row.tested(is_dropped_after_each::<S, S2>(alloc, row.text))?;
     }
     Ok(())
 }
@@ -410,15 +418,15 @@ fn is_excess<S: BuildHasher + Drop, S2: BuildHasher + Drop>(
 ) -> Result<(), Fail> {
     let (value, wanted) = halves(row, "|")?;
     let got = debug_of(alloc, &excess(a, b, number(value)?))?;
-    is_text(row, got.as_str(), wanted)
+    is_text(got.as_str(), wanted)
 }
 
 #[test]
 fn excesses_one_by_one(rt: HostRuntime) -> Result<(), Fail> {
     let alloc = rt.alloc();
     let (a, b) = bags_of::<OneState, IdentityState>(alloc, "4:1 5:3 6:2 7:1", "6:1 7:3 8:1 9:2")?;
-    for row in rows_of(alloc, EXCESSES, 6)? {
-        is_excess(alloc, &a, &b, row)?;
+    for row in rows_of(alloc, EXCESSES)? {
+        row.tested(is_excess(alloc, &a, &b, row.text))?;
     }
     Ok(())
 }

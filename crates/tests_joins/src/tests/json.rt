@@ -7,12 +7,14 @@ use std::fmt::{Debug, Display};
 use std::hash::{BuildHasher, Hash};
 use std::process::Abort;
 use std::test::Fail;
-use tests_kit::texts::{debug_of, halves, is_text, rows_of};
-use tests_kit::{IdentityState, Named, OneState, ParityState};
+use tests_kit::texts::{debug_of, halves, is_text, is_text_of};
+use tests_kit::{IdentityState, Named, OneState, ParityState, Rows, rows_of};
 
 // What the items are, a tree, and why it can't be read, or else the total of its bag, the number of distinct values, and the tree that is
 // written of it.
-const TREES: &str = r#"
+const TREES: Rows = Rows {
+    count: 40,
+    text: r#"
     String | null | NotAnArray
     String | true | NotAnArray
     String | 5 | NotAnArray
@@ -52,10 +54,13 @@ const TREES: &str = r#"
     u64 | [[10,1],[9,2]] | 3 2 [[9,2],[10,1]]
     Named | [[{"name":"Einar"},1],[{"name":"Olaf"},1],[{"name":"Olaf"},1],[{"name":"Harald"},2],[{"name":"Harald"},1]] | 6 3 [[{"name":"Einar"},1],[{"name":"Harald"},3],[{"name":"Olaf"},2]]
     String | [["Einar",1],["Olaf",2],["Harald",3]] | 6 3 [["Einar",1],["Harald",3],["Olaf",2]]
-    Named | [[{"name":"Einar"},1],[{"name":"Olaf"},2],[{"name":"Harald"},3]] | 6 3 [[{"name":"Einar"},1],[{"name":"Harald"},3],[{"name":"Olaf"},2]]"#;
+    Named | [[{"name":"Einar"},1],[{"name":"Olaf"},2],[{"name":"Harald"},3]] | 6 3 [[{"name":"Einar"},1],[{"name":"Harald"},3],[{"name":"Olaf"},2]]"#,
+};
 
 // The same of trees with a limit, and of what is no such tree.
-const LIMITED_TREES: &str = r#"
+const LIMITED_TREES: Rows = Rows {
+    count: 26,
+    text: r#"
     String | {"limit":5,"pairs":[["b",3],["a",2]]} | 5 2 {"limit":5,"pairs":[["a",2],["b",3]]}
     String | {"pairs":[["b",3],["a",2]],"limit":6} | 5 2 {"limit":6,"pairs":[["a",2],["b",3]]}
     String | {"limit":4,"pairs":[["a",2],["b",3]]} | TooMany(1)
@@ -81,7 +86,8 @@ const LIMITED_TREES: &str = r#"
     String | {"limit":18446744073709551615,"pairs":[["a",1]]} | 1 1 [["a",1]]
     String | {"limit":18446744073709551614,"pairs":[["a",18446744073709551614],["b",0]]} | 18446744073709551614 1 {"limit":18446744073709551614,"pairs":[["a",18446744073709551614]]}
     u64 | {"limit":3,"pairs":[[7,2],[6,1]]} | 3 2 {"limit":3,"pairs":[[6,1],[7,2]]}
-    Named | {"limit":2,"pairs":[[{"name":"Olaf"},2]]} | 2 1 {"limit":2,"pairs":[[{"name":"Olaf"},2]]}"#;
+    Named | {"limit":2,"pairs":[[{"name":"Olaf"},2]]} | 2 1 {"limit":2,"pairs":[[{"name":"Olaf"},2]]}"#,
+};
 
 // What bags of inserted texts and names are written as.
 const TEXTS: &str = r#"6 3 [["Einar",1],["Harald",3],["Olaf",2]]"#;
@@ -89,18 +95,24 @@ const TEXTS: &str = r#"6 3 [["Einar",1],["Harald",3],["Olaf",2]]"#;
 const NAMES: &str = r#"6 3 [[{"name":"Einar"},1],[{"name":"Harald"},3],[{"name":"Olaf"},2]]"#;
 
 // Each error, its number and its text.
-const JSON_ERRORS: &str = "
+const JSON_ERRORS: Rows = Rows {
+    count: 7,
+    text: "
     NotAnArray | 3 | not an array
     NotAPair(0) | 4 | pair 0: not a pair
     BadCount(1) | 5 | pair 1: bad count
     BadItem(2) | 6 | pair 2: bad item
     TooMany(3) | 7 | pair 3: total past its end
     Memory | 8 | no memory
-    BadLimit | 10 | bad limit";
+    BadLimit | 10 | bad limit",
+};
 
-const ITEM_ERRORS: &str = "
+const ITEM_ERRORS: Rows = Rows {
+    count: 2,
+    text: "
     NotAnItem | 11 | not an item
-    Memory | 12 | no memory";
+    Memory | 12 | no memory",
+};
 
 pub fn tree_of(alloc: Global, text: &str) -> Result<Value, Fail> {
     match Value::from_str(alloc, text) {
@@ -140,21 +152,24 @@ fn are_equal<T: JsonItem + Hash + Drop, S: BuildHasher + Drop>(
 
 // What a bag is written as is read back as an equal bag with the same limit.
 fn is_read_again<T: JsonItem + Ord + Hash + Drop, S: BuildHasher + Default + Drop>(
-    rt: &impl Abort,
     alloc: Global,
-    row: &str,
     bag: &HashBag<T, S>,
 ) -> Result<(), Fail> {
     let again: HashBag<T, S> = read_again(alloc, bag).ok().ok_or("a bag")?;
-    assert!(rt; are_equal(&again, bag), "read again: {row}");
-    assert_eq!(rt; again.limit(), bag.limit(), "read again: {row}");
-    assert!(rt; have_one_text(alloc, &again, bag)?, "written again: {row}");
-    Ok(())
+    let same = (
+        are_equal(&again, bag),
+        again.limit() == bag.limit(),
+        have_one_text(alloc, &again, bag)?,
+    );
+    is_text_of(
+        "the bag, the limit and the text",
+        debug_of(alloc, &same)?.as_str(),
+        "(true, true, true)",
+    )
 }
 
 // Returns the text of what the reading of a text returns.
 fn answer_of<T: JsonItem + Ord + Hash + Drop, S: BuildHasher + Default + Drop>(
-    rt: &impl Abort,
     alloc: Global,
     text: &str,
 ) -> Result<String, Fail> {
@@ -162,67 +177,55 @@ fn answer_of<T: JsonItem + Ord + Hash + Drop, S: BuildHasher + Default + Drop>(
     let read: Result<HashBag<T, S>, JsonError> = HashBag::from_value(alloc, &tree);
     match read {
         Ok(bag) => {
-            is_read_again(rt, alloc, text, &bag)?;
+            is_read_again(alloc, &bag)?;
             written(alloc, &bag)
         }
         Err(error) => debug_of(alloc, &error),
     }
 }
 
-// Under each state.
-fn is_answered<T: JsonItem + Ord + Hash + Drop>(
-    rt: &impl Abort,
+fn is_answered_under<T: JsonItem + Ord + Hash + Drop, S: BuildHasher + Default + Drop>(
     alloc: Global,
     text: &str,
     wanted: &str,
 ) -> Result<(), Fail> {
-    is_text(
-        text,
-        answer_of::<T, FixedState>(rt, alloc, text)?.as_str(),
-        wanted,
-    )?;
-    is_text(
-        text,
-        answer_of::<T, OneState>(rt, alloc, text)?.as_str(),
-        wanted,
-    )?;
-    is_text(
-        text,
-        answer_of::<T, ParityState>(rt, alloc, text)?.as_str(),
-        wanted,
-    )?;
-    is_text(
-        text,
-        answer_of::<T, IdentityState>(rt, alloc, text)?.as_str(),
-        wanted,
-    )?;
-    Ok(())
+    is_text(answer_of::<T, S>(alloc, text)?.as_str(), wanted)
+}
+
+// Under each state.
+fn is_answered<T: JsonItem + Ord + Hash + Drop>(
+    alloc: Global,
+    text: &str,
+    wanted: &str,
+) -> Result<(), Fail> {
+    is_answered_under::<T, FixedState>(alloc, text, wanted)?;
+    is_answered_under::<T, OneState>(alloc, text, wanted)?;
+    is_answered_under::<T, ParityState>(alloc, text, wanted)?;
+    is_answered_under::<T, IdentityState>(alloc, text, wanted)
 }
 
 // The items of a row are of one of four types.
-fn is_answered_as(
-    rt: &impl Abort,
-    alloc: Global,
-    items: &str,
-    text: &str,
-    wanted: &str,
-) -> Result<(), Fail> {
+fn is_answered_as(alloc: Global, items: &str, text: &str, wanted: &str) -> Result<(), Fail> {
     match items {
-        "String" => is_answered::<String>(rt, alloc, text, wanted),
-        "u64" => is_answered::<u64>(rt, alloc, text, wanted),
-        "i64" => is_answered::<i64>(rt, alloc, text, wanted),
-        "Named" => is_answered::<Named>(rt, alloc, text, wanted),
+        "String" => is_answered::<String>(alloc, text, wanted),
+        "u64" => is_answered::<u64>(alloc, text, wanted),
+        "i64" => is_answered::<i64>(alloc, text, wanted),
+        "Named" => is_answered::<Named>(alloc, text, wanted),
         _ => Err(Fail::new(format_args!("no items: {items}"))),
     }
 }
 
+fn tree_is_answered(alloc: Global, row: &str) -> Result<(), Fail> {
+    let (items, rest) = halves(row, "|")?;
+    let (text, answer) = halves(rest, "|")?;
+    is_answered_as(alloc, items, text, answer)
+}
+
 #[test]
 fn trees_are_answered(rt: HostRuntime) -> Result<(), Fail> {
-    for (rows, wanted) in [(TREES, 40), (LIMITED_TREES, 26)] {
-        for row in rows_of(rt.alloc(), rows, wanted)? {
-            let (items, rest) = halves(row, "|")?;
-            let (text, answer) = halves(rest, "|")?;
-            is_answered_as(&rt, rt.alloc(), items, text, answer)?;
+    for rows in [TREES, LIMITED_TREES] {
+        for row in rows_of(rt.alloc(), rows)? {
+            row.tested(tree_is_answered(rt.alloc(), row.text))?;
         }
     }
     Ok(())
@@ -230,7 +233,6 @@ fn trees_are_answered(rt: HostRuntime) -> Result<(), Fail> {
 
 // A bag of values inserted so often is written so, and read back as an equal one.
 fn inserted_are_written<T: JsonItem + Ord + Hash + Drop, S: BuildHasher + Default + Drop>(
-    rt: &impl Abort,
     alloc: Global,
     pairs: Vec<(T, usize)>,
     wanted: &str,
@@ -239,8 +241,8 @@ fn inserted_are_written<T: JsonItem + Ord + Hash + Drop, S: BuildHasher + Defaul
     for (value, n) in pairs {
         bag.insert_many(value, n)?;
     }
-    is_text("inserted", written(alloc, &bag)?.as_str(), wanted)?;
-    is_read_again(rt, alloc, wanted, &bag)
+    is_text_of("inserted", written(alloc, &bag)?.as_str(), wanted)?;
+    is_read_again(alloc, &bag)
 }
 
 fn text(alloc: Global, name: &str) -> Result<String, AllocError> {
@@ -253,30 +255,27 @@ fn named(alloc: Global, name: &str) -> Result<Named, AllocError> {
     })
 }
 
-fn all_inserted_are_written<S: BuildHasher + Default + Drop>(
-    rt: &impl Abort,
-    alloc: Global,
-) -> Result<(), Fail> {
+fn all_inserted_are_written<S: BuildHasher + Default + Drop>(alloc: Global) -> Result<(), Fail> {
     let numbers: Vec<(i64, usize)> = vec![in alloc; (-3, 2), (4, 1)]?;
-    inserted_are_written::<i64, S>(rt, alloc, numbers, "3 2 [[-3,2],[4,1]]")?;
+    inserted_are_written::<i64, S>(alloc, numbers, "3 2 [[-3,2],[4,1]]")?;
     let texts = vec![in alloc;
         (text(alloc, "Einar")?, 1),
         (text(alloc, "Olaf")?, 2),
         (text(alloc, "Harald")?, 3),
     ]?;
-    inserted_are_written::<String, S>(rt, alloc, texts, TEXTS)?;
+    inserted_are_written::<String, S>(alloc, texts, TEXTS)?;
     let names = vec![in alloc;
         (named(alloc, "Einar")?, 1),
         (named(alloc, "Olaf")?, 2),
         (named(alloc, "Harald")?, 3),
     ]?;
-    inserted_are_written::<Named, S>(rt, alloc, names, NAMES)
+    inserted_are_written::<Named, S>(alloc, names, NAMES)
 }
 
 #[test]
 fn inserted_values_are_written(rt: HostRuntime) -> Result<(), Fail> {
-    all_inserted_are_written::<FixedState>(&rt, rt.alloc())?;
-    all_inserted_are_written::<OneState>(&rt, rt.alloc())
+    all_inserted_are_written::<FixedState>(rt.alloc())?;
+    all_inserted_are_written::<OneState>(rt.alloc())
 }
 
 fn push_often(text: &mut String, mark: char, times: usize) -> Result<(), AllocError> {
@@ -294,7 +293,7 @@ fn deep_items_are_refused(rt: HostRuntime) -> Result<(), Fail> {
     push_often(&mut text, ']', 100)?;
     text.push_str(",1]]")?;
     for items in ["String", "u64", "i64"] {
-        is_answered_as(&rt, rt.alloc(), items, text.as_str(), "BadItem(0)")?;
+        is_answered_as(rt.alloc(), items, text.as_str(), "BadItem(0)")?;
     }
     Ok(())
 }
@@ -326,7 +325,7 @@ fn is_read_as_one_value<S: BuildHasher + Default + Drop>(
 ) -> Result<(), Fail> {
     let read: Result<HashBag<u64, S>, JsonError> = HashBag::from_value(alloc, tree);
     let bag = read.ok().ok_or("a bag")?;
-    is_text(
+    is_text_of(
         "a long tree",
         written(alloc, &bag)?.as_str(),
         "5000 1 [[7,5000]]",
@@ -344,6 +343,14 @@ fn long_trees_of_one_value(rt: HostRuntime) -> Result<(), Fail> {
     is_read_as_one_value::<IdentityState>(&rt, rt.alloc(), &tree)
 }
 
+// Each error has a row.
+fn are_as_many(rows: Rows, errors: usize) -> Result<(), Fail> {
+    if rows.count == errors {
+        return Ok(());
+    }
+    Err(Fail::new(format_args!("{} rows of {errors} errors", rows.count)))
+}
+
 // The row of an error, its number and its text.
 fn is_told<E: Debug + Display>(
     alloc: Global,
@@ -352,8 +359,7 @@ fn is_told<E: Debug + Display>(
     row: &str,
 ) -> Result<(), Fail> {
     let got = format!(in alloc; "{error:?} | {number} | {error}")?;
-    is_text(row, got.as_str(), row)?;
-    Ok(())
+    is_text(got.as_str(), row)
 }
 
 #[test]
@@ -367,9 +373,10 @@ fn json_errors_are_told(rt: HostRuntime) -> Result<(), Fail> {
         JsonError::Memory,
         JsonError::BadLimit,
     ];
-    let rows = rows_of(rt.alloc(), JSON_ERRORS, errors.len())?;
+    are_as_many(JSON_ERRORS, errors.len())?;
+    let rows = rows_of(rt.alloc(), JSON_ERRORS)?;
     for (row, error) in rows.into_iter().zip(errors) {
-        is_told(rt.alloc(), &error, error.number(), row)?;
+        row.tested(is_told(rt.alloc(), &error, error.number(), row.text))?;
     }
     Ok(())
 }
@@ -377,9 +384,10 @@ fn json_errors_are_told(rt: HostRuntime) -> Result<(), Fail> {
 #[test]
 fn item_errors_are_told(rt: HostRuntime) -> Result<(), Fail> {
     let errors = [ItemError::NotAnItem, ItemError::Memory];
-    let rows = rows_of(rt.alloc(), ITEM_ERRORS, errors.len())?;
+    are_as_many(ITEM_ERRORS, errors.len())?;
+    let rows = rows_of(rt.alloc(), ITEM_ERRORS)?;
     for (row, error) in rows.into_iter().zip(errors) {
-        is_told(rt.alloc(), &error, error.number(), row)?;
+        row.tested(is_told(rt.alloc(), &error, error.number(), row.text))?;
     }
     Ok(())
 }

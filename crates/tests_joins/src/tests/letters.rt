@@ -5,7 +5,7 @@ use std::hash::BuildHasher;
 use std::process::Abort;
 use std::test::Fail;
 use tests_kit::OneState;
-use tests_kit::texts::is_text;
+use tests_kit::texts::is_text_of;
 
 // The outer join of the letters of "hash" with those of "math".
 const HASH_AND_MATH: &str =
@@ -14,7 +14,7 @@ const HASH_AND_MATH: &str =
 // Of ten x, what is left of a letter after this number of it is removed.
 const REMOVALS: [(char, usize, usize); 4] = [('x', 0, 10), ('x', 3, 7), ('x', 10, 0), ('y', 1, 0)];
 
-// Each kind of call has a function with no contract, as in `rows`.
+// Each kind of call has a function with no contract, as in `calls` of `tests_kit`.
 
 fn letters_of<S: BuildHasher + Default + Drop>(
     alloc: Global,
@@ -67,7 +67,7 @@ fn letters_are_joined<S: BuildHasher + Default + Drop>(alloc: Global) -> Result<
     let hash: HashBag<char, S> = letters_of(alloc, "hash")?;
     let math: HashBag<char, S> = letters_of(alloc, "math")?;
     let got = joined(alloc, &hash, &math)?;
-    is_text("hash and math", got.as_str(), HASH_AND_MATH)
+    is_text_of("hash and math", got.as_str(), HASH_AND_MATH)
 }
 
 fn letters_are_removed<S: BuildHasher + Default + Drop>(

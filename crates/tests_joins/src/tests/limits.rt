@@ -4,12 +4,14 @@ use hashbag::{FixedState, HashBag, JsonError};
 use std::alloc::Global;
 use std::hash::BuildHasher;
 use std::test::Fail;
-use tests_kit::texts::{count, debug_of, halves, is_text, rows_of};
-use tests_kit::{IdentityState, OneState, ParityState};
+use tests_kit::texts::{count, debug_of, halves, is_text};
+use tests_kit::{IdentityState, OneState, ParityState, Rows, rows_of};
 
 // A limit, a tree of texts, and why it can't be read, or else the limit of its bag, the total, the number of distinct values, and the tree
 // that is written of it.
-const ROWS: &str = r#"
+const ROWS: Rows = Rows {
+    count: 14,
+    text: r#"
     4 | [["a",2],["b",3]] | TooMany(1)
     5 | [["a",2],["b",3]] | 5 5 2 {"limit":5,"pairs":[["a",2],["b",3]]}
     0 | [] | 0 0 0 {"limit":0,"pairs":[]}
@@ -23,7 +25,8 @@ const ROWS: &str = r#"
     18446744073709551615 | {"limit":7,"pairs":[]} | 7 0 0 {"limit":7,"pairs":[]}
     0 | {"limit":-1,"pairs":[]} | BadLimit
     0 | {"limit":1,"pairs":[],"x":0} | NotAnArray
-    0 | {} | NotAnArray"#;
+    0 | {} | NotAnArray"#,
+};
 
 // Returns the text of what the reading of a tree within a limit returns.
 fn answer_of<S: BuildHasher + Default + Drop>(
@@ -49,17 +52,17 @@ fn is_answered<S: BuildHasher + Default + Drop>(alloc: Global, row: &str) -> Res
     let (most, rest) = halves(row, "|")?;
     let (text, wanted) = halves(rest, "|")?;
     let got = answer_of::<S>(alloc, count(most)?, text)?;
-    is_text(row, got.as_str(), wanted)?;
+    is_text(got.as_str(), wanted)?;
     Ok(())
 }
 
 #[test]
 fn trees_within_a_limit(rt: HostRuntime) -> Result<(), Fail> {
-    for row in rows_of(rt.alloc(), ROWS, 14)? {
-        is_answered::<FixedState>(rt.alloc(), row)?;
-        is_answered::<OneState>(rt.alloc(), row)?;
-        is_answered::<ParityState>(rt.alloc(), row)?;
-        is_answered::<IdentityState>(rt.alloc(), row)?;
+    for row in rows_of(rt.alloc(), ROWS)? {
+        row.tested(is_answered::<FixedState>(rt.alloc(), row.text))?;
+        row.tested(is_answered::<OneState>(rt.alloc(), row.text))?;
+        row.tested(is_answered::<ParityState>(rt.alloc(), row.text))?;
+        row.tested(is_answered::<IdentityState>(rt.alloc(), row.text))?;
     }
     Ok(())
 }

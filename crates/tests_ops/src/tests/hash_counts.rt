@@ -5,10 +5,13 @@ use hashbag::HashBag;
 use std::alloc::Global;
 use std::test::Fail;
 use tests_kit::states::CountingState;
-use tests_kit::texts::{debug_of, halves, is_text, rows_of};
+use tests_kit::texts::{debug_of, halves, is_text};
+use tests_kit::{Rows, rows_of};
 
 // A call that uses the second bag up, the two bags, and how often the first bag's state hashes in it.
-const SUMS: &str = "
+const SUMS: Rows = Rows {
+    count: 11,
+    text: "
     merge | 5:2 6:1 | | 0
     merge | | 5:2 6:1 | 2
     merge | 5:2 6:1 | 5:3 7:1 | 2
@@ -19,10 +22,13 @@ const SUMS: &str = "
     keep_most | 5:2 6:1 | 5:3 7:1 | 4
     keep_most | 5:2 6:1 | 5:1 7:1 | 3
     keep_most | 5:2 6:1 | 5:1 6:1 | 2
-    keep_most | 1..12 | 2..13 | 26";
+    keep_most | 1..12 | 2..13 | 26",
+};
 
 // A call that only looks at the second bag, the two bags, and how often each bag's state hashes in it. A copy has a state of its own.
-const PARTS: &str = "
+const PARTS: Rows = Rows {
+    count: 11,
+    text: "
     merge_ref | 5:2 6:1 | 5:3 7:1 | 2 0
     keep_common | 5:2 6:1 7:1 | 5:1 | 0 3
     keep_common | | 5:1 | 0 0
@@ -33,7 +39,8 @@ const PARTS: &str = "
     is_disjoint | 5:1 | 6:1 7:1 | 0 1
     is_disjoint | 6:1 7:1 | 5:1 | 1 0
     is_disjoint | 5:1 6:1 | 7:1 8:1 | 0 2
-    is_disjoint | 5:1 6:1 | 5:1 6:1 7:1 | 0 1";
+    is_disjoint | 5:1 6:1 | 5:1 6:1 7:1 | 0 1",
+};
 
 type CountingBag = HashBag<u64, CountingState>;
 
@@ -73,7 +80,7 @@ fn sum_is_hashed(alloc: Global, row: &str) -> Result<(), Fail> {
     let (second, wanted) = halves(rest, "|")?;
     let mut a: CountingBag = bag_of(alloc, first)?;
     let got = hashed_in_sum(alloc, call, &mut a, bag_of(alloc, second)?)?;
-    is_text(row, got.as_str(), wanted)
+    is_text(got.as_str(), wanted)
 }
 
 fn part_is_hashed(alloc: Global, row: &str) -> Result<(), Fail> {
@@ -82,16 +89,16 @@ fn part_is_hashed(alloc: Global, row: &str) -> Result<(), Fail> {
     let mut a: CountingBag = bag_of(alloc, first)?;
     let b: CountingBag = bag_of(alloc, second)?;
     let got = hashed_in_part(alloc, call, &mut a, &b)?;
-    is_text(row, got.as_str(), wanted)
+    is_text(got.as_str(), wanted)
 }
 
 #[test]
 fn hashes_of_each_call(rt: HostRuntime) -> Result<(), Fail> {
-    for row in rows_of(rt.alloc(), SUMS, 11)? {
-        sum_is_hashed(rt.alloc(), row)?;
+    for row in rows_of(rt.alloc(), SUMS)? {
+        row.tested(sum_is_hashed(rt.alloc(), row.text))?;
     }
-    for row in rows_of(rt.alloc(), PARTS, 11)? {
-        part_is_hashed(rt.alloc(), row)?;
+    for row in rows_of(rt.alloc(), PARTS)? {
+        row.tested(part_is_hashed(rt.alloc(), row.text))?;
     }
     Ok(())
 }

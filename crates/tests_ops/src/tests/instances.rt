@@ -5,17 +5,20 @@ use hashbag_ops::merge_ref;
 use std::alloc::Global;
 use std::hash::BuildHasher;
 use std::test::Fail;
-use tests_kit::texts::{debug_of, halves, is_text, rows_of};
-use tests_kit::{IdentityState, OneState, Tagged};
+use tests_kit::texts::{debug_of, halves, is_text, is_text_of};
+use tests_kit::{IdentityState, OneState, Rows, Tagged, rows_of};
 
 // A call on a bag with the key 1 twice, tag 10, and the key 2 once, tag 11, and one with the key 1 three times, tag 20, and the key 3
 // once, tag 21; key, tag and count of what is left.
-const ROWS: &str = "
+const ROWS: Rows = Rows {
+    count: 5,
+    text: "
     merge | [(1, 10, 5), (2, 11, 1), (3, 21, 1)]
     merge_ref | [(1, 10, 5), (2, 11, 1), (3, 21, 1)]
     keep_most | [(1, 10, 3), (2, 11, 1), (3, 21, 1)]
     keep_common | [(1, 10, 2)]
-    take_away | [(2, 11, 1)]";
+    take_away | [(2, 11, 1)]",
+};
 
 // Adds a value with this key and tag, so often.
 fn add<S: BuildHasher + Drop>(
@@ -87,11 +90,15 @@ fn left_by(alloc: Global, call: &str) -> Result<String, Fail> {
     text_of(alloc, &a)
 }
 
+fn is_left(alloc: Global, row: &str) -> Result<(), Fail> {
+    let (call, wanted) = halves(row, "|")?;
+    is_text(left_by(alloc, call)?.as_str(), wanted)
+}
+
 #[test]
 fn instances_that_stay(rt: HostRuntime) -> Result<(), Fail> {
-    for row in rows_of(rt.alloc(), ROWS, 5)? {
-        let (call, wanted) = halves(row, "|")?;
-        is_text(row, left_by(rt.alloc(), call)?.as_str(), wanted)?;
+    for row in rows_of(rt.alloc(), ROWS)? {
+        row.tested(is_left(rt.alloc(), row.text))?;
     }
     Ok(())
 }
@@ -110,5 +117,5 @@ fn instances_in_other_slots(rt: HostRuntime) -> Result<(), Fail> {
     }
     let more: HashBag<Tagged, IdentityState> = tagged(rt.alloc(), &[(12, 20, 3), (13, 21, 1)])?;
     merged(&mut full, more)?;
-    is_text("merge", text_of(rt.alloc(), &full)?.as_str(), MOVED)
+    is_text_of("merge", text_of(rt.alloc(), &full)?.as_str(), MOVED)
 }

@@ -4,14 +4,18 @@ use hashbag::{BagError, FixedState, HashBag};
 use hashbag_ops::laws::{count_in_parts, merges_associate, merges_commute, put_in_and_taken_out};
 use std::alloc::Global;
 use std::test::Fail;
-use tests_kit::texts::{debug_of, is_text, rows_of};
+use tests_kit::texts::{debug_of, is_text};
+use tests_kit::{Rows, rows_of};
 
 // Two bags, and the counts of their sum.
-const ROWS: &str = "
+const ROWS: Rows = Rows {
+    count: 4,
+    text: "
     | |
     5:2 6:1 | | 5:2 6:1
     5:2 6:1 | 5:3 7:1 | 5:5 6:1 7:1
-    1..25 | 1:3 26:2 | 1:4 2..25 26:2";
+    1..25 | 1:3 26:2 | 1:4 2..25 26:2",
+};
 
 type Bag = HashBag<u64, FixedState>;
 
@@ -90,17 +94,17 @@ fn hold(alloc: Global, row: &str) -> Result<(), Fail> {
         sums_commute(alloc, first, second)?,
         sums_associate(alloc, first, second)?,
     );
-    is_text(row, debug_of(alloc, &agree)?.as_str(), "(true, true)")?;
+    is_text(debug_of(alloc, &agree)?.as_str(), "(true, true)")?;
     let left = left_of_first(alloc, first, second)?;
-    is_text(row, left.as_str(), text_of_list(alloc, first)?.as_str())?;
+    is_text(left.as_str(), text_of_list(alloc, first)?.as_str())?;
     let counts = counted_in_parts(alloc, first, second)?;
-    is_text(row, counts.as_str(), text_of_list(alloc, wanted)?.as_str())
+    is_text(counts.as_str(), text_of_list(alloc, wanted)?.as_str())
 }
 
 #[test]
 fn laws_at_rows(rt: HostRuntime) -> Result<(), Fail> {
-    for row in rows_of(rt.alloc(), ROWS, 4)? {
-        hold(rt.alloc(), row)?;
+    for row in rows_of(rt.alloc(), ROWS)? {
+        row.tested(hold(rt.alloc(), row.text))?;
     }
     Ok(())
 }

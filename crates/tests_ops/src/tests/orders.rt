@@ -9,11 +9,13 @@ use std::hash::{BuildHasher, Hash};
 use std::test::Fail;
 use tests_kit::calls::insert;
 use tests_kit::states::CountingState;
-use tests_kit::texts::{count, debug_of, halves, is_text, rows_of};
-use tests_kit::{IdentityState, OneState, ParityState};
+use tests_kit::texts::{count, debug_of, halves, is_text};
+use tests_kit::{IdentityState, OneState, ParityState, Rows, rows_of};
 
 // `-` for all pairs, values rising, or how many of the commonest; the bag; the pairs.
-const ROWS: &str = "
+const ROWS: Rows = Rows {
+    count: 36,
+    text: "
     - | |
     - | 5:2 | 5:2
     - | 6:1 5:2 | 5:2 6:1
@@ -49,18 +51,24 @@ const ROWS: &str = "
     3 | 8:3 1:4 6:3 2:5 4:1 7:3 | 2:5 1:4 6:3
     4 | 8:3 1:4 6:3 2:5 4:1 7:3 | 2:5 1:4 6:3 7:3
     1 | 4:18446744073709551610 2:5 | 4:18446744073709551610
-    1 | 4:7 18446744073709551615:18446744073709551608 | 18446744073709551615:18446744073709551608";
+    1 | 4:7 18446744073709551615:18446744073709551608 | 18446744073709551615:18446744073709551608",
+};
 
 // The same of the words of a text.
-const WORDS: &str = r#"
+const WORDS: Rows = Rows {
+    count: 5,
+    text: r#"
     - | the cat sat on the mat the | [("cat", 1), ("mat", 1), ("on", 1), ("sat", 1), ("the", 3)]
     0 | the cat sat on the mat the | []
     2 | the cat sat on the mat the | [("the", 3), ("cat", 1)]
     9 | the cat sat on the mat the | [("the", 3), ("cat", 1), ("mat", 1), ("on", 1), ("sat", 1)]
-    2 | b a c b a c | [("a", 2), ("b", 2)]"#;
+    2 | b a c b a c | [("a", 2), ("b", 2)]"#,
+};
 
 // A bag, and how often its commonest values occur.
-const GREATEST: &str = "
+const GREATEST: Rows = Rows {
+    count: 8,
+    text: "
     | 0
     5:2 | 2
     6:1 5:2 | 2
@@ -68,7 +76,8 @@ const GREATEST: &str = "
     1..25 | 1
     30:1 26..29 1..25 12:1 29:2 | 3
     4:18446744073709551610 2:5 | 18446744073709551610
-    1:18446744073709551615 | 18446744073709551615";
+    1:18446744073709551615 | 18446744073709551615",
+};
 
 // The text of all pairs, values rising.
 fn rising<T: Ord + Hash + Debug + Drop, S: BuildHasher + Drop>(
@@ -105,12 +114,12 @@ fn is_ordered<S: BuildHasher + Default + Drop>(alloc: Global, row: &str) -> Resu
     let (word, bag, wanted) = thirds(row)?;
     let bag: HashBag<u64, S> = bag_of(alloc, bag)?;
     let got = ordered(alloc, word, &bag)?;
-    is_text(row, got.as_str(), text_of_list(alloc, wanted)?.as_str())
+    is_text(got.as_str(), text_of_list(alloc, wanted)?.as_str())
 }
 
 fn are_ordered<S: BuildHasher + Default + Drop>(alloc: Global) -> Result<(), Fail> {
-    for row in rows_of(alloc, ROWS, 36)? {
-        is_ordered::<S>(alloc, row)?;
+    for row in rows_of(alloc, ROWS)? {
+        row.tested(is_ordered::<S>(alloc, row.text))?;
     }
     Ok(())
 }
@@ -130,12 +139,12 @@ fn greatest<S: BuildHasher + Drop>(bag: &HashBag<u64, S>) -> usize {
 fn is_greatest<S: BuildHasher + Default + Drop>(alloc: Global, row: &str) -> Result<(), Fail> {
     let (bag, wanted) = halves(row, "|")?;
     let bag: HashBag<u64, S> = bag_of(alloc, bag)?;
-    is_text(row, debug_of(alloc, &greatest(&bag))?.as_str(), wanted)
+    is_text(debug_of(alloc, &greatest(&bag))?.as_str(), wanted)
 }
 
 fn are_greatest<S: BuildHasher + Default + Drop>(alloc: Global) -> Result<(), Fail> {
-    for row in rows_of(alloc, GREATEST, 8)? {
-        is_greatest::<S>(alloc, row)?;
+    for row in rows_of(alloc, GREATEST)? {
+        row.tested(is_greatest::<S>(alloc, row.text))?;
     }
     Ok(())
 }
@@ -159,13 +168,13 @@ fn bag_of_words(alloc: Global, text: &str) -> Result<HashBag<&str>, Fail> {
 fn are_words_ordered(alloc: Global, row: &str) -> Result<(), Fail> {
     let (word, text, wanted) = thirds(row)?;
     let bag = bag_of_words(alloc, text)?;
-    is_text(row, ordered(alloc, word, &bag)?.as_str(), wanted)
+    is_text(ordered(alloc, word, &bag)?.as_str(), wanted)
 }
 
 #[test]
 fn words_in_order(rt: HostRuntime) -> Result<(), Fail> {
-    for row in rows_of(rt.alloc(), WORDS, 5)? {
-        are_words_ordered(rt.alloc(), row)?;
+    for row in rows_of(rt.alloc(), WORDS)? {
+        row.tested(are_words_ordered(rt.alloc(), row.text))?;
     }
     Ok(())
 }

@@ -5,12 +5,14 @@ use hashbag::{FixedState, HashBag};
 use std::alloc::Global;
 use std::hash::BuildHasher;
 use std::test::Fail;
-use tests_kit::texts::{count, halves, is_text, rows_of};
-use tests_kit::{IdentityState, OneState, ParityState, calls};
+use tests_kit::texts::{count, halves, is_text};
+use tests_kit::{IdentityState, OneState, ParityState, Rows, calls, rows_of};
 
 // A call, and the limit of the first bag, with `-` if none is set; the two bags; the result, and the total that is left; the counts
 // that are left. `1..25` are these values, once each: 25 values are in the middle of a carry. The second bag is at a limit of its own.
-const SUMS: &str = "
+const SUMS: Rows = Rows {
+    count: 44,
+    text: "
     merge - | | | () 0 |
     merge - | | 5:2 6:1 | () 3 | 5:2 6:1
     merge - | 5:2 6:1 | | () 3 | 5:2 6:1
@@ -54,10 +56,13 @@ const SUMS: &str = "
     keep_most 26 | 1..25 | 1:2 2..25 | () 26 | 1:2 2..25
     keep_most 26 | 1..25 | 1:3 2..25 | TooMany 25 | 1..25
     keep_most - | 1:18446744073709551615 | 1:5 | () 18446744073709551615 | 1:18446744073709551615
-    keep_most - | 1:18446744073709551614 | 1:5 2:2 | TooMany 18446744073709551614 | 1:18446744073709551614";
+    keep_most - | 1:18446744073709551614 | 1:5 2:2 | TooMany 18446744073709551614 | 1:18446744073709551614",
+};
 
 // The same of the calls that can't fail.
-const PARTS: &str = "
+const PARTS: Rows = Rows {
+    count: 41,
+    text: "
     keep_common - | | | () 0 |
     keep_common - | | 5:2 | () 0 |
     keep_common - | 5:2 6:1 | | () 0 |
@@ -98,7 +103,8 @@ const PARTS: &str = "
     is_disjoint - | 5:1 6:2 7:1 | 8:3 | true 4 | 5:1 6:2 7:1
     is_disjoint - | 1..25 | 26..60 | true 25 | 1..25
     is_disjoint - | 1..25 | 25..60 | false 25 | 1..25
-    is_disjoint - | 1..25 | 17:1 | false 25 | 1..25";
+    is_disjoint - | 1..25 | 17:1 | false 25 | 1..25",
+};
 
 // The bag with the counts of a text, and the limit that a word says.
 fn limited_bag_of<S: BuildHasher + Default + Drop>(
@@ -135,15 +141,10 @@ fn state_of<S: BuildHasher + Default + Drop>(
 }
 
 // If a call failed, the tables are as they were; the limit is so always.
-fn is_within(
-    row: &str,
-    got: &str,
-    before: &(String, String),
-    after: &(String, String),
-) -> Result<(), Fail> {
-    is_text(row, after.0.as_str(), before.0.as_str())?;
+fn is_within(got: &str, before: &(String, String), after: &(String, String)) -> Result<(), Fail> {
+    is_text(after.0.as_str(), before.0.as_str())?;
     if got == "TooMany" {
-        is_text(row, after.1.as_str(), before.1.as_str())?;
+        is_text(after.1.as_str(), before.1.as_str())?;
     }
     Ok(())
 }
@@ -151,14 +152,13 @@ fn is_within(
 // Makes a call, and returns the text of what it returns, and the total that is left.
 fn answer_within<S: BuildHasher + Default + Drop, S2: BuildHasher + Clone + Drop>(
     alloc: Global,
-    row: &str,
     call: &str,
     a: &mut HashBag<u64, S>,
     b: HashBag<u64, S2>,
 ) -> Result<String, Fail> {
     let before = state_of(alloc, a)?;
     let got = answer(alloc, call, a, b)?;
-    is_within(row, got.as_str(), &before, &state_of(alloc, a)?)?;
+    is_within(got.as_str(), &before, &state_of(alloc, a)?)?;
     let len = calls::answer(alloc, a, "len")?;
     Ok(format!(in alloc; "{got} {len}")?)
 }
@@ -166,7 +166,6 @@ fn answer_within<S: BuildHasher + Default + Drop, S2: BuildHasher + Clone + Drop
 // Returns the text of what a call on two bags returns, and the counts that it leaves.
 fn answer_of<S: BuildHasher + Default + Drop, S2: BuildHasher + Default + Clone + Drop>(
     alloc: Global,
-    row: &str,
     head: &str,
     first: &str,
     second: &str,
@@ -174,7 +173,7 @@ fn answer_of<S: BuildHasher + Default + Drop, S2: BuildHasher + Default + Clone 
     let (call, most) = halves(head, " ")?;
     let mut a = limited_bag_of::<S>(alloc, first, most)?;
     let b = full_bag_of::<S2>(alloc, second)?;
-    let got = answer_within(alloc, row, call, &mut a, b)?;
+    let got = answer_within(alloc, call, &mut a, b)?;
     Ok((got, counts_of(alloc, &a)?))
 }
 
@@ -184,20 +183,20 @@ fn is_answered<S: BuildHasher + Default + Drop, S2: BuildHasher + Default + Clon
 ) -> Result<(), Fail> {
     let (head, first, rest) = thirds(row)?;
     let (second, wanted, left) = thirds(rest)?;
-    let (got, counts) = answer_of::<S, S2>(alloc, row, head, first, second)?;
-    is_text(row, got.as_str(), wanted)?;
-    is_text(row, counts.as_str(), text_of_list(alloc, left)?.as_str())
+    let (got, counts) = answer_of::<S, S2>(alloc, head, first, second)?;
+    is_text(got.as_str(), wanted)?;
+    is_text(counts.as_str(), text_of_list(alloc, left)?.as_str())
 }
 
 // All rows, under two states.
 fn rows_under<S: BuildHasher + Default + Drop, S2: BuildHasher + Default + Clone + Drop>(
     alloc: Global,
 ) -> Result<(), Fail> {
-    for row in rows_of(alloc, SUMS, 44)? {
-        is_answered::<S, S2>(alloc, row)?;
+    for row in rows_of(alloc, SUMS)? {
+        row.tested(is_answered::<S, S2>(alloc, row.text))?;
     }
-    for row in rows_of(alloc, PARTS, 41)? {
-        is_answered::<S, S2>(alloc, row)?;
+    for row in rows_of(alloc, PARTS)? {
+        row.tested(is_answered::<S, S2>(alloc, row.text))?;
     }
     Ok(())
 }

@@ -5,12 +5,14 @@ use hashbag::{FixedState, HashBag};
 use std::alloc::Global;
 use std::hash::BuildHasher;
 use std::test::Fail;
-use tests_kit::texts::{halves, is_text, rows_of};
-use tests_kit::{IdentityState, OneState, calls};
+use tests_kit::texts::{halves, is_text};
+use tests_kit::{IdentityState, OneState, Rows, calls, rows_of};
 
 // A call, two bags, and the slots, those that wait, and the room of the first bag after it. 25 values take 64 slots, of which 16 of the
 // table before wait, with room for 23.
-const ROWS: &str = "
+const ROWS: Rows = Rows {
+    count: 29,
+    text: "
     merge | | | (0, 0, 0)
     merge | | 1:1 2:1 | (16, 0, 10)
     merge | 1:1 2:1 | | (16, 0, 10)
@@ -39,7 +41,8 @@ const ROWS: &str = "
     take_away | | 1:1 | (0, 0, 0)
     take_away | 1:1 2:2 3:1 | 2:1 3:5 | (16, 0, 9)
     take_away | 1..25 | | (64, 16, 23)
-    take_away | 1..25 | 26:1 | (64, 16, 23)";
+    take_away | 1..25 | 26:1 | (64, 16, 23)",
+};
 
 // The tables after a call.
 fn tables_after<S: BuildHasher + Default + Drop, S2: BuildHasher + Default + Clone + Drop>(
@@ -61,15 +64,15 @@ fn has_tables<S: BuildHasher + Default + Drop, S2: BuildHasher + Default + Clone
     let (call, first, rest) = thirds(row)?;
     let (second, wanted) = halves(rest, "|")?;
     let got = tables_after::<S, S2>(alloc, call, first, second)?;
-    is_text(row, got.as_str(), wanted)
+    is_text(got.as_str(), wanted)
 }
 
 #[test]
 fn tables_after_each_call(rt: HostRuntime) -> Result<(), Fail> {
-    for row in rows_of(rt.alloc(), ROWS, 29)? {
-        has_tables::<FixedState, OneState>(rt.alloc(), row)?;
-        has_tables::<OneState, IdentityState>(rt.alloc(), row)?;
-        has_tables::<IdentityState, FixedState>(rt.alloc(), row)?;
+    for row in rows_of(rt.alloc(), ROWS)? {
+        row.tested(has_tables::<FixedState, OneState>(rt.alloc(), row.text))?;
+        row.tested(has_tables::<OneState, IdentityState>(rt.alloc(), row.text))?;
+        row.tested(has_tables::<IdentityState, FixedState>(rt.alloc(), row.text))?;
     }
     Ok(())
 }

@@ -11,7 +11,7 @@ use std::alloc::{AllocError, Global};
 use std::fmt::Debug;
 use std::hash::BuildHasher;
 use std::test::Fail;
-use tests_kit::texts::{debug_of, is_text};
+use tests_kit::texts::{debug_of, is_text_of};
 use tests_kit::{IdentityState, OneState, ParityState, Tagged};
 
 // How often the ballast occurs in the first bag and in the second: never, or so often in the first that its totals come to the end of a
@@ -65,7 +65,7 @@ fn bag_reply<T: Sample + Drop, S: BuildHasher + Drop>(
 // Checks that `Debug` writes the same of two values.
 fn is_same<T: Debug>(alloc: Global, place: &str, got: &T, want: &T) -> Result<(), Fail> {
     let want = debug_of(alloc, want)?;
-    is_text(place, debug_of(alloc, got)?.as_str(), want.as_str())
+    is_text_of(place, debug_of(alloc, got)?.as_str(), want.as_str())
 }
 
 // Does the step of this number on both sides.
@@ -107,9 +107,9 @@ fn compare_joins<T: Sample + Drop, S: BuildHasher + Drop, S2: BuildHasher + Drop
 ) -> Result<(), Fail> {
     let want = text_of_joins(alloc, &plain_joins(alloc, &a.plain, &b.plain)?)?;
     let got = text_of_joins(alloc, &joins_one_by_one(alloc, &a.bag, &b.bag)?)?;
-    is_text(place, got.as_str(), want.as_str())?;
+    is_text_of(place, got.as_str(), want.as_str())?;
     let got = text_of_joins(alloc, &joins_of(alloc, &a.bag, &b.bag)?)?;
-    is_text(place, got.as_str(), want.as_str())
+    is_text_of(place, got.as_str(), want.as_str())
 }
 
 fn compare_both<T: Sample + Drop, S: BuildHasher + Drop, S2: BuildHasher + Drop>(

@@ -7,8 +7,8 @@ use std::hash::BuildHasher;
 use std::process::Abort;
 use std::test::Fail;
 use tests_kit::calls::{insert, make_calls};
-use tests_kit::texts::{debug_of, is_text};
-use tests_kit::{IdentityState, OneState, ParityState};
+use tests_kit::texts::{debug_of, is_text_of};
+use tests_kit::{IdentityState, OneState, ParityState, Rows};
 
 // So many distinct values leave 16 slots that wait.
 const VALUES: usize = 25;
@@ -18,7 +18,9 @@ const ALL: &str =
     "[1, 2, 3, 4, 5, 6, 7, 8, 9, 10, 11, 12, 13, 14, 15, 16, 17, 18, 19, 20, 21, 22, 23, 24, 25]";
 
 // What the calls of a bag return that is as it was before a walk.
-const AS_BEFORE: &str = "\
+const AS_BEFORE: Rows = Rows {
+    count: 8,
+    text: "\
     counts [0, 1, 2, 3, 4, 5, 6, 7, 8, 9, 10, 11, 12, 13, 14, 15, 16, 17, 18, 19, 20, 21, 22, 23, 24, 25] = [0, 1, 1, 1, 1, 1, 1, 1, 1, 1, 1, 1, 1, 1, 1, 1, 1, 1, 1, 1, 1, 1, 1, 1, 1, 1]
     len = 25
     set_len = 25
@@ -26,16 +28,20 @@ const AS_BEFORE: &str = "\
     insert 100 = 0
     tables = (64, 0, 22)
     contains 100 = 1
-    contains 25 = 1";
+    contains 25 = 1",
+};
 
 // What the calls of a bag return that was drained.
-const DRAINED: &str = "\
+const DRAINED: Rows = Rows {
+    count: 6,
+    text: "\
     counts [0, 1, 2, 3, 4, 5, 6, 7, 8, 9, 10, 11, 12, 13, 14, 15, 16, 17, 18, 19, 20, 21, 22, 23, 24, 25] = [0, 0, 0, 0, 0, 0, 0, 0, 0, 0, 0, 0, 0, 0, 0, 0, 0, 0, 0, 0, 0, 0, 0, 0, 0, 0]
     is_empty = true
     set_len = 0
     waiting = 0
     insert 100 = 0
-    contains 100 = 1";
+    contains 100 = 1",
+};
 
 // The numbers from 1 to 25, each inserted once.
 fn numbers<S: BuildHasher + Drop>(alloc: Global, state: S) -> Result<HashBag<u64, S>, BagError> {
@@ -60,7 +66,7 @@ fn carrying<S: BuildHasher + Drop>(
 fn are_all<T: Ord + Debug + Copy>(alloc: Global, walk: &str, got: Vec<T>) -> Result<(), Fail> {
     let mut got = got;
     got.sort_unstable();
-    is_text(walk, debug_of(alloc, &got)?.as_str(), ALL)
+    is_text_of(walk, debug_of(alloc, &got)?.as_str(), ALL)
 }
 
 // So many items of a walk.
@@ -164,13 +170,13 @@ fn walks_after<S: BuildHasher + Default + Copy>(
 ) -> Result<(), Fail> {
     let mut bag = carrying(rt, alloc, state)?;
     items(rt, alloc, &bag, taken)?;
-    make_calls(alloc, &mut bag, AS_BEFORE, 8)?;
+    make_calls(alloc, &mut bag, AS_BEFORE)?;
     bag = carrying(rt, alloc, state)?;
     values(rt, alloc, &bag, taken)?;
-    make_calls(alloc, &mut bag, AS_BEFORE, 8)?;
+    make_calls(alloc, &mut bag, AS_BEFORE)?;
     bag = carrying(rt, alloc, state)?;
     is_sum(rt, drained(rt, &mut bag, taken), taken);
-    make_calls(alloc, &mut bag, DRAINED, 6)?;
+    make_calls(alloc, &mut bag, DRAINED)?;
     is_sum(rt, moved(rt, carrying(rt, alloc, state)?, taken), taken);
     Ok(())
 }

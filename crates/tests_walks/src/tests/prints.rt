@@ -7,7 +7,7 @@ use std::fmt::Debug;
 use std::hash::BuildHasher;
 use std::test::Fail;
 use tests_kit::OneState;
-use tests_kit::texts::{debug_of, is_text};
+use tests_kit::texts::{debug_of, is_text_of};
 
 const NAMES: [&str; 4] = ["Einar", "Olaf", "Harald", "Olaf"];
 
@@ -18,7 +18,7 @@ fn has_names<T: Debug>(alloc: Global, value: &T, wanted: &str) -> Result<(), Fai
     let einar = text.matches("Einar").count();
     let olaf = text.matches("Olaf").count();
     let harald = text.matches("Harald").count();
-    is_text(
+    is_text_of(
         text,
         debug_of(alloc, &(einar, olaf, harald))?.as_str(),
         wanted,

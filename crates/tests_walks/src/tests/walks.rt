@@ -9,9 +9,9 @@ use std::fmt::Debug;
 use std::hash::{BuildHasher, Hash};
 use std::process::Abort;
 use std::test::Fail;
-use tests_kit::calls::{bag_of, bag_of_counts, counts_of, make_calls};
-use tests_kit::texts::{debug_of, is_text};
-use tests_kit::{IdentityState, OneState, ParityState};
+use tests_kit::calls::{bag_of, bag_of_counts, counts_of, make_call, make_calls};
+use tests_kit::texts::{debug_of, is_text_of};
+use tests_kit::{IdentityState, OneState, ParityState, Rows};
 
 // Occurrences of `sample_bag`.
 const ITEMS: usize = 6;
@@ -109,7 +109,7 @@ fn is_sample<S: BuildHasher + Drop>(
 ) -> Result<(), Fail> {
     assert_eq!(rt; bag.len(), ITEMS);
     let counts = counts_of(alloc, bag, &[5, 6, 7])?;
-    is_text("counts of 5, 6 and 7", counts.as_str(), "[3, 2, 1]")?;
+    is_text_of("counts of 5, 6 and 7", counts.as_str(), "[3, 2, 1]")?;
     Ok(())
 }
 
@@ -182,10 +182,13 @@ fn borrowed_walks_dropped<S: BuildHasher + Drop>(
     Ok(())
 }
 
-const DRAINED_ROWS: &str = "\
+const DRAINED_ROWS: Rows = Rows {
+    count: 3,
+    text: "\
     contains 5 = 0
     insert 5 = 0
-    contains 5 = 1";
+    contains 5 = 1",
+};
 
 // A drain that is dropped leaves an empty bag, which takes values in again.
 fn drained_and_filled<S: BuildHasher + Default + Drop>(
@@ -196,7 +199,7 @@ fn drained_and_filled<S: BuildHasher + Default + Drop>(
 ) -> Result<(), Fail> {
     some_taken(rt, "drain", drain_of(&mut bag), VALUES, taken);
     is_empty(rt, &bag);
-    make_calls(alloc, &mut bag, DRAINED_ROWS, 3)
+    make_calls(alloc, &mut bag, DRAINED_ROWS)
 }
 
 fn owned_walks_dropped<S: BuildHasher + Default + Copy>(
@@ -305,7 +308,7 @@ fn set_clones_go_on<S: BuildHasher + Drop>(
     let _ = walk.next();
     let mut again = walk.clone()?;
     let wanted = debug_of(alloc, &walk.next())?;
-    is_text(
+    is_text_of(
         "a clone",
         debug_of(alloc, &again.next())?.as_str(),
         wanted.as_str(),
@@ -350,7 +353,7 @@ fn list_moved_out<S: BuildHasher + Drop>(
 ) -> Result<(), Fail> {
     let mut list = all_of(alloc, bag)?;
     list.sort_unstable();
-    is_text(
+    is_text_of(
         "moved out",
         debug_of(alloc, &list)?.as_str(),
         "[(5, 3), (6, 2), (7, 1)]",
@@ -377,7 +380,7 @@ fn all_moved_out<S: BuildHasher + Default + Drop>(
     let mut bag = sample_bag(alloc, state)?;
     list_moved_out(alloc, &mut bag)?;
     is_empty(rt, &bag);
-    make_calls(alloc, &mut bag, "insert 8 = 0", 1)?;
+    make_call(alloc, &mut bag, "insert 8 = 0")?;
     moves_out_first(rt, &mut bag, Some((8, 1)));
     moves_out_first(rt, &mut bag, None);
     Ok(())
@@ -385,7 +388,7 @@ fn all_moved_out<S: BuildHasher + Default + Drop>(
 
 // Checks the text that `Debug` writes.
 fn is_shown<T: Debug>(alloc: Global, value: &T, want: &str) -> Result<(), Fail> {
-    is_text("Debug", debug_of(alloc, value)?.as_str(), want)?;
+    is_text_of("Debug", debug_of(alloc, value)?.as_str(), want)?;
     Ok(())
 }
 
@@ -405,7 +408,7 @@ fn texts_of_five<S: BuildHasher + Default + Drop>(alloc: Global, state: S) -> Re
     is_shown(alloc, &bag.entry(5), "Entry(5, 3)")?;
     is_shown(alloc, &drain_of(&mut bag), "[(5, 3)]")?;
     is_shown(alloc, &drain_of(&mut bag), "[]")?;
-    make_calls(alloc, &mut bag, "insert_many 5 3 = 0", 1)?;
+    make_call(alloc, &mut bag, "insert_many 5 3 = 0")?;
     texts_of_owned(alloc, bag)
 }
 

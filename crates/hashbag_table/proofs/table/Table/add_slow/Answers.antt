@@ -1,4 +1,4 @@
-use Rattle.std.proofs.Common.{sym, ◌∙◌}
+use Rattle.std.proofs.Common.{sym}
 use Rattle.hashbag_slots.specs.Hashing.{hash_under}
 use Rattle.hashbag_table.proofs.AddLemmas.{adds_raised, adds_stored}
 use Rattle.hashbag_table.proofs.SpotLemmas.{count_absent}

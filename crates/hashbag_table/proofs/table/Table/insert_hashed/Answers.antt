@@ -1,5 +1,4 @@
-use Rattle.std.proofs.Common.{◌∷◌, sym, ◌∙◌, subst}
-use Rattle.std.specs.List.Sorted.{IsPermutation}
+use Rattle.std.proofs.Common.{sym, ◌∙◌, subst}
 use Rattle.std.proofs.lemmas.List.Sorted.{IsPermutation-trans, IsPermutation-cons}
 use Rattle.hashbag_table.specs.Entries.{IsCounted}
 use Rattle.hashbag_table.proofs.AddLemmas.{stores_arrived}

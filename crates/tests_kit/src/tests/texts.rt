@@ -1,18 +1,18 @@
 //! How rows of text are read.
+use crate::texts::{counts, debug_of, decimal, inside, is_text_of, values};
 use std::test::Fail;
-use tests_kit::texts::{counts, debug_of, decimal, inside, is_text, values};
 
 #[test]
 fn lists_are_read(rt: HostRuntime) -> Result<(), Fail> {
     let alloc = rt.alloc();
     let pairs = counts(alloc, "5:2 6:18446744073709551615")?;
-    is_text(
+    is_text_of(
         "counts",
         debug_of(alloc, &pairs)?.as_str(),
         "[(5, 2), (6, 18446744073709551615)]",
     )?;
     let list = values(alloc, "[1, 2, 3, 3]")?;
-    is_text("values", debug_of(alloc, &list)?.as_str(), "[1, 2, 3, 3]")?;
+    is_text_of("values", debug_of(alloc, &list)?.as_str(), "[1, 2, 3, 3]")?;
     Ok(())
 }
 

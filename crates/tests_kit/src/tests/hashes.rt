@@ -1,13 +1,15 @@
 //! What the hash states return.
+use crate::states::{identity_hash, one_hash, parity_hash};
+use crate::texts::{halves, is_text, number};
+use crate::{IdentityState, OneState, ParityState, Rows, Tagged, rows_of};
 use std::alloc::{AllocError, Global};
 use std::hash::{BuildHasher, Hash, Hasher};
 use std::test::Fail;
-use tests_kit::states::{identity_hash, one_hash, parity_hash};
-use tests_kit::texts::{halves, is_text, number, rows_of};
-use tests_kit::{IdentityState, OneState, ParityState, Tagged};
 
 // Numbers, and what they hash to under the identity, the parity and the one state.
-const ROWS: &str = "\
+const ROWS: Rows = Rows {
+    count: 8,
+    text: "\
     0 = 0 0 0
     1 = 1 1 0
     255 = 255 1 0
@@ -15,7 +17,8 @@ const ROWS: &str = "\
     258 = 258 0 0
     259 = 259 1 0
     9223372036854775808 = 9223372036854775808 0 0
-    18446744073709551615 = 18446744073709551615 1 0";
+    18446744073709551615 = 18446744073709551615 1 0",
+};
 
 // Hashes a value as a map does.
 fn hash_under<S: BuildHasher, T: Hash>(state: &S, value: &T) -> u64 {
@@ -38,14 +41,17 @@ fn hashes_by_function(alloc: Global, value: u64) -> Result<String, AllocError> {
     format!(in alloc; "{identity} {parity} {one}")
 }
 
+fn hashes_as(alloc: Global, row: &str) -> Result<(), Fail> {
+    let (value, want) = halves(row, " = ")?;
+    let value = number(value)?;
+    is_text(hashes_by_state(alloc, value)?.as_str(), want)?;
+    is_text(hashes_by_function(alloc, value)?.as_str(), want)
+}
+
 #[test]
 fn numbers_by_state_and_function(rt: HostRuntime) -> Result<(), Fail> {
-    let alloc = rt.alloc();
-    for row in rows_of(alloc, ROWS, 8)? {
-        let (value, want) = halves(row, " = ")?;
-        let value = number(value)?;
-        is_text(row, hashes_by_state(alloc, value)?.as_str(), want)?;
-        is_text(row, hashes_by_function(alloc, value)?.as_str(), want)?;
+    for row in rows_of(rt.alloc(), ROWS)? {
+        row.tested(hashes_as(rt.alloc(), row.text))?;
     }
     Ok(())
 }

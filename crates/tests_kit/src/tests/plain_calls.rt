@@ -1,13 +1,14 @@
 //! Calls on the plain bag, with the results found by hand.
-use crate::tests::instances::tagged;
+use crate::texts::{count, debug_of, halves, is_text, tagged};
+use crate::{PlainBag, Rows, Tagged, rows_of};
 use hashbag::script::{Reply, Step};
 use std::alloc::{AllocError, Global};
 use std::test::Fail;
-use tests_kit::texts::{count, debug_of, halves, is_text, rows_of};
-use tests_kit::{PlainBag, Tagged};
 
 // A value is written as its key and its tag. `tags` returns the tags of all occurrences, in the order of the list.
-const ROWS: &str = "\
+const ROWS: Rows = Rows {
+    count: 35,
+    text: "\
     [keeps the first instance]
     add 1:10 = ()
     add 2:7 = ()
@@ -44,9 +45,10 @@ const ROWS: &str = "\
     step try_take 1:99 = Absent
     step replace 1:99 = Count(0)
     len = 2
-    tags = [7, 99]";
+    tags = [7, 99]",
+};
 
-// Each kind of call has a function with no contract, as in `rows`.
+// Each kind of call has a function with no contract, as in `calls`.
 
 fn add(bag: &mut PlainBag<Tagged>, value: Tagged) -> Result<(), AllocError> {
     bag.add(value, 1)
@@ -114,18 +116,18 @@ fn answer(alloc: Global, bag: &mut PlainBag<Tagged>, call: &str) -> Result<Strin
 fn make_row(alloc: Global, bag: &mut PlainBag<Tagged>, row: &str) -> Result<(), Fail> {
     let (call, want) = halves(row, " = ")?;
     let got = answer(alloc, bag, call)?;
-    is_text(row, got.as_str(), want)
+    is_text(got.as_str(), want)
 }
 
 #[test]
 fn calls_on_the_plain_bag(rt: HostRuntime) -> Result<(), Fail> {
     let alloc = rt.alloc();
     let mut bag = PlainBag::new(alloc);
-    for row in rows_of(alloc, ROWS, 35)? {
-        if row.starts_with('[') {
+    for row in rows_of(alloc, ROWS)? {
+        if row.text.starts_with('[') {
             bag = PlainBag::new(alloc);
         } else {
-            make_row(alloc, &mut bag, row)?;
+            row.tested(make_row(alloc, &mut bag, row.text))?;
         }
     }
     Ok(())
