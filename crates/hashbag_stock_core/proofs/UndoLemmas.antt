@@ -75,6 +75,8 @@ module _ {T : Type 0} (eq : T → T → Bool) where
   came_returns v [] = (refl, refl)
   came_returns v (m ∷ ms) =
       let later = came_returns v ms in
+      let came_later = later.0 in
+      let went_later = later.1 in
       let all = sum_by-cons (takes v) m ms in
       let nothing : cond (eq v m.article) 0 0 ≡ 0 = zero_if (eq v m.article) in
       (elim m.change as (λ c. m.change ≡ c → (came eq v (coming_back m c (returns_of ms)) ≡ went eq v (m ∷ ms)) × (went eq v (coming_back m c (returns_of ms)) ≡ 0)) [
@@ -92,6 +94,8 @@ module _ {T : Type 0} (eq : T → T → Bool) where
   went_removals v [] = (refl, refl)
   went_removals v (m ∷ ms) =
       let later = went_removals v ms in
+      let went_later = later.0 in
+      let came_later = later.1 in
       let all = sum_by-cons (brings v) m ms in
       let nothing : cond (eq v m.article) 0 0 ≡ 0 = zero_if (eq v m.article) in
       (elim m.change as (λ c. m.change ≡ c → (went eq v (going_back m c (removals_of ms)) ≡ came eq v (m ∷ ms)) × (came eq v (going_back m c (removals_of ms)) ≡ 0)) [
@@ -110,14 +114,14 @@ module _ {T : Type 0} (eq : T → T → Bool) where
       let parts = sum_by-append (brings v) (returns_of ms) (removals_of ms) in
       let one = came_returns v ms in
       let two = went_removals v ms in
-      omega arith
+      omega (arith, one.0, one.1, two.0, two.1)
 
   pub went_opposites : (v : T) (ms : List (Movement T)) → went eq v (opposites_of ms) ≡ came eq v ms
   went_opposites v ms =
       let parts = sum_by-append (takes v) (returns_of ms) (removals_of ms) in
       let one = came_returns v ms in
       let two = went_removals v ms in
-      omega arith
+      omega (arith, one.0, one.1, two.0, two.1)
 
   module _ (start : T → ℕ) where
     -- where none is refused, all are entered
@@ -179,8 +183,7 @@ module _ {T : Type 0} (eq : T → T → Bool) where
           let v = found.0 in
           let one = came_returns v batch in
           let two = went_removals v batch in
-          let below = found.1 in
-          (v, omega arith)
+          (v, omega (arith, one.0, one.1, two.0, found.1))
 
     -- where no opposite movement is refused, the batch is taken back
     pub taken_back : (cmp : T → T → Ordering) (batch : List (Movement T)) (left : List (T × ℕ)) → refused_of eq start (opposites_of batch) ≡ [] → IsBalance eq cmp (in_the_end eq start (opposites_of batch)) left
