@@ -318,7 +318,7 @@ fn conflict<'a>(rt: &HostRuntime, request: &Request<'a>) -> Option<&'a str> {
     None
 }
 
-/// Enters files into the stock, each whole or not at all, and says what is refused.
+/// Enters files into the stock, each whole or not at all, and writes the refusals.
 ///
 /// # Errors
 ///

@@ -34,7 +34,7 @@ pub struct Request<'a> {
     pub refused: Option<&'a str>,
     /// The file to which a table is written; `None` is standard output.
     pub output: Option<&'a str>,
-    /// Whether nothing is entered if a movement is refused.
+    /// Whether nothing is entered if there is a refusal.
     pub strict: bool,
     /// Whether a file is entered that was entered before.
     pub again: bool,

@@ -98,7 +98,7 @@ fn done_of<'a>(
     Ok((refusals, found.file, scale))
 }
 
-/// Enters the opposite movements of a batch, all or none, and says which are refused.
+/// Enters the opposite movements of a batch, all or none, and writes the refusals.
 ///
 /// # Errors
 ///
