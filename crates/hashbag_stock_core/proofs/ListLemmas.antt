@@ -36,6 +36,6 @@ lent_as f xs i r h = ap (option_map f) (lent_is xs i r h) ∙ sym (slice_get-map
 
 -- where two lists differ, one of them has an element
 pub one_is_there : {X Y : Type 0} (f : X → Y) (A B : List X) (i : ℕ) (r s : Option (Bor X)) → IsItemAt A i r → IsItemAt B i s → slice_get (map f A) i ≢ slice_get (map f B) i → IsNone (option_copied r) → IsNone (option_copied s) → ⊥
-one_is_there f A B i None None h k differ no none = differ (sym (lent_as f A i None h) ∙ lent_as f B i None k)
-one_is_there f A B i None (Some y) h k differ no none = cc
-one_is_there f A B i (Some x) s h k differ no none = cc
+one_is_there f A B i None None h k differ gone none = differ (sym (lent_as f A i None h) ∙ lent_as f B i None k)
+one_is_there f A B i None (Some y) h k differ gone none = cc
+one_is_there f A B i (Some x) s h k differ gone none = cc

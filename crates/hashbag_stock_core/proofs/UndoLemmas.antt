@@ -1,7 +1,7 @@
 -- Opposite movements: what they bring in and take out, and when none of them is refused.
 use Rattle.std.proofs.Common.{◌≡◌, ◌≢◌, ℕ, ◌+◌, ◌-◌, ◌<◌, ◌≤◌, nat_lt, Bool, true, false, cond, List, [], ◌∷◌, ◌++◌, Ordering, refl, sym, ◌∙◌, ap, subst, inl, inr, arith}
 use Rattle.std.specs.Cmp.{IsEquivalence}
-use Rattle.std.proofs.lemmas.Bool.{ltb-true, ltb-false}
+use Rattle.std.proofs.lemmas.Bool.{cases_Bool, ltb-true, ltb-false}
 use Rattle.std.proofs.lemmas.List.{append_assoc, append-nil}
 use Rattle.std.proofs.lemmas.List.Sums.{sum_by-append, sum_by-cons, sum_by_push}
 use Rattle.hashbag_lists.specs.Quantities.{IsBalance}
@@ -59,9 +59,16 @@ returned m n = record { place = m.place; article = m.article; change = In n }
 abbrev removed : {T : Type 0} → Movement T → ℕ → Movement T
 removed m n = record { place = m.place; article = m.article; change = Out n }
 
-zero_if : (b : Bool) → cond b 0 0 ≡ 0
+zero_if : (b : Bool) → ◌≡◌ {A = ℕ} (cond b 0 0) 0
 zero_if true = refl
 zero_if false = refl
+
+-- nothing is below zero
+none_below : (n : ℕ) → nat_lt n 0 ≡ false
+none_below n = elim (cases_Bool (nat_lt n 0)) [
+  | inl yes ↦ let below : n < 0 = ltb-true n 0 yes in absurd (omega arith)
+  | inr not_so ↦ not_so
+]
 
 module _ {T : Type 0} (eq : T → T → Bool) where
   abbrev brings : T → Movement T → ℕ
@@ -139,7 +146,9 @@ module _ {T : Type 0} (eq : T → T → Bool) where
     none_returned (m ∷ ms) E later =
         elim m.change as (λ c. refused_after eq start E (coming_back m c (returns_of ms) ++ later) ≡ refused_after eq start (E ++ coming_back m c (returns_of ms)) later) [
           | In n ↦ none_returned ms E later
-          | Out n ↦ none_returned ms (E ++ returned m n ∷ []) later ∙ ap (λ (l : List (Movement T)). refused_after eq start l later) (append_assoc E (returned m n ∷ []) (returns_of ms))
+          | Out n ↦
+              ap (λ (b : Bool). cond b (refusal eq start E (returned m n) ∷ refused_after eq start E (returns_of ms ++ later)) (refused_after eq start (E ++ returned m n ∷ []) (returns_of ms ++ later))) (none_below (there eq start E m.article))
+              ∙ none_returned ms (E ++ returned m n ∷ []) later ∙ ap (λ (l : List (Movement T)). refused_after eq start l later) (append_assoc E (returned m n ∷ []) (returns_of ms))
         ]
 
     -- after these, more of an article goes out than was there and came in
