@@ -1,7 +1,7 @@
 -- Opposite movements: what they bring in and take out, and when none of them is refused.
 use Rattle.std.proofs.Common.{◌≡◌, ◌≢◌, ℕ, ◌+◌, ◌-◌, ◌<◌, ◌≤◌, nat_lt, Bool, true, false, cond, List, [], ◌∷◌, ◌++◌, Ordering, refl, sym, ◌∙◌, ap, subst, inl, inr, arith}
 use Rattle.std.specs.Cmp.{IsEquivalence}
-use Rattle.std.proofs.lemmas.Bool.{cases_Bool, ltb-true, ltb-false}
+use Rattle.std.proofs.lemmas.Bool.{ltb-true, ltb-false}
 use Rattle.std.proofs.lemmas.List.{append_assoc, append-nil}
 use Rattle.std.proofs.lemmas.List.Sums.{sum_by-append, sum_by-cons, sum_by_push}
 use Rattle.hashbag_lists.specs.Quantities.{IsBalance}
@@ -65,10 +65,11 @@ zero_if false = refl
 
 -- nothing is below zero
 none_below : (n : ℕ) → nat_lt n 0 ≡ false
-none_below n = elim (cases_Bool (nat_lt n 0)) [
-  | inl yes ↦ let below : n < 0 = ltb-true n 0 yes in absurd (omega arith)
-  | inr not_so ↦ not_so
-]
+none_below n = by_case (nat_lt n 0) refl
+  where
+    by_case : (b : Bool) → nat_lt n 0 ≡ b → b ≡ false
+    by_case true is = absurd (let below : n < 0 = ltb-true n 0 is in omega arith)
+    by_case false is = refl
 
 module _ {T : Type 0} (eq : T → T → Bool) where
   abbrev brings : T → Movement T → ℕ
@@ -85,7 +86,7 @@ module _ {T : Type 0} (eq : T → T → Bool) where
       let came_later = later.0 in
       let went_later = later.1 in
       let all = sum_by-cons (takes v) m ms in
-      let nothing : cond (eq v m.article) 0 0 ≡ 0 = zero_if (eq v m.article) in
+      let nothing : ◌≡◌ {A = ℕ} (cond (eq v m.article) 0 0) 0 = zero_if (eq v m.article) in
       (elim m.change as (λ c. m.change ≡ c → (came eq v (coming_back m c (returns_of ms)) ≡ went eq v (m ∷ ms)) × (went eq v (coming_back m c (returns_of ms)) ≡ 0)) [
         | In n ↦ λ is.
             let none : takes v m ≡ 0 = ap (λ (c : Change). cond (eq v m.article) (going c) 0) is ∙ nothing in
@@ -104,7 +105,7 @@ module _ {T : Type 0} (eq : T → T → Bool) where
       let went_later = later.0 in
       let came_later = later.1 in
       let all = sum_by-cons (brings v) m ms in
-      let nothing : cond (eq v m.article) 0 0 ≡ 0 = zero_if (eq v m.article) in
+      let nothing : ◌≡◌ {A = ℕ} (cond (eq v m.article) 0 0) 0 = zero_if (eq v m.article) in
       (elim m.change as (λ c. m.change ≡ c → (went eq v (going_back m c (removals_of ms)) ≡ came eq v (m ∷ ms)) × (came eq v (going_back m c (removals_of ms)) ≡ 0)) [
         | In n ↦ λ is.
             let turned = sum_by-cons (takes v) (removed m n) (removals_of ms) in
@@ -174,7 +175,7 @@ module _ {T : Type 0} (eq : T → T → Bool) where
               let went_too = sum_by_push (takes v) E (removed m n) in
               let all = sum_by-cons (takes v) (removed m n) later in
               let short = found.1 in
-              let nothing : cond (eq v m.article) 0 0 ≡ 0 = zero_if (eq v m.article) in
+              let nothing : ◌≡◌ {A = ℕ} (cond (eq v m.article) 0 0) 0 = zero_if (eq v m.article) in
               (v, omega arith)
 
       below_zero : (ms E : List (Movement T)) → refused_after eq start E (removals_of ms) ≢ [] → IsShort E (removals_of ms)
