@@ -31,8 +31,8 @@ pub struct Request<'a> {
     pub strict: bool,
 }
 
-// Returns the columns of two or three names with commas between them.
-fn columns_of(names: &str) -> Option<Columns<&str>> {
+/// Returns the columns of two or three names with commas between them.
+pub fn columns_of(names: &str) -> Option<Columns<&str>> {
     let mut parts = names.split(',');
     let article = parts.next()?;
     let second = parts.next()?;
@@ -47,8 +47,8 @@ fn columns_of(names: &str) -> Option<Columns<&str>> {
     Some(Columns { article, change })
 }
 
-// Returns two names that have a comma between them.
-fn pair_of(names: &str) -> Option<(&str, &str)> {
+/// Returns two names that have a comma between them.
+pub fn pair_of(names: &str) -> Option<(&str, &str)> {
     let (first, second) = names.split_once(',')?;
     if second.contains(',') {
         return None;

@@ -13,9 +13,11 @@ pub const COLUMNS: &str = "article,change";
 /// The default columns of the stock at the beginning.
 pub const START_COLUMNS: &str = "article,number";
 
-static SCALES: [&str; 10] = ["0", "1", "2", "3", "4", "5", "6", "7", "8", "9"];
+/// The numbers of decimals that numbers may have.
+pub static SCALES: [&str; 10] = ["0", "1", "2", "3", "4", "5", "6", "7", "8", "9"];
 
-static MARKS: [&str; 2] = [".", ","];
+/// What may be before decimals.
+pub static MARKS: [&str; 2] = [".", ","];
 
 const ABOUT: &str = "Enters movements into a stock, and writes the balance.";
 
@@ -25,6 +27,9 @@ A change is `5` or `+5` for what comes in, and `-5` for what goes out. With thre
 A movement that asks for more than is there at that time is refused, and named with its file and line. The others are entered.
 The balance is CSV with the columns of the stock, articles rising, and may be the --start of the next run. All is read before
 anything is written, so the balance may replace the stock: hashbag_ledger --start stock.csv monday.csv -o stock.csv
+
+A database keeps a stock: hashbag_ledger enter --db stock.db monday.csv. If the first word is enter, balance, history, batches, undo,
+verify or close, it is a subcommand on the database of --db; hashbag_ledger enter --help has its arguments.
 
 Status: 0 all entered, 1 some refused, 2 bad arguments or a bad line (FILE:LINE is named), 3 no memory, 4 a file can't be opened, or
 a read or a write failed, 5 a total of more than 2^64-1. With 2 to 5 the file of -o is unchanged.";

@@ -5,6 +5,7 @@ mod arguments;
 mod command;
 mod inputs;
 mod outputs;
+mod stock;
 
 use crate::arguments::{Request, parse};
 use crate::command::PROGRAM;
@@ -110,6 +111,12 @@ fn run(rt: &HostRuntime) -> u8 {
         Ok(words) => words,
         Err(trouble) => return trouble.report(rt, PROGRAM),
     };
+    if words
+        .get(1)
+        .is_some_and(|word| stock::is_job(word.as_str()))
+    {
+        return stock::run(rt, words.as_slice());
+    }
     let request = match parse(rt, words.as_slice()) {
         Ok(request) => request,
         Err(status) => return status,

@@ -25,15 +25,15 @@ pub struct Outputs<'a> {
     balance: Option<NamedOutput<'a>>,
 }
 
-// An output with its name.
+/// An output that has been opened, with its name.
 #[derive(Drop)]
-struct NamedOutput<'a> {
+pub struct NamedOutput<'a> {
     name: &'a str,
     file: OutputFile<File>,
 }
 
-// Returns whether two names are of one file. If there is no file of a name, the names are compared.
-fn is_same(rt: &HostRuntime, first: &str, second: &str) -> bool {
+/// Returns whether two names are of one file. If there is no file of a name, the names are compared.
+pub fn is_same(rt: &HostRuntime, first: &str, second: &str) -> bool {
     first == second || is_one_file(rt, first, second)
 }
 
@@ -68,8 +68,12 @@ fn trouble_with<'a>(file: &'a str, error: io::Error) -> Trouble<'a> {
     }
 }
 
-// Opens an output, if one is named.
-fn open<'a>(
+/// Opens an output, if one is named.
+///
+/// # Errors
+///
+/// Why it can't be opened. Then a file of that name is unchanged.
+pub fn open<'a>(
     rt: &HostRuntime,
     name: Option<&'a str>,
 ) -> Result<Option<NamedOutput<'a>>, Trouble<'a>> {
@@ -122,15 +126,19 @@ impl<'a> Outputs<'a> {
     }
 }
 
-// Writes nothing to an output.
-fn abandon(rt: &HostRuntime, output: Option<NamedOutput<'_>>) {
+/// Writes nothing to an output.
+pub fn abandon(rt: &HostRuntime, output: Option<NamedOutput<'_>>) {
     if let Some(NamedOutput { file, .. }) = output {
         file.abandon(rt);
     }
 }
 
-// Writes the refusals to their output, or to standard error.
-fn write_refusals<'a>(
+/// Writes the refusals to their output, or to standard error.
+///
+/// # Errors
+///
+/// Why they can't be written.
+pub fn write_refusals<'a>(
     rt: &HostRuntime,
     output: Option<NamedOutput<'a>>,
     text: &[u8],
@@ -151,9 +159,22 @@ fn write_balance<'a>(
         abandon(rt, output);
         return Ok(());
     };
+    write_table(rt, output, text.as_slice())
+}
+
+/// Writes a table to its output, or to standard output.
+///
+/// # Errors
+///
+/// Why it can't be written.
+pub fn write_table<'a>(
+    rt: &HostRuntime,
+    output: Option<NamedOutput<'a>>,
+    text: &[u8],
+) -> Result<(), Trouble<'a>> {
     match output {
-        Some(output) => write_file(rt, output, text.as_slice()),
-        None => write_text(&mut io::writer(rt), text.as_slice()),
+        Some(output) => write_file(rt, output, text),
+        None => write_text(&mut io::writer(rt), text),
     }
 }
 

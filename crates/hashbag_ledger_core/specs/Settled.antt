@@ -11,6 +11,10 @@ module _ {T : Type 0} (eq : T → T → Bool) where
   abbrev pub listed : List (T × ℕ) → T → ℕ
   listed L v = quantity eq v L
 
-  -- with the movement at this place the total, which at first is that of the list, would pass `usize::MAX`
+  -- with the movement at this place the total, which at first is that of the list, would pass the most
+  abbrev pub IsPastWithin : ℕ → List (T × ℕ) → List (Movement T) → Place → Type 0
+  IsPastWithin most L ms place = IsPast eq (listed L) (numbers L) most ms place
+
+  -- so with `usize::MAX` for the most
   abbrev pub IsPastFrom : List (T × ℕ) → List (Movement T) → Place → Type 0
-  IsPastFrom L ms place = IsPast eq (listed L) (numbers L) greatest_total ms place
+  IsPastFrom L ms place = IsPastWithin greatest_total L ms place

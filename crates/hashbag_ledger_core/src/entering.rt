@@ -13,7 +13,7 @@ use std::hash::{BuildHasher, Hash};
 pub enum LedgerError {
     /// An allocation failed.
     Memory,
-    /// The numbers of the stock at the beginning are more than `usize::MAX` together.
+    /// The numbers of the stock at the beginning are more than the limit together.
     StartTooMany,
     /// With the movement at this place the total of the stock would pass its limit.
     TooMany(Place),

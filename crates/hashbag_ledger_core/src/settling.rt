@@ -4,7 +4,7 @@ ghost use Rattle.hashbag.specs.Occurrences.{count};
 ghost use Rattle.hashbag_lists.specs.Quantities.{numbers, quantity, IsBalance};
 ghost use Rattle.hashbag_ledger_core.specs.declared.movements.Place.{Place};
 ghost use Rattle.hashbag_ledger_core.specs.Ledger.{in_the_end, refused_of, Leaves};
-ghost use Rattle.hashbag_ledger_core.specs.Settled.{listed, IsPastFrom};
+ghost use Rattle.hashbag_ledger_core.specs.Settled.{listed, IsPastFrom, IsPastWithin};
 
 use crate::entering::{LedgerError, enter_all};
 use crate::movements::{Movement, Refusal};
@@ -22,9 +22,9 @@ pub struct Entered<T> {
     pub refusals: Vec<Refusal<T>>,
 }
 
-// Returns whether the numbers of a list are at most `usize::MAX` together.
-fn numbers_fit<T>(list: &[(T, usize)]) -> bool
-    ensures { IsTrue result ↔ (numbers list.now ≤ usize.MAX) }
+// Returns whether the numbers of a list are at most `most` together.
+fn numbers_fit<T>(list: &[(T, usize)], most: usize) -> bool
+    ensures { IsTrue result ↔ (numbers list.now ≤ most) }
 {
     let mut total = 0usize;
     for entry in list {
@@ -33,30 +33,74 @@ fn numbers_fit<T>(list: &[(T, usize)]) -> bool
             None => return false,
         }
     }
-    true
+    total <= most
 }
 
-// Returns the stock that a list names. Its limit is `usize::MAX`.
-fn stock_at_start<T: Eq + Hash + Drop, S: BuildHasher + Drop>(
+// Returns the stock that a list names, without a limit.
+fn stock_of_list<T: Eq + Hash + Drop, S: BuildHasher + Drop>(
     alloc: Global,
     state: S,
     list: Vec<(T, usize)>,
 ) -> Result<HashBag<T, S>, LedgerError>
+    requires { numbers list.items ≤ usize.MAX }
     ensures counts { IfOk result (λ stock. (v : T) → count T.eq v stock.items ≡ quantity T.eq v list.items) }
     ensures len { IfOk result (λ stock. length stock.items ≡ numbers list.items) }
-    ensures limit { IfOk result (λ stock. stock.most ≡ usize.MAX) }
-    ensures too_many { (result ≡ Err LedgerError.StartTooMany) ↔ (usize.MAX < numbers list.items) }
-    ensures fits { OnOk result (numbers list.items ≤ usize.MAX) }
-    ensures only_memory { numbers list.items ≤ usize.MAX → IfErr result (λ e. e ≡ LedgerError.Memory) }
+    ensures only { IfErr result (λ e. e ≡ LedgerError.Memory) }
 {
-    if !numbers_fit(&list) {
-        return Err(LedgerError::StartTooMany);
-    }
     let mut stock = HashBag::with_hasher(alloc, state);
     match stock.extend_many(list.into_iter()) {
         Ok(()) => Ok(stock),
         Err(_) => Err(LedgerError::Memory),
     }
+}
+
+// Returns the stock that a list names. Its limit is `most`.
+fn stock_at_start<T: Eq + Hash + Drop, S: BuildHasher + Drop>(
+    alloc: Global,
+    state: S,
+    most: usize,
+    list: Vec<(T, usize)>,
+) -> Result<HashBag<T, S>, LedgerError>
+    ensures counts { IfOk result (λ stock. (v : T) → count T.eq v stock.items ≡ quantity T.eq v list.items) }
+    ensures len { IfOk result (λ stock. length stock.items ≡ numbers list.items) }
+    ensures limit { IfOk result (λ stock. stock.most ≡ most) }
+    ensures too_many { (result ≡ Err LedgerError.StartTooMany) ↔ (most < numbers list.items) }
+    ensures fits { OnOk result (numbers list.items ≤ most) }
+    ensures only_memory { numbers list.items ≤ most → IfErr result (λ e. e ≡ LedgerError.Memory) }
+{
+    if !numbers_fit(&list, most) {
+        return Err(LedgerError::StartTooMany);
+    }
+    let mut stock = stock_of_list(alloc, state, list)?;
+    match stock.set_limit(most) {
+        Ok(()) => Ok(stock),
+        Err(_) => Err(LedgerError::StartTooMany),
+    }
+}
+
+/// Enters movements as [`settle`] does, into a stock whose total may never pass `most`.
+///
+/// # Errors
+///
+/// As of [`settle`], with `most` in the place of `usize::MAX`.
+pub fn settle_within<T: Ord + Hash + Drop, S: BuildHasher + Drop>(
+    alloc: Global,
+    state: S,
+    most: usize,
+    start: Vec<(T, usize)>,
+    movements: Vec<Movement<T>>,
+) -> Result<Entered<T>, LedgerError>
+    ensures balance { IfOk result (λ e. IsBalance T.eq T.cmp (in_the_end T.eq (listed T.eq start.items) movements.items) e.balance.items) }
+    ensures leaves { IfOk result (λ e. Leaves T.eq (listed T.eq start.items) movements.items (listed T.eq e.balance.items)) }
+    ensures refusals { IfOk result (λ e. e.refusals.items ≡ refused_of T.eq (listed T.eq start.items) movements.items) }
+    ensures too_many { (result ≡ Err LedgerError.StartTooMany) ↔ (most < numbers start.items) }
+    ensures fit { OnOk result ((p : Place) → ¬ (IsPastWithin T.eq most start.items movements.items p)) }
+    ensures past { IfErr result (λ e. (p : Place) → e ≡ LedgerError.TooMany p → IsPastWithin T.eq most start.items movements.items p) }
+{
+    let mut stock = stock_at_start(alloc, state, most, start)?;
+    let refusals = enter_all(alloc, &mut stock, movements)?;
+    let balance = balance_of(alloc, stock)?;
+    Ok(Entered { balance, refusals })
 }
 
 /// Enters movements, in turn, into a stock that begins as a list, and returns the balance and the refusals.
@@ -86,8 +130,5 @@ pub fn settle<T: Ord + Hash + Drop, S: BuildHasher + Drop>(
     ensures fit { OnOk result ((p : Place) → ¬ (IsPastFrom T.eq start.items movements.items p)) }
     ensures past { IfErr result (λ e. (p : Place) → e ≡ LedgerError.TooMany p → IsPastFrom T.eq start.items movements.items p) }
 {
-    let mut stock = stock_at_start(alloc, state, start)?;
-    let refusals = enter_all(alloc, &mut stock, movements)?;
-    let balance = balance_of(alloc, stock)?;
-    Ok(Entered { balance, refusals })
+    settle_within(alloc, state, usize::MAX, start, movements)
 }

@@ -17,3 +17,9 @@ pub const IO_FAILED: u8 = 4;
 
 /// The numbers add up to more than 2^64-1.
 pub const TOTAL_TOO_LARGE: u8 = 5;
+
+/// A file was entered before, so nothing is entered.
+pub const ENTERED_BEFORE: u8 = 6;
+
+/// Another process has the file of a database open.
+pub const IN_USE: u8 = 7;

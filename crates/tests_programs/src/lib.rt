@@ -1,4 +1,5 @@
-//! The tests of the crates that the programs are made of: words and their counts, lists with quantities, matches and movements.
+//! The tests of the crates that the programs are made of: words and their counts, lists with quantities, matches,
+//! movements, and what is decided of a stock that is kept.
 #![tactic(auto)]
 
 #[cfg(test)]
@@ -9,5 +10,7 @@ mod matches;
 mod movements;
 #[cfg(test)]
 mod sorted;
+#[cfg(test)]
+mod stock;
 #[cfg(test)]
 mod words;

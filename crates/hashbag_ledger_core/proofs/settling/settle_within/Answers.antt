@@ -1,11 +1,10 @@
 use Rattle.std.proofs.Common.{length}
 use Rattle.std.proofs.lemmas.Result.{err_from_is_err_and}
-use Rattle.hashbag.specs.Occurrences.{greatest_total}
 use Rattle.hashbag_lists.specs.Quantities.{numbers}
 use Rattle.hashbag_ledger_core.specs.Ledger.{stock_of}
 use Rattle.hashbag_ledger_core.specs.Settled.{listed}
 use Rattle.hashbag_ledger_core.proofs.SettleLemmas.{leaves_of_start, balance_of_start, refused_of_start, past_of_start, fit_of_start}
-use Rattle.hashbag_ledger_core.proofs.settling.settle.Goals as goal
+use Rattle.hashbag_ledger_core.proofs.settling.settle_within.Goals as goal
 
 pub returns-clause-balance : goal.returns-clause-balance
 returns-clause-balance g c =
@@ -26,7 +25,7 @@ pub returns-clause-fit : goal.returns-clause-fit
 returns-clause-fit g c = λ p.
     let eq = g.T.PartialEq.eq in
     let stock = c.in_ok-stock.stock in
-    fit_of_start eq (stock_of eq stock.items) (listed eq c.args.start.items) c.in_ok-stock.ensures.counts c.args.movements.items (length stock.items) stock.most (numbers c.args.start.items) greatest_total p c.in_ok-stock.ensures.len c.in_ok-stock.ensures.limit
+    fit_of_start eq (stock_of eq stock.items) (listed eq c.args.start.items) c.in_ok-stock.ensures.counts c.args.movements.items (length stock.items) stock.most (numbers c.args.start.items) c.args.most p c.in_ok-stock.ensures.len c.in_ok-stock.ensures.limit
     (c.in_ok-refusals.ensures.fit p)
 
 pub returns-in_err-refusals-clause-past : goal.returns-in_err-refusals-clause-past
@@ -36,5 +35,5 @@ returns-in_err-refusals-clause-past g c =
     let error = err_from_is_err_and c.from_residual-in_err-refusals.result c.from_residual-in_err-refusals.ensures.1 in
     rw (error.1, error.2)
     (λ p is.
-    past_of_start eq (stock_of eq stock.items) (listed eq c.args.start.items) c.in_ok-stock.ensures.counts c.args.movements.items (length stock.items) stock.most (numbers c.args.start.items) greatest_total p c.in_ok-stock.ensures.len c.in_ok-stock.ensures.limit
+    past_of_start eq (stock_of eq stock.items) (listed eq c.args.start.items) c.in_ok-stock.ensures.counts c.args.movements.items (length stock.items) stock.most (numbers c.args.start.items) c.args.most p c.in_ok-stock.ensures.len c.in_ok-stock.ensures.limit
     (c.in_err-refusals.ensures.past p is))

@@ -1,0 +1,202 @@
+//! The arguments of the subcommands, and their help.
+use crate::command::{COLUMNS, MARKS, PROGRAM, SCALES, START_COLUMNS};
+use clap::{Arg, ArgAction, Command, Error, value_parser};
+use hashbag_lists::delimiter::NAMES;
+use hashbag_shell::VERSION;
+use std::alloc::Global;
+
+const ABOUT: &str = "Keeps a stock in a database.";
+
+const AFTER: &str = "\
+The database is a SQLite file; `sqlite3 stock.db` reads it too. Once a batch is entered it is on the disk. A file whose bytes were
+entered before is not entered again.
+
+Status: 0 done, 1 some movements were refused, an undo was refused, or the stock doesn't agree with its movements, 2 bad arguments, a
+bad line or no stock, 3 no memory, 4 a file can't be opened, or a read or a write failed, 5 a total of more than 2^63-1, 6 a file was
+entered before, 7 another process has the database open.";
+
+/// Returns whether this first word names a subcommand.
+pub fn is_job(word: &str) -> bool {
+    matches!(
+        word,
+        "enter" | "balance" | "history" | "batches" | "undo" | "verify" | "close"
+    )
+}
+
+// Returns a subcommand on a database.
+fn job<'a>(alloc: Global, name: &'a str, about: &'a str) -> Result<Command<'a>, Error> {
+    let db = Arg::new(alloc, "db")
+        .long("db")
+        .value_name("FILE")
+        .required(true)
+        .action(ArgAction::Set)
+        .help("The database");
+    let wait = Arg::new(alloc, "wait")
+        .long("wait")
+        .value_name("SECONDS")
+        .value_parser(value_parser!(usize))
+        .default_value("5")
+        .help("How long to wait while another process has the database open");
+    Ok(Command::new(alloc, name).about(about).arg(db)?.arg(wait)?)
+}
+
+// Adds how fields are delimited, and numbers written.
+fn with_form<'a>(alloc: Global, command: Command<'a>) -> Result<Command<'a>, Error> {
+    let mark = Arg::new(alloc, "mark")
+        .long("mark")
+        .value_name("MARK")
+        .value_parser(MARKS.as_slice())
+        .default_value(".")
+        .help("What is before decimals");
+    let delimiter = Arg::new(alloc, "delimiter")
+        .long("delimiter")
+        .value_name("DELIMITER")
+        .value_parser(NAMES.as_slice())
+        .default_value(",")
+        .help("What is between fields");
+    Ok(command.arg(mark)?.arg(delimiter)?)
+}
+
+// Adds where a table is written.
+fn with_output<'a>(alloc: Global, command: Command<'a>) -> Result<Command<'a>, Error> {
+    let output = Arg::new(alloc, "output")
+        .short('o')
+        .long("output")
+        .value_name("FILE")
+        .help("Where the table is written, in place of standard output");
+    Ok(with_form(alloc, command)?.arg(output)?)
+}
+
+// Adds the inputs of `enter`.
+fn with_inputs<'a>(alloc: Global, command: Command<'a>) -> Result<Command<'a>, Error> {
+    let moves = Arg::new(alloc, "MOVES.csv")
+        .num_args(0..)
+        .action(ArgAction::Append)
+        .help("Movements, each file a batch; `-` is standard input");
+    let from = Arg::new(alloc, "from")
+        .long("from")
+        .value_name("STOCK.csv")
+        .help("The stock at the beginning, for a database that has none");
+    let start_columns = Arg::new(alloc, "start-columns")
+        .long("start-columns")
+        .value_name("NAMES")
+        .default_value(START_COLUMNS)
+        .help("The columns of the stock at the beginning");
+    let columns = Arg::new(alloc, "columns")
+        .long("columns")
+        .value_name("NAMES")
+        .default_value(COLUMNS)
+        .help("The columns of movements: article,change or article,kind,number");
+    Ok(
+        command
+            .arg(from)?
+            .arg(start_columns)?
+            .arg(columns)?
+            .arg(moves)?,
+    )
+}
+
+fn enter<'a>(alloc: Global) -> Result<Command<'a>, Error> {
+    let scale = Arg::new(alloc, "scale")
+        .long("scale")
+        .value_name("D")
+        .value_parser(SCALES.as_slice())
+        .help("How many decimals numbers may have; a new database keeps it, 0 by default");
+    let refused = Arg::new(alloc, "refused")
+        .long("refused")
+        .value_name("FILE")
+        .help("Where refusals are written as CSV, in place of standard error");
+    let strict = Arg::new(alloc, "strict")
+        .long("strict")
+        .action(ArgAction::SetTrue)
+        .help("Enters nothing if a movement is refused");
+    let again = Arg::new(alloc, "again")
+        .long("again")
+        .action(ArgAction::SetTrue)
+        .help("Enters a file also if it was entered before");
+    let command = job(
+        alloc,
+        "enter",
+        "Enters files of movements, each whole or not at all",
+    )?;
+    let command = with_form(alloc, with_inputs(alloc, command)?)?;
+    Ok(command.arg(scale)?.arg(refused)?.arg(strict)?.arg(again)?)
+}
+
+fn balance<'a>(alloc: Global) -> Result<Command<'a>, Error> {
+    let articles = Arg::new(alloc, "ARTICLE")
+        .num_args(0..)
+        .action(ArgAction::Append)
+        .help(
+            "Articles to be written, each with 0 if there are none; all that there are by default",
+        );
+    with_output(
+        alloc,
+        job(alloc, "balance", "Writes the balance")?.arg(articles)?,
+    )
+}
+
+fn history<'a>(alloc: Global) -> Result<Command<'a>, Error> {
+    let article = Arg::new(alloc, "ARTICLE")
+        .required(true)
+        .action(ArgAction::Append)
+        .help("The article");
+    let command = job(
+        alloc,
+        "history",
+        "Writes the movements of an article, with the balance after each",
+    )?;
+    with_output(alloc, command.arg(article)?)
+}
+
+fn undo<'a>(alloc: Global) -> Result<Command<'a>, Error> {
+    let batch = Arg::new(alloc, "BATCH")
+        .required(true)
+        .value_parser(value_parser!(usize))
+        .help("The number of the batch");
+    Ok(job(
+        alloc,
+        "undo",
+        "Enters the opposite movements of a batch, all or none",
+    )?
+    .arg(batch)?)
+}
+
+fn close<'a>(alloc: Global) -> Result<Command<'a>, Error> {
+    let into = Arg::new(alloc, "into")
+        .long("into")
+        .value_name("FILE")
+        .required(true)
+        .action(ArgAction::Set)
+        .help("The new database");
+    Ok(job(
+        alloc,
+        "close",
+        "Begins a new database with the balance of this one",
+    )?
+    .arg(into)?)
+}
+
+/// Returns the command with its subcommands.
+pub fn command<'a>(alloc: Global) -> Result<Command<'a>, Error> {
+    let batches = job(alloc, "batches", "Writes what was entered, and when")?;
+    let verify = job(
+        alloc,
+        "verify",
+        "Counts all movements again, and compares the balance and the refusals",
+    )?;
+    Ok(
+        Command::new(alloc, PROGRAM)
+            .version(VERSION)
+            .about(ABOUT)
+            .after_help(AFTER)
+            .subcommand_required(true)
+            .subcommand(enter(alloc)?)?
+            .subcommand(balance(alloc)?)?
+            .subcommand(history(alloc)?)?
+            .subcommand(with_output(alloc, batches)?)?
+            .subcommand(undo(alloc)?)?
+            .subcommand(verify)?
+            .subcommand(close(alloc)?)?,
+    )
+}

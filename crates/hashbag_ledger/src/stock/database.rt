@@ -1,0 +1,99 @@
+//! The file of a database.
+use crate::stock::failure::Failure;
+use crate::stock::request::Request;
+use hashbag_stock::error::StockError;
+use hashbag_stock::tables::{Form, form_of};
+use sqlite::{Connection, Error, ErrorCode, File, FileStore};
+use std::io::ErrorKind;
+use std::time::Duration;
+use std::{fs, thread};
+
+/// A database in a file.
+pub type Db = Connection<FileStore<File>>;
+
+// How many milliseconds pass before a file that is in use is tried again, and how often in a second that is.
+const PAUSE: u64 = 50;
+
+const TRIES: usize = 20;
+
+/// Returns the failure of an error of a database.
+pub fn failure_of<'a>(db: &'a str, error: StockError) -> Failure<'a> {
+    match error {
+        StockError::Memory => Failure::from(std::alloc::AllocError),
+        error => Failure::Stock { db, error },
+    }
+}
+
+/// Returns what it is, or the failure of the database.
+pub fn in_database<'a, T>(db: &'a str, done: Result<T, StockError>) -> Result<T, Failure<'a>> {
+    match done {
+        Ok(value) => Ok(value),
+        Err(error) => Err(failure_of(db, error)),
+    }
+}
+
+/// Returns whether a file has no byte, or doesn't exist.
+pub fn is_blank(rt: &HostRuntime, name: &str) -> bool {
+    match fs::metadata(rt, name) {
+        Ok(found) => found.is_file() && found.len() == 0,
+        Err(error) => error.kind() == ErrorKind::NotFound,
+    }
+}
+
+// Opens a file, and tries again for some seconds while another process has it open.
+fn open_at<'a>(rt: &HostRuntime, db: &'a str, wait: usize) -> Result<Db, Failure<'a>> {
+    let tries = wait.saturating_mul(TRIES);
+    for i in 0..u64::MAX {
+        match Connection::open(rt, db) {
+            Ok(conn) => return Ok(conn),
+            Err(Error::SqliteFailure(ErrorCode::DatabaseBusy)) if i < tries as u64 => {
+                thread::sleep(rt, Duration::from_millis(PAUSE));
+            }
+            Err(error) => return Err(failure_of(db, StockError::from(error))),
+        }
+    }
+    Err(failure_of(db, StockError::Busy))
+}
+
+/// Opens the database of a stock, or makes it, and returns what it has.
+///
+/// # Errors
+///
+/// Why it gives or takes no stock.
+pub fn open_or_make<'a>(
+    rt: &HostRuntime,
+    db: &'a str,
+    wait: usize,
+) -> Result<(Db, Form), Failure<'a>> {
+    let mut conn = open_at(rt, db, wait)?;
+    let form = in_database(db, form_of(&mut conn))?;
+    Ok((conn, form))
+}
+
+/// Opens the database of a stock, and returns how many decimals its numbers have.
+///
+/// # Errors
+///
+/// `NoFile` or `NoStock` if there is none, or why it gives none.
+pub fn open<'a>(rt: &HostRuntime, request: &Request<'a>) -> Result<(Db, u32), Failure<'a>> {
+    let db = request.db;
+    let log = format!(in rt.alloc(); "{db}-wal")?;
+    if is_blank(rt, db) && is_blank(rt, log.as_str()) {
+        return Err(match fs::metadata(rt, db) {
+            Ok(_) => Failure::NoStock { db },
+            Err(_) => Failure::NoFile { db },
+        });
+    }
+    match open_or_make(rt, db, request.wait)? {
+        (conn, Form::Stock(scale)) => Ok((conn, scale)),
+        (conn, Form::Empty) => {
+            close(conn);
+            Err(Failure::NoStock { db })
+        }
+    }
+}
+
+/// Closes a database. If its log can't be copied into it, the log stays and is copied by the next open.
+pub fn close(conn: Db) {
+    let _ = conn.close();
+}

@@ -1,0 +1,393 @@
+//! Files that are entered into a stock.
+use crate::outputs::{abandon, is_same, open, write_refusals};
+use crate::stock::database::{
+    Db, close as close_database, in_database, is_blank, open as open_stock, open_or_make,
+};
+use crate::stock::failure::Failure;
+use crate::stock::inputs::{Input, digest_of, inputs_of, movements_of};
+use crate::stock::request::Request;
+use hashbag_ledger_core::entering::LedgerError;
+use hashbag_ledger_core::movements::{Movement, Refusal};
+use hashbag_ledger_core::output::{balance_text, refusals_table, refusals_text};
+use hashbag_lists::counts::Reading;
+use hashbag_lists::decimals::write_decimal;
+use hashbag_lists::fault::{Fault, SheetError};
+use hashbag_lists::trouble::Trouble;
+use hashbag_shell::status::{DENIED, DONE};
+use hashbag_stock::error::StockError;
+use hashbag_stock::reading::{balance_of, batches_of};
+use hashbag_stock::tables::Form;
+use hashbag_stock::writing::{Kind, NewBatch, put_batch};
+use hashbag_stock_core::entering::enter_batch;
+use hashbag_stock_core::numbers::MOST;
+use hashbag_stock_core::once::{Batch, entered_before};
+use hashbag_stock_core::rows::{RowChange, changed_rows};
+use std::alloc::{AllocError, Global};
+use std::hash::RandomState;
+
+// A batch that is ready to be written.
+#[derive(Drop)]
+struct Ready {
+    movements: Vec<Movement<String>>,
+    refusals: Vec<Refusal<String>>,
+    changed: Vec<RowChange>,
+}
+
+/// Returns a copy of a balance.
+pub fn copy_of(
+    alloc: Global,
+    balance: &[(String, usize)],
+) -> Result<Vec<(String, usize)>, AllocError> {
+    let mut copy = Vec::new(alloc);
+    for entry in balance {
+        let pair: (String, usize) = (entry.0.clone()?, entry.1);
+        copy.push(pair)?;
+    }
+    Ok(copy)
+}
+
+/// Returns a copy of movements.
+pub fn copies_of(
+    alloc: Global,
+    movements: &[Movement<String>],
+) -> Result<Vec<Movement<String>>, AllocError> {
+    let mut copies = Vec::new(alloc);
+    for movement in movements {
+        copies.push(Movement {
+            place: movement.place,
+            article: movement.article.clone()?,
+            change: movement.change,
+        })?;
+    }
+    Ok(copies)
+}
+
+/// Returns the state that bags of strangers' articles take: its keys are random.
+pub fn random_state<'a>(rt: &HostRuntime) -> Result<RandomState, Failure<'a>> {
+    match RandomState::new(rt) {
+        Ok(state) => Ok(state),
+        Err(error) => Err(Failure::from(Trouble::Random(error))),
+    }
+}
+
+// Returns the failure that the total is past the most with that line of a file.
+fn too_large<'a>(alloc: Global, file: &'a str, line: u64, reading: Reading) -> Failure<'a> {
+    match write_decimal(alloc, MOST, reading.scale) {
+        Ok(most) => {
+            let fault = Fault::TotalPastMost(most);
+            let error = SheetError::Line { line, fault };
+            Failure::from(Trouble::BadLine { file, error })
+        }
+        Err(error) => Failure::from(error),
+    }
+}
+
+/// Returns the failure for an error of the ledger in a batch of this file.
+pub fn failure_in<'a>(
+    alloc: Global,
+    db: &'a str,
+    file: &'a str,
+    reading: Reading,
+    error: LedgerError,
+) -> Failure<'a> {
+    match error {
+        LedgerError::Memory => Failure::from(AllocError),
+        LedgerError::TooMany(place) => too_large(alloc, file, place.line, reading),
+        LedgerError::StartTooMany => Failure::Stock {
+            db,
+            error: StockError::Damaged("a balance past 9223372036854775807 in all"),
+        },
+    }
+}
+
+// Enters a batch into the balance that is kept, which becomes the new balance.
+fn ready_of<'a>(
+    rt: &HostRuntime,
+    request: &Request<'a>,
+    file: &'a str,
+    reading: Reading,
+    kept: &mut Vec<(String, usize)>,
+    movements: Vec<Movement<String>>,
+) -> Result<Ready, Failure<'a>> {
+    let alloc = rt.alloc();
+    let state = random_state(rt)?;
+    let entered = enter_batch(
+        alloc,
+        state,
+        copy_of(alloc, kept.as_slice())?,
+        copies_of(alloc, &movements)?,
+    );
+    match entered {
+        Ok(entered) => {
+            let changed = changed_rows(alloc, kept.as_slice(), &entered.balance)?;
+            *kept = entered.balance;
+            Ok(Ready {
+                movements,
+                refusals: entered.refusals,
+                changed,
+            })
+        }
+        Err(error) => Err(failure_in(alloc, request.db, file, reading, error)),
+    }
+}
+
+// Returns the failure that a file was entered before, or that two of the files have the same bytes.
+fn entered_twice<'a>(inputs: &[Input<'a>], batches: &[Batch]) -> Result<(), Failure<'a>> {
+    for i in 0..inputs.len() {
+        let input = &inputs[i];
+        if let Some(batch) = entered_before(batches, input.sha256.as_str()) {
+            return Err(Failure::EnteredBefore {
+                file: input.file,
+                number: batch.number,
+                name: batch.file.clone()?,
+            });
+        }
+        for other in &inputs[..i] {
+            if other.sha256.as_str() == input.sha256.as_str() {
+                return Err(Failure::SameBytes {
+                    file: input.file,
+                    other: other.file,
+                });
+            }
+        }
+    }
+    Ok(())
+}
+
+// Returns how many decimals the numbers of the stock have, and how many a new one is made with.
+fn scale_of<'a>(request: &Request<'a>, form: Form) -> Result<(u32, Option<u32>), Failure<'a>> {
+    let db = request.db;
+    match (form, request.scale) {
+        (Form::Empty, asked) => {
+            let scale = asked.unwrap_or(0);
+            Ok((scale, Some(scale)))
+        }
+        (Form::Stock(kept), Some(asked)) if kept != asked => Err(Failure::OtherScale {
+            db,
+            kept,
+            asked,
+        }),
+        (Form::Stock(kept), _) => Ok((kept, None)),
+    }
+}
+
+// Returns the batches of the inputs, ready to be written.
+fn all_ready<'a>(
+    rt: &HostRuntime,
+    request: &Request<'a>,
+    inputs: &[Input<'a>],
+    reading: Reading,
+    kept: Vec<(String, usize)>,
+) -> Result<Vec<Ready>, Failure<'a>> {
+    let mut kept = kept;
+    let mut all = Vec::new(rt.alloc());
+    for i in 0..inputs.len() {
+        let input = &inputs[i];
+        let movements = movements_of(rt, request, input, i, reading)?;
+        all.push(ready_of(rt, request, input.file, reading, &mut kept, movements)?)?;
+    }
+    Ok(all)
+}
+
+// Writes the batches, each in a transaction of its own.
+fn write_batches<'a>(
+    conn: &mut Db,
+    db: &'a str,
+    new_scale: Option<u32>,
+    inputs: &[Input<'a>],
+    all: &[Ready],
+) -> Result<(), Failure<'a>> {
+    let mut new_scale = new_scale;
+    for (input, ready) in inputs.iter().zip(all.iter()) {
+        let batch = NewBatch {
+            file: input.file,
+            sha256: input.sha256.as_str(),
+            kind: if input.is_start {
+                Kind::Start
+            } else {
+                Kind::Moves
+            },
+            movements: &ready.movements,
+            refusals: &ready.refusals,
+            changed: &ready.changed,
+        };
+        in_database(db, put_batch(conn, new_scale, &batch))?;
+        new_scale = None;
+    }
+    Ok(())
+}
+
+// Returns all refusals in turn; if only the first is named, no other.
+fn refusals_of(
+    alloc: Global,
+    all: Vec<Ready>,
+    is_first_alone: bool,
+) -> Result<Vec<Refusal<String>>, AllocError> {
+    let mut refusals = Vec::new(alloc);
+    for ready in all {
+        let mut some = ready.refusals;
+        refusals.append(&mut some)?;
+    }
+    if is_first_alone {
+        refusals.truncate(1);
+    }
+    Ok(refusals)
+}
+
+// Enters the inputs, and returns the refusals and how many decimals their numbers have.
+fn entered_of<'a>(
+    rt: &HostRuntime,
+    request: &Request<'a>,
+    inputs: &[Input<'a>],
+) -> Result<(Vec<Refusal<String>>, u32), Failure<'a>> {
+    let alloc = rt.alloc();
+    let db = request.db;
+    if is_blank(rt, db) {
+        // What is wrong with an input is found before the file is made.
+        let reading = request.reading(request.scale.unwrap_or(0));
+        all_ready(rt, request, inputs, reading, Vec::new(alloc))?;
+    }
+    let (mut conn, form) = open_or_make(rt, db, request.wait)?;
+    let (scale, new_scale) = scale_of(request, form)?;
+    let reading = request.reading(scale);
+    let mut kept = Vec::new(alloc);
+    if new_scale.is_none() {
+        if request.from.is_some() {
+            return Err(Failure::HasStock { db });
+        }
+        let batches = in_database(db, batches_of(alloc, &mut conn))?;
+        if !request.again {
+            entered_twice(inputs, &batches)?;
+        }
+        kept = in_database(db, balance_of(alloc, &mut conn))?;
+    } else if !request.again {
+        entered_twice(inputs, &[])?;
+    }
+    let all = all_ready(rt, request, inputs, reading, kept)?;
+    let is_refused = all.iter().any(|ready| !ready.refusals.is_empty());
+    if !(request.strict && is_refused) {
+        write_batches(&mut conn, db, new_scale, inputs, &all)?;
+    }
+    close_database(conn);
+    Ok((refusals_of(alloc, all, request.strict)?, scale))
+}
+
+// Returns the names of the inputs.
+fn names_of<'a>(alloc: Global, inputs: &[Input<'a>]) -> Result<Vec<&'a str>, AllocError> {
+    let mut names = Vec::new(alloc);
+    for input in inputs {
+        names.push(input.file)?;
+    }
+    Ok(names)
+}
+
+// Enters the inputs, and returns the text of the refusals and the status.
+fn report_of<'a>(rt: &HostRuntime, request: &Request<'a>) -> Result<(Vec<u8>, u8), Failure<'a>> {
+    let alloc = rt.alloc();
+    let inputs = inputs_of(rt, request)?;
+    let (refusals, scale) = entered_of(rt, request, &inputs)?;
+    let names = names_of(alloc, &inputs)?;
+    let reading = request.reading(scale);
+    let text = match request.refused {
+        Some(_) => refusals_table(alloc, &names, reading, &refusals)?,
+        None => refusals_text(alloc, &names, reading.scale, &refusals)?.into_bytes(),
+    };
+    Ok((text, if refusals.is_empty() { DONE } else { DENIED }))
+}
+
+// Returns a file that is named for two things.
+fn conflict<'a>(rt: &HostRuntime, request: &Request<'a>) -> Option<&'a str> {
+    for file in request.files.iter().copied() {
+        if is_same(rt, file, request.db) {
+            return Some(file);
+        }
+    }
+    let refused = request.refused?;
+    for other in [Some(request.db), request.from] {
+        if let Some(name) = other
+            && is_same(rt, refused, name)
+        {
+            return Some(refused);
+        }
+    }
+    for file in request.files.iter().copied() {
+        if is_same(rt, refused, file) {
+            return Some(refused);
+        }
+    }
+    None
+}
+
+/// Enters files into the stock, each whole or not at all, and writes the refusals.
+///
+/// # Errors
+///
+/// Why nothing is entered; or, if writing to the database fails, why not all is.
+pub fn enter<'a>(rt: &HostRuntime, request: &Request<'a>) -> Result<u8, Failure<'a>> {
+    if let Some(name) = conflict(rt, request) {
+        return Err(Failure::Conflict(name));
+    }
+    let output = open(rt, request.refused)?;
+    match report_of(rt, request) {
+        Ok((text, status)) => {
+            write_refusals(rt, output, text.as_slice())?;
+            Ok(status)
+        }
+        Err(failure) => {
+            abandon(rt, output);
+            Err(failure)
+        }
+    }
+}
+
+// Begins a new database with a balance, which is entered as a text of CSV would be.
+fn begin<'a>(
+    rt: &HostRuntime,
+    request: &Request<'a>,
+    scale: u32,
+    balance: &[(String, usize)],
+) -> Result<(), Failure<'a>> {
+    let alloc = rt.alloc();
+    let reading = request.reading(scale);
+    let text = balance_text(alloc, ("article", "number"), reading, balance)?;
+    let input = Input {
+        file: request.db,
+        sha256: digest_of(alloc, text.as_slice())?,
+        text,
+        is_start: true,
+    };
+    let (mut conn, form) = open_or_make(rt, request.into, request.wait)?;
+    if form != Form::Empty {
+        return Err(Failure::HasStock { db: request.into });
+    }
+    let movements = movements_of(rt, request, &input, 0, reading)?;
+    let mut kept = Vec::new(alloc);
+    let ready = ready_of(rt, request, input.file, reading, &mut kept, movements)?;
+    let batch = NewBatch {
+        file: input.file,
+        sha256: input.sha256.as_str(),
+        kind: Kind::Start,
+        movements: &ready.movements,
+        refusals: &ready.refusals,
+        changed: &ready.changed,
+    };
+    in_database(request.into, put_batch(&mut conn, Some(scale), &batch))?;
+    close_database(conn);
+    Ok(())
+}
+
+/// Begins a new database with the balance of this one.
+///
+/// # Errors
+///
+/// Why there is no balance, or why the new database takes none.
+pub fn close<'a>(rt: &HostRuntime, request: &Request<'a>) -> Result<u8, Failure<'a>> {
+    if is_same(rt, request.db, request.into) {
+        return Err(Failure::Conflict(request.into));
+    }
+    let (mut conn, scale) = open_stock(rt, request)?;
+    let balance = in_database(request.db, balance_of(rt.alloc(), &mut conn))?;
+    close_database(conn);
+    begin(rt, request, scale, &balance)?;
+    Ok(DONE)
+}

@@ -1,0 +1,142 @@
+//! The inputs of `enter`: their bytes, and the movements in them.
+use crate::stock::failure::Failure;
+use crate::stock::request::Request;
+use hashbag_ledger_core::movements::Movement;
+use hashbag_ledger_core::reading::{ChangeColumns, Columns, read_movements};
+use hashbag_lists::counts::{Reading, read_counts_as};
+use hashbag_lists::decimals::write_decimal;
+use hashbag_lists::fault::{Fault, SheetError};
+use hashbag_lists::files::{in_file, read_file};
+use hashbag_stock_core::numbers::{MOST, plain_change, size_of};
+use sha2::{Digest, Sha256};
+use std::alloc::{AllocError, Global};
+
+/// A file that is to be entered.
+#[derive(Drop)]
+pub struct Input<'a> {
+    /// Its name.
+    pub file: &'a str,
+    /// Its bytes.
+    pub text: Vec<u8>,
+    /// The SHA-256 of its bytes, in hexadecimal digits.
+    pub sha256: String,
+    /// Whether it is the stock at the beginning.
+    pub is_start: bool,
+}
+
+/// Returns the SHA-256 of bytes, in hexadecimal digits.
+pub fn digest_of(alloc: Global, text: &[u8]) -> Result<String, AllocError> {
+    let digest: [u8; 32] = Sha256::digest(text);
+    let mut name = String::new(alloc);
+    for byte in &digest {
+        let n = *byte;
+        write!(name, "{n:02x}")?;
+    }
+    Ok(name)
+}
+
+fn input_of<'a>(rt: &HostRuntime, file: &'a str, is_start: bool) -> Result<Input<'a>, Failure<'a>> {
+    let text = read_file(rt, file)?;
+    Ok(Input {
+        file,
+        sha256: digest_of(rt.alloc(), text.as_slice())?,
+        text,
+        is_start,
+    })
+}
+
+/// Reads the bytes of the stock at the beginning, if there is one, and of all files of movements.
+///
+/// # Errors
+///
+/// What is wrong with the first file that can't be read, or a failed allocation.
+pub fn inputs_of<'a>(
+    rt: &HostRuntime,
+    request: &Request<'a>,
+) -> Result<Vec<Input<'a>>, Failure<'a>> {
+    let mut inputs = Vec::new(rt.alloc());
+    if let Some(file) = request.from {
+        inputs.push(input_of(rt, file, true)?)?;
+    }
+    for file in &request.files {
+        inputs.push(input_of(rt, *file, false)?)?;
+    }
+    Ok(inputs)
+}
+
+// Makes each change one that a row may have.
+fn fit_rows(
+    alloc: Global,
+    movements: Vec<Movement<String>>,
+    reading: Reading,
+) -> Result<Vec<Movement<String>>, SheetError> {
+    let mut all = Vec::new(alloc);
+    for movement in movements {
+        let number = size_of(movement.change);
+        if number > MOST {
+            return Err(SheetError::Line {
+                line: movement.place.line,
+                fault: Fault::PastMost {
+                    most: write_decimal(alloc, MOST, reading.scale)?,
+                    field: write_decimal(alloc, number, reading.scale)?,
+                },
+            });
+        }
+        let Movement {
+            place,
+            article,
+            change,
+        } = movement;
+        all.push(Movement {
+            place,
+            article,
+            change: plain_change(change),
+        })
+        .map_err(AllocError::from)?;
+    }
+    Ok(all)
+}
+
+// Reads the movements of an input.
+fn read<'a>(
+    alloc: Global,
+    request: &Request<'a>,
+    input: &Input<'a>,
+    at: usize,
+    reading: Reading,
+) -> Result<Vec<Movement<String>>, SheetError> {
+    let text = input.text.as_slice();
+    if !input.is_start {
+        return fit_rows(
+            alloc,
+            read_movements(alloc, text, at, request.columns, reading)?,
+            reading,
+        );
+    }
+    // It is read as a list of numbers, which have no sign, and then once more for its lines.
+    let (article, number) = request.start_columns;
+    read_counts_as(alloc, text, article, number, reading)?;
+    let change = ChangeColumns::Signed(number);
+    let columns = Columns { article, change };
+    fit_rows(
+        alloc,
+        read_movements(alloc, text, at, columns, reading)?,
+        reading,
+    )
+}
+
+/// Returns the movements of an input. What a stock at the beginning has comes in.
+///
+/// # Errors
+///
+/// What is wrong with its first bad line, or a failed allocation.
+pub fn movements_of<'a>(
+    rt: &HostRuntime,
+    request: &Request<'a>,
+    input: &Input<'a>,
+    at: usize,
+    reading: Reading,
+) -> Result<Vec<Movement<String>>, Failure<'a>> {
+    let movements = in_file(input.file, read(rt.alloc(), request, input, at, reading))?;
+    Ok(movements)
+}

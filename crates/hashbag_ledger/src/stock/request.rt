@@ -1,0 +1,120 @@
+//! What the arguments of a subcommand ask for.
+use crate::arguments::{columns_of, pair_of};
+use crate::command::{COLUMNS, START_COLUMNS};
+use crate::stock::failure::Failure;
+use clap::ArgMatches;
+use hashbag_ledger_core::reading::Columns;
+use hashbag_lists::counts::Reading;
+use hashbag_lists::delimiter::Delimiter;
+use hashbag_lists::scale::{Mark, Scale};
+use std::alloc::Global;
+
+/// What a subcommand is asked to do.
+#[derive(Drop)]
+pub struct Request<'a> {
+    /// The file of the database.
+    pub db: &'a str,
+    /// For how many seconds to wait while it is in use.
+    pub wait: usize,
+    /// The files of movements.
+    pub files: Vec<&'a str>,
+    /// The file of the stock at the beginning.
+    pub from: Option<&'a str>,
+    /// Its columns of articles and of numbers.
+    pub start_columns: (&'a str, &'a str),
+    /// The columns of movements.
+    pub columns: Columns<&'a str>,
+    /// The scale, if one is named.
+    pub scale: Option<u32>,
+    /// What is before decimals.
+    pub mark: Mark,
+    /// What is between fields.
+    pub delimiter: Delimiter,
+    /// The file to which refusals are written; `None` is standard error.
+    pub refused: Option<&'a str>,
+    /// The file to which a table is written; `None` is standard output.
+    pub output: Option<&'a str>,
+    /// Whether nothing is entered if there is a refusal.
+    pub strict: bool,
+    /// Whether a file is entered that was entered before.
+    pub again: bool,
+    /// The articles that are asked for.
+    pub articles: Vec<&'a str>,
+    /// The batch that is asked for.
+    pub batch: usize,
+    /// The new database.
+    pub into: &'a str,
+}
+
+// Returns the words of a list.
+fn words_of<'a>(
+    alloc: Global,
+    given: &ArgMatches<'a>,
+    name: &str,
+) -> Result<Vec<&'a str>, Failure<'a>> {
+    let mut words = Vec::new(alloc);
+    for word in given.get_strs(name).unwrap_or(&[]) {
+        words.push(*word)?;
+    }
+    Ok(words)
+}
+
+// Returns the files of movements: standard input if none is named, and no stock at the beginning either.
+fn files_of<'a>(alloc: Global, given: &ArgMatches<'a>) -> Result<Vec<&'a str>, Failure<'a>> {
+    let mut files = words_of(alloc, given, "MOVES.csv")?;
+    if files.is_empty() && given.get_str("from").is_none() {
+        files.push("-")?;
+    }
+    Ok(files)
+}
+
+impl<'a> Request<'a> {
+    /// Returns what these arguments ask for.
+    ///
+    /// # Errors
+    ///
+    /// `Columns` or `StartColumns` if the names of columns are too few or too many, `Trouble` if an allocation fails.
+    pub fn of(alloc: Global, given: &ArgMatches<'a>) -> Result<Request<'a>, Failure<'a>> {
+        let names = given.get_str("columns").unwrap_or(COLUMNS);
+        let Some(columns) = columns_of(names) else {
+            return Err(Failure::Columns(names));
+        };
+        let names = given.get_str("start-columns").unwrap_or(START_COLUMNS);
+        let Some(start_columns) = pair_of(names) else {
+            return Err(Failure::StartColumns(names));
+        };
+        let scale = match given.get_str("scale") {
+            Some(digits) => digits.parse().ok(),
+            None => None,
+        };
+        Ok(Request {
+            db: given.get_str("db").unwrap_or(""),
+            wait: given.get_one::<usize>("wait").unwrap_or(5),
+            files: files_of(alloc, given)?,
+            from: given.get_str("from"),
+            start_columns,
+            columns,
+            scale,
+            mark: match given.get_str("mark") {
+                Some(",") => Mark::Comma,
+                _ => Mark::Point,
+            },
+            delimiter: Delimiter::named(given.get_str("delimiter").unwrap_or(",")),
+            refused: given.get_str("refused"),
+            output: given.get_str("output"),
+            strict: given.get_flag("strict"),
+            again: given.get_flag("again"),
+            articles: words_of(alloc, given, "ARTICLE")?,
+            batch: given.get_one::<usize>("BATCH").unwrap_or(0),
+            into: given.get_str("into").unwrap_or(""),
+        })
+    }
+
+    /// Returns how texts are read and written with this many decimals.
+    pub fn reading(&self, decimals: u32) -> Reading {
+        Reading {
+            delimiter: self.delimiter,
+            scale: Scale::new(decimals, self.mark).unwrap_or(Scale::whole()),
+        }
+    }
+}

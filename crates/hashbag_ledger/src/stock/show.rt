@@ -1,0 +1,101 @@
+//! What is shown of a stock: its balance, the history of an article, and the batches.
+use crate::outputs::{is_same, open as open_output, write_table};
+use crate::stock::database::{close, in_database, open};
+use crate::stock::failure::Failure;
+use crate::stock::request::Request;
+use hashbag_ledger_core::output::balance_text;
+use hashbag_shell::status::DONE;
+use hashbag_stock::reading::{balance_of, batches_of, history_of};
+use hashbag_stock_core::output::{batches_text, history_text};
+use std::alloc::{AllocError, Global};
+
+// The columns of a balance.
+const NAMES: (&str, &str) = ("article", "number");
+
+// Returns how many there are of an article.
+fn number_of(balance: &[(String, usize)], article: &str) -> usize {
+    for entry in balance {
+        if entry.0.as_str() == article {
+            return entry.1;
+        }
+    }
+    0
+}
+
+// Returns the entries of these articles, rising, each once.
+fn chosen_of(
+    alloc: Global,
+    balance: &[(String, usize)],
+    articles: &[&str],
+) -> Result<Vec<(String, usize)>, AllocError> {
+    let mut chosen: Vec<(String, usize)> = Vec::new(alloc);
+    for article in articles {
+        if chosen.iter().all(|entry| entry.0.as_str() != *article) {
+            let entry: (String, usize) = (article.to_string(alloc)?, number_of(balance, *article));
+            chosen.push(entry)?;
+        }
+    }
+    chosen.sort_unstable();
+    Ok(chosen)
+}
+
+// Writes a table, and returns the status.
+fn write<'a>(rt: &HostRuntime, request: &Request<'a>, text: &[u8]) -> Result<u8, Failure<'a>> {
+    if let Some(name) = request.output
+        && is_same(rt, name, request.db)
+    {
+        return Err(Failure::Conflict(name));
+    }
+    let output = open_output(rt, request.output)?;
+    write_table(rt, output, text)?;
+    Ok(DONE)
+}
+
+/// Writes the balance, or the numbers of some articles.
+///
+/// # Errors
+///
+/// Why there is none, or why it can't be written.
+pub fn balance<'a>(rt: &HostRuntime, request: &Request<'a>) -> Result<u8, Failure<'a>> {
+    let alloc = rt.alloc();
+    let (mut conn, scale) = open(rt, request)?;
+    let all = in_database(request.db, balance_of(alloc, &mut conn))?;
+    close(conn);
+    let shown = if request.articles.is_empty() {
+        all
+    } else {
+        chosen_of(alloc, &all, &request.articles)?
+    };
+    let text = balance_text(alloc, NAMES, request.reading(scale), &shown)?;
+    write(rt, request, text.as_slice())
+}
+
+/// Writes the movements of an article.
+///
+/// # Errors
+///
+/// As of [`balance`].
+pub fn history<'a>(rt: &HostRuntime, request: &Request<'a>) -> Result<u8, Failure<'a>> {
+    let alloc = rt.alloc();
+    let article = request.articles.first().copied().unwrap_or("");
+    let (mut conn, scale) = open(rt, request)?;
+    let batches = in_database(request.db, batches_of(alloc, &mut conn))?;
+    let events = in_database(request.db, history_of(alloc, &mut conn, article))?;
+    close(conn);
+    let text = history_text(alloc, request.reading(scale), &batches, &events)?;
+    write(rt, request, text.as_slice())
+}
+
+/// Writes the batches.
+///
+/// # Errors
+///
+/// As of [`balance`].
+pub fn batches<'a>(rt: &HostRuntime, request: &Request<'a>) -> Result<u8, Failure<'a>> {
+    let alloc = rt.alloc();
+    let (mut conn, scale) = open(rt, request)?;
+    let batches = in_database(request.db, batches_of(alloc, &mut conn))?;
+    close(conn);
+    let text = batches_text(alloc, request.reading(scale), &batches)?;
+    write(rt, request, text.as_slice())
+}

@@ -1,0 +1,49 @@
+//! Why a database gives or takes no stock.
+use sqlite::ErrorCode;
+use std::alloc::{AllocError, AllocFailed};
+use thiserror::Error;
+
+/// Why a database gives or takes no stock.
+#[derive(Debug, Drop, Error)]
+pub enum StockError {
+    /// The database has tables, and none of them is of a stock.
+    #[error("a database of another program")]
+    Foreign,
+    /// The stock has tables of a later version.
+    #[error("a stock of version {0}, which is later than {known}", known = crate::tables::VERSION)]
+    Later(i64),
+    /// A row of the tables is none that this program writes.
+    #[error("{0}")]
+    Damaged(&'static str),
+    /// Another process has the file open.
+    #[error("another process has it open")]
+    Busy,
+    /// An allocation failed.
+    #[error("no memory")]
+    Memory,
+    /// The database fails.
+    #[error("{0}")]
+    Database(sqlite::Error),
+}
+
+impl From<sqlite::Error> for StockError {
+    fn from(e: sqlite::Error) -> StockError {
+        match e {
+            sqlite::Error::SqliteFailure(ErrorCode::OutOfMemory) => StockError::Memory,
+            sqlite::Error::SqliteFailure(ErrorCode::DatabaseBusy) => StockError::Busy,
+            _ => StockError::Database(e),
+        }
+    }
+}
+
+impl From<AllocError> for StockError {
+    fn from(_e: AllocError) -> StockError {
+        StockError::Memory
+    }
+}
+
+impl<T: Drop> From<AllocFailed<T>> for StockError {
+    fn from(_e: AllocFailed<T>) -> StockError {
+        StockError::Memory
+    }
+}

@@ -1,0 +1,76 @@
+//! The tables of a stock.
+use crate::error::StockError;
+use sqlite::{Alter, Connection, params};
+
+/// The version of the tables.
+pub const VERSION: i64 = 1;
+
+// What is known of the stock as a whole: its version, under the name of the program, and its scale.
+const META: &str =
+    "CREATE TABLE meta (name TEXT PRIMARY KEY NOT NULL, value INTEGER NOT NULL) STRICT";
+
+// What was entered at one time.
+const BATCH: &str =
+    "CREATE TABLE batch (batch INTEGER PRIMARY KEY, file TEXT NOT NULL, sha256 TEXT NOT NULL, kind TEXT NOT NULL CHECK (kind IN ('start', 'moves', 'undo')), undoes INTEGER, time TEXT NOT NULL, movements INTEGER NOT NULL CHECK (movements >= 0), refused INTEGER NOT NULL CHECK (refused BETWEEN 0 AND movements)) STRICT";
+
+// All movements, in turn.
+const MOVEMENT: &str =
+    "CREATE TABLE movement (movement INTEGER PRIMARY KEY, batch INTEGER NOT NULL, line INTEGER NOT NULL, article TEXT NOT NULL, change INTEGER NOT NULL) STRICT";
+
+// Those that were refused.
+const REFUSAL: &str =
+    "CREATE TABLE refusal (movement INTEGER PRIMARY KEY, there INTEGER NOT NULL CHECK (there >= 0)) STRICT";
+
+// The balance: the articles of which there are some.
+const ARTICLE: &str =
+    "CREATE TABLE article (article TEXT PRIMARY KEY NOT NULL, number INTEGER NOT NULL CHECK (number > 0)) STRICT";
+
+/// The texts that create the tables.
+pub static TABLES: [&str; 5] = [META, BATCH, MOVEMENT, REFUSAL, ARTICLE];
+
+/// What a database has.
+#[derive(Clone, Copy, PartialEq, Eq, Debug)]
+pub enum Form {
+    /// No table.
+    Empty,
+    /// The tables of a stock whose numbers have this many decimals.
+    Stock(u32),
+}
+
+/// Returns what the database has.
+///
+/// # Errors
+///
+/// `Foreign` or `Later` for the tables of something else, or what fails.
+pub fn form_of<S: Alter>(conn: &mut Connection<S>) -> Result<Form, StockError> {
+    let tables: i64 = conn
+        .query_row("SELECT count(*) FROM sqlite_schema", &[])?
+        .get(0)?;
+    if tables == 0 {
+        return Ok(Form::Empty);
+    }
+    let version = match meta_of(conn, "hashbag_ledger") {
+        Ok(Some(version)) => version,
+        Ok(None) => return Err(StockError::Foreign),
+        Err(StockError::Database(sqlite::Error::SqlInputError(_))) => {
+            return Err(StockError::Foreign);
+        }
+        Err(error) => return Err(error),
+    };
+    if version != VERSION {
+        return Err(StockError::Later(version));
+    }
+    match meta_of(conn, "scale")? {
+        Some(scale) if 0 <= scale && scale <= 9 => Ok(Form::Stock(scale as u32)),
+        _ => Err(StockError::Damaged("no scale from 0 to 9 in the table meta")),
+    }
+}
+
+// Returns the value of this name in the table `meta`.
+fn meta_of<S: Alter>(conn: &mut Connection<S>, name: &str) -> Result<Option<i64>, StockError> {
+    let rows = conn.query_all("SELECT value FROM meta WHERE name = ?1", params![name])?;
+    match rows.first() {
+        Some(row) => Ok(Some(row.get(0)?)),
+        None => Ok(None),
+    }
+}

@@ -1,0 +1,267 @@
+//! A batch written into the tables of a stock, in one transaction.
+ghost use Rattle.std.specs.Prelude.{◌≡◌, is_ok, IfOk};
+ghost use Rattle.sqlite.specs.Held.{state};
+ghost use Rattle.hashbag_stock.specs.Commits.{IsInside, IsOneCommit};
+
+use crate::error::StockError;
+use crate::tables::{TABLES, VERSION};
+use hashbag_ledger_core::movements::{Movement, Refusal};
+use hashbag_stock_core::numbers::{number_of, signed};
+use hashbag_stock_core::rows::RowChange;
+use sqlite::types::ValueRef;
+use sqlite::{Alter, Connection, Transaction, params};
+
+/// What a batch is.
+#[derive(Clone, Copy, PartialEq, Eq, Debug)]
+pub enum Kind {
+    /// The stock at the beginning.
+    Start,
+    /// A file of movements.
+    Moves,
+    /// The opposite movements of the batch of this number.
+    Undo(i64),
+}
+
+/// A batch that is to be written.
+#[derive(Clone, Copy)]
+pub struct NewBatch<'a> {
+    /// The name of its file.
+    pub file: &'a str,
+    /// The SHA-256 of the bytes of its file.
+    pub sha256: &'a str,
+    /// What it is.
+    pub kind: Kind,
+    /// Its movements, in turn.
+    pub movements: &'a [Movement<String>],
+    /// Those that are refused, in turn.
+    pub refusals: &'a [Refusal<String>],
+    /// What becomes of the rows of the balance.
+    pub changed: &'a [RowChange],
+}
+
+const TOO_LARGE: &str = "a number past 9223372036854775807";
+
+// Returns a number as a value of a row.
+fn value_of(number: usize) -> Result<i64, StockError> {
+    signed(number).ok_or(StockError::Damaged(TOO_LARGE))
+}
+
+// Runs a statement inside the transaction.
+fn run<S: Alter>(
+    transaction: &mut Transaction<'_, S>,
+    text: &str,
+    values: &[ValueRef<'_>],
+) -> Result<(), StockError>
+    ensures same_reference { transaction.new.conn.ghost_name ≡ transaction.old.conn.ghost_name }
+    ensures inside { IsInside (state S.Store transaction.old.conn.now) (state S.Store transaction.new.conn.now) }
+{
+    transaction.execute(text, values)?;
+    Ok(())
+}
+
+// Creates the tables of a stock whose numbers have this many decimals.
+fn create<S: Alter>(transaction: &mut Transaction<'_, S>, scale: u32) -> Result<(), StockError>
+    ensures same_reference { transaction.new.conn.ghost_name ≡ transaction.old.conn.ghost_name }
+    ensures inside { IsInside (state S.Store transaction.old.conn.now) (state S.Store transaction.new.conn.now) }
+{
+    for text in &TABLES {
+        run(transaction, *text, &[])?;
+    }
+    let insert = "INSERT INTO meta (name, value) VALUES (?1, ?2)";
+    run(transaction, insert, params!["hashbag_ledger", VERSION])?;
+    run(transaction, insert, params!["scale", i64::from(scale)])
+}
+
+// Creates the tables if there is a scale.
+fn create_new<S: Alter>(
+    transaction: &mut Transaction<'_, S>,
+    new_scale: Option<u32>,
+) -> Result<(), StockError>
+    ensures same_reference { transaction.new.conn.ghost_name ≡ transaction.old.conn.ghost_name }
+    ensures inside { IsInside (state S.Store transaction.old.conn.now) (state S.Store transaction.new.conn.now) }
+{
+    match new_scale {
+        Some(scale) => create(transaction, scale),
+        None => Ok(()),
+    }
+}
+
+// Writes the row of the batch, and returns its number.
+fn write_batch<S: Alter>(
+    transaction: &mut Transaction<'_, S>,
+    batch: &NewBatch<'_>,
+) -> Result<i64, StockError>
+    ensures same_reference { transaction.new.conn.ghost_name ≡ transaction.old.conn.ghost_name }
+    ensures inside { IsInside (state S.Store transaction.old.conn.now) (state S.Store transaction.new.conn.now) }
+{
+    let (kind, undoes) = match batch.kind {
+        Kind::Start => ("start", None),
+        Kind::Moves => ("moves", None),
+        Kind::Undo(other) => ("undo", Some(other)),
+    };
+    let movements = value_of(batch.movements.len())?;
+    let refused = value_of(batch.refusals.len())?;
+    run(
+        transaction,
+        "INSERT INTO batch (file, sha256, kind, undoes, time, movements, refused) VALUES (?1, ?2, ?3, ?4, CURRENT_TIMESTAMP, ?5, ?6)",
+        params![batch.file, batch.sha256, kind, undoes, movements, refused],
+    )?;
+    Ok(transaction.last_insert_rowid())
+}
+
+// Writes a movement of the batch of this number.
+fn write_movement<S: Alter>(
+    transaction: &mut Transaction<'_, S>,
+    number: i64,
+    movement: &Movement<String>,
+) -> Result<(), StockError>
+    ensures same_reference { transaction.new.conn.ghost_name ≡ transaction.old.conn.ghost_name }
+    ensures inside { IsInside (state S.Store transaction.old.conn.now) (state S.Store transaction.new.conn.now) }
+{
+    let line = value_of(movement.place.line as usize)?;
+    let change = number_of(movement.change).ok_or(StockError::Damaged(TOO_LARGE))?;
+    let article = movement.article.as_str();
+    run(
+        transaction,
+        "INSERT INTO movement (batch, line, article, change) VALUES (?1, ?2, ?3, ?4)",
+        params![number, line, article, change],
+    )
+}
+
+// Writes that the movement which was written last is refused.
+fn write_refusal<S: Alter>(
+    transaction: &mut Transaction<'_, S>,
+    there: usize,
+) -> Result<(), StockError>
+    ensures same_reference { transaction.new.conn.ghost_name ≡ transaction.old.conn.ghost_name }
+    ensures inside { IsInside (state S.Store transaction.old.conn.now) (state S.Store transaction.new.conn.now) }
+{
+    let row = transaction.last_insert_rowid();
+    let there = value_of(there)?;
+    run(
+        transaction,
+        "INSERT INTO refusal (movement, there) VALUES (?1, ?2)",
+        params![row, there],
+    )
+}
+
+// Writes a movement, and that it is refused, if so many were there.
+fn write_outcome<S: Alter>(
+    transaction: &mut Transaction<'_, S>,
+    number: i64,
+    movement: &Movement<String>,
+    refused_at: Option<usize>,
+) -> Result<(), StockError>
+    ensures same_reference { transaction.new.conn.ghost_name ≡ transaction.old.conn.ghost_name }
+    ensures inside { IsInside (state S.Store transaction.old.conn.now) (state S.Store transaction.new.conn.now) }
+{
+    write_movement(transaction, number, movement)?;
+    match refused_at {
+        Some(there) => write_refusal(transaction, there),
+        None => Ok(()),
+    }
+}
+
+// Returns how many were there, if the next refusal is of this movement.
+fn refused_at(next: Option<&Refusal<String>>, movement: &Movement<String>) -> Option<usize> {
+    match next {
+        Some(refusal) if refusal.place == movement.place => Some(refusal.there),
+        _ => None,
+    }
+}
+
+// Writes the movements of the batch, and those of them that are refused.
+fn write_movements<S: Alter>(
+    transaction: &mut Transaction<'_, S>,
+    number: i64,
+    movements: &[Movement<String>],
+    refusals: &[Refusal<String>],
+) -> Result<(), StockError>
+    ensures same_reference { transaction.new.conn.ghost_name ≡ transaction.old.conn.ghost_name }
+    ensures inside { IsInside (state S.Store transaction.old.conn.now) (state S.Store transaction.new.conn.now) }
+{
+    let mut refused = 0usize;
+    for movement in movements {
+        let there = refused_at(refusals.get(refused), movement);
+        write_outcome(transaction, number, movement, there)?;
+        refused = refused.saturating_add(usize::from(there.is_some()));
+    }
+    Ok(())
+}
+
+// Writes what becomes of a row of the balance.
+fn write_row<S: Alter>(
+    transaction: &mut Transaction<'_, S>,
+    change: &RowChange,
+) -> Result<(), StockError>
+    ensures same_reference { transaction.new.conn.ghost_name ≡ transaction.old.conn.ghost_name }
+    ensures inside { IsInside (state S.Store transaction.old.conn.now) (state S.Store transaction.new.conn.now) }
+{
+    match change {
+        RowChange::Put(article, number) => {
+            let number = value_of(*number)?;
+            run(
+                transaction,
+                "INSERT OR REPLACE INTO article (article, number) VALUES (?1, ?2)",
+                params![article, number],
+            )
+        }
+        RowChange::Remove(article) => run(
+            transaction,
+            "DELETE FROM article WHERE article = ?1",
+            params![article],
+        ),
+    }
+}
+
+// Writes what becomes of the rows of the balance.
+fn write_rows<S: Alter>(
+    transaction: &mut Transaction<'_, S>,
+    changed: &[RowChange],
+) -> Result<(), StockError>
+    ensures same_reference { transaction.new.conn.ghost_name ≡ transaction.old.conn.ghost_name }
+    ensures inside { IsInside (state S.Store transaction.old.conn.now) (state S.Store transaction.new.conn.now) }
+{
+    for change in changed {
+        write_row(transaction, change)?;
+    }
+    Ok(())
+}
+
+// Writes the batch, and first the tables of a stock whose numbers have this many decimals, if it is new.
+fn write_all<S: Alter>(
+    transaction: &mut Transaction<'_, S>,
+    new_scale: Option<u32>,
+    batch: &NewBatch<'_>,
+) -> Result<i64, StockError>
+    ensures same_reference { transaction.new.conn.ghost_name ≡ transaction.old.conn.ghost_name }
+    ensures inside { IsInside (state S.Store transaction.old.conn.now) (state S.Store transaction.new.conn.now) }
+{
+    create_new(transaction, new_scale)?;
+    let number = write_batch(transaction, batch)?;
+    write_movements(transaction, number, batch.movements, batch.refusals)?;
+    write_rows(transaction, batch.changed)?;
+    Ok(number)
+}
+
+/// Writes a batch in one transaction, and returns its number. With `new_scale` the tables of a stock are created first, in the same
+/// transaction.
+///
+/// # Errors
+///
+/// What fails. Then nothing is written.
+pub fn put_batch<S: Alter>(
+    conn: &mut Connection<S>,
+    new_scale: Option<u32>,
+    batch: &NewBatch<'_>,
+) -> Result<i64, StockError>
+    ensures { IsOneCommit (state S.Store conn.old) (state S.Store conn.new) (is_ok result) }
+{
+    if !conn.is_autocommit() {
+        return Err(StockError::Damaged("a transaction is open"));
+    }
+    let mut transaction = conn.transaction();
+    let number = write_all(&mut transaction, new_scale, batch)?;
+    transaction.commit()?;
+    Ok(number)
+}

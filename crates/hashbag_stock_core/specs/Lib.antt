@@ -1,0 +1,4 @@
+pub mod Batches
+pub mod Numbers
+pub mod Rows
+pub mod Undos

@@ -1,0 +1,108 @@
+//! A batch that is taken back.
+ghost use Rattle.std.specs.Prelude.{◌≡◌, ℕ, ◌+◌, ◌<◌, ◌^◌, ◌-◌, ◌++◌, [], IfOk, IfErr, OnOk};
+ghost use Rattle.hashbag_lists.specs.Quantities.{numbers};
+ghost use Rattle.hashbag_ledger_core.specs.Ledger.{came, went};
+ghost use Rattle.hashbag_ledger_core.specs.declared.movements.Place.{Place};
+ghost use Rattle.hashbag_ledger_core.specs.Settled.{listed, IsPastWithin};
+ghost use Rattle.hashbag_stock_core.specs.Undos.{coming_back, going_back, opposites_of, IsUndo, IsAsBefore};
+
+use crate::numbers::MOST;
+use hashbag_ledger_core::entering::LedgerError;
+use hashbag_ledger_core::movements::{Change, Movement, Refusal};
+use hashbag_ledger_core::settling::settle_within;
+use std::alloc::{AllocError, Global};
+use std::hash::{BuildHasher, Hash};
+
+/// What becomes of an undo.
+#[derive(Drop)]
+pub enum Undo<T> {
+    /// The balance once the batch is taken back.
+    Done(Vec<(T, usize)>),
+    /// Some articles would fall below zero: the opposite movements that ask for more than is there.
+    Refused(Vec<Refusal<T>>),
+}
+
+// Appends the opposite of a movement to those that come in, or to those that go out.
+fn turn<T: Drop>(
+    movement: Movement<T>,
+    coming_in: &mut Vec<Movement<T>>,
+    going_out: &mut Vec<Movement<T>>,
+) -> Result<(), AllocError>
+    ensures back { OnOk result (coming_in.new.items ≡ coming_in.old.items ++ coming_back movement movement.change []) }
+    ensures again { OnOk result (going_out.new.items ≡ going_out.old.items ++ going_back movement movement.change []) }
+{
+    let Movement {
+        place,
+        article,
+        change,
+    } = movement;
+    match change {
+        Change::Out(n) => {
+            let change = Change::In(n);
+            coming_in.push(Movement {
+                place,
+                article,
+                change,
+            })?;
+            Ok(())
+        }
+        Change::In(n) => {
+            let change = Change::Out(n);
+            going_out.push(Movement {
+                place,
+                article,
+                change,
+            })?;
+            Ok(())
+        }
+    }
+}
+
+/// Returns the opposite movements of a batch: first what it took out comes in, and then what it brought in goes out, each in turn.
+///
+/// # Errors
+///
+/// An error if an allocation fails.
+pub fn opposites<T: Drop>(
+    alloc: Global,
+    batch: Vec<Movement<T>>,
+) -> Result<Vec<Movement<T>>, AllocError>
+    ensures { IfOk result (λ all. all.items ≡ opposites_of batch.items) }
+{
+    let mut all = Vec::new(alloc);
+    let mut going = Vec::new(alloc);
+    for movement in batch {
+        turn(movement, &mut all, &mut going)?;
+    }
+    all.append(&mut going)?;
+    Ok(all)
+}
+
+/// Enters the opposite movements of a batch into the balance that is kept, all or none.
+///
+/// `Refused` is returned exactly if an article would fall below zero. After the last batch it never is, and the balance is again the one
+/// before that batch.
+///
+/// # Errors
+///
+/// `StartTooMany` only if the numbers of the balance are more than [`MOST`] together. `TooMany` with the place of a movement only if the
+/// total would pass [`MOST`] with its opposite. `Memory` if an allocation fails.
+pub fn take_back<T: Ord + Hash + Drop, S: BuildHasher + Drop>(
+    alloc: Global,
+    state: S,
+    kept: Vec<(T, usize)>,
+    batch: Vec<Movement<T>>,
+) -> Result<Undo<T>, LedgerError>
+    ensures undo { IfOk result (IsUndo T.eq T.cmp (listed T.eq kept.items) batch.items) }
+    ensures last { IfOk result (λ u. (before : T → ℕ) → ((v : T) → listed T.eq kept.items v + went T.eq v batch.items ≡ before v + came T.eq v batch.items)
+        → IsAsBefore T.eq u before) }
+    ensures past_at_start { result ≡ Err LedgerError.StartTooMany → 2 ^ 63 - 1 < numbers kept.items }
+    ensures past { IfErr result (λ e. (p : Place) → e ≡ LedgerError.TooMany p → IsPastWithin T.eq (2 ^ 63 - 1) kept.items (opposites_of batch.items) p) }
+{
+    let opposite = opposites(alloc, batch)?;
+    let entered = settle_within(alloc, state, MOST, kept, opposite)?;
+    if entered.refusals.is_empty() {
+        return Ok(Undo::Done(entered.balance));
+    }
+    Ok(Undo::Refused(entered.refusals))
+}

@@ -1,0 +1,394 @@
+//! What is decided of a stock that is kept. The expected values were found by hand.
+use hashbag::FixedState;
+use hashbag_ledger_core::movements::{Change, Movement, Place, Refusal};
+use hashbag_lists::counts::Reading;
+use hashbag_lists::delimiter::Delimiter;
+use hashbag_lists::scale::{Mark, Scale};
+use hashbag_stock_core::entering::enter_batch;
+use hashbag_stock_core::numbers::{MOST, change_of, number_of, plain_change, signed, size_of};
+use hashbag_stock_core::once::{Batch, batch_of, entered_before, undone_by};
+use hashbag_stock_core::output::{Event, batches_text, history_text};
+use hashbag_stock_core::rows::{RowChange, changed_rows};
+use hashbag_stock_core::undoing::{Undo, opposites, take_back};
+use hashbag_stock_core::verifying::{KeptRefusal, wrong_batch, wrong_number, wrong_refusal};
+use std::alloc::Global;
+use std::test::Fail;
+
+#[test]
+fn changes_are_numbers(rt: HostRuntime) -> Result<(), Fail> {
+    for (change, number) in [
+        (Change::In(0), 0),
+        (Change::Out(0), 0),
+        (Change::In(7), 7),
+        (Change::Out(7), -7),
+        (
+            Change::In(9_223_372_036_854_775_807),
+            9_223_372_036_854_775_807,
+        ),
+        (
+            Change::Out(9_223_372_036_854_775_807),
+            -9_223_372_036_854_775_807,
+        ),
+    ] {
+        assert_eq!(rt; number_of(change), Some(number));
+        assert_eq!(rt; change_of(number), plain_change(change));
+    }
+    assert_eq!(rt; plain_change(Change::Out(0)), Change::In(0));
+    for change in [
+        Change::In(9_223_372_036_854_775_808),
+        Change::Out(usize::MAX),
+    ] {
+        assert_eq!(rt; number_of(change), None);
+    }
+    assert_eq!(rt; change_of(i64::MIN), Change::Out(9_223_372_036_854_775_808));
+    assert_eq!(rt; size_of(Change::Out(3)), 3);
+    assert_eq!(rt; signed(MOST), Some(i64::MAX));
+    Ok(())
+}
+
+// Returns a balance of owned texts.
+fn balance_of(alloc: Global, list: &[(&str, usize)]) -> Result<Vec<(String, usize)>, Fail> {
+    let mut balance = Vec::new(alloc);
+    for (article, number) in list {
+        balance.push((article.to_string(alloc)?, *number))?;
+    }
+    Ok(balance)
+}
+
+// Returns movements of owned texts, on lines from 2 on.
+fn movements_of(alloc: Global, list: &[(&str, Change)]) -> Result<Vec<Movement<String>>, Fail> {
+    let mut movements = Vec::new(alloc);
+    let mut line = 2u64;
+    for (article, change) in list {
+        let place = Place { file: 0, line };
+        movements.push(Movement {
+            place,
+            article: article.to_string(alloc)?,
+            change: *change,
+        })?;
+        line = line.saturating_add(1);
+    }
+    Ok(movements)
+}
+
+// A balance, another one, and what becomes of the rows of the first.
+const ROWS: [(&[(&str, usize)], &[(&str, usize)], &str); 6] = [
+    (&[], &[], ""),
+    (&[("a", 1)], &[("a", 1)], ""),
+    (&[("a", 1), ("b", 2)], &[("a", 3), ("b", 2)], "[a 3]"),
+    (&[("b", 1)], &[("a", 1), ("b", 1), ("c", 9)], "[a 1][c 9]"),
+    (&[("a", 1), ("b", 1), ("c", 9)], &[("b", 1)], "[-a][-c]"),
+    (
+        &[("a", 1), ("c", 2)],
+        &[("b", 1), ("d", 2)],
+        "[-a][b 1][-c][d 2]",
+    ),
+];
+
+#[test]
+fn rows_change(rt: HostRuntime) -> Result<(), Fail> {
+    let alloc = rt.alloc();
+    for (before, after, wanted) in ROWS {
+        let (before, after) = (balance_of(alloc, before)?, balance_of(alloc, after)?);
+        let mut said = String::new(alloc);
+        for change in &changed_rows(alloc, &before, &after)? {
+            match change {
+                RowChange::Put(article, number) => write!(said, "[{article} {number}]")?,
+                RowChange::Remove(article) => write!(said, "[-{article}]")?,
+            }
+        }
+        assert_eq!(rt; said.as_str(), wanted);
+    }
+    Ok(())
+}
+
+// Returns movements in one line.
+fn said_of(alloc: Global, movements: &[Movement<String>]) -> Result<String, Fail> {
+    let mut said = String::new(alloc);
+    for movement in movements {
+        let line = movement.place.line;
+        let article = movement.article.as_str();
+        match movement.change {
+            Change::In(n) => write!(said, "[{line} {article} in {n}]")?,
+            Change::Out(n) => write!(said, "[{line} {article} out {n}]")?,
+        }
+    }
+    Ok(said)
+}
+
+// A balance, a batch that is taken back, and the balance afterwards or the movements that are refused.
+const UNDOS: [(&[(&str, usize)], &[(&str, Change)], &str); 5] = [
+    (&[], &[], ""),
+    (
+        &[("a", 5), ("b", 2)],
+        &[("a", Change::In(5)), ("c", Change::Out(3))],
+        "b 2 c 3 ",
+    ),
+    (&[("a", 4)], &[("a", Change::In(5))], "2: a out 5, 4 there "),
+    (
+        &[("a", 4)],
+        &[("a", Change::In(5)), ("a", Change::Out(1))],
+        "",
+    ),
+    (
+        &[("a", 4), ("b", 1)],
+        &[
+            ("b", Change::In(1)),
+            ("a", Change::In(3)),
+            ("a", Change::In(2)),
+        ],
+        "4: a out 2, 1 there ",
+    ),
+];
+
+#[test]
+fn batches_are_taken_back(rt: HostRuntime) -> Result<(), Fail> {
+    let alloc = rt.alloc();
+    for (kept, batch, wanted) in UNDOS {
+        let kept = balance_of(alloc, kept)?;
+        let batch = movements_of(alloc, batch)?;
+        let mut said = String::new(alloc);
+        match take_back(alloc, FixedState::new(), kept, batch) {
+            Ok(Undo::Done(balance)) => {
+                for (article, number) in &balance {
+                    write!(said, "{article} {number} ")?;
+                }
+            }
+            Ok(Undo::Refused(refusals)) => {
+                for refusal in &refusals {
+                    let line = refusal.place.line;
+                    let article = refusal.article.as_str();
+                    let (asked, there) = (refusal.asked, refusal.there);
+                    write!(said, "{line}: {article} out {asked}, {there} there ")?;
+                }
+            }
+            Err(_) => return Err(Fail::from("not taken back")),
+        }
+        assert_eq!(rt; said.as_str(), wanted);
+    }
+    Ok(())
+}
+
+#[test]
+fn opposites_come_in_first(rt: HostRuntime) -> Result<(), Fail> {
+    let alloc = rt.alloc();
+    let batch = movements_of(
+        alloc,
+        &[
+            ("a", Change::In(1)),
+            ("b", Change::Out(2)),
+            ("c", Change::In(3)),
+            ("d", Change::Out(4)),
+        ],
+    )?;
+    let all = opposites(alloc, batch)?;
+    assert_eq!(rt;
+        said_of(alloc, &all)?.as_str(),
+        "[3 b in 2][5 d in 4][2 a out 1][4 c out 3]"
+    );
+    Ok(())
+}
+
+#[test]
+fn a_balance_has_a_limit(rt: HostRuntime) -> Result<(), Fail> {
+    let alloc = rt.alloc();
+    let kept = balance_of(alloc, &[("a", MOST)])?;
+    let one = movements_of(alloc, &[("a", Change::Out(1)), ("b", Change::In(1))])?;
+    let Ok(entered) = enter_batch(alloc, FixedState::new(), kept, one) else {
+        return Err(Fail::from("not entered"));
+    };
+    assert_eq!(rt; entered.balance.len(), 2);
+    assert!(rt; entered.refusals.is_empty());
+    let more = movements_of(alloc, &[("a", Change::In(1))])?;
+    assert!(rt; enter_batch(alloc, FixedState::new(), entered.balance, more).is_err());
+    Ok(())
+}
+
+// A balance that is kept, one that is counted, and the first article that differs, with its two numbers.
+const BALANCES: [(&[(&str, usize)], &[(&str, usize)], &str); 7] = [
+    (&[], &[], ""),
+    (&[("a", 1), ("b", 2)], &[("a", 1), ("b", 2)], ""),
+    (&[("a", 1), ("b", 2)], &[("a", 1), ("b", 3)], "b 2 3"),
+    (&[("a", 1)], &[("a", 1), ("b", 3)], "b 0 3"),
+    (&[("a", 1), ("b", 2)], &[("a", 1)], "b 2 0"),
+    (&[("a", 1), ("c", 2)], &[("b", 1), ("c", 2)], "a 1 0"),
+    (&[("b", 1)], &[("a", 4), ("b", 2)], "a 0 4"),
+];
+
+#[test]
+fn the_first_wrong_number_is_found(rt: HostRuntime) -> Result<(), Fail> {
+    let alloc = rt.alloc();
+    for (kept, counted, wanted) in BALANCES {
+        let (kept, counted) = (balance_of(alloc, kept)?, balance_of(alloc, counted)?);
+        let said = match wrong_number(&kept, &counted) {
+            Some(wrong) => {
+                let (article, stored, made) = (wrong.article, wrong.kept, wrong.counted);
+                format!(in alloc; "{article} {stored} {made}")?
+            }
+            None => String::new(alloc),
+        };
+        assert_eq!(rt; said.as_str(), wanted);
+    }
+    Ok(())
+}
+
+// Returns refusals of movements with these numbers, with so many there.
+fn refusals_of(alloc: Global, list: &[(u64, usize)]) -> Result<Vec<Refusal<String>>, Fail> {
+    let mut refusals = Vec::new(alloc);
+    for (line, there) in list {
+        let place = Place {
+            file: 1,
+            line: *line,
+        };
+        refusals.push(Refusal {
+            place,
+            article: "a".to_string(alloc)?,
+            asked: 9,
+            there: *there,
+        })?;
+    }
+    Ok(refusals)
+}
+
+#[test]
+fn the_first_wrong_refusal_is_found(rt: HostRuntime) -> Result<(), Fail> {
+    let alloc = rt.alloc();
+    let kept = [
+        KeptRefusal {
+            movement: 3,
+            there: 1,
+        },
+        KeptRefusal {
+            movement: 8,
+            there: 0,
+        },
+    ];
+    let rows: [(&[(u64, usize)], Option<u64>); 6] = [
+        (&[(3, 1), (8, 0)], None),
+        (&[(3, 1)], Some(8)),
+        (&[(3, 1), (8, 0), (9, 4)], Some(9)),
+        (&[(3, 2), (8, 0)], Some(3)),
+        (&[(2, 1), (3, 1), (8, 0)], Some(2)),
+        (&[(3, 1), (7, 0), (8, 0)], Some(7)),
+    ];
+    for (counted, wanted) in rows {
+        let counted = refusals_of(alloc, counted)?;
+        assert_eq!(rt; wrong_refusal(kept.as_slice(), &counted), wanted);
+    }
+    Ok(())
+}
+
+// Returns a batch of this number, with this hash, that undoes another, with so many movements and refusals.
+fn batch_with(
+    alloc: Global,
+    number: i64,
+    sha256: &str,
+    undoes: Option<i64>,
+    counts: (u64, u64),
+) -> Result<Batch, Fail> {
+    Ok(Batch {
+        number,
+        file: format!(in alloc; "file {number}.csv")?,
+        sha256: sha256.to_string(alloc)?,
+        kind: (if undoes.is_some() { "undo" } else { "moves" }).to_string(alloc)?,
+        undoes,
+        time: "2026-01-02 03:04:05".to_string(alloc)?,
+        movements: counts.0,
+        refused: counts.1,
+    })
+}
+
+// Returns three batches, of which the third undoes the first.
+fn three_batches(alloc: Global) -> Result<Vec<Batch>, Fail> {
+    let mut batches = Vec::new(alloc);
+    batches.push(batch_with(alloc, 1, "aa", None, (2, 1))?)?;
+    batches.push(batch_with(alloc, 2, "bb", None, (0, 0))?)?;
+    batches.push(batch_with(alloc, 5, "", Some(1), (1, 0))?)?;
+    Ok(batches)
+}
+
+#[test]
+fn batches_are_found(rt: HostRuntime) -> Result<(), Fail> {
+    let batches = three_batches(rt.alloc())?;
+    assert_eq!(rt;
+        entered_before(&batches, "bb").map(|batch| batch.number),
+        Some(2)
+    );
+    assert_eq!(rt;
+        entered_before(&batches, "b").map(|batch| batch.number),
+        None
+    );
+    assert_eq!(rt; batch_of(&batches, 5).map(|batch| batch.number), Some(5));
+    assert!(rt; batch_of(&batches, 3).is_none());
+    assert_eq!(rt; undone_by(&batches, 1).map(|batch| batch.number), Some(5));
+    assert!(rt; undone_by(&batches, 2).is_none());
+    Ok(())
+}
+
+// The batches of the movements 1, 2 and so on; the movements that are refused; and the first batch that is wrong.
+const COUNTS: [(&[usize], &[u64], Option<i64>); 7] = [
+    (&[1, 1, 5], &[2], None),
+    (&[1, 5], &[1], Some(1)),
+    (&[1, 1, 1, 5], &[2], Some(1)),
+    (&[1, 1, 2, 5], &[2], Some(2)),
+    (&[1, 1, 5], &[], Some(1)),
+    (&[1, 1, 5], &[2, 3], Some(5)),
+    (&[1, 1, 5, 7], &[2], Some(7)),
+];
+
+#[test]
+fn the_first_wrong_batch_is_found(rt: HostRuntime) -> Result<(), Fail> {
+    let alloc = rt.alloc();
+    let batches = three_batches(alloc)?;
+    for (files, refused, wanted) in COUNTS {
+        let mut movements = Vec::new(alloc);
+        let mut line = 1u64;
+        for file in files {
+            let place = Place { file: *file, line };
+            movements.push(Movement {
+                place,
+                article: "a".to_string(alloc)?,
+                change: Change::In(1),
+            })?;
+            line = line.saturating_add(1);
+        }
+        let mut refusals = Vec::new(alloc);
+        for movement in refused {
+            refusals.push(KeptRefusal {
+                movement: *movement,
+                there: 0,
+            })?;
+        }
+        assert_eq!(rt; wrong_batch(&batches, &movements, &refusals), wanted);
+    }
+    Ok(())
+}
+
+#[test]
+fn batches_and_events_are_written(rt: HostRuntime) -> Result<(), Fail> {
+    let alloc = rt.alloc();
+    let reading = Reading {
+        delimiter: Delimiter::Semicolon,
+        scale: Scale::new(1, Mark::Comma).unwrap_or(Scale::whole()),
+    };
+    let batches = three_batches(alloc)?;
+    assert_eq!(rt;
+        String::from_utf8(batches_text(alloc, reading, &batches)?)?.as_str(),
+        "batch;file;sha256;kind;undoes;time;movements;refused\n1;file 1.csv;aa;moves;;2026-01-02 03:04:05;2;1\n2;file 2.csv;bb;moves;;2026-01-02 03:04:05;0;0\n5;file 5.csv;;undo;1;2026-01-02 03:04:05;1;0\n"
+    );
+    let mut events = Vec::new(alloc);
+    for (batch, change, is_refused, number) in [(1, 25, false, 25), (5, -30, true, 25)] {
+        events.push(Event {
+            batch,
+            line: 7,
+            change,
+            is_refused,
+            number,
+        })?;
+    }
+    assert_eq!(rt;
+        String::from_utf8(history_text(alloc, reading, &batches, &events)?)?.as_str(),
+        "batch;file;line;time;change;outcome;number\n1;file 1.csv;7;2026-01-02 03:04:05;2,5;entered;2,5\n5;file 5.csv;7;2026-01-02 03:04:05;-3,0;refused;2,5\n"
+    );
+    Ok(())
+}
