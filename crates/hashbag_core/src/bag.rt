@@ -1,16 +1,12 @@
 //! `HashBag`: how often each of several values occurs.
 ghost use Rattle.std.specs.Prelude.{◌≡◌, ◌+◌, ◌-◌, ◌<◌, ◌≤◌, ◌↔◌, [], length, IsTrue, IsOk, IfOk, IfErr, OnOk, OnErr};
 ghost use Rattle.std.specs.List.Sorted.{IsPermutation};
-ghost use Rattle.hashbag_table.specs.Asked.{MayAskInTurn};
 ghost use Rattle.hashbag_table.specs.Entries.{count_of, IsCounted};
 ghost use Rattle.hashbag_table.specs.Tables.{limit, room, KeepsRoom};
-ghost use Rattle.hashbag_table.specs.Retained.{RetainsTables};
 ghost use Rattle.hashbag_core.specs.Bag.{occurrences, limited, Lends};
 ghost use Rattle.hashbag_core.specs.Occurrences.{count_named, stored_named, count, recount, distinct_count, IsBag};
 ghost use Rattle.hashbag_core.specs.Inserts.{Inserts, Replaces, IsRefused};
-ghost use Rattle.hashbag_core.specs.Held.{cleared, Recounts};
-ghost use Rattle.hashbag_core.specs.Retain.{IsRetained};
-ghost use Rattle.hashbag_core.specs.Walks.{IsSetWalkOf};
+ghost use Rattle.hashbag_core.specs.Held.{Recounts};
 ghost use Rattle.hashbag_core.specs.declared.bag.BagError.TheVariants.{Memory};
 
 mod capacity;
@@ -18,6 +14,7 @@ mod equality;
 mod extends;
 mod keys;
 mod make;
+mod retain;
 mod spare;
 mod take;
 
@@ -432,62 +429,6 @@ impl<T: Eq + Hash + Drop, S: BuildHasher + Drop> HashBag<T, S> {
         let before = self.table.put_instance(value)?;
         self.len = self.len - before + 1;
         Ok(before)
-    }
-
-    /// Removes all occurrences. The newer table keeps its slots, all of them Empty, and an older one is freed.
-    ///
-    /// # Complexity
-    ///
-    /// It doesn't allocate and hashes nothing.
-    ///
-    /// # Examples
-    ///
-    /// ```
-    /// let mut bag = HashBag::new(alloc);
-    /// bag.insert_many("apple", 2)?;
-    /// bag.clear();
-    /// bag.len(); // 0
-    /// bag.slots(); // 16
-    /// Ok(())
-    /// ```
-    pub fn clear(&mut self)
-        ensures empty { self.new.items ≡ [] }
-        ensures hasher { self.new.hasher ≡ self.old.hasher }
-        ensures limit { self.new.most ≡ self.old.most }
-        ensures cleared { self.new.tables ≡ cleared self.old.tables }
-        ensures room { KeepsRoom 0 self.old.tables self.new.tables }
-    {
-        self.table.clear();
-        self.len = 0;
-    }
-
-    /// Calls `f` once for each distinct value, with its count, in no particular order, and keeps of the value the lesser of its count and
-    /// what `f` returns. If that is 0 the value is removed, and its stored instance is dropped.
-    ///
-    /// # Complexity
-    ///
-    /// It doesn't allocate and hashes nothing.
-    ///
-    /// # Examples
-    ///
-    /// ```
-    /// let mut bag = HashBag::new(alloc);
-    /// bag.insert_many(5u64, 3)?;
-    /// bag.insert_many(6, 1)?;
-    /// bag.retain(|value: &u64, _count: usize| if *value == 5 { 2 } else { 0 });
-    /// bag.contains(&5); // 2
-    /// bag.contains(&6); // 0
-    /// Ok(())
-    /// ```
-    pub fn retain<F: FnMut(&T, usize) -> usize + Drop>(&mut self, f: F)
-        requires asks { (walk : _) → IsSetWalkOf T.eq self.old walk → MayAskInTurn F.FnMut f walk }
-        ensures retained { IsRetained T.eq F.FnMut f self.old self.new }
-        ensures len { length self.new.items ≤ length self.old.items }
-        ensures waiting { length self.new.tables.waiting ≡ length self.old.tables.waiting }
-        ensures in_place { RetainsTables self.old.tables self.new.tables }
-        ensures room { KeepsRoom 0 self.old.tables self.new.tables }
-    {
-        self.len = self.table.retain(f);
     }
 
     // Inserts occurrences of a value, if the total can have them.
