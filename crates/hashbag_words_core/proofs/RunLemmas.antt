@@ -7,8 +7,9 @@ use Rattle.std.specs.Str.Parse.{digits_value, without_leading_plus}
 use Rattle.std.proofs.Math.Seq.{take-append_seam, drop-append-add}
 use Rattle.hashbag_words_core.specs.Reading.{ReadsLine}
 use Rattle.hashbag_words_core.specs.Rows.{unescaped, IsLineOf}
-use Rattle.hashbag_words_core.specs.Runs.{read_as, rows_in, rows_left}
+use Rattle.hashbag_words_core.specs.Runs.{read_as, rows_in, rows_of_file, rows_left, unmarked}
 use Rattle.hashbag_words_core.specs.Sorted.{row_of, GivesRow}
+use Rattle.hashbag_words_core.specs.Tokens.{without_mark}
 use Rattle.hashbag_words_core.specs.declared.lines.BadLines.{BadLines}
 use Rattle.hashbag_words_core.specs.declared.lines.BadLines.TheVariants.{Refused, Skipped}
 use Rattle.hashbag_words_core.specs.declared.rows.RowForm.{RowForm}
@@ -47,14 +48,31 @@ rows_in-first bytes row some is =
     first : (line : List ℕ) (more : List (List ℕ)) → read_as line ≡ Some row → filter_map read_as (line ∷ more) ≡ row ∷ filter_map read_as more
     first line more is = ap (λ (o : Option (List ℕ × ℕ)). cons_option o (filter_map read_as more)) is
 
+-- the rows of a file whose first line is a row, perhaps with a byte order mark at its beginning
+rows_of_file-first : (bytes : List ℕ) (row : List ℕ × ℕ) → 0 < length bytes → read_as (without_mark (first_line bytes)) ≡ Some row
+    → rows_of_file bytes ≡ row ∷ rows_in (drop_through 10 bytes)
+rows_of_file-first bytes row some is =
+    ap (λ (all : List (List ℕ)). filter_map read_as (unmarked all)) (lines-first bytes some)
+    ∙ ap (λ (o : Option (List ℕ × ℕ)). cons_option o (rows_in (drop_through 10 bytes))) is
+
+-- what a line has behind the mark that it may have
+pub marked_line : Bool → List ℕ → List ℕ
+marked_line true line = without_mark line
+marked_line false line = line
+
 -- a reader gave the row of a line
 pub gives_row : (form : RowForm) (bad_lines : BadLines) (marked : Bool) (old new : Option (List ℕ)) (line : List ℕ) (row : String Global × ℕ)
-    → IfSome old (λ bytes. ReadsLine true bytes line new) → (form ≡ Tsv → bad_lines ≡ Refused → marked ≡ false → read_as line ≡ Some (row_of row))
-    → GivesRow (rows_left form bad_lines marked old) (Some row) (rows_left form bad_lines marked new)
+    → IfSome old (λ bytes. ReadsLine true bytes line new) → (form ≡ Tsv → bad_lines ≡ Refused → read_as (marked_line marked line) ≡ Some (row_of row))
+    → GivesRow (rows_left form bad_lines marked old) (Some row) (rows_left form bad_lines false new)
 gives_row Tsv Refused false None new line row reads is = tt
 gives_row Tsv Refused false (Some bytes) new line row reads is =
-    (rows_in (drop_through 10 bytes), rows_in-first bytes (row_of row) reads.0 (ap read_as (sym reads.1) ∙ is refl refl refl), ap (option_map rows_in) reads.2)
-gives_row Tsv Refused true old new line row reads is = tt
+    (rows_in (drop_through 10 bytes), rows_in-first bytes (row_of row) reads.0 (ap read_as (sym reads.1) ∙ is refl refl), ap (option_map rows_in) reads.2)
+gives_row Tsv Refused true None new line row reads is = tt
+gives_row Tsv Refused true (Some bytes) new line row reads is = (
+  rows_in (drop_through 10 bytes),
+  rows_of_file-first bytes (row_of row) reads.0 (ap (λ (l : List ℕ). read_as (without_mark l)) (sym reads.1) ∙ is refl refl),
+  ap (option_map rows_in) reads.2,
+)
 gives_row Tsv Skipped marked old new line row reads is = tt
 gives_row Uniq bad_lines marked old new line row reads is = tt
 
@@ -63,6 +81,7 @@ pub gives_none : (form : RowForm) (bad_lines : BadLines) (marked : Bool) (old ne
     → GivesRow (rows_left form bad_lines marked old) None (rows_left form bad_lines marked new)
 gives_none Tsv Refused false None new line reads = tt
 gives_none Tsv Refused false (Some bytes) new line reads = (ap rows_in reads.0, ap (option_map rows_in) reads.1)
-gives_none Tsv Refused true old new line reads = tt
+gives_none Tsv Refused true None new line reads = tt
+gives_none Tsv Refused true (Some bytes) new line reads = (ap rows_of_file reads.0, ap (option_map rows_of_file) reads.1)
 gives_none Tsv Skipped marked old new line reads = tt
 gives_none Uniq bad_lines marked old new line reads = tt

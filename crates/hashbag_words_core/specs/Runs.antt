@@ -10,7 +10,7 @@ use Rattle.hashbag.specs.Occurrences.{count}
 use Rattle.hashbag_words_core.specs.Reading.{drop_lines}
 use Rattle.hashbag_words_core.specs.Rows.{row, unescaped}
 use Rattle.hashbag_words_core.specs.Sorted.{times_in, Rises}
-use Rattle.hashbag_words_core.specs.Tokens.{tokens_of_lines}
+use Rattle.hashbag_words_core.specs.Tokens.{tokens_of_lines, without_mark}
 use Rattle.hashbag_words_core.specs.declared.lines.BadLines.{BadLines}
 use Rattle.hashbag_words_core.specs.declared.lines.BadLines.TheVariants.{Refused, Skipped}
 use Rattle.hashbag_words_core.specs.declared.rows.RowForm.{RowForm}
@@ -22,15 +22,24 @@ abbrev pub read_as : List ℕ → Option (List ℕ × ℕ)
 read_as line =
     option_map (λ token. (token, digits_value 10 (without_leading_plus (after_first (λ b. b == 9) line)))) (unescaped false (before_first (λ b. b == 9) line))
 
--- the rows of a file
+-- the rows of a run
 abbrev pub rows_in : List ℕ → List (List ℕ × ℕ)
 rows_in bytes = filter_map read_as (lines bytes)
 
--- the rows that a reader has left, if its bytes are known, its lines are of `tsv`, and a bad one is neither passed over nor begins with a mark
--- that is no part of it
+-- lines of which the first one has no byte order mark at its beginning
+abbrev pub unmarked : List (List ℕ) → List (List ℕ)
+unmarked [] = []
+unmarked (line ∷ lines) = without_mark line ∷ lines
+
+-- the rows of a file, which may begin with a byte order mark
+abbrev pub rows_of_file : List ℕ → List (List ℕ × ℕ)
+rows_of_file bytes = filter_map read_as (unmarked (lines bytes))
+
+-- the rows that a reader has left, if its bytes are known, its lines are of `tsv`, and a bad line isn't skipped; whether the next line may begin
+-- with a byte order mark
 abbrev pub rows_left : RowForm → BadLines → Bool → Option (List ℕ) → Option (List (List ℕ × ℕ))
 rows_left Tsv Refused false bytes = option_map rows_in bytes
-rows_left Tsv Refused true bytes = None
+rows_left Tsv Refused true bytes = option_map rows_of_file bytes
 rows_left Tsv Skipped marked bytes = None
 rows_left Uniq bad_lines marked bytes = None
 

@@ -1,8 +1,9 @@
 //! The rows of a file of counts, one by one.
-ghost use Rattle.std.specs.Prelude.{◌≡◌, Some, false, option_map, IfOk, IsSomeAnd};
+ghost use Rattle.std.specs.Prelude.{◌≡◌, Some, false, true, option_map, IfOk, IsSomeAnd};
 ghost use Rattle.hashbag_words_core.specs.Met.{Meets};
 ghost use Rattle.hashbag_words_core.specs.Runs.{read_as, rows_in, rows_left};
 ghost use Rattle.hashbag_words_core.specs.Sorted.{row_of};
+ghost use Rattle.hashbag_words_core.specs.Tokens.{without_mark};
 
 use crate::errors::{BadLine, Fault};
 use crate::lines::{BadLines, Reading, next_ended_line};
@@ -21,7 +22,7 @@ pub struct RowReader<R> {
     input: R,
     reading: Reading,
     line: Vec<u8>,
-    // Whether a byte order mark at the beginning of the first line is no part of it.
+    // Whether a byte order mark at the beginning of the next line is no part of it.
     may_be_marked: bool,
 }
 
@@ -37,7 +38,8 @@ enum Met {
 
 // A line without a byte order mark at its beginning, if that may be there.
 fn unmarked(line: &[u8], may_be_marked: bool) -> &[u8]
-    ensures { may_be_marked ≡ false → result.now ≡ line.now }
+    ensures plain { may_be_marked ≡ false → result.now ≡ line.now }
+    ensures marked { may_be_marked ≡ true → result.now ≡ without_mark line.now }
 {
     if may_be_marked {
         return past_mark(line);
@@ -75,8 +77,10 @@ fn read_line(
 }
 
 impl<R: BufRead> RowReader<R> {
-    /// Before the first line of a file of that form.
-    pub fn of_file(alloc: Global, form: RowForm, input: R, bad_lines: BadLines) -> RowReader<R> {
+    /// Returns the rows of a file of that form. Its first line may begin with a byte order mark.
+    pub fn of_file(alloc: Global, form: RowForm, input: R, bad_lines: BadLines) -> RowReader<R>
+        ensures { rows_left result.form result.reading.bad_lines result.may_be_marked (R.remaining result.input) ≡ rows_left form bad_lines true (R.remaining input) }
+    {
         RowReader {
             alloc,
             form,
@@ -87,7 +91,7 @@ impl<R: BufRead> RowReader<R> {
         }
     }
 
-    /// Before the first line of a run: rows of `tsv` that were written here. Its first token may begin with a byte order mark.
+    /// Returns the rows of a run: rows of `tsv` that were written here. Its first token may begin with a byte order mark.
     pub fn of_run(alloc: Global, input: R) -> RowReader<R>
         ensures { rows_left result.form result.reading.bad_lines result.may_be_marked (R.remaining result.input) ≡ option_map rows_in (R.remaining input) }
     {
@@ -101,7 +105,7 @@ impl<R: BufRead> RowReader<R> {
         }
     }
 
-    /// How far it is.
+    /// Returns how many lines were read, and how many of them were skipped.
     pub fn reading(&self) -> &Reading {
         &self.reading
     }
@@ -116,8 +120,9 @@ impl<R: BufRead> RowReader<R> {
             return Ok(Met::End);
         }
         self.reading.count_line();
-        let is_marked = self.may_be_marked && self.reading.line == 1;
-        let line = unmarked(&self.line, is_marked);
+        let may_be_marked = self.may_be_marked;
+        self.may_be_marked = false;
+        let line = unmarked(&self.line, may_be_marked);
         match read_line(self.alloc, self.form, line, is_ended, &mut self.reading)? {
             Some(row) => Ok(Met::Row(row)),
             None => Ok(Met::Passed),
@@ -126,7 +131,7 @@ impl<R: BufRead> RowReader<R> {
 }
 
 impl<R: BufRead> Rows for RowReader<R> {
-    // What is left of a run is known, if its bytes are: nothing of it is passed over.
+    // What is left is known, if the bytes are, the form is `tsv`, and no line is skipped.
     ghost left = { λ it. rows_left it.form it.reading.bad_lines it.may_be_marked (R.remaining it.input) };
 
     fn next_row(&mut self) -> Result<Option<(String, usize)>, Fault> {
