@@ -1,5 +1,5 @@
 -- Runs that are made one after the other, and merged.
-use Rattle.std.proofs.Common.{◌≡◌, ℕ, zero, suc, ◌+◌, ◌<◌, Bool, true, false, List, [], ◌∷◌, ◌++◌, length, get_or, take, drop, map, sum_by, String, string_bytes, string_eq, bytes_eq, Global, Option, None, Some, option_map, IfSome, refl, sym, ◌∙◌, ap, subst, arith}
+use Rattle.std.proofs.Common.{◌≡◌, ℕ, ◌+◌, ◌<◌, Bool, false, List, [], ◌∷◌, ◌++◌, length, get_or, take, drop, map, sum_by, String, string_bytes, string_eq, bytes_eq, Global, Option, None, Some, option_map, IfSome, refl, sym, ◌∙◌, ap, subst, arith}
 use Rattle.std.specs.Cmp.Lexicographic.{nat_list_eq_equiv}
 use Rattle.std.specs.Global.{Vec}
 use Rattle.std.specs.Str.Lines.{lines}

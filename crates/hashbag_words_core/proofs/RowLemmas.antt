@@ -1,5 +1,5 @@
 -- Lines of counts, which are written and read again.
-use Rattle.std.proofs.Common.{◌≡◌, ◌≢◌, ℕ, suc, ◌+◌, ◌<◌, ◌^◌, Bool, true, false, cond, eqb, List, [], ◌∷◌, ◌++◌, length, drop, get_or, All, decimal, Option, None, Some, Result, Ok, MatchOption, option_map, option_and_then, refl, sym, ◌∙◌, ap, subst, arith, ne_eqb, eq-eqb, append_assoc, drop-cons}
+use Rattle.std.proofs.Common.{◌≡◌, ◌≢◌, ℕ, suc, ◌+◌, ◌<◌, ◌^◌, Bool, true, false, cond, eqb, List, [], ◌∷◌, ◌++◌, length, drop, get_or, All, decimal, Option, None, Some, Result, Ok, MatchOption, option_map, option_and_then, refl, sym, ◌∙◌, ap, subst, arith, ne_eqb, append_assoc, drop-cons}
 use borrow.Author.Tests.{eqb-true}
 use Rattle.std.specs.Borrow.{Bor}
 use Rattle.std.specs.Global.{Vec}

@@ -1,5 +1,5 @@
 -- Lines of runs that are read one by one.
-use Rattle.std.proofs.Common.{◌≡◌, ◌≢◌, ℕ, zero, suc, ◌+◌, ◌<◌, ◌==◌, Bool, true, false, cond, not, List, [], ◌∷◌, ◌++◌, length, get_or, take, drop, filter_map, String, string_bytes, Global, Option, None, Some, option_map, IfSome, refl, sym, ◌∙◌, ap, subst, arith, ne_eqb}
+use Rattle.std.proofs.Common.{◌≡◌, ◌≢◌, ℕ, suc, ◌+◌, ◌<◌, ◌==◌, Bool, true, false, cond, not, List, [], ◌∷◌, ◌++◌, length, get_or, take, drop, filter_map, String, Global, Option, None, Some, option_map, IfSome, refl, sym, ◌∙◌, ap, arith, ne_eqb}
 use Rattle.std.specs.Io.BufRead.{first_line, drop_through}
 use Rattle.std.specs.List.{before_first, after_first, cons_option, position_or_len}
 use Rattle.std.specs.Str.Lines.{lines}
@@ -56,7 +56,7 @@ rows_of_file-first bytes row some is =
     ∙ ap (λ (o : Option (List ℕ × ℕ)). cons_option o (rows_in (drop_through 10 bytes))) is
 
 -- what a line has behind the mark that it may have
-pub marked_line : Bool → List ℕ → List ℕ
+abbrev pub marked_line : Bool → List ℕ → List ℕ
 marked_line true line = without_mark line
 marked_line false line = line
 

@@ -1,5 +1,5 @@
 -- Rows that are written as the lines of a run, and read again.
-use Rattle.std.proofs.Common.{◌≡◌, ◌≢◌, ℕ, zero, suc, ◌+◌, ◌-◌, ◌<◌, ◌≤◌, ◌^◌, Bool, true, false, cond, List, [], ◌∷◌, ◌++◌, length, get_or, take, map, flat_map, filter_map, sum_by, All, decimal, String, string_bytes, string_eq, bytes_eq, string_cmp, Global, Option, None, Some, Result, Ok, Err, OnOk, Less, refl, sym, ◌∙◌, ap, subst, arith, append_assoc, append-nil, length-append, ne_eqb}
+use Rattle.std.proofs.Common.{◌≡◌, ◌≢◌, ℕ, ◌+◌, ◌-◌, ◌<◌, ◌≤◌, ◌^◌, Bool, cond, List, [], ◌∷◌, ◌++◌, length, get_or, take, map, filter_map, sum_by, All, decimal, String, string_bytes, string_eq, string_cmp, Global, Option, None, Some, Result, Ok, Err, OnOk, Less, refl, sym, ◌∙◌, ap, subst, arith, append_assoc, length-append, ne_eqb}
 use Rattle.std.specs.Io.KnownBytes.{Appends}
 use Rattle.std.specs.List.{AllByRecursion, cons_option}
 use Rattle.std.specs.List.Sorted.{IsStrictlySortedBy}
@@ -10,14 +10,14 @@ use Rattle.std.specs.Str.Parse.{AllDigits, IsNumeral, digits_value, without_lead
 use Rattle.std.specs.String.{string_eq_equiv}
 use Rattle.std.proofs.lemmas.Fmt.{decimal_is_IsNumeral}
 use Rattle.std.proofs.lemmas.Str.Parse.{without_leading_plus_none}
-use Rattle.std.proofs.lemmas.List.Elements.{All-nil, All-cons, All-append, All-get_or, All-from_get_or}
+use Rattle.std.proofs.lemmas.List.Elements.{All-nil, All-cons, All-append, All-get_or}
 use Rattle.std.proofs.lemmas.List.Sums.{sum_by-cons}
 use Rattle.hashbag.specs.Bag.{Bag, occurrences}
-use Rattle.hashbag.specs.Occurrences.{count, greatest_total}
+use Rattle.hashbag.specs.Occurrences.{greatest_total}
 use Rattle.hashbag.specs.Walks.{IsSetWalkOf}
 use Rattle.hashbag_core.proofs.OccurrenceLemmas.{count_rearranged}
 use Rattle.hashbag_ops.proofs.Sums.{count_written}
-use Rattle.hashbag_words_core.specs.Rows.{byte_of, escaped, letter_of, row, shown_as, unescaped}
+use Rattle.hashbag_words_core.specs.Rows.{byte_of, escaped, letter_of, row, shown_as}
 use Rattle.hashbag_words_core.specs.Runs.{read_as, rows_in, run_text, IsRunOf}
 use Rattle.hashbag_words_core.specs.Sorted.{row_of, of_row, times_in, text_cmp, Rises}
 use Rattle.hashbag_words_core.proofs.LineLemmas.{lines-cut}

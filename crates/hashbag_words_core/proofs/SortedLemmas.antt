@@ -1,5 +1,5 @@
 -- Rows whose tokens rise, one more at the end or at the front.
-use Rattle.std.proofs.Common.{◌≡◌, ◌≢◌, ◌⊎◌, inl, inr, ℕ, zero, suc, ◌+◌, ◌<◌, Bool, true, false, List, [], ◌∷◌, ◌++◌, length, get_or, set, map, sum_by, All, Ordering, Less, Equal, Greater, is_eq, is_gt, is_lt, String, string_bytes, string_eq, bytes_eq, Global, Option, None, Some, refl, sym, ◌∙◌, ap, subst, subst₂, arith}
+use Rattle.std.proofs.Common.{◌≡◌, ◌≢◌, ◌⊎◌, inl, inr, ℕ, zero, suc, ◌+◌, ◌<◌, Bool, false, List, [], ◌∷◌, ◌++◌, length, get_or, Ordering, Less, Equal, Greater, is_eq, is_gt, is_lt, String, string_bytes, bytes_eq, Global, Option, None, Some, refl, sym, ◌∙◌, ap, subst, subst₂, arith}
 use Rattle.std.specs.Cmp.Lexicographic.{nat_list_cmp_total, texts_ties}
 use Rattle.std.specs.List.{AllByRecursion}
 use Rattle.std.specs.List.Sorted.{IsStrictlySortedBy}

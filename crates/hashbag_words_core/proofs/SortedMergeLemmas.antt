@@ -1,12 +1,12 @@
 -- The merge of rows that rise, one row after the other.
-use Rattle.std.proofs.Common.{◌≡◌, ◌≢◌, ◌⊎◌, ℕ, zero, suc, ◌+◌, ◌<◌, ◌^◌, Bool, true, false, cond, List, [], ◌∷◌, ◌++◌, length, get_or, set, map, sum_by, All, Ordering, Less, Equal, Greater, String, string_bytes, string_eq, bytes_eq, Global, Option, None, Some, option_map, refl, sym, ◌∙◌, ap, subst, subst₂, arith, inl, inr, eq-eqb, ne_eqb, length-set}
-use Rattle.std.specs.Cmp.Lexicographic.{nat_list_eq_equiv, bytes_decides}
+use Rattle.std.proofs.Common.{◌≡◌, ◌⊎◌, ℕ, zero, suc, ◌+◌, ◌<◌, ◌^◌, Bool, true, false, cond, List, [], ◌∷◌, ◌++◌, length, get_or, set, map, sum_by, All, Less, String, string_bytes, string_eq, bytes_eq, Global, Option, None, Some, refl, sym, ◌∙◌, ap, subst, subst₂, arith, inl, inr, eq-eqb, ne_eqb, length-set}
+use Rattle.std.specs.Cmp.Lexicographic.{bytes_decides}
 use Rattle.std.proofs.lemmas.Bool.{cases_eq}
-use Rattle.std.proofs.lemmas.List.{append-nil, append_assoc, length-map, get_or-map, map-set, get_or-set_same, get_or-set_other}
+use Rattle.std.proofs.lemmas.List.{append-nil, length-map, get_or-map, map-set, get_or-set_same, get_or-set_other}
 use Rattle.std.proofs.lemmas.List.Elements.{All-nil, All-head, All-tail, All-push, All-set, All-from_get_or}
-use Rattle.std.proofs.lemmas.List.Sums.{sum_by-append, sum_by-cons, sum_by-set, sum_by_push}
+use Rattle.std.proofs.lemmas.List.Sums.{sum_by-cons, sum_by-set, sum_by_push}
 use Rattle.std.proofs.lemmas.Option.{same_Some}
-use Rattle.hashbag_words_core.specs.Sorted.{text_cmp, row_of, of_row, times_in, numbers, count_of, shown_of, with_head, AreLeft, IsAbove, IsMergeOf, IsNoLater, IsNotBelow, Joins, Puts, Rises, TakesHead, TakesLeast, TakesRow}
+use Rattle.hashbag_words_core.specs.Sorted.{text_cmp, row_of, of_row, times_in, numbers, shown_of, with_head, AreLeft, IsAbove, IsMergeOf, IsNoLater, IsNotBelow, Joins, Puts, Rises, TakesHead, TakesLeast, TakesRow}
 use Rattle.hashbag_words_core.specs.declared.sources.Source.{Source}
 use Rattle.hashbag_words_core.proofs.SortedLemmas.{AllBelow, AllBelow-later, AllBelow-push, Rises-nil, Rises-push, Rises-cons, IsNotBelow-from_above, less_from}
 

@@ -1,5 +1,5 @@
 -- Rows whose tokens rise, and their merge.
-use Rattle.std.specs.Prelude.{◌≡◌, ◌≢◌, ℕ, ◌+◌, ◌<◌, ◌^◌, ◌==◌, ◌⊎◌, true, false, List, [], ◌∷◌, ◌++◌, length, map, sum_by, All, slice_set, slice_index_or, if◌then◌else◌, String, string_bytes, string_eq, Option, None, Some, option_map, IfSome}
+use Rattle.std.specs.Prelude.{◌≡◌, ◌≢◌, ℕ, ◌+◌, ◌<◌, ◌^◌, ◌==◌, ◌⊎◌, true, false, List, [], ◌∷◌, length, map, sum_by, All, slice_set, slice_index_or, if◌then◌else◌, String, string_bytes, string_eq, Option, None, Some, option_map}
 use Rattle.std.specs.Cmp.Lexicographic.{slice_cmp}
 use Rattle.std.specs.Global.{Global}
 use Rattle.std.specs.List.Sorted.{IsStrictlySortedBy}

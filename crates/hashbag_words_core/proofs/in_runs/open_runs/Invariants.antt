@@ -1,4 +1,4 @@
-use Rattle.std.proofs.Common.{List, Option, Some, map, take}
+use Rattle.std.proofs.Common.{Some, map, take}
 use Rattle.hashbag_words_core.specs.Runs.{rows_in, rows_left}
 use Rattle.hashbag_words_core.specs.Sorted.{AreLeft}
 use Rattle.hashbag_words_core.proofs.in_runs.open_runs.Given as goal

@@ -1,4 +1,4 @@
-use Rattle.std.proofs.Common.{◌≡◌, ℕ, ◌+◌, ◌<◌, length, get_or, sym, subst, arith}
+use Rattle.std.proofs.Common.{ℕ, ◌+◌, ◌<◌, length, get_or, sym, subst, arith}
 use Rattle.hashbag_words_core.proofs.SortedLemmas.{IsLeastTo, at_places, least_kept, least_taken, no_later_itself}
 use Rattle.hashbag_words_core.proofs.sorted_merge.least.Goals as goal
 use Rattle.hashbag_words_core.proofs.sorted_merge.least.Goals.{then-is_before, else-is_before}

@@ -1,4 +1,4 @@
-use Rattle.std.proofs.Common.{◌≡◌, ℕ, ◌+◌, List, [], ◌++◌, String, Global, Option, Result, Ok, Err, IsSome, OnOk, refl, sym, ◌∙◌, ap, subst, arith}
+use Rattle.std.proofs.Common.{◌≡◌, ℕ, ◌+◌, [], ◌++◌, String, Global, Option, Result, Ok, Err, IsSome, OnOk, refl, sym, ◌∙◌, ap, subst, arith}
 use Rattle.hashbag_words_core.specs.Sorted.{count_of, shown_of, TakesRow}
 use Rattle.hashbag_words_core.proofs.SortedMergeLemmas.{SoFar, so_far_none, so_far_more, so_far_done, Puts-append}
 use Rattle.hashbag_words_core.proofs.sorted_merge.merge_rows.Goals as goal

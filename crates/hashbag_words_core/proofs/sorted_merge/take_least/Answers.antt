@@ -1,4 +1,4 @@
-use Rattle.std.proofs.Common.{◌≡◌, ◌<◌, List, length, get_or, All, subst}
+use Rattle.std.proofs.Common.{◌<◌, List, length, get_or, All, subst}
 use Rattle.hashbag_words_core.specs.Sorted.{IsNoLater}
 use Rattle.hashbag_words_core.specs.declared.sources.Source.{Source}
 use Rattle.hashbag_words_core.proofs.SortedMergeLemmas.{took_row}

@@ -1,4 +1,4 @@
-use Rattle.std.proofs.Common.{◌≡◌, Bool, true, false, List, ℕ, Option, Some, IfSome, IsSomeAnd, refl, sym, ◌∙◌, ap, subst}
+use Rattle.std.proofs.Common.{◌≡◌, Bool, true, false, List, ℕ, Some, IfSome, IsSomeAnd, refl, sym, ◌∙◌, ap, subst}
 use Rattle.hashbag_words_core.specs.Reading.{ReadsLine}
 use Rattle.hashbag_words_core.specs.Runs.{read_as, rows_left}
 use Rattle.hashbag_words_core.specs.Sorted.{row_of, GivesRow}
