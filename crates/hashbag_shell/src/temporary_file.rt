@@ -1,20 +1,20 @@
 //! Temporary files that have no name once they are open.
 //!
-//! So nothing is left of one when the program ends, whatever ends it. Only a signal before the name is removed leaves an empty file.
+//! Nothing is left of one when the program ends, whatever ends it. Only a signal before the name is removed leaves an empty file.
 use std::fs::{self, OpenOptions};
 use std::io::{self, ErrorKind};
 use std::os::unix::fs::OpenOptionsExt;
 use std::rt::Files;
 
-// At most so many names are tried.
+// How many names are tried.
 const NAMES: u32 = 1000;
 
-/// Creates a file in that folder to write and to read, and removes its name. Only its owner may open it until then. `number` is a part
-/// of the name, as the number of the process.
+/// Creates a file in a folder, open to write and to read, and removes its name. Until then only its owner may open it. `number`, which is
+/// the number of the process, is a part of the name.
 ///
 /// # Errors
 ///
-/// What the system says: the folder doesn't exist or may not be written, or too many files are open.
+/// The system's error: the folder doesn't exist or may not be written, or too many files are open.
 pub fn create_unnamed<R: Files + AllocGlobal>(
     rt: &R,
     folder: &str,

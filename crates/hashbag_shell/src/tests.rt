@@ -2,7 +2,7 @@
 use crate::one_file::is_one_file;
 use crate::output_file::OutputFile;
 use std::test::Fail;
-use std::{fs, process};
+use std::{env, fs, process};
 
 // The names in a folder and the text of its file `out`, in one line.
 fn state_of(rt: &HostRuntime, folder: &str) -> Result<String, Fail> {
@@ -21,7 +21,8 @@ fn state_of(rt: &HostRuntime, folder: &str) -> Result<String, Fail> {
 fn an_output_is_written_whole_or_not_at_all(rt: HostRuntime) -> Result<(), Fail> {
     let alloc = rt.alloc();
     let number = process::id(rt.process());
-    let folder = format!(in alloc; "/tmp/hashbag_shell_{number}")?;
+    let above = env::temp_dir(&rt)?;
+    let folder = format!(in alloc; "{}/hashbag_shell_{number}", above.display())?;
     fs::create_dir(&rt, folder.as_str())?;
     let name = format!(in alloc; "{folder}/out")?;
     OutputFile::open(&rt, name.as_str())?.write_whole(&rt, b"old")?;

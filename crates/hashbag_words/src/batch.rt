@@ -23,7 +23,7 @@ pub struct Batch<'s, 'a> {
 }
 
 impl<'s, 'a> Batch<'s, 'a> {
-    /// No sources.
+    /// Returns no sources.
     pub fn new(rt: &'s HostRuntime) -> Batch<'s, 'a> {
         let alloc = rt.alloc();
         Batch {
@@ -75,7 +75,7 @@ impl<'s, 'a> Batch<'s, 'a> {
         }
     }
 
-    // Why a merge ended early. What it put went into a file of that folder.
+    // Returns why a merge ended early. What it put went into a file of that folder.
     fn failure(&self, folder: &'a str, stop: Stop) -> Failure<'a> {
         match stop {
             Stop::Source(i, fault) => match (self.names.get(i), self.sources.get(i)) {
@@ -90,7 +90,7 @@ impl<'s, 'a> Batch<'s, 'a> {
         }
     }
 
-    /// Merges the rows of all sources, and says how many bad lines of each were skipped.
+    /// Merges the rows of all sources, and reports how many bad lines of each were skipped.
     pub fn merge<K: Sink>(&mut self, folder: &'a str, sink: &mut K) -> Result<(), Failure<'a>> {
         if let Err(stop) = merge_rows(&mut self.sources, sink) {
             return Err(self.failure(folder, stop));

@@ -4,21 +4,21 @@ use crate::bag::Bag;
 // The bytes of a slot: a text's place and length, its count, and a tag.
 const SLOT: usize = 33;
 
-// The bytes of a token beside its text: what the allocator adds, and its place in a sorted list.
+// The bytes of a token without its text: what the allocator adds, and its place in a sorted list.
 const TOKEN: usize = 32;
 
 // With less room than this the next lines may need more slots.
 const LITTLE_ROOM: usize = 1024;
 
-/// How much memory a bag of texts may take, and at most takes.
+/// How many bytes a bag of texts may take, and an upper bound of what it takes.
 #[derive(Clone, Copy)]
 pub struct Gauge {
     most: usize,
-    // The texts of the bag have at most so many bytes.
+    // An upper bound of the bytes of the bag's texts.
     texts: usize,
 }
 
-// The bytes that a bag whose texts have that many bytes takes, or will take if it grows next.
+// Returns the bytes that a bag takes, or takes after its next growth, if its texts have `texts` bytes.
 fn bytes_of(bag: &Bag, texts: usize) -> usize {
     let slots = bag.slots().saturating_add(bag.waiting());
     let next = if bag.room() < LITTLE_ROOM {
@@ -32,7 +32,7 @@ fn bytes_of(bag: &Bag, texts: usize) -> usize {
         .saturating_add(texts)
 }
 
-// The bytes of all texts of a bag.
+// Returns the bytes of all texts of a bag.
 fn text_bytes(bag: &Bag) -> usize {
     let mut bytes = 0usize;
     for (token, _count) in bag.set_iter() {
@@ -42,18 +42,20 @@ fn text_bytes(bag: &Bag) -> usize {
 }
 
 impl Gauge {
-    /// Of an empty bag that may take `most` bytes.
+    /// Returns the gauge of an empty bag that may take `most` bytes.
     pub fn new(most: usize) -> Gauge {
         Gauge { most, texts: 0 }
     }
 
-    /// The bag has been emptied.
+    /// Notes that the bag is empty.
     pub fn empty(&mut self) {
         self.texts = 0;
     }
 
-    /// Whether the bag is full, after so many bytes more of the input. They are counted as texts until that matters; then all texts
-    /// are measured. A bag that takes seven eighths is full, so that it isn't measured often.
+    /// Returns whether the bag is full after `read` more bytes of the input.
+    ///
+    /// The bytes read count as texts until their bound reaches `most`. Then all texts of the bag are measured, and the bag is full if it takes
+    /// seven eighths of `most`. So it isn't measured often.
     pub fn is_full(&mut self, bag: &Bag, read: u64) -> bool {
         self.texts = self.texts.saturating_add(read as usize);
         if bag.is_empty() || bytes_of(bag, self.texts) < self.most {

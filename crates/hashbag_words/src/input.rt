@@ -21,7 +21,7 @@ impl Input {
     ///
     /// # Errors
     ///
-    /// What the system says.
+    /// The system's error.
     pub fn open(rt: &HostRuntime, name: &str) -> io::Result<Input> {
         if name == "-" {
             let origin = Origin::Standard(rt.stdin());
@@ -30,13 +30,13 @@ impl Input {
         Ok(Input::of_file(fs::open(rt, name)?))
     }
 
-    /// A file that is open.
+    /// Returns the input of an open file.
     pub fn of_file(file: File) -> Input {
         let origin = Origin::File(file);
         Input { origin, bytes: 0 }
     }
 
-    /// How many bytes were read.
+    /// Returns how many bytes were read.
     pub fn bytes(&self) -> u64 {
         self.bytes
     }
@@ -53,7 +53,7 @@ impl Read for Input {
     }
 }
 
-/// What messages call the input of that name.
+/// Returns what messages call the input of that name.
 pub fn said(name: &str) -> &str {
     if name == "-" { "standard input" } else { name }
 }

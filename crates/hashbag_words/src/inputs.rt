@@ -31,17 +31,17 @@ pub enum Intake<'r> {
     Tree,
 }
 
-/// Where the counts go of a bag that is full.
+/// When a bag is full, and where its counts then go.
 #[derive(Drop)]
 pub struct Bound<'s, 'a> {
-    /// When it is full.
+    /// How full the bag is.
     pub gauge: Gauge,
-    /// What was counted before.
+    /// The runs that were made.
     pub runs: Runs<'s, 'a>,
 }
 
 impl<'s, 'a> Bound<'s, 'a> {
-    // Makes a run of the bag if it is full, after so many bytes more.
+    // Makes a run of the bag if it is full after `read` more bytes of the input.
     fn keep(&mut self, bag: &mut Bag, read: u64) -> Result<(), Failure<'a>> {
         if self.gauge.is_full(bag, read) {
             self.runs.spill(bag)?;

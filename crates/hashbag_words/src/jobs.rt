@@ -54,7 +54,7 @@ fn take_pair<'a>(
     Ok(other)
 }
 
-// The bound of the memory, if there is one. Runs will be in that folder.
+// Returns the bound of the memory, if there is one. Its runs are in that folder.
 fn bound_of<'s, 'a>(
     rt: &'s HostRuntime,
     settings: &Settings<'a, '_>,
@@ -71,7 +71,7 @@ fn bound_of<'s, 'a>(
     Ok(Some(Bound { gauge, runs }))
 }
 
-// Takes in the inputs of a job: what was counted is then in the bag, and in the runs that were made.
+// Reads the inputs of a job. What they count is then in the bag, and in the runs that were made.
 fn take_in<'a>(inputs: &mut Inputs<'_, 'a, '_>, bag: &mut Bag) -> Result<(), Failure<'a>> {
     let settings = inputs.settings;
     let counts = match settings.rows {

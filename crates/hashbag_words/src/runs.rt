@@ -10,10 +10,10 @@ use std::fs::File;
 use std::io::{self, BufWriter, Seek};
 use std::process;
 
-/// So many bytes are read or written at once.
+/// How many bytes are read or written at once.
 pub const BUFFER: usize = 1 << 16;
 
-/// So many runs, or files, are merged at once.
+/// How many runs, or files, are merged at once.
 pub const FAN: usize = 16;
 
 // A run, and how often its rows have been merged.
@@ -38,7 +38,7 @@ pub fn temporary<'a>(rt: &HostRuntime, folder: &'a str) -> Result<File, Failure<
     create_unnamed(rt, folder, number).map_err(|error| Failure::of_file(folder, error))
 }
 
-/// The file that was written to, to be read from its beginning.
+/// Flushes, and returns the file, to be read from its beginning.
 pub fn begun(written: BufWriter<File>) -> io::Result<File> {
     let mut file = match written.into_inner() {
         Ok(file) => file,
@@ -56,13 +56,13 @@ fn spill_to(rt: &HostRuntime, file: File, bag: &mut Bag) -> io::Result<File> {
 }
 
 impl<'s, 'a> Runs<'s, 'a> {
-    /// Before the first run. The temporary files will be in that folder.
+    /// Returns no runs. The temporary files of later ones are in that folder.
     pub fn new(rt: &'s HostRuntime, folder: &'a str) -> Runs<'s, 'a> {
         let runs = Vec::new(rt.alloc());
         Runs { rt, folder, runs }
     }
 
-    /// Whether there are none.
+    /// Returns whether there are none.
     pub fn is_empty(&self) -> bool {
         self.runs.is_empty()
     }
@@ -91,7 +91,7 @@ impl<'s, 'a> Runs<'s, 'a> {
         Ok(())
     }
 
-    // How many runs are of that level.
+    // Returns how many runs are of that level.
     fn of_level(&self, level: u32) -> usize {
         let mut n = 0usize;
         for run in &self.runs {
@@ -114,7 +114,7 @@ impl<'s, 'a> Runs<'s, 'a> {
         merge_to_file(self.rt, self.folder, &mut batch)
     }
 
-    /// All runs, to be merged.
+    /// Returns all runs as sources of one merge.
     pub fn into_batch(self) -> Result<Batch<'s, 'a>, Failure<'a>> {
         let Runs { rt, folder, runs } = self;
         let mut batch = Batch::new(rt);

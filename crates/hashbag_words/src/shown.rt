@@ -74,8 +74,7 @@ pub fn show<'a>(
     }
 }
 
-/// Merges the files of counts of these names, whose tokens rise. If there are more than are merged at once, so many each become a run
-/// first.
+/// Merges the files of counts of these names, whose tokens rise. If there are more than `FAN`, each `FAN` of them become a run first.
 pub fn show_sorted<'a>(
     rt: &HostRuntime,
     settings: &Settings<'a, '_>,

@@ -12,7 +12,7 @@ const UNITS: [(char, usize); 8] = [
     ('T', 1 << 40),
 ];
 
-// A number of units, in bytes.
+// Returns the bytes of a number of units.
 fn times(number: &str, unit: usize) -> Option<usize> {
     match number.parse::<usize>() {
         Ok(number) => number.checked_mul(unit),
@@ -20,7 +20,8 @@ fn times(number: &str, unit: usize) -> Option<usize> {
     }
 }
 
-/// The bytes that a text as `64M` or `4096` means: a number, and `K`, `M`, `G` or `T` for that power of 1024.
+/// Returns the bytes that a text such as `64M` or `4096` means: a number, and `K`, `M`, `G` or `T` for a power of 1024. Returns `None` if it
+/// means none.
 pub fn bytes_of(text: &str) -> Option<usize> {
     for (letter, unit) in UNITS {
         if let Some(number) = text.strip_suffix(letter) {

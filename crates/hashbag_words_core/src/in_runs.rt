@@ -101,8 +101,9 @@ fn open_runs<'a>(
     Ok(sources)
 }
 
-/// Counts the lines of an input, and makes a run of what was counted after each of these numbers of lines, and after the last line; then
-/// merges the runs: puts the counts of the whole input, as if there had been no run but the last.
+/// Counts the lines of an input in runs, and puts the counts of the whole input, as if there had been one run.
+///
+/// It makes a run of what was counted after each of these numbers of lines, and after the last line. Then it merges the runs.
 ///
 /// # Errors
 ///

@@ -41,7 +41,7 @@ fn write_run<W: Write, S: BuildHasher + Drop>(
 
 /// Writes what a bag has as a run, and empties the bag: rows of `tsv`, each token once, tokens rising. They are read again as these rows.
 ///
-/// The limit of the bag falls by what it had. So a total of all runs and of the bag is refused as that of one bag is.
+/// The limit of the bag falls by what it had. So a total of all runs and of the bag fails at the same count as the total of one bag.
 ///
 /// # Errors
 ///

@@ -68,7 +68,7 @@ fn take_least<S: Rows + Drop>(
     sources: &mut Vec<Source<S>>,
     total: &mut usize,
 ) -> Result<Option<(String, usize)>, Stop>
-    ensures takes { IfOk result (λ row. (rows : List (List (List ℕ × ℕ))) → AreLeft S.left sources.old.items rows
+    ensures row_taken { IfOk result (λ row. (rows : List (List (List ℕ × ℕ))) → AreLeft S.left sources.old.items rows
         → TakesRow S.left rows row sources.new.items) }
     ensures total { IfOk result (λ row. total.new ≡ total.old + count_of row) }
     ensures fits { IfOk result (λ row. IsSome row → total.new < 2 ^ 64) }

@@ -73,7 +73,7 @@ impl<S: Rows + Drop> Source<S> {
     /// The fault of that read. `BadLine::NotInOrder`: the token of the row after it doesn't come after that of the row.
     pub(crate) fn take(&mut self) -> Result<Option<(String, usize)>, Fault>
         ensures same { IfOk result (λ row. row ≡ self.old.head) }
-        ensures takes { IfOk result (λ row. (rows : List (List ℕ × ℕ)) → with_head self.old.head (S.left self.old.rows) ≡ Some rows
+        ensures row_taken { IfOk result (λ row. (rows : List (List ℕ × ℕ)) → with_head self.old.head (S.left self.old.rows) ≡ Some rows
             → TakesHead rows row (with_head self.new.head (S.left self.new.rows))) }
     {
         let Some(row) = self.head.take() else {

@@ -181,12 +181,12 @@ const READINGS: [(&[u8], &str, &str, u32, &str, &str); 22] = [
         "[bolt 150]",
     ),
     (
-        b"article\tnumber\nnut, M4\t7\n",
+        b"article\tnumber\nnut, M8\t7\n",
         "article",
         "tab",
         0,
         ".",
-        "[nut, M4 7]",
+        "[nut, M8 7]",
     ),
     (
         b"article\tnumber\nnut\t7\n",
@@ -221,12 +221,12 @@ const READINGS: [(&[u8], &str, &str, u32, &str, &str); 22] = [
         "1: no column `article`",
     ),
     (
-        b"number,lot,article\n1,L1,a\n2,,b\n",
+        b"number,lot,article\n1,L8,a\n2,,b\n",
         "article,lot",
         ",",
         0,
         ".",
-        "[a L1 1][b  2]",
+        "[a L8 1][b  2]",
     ),
     (
         b"number,article\n1,a\n",
