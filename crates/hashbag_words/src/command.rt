@@ -8,12 +8,11 @@ const AFTER: &str = "\
 Where no command is named it is `count`, so these count words, and show the ten commonest, upper and lower case as one:
     hashbag_words --fold --top 10 text
     cat text | hashbag_words --fold --top 10
-`hashbag_words count --help` tells what else may be counted, and how it is shown.
+`hashbag_words count --help` says what else may be counted, and how it is shown.
 
-The counts of an input are the sums of those of its parts, wherever it is split at line ends, so parts may be counted side by side:
-    mkdir parts counts && split -n l/4 text parts/
-    ls parts | xargs -P 4 -I{} hashbag_words parts/{} -o counts/{}.tsv
-    hashbag_words merge counts/*.tsv
+The counts of an input are the sums of those of its parts, wherever it is split at line ends. So parts may be counted in parallel, here by
+GNU parallel:
+    parallel --pipepart -a text --block 64M hashbag_words | hashbag_words merge
 
 Exit status: 0 done; 1 nothing is shown, with --fail-empty; 2 bad arguments or a bad line; 3 an allocation failed; 4 a file can't be
 opened, or a read or a write failed; 5 the counts add up to more than 2^64-1. With 2, 3 and 5 nothing was written.";
@@ -30,8 +29,8 @@ pub fn is_job(word: &str) -> bool {
 fn with_input(alloc: Global, command: Command<'_>) -> Result<Command<'_>, Error> {
     Ok(
         command
-            .arg(arg!(in alloc; --"skip-bad" "Pass over bad lines, and tell how many there were"))?
-            .arg(arg!(in alloc; --progress "Tell on standard error, each second, how far it is"))?,
+            .arg(arg!(in alloc; --"skip-bad" "Skip bad lines, and say how many there were"))?
+            .arg(arg!(in alloc; --progress "Report on standard error, each second, how far it is"))?,
     )
 }
 
@@ -89,7 +88,7 @@ fn with_list(alloc: Global, command: Command<'_>) -> Result<Command<'_>, Error> 
 
 fn count<'a>(alloc: Global) -> Result<Command<'a>, Error> {
     let by =
-        arg!(in alloc; --by <WHAT> "What is counted: what stands between white space, the words by the rules of Unicode, or whole lines")
+        arg!(in alloc; --by <WHAT> "What is counted: what is between white space, the words by the rules of Unicode, or whole lines")
             .value_parser(["words", "unicode", "lines"].as_slice())
             .default_value("words")
             .conflicts_with("pattern")?;

@@ -1,0 +1,29 @@
+#!/usr/bin/env bash
+# slurm_words.sh TEXT OUTPUT [TASKS [WORD..]]: counts a text on the nodes of a Slurm cluster, by TASKS tasks, 16 by default.
+#
+# An array of TASKS tasks: each counts its part of the text, which ends at a line end, by `hashbag_words WORD..` into the folder OUTPUT.parts. A
+# task writes its counts as a whole or not at all. So a task that is requeued writes the same file again. A job that waits for all of them
+# merges the files into OUTPUT and removes the folder. Prints the number of that job.
+#
+# All nodes see TEXT and the folder of OUTPUT by the same names, and have `hashbag_words` on their PATH, or where HASHBAG_WORDS says.
+set -eu
+text=$(realpath "$1")
+output=$(realpath "$2")
+tasks=${3:-16}
+shift $(($# < 3 ? $# : 3))
+program=${HASHBAG_WORDS:-hashbag_words}
+parts=$output.parts
+mkdir -p "$parts"
+
+array=$(sbatch --parsable --requeue --array="1-$tasks" --output="$parts/log.%a" --export=ALL <<JOB
+#!/usr/bin/env bash
+set -euo pipefail
+split -n "l/\$SLURM_ARRAY_TASK_ID/$tasks" $(printf '%q' "$text") | $(printf '%q ' "$program" "$@") -o $(printf '%q' "$parts")/"\$SLURM_ARRAY_TASK_ID".tsv
+JOB
+)
+sbatch --parsable --requeue --dependency="afterok:$array" --kill-on-invalid-dep=yes --output="$output.log" --export=ALL <<JOB
+#!/usr/bin/env bash
+set -euo pipefail
+$(printf '%q' "$program") merge --sorted $(printf '%q' "$parts")/*.tsv -o $(printf '%q' "$output")
+rm -rf $(printf '%q' "$parts")
+JOB
