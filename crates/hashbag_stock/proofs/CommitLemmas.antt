@@ -1,5 +1,5 @@
 -- One commit at the end of steps inside a transaction, or none.
-use Rattle.std.proofs.Common.{◌≡◌, ◌≤◌, ℕ, true, false, IsTrue, inl, inr, refl, ◌∙◌, arith}
+use Rattle.std.proofs.Common.{◌≡◌, true, false, IsTrue, IsErr, is_ok, Result, Ok, Err, inl, inr, refl, ◌∙◌, arith}
 use Rattle.sqlite.specs.Tree.{Trees}
 use Rattle.sqlite.specs.Store.{Ghosts}
 use Rattle.sqlite.specs.declared.error.Error.{Error}
@@ -9,6 +9,10 @@ use Rattle.sqlite.specs.Steps.{FailsToCommit}
 use Rattle.sqlite.proofs.StateLemmas.{survives_then}
 use Rattle.sqlite.proofs.Callers.{survives_begin}
 use Rattle.hashbag_stock.specs.Commits.{IsInside, IsOneCommit}
+
+pub failed : {X E : Type 0} (r : Result X E) → IsErr r → is_ok r ≡ false
+failed (Ok x) h = absurd cc
+failed (Err e) h = refl
 
 module _ {S : Type 0} (g : Ghosts S) (old : Held S) where
   -- nothing was begun

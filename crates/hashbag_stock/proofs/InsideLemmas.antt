@@ -1,5 +1,5 @@
 -- Steps inside a transaction, one after the other.
-use Rattle.std.proofs.Common.{◌≡◌, ℕ, List, Result, Ok, Err, true, false, IsTrue, refl, sym, subst, inl, inr, arith}
+use Rattle.std.proofs.Common.{◌≡◌, ℕ, List, Result, Err, false, IsTrue, refl, sym, subst, inl, inr, arith}
 use Rattle.std.proofs.lemmas.Bool.{cases_Bool}
 use Rattle.sqlite.specs.Order.{Row}
 use Rattle.sqlite.specs.Store.{Ghosts}

@@ -217,59 +217,27 @@ fn write_batches<'a>(
     Ok(())
 }
 
-// Returns all refusals in turn; if only the first is named, no other.
+// Returns a copy of all refusals in turn; if only the first is named, of no other.
 fn refusals_of(
     alloc: Global,
-    all: Vec<Ready>,
+    all: &[Ready],
     is_first_alone: bool,
 ) -> Result<Vec<Refusal<String>>, AllocError> {
     let mut refusals = Vec::new(alloc);
     for ready in all {
-        let mut some = ready.refusals;
-        refusals.append(&mut some)?;
-    }
-    if is_first_alone {
-        refusals.truncate(1);
+        for refusal in &ready.refusals {
+            if is_first_alone && !refusals.is_empty() {
+                return Ok(refusals);
+            }
+            refusals.push(Refusal {
+                place: refusal.place,
+                article: refusal.article.clone()?,
+                asked: refusal.asked,
+                there: refusal.there,
+            })?;
+        }
     }
     Ok(refusals)
-}
-
-// Enters the inputs, and returns the refusals and how many decimals their numbers have.
-fn entered_of<'a>(
-    rt: &HostRuntime,
-    request: &Request<'a>,
-    inputs: &[Input<'a>],
-) -> Result<(Vec<Refusal<String>>, u32), Failure<'a>> {
-    let alloc = rt.alloc();
-    let db = request.db;
-    if is_blank(rt, db) {
-        // What is wrong with an input is found before the file is made.
-        let reading = request.reading(request.scale.unwrap_or(0));
-        all_ready(rt, request, inputs, reading, Vec::new(alloc))?;
-    }
-    let (mut conn, form) = open_or_make(rt, db, request.wait)?;
-    let (scale, new_scale) = scale_of(request, form)?;
-    let reading = request.reading(scale);
-    let mut kept = Vec::new(alloc);
-    if new_scale.is_none() {
-        if request.from.is_some() {
-            return Err(Failure::HasStock { db });
-        }
-        let batches = in_database(db, batches_of(alloc, &mut conn))?;
-        if !request.again {
-            entered_twice(inputs, &batches)?;
-        }
-        kept = in_database(db, balance_of(alloc, &mut conn))?;
-    } else if !request.again {
-        entered_twice(inputs, &[])?;
-    }
-    let all = all_ready(rt, request, inputs, reading, kept)?;
-    let is_refused = all.iter().any(|ready| !ready.refusals.is_empty());
-    if !(request.strict && is_refused) {
-        write_batches(&mut conn, db, new_scale, inputs, &all)?;
-    }
-    close_database(conn);
-    Ok((refusals_of(alloc, all, request.strict)?, scale))
 }
 
 // Returns the names of the inputs.
@@ -281,18 +249,69 @@ fn names_of<'a>(alloc: Global, inputs: &[Input<'a>]) -> Result<Vec<&'a str>, All
     Ok(names)
 }
 
-// Enters the inputs, and returns the text of the refusals and the status.
+// Returns the text of the refusals of these batches.
+fn text_of<'a>(
+    alloc: Global,
+    request: &Request<'a>,
+    inputs: &[Input<'a>],
+    reading: Reading,
+    all: &[Ready],
+) -> Result<Vec<u8>, AllocError> {
+    let refusals = refusals_of(alloc, all, request.strict)?;
+    let names = names_of(alloc, inputs)?;
+    match request.refused {
+        Some(_) => refusals_table(alloc, &names, reading, &refusals),
+        None => Ok(refusals_text(alloc, &names, reading.scale, &refusals)?.into_bytes()),
+    }
+}
+
+// Returns the balance that the inputs change.
+fn kept_of<'a>(
+    alloc: Global,
+    request: &Request<'a>,
+    inputs: &[Input<'a>],
+    conn: &mut Db,
+    is_new: bool,
+) -> Result<Vec<(String, usize)>, Failure<'a>> {
+    let db = request.db;
+    if is_new {
+        if !request.again {
+            entered_twice(inputs, &[])?;
+        }
+        return Ok(Vec::new(alloc));
+    }
+    if request.from.is_some() {
+        return Err(Failure::HasStock { db });
+    }
+    let batches = in_database(db, batches_of(alloc, conn))?;
+    if !request.again {
+        entered_twice(inputs, &batches)?;
+    }
+    in_database(db, balance_of(alloc, conn))
+}
+
+// Enters the inputs, and returns the text of the refusals and the status. That text is made before anything is written.
 fn report_of<'a>(rt: &HostRuntime, request: &Request<'a>) -> Result<(Vec<u8>, u8), Failure<'a>> {
     let alloc = rt.alloc();
+    let db = request.db;
     let inputs = inputs_of(rt, request)?;
-    let (refusals, scale) = entered_of(rt, request, &inputs)?;
-    let names = names_of(alloc, &inputs)?;
+    if is_blank(rt, db) {
+        // What is wrong with an input is found before the file is made.
+        let reading = request.reading(request.scale.unwrap_or(0));
+        all_ready(rt, request, &inputs, reading, Vec::new(alloc))?;
+    }
+    let (mut conn, form) = open_or_make(rt, db, request.wait)?;
+    let (scale, new_scale) = scale_of(request, form)?;
     let reading = request.reading(scale);
-    let text = match request.refused {
-        Some(_) => refusals_table(alloc, &names, reading, &refusals)?,
-        None => refusals_text(alloc, &names, reading.scale, &refusals)?.into_bytes(),
-    };
-    Ok((text, if refusals.is_empty() { DONE } else { DENIED }))
+    let kept = kept_of(alloc, request, &inputs, &mut conn, new_scale.is_some())?;
+    let all = all_ready(rt, request, &inputs, reading, kept)?;
+    let text = text_of(alloc, request, &inputs, reading, &all)?;
+    let is_refused = all.iter().any(|ready| !ready.refusals.is_empty());
+    if !(request.strict && is_refused) {
+        write_batches(&mut conn, db, new_scale, &inputs, &all)?;
+    }
+    close_database(conn);
+    Ok((text, if is_refused { DENIED } else { DONE }))
 }
 
 // Returns a file that is named for two things.
