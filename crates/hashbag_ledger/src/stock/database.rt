@@ -84,9 +84,10 @@ pub fn open<'a>(rt: &HostRuntime, request: &Request<'a>) -> Result<(Db, u32), Fa
             Err(_) => Failure::NoFile { db },
         });
     }
-    match open_or_make(rt, db, request.wait)? {
-        (conn, Form::Stock(scale)) => Ok((conn, scale)),
-        (conn, Form::Empty) => {
+    let (conn, form) = open_or_make(rt, db, request.wait)?;
+    match form {
+        Form::Stock(scale) => Ok((conn, scale)),
+        Form::Empty => {
             close(conn);
             Err(Failure::NoStock { db })
         }
