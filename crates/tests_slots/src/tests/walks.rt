@@ -1,6 +1,6 @@
 //! Walks over two tables: of so few slots each all are of one pass, so the newer table's values come first, in the order of their places.
 use crate::tests::checks::answers;
-use crate::tests::places::{Numbers, numbers, take};
+use crate::tests::places::{Numbers, numbers};
 use hashbag_slots::walk::{IntoWalk, Walk};
 use std::process::Abort;
 use std::test::Fail;
@@ -60,14 +60,14 @@ fn both_give(
 // The values go past the last slot: 2 and 3 are at the places 0 and 1.
 #[test]
 fn lent(rt: HostRuntime) -> Result<(), Fail> {
-    let mut table = numbers(&rt, rt.alloc(), 15, 4)?;
-    let none = numbers(&rt, rt.alloc(), 0, 0)?;
+    let mut table = numbers(rt.alloc(), 15, 4)?;
+    let none = numbers(rt.alloc(), 0, 0)?;
     table_gives(&rt, &table, &none, &[(2, 2), (3, 3), (4, 4), (1, 1)]);
     table_gives(&rt, &none, &table, &[(2, 2), (3, 3), (4, 4), (1, 1)]);
     both_give(&rt, &table, &none, &[(3, 3), (4, 4), (1, 1)])?;
     both_give(&rt, &none, &table, &[(3, 3), (4, 4), (1, 1)])?;
-    take(&rt, &mut table, 3, 3);
-    let older = numbers(&rt, rt.alloc(), 7, 1)?;
+    answers(&rt, "take", 3, &table.take(&3), &Some((3, 3)));
+    let older = numbers(rt.alloc(), 7, 1)?;
     table_gives(&rt, &table, &older, &[(2, 2), (4, 4), (1, 1), (1, 1)]);
     Ok(())
 }
@@ -92,8 +92,8 @@ fn next_is(rt: &impl Abort, walk: &mut IntoWalk<u64>, wanted: Option<(u64, usize
 
 #[test]
 fn owned(rt: HostRuntime) -> Result<(), Fail> {
-    let older = numbers(&rt, rt.alloc(), 7, 1)?;
-    let mut walk = numbers(&rt, rt.alloc(), 15, 3)?.into_walk(older);
+    let older = numbers(rt.alloc(), 7, 1)?;
+    let mut walk = numbers(rt.alloc(), 15, 3)?.into_walk(older);
     rest_gives(&rt, &walk, &[(2, 2), (3, 3), (1, 1), (1, 1)]);
     next_is(&rt, &mut walk, Some((2, 2)));
     rest_gives(&rt, &walk, &[(3, 3), (1, 1), (1, 1)]);
