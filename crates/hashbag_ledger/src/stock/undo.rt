@@ -67,33 +67,63 @@ fn put<'a>(
     Ok(())
 }
 
+// Returns what is known of the batch that is asked for, if it may be undone.
+fn found_in<'a>(alloc: Global, conn: &mut Db, request: &Request<'a>) -> Result<Found, Failure<'a>> {
+    let batches = in_database(request.db, batches_of(alloc, conn))?;
+    found_of(request, &batches)
+}
+
+// Decides about an undo of these movements in a stock with this balance.
+fn undo_of<'a>(
+    rt: &HostRuntime,
+    request: &Request<'a>,
+    scale: u32,
+    kept: &[(String, usize)],
+    entered: &[Movement<String>],
+) -> Result<Undo<String>, Failure<'a>> {
+    let alloc = rt.alloc();
+    let state = random_state(rt)?;
+    let kept = copy_of(alloc, kept)?;
+    let entered = copies_of(alloc, entered)?;
+    match take_back(alloc, state, kept, entered) {
+        Ok(undo) => Ok(undo),
+        Err(error) => {
+            let reading = request.reading(scale);
+            Err(failure_in(alloc, request.db, request.db, reading, error))
+        }
+    }
+}
+
+// Takes the batch back in an open database, and returns the refusals.
+fn take_back_in<'a>(
+    rt: &HostRuntime,
+    request: &Request<'a>,
+    scale: u32,
+    conn: &mut Db,
+    found: &Found,
+) -> Result<Vec<Refusal<String>>, Failure<'a>> {
+    let alloc = rt.alloc();
+    let db = request.db;
+    let entered = in_database(db, entered_of(alloc, conn, found.number))?;
+    let kept = in_database(db, balance_of(alloc, conn))?;
+    match undo_of(rt, request, scale, &kept, &entered)? {
+        Undo::Refused(refusals) => Ok(refusals),
+        Undo::Done(after) => {
+            let movements = opposites(alloc, entered)?;
+            put(alloc, conn, db, found, &movements, &kept, &after)?;
+            Ok(Vec::new(alloc))
+        }
+    }
+}
+
 // Takes the batch back, and returns the refusals with the name of its file and the scale.
 fn done_of<'a>(
     rt: &HostRuntime,
     request: &Request<'a>,
 ) -> Result<(Vec<Refusal<String>>, String, u32), Failure<'a>> {
-    let alloc = rt.alloc();
-    let db = request.db;
     let (mut conn, scale) = open(rt, request)?;
-    let batches = in_database(db, batches_of(alloc, &mut conn))?;
-    let found = found_of(request, &batches)?;
-    let entered = in_database(db, entered_of(alloc, &mut conn, found.number))?;
-    let kept = in_database(db, balance_of(alloc, &mut conn))?;
-    let taken = take_back(
-        alloc,
-        random_state(rt)?,
-        copy_of(alloc, &kept)?,
-        copies_of(alloc, &entered)?,
-    );
-    let refusals = match taken {
-        Ok(Undo::Done(after)) => {
-            let movements = opposites(alloc, entered)?;
-            put(alloc, &mut conn, db, &found, &movements, &kept, &after)?;
-            Vec::new(alloc)
-        }
-        Ok(Undo::Refused(refusals)) => refusals,
-        Err(error) => return Err(failure_in(alloc, db, db, request.reading(scale), error)),
-    };
+    let found = found_in(rt.alloc(), &mut conn, request)?;
+    let refusals = take_back_in(rt, request, scale, &mut conn, &found)?;
     close(conn);
     Ok((refusals, found.file, scale))
 }
