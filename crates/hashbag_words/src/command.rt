@@ -30,7 +30,9 @@ fn with_input(alloc: Global, command: Command<'_>) -> Result<Command<'_>, Error>
     Ok(
         command
             .arg(arg!(in alloc; --"skip-bad" "Skip bad lines, and say how many there were"))?
-            .arg(arg!(in alloc; --progress "Report on standard error, each second, how far it is"))?,
+            .arg(
+                arg!(in alloc; --progress "Report on standard error, each second, how far it is"),
+            )?,
     )
 }
 
