@@ -8,9 +8,9 @@ use std::hash::BuildHasher;
 use std::test::Fail;
 use tests_kit::calls::{bag_of_counts, insert};
 use tests_kit::texts::{counts, debug_of, halves, is_text, number, values};
-use tests_kit::{IdentityState, OneState, ParityState, Rows, rows_of};
+use tests_kit::{IdentityState, OneState, ParityState, Rows, calls, rows_of};
 
-// A join, two bags, and the items of the join, values rising. A bag in brackets is collected from these values; else each value is
+// A join, two bags, and the items of the join, values rising. The values in brackets are inserted one after another; else each value is
 // inserted as often as its number. Bags of 25 values are in the middle of a carry.
 const JOINS: Rows = Rows {
     count: 65,
@@ -125,7 +125,7 @@ pub fn bag_of<S: BuildHasher + Default + Drop>(
     text: &str,
 ) -> Result<HashBag<u64, S>, Fail> {
     if text.starts_with('[') {
-        return Ok(HashBag::from_iter(alloc, values(alloc, text)?.into_iter())?);
+        return calls::bag_of(alloc, S::default(), values(alloc, text)?.as_slice());
     }
     bag_of_counts(alloc, S::default(), counts(alloc, text)?.as_slice())
 }
@@ -262,7 +262,11 @@ fn is_one_of(word: &str, words: &str) -> bool {
 }
 
 fn number_of_words(text: &str) -> usize {
-    text.split_whitespace().count()
+    let mut number = 0usize;
+    for _ in text.split_whitespace() {
+        number = number.saturating_add(1);
+    }
+    number
 }
 
 // How many steps are one of those that are wanted at their place.
