@@ -170,8 +170,7 @@ fn stock_of<S: BuildHasher + Default + Drop>(
     alloc: Global,
     articles: &str,
 ) -> Result<HashBag<u64, S>, Fail> {
-    let articles = counts(alloc, articles)?;
-    Ok(HashBag::from_counts(alloc, articles.into_iter())?)
+    calls::bag_of_counts(alloc, S::default(), counts(alloc, articles)?.as_slice())
 }
 
 // What two deliveries are matched as.
