@@ -202,18 +202,18 @@ fn or_insert_many<T: Eq + Hash + Drop>(
     bag.entry(value).or_insert_many(n)
 }
 
-// Makes an extend by values that are lent.
-fn lent<'a>(bag: &mut Bag<'a>, values: &'a Values, call: &str) -> Result<(), BagError> {
-    let items = [
+// The values of an extend.
+fn four<'a>(values: &'a Values) -> [Counted<'a>; 4] {
+    [
         values.value(9),
         values.value(13),
         values.value(9),
         values.value(14),
-    ];
-    match call {
-        "extend_refs" => by_each(bag, &items),
-        _ => by_two_of_each(bag, &items),
-    }
+    ]
+}
+
+fn by_pair<'a>(bag: &mut Bag<'a>, values: &'a Values) -> Result<(), BagError> {
+    bag.extend_many([(values.value(9), 2), (values.value(13), 4)].into_iter())
 }
 
 fn by_each<'a>(bag: &mut Bag<'a>, items: &[Counted<'a>]) -> Result<(), BagError> {
@@ -224,18 +224,16 @@ fn by_two_of_each<'a>(bag: &mut Bag<'a>, items: &[Counted<'a>]) -> Result<(), Ba
     bag.extend_refs_many(items.iter().map(|item| (item, 2)))
 }
 
-// Makes a call.
+// Makes a call. Each makes the values that it needs, so that no other one has to drop them.
 fn made<'a>(bag: &mut Bag<'a>, values: &'a Values, call: &str) -> Result<(), BagError> {
-    if call.starts_with("extend_refs") {
-        return lent(bag, values, call);
-    }
-    let (nine, thirteen) = (values.value(9), values.value(13));
     match call {
-        "insert_many" => done(bag.insert_many(thirteen, 2)),
-        "replace" => done(bag.replace(thirteen)),
-        "or_insert_many" => done(or_insert_many(bag, thirteen, 3)),
-        "extend" => bag.extend([nine, thirteen, values.value(9), values.value(14)].into_iter()),
-        "extend_many" => bag.extend_many([(nine, 2), (thirteen, 4)].into_iter()),
+        "insert_many" => done(bag.insert_many(values.value(13), 2)),
+        "replace" => done(bag.replace(values.value(13))),
+        "or_insert_many" => done(or_insert_many(bag, values.value(13), 3)),
+        "extend" => bag.extend(four(values).into_iter()),
+        "extend_many" => by_pair(bag, values),
+        "extend_refs" => by_each(bag, &four(values)),
+        "extend_refs_many" => by_two_of_each(bag, &four(values)),
         _ => bag.reserve(40),
     }
 }
