@@ -145,7 +145,7 @@ fn write_refusal<S: Alter>(
     )
 }
 
-// Writes a movement, and that it is refused, if so many were there.
+// Writes a movement, and if it is refused, how many were there.
 fn write_outcome<S: Alter>(
     transaction: &mut Transaction<'_, S>,
     number: i64,

@@ -6,7 +6,7 @@ ghost use Rattle.std.specs.Prelude.{◌≡◌, ◌≢◌, All, Contains, MatchOp
 pub struct Batch {
     /// Its number, from 1.
     pub number: i64,
-    /// The name of its file, or what it undoes.
+    /// The name of its file, of an undo that of the batch that it undoes.
     pub file: String,
     /// The SHA-256 of the bytes of its file, in hexadecimal digits; empty if it has no file.
     pub sha256: String,

@@ -3,6 +3,7 @@ pub mod InRunsLemmas
 pub mod LineLemmas
 pub mod MatchLemmas
 pub mod MergeLemmas
+pub mod PrefixLemmas
 pub mod ReadLemmas
 pub mod RowLemmas
 pub mod RunLemmas

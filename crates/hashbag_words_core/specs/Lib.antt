@@ -2,6 +2,7 @@ pub mod Choice
 pub mod Counts
 pub mod Merging
 pub mod Met
+pub mod Prefix
 pub mod Reading
 pub mod Rows
 pub mod Runs

@@ -1,11 +1,14 @@
 //! The counts that are shown, and their order.
 ghost use Rattle.std.specs.Prelude.{◌≡◌, map, nat_lt, if◌then◌else◌, IfOk};
-ghost use Rattle.std.specs.String.{string_eq};
+ghost use Rattle.std.specs.List.Sorted.{IsStrictlySortedBy};
+ghost use Rattle.std.specs.Map.{keys_of};
+ghost use Rattle.std.specs.String.{string_cmp, string_eq};
 ghost use Rattle.hashbag.specs.Walks.{IsSetWalkOf, seen};
 ghost use Rattle.hashbag_words_core.specs.Choice.{DropsBelow, IsShown};
 
+use crate::sorting::sort_rows;
 use hashbag::{BagError, HashBag};
-use hashbag_ops::{counts, most_common, sorted};
+use hashbag_ops::{counts, most_common};
 use std::alloc::Global;
 use std::hash::BuildHasher;
 
@@ -35,6 +38,19 @@ pub fn drop_below<S: BuildHasher + Drop>(bag: &mut HashBag<String, S>, least: us
     );
 }
 
+// Returns the tokens with their counts, tokens rising.
+fn rising<'a, S: BuildHasher + Drop>(
+    alloc: Global,
+    bag: &'a HashBag<String, S>,
+) -> Result<Vec<(&'a String, usize)>, BagError>
+    ensures walk { IfOk result (λ pairs. IsSetWalkOf string_eq bag.now (map seen pairs.items)) }
+    ensures rising { IfOk result (λ pairs. IsStrictlySortedBy string_cmp (keys_of (map seen pairs.items))) }
+{
+    let pairs = counts(alloc, bag)?;
+    let sorted = sort_rows(alloc, pairs)?;
+    Ok(sorted)
+}
+
 /// Returns the tokens that are shown, with their counts, in this order.
 ///
 /// # Errors
@@ -43,7 +59,7 @@ pub fn drop_below<S: BuildHasher + Drop>(bag: &mut HashBag<String, S>, least: us
 ///
 /// # Complexity
 ///
-/// As [`sorted`], [`counts`] or [`most_common`] of `hashbag_ops`.
+/// As [`counts`] or [`most_common`] of `hashbag_ops`; for rising tokens as `counts` and [`sort_rows`].
 pub fn chosen<'a, S: BuildHasher + Drop>(
     alloc: Global,
     bag: &'a HashBag<String, S>,
@@ -52,7 +68,7 @@ pub fn chosen<'a, S: BuildHasher + Drop>(
     ensures { IfOk result (λ rows. IsShown order bag.now (map seen rows.items)) }
 {
     match order {
-        Order::Rising => sorted(alloc, bag),
+        Order::Rising => rising(alloc, bag),
         Order::Open => counts(alloc, bag),
         Order::Commonest(k) => most_common(alloc, bag, k),
     }

@@ -19,5 +19,6 @@ pub mod rule;
 pub mod runs;
 pub mod shown_rows;
 pub mod sorted_merge;
+pub mod sorting;
 pub mod sources;
 pub mod writing;

@@ -232,7 +232,7 @@ fn the_first_wrong_number_is_found(rt: HostRuntime) -> Result<(), Fail> {
     Ok(())
 }
 
-// Returns refusals of movements with these numbers, with so many there.
+// Returns refusals of movements with these numbers of lines and of what was there.
 fn refusals_of(alloc: Global, list: &[(u64, usize)]) -> Result<Vec<Refusal<String>>, Fail> {
     let mut refusals = Vec::new(alloc);
     for (line, there) in list {
@@ -278,7 +278,7 @@ fn the_first_wrong_refusal_is_found(rt: HostRuntime) -> Result<(), Fail> {
     Ok(())
 }
 
-// Returns a batch of this number, with this hash, that undoes another, with so many movements and refusals.
+// Returns a batch of this number, with this hash, that undoes another, with these numbers of movements and refusals.
 fn batch_with(
     alloc: Global,
     number: i64,

@@ -9,11 +9,12 @@ const ABOUT: &str = "Keeps a stock in a database.";
 
 const AFTER: &str = "\
 The database is a SQLite file; `sqlite3 stock.db` reads it too. Once a batch is entered it is on the disk. A file whose bytes were
-entered before is not entered again.
+entered before is not entered again, except with --again.
 
-Status: 0 done, 1 some movements were refused, an undo was refused, or the stock doesn't agree with its movements, 2 bad arguments, a
-bad line or no stock, 3 no memory, 4 a file can't be opened, or a read or a write failed, 5 a total of more than 2^63-1, 6 a file was
-entered before, 7 another process has the database open.";
+Status: 0 done, 1 some movements were refused, an undo was refused or made before, or the stock doesn't agree with its movements, 2 bad
+arguments, a bad line, no such batch, no stock or more than one, or a database that isn't one of a stock, 3 no memory, 4 a file can't
+be opened, or a read or a write failed, 5 a total of more than 2^63-1, 6 a file was entered before or is named twice, 7 another process
+has a database open.";
 
 /// Returns whether this first word names a subcommand.
 pub fn is_job(word: &str) -> bool {
@@ -37,7 +38,8 @@ fn job<'a>(alloc: Global, name: &'a str, about: &'a str) -> Result<Command<'a>, 
         .value_parser(value_parser!(usize))
         .default_value("5")
         .help("How long to wait while another process has the database open");
-    Ok(Command::new(alloc, name).about(about).arg(db)?.arg(wait)?)
+    let command = Command::new(alloc, name).about(about).after_help(AFTER);
+    Ok(command.arg(db)?.arg(wait)?)
 }
 
 // Adds how fields are delimited, and numbers written.
@@ -72,7 +74,9 @@ fn with_inputs<'a>(alloc: Global, command: Command<'a>) -> Result<Command<'a>, E
     let moves = Arg::new(alloc, "MOVES.csv")
         .num_args(0..)
         .action(ArgAction::Append)
-        .help("Movements, each file a batch; `-` is standard input");
+        .help(
+            "Movements, each file a batch; `-` is standard input, which is read if neither a file nor --from is named",
+        );
     let from = Arg::new(alloc, "from")
         .long("from")
         .value_name("STOCK.csv")
@@ -139,7 +143,7 @@ fn balance<'a>(alloc: Global) -> Result<Command<'a>, Error> {
 fn history<'a>(alloc: Global) -> Result<Command<'a>, Error> {
     let article = Arg::new(alloc, "ARTICLE")
         .required(true)
-        .action(ArgAction::Append)
+        .action(ArgAction::Set)
         .help("The article");
     let command = job(
         alloc,
@@ -165,7 +169,7 @@ fn undo<'a>(alloc: Global) -> Result<Command<'a>, Error> {
 fn close<'a>(alloc: Global) -> Result<Command<'a>, Error> {
     let into = Arg::new(alloc, "into")
         .long("into")
-        .value_name("FILE")
+        .value_name("NEW")
         .required(true)
         .action(ArgAction::Set)
         .help("The new database");
@@ -189,7 +193,6 @@ pub fn command<'a>(alloc: Global) -> Result<Command<'a>, Error> {
         Command::new(alloc, PROGRAM)
             .version(VERSION)
             .about(ABOUT)
-            .after_help(AFTER)
             .subcommand_required(true)
             .subcommand(enter(alloc)?)?
             .subcommand(balance(alloc)?)?

@@ -94,7 +94,7 @@ pub fn open<'a>(rt: &HostRuntime, request: &Request<'a>) -> Result<(Db, u32), Fa
     }
 }
 
-/// Closes a database. If its log can't be copied into it, the log stays and is copied by the next open.
+/// Closes a database. If its log can't be copied into it, the log stays, and a later process copies it.
 pub fn close(conn: Db) {
     let _ = conn.close();
 }

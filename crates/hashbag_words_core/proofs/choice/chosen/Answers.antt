@@ -17,7 +17,7 @@ both P Q (Ok x) p q = (p, q)
 both P Q (Err e) p q = tt
 
 pub returns-in-Rising : goal.returns-in-Rising
-returns-in-Rising g c = by_order c.sorted.result c.args.bag.now c.args.order Rising c.in-Rising.is (both _ _ c.sorted.result c.sorted.ensures.walk c.sorted.ensures.rising)
+returns-in-Rising g c = by_order c.rising.result c.args.bag.now c.args.order Rising c.in-Rising.is (both _ _ c.rising.result c.rising.ensures.walk c.rising.ensures.rising)
 
 pub returns-in-Open : goal.returns-in-Open
 returns-in-Open g c = by_order c.counts.result c.args.bag.now c.args.order Open c.in-Open.is c.counts.ensures.walk
