@@ -57,6 +57,9 @@ fn with_output(alloc: Global, command: Command<'_>) -> Result<Command<'_>, Error
                     .default_value("tsv"),
             )?
             .arg(output)?
+            .arg(
+                arg!(in alloc; --shard <"I/N"> "Show the tokens of the I-th of N parts alone: each token is in one, by a fixed hash"),
+            )?
             .arg(arg!(in alloc; --"fail-empty" "End with status 1 where nothing is shown"))?,
     )
 }
@@ -101,7 +104,10 @@ fn count<'a>(alloc: Global) -> Result<Command<'a>, Error> {
         )?
         .arg(by)?
         .arg(arg!(in alloc; --pattern <REGEX> "Count what matches it, within a line"))?
-        .arg(arg!(in alloc; --fold "Count upper and lower case as one"))?;
+        .arg(arg!(in alloc; --fold "Count upper and lower case as one"))?
+        .arg(
+            arg!(in alloc; --lossy "Replace bytes that aren't UTF-8 by U+FFFD, and say in how many lines"),
+        )?;
     let command = with_memory(alloc, with_list(alloc, command)?)?;
     with_output(alloc, with_input(alloc, command)?)
 }

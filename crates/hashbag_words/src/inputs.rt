@@ -9,6 +9,7 @@ use crate::settings::Settings;
 use hashbag_words_core::counting::count_lines;
 use hashbag_words_core::errors::Fault;
 use hashbag_words_core::lines::Reading;
+use hashbag_words_core::lossy::count_lossy_lines;
 use hashbag_words_core::merging::{add_first_row, add_rows, add_tree};
 use hashbag_words_core::rows::RowForm;
 use hashbag_words_core::rule::Rule;
@@ -82,6 +83,9 @@ impl<'s, 'a, 'm> Inputs<'s, 'a, 'm> {
             STEP
         };
         match intake {
+            Intake::Text(rule) if self.settings.lossy => {
+                count_lossy_lines(alloc, bag, &rule, input, reading, step)
+            }
             Intake::Text(rule) => count_lines(alloc, bag, &rule, input, reading, step),
             Intake::Rows(form) if reading.line == 0 => {
                 add_first_row(alloc, bag, form, input, reading)
@@ -93,6 +97,18 @@ impl<'s, 'a, 'm> Inputs<'s, 'a, 'm> {
                 add_tree(alloc, state, bag, text.as_str())?;
                 Ok(false)
             }
+        }
+    }
+
+    // Reports how many lines of an input were skipped, and how many weren't UTF-8.
+    fn report(&self, name: &str, reading: &Reading) {
+        if reading.skipped > 0 {
+            let skipped = reading.skipped;
+            let _ = eprintln!(self.rt; "hashbag_words: {name}: {skipped} bad lines skipped");
+        }
+        if reading.replaced > 0 {
+            let replaced = reading.replaced;
+            let _ = eprintln!(self.rt; "hashbag_words: {name}: bytes replaced in {replaced} lines");
         }
     }
 
@@ -122,10 +138,7 @@ impl<'s, 'a, 'm> Inputs<'s, 'a, 'm> {
             self.progress.tell(self.rt, reading.line, bag);
         }
         self.progress.end_input(reading.line);
-        if reading.skipped > 0 {
-            let skipped = reading.skipped;
-            let _ = eprintln!(self.rt; "hashbag_words: {name}: {skipped} bad lines skipped");
-        }
+        self.report(name, &reading);
         Ok(())
     }
 

@@ -13,6 +13,7 @@ use crate::size::bytes_of;
 use hashbag_ops::{keep_common, take_away};
 use hashbag_shell::status::{DENIED, DONE};
 use hashbag_words_core::rule::{Pieces, Rule};
+use hashbag_words_core::shards::Shard;
 use regex::Regex;
 
 // Counts the tokens of the inputs.
@@ -93,6 +94,17 @@ fn take_in<'a>(inputs: &mut Inputs<'_, 'a, '_>, bag: &mut Bag) -> Result<(), Fai
     Ok(())
 }
 
+// Returns the shard that is shown, if it isn't all.
+fn shard_of<'a>(settings: &Settings<'a, '_>) -> Result<Option<Shard>, Failure<'a>> {
+    let Some(text) = settings.shard else {
+        return Ok(None);
+    };
+    match Shard::of_text(text) {
+        Some(shard) => Ok(Some(shard)),
+        None => Err(Failure::Shard(text)),
+    }
+}
+
 // Returns what is to be written. Temporary files are in this folder.
 fn made<'a>(
     rt: &HostRuntime,
@@ -100,8 +112,9 @@ fn made<'a>(
     names: &[&'a str],
     folder: &'a str,
 ) -> Result<Made, Failure<'a>> {
+    let shard = shard_of(settings)?;
     if settings.sorted {
-        return show_sorted(rt, settings, folder, names);
+        return show_sorted(rt, settings, folder, shard, names);
     }
     let bound = bound_of(rt, settings, folder)?;
     let mut bag = empty(rt)?;
@@ -115,8 +128,8 @@ fn made<'a>(
     };
     take_in(&mut inputs, &mut bag)?;
     match inputs.bound {
-        Some(bound) => show_bounded(rt, settings, folder, bound.runs, &mut bag),
-        None => text_of(rt, settings, &mut bag),
+        Some(bound) => show_bounded(rt, settings, folder, shard, bound.runs, &mut bag),
+        None => text_of(rt, settings, shard, &mut bag),
     }
 }
 
@@ -125,16 +138,17 @@ fn show_bounded<'a>(
     rt: &HostRuntime,
     settings: &Settings<'a, '_>,
     folder: &'a str,
+    shard: Option<Shard>,
     mut runs: Runs<'_, 'a>,
     bag: &mut Bag,
 ) -> Result<Made, Failure<'a>> {
     if runs.is_empty() {
-        return text_of(rt, settings, bag);
+        return text_of(rt, settings, shard, bag);
     }
     if !bag.is_empty() {
         runs.spill(bag)?;
     }
-    show(rt, settings, folder, runs.into_batch()?)
+    show(rt, settings, folder, shard, runs.into_batch()?)
 }
 
 /// Does the job and returns the exit status. Temporary files are in this folder.

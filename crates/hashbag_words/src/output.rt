@@ -4,6 +4,7 @@ use crate::failure::Failure;
 use crate::settings::Settings;
 use hashbag_shell::output_file::OutputFile;
 use hashbag_words_core::choice::{chosen, drop_below};
+use hashbag_words_core::shards::{Shard, keep_shard};
 use hashbag_words_core::writing::write_rows;
 use std::fs::File;
 use std::io::{self, Write};
@@ -94,7 +95,7 @@ fn put_whole(rt: &HostRuntime, to: OutputFile<File>, made: Made) -> io::Result<(
 
 /// Returns the text of the counts that are shown, and whether none are.
 ///
-/// Tokens that occur less often than `settings.least` are removed from the bag.
+/// Tokens that occur less often than `settings.least`, or aren't in the shard, are removed from the bag.
 ///
 /// # Errors
 ///
@@ -102,9 +103,13 @@ fn put_whole(rt: &HostRuntime, to: OutputFile<File>, made: Made) -> io::Result<(
 pub fn text_of<'a>(
     rt: &HostRuntime,
     settings: &Settings<'a, '_>,
+    shard: Option<Shard>,
     bag: &mut Bag,
 ) -> Result<Made, Failure<'a>> {
     drop_below(bag, settings.least);
+    if let Some(shard) = shard {
+        keep_shard(bag, shard);
+    }
     let Ok(rows) = chosen(rt.alloc(), bag, settings.order) else {
         return Err(Failure::NoMemoryLeft);
     };

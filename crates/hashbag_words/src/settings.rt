@@ -56,6 +56,10 @@ pub struct Settings<'a, 'm> {
     pub memory: Option<&'a str>,
     /// The folder of temporary files, if it was named.
     pub tmp: Option<&'a str>,
+    /// Whether bytes of a text that aren't UTF-8 are replaced.
+    pub lossy: bool,
+    /// The shard that is shown, as it was written.
+    pub shard: Option<&'a str>,
     /// Which counts are shown, and in what order.
     pub order: Order,
     /// The least count that is shown.
@@ -137,6 +141,8 @@ impl<'a, 'm> Settings<'a, 'm> {
             sorted: given.get_flag("sorted"),
             memory: given.get_str("memory"),
             tmp: given.get_str("tmp"),
+            lossy: given.get_flag("lossy"),
+            shard: given.get_str("shard"),
             order: order_of(given),
             least: given.get_one::<usize>("least").unwrap_or(0),
             format: format_of(given),

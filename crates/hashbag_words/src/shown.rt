@@ -5,7 +5,8 @@ use crate::output::Made;
 use crate::runs::{BUFFER, FAN, Runs, begun, merge_to_file, temporary};
 use crate::settings::Settings;
 use hashbag_words_core::choice::Order;
-use hashbag_words_core::shown_rows::{TopRows, WrittenRows};
+use hashbag_words_core::shards::Shard;
+use hashbag_words_core::shown_rows::{ShardRows, TopRows, WrittenRows};
 use hashbag_words_core::writing::RowWriter;
 use std::io::BufWriter;
 
@@ -15,15 +16,17 @@ fn show_top<'a>(
     settings: &Settings<'a, '_>,
     folder: &'a str,
     batch: &mut Batch<'_, 'a>,
+    shard: Option<Shard>,
     most: usize,
 ) -> Result<Made, Failure<'a>> {
-    let mut top = TopRows::new(rt.alloc(), most, settings.least);
+    let sink = TopRows::new(rt.alloc(), most, settings.least);
+    let mut top = ShardRows { sink, shard };
     batch.merge(folder, &mut top)?;
     let text = Vec::new(rt.alloc());
     let Ok(mut writer) = RowWriter::begin(rt.alloc(), text, settings.format) else {
         return Err(Failure::NoMemoryLeft);
     };
-    for (count, token) in top.into_rows() {
+    for (count, token) in top.sink.into_rows() {
         if writer.write_row(token.as_str(), count.0).is_err() {
             return Err(Failure::NoMemoryLeft);
         }
@@ -41,6 +44,7 @@ fn show_all<'a>(
     settings: &Settings<'a, '_>,
     folder: &'a str,
     batch: &mut Batch<'_, 'a>,
+    shard: Option<Shard>,
 ) -> Result<Made, Failure<'a>> {
     let file = temporary(rt, folder)?;
     let out = BufWriter::with_capacity(rt.alloc(), BUFFER, file).map_err(|error| Failure::of_file(
@@ -50,11 +54,12 @@ fn show_all<'a>(
         |error| Failure::of_file(folder, error),
     )?;
     let least = settings.least;
-    let mut rows = WrittenRows { writer, least };
+    let sink = WrittenRows { writer, least };
+    let mut rows = ShardRows { sink, shard };
     batch.merge(folder, &mut rows)?;
-    let is_empty = rows.writer.is_empty();
-    let out = rows
-        .writer
+    let writer = rows.sink.writer;
+    let is_empty = writer.is_empty();
+    let out = writer
         .finish()
         .map_err(|error| Failure::of_file(folder, error))?;
     let file = begun(out).map_err(|error| Failure::of_file(folder, error))?;
@@ -66,11 +71,12 @@ pub fn show<'a>(
     rt: &HostRuntime,
     settings: &Settings<'a, '_>,
     folder: &'a str,
+    shard: Option<Shard>,
     mut batch: Batch<'_, 'a>,
 ) -> Result<Made, Failure<'a>> {
     match settings.order {
-        Order::Commonest(most) => show_top(rt, settings, folder, &mut batch, most),
-        _ => show_all(rt, settings, folder, &mut batch),
+        Order::Commonest(most) => show_top(rt, settings, folder, &mut batch, shard, most),
+        _ => show_all(rt, settings, folder, &mut batch, shard),
     }
 }
 
@@ -79,6 +85,7 @@ pub fn show_sorted<'a>(
     rt: &HostRuntime,
     settings: &Settings<'a, '_>,
     folder: &'a str,
+    shard: Option<Shard>,
     names: &[&'a str],
 ) -> Result<Made, Failure<'a>> {
     let Some(form) = settings.rows else {
@@ -94,8 +101,8 @@ pub fn show_sorted<'a>(
         batch.push_file(*name, form, settings.bad_lines)?;
     }
     if runs.is_empty() {
-        return show(rt, settings, folder, batch);
+        return show(rt, settings, folder, shard, batch);
     }
     runs.add(merge_to_file(rt, folder, &mut batch)?)?;
-    show(rt, settings, folder, runs.into_batch()?)
+    show(rt, settings, folder, shard, runs.into_batch()?)
 }

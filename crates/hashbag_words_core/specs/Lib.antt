@@ -6,5 +6,6 @@ pub mod Prefix
 pub mod Reading
 pub mod Rows
 pub mod Runs
+pub mod Shards
 pub mod Sorted
 pub mod Tokens

@@ -24,6 +24,8 @@ pub struct Reading {
     pub line: u64,
     /// How many bad lines were skipped.
     pub skipped: u64,
+    /// How many lines had bytes that were replaced, since they weren't UTF-8.
+    pub replaced: u64,
 }
 
 impl Reading {
@@ -35,6 +37,7 @@ impl Reading {
             bad_lines,
             line: 0,
             skipped: 0,
+            replaced: 0,
         }
     }
 
@@ -45,6 +48,11 @@ impl Reading {
         ensures bad_lines { self.new.bad_lines ≡ self.old.bad_lines }
     {
         self.line = self.line.saturating_add(1);
+    }
+
+    // Counts a line of which bytes were replaced.
+    pub(crate) fn count_replaced(&mut self) {
+        self.replaced = self.replaced.saturating_add(1);
     }
 
     // Skips a bad line, or rejects it.

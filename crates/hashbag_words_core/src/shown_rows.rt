@@ -1,5 +1,6 @@
 //! What is shown of rows that come one by one.
 use crate::errors::Fault;
+use crate::shards::Shard;
 use crate::sorted_merge::Sink;
 use crate::writing::RowWriter;
 use std::alloc::{AllocError, Global};
@@ -26,6 +27,30 @@ impl<W: Write> Sink for WrittenRows<W> {
             self.writer.write_row(token.as_str(), count)?;
         }
         Ok(())
+    }
+}
+
+/// Puts the rows of a shard into a sink, or all rows if there is no shard.
+#[derive(Drop)]
+pub struct ShardRows<K> {
+    /// The sink.
+    pub sink: K,
+    /// The shard.
+    pub shard: Option<Shard>,
+}
+
+impl<K: Sink> Sink for ShardRows<K> {
+    ghost use Rattle.std.specs.Prelude.{⊤};
+
+    ghost put_gives = { λ _ _ _. ⊤ };
+
+    fn put(&mut self, token: String, count: usize) -> Result<(), Fault> {
+        if let Some(shard) = self.shard {
+            if !shard.has(token.as_str()) {
+                return Ok(());
+            }
+        }
+        self.sink.put(token, count)
     }
 }
 

@@ -1,0 +1,29 @@
+-- Shards: parts of all tokens, by a hash of the token.
+use Rattle.std.specs.Prelude.{◌≡◌, ℕ, ◌*◌, ◌%◌, Bool, List, [], ◌∷◌, nat_eq, nat_lt, ◌&&◌, if◌then◌else◌, bit_xor, String, string_bytes}
+use Rattle.std.specs.Global.{Global}
+use Rattle.std.specs.String.{string_eq}
+use Rattle.hashbag.specs.Bag.{Bag}
+use Rattle.hashbag.specs.Occurrences.{count}
+use Rattle.hashbag_words_core.specs.declared.shards.Shard.{Shard}
+
+-- one step of FNV-1a: the byte by exclusive or, then the product with the prime, of which 64 bits are kept
+abbrev pub fnv_step : ℕ → ℕ → ℕ
+fnv_step hash byte = (bit_xor hash byte * 1099511628211) % 18446744073709551616
+
+-- FNV-1a of these bytes, from a hash on
+abbrev pub fnv_from : ℕ → List ℕ → ℕ
+fnv_from hash [] = hash
+fnv_from hash (byte ∷ bytes) = fnv_from (fnv_step hash byte) bytes
+
+-- FNV-1a of 64 bits
+abbrev pub fnv : List ℕ → ℕ
+fnv bytes = fnv_from 14695981039346656037 bytes
+
+-- the text is in the shard. So it is in exactly one of those with indices below a number that isn't 0
+abbrev pub is_in : Shard → List ℕ → Bool
+is_in shard text = nat_lt 0 shard.of && nat_eq (fnv text % shard.of) shard.index
+
+-- what isn't in the shard is gone, and all else is as it was
+abbrev pub KeepsShard : {S : Type 0} → Shard → Bag (String Global) S → Bag (String Global) S → Type 0
+KeepsShard shard old new =
+    (v : String Global) → count string_eq v new.items ≡ (if is_in shard (string_bytes v) then count string_eq v old.items else 0)
