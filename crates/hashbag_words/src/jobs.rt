@@ -15,6 +15,7 @@ use hashbag_shell::status::{DENIED, DONE};
 use hashbag_words_core::rule::{Pieces, Rule};
 use hashbag_words_core::shards::Shard;
 use regex::Regex;
+use std::mem;
 
 // Counts the tokens of the inputs.
 fn count<'a>(
@@ -127,10 +128,13 @@ fn made<'a>(
         bound,
     };
     take_in(&mut inputs, &mut bag)?;
-    match inputs.bound {
+    let made = match inputs.bound {
         Some(bound) => show_bounded(rt, settings, folder, shard, bound.runs, &mut bag),
         None => text_of(rt, settings, shard, &mut bag),
-    }
+    };
+    // The program ends soon, and the system then takes all memory back at once.
+    mem::forget(bag);
+    made
 }
 
 // Returns what is to be written of runs, if there are any, and of the bag.

@@ -12,7 +12,7 @@ no_more true n = omega arith
 no_more false n = omega arith
 
 -- the count of a text in the shard, and 0 of another
-kept_in : Shard → String Global → ℕ → ℕ
+abbrev kept_in : Shard → String Global → ℕ → ℕ
 kept_in shard x n = cond (is_in shard (string_bytes x)) n 0
 
 -- equal texts are in the same shard
