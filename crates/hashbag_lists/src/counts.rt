@@ -6,7 +6,7 @@ use crate::delimiter::Delimiter;
 use crate::fault::SheetError;
 use crate::numbers::{scaled_number, total_too_large};
 use crate::scale::Scale;
-use crate::sheet::{Column, Sheet};
+use crate::sheet::Sheet;
 use std::alloc::{AllocError, Global};
 
 /// How a text is read.
@@ -28,36 +28,6 @@ impl Reading {
     }
 }
 
-// The fields of several columns in the record that was read last.
-fn fields_of(
-    alloc: Global,
-    sheet: &Sheet<'_>,
-    columns: &Vec<Column<'_>>,
-) -> Result<Vec<String>, SheetError> {
-    let mut fields = Vec::new(alloc);
-    for column in columns {
-        let field = sheet.field(*column)?;
-        fields
-            .push(String::from_str(alloc, field)?)
-            .map_err(AllocError::from)?;
-    }
-    Ok(fields)
-}
-
-// The columns of these names.
-fn columns_of<'n>(
-    alloc: Global,
-    sheet: &Sheet<'_>,
-    names: &[&'n str],
-) -> Result<Vec<Column<'n>>, SheetError> {
-    let mut columns = Vec::new(alloc);
-    for name in names {
-        let column = sheet.column(*name)?;
-        columns.push(column).map_err(AllocError::from)?;
-    }
-    Ok(columns)
-}
-
 // A total and the number of the record that was read last.
 fn sum_of(
     alloc: Global,
@@ -74,40 +44,12 @@ fn sum_of(
     }
 }
 
-/// Reads the articles of a text, each with its number, in the order of the lines. An article is the fields of the columns that `keys`
-/// names, and may occur more than once. Numbers are in units of the scale, and all together fit a `usize`.
+/// Reads the articles of a text, each with its number, in the order of the lines. An article is the field of one column, and may occur
+/// more than once. Numbers are in units of the scale, and all together fit a `usize`.
 ///
 /// # Errors
 ///
 /// `Line` for the first bad line, and what is wrong with it. `Memory` if an allocation fails.
-pub fn read_keyed_counts(
-    alloc: Global,
-    text: &[u8],
-    keys: &[&str],
-    number_column: &str,
-    reading: Reading,
-) -> Result<Vec<(Vec<String>, usize)>, SheetError>
-    ensures fits { IfOk result (λ counts. numbers counts.items ≤ usize.MAX) }
-{
-    let mut sheet = Sheet::open_with(alloc, text, reading.delimiter)?;
-    let articles = columns_of(alloc, &sheet, keys)?;
-    let numbers = sheet.column(number_column)?;
-    let mut counts = Vec::new(alloc);
-    let mut total = 0usize;
-    'records: for _ in 0..u64::MAX {
-        if !sheet.read()? {
-            break;
-        }
-        let article = fields_of(alloc, &sheet, &articles)?;
-        let digits = sheet.field(numbers)?;
-        let n = scaled_number(alloc, sheet.line(), digits, digits, reading.scale)?;
-        total = sum_of(alloc, &sheet, total, n, reading.scale)?;
-        counts.push((article, n)).map_err(AllocError::from)?;
-    }
-    Ok(counts)
-}
-
-/// Reads a list as [`read_keyed_counts`] does. An article is the field of one column.
 pub fn read_counts_as(
     alloc: Global,
     text: &[u8],

@@ -7,13 +7,12 @@ mod named;
 
 use crate::arguments::{PROGRAM, parse};
 use crate::job::{Columns, Options, Request};
-use hashbag::BagError;
-use hashbag_lists::counts::read_keyed_counts;
 use hashbag_lists::files::{arguments, in_file, read_file, write_text};
 use hashbag_lists::trouble::Trouble;
-use hashbag_match_core::keys::lent;
-use hashbag_match_core::matching::match_lists;
+use hashbag_match_core::matching::match_tallies;
 use hashbag_match_core::output::{Layout, text_of};
+use hashbag_match_core::reading::read_tally;
+use hashbag_match_core::tally::Tally;
 use hashbag_shell::one_file::is_one_file;
 use hashbag_shell::output_file::OutputFile;
 use hashbag_shell::status::BAD_INPUT;
@@ -22,53 +21,50 @@ use std::hash::RandomState;
 use std::io;
 use std::process::ExitCode;
 
-// The list of a file.
-fn list_of<'a>(
+// The tally of a file. Its text is dropped before the other file is read.
+fn tally_of<'a>(
     rt: &HostRuntime,
+    state: RandomState,
     columns: &Columns<'a>,
     options: Options<'_>,
-) -> Result<Vec<(Vec<String>, usize)>, Trouble<'a>> {
+) -> Result<Tally<Vec<String>, RandomState>, Trouble<'a>> {
     let text = read_file(rt, columns.file)?;
-    let list = read_keyed_counts(
+    let tally = read_tally(
         rt.alloc(),
+        state,
         text.as_slice(),
         &columns.keys,
         columns.number,
         options.reading,
     );
-    in_file(columns.file, list)
+    in_file(columns.file, tally)
 }
 
-// Returns what is written of two lists, and the status. The numbers of each fit, so only an allocation can fail.
+// Returns what is written of two tallies, and the status.
 fn compare(
     alloc: Global,
-    state: RandomState,
-    ordered: &Vec<(Vec<String>, usize)>,
-    delivered: &Vec<(Vec<String>, usize)>,
+    ordered: &Tally<Vec<String>, RandomState>,
+    delivered: &Tally<Vec<String>, RandomState>,
     request: &Request<'_>,
 ) -> Result<(Vec<u8>, u8), AllocError> {
-    match match_lists(alloc, state, lent(alloc, ordered)?, lent(alloc, delivered)?) {
-        Ok(matched) => {
-            let options = request.options;
-            let layout = Layout {
-                keys: &request.ordered.keys,
-                only: options.only,
-                scale: options.reading.scale,
-                delimiter: options.reading.delimiter,
-            };
-            let text = text_of(alloc, &matched, layout, options.form)?;
-            Ok((text, matched.status()))
-        }
-        Err(BagError::TooMany | BagError::BelowTotal | BagError::Memory) => Err(AllocError),
-    }
+    let matched = match_tallies(alloc, ordered, delivered)?;
+    let options = request.options;
+    let layout = Layout {
+        keys: &request.ordered.keys,
+        only: options.only,
+        scale: options.reading.scale,
+        delimiter: options.reading.delimiter,
+    };
+    let text = text_of(alloc, &matched, layout, options.form)?;
+    Ok((text, matched.status()))
 }
 
 // Reads both files and compares them.
 fn compared<'a>(rt: &HostRuntime, request: &Request<'a>) -> Result<(Vec<u8>, u8), Trouble<'a>> {
-    let ordered = list_of(rt, &request.ordered, request.options)?;
-    let delivered = list_of(rt, &request.delivered, request.options)?;
     let state = RandomState::new(rt).map_err(|error| Trouble::Random(error))?;
-    Ok(compare(rt.alloc(), state, &ordered, &delivered, request)?)
+    let ordered = tally_of(rt, state, &request.ordered, request.options)?;
+    let delivered = tally_of(rt, state, &request.delivered, request.options)?;
+    Ok(compare(rt.alloc(), &ordered, &delivered, request)?)
 }
 
 // Does what was asked for, and returns the status. The output is opened before anything is read.

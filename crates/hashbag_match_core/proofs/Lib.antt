@@ -1,2 +1,4 @@
+pub mod ArticleLemmas
 pub mod RowLemmas
 pub mod SumLemmas
+pub mod TallyLemmas

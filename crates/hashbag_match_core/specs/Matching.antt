@@ -1,5 +1,6 @@
 -- What was ordered beside what was delivered.
 use Rattle.std.specs.Prelude.{◌≡◌, ℕ, ◌-◌, ◌<◌, ◌==◌, not, Bool, true, List, length, map, sum_by, count_by, All}
+use Rattle.std.specs.Borrow.{Bor}
 use Rattle.std.specs.List.{Contains}
 use Rattle.std.specs.List.Sorted.{IsStrictlySortedBy}
 use Rattle.std.specs.declared.cmp.Ordering.{Ordering}
@@ -24,6 +25,10 @@ module _ {T : Type 0} where
     pub differing : totals.differing ≡ count_by (λ row. not (agrees row)) rows
     pub missing : totals.missing ≡ sum_by missing_of rows
     pub surplus : totals.surplus ≡ sum_by surplus_of rows
+
+-- rows whose articles are lent, as rows of the articles themselves
+abbrev pub lent_rows : {T : Type 0} → List (Row (Bor T)) → List (Row T)
+lent_rows rows = map (λ row. record { article = row.article.now; ordered = row.ordered; delivered = row.delivered }) rows
 
 -- the rows of the articles that are named: each in one row, beside both its numbers, articles rising
 pub record AreRows {T : Type 0} (eq : T → T → Bool) (cmp : T → T → Ordering) (named ordered delivered : T → ℕ) (rows : List (Row T)) : Type 0 where

@@ -1,6 +1,4 @@
 //! Articles by the fields of their key columns.
-ghost use Rattle.std.specs.Prelude.{◌≡◌, map, IfOk};
-
 use std::alloc::{AllocError, Global};
 
 /// Splits names of columns at commas.
@@ -17,14 +15,4 @@ pub fn repeated<'n>(names: &[&'n str]) -> Option<&'n str> {
         }
     }
     None
-}
-
-/// Returns the same list with its articles borrowed.
-pub fn lent(
-    alloc: Global,
-    list: &Vec<(Vec<String>, usize)>,
-) -> Result<Vec<(&Vec<String>, usize)>, AllocError>
-    ensures { IfOk result (λ borrowed. map (λ e. (e.0.now, e.1)) borrowed.items ≡ list.now.items) }
-{
-    list.iter().map(|entry| (&entry.0, entry.1)).collect(alloc)
 }

@@ -4,5 +4,7 @@
 pub mod keys;
 pub mod matching;
 pub mod output;
+pub mod reading;
 mod table;
+pub mod tally;
 pub mod totals;

@@ -1,12 +1,13 @@
 //! Rows of what was ordered and what was delivered.
-ghost use Rattle.std.specs.Prelude.{◌≡◌, ◌+◌, ◌-◌, ◌≤◌, ◌↔◌, if◌then◌else◌, length, sum_by, IsTrue, IfOk, IfErr, OnOk};
-ghost use Rattle.hashbag.specs.Occurrences.{count};
-ghost use Rattle.hashbag_lists.specs.Quantities.{numbers, quantity, times};
-ghost use Rattle.hashbag_match_core.specs.Matching.{missing_of, surplus_of, agrees, AreTotals, AreRows};
+ghost use Rattle.std.specs.Prelude.{◌≡◌, ℕ, ◌+◌, ◌≤◌, ◌↔◌, ◌++◌, if◌then◌else◌, List, filter, length, map, sum_by, IsTrue, IfOk, OnOk};
+ghost use Rattle.hashbag.specs.Joins.{IsOuterJoin};
+ghost use Rattle.hashbag_lists.specs.Quantities.{quantity, times};
+ghost use Rattle.hashbag_match_core.specs.Matching.{missing_of, surplus_of, agrees, lent_rows, AreTotals, AreRows};
+ghost use Rattle.hashbag_match_core.specs.Tallies.{IsTallyOf, in_neither, row_of_join, zero_row};
 
+use crate::tally::Tally;
 use crate::totals::{Totals, totals_of};
-use hashbag::{BagError, HashBag};
-use hashbag_lists::quantities::bag_of;
+use hashbag::HashBag;
 use std::alloc::{AllocError, Global};
 use std::hash::{BuildHasher, Hash};
 
@@ -65,106 +66,114 @@ impl<T> Matched<T> {
     }
 }
 
-// Adds an article to a bag once.
-fn add_name<T: Eq + Hash + Drop, S: BuildHasher + Drop>(
-    bag: &mut HashBag<T, S>,
-    article: T,
-) -> Result<(), AllocError>
-    ensures { OnOk result ((v : T) → count T.eq v bag.new.items ≡ count T.eq v bag.old.items + (if T.eq v article then 1 else 0)) }
+// Returns a row for each article that either bag has, with its count in both, in no particular order.
+fn rows_of<'a, T: Ord + Hash + Drop, S: BuildHasher + Drop>(
+    alloc: Global,
+    ordered: &'a HashBag<T, S>,
+    delivered: &'a HashBag<T, S>,
+) -> Result<Vec<Row<&'a T>>, AllocError>
+    ensures { IfOk result (λ rows. (J : List (T × ℕ × ℕ)) × IsOuterJoin T.eq ordered.now.items delivered.now.items J
+        × (lent_rows rows.items ≡ map row_of_join J)) }
 {
-    match bag.insert(article) {
-        Ok(_) => Ok(()),
-        // `TooMany` can't be: memory has no room for as many entries.
-        Err(_) => Err(AllocError),
+    let mut rows = Vec::new(alloc);
+    for (article, first, second) in ordered.outer_join(delivered) {
+        rows.push(Row {
+            article,
+            ordered: first,
+            delivered: second,
+        })?;
     }
+    Ok(rows)
 }
 
-// Adds each article that a list names to a bag, once for each entry.
-fn add_names<T: Eq + Hash + Copy + Drop, S: BuildHasher + Drop>(
-    bag: &mut HashBag<T, S>,
-    list: &[(T, usize)],
-) -> Result<(), AllocError>
-    ensures { OnOk result ((v : T) → count T.eq v bag.new.items ≡ count T.eq v bag.old.items + times T.eq v list.now) }
+// Returns whether neither bag has the article.
+fn is_in_neither<T: Eq + Hash + Drop, S: BuildHasher + Drop>(
+    ordered: &HashBag<T, S>,
+    delivered: &HashBag<T, S>,
+    article: &T,
+) -> bool
+    ensures { result ≡ in_neither T.eq ordered.now.items delivered.now.items article.now }
 {
-    for entry in list {
-        add_name(bag, entry.0)?;
+    ordered.contains(article) == 0 && delivered.contains(article) == 0
+}
+
+// Appends a row without numbers for each article that only lines with the number 0 name.
+fn push_zeros<'a, T: Ord + Hash + Drop, S: BuildHasher + Drop>(
+    rows: &mut Vec<Row<&'a T>>,
+    ordered: &'a Tally<T, S>,
+    delivered: &'a Tally<T, S>,
+) -> Result<(), AllocError>
+    ensures { OnOk result ((J : List (T × ℕ × ℕ)) × IsOuterJoin T.eq ordered.now.zeros.items delivered.now.zeros.items J
+        × (lent_rows rows.new.items ≡ lent_rows rows.old.items
+        ++ map zero_row (filter (λ j. in_neither T.eq ordered.now.counts.items delivered.now.counts.items j.0) J))) }
+{
+    for (article, _, _) in ordered.zeros.outer_join(&delivered.zeros) {
+        if is_in_neither(&ordered.counts, &delivered.counts, article) {
+            rows.push(Row {
+                article,
+                ordered: 0,
+                delivered: 0,
+            })?;
+        }
     }
     Ok(())
 }
 
-/// Returns the bag of the articles that two lists name, each as often as they name it, under this hash state. A number of 0 counts as
-/// a name too.
-pub fn names_of<T: Eq + Hash + Copy + Drop, S: BuildHasher + Drop>(
-    alloc: Global,
-    state: S,
-    ordered: &[(T, usize)],
-    delivered: &[(T, usize)],
-) -> Result<HashBag<T, S>, AllocError>
-    ensures { IfOk result (λ bag. (v : T) → count T.eq v bag.items ≡ times T.eq v ordered.now + times T.eq v delivered.now) }
-{
-    let mut bag = HashBag::with_hasher(alloc, state);
-    add_names(&mut bag, ordered)?;
-    add_names(&mut bag, delivered)?;
-    Ok(bag)
-}
-
-/// Returns the rows of two bags: each article that is named in one row, with its quantity in both bags, articles rising. The sums of
-/// the rows are at most the totals of the bags.
+/// Returns the rows of two tallies: each article that is named in one row, with its quantity in both, articles rising. The sums of the
+/// rows are at most the totals of the tallies.
+///
+/// # Errors
+///
+/// An error if an allocation fails.
 ///
 /// # Complexity
 ///
-/// Allocates the rows. Looks each article up once in both bags, and sorts the rows.
-pub fn rows_of<T: Ord + Hash + Copy + Drop, S: BuildHasher + Drop>(
+/// Allocates the rows. Looks each article up in the other bag, and an article that a line names with the number 0 in three bags more.
+/// Sorts the rows.
+pub fn rows_of_tallies<'a, T: Ord + Hash + Drop, S: BuildHasher + Drop>(
     alloc: Global,
-    named: &HashBag<T, S>,
-    ordered: &HashBag<T, S>,
-    delivered: &HashBag<T, S>,
-) -> Result<Vec<Row<T>>, AllocError>
-    ensures table { IfOk result (λ rows. AreRows T.eq T.cmp
-        (λ v. count T.eq v named.now.items) (λ v. count T.eq v ordered.now.items) (λ v. count T.eq v delivered.now.items) rows.items) }
-    ensures missing { IfOk result (λ rows. sum_by missing_of rows.items ≤ length ordered.now.items) }
-    ensures surplus { IfOk result (λ rows. sum_by surplus_of rows.items ≤ length delivered.now.items) }
+    ordered: &'a Tally<T, S>,
+    delivered: &'a Tally<T, S>,
+) -> Result<Vec<Row<&'a T>>, AllocError>
+    ensures table { IfOk result (λ rows. (L M : List (T × ℕ)) → IsTallyOf T.eq L ordered.now.counts ordered.now.zeros
+        → IsTallyOf T.eq M delivered.now.counts delivered.now.zeros
+        → AreRows T.eq T.cmp (λ v. times T.eq v L + times T.eq v M) (λ v. quantity T.eq v L) (λ v. quantity T.eq v M) (lent_rows rows.items)) }
+    ensures missing { IfOk result (λ rows. sum_by missing_of rows.items ≤ length ordered.now.counts.items) }
+    ensures surplus { IfOk result (λ rows. sum_by surplus_of rows.items ≤ length delivered.now.counts.items) }
 {
-    let mut rows = Vec::new(alloc);
-    for (article, _) in named.set_iter() {
-        rows.push(Row {
-            article: *article,
-            ordered: ordered.contains(article),
-            delivered: delivered.contains(article),
-        })?;
-    }
+    let mut rows = rows_of(alloc, &ordered.counts, &delivered.counts)?;
+    push_zeros(&mut rows, ordered, delivered)?;
     rows.sort_unstable();
     Ok(rows)
 }
 
-/// Matches what was ordered with what was delivered. An article may be in a list more than once; its numbers add up. The bags hash by
-/// this state, and the rows don't depend on it.
+/// Matches what was ordered with what was delivered. The rows don't depend on the hash states.
 ///
 /// # Errors
 ///
-/// `TooMany` if the numbers of a list are more than `usize::MAX` together. Else only `Memory`, if an allocation fails.
+/// An error if an allocation fails.
 ///
 /// # Complexity
 ///
-/// Allocates three bags and the rows. Inserts each entry into two bags, and looks each article up once in both bags of quantities.
-pub fn match_lists<T: Ord + Hash + Copy + Drop, S: BuildHasher + Copy + Drop>(
+/// As of [`rows_of_tallies`]. Looks each article up once more to compare the bags.
+pub fn match_tallies<'a, T: Ord + Hash + Drop, S: BuildHasher + Drop>(
     alloc: Global,
-    state: S,
-    ordered: Vec<(T, usize)>,
-    delivered: Vec<(T, usize)>,
-) -> Result<Matched<T>, BagError>
-    ensures table { IfOk result (λ matched. AreRows T.eq T.cmp (λ v. times T.eq v ordered.items + times T.eq v delivered.items)
-        (λ v. quantity T.eq v ordered.items) (λ v. quantity T.eq v delivered.items) matched.rows.items) }
+    ordered: &'a Tally<T, S>,
+    delivered: &'a Tally<T, S>,
+) -> Result<Matched<&'a T>, AllocError>
+    ensures table { IfOk result (λ matched. (L M : List (T × ℕ)) → IsTallyOf T.eq L ordered.now.counts ordered.now.zeros
+        → IsTallyOf T.eq M delivered.now.counts delivered.now.zeros
+        → AreRows T.eq T.cmp (λ v. times T.eq v L + times T.eq v M) (λ v. quantity T.eq v L) (λ v. quantity T.eq v M) (lent_rows matched.rows.items)) }
     ensures totals { IfOk result (λ matched. AreTotals matched.rows.items matched.totals) }
-    ensures agree { IfOk result (λ matched. IsTrue matched.agree ↔ ((v : T) → quantity T.eq v ordered.items ≡ quantity T.eq v delivered.items)) }
-    ensures only_memory { numbers ordered.items ≤ usize.MAX → numbers delivered.items ≤ usize.MAX → IfErr result (λ e. e ≡ BagError.Memory) }
+    ensures agree { IfOk result (λ matched. (L M : List (T × ℕ)) → IsTallyOf T.eq L ordered.now.counts ordered.now.zeros
+        → IsTallyOf T.eq M delivered.now.counts delivered.now.zeros
+        → (IsTrue matched.agree ↔ ((v : T) → quantity T.eq v L ≡ quantity T.eq v M))) }
 {
-    let named = names_of(alloc, state, &ordered, &delivered)?;
-    let ordered = bag_of(alloc, state, ordered)?;
-    let delivered = bag_of(alloc, state, delivered)?;
-    let agree = ordered == delivered;
-    let rows = rows_of(alloc, &named, &ordered, &delivered)?;
+    let rows = rows_of_tallies(alloc, ordered, delivered)?;
+    // `len` is called for its clause: the sums of the rows fit.
+    let (_ordered, _delivered) = (ordered.counts.len(), delivered.counts.len());
     let totals = totals_of(&rows);
+    let agree = ordered.counts == delivered.counts;
     Ok(Matched {
         rows,
         totals,

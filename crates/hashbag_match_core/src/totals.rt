@@ -17,7 +17,8 @@ pub struct Totals {
     pub surplus: usize,
 }
 
-/// Returns the sums of these rows. Each must fit a `usize`, as those of [`rows_of`](crate::matching::rows_of) do.
+/// Returns the sums of these rows. Each must fit a `usize`, as those of [`rows_of_tallies`](crate::matching::rows_of_tallies)
+/// do.
 ///
 /// # Complexity
 ///

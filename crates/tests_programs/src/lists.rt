@@ -1,27 +1,31 @@
 //! What no clause says of lists with quantities: how texts are read, and what is said of bad ones. What is wanted was found by hand,
 //! and that Python's `csv` reads the good texts so too.
-use hashbag_lists::counts::{Reading, read_keyed_counts};
+use hashbag::FixedState;
+use hashbag_lists::counts::Reading;
 use hashbag_lists::decimals::{read_decimal, write_decimal};
 use hashbag_lists::delimiter::Delimiter;
 use hashbag_lists::files::in_file;
 use hashbag_lists::scale::{Mark, Scale};
 use hashbag_match_core::keys::{names_in, repeated};
+use hashbag_match_core::matching::rows_of_tallies;
 use hashbag_match_core::output::is_reserved;
+use hashbag_match_core::reading::read_tally;
+use hashbag_match_core::tally::empty_tally;
 use std::alloc::{AllocError, Global};
 use std::test::Fail;
 
-// A text, and what it says: its articles, or its first bad line and what is wrong with that.
+// A text, and what it says: each article with its number, or its first bad line and what is wrong with that.
 const TEXTS: [(&[u8], &str); 44] = [
     (b"article,number\n", ""),
     (
         b"article,number\nbolt,5\nnut,0\nbolt,007",
-        "[bolt 5][nut 0][bolt 7]",
+        "[bolt 12][nut 0]",
     ),
     (
         b"\xef\xbb\xbfnumber,box,article\r\n5,,bolt\r\n\r\n\r\n7,,nut\r\n",
         "[bolt 5][nut 7]",
     ),
-    (b"\n\narticle,number\n,1\n\"\",2\n", "[ 1][ 2]"),
+    (b"\n\narticle,number\n,1\n\"\",2\n", "[ 3]"),
     (
         b"\"article\",\"number\"\n\"a \"\"b\"\", c\",\"1\"\n\"d\r\ne\",2\n",
         "[a \"b\", c 1][d\r\ne 2]",
@@ -95,7 +99,7 @@ const TEXTS: [(&[u8], &str); 44] = [
     ),
     (
         b"article,number\n\"\"\"\",5\r\n\"\r\",\"6\"",
-        "[\" 5][\r 6]",
+        "[\r 6][\" 5]",
     ),
     (
         b"article,number\nbo\xfft,5\n",
@@ -142,18 +146,20 @@ const TEXTS: [(&[u8], &str); 44] = [
     (b"article,number\nbolt,x\nbo\xfft,1\n", "2: no number: `x`"),
 ];
 
-// What a text says that is read so.
+// What a text says that is read so: each article with its number, articles rising.
 fn said_of(alloc: Global, text: &[u8], keys: &str, reading: Reading) -> Result<String, AllocError> {
     let keys = names_in(alloc, keys)?;
-    match read_keyed_counts(alloc, text, &keys, "number", reading) {
-        Ok(list) => {
+    let state = FixedState::new();
+    match read_tally(alloc, state, text, &keys, "number", reading) {
+        Ok(tally) => {
             let mut said = String::new(alloc);
-            for (fields, number) in &list {
+            let none = empty_tally(alloc, state);
+            for row in &rows_of_tallies(alloc, &tally, &none)? {
                 write!(said, "[")?;
-                for field in fields {
+                for field in row.article {
                     write!(said, "{} ", field.as_str())?;
                 }
-                write!(said, "{number}]")?;
+                write!(said, "{}]", row.ordered)?;
             }
             Ok(said)
         }
@@ -242,7 +248,7 @@ const READINGS: [(&[u8], &str, &str, u32, &str, &str); 22] = [
         ",",
         2,
         ".",
-        "[a 150][a 25][a 710][a 300]",
+        "[a 1185]",
     ),
     (
         b"article,number\na,184467440737095516.15\n",
@@ -390,8 +396,8 @@ fn status_of(alloc: Global, text: &[u8], decimals: u32) -> Result<u8, AllocError
         delimiter: Delimiter::Comma,
         scale: scale_of(decimals, "."),
     };
-    let list = read_keyed_counts(alloc, text, &keys, "number", reading);
-    match in_file("ordered.csv", list) {
+    let tally = read_tally(alloc, FixedState::new(), text, &keys, "number", reading);
+    match in_file("ordered.csv", tally) {
         Ok(_) => Ok(0),
         Err(trouble) => Ok(trouble.status()),
     }

@@ -2,9 +2,10 @@
 use hashbag::{BagError, FixedState};
 use hashbag_lists::delimiter::Delimiter;
 use hashbag_lists::scale::{Mark, Scale};
-use hashbag_match_core::keys::{lent, names_in};
-use hashbag_match_core::matching::match_lists;
+use hashbag_match_core::keys::names_in;
+use hashbag_match_core::matching::match_tallies;
 use hashbag_match_core::output::{Form, Layout, Only, text_of};
+use hashbag_match_core::tally::{Tally, empty_tally};
 use std::alloc::{AllocError, Global};
 use std::hash::{BuildHasher, RandomState};
 use std::test::Fail;
@@ -182,32 +183,40 @@ y;0;0;0;0
     ),
 ];
 
-// A list whose articles are the fields of its texts.
-fn list_of(
-    alloc: Global,
-    texts: &[(&str, usize)],
-) -> Result<Vec<(Vec<String>, usize)>, AllocError> {
-    let mut list = Vec::new(alloc);
-    for (text, number) in texts {
-        let mut fields = Vec::new(alloc);
-        for field in text.split('|') {
-            fields.push(String::from_str(alloc, field)?)?;
-        }
-        list.push((fields, *number))?;
+// The article whose fields are the parts of a text between bars.
+fn article_of(alloc: Global, text: &str) -> Result<Vec<String>, AllocError> {
+    let mut fields = Vec::new(alloc);
+    for field in text.split('|') {
+        fields.push(String::from_str(alloc, field)?)?;
     }
-    Ok(list)
+    Ok(fields)
+}
+
+// The tally of a list under this hash state.
+fn tally_of<S: BuildHasher + Copy + Drop>(
+    alloc: Global,
+    state: S,
+    texts: &[(&str, usize)],
+) -> Result<Tally<Vec<String>, S>, BagError> {
+    let mut tally = empty_tally(alloc, state);
+    for (text, number) in texts {
+        tally.add(article_of(alloc, *text)?, *number)?;
+    }
+    Ok(tally)
 }
 
 // What is written of two lists that are matched under this hash state.
 fn written<S: BuildHasher + Copy + Drop>(
     alloc: Global,
     state: S,
-    ordered: &Vec<(Vec<String>, usize)>,
-    delivered: &Vec<(Vec<String>, usize)>,
+    ordered: &[(&str, usize)],
+    delivered: &[(&str, usize)],
     layout: Layout<'_>,
     form: Form,
 ) -> Result<Vec<u8>, BagError> {
-    let matched = match_lists(alloc, state, lent(alloc, ordered)?, lent(alloc, delivered)?)?;
+    let ordered = tally_of(alloc, state, ordered)?;
+    let delivered = tally_of(alloc, state, delivered)?;
+    let matched = match_tallies(alloc, &ordered, &delivered)?;
     Ok(text_of(alloc, &matched, layout, form)?)
 }
 
@@ -215,7 +224,6 @@ fn written<S: BuildHasher + Copy + Drop>(
 fn rows_are_written(rt: HostRuntime) -> Result<(), Fail> {
     let alloc = rt.alloc();
     for (ordered, delivered, keys, decimals, only, form, wanted) in ROWS {
-        let (ordered, delivered) = (list_of(alloc, ordered)?, list_of(alloc, delivered)?);
         let keys = names_in(alloc, keys)?;
         let layout = Layout {
             keys: &keys,
@@ -223,10 +231,10 @@ fn rows_are_written(rt: HostRuntime) -> Result<(), Fail> {
             scale: Scale::new(decimals, Mark::Point).unwrap_or(Scale::whole()),
             delimiter: Delimiter::Semicolon,
         };
-        let text = written(alloc, FixedState::new(), &ordered, &delivered, layout, form)?;
+        let text = written(alloc, FixedState::new(), ordered, delivered, layout, form)?;
         assert_eq!(rt; String::from_utf8(text)?.as_str(), wanted);
         let random = RandomState::new(&rt)?;
-        let text = written(alloc, random, &ordered, &delivered, layout, form)?;
+        let text = written(alloc, random, ordered, delivered, layout, form)?;
         assert_eq!(rt; String::from_utf8(text)?.as_str(), wanted);
     }
     Ok(())
