@@ -1,10 +1,11 @@
-//! The inputs: the stock at the beginning, and the movements.
+//! The inputs: the stock at the beginning, and the movements, which are entered as they are read.
 use crate::arguments::Request;
-use hashbag_ledger_core::movements::Movement;
-use hashbag_ledger_core::reading::read_movements;
+use hashbag_ledger_core::ledger::Ledger;
+use hashbag_ledger_core::reading::enter_movements;
 use hashbag_lists::counts::read_counts_as;
 use hashbag_lists::files::{in_file, read_file};
 use hashbag_lists::trouble::Trouble;
+use std::hash::BuildHasher;
 
 /// Reads the stock at the beginning, which is empty if no file is named.
 ///
@@ -30,28 +31,28 @@ pub fn start_of<'a>(
     in_file(file, counts)
 }
 
-/// Reads the movements of all files, in their order.
+/// Enters the movements of all files into a ledger, in their order.
 ///
 /// # Errors
 ///
 /// What is wrong with the first bad file or with its first bad line. `Memory` if an allocation fails.
-pub fn movements_of<'a>(
+pub fn enter_files<'a, S: BuildHasher + Drop>(
     rt: &HostRuntime,
     request: &Request<'a>,
-) -> Result<Vec<Movement<String>>, Trouble<'a>> {
-    let mut all = Vec::new(rt.alloc());
+    ledger: &mut Ledger<String, S>,
+) -> Result<(), Trouble<'a>> {
     for i in 0..request.files.len() {
         let file = request.files[i];
         let text = read_file(rt, file)?;
-        let read = read_movements(
+        let entered = enter_movements(
             rt.alloc(),
+            ledger,
             text.as_slice(),
             i,
             request.columns,
             request.reading,
         );
-        let mut movements = in_file(file, read)?;
-        all.append(&mut movements)?;
+        in_file(file, entered)?;
     }
-    Ok(all)
+    Ok(())
 }

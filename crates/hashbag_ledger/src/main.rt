@@ -9,53 +9,39 @@ mod stock;
 
 use crate::arguments::{Request, parse};
 use crate::command::PROGRAM;
-use crate::inputs::{movements_of, start_of};
+use crate::inputs::{enter_files, start_of};
 use crate::outputs::{Outputs, Report, conflict};
-use hashbag_ledger_core::entering::LedgerError;
+use hashbag_ledger_core::ledger::{Entered, Ledger, end};
 use hashbag_ledger_core::output::{balance_text, refusals_table, refusals_text};
-use hashbag_ledger_core::settling::{Entered, settle};
-use hashbag_lists::fault::SheetError;
 use hashbag_lists::files::arguments;
-use hashbag_lists::numbers::total_too_large;
 use hashbag_lists::trouble::Trouble;
 use hashbag_shell::status::{BAD_INPUT, DENIED, DONE};
 use std::hash::RandomState;
 use std::process::ExitCode;
 
-// Returns the trouble that the total is too large with that line of a file.
-fn too_large<'a>(rt: &HostRuntime, request: &Request<'a>, file: &'a str, line: u64) -> Trouble<'a> {
-    let error = match total_too_large(rt.alloc(), request.reading.scale) {
-        Ok(fault) => SheetError::Line { line, fault },
-        Err(_) => return Trouble::Memory,
-    };
-    Trouble::BadLine { file, error }
-}
-
-// Returns the trouble for an error. The stock at the beginning isn't too large: that was checked when it was read.
-fn trouble_of<'a>(rt: &HostRuntime, request: &Request<'a>, error: LedgerError) -> Trouble<'a> {
-    match error {
-        LedgerError::Memory => Trouble::Memory,
-        LedgerError::StartTooMany => too_large(rt, request, request.start.unwrap_or("-"), 1),
-        LedgerError::TooMany(place) => {
-            let file = request.files.get(place.file).copied().unwrap_or("-");
-            too_large(rt, request, file, place.line)
-        }
-    }
-}
-
-// Reads the inputs, and enters the movements.
-fn entered_of<'a>(rt: &HostRuntime, request: &Request<'a>) -> Result<Entered<String>, Trouble<'a>> {
+// Returns the ledger of the stock at the beginning.
+fn ledger_of<'a>(
+    rt: &HostRuntime,
+    request: &Request<'a>,
+) -> Result<Ledger<String, RandomState>, Trouble<'a>> {
     let start = start_of(rt, request)?;
-    let movements = movements_of(rt, request)?;
     // The keys are random, so nobody can choose articles whose hashes collide.
     let state = match RandomState::new(rt) {
         Ok(state) => state,
         Err(error) => return Err(Trouble::Random(error)),
     };
-    match settle(rt.alloc(), state, start, movements) {
-        Ok(entered) => Ok(entered),
-        Err(error) => Err(trouble_of(rt, request, error)),
+    match Ledger::begin(rt.alloc(), state, usize::MAX, start) {
+        Ok(ledger) => Ok(ledger),
+        // The stock at the beginning isn't too large: that was checked when it was read.
+        Err(_) => Err(Trouble::Memory),
     }
+}
+
+// Enters the movements of all files into the stock at the beginning.
+fn entered_of<'a>(rt: &HostRuntime, request: &Request<'a>) -> Result<Entered<String>, Trouble<'a>> {
+    let mut ledger = ledger_of(rt, request)?;
+    enter_files(rt, request, &mut ledger)?;
+    Ok(end(rt.alloc(), ledger)?)
 }
 
 // Returns what is to be written.

@@ -1,13 +1,12 @@
 -- Movements that are entered in turn: what they leave, and that nothing is lost.
-use Rattle.std.proofs.Common.{◌≡◌, ℕ, ◌+◌, ◌<◌, ◌≤◌, nat_lt, Bool, true, false, cond, List, [], ◌∷◌, ◌++◌, length, sum_by, take, drop, refl, sym, ◌∙◌, ap, subst, inl, inr, arith}
+use Rattle.std.proofs.Common.{◌≡◌, ℕ, ◌+◌, ◌≤◌, nat_lt, Bool, true, false, cond, List, [], ◌∷◌, ◌++◌, length, sum_by, refl, sym, ◌∙◌, ap, subst, inl, inr, arith}
 use Rattle.std.proofs.lemmas.Bool.{cases_lt, ltb-true, lt-ltb}
-use Rattle.std.proofs.lemmas.List.{append_assoc, append-nil, length-append, take_all, take-append-le}
+use Rattle.std.proofs.lemmas.List.{append_assoc, length-append, take_all, take-append-le}
 use Rattle.std.proofs.lemmas.List.Sums.{sum_by_push}
-use Rattle.std.proofs.Math.Seq.{take-length, take-nil, take-append_seam, drop-append_seam}
+use Rattle.std.proofs.Math.Seq.{take-length}
 use Rattle.hashbag_ledger_core.specs.declared.movements.Movement.{Movement}
-use Rattle.hashbag_ledger_core.specs.declared.movements.Place.{Place}
 use Rattle.hashbag_ledger_core.specs.declared.movements.Refusal.{Refusal}
-use Rattle.hashbag_ledger_core.specs.Ledger.{coming, going, total_after, came, went, there, asks_too_much, entered_after, refused_after, refusal, entered_of, refused_of, Changes, RefusesMovement, IsNeverBelowZero, Leaves, IsPast}
+use Rattle.hashbag_ledger_core.specs.Ledger.{coming, going, came, went, there, asks_too_much, entered_after, refused_after, refusal, entered_of, refused_of, Changes, RefusesMovement, IsNeverBelowZero, Leaves}
 
 not_below : (m n : ℕ) → n ≤ m → nat_lt m n ≡ false
 not_below m n enough = by_case (nat_lt m n) refl
@@ -25,7 +24,7 @@ module _ {T : Type 0} (eq : T → T → Bool) (start : T → ℕ) where
   went_more v E m = sum_by_push (λ (m : Movement T). cond (eq v m.article) (going m.change) 0) E m
 
   -- and one more comes after these have come
-  entered_more : (E gone : List (Movement T)) (m : Movement T) → entered_after eq start E (gone ++ m ∷ []) ≡ entered_after eq start (entered_after eq start E gone) (m ∷ [])
+  pub entered_more : (E gone : List (Movement T)) (m : Movement T) → entered_after eq start E (gone ++ m ∷ []) ≡ entered_after eq start (entered_after eq start E gone) (m ∷ [])
   entered_more E [] m = refl
   entered_more E (x ∷ gone) m = entered_more (cond (asks_too_much eq start E x) E (E ++ x ∷ [])) gone m
 
@@ -70,23 +69,6 @@ module _ {T : Type 0} (eq : T → T → Bool) (start : T → ℕ) where
     pub never : IsNeverBelowZero eq start entered
     pub total_is : total_now + sum_by (λ (m : Movement T). going m.change) entered ≡ total + sum_by (λ (m : Movement T). coming m.change) entered
 
-  pub none_yet : (total : ℕ) (all : List (Movement T)) → SoFar total all all [] total start
-  none_yet total all = record {
-    gone = [];
-    in_turn = refl;
-    entered = [];
-    entered_is = refl;
-    entered_in_all = refl;
-    refused_in_all = refl;
-    counts = λ v. omega arith;
-    never = λ k v. subst (λ (l : List (Movement T)). went eq v l ≤ start v + came eq v l) (sym (take-nil k)) (omega arith);
-    total_is = omega arith;
-  }
-
-  -- the next one to come
-  pub comes_next : {total now : ℕ} {all l to_come : List (Movement T)} {m : Movement T} {refusals : List (Refusal T)} {stock : T → ℕ} → l ≡ m ∷ to_come → SoFar total all l refusals now stock → SoFar total all (m ∷ to_come) refusals now stock
-  comes_next {total = total} {now = now} {all = all} {refusals = refusals} {stock = stock} is h = subst (λ (l : List (Movement T)). SoFar total all l refusals now stock) is h
-
   pub one_entered : {total now then : ℕ} {all to_come : List (Movement T)} {m : Movement T} {refusals : List (Refusal T)} {before after : T → ℕ} → SoFar total all (m ∷ to_come) refusals now before
       → Changes eq m before after → then + going m.change ≡ now + coming m.change → SoFar total all to_come refusals then after
   one_entered {to_come = to_come} {m = m} {refusals = refusals} {before = before} {after = after} h changes more =
@@ -129,58 +111,6 @@ module _ {T : Type 0} (eq : T → T → Bool) (start : T → ℕ) where
         never = h.never;
         total_is = h.total_is;
       }
-
-  -- the next movement doesn't fit
-  pub past_most : {total now most : ℕ} {all to_come : List (Movement T)} {m : Movement T} {refusals : List (Refusal T)} {stock : T → ℕ} (p : Place) → SoFar total all (m ∷ to_come) refusals now stock
-      → p ≡ m.place → most < now + coming m.change → IsPast eq start total most all p
-  past_most {total = total} {most = most} {to_come = to_come} {m = m} p h at over =
-      let is = h.total_is in
-      let so_far : most < total_after total h.entered + coming m.change = omega arith in
-      record {
-        before = h.gone;
-        movement = m;
-        later = to_come;
-        in_turn = h.in_turn;
-        at_place = at;
-        over = subst (λ (l : List (Movement T)). most < total_after total l + coming m.change) (sym h.entered_is) so_far;
-      }
-
-  -- with none of the movements that have come would the total have passed the most
-  abbrev pub FitSoFar : ℕ → ℕ → List (Movement T) → List (Movement T) → Type 0
-  FitSoFar total most all to_come = (before : List (Movement T)) (m : Movement T) (later : List (Movement T)) → before ++ m ∷ later ≡ all
-      → length before + length to_come < length all → total_after total (entered_of eq start before) + coming m.change ≤ most
-
-  -- the next movement fits
-  pub next_fits : {total now most : ℕ} {all l to_come : List (Movement T)} {m : Movement T} {refusals : List (Refusal T)} {stock : T → ℕ} → l ≡ m ∷ to_come → SoFar total all l refusals now stock
-      → now + coming m.change ≤ most → FitSoFar total most all l → FitSoFar total most all to_come
-  next_fits {total = total} {most = most} {all = all} {l = l} {to_come = to_come} {m = m} steps so_far within fits before x later is few =
-      let h = comes_next steps so_far in
-      let long : length (h.gone ++ m ∷ to_come) ≡ length all = ap (λ (l : List (Movement T)). length l) h.in_turn in
-      let parts = length-append h.gone (m ∷ to_come) in
-      let was : length l ≡ length (m ∷ to_come) = ap (λ (l : List (Movement T)). length l) steps in
-      elim (cases_lt (length before) (length h.gone)) [
-        | inl less ↦ fits before x later is (omega arith)
-        | inr many ↦
-            let same : length before ≡ length h.gone = omega arith in
-            let lists : before ++ x ∷ later ≡ h.gone ++ m ∷ to_come = is ∙ sym h.in_turn in
-            let front : before ≡ h.gone = sym (take-append_seam before (x ∷ later)) ∙ (λ i. take (same i) (lists i)) ∙ take-append_seam h.gone (m ∷ to_come) in
-            let back : x ∷ later ≡ m ∷ to_come = sym (drop-append_seam before (x ∷ later)) ∙ (λ i. drop (same i) (lists i)) ∙ drop-append_seam h.gone (m ∷ to_come) in
-            let next : x ≡ m = cc in
-            let total_is = h.total_is in
-            let now_fits : total_after total h.entered + coming m.change ≤ most = omega arith in
-            let here : total_after total (entered_of eq start h.gone) + coming m.change ≤ most = subst (λ (l : List (Movement T)). total_after total l + coming m.change ≤ most) (sym h.entered_is) now_fits in
-            subst (λ (l : List (Movement T)). total_after total (entered_of eq start l) + coming x.change ≤ most) (sym front)
-            (subst (λ (y : Movement T). total_after total (entered_of eq start h.gone) + coming y.change ≤ most) (sym next) here)
-      ]
-
-  -- once all have come, none was past the most
-  pub none_past : {total most : ℕ} {all : List (Movement T)} → FitSoFar total most all [] → (p : Place) → ¬ (IsPast eq start total most all p)
-  none_past {total = total} {most = most} {all = all} fits p past =
-      let long : length (past.before ++ past.movement ∷ past.later) ≡ length all = ap (λ (l : List (Movement T)). length l) past.in_turn in
-      let parts = length-append past.before (past.movement ∷ past.later) in
-      let within : total_after total (entered_of eq start past.before) + coming past.movement.change ≤ most = fits past.before past.movement past.later past.in_turn (omega arith) in
-      let over = past.over in
-      omega arith
 
   -- once all have come
   module _ {total now : ℕ} {all : List (Movement T)} {refusals : List (Refusal T)} {stock : T → ℕ} (h : SoFar total all [] refusals now stock) where

@@ -1,3 +1,4 @@
+pub mod AfterLemmas
 pub mod EnterLemmas
 pub mod LedgerLemmas
-pub mod SettleLemmas
+pub mod RunLemmas

@@ -1,5 +1,5 @@
 -- Movements of a stock. A stock is how many there are of each article.
-use Rattle.std.specs.Prelude.{◌≡◌, ℕ, ◌+◌, ◌-◌, ◌<◌, ◌≤◌, if◌then◌else◌, nat_lt, Bool, List, [], ◌∷◌, ◌++◌, length, sum_by, take}
+use Rattle.std.specs.Prelude.{◌≡◌, ℕ, ◌+◌, ◌-◌, ◌<◌, ◌≤◌, if◌then◌else◌, nat_lt, Bool, List, [], ◌∷◌, ◌++◌, sum_by, take}
 use Rattle.hashbag.specs.Occurrences.{count}
 use Rattle.hashbag_ledger_core.specs.declared.movements.Change.{Change}
 use Rattle.hashbag_ledger_core.specs.declared.movements.Change.TheVariants.{In, Out}
@@ -94,7 +94,3 @@ module _ {T : Type 0} (eq : T → T → Bool) where
       pub in_turn : before ++ movement ∷ later ≡ ms
       pub at_place : place ≡ movement.place
       pub over : most < total_after total (entered_of before) + coming movement.change
-
-  -- the same of the stock whose items are X
-  abbrev pub IsPastLimit : List T → ℕ → List (Movement T) → Place → Type 0
-  IsPastLimit X most ms place = IsPast (stock_of X) (length X) most ms place

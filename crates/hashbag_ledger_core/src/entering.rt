@@ -1,7 +1,6 @@
-//! Entering movements into a stock.
-ghost use Rattle.std.specs.Prelude.{◌≡◌, ◌≢◌, ◌⊎◌, ◌+◌, ◌<◌, ◌≤◌, ◌↔◌, length, OnOk, OnErr, IfOk, IfErr, IfSome, IsSome};
-ghost use Rattle.hashbag_ledger_core.specs.declared.movements.Place.{Place};
-ghost use Rattle.hashbag_ledger_core.specs.Ledger.{coming, going, stock_of, refused_of, Changes, RefusesMovement, Leaves, IsPastLimit};
+//! Entering a movement into a stock.
+ghost use Rattle.std.specs.Prelude.{◌≡◌, ◌⊎◌, ◌+◌, ◌<◌, ◌≤◌, ◌↔◌, length, OnOk, OnErr, IfOk, IfErr, IfSome, IsSome};
+ghost use Rattle.hashbag_ledger_core.specs.Ledger.{coming, going, stock_of, Changes, RefusesMovement};
 
 use crate::movements::{Change, Movement, Place, Refusal};
 use hashbag::{BagError, HashBag};
@@ -81,35 +80,4 @@ pub fn enter<T: Eq + Hash + Drop, S: BuildHasher + Drop>(
             Ok(None)
         }
     }
-}
-
-/// Enters movements into the stock, in turn, and returns the refusals in their order.
-///
-/// # Errors
-///
-/// `TooMany` with the place of a movement only if the total would pass the limit of the stock with it. `Memory` if an allocation
-/// fails. After an error some of the movements are entered, and no clause says which.
-///
-/// # Complexity
-///
-/// Each movement hashes its article at most twice. Allocates for absent articles and for the refusals.
-pub fn enter_all<T: Eq + Hash + Drop, S: BuildHasher + Drop>(
-    alloc: Global,
-    stock: &mut HashBag<T, S>,
-    movements: Vec<Movement<T>>,
-) -> Result<Vec<Refusal<T>>, LedgerError>
-    ensures leaves { OnOk result (Leaves T.eq (stock_of T.eq stock.old.items) movements.items (stock_of T.eq stock.new.items)) }
-    ensures refusals { IfOk result (λ r. r.items ≡ refused_of T.eq (stock_of T.eq stock.old.items) movements.items) }
-    ensures fit { OnOk result ((p : Place) → ¬ (IsPastLimit T.eq stock.old.items stock.old.most movements.items p)) }
-    ensures why { IfErr result (λ e. e ≢ LedgerError.StartTooMany) }
-    ensures past { IfErr result (λ e. (p : Place) → e ≡ LedgerError.TooMany p
-        → IsPastLimit T.eq stock.old.items stock.old.most movements.items p) }
-{
-    let mut refusals = Vec::new(alloc);
-    for movement in movements {
-        if let Some(refusal) = enter(stock, movement)? {
-            refusals.push(refusal).map_err(AllocError::from)?;
-        }
-    }
-    Ok(refusals)
 }

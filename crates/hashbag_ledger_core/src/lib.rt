@@ -2,6 +2,7 @@
 #![tactic(auto)]
 
 pub mod entering;
+pub mod ledger;
 pub mod movements;
 pub mod output;
 pub mod reading;

@@ -1,3 +1,4 @@
 pub mod BatchLemmas
+pub mod ChangeLemmas
 pub mod ListLemmas
 pub mod UndoLemmas

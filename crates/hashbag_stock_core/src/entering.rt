@@ -9,8 +9,9 @@ ghost use Rattle.hashbag_stock_core.specs.Batches.{Continues};
 
 use crate::numbers::MOST;
 use hashbag_ledger_core::entering::LedgerError;
+use hashbag_ledger_core::ledger::Entered;
 use hashbag_ledger_core::movements::Movement;
-use hashbag_ledger_core::settling::{Entered, settle_within};
+use hashbag_ledger_core::settling::settle_within;
 use std::alloc::Global;
 use std::hash::{BuildHasher, Hash};
 

@@ -1,4 +1,8 @@
 //! The rows of the balance that a batch changes.
+ghost use Rattle.std.specs.Prelude.{◌≡◌, ◌≢◌, ℕ, ◌+◌, ◌<◌, List, length, map, All, string_bytes, string_cmp, IfOk};
+ghost use Rattle.std.specs.List.Sorted.{IsStrictlySortedBy};
+ghost use Rattle.hashbag_stock_core.specs.Changes.{Rises, number_in, article_of, applied, listed_of, Begins};
+
 use std::alloc::{AllocError, Global};
 use std::cmp::Ordering;
 
@@ -11,64 +15,61 @@ pub enum RowChange {
     Remove(String),
 }
 
-// How far two balances have been read.
-#[derive(Clone, Copy)]
-struct Read {
-    before: usize,
-    after: usize,
-}
+// The rows of a balance: its articles with their numbers.
+type Balance<'a> = &'a [(String, usize)];
 
-// Returns how the next articles of two balances are to each other: `Less` if the next one is in the first balance alone. `None` if
-// there is no next one.
-fn order_at(before: &[(String, usize)], after: &[(String, usize)], read: Read) -> Option<Ordering> {
-    match (before.get(read.before), after.get(read.after)) {
-        (Some(old), Some(new)) => Some(old.0.as_str().cmp(&new.0.as_str())),
-        (Some(_), None) => Some(Ordering::Less),
-        (None, Some(_)) => Some(Ordering::Greater),
-        (None, None) => None,
+// Returns what becomes of the row of the next article, unless it stays as it is, and the rows after that one in both balances.
+fn next_change<'a, 'b>(
+    before: Balance<'a>,
+    after: Balance<'b>,
+) -> Result<(Option<RowChange>, Balance<'a>, Balance<'b>), AllocError>
+    ensures begins { IfOk result (λ next. Begins before.now after.now (listed_of next.0) next.1.now next.2.now) }
+    ensures shorter { IfOk result (λ next. 0 < length before.now + length after.now
+        → length next.1.now + length next.2.now < length before.now + length after.now) }
+{
+    match (before.split_first(), after.split_first()) {
+        (None, None) => Ok((None, before, after)),
+        (Some((old, olds)), None) => Ok((Some(RowChange::Remove(old.0.clone()?)), olds, after)),
+        (None, Some((new, news))) => Ok((
+            Some(RowChange::Put(new.0.clone()?, new.1)),
+            before,
+            news,
+        )),
+        (Some((old, olds)), Some((new, news))) => match old.0.as_str().cmp(&new.0.as_str()) {
+            Ordering::Less => Ok((Some(RowChange::Remove(old.0.clone()?)), olds, after)),
+            Ordering::Greater => Ok((Some(RowChange::Put(new.0.clone()?, new.1)), before, news)),
+            Ordering::Equal if old.1 == new.1 => Ok((None, olds, news)),
+            Ordering::Equal => Ok((Some(RowChange::Put(new.0.clone()?, new.1)), olds, news)),
+        },
     }
 }
 
-// Returns what becomes of the row of the next article, or `None` if it stays as it is.
-fn change_at(
-    before: &[(String, usize)],
-    after: &[(String, usize)],
-    read: Read,
-    order: Ordering,
-) -> Result<Option<RowChange>, AllocError> {
-    match (before.get(read.before), after.get(read.after)) {
-        (Some(old), _) if order == Ordering::Less => { Ok(Some(RowChange::Remove(old.0.clone()?))) }
-        (Some(old), Some(new)) if order == Ordering::Equal && old.1 == new.1 => Ok(None),
-        (_, Some(new)) => Ok(Some(RowChange::Put(new.0.clone()?, new.1))),
-        (_, None) => Ok(None),
-    }
-}
-
-/// Returns what becomes of the rows of a balance so that they are another balance. Both have their articles rising; so has the result.
-/// A row that stays as it is isn't listed.
+/// Returns the changes that turn a balance into another one, articles rising, if the articles of both balances rise. A row that stays as
+/// it is isn't changed.
+///
+/// # Errors
+///
+/// An error if an allocation fails.
 pub fn changed_rows(
     alloc: Global,
     before: &[(String, usize)],
     after: &[(String, usize)],
-) -> Result<Vec<RowChange>, AllocError> {
+) -> Result<Vec<RowChange>, AllocError>
+    ensures makes { IfOk result (λ changes. Rises before.now → Rises after.now
+        → (v : List ℕ) → applied v changes.items (number_in v before.now) ≡ number_in v after.now) }
+    ensures rising { IfOk result (λ changes. Rises before.now → Rises after.now
+        → IsStrictlySortedBy string_cmp (map article_of changes.items)) }
+    ensures needed { IfOk result (λ changes. Rises before.now → Rises after.now
+        → All (λ c. let v = string_bytes (article_of c) in number_in v before.now ≢ number_in v after.now) changes.items) }
+{
     let mut changes = Vec::new(alloc);
-    let mut read = Read {
-        before: 0,
-        after: 0,
-    };
-    'rows: for _ in 0..u64::MAX {
-        let Some(order) = order_at(before, after, read) else {
-            break;
-        };
-        if let Some(change) = change_at(before, after, read, order)? {
+    let (mut old, mut new) = (before, after);
+    'rows: while !old.is_empty() || !new.is_empty() {
+        let (change, olds, news) = next_change(old, new)?;
+        if let Some(change) = change {
             changes.push(change)?;
         }
-        if order != Ordering::Greater {
-            read.before = read.before.saturating_add(1);
-        }
-        if order != Ordering::Less {
-            read.after = read.after.saturating_add(1);
-        }
+        (old, new) = (olds, news);
     }
     Ok(changes)
 }

@@ -2,9 +2,10 @@
 //! expected values were found by hand.
 use hashbag::FixedState;
 use hashbag_ledger_core::entering::LedgerError;
+use hashbag_ledger_core::ledger::{Entered, Ledger, end};
 use hashbag_ledger_core::movements::Change;
 use hashbag_ledger_core::output::{balance_text, refusals_table, refusals_text};
-use hashbag_ledger_core::reading::{ChangeColumns, Columns, read_movements};
+use hashbag_ledger_core::reading::{ChangeColumns, Columns, enter_movements, read_movements};
 use hashbag_ledger_core::settling::settle;
 use hashbag_lists::counts::Reading;
 use hashbag_lists::delimiter::Delimiter;
@@ -177,7 +178,7 @@ const LEDGERS: [(&[(&str, usize)], &str, &str); 6] = [
     (
         &[("x", 18446744073709551614)],
         "article,change\ny,1\nx,-1\n\"z\n\",2\n",
-        "4: too many",
+        "4: total past 18446744073709551615",
     ),
     (
         &[("x", 18446744073709551614)],
@@ -205,6 +206,14 @@ fn stock_of(alloc: Global, start: &[(&str, usize)]) -> Result<Vec<(String, usize
     Ok(stock)
 }
 
+// Returns the balance and the refusals as text.
+fn said_of_all(alloc: Global, entered: &Entered<String>) -> Result<String, Fail> {
+    let balance = balance_text(alloc, NAMES, Reading::plain(), &entered.balance)?;
+    let mut said = String::from_utf8(balance)?;
+    said.push_str(refusals_text(alloc, &["m.csv"], Scale::whole(), &entered.refusals)?.as_str())?;
+    Ok(said)
+}
+
 // Returns the balance and the refusals, or the error, as text.
 fn left_by<S: BuildHasher + Drop>(
     alloc: Global,
@@ -212,23 +221,15 @@ fn left_by<S: BuildHasher + Drop>(
     start: &[(&str, usize)],
     text: &str,
 ) -> Result<String, Fail> {
-    let stock = stock_of(alloc, start)?;
-    let movements = read_movements(alloc, text.as_bytes(), 0, SIGNED, Reading::plain())?;
-    match settle(alloc, state, stock, movements) {
-        Ok(entered) => {
-            let balance = balance_text(alloc, NAMES, Reading::plain(), &entered.balance)?;
-            let mut said = String::from_utf8(balance)?;
-            said.push_str(refusals_text(
-                alloc,
-                &["m.csv"],
-                Scale::whole(),
-                &entered.refusals,
-            )?.as_str())?;
-            Ok(said)
-        }
-        Err(LedgerError::TooMany(place)) => Ok(format!(in alloc; "{}: too many", place.line)?),
-        Err(LedgerError::StartTooMany) => Ok(format!(in alloc; "too many at the start")?),
-        Err(LedgerError::Memory) => Ok(format!(in alloc; "no memory")?),
+    let mut ledger = match Ledger::begin(alloc, state, usize::MAX, stock_of(alloc, start)?) {
+        Ok(ledger) => ledger,
+        Err(LedgerError::StartTooMany) => return Ok(format!(in alloc; "too many at the start")?),
+        Err(_) => return Ok(format!(in alloc; "no memory")?),
+    };
+    let text = text.as_bytes();
+    match enter_movements(alloc, &mut ledger, text, 0, SIGNED, Reading::plain()) {
+        Ok(()) => said_of_all(alloc, &end(alloc, ledger)?),
+        Err(error) => Ok(format!(in alloc; "{error}")?),
     }
 }
 

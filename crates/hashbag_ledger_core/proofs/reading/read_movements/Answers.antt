@@ -1,4 +1,4 @@
-use Rattle.std.proofs.Common.{◌≡◌, List, All, String, Global, true, is_ok, refl, sym, subst}
+use Rattle.std.proofs.Common.{◌≡◌, List, All, String, Global, true, is_ok, sym, subst}
 use Rattle.std.proofs.lemmas.List.Elements.{All-push}
 use Rattle.hashbag_ledger_core.specs.declared.movements.Movement.{Movement}
 use Rattle.hashbag_ledger_core.proofs.reading.read_movements.Goals as goal
@@ -10,5 +10,5 @@ records-preserved c =
     let noted = rw pushed at c.push.ensures.items in
     record {
       places = subst (λ (l : List (Movement (String Global))). All (λ m. m.place.file ≡ c.args.file) l) (sym noted)
-          (All-push (λ (m : Movement (String Global)). m.place.file ≡ c.args.file) c.records.movements.items _ c.records.invariant.places refl);
+          (All-push (λ (m : Movement (String Global)). m.place.file ≡ c.args.file) c.records.movements.items _ c.records.invariant.places (rw c.in-Some.is at c.in_ok-movement.ensures));
     }

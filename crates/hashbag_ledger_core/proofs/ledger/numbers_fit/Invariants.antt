@@ -1,5 +1,5 @@
 use Rattle.std.proofs.Common.{◌≡◌, ◌≤◌, ◌-◌, ◌^◌, sum_by, take}
-use Rattle.hashbag_ledger_core.proofs.settling.numbers_fit.Given as goal
+use Rattle.hashbag_ledger_core.proofs.ledger.numbers_fit.Given as goal
 
 -- the sum of the numbers so far, which fits
 abbrev pub invariant-loop-entry : goal.invariant-loop-entry

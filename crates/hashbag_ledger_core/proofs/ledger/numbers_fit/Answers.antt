@@ -1,8 +1,8 @@
-use Rattle.std.proofs.Common.{◌≡◌, ◌≤◌, ◌∙◌, ℕ, List, sum_by, ap, sym, subst, arith}
+use Rattle.std.proofs.Common.{◌≡◌, ◌≤◌, ◌∙◌, ℕ, List, sum_by, ap, arith}
 use Rattle.std.proofs.lemmas.Bool.{leb-true, le-leb}
 use Rattle.std.proofs.lemmas.List.{take_all}
 use Rattle.hashbag_lists.specs.Quantities.{numbers}
-use Rattle.hashbag_ledger_core.proofs.settling.numbers_fit.Goals as goal
+use Rattle.hashbag_ledger_core.proofs.ledger.numbers_fit.Goals as goal
 
 -- all have been added
 pub returns : goal.returns

@@ -1,8 +1,8 @@
-use Rattle.std.proofs.Common.{◌∙◌, rules}
+use Rattle.std.proofs.Common.{rules}
 use Rattle.std.proofs.lemmas.Iterator.Adapters.{YieldsList-from_vec}
-use Rattle.hashbag.proofs.InsertLemmas.{all_added, all_made}
+use Rattle.hashbag.proofs.InsertLemmas.{all_made}
 use Rattle.hashbag_lists.proofs.QuantityLemmas.{counts_made, length_made}
-use Rattle.hashbag_ledger_core.proofs.settling.stock_of_list.Goals as goal
+use Rattle.hashbag_ledger_core.proofs.ledger.stock_of_list.Goals as goal
 
 -- the pairs that came are those of the list
 pub returns-in-Ok-clause-counts : goal.returns-in-Ok-clause-counts
