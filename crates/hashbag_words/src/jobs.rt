@@ -4,7 +4,7 @@ use crate::failure::Failure;
 use crate::gauge::Gauge;
 use crate::inputs::{Bound, Inputs, Intake};
 use crate::names::check;
-use crate::output::{Made, Output, text_of};
+use crate::output::{Made, Output, keep_shown, rows_of};
 use crate::progress::Progress;
 use crate::runs::Runs;
 use crate::settings::{By, Job, Settings};
@@ -106,19 +106,39 @@ fn shard_of<'a>(settings: &Settings<'a, '_>) -> Result<Option<Shard>, Failure<'a
     }
 }
 
-// Returns what is to be written. Temporary files are in this folder.
-fn made<'a>(
+// Returns what is to be written of runs and of the bag, or `None` if there are no runs. Temporary files are in this folder.
+fn merged<'a>(
+    rt: &HostRuntime,
+    settings: &Settings<'a, '_>,
+    folder: &'a str,
+    shard: Option<Shard>,
+    mut runs: Runs<'_, 'a>,
+    bag: &mut Bag,
+) -> Result<Option<Made<'static>>, Failure<'a>> {
+    if runs.is_empty() {
+        return Ok(None);
+    }
+    if !bag.is_empty() {
+        runs.spill(bag)?;
+    }
+    let made = show(rt, settings, folder, shard, runs.into_batch()?)?;
+    Ok(Some(made))
+}
+
+// Reads the inputs. Returns what is to be written if it is merged, or else `None`: then the bag has the tokens that are shown.
+fn read<'a>(
     rt: &HostRuntime,
     settings: &Settings<'a, '_>,
     names: &[&'a str],
     folder: &'a str,
-) -> Result<Made, Failure<'a>> {
+    bag: &mut Bag,
+) -> Result<Option<Made<'static>>, Failure<'a>> {
     let shard = shard_of(settings)?;
     if settings.sorted {
-        return show_sorted(rt, settings, folder, shard, names);
+        let made = show_sorted(rt, settings, folder, shard, names)?;
+        return Ok(Some(made));
     }
     let bound = bound_of(rt, settings, folder)?;
-    let mut bag = empty(rt)?;
     let progress = Progress::new(rt, settings.progress);
     let mut inputs = Inputs {
         rt,
@@ -127,32 +147,60 @@ fn made<'a>(
         progress,
         bound,
     };
-    take_in(&mut inputs, &mut bag)?;
-    let made = match inputs.bound {
-        Some(bound) => show_bounded(rt, settings, folder, shard, bound.runs, &mut bag),
-        None => text_of(rt, settings, shard, &mut bag),
-    };
-    // The program ends soon, and the system then takes all memory back at once.
-    mem::forget(bag);
-    made
+    take_in(&mut inputs, bag)?;
+    if let Some(bound) = inputs.bound {
+        if let Some(made) = merged(rt, settings, folder, shard, bound.runs, bag)? {
+            return Ok(Some(made));
+        }
+    }
+    keep_shown(settings, shard, bag);
+    Ok(None)
 }
 
-// Returns what is to be written of runs, if there are any, and of the bag.
-fn show_bounded<'a>(
+// Writes what was made. Returns whether it shows nothing.
+fn write_made<'a>(
+    rt: &HostRuntime,
+    output: Output<'a>,
+    made: Made<'_>,
+) -> Result<bool, Failure<'a>> {
+    let is_empty = made.is_empty();
+    output.write(rt, made)?;
+    Ok(is_empty)
+}
+
+// Writes what a bag has. Returns whether it shows nothing.
+fn write_bag<'a>(
     rt: &HostRuntime,
     settings: &Settings<'a, '_>,
+    output: Output<'a>,
+    bag: &Bag,
+) -> Result<bool, Failure<'a>> {
+    match rows_of(rt, settings, bag) {
+        Ok(rows) => write_made(rt, output, rows),
+        Err(failure) => {
+            output.abandon(rt);
+            Err(failure)
+        }
+    }
+}
+
+// Reads the inputs into a bag, and writes what they count. Returns whether it shows nothing.
+fn read_and_write<'a>(
+    rt: &HostRuntime,
+    settings: &Settings<'a, '_>,
+    names: &[&'a str],
     folder: &'a str,
-    shard: Option<Shard>,
-    mut runs: Runs<'_, 'a>,
     bag: &mut Bag,
-) -> Result<Made, Failure<'a>> {
-    if runs.is_empty() {
-        return text_of(rt, settings, shard, bag);
+) -> Result<bool, Failure<'a>> {
+    let output = Output::open(rt, settings)?;
+    match read(rt, settings, names, folder, bag) {
+        Ok(Some(made)) => write_made(rt, output, made),
+        Ok(None) => write_bag(rt, settings, output, bag),
+        Err(failure) => {
+            output.abandon(rt);
+            Err(failure)
+        }
     }
-    if !bag.is_empty() {
-        runs.spill(bag)?;
-    }
-    show(rt, settings, folder, shard, runs.into_batch()?)
 }
 
 /// Does the job and returns the exit status. Temporary files are in this folder.
@@ -167,17 +215,11 @@ pub fn run<'a>(
     folder: &'a str,
 ) -> Result<u8, Failure<'a>> {
     check(rt, settings, names)?;
-    let output = Output::open(rt, settings)?;
-    let made = match made(rt, settings, names, folder) {
-        Ok(made) => made,
-        Err(failure) => {
-            output.abandon(rt);
-            return Err(failure);
-        }
-    };
-    let is_empty = made.is_empty();
-    output.write(rt, made)?;
-    Ok(if is_empty && settings.fail_empty {
+    let mut bag = empty(rt)?;
+    let written = read_and_write(rt, settings, names, folder, &mut bag);
+    // The program ends soon, and the system then takes all memory back at once.
+    mem::forget(bag);
+    Ok(if written? && settings.fail_empty {
         DENIED
     } else {
         DONE

@@ -4,24 +4,27 @@ use crate::failure::Failure;
 use crate::settings::Settings;
 use hashbag_shell::output_file::OutputFile;
 use hashbag_words_core::choice::{chosen, drop_below};
+use hashbag_words_core::row_text::RowText;
 use hashbag_words_core::shards::{Shard, keep_shard};
-use hashbag_words_core::writing::write_rows;
 use std::fs::File;
-use std::io::{self, Write};
+use std::io::{self, Read, Write};
 
 /// What is to be written, and whether it shows nothing.
 #[derive(Drop)]
-pub enum Made {
+pub enum Made<'b> {
+    /// Rows of a bag.
+    Rows(RowText<'b>),
     /// A text in memory.
     Text(Vec<u8>, bool),
     /// A temporary file.
     File(File, bool),
 }
 
-impl Made {
+impl Made<'_> {
     /// Whether it shows nothing.
     pub fn is_empty(&self) -> bool {
         match self {
+            Made::Rows(rows) => rows.is_empty(),
             Made::Text(_, is_empty) => *is_empty,
             Made::File(_, is_empty) => *is_empty,
         }
@@ -57,11 +60,20 @@ impl<'a> Output<'a> {
     ///
     /// # Errors
     ///
-    /// `File` if a write fails, `NoMemoryLeft` if an allocation fails. Then a named file is unchanged.
-    pub fn write(self, rt: &HostRuntime, made: Made) -> Result<(), Failure<'a>> {
+    /// `File` if a write fails. Then a named file is unchanged. No allocation is left to fail.
+    pub fn write(self, rt: &HostRuntime, made: Made<'_>) -> Result<(), Failure<'a>> {
+        match made {
+            Made::Rows(mut rows) => self.copy(rt, &mut rows),
+            Made::Text(text, _) => self.copy(rt, &mut text.as_slice()),
+            Made::File(mut file, _) => self.copy(rt, &mut file),
+        }
+    }
+
+    // Writes all that there is to read.
+    fn copy<R: Read>(self, rt: &HostRuntime, from: &mut R) -> Result<(), Failure<'a>> {
         let (name, written) = match self {
-            Output::Standard => ("standard output", put(io::writer(rt), made)),
-            Output::Named(name, file) => (name, put_whole(rt, file, made)),
+            Output::Standard => ("standard output", put(io::writer(rt), from)),
+            Output::Named(name, file) => (name, file.copy_whole(rt, from)),
         };
         written.map_err(|error| Failure::of_file(name, error))
     }
@@ -74,48 +86,35 @@ impl<'a> Output<'a> {
     }
 }
 
-// Writes all that was made and flushes.
-fn put<W: Write + Drop>(mut to: W, made: Made) -> io::Result<()> {
-    match made {
-        Made::Text(text, _) => to.write_all(text.as_slice())?,
-        Made::File(mut file, _) => {
-            let _bytes = io::copy(&mut file, &mut to)?;
-        }
-    }
+// Writes all that there is to read, and flushes.
+fn put<W: Write + Drop, R: Read>(mut to: W, from: &mut R) -> io::Result<()> {
+    let _bytes = io::copy(from, &mut to)?;
     to.flush()
 }
 
-// Writes all that was made, or nothing.
-fn put_whole(rt: &HostRuntime, to: OutputFile<File>, made: Made) -> io::Result<()> {
-    match made {
-        Made::Text(text, _) => to.write_whole(rt, text.as_slice()),
-        Made::File(mut file, _) => to.copy_whole(rt, &mut file),
-    }
-}
-
-/// Returns the text of the counts that are shown, and whether none are.
-///
-/// Tokens that occur less often than `settings.least`, or aren't in the shard, are removed from the bag.
-///
-/// # Errors
-///
-/// `NoMemoryLeft` if an allocation fails. Nothing has been written then, since the whole text is built first.
-pub fn text_of<'a>(
-    rt: &HostRuntime,
-    settings: &Settings<'a, '_>,
-    shard: Option<Shard>,
-    bag: &mut Bag,
-) -> Result<Made, Failure<'a>> {
+/// Removes from the bag the tokens that aren't shown: those that occur less often than `settings.least`, or aren't in the shard.
+pub fn keep_shown(settings: &Settings<'_, '_>, shard: Option<Shard>, bag: &mut Bag) {
     drop_below(bag, settings.least);
     if let Some(shard) = shard {
         keep_shard(bag, shard);
     }
+}
+
+/// Returns what is to be written of a bag.
+///
+/// # Errors
+///
+/// `NoMemoryLeft` if an allocation fails.
+pub fn rows_of<'a, 'b>(
+    rt: &HostRuntime,
+    settings: &Settings<'a, '_>,
+    bag: &'b Bag,
+) -> Result<Made<'b>, Failure<'a>> {
     let Ok(rows) = chosen(rt.alloc(), bag, settings.order) else {
         return Err(Failure::NoMemoryLeft);
     };
-    let mut text = Vec::new(rt.alloc());
-    if write_rows(rt.alloc(), &mut text, settings.format, &rows).is_err() {
-        return Err(Failure::NoMemoryLeft);
+    match RowText::new(rt.alloc(), settings.format, rows) {
+        Ok(rows) => Ok(Made::Rows(rows)),
+        Err(_) => Err(Failure::NoMemoryLeft),
     }
-    Ok(Made::Text(text, rows.is_empty()))
 }

@@ -18,7 +18,7 @@ fn show_top<'a>(
     batch: &mut Batch<'_, 'a>,
     shard: Option<Shard>,
     most: usize,
-) -> Result<Made, Failure<'a>> {
+) -> Result<Made<'static>, Failure<'a>> {
     let sink = TopRows::new(rt.alloc(), most, settings.least);
     let mut top = ShardRows { sink, shard };
     batch.merge(folder, &mut top)?;
@@ -45,7 +45,7 @@ fn show_all<'a>(
     folder: &'a str,
     batch: &mut Batch<'_, 'a>,
     shard: Option<Shard>,
-) -> Result<Made, Failure<'a>> {
+) -> Result<Made<'static>, Failure<'a>> {
     let file = temporary(rt, folder)?;
     let out = BufWriter::with_capacity(rt.alloc(), BUFFER, file).map_err(|error| Failure::of_file(
         folder, error,
@@ -73,7 +73,7 @@ pub fn show<'a>(
     folder: &'a str,
     shard: Option<Shard>,
     mut batch: Batch<'_, 'a>,
-) -> Result<Made, Failure<'a>> {
+) -> Result<Made<'static>, Failure<'a>> {
     match settings.order {
         Order::Commonest(most) => show_top(rt, settings, folder, &mut batch, shard, most),
         _ => show_all(rt, settings, folder, &mut batch, shard),
@@ -87,7 +87,7 @@ pub fn show_sorted<'a>(
     folder: &'a str,
     shard: Option<Shard>,
     names: &[&'a str],
-) -> Result<Made, Failure<'a>> {
+) -> Result<Made<'static>, Failure<'a>> {
     let Some(form) = settings.rows else {
         return Err(Failure::SortedTree);
     };

@@ -1,7 +1,7 @@
 //! Writing counts.
 use crate::rows::push_row;
 use serde_json::Value;
-use std::alloc::Global;
+use std::alloc::{AllocError, Global};
 use std::io::{self, Write};
 
 /// How counts are written.
@@ -15,36 +15,74 @@ pub enum Format {
     Uniq,
 }
 
-/// Writes tokens with their counts, one after the other.
+impl Format {
+    /// Returns what is written before the first row.
+    pub(crate) fn head(&self) -> &'static [u8] {
+        if *self == Format::Json { b"[" } else { b"" }
+    }
+
+    /// Returns what is written after the last row.
+    pub(crate) fn end(&self) -> &'static [u8] {
+        if *self == Format::Json { b"]\n" } else { b"" }
+    }
+}
+
+/// Builds rows in a format.
 #[derive(Drop)]
-pub struct RowWriter<W> {
-    alloc: Global,
-    out: W,
+pub(crate) struct RowBuilder {
     format: Format,
-    // The row that is being written.
-    text: Vec<u8>,
-    // Whether no row has been written.
+    // A token of JSON, as a text. Each row has it anew, in the same memory.
+    token: Value,
+    // Whether no row has been built.
     is_empty: bool,
 }
 
-// Appends a token and its count in that form. In JSON a comma comes before each but the first.
-fn push_in_form(
-    alloc: Global,
-    text: &mut Vec<u8>,
-    format: Format,
-    is_first: bool,
-    row: (&str, usize),
-) -> io::Result<()> {
-    let (token, count) = row;
-    match format {
-        Format::Tsv => push_row(text, token, count),
-        Format::Uniq => writeln!(text, "{count:7} {token}"),
-        Format::Json => {
-            let comma = if is_first { "" } else { "," };
-            let tree = Value::String(String::from_str(alloc, token)?);
-            write!(text, "{comma}[{tree},{count}]")
-        }
+impl RowBuilder {
+    /// Returns the builder of rows whose tokens have at most `longest` bytes. Longer ones allocate in JSON.
+    pub(crate) fn new(
+        alloc: Global,
+        format: Format,
+        longest: usize,
+    ) -> Result<RowBuilder, AllocError> {
+        let room = if format == Format::Json { longest } else { 0 };
+        Ok(RowBuilder {
+            format,
+            token: Value::String(String::with_capacity(alloc, room)?),
+            is_empty: true,
+        })
     }
+
+    // Appends a row of JSON. A comma comes before each but the first.
+    fn push_pair(&mut self, text: &mut Vec<u8>, token: &str, count: usize) -> io::Result<()> {
+        if let Value::String(room) = &mut self.token {
+            room.clear();
+            room.push_str(token)?;
+        }
+        let comma = if self.is_empty { "" } else { "," };
+        let token = &self.token;
+        write!(text, "{comma}[{token},{count}]")
+    }
+
+    /// Appends the row of a token and its count.
+    pub(crate) fn push(&mut self, text: &mut Vec<u8>, token: &str, count: usize) -> io::Result<()> {
+        match self.format {
+            Format::Tsv => push_row(text, token, count)?,
+            Format::Uniq => writeln!(text, "{count:7} {token}")?,
+            Format::Json => self.push_pair(text, token, count)?,
+        }
+        self.is_empty = false;
+        Ok(())
+    }
+}
+
+/// Writes tokens with their counts, one after the other.
+#[derive(Drop)]
+pub struct RowWriter<W> {
+    out: W,
+    format: Format,
+    rows: RowBuilder,
+    // The row that is being written.
+    text: Vec<u8>,
 }
 
 impl<W: Write> RowWriter<W> {
@@ -52,20 +90,19 @@ impl<W: Write> RowWriter<W> {
     ///
     /// # Errors
     ///
-    /// A write fails.
+    /// A write or an allocation fails.
     pub fn begin(alloc: Global, mut out: W, format: Format) -> io::Result<RowWriter<W>>
     where
         W: Drop,
     {
-        if format == Format::Json {
-            out.write_all(b"[")?;
-        }
+        let rows = RowBuilder::new(alloc, format, 0)?;
+        out.write_all(format.head())?;
+        let text = Vec::new(alloc);
         Ok(RowWriter {
-            alloc,
             out,
             format,
-            text: Vec::new(alloc),
-            is_empty: true,
+            rows,
+            text,
         })
     }
 
@@ -76,15 +113,13 @@ impl<W: Write> RowWriter<W> {
     /// A write or an allocation fails.
     pub fn write_row(&mut self, token: &str, count: usize) -> io::Result<()> {
         self.text.clear();
-        let row = (token, count);
-        push_in_form(self.alloc, &mut self.text, self.format, self.is_empty, row)?;
-        self.is_empty = false;
+        self.rows.push(&mut self.text, token, count)?;
         self.out.write_all(&self.text)
     }
 
-    /// Whether no row has been written.
+    /// Returns whether no row has been written.
     pub fn is_empty(&self) -> bool {
-        self.is_empty
+        self.rows.is_empty
     }
 
     /// Ends the output, and returns what it was written to.
@@ -97,29 +132,8 @@ impl<W: Write> RowWriter<W> {
         W: Drop,
     {
         let mut out = self.out;
-        if self.format == Format::Json {
-            out.write_all(b"]\n")?;
-        }
+        out.write_all(self.format.end())?;
         out.flush()?;
         Ok(out)
     }
-}
-
-/// Writes tokens with their counts, in the order of `rows`.
-///
-/// # Errors
-///
-/// A write or an allocation fails. Then some of the text may have been written.
-pub fn write_rows<W: Write>(
-    alloc: Global,
-    out: &mut W,
-    format: Format,
-    rows: &Vec<(&String, usize)>,
-) -> io::Result<()> {
-    let mut writer = RowWriter::begin(alloc, out, format)?;
-    for (token, count) in rows {
-        writer.write_row(token.as_str(), *count)?;
-    }
-    writer.finish()?;
-    Ok(())
 }

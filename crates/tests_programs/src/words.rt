@@ -7,12 +7,14 @@ use hashbag_words_core::errors::Fault;
 use hashbag_words_core::lines::{BadLines, Reading};
 use hashbag_words_core::merging::{add_first_row, add_rows, add_tree};
 use hashbag_words_core::parts::counts_of;
+use hashbag_words_core::row_text::RowText;
 use hashbag_words_core::rows::RowForm;
 use hashbag_words_core::rule::{Pieces, Rule};
-use hashbag_words_core::writing::{Format, write_rows};
+use hashbag_words_core::writing::Format;
 use regex::Regex;
 use std::alloc::Global;
 use std::hash::{BuildHasher, RandomState};
+use std::io;
 use std::test::Fail;
 
 // What is counted, the input, and the counts as TSV.
@@ -92,7 +94,7 @@ fn written<S: BuildHasher + Drop>(
 ) -> Result<String, Fail> {
     let rows = chosen(alloc, bag, Order::Rising)?;
     let mut out = Vec::new(alloc);
-    write_rows(alloc, &mut out, format, &rows)?;
+    let _bytes = io::copy(&mut RowText::new(alloc, format, rows)?, &mut out)?;
     Ok(String::from_utf8(out)?)
 }
 
