@@ -1,9 +1,13 @@
 //! What is read of a stock.
+ghost use Rattle.std.specs.Prelude.{IfOk};
+ghost use Rattle.hashbag_stock_core.specs.Changes.{Rises};
+
 use crate::error::StockError;
 use hashbag_ledger_core::movements::{Movement, Place};
 use hashbag_stock_core::numbers::change_of;
 use hashbag_stock_core::once::Batch;
 use hashbag_stock_core::output::Event;
+use hashbag_stock_core::rows::rises;
 use hashbag_stock_core::verifying::KeptRefusal;
 use sqlite::{Alter, Connection, Row, params};
 use std::alloc::Global;
@@ -20,11 +24,29 @@ fn natural(row: &Row, at: usize) -> Result<u64, StockError> {
 }
 
 /// Returns the balance that is kept, articles rising.
+///
+/// # Errors
+///
+/// `Damaged` if the rows don't rise, as in a table whose column has another collation, or if a number is below 0. Else what fails.
 pub fn balance_of<S: Alter>(
     alloc: Global,
     conn: &mut Connection<S>,
+) -> Result<Vec<(String, usize)>, StockError>
+    ensures rising { IfOk result (λ balance. Rises balance.items) }
+{
+    let balance = rows_of(alloc, conn)?;
+    if !rises(&balance) {
+        return Err(StockError::Damaged("articles that don't rise in the table article"));
+    }
+    Ok(balance)
+}
+
+// Reads the rows of the balance.
+fn rows_of<S: Alter>(
+    alloc: Global,
+    conn: &mut Connection<S>,
 ) -> Result<Vec<(String, usize)>, StockError> {
-    let mut balance = Vec::new(alloc);
+    let mut balance: Vec<(String, usize)> = Vec::new(alloc);
     let mut rows = conn.query("SELECT article, number FROM article ORDER BY article", &[])?;
     for _ in 0..u64::MAX {
         let Some(row) = rows.next()? else {

@@ -41,7 +41,7 @@ pub enum Form {
 ///
 /// # Errors
 ///
-/// `Foreign` or `Later` for the tables of something else, or what fails.
+/// `Foreign` or `Later` for the tables of something else, `Damaged` for a version or a scale that no stock has, or what fails.
 pub fn form_of<S: Alter>(conn: &mut Connection<S>) -> Result<Form, StockError> {
     let tables: i64 = conn
         .query_row("SELECT count(*) FROM sqlite_schema", &[])?
@@ -57,8 +57,11 @@ pub fn form_of<S: Alter>(conn: &mut Connection<S>) -> Result<Form, StockError> {
         }
         Err(error) => return Err(error),
     };
-    if version != VERSION {
+    if version > VERSION {
         return Err(StockError::Later(version));
+    }
+    if version < VERSION {
+        return Err(StockError::Damaged("no version from 1 on in the table meta"));
     }
     match meta_of(conn, "scale")? {
         Some(scale) if 0 <= scale && scale <= 9 => Ok(Form::Stock(scale as u32)),

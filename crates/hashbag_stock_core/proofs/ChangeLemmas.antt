@@ -8,7 +8,7 @@ use Rattle.std.specs.Ordering.{nat_cmp, ordering_reverse}
 use Rattle.std.proofs.lemmas.List.Elements.{All-nil, All-cons, All-head, All-tail}
 use Rattle.hashbag_stock_core.specs.declared.rows.RowChange.{RowChange}
 use Rattle.hashbag_stock_core.specs.declared.rows.RowChange.TheVariants.{Put, Remove}
-use Rattle.hashbag_stock_core.specs.Changes.{Rises, number_in, article_of, new_number, applied, AreChanges, Begins}
+use Rattle.hashbag_stock_core.specs.Changes.{Rises, IsBefore, number_in, article_of, new_number, applied, AreChanges, Begins}
 
 abbrev text_cmp : List ℕ → List ℕ → Ordering
 text_cmp v w = slice_cmp nat_cmp v w
@@ -40,15 +40,28 @@ above_later : (v w : List ℕ) (ks : List (String Global)) → text_cmp v w ≡ 
 above_later v w [] up above = tt
 above_later v w (k ∷ ks) up above = (nat_list_cmp_total.trans v w (string_bytes k) up above.0, above_later v w ks up above.1)
 
--- the first article of these, if there is one, comes after the text
-abbrev pub IsAbove : List ℕ → List (String Global × ℕ) → Type 0
-IsAbove v [] = Unit {0}
-IsAbove v (e ∷ L) = text_cmp v (string_bytes e.0) ≡ Less
-
-above_all : (v : List ℕ) (L : List (String Global × ℕ)) → IsAbove v L → Rises L → Above v (keys_of L)
+above_all : (v : List ℕ) (L : List (String Global × ℕ)) → IsBefore v L → Rises L → Above v (keys_of L)
 unfolding IsStrictlySortedBy
 above_all v [] above rises = tt
 above_all v (e ∷ L) above rises = (above, above_later v (string_bytes e.0) (keys_of L) above rises.0)
+
+-- a balance rises exactly if its first article comes before the next one, and the others rise
+pub rises_on : (e : String Global × ℕ) (L : List (String Global × ℕ)) → IsBefore (string_bytes e.0) L → Rises L → Rises (e ∷ L)
+unfolding IsStrictlySortedBy
+rises_on e L before rises = (above_all (string_bytes e.0) L before rises, rises)
+
+pub rises_after : (e : String Global × ℕ) (L : List (String Global × ℕ)) → Rises (e ∷ L) → Rises L
+unfolding IsStrictlySortedBy
+rises_after e L rises = rises.1
+
+pub first_is_before : (e : String Global × ℕ) (L : List (String Global × ℕ)) → Rises (e ∷ L) → IsBefore (string_bytes e.0) L
+unfolding IsStrictlySortedBy
+first_is_before e [] rises = tt
+first_is_before e (f ∷ L) rises = rises.0.0
+
+pub none_rise : Rises []
+unfolding IsStrictlySortedBy
+none_rise = tt
 
 none_above : (v : List ℕ) (L : List (String Global × ℕ)) → Above v (keys_of L) → number_in v L ≡ None
 none_above v [] above = refl
@@ -87,13 +100,13 @@ without_first v e L is rises = record {
   others = λ w other. ap (λ (b : Bool). cond b (Some e.1) (number_in w L)) (subst (λ (u : List ℕ). bytes_eq w u ≡ false) (sym is) other);
 }
 
-without_none : (v : List ℕ) (L : List (String Global × ℕ)) → IsAbove v L → Rises L → Without v L L
+without_none : (v : List ℕ) (L : List (String Global × ℕ)) → IsBefore v L → Rises L → Without v L L
 without_none v L above rises = record { rises = rises; above = above_all v L above rises; others = λ w other. refl }
 
 first_is : (v : List ℕ) (e : String Global × ℕ) (L : List (String Global × ℕ)) → string_bytes e.0 ≡ v → number_in v (e ∷ L) ≡ Some e.1
 first_is v e L is = ap (λ (b : Bool). cond b (Some e.1) (number_in v L)) (subst (λ (u : List ℕ). bytes_eq v u ≡ true) (sym is) (itself v))
 
-none_is : (v : List ℕ) (L : List (String Global × ℕ)) → IsAbove v L → Rises L → number_in v L ≡ None
+none_is : (v : List ℕ) (L : List (String Global × ℕ)) → IsBefore v L → Rises L → number_in v L ≡ None
 none_is v L above rises = none_above v L (above_all v L above rises)
 
 -- ---- one article more
@@ -159,7 +172,7 @@ unfolding IsStrictlySortedBy
 none = record { makes = λ v. refl; rising = tt; needed = All-nil (Needed [] []) }
 
 -- the first article of the balance before is in that one alone
-pub removed : (a : String Global) (e : String Global × ℕ) (before after L : List (String Global × ℕ)) → before ≡ e ∷ L → string_bytes a ≡ string_bytes e.0 → IsAbove (string_bytes e.0) after → Begins before after (Remove a ∷ []) L after
+pub removed : (a : String Global) (e : String Global × ℕ) (before after L : List (String Global × ℕ)) → before ≡ e ∷ L → string_bytes a ≡ string_bytes e.0 → IsBefore (string_bytes e.0) after → Begins before after (Remove a ∷ []) L after
 removed a e before after L is text above cs are = subst (λ (l : List (String Global × ℕ)). Rises l → Rises after → AreChanges l after (Remove a ∷ cs)) (sym is) (λ rises rises_too.
     let v = string_bytes e.0 in
     let one = without_first v e L refl rises in
@@ -169,7 +182,7 @@ removed a e before after L is text above cs are = subst (λ (l : List (String Gl
     put v (e ∷ L) after L after one two (Remove a) text (λ same. absurd (cc)) (sym gone) cs (are one.rises two.rises))
 
 -- that of the balance after is
-pub put_new : (a : String Global) (e : String Global × ℕ) (before after M : List (String Global × ℕ)) → after ≡ e ∷ M → string_bytes a ≡ string_bytes e.0 → IsAbove (string_bytes e.0) before → Begins before after (Put a e.1 ∷ []) before M
+pub put_new : (a : String Global) (e : String Global × ℕ) (before after M : List (String Global × ℕ)) → after ≡ e ∷ M → string_bytes a ≡ string_bytes e.0 → IsBefore (string_bytes e.0) before → Begins before after (Put a e.1 ∷ []) before M
 put_new a e before after M is text above cs are = subst (λ (l : List (String Global × ℕ)). Rises before → Rises l → AreChanges before l (Put a e.1 ∷ cs)) (sym is) (λ rises rises_too.
     let v = string_bytes e.0 in
     let one = without_none v before above rises in

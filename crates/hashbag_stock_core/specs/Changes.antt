@@ -1,5 +1,8 @@
 -- Changes of the rows of a balance.
 use Rattle.std.specs.Prelude.{◌≡◌, ◌≢◌, ℕ, if◌then◌else◌, List, [], ◌∷◌, ◌++◌, map, All, Option, None, Some, String, string_bytes, string_cmp}
+use Rattle.std.specs.Cmp.Lexicographic.{slice_cmp}
+use Rattle.std.specs.Ordering.{nat_cmp}
+use Rattle.std.specs.declared.cmp.Ordering.TheVariants.{Less}
 use Rattle.std.specs.Global.{Global}
 use Rattle.std.specs.List.Sorted.{IsStrictlySortedBy}
 use Rattle.std.specs.Map.{keys_of, lookup}
@@ -10,6 +13,11 @@ use Rattle.hashbag_stock_core.specs.declared.rows.RowChange.TheVariants.{Put, Re
 -- the articles of a balance rise, by their bytes: each is there at most once
 abbrev pub Rises : List (String Global × ℕ) → Type 0
 Rises L = IsStrictlySortedBy string_cmp (keys_of L)
+
+-- a text comes before the first article of these rows, if there is one
+abbrev pub IsBefore : List ℕ → List (String Global × ℕ) → Type 0
+IsBefore v [] = Unit {0}
+IsBefore v (e ∷ L) = slice_cmp nat_cmp v (string_bytes e.0) ≡ Less
 
 -- the number that a balance has for the article with these bytes, if it has the article
 abbrev pub number_in : List ℕ → List (String Global × ℕ) → Option ℕ

@@ -1,7 +1,7 @@
 //! The rows of the balance that a batch changes.
-ghost use Rattle.std.specs.Prelude.{◌≡◌, ◌≢◌, ℕ, ◌+◌, ◌<◌, List, length, map, All, string_bytes, string_cmp, IfOk};
+ghost use Rattle.std.specs.Prelude.{◌≡◌, ◌≢◌, ℕ, ◌+◌, ◌<◌, ◌↔◌, List, length, map, All, string_bytes, string_cmp, IsTrue, IfOk};
 ghost use Rattle.std.specs.List.Sorted.{IsStrictlySortedBy};
-ghost use Rattle.hashbag_stock_core.specs.Changes.{Rises, number_in, article_of, applied, listed_of, Begins};
+ghost use Rattle.hashbag_stock_core.specs.Changes.{Rises, IsBefore, number_in, article_of, applied, listed_of, Begins};
 
 use std::alloc::{AllocError, Global};
 use std::cmp::Ordering;
@@ -17,6 +17,30 @@ pub enum RowChange {
 
 // The rows of a balance: its articles with their numbers.
 type Balance<'a> = &'a [(String, usize)];
+
+// Returns whether an article comes before the first of these rows, if there is one.
+fn is_before(article: &str, rows: Balance<'_>) -> bool
+    ensures { IsTrue result ↔ IsBefore article.now rows.now }
+{
+    match rows.first() {
+        Some(next) => article < next.0.as_str(),
+        None => true,
+    }
+}
+
+/// Returns whether the articles of a balance rise, each once.
+pub fn rises(balance: &[(String, usize)]) -> bool
+    ensures { IsTrue result ↔ Rises balance.now }
+{
+    let mut rest = balance;
+    'rows: while let Some((first, others)) = rest.split_first() {
+        if !is_before(first.0.as_str(), others) {
+            return false;
+        }
+        rest = others;
+    }
+    true
+}
 
 // Returns what becomes of the row of the next article, unless it stays as it is, and the rows after that one in both balances.
 fn next_change<'a, 'b>(

@@ -69,14 +69,8 @@ fn with_output<'a>(alloc: Global, command: Command<'a>) -> Result<Command<'a>, E
     Ok(with_form(alloc, command)?.arg(output)?)
 }
 
-// Adds the inputs of `enter`.
-fn with_inputs<'a>(alloc: Global, command: Command<'a>) -> Result<Command<'a>, Error> {
-    let moves = Arg::new(alloc, "MOVES.csv")
-        .num_args(0..)
-        .action(ArgAction::Append)
-        .help(
-            "Movements, each file a batch; `-` is standard input, which is read if neither a file nor --from is named",
-        );
+// Adds the stock at the beginning.
+fn with_start<'a>(alloc: Global, command: Command<'a>) -> Result<Command<'a>, Error> {
     let from = Arg::new(alloc, "from")
         .long("from")
         .value_name("STOCK.csv")
@@ -86,21 +80,27 @@ fn with_inputs<'a>(alloc: Global, command: Command<'a>) -> Result<Command<'a>, E
         .value_name("NAMES")
         .default_value(START_COLUMNS)
         .help("The columns of the stock at the beginning");
+    Ok(command.arg(from)?.arg(start_columns)?)
+}
+
+// Adds the movements.
+fn with_moves<'a>(alloc: Global, command: Command<'a>) -> Result<Command<'a>, Error> {
     let columns = Arg::new(alloc, "columns")
         .long("columns")
         .value_name("NAMES")
         .default_value(COLUMNS)
         .help("The columns of movements: article,change or article,kind,number");
-    Ok(
-        command
-            .arg(from)?
-            .arg(start_columns)?
-            .arg(columns)?
-            .arg(moves)?,
-    )
+    let moves = Arg::new(alloc, "MOVES.csv")
+        .num_args(0..)
+        .action(ArgAction::Append)
+        .help(
+            "Movements, each file a batch; `-` is standard input, which is read if neither a file nor --from is named",
+        );
+    Ok(command.arg(columns)?.arg(moves)?)
 }
 
-fn enter<'a>(alloc: Global) -> Result<Command<'a>, Error> {
+// Adds how many decimals numbers have, and what is done with refusals.
+fn with_rules<'a>(alloc: Global, command: Command<'a>) -> Result<Command<'a>, Error> {
     let scale = Arg::new(alloc, "scale")
         .long("scale")
         .value_name("D")
@@ -110,6 +110,11 @@ fn enter<'a>(alloc: Global) -> Result<Command<'a>, Error> {
         .long("refused")
         .value_name("FILE")
         .help("Where refusals are written as CSV, in place of standard error");
+    Ok(command.arg(scale)?.arg(refused)?)
+}
+
+// Adds the flags of `enter`.
+fn with_flags<'a>(alloc: Global, command: Command<'a>) -> Result<Command<'a>, Error> {
     let strict = Arg::new(alloc, "strict")
         .long("strict")
         .action(ArgAction::SetTrue)
@@ -118,13 +123,18 @@ fn enter<'a>(alloc: Global) -> Result<Command<'a>, Error> {
         .long("again")
         .action(ArgAction::SetTrue)
         .help("Enters a file also if it was entered before");
+    Ok(command.arg(strict)?.arg(again)?)
+}
+
+fn enter<'a>(alloc: Global) -> Result<Command<'a>, Error> {
     let command = job(
         alloc,
         "enter",
         "Enters files of movements, each whole or not at all",
     )?;
-    let command = with_form(alloc, with_inputs(alloc, command)?)?;
-    Ok(command.arg(scale)?.arg(refused)?.arg(strict)?.arg(again)?)
+    let command = with_moves(alloc, with_start(alloc, command)?)?;
+    let command = with_rules(alloc, with_form(alloc, command)?)?;
+    with_flags(alloc, command)
 }
 
 fn balance<'a>(alloc: Global) -> Result<Command<'a>, Error> {
@@ -181,25 +191,31 @@ fn close<'a>(alloc: Global) -> Result<Command<'a>, Error> {
     .arg(into)?)
 }
 
-/// Returns the command with its subcommands.
-pub fn command<'a>(alloc: Global) -> Result<Command<'a>, Error> {
+// Adds the subcommands that show a stock.
+fn with_views<'a>(alloc: Global, command: Command<'a>) -> Result<Command<'a>, Error> {
+    let command = command.subcommand(balance(alloc)?)?;
+    let command = command.subcommand(history(alloc)?)?;
     let batches = job(alloc, "batches", "Writes what was entered, and when")?;
+    Ok(command.subcommand(with_output(alloc, batches)?)?)
+}
+
+// Adds the subcommands that follow on those.
+fn with_checks<'a>(alloc: Global, command: Command<'a>) -> Result<Command<'a>, Error> {
     let verify = job(
         alloc,
         "verify",
         "Counts all movements again, and compares the balance and the refusals",
     )?;
-    Ok(
-        Command::new(alloc, PROGRAM)
-            .version(VERSION)
-            .about(ABOUT)
-            .subcommand_required(true)
-            .subcommand(enter(alloc)?)?
-            .subcommand(balance(alloc)?)?
-            .subcommand(history(alloc)?)?
-            .subcommand(with_output(alloc, batches)?)?
-            .subcommand(undo(alloc)?)?
-            .subcommand(verify)?
-            .subcommand(close(alloc)?)?,
-    )
+    let command = command.subcommand(undo(alloc)?)?;
+    Ok(command.subcommand(verify)?.subcommand(close(alloc)?)?)
+}
+
+/// Returns the command with its subcommands.
+pub fn command<'a>(alloc: Global) -> Result<Command<'a>, Error> {
+    let command = Command::new(alloc, PROGRAM)
+        .version(VERSION)
+        .about(ABOUT)
+        .subcommand_required(true)
+        .subcommand(enter(alloc)?)?;
+    with_checks(alloc, with_views(alloc, command)?)
 }

@@ -1,4 +1,5 @@
 //! The file of a database.
+use crate::outputs::is_same;
 use crate::stock::failure::Failure;
 use crate::stock::request::Request;
 use hashbag_stock::error::StockError;
@@ -32,12 +33,37 @@ pub fn in_database<'a, T>(db: &'a str, done: Result<T, StockError>) -> Result<T,
     }
 }
 
-/// Returns whether a file has no byte, or doesn't exist.
-pub fn is_blank(rt: &HostRuntime, name: &str) -> bool {
+// Returns whether a file has no byte, or doesn't exist.
+fn is_blank(rt: &HostRuntime, name: &str) -> bool {
     match fs::metadata(rt, name) {
         Ok(found) => found.is_file() && found.len() == 0,
         Err(error) => error.kind() == ErrorKind::NotFound,
     }
+}
+
+/// Returns whether there is no database of this name: its file has no byte, or doesn't exist, and so has its log.
+///
+/// # Errors
+///
+/// A failed allocation.
+pub fn is_new<'a>(rt: &HostRuntime, db: &str) -> Result<bool, Failure<'a>> {
+    let log = format!(in rt.alloc(); "{db}-wal")?;
+    Ok(is_blank(rt, db) && is_blank(rt, log.as_str()))
+}
+
+/// Returns whether a name is of the database, or of a file that SQLite keeps next to it.
+///
+/// # Errors
+///
+/// A failed allocation.
+pub fn is_of_database<'a>(rt: &HostRuntime, db: &str, name: &str) -> Result<bool, Failure<'a>> {
+    for end in ["", "-wal", "-shm", "-journal"] {
+        let file = format!(in rt.alloc(); "{db}{end}")?;
+        if is_same(rt, file.as_str(), name) {
+            return Ok(true);
+        }
+    }
+    Ok(false)
 }
 
 // Opens a file, and tries again for some seconds while another process has it open.
@@ -77,8 +103,7 @@ pub fn open_or_make<'a>(
 /// `NoFile` or `NoStock` if there is none, or why it gives none.
 pub fn open<'a>(rt: &HostRuntime, request: &Request<'a>) -> Result<(Db, u32), Failure<'a>> {
     let db = request.db;
-    let log = format!(in rt.alloc(); "{db}-wal")?;
-    if is_blank(rt, db) && is_blank(rt, log.as_str()) {
+    if is_new(rt, db)? {
         return Err(match fs::metadata(rt, db) {
             Ok(_) => Failure::NoStock { db },
             Err(_) => Failure::NoFile { db },

@@ -1,7 +1,8 @@
 //! Files that are entered into a stock.
 use crate::outputs::{abandon, is_same, open, write_refusals};
 use crate::stock::database::{
-    Db, close as close_database, in_database, is_blank, open as open_stock, open_or_make,
+    Db, close as close_database, in_database, is_new, is_of_database, open as open_stock,
+    open_or_make,
 };
 use crate::stock::failure::Failure;
 use crate::stock::inputs::{Input, digest_of, inputs_of, movements_of};
@@ -82,8 +83,16 @@ fn too_large<'a>(alloc: Global, file: &'a str, line: u64, reading: Reading) -> F
     }
 }
 
-/// Returns the failure for an error of the ledger in a batch of this file.
-pub fn failure_in<'a>(
+/// Returns the failure that the balance that is kept is too large, which no batch makes it.
+pub fn start_too_many<'a>(db: &'a str) -> Failure<'a> {
+    Failure::Stock {
+        db,
+        error: StockError::Damaged("a balance past 9223372036854775807 in all"),
+    }
+}
+
+// Returns the failure for an error of the ledger in a batch of this file.
+fn failure_in<'a>(
     alloc: Global,
     db: &'a str,
     file: &'a str,
@@ -93,10 +102,7 @@ pub fn failure_in<'a>(
     match error {
         LedgerError::Memory => Failure::from(AllocError),
         LedgerError::TooMany(place) => too_large(alloc, file, place.line, reading),
-        LedgerError::StartTooMany => Failure::Stock {
-            db,
-            error: StockError::Damaged("a balance past 9223372036854775807 in all"),
-        },
+        LedgerError::StartTooMany => start_too_many(db),
     }
 }
 
@@ -290,15 +296,39 @@ fn kept_of<'a>(
     in_database(db, balance_of(alloc, conn))
 }
 
+// Returns whether some movement is refused.
+fn is_refused(all: &[Ready]) -> bool {
+    all.iter().any(|ready| !ready.refusals.is_empty())
+}
+
+// Returns what the inputs would do to an empty stock: what is wrong with one is found before the file of the database is made. If they
+// are to be entered strictly and some movement is refused, it returns the text of the refusals, and no file is made.
+fn denied_of<'a>(
+    rt: &HostRuntime,
+    request: &Request<'a>,
+    inputs: &[Input<'a>],
+) -> Result<Option<Vec<u8>>, Failure<'a>> {
+    let alloc = rt.alloc();
+    let reading = request.reading(request.scale.unwrap_or(0));
+    let all = all_ready(rt, request, inputs, reading, Vec::new(alloc))?;
+    if !request.again {
+        entered_twice(inputs, &[])?;
+    }
+    if !(request.strict && is_refused(&all)) {
+        return Ok(None);
+    }
+    Ok(Some(text_of(alloc, request, inputs, reading, &all)?))
+}
+
 // Enters the inputs, and returns the text of the refusals and the status. That text is made before anything is written.
 fn report_of<'a>(rt: &HostRuntime, request: &Request<'a>) -> Result<(Vec<u8>, u8), Failure<'a>> {
     let alloc = rt.alloc();
     let db = request.db;
     let inputs = inputs_of(rt, request)?;
-    if is_blank(rt, db) {
-        // What is wrong with an input is found before the file is made.
-        let reading = request.reading(request.scale.unwrap_or(0));
-        all_ready(rt, request, &inputs, reading, Vec::new(alloc))?;
+    if is_new(rt, db)?
+        && let Some(text) = denied_of(rt, request, &inputs)?
+    {
+        return Ok((text, DENIED));
     }
     let (mut conn, form) = open_or_make(rt, db, request.wait)?;
     let (scale, new_scale) = scale_of(request, form)?;
@@ -306,35 +336,43 @@ fn report_of<'a>(rt: &HostRuntime, request: &Request<'a>) -> Result<(Vec<u8>, u8
     let kept = kept_of(alloc, request, &inputs, &mut conn, new_scale.is_some())?;
     let all = all_ready(rt, request, &inputs, reading, kept)?;
     let text = text_of(alloc, request, &inputs, reading, &all)?;
-    let is_refused = all.iter().any(|ready| !ready.refusals.is_empty());
-    if !(request.strict && is_refused) {
+    let denied = is_refused(&all);
+    if !(request.strict && denied) {
         write_batches(&mut conn, db, new_scale, &inputs, &all)?;
     }
     close_database(conn);
-    Ok((text, if is_refused { DENIED } else { DONE }))
+    Ok((text, if denied { DENIED } else { DONE }))
 }
 
 // Returns a file that is named for two things.
-fn conflict<'a>(rt: &HostRuntime, request: &Request<'a>) -> Option<&'a str> {
-    for file in request.files.iter().copied() {
-        if is_same(rt, file, request.db) {
-            return Some(file);
-        }
-    }
-    let refused = request.refused?;
-    for other in [Some(request.db), request.from] {
-        if let Some(name) = other
-            && is_same(rt, refused, name)
+fn conflict<'a>(rt: &HostRuntime, request: &Request<'a>) -> Result<Option<&'a str>, Failure<'a>> {
+    for name in [request.from, request.refused] {
+        if let Some(file) = name
+            && is_of_database(rt, request.db, file)?
         {
-            return Some(refused);
+            return Ok(Some(file));
         }
     }
     for file in request.files.iter().copied() {
-        if is_same(rt, refused, file) {
-            return Some(refused);
+        if is_of_database(rt, request.db, file)? {
+            return Ok(Some(file));
         }
     }
-    None
+    Ok(
+        request
+            .refused
+            .filter(|refused| is_input(rt, request, *refused)),
+    )
+}
+
+// Returns whether the file of refusals is an input.
+fn is_input(rt: &HostRuntime, request: &Request<'_>, refused: &str) -> bool {
+    if let Some(name) = request.from
+        && is_same(rt, refused, name)
+    {
+        return true;
+    }
+    request.files.iter().any(|file| is_same(rt, refused, *file))
 }
 
 /// Enters files into the stock, each whole or not at all, and writes the refusals.
@@ -343,7 +381,7 @@ fn conflict<'a>(rt: &HostRuntime, request: &Request<'a>) -> Option<&'a str> {
 ///
 /// Why nothing is entered; or, if writing to the database fails, why not all is.
 pub fn enter<'a>(rt: &HostRuntime, request: &Request<'a>) -> Result<u8, Failure<'a>> {
-    if let Some(name) = conflict(rt, request) {
+    if let Some(name) = conflict(rt, request)? {
         return Err(Failure::Conflict(name));
     }
     let output = open(rt, request.refused)?;
@@ -401,7 +439,7 @@ fn begin<'a>(
 ///
 /// Why there is no balance, or why the new database takes none.
 pub fn close<'a>(rt: &HostRuntime, request: &Request<'a>) -> Result<u8, Failure<'a>> {
-    if is_same(rt, request.db, request.into) {
+    if is_of_database(rt, request.db, request.into)? {
         return Err(Failure::Conflict(request.into));
     }
     let (mut conn, scale) = open_stock(rt, request)?;

@@ -1,7 +1,9 @@
 //! Why a subcommand doesn't do all that it is asked, its message and its status.
 use crate::command::PROGRAM;
 use hashbag_lists::trouble::Trouble;
-use hashbag_shell::status::{BAD_INPUT, DENIED, ENTERED_BEFORE, IN_USE, IO_FAILED, NO_MEMORY};
+use hashbag_shell::status::{
+    BAD_INPUT, DENIED, ENTERED_BEFORE, IN_USE, IO_FAILED, NO_MEMORY, TOTAL_TOO_LARGE,
+};
 use hashbag_stock::error::StockError;
 use sqlite::ErrorCode;
 use std::alloc::{AllocError, AllocFailed};
@@ -63,6 +65,13 @@ pub enum Failure<'a> {
         file: &'a str,
         other: &'a str,
     },
+    /// The total would be too large with the opposite of that movement.
+    #[error("{file}:{line}: total past {most}")]
+    UndoneTotal {
+        file: String,
+        line: u64,
+        most: String,
+    },
     /// There is no batch of that number.
     #[error("{db}: no batch {number}")]
     NoBatch {
@@ -104,6 +113,7 @@ impl Failure<'_> {
             Failure::NoFile { .. } => IO_FAILED,
             Failure::EnteredBefore { .. } | Failure::SameBytes { .. } => ENTERED_BEFORE,
             Failure::UndoneBefore { .. } => DENIED,
+            Failure::UndoneTotal { .. } => TOTAL_TOO_LARGE,
             Failure::Columns(_)
             | Failure::StartColumns(_)
             | Failure::Conflict(_)

@@ -1,6 +1,6 @@
 //! What is shown of a stock: its balance, the history of an article, and the batches.
-use crate::outputs::{is_same, open as open_output, write_table};
-use crate::stock::database::{close, in_database, open};
+use crate::outputs::{open as open_output, write_table};
+use crate::stock::database::{close, in_database, is_of_database, open};
 use crate::stock::failure::Failure;
 use crate::stock::request::Request;
 use hashbag_ledger_core::output::balance_text;
@@ -42,7 +42,7 @@ fn chosen_of(
 // Writes a table, and returns the status.
 fn write<'a>(rt: &HostRuntime, request: &Request<'a>, text: &[u8]) -> Result<u8, Failure<'a>> {
     if let Some(name) = request.output
-        && is_same(rt, name, request.db)
+        && is_of_database(rt, request.db, name)?
     {
         return Err(Failure::Conflict(name));
     }

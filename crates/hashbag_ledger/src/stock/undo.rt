@@ -1,18 +1,21 @@
 //! A batch that is taken back.
 use crate::stock::database::{Db, close, in_database, open};
-use crate::stock::enter::{copies_of, copy_of, failure_in, random_state};
+use crate::stock::enter::{copies_of, copy_of, random_state, start_too_many};
 use crate::stock::failure::Failure;
 use crate::stock::request::Request;
+use hashbag_ledger_core::entering::LedgerError;
 use hashbag_ledger_core::movements::{Movement, Refusal};
 use hashbag_ledger_core::output::refusals_text;
+use hashbag_lists::decimals::write_decimal;
 use hashbag_lists::files::write_text;
 use hashbag_shell::status::{DENIED, DONE};
 use hashbag_stock::reading::{balance_of, batches_of, entered_of};
 use hashbag_stock::writing::{Kind, NewBatch, put_batch};
+use hashbag_stock_core::numbers::MOST;
 use hashbag_stock_core::once::{Batch, batch_of, undone_by};
 use hashbag_stock_core::rows::changed_rows;
 use hashbag_stock_core::undoing::{Undo, opposites, take_back};
-use std::alloc::Global;
+use std::alloc::{AllocError, Global};
 
 // What an undo has to know of its batch.
 #[derive(Drop)]
@@ -78,6 +81,7 @@ fn undo_of<'a>(
     rt: &HostRuntime,
     request: &Request<'a>,
     scale: u32,
+    file: &str,
     kept: &[(String, usize)],
     entered: &[Movement<String>],
 ) -> Result<Undo<String>, Failure<'a>> {
@@ -87,10 +91,13 @@ fn undo_of<'a>(
     let entered = copies_of(alloc, entered)?;
     match take_back(alloc, state, kept, entered) {
         Ok(undo) => Ok(undo),
-        Err(error) => {
-            let reading = request.reading(scale);
-            Err(failure_in(alloc, request.db, request.db, reading, error))
-        }
+        Err(LedgerError::TooMany(place)) => Err(Failure::UndoneTotal {
+            file: file.to_string(alloc)?,
+            line: place.line,
+            most: write_decimal(alloc, MOST, request.reading(scale).scale)?,
+        }),
+        Err(LedgerError::StartTooMany) => Err(start_too_many(request.db)),
+        Err(LedgerError::Memory) => Err(Failure::from(AllocError)),
     }
 }
 
@@ -106,7 +113,7 @@ fn take_back_in<'a>(
     let db = request.db;
     let entered = in_database(db, entered_of(alloc, conn, found.number))?;
     let kept = in_database(db, balance_of(alloc, conn))?;
-    match undo_of(rt, request, scale, &kept, &entered)? {
+    match undo_of(rt, request, scale, found.file.as_str(), &kept, &entered)? {
         Undo::Refused(refusals) => Ok(refusals),
         Undo::Done(after) => {
             let movements = opposites(alloc, entered)?;

@@ -12,6 +12,7 @@ use hashbag_lists::files::write_text;
 use hashbag_shell::status::{DENIED, DONE};
 use hashbag_stock::reading::{balance_of, batches_of, movements_of, refusals_of};
 use hashbag_stock_core::entering::enter_batch;
+use hashbag_stock_core::numbers::MOST;
 use hashbag_stock_core::once::Batch;
 use hashbag_stock_core::verifying::{KeptRefusal, wrong_batch, wrong_number, wrong_refusal};
 use std::alloc::{AllocError, Global};
@@ -73,7 +74,8 @@ fn difference_of<'a>(
         }
         Err(LedgerError::TooMany(place)) => {
             let number = place.line;
-            Ok(Some(format!(in alloc; "movement {number}: total past 9223372036854775807")?))
+            let most = write_decimal(alloc, MOST, reading.scale)?;
+            Ok(Some(format!(in alloc; "movement {number}: total past {most}")?))
         }
         Err(_) => Err(Failure::from(AllocError)),
     }
