@@ -2,9 +2,6 @@
 //! their trees.
 #![tactic(auto)]
 
-#[cfg(test)]
-mod tests;
-
 use clap::Command;
 use hashbag_run_core::execute::execute;
 use hashbag_shell::VERSION;

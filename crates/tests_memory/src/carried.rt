@@ -52,22 +52,32 @@ pub fn written(alloc: Global, refusals: &mut Refusals) -> Result<(), Wrong> {
     stands(&bag, TABLES, "in a carry: to_value")
 }
 
+// The joins with an empty bag are collected, or an allocation failed.
+fn joined_with<'a>(
+    alloc: Global,
+    bag: &'a Bag,
+    empty: &'a Bag,
+    refusals: &mut Refusals,
+) -> Result<(), Wrong> {
+    let Some(joins) = refusals.answer(joins_of(alloc, bag, empty))? else {
+        return Ok(());
+    };
+    let lengths = [
+        joins.outer.len(),
+        joins.difference.len(),
+        joins.signed.len(),
+        joins.not_in.len(),
+    ];
+    check(lengths == [25, 25, 25, 25], "in a carry: a join")
+}
+
 /// The joins with an empty bag are collected, or an allocation failed: the bag stays as it is.
 pub fn joined(alloc: Global, refusals: &mut Refusals) -> Result<(), Wrong> {
     let Some(bag) = in_a_carry(alloc, refusals)? else {
         return Ok(());
     };
     let empty: Bag = HashBag::with_hasher(alloc, OneState);
-    if let Some(joins) = refusals.answer(joins_of(alloc, &bag, &empty))? {
-        for length in [
-            joins.outer.len(),
-            joins.difference.len(),
-            joins.signed.len(),
-            joins.not_in.len(),
-        ] {
-            check(length == 25, "in a carry: a join")?;
-        }
-    }
+    joined_with(alloc, &bag, &empty, refusals)?;
     stands(&bag, TABLES, "in a carry: joins_of")
 }
 
@@ -112,33 +122,64 @@ pub fn run_alone(alloc: Global, refusals: &mut Refusals) -> Result<(), Wrong> {
     )
 }
 
+// What two bags are after a run with these replies.
+fn are_after(
+    bags: (&Bag, &Bag),
+    first: &[Reply<u64>],
+    second: &[Reply<u64>],
+    done: bool,
+) -> Result<(), Wrong> {
+    check(done == !second.is_empty(), "in a carry: the replies")?;
+    stands(
+        bags.0,
+        tables_after(first),
+        "in a carry: the first bag of a run",
+    )?;
+    stands(
+        bags.1,
+        tables_after(second),
+        "in a carry: the second bag of a run",
+    )
+}
+
+// Runs a step on each of two bags.
+fn run_on(
+    alloc: Global,
+    a: &mut Bag,
+    b: &mut Bag,
+    steps: (Vec<Step<u64>>, Vec<Step<u64>>),
+    refusals: &mut Refusals,
+) -> Result<(), Wrong> {
+    let mut first = Vec::new(alloc);
+    let mut second = Vec::new(alloc);
+    let done = run_pair(a, b, steps.0, steps.1, &mut first, &mut second);
+    let done = refusals.is_done(done)?;
+    are_after((&*a, &*b), first.as_slice(), second.as_slice(), done)
+}
+
+// Makes the step of each of two bags, and runs them.
+fn run_on_both(
+    alloc: Global,
+    a: &mut Bag,
+    b: &mut Bag,
+    refusals: &mut Refusals,
+) -> Result<(), Wrong> {
+    let Some(first) = steps(alloc, refusals) else {
+        return Ok(());
+    };
+    match steps(alloc, refusals) {
+        Some(second) => run_on(alloc, a, b, (first, second), refusals),
+        None => Ok(()),
+    }
+}
+
 /// Room is reserved in each of two bags by a run, or an allocation failed: one whose step has no reply stays as it is.
 pub fn runs(alloc: Global, refusals: &mut Refusals) -> Result<(), Wrong> {
     let Some(mut a) = in_a_carry(alloc, refusals)? else {
         return Ok(());
     };
-    let Some(mut b) = in_a_carry(alloc, refusals)? else {
-        return Ok(());
-    };
-    let Some(steps_a) = steps(alloc, refusals) else {
-        return Ok(());
-    };
-    let Some(steps_b) = steps(alloc, refusals) else {
-        return Ok(());
-    };
-    let mut first = Vec::new(alloc);
-    let mut second = Vec::new(alloc);
-    let done = run_pair(&mut a, &mut b, steps_a, steps_b, &mut first, &mut second);
-    let done = refusals.is_done(done)?;
-    check(done == !second.is_empty(), "in a carry: the replies")?;
-    stands(
-        &a,
-        tables_after(first.as_slice()),
-        "in a carry: the first bag of a run",
-    )?;
-    stands(
-        &b,
-        tables_after(second.as_slice()),
-        "in a carry: the second bag of a run",
-    )
+    match in_a_carry(alloc, refusals)? {
+        Some(mut b) => run_on_both(alloc, &mut a, &mut b, refusals),
+        None => Ok(()),
+    }
 }

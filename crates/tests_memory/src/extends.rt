@@ -111,22 +111,26 @@ fn from_counts(alloc: Global, refusals: &mut Refusals) -> Result<(), Wrong> {
     }
 }
 
-// The clone is equal, or there is none; the bag is as it was.
+// The clone is equal, or there is none.
+fn cloned(bag: &HashBag<u64>, refusals: &mut Refusals) -> Result<(), Wrong> {
+    match refusals.answer(bag.clone())? {
+        Some(clone) => check(clone == *bag, "clone: it is equal"),
+        None => Ok(()),
+    }
+}
+
+// The bag is as it was after a clone.
 fn clone(alloc: Global, refusals: &mut Refusals) -> Result<(), Wrong> {
     let Some(bag) = filled(alloc, refusals)? else {
         return Ok(());
     };
     let before = bag.len();
-    if let Some(clone) = refusals.answer(bag.clone())? {
-        check(clone == bag, "clone: it is equal")?;
-    }
-    check(bag.len() == before, "clone: the total of its source")?;
-    check(bag.set_len() == before, "clone: the values of its source")?;
+    cloned(&bag, refusals)?;
+    let values = (bag.len(), bag.set_len(), bag.contains(&100));
     check(
-        tables_of(&bag) == (16, 0, 2),
-        "clone: the slots of its source",
-    )?;
-    check(bag.contains(&100) == 1, "clone: a count of its source")
+        (values, tables_of(&bag)) == ((before, before, 1), (16, 0, 2)),
+        "clone: its source",
+    )
 }
 
 /// Both collections and a clone: there is a bag, or none.

@@ -250,23 +250,34 @@ fn without_room(
     call: (&str, After, After),
     refusals: &mut Refusals,
 ) -> Result<(), Wrong> {
-    let Some(mut bag) = filled(alloc, values, 12, refusals)? else {
-        return Ok(());
-    };
+    match filled(alloc, values, 12, refusals)? {
+        Some(mut bag) => made_without_room(&mut bag, values, call, refusals),
+        None => Ok(()),
+    }
+}
+
+fn made_without_room<'a>(
+    bag: &mut Bag<'a>,
+    values: &'a Values,
+    call: (&str, After, After),
+    refusals: &mut Refusals,
+) -> Result<(), Wrong> {
     let (name, refused, done) = call;
-    if refusals.is_done(made(&mut bag, values, name))? {
-        return check(state_of(&bag, values) == done, "a call without room: done");
+    if refusals.is_done(made(bag, values, name))? {
+        return check(state_of(bag, values) == done, "a call without room: done");
     }
     check(
-        state_of(&bag, values) == refused,
+        (state_of(bag, values), tables_of(bag), bag.set_len()) == (refused, (16, 0, 0), 12),
         "a call without room: refused",
     )?;
-    check(
-        (tables_of(&bag), bag.set_len()) == ((16, 0, 0), 12),
-        "a call without room: the slots",
-    )?;
-    let again = insert(&mut bag, values, 13, refusals)?;
-    check(again == Some(0), "a call without room: with memory again")
+    goes_in(
+        bag,
+        values,
+        13,
+        0,
+        refusals,
+        "a call without room: with memory again",
+    )
 }
 
 // An entry on a bag of numbers with no room. If it fails no slot changes.
@@ -372,9 +383,19 @@ fn run_both<'a>(
     let (mut in_a, mut in_b) = (Vec::new(alloc), Vec::new(alloc));
     let answer = run_pair(&mut a, &mut b, steps_a, steps_b, &mut in_a, &mut in_b);
     let done = refusals.is_done(answer)?;
-    is_after(&a, values, in_a.len(), "two runs: the first bag")?;
-    is_after(&b, values, in_b.len(), "two runs: the second bag")?;
-    are_in_turn((in_a.len(), in_b.len()), done)
+    are_after((&a, &b), values, (in_a.len(), in_b.len()), done)
+}
+
+// Two bags are as these numbers of replies say.
+fn are_after<'a>(
+    bags: (&Bag<'a>, &Bag<'a>),
+    values: &'a Values,
+    replies: (usize, usize),
+    done: bool,
+) -> Result<(), Wrong> {
+    is_after(bags.0, values, replies.0, "two runs: the first bag")?;
+    is_after(bags.1, values, replies.1, "two runs: the second bag")?;
+    are_in_turn(replies, done)
 }
 
 // How many replies two runs have: none if the replies had no room, and none of the second if the first was stopped.
@@ -463,12 +484,20 @@ fn cloned_in_a_carry(alloc: Global, values: &Values, refusals: &mut Refusals) ->
     let Some(bag) = filled(alloc, values, 25, refusals)? else {
         return Ok(());
     };
-    if let Some(clone) = refusals.answer(bag.clone())? {
-        check(clone == bag, "a carry: a clone")?;
-        check(tables_of(&clone) == (64, 0, 23), "a carry: a clone's slots")?;
-    }
-    check(tables_of(&bag) == (64, 16, 23), "a carry: after a clone")?;
+    cloned(&bag, refusals)?;
+    has_tables(&bag, (64, 16, 23), "a carry: after a clone")?;
     has_first(&bag, values, 25, "a carry: the values after a clone")
+}
+
+// The clone is equal, and has no slots that wait; or there is none.
+fn cloned<'a>(bag: &Bag<'a>, refusals: &mut Refusals) -> Result<(), Wrong> {
+    match refusals.answer(bag.clone())? {
+        Some(clone) => check(
+            (clone == *bag, tables_of(&clone)) == (true, (64, 0, 23)),
+            "a carry: a clone",
+        ),
+        None => Ok(()),
+    }
 }
 
 /// All of these. After each of them every value that was made is dropped, and was dropped once.

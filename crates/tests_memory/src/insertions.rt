@@ -75,13 +75,17 @@ fn replace(
     Ok(true)
 }
 
+fn replace_both(bag: &mut HashBag<u64>, refusals: &mut Refusals) -> Result<(), Wrong> {
+    let done = replace(bag, 5, 2, refusals)?;
+    check(done, "replace: of a value that is there, refused")?;
+    has_counts(bag, (1, 0, 0), "replace: of a value that is there")?;
+    let done = replace(bag, 6, 0, refusals)?;
+    check(done, "replace: of an absent value, refused with room")?;
+    has_counts(bag, (1, 1, 0), "replace: of an absent value")
+}
+
 /// Replaces a present value, and an absent one for which there is room: neither makes an allocation.
 pub fn replacements(alloc: Global, refusals: &mut Refusals) -> Result<(), Wrong> {
     let mut bag = two_fives(alloc, refusals)?;
-    let done = replace(&mut bag, 5, 2, refusals)?;
-    check(done, "replace: of a value that is there, refused")?;
-    has_counts(&bag, (1, 0, 0), "replace: of a value that is there")?;
-    let done = replace(&mut bag, 6, 0, refusals)?;
-    check(done, "replace: of an absent value, refused with room")?;
-    has_counts(&bag, (1, 1, 0), "replace: of an absent value")
+    replace_both(&mut bag, refusals)
 }

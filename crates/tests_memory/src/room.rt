@@ -59,6 +59,22 @@ pub fn room_from_the_start(alloc: Global, refusals: &mut Refusals) -> Result<(),
     }
 }
 
+// Makes room for 13 values in a new bag.
+fn reserve_thirteen<S: BuildHasher + Drop>(
+    bag: &mut HashBag<u64, S>,
+    refusals: &mut Refusals,
+) -> Result<(), Wrong> {
+    if refusals.is_done(bag.reserve(13))? {
+        return Ok(());
+    }
+    check(
+        tables_of(bag) == (0, 0, 0),
+        "reserve: of a new bag, refused",
+    )?;
+    let done = refusals.is_done(bag.reserve(13))?;
+    check(done, "reserve: of a new bag, with memory again")
+}
+
 // A new bag with room for 13 values.
 fn thirteen<S: BuildHasher + Drop>(
     alloc: Global,
@@ -66,14 +82,7 @@ fn thirteen<S: BuildHasher + Drop>(
     refusals: &mut Refusals,
 ) -> Result<HashBag<u64, S>, Wrong> {
     let mut bag = HashBag::with_hasher(alloc, state);
-    if !refusals.is_done(bag.reserve(13))? {
-        check(
-            tables_of(&bag) == (0, 0, 0),
-            "reserve: of a new bag, refused",
-        )?;
-        let done = refusals.is_done(bag.reserve(13))?;
-        check(done, "reserve: of a new bag, with memory again")?;
-    }
+    reserve_thirteen(&mut bag, refusals)?;
     Ok(bag)
 }
 
@@ -88,6 +97,23 @@ fn has_two_each<S: BuildHasher + Drop>(
     check((bag.len(), bag.set_len()) == (26, 13), wrong)
 }
 
+// Inserts the 13 values from 0 on, twice each. Room for too many values then fails.
+fn filled_within_room<S: BuildHasher + Drop>(
+    bag: &mut HashBag<u64, S>,
+    refusals: &mut Refusals,
+) -> Result<(), Wrong> {
+    for value in 0..13 {
+        let done = insert_two(bag, value, 0, refusals)?;
+        check(done, "reserve: a value that it has room for, refused")?;
+    }
+    let answer = bag.reserve(usize::MAX);
+    check(
+        answer == Err(BagError::Memory),
+        "reserve: for too many values",
+    )?;
+    check(tables_of(bag) == (32, 0, 11), "reserve: the slots")
+}
+
 // Makes room for 13 values, which are then inserted without a request for memory: none of them fails, whichever request does. For more
 // values than there may be it returns `Memory`, and changes nothing.
 fn reserved_under<S: BuildHasher + Drop>(
@@ -96,16 +122,7 @@ fn reserved_under<S: BuildHasher + Drop>(
     refusals: &mut Refusals,
 ) -> Result<(), Wrong> {
     let mut bag = thirteen(alloc, state, refusals)?;
-    for value in 0..13 {
-        let done = insert_two(&mut bag, value, 0, refusals)?;
-        check(done, "reserve: a value that it has room for, refused")?;
-    }
-    let answer = bag.reserve(usize::MAX);
-    check(
-        answer == Err(BagError::Memory),
-        "reserve: for too many values",
-    )?;
-    check(tables_of(&bag) == (32, 0, 11), "reserve: the slots")?;
+    filled_within_room(&mut bag, refusals)?;
     has_two_each(&bag, "reserve: the values")
 }
 

@@ -201,42 +201,80 @@ fn rows_are_written(rt: HostRuntime) -> Result<(), Fail> {
     Ok(())
 }
 
-// A text in two parts: each part becomes a run. The runs are as `sort` and `uniq -c` have them, and the limit falls by what they have.
-#[test]
-fn a_bag_is_spilled(rt: HostRuntime) -> Result<(), Fail> {
-    let alloc = rt.alloc();
+// A bag that is counted in, and how far its input is.
+#[derive(Drop)]
+struct Counted {
+    bag: HashBag<String, RandomState>,
+    reading: Reading,
+}
+
+// Counts at most nine lines of a text, and returns whether there are more.
+fn count_part(alloc: Global, counted: &mut Counted, mut part: &[u8]) -> Result<bool, Fault> {
     let rule = Rule {
         pieces: Pieces::Words,
         fold: false,
     };
-    let mut bag = HashBag::with_limit(alloc, RandomState::new(&rt)?, 9);
-    let mut reading = Reading::new(BadLines::Refused);
-    let mut runs = Vec::new(alloc);
-    for part in ["b a\nb\n", "c \u{feff}b b\nc a\n"] {
-        let mut rest = part.as_bytes();
-        assert!(rt; !count_lines(alloc, &mut bag, &rule, &mut rest, &mut reading, 9)?);
-        let mut run = Vec::new(alloc);
-        spill(alloc, &mut run, &mut bag)?;
-        assert!(rt; bag.is_empty());
-        runs.push(run).map_err(AllocError::from)?;
+    count_lines(
+        alloc,
+        &mut counted.bag,
+        &rule,
+        &mut part,
+        &mut counted.reading,
+        9,
+    )
+}
+
+// The run of a part, after which the bag is empty.
+fn run_of(alloc: Global, counted: &mut Counted, part: &[u8]) -> Result<Vec<u8>, Fail> {
+    if count_part(alloc, counted, part)? {
+        return Err(Fail::new("a part has more lines"));
     }
-    assert_eq!(rt; bag.limit(), 1);
-    assert_eq!(rt; runs.len(), 2);
-    assert_eq!(rt; runs[0].as_slice(), b"a\t1\nb\t2\n".as_slice());
+    let mut run = Vec::new(alloc);
+    spill(alloc, &mut run, &mut counted.bag)?;
+    if counted.bag.is_empty() {
+        return Ok(run);
+    }
+    Err(Fail::new("a bag isn't emptied"))
+}
+
+// A run as a source of rows.
+fn source_of<'a>(alloc: Global, run: &'a [u8]) -> Result<Source<RowReader<&'a [u8]>>, Fail> {
+    match Source::open(RowReader::of_run(alloc, run)) {
+        Ok(source) => Ok(source),
+        Err(_) => Err(Fail::new("a run isn't read")),
+    }
+}
+
+// The rows of two runs with a count of 2 or more.
+fn twice_in(alloc: Global, first: &[u8], second: &[u8]) -> Result<String, Fail> {
     let mut sources = Vec::new(alloc);
-    for run in &runs {
-        match Source::open(RowReader::of_run(alloc, run.as_slice())) {
-            Ok(source) => sources.push(source).map_err(AllocError::from)?,
-            Err(_) => return Err(Fail::new("a run isn't read")),
-        }
+    for run in [first, second] {
+        sources
+            .push(source_of(alloc, run)?)
+            .map_err(AllocError::from)?;
     }
     let writer = RowWriter::begin(alloc, Vec::new(alloc), Format::Tsv)?;
     let mut rows = WrittenRows { writer, least: 2 };
-    assert!(rt; merge_rows(&mut sources, &mut rows).is_ok());
-    let found = String::from_utf8(rows.writer.finish()?)?;
-    is_text(&found, "a\t2\nb\t3\nc\t2\n")?;
-    let mut more: &[u8] = b"a b\n";
-    assert!(rt; count_lines(alloc, &mut bag, &rule, &mut more, &mut reading, 9).is_err());
+    match merge_rows(&mut sources, &mut rows) {
+        Ok(()) => Ok(String::from_utf8(rows.writer.finish()?)?),
+        Err(_) => Err(Fail::new("runs aren't merged")),
+    }
+}
+
+// A text in two parts: each part becomes a run. The runs are as `sort` and `uniq -c` have them, and the limit falls by what they have.
+#[test]
+fn a_bag_is_spilled(rt: HostRuntime) -> Result<(), Fail> {
+    let alloc = rt.alloc();
+    let mut counted = Counted {
+        bag: HashBag::with_limit(alloc, RandomState::new(&rt)?, 9),
+        reading: Reading::new(BadLines::Refused),
+    };
+    let first = run_of(alloc, &mut counted, b"b a\nb\n")?;
+    let second = run_of(alloc, &mut counted, "c \u{feff}b b\nc a\n".as_bytes())?;
+    assert_eq!(rt; first.as_slice(), b"a\t1\nb\t2\n".as_slice());
+    is_text(&twice_in(alloc, &first, &second)?, "a\t2\nb\t3\nc\t2\n")?;
+    assert_eq!(rt; counted.bag.limit(), 1);
+    assert!(rt; count_part(alloc, &mut counted, b"a b\n").is_err());
     Ok(())
 }
 

@@ -258,12 +258,18 @@ fn calls_hash_so_often(rt: HostRuntime) -> Result<(), Fail> {
 }
 
 // The state of a clone, which goes on from the number of the first one's, hashes each value once, and the first state nothing.
+fn hashes_of_clone(bag: &HashBag<u64, CountingState>) -> Result<(u64, u64), BagError> {
+    let start = bag.hasher().hashed();
+    let clone = clone_of(bag)?;
+    Ok((
+        bag.hasher().hashed().saturating_sub(start),
+        clone.hasher().hashed().saturating_sub(start),
+    ))
+}
+
 fn is_hashed_once(alloc: Global, counts: &str, wanted: &str) -> Result<(), Fail> {
     let bag = bag_of(alloc, counts)?;
-    let start = bag.hasher().hashed();
-    let clone = clone_of(&bag)?;
-    let by_first = bag.hasher().hashed().saturating_sub(start);
-    let by_clone = clone.hasher().hashed().saturating_sub(start);
+    let (by_first, by_clone) = hashes_of_clone(&bag)?;
     let got = format!(in alloc; "{by_first} {by_clone}")?;
     is_text_of("a clone", got.as_str(), wanted)
 }

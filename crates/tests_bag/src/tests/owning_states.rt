@@ -107,6 +107,35 @@ fn empties(bag: &mut HashBag<u64, Owning<'_>>) -> usize {
     drained
 }
 
+// The tables of a bag are built anew and emptied, and then it is dropped. A copy keeps its state.
+fn is_used_up(
+    rt: &impl Abort,
+    alloc: Global,
+    states: &States,
+    mut bag: HashBag<u64, Owning<'_>>,
+) -> Result<(), Fail> {
+    builds_tables(&mut bag)?;
+    has_all(alloc, &bag)?;
+    assert_eq!(rt; empties(&mut bag), 25);
+    are(rt, "tables", states, 2, 1);
+    drop(bag);
+    are(rt, "the drop of the first", states, 1, 1);
+    Ok(())
+}
+
+// A clone of a bag fails: the bag is unchanged.
+fn clone_fails(
+    rt: &impl Abort,
+    alloc: Global,
+    states: &States,
+    bag: &HashBag<u64, Owning<'_>>,
+) -> Result<(), Fail> {
+    states.refuses.set(true);
+    assert!(rt; clone_of(bag).is_err());
+    are(rt, "a refused clone", states, 1, 2);
+    has_all(alloc, bag)
+}
+
 #[test]
 fn states_are_dropped_once(rt: HostRuntime) -> Result<(), Fail> {
     let alloc = rt.alloc();
@@ -115,21 +144,13 @@ fn states_are_dropped_once(rt: HostRuntime) -> Result<(), Fail> {
         clones: Cell::new(0),
         refuses: Cell::new(false),
     };
-    let mut bag = carrying(alloc, &states)?;
+    let bag = carrying(alloc, &states)?;
     let copy = clone_of(&bag)?;
     are(&rt, "a clone", &states, 2, 1);
     has_all(alloc, &copy)?;
-    builds_tables(&mut bag)?;
-    has_all(alloc, &bag)?;
-    assert_eq!(rt; empties(&mut bag), 25);
-    are(&rt, "tables", &states, 2, 1);
-    drop(bag);
-    are(&rt, "the drop of the first", &states, 1, 1);
+    is_used_up(&rt, alloc, &states, bag)?;
     has_all(alloc, &copy)?;
-    states.refuses.set(true);
-    assert!(rt; clone_of(&copy).is_err());
-    are(&rt, "a refused clone", &states, 1, 2);
-    has_all(alloc, &copy)?;
+    clone_fails(&rt, alloc, &states, &copy)?;
     assert_eq!(rt; copy.into_iter().count(), 25);
     are(&rt, "the walk of the second", &states, 0, 2);
     Ok(())

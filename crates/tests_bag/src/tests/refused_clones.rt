@@ -223,17 +223,15 @@ fn is_extended<S: BuildHasher + Drop>(
 }
 
 // If a clone of the bag fails there is none, and all clones of values that were made are dropped.
-fn is_cloned<S: BuildHasher + Clone + Drop>(
+fn clones_live<'a, S: BuildHasher + Clone + Drop>(
     rt: &impl Abort,
-    alloc: Global,
-    state: S,
+    bag: &HashBag<Costly<'a>, S>,
+    lives: &Lives,
     refused: usize,
-) -> Result<(), Fail> {
-    let lives = Lives::new(refused);
-    let bag = carrying(alloc, state, &lives)?;
-    match clone(&bag) {
+) {
+    match clone(bag) {
         Ok(copy) => {
-            assert!(rt; copy == bag && refused == 26, "clone {refused}");
+            assert!(rt; copy == *bag && refused == 26, "clone {refused}");
             assert_eq!(rt; lives.alive.get(), 50);
         }
         Err(error) => assert!(rt;
@@ -242,6 +240,18 @@ fn is_cloned<S: BuildHasher + Clone + Drop>(
         ),
     }
     assert_eq!(rt; lives.alive.get(), 25, "after clone {refused}");
+}
+
+// The bag is as before a clone, which may fail, and drops its values.
+fn is_cloned<S: BuildHasher + Clone + Drop>(
+    rt: &impl Abort,
+    alloc: Global,
+    state: S,
+    refused: usize,
+) -> Result<(), Fail> {
+    let lives = Lives::new(refused);
+    let bag = carrying(alloc, state, &lives)?;
+    clones_live(rt, &bag, &lives, refused);
     has_all(&bag, &lives)?;
     is_text_of(
         "a source",

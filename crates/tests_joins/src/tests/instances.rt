@@ -32,23 +32,28 @@ fn joined<S: BuildHasher + Drop, S2: BuildHasher + Drop>(
     Ok(items)
 }
 
+// The items of an outer join as text, sorted if that is asked for.
+fn text_of<S: BuildHasher + Drop, S2: BuildHasher + Drop>(
+    alloc: Global,
+    a: &HashBag<Tagged, S>,
+    b: &HashBag<Tagged, S2>,
+    sorts: bool,
+) -> Result<String, Fail> {
+    let mut items = joined(alloc, a, b)?;
+    if sorts {
+        items.sort_unstable();
+    }
+    Ok(debug_of(alloc, &items)?)
+}
+
 // A value of both bags is given as the instance of the first, and one of the second bag alone after all others.
 #[test]
 fn instances_of_outer_joins(rt: HostRuntime) -> Result<(), Fail> {
     let alloc = rt.alloc();
     let a: HashBag<Tagged, OneState> = tagged(alloc, &[(1, 10, 2)])?;
     let b: HashBag<Tagged, IdentityState> = tagged(alloc, &[(1, 20, 1), (2, 21, 1)])?;
-    let items = joined(alloc, &a, &b)?;
-    is_text_of(
-        "a with b",
-        debug_of(alloc, &items)?.as_str(),
-        "[(1, 10, 2, 1), (2, 21, 0, 1)]",
-    )?;
-    let mut items = joined(alloc, &b, &a)?;
-    items.sort_unstable();
-    is_text_of(
-        "b with a",
-        debug_of(alloc, &items)?.as_str(),
-        "[(1, 20, 1, 2), (2, 21, 1, 0)]",
-    )
+    let both = text_of(alloc, &a, &b, false)?;
+    is_text_of("a with b", both.as_str(), "[(1, 10, 2, 1), (2, 21, 0, 1)]")?;
+    let both = text_of(alloc, &b, &a, true)?;
+    is_text_of("b with a", both.as_str(), "[(1, 20, 1, 2), (2, 21, 1, 0)]")
 }

@@ -335,7 +335,45 @@ fn is_as_before<S: BuildHasher + Drop>(
     is_text(debug_of(alloc, &inserted)?.as_str(), "(0, 1)")
 }
 
+// The state of a bag of this text, which is in the middle of a carry if it has 25 values.
+fn state_in_a_carry<S: BuildHasher + Drop>(
+    alloc: Global,
+    bag: &HashBag<u64, S>,
+    text: &str,
+) -> Result<String, Fail> {
+    let state = state_of(alloc, bag)?;
+    carries(text, state.as_str())?;
+    Ok(state)
+}
+
+// The first steps of a join give what is wanted.
+fn gives<S: BuildHasher + Drop, S2: BuildHasher + Drop>(
+    alloc: Global,
+    join: (&str, &str),
+    a: &HashBag<u64, S>,
+    b: &HashBag<u64, S2>,
+    steps: usize,
+) -> Result<(), Fail> {
+    let got = steps_of(alloc, join.0, a, b, steps)?;
+    has_steps(got.as_str(), join.1, steps)
+}
+
 // A join that is dropped after some steps leaves both bags as they were.
+fn leaves_both<S: BuildHasher + Drop, S2: BuildHasher + Drop>(
+    alloc: Global,
+    join: (&str, &str),
+    a: &mut HashBag<u64, S>,
+    b: &mut HashBag<u64, S2>,
+    texts: (&str, &str),
+    steps: usize,
+) -> Result<(), Fail> {
+    let before_a = state_in_a_carry(alloc, &*a, texts.0)?;
+    let before_b = state_in_a_carry(alloc, &*b, texts.1)?;
+    gives(alloc, join, &*a, &*b, steps)?;
+    is_as_before(alloc, a, before_a.as_str())?;
+    is_as_before(alloc, b, before_b.as_str())
+}
+
 fn is_stepped<S: BuildHasher + Default + Drop, S2: BuildHasher + Default + Drop>(
     alloc: Global,
     row: &str,
@@ -343,13 +381,14 @@ fn is_stepped<S: BuildHasher + Default + Drop, S2: BuildHasher + Default + Drop>
 ) -> Result<(), Fail> {
     let (join, first, second, wanted) = quarters(row)?;
     let (mut a, mut b) = bags_of::<S, S2>(alloc, first, second)?;
-    let before = (state_of(alloc, &a)?, state_of(alloc, &b)?);
-    carries(first, before.0.as_str())?;
-    carries(second, before.1.as_str())?;
-    let got = steps_of(alloc, join, &a, &b, steps)?;
-    has_steps(got.as_str(), wanted, steps)?;
-    is_as_before(alloc, &mut a, before.0.as_str())?;
-    is_as_before(alloc, &mut b, before.1.as_str())
+    leaves_both(
+        alloc,
+        (join, wanted),
+        &mut a,
+        &mut b,
+        (first, second),
+        steps,
+    )
 }
 
 // A join, dropped after each number of its steps.

@@ -1,0 +1,68 @@
+//! An output on the disk. What each folder has afterwards was written down by hand.
+use hashbag_shell::one_file::is_one_file;
+use hashbag_shell::output_file::OutputFile;
+use std::test::Fail;
+use std::{env, fs, process};
+
+// The names in a folder and the text of its file `out`, in one line.
+fn state_of(rt: &HostRuntime, folder: &str) -> Result<String, Fail> {
+    let alloc = rt.alloc();
+    let mut names = Vec::new(alloc);
+    for entry in fs::read_dir(rt, folder)? {
+        names.push(entry?.file_name().to_string(alloc)?)?;
+    }
+    names.sort()?;
+    let out = format!(in alloc; "{folder}/out")?;
+    let text = fs::read_to_string(rt, out.as_str())?;
+    Ok(format!(in alloc; "{text}: {}", names.join(alloc, " ")?)?)
+}
+
+// The folder is in this state.
+fn is_state(rt: &HostRuntime, folder: &str, wanted: &str) -> Result<(), Fail> {
+    let state = state_of(rt, folder)?;
+    if state.as_str() == wanted {
+        return Ok(());
+    }
+    Err(Fail::new(format_args!("{state:?}, not {wanted:?}")))
+}
+
+// Two outputs of one name at a time: the first is written, and the second abandoned.
+fn two_at_a_time(rt: &HostRuntime, folder: &str, name: &str) -> Result<(), Fail> {
+    let first = OutputFile::open(rt, name)?;
+    let second = OutputFile::open(rt, name)?;
+    is_state(rt, folder, "old: out out.tmp0 out.tmp1")?;
+    first.write_whole(rt, b"new")?;
+    is_state(rt, folder, "new: out out.tmp1")?;
+    second.abandon(rt);
+    is_state(rt, folder, "new: out")
+}
+
+// Whether another name of the file, and another file with the same text, are one file with it.
+fn are_one_file(rt: &HostRuntime, folder: &str, name: &str) -> Result<(bool, bool), Fail> {
+    let long = format!(in rt.alloc(); "{folder}/./out")?;
+    let other = format!(in rt.alloc(); "{folder}/other")?;
+    fs::write(rt, other.as_str(), "new")?;
+    Ok((
+        is_one_file(rt, name, long.as_str()),
+        is_one_file(rt, name, other.as_str()),
+    ))
+}
+
+#[test]
+fn an_output_is_written_whole_or_not_at_all(rt: HostRuntime) -> Result<(), Fail> {
+    let number = process::id(rt.process());
+    let above = env::temp_dir(&rt)?;
+    let folder = format!(in rt.alloc(); "{}/hashbag_shell_{number}", above.display())?;
+    fs::create_dir(&rt, folder.as_str())?;
+    let name = format!(in rt.alloc(); "{folder}/out")?;
+    OutputFile::open(&rt, name.as_str())?.write_whole(&rt, b"old")?;
+    is_state(&rt, folder.as_str(), "old: out")?;
+    two_at_a_time(&rt, folder.as_str(), name.as_str())?;
+    assert!(rt; OutputFile::open(&rt, folder.as_str()).is_err());
+    assert_eq!(rt;
+        are_one_file(&rt, folder.as_str(), name.as_str())?,
+        (true, false)
+    );
+    fs::remove_dir_all(&rt, folder.as_str())?;
+    Ok(())
+}
