@@ -35,9 +35,6 @@ module _ {T : Type 0} where
     pub back : coming_in ≡ returns_of gone
     pub again : going_out ≡ removals_of gone
 
-  pub none_turned : (all : List (Movement T)) → IsTurnedSoFar all all [] []
-  none_turned all = record { gone = []; in_turn = refl; back = refl; again = refl }
-
   pub one_turned : {all l rest coming_in going_out : List (Movement T)} {m : Movement T} (then_in then_out : List (Movement T)) → l ≡ m ∷ rest → IsTurnedSoFar all l coming_in going_out → then_in ≡ coming_in ++ coming_back m m.change []
       → then_out ≡ going_out ++ going_back m m.change [] → IsTurnedSoFar all rest then_in then_out
   one_turned {rest = rest} {m = m} then_in then_out steps h more_in more_out = record {

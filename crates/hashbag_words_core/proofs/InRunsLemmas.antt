@@ -55,14 +55,6 @@ pub record SoFarInRuns (rule : Rule) (bytes : List ℕ) (runs : List (Vec ℕ)) 
   pub is : left ≡ Some rest
   pub counts : (v : String Global) → times_in_runs v runs + count bytes_eq (string_bytes v) (tokens_of rule rest) ≡ count bytes_eq (string_bytes v) (tokens_of rule bytes)
 
-pub no_runs : (rule : Rule) (a : Option (List ℕ)) → IfSome a (λ bytes. SoFarInRuns rule bytes [] a)
-no_runs rule None = tt
-no_runs rule (Some bytes) = record {
-  rest = bytes;
-  is = refl;
-  counts = λ v. none_before (count bytes_eq (string_bytes v) (tokens_of rule bytes));
-}
-
 -- the lines that are read next, and those after them
 split_tokens : (rule : Rule) (most : ℕ) (rest : List ℕ) → tokens_of rule rest ≡ tokens_of_lines rule (take most (lines rest)) ++ tokens_of rule (drop_lines most rest)
 split_tokens rule most rest =
@@ -111,23 +103,6 @@ all_in_runs rule most more (Some bytes) b c runs run over so makes = λ v.
     whole m n k p q = omega arith
 
 -- ---- the runs are opened
-
-pub is_opened : (left got : Option (List (List ℕ × ℕ))) (bytes : List ℕ) → left ≡ option_map rows_in (Some bytes) → IfSome left (λ rows. got ≡ Some rows) → got ≡ Some (rows_in bytes)
-is_opened left got bytes is opened = subst (λ (o : Option (List (List ℕ × ℕ))). IfSome o (λ rows. got ≡ Some rows)) is opened
-
--- one more is open
-pub one_more_open : {S : Type 0} (left : S → Option (List (List ℕ × ℕ))) (sources : List (Source S)) (runs : List (Vec ℕ)) (i : ℕ) (source : Source S) (run : Vec ℕ) → i < length runs → get_or runs i run ≡ run
-    → AreLeft left sources (map (λ r. rows_in r.items) (take i runs)) → with_head source.head (left source.rows) ≡ Some (rows_in run.items)
-    → AreLeft left (sources ++ source ∷ []) (map (λ r. rows_in r.items) (take (i + 1) runs))
-one_more_open {S} left sources runs i source run lt at are is =
-    let next : take (i + 1) runs ≡ take i runs ++ run ∷ [] = take_more runs i run lt ∙ ap (λ (r : Vec ℕ). take i runs ++ r ∷ []) at in
-    let rows : map (λ (r : Vec ℕ). rows_in r.items) (take (i + 1) runs) ≡ map (λ (r : Vec ℕ). rows_in r.items) (take i runs) ++ rows_in run.items ∷ [] =
-    ap (map (λ (r : Vec ℕ). rows_in r.items)) next ∙ map-append (λ (r : Vec ℕ). rows_in r.items) (take i runs) (run ∷ []) in
-    map-append (λ (s : Source S). with_head s.head (left s.rows)) sources (source ∷ [])
-    ∙ ap (λ (l : List (Option (List (List ℕ × ℕ)))). l ++ with_head source.head (left source.rows) ∷ []) are
-    ∙ ap (λ (o : Option (List (List ℕ × ℕ))). map Some (map (λ (r : Vec ℕ). rows_in r.items) (take i runs)) ++ o ∷ []) is
-    ∙ sym (map-append Some (map (λ (r : Vec ℕ). rows_in r.items) (take i runs)) (rows_in run.items ∷ []))
-    ∙ ap (map Some) (sym rows)
 
 -- ---- the runs are merged
 

@@ -75,13 +75,3 @@ gives_row Tsv Refused true (Some bytes) new line row reads is = (
 )
 gives_row Tsv Skipped marked old new line row reads is = tt
 gives_row Uniq bad_lines marked old new line row reads is = tt
-
--- a reader had no line
-pub gives_none : (form : RowForm) (bad_lines : BadLines) (marked : Bool) (old new : Option (List ℕ)) (line : List ℕ) → IfSome old (λ bytes. ReadsLine false bytes line new)
-    → GivesRow (rows_left form bad_lines marked old) None (rows_left form bad_lines marked new)
-gives_none Tsv Refused false None new line reads = tt
-gives_none Tsv Refused false (Some bytes) new line reads = (ap rows_in reads.0, ap (option_map rows_in) reads.1)
-gives_none Tsv Refused true None new line reads = tt
-gives_none Tsv Refused true (Some bytes) new line reads = (ap rows_of_file reads.0, ap (option_map rows_of_file) reads.1)
-gives_none Tsv Skipped marked old new line reads = tt
-gives_none Uniq bad_lines marked old new line reads = tt

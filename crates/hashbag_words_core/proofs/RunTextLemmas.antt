@@ -126,12 +126,6 @@ is_run bag pairs walk up = record {
 
 -- ---- lines that are written one by one
 
-pub Appends-append : (a b c : Option (List ℕ)) (xs ys : List ℕ) → Appends a b xs → Appends b c ys → Appends a c (xs ++ ys)
-Appends-append None b c xs ys f g = tt
-Appends-append (Some known) None c xs ys f g = absurd f
-Appends-append (Some known) (Some bs) None xs ys f g = g
-Appends-append (Some known) (Some bs) (Some cs) xs ys f g = g ∙ ap (λ (l : List ℕ). l ++ ys) f ∙ append_assoc known xs ys
-
 pub on_run : {X E S : Type 0} (r : Result X E) (bag : Bag (String Global) S) (old new : Option (List ℕ)) (rows : List (List ℕ × ℕ)) → IsRunOf bag rows → OnOk r (Appends old new (run_text rows))
     → OnOk r ((run : List (List ℕ × ℕ)) × IsRunOf bag run × Appends old new (run_text run))
 on_run (Ok x) bag old new rows run done = (rows, run, done)
