@@ -16,6 +16,3 @@ pub use plain::PlainBag;
 pub use rows::{Row, Rows, rows_of};
 pub use states::{IdentityState, OneState, ParityState};
 pub use tagged::Tagged;
-
-#[cfg(test)]
-mod tests;

@@ -12,6 +12,7 @@ mod counted;
 mod counts;
 mod extends;
 mod full;
+mod full_runs;
 mod insertions;
 mod pairs;
 mod requests;

@@ -167,46 +167,97 @@ fn make_on(
 ) -> Result<(), Wrong> {
     let mut bag = bag;
     match verb {
-        Verb::Quiet => quiet(&mut bag, refusals),
-        Verb::Limits => limits(alloc, &mut bag),
-        Verb::Clear => cleared(&mut bag),
         Verb::IntoIter => used_up(bag),
+        Verb::Joins | Verb::Parts => with_three(alloc, &mut bag, verb, refusals),
+        Verb::Merge | Verb::MergeRef | Verb::KeepMost => {
+            with_sum(alloc, &mut bag, verb, refusals)
+        }
+        Verb::Sorted | Verb::MostCommon => with_list(alloc, &bag, verb, refusals),
+        Verb::Within | Verb::Reserve | Verb::Shrink | Verb::RoomyShrink => {
+            with_room(&mut bag, verb, refusals)
+        }
+        _ => with_one(alloc, &mut bag, verb, refusals),
+    }
+}
+
+// Makes a call that takes no other bag.
+fn with_one(
+    alloc: Global,
+    bag: &mut HashBag<u64>,
+    verb: Verb,
+    refusals: &mut Refusals,
+) -> Result<(), Wrong> {
+    match verb {
+        Verb::Quiet => quiet(bag, refusals),
+        Verb::Limits => limits(alloc, bag),
+        Verb::Clear => cleared(bag),
         Verb::Replace => brought(bag.replace(1000), refusals),
         Verb::OrInsert => brought(bag.entry(1000).or_insert(), refusals),
-        Verb::Joins => match inserted(alloc, 3, refusals)? {
-            Some(other) => joined(&bag, &other),
-            None => Ok(()),
-        },
-        Verb::Merge | Verb::MergeRef | Verb::KeepMost => {
-            let size = bag.len() as u64;
-            match inserted_from(
-                alloc,
-                size.saturating_sub(2),
-                size.saturating_add(1),
-                refusals,
-            )? {
-                Some(other) => summed(&mut bag, other, verb, refusals),
-                None => Ok(()),
-            }
-        }
-        Verb::Parts => match inserted(alloc, 3, refusals)? {
-            Some(other) => parts(&mut bag, &other),
-            None => Ok(()),
-        },
-        Verb::Sorted => listed(sorted(alloc, &bag), bag.set_len(), refusals),
-        Verb::MostCommon => listed(most_common(alloc, &bag, 3), 3, refusals),
         Verb::Clone => made(bag.clone(), refusals),
+        _ => Ok(()),
+    }
+}
+
+// Makes a call with a bag of three values.
+fn with_three(
+    alloc: Global,
+    bag: &mut HashBag<u64>,
+    verb: Verb,
+    refusals: &mut Refusals,
+) -> Result<(), Wrong> {
+    match inserted(alloc, 3, refusals)? {
+        Some(other) => match verb {
+            Verb::Joins => joined(bag, &other),
+            _ => parts(bag, &other),
+        },
+        None => Ok(()),
+    }
+}
+
+// Makes a sum with a bag that has the greatest two values of this one, and the next.
+fn with_sum(
+    alloc: Global,
+    bag: &mut HashBag<u64>,
+    verb: Verb,
+    refusals: &mut Refusals,
+) -> Result<(), Wrong> {
+    let size = bag.len() as u64;
+    let (from, to) = (size.saturating_sub(2), size.saturating_add(1));
+    match inserted_from(alloc, from, to, refusals)? {
+        Some(other) => summed(bag, other, verb, refusals),
+        None => Ok(()),
+    }
+}
+
+// Makes a list of the values.
+fn with_list(
+    alloc: Global,
+    bag: &HashBag<u64>,
+    verb: Verb,
+    refusals: &mut Refusals,
+) -> Result<(), Wrong> {
+    match verb {
+        Verb::Sorted => listed(sorted(alloc, bag), bag.set_len(), refusals),
+        _ => listed(most_common(alloc, bag, 3), 3, refusals),
+    }
+}
+
+// Makes room, or gives it back.
+fn with_room(bag: &mut HashBag<u64>, verb: Verb, refusals: &mut Refusals) -> Result<(), Wrong> {
+    match verb {
         Verb::Within => done(bag.reserve(bag.room()), refusals),
         Verb::Reserve => done(bag.reserve(1000), refusals),
         Verb::Shrink => done(bag.shrink_to_fit(), refusals),
-        Verb::RoomyShrink => {
-            if !refusals.is_done(bag.reserve(1000))? {
-                return Ok(());
-            }
-            done(bag.shrink_to_fit(), refusals)
-        }
-        _ => Ok(()),
+        _ => roomy_shrink(bag, refusals),
     }
+}
+
+// Makes room, and gives it back if there was memory for it.
+fn roomy_shrink(bag: &mut HashBag<u64>, refusals: &mut Refusals) -> Result<(), Wrong> {
+    if !refusals.is_done(bag.reserve(1000))? {
+        return Ok(());
+    }
+    done(bag.shrink_to_fit(), refusals)
 }
 
 // A sum of a bag with another, of whose values one is absent. If it fails, the bag is as it was.
@@ -393,31 +444,42 @@ fn quiet(bag: &mut HashBag<u64>, refusals: &mut Refusals) -> Result<(), Wrong> {
 fn quiet_on(bag: &mut HashBag<u64>, value: u64, refusals: &mut Refusals) -> Result<(), Wrong> {
     check(bag.contains(&value) == 1, "contains")?;
     check(bag.get(&value).is_some(), "get")?;
-    check(
-        refusals.answer(bag.insert_many(value, 5))? == Some(1),
-        "insert_many",
-    )?;
-    check(
-        refusals.answer(bag.insert_many(99, 0))? == Some(0),
-        "insert_many of 0",
-    )?;
-    check(refusals.answer(bag.replace(value))? == Some(6), "replace")?;
-    check(
-        refusals.answer(bag.entry(value).or_insert())? == Some(1),
-        "or_insert",
-    )?;
-    check(
-        refusals.answer(bag.entry(99).or_insert_many(0))? == Some(0),
-        "or_insert_many of 0",
-    )?;
-    check(
-        bag.entry(value)
-            .and_modify(|count: &mut usize| *count = 4)
-            .is_ok(),
-        "and_modify",
-    )?;
+    quiet_insertions(bag, value, refusals)?;
+    quiet_entries(bag, value, refusals)?;
     check(bag.take_one(&value) == Err(4), "take_one")?;
     check(bag.try_take(&value).is_err(), "try_take")?;
+    quiet_removals(bag, value)
+}
+
+// Insertions of a value that occurs once.
+fn quiet_insertions(
+    bag: &mut HashBag<u64>,
+    value: u64,
+    refusals: &mut Refusals,
+) -> Result<(), Wrong> {
+    let answer = refusals.answer(bag.insert_many(value, 5))?;
+    check(answer == Some(1), "insert_many")?;
+    let answer = refusals.answer(bag.insert_many(99, 0))?;
+    check(answer == Some(0), "insert_many of 0")?;
+    let answer = refusals.answer(bag.replace(value))?;
+    check(answer == Some(6), "replace")
+}
+
+// Entries of a value that occurs once.
+fn quiet_entries(bag: &mut HashBag<u64>, value: u64, refusals: &mut Refusals) -> Result<(), Wrong> {
+    let answer = refusals.answer(bag.entry(value).or_insert())?;
+    check(answer == Some(1), "or_insert")?;
+    let answer = refusals.answer(bag.entry(99).or_insert_many(0))?;
+    check(answer == Some(0), "or_insert_many of 0")?;
+    let changed = bag
+        .entry(value)
+        .and_modify(|count: &mut usize| *count = 4)
+        .is_ok();
+    check(changed, "and_modify")
+}
+
+// Removals of a value that occurs twice.
+fn quiet_removals(bag: &mut HashBag<u64>, value: u64) -> Result<(), Wrong> {
     check(bag.remove(&value) == 2, "remove")?;
     check(bag.remove_up_to(&value, 0) == 1, "remove_up_to")?;
     check(bag.take_all(&value).is_some(), "take_all")?;

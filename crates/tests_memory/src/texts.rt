@@ -44,14 +44,22 @@ fn extend_and_clone(
     let mut bag: HashBag<String> = HashBag::new(alloc);
     let items = [&names.0, &names.1, &names.0];
     let done = refusals.is_done(bag.extend_refs(items.into_iter()))?;
-    let counts = counts_of(&bag, names);
-    let tables = tables_of(&bag);
-    has_names(&bag, counts, done)?;
+    has_names(&bag, counts_of(&bag, names), done)?;
+    clone_of(&bag, names, refusals)
+}
+
+// A clone is equal, if there is one, and its source stays as it was.
+fn clone_of(
+    bag: &HashBag<String>,
+    names: &(String, String),
+    refusals: &mut Refusals,
+) -> Result<(), Wrong> {
+    let (counts, tables) = (counts_of(bag, names), tables_of(bag));
     if let Some(clone) = refusals.answer(bag.clone())? {
-        check(clone == bag, "names: the clone is equal")?;
+        check(clone == *bag, "names: the clone is equal")?;
     }
     check(
-        (counts_of(&bag, names), tables_of(&bag)) == (counts, tables),
+        (counts_of(bag, names), tables_of(bag)) == (counts, tables),
         "names: the source of a clone",
     )
 }
@@ -89,13 +97,22 @@ fn insert_text(
 pub fn inserted_texts(alloc: Global, refusals: &mut Refusals) -> Result<(), Wrong> {
     let mut bag: HashBag<String> = HashBag::new(alloc);
     for name in ["Einar", "Harald"] {
-        if !insert_text(&mut bag, name, 0, refusals)? {
-            let done = insert_text(&mut bag, name, 0, refusals)?;
-            check(done, "texts: with memory again")?;
-        }
-        let done = insert_text(&mut bag, name, 1, refusals)?;
-        check(done, "texts: of a name that is there, refused")?;
-        check(bag.contains(name) == 2, "texts: the count")?;
+        insert_twice(&mut bag, name, refusals)?;
     }
     check(bag.len() == 4, "texts: the total")
+}
+
+// Inserts a text twice, of which only the first may fail.
+fn insert_twice(
+    bag: &mut HashBag<String>,
+    name: &str,
+    refusals: &mut Refusals,
+) -> Result<(), Wrong> {
+    if !insert_text(bag, name, 0, refusals)? {
+        let done = insert_text(bag, name, 0, refusals)?;
+        check(done, "texts: with memory again")?;
+    }
+    let done = insert_text(bag, name, 1, refusals)?;
+    check(done, "texts: of a name that is there, refused")?;
+    check(bag.contains(name) == 2, "texts: the count")
 }

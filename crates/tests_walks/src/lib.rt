@@ -1,4 +1,4 @@
-//! The tests of walks over a bag and of whole runs of steps.
+//! The tests of walks over a bag, of whole runs of steps, and of the kit of tests.
 #![tactic(auto)]
 
 #[cfg(test)]

@@ -3,6 +3,7 @@
 mod agreement;
 mod carry;
 mod definitions;
+mod kit;
 mod met;
 mod prints;
 mod steps;

@@ -188,11 +188,22 @@ fn is_left(left: Left, wanted: &str) -> Result<(), Fail> {
     Ok(())
 }
 
+// Returns the most slots that the steps of a course build one by one, and checks what they leave.
+fn built_in_steps<S: BuildHasher + Drop>(
+    alloc: Global,
+    state: S,
+    course: &str,
+    want: &str,
+) -> Result<usize, Fail> {
+    let mut bag = HashBag::with_hasher(alloc, state);
+    let built = built_by(alloc, &mut bag, steps_of(alloc, course)?)?;
+    is_left(Left::of(&bag, built), want)?;
+    Ok(built)
+}
+
 fn is_bounded<S: BuildHasher + Copy>(alloc: Global, state: S, row: &str) -> Result<(), Fail> {
     let (course, want) = halves(row, " = ")?;
-    let mut stepped = HashBag::with_hasher(alloc, state);
-    let built = built_by(alloc, &mut stepped, steps_of(alloc, course)?)?;
-    is_left(Left::of(&stepped, built), want)?;
+    let built = built_in_steps(alloc, state, course, want)?;
     let mut bag = HashBag::with_hasher(alloc, state);
     run_all(alloc, &mut bag, steps_of(alloc, course)?)?;
     is_left(Left::of(&bag, built), want)

@@ -131,15 +131,24 @@ fn clone_of<'a, S: BuildHasher + Clone + Drop>(
 }
 
 // A clone of a bag makes one clone of each distinct value, also of those that wait.
+fn makes_one_of_each<'a, S: BuildHasher + Clone + Drop>(
+    bag: &HashBag<Watched<'a>, S>,
+    size: u64,
+    clones: &'a Cell<u64>,
+) -> Result<(), Fail> {
+    let before = clones.get();
+    let clone = clone_of(bag)?;
+    if (before, clones.get()) != (0, size) || clone.len() != bag.len() {
+        return Err(Fail::new(format_args!("other clones for {size} values")));
+    }
+    Ok(())
+}
+
 fn bags_under<S: BuildHasher + Copy + Clone>(alloc: Global, state: S) -> Result<(), Fail> {
     for size in SIZES {
         let clones = Cell::new(0);
         let bag = bag_of(alloc, state, size, &clones)?;
-        let before = clones.get();
-        let clone = clone_of(&bag)?;
-        if (before, clones.get()) != (0, size) || clone.len() != bag.len() {
-            return Err(Fail::new(format_args!("other clones for {size} values")));
-        }
+        makes_one_of_each(&bag, size, &clones)?;
     }
     Ok(())
 }

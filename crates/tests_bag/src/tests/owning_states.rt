@@ -136,6 +136,31 @@ fn clone_fails(
     has_all(alloc, bag)
 }
 
+// A copy of a bag that is then used up.
+fn copy_of<'a>(
+    rt: &impl Abort,
+    alloc: Global,
+    states: &'a States,
+) -> Result<HashBag<u64, Owning<'a>>, Fail> {
+    let bag = carrying(alloc, states)?;
+    let copy = clone_of(&bag)?;
+    are(rt, "a clone", states, 2, 1);
+    has_all(alloc, &copy)?;
+    is_used_up(rt, alloc, states, bag)?;
+    Ok(copy)
+}
+
+// The bag has all values, also after a clone of it failed.
+fn is_whole(
+    rt: &impl Abort,
+    alloc: Global,
+    states: &States,
+    bag: &HashBag<u64, Owning<'_>>,
+) -> Result<(), Fail> {
+    has_all(alloc, bag)?;
+    clone_fails(rt, alloc, states, bag)
+}
+
 #[test]
 fn states_are_dropped_once(rt: HostRuntime) -> Result<(), Fail> {
     let alloc = rt.alloc();
@@ -144,13 +169,8 @@ fn states_are_dropped_once(rt: HostRuntime) -> Result<(), Fail> {
         clones: Cell::new(0),
         refuses: Cell::new(false),
     };
-    let bag = carrying(alloc, &states)?;
-    let copy = clone_of(&bag)?;
-    are(&rt, "a clone", &states, 2, 1);
-    has_all(alloc, &copy)?;
-    is_used_up(&rt, alloc, &states, bag)?;
-    has_all(alloc, &copy)?;
-    clone_fails(&rt, alloc, &states, &copy)?;
+    let copy = copy_of(&rt, alloc, &states)?;
+    is_whole(&rt, alloc, &states, &copy)?;
     assert_eq!(rt; copy.into_iter().count(), 25);
     are(&rt, "the walk of the second", &states, 0, 2);
     Ok(())

@@ -180,6 +180,25 @@ fn has_all<'a, S: BuildHasher + Drop>(
     Ok(())
 }
 
+// Extends a bag by clones of four values, which are dropped then.
+fn extend_by<'a, S: BuildHasher + Drop>(
+    bag: &mut HashBag<Costly<'a>, S>,
+    lives: &'a Lives,
+    many: bool,
+) -> Result<(), BagError> {
+    let values = [
+        lives.value(26),
+        lives.value(27),
+        lives.value(28),
+        lives.value(27),
+    ];
+    if many {
+        extend_refs_many(bag, &values)
+    } else {
+        extend_refs(bag, &values)
+    }
+}
+
 fn extended<S: BuildHasher + Drop>(
     alloc: Global,
     state: S,
@@ -187,18 +206,7 @@ fn extended<S: BuildHasher + Drop>(
     many: bool,
 ) -> Result<String, Fail> {
     let mut bag = carrying(alloc, state, lives)?;
-    let values = [
-        lives.value(26),
-        lives.value(27),
-        lives.value(28),
-        lives.value(27),
-    ];
-    let answer = if many {
-        extend_refs_many(&mut bag, &values)
-    } else {
-        extend_refs(&mut bag, &values)
-    };
-    drop(values);
+    let answer = extend_by(&mut bag, lives, many);
     let alive = lives.alive.get();
     has_all(&bag, lives)?;
     let state = state_of(alloc, &bag)?;
@@ -242,7 +250,21 @@ fn clones_live<'a, S: BuildHasher + Clone + Drop>(
     assert_eq!(rt; lives.alive.get(), 25, "after clone {refused}");
 }
 
-// The bag is as before a clone, which may fail, and drops its values.
+// The bag is as before a clone, which may fail.
+fn stays_as_before<'a, S: BuildHasher + Clone + Drop>(
+    rt: &impl Abort,
+    alloc: Global,
+    bag: &HashBag<Costly<'a>, S>,
+    lives: &'a Lives,
+    refused: usize,
+) -> Result<(), Fail> {
+    clones_live(rt, bag, lives, refused);
+    has_all(bag, lives)?;
+    let state = state_of(alloc, bag)?;
+    is_text_of("a source", state.as_str(), "25 of 25 in (64, 16, 23)")
+}
+
+// So it is, and it drops its values.
 fn is_cloned<S: BuildHasher + Clone + Drop>(
     rt: &impl Abort,
     alloc: Global,
@@ -250,15 +272,10 @@ fn is_cloned<S: BuildHasher + Clone + Drop>(
     refused: usize,
 ) -> Result<(), Fail> {
     let lives = Lives::new(refused);
-    let bag = carrying(alloc, state, &lives)?;
-    clones_live(rt, &bag, &lives, refused);
-    has_all(&bag, &lives)?;
-    is_text_of(
-        "a source",
-        state_of(alloc, &bag)?.as_str(),
-        "25 of 25 in (64, 16, 23)",
-    )?;
-    drop(bag);
+    {
+        let bag = carrying(alloc, state, &lives)?;
+        stays_as_before(rt, alloc, &bag, &lives, refused)?;
+    }
     assert_eq!(rt; lives.alive.get(), 0, "after clone {refused}");
     Ok(())
 }

@@ -174,21 +174,30 @@ fn capacity_of(alloc: Global, n: usize) -> Result<usize, BagError> {
     Ok(of_fixed_state(alloc, n)?.capacity())
 }
 
+// A new bag with room for n values is empty.
+fn is_empty_with(rt: &impl Abort, bag: &HashBag<u64>, n: usize) {
+    has_room(rt, bag, n);
+    assert!(rt; bag.is_empty(), "with {n}");
+}
+
+// Slots and capacities of new bags.
+fn begin_as_said(rt: &impl Abort, alloc: Global) -> Result<(), Fail> {
+    for (n, slots, capacity) in BEGINNINGS {
+        begins_as(rt, &of_fixed_state(alloc, n)?, slots, capacity);
+        begins_as(rt, &with_capacity(alloc, OneState, n)?, slots, capacity);
+    }
+    Ok(())
+}
+
 #[test]
 fn fixed_state_by_default(rt: HostRuntime) -> Result<(), Fail> {
     let alloc = rt.alloc();
     let bag: HashBag<u64> = HashBag::new(alloc);
     assert_eq!(rt; bag.capacity(), 0);
     for n in 0..=MOST {
-        let bag = of_fixed_state(alloc, n)?;
-        has_room(&rt, &bag, n);
-        assert!(rt; bag.is_empty(), "with {n}");
+        is_empty_with(&rt, &of_fixed_state(alloc, n)?, n);
     }
-    for (n, slots, capacity) in BEGINNINGS {
-        begins_as(&rt, &of_fixed_state(alloc, n)?, slots, capacity);
-        begins_as(&rt, &with_capacity(alloc, OneState, n)?, slots, capacity);
-    }
-    Ok(())
+    begin_as_said(&rt, alloc)
 }
 
 #[test]

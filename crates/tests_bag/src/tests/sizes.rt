@@ -101,20 +101,28 @@ fn walked<T: Made, S: BuildHasher + Copy>(
     ))
 }
 
+// Returns what a bag has after each call.
+fn sizes_of<T: Made, S: BuildHasher + Copy>(
+    alloc: Global,
+    bag: &mut HashBag<T, S>,
+) -> Result<String, Fail> {
+    let first = filled(alloc, bag)?;
+    let (removed, taken) = (remove(bag, 7), taken(bag, 8));
+    insert(bag, T::of(9))?;
+    let walked = walked(bag)?;
+    let drained = bag.drain().count();
+    Ok(format!(in alloc;
+        "{first}, removed {removed}, taken {taken}, walked {walked:?}, drained {drained}"
+    )?)
+}
+
 fn sized<T: Made, S: BuildHasher + Copy>(
     alloc: Global,
     state: S,
     wanted: &str,
 ) -> Result<(), Fail> {
     let mut bag: HashBag<T, S> = HashBag::with_hasher(alloc, state);
-    let first = filled(alloc, &mut bag)?;
-    let (removed, taken) = (remove(&mut bag, 7), taken(&mut bag, 8));
-    insert(&mut bag, T::of(9))?;
-    let walked = walked(&bag)?;
-    let drained = bag.drain().count();
-    let got = format!(in alloc;
-        "{first}, removed {removed}, taken {taken}, walked {walked:?}, drained {drained}"
-    )?;
+    let got = sizes_of(alloc, &mut bag)?;
     is_text_of("sizes", got.as_str(), wanted)
 }
 

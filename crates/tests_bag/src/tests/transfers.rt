@@ -90,6 +90,50 @@ fn moved_by_clone<S: BuildHasher + Drop, S2: BuildHasher + Drop>(
     transfer_clone(from, to, &value, n)
 }
 
+// Returns a bag of these counts.
+fn bag_from<S: BuildHasher + Drop>(
+    alloc: Global,
+    state: S,
+    text: &str,
+) -> Result<HashBag<u64, S>, Fail> {
+    let pairs = counts(alloc, text)?;
+    bag_of_counts(alloc, state, pairs.as_slice())
+}
+
+// Returns the text of a transfer of a value and a number, which the row names.
+fn moved_by<S: BuildHasher + Drop, S2: BuildHasher + Drop>(
+    alloc: Global,
+    from: &mut HashBag<u64, S>,
+    to: &mut HashBag<u64, S2>,
+    row: &str,
+    by_clone: bool,
+) -> Result<String, Fail> {
+    let (value, n) = halves(row, " ")?;
+    let (value, n) = (number(value)?, count(n)?);
+    let result = if by_clone {
+        moved_by_clone(from, to, value, n)
+    } else {
+        moved(from, to, value, n)
+    };
+    debug_of(alloc, &result)
+}
+
+// Returns the text of a transfer into a bag that gets a limit, and of what both have then.
+fn transferred_to<S: BuildHasher + Drop, S2: BuildHasher + Drop>(
+    alloc: Global,
+    from: &mut HashBag<u64, S>,
+    to: &mut HashBag<u64, S2>,
+    row: &str,
+    by_clone: bool,
+) -> Result<String, Fail> {
+    let (limit, rest) = halves(row, "|")?;
+    to.set_limit(count(limit)?)?;
+    let result = moved_by(alloc, from, to, rest, by_clone)?;
+    let left = counts_of(alloc, from, &[1, 2])?;
+    let there = counts_of(alloc, to, &[1, 2])?;
+    Ok(format!(in alloc; "{result} {left} {there}")?)
+}
+
 // Returns the text of a transfer between bags of these counts, the first under a state, and of what both have then.
 fn transferred<S: BuildHasher + Drop>(
     alloc: Global,
@@ -99,20 +143,9 @@ fn transferred<S: BuildHasher + Drop>(
 ) -> Result<String, Fail> {
     let (first, rest) = halves(row, "|")?;
     let (second, rest) = halves(rest, "|")?;
-    let (limit, rest) = halves(rest, "|")?;
-    let (value, n) = halves(rest, " ")?;
-    let mut from = bag_of_counts(alloc, state, counts(alloc, first)?.as_slice())?;
-    let mut to = bag_of_counts(alloc, FixedState::new(), counts(alloc, second)?.as_slice())?;
-    to.set_limit(count(limit)?)?;
-    let result = if by_clone {
-        moved_by_clone(&mut from, &mut to, number(value)?, count(n)?)
-    } else {
-        moved(&mut from, &mut to, number(value)?, count(n)?)
-    };
-    let result = debug_of(alloc, &result)?;
-    let left = counts_of(alloc, &from, &[1, 2])?;
-    let there = counts_of(alloc, &to, &[1, 2])?;
-    Ok(format!(in alloc; "{result} {left} {there}")?)
+    let mut from = bag_from(alloc, state, first)?;
+    let mut to = bag_from(alloc, FixedState::new(), second)?;
+    transferred_to(alloc, &mut from, &mut to, rest, by_clone)
 }
 
 // The transfer of a row, by the value and by a clone of it.

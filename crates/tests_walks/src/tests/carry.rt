@@ -161,8 +161,8 @@ fn is_sum(rt: &impl Abort, sum: u64, taken: usize) {
     assert!(rt; taken < VALUES || sum == 325, "{sum} in all");
 }
 
-// Each walk on a bag of its own.
-fn walks_after<S: BuildHasher + Default + Copy>(
+// A walk over the occurrences leaves the bag as it was.
+fn items_after<S: BuildHasher + Default + Copy>(
     rt: &impl Abort,
     alloc: Global,
     state: S,
@@ -170,13 +170,43 @@ fn walks_after<S: BuildHasher + Default + Copy>(
 ) -> Result<(), Fail> {
     let mut bag = carrying(rt, alloc, state)?;
     items(rt, alloc, &bag, taken)?;
-    make_calls(alloc, &mut bag, AS_BEFORE)?;
-    bag = carrying(rt, alloc, state)?;
+    make_calls(alloc, &mut bag, AS_BEFORE)
+}
+
+// A walk over the values leaves the bag as it was.
+fn values_after<S: BuildHasher + Default + Copy>(
+    rt: &impl Abort,
+    alloc: Global,
+    state: S,
+    taken: usize,
+) -> Result<(), Fail> {
+    let mut bag = carrying(rt, alloc, state)?;
     values(rt, alloc, &bag, taken)?;
-    make_calls(alloc, &mut bag, AS_BEFORE)?;
-    bag = carrying(rt, alloc, state)?;
+    make_calls(alloc, &mut bag, AS_BEFORE)
+}
+
+// A drain empties the bag.
+fn drain_after<S: BuildHasher + Default + Copy>(
+    rt: &impl Abort,
+    alloc: Global,
+    state: S,
+    taken: usize,
+) -> Result<(), Fail> {
+    let mut bag = carrying(rt, alloc, state)?;
     is_sum(rt, drained(rt, &mut bag, taken), taken);
-    make_calls(alloc, &mut bag, DRAINED)?;
+    make_calls(alloc, &mut bag, DRAINED)
+}
+
+// Each walk on a bag of its own.
+fn walks_after<S: BuildHasher + Default + Copy>(
+    rt: &impl Abort,
+    alloc: Global,
+    state: S,
+    taken: usize,
+) -> Result<(), Fail> {
+    items_after(rt, alloc, state, taken)?;
+    values_after(rt, alloc, state, taken)?;
+    drain_after(rt, alloc, state, taken)?;
     is_sum(rt, moved(rt, carrying(rt, alloc, state)?, taken), taken);
     Ok(())
 }

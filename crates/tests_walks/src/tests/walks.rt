@@ -401,15 +401,28 @@ fn rest_of<S: BuildHasher + Drop>(bag: &HashBag<u64, S>) -> Iter<'_, u64> {
 
 fn texts_of_five<S: BuildHasher + Default + Drop>(alloc: Global, state: S) -> Result<(), Fail> {
     let mut bag = bag_of_counts(alloc, state, &[(5, 3)])?;
-    is_shown(alloc, &bag, "{5, 5, 5}")?;
-    is_shown(alloc, &walk_of(&bag), "{5, 5, 5}")?;
-    is_shown(alloc, &rest_of(&bag), "{5, 5}")?;
-    is_shown(alloc, &set_walk_of(&bag), "{(5, 3)}")?;
-    is_shown(alloc, &bag.entry(5), "Entry(5, 3)")?;
-    is_shown(alloc, &drain_of(&mut bag), "[(5, 3)]")?;
-    is_shown(alloc, &drain_of(&mut bag), "[]")?;
-    make_call(alloc, &mut bag, "insert_many 5 3 = 0")?;
+    texts_of_walks(alloc, &bag)?;
+    texts_of_changes(alloc, &mut bag)?;
     texts_of_owned(alloc, bag)
+}
+
+// A bag of 5 three times, and its walks.
+fn texts_of_walks<S: BuildHasher + Drop>(alloc: Global, bag: &HashBag<u64, S>) -> Result<(), Fail> {
+    is_shown(alloc, bag, "{5, 5, 5}")?;
+    is_shown(alloc, &walk_of(bag), "{5, 5, 5}")?;
+    is_shown(alloc, &rest_of(bag), "{5, 5}")?;
+    is_shown(alloc, &set_walk_of(bag), "{(5, 3)}")
+}
+
+// Its entry and its drain, which empties it; then it has the 5 again.
+fn texts_of_changes<S: BuildHasher + Default + Drop>(
+    alloc: Global,
+    bag: &mut HashBag<u64, S>,
+) -> Result<(), Fail> {
+    is_shown(alloc, &bag.entry(5), "Entry(5, 3)")?;
+    is_shown(alloc, &drain_of(bag), "[(5, 3)]")?;
+    is_shown(alloc, &drain_of(bag), "[]")?;
+    make_call(alloc, bag, "insert_many 5 3 = 0")
 }
 
 // A walk that owns its values shows those that are still to come.

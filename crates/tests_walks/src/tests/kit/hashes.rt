@@ -1,10 +1,10 @@
 //! What the hash states return.
-use crate::states::{identity_hash, one_hash, parity_hash};
-use crate::texts::{halves, is_text, number};
-use crate::{IdentityState, OneState, ParityState, Rows, Tagged, rows_of};
 use std::alloc::{AllocError, Global};
 use std::hash::{BuildHasher, Hash, Hasher};
 use std::test::Fail;
+use tests_kit::states::{identity_hash, one_hash, parity_hash};
+use tests_kit::texts::{halves, is_text, number};
+use tests_kit::{IdentityState, OneState, ParityState, Rows, Tagged, rows_of};
 
 // Numbers, and what they hash to under the identity, the parity and the one state.
 const ROWS: Rows = Rows {

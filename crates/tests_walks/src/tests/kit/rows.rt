@@ -1,10 +1,10 @@
 //! How rows are read, and what their failures say.
-use crate::rows::failure_text;
-use crate::texts::{count, debug_of, is_text_of};
-use crate::{Row, Rows, rows_of};
 use hashbag::BagError;
 use std::alloc::Global;
 use std::test::Fail;
+use tests_kit::rows::failure_text;
+use tests_kit::texts::{count, debug_of, is_text_of};
+use tests_kit::{Row, Rows, rows_of};
 
 const ROWS: Rows = Rows {
     count: 2,

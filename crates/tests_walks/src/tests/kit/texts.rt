@@ -1,6 +1,6 @@
 //! How rows of text are read.
-use crate::texts::{counts, debug_of, decimal, inside, is_text_of, values};
 use std::test::Fail;
+use tests_kit::texts::{counts, debug_of, decimal, inside, is_text_of, values};
 
 #[test]
 fn lists_are_read(rt: HostRuntime) -> Result<(), Fail> {

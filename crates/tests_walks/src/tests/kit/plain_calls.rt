@@ -1,9 +1,9 @@
 //! Calls on the plain bag, with the results found by hand.
-use crate::texts::{count, debug_of, halves, is_text, tagged};
-use crate::{PlainBag, Rows, Tagged, rows_of};
 use hashbag::script::{Reply, Step};
 use std::alloc::{AllocError, Global};
 use std::test::Fail;
+use tests_kit::texts::{count, debug_of, halves, is_text, tagged};
+use tests_kit::{PlainBag, Rows, Tagged, rows_of};
 
 // A value is written as its key and its tag. `tags` returns the tags of all occurrences, in the order of the list.
 const ROWS: Rows = Rows {
