@@ -34,8 +34,16 @@ verify or close, it is a subcommand on the database of --db; hashbag_ledger ente
 Status: 0 all entered, 1 some refused, 2 bad arguments or a bad line (FILE:LINE is named), 3 no memory, 4 a file can't be opened, or
 a read or a write failed, 5 a total of more than 2^64-1. With 2 to 5 the file of -o is unchanged.";
 
+/// A command, unless an allocation failed.
+pub type Made<'a> = Result<Command<'a>, AllocError>;
+
+/// Adds an argument.
+pub fn with<'a>(command: Made<'a>, arg: Arg<'a>) -> Made<'a> {
+    command?.arg(arg)
+}
+
 // Adds the inputs.
-fn with_inputs<'a>(alloc: Global, command: Command<'a>) -> Result<Command<'a>, AllocError> {
+fn with_inputs<'a>(alloc: Global, command: Made<'a>) -> Made<'a> {
     let moves = Arg::new(alloc, "MOVES.csv")
         .num_args(0..)
         .action(ArgAction::Append)
@@ -54,15 +62,12 @@ fn with_inputs<'a>(alloc: Global, command: Command<'a>) -> Result<Command<'a>, A
         .value_name("NAMES")
         .default_value(COLUMNS)
         .help("The columns of movements: article,change or article,kind,number");
-    command
-        .arg(start)?
-        .arg(start_columns)?
-        .arg(columns)?
-        .arg(moves)
+    let command = with(with(command, start), start_columns);
+    with(with(command, columns), moves)
 }
 
 // Adds how files are read and written.
-fn with_reading<'a>(alloc: Global, command: Command<'a>) -> Result<Command<'a>, AllocError> {
+fn with_reading<'a>(alloc: Global, command: Made<'a>) -> Made<'a> {
     let scale = Arg::new(alloc, "scale")
         .long("scale")
         .value_name("D")
@@ -81,11 +86,11 @@ fn with_reading<'a>(alloc: Global, command: Command<'a>) -> Result<Command<'a>, 
         .value_parser(NAMES.as_slice())
         .default_value(",")
         .help("What is between fields, also of CSV that is written");
-    command.arg(scale)?.arg(mark)?.arg(delimiter)
+    with(with(with(command, scale), mark), delimiter)
 }
 
 // Adds the outputs.
-fn with_outputs<'a>(alloc: Global, command: Command<'a>) -> Result<Command<'a>, AllocError> {
+fn with_outputs<'a>(alloc: Global, command: Made<'a>) -> Made<'a> {
     let output = Arg::new(alloc, "output")
         .short('o')
         .long("output")
@@ -101,7 +106,7 @@ fn with_outputs<'a>(alloc: Global, command: Command<'a>) -> Result<Command<'a>, 
         .long("strict")
         .action(ArgAction::SetTrue)
         .help("Ends at the first refusal, without a balance");
-    command.arg(output)?.arg(refused)?.arg(strict)
+    with(with(with(command, output), refused), strict)
 }
 
 /// Returns the command with its arguments.
@@ -109,11 +114,10 @@ fn with_outputs<'a>(alloc: Global, command: Command<'a>) -> Result<Command<'a>, 
 /// # Errors
 ///
 /// An error if an allocation fails.
-pub fn command<'a>(alloc: Global) -> Result<Command<'a>, AllocError> {
+pub fn command<'a>(alloc: Global) -> Made<'a> {
     let command = Command::new(alloc, PROGRAM)
         .version(VERSION)
         .about(ABOUT)
         .after_help(AFTER);
-    let command = with_reading(alloc, with_inputs(alloc, command)?)?;
-    with_outputs(alloc, command)
+    with_outputs(alloc, with_reading(alloc, with_inputs(alloc, Ok(command))))
 }

@@ -1,9 +1,10 @@
 //! A stock that is kept in a SQLite database: its tables, what is read of them, and a batch written in one transaction.
 //!
-//! All is over any store, so tests keep a stock in memory, and the program keeps it in a file.
+//! All is over any store: the program keeps a stock in a file.
 #![tactic(auto)]
 
 pub mod error;
+pub mod query;
 pub mod reading;
 pub mod tables;
 pub mod writing;

@@ -9,6 +9,7 @@ use hashbag_stock_core::once::Batch;
 use hashbag_stock_core::output::Event;
 use hashbag_stock_core::rows::rises;
 use hashbag_stock_core::verifying::KeptRefusal;
+use sqlite::types::ValueRef;
 use sqlite::{Alter, Connection, Row, params};
 use std::alloc::Global;
 
@@ -23,6 +24,36 @@ fn natural(row: &Row, at: usize) -> Result<u64, StockError> {
     }
 }
 
+// A value that a row of a query has.
+trait FromRow: Sized {
+    // Returns it. The row has the columns that the query names, in turn.
+    fn from_row(row: &Row) -> Result<Self, StockError>;
+}
+
+// Returns the values of the rows of a query, in turn.
+fn list_of<S: Alter, R: FromRow + Drop>(
+    alloc: Global,
+    conn: &mut Connection<S>,
+    text: &str,
+    values: &[ValueRef<'_>],
+) -> Result<Vec<R>, StockError> {
+    let mut list = Vec::new(alloc);
+    let mut rows = conn.query(text, values)?;
+    for _ in 0..u64::MAX {
+        let Some(row) = rows.next()? else {
+            break;
+        };
+        list.push(R::from_row(&row)?)?;
+    }
+    Ok(list)
+}
+
+impl FromRow for (String, usize) {
+    fn from_row(row: &Row) -> Result<(String, usize), StockError> {
+        Ok((row.get(0)?, natural(row, 1)? as usize))
+    }
+}
+
 /// Returns the balance that is kept, articles rising.
 ///
 /// # Errors
@@ -34,131 +65,124 @@ pub fn balance_of<S: Alter>(
 ) -> Result<Vec<(String, usize)>, StockError>
     ensures rising { IfOk result (λ balance. Rises balance.items) }
 {
-    let balance = rows_of(alloc, conn)?;
+    let text = "SELECT article, number FROM article ORDER BY article";
+    let balance: Vec<(String, usize)> = list_of(alloc, conn, text, &[])?;
     if !rises(&balance) {
         return Err(StockError::Damaged("articles that don't rise in the table article"));
     }
     Ok(balance)
 }
 
-// Reads the rows of the balance.
-fn rows_of<S: Alter>(
-    alloc: Global,
-    conn: &mut Connection<S>,
-) -> Result<Vec<(String, usize)>, StockError> {
-    let mut balance: Vec<(String, usize)> = Vec::new(alloc);
-    let mut rows = conn.query("SELECT article, number FROM article ORDER BY article", &[])?;
-    for _ in 0..u64::MAX {
-        let Some(row) = rows.next()? else {
-            break;
-        };
-        let entry: (String, usize) = (row.get(0)?, natural(row, 1)? as usize);
-        balance.push(entry)?;
+impl FromRow for Batch {
+    fn from_row(row: &Row) -> Result<Batch, StockError> {
+        Ok(Batch {
+            number: row.get(0)?,
+            file: row.get(1)?,
+            sha256: row.get(2)?,
+            kind: row.get(3)?,
+            undoes: row.get(4)?,
+            time: row.get(5)?,
+            movements: natural(row, 6)?,
+            refused: natural(row, 7)?,
+        })
     }
-    Ok(balance)
-}
-
-fn batch_of(row: &Row) -> Result<Batch, StockError> {
-    Ok(Batch {
-        number: row.get(0)?,
-        file: row.get(1)?,
-        sha256: row.get(2)?,
-        kind: row.get(3)?,
-        undoes: row.get(4)?,
-        time: row.get(5)?,
-        movements: natural(row, 6)?,
-        refused: natural(row, 7)?,
-    })
 }
 
 /// Returns all batches, in turn.
+///
+/// # Errors
+///
+/// `Damaged` if a number is below 0. Else what fails.
 pub fn batches_of<S: Alter>(
     alloc: Global,
     conn: &mut Connection<S>,
 ) -> Result<Vec<Batch>, StockError> {
-    let mut batches = Vec::new(alloc);
-    let mut rows = conn.query(
-        "SELECT batch, file, sha256, kind, undoes, time, movements, refused FROM batch ORDER BY batch",
-        &[],
-    )?;
-    for _ in 0..u64::MAX {
-        let Some(row) = rows.next()? else {
-            break;
+    let text =
+        "SELECT batch, file, sha256, kind, undoes, time, movements, refused FROM batch ORDER BY batch";
+    list_of(alloc, conn, text, &[])
+}
+
+// Its place, its article and its change.
+impl FromRow for Movement<String> {
+    fn from_row(row: &Row) -> Result<Movement<String>, StockError> {
+        let place = Place {
+            file: natural(row, 0)? as usize,
+            line: natural(row, 1)?,
         };
-        batches.push(batch_of(row)?)?;
+        Ok(Movement {
+            place,
+            article: row.get(2)?,
+            change: change_of(row.get(3)?),
+        })
     }
-    Ok(batches)
 }
 
-// Returns a movement from its place, its article and its change.
-fn movement_of(row: &Row, file: u64, line: u64) -> Result<Movement<String>, StockError> {
-    let place = Place {
-        file: file as usize,
-        line,
-    };
-    Ok(Movement {
-        place,
-        article: row.get(2)?,
-        change: change_of(row.get(3)?),
-    })
-}
-
-/// Returns the movements of a batch that were entered, in turn, each with its line.
+/// Returns the movements of a batch that were entered, in turn, each with its line in file 0.
+///
+/// # Errors
+///
+/// As of [`batches_of`].
 pub fn entered_of<S: Alter>(
     alloc: Global,
     conn: &mut Connection<S>,
     batch: i64,
 ) -> Result<Vec<Movement<String>>, StockError> {
-    let mut movements = Vec::new(alloc);
-    let mut rows = conn.query(
-        "SELECT m.batch, m.line, m.article, m.change FROM movement m LEFT JOIN refusal r ON r.movement = m.movement WHERE m.batch = ?1 AND r.movement IS NULL ORDER BY m.movement",
-        params![batch],
-    )?;
-    for _ in 0..u64::MAX {
-        let Some(row) = rows.next()? else {
-            break;
-        };
-        let line = natural(row, 1)?;
-        movements.push(movement_of(row, 0, line)?)?;
-    }
-    Ok(movements)
+    let text =
+        "SELECT 0, m.line, m.article, m.change FROM movement m LEFT JOIN refusal r ON r.movement = m.movement WHERE m.batch = ?1 AND r.movement IS NULL ORDER BY m.movement";
+    list_of(alloc, conn, text, params![batch])
 }
 
 /// Returns all movements, in turn. The file of a place is the number of the batch, and its line is the number of the movement.
+///
+/// # Errors
+///
+/// As of [`batches_of`].
 pub fn movements_of<S: Alter>(
     alloc: Global,
     conn: &mut Connection<S>,
 ) -> Result<Vec<Movement<String>>, StockError> {
-    let mut movements = Vec::new(alloc);
-    let mut rows = conn.query(
-        "SELECT batch, movement, article, change FROM movement ORDER BY movement",
-        &[],
-    )?;
-    for _ in 0..u64::MAX {
-        let Some(row) = rows.next()? else {
-            break;
-        };
-        let (batch, number) = (natural(row, 0)?, natural(row, 1)?);
-        movements.push(movement_of(row, batch, number)?)?;
+    let text = "SELECT batch, movement, article, change FROM movement ORDER BY movement";
+    list_of(alloc, conn, text, &[])
+}
+
+impl FromRow for KeptRefusal {
+    fn from_row(row: &Row) -> Result<KeptRefusal, StockError> {
+        Ok(KeptRefusal {
+            movement: natural(row, 0)?,
+            there: natural(row, 1)? as usize,
+        })
     }
-    Ok(movements)
 }
 
 /// Returns all refusals, in turn.
+///
+/// # Errors
+///
+/// As of [`batches_of`].
 pub fn refusals_of<S: Alter>(
     alloc: Global,
     conn: &mut Connection<S>,
 ) -> Result<Vec<KeptRefusal>, StockError> {
-    let mut refusals = Vec::new(alloc);
-    let mut rows = conn.query("SELECT movement, there FROM refusal ORDER BY movement", &[])?;
-    for _ in 0..u64::MAX {
-        let Some(row) = rows.next()? else {
-            break;
-        };
-        let (movement, there) = (natural(row, 0)?, natural(row, 1)? as usize);
-        refusals.push(KeptRefusal { movement, there })?;
+    list_of(
+        alloc,
+        conn,
+        "SELECT movement, there FROM refusal ORDER BY movement",
+        &[],
+    )
+}
+
+// A movement and whether it was refused. How many there were afterwards isn't in the row.
+impl FromRow for Event {
+    fn from_row(row: &Row) -> Result<Event, StockError> {
+        let there: Option<i64> = row.get(3)?;
+        Ok(Event {
+            batch: row.get(0)?,
+            line: natural(row, 1)?,
+            change: row.get(2)?,
+            is_refused: there.is_some(),
+            number: 0,
+        })
     }
-    Ok(refusals)
 }
 
 // Returns the number after a change.
@@ -171,34 +195,30 @@ fn number_after(number: usize, change: i64) -> usize {
     }
 }
 
+// Adds how many there were after each movement.
+fn count_through(events: &mut Vec<Event>) {
+    let mut number = 0;
+    for event in events.iter_mut() {
+        if !event.is_refused {
+            number = number_after(number, event.change);
+        }
+        event.number = number;
+    }
+}
+
 /// Returns the movements of an article, in turn, each with how many there were afterwards.
+///
+/// # Errors
+///
+/// As of [`batches_of`].
 pub fn history_of<S: Alter>(
     alloc: Global,
     conn: &mut Connection<S>,
     article: &str,
 ) -> Result<Vec<Event>, StockError> {
-    let mut events = Vec::new(alloc);
-    let mut number = 0;
-    let mut rows = conn.query(
-        "SELECT m.batch, m.line, m.change, r.there FROM movement m LEFT JOIN refusal r ON r.movement = m.movement WHERE m.article = ?1 ORDER BY m.movement",
-        params![article],
-    )?;
-    for _ in 0..u64::MAX {
-        let Some(row) = rows.next()? else {
-            break;
-        };
-        let there: Option<i64> = row.get(3)?;
-        let change: i64 = row.get(2)?;
-        if there.is_none() {
-            number = number_after(number, change);
-        }
-        events.push(Event {
-            batch: row.get(0)?,
-            line: natural(row, 1)?,
-            change,
-            is_refused: there.is_some(),
-            number,
-        })?;
-    }
+    let text =
+        "SELECT m.batch, m.line, m.change, r.there FROM movement m LEFT JOIN refusal r ON r.movement = m.movement WHERE m.article = ?1 ORDER BY m.movement";
+    let mut events = list_of(alloc, conn, text, params![article])?;
+    count_through(&mut events);
     Ok(events)
 }

@@ -1,6 +1,6 @@
 //! The arguments of the subcommands, and their help.
-use crate::command::{COLUMNS, MARKS, PROGRAM, SCALES, START_COLUMNS};
-use clap::{Arg, ArgAction, Command, Error, value_parser};
+use crate::command::{COLUMNS, MARKS, Made, PROGRAM, SCALES, START_COLUMNS, with};
+use clap::{Arg, ArgAction, Command, value_parser};
 use hashbag_lists::delimiter::NAMES;
 use hashbag_shell::VERSION;
 use std::alloc::Global;
@@ -24,8 +24,13 @@ pub fn is_job(word: &str) -> bool {
     )
 }
 
+// Adds a subcommand.
+fn with_job<'a>(command: Made<'a>, job: Made<'a>) -> Made<'a> {
+    command?.subcommand(job?)
+}
+
 // Returns a subcommand on a database.
-fn job<'a>(alloc: Global, name: &'a str, about: &'a str) -> Result<Command<'a>, Error> {
+fn job<'a>(alloc: Global, name: &'a str, about: &'a str) -> Made<'a> {
     let db = Arg::new(alloc, "db")
         .long("db")
         .value_name("FILE")
@@ -39,11 +44,11 @@ fn job<'a>(alloc: Global, name: &'a str, about: &'a str) -> Result<Command<'a>, 
         .default_value("5")
         .help("How long to wait while another process has the database open");
     let command = Command::new(alloc, name).about(about).after_help(AFTER);
-    Ok(command.arg(db)?.arg(wait)?)
+    with(with(Ok(command), db), wait)
 }
 
 // Adds how fields are delimited, and numbers written.
-fn with_form<'a>(alloc: Global, command: Command<'a>) -> Result<Command<'a>, Error> {
+fn with_form<'a>(alloc: Global, command: Made<'a>) -> Made<'a> {
     let mark = Arg::new(alloc, "mark")
         .long("mark")
         .value_name("MARK")
@@ -56,21 +61,21 @@ fn with_form<'a>(alloc: Global, command: Command<'a>) -> Result<Command<'a>, Err
         .value_parser(NAMES.as_slice())
         .default_value(",")
         .help("What is between fields");
-    Ok(command.arg(mark)?.arg(delimiter)?)
+    with(with(command, mark), delimiter)
 }
 
 // Adds where a table is written.
-fn with_output<'a>(alloc: Global, command: Command<'a>) -> Result<Command<'a>, Error> {
+fn with_output<'a>(alloc: Global, command: Made<'a>) -> Made<'a> {
     let output = Arg::new(alloc, "output")
         .short('o')
         .long("output")
         .value_name("FILE")
         .help("Where the table is written, in place of standard output");
-    Ok(with_form(alloc, command)?.arg(output)?)
+    with(with_form(alloc, command), output)
 }
 
 // Adds the stock at the beginning.
-fn with_start<'a>(alloc: Global, command: Command<'a>) -> Result<Command<'a>, Error> {
+fn with_start<'a>(alloc: Global, command: Made<'a>) -> Made<'a> {
     let from = Arg::new(alloc, "from")
         .long("from")
         .value_name("STOCK.csv")
@@ -80,11 +85,11 @@ fn with_start<'a>(alloc: Global, command: Command<'a>) -> Result<Command<'a>, Er
         .value_name("NAMES")
         .default_value(START_COLUMNS)
         .help("The columns of the stock at the beginning");
-    Ok(command.arg(from)?.arg(start_columns)?)
+    with(with(command, from), start_columns)
 }
 
 // Adds the movements.
-fn with_moves<'a>(alloc: Global, command: Command<'a>) -> Result<Command<'a>, Error> {
+fn with_moves<'a>(alloc: Global, command: Made<'a>) -> Made<'a> {
     let columns = Arg::new(alloc, "columns")
         .long("columns")
         .value_name("NAMES")
@@ -96,11 +101,11 @@ fn with_moves<'a>(alloc: Global, command: Command<'a>) -> Result<Command<'a>, Er
         .help(
             "Movements, each file a batch; `-` is standard input, which is read if neither a file nor --from is named",
         );
-    Ok(command.arg(columns)?.arg(moves)?)
+    with(with(command, columns), moves)
 }
 
 // Adds how many decimals numbers have, and what is done with refusals.
-fn with_rules<'a>(alloc: Global, command: Command<'a>) -> Result<Command<'a>, Error> {
+fn with_rules<'a>(alloc: Global, command: Made<'a>) -> Made<'a> {
     let scale = Arg::new(alloc, "scale")
         .long("scale")
         .value_name("D")
@@ -110,11 +115,11 @@ fn with_rules<'a>(alloc: Global, command: Command<'a>) -> Result<Command<'a>, Er
         .long("refused")
         .value_name("FILE")
         .help("Where refusals are written as CSV, in place of standard error");
-    Ok(command.arg(scale)?.arg(refused)?)
+    with(with(command, scale), refused)
 }
 
 // Adds the flags of `enter`.
-fn with_flags<'a>(alloc: Global, command: Command<'a>) -> Result<Command<'a>, Error> {
+fn with_flags<'a>(alloc: Global, command: Made<'a>) -> Made<'a> {
     let strict = Arg::new(alloc, "strict")
         .long("strict")
         .action(ArgAction::SetTrue)
@@ -123,34 +128,31 @@ fn with_flags<'a>(alloc: Global, command: Command<'a>) -> Result<Command<'a>, Er
         .long("again")
         .action(ArgAction::SetTrue)
         .help("Enters a file also if it was entered before");
-    Ok(command.arg(strict)?.arg(again)?)
+    with(with(command, strict), again)
 }
 
-fn enter<'a>(alloc: Global) -> Result<Command<'a>, Error> {
+fn enter<'a>(alloc: Global) -> Made<'a> {
     let command = job(
         alloc,
         "enter",
         "Enters files of movements, each whole or not at all",
-    )?;
-    let command = with_moves(alloc, with_start(alloc, command)?)?;
-    let command = with_rules(alloc, with_form(alloc, command)?)?;
-    with_flags(alloc, command)
+    );
+    let command = with_moves(alloc, with_start(alloc, command));
+    with_flags(alloc, with_rules(alloc, with_form(alloc, command)))
 }
 
-fn balance<'a>(alloc: Global) -> Result<Command<'a>, Error> {
+fn balance<'a>(alloc: Global) -> Made<'a> {
     let articles = Arg::new(alloc, "ARTICLE")
         .num_args(0..)
         .action(ArgAction::Append)
         .help(
             "Articles to be written, each with 0 if there are none; all that there are by default",
         );
-    with_output(
-        alloc,
-        job(alloc, "balance", "Writes the balance")?.arg(articles)?,
-    )
+    let command = job(alloc, "balance", "Writes the balance");
+    with_output(alloc, with(command, articles))
 }
 
-fn history<'a>(alloc: Global) -> Result<Command<'a>, Error> {
+fn history<'a>(alloc: Global) -> Made<'a> {
     let article = Arg::new(alloc, "ARTICLE")
         .required(true)
         .action(ArgAction::Set)
@@ -159,63 +161,62 @@ fn history<'a>(alloc: Global) -> Result<Command<'a>, Error> {
         alloc,
         "history",
         "Writes the movements of an article, with the balance after each",
-    )?;
-    with_output(alloc, command.arg(article)?)
+    );
+    with_output(alloc, with(command, article))
 }
 
-fn undo<'a>(alloc: Global) -> Result<Command<'a>, Error> {
+fn undo<'a>(alloc: Global) -> Made<'a> {
     let batch = Arg::new(alloc, "BATCH")
         .required(true)
         .value_parser(value_parser!(usize))
         .help("The number of the batch");
-    Ok(job(
+    let command = job(
         alloc,
         "undo",
         "Enters the opposite movements of a batch, all or none",
-    )?
-    .arg(batch)?)
+    );
+    with(command, batch)
 }
 
-fn close<'a>(alloc: Global) -> Result<Command<'a>, Error> {
+fn close<'a>(alloc: Global) -> Made<'a> {
     let into = Arg::new(alloc, "into")
         .long("into")
         .value_name("NEW")
         .required(true)
         .action(ArgAction::Set)
         .help("The new database");
-    Ok(job(
+    let command = job(
         alloc,
         "close",
         "Begins a new database with the balance of this one",
-    )?
-    .arg(into)?)
+    );
+    with(command, into)
 }
 
 // Adds the subcommands that show a stock.
-fn with_views<'a>(alloc: Global, command: Command<'a>) -> Result<Command<'a>, Error> {
-    let command = command.subcommand(balance(alloc)?)?;
-    let command = command.subcommand(history(alloc)?)?;
-    let batches = job(alloc, "batches", "Writes what was entered, and when")?;
-    Ok(command.subcommand(with_output(alloc, batches)?)?)
+fn with_views<'a>(alloc: Global, command: Made<'a>) -> Made<'a> {
+    let command = with_job(with_job(command, balance(alloc)), history(alloc));
+    let batches = job(alloc, "batches", "Writes what was entered, and when");
+    with_job(command, with_output(alloc, batches))
 }
 
 // Adds the subcommands that follow on those.
-fn with_checks<'a>(alloc: Global, command: Command<'a>) -> Result<Command<'a>, Error> {
+fn with_checks<'a>(alloc: Global, command: Made<'a>) -> Made<'a> {
     let verify = job(
         alloc,
         "verify",
         "Counts all movements again, and compares the balance and the refusals",
-    )?;
-    let command = command.subcommand(undo(alloc)?)?;
-    Ok(command.subcommand(verify)?.subcommand(close(alloc)?)?)
+    );
+    let command = with_job(with_job(command, undo(alloc)), verify);
+    with_job(command, close(alloc))
 }
 
 /// Returns the command with its subcommands.
-pub fn command<'a>(alloc: Global) -> Result<Command<'a>, Error> {
+pub fn command<'a>(alloc: Global) -> Made<'a> {
     let command = Command::new(alloc, PROGRAM)
         .version(VERSION)
         .about(ABOUT)
-        .subcommand_required(true)
-        .subcommand(enter(alloc)?)?;
-    with_checks(alloc, with_views(alloc, command)?)
+        .subcommand_required(true);
+    let command = with_job(Ok(command), enter(alloc));
+    with_checks(alloc, with_views(alloc, command))
 }

@@ -3,8 +3,11 @@ use crate::outputs::is_same;
 use crate::stock::failure::Failure;
 use crate::stock::request::Request;
 use hashbag_stock::error::StockError;
-use hashbag_stock::tables::{Form, form_of};
+use hashbag_stock::query::{Query, Tables};
+use hashbag_stock::tables::Form;
+use hashbag_stock::writing::{NewBatch, put_batch};
 use sqlite::{Connection, Error, ErrorCode, File, FileStore};
+use std::alloc::Global;
 use std::io::ErrorKind;
 use std::time::Duration;
 use std::{fs, thread};
@@ -25,12 +28,41 @@ pub fn failure_of<'a>(db: &'a str, error: StockError) -> Failure<'a> {
     }
 }
 
-/// Returns what it is, or the failure of the database.
-pub fn in_database<'a, T>(db: &'a str, done: Result<T, StockError>) -> Result<T, Failure<'a>> {
+// Returns what it is, or the failure of the database.
+fn in_database<'a, T>(db: &'a str, done: Result<T, StockError>) -> Result<T, Failure<'a>> {
     match done {
         Ok(value) => Ok(value),
         Err(error) => Err(failure_of(db, error)),
     }
+}
+
+/// Reads what is asked of a database.
+///
+/// # Errors
+///
+/// Why it can't be read.
+pub fn read<'a, Q: Query>(
+    alloc: Global,
+    db: &'a str,
+    conn: &mut Db,
+    query: &Q,
+) -> Result<Q::Output, Failure<'a>> {
+    in_database(db, query.read(alloc, conn))
+}
+
+/// Writes a batch, and first the tables if there is a scale.
+///
+/// # Errors
+///
+/// Why it can't be written. Then nothing is.
+pub fn put<'a>(
+    db: &'a str,
+    conn: &mut Db,
+    new_scale: Option<u32>,
+    batch: &NewBatch<'_>,
+) -> Result<(), Failure<'a>> {
+    in_database(db, put_batch(conn, new_scale, batch))?;
+    Ok(())
 }
 
 // Returns whether a file has no byte, or doesn't exist.
@@ -92,8 +124,13 @@ pub fn open_or_make<'a>(
     wait: usize,
 ) -> Result<(Db, Form), Failure<'a>> {
     let mut conn = open_at(rt, db, wait)?;
-    let form = in_database(db, form_of(&mut conn))?;
-    Ok((conn, form))
+    match read(rt.alloc(), db, &mut conn, &Tables) {
+        Ok(form) => Ok((conn, form)),
+        Err(failure) => {
+            abandon(conn);
+            Err(failure)
+        }
+    }
 }
 
 /// Opens the database of a stock, and returns how many decimals its numbers have.
@@ -117,6 +154,40 @@ pub fn open<'a>(rt: &HostRuntime, request: &Request<'a>) -> Result<(Db, u32), Fa
             Err(Failure::NoStock { db })
         }
     }
+}
+
+/// Reads what is asked of the stock of the request, and returns with it how many decimals its numbers have.
+///
+/// # Errors
+///
+/// As of [`open`], or why it can't be read.
+pub fn read_once<'a, Q: Query>(
+    rt: &HostRuntime,
+    request: &Request<'a>,
+    query: &Q,
+) -> Result<(Q::Output, u32), Failure<'a>> {
+    let (mut conn, scale) = open(rt, request)?;
+    let output = read(rt.alloc(), request.db, &mut conn, query);
+    Ok((ended(conn, output)?, scale))
+}
+
+// Leaves a database as it is: its log isn't copied into it.
+fn abandon(conn: Db) {
+    let _ = conn;
+}
+
+/// Closes a database after what was done in it, or leaves it as it is if that failed. Returns what was done.
+///
+/// # Errors
+///
+/// That of what was done.
+pub fn ended<'a, T>(conn: Db, done: Result<T, Failure<'a>>) -> Result<T, Failure<'a>> {
+    if done.is_ok() {
+        close(conn);
+    } else {
+        abandon(conn);
+    }
+    done
 }
 
 /// Closes a database. If its log can't be copied into it, the log stays, and a later process copies it.

@@ -1,8 +1,7 @@
 //! Files that are entered into a stock.
 use crate::outputs::{abandon, is_same, open, write_refusals};
 use crate::stock::database::{
-    Db, close as close_database, in_database, is_new, is_of_database, open as open_stock,
-    open_or_make,
+    Db, ended, is_new, is_of_database, open_or_make, put, read, read_once,
 };
 use crate::stock::failure::Failure;
 use crate::stock::inputs::{Input, digest_of, inputs_of, movements_of};
@@ -16,9 +15,9 @@ use hashbag_lists::fault::{Fault, SheetError};
 use hashbag_lists::trouble::Trouble;
 use hashbag_shell::status::{DENIED, DONE};
 use hashbag_stock::error::StockError;
-use hashbag_stock::reading::{balance_of, batches_of};
+use hashbag_stock::query::{Balance, Batches};
 use hashbag_stock::tables::Form;
-use hashbag_stock::writing::{Kind, NewBatch, put_batch};
+use hashbag_stock::writing::{Kind, NewBatch};
 use hashbag_stock_core::entering::enter_batch;
 use hashbag_stock_core::numbers::MOST;
 use hashbag_stock_core::once::{Batch, entered_before};
@@ -217,7 +216,7 @@ fn write_batches<'a>(
             refusals: &ready.refusals,
             changed: &ready.changed,
         };
-        in_database(db, put_batch(conn, new_scale, &batch))?;
+        put(db, conn, new_scale, &batch)?;
         new_scale = None;
     }
     Ok(())
@@ -289,11 +288,11 @@ fn kept_of<'a>(
     if request.from.is_some() {
         return Err(Failure::HasStock { db });
     }
-    let batches = in_database(db, batches_of(alloc, conn))?;
+    let batches = read(alloc, db, conn, &Batches)?;
     if !request.again {
         entered_twice(inputs, &batches)?;
     }
-    in_database(db, balance_of(alloc, conn))
+    read(alloc, db, conn, &Balance)
 }
 
 // Returns whether some movement is refused.
@@ -320,9 +319,30 @@ fn denied_of<'a>(
     Ok(Some(text_of(alloc, request, inputs, reading, &all)?))
 }
 
-// Enters the inputs, and returns the text of the refusals and the status. That text is made before anything is written.
-fn report_of<'a>(rt: &HostRuntime, request: &Request<'a>) -> Result<(Vec<u8>, u8), Failure<'a>> {
+// Enters the inputs into an open database, and returns the text of the refusals and the status. That text is made before anything is
+// written.
+fn report_in<'a>(
+    rt: &HostRuntime,
+    request: &Request<'a>,
+    inputs: &[Input<'a>],
+    conn: &mut Db,
+    form: Form,
+) -> Result<(Vec<u8>, u8), Failure<'a>> {
     let alloc = rt.alloc();
+    let (scale, new_scale) = scale_of(request, form)?;
+    let reading = request.reading(scale);
+    let kept = kept_of(alloc, request, inputs, conn, new_scale.is_some())?;
+    let all = all_ready(rt, request, inputs, reading, kept)?;
+    let text = text_of(alloc, request, inputs, reading, &all)?;
+    let denied = is_refused(&all);
+    if !(request.strict && denied) {
+        write_batches(conn, request.db, new_scale, inputs, &all)?;
+    }
+    Ok((text, if denied { DENIED } else { DONE }))
+}
+
+// Enters the inputs, and returns the text of the refusals and the status.
+fn report_of<'a>(rt: &HostRuntime, request: &Request<'a>) -> Result<(Vec<u8>, u8), Failure<'a>> {
     let db = request.db;
     let inputs = inputs_of(rt, request)?;
     if is_new(rt, db)?
@@ -331,17 +351,8 @@ fn report_of<'a>(rt: &HostRuntime, request: &Request<'a>) -> Result<(Vec<u8>, u8
         return Ok((text, DENIED));
     }
     let (mut conn, form) = open_or_make(rt, db, request.wait)?;
-    let (scale, new_scale) = scale_of(request, form)?;
-    let reading = request.reading(scale);
-    let kept = kept_of(alloc, request, &inputs, &mut conn, new_scale.is_some())?;
-    let all = all_ready(rt, request, &inputs, reading, kept)?;
-    let text = text_of(alloc, request, &inputs, reading, &all)?;
-    let denied = is_refused(&all);
-    if !(request.strict && denied) {
-        write_batches(&mut conn, db, new_scale, &inputs, &all)?;
-    }
-    close_database(conn);
-    Ok((text, if denied { DENIED } else { DONE }))
+    let report = report_in(rt, request, &inputs, &mut conn, form);
+    ended(conn, report)
 }
 
 // Returns a file that is named for two things.
@@ -397,6 +408,29 @@ pub fn enter<'a>(rt: &HostRuntime, request: &Request<'a>) -> Result<u8, Failure<
     }
 }
 
+// Writes the first batch of a new database.
+fn begin_in<'a>(
+    rt: &HostRuntime,
+    request: &Request<'a>,
+    scale: u32,
+    input: &Input<'a>,
+    conn: &mut Db,
+) -> Result<(), Failure<'a>> {
+    let reading = request.reading(scale);
+    let movements = movements_of(rt, request, input, 0, reading)?;
+    let mut kept = Vec::new(rt.alloc());
+    let ready = ready_of(rt, request, input.file, reading, &mut kept, movements)?;
+    let batch = NewBatch {
+        file: input.file,
+        sha256: input.sha256.as_str(),
+        kind: Kind::Start,
+        movements: &ready.movements,
+        refusals: &ready.refusals,
+        changed: &ready.changed,
+    };
+    put(request.into, conn, Some(scale), &batch)
+}
+
 // Begins a new database with a balance, which is entered as a text of CSV would be.
 fn begin<'a>(
     rt: &HostRuntime,
@@ -414,23 +448,11 @@ fn begin<'a>(
         is_start: true,
     };
     let (mut conn, form) = open_or_make(rt, request.into, request.wait)?;
-    if form != Form::Empty {
-        return Err(Failure::HasStock { db: request.into });
-    }
-    let movements = movements_of(rt, request, &input, 0, reading)?;
-    let mut kept = Vec::new(alloc);
-    let ready = ready_of(rt, request, input.file, reading, &mut kept, movements)?;
-    let batch = NewBatch {
-        file: input.file,
-        sha256: input.sha256.as_str(),
-        kind: Kind::Start,
-        movements: &ready.movements,
-        refusals: &ready.refusals,
-        changed: &ready.changed,
+    let begun = match form {
+        Form::Empty => begin_in(rt, request, scale, &input, &mut conn),
+        Form::Stock(_) => Err(Failure::HasStock { db: request.into }),
     };
-    in_database(request.into, put_batch(&mut conn, Some(scale), &batch))?;
-    close_database(conn);
-    Ok(())
+    ended(conn, begun)
 }
 
 /// Begins a new database with the balance of this one.
@@ -442,9 +464,7 @@ pub fn close<'a>(rt: &HostRuntime, request: &Request<'a>) -> Result<u8, Failure<
     if is_of_database(rt, request.db, request.into)? {
         return Err(Failure::Conflict(request.into));
     }
-    let (mut conn, scale) = open_stock(rt, request)?;
-    let balance = in_database(request.db, balance_of(rt.alloc(), &mut conn))?;
-    close_database(conn);
+    let (balance, scale) = read_once(rt, request, &Balance)?;
     begin(rt, request, scale, &balance)?;
     Ok(DONE)
 }

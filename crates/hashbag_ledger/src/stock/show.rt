@@ -1,11 +1,11 @@
 //! What is shown of a stock: its balance, the history of an article, and the batches.
 use crate::outputs::{open as open_output, write_table};
-use crate::stock::database::{close, in_database, is_of_database, open};
+use crate::stock::database::{is_of_database, read_once};
 use crate::stock::failure::Failure;
 use crate::stock::request::Request;
 use hashbag_ledger_core::output::balance_text;
 use hashbag_shell::status::DONE;
-use hashbag_stock::reading::{balance_of, batches_of, history_of};
+use hashbag_stock::query::{Balance, Batches, History};
 use hashbag_stock_core::output::{batches_text, history_text};
 use std::alloc::{AllocError, Global};
 
@@ -58,9 +58,7 @@ fn write<'a>(rt: &HostRuntime, request: &Request<'a>, text: &[u8]) -> Result<u8,
 /// Why there is none, or why it can't be written.
 pub fn balance<'a>(rt: &HostRuntime, request: &Request<'a>) -> Result<u8, Failure<'a>> {
     let alloc = rt.alloc();
-    let (mut conn, scale) = open(rt, request)?;
-    let all = in_database(request.db, balance_of(alloc, &mut conn))?;
-    close(conn);
+    let (all, scale) = read_once(rt, request, &Balance)?;
     let shown = if request.articles.is_empty() {
         all
     } else {
@@ -78,10 +76,7 @@ pub fn balance<'a>(rt: &HostRuntime, request: &Request<'a>) -> Result<u8, Failur
 pub fn history<'a>(rt: &HostRuntime, request: &Request<'a>) -> Result<u8, Failure<'a>> {
     let alloc = rt.alloc();
     let article = request.articles.first().copied().unwrap_or("");
-    let (mut conn, scale) = open(rt, request)?;
-    let batches = in_database(request.db, batches_of(alloc, &mut conn))?;
-    let events = in_database(request.db, history_of(alloc, &mut conn, article))?;
-    close(conn);
+    let ((batches, events), scale) = read_once(rt, request, &History(article))?;
     let text = history_text(alloc, request.reading(scale), &batches, &events)?;
     write(rt, request, text.as_slice())
 }
@@ -93,9 +88,7 @@ pub fn history<'a>(rt: &HostRuntime, request: &Request<'a>) -> Result<u8, Failur
 /// As of [`balance`].
 pub fn batches<'a>(rt: &HostRuntime, request: &Request<'a>) -> Result<u8, Failure<'a>> {
     let alloc = rt.alloc();
-    let (mut conn, scale) = open(rt, request)?;
-    let batches = in_database(request.db, batches_of(alloc, &mut conn))?;
-    close(conn);
+    let (batches, scale) = read_once(rt, request, &Batches)?;
     let text = batches_text(alloc, request.reading(scale), &batches)?;
     write(rt, request, text.as_slice())
 }

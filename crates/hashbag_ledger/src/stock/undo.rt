@@ -1,5 +1,5 @@
 //! A batch that is taken back.
-use crate::stock::database::{Db, close, in_database, open};
+use crate::stock::database::{Db, ended, open, put as put_in, read};
 use crate::stock::enter::{copies_of, copy_of, random_state, start_too_many};
 use crate::stock::failure::Failure;
 use crate::stock::request::Request;
@@ -9,8 +9,8 @@ use hashbag_ledger_core::output::refusals_text;
 use hashbag_lists::decimals::write_decimal;
 use hashbag_lists::files::write_text;
 use hashbag_shell::status::{DENIED, DONE};
-use hashbag_stock::reading::{balance_of, batches_of, entered_of};
-use hashbag_stock::writing::{Kind, NewBatch, put_batch};
+use hashbag_stock::query::{Balance, Batches, Entered};
+use hashbag_stock::writing::{Kind, NewBatch};
 use hashbag_stock_core::numbers::MOST;
 use hashbag_stock_core::once::{Batch, batch_of, undone_by};
 use hashbag_stock_core::rows::changed_rows;
@@ -66,13 +66,12 @@ fn put<'a>(
         refusals: &[],
         changed: &changed,
     };
-    in_database(db, put_batch(conn, None, &batch))?;
-    Ok(())
+    put_in(db, conn, None, &batch)
 }
 
 // Returns what is known of the batch that is asked for, if it may be undone.
 fn found_in<'a>(alloc: Global, conn: &mut Db, request: &Request<'a>) -> Result<Found, Failure<'a>> {
-    let batches = in_database(request.db, batches_of(alloc, conn))?;
+    let batches = read(alloc, request.db, conn, &Batches)?;
     found_of(request, &batches)
 }
 
@@ -111,8 +110,8 @@ fn take_back_in<'a>(
 ) -> Result<Vec<Refusal<String>>, Failure<'a>> {
     let alloc = rt.alloc();
     let db = request.db;
-    let entered = in_database(db, entered_of(alloc, conn, found.number))?;
-    let kept = in_database(db, balance_of(alloc, conn))?;
+    let entered = read(alloc, db, conn, &Entered(found.number))?;
+    let kept = read(alloc, db, conn, &Balance)?;
     match undo_of(rt, request, scale, found.file.as_str(), &kept, &entered)? {
         Undo::Refused(refusals) => Ok(refusals),
         Undo::Done(after) => {
@@ -123,16 +122,27 @@ fn take_back_in<'a>(
     }
 }
 
+// Takes the batch back in an open database, and returns the refusals with the name of its file.
+fn done_in<'a>(
+    rt: &HostRuntime,
+    request: &Request<'a>,
+    scale: u32,
+    conn: &mut Db,
+) -> Result<(Vec<Refusal<String>>, String), Failure<'a>> {
+    let found = found_in(rt.alloc(), conn, request)?;
+    let refusals = take_back_in(rt, request, scale, conn, &found)?;
+    Ok((refusals, found.file))
+}
+
 // Takes the batch back, and returns the refusals with the name of its file and the scale.
 fn done_of<'a>(
     rt: &HostRuntime,
     request: &Request<'a>,
 ) -> Result<(Vec<Refusal<String>>, String, u32), Failure<'a>> {
     let (mut conn, scale) = open(rt, request)?;
-    let found = found_in(rt.alloc(), &mut conn, request)?;
-    let refusals = take_back_in(rt, request, scale, &mut conn, &found)?;
-    close(conn);
-    Ok((refusals, found.file, scale))
+    let done = done_in(rt, request, scale, &mut conn);
+    let (refusals, file) = ended(conn, done)?;
+    Ok((refusals, file, scale))
 }
 
 /// Enters the opposite movements of a batch, all or none, and writes the refusals.

@@ -1,45 +1,50 @@
 //! A stock that is counted again from all its movements.
-use crate::stock::database::{close, in_database, open};
+use crate::stock::database::read_once;
 use crate::stock::enter::random_state;
 use crate::stock::failure::Failure;
 use crate::stock::request::Request;
 use hashbag_ledger_core::entering::LedgerError;
-use hashbag_ledger_core::movements::Movement;
+use hashbag_ledger_core::ledger::Entered;
 use hashbag_lists::counts::Reading;
 use hashbag_lists::decimals::write_decimal;
 use hashbag_lists::escaped::Escaped;
 use hashbag_lists::files::write_text;
 use hashbag_shell::status::{DENIED, DONE};
-use hashbag_stock::reading::{balance_of, batches_of, movements_of, refusals_of};
+use hashbag_stock::query::{Everything, Kept};
 use hashbag_stock_core::entering::enter_batch;
 use hashbag_stock_core::numbers::MOST;
-use hashbag_stock_core::once::Batch;
 use hashbag_stock_core::verifying::{KeptRefusal, wrong_batch, wrong_number, wrong_refusal};
 use std::alloc::{AllocError, Global};
 use std::io;
 
-// All that a stock keeps.
-#[derive(Drop)]
-struct Kept {
-    movements: Vec<Movement<String>>,
-    refusals: Vec<KeptRefusal>,
-    balance: Vec<(String, usize)>,
-    batches: Vec<Batch>,
+// Returns the first row of the balance or of the refusals that isn't what the movements make.
+fn wrong_row(
+    alloc: Global,
+    reading: Reading,
+    balance: &[(String, usize)],
+    refusals: &[KeptRefusal],
+    entered: &Entered<String>,
+) -> Result<Option<String>, AllocError> {
+    if let Some(wrong) = wrong_number(balance, &entered.balance) {
+        let article = Escaped(wrong.article);
+        let stored = write_decimal(alloc, wrong.kept, reading.scale)?;
+        let counted = write_decimal(alloc, wrong.counted, reading.scale)?;
+        return Ok(Some(format!(in alloc;
+            "\"{article}\": {stored} kept, {counted} by the movements"
+        )?));
+    }
+    match wrong_refusal(refusals, &entered.refusals) {
+        Some(number) => Ok(Some(format!(in alloc;
+            "movement {number}: another refusal than by the movements"
+        )?)),
+        None => Ok(None),
+    }
 }
 
-// Reads all that the stock keeps, and how many decimals its numbers have.
-fn kept_of<'a>(rt: &HostRuntime, request: &Request<'a>) -> Result<(Kept, u32), Failure<'a>> {
-    let alloc = rt.alloc();
-    let db = request.db;
-    let (mut conn, scale) = open(rt, request)?;
-    let kept = Kept {
-        movements: in_database(db, movements_of(alloc, &mut conn))?,
-        refusals: in_database(db, refusals_of(alloc, &mut conn))?,
-        balance: in_database(db, balance_of(alloc, &mut conn))?,
-        batches: in_database(db, batches_of(alloc, &mut conn))?,
-    };
-    close(conn);
-    Ok((kept, scale))
+// Returns what is said if the total is too large with the movement of this number.
+fn past_the_most(alloc: Global, reading: Reading, number: u64) -> Result<String, AllocError> {
+    let most = write_decimal(alloc, MOST, reading.scale)?;
+    format!(in alloc; "movement {number}: total past {most}")
 }
 
 // Returns the first way in which the stock differs from its movements, or `None` if it agrees.
@@ -54,29 +59,10 @@ fn difference_of<'a>(
             "batch {number}: other numbers of movements than it has"
         )?));
     }
-    let entered = enter_batch(alloc, random_state(rt)?, Vec::new(alloc), kept.movements);
-    match entered {
-        Ok(entered) => {
-            if let Some(wrong) = wrong_number(&kept.balance, &entered.balance) {
-                let article = Escaped(wrong.article);
-                let stored = write_decimal(alloc, wrong.kept, reading.scale)?;
-                let counted = write_decimal(alloc, wrong.counted, reading.scale)?;
-                return Ok(Some(format!(in alloc;
-                    "\"{article}\": {stored} kept, {counted} by the movements"
-                )?));
-            }
-            match wrong_refusal(&kept.refusals, &entered.refusals) {
-                Some(number) => Ok(Some(format!(in alloc;
-                    "movement {number}: another refusal than by the movements"
-                )?)),
-                None => Ok(None),
-            }
-        }
-        Err(LedgerError::TooMany(place)) => {
-            let number = place.line;
-            let most = write_decimal(alloc, MOST, reading.scale)?;
-            Ok(Some(format!(in alloc; "movement {number}: total past {most}")?))
-        }
+    let state = random_state(rt)?;
+    match enter_batch(alloc, state, Vec::new(alloc), kept.movements) {
+        Ok(entered) => Ok(wrong_row(alloc, reading, &kept.balance, &kept.refusals, &entered)?),
+        Err(LedgerError::TooMany(place)) => Ok(Some(past_the_most(alloc, reading, place.line)?)),
         Err(_) => Err(Failure::from(AllocError)),
     }
 }
@@ -100,7 +86,7 @@ fn agreement(
 /// Why they can't be read, or the answer can't be written.
 pub fn verify<'a>(rt: &HostRuntime, request: &Request<'a>) -> Result<u8, Failure<'a>> {
     let alloc = rt.alloc();
-    let (kept, scale) = kept_of(rt, request)?;
+    let (kept, scale) = read_once(rt, request, &Everything)?;
     let said = agreement(
         alloc,
         kept.batches.len(),
