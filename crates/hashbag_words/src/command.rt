@@ -1,6 +1,6 @@
 //! The arguments and their help.
-use clap::{Arg, Command, Error, arg, value_parser};
-use std::alloc::Global;
+use clap::{Arg, Command, arg, value_parser};
+use std::alloc::{AllocError, Global};
 
 const ABOUT: &str = "Counts words, lines or matches of a pattern, and adds up files of counts";
 
@@ -25,43 +25,57 @@ pub fn is_job(word: &str) -> bool {
     )
 }
 
+// A command, or why it can't be made.
+type Made<'a> = Result<Command<'a>, AllocError>;
+
+// Adds an argument, if both were made.
+fn with<'a>(command: Made<'a>, arg: Result<Arg<'a>, AllocError>) -> Made<'a> {
+    command?.arg(arg?)
+}
+
+// Adds a subcommand, if both were made.
+fn with_job<'a>(command: Made<'a>, job: Made<'a>) -> Made<'a> {
+    command?.subcommand(job?)
+}
+
 // Adds how inputs are read: options of every job.
-fn with_input(alloc: Global, command: Command<'_>) -> Result<Command<'_>, Error> {
-    Ok(
-        command
-            .arg(arg!(in alloc; --"skip-bad" "Skip bad lines, and say how many there were"))?
-            .arg(
-                arg!(in alloc; --progress "Report on standard error, each second, how far it is"),
-            )?,
-    )
+fn with_input<'a>(alloc: Global, command: Made<'a>) -> Made<'a> {
+    let skip_bad = arg!(in alloc; --"skip-bad" "Skip bad lines, and say how many there were");
+    let progress =
+        arg!(in alloc; --progress "Report on standard error, each second, how far it is");
+    with(with(command, Ok(skip_bad)), Ok(progress))
+}
+
+// Adds which counts are shown, and in which order.
+fn with_choice<'a>(alloc: Global, command: Made<'a>) -> Made<'a> {
+    let top = arg!(in alloc; --top <K> "Show the K commonest alone, commonest first")
+        .value_parser(value_parser!(usize))
+        .conflicts_with("unsorted");
+    let unsorted = arg!(in alloc; --unsorted "Show them in no order, which is faster");
+    let least =
+        arg!(in alloc; --least <N> "Show what occurs N times or oftener alone").value_parser(
+            value_parser!(usize),
+        );
+    with(with(with(command, top), Ok(unsorted)), Ok(least))
+}
+
+// Adds how counts are written, and where.
+fn with_form<'a>(alloc: Global, command: Made<'a>) -> Made<'a> {
+    let to = arg!(in alloc; --to <FORM> "How they are written")
+        .value_parser(["tsv", "json", "uniq"].as_slice())
+        .default_value("tsv");
+    let output =
+        arg!(in alloc; -o --output <FILE> "Write there, all or nothing, not to standard output");
+    with(with(command, Ok(to)), Ok(output))
 }
 
 // Adds how counts are shown: options of every job.
-fn with_output(alloc: Global, command: Command<'_>) -> Result<Command<'_>, Error> {
-    let top = arg!(in alloc; --top <K> "Show the K commonest alone, commonest first");
-    let unsorted = arg!(in alloc; --unsorted "Show them in no order, which is faster");
-    let least = arg!(in alloc; --least <N> "Show what occurs N times or oftener alone");
-    let to = arg!(in alloc; --to <FORM> "How they are written");
-    let output =
-        arg!(in alloc; -o --output <FILE> "Write there, all or nothing, not to standard output");
-    Ok(
-        command
-            .arg(
-                top.value_parser(value_parser!(usize))
-                    .conflicts_with("unsorted")?,
-            )?
-            .arg(unsorted)?
-            .arg(least.value_parser(value_parser!(usize)))?
-            .arg(
-                to.value_parser(["tsv", "json", "uniq"].as_slice())
-                    .default_value("tsv"),
-            )?
-            .arg(output)?
-            .arg(
-                arg!(in alloc; --shard <"I/N"> "Show the tokens of the I-th of N parts alone: each token is in one, by a fixed hash"),
-            )?
-            .arg(arg!(in alloc; --"fail-empty" "End with status 1 where nothing is shown"))?,
-    )
+fn with_output<'a>(alloc: Global, command: Made<'a>) -> Made<'a> {
+    let command = with_form(alloc, with_choice(alloc, command));
+    let shard =
+        arg!(in alloc; --shard <"I/N"> "Show the tokens of the I-th of N parts alone: each token is in one, by a fixed hash");
+    let fail_empty = arg!(in alloc; --"fail-empty" "End with status 1 where nothing is shown");
+    with(with(command, Ok(shard)), Ok(fail_empty))
 }
 
 // Returns the form of the counts that are read: an option of every job that reads counts.
@@ -72,68 +86,65 @@ fn form_read<'a>(alloc: Global) -> Arg<'a> {
 }
 
 // Adds the options of a job that may count more than the memory holds.
-fn with_memory(alloc: Global, command: Command<'_>) -> Result<Command<'_>, Error> {
-    Ok(
-        command
-            .arg(
-                arg!(in alloc; --memory <SIZE> "Take about that much memory, as `64M` or `2G`, and temporary files beyond it"),
-            )?
-            .arg(
-                arg!(in alloc; --tmp <DIR> "Where temporary files are: $TMPDIR or /tmp by default"),
-            )?,
-    )
+fn with_memory<'a>(alloc: Global, command: Made<'a>) -> Made<'a> {
+    let memory =
+        arg!(in alloc; --memory <SIZE> "Take about that much memory, as `64M` or `2G`, and temporary files beyond it");
+    let tmp = arg!(in alloc; --tmp <DIR> "Where temporary files are: $TMPDIR or /tmp by default");
+    with(with(command, Ok(memory)), Ok(tmp))
 }
 
 // Adds the file that has the names of the inputs: an option of every job that reads any number of files.
-fn with_list(alloc: Global, command: Command<'_>) -> Result<Command<'_>, Error> {
+fn with_list<'a>(alloc: Global, command: Made<'a>) -> Made<'a> {
     let list =
         arg!(in alloc; --"files-from" <FILE> "Read the names of the inputs there, one a line; `-`: from standard input");
-    Ok(command.arg(list.conflicts_with("files")?)?)
+    with(command, list.conflicts_with("files"))
 }
 
-fn count<'a>(alloc: Global) -> Result<Command<'a>, Error> {
+// Adds what is counted.
+fn with_tokens<'a>(alloc: Global, command: Made<'a>) -> Made<'a> {
     let by =
         arg!(in alloc; --by <WHAT> "What is counted: what is between white space, the words by the rules of Unicode, or whole lines")
             .value_parser(["words", "unicode", "lines"].as_slice())
             .default_value("words")
-            .conflicts_with("pattern")?;
-    let command = Command::new(alloc, "count")
-        .about("Count what is in text")
-        .arg(
-            arg!(in alloc; files: [FILE] ... "What is read: standard input where there is none, or for `-`"),
-        )?
-        .arg(by)?
-        .arg(arg!(in alloc; --pattern <REGEX> "Count what matches it, within a line"))?
-        .arg(arg!(in alloc; --fold "Count upper and lower case as one"))?
-        .arg(
-            arg!(in alloc; --lossy "Replace bytes that aren't UTF-8 by U+FFFD, and say in how many lines"),
-        )?;
-    let command = with_memory(alloc, with_list(alloc, command)?)?;
-    with_output(alloc, with_input(alloc, command)?)
+            .conflicts_with("pattern");
+    let pattern = arg!(in alloc; --pattern <REGEX> "Count what matches it, within a line");
+    with(with(command, by), Ok(pattern))
 }
 
-fn merge<'a>(alloc: Global) -> Result<Command<'a>, Error> {
+fn count<'a>(alloc: Global) -> Made<'a> {
+    let files =
+        arg!(in alloc; files: [FILE] ... "What is read: standard input where there is none, or for `-`");
+    let fold = arg!(in alloc; --fold "Count upper and lower case as one");
+    let lossy =
+        arg!(in alloc; --lossy "Replace bytes that aren't UTF-8 by U+FFFD, and say in how many lines");
+    let command = Command::new(alloc, "count").about("Count what is in text");
+    let command = with_tokens(alloc, with(Ok(command), Ok(files)));
+    let command = with(with(command, Ok(fold)), Ok(lossy));
+    let command = with_memory(alloc, with_list(alloc, command));
+    with_output(alloc, with_input(alloc, command))
+}
+
+fn merge<'a>(alloc: Global) -> Made<'a> {
+    let files =
+        arg!(in alloc; files: [FILE] ... "Files of counts: standard input where there is none, or for `-`");
     let sorted =
-        arg!(in alloc; --sorted "The tokens of each file rise: merge the files line by line");
-    let command = Command::new(alloc, "merge")
-        .about("Add up counts")
-        .arg(
-            arg!(in alloc; files: [FILE] ... "Files of counts: standard input where there is none, or for `-`"),
-        )?
-        .arg(form_read(alloc))?
-        .arg(sorted.conflicts_with("memory")?)?;
-    let command = with_memory(alloc, with_list(alloc, command)?)?;
-    with_output(alloc, with_input(alloc, command)?)
+        arg!(in alloc; --sorted "The tokens of each file rise: merge the files line by line").conflicts_with(
+            "memory",
+        );
+    let command = Command::new(alloc, "merge").about("Add up counts");
+    let command = with(with(Ok(command), Ok(files)), Ok(form_read(alloc)));
+    let command = with_list(alloc, with(command, sorted));
+    with_output(alloc, with_input(alloc, with_memory(alloc, command)))
 }
 
 // Returns a job on two files of counts.
-fn pair<'a>(alloc: Global, name: &'a str, about: &'a str) -> Result<Command<'a>, Error> {
-    let command = Command::new(alloc, name)
-        .about(about)
-        .arg(arg!(in alloc; first: <A> "Counts"))?
-        .arg(arg!(in alloc; second: <B> "Other counts"))?
-        .arg(form_read(alloc))?;
-    with_output(alloc, with_input(alloc, command)?)
+fn pair<'a>(alloc: Global, name: &'a str, about: &'a str) -> Made<'a> {
+    let first = arg!(in alloc; first: <A> "Counts");
+    let second = arg!(in alloc; second: <B> "Other counts");
+    let command = Ok(Command::new(alloc, name).about(about));
+    let command = with(with(command, Ok(first)), Ok(second));
+    let command = with(command, Ok(form_read(alloc)));
+    with_output(alloc, with_input(alloc, command))
 }
 
 /// Returns the command with all its jobs. `--version` prints `version` after the name.
@@ -141,16 +152,15 @@ fn pair<'a>(alloc: Global, name: &'a str, about: &'a str) -> Result<Command<'a>,
 /// # Errors
 ///
 /// An error if an allocation fails.
-pub fn command<'a>(alloc: Global, version: &'a str) -> Result<Command<'a>, Error> {
-    Ok(
-        Command::new(alloc, "hashbag_words")
-            .version(version)
-            .about(ABOUT)
-            .after_help(AFTER)
-            .subcommand_required(true)
-            .subcommand(count(alloc)?)?
-            .subcommand(merge(alloc)?)?
-            .subcommand(pair(alloc, "less", "Take the counts of B from those of A")?)?
-            .subcommand(pair(alloc, "common", "Show the lesser of the counts of A and B")?)?,
-    )
+pub fn command<'a>(alloc: Global, version: &'a str) -> Result<Command<'a>, AllocError> {
+    let command = Command::new(alloc, "hashbag_words")
+        .version(version)
+        .about(ABOUT)
+        .after_help(AFTER)
+        .subcommand_required(true);
+    let command = with_job(Ok(command), count(alloc));
+    let command = with_job(command, merge(alloc));
+    let less = pair(alloc, "less", "Take the counts of B from those of A");
+    let common = pair(alloc, "common", "Show the lesser of the counts of A and B");
+    with_job(with_job(command, less), common)
 }
