@@ -12,11 +12,18 @@ use hashbag_lists::sheet::{Column, Sheet};
 use std::alloc::{AllocError, Global};
 use std::hash::BuildHasher;
 
+// The columns of a line: those of the article's fields, and that of its number.
+#[derive(Clone, Copy)]
+struct LineColumns<'n> {
+    article: &'n [Column<'n>],
+    number: Column<'n>,
+}
+
 // The fields of several columns in the record that was read last.
 fn fields_of(
     alloc: Global,
     sheet: &Sheet<'_>,
-    columns: &Vec<Column<'_>>,
+    columns: &[Column<'_>],
 ) -> Result<Vec<String>, SheetError> {
     let mut fields = Vec::new(alloc);
     for column in columns {
@@ -42,6 +49,17 @@ fn columns_of<'n>(
     Ok(columns)
 }
 
+// The number in this column of the record that was read last, in units of the scale.
+fn number_of(
+    alloc: Global,
+    sheet: &Sheet<'_>,
+    column: Column<'_>,
+    scale: Scale,
+) -> Result<usize, SheetError> {
+    let digits = sheet.field(column)?;
+    scaled_number(alloc, sheet.line(), digits, digits, scale)
+}
+
 // Adds an article and its number. The record that was read last has them.
 fn add_line<S: BuildHasher + Drop>(
     alloc: Global,
@@ -58,6 +76,27 @@ fn add_line<S: BuildHasher + Drop>(
         Err(BagError::TooMany) => Err(sheet.bad_line(total_too_large(alloc, scale)?)),
         Err(BagError::BelowTotal | BagError::Memory) => Err(SheetError::Memory),
     }
+}
+
+// Adds the lines that are left of a text.
+fn add_lines<S: BuildHasher + Drop>(
+    alloc: Global,
+    sheet: &mut Sheet<'_>,
+    columns: LineColumns<'_>,
+    tally: &mut Tally<Vec<String>, S>,
+    scale: Scale,
+) -> Result<(), SheetError>
+    ensures { OnOk result (IsTallyOfLines tally.old.counts tally.old.zeros → IsTallyOfLines tally.new.counts tally.new.zeros) }
+{
+    'records: for _ in 0..u64::MAX {
+        if !sheet.read()? {
+            break;
+        }
+        let article = fields_of(alloc, sheet, columns.article)?;
+        let number = number_of(alloc, sheet, columns.number, scale)?;
+        add_line(alloc, sheet, tally, article, number, scale)?;
+    }
+    Ok(())
 }
 
 /// Returns the tally of the lines of a text, under this hash state. An article is the fields of the columns that `keys` names, and may
@@ -83,18 +122,14 @@ pub fn read_tally<S: BuildHasher + Copy + Drop>(
     ensures carried { IfOk result (λ tally. (tally.counts.tables.waiting ≡ []) × (tally.zeros.tables.waiting ≡ [])) }
 {
     let mut sheet = Sheet::open_with(alloc, text, reading.delimiter)?;
-    let articles = columns_of(alloc, &sheet, keys)?;
-    let numbers = sheet.column(number_column)?;
+    let fields = columns_of(alloc, &sheet, keys)?;
+    let number = sheet.column(number_column)?;
+    let columns = LineColumns {
+        article: &fields,
+        number,
+    };
     let mut tally = empty_tally(alloc, state);
-    'records: for _ in 0..u64::MAX {
-        if !sheet.read()? {
-            break;
-        }
-        let article = fields_of(alloc, &sheet, &articles)?;
-        let digits = sheet.field(numbers)?;
-        let n = scaled_number(alloc, sheet.line(), digits, digits, reading.scale)?;
-        add_line(alloc, &sheet, &mut tally, article, n, reading.scale)?;
-    }
+    add_lines(alloc, &mut sheet, columns, &mut tally, reading.scale)?;
     tally.finish_carry();
     Ok(tally)
 }
