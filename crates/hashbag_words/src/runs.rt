@@ -4,7 +4,8 @@ use crate::batch::Batch;
 use crate::failure::Failure;
 use hashbag_shell::temporary_file::create_unnamed;
 use hashbag_words_core::runs::spill;
-use hashbag_words_core::shown_rows::WrittenRows;
+use hashbag_words_core::shards::Shard;
+use hashbag_words_core::shown_rows::{ShardRows, WrittenRows};
 use hashbag_words_core::writing::{Format, RowWriter};
 use std::fs::File;
 use std::io::{self, BufWriter, Seek};
@@ -32,14 +33,14 @@ pub struct Runs<'s, 'a> {
     runs: Vec<Run>,
 }
 
-/// Creates a temporary file in that folder.
-pub fn temporary<'a>(rt: &HostRuntime, folder: &'a str) -> Result<File, Failure<'a>> {
+// Creates a temporary file in that folder.
+fn temporary<'a>(rt: &HostRuntime, folder: &'a str) -> Result<File, Failure<'a>> {
     let number = process::id(rt.process());
     create_unnamed(rt, folder, number).map_err(|error| Failure::of_file(folder, error))
 }
 
-/// Flushes, and returns the file, to be read from its beginning.
-pub fn begun(written: BufWriter<File>) -> io::Result<File> {
+// Flushes, and returns the file, to be read from its beginning.
+fn begun(written: BufWriter<File>) -> io::Result<File> {
     let mut file = match written.into_inner() {
         Ok(file) => file,
         Err(error) => return Err(error.into_error()),
@@ -111,7 +112,7 @@ impl<'s, 'a> Runs<'s, 'a> {
                 _ => break,
             }
         }
-        merge_to_file(self.rt, self.folder, &mut batch)
+        merge_to_run(self.rt, self.folder, &mut batch)
     }
 
     /// Returns all runs as sources of one merge.
@@ -125,24 +126,66 @@ impl<'s, 'a> Runs<'s, 'a> {
     }
 }
 
-/// Merges sources into a temporary file in that folder, to be read from its beginning.
+/// How merged rows are written, and which.
+#[derive(Clone, Copy)]
+pub struct Shape {
+    /// How they are written.
+    pub format: Format,
+    /// What counts less isn't written.
+    pub least: usize,
+    /// The shard that is written, if it isn't all.
+    pub shard: Option<Shard>,
+}
+
+// The rows of a run: all of them.
+const RUN: Shape = Shape {
+    format: Format::Tsv,
+    least: 0,
+    shard: None,
+};
+
+type FileRows = ShardRows<WrittenRows<BufWriter<File>>>;
+
+// Begins rows in a file.
+fn begin_rows(rt: &HostRuntime, file: File, shape: Shape) -> io::Result<FileRows> {
+    let out = BufWriter::with_capacity(rt.alloc(), BUFFER, file)?;
+    let writer = RowWriter::begin(rt.alloc(), out, shape.format)?;
+    let least = shape.least;
+    let sink = WrittenRows { writer, least };
+    let shard = shape.shard;
+    Ok(ShardRows { sink, shard })
+}
+
+// Ends rows. Returns their file, and whether it shows nothing.
+fn end_rows(rows: FileRows) -> io::Result<(File, bool)> {
+    let writer = rows.sink.writer;
+    let is_empty = writer.is_empty();
+    let file = begun(writer.finish()?)?;
+    Ok((file, is_empty))
+}
+
+/// Merges sources into a temporary file in that folder. Returns the file, to be read from its beginning, and whether it shows nothing.
 pub fn merge_to_file<'a>(
     rt: &HostRuntime,
     folder: &'a str,
     batch: &mut Batch<'_, 'a>,
-) -> Result<File, Failure<'a>> {
+    shape: Shape,
+) -> Result<(File, bool), Failure<'a>> {
     let file = temporary(rt, folder)?;
-    let out = BufWriter::with_capacity(rt.alloc(), BUFFER, file).map_err(|error| Failure::of_file(
-        folder, error,
-    ))?;
-    let writer = RowWriter::begin(rt.alloc(), out, Format::Tsv).map_err(|error| Failure::of_file(
-        folder, error,
-    ))?;
-    let mut rows = WrittenRows { writer, least: 0 };
+    let mut rows = match begin_rows(rt, file, shape) {
+        Ok(rows) => rows,
+        Err(error) => return Err(Failure::of_file(folder, error)),
+    };
     batch.merge(folder, &mut rows)?;
-    let out = rows
-        .writer
-        .finish()
-        .map_err(|error| Failure::of_file(folder, error))?;
-    begun(out).map_err(|error| Failure::of_file(folder, error))
+    end_rows(rows).map_err(|error| Failure::of_file(folder, error))
+}
+
+/// Merges sources into a run in that folder.
+pub fn merge_to_run<'a>(
+    rt: &HostRuntime,
+    folder: &'a str,
+    batch: &mut Batch<'_, 'a>,
+) -> Result<File, Failure<'a>> {
+    let (file, _is_empty) = merge_to_file(rt, folder, batch, RUN)?;
+    Ok(file)
 }

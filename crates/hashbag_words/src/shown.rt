@@ -2,13 +2,23 @@
 use crate::batch::Batch;
 use crate::failure::Failure;
 use crate::output::Made;
-use crate::runs::{BUFFER, FAN, Runs, begun, merge_to_file, temporary};
+use crate::runs::{FAN, Runs, Shape, merge_to_file, merge_to_run};
 use crate::settings::Settings;
 use hashbag_words_core::choice::Order;
 use hashbag_words_core::shards::Shard;
-use hashbag_words_core::shown_rows::{ShardRows, TopRows, WrittenRows};
-use hashbag_words_core::writing::RowWriter;
-use std::io::BufWriter;
+use hashbag_words_core::shown_rows::{ShardRows, TopRows};
+use hashbag_words_core::writing::{Format, RowWriter};
+use std::io;
+
+// Writes rows. Returns their text, and whether it shows nothing. Only an allocation can fail.
+fn text_of(rt: &HostRuntime, format: Format, top: TopRows) -> io::Result<(Vec<u8>, bool)> {
+    let mut writer = RowWriter::begin(rt.alloc(), Vec::new(rt.alloc()), format)?;
+    for (count, token) in &top.into_rows() {
+        writer.write_row(token.as_str(), count.0)?;
+    }
+    let is_empty = writer.is_empty();
+    Ok((writer.finish()?, is_empty))
+}
 
 // Merges sources, and keeps the commonest.
 fn show_top<'a>(
@@ -22,48 +32,10 @@ fn show_top<'a>(
     let sink = TopRows::new(rt.alloc(), most, settings.least);
     let mut top = ShardRows { sink, shard };
     batch.merge(folder, &mut top)?;
-    let text = Vec::new(rt.alloc());
-    let Ok(mut writer) = RowWriter::begin(rt.alloc(), text, settings.format) else {
-        return Err(Failure::NoMemoryLeft);
-    };
-    for (count, token) in top.sink.into_rows() {
-        if writer.write_row(token.as_str(), count.0).is_err() {
-            return Err(Failure::NoMemoryLeft);
-        }
-    }
-    let is_empty = writer.is_empty();
-    match writer.finish() {
-        Ok(text) => Ok(Made::Text(text, is_empty)),
+    match text_of(rt, settings.format, top.sink) {
+        Ok((text, is_empty)) => Ok(Made::Text(text, is_empty)),
         Err(_) => Err(Failure::NoMemoryLeft),
     }
-}
-
-// Merges sources into a temporary file.
-fn show_all<'a>(
-    rt: &HostRuntime,
-    settings: &Settings<'a, '_>,
-    folder: &'a str,
-    batch: &mut Batch<'_, 'a>,
-    shard: Option<Shard>,
-) -> Result<Made<'static>, Failure<'a>> {
-    let file = temporary(rt, folder)?;
-    let out = BufWriter::with_capacity(rt.alloc(), BUFFER, file).map_err(|error| Failure::of_file(
-        folder, error,
-    ))?;
-    let writer = RowWriter::begin(rt.alloc(), out, settings.format).map_err(
-        |error| Failure::of_file(folder, error),
-    )?;
-    let least = settings.least;
-    let sink = WrittenRows { writer, least };
-    let mut rows = ShardRows { sink, shard };
-    batch.merge(folder, &mut rows)?;
-    let writer = rows.sink.writer;
-    let is_empty = writer.is_empty();
-    let out = writer
-        .finish()
-        .map_err(|error| Failure::of_file(folder, error))?;
-    let file = begun(out).map_err(|error| Failure::of_file(folder, error))?;
-    Ok(Made::File(file, is_empty))
 }
 
 /// Merges sources, and makes what is shown of them. Nothing is written but into temporary files of that folder.
@@ -74,10 +46,16 @@ pub fn show<'a>(
     shard: Option<Shard>,
     mut batch: Batch<'_, 'a>,
 ) -> Result<Made<'static>, Failure<'a>> {
-    match settings.order {
-        Order::Commonest(most) => show_top(rt, settings, folder, &mut batch, shard, most),
-        _ => show_all(rt, settings, folder, &mut batch, shard),
+    if let Order::Commonest(most) = settings.order {
+        return show_top(rt, settings, folder, &mut batch, shard, most);
     }
+    let shape = Shape {
+        format: settings.format,
+        least: settings.least,
+        shard,
+    };
+    let (file, is_empty) = merge_to_file(rt, folder, &mut batch, shape)?;
+    Ok(Made::File(file, is_empty))
 }
 
 /// Merges the files of counts of these names, whose tokens rise. If there are more than `FAN`, each `FAN` of them become a run first.
@@ -95,7 +73,7 @@ pub fn show_sorted<'a>(
     let mut batch = Batch::new(rt);
     for (i, name) in names.iter().enumerate() {
         if i > 0 && i % FAN == 0 {
-            runs.add(merge_to_file(rt, folder, &mut batch)?)?;
+            runs.add(merge_to_run(rt, folder, &mut batch)?)?;
             batch = Batch::new(rt);
         }
         batch.push_file(*name, form, settings.bad_lines)?;
@@ -103,6 +81,6 @@ pub fn show_sorted<'a>(
     if runs.is_empty() {
         return show(rt, settings, folder, shard, batch);
     }
-    runs.add(merge_to_file(rt, folder, &mut batch)?)?;
+    runs.add(merge_to_run(rt, folder, &mut batch)?)?;
     show(rt, settings, folder, shard, runs.into_batch()?)
 }

@@ -23,9 +23,9 @@ fn times(number: &str, unit: usize) -> Option<usize> {
 /// Returns the bytes that a text such as `64M` or `4096` means: a number, and `K`, `M`, `G` or `T` for a power of 1024. Returns `None` if it
 /// means none.
 pub fn bytes_of(text: &str) -> Option<usize> {
-    for (letter, unit) in UNITS {
-        if let Some(number) = text.strip_suffix(letter) {
-            return times(number, unit);
+    for (letter, unit) in &UNITS {
+        if let Some(number) = text.strip_suffix(*letter) {
+            return times(number, *unit);
         }
     }
     times(text, 1)

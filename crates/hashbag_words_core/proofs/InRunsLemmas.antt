@@ -1,9 +1,9 @@
 -- Runs that are made one after the other, and merged.
-use Rattle.std.proofs.Common.{◌≡◌, ℕ, ◌+◌, ◌<◌, Bool, false, List, [], ◌∷◌, ◌++◌, length, get_or, take, drop, map, sum_by, String, string_bytes, string_eq, bytes_eq, Global, Option, None, Some, option_map, IfSome, refl, sym, ◌∙◌, ap, subst, arith}
+use Rattle.std.proofs.Common.{◌≡◌, ℕ, ◌+◌, Bool, false, List, [], ◌∷◌, ◌++◌, take, drop, map, sum_by, String, string_bytes, string_eq, bytes_eq, Global, Option, None, Some, IfSome, refl, sym, ◌∙◌, ap, subst, arith}
 use Rattle.std.specs.Cmp.Lexicographic.{nat_list_eq_equiv}
 use Rattle.std.specs.Global.{Vec}
 use Rattle.std.specs.Str.Lines.{lines}
-use Rattle.std.proofs.lemmas.List.{map-append, take-append-drop, take_more}
+use Rattle.std.proofs.lemmas.List.{take-append-drop}
 use Rattle.std.proofs.lemmas.List.Sums.{sum_by-cons, sum_by_push}
 use Rattle.hashbag.specs.Bag.{Bag}
 use Rattle.hashbag.specs.EqualityLaws.{count_append}
@@ -11,10 +11,9 @@ use Rattle.hashbag.specs.Occurrences.{count}
 use Rattle.hashbag_words_core.specs.Counts.{AddsTexts}
 use Rattle.hashbag_words_core.specs.Reading.{drop_lines, CountsLines}
 use Rattle.hashbag_words_core.specs.Runs.{rows_in, run_text, AreCountsOf, HaveCountsOf, IsRunOf, MakesRun}
-use Rattle.hashbag_words_core.specs.Sorted.{times_in, with_head, AreLeft, IsMergeOf, Puts}
+use Rattle.hashbag_words_core.specs.Sorted.{times_in, IsMergeOf, Puts}
 use Rattle.hashbag_words_core.specs.Tokens.{tokens_of, tokens_of_lines}
 use Rattle.hashbag_words_core.specs.declared.rule.Rule.{Rule}
-use Rattle.hashbag_words_core.specs.declared.sources.Source.{Source}
 use Rattle.hashbag_words_core.proofs.LineLemmas.{lines-drop_lines}
 use Rattle.hashbag_words_core.proofs.ReadLemmas.{tokens_of_lines-append}
 
