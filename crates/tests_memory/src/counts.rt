@@ -41,11 +41,15 @@ pub fn tables_of<T: Eq + Hash + Drop, S: BuildHasher + Drop>(
 /// Returns a bag with 5 twice. If that fails, the bag is empty, and 5 is inserted with memory again.
 pub fn two_fives(alloc: Global, refusals: &mut Refusals) -> Result<HashBag<u64>, Wrong> {
     let mut bag = HashBag::new(alloc);
-    if !insert_two(&mut bag, 5, 0, refusals)? {
-        has_counts(&bag, (0, 0, 0), "the first insertion: refused")?;
-        let done = insert_two(&mut bag, 5, 0, refusals)?;
+    insert_fives(&mut bag, refusals)?;
+    Ok(bag)
+}
+
+fn insert_fives(bag: &mut HashBag<u64>, refusals: &mut Refusals) -> Result<(), Wrong> {
+    if !insert_two(bag, 5, 0, refusals)? {
+        has_counts(bag, (0, 0, 0), "the first insertion: refused")?;
+        let done = insert_two(bag, 5, 0, refusals)?;
         check(done, "the first insertion: with memory again")?;
     }
-    has_counts(&bag, (2, 0, 0), "the first insertion")?;
-    Ok(bag)
+    has_counts(bag, (2, 0, 0), "the first insertion")
 }

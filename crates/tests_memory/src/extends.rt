@@ -10,15 +10,24 @@ const NEW: [u64; 5] = [1, 2, 3, 4, 5];
 // A bag that has room for two more values, so that the third new one makes an allocation. `None` if a value failed.
 fn filled(alloc: Global, refusals: &mut Refusals) -> Result<Option<HashBag<u64>>, Wrong> {
     let mut bag: HashBag<u64> = HashBag::new(alloc);
+    Ok(if fill(&mut bag, refusals)? {
+        Some(bag)
+    } else {
+        None
+    })
+}
+
+// Inserts values until there is room for just two, and returns whether none failed.
+fn fill(bag: &mut HashBag<u64>, refusals: &mut Refusals) -> Result<bool, Wrong> {
     for value in 100..130u64 {
         if bag.capacity() == bag.set_len().saturating_add(2) {
-            return Ok(Some(bag));
+            return Ok(true);
         }
         if bag.len() >= 30 {
             return Err(Wrong("a filled bag: its total"));
         }
         if refusals.answer(bag.insert(value))?.is_none() {
-            return Ok(None);
+            return Ok(false);
         }
     }
     Err(Wrong("a filled bag: never room for just two"))

@@ -283,6 +283,13 @@ fn made_without_room<'a>(
 // An entry on a bag of numbers with no room. If it fails no slot changes.
 fn entry_without_room(alloc: Global, refusals: &mut Refusals) -> Result<(), Wrong> {
     let mut bag: HashBag<u64, OneState> = HashBag::with_hasher(alloc, OneState);
+    set_without_room(&mut bag, refusals)
+}
+
+fn set_without_room(
+    bag: &mut HashBag<u64, OneState>,
+    refusals: &mut Refusals,
+) -> Result<(), Wrong> {
     for value in 1..=12 {
         if refusals.answer(bag.insert(value))?.is_none() {
             return Ok(());
@@ -295,24 +302,39 @@ fn entry_without_room(alloc: Global, refusals: &mut Refusals) -> Result<(), Wron
         ((16, 0, 0), 0, 12)
     };
     check(
-        (tables_of(&bag), bag.contains(&13), bag.len()) == wanted,
+        (tables_of(bag), bag.contains(&13), bag.len()) == wanted,
         "an entry without room",
     )
 }
 
-// A bag of 9 twice and of 13, or none.
-fn collected(alloc: Global, values: &Values, refusals: &mut Refusals) -> Result<(), Wrong> {
-    let items = [values.value(9), values.value(13), values.value(9)];
-    let made: Result<Bag<'_>, BagError> = HashBag::from_iter(alloc, items.into_iter());
-    if let Some(bag) = refusals.answer(made)? {
-        check(state_of(&bag, values) == (2, 1, 3), "from_iter")?;
-    }
+// A bag of 9, 13, 9 and 14.
+fn of_four<'a>(alloc: Global, values: &'a Values) -> Result<Bag<'a>, BagError> {
+    HashBag::from_iter(alloc, four(values).into_iter())
+}
+
+// A bag of 9 twice, and of 13 three times.
+fn of_pairs<'a>(alloc: Global, values: &'a Values) -> Result<Bag<'a>, BagError> {
     let pairs = [(values.value(9), 2), (values.value(13), 3)];
-    let made: Result<Bag<'_>, BagError> = HashBag::from_counts(alloc, pairs.into_iter());
-    if let Some(bag) = refusals.answer(made)? {
-        check(state_of(&bag, values) == (2, 3, 5), "from_counts")?;
+    HashBag::from_counts(alloc, pairs.into_iter())
+}
+
+// There is this bag, or none.
+fn is_made<'a>(
+    made: Result<Bag<'a>, BagError>,
+    values: &'a Values,
+    wanted: After,
+    refusals: &mut Refusals,
+) -> Result<(), Wrong> {
+    match refusals.answer(made)? {
+        Some(bag) => check(state_of(&bag, values) == wanted, "a collection"),
+        None => Ok(()),
     }
-    Ok(())
+}
+
+// Both collections.
+fn collected(alloc: Global, values: &Values, refusals: &mut Refusals) -> Result<(), Wrong> {
+    is_made(of_four(alloc, values), values, (2, 1, 4), refusals)?;
+    is_made(of_pairs(alloc, values), values, (2, 3, 5), refusals)
 }
 
 fn reserve<'a>(bag: &mut Bag<'a>, n: usize, refusals: &mut Refusals) -> Result<bool, Wrong> {
@@ -390,28 +412,42 @@ fn cloned<'a>(bag: &Bag<'a>, refusals: &mut Refusals) -> Result<(), Wrong> {
     }
 }
 
+// What is tried with values that are counted.
+const TRIED: [&str; 8] = [
+    "the 13th value",
+    "a carry",
+    "room in a carry",
+    "a run",
+    "runs",
+    "collections",
+    "less room in a carry",
+    "a clone in a carry",
+];
+
+fn tried(alloc: Global, values: &Values, what: &str, refusals: &mut Refusals) -> Result<(), Wrong> {
+    match what {
+        "the 13th value" => thirteenth(alloc, values, refusals),
+        "a carry" => in_a_carry(alloc, values, refusals),
+        "room in a carry" => moved_in_a_carry(alloc, values, refusals),
+        "a run" => run_without_room(alloc, values, refusals),
+        "runs" => runs_without_room(alloc, values, refusals),
+        "collections" => collected(alloc, values, refusals),
+        "less room in a carry" => shrunk_in_a_carry(alloc, values, refusals),
+        "a clone in a carry" => cloned_in_a_carry(alloc, values, refusals),
+        _ => Err(Wrong("a name in TRIED")),
+    }
+}
+
 /// All of these. After each of them every value that was made is dropped, and was dropped once.
 pub fn full_bags(alloc: Global, refusals: &mut Refusals) -> Result<(), Wrong> {
     let values = Values::new();
-    thirteenth(alloc, &values, refusals)?;
-    values.are_gone()?;
-    in_a_carry(alloc, &values, refusals)?;
-    values.are_gone()?;
-    moved_in_a_carry(alloc, &values, refusals)?;
-    values.are_gone()?;
-    for call in CALLS {
-        without_room(alloc, &values, call, refusals)?;
+    for what in &TRIED {
+        tried(alloc, &values, *what, refusals)?;
         values.are_gone()?;
     }
-    entry_without_room(alloc, refusals)?;
-    run_without_room(alloc, &values, refusals)?;
-    values.are_gone()?;
-    runs_without_room(alloc, &values, refusals)?;
-    values.are_gone()?;
-    collected(alloc, &values, refusals)?;
-    values.are_gone()?;
-    shrunk_in_a_carry(alloc, &values, refusals)?;
-    values.are_gone()?;
-    cloned_in_a_carry(alloc, &values, refusals)?;
-    values.are_gone()
+    for call in &CALLS {
+        without_room(alloc, &values, *call, refusals)?;
+        values.are_gone()?;
+    }
+    entry_without_room(alloc, refusals)
 }

@@ -87,11 +87,11 @@ fn is_read(
 
 /// One pair, and a fault after a first pair: the bag or the fault is returned, or an allocation failed.
 pub fn pairs(alloc: Global, refusals: &mut Refusals) -> Result<(), Wrong> {
-    for (text, fault) in PAIRS {
+    for (text, fault) in &PAIRS {
         let Some(tree) = tree_of(alloc, text, refusals) else {
             return Ok(());
         };
-        is_read(alloc, &tree, fault, refusals)?;
+        is_read(alloc, &tree, *fault, refusals)?;
     }
     Ok(())
 }
@@ -118,11 +118,11 @@ fn fault_of(alloc: Global, tree: &Value) -> Result<Option<JsonError>, Wrong> {
 
 /// Trees that are read without a request for memory: the results are the same whichever request fails.
 pub fn trees_without_memory(alloc: Global, refusals: &mut Refusals) -> Result<(), Wrong> {
-    for (text, fault) in WITHOUT_MEMORY {
+    for (text, fault) in &WITHOUT_MEMORY {
         let Some(tree) = tree_of(alloc, text, refusals) else {
             return Ok(());
         };
-        check(fault_of(alloc, &tree)? == fault, "from_value: the fault")?;
+        check(fault_of(alloc, &tree)? == *fault, "from_value: the fault")?;
     }
     Ok(())
 }

@@ -17,4 +17,6 @@ mod sorted;
 #[cfg(test)]
 mod stock;
 #[cfg(test)]
+mod texts;
+#[cfg(test)]
 mod words;

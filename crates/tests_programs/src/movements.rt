@@ -1,9 +1,10 @@
 //! What no clause says of movements: which texts are read, what is said of bad ones, and how a balance and refusals are written. The
 //! expected values were found by hand.
+use crate::texts::{are_text, is_text};
 use hashbag::FixedState;
 use hashbag_ledger_core::entering::LedgerError;
 use hashbag_ledger_core::ledger::{Entered, Ledger, end};
-use hashbag_ledger_core::movements::Change;
+use hashbag_ledger_core::movements::{Change, Movement, Refusal};
 use hashbag_ledger_core::output::{balance_text, refusals_table, refusals_text};
 use hashbag_ledger_core::reading::{ChangeColumns, Columns, enter_movements, read_movements};
 use hashbag_ledger_core::settling::settle;
@@ -25,82 +26,109 @@ const BY_KIND: Columns<&str> = Columns {
     change: ChangeColumns::ByKind("kind", "number"),
 };
 
+fn columns_of(word: &str) -> Columns<&'static str> {
+    if word == "by kind" { BY_KIND } else { SIGNED }
+}
+
 // The columns of a balance.
 const NAMES: (&str, &str) = ("article", "number");
 
 // The columns of a text, the text, and its movements, or its first bad line and what is wrong with it.
-const TEXTS: [(Columns<&str>, &str, &str); 18] = [
+const TEXTS: [(&str, &str, &str); 18] = [
     (
-        SIGNED,
+        "signed",
         "article,change\nbolt,5\nnut,+7\n\nbolt,-4\n",
         "[2 bolt in 5][3 nut in 7][5 bolt out 4]",
     ),
     (
-        SIGNED,
+        "signed",
         "change,article\n-0,\"a\nb\"\n0,c\n",
         "[2 a\nb out 0][4 c in 0]",
     ),
-    (SIGNED, "article,change\nbolt,--5\n", "2: no number: `--5`"),
-    (SIGNED, "article,change\nbolt,+-5\n", "2: no number: `+-5`"),
-    (SIGNED, "article,change\nbolt,-\n", "2: no number: `-`"),
     (
-        SIGNED,
+        "signed",
+        "article,change\nbolt,--5\n",
+        "2: no number: `--5`",
+    ),
+    (
+        "signed",
+        "article,change\nbolt,+-5\n",
+        "2: no number: `+-5`",
+    ),
+    ("signed", "article,change\nbolt,-\n", "2: no number: `-`"),
+    (
+        "signed",
         "article,change\nbolt,-18446744073709551616\n",
         "2: number past 18446744073709551615: `-18446744073709551616`",
     ),
-    (SIGNED, "article,number\n", "1: no column `change`"),
+    ("signed", "article,number\n", "1: no column `change`"),
     (
-        BY_KIND,
+        "by kind",
         "number,kind,part\n5,in,bolt\n4,out,bolt\n",
         "[2 bolt in 5][3 bolt out 4]",
     ),
     (
-        BY_KIND,
+        "by kind",
         "part,kind,number\nbolt,In,5\n",
         "2: neither `in` nor `out`: `In`",
     ),
     (
-        BY_KIND,
+        "by kind",
         "part,kind,number\nbolt,in,+5\n",
         "2: no number: `+5`",
     ),
     (
-        BY_KIND,
+        "by kind",
         "part,kind,number\nbolt,in,5\nnut,out\n",
         "3: 3 fields wanted, 2 found",
     ),
-    (BY_KIND, "", "1: no header"),
+    ("by kind", "", "1: no header"),
     (
-        SIGNED,
+        "signed",
         "article,change\nbolt,5\nnut,7,\"12 inch\nbolt,-2\n",
         "3: quote never closed",
     ),
     (
-        SIGNED,
+        "signed",
         "article,change,note\nbolt,5,\nnut,7,\"12 inch\nbolt,-2,\n",
         "3: quote never closed",
     ),
     (
-        SIGNED,
+        "signed",
         "article,change\n\"bolt\" x,5\n",
         "2: text after a closing quote",
     ),
     (
-        SIGNED,
+        "signed",
         "article,change\n12\" bolt,5\n",
         "2: quote in a field without quotes",
     ),
     (
-        SIGNED,
+        "signed",
         "article,change\nbolt,-1.5\n",
         "2: whole numbers only: `-1.5`",
     ),
     (
-        SIGNED,
+        "signed",
         "article,change\nbolt,\"1,5\"\n",
         "2: whole numbers only: `1,5`",
     ),
 ];
+
+// Returns movements in one line.
+fn in_line(alloc: Global, movements: &[Movement<String>]) -> Result<String, AllocError> {
+    let mut said = String::new(alloc);
+    for movement in movements {
+        let line = movement.place.line;
+        let article = movement.article.as_str();
+        let (kind, number) = match movement.change {
+            Change::In(n) => ("in", n),
+            Change::Out(n) => ("out", n),
+        };
+        write!(said, "[{line} {article} {kind} {number}]")?;
+    }
+    Ok(said)
+}
 
 // Returns the movements of a text, or its fault, in one line.
 fn said_of(
@@ -110,30 +138,16 @@ fn said_of(
     reading: Reading,
 ) -> Result<String, AllocError> {
     match read_movements(alloc, text.as_bytes(), 0, names, reading) {
-        Ok(movements) => {
-            let mut said = String::new(alloc);
-            for movement in &movements {
-                let line = movement.place.line;
-                let article = movement.article.as_str();
-                let (kind, number) = match movement.change {
-                    Change::In(n) => ("in", n),
-                    Change::Out(n) => ("out", n),
-                };
-                write!(said, "[{line} {article} {kind} {number}]")?;
-            }
-            Ok(said)
-        }
+        Ok(movements) => in_line(alloc, &movements),
         Err(error) => format!(in alloc; "{error}"),
     }
 }
 
 #[test]
 fn texts_are_read(rt: HostRuntime) -> Result<(), Fail> {
-    for (names, text, wanted) in TEXTS {
-        assert_eq!(rt;
-            said_of(rt.alloc(), names, text, Reading::plain())?.as_str(),
-            wanted
-        );
+    for (names, text, wanted) in &TEXTS {
+        let said = said_of(rt.alloc(), columns_of(names), text, Reading::plain())?;
+        assert_eq!(rt; said.as_str(), *wanted);
     }
     Ok(())
 }
@@ -146,23 +160,24 @@ fn european() -> Reading {
     }
 }
 
+// A text with these, and its movements or its first bad line.
+const DECIMALS: [(&str, &str); 3] = [
+    (
+        "article;change\nbolt;1,5\nnut;-0,25\nnut;+3\n",
+        "[2 bolt in 150][3 nut out 25][4 nut in 300]",
+    ),
+    (
+        "article;change\nbolt;1,555\n",
+        "2: more than 2 decimals: `1,555`",
+    ),
+    ("article;change\nbolt;1.5\n", "2: no number: `1.5`"),
+];
+
 #[test]
 fn decimals_are_read(rt: HostRuntime) -> Result<(), Fail> {
-    for (text, wanted) in [
-        (
-            "article;change\nbolt;1,5\nnut;-0,25\nnut;+3\n",
-            "[2 bolt in 150][3 nut out 25][4 nut in 300]",
-        ),
-        (
-            "article;change\nbolt;1,555\n",
-            "2: more than 2 decimals: `1,555`",
-        ),
-        ("article;change\nbolt;1.5\n", "2: no number: `1.5`"),
-    ] {
-        assert_eq!(rt;
-            said_of(rt.alloc(), SIGNED, text, european())?.as_str(),
-            wanted
-        );
+    for (text, wanted) in &DECIMALS {
+        let said = said_of(rt.alloc(), SIGNED, text, european())?;
+        assert_eq!(rt; said.as_str(), *wanted);
     }
     Ok(())
 }
@@ -214,6 +229,18 @@ fn said_of_all(alloc: Global, entered: &Entered<String>) -> Result<String, Fail>
     Ok(said)
 }
 
+// Returns the balance and the refusals after movements that are entered into a ledger, or the error, as text.
+fn left_in<S: BuildHasher + Drop>(
+    alloc: Global,
+    mut ledger: Ledger<String, S>,
+    text: &[u8],
+) -> Result<String, Fail> {
+    match enter_movements(alloc, &mut ledger, text, 0, SIGNED, Reading::plain()) {
+        Ok(()) => said_of_all(alloc, &end(alloc, ledger)?),
+        Err(error) => Ok(format!(in alloc; "{error}")?),
+    }
+}
+
 // Returns the balance and the refusals, or the error, as text.
 fn left_by<S: BuildHasher + Drop>(
     alloc: Global,
@@ -221,55 +248,57 @@ fn left_by<S: BuildHasher + Drop>(
     start: &[(&str, usize)],
     text: &str,
 ) -> Result<String, Fail> {
-    let mut ledger = match Ledger::begin(alloc, state, usize::MAX, stock_of(alloc, start)?) {
-        Ok(ledger) => ledger,
-        Err(LedgerError::StartTooMany) => return Ok(format!(in alloc; "too many at the start")?),
-        Err(_) => return Ok(format!(in alloc; "no memory")?),
-    };
-    let text = text.as_bytes();
-    match enter_movements(alloc, &mut ledger, text, 0, SIGNED, Reading::plain()) {
-        Ok(()) => said_of_all(alloc, &end(alloc, ledger)?),
-        Err(error) => Ok(format!(in alloc; "{error}")?),
+    match Ledger::begin(alloc, state, usize::MAX, stock_of(alloc, start)?) {
+        Ok(ledger) => left_in(alloc, ledger, text.as_bytes()),
+        Err(LedgerError::StartTooMany) => Ok(format!(in alloc; "too many at the start")?),
+        Err(_) => Ok(format!(in alloc; "no memory")?),
     }
 }
 
 #[test]
 fn movements_are_entered(rt: HostRuntime) -> Result<(), Fail> {
-    for (start, text, wanted) in LEDGERS {
+    let state = RandomState::new(&rt)?;
+    for (start, text, wanted) in &LEDGERS {
         let fixed = left_by(rt.alloc(), FixedState::new(), start, text)?;
-        assert_eq!(rt; fixed.as_str(), wanted);
-        let random = left_by(rt.alloc(), RandomState::new(&rt)?, start, text)?;
-        assert_eq!(rt; random.as_str(), wanted);
+        is_text(&fixed, wanted)?;
+        let random = left_by(rt.alloc(), state, start, text)?;
+        is_text(&random, wanted)?;
     }
     Ok(())
 }
 
+// Returns what movements of a text leave of a stock.
+fn entered_into(
+    alloc: Global,
+    start: &[(&str, usize)],
+    text: &str,
+    reading: Reading,
+) -> Result<Entered<String>, Fail> {
+    let movements = read_movements(alloc, text.as_bytes(), 0, SIGNED, reading)?;
+    match settle(alloc, FixedState::new(), stock_of(alloc, start)?, movements) {
+        Ok(entered) => Ok(entered),
+        Err(_) => Err(Fail::from("not entered")),
+    }
+}
+
+// What is written with decimals of a stock and of refusals.
+fn are_written(alloc: Global, entered: &Entered<String>) -> Result<(), Fail> {
+    let balance = balance_text(alloc, ("sku", "kg"), european(), &entered.balance)?;
+    are_text(&balance, "sku;kg\nbolt;1,50\nnut;3,20\n")?;
+    let said = refusals_text(alloc, &["m.csv"], european().scale, &entered.refusals)?;
+    is_text(&said, "m.csv:3: refused: out 0,25 of \"nut\", 0,20 there\n")?;
+    let table = refusals_table(alloc, &["m.csv"], european(), &entered.refusals)?;
+    are_text(
+        &table,
+        "file;line;article;asked;there\nm.csv;3;nut;0,25;0,20\n",
+    )
+}
+
 #[test]
 fn decimals_are_written(rt: HostRuntime) -> Result<(), Fail> {
-    let alloc = rt.alloc();
-    let stock = stock_of(alloc, &[("nut", 20)])?;
     let text = "article;change\nbolt;1,5\nnut;-0,25\nnut;+3\n";
-    let movements = read_movements(alloc, text.as_bytes(), 0, SIGNED, european())?;
-    let Ok(entered) = settle(alloc, FixedState::new(), stock, movements) else {
-        return Err(Fail::from("not entered"));
-    };
-    let balance = balance_text(alloc, ("sku", "kg"), european(), &entered.balance)?;
-    assert_eq!(rt;
-        String::from_utf8(balance)?.as_str(),
-        "sku;kg\nbolt;1,50\nnut;3,20\n"
-    );
-    let refusals = entered.refusals.as_slice();
-    let said = refusals_text(alloc, &["m.csv"], european().scale, refusals)?;
-    assert_eq!(rt;
-        said.as_str(),
-        "m.csv:3: refused: out 0,25 of \"nut\", 0,20 there\n"
-    );
-    let table = refusals_table(alloc, &["m.csv"], european(), refusals)?;
-    assert_eq!(rt;
-        String::from_utf8(table)?.as_str(),
-        "file;line;article;asked;there\nm.csv;3;nut;0,25;0,20\n"
-    );
-    Ok(())
+    let entered = entered_into(rt.alloc(), &[("nut", 20)], text, european())?;
+    are_written(rt.alloc(), &entered)
 }
 
 // Refusals as CSV.
@@ -281,21 +310,16 @@ y\",18446744073709551615,0
 \"a,b.csv\",5,nut,1,0
 ";
 
+// The refusals as CSV.
+fn is_table(alloc: Global, refusals: &[Refusal<String>], wanted: &str) -> Result<(), Fail> {
+    let table = refusals_table(alloc, &["a,b.csv"], Reading::plain(), refusals)?;
+    are_text(&table, wanted)
+}
+
 #[test]
 fn refusals_are_written_as_csv(rt: HostRuntime) -> Result<(), Fail> {
-    let alloc = rt.alloc();
-    let stock = stock_of(alloc, &[("5\" tube", 1)])?;
     let text = "article,change\n\"5\"\" tube\",-2\n\"x\ny\",-18446744073709551615\nnut,-1\n";
-    let movements = read_movements(alloc, text.as_bytes(), 0, SIGNED, Reading::plain())?;
-    let Ok(entered) = settle(alloc, FixedState::new(), stock, movements) else {
-        return Err(Fail::from("not entered"));
-    };
-    let table = refusals_table(alloc, &["a,b.csv"], Reading::plain(), &entered.refusals)?;
-    assert_eq!(rt; String::from_utf8(table)?.as_str(), REFUSED);
-    let none = refusals_table(alloc, &["a,b.csv"], Reading::plain(), &[])?;
-    assert_eq!(rt;
-        String::from_utf8(none)?.as_str(),
-        "file,line,article,asked,there\n"
-    );
-    Ok(())
+    let entered = entered_into(rt.alloc(), &[("5\" tube", 1)], text, Reading::plain())?;
+    is_table(rt.alloc(), &entered.refusals, REFUSED)?;
+    is_table(rt.alloc(), &[], "file,line,article,asked,there\n")
 }

@@ -4,17 +4,32 @@ use hashbag_shell::output_file::OutputFile;
 use std::test::Fail;
 use std::{env, fs, process};
 
-// The names in a folder and the text of its file `out`, in one line.
-fn state_of(rt: &HostRuntime, folder: &str) -> Result<String, Fail> {
+// The names in a folder, in order.
+fn names_in(rt: &HostRuntime, folder: &str) -> Result<Vec<String>, Fail> {
     let alloc = rt.alloc();
     let mut names = Vec::new(alloc);
     for entry in fs::read_dir(rt, folder)? {
         names.push(entry?.file_name().to_string(alloc)?)?;
     }
     names.sort()?;
-    let out = format!(in alloc; "{folder}/out")?;
-    let text = fs::read_to_string(rt, out.as_str())?;
-    Ok(format!(in alloc; "{text}: {}", names.join(alloc, " ")?)?)
+    Ok(names)
+}
+
+// The text of the file `out` in a folder.
+fn text_in(rt: &HostRuntime, folder: &str) -> Result<String, Fail> {
+    let out = format!(in rt.alloc(); "{folder}/out")?;
+    Ok(fs::read_to_string(rt, out.as_str())?)
+}
+
+// The text of the file `out` in a folder, and the names there, in one line.
+fn state_of(rt: &HostRuntime, folder: &str) -> Result<String, Fail> {
+    let mut state = text_in(rt, folder)?;
+    state.push_str(":")?;
+    for name in &names_in(rt, folder)? {
+        state.push_str(" ")?;
+        state.push_str(name.as_str())?;
+    }
+    Ok(state)
 }
 
 // The folder is in this state.
@@ -48,21 +63,33 @@ fn are_one_file(rt: &HostRuntime, folder: &str, name: &str) -> Result<(bool, boo
     ))
 }
 
+// Outputs of this name in this folder.
+fn written_in(rt: &HostRuntime, folder: &str, name: &str) -> Result<(), Fail> {
+    OutputFile::open(rt, name)?.write_whole(rt, b"old")?;
+    is_state(rt, folder, "old: out")?;
+    two_at_a_time(rt, folder, name)?;
+    if OutputFile::open(rt, folder).is_ok() {
+        return Err(Fail::new("a folder is opened as output"));
+    }
+    match are_one_file(rt, folder, name)? {
+        (true, false) => Ok(()),
+        _ => Err(Fail::new("other files are one file")),
+    }
+}
+
+// The folder is made before, and removed afterwards.
+fn written_in_new(rt: &HostRuntime, folder: &str) -> Result<(), Fail> {
+    fs::create_dir(rt, folder)?;
+    let name = format!(in rt.alloc(); "{folder}/out")?;
+    written_in(rt, folder, name.as_str())?;
+    fs::remove_dir_all(rt, folder)?;
+    Ok(())
+}
+
 #[test]
 fn an_output_is_written_whole_or_not_at_all(rt: HostRuntime) -> Result<(), Fail> {
     let number = process::id(rt.process());
     let above = env::temp_dir(&rt)?;
     let folder = format!(in rt.alloc(); "{}/hashbag_shell_{number}", above.display())?;
-    fs::create_dir(&rt, folder.as_str())?;
-    let name = format!(in rt.alloc(); "{folder}/out")?;
-    OutputFile::open(&rt, name.as_str())?.write_whole(&rt, b"old")?;
-    is_state(&rt, folder.as_str(), "old: out")?;
-    two_at_a_time(&rt, folder.as_str(), name.as_str())?;
-    assert!(rt; OutputFile::open(&rt, folder.as_str()).is_err());
-    assert_eq!(rt;
-        are_one_file(&rt, folder.as_str(), name.as_str())?,
-        (true, false)
-    );
-    fs::remove_dir_all(&rt, folder.as_str())?;
-    Ok(())
+    written_in_new(&rt, folder.as_str())
 }

@@ -152,46 +152,47 @@ fn answers_steps(rt: HostRuntime) -> Result<(), Fail> {
 }
 
 // Runs on two bags: replies of a and then of b, each join of what they leave by rising values, and the trees.
+const TWO_BAG_RUNS: [(&str, &str); 7] = [
+    (TWO_BAGS, TWO_BAGS_OUTPUT),
+    (
+        "a or 4 3\na or 4 9\na set 4 0\na set 4 1\nb retain\nb or 6 0\n",
+        "a count 3\na count 3\na done\na absent\nb done\nb count 0\n\
+        a json []\nb json []\n",
+    ),
+    (
+        "a many 5 3\na many 6 2\na retain 6 9 5 2 5 1\na count 5\na count 6\na retain\na count 5\n",
+        "a count 0\na count 0\na done\na count 2\na count 2\na done\na count 0\n\
+        a json []\nb json []\n",
+    ),
+    (
+        "a many 7 18446744073709551615\na insert 8\n",
+        "a count 0\na too many\nouter 7 18446744073709551615 0\ndifference 7 18446744073709551615\n\
+        signed 7 9223372036854775807\nnot_in 7 18446744073709551615\n\
+        a json [[7,18446744073709551615]]\nb json []\n",
+    ),
+    (
+        "b many 7 18446744073709551615\nb insert 8\n",
+        "b count 0\nb too many\nouter 7 0 18446744073709551615\nsigned 7 -9223372036854775808\n\
+        a json []\nb json [[7,18446744073709551615]]\n",
+    ),
+    (
+        "a limit 3\na many 5 2\na many 6 2\na limit 1\nb limit 0\nb insert 5\n",
+        "a done\na count 0\na too many\na below total\nb done\nb too many\n\
+        outer 5 2 0\ndifference 5 2\nsigned 5 2\nnot_in 5 2\n\
+        a json {\"limit\":3,\"pairs\":[[5,2]]}\nb json {\"limit\":0,\"pairs\":[]}\n",
+    ),
+    (
+        "b insert 10\nb many 2 3\na insert 9\na many 2 1\na many 100 2\nb insert 9\n",
+        "a count 0\na count 0\na count 0\nb count 0\nb count 0\nb count 0\n\
+        outer 2 1 3\nouter 9 1 1\nouter 10 0 1\nouter 100 2 0\ndifference 100 2\n\
+        signed 2 -2\nsigned 9 0\nsigned 10 -1\nsigned 100 2\nnot_in 100 2\n\
+        a json [[2,1],[9,1],[100,2]]\nb json [[2,3],[9,1],[10,1]]\n",
+    ),
+];
+
 #[test]
 fn answers_two_bags(rt: HostRuntime) {
-    let rows = [
-        (TWO_BAGS, TWO_BAGS_OUTPUT),
-        (
-            "a or 4 3\na or 4 9\na set 4 0\na set 4 1\nb retain\nb or 6 0\n",
-            "a count 3\na count 3\na done\na absent\nb done\nb count 0\n\
-            a json []\nb json []\n",
-        ),
-        (
-            "a many 5 3\na many 6 2\na retain 6 9 5 2 5 1\na count 5\na count 6\na retain\na count 5\n",
-            "a count 0\na count 0\na done\na count 2\na count 2\na done\na count 0\n\
-            a json []\nb json []\n",
-        ),
-        (
-            "a many 7 18446744073709551615\na insert 8\n",
-            "a count 0\na too many\nouter 7 18446744073709551615 0\ndifference 7 18446744073709551615\n\
-            signed 7 9223372036854775807\nnot_in 7 18446744073709551615\n\
-            a json [[7,18446744073709551615]]\nb json []\n",
-        ),
-        (
-            "b many 7 18446744073709551615\nb insert 8\n",
-            "b count 0\nb too many\nouter 7 0 18446744073709551615\nsigned 7 -9223372036854775808\n\
-            a json []\nb json [[7,18446744073709551615]]\n",
-        ),
-        (
-            "a limit 3\na many 5 2\na many 6 2\na limit 1\nb limit 0\nb insert 5\n",
-            "a done\na count 0\na too many\na below total\nb done\nb too many\n\
-            outer 5 2 0\ndifference 5 2\nsigned 5 2\nnot_in 5 2\n\
-            a json {\"limit\":3,\"pairs\":[[5,2]]}\nb json {\"limit\":0,\"pairs\":[]}\n",
-        ),
-        (
-            "b insert 10\nb many 2 3\na insert 9\na many 2 1\na many 100 2\nb insert 9\n",
-            "a count 0\na count 0\na count 0\nb count 0\nb count 0\nb count 0\n\
-            outer 2 1 3\nouter 9 1 1\nouter 10 0 1\nouter 100 2 0\ndifference 100 2\n\
-            signed 2 -2\nsigned 9 0\nsigned 10 -1\nsigned 100 2\nnot_in 100 2\n\
-            a json [[2,1],[9,1],[100,2]]\nb json [[2,3],[9,1],[10,1]]\n",
-        ),
-    ];
-    for (input, wanted) in rows {
+    for (input, wanted) in &TWO_BAG_RUNS {
         answers(rt.alloc(), &rt, input, 0, wanted);
     }
 }
@@ -228,17 +229,19 @@ fn totals_stop_at_their_end(rt: HostRuntime) -> Result<(), Fail> {
     Ok(leaves_none(rt.alloc(), &rt, script, replies)?)
 }
 
+// Inputs with a bad line, and what is said of the first.
+const BAD_LINES: [(&str, &str); 6] = [
+    ("c insert 5\n", "bad line 1\n"),
+    ("b insert 5\nb insert\n", "bad line 2\n"),
+    ("a insert 1\nc insert 2\na insert\n", "bad line 2\n"),
+    ("a insert 1\n\na insert", "bad line 3\n"),
+    ("a insert 18446744073709551616\n", "bad line 1\n"),
+    ("a insert 000000000000000000001\n", "bad line 1\n"),
+];
+
 #[test]
 fn counts_lines_to_the_bad_one(rt: HostRuntime) {
-    let rows = [
-        ("c insert 5\n", "bad line 1\n"),
-        ("b insert 5\nb insert\n", "bad line 2\n"),
-        ("a insert 1\nc insert 2\na insert\n", "bad line 2\n"),
-        ("a insert 1\n\na insert", "bad line 3\n"),
-        ("a insert 18446744073709551616\n", "bad line 1\n"),
-        ("a insert 000000000000000000001\n", "bad line 1\n"),
-    ];
-    for (input, wanted) in rows {
+    for (input, wanted) in &BAD_LINES {
         answers(rt.alloc(), &rt, input, 2, wanted);
     }
 }

@@ -1,4 +1,5 @@
 //! The merge of files whose rows rise. What is wanted was added up by hand.
+use crate::texts::is_text;
 use hashbag::HashBag;
 use hashbag_words_core::counting::count_lines;
 use hashbag_words_core::errors::Fault;
@@ -118,42 +119,45 @@ fn merged(alloc: Global, form: RowForm, files: &str, skips: bool) -> Result<Stri
     }
 }
 
-fn is_text(found: &String, wanted: &str) -> Result<(), Fail> {
-    if found.as_str() == wanted {
-        return Ok(());
-    }
-    Err(Fail::new(format_args!("{found:?}, not {wanted:?}")))
-}
-
 #[test]
 fn sorted_files_merged(rt: HostRuntime) -> Result<(), Fail> {
     let alloc = rt.alloc();
-    for (files, skips, wanted) in SORTED_MERGES {
-        is_text(&merged(alloc, RowForm::Tsv, files, skips)?, wanted)?;
+    for (files, skips, wanted) in &SORTED_MERGES {
+        is_text(&merged(alloc, RowForm::Tsv, files, *skips)?, wanted)?;
     }
-    for (files, skips, wanted) in SORTED_UNIQ {
-        is_text(&merged(alloc, RowForm::Uniq, files, skips)?, wanted)?;
+    for (files, skips, wanted) in &SORTED_UNIQ {
+        is_text(&merged(alloc, RowForm::Uniq, files, *skips)?, wanted)?;
     }
     Ok(())
+}
+
+// Rows with their counts, in one line.
+fn said_of(alloc: Global, rows: TopRows) -> Result<String, Fail> {
+    let mut said = String::new(alloc);
+    for (count, token) in &rows.into_rows() {
+        write!(said, "{token}{} ", count.0)?;
+    }
+    Ok(said)
+}
+
+// The commonest row of a run.
+fn top_of_run(alloc: Global, run: &[u8]) -> Result<String, Fail> {
+    let mut top = TopRows::new(alloc, 1, 0);
+    let mut sources = Vec::new(alloc);
+    sources
+        .push(source_of(alloc, run)?)
+        .map_err(AllocError::from)?;
+    match merge_rows(&mut sources, &mut top) {
+        Ok(()) => said_of(alloc, top),
+        Err(_) => Err(Fail::new("a run isn't merged")),
+    }
 }
 
 // A run may begin with a token that begins with a byte order mark.
 #[test]
 fn a_run_keeps_its_mark(rt: HostRuntime) -> Result<(), Fail> {
-    let alloc = rt.alloc();
-    let mut rows = TopRows::new(alloc, 1, 0);
-    let mut sources = Vec::new(alloc);
     let run: &[u8] = b"\xef\xbb\xbfa\t1\n";
-    match Source::open(RowReader::of_run(alloc, run)) {
-        Ok(source) => sources.push(source).map_err(AllocError::from)?,
-        Err(_) => return Err(Fail::new("the run isn't read")),
-    }
-    assert!(rt; merge_rows(&mut sources, &mut rows).is_ok());
-    for (count, token) in rows.into_rows() {
-        assert_eq!(rt; count.0, 1);
-        is_text(&token, "\u{feff}a")?;
-    }
-    Ok(())
+    is_text(&top_of_run(rt.alloc(), run)?, "\u{feff}a1 ")
 }
 
 // Of the rows that come: how many are kept, the least count, and those that are, the commonest first.
@@ -164,41 +168,73 @@ const TOPS: [(usize, usize, &str); 4] = [
     (9, 2, "c9 a4 b4 "),
 ];
 
+// Those rows of two files.
+fn top_of(alloc: Global, most: usize, least: usize) -> Result<String, Fail> {
+    let mut top = TopRows::new(alloc, most, least);
+    let files = "a\t4\nc\t2\ne\t1\n|b\t4\nc\t7\nf\t1\n";
+    if merge_into(alloc, RowForm::Tsv, files, false, &mut top)?.is_some() {
+        return Err(Fail::new("files aren't merged"));
+    }
+    said_of(alloc, top)
+}
+
 #[test]
 fn the_commonest_rows(rt: HostRuntime) -> Result<(), Fail> {
     let alloc = rt.alloc();
-    for (most, least, wanted) in TOPS {
-        let mut top = TopRows::new(alloc, most, least);
-        let files = "a\t4\nc\t2\ne\t1\n|b\t4\nc\t7\nf\t1\n";
-        assert!(rt; merge_into(alloc, RowForm::Tsv, files, false, &mut top)?.is_none());
-        let mut found = String::new(alloc);
-        for (count, token) in top.into_rows() {
-            let row = format!(in alloc; "{token}{} ", count.0)?;
-            found.push_str(row.as_str())?;
-        }
-        is_text(&found, wanted)?;
+    for (most, least, wanted) in &TOPS {
+        is_text(&top_of(alloc, *most, *least)?, wanted)?;
     }
     Ok(())
 }
 
+// A format, rows, and what is written of them.
+const WRITTEN: [(&str, &[(&str, usize)], &str); 6] = [
+    ("tsv", &[], ""),
+    ("json", &[], "[]\n"),
+    ("uniq", &[], ""),
+    ("tsv", &[("a", 1), ("b\"", 12)], "a\t1\nb\"\t12\n"),
+    (
+        "json",
+        &[("a", 1), ("b\"", 12)],
+        "[[\"a\",1],[\"b\\\"\",12]]\n",
+    ),
+    ("uniq", &[("a", 1), ("b\"", 12)], "      1 a\n     12 b\"\n"),
+];
+
+fn format_of(word: &str) -> Format {
+    match word {
+        "json" => Format::Json,
+        "uniq" => Format::Uniq,
+        _ => Format::Tsv,
+    }
+}
+
+// What is written of these rows.
+fn written(alloc: Global, format: Format, rows: &[(&str, usize)]) -> Result<String, Fail> {
+    let mut writer = RowWriter::begin(alloc, Vec::new(alloc), format)?;
+    for (token, count) in rows {
+        writer.write_row(*token, *count)?;
+    }
+    if writer.is_empty() != rows.is_empty() {
+        return Err(Fail::new("is_empty is wrong"));
+    }
+    Ok(String::from_utf8(writer.finish()?)?)
+}
+
 #[test]
 fn rows_are_written(rt: HostRuntime) -> Result<(), Fail> {
-    let alloc = rt.alloc();
-    for (format, empty, wanted) in [
-        (Format::Tsv, "", "a\t1\nb\"\t12\n"),
-        (Format::Json, "[]\n", "[[\"a\",1],[\"b\\\"\",12]]\n"),
-        (Format::Uniq, "", "      1 a\n     12 b\"\n"),
-    ] {
-        let writer = RowWriter::begin(alloc, Vec::new(alloc), format)?;
-        assert!(rt; writer.is_empty());
-        is_text(&String::from_utf8(writer.finish()?)?, empty)?;
-        let mut writer = RowWriter::begin(alloc, Vec::new(alloc), format)?;
-        writer.write_row("a", 1)?;
-        writer.write_row("b\"", 12)?;
-        assert!(rt; !writer.is_empty());
-        is_text(&String::from_utf8(writer.finish()?)?, wanted)?;
+    for (format, rows, wanted) in &WRITTEN {
+        is_text(&written(rt.alloc(), format_of(format), *rows)?, wanted)?;
     }
     Ok(())
+}
+
+// Each word is a token.
+fn by_words() -> Rule<'static> {
+    Rule {
+        pieces: Pieces::Words,
+        fold: false,
+    }
 }
 
 // A bag that is counted in, and how far its input is.
@@ -210,14 +246,10 @@ struct Counted {
 
 // Counts at most nine lines of a text, and returns whether there are more.
 fn count_part(alloc: Global, counted: &mut Counted, mut part: &[u8]) -> Result<bool, Fault> {
-    let rule = Rule {
-        pieces: Pieces::Words,
-        fold: false,
-    };
     count_lines(
         alloc,
         &mut counted.bag,
-        &rule,
+        &by_words(),
         &mut part,
         &mut counted.reading,
         9,
@@ -281,41 +313,44 @@ fn a_bag_is_spilled(rt: HostRuntime) -> Result<(), Fail> {
 // The lines of a text, and how many of them each run but the last takes. What is wanted was counted by hand.
 const MOMENTS: [[u64; 3]; 4] = [[0, 0, 0], [1, 0, 2], [1, 1, 1], [9, 1, 1]];
 
+const TEXT: &[u8] = b"b a\nb\n\xff b\nc b\na";
+
+// The counts of that text, in such runs.
+fn counted_in_runs(alloc: Global, state: RandomState, moments: &[u64]) -> Result<String, Fail> {
+    let writer = RowWriter::begin(alloc, Vec::new(alloc), Format::Tsv)?;
+    let mut rows = WrittenRows { writer, least: 0 };
+    let mut input = TEXT;
+    match put_in_runs(alloc, state, &by_words(), &mut input, moments, &mut rows) {
+        Ok(()) => Ok(String::from_utf8(rows.writer.finish()?)?),
+        Err(_) => Err(Fail::new("a text isn't counted")),
+    }
+}
+
 #[test]
 fn a_text_is_counted_in_runs(rt: HostRuntime) -> Result<(), Fail> {
-    let alloc = rt.alloc();
-    let rule = Rule {
-        pieces: Pieces::Words,
-        fold: false,
-    };
-    let text: &[u8] = b"b a\nb\n\xff b\nc b\na";
-    for moments in MOMENTS {
-        let writer = RowWriter::begin(alloc, Vec::new(alloc), Format::Tsv)?;
-        let mut rows = WrittenRows { writer, least: 0 };
-        let mut input = text;
-        let state = RandomState::new(&rt)?;
-        assert!(rt;
-            put_in_runs(
-                alloc,
-                state,
-                &rule,
-                &mut input,
-                moments.as_slice(),
-                &mut rows
-            )
-            .is_ok()
-        );
-        is_text(
-            &String::from_utf8(rows.writer.finish()?)?,
-            "a\t2\nb\t3\nc\t1\n",
-        )?;
-    }
-    let mut input = text;
     let state = RandomState::new(&rt)?;
-    let runs = runs_of(alloc, state, &rule, &mut input, [2, 1].as_slice())?;
-    assert_eq!(rt; runs.len(), 3);
-    assert_eq!(rt; runs[0].as_slice(), b"a\t1\nb\t2\n".as_slice());
-    assert!(rt; runs[1].is_empty());
-    assert_eq!(rt; runs[2].as_slice(), b"a\t1\nb\t1\nc\t1\n".as_slice());
+    for moments in &MOMENTS {
+        let counts = counted_in_runs(rt.alloc(), state, moments.as_slice())?;
+        is_text(&counts, "a\t2\nb\t3\nc\t1\n")?;
+    }
+    Ok(())
+}
+
+#[test]
+fn runs_of_a_text(rt: HostRuntime) -> Result<(), Fail> {
+    let state = RandomState::new(&rt)?;
+    let mut input = TEXT;
+    let runs = runs_of(
+        rt.alloc(),
+        state,
+        &by_words(),
+        &mut input,
+        [2, 1].as_slice(),
+    )?;
+    let wanted = ["a\t1\nb\t2\n", "", "a\t1\nb\t1\nc\t1\n"];
+    assert_eq!(rt; runs.len(), wanted.len());
+    for (run, wanted) in runs.iter().zip(wanted.iter()) {
+        assert_eq!(rt; run.as_slice(), wanted.as_bytes());
+    }
     Ok(())
 }

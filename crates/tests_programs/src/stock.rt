@@ -14,32 +14,34 @@ use hashbag_stock_core::verifying::{KeptRefusal, wrong_batch, wrong_number, wron
 use std::alloc::Global;
 use std::test::Fail;
 
+// Changes and their numbers.
+const NUMBERS: [(&str, usize, i64); 6] = [
+    ("in", 0, 0),
+    ("out", 0, 0),
+    ("in", 7, 7),
+    ("out", 7, -7),
+    ("in", 9_223_372_036_854_775_807, 9_223_372_036_854_775_807),
+    ("out", 9_223_372_036_854_775_807, -9_223_372_036_854_775_807),
+];
+
+fn change(kind: &str, quantity: usize) -> Change {
+    if kind == "in" {
+        Change::In(quantity)
+    } else {
+        Change::Out(quantity)
+    }
+}
+
 #[test]
 fn changes_are_numbers(rt: HostRuntime) -> Result<(), Fail> {
-    for (change, number) in [
-        (Change::In(0), 0),
-        (Change::Out(0), 0),
-        (Change::In(7), 7),
-        (Change::Out(7), -7),
-        (
-            Change::In(9_223_372_036_854_775_807),
-            9_223_372_036_854_775_807,
-        ),
-        (
-            Change::Out(9_223_372_036_854_775_807),
-            -9_223_372_036_854_775_807,
-        ),
-    ] {
-        assert_eq!(rt; number_of(change), Some(number));
-        assert_eq!(rt; change_of(number), plain_change(change));
+    for (kind, quantity, number) in &NUMBERS {
+        let change = change(kind, *quantity);
+        assert_eq!(rt; number_of(change), Some(*number));
+        assert_eq!(rt; change_of(*number), plain_change(change));
     }
+    assert_eq!(rt; number_of(Change::In(9_223_372_036_854_775_808)), None);
+    assert_eq!(rt; number_of(Change::Out(usize::MAX)), None);
     assert_eq!(rt; plain_change(Change::Out(0)), Change::In(0));
-    for change in [
-        Change::In(9_223_372_036_854_775_808),
-        Change::Out(usize::MAX),
-    ] {
-        assert_eq!(rt; number_of(change), None);
-    }
     assert_eq!(rt; change_of(i64::MIN), Change::Out(9_223_372_036_854_775_808));
     assert_eq!(rt; size_of(Change::Out(3)), 3);
     assert_eq!(rt; signed(MOST), Some(i64::MAX));
@@ -56,15 +58,18 @@ fn balance_of(alloc: Global, list: &[(&str, usize)]) -> Result<Vec<(String, usiz
 }
 
 // Returns movements of owned texts, on lines from 2 on.
-fn movements_of(alloc: Global, list: &[(&str, Change)]) -> Result<Vec<Movement<String>>, Fail> {
+fn movements_of(
+    alloc: Global,
+    list: &[(&str, &str, usize)],
+) -> Result<Vec<Movement<String>>, Fail> {
     let mut movements = Vec::new(alloc);
     let mut line = 2u64;
-    for (article, change) in list {
+    for (article, kind, quantity) in list {
         let place = Place { file: 0, line };
         movements.push(Movement {
             place,
             article: article.to_string(alloc)?,
-            change: *change,
+            change: change(kind, *quantity),
         })?;
         line = line.saturating_add(1);
     }
@@ -85,19 +90,29 @@ const ROWS: [(&[(&str, usize)], &[(&str, usize)], &str); 6] = [
     ),
 ];
 
+// What becomes of the rows of a balance, in one line.
+fn changes_between(
+    alloc: Global,
+    before: &[(String, usize)],
+    after: &[(String, usize)],
+) -> Result<String, Fail> {
+    let mut said = String::new(alloc);
+    for change in &changed_rows(alloc, before, after)? {
+        match change {
+            RowChange::Put(article, number) => write!(said, "[{article} {number}]")?,
+            RowChange::Remove(article) => write!(said, "[-{article}]")?,
+        }
+    }
+    Ok(said)
+}
+
 #[test]
 fn rows_change(rt: HostRuntime) -> Result<(), Fail> {
     let alloc = rt.alloc();
-    for (before, after, wanted) in ROWS {
+    for (before, after, wanted) in &ROWS {
         let (before, after) = (balance_of(alloc, before)?, balance_of(alloc, after)?);
-        let mut said = String::new(alloc);
-        for change in &changed_rows(alloc, &before, &after)? {
-            match change {
-                RowChange::Put(article, number) => write!(said, "[{article} {number}]")?,
-                RowChange::Remove(article) => write!(said, "[-{article}]")?,
-            }
-        }
-        assert_eq!(rt; said.as_str(), wanted);
+        let said = changes_between(alloc, &before, &after)?;
+        assert_eq!(rt; said.as_str(), *wanted);
     }
     Ok(())
 }
@@ -117,54 +132,63 @@ fn said_of(alloc: Global, movements: &[Movement<String>]) -> Result<String, Fail
 }
 
 // A balance, a batch that is taken back, and the balance afterwards or the movements that are refused.
-const UNDOS: [(&[(&str, usize)], &[(&str, Change)], &str); 5] = [
+const UNDOS: [(&[(&str, usize)], &[(&str, &str, usize)], &str); 5] = [
     (&[], &[], ""),
     (
         &[("a", 5), ("b", 2)],
-        &[("a", Change::In(5)), ("c", Change::Out(3))],
+        &[("a", "in", 5), ("c", "out", 3)],
         "b 2 c 3 ",
     ),
-    (&[("a", 4)], &[("a", Change::In(5))], "2: a out 5, 4 there "),
-    (
-        &[("a", 4)],
-        &[("a", Change::In(5)), ("a", Change::Out(1))],
-        "",
-    ),
+    (&[("a", 4)], &[("a", "in", 5)], "2: a out 5, 4 there "),
+    (&[("a", 4)], &[("a", "in", 5), ("a", "out", 1)], ""),
     (
         &[("a", 4), ("b", 1)],
-        &[
-            ("b", Change::In(1)),
-            ("a", Change::In(3)),
-            ("a", Change::In(2)),
-        ],
+        &[("b", "in", 1), ("a", "in", 3), ("a", "in", 2)],
         "4: a out 2, 1 there ",
     ),
 ];
 
+// Returns a balance in one line.
+fn balance_in_line(alloc: Global, balance: &[(String, usize)]) -> Result<String, Fail> {
+    let mut said = String::new(alloc);
+    for (article, number) in balance {
+        write!(said, "{article} {number} ")?;
+    }
+    Ok(said)
+}
+
+// Returns refusals in one line.
+fn refusals_in_line(alloc: Global, refusals: &[Refusal<String>]) -> Result<String, Fail> {
+    let mut said = String::new(alloc);
+    for refusal in refusals {
+        let line = refusal.place.line;
+        let article = refusal.article.as_str();
+        let (asked, there) = (refusal.asked, refusal.there);
+        write!(said, "{line}: {article} out {asked}, {there} there ")?;
+    }
+    Ok(said)
+}
+
+// Returns what a batch that is taken back leaves, in one line.
+fn left_by(
+    alloc: Global,
+    kept: Vec<(String, usize)>,
+    batch: Vec<Movement<String>>,
+) -> Result<String, Fail> {
+    match take_back(alloc, FixedState::new(), kept, batch) {
+        Ok(Undo::Done(balance)) => balance_in_line(alloc, &balance),
+        Ok(Undo::Refused(refusals)) => refusals_in_line(alloc, &refusals),
+        Err(_) => Err(Fail::from("not taken back")),
+    }
+}
+
 #[test]
 fn batches_are_taken_back(rt: HostRuntime) -> Result<(), Fail> {
     let alloc = rt.alloc();
-    for (kept, batch, wanted) in UNDOS {
+    for (kept, batch, wanted) in &UNDOS {
         let kept = balance_of(alloc, kept)?;
-        let batch = movements_of(alloc, batch)?;
-        let mut said = String::new(alloc);
-        match take_back(alloc, FixedState::new(), kept, batch) {
-            Ok(Undo::Done(balance)) => {
-                for (article, number) in &balance {
-                    write!(said, "{article} {number} ")?;
-                }
-            }
-            Ok(Undo::Refused(refusals)) => {
-                for refusal in &refusals {
-                    let line = refusal.place.line;
-                    let article = refusal.article.as_str();
-                    let (asked, there) = (refusal.asked, refusal.there);
-                    write!(said, "{line}: {article} out {asked}, {there} there ")?;
-                }
-            }
-            Err(_) => return Err(Fail::from("not taken back")),
-        }
-        assert_eq!(rt; said.as_str(), wanted);
+        let said = left_by(alloc, kept, movements_of(alloc, batch)?)?;
+        assert_eq!(rt; said.as_str(), *wanted);
     }
     Ok(())
 }
@@ -175,10 +199,10 @@ fn opposites_come_in_first(rt: HostRuntime) -> Result<(), Fail> {
     let batch = movements_of(
         alloc,
         &[
-            ("a", Change::In(1)),
-            ("b", Change::Out(2)),
-            ("c", Change::In(3)),
-            ("d", Change::Out(4)),
+            ("a", "in", 1),
+            ("b", "out", 2),
+            ("c", "in", 3),
+            ("d", "out", 4),
         ],
     )?;
     let all = opposites(alloc, batch)?;
@@ -193,13 +217,13 @@ fn opposites_come_in_first(rt: HostRuntime) -> Result<(), Fail> {
 fn a_balance_has_a_limit(rt: HostRuntime) -> Result<(), Fail> {
     let alloc = rt.alloc();
     let kept = balance_of(alloc, &[("a", MOST)])?;
-    let one = movements_of(alloc, &[("a", Change::Out(1)), ("b", Change::In(1))])?;
+    let one = movements_of(alloc, &[("a", "out", 1), ("b", "in", 1)])?;
     let Ok(entered) = enter_batch(alloc, FixedState::new(), kept, one) else {
         return Err(Fail::from("not entered"));
     };
     assert_eq!(rt; entered.balance.len(), 2);
     assert!(rt; entered.refusals.is_empty());
-    let more = movements_of(alloc, &[("a", Change::In(1))])?;
+    let more = movements_of(alloc, &[("a", "in", 1)])?;
     assert!(rt; enter_batch(alloc, FixedState::new(), entered.balance, more).is_err());
     Ok(())
 }
@@ -215,19 +239,28 @@ const BALANCES: [(&[(&str, usize)], &[(&str, usize)], &str); 7] = [
     (&[("b", 1)], &[("a", 4), ("b", 2)], "a 0 4"),
 ];
 
+// Returns the first article that differs, with its numbers.
+fn difference(
+    alloc: Global,
+    kept: &[(String, usize)],
+    counted: &[(String, usize)],
+) -> Result<String, Fail> {
+    match wrong_number(kept, counted) {
+        Some(wrong) => {
+            let (article, stored, made) = (wrong.article, wrong.kept, wrong.counted);
+            Ok(format!(in alloc; "{article} {stored} {made}")?)
+        }
+        None => Ok(String::new(alloc)),
+    }
+}
+
 #[test]
 fn the_first_wrong_number_is_found(rt: HostRuntime) -> Result<(), Fail> {
     let alloc = rt.alloc();
-    for (kept, counted, wanted) in BALANCES {
+    for (kept, counted, wanted) in &BALANCES {
         let (kept, counted) = (balance_of(alloc, kept)?, balance_of(alloc, counted)?);
-        let said = match wrong_number(&kept, &counted) {
-            Some(wrong) => {
-                let (article, stored, made) = (wrong.article, wrong.kept, wrong.counted);
-                format!(in alloc; "{article} {stored} {made}")?
-            }
-            None => String::new(alloc),
-        };
-        assert_eq!(rt; said.as_str(), wanted);
+        let said = difference(alloc, &kept, &counted)?;
+        assert_eq!(rt; said.as_str(), *wanted);
     }
     Ok(())
 }
@@ -250,30 +283,34 @@ fn refusals_of(alloc: Global, list: &[(u64, usize)]) -> Result<Vec<Refusal<Strin
     Ok(refusals)
 }
 
+// The refusals that are kept.
+const KEPT: [KeptRefusal; 2] = [
+    KeptRefusal {
+        movement: 3,
+        there: 1,
+    },
+    KeptRefusal {
+        movement: 8,
+        there: 0,
+    },
+];
+
+// Refusals that are counted, and the movement of the first that differs, or 0.
+const REFUSALS: [(&[(u64, usize)], u64); 6] = [
+    (&[(3, 1), (8, 0)], 0),
+    (&[(3, 1)], 8),
+    (&[(3, 1), (8, 0), (9, 4)], 9),
+    (&[(3, 2), (8, 0)], 3),
+    (&[(2, 1), (3, 1), (8, 0)], 2),
+    (&[(3, 1), (7, 0), (8, 0)], 7),
+];
+
 #[test]
 fn the_first_wrong_refusal_is_found(rt: HostRuntime) -> Result<(), Fail> {
-    let alloc = rt.alloc();
-    let kept = [
-        KeptRefusal {
-            movement: 3,
-            there: 1,
-        },
-        KeptRefusal {
-            movement: 8,
-            there: 0,
-        },
-    ];
-    let rows: [(&[(u64, usize)], Option<u64>); 6] = [
-        (&[(3, 1), (8, 0)], None),
-        (&[(3, 1)], Some(8)),
-        (&[(3, 1), (8, 0), (9, 4)], Some(9)),
-        (&[(3, 2), (8, 0)], Some(3)),
-        (&[(2, 1), (3, 1), (8, 0)], Some(2)),
-        (&[(3, 1), (7, 0), (8, 0)], Some(7)),
-    ];
-    for (counted, wanted) in rows {
-        let counted = refusals_of(alloc, counted)?;
-        assert_eq!(rt; wrong_refusal(kept.as_slice(), &counted), wanted);
+    for (counted, wanted) in &REFUSALS {
+        let counted = refusals_of(rt.alloc(), counted)?;
+        let wrong = wrong_refusal(KEPT.as_slice(), &counted);
+        assert_eq!(rt; wrong.unwrap_or(0), *wanted);
     }
     Ok(())
 }
@@ -325,44 +362,75 @@ fn batches_are_found(rt: HostRuntime) -> Result<(), Fail> {
     Ok(())
 }
 
-// The batches of the movements 1, 2 and so on; the movements that are refused; and the first batch that is wrong.
-const COUNTS: [(&[usize], &[u64], Option<i64>); 7] = [
-    (&[1, 1, 5], &[2], None),
-    (&[1, 5], &[1], Some(1)),
-    (&[1, 1, 1, 5], &[2], Some(1)),
-    (&[1, 1, 2, 5], &[2], Some(2)),
-    (&[1, 1, 5], &[], Some(1)),
-    (&[1, 1, 5], &[2, 3], Some(5)),
-    (&[1, 1, 5, 7], &[2], Some(7)),
+// The batches of the movements 1, 2 and so on; the movements that are refused; and the first batch that is wrong, or 0.
+const COUNTS: [(&[usize], &[u64], i64); 7] = [
+    (&[1, 1, 5], &[2], 0),
+    (&[1, 5], &[1], 1),
+    (&[1, 1, 1, 5], &[2], 1),
+    (&[1, 1, 2, 5], &[2], 2),
+    (&[1, 1, 5], &[], 1),
+    (&[1, 1, 5], &[2, 3], 5),
+    (&[1, 1, 5, 7], &[2], 7),
 ];
+
+// Returns movements of these batches.
+fn movements_in(alloc: Global, files: &[usize]) -> Result<Vec<Movement<String>>, Fail> {
+    let mut movements = Vec::new(alloc);
+    let mut line = 1u64;
+    for file in files {
+        let place = Place { file: *file, line };
+        movements.push(Movement {
+            place,
+            article: "a".to_string(alloc)?,
+            change: Change::In(1),
+        })?;
+        line = line.saturating_add(1);
+    }
+    Ok(movements)
+}
+
+// Returns refusals of these movements.
+fn refused_of(alloc: Global, refused: &[u64]) -> Result<Vec<KeptRefusal>, Fail> {
+    let mut refusals = Vec::new(alloc);
+    for movement in refused {
+        refusals.push(KeptRefusal {
+            movement: *movement,
+            there: 0,
+        })?;
+    }
+    Ok(refusals)
+}
 
 #[test]
 fn the_first_wrong_batch_is_found(rt: HostRuntime) -> Result<(), Fail> {
     let alloc = rt.alloc();
     let batches = three_batches(alloc)?;
-    for (files, refused, wanted) in COUNTS {
-        let mut movements = Vec::new(alloc);
-        let mut line = 1u64;
-        for file in files {
-            let place = Place { file: *file, line };
-            movements.push(Movement {
-                place,
-                article: "a".to_string(alloc)?,
-                change: Change::In(1),
-            })?;
-            line = line.saturating_add(1);
-        }
-        let mut refusals = Vec::new(alloc);
-        for movement in refused {
-            refusals.push(KeptRefusal {
-                movement: *movement,
-                there: 0,
-            })?;
-        }
-        assert_eq!(rt; wrong_batch(&batches, &movements, &refusals), wanted);
+    for (files, refused, wanted) in &COUNTS {
+        let movements = movements_in(alloc, files)?;
+        let refusals = refused_of(alloc, refused)?;
+        let wrong = wrong_batch(&batches, &movements, &refusals);
+        assert_eq!(rt; wrong.unwrap_or(0), *wanted);
     }
     Ok(())
 }
+
+// Events of an article.
+const EVENTS: [Event; 2] = [
+    Event {
+        batch: 1,
+        line: 7,
+        change: 25,
+        is_refused: false,
+        number: 25,
+    },
+    Event {
+        batch: 5,
+        line: 7,
+        change: -30,
+        is_refused: true,
+        number: 25,
+    },
+];
 
 #[test]
 fn batches_and_events_are_written(rt: HostRuntime) -> Result<(), Fail> {
@@ -376,18 +444,8 @@ fn batches_and_events_are_written(rt: HostRuntime) -> Result<(), Fail> {
         String::from_utf8(batches_text(alloc, reading, &batches)?)?.as_str(),
         "batch;file;sha256;kind;undoes;time;movements;refused\n1;file 1.csv;aa;moves;;2026-01-02 03:04:05;2;1\n2;file 2.csv;bb;moves;;2026-01-02 03:04:05;0;0\n5;file 5.csv;;undo;1;2026-01-02 03:04:05;1;0\n"
     );
-    let mut events = Vec::new(alloc);
-    for (batch, change, is_refused, number) in [(1, 25, false, 25), (5, -30, true, 25)] {
-        events.push(Event {
-            batch,
-            line: 7,
-            change,
-            is_refused,
-            number,
-        })?;
-    }
     assert_eq!(rt;
-        String::from_utf8(history_text(alloc, reading, &batches, &events)?)?.as_str(),
+        String::from_utf8(history_text(alloc, reading, &batches, EVENTS.as_slice())?)?.as_str(),
         "batch;file;line;time;change;outcome;number\n1;file 1.csv;7;2026-01-02 03:04:05;2,5;entered;2,5\n5;file 5.csv;7;2026-01-02 03:04:05;-3,0;refused;2,5\n"
     );
     Ok(())

@@ -1,5 +1,6 @@
 //! What no clause says: which words of Unicode, folds and matches there are, what is wrong with a bad line, and how counts are written.
 //! What is wanted was found by hand, and by `tr`, `sort` and `uniq -c` where these find it. Each row is tried under two hash states.
+use crate::texts::is_text;
 use hashbag::{FixedState, HashBag};
 use hashbag_words_core::choice::{Order, chosen};
 use hashbag_words_core::counting::count_lines;
@@ -98,13 +99,6 @@ fn written<S: BuildHasher + Drop>(
     Ok(String::from_utf8(out)?)
 }
 
-fn is_text(found: &String, wanted: &str) -> Result<(), Fail> {
-    if found.as_str() == wanted {
-        return Ok(());
-    }
-    Err(Fail::new(format_args!("{found:?}, not {wanted:?}")))
-}
-
 fn counted<S: BuildHasher + Drop>(
     alloc: Global,
     state: S,
@@ -126,9 +120,10 @@ fn counted<S: BuildHasher + Drop>(
 #[test]
 fn counts_of_text(rt: HostRuntime) -> Result<(), Fail> {
     let alloc = rt.alloc();
-    for (by, input, wanted) in COUNTS {
+    let state = RandomState::new(&rt)?;
+    for (by, input, wanted) in &COUNTS {
         is_text(&counted(alloc, FixedState::new(), by, input)?, wanted)?;
-        is_text(&counted(alloc, RandomState::new(&rt)?, by, input)?, wanted)?;
+        is_text(&counted(alloc, state, by, input)?, wanted)?;
     }
     Ok(())
 }
@@ -176,11 +171,11 @@ fn merged<S: BuildHasher + Drop>(
 
 fn merges(rt: &HostRuntime, form: RowForm, rows: &[(&[u8], bool, &str)]) -> Result<(), Fail> {
     let alloc = rt.alloc();
+    let state = RandomState::new(rt)?;
     for (file, is_skipped, wanted) in rows {
         let fixed = merged(alloc, FixedState::new(), form, file, *is_skipped)?;
         is_text(&fixed, wanted)?;
-        let random = merged(alloc, RandomState::new(rt)?, form, file, *is_skipped)?;
-        is_text(&random, wanted)?;
+        is_text(&merged(alloc, state, form, file, *is_skipped)?, wanted)?;
     }
     Ok(())
 }
@@ -191,7 +186,22 @@ fn counts_added_up(rt: HostRuntime) -> Result<(), Fail> {
     merges(&rt, RowForm::Uniq, &UNIQ_MERGES)
 }
 
-// Seven lines in portions of two: where each portion ends, and what is said of a bad line behind the first portions.
+// Where each portion of two lines ends, what follows it, and the counts so far. The last line is bad.
+const PORTIONS: [(u64, &str, &str); 4] = [
+    (2, "more", "a\t1\nb\t1\n"),
+    (4, "more", "a\t2\nb\t2\n"),
+    (6, "more", "a\t3\nb\t2\nc\t1\n"),
+    (7, "bad", "a\t3\nb\t2\nc\t1\n"),
+];
+
+fn after(portion: Result<bool, Fault>) -> &'static str {
+    match portion {
+        Ok(true) => "more",
+        Ok(false) => "none",
+        Err(_) => "bad",
+    }
+}
+
 #[test]
 fn portions(rt: HostRuntime) -> Result<(), Fail> {
     let alloc = rt.alloc();
@@ -202,36 +212,62 @@ fn portions(rt: HostRuntime) -> Result<(), Fail> {
     let mut bag = HashBag::with_hasher(alloc, RandomState::new(&rt)?);
     let mut reading = Reading::new(BadLines::Refused);
     let mut rest: &[u8] = b"a\nb\na\nb\nc\na\nd \xff\n";
-    for line in [2, 4, 6] {
-        assert!(rt; count_lines(alloc, &mut bag, &rule, &mut rest, &mut reading, 2)?);
-        assert_eq!(rt; reading.line, line);
+    for (line, follows, wanted) in &PORTIONS {
+        let portion = count_lines(alloc, &mut bag, &rule, &mut rest, &mut reading, 2);
+        assert_eq!(rt; after(portion), *follows, "at {line}");
+        assert_eq!(rt; reading.line, *line);
+        is_text(&written(alloc, &bag, Format::Tsv)?, wanted)?;
     }
-    is_text(&written(alloc, &bag, Format::Tsv)?, "a\t3\nb\t2\nc\t1\n")?;
-    assert!(rt; count_lines(alloc, &mut bag, &rule, &mut rest, &mut reading, 2).is_err());
-    assert_eq!(rt; reading.line, 7);
-    is_text(&written(alloc, &bag, Format::Tsv)?, "a\t3\nb\t2\nc\t1\n")
+    Ok(())
+}
+
+// Trees that are added one after the other, a form, and how the counts are then written.
+const FORMS: [(&str, &str, &str); 5] = [
+    (
+        "[[\"the\",3],[\"a\\\"\\t\",1]]",
+        "tsv",
+        "a\"\\t\t1\nthe\t3\n",
+    ),
+    ("[]", "uniq", "      1 a\"\t\n      3 the\n"),
+    ("[]", "json", "[[\"a\\\"\\t\",1],[\"the\",3]]\n"),
+    ("[[\"c\",2],[\"the\"]]", "tsv", "a bad tree"),
+    (
+        "[[\"b\",2],[\"the\",1]]",
+        "tsv",
+        "a\"\\t\t1\nb\t2\nthe\t4\n",
+    ),
+];
+
+fn format_of(word: &str) -> Format {
+    match word {
+        "json" => Format::Json,
+        "uniq" => Format::Uniq,
+        _ => Format::Tsv,
+    }
+}
+
+// The counts and those of a tree, written in a form.
+fn with_tree(
+    alloc: Global,
+    state: RandomState,
+    bag: &mut HashBag<String, FixedState>,
+    tree: &str,
+    format: Format,
+) -> Result<String, Fail> {
+    match add_tree(alloc, state, bag, tree) {
+        Ok(()) => written(alloc, bag, format),
+        Err(_) => Ok("a bad tree".to_string(alloc)?),
+    }
 }
 
 #[test]
 fn forms(rt: HostRuntime) -> Result<(), Fail> {
     let alloc = rt.alloc();
-    let mut bag = HashBag::with_hasher(alloc, RandomState::new(&rt)?);
-    let state = FixedState::new();
-    add_tree(alloc, state, &mut bag, "[[\"the\",3],[\"a\\\"\\t\",1]]")?;
-    is_text(&written(alloc, &bag, Format::Tsv)?, "a\"\\t\t1\nthe\t3\n")?;
-    is_text(
-        &written(alloc, &bag, Format::Uniq)?,
-        "      1 a\"\t\n      3 the\n",
-    )?;
-    is_text(
-        &written(alloc, &bag, Format::Json)?,
-        "[[\"a\\\"\\t\",1],[\"the\",3]]\n",
-    )?;
     let state = RandomState::new(&rt)?;
-    add_tree(alloc, state, &mut bag, "[[\"b\",2],[\"the\",1]]")?;
-    assert!(rt; add_tree(alloc, state, &mut bag, "[[\"c\",2],[\"the\"]]").is_err());
-    is_text(
-        &written(alloc, &bag, Format::Tsv)?,
-        "a\"\\t\t1\nb\t2\nthe\t4\n",
-    )
+    let mut bag = HashBag::with_hasher(alloc, FixedState::new());
+    for (tree, form, wanted) in &FORMS {
+        let text = with_tree(alloc, state, &mut bag, tree, format_of(form))?;
+        is_text(&text, wanted)?;
+    }
+    Ok(())
 }

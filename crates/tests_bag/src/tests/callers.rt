@@ -187,13 +187,22 @@ fn matched<S: BuildHasher + Drop, S2: BuildHasher + Drop>(
     )
 }
 
+// The match of two deliveries that are written as articles with their numbers.
+fn match_of<S: BuildHasher + Default + Drop>(
+    alloc: Global,
+    ordered: &str,
+    delivered: &str,
+) -> Result<(bool, usize, usize), Fail> {
+    let ordered: HashBag<u64, S> = stock_of(alloc, ordered)?;
+    let delivered: HashBag<u64> = stock_of(alloc, delivered)?;
+    Ok(matched(&ordered, &delivered))
+}
+
 fn matches_as<S: BuildHasher + Default + Drop>(alloc: Global, row: &str) -> Result<(), Fail> {
     let (ordered, rest) = halves(row, "|")?;
     let (delivered, want) = halves(rest, "|")?;
-    let ordered: HashBag<u64, S> = stock_of(alloc, ordered)?;
-    let delivered: HashBag<u64> = stock_of(alloc, delivered)?;
-    let got = debug_of(alloc, &matched(&ordered, &delivered))?;
-    is_text(got.as_str(), want)
+    let got = match_of::<S>(alloc, ordered, delivered)?;
+    is_text(debug_of(alloc, &got)?.as_str(), want)
 }
 
 fn is_answered<S: BuildHasher + Default + Drop>(
@@ -206,16 +215,27 @@ fn is_answered<S: BuildHasher + Default + Drop>(
     is_text(got.as_str(), want)
 }
 
-// The callers under a state.
-fn callers_under<S: BuildHasher + Default + Drop>(alloc: Global, state: S) -> Result<(), Fail> {
-    let mut bag = HashBag::with_hasher(alloc, state);
+fn are_answered<S: BuildHasher + Default + Drop>(
+    alloc: Global,
+    bag: &mut HashBag<u64, S>,
+) -> Result<(), Fail> {
     for row in rows_of(alloc, ROWS)? {
-        row.tested(is_answered(alloc, &mut bag, row.text))?;
+        row.tested(is_answered(alloc, bag, row.text))?;
     }
+    Ok(())
+}
+
+fn are_matched<S: BuildHasher + Default + Drop>(alloc: Global) -> Result<(), Fail> {
     for row in rows_of(alloc, DELIVERIES)? {
         row.tested(matches_as::<S>(alloc, row.text))?;
     }
     Ok(())
+}
+
+// The callers under a state.
+fn callers_under<S: BuildHasher + Default + Drop>(alloc: Global, state: S) -> Result<(), Fail> {
+    are_answered(alloc, &mut HashBag::with_hasher(alloc, state))?;
+    are_matched::<S>(alloc)
 }
 
 // The bag of these words: how often the first of them occurs, and how many there are.

@@ -145,10 +145,10 @@ fn makes_one_of_each<'a, S: BuildHasher + Clone + Drop>(
 }
 
 fn bags_under<S: BuildHasher + Copy + Clone>(alloc: Global, state: S) -> Result<(), Fail> {
-    for size in SIZES {
+    for size in &SIZES {
         let clones = Cell::new(0);
-        let bag = bag_of(alloc, state, size, &clones)?;
-        makes_one_of_each(&bag, size, &clones)?;
+        let bag = bag_of(alloc, state, *size, &clones)?;
+        makes_one_of_each(&bag, *size, &clones)?;
     }
     Ok(())
 }

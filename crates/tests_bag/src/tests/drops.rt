@@ -128,6 +128,33 @@ fn drained<'a, S: BuildHasher + Drop>(
     has_dropped(rt, "a drain", drops, 75);
 }
 
+// A value that is inserted again and cleared away, and one that stays.
+fn cleared<'a, S: BuildHasher + Drop>(
+    rt: &impl Abort,
+    bag: &mut HashBag<Counted<'a>, S>,
+    drops: &'a Cell<usize>,
+) -> Result<(), Fail> {
+    insert(bag, value(drops, 5))?;
+    clear(bag);
+    has_dropped(rt, "clear", drops, 76);
+    insert(bag, value(drops, 6))?;
+    Ok(())
+}
+
+// Each of these calls on one bag.
+fn dropped_by_calls<'a, S: BuildHasher + Drop>(
+    rt: &impl Abort,
+    bag: &mut HashBag<Counted<'a>, S>,
+    drops: &'a Cell<usize>,
+    probes: &'a Cell<usize>,
+) -> Result<(), Fail> {
+    equal_values(rt, bag, drops)?;
+    taken_out(rt, bag, drops, probes);
+    moved_and_retained(rt, bag, drops)?;
+    drained(rt, bag, drops);
+    cleared(rt, bag, drops)
+}
+
 fn drops_under<S: BuildHasher + Drop>(
     rt: &impl Abort,
     alloc: Global,
@@ -135,14 +162,7 @@ fn drops_under<S: BuildHasher + Drop>(
 ) -> Result<(), Fail> {
     let (drops, probes) = (Cell::new(0), Cell::new(0));
     let mut bag = carrying(rt, alloc, state, &drops)?;
-    equal_values(rt, &mut bag, &drops)?;
-    taken_out(rt, &mut bag, &drops, &probes);
-    moved_and_retained(rt, &mut bag, &drops)?;
-    drained(rt, &mut bag, &drops);
-    insert(&mut bag, value(&drops, 5))?;
-    clear(&mut bag);
-    has_dropped(rt, "clear", &drops, 76);
-    insert(&mut bag, value(&drops, 6))?;
+    dropped_by_calls(rt, &mut bag, &drops, &probes)?;
     drop(bag);
     has_dropped(rt, "the drop of the bag", &drops, 77);
     Ok(())

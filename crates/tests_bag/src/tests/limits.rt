@@ -156,7 +156,7 @@ fn refuses_past<S: BuildHasher + Default + Drop>(
         return Ok(());
     }
     let past = left + 1;
-    for call in BY_NUMBER {
+    for call in &BY_NUMBER {
         let call = format!(in alloc; "{call}{past}")?;
         changes_nothing(alloc, bag, call.as_str(), "TooMany")?;
     }
@@ -179,7 +179,7 @@ fn refuses_all<S: BuildHasher + Default + Drop>(
     alloc: Global,
     bag: &mut HashBag<u64, S>,
 ) -> Result<(), Fail> {
-    for call in BY_ONE {
+    for call in &BY_ONE {
         changes_nothing(alloc, bag, call, "TooMany")?;
     }
     if bag.contains(&1) == 0 {

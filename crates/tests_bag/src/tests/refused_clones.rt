@@ -199,6 +199,20 @@ fn extend_by<'a, S: BuildHasher + Drop>(
     }
 }
 
+// What an extend returns and leaves.
+fn extend_and_tell<'a, S: BuildHasher + Drop>(
+    alloc: Global,
+    bag: &mut HashBag<Costly<'a>, S>,
+    lives: &'a Lives,
+    many: bool,
+) -> Result<String, Fail> {
+    let answer = extend_by(bag, lives, many);
+    let alive = lives.alive.get();
+    has_all(bag, lives)?;
+    let state = state_of(alloc, bag)?;
+    Ok(format!(in alloc; "{answer:?}, {state}, {alive} alive")?)
+}
+
 fn extended<S: BuildHasher + Drop>(
     alloc: Global,
     state: S,
@@ -206,11 +220,7 @@ fn extended<S: BuildHasher + Drop>(
     many: bool,
 ) -> Result<String, Fail> {
     let mut bag = carrying(alloc, state, lives)?;
-    let answer = extend_by(&mut bag, lives, many);
-    let alive = lives.alive.get();
-    has_all(&bag, lives)?;
-    let state = state_of(alloc, &bag)?;
-    Ok(format!(in alloc; "{answer:?}, {state}, {alive} alive")?)
+    extend_and_tell(alloc, &mut bag, lives, many)
 }
 
 fn is_extended<S: BuildHasher + Drop>(

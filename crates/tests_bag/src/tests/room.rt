@@ -126,9 +126,9 @@ fn capacities<S: BuildHasher + Drop>(
 }
 
 fn room_under<S: BuildHasher + Copy>(rt: &impl Abort, alloc: Global, state: S) -> Result<(), Fail> {
-    for size in SIZES {
-        reserves(rt, alloc, state, size)?;
-        let (before, after) = capacities(alloc, state, size)?;
+    for size in &SIZES {
+        reserves(rt, alloc, state, *size)?;
+        let (before, after) = capacities(alloc, state, *size)?;
         assert!(rt; after < before, "{after} after {before} for {size}");
     }
     begins_with_room(rt, alloc, state)
@@ -182,9 +182,9 @@ fn is_empty_with(rt: &impl Abort, bag: &HashBag<u64>, n: usize) {
 
 // Slots and capacities of new bags.
 fn begin_as_said(rt: &impl Abort, alloc: Global) -> Result<(), Fail> {
-    for (n, slots, capacity) in BEGINNINGS {
-        begins_as(rt, &of_fixed_state(alloc, n)?, slots, capacity);
-        begins_as(rt, &with_capacity(alloc, OneState, n)?, slots, capacity);
+    for (n, slots, capacity) in &BEGINNINGS {
+        begins_as(rt, &of_fixed_state(alloc, *n)?, *slots, *capacity);
+        begins_as(rt, &with_capacity(alloc, OneState, *n)?, *slots, *capacity);
     }
     Ok(())
 }

@@ -3,13 +3,16 @@ use hashbag::HashBag;
 use std::alloc::Global;
 use std::hash::BuildHasher;
 use std::test::Fail;
-use tests_kit::texts::{debug_of, is_text_of};
+use tests_kit::texts::{debug_of, is_text};
 use tests_kit::{IdentityState, OneState, Tagged};
 
-// A bag of values with these keys and tags, each so often.
+// A key, a tag, and how often the value with both is there.
+type Entry = (u64, u64, usize);
+
+// A bag of these values.
 fn tagged<S: BuildHasher + Default + Drop>(
     alloc: Global,
-    values: &[(u64, u64, usize)],
+    values: &[Entry],
 ) -> Result<HashBag<Tagged, S>, Fail> {
     let mut bag = HashBag::default_in(alloc);
     for (key, tag, n) in values {
@@ -46,14 +49,42 @@ fn text_of<S: BuildHasher + Drop, S2: BuildHasher + Drop>(
     Ok(debug_of(alloc, &items)?)
 }
 
+// Two bags, whether the items of their outer join are sorted, and the items.
+const JOINS: [(&[Entry], &[Entry], bool, &str); 2] = [
+    (
+        &[(1, 10, 2)],
+        &[(1, 20, 1), (2, 21, 1)],
+        false,
+        "[(1, 10, 2, 1), (2, 21, 0, 1)]",
+    ),
+    (
+        &[(1, 20, 1), (2, 21, 1)],
+        &[(1, 10, 2)],
+        true,
+        "[(1, 20, 1, 2), (2, 21, 1, 0)]",
+    ),
+];
+
+// The items of the outer join of these values under these states.
+fn join_of<S: BuildHasher + Default + Drop, S2: BuildHasher + Default + Drop>(
+    alloc: Global,
+    a: &[Entry],
+    b: &[Entry],
+    sorts: bool,
+) -> Result<String, Fail> {
+    let a: HashBag<Tagged, S> = tagged(alloc, a)?;
+    let b: HashBag<Tagged, S2> = tagged(alloc, b)?;
+    text_of(alloc, &a, &b, sorts)
+}
+
 // A value of both bags is given as the instance of the first, and one of the second bag alone after all others.
 #[test]
 fn instances_of_outer_joins(rt: HostRuntime) -> Result<(), Fail> {
-    let alloc = rt.alloc();
-    let a: HashBag<Tagged, OneState> = tagged(alloc, &[(1, 10, 2)])?;
-    let b: HashBag<Tagged, IdentityState> = tagged(alloc, &[(1, 20, 1), (2, 21, 1)])?;
-    let both = text_of(alloc, &a, &b, false)?;
-    is_text_of("a with b", both.as_str(), "[(1, 10, 2, 1), (2, 21, 0, 1)]")?;
-    let both = text_of(alloc, &b, &a, true)?;
-    is_text_of("b with a", both.as_str(), "[(1, 20, 1, 2), (2, 21, 1, 0)]")
+    for (a, b, sorts, wanted) in &JOINS {
+        let one = join_of::<OneState, IdentityState>(rt.alloc(), a, b, *sorts)?;
+        is_text(one.as_str(), wanted)?;
+        let other = join_of::<IdentityState, OneState>(rt.alloc(), a, b, *sorts)?;
+        is_text(other.as_str(), wanted)?;
+    }
+    Ok(())
 }

@@ -80,9 +80,9 @@ fn letters_are_removed<S: BuildHasher + Default + Drop>(
         assert_eq!(rt; remove(&mut bag, 'x'), wanted);
     }
     insert_many(&mut bag, 'x', 10)?;
-    for (letter, quantity, left) in REMOVALS {
-        let got = remove_up_to(&mut bag, letter, quantity);
-        assert_eq!(rt; got, left, "{quantity} of {letter}");
+    for (letter, quantity, left) in &REMOVALS {
+        let got = remove_up_to(&mut bag, *letter, *quantity);
+        assert_eq!(rt; got, *left, "{quantity} of {letter}");
     }
     Ok(())
 }

@@ -28,6 +28,15 @@ const ROWS: Rows = Rows {
     0 | {} | NotAnArray"#,
 };
 
+// The limit of a bag, and what is written of it.
+fn limit_and_rest<S: BuildHasher + Default + Drop>(
+    alloc: Global,
+    bag: &HashBag<String, S>,
+) -> Result<String, Fail> {
+    let rest = written(alloc, bag)?;
+    Ok(format!(in alloc; "{} {rest}", bag.limit())?)
+}
+
 // Returns the text of what the reading of a tree within a limit returns.
 fn answer_of<S: BuildHasher + Default + Drop>(
     alloc: Global,
@@ -39,11 +48,7 @@ fn answer_of<S: BuildHasher + Default + Drop>(
         alloc, most, &tree,
     );
     match read {
-        Ok(bag) => {
-            let limit = bag.limit();
-            let rest = written(alloc, &bag)?;
-            Ok(format!(in alloc; "{limit} {rest}")?)
-        }
+        Ok(bag) => limit_and_rest(alloc, &bag),
         Err(error) => debug_of(alloc, &error),
     }
 }

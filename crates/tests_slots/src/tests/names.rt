@@ -29,7 +29,7 @@ fn place(rt: &impl Abort, alloc: Global, table: &mut Names, name: &str) -> Resul
 // The names, each once more often than it has letters.
 fn eight_names(rt: &impl Abort, alloc: Global) -> Result<Names, AllocError> {
     let mut table = Held::new(alloc, BuildHasherDefault::new(), 4)?;
-    for name in EIGHT {
+    for name in &EIGHT {
         place(rt, alloc, &mut table, name)?;
     }
     Ok(table)

@@ -5,7 +5,7 @@
 use crate::tests::definitions::{Plain, joins_one_by_one, plain_joins, text_of_joins};
 use crate::tests::met::{Met, state_of};
 use crate::tests::steps::{MOST, STEPS, Sample, ballast, next_number, step_of, with_ballast};
-use hashbag::script::{Reply, Step, joins_of, run};
+use hashbag::script::{Joins, Reply, Step, joins_of, run};
 use hashbag::{FixedState, HashBag};
 use std::alloc::{AllocError, Global};
 use std::fmt::Debug;
@@ -98,6 +98,16 @@ fn compare_lens<T: Sample + Drop, S: BuildHasher + Drop>(
     is_same(alloc, place, &got, &want)
 }
 
+// The joins are these.
+fn are_joins<T: Sample>(
+    alloc: Global,
+    place: &str,
+    joins: &Joins<'_, T>,
+    want: &str,
+) -> Result<(), Fail> {
+    is_text_of(place, text_of_joins(alloc, joins)?.as_str(), want)
+}
+
 // The joins of the first bag with the second, each by its own call and all at once.
 fn compare_joins<T: Sample + Drop, S: BuildHasher + Drop, S2: BuildHasher + Drop>(
     alloc: Global,
@@ -106,10 +116,14 @@ fn compare_joins<T: Sample + Drop, S: BuildHasher + Drop, S2: BuildHasher + Drop
     b: &Pair<T, S2>,
 ) -> Result<(), Fail> {
     let want = text_of_joins(alloc, &plain_joins(alloc, &a.plain, &b.plain)?)?;
-    let got = text_of_joins(alloc, &joins_one_by_one(alloc, &a.bag, &b.bag)?)?;
-    is_text_of(place, got.as_str(), want.as_str())?;
-    let got = text_of_joins(alloc, &joins_of(alloc, &a.bag, &b.bag)?)?;
-    is_text_of(place, got.as_str(), want.as_str())
+    let want = want.as_str();
+    are_joins(
+        alloc,
+        place,
+        &joins_one_by_one(alloc, &a.bag, &b.bag)?,
+        want,
+    )?;
+    are_joins(alloc, place, &joins_of(alloc, &a.bag, &b.bag)?, want)
 }
 
 fn compare_both<T: Sample + Drop, S: BuildHasher + Drop, S2: BuildHasher + Drop>(
@@ -165,17 +179,27 @@ fn met_enough(alloc: Global, met: &Met, at_end: usize) -> Result<(), Fail> {
     Err(Fail::new(format_args!("too little was met: {met}")))
 }
 
+fn compare_pairs<T: Sample + Drop, S: BuildHasher + Drop, S2: BuildHasher + Drop>(
+    alloc: Global,
+    a: &mut Pair<T, S>,
+    b: &mut Pair<T, S2>,
+    at_end: usize,
+) -> Result<(), Fail> {
+    let mut met = Met::new();
+    compare_runs(alloc, a, b, &mut met)?;
+    met_enough(alloc, &met, at_end)
+}
+
 fn compare_under<T: Sample + Drop, S: BuildHasher + Copy, S2: BuildHasher + Copy>(
     alloc: Global,
     first: S,
     second: S2,
 ) -> Result<(), Fail> {
-    for (times, other_times) in BALLASTS {
-        let mut a = new_pair::<T, S>(alloc, first, times)?;
-        let mut b = new_pair::<T, S2>(alloc, second, other_times)?;
-        let mut met = Met::new();
-        compare_runs(alloc, &mut a, &mut b, &mut met)?;
-        met_enough(alloc, &met, if times == 0 { 0 } else { 100 })?;
+    for (times, other_times) in &BALLASTS {
+        let mut a = new_pair::<T, S>(alloc, first, *times)?;
+        let mut b = new_pair::<T, S2>(alloc, second, *other_times)?;
+        let at_end = if *times == 0 { 0 } else { 100 };
+        compare_pairs(alloc, &mut a, &mut b, at_end)?;
     }
     Ok(())
 }

@@ -25,12 +25,19 @@ fn has_names<T: Debug>(alloc: Global, value: &T, wanted: &str) -> Result<(), Fai
     )
 }
 
-fn all_are_written<S: BuildHasher + Default + Drop>(alloc: Global) -> Result<(), Fail> {
-    let mut bag: HashBag<String, S> = bag_of_names(alloc, &NAMES)?;
-    has_names(alloc, &bag, "(1, 2, 1)")?;
+fn walks_are_written<S: BuildHasher + Drop>(
+    alloc: Global,
+    bag: &mut HashBag<String, S>,
+) -> Result<(), Fail> {
+    has_names(alloc, bag, "(1, 2, 1)")?;
     has_names(alloc, &bag.iter(), "(1, 2, 1)")?;
     has_names(alloc, &bag.set_iter(), "(1, 1, 1)")?;
-    has_names(alloc, &bag.drain(), "(1, 1, 1)")?;
+    has_names(alloc, &bag.drain(), "(1, 1, 1)")
+}
+
+fn all_are_written<S: BuildHasher + Default + Drop>(alloc: Global) -> Result<(), Fail> {
+    let mut bag: HashBag<String, S> = bag_of_names(alloc, &NAMES)?;
+    walks_are_written(alloc, &mut bag)?;
     let bag: HashBag<String, S> = bag_of_names(alloc, &NAMES)?;
     has_names(alloc, &bag.into_iter(), "(1, 1, 1)")
 }
