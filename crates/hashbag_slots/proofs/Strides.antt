@@ -33,6 +33,14 @@ module _ {T : Type 0} (test : T → Bool) (hash : T → ℕ) (h : ℕ) (alike : 
   pub others : (mark : ℕ) → mark ≡ mark_of h → (from r : ℕ) → ((p : ℕ) → from ≤ p → p < r → nat_eq (tag_at ts p) mark ≡ false) → (p : ℕ) → from ≤ p → p < r → holds test (slot_at (slots_of ts cs) p) ≡ false
   others mark is from r differ p a b = holds_other ts cs agree p test hash h alike reached (λ e. eqb-false (tag_at ts p) mark (differ p a b) (e ∙ sym is))
 
+  -- a slot holds another value if it does so where its tag is the mark of the hash
+  pub other : (mark : ℕ) → mark ≡ mark_of h → (p : ℕ) → (tag_at ts p ≡ mark → holds test (slot_at (slots_of ts cs) p) ≡ false) → holds test (slot_at (slots_of ts cs) p) ≡ false
+  other mark is p same =
+      elim (cases_eq (tag_at ts p) mark) [
+        | inl equal ↦ same equal
+        | inr differs ↦ holds_other ts cs agree p test hash h alike reached (λ e. differs (e ∙ sym is))
+      ]
+
   -- an Empty slot is at `first + stop`, and no slot with the mark that comes before it on the path holds the value
   pub absent_near : (mark : ℕ) → mark ≡ mark_of h → (first stop : ℕ) → first ≡ path_slot (length ts) h 0 → first + stop < length ts → tag_at ts (first + stop) ≡ 0
       → ((p : ℕ) → first ≤ p → p < first + stop → tag_at ts p ≡ mark → holds test (slot_at (slots_of ts cs) p) ≡ false) → IsAbsent test (slots_of ts cs)
@@ -40,13 +48,8 @@ module _ {T : Type 0} (test : T → Bool) (hash : T → ℕ) (h : ℕ) (alike : 
       let ss = slots_of ts cs in
       let there : (k : ℕ) → k ≤ stop → path_slot (length ss) h k ≡ first + k = λ k le.
       ap (λ n. path_slot n h k) (length-slots_of ts cs agree.same_length) ∙ path_near (length ts) h k (omega arith) ∙ ap (λ p. p + k) (sym at) in
-      let other : (p : ℕ) → first ≤ p → p < first + stop → holds test (slot_at ss p) ≡ false = λ p a b.
-      elim (cases_eq (tag_at ts p) mark) [
-        | inl equal ↦ same p a b equal
-        | inr differs ↦ holds_other ts cs agree p test hash h alike reached (λ e. differs (e ∙ sym is))
-      ] in
       absent_at_stop test hash h alike ss reached.paths stop
-      (λ k lt. subst (λ p. holds test (slot_at ss p) ≡ false) (sym (there k (omega arith))) (other (first + k) (omega arith) (omega arith)))
+      (λ k lt. subst (λ p. holds test (slot_at ss p) ≡ false) (sym (there k (omega arith))) (other mark is (first + k) (same (first + k) (omega arith) (omega arith))))
       (ap (slot_at ss) (there stop (omega arith)) ∙ empty_at ts cs agree (first + stop) empty)
 
   -- an Empty slot is at p on the path, and no slot before that place is Live

@@ -1,7 +1,9 @@
 -- What the first 16 slots of a path show.
-use Rattle.std.specs.Prelude.{ℕ, ⊤}
+use Rattle.std.specs.Prelude.{◌≡◌, ◌≢◌, ℕ, ◌+◌, ◌<◌, ◌≤◌, ◌⊎◌, ⊤, Bool, false, length}
 use Rattle.hashbag_slots.specs.declared.probe.FirstGroup.{FirstGroup}
 use Rattle.hashbag_slots.specs.declared.probe.FirstGroup.TheVariants.{Found, Absent, Open}
+use Rattle.hashbag_slots.specs.Slots.{path_slot, holds, slot_at}
+use Rattle.hashbag_slots.specs.Columns.{Columns, tag_at}
 
 -- where a value was found, P holds of its place
 abbrev pub IfFound : FirstGroup → (ℕ → Type 0) → Type 0
@@ -14,3 +16,16 @@ abbrev pub IfAbsent : FirstGroup → (ℕ → Type 0) → Type 0
 IfAbsent (Found p) P = ⊤
 IfAbsent (Absent p) P = P p
 IfAbsent Open P = ⊤
+
+-- where they don't decide, P holds
+abbrev pub IfOpen : FirstGroup → Type 0 → Type 0
+IfOpen (Found p) P = ⊤
+IfOpen (Absent p) P = ⊤
+IfOpen Open P = P
+
+-- the first 16 slots on the path of a hash can't decide whether a value that passes the test is Live: the table ends before the
+-- sixteenth, or no tag of theirs is that of an Empty slot, and none of them holds such a value
+abbrev pub IsUndecided : {T : Type 0} → (T → Bool) → ℕ → Columns T → Type 0
+IsUndecided test hash table =
+    (length table.tags < path_slot (length table.tags) hash 0 + 16)
+    ⊎ ((p : ℕ) → path_slot (length table.tags) hash 0 ≤ p → p < path_slot (length table.tags) hash 0 + 16 → (tag_at table.tags p ≢ 0) × (holds test (slot_at table.slots p) ≡ false))

@@ -3,10 +3,10 @@
 //! A path begins at the hash modulo the number of slots, has the slots in turn, and has slot 0 after the last one. A probe reads tags,
 //! sixteen at once, and a cell only if the tag is the mark of its own hash. Under a hash that spreads its values, one in 128 of the other
 //! values on its path has that mark.
-ghost use Rattle.std.specs.Prelude.{◌≡◌, ℕ, ◌+◌, ◌<◌, ◌≤◌, length, true, IfSome, IfNone, Some};
+ghost use Rattle.std.specs.Prelude.{◌≡◌, ◌≢◌, ℕ, ◌+◌, ◌<◌, ◌≤◌, length, true, false, IfSome, IfNone, Some};
 ghost use Rattle.hashbag_slots.specs.Cells.{cell_at, IsFilled};
 ghost use Rattle.hashbag_slots.specs.Hashing.{hash_under};
-ghost use Rattle.hashbag_slots.specs.FirstGroup.{IfFound, IfAbsent};
+ghost use Rattle.hashbag_slots.specs.FirstGroup.{IfFound, IfAbsent, IfOpen, IsUndecided};
 ghost use Rattle.hashbag_slots.specs.Group.{IsTagMask, IsAbsentAmong};
 ghost use Rattle.hashbag_slots.specs.Slots.{IsSlotCount, path_slot, HoldsAt, IsAbsent, IsFirstFree};
 ghost use Rattle.hashbag_slots.specs.Columns.{tag_at, AreMarked, Agree, columns, slots_of, IsReached};
@@ -137,7 +137,8 @@ fn find_marked<T: Eq + Hash, Q: Key<T>>(
 pub fn is_empty_before(tags: &[u8], hash: u64, place: usize) -> bool
     requires count { IsSlotCount (length tags.now) }
     requires within { place ≤ length tags.now }
-    ensures { result ≡ true → (p : ℕ) × (path_slot (length tags.now) hash 0 ≤ p) × (p < place) × (tag_at tags.now p ≡ 0) }
+    ensures met { result ≡ true → (p : ℕ) × (path_slot (length tags.now) hash 0 ≤ p) × (p < place) × (tag_at tags.now p ≡ 0) }
+    ensures none { result ≡ false → (p : ℕ) → path_slot (length tags.now) hash 0 + 16 ≤ p → p < place → tag_at tags.now p ≢ 0 }
 {
     let count = tags.len();
     if count == 0 {
@@ -170,6 +171,7 @@ pub fn probe_first_group<T: Eq + Hash, S: BuildHasher, Q: Key<T>>(
     ensures found { IfFound result (HoldsAt (Q.names key) (slots_of tags.now cells.now)) }
     ensures absent { IfAbsent result (λ _. IsAbsent (Q.names key) (slots_of tags.now cells.now)) }
     ensures free { IfAbsent result (IsFirstFree hash (slots_of tags.now cells.now)) }
+    ensures open { IfOpen result (IsUndecided (Q.names key) hash (columns tags.now cells.now)) }
 {
     let count = tags.len();
     if count == 0 {

@@ -1,7 +1,7 @@
 //! Look-ups by a key: by a value that is lent, or by what names it.
 ghost use Rattle.std.specs.Prelude.{◌≡◌, ℕ, ◌<◌, ◌≤◌, length, false, IfSome, IfNone, Some};
 ghost use Rattle.std.specs.Map.{lookup_entry};
-ghost use Rattle.hashbag_slots.specs.FirstGroup.{IfFound, IfAbsent};
+ghost use Rattle.hashbag_slots.specs.FirstGroup.{IfFound, IfAbsent, IfOpen, IsUndecided};
 ghost use Rattle.hashbag_slots.specs.Hashing.{hash_under};
 ghost use Rattle.hashbag_slots.specs.Slots.{is_live, slot_at, HoldsAt, IsAbsent, IsFirstFree, entry_at, entries};
 ghost use Rattle.hashbag_slots.specs.Columns.{IsReached};
@@ -86,6 +86,7 @@ impl<T: Eq + Hash> Slots<T> {
         ensures found { IfFound result (HoldsAt (Q.names key) self.now.slots) }
         ensures absent { IfAbsent result (λ _. IsAbsent (Q.names key) self.now.slots) }
         ensures free { IfAbsent result (IsFirstFree hash self.now.slots) }
+        ensures open { IfOpen result (IsUndecided (Q.names key) hash self.now) }
         ensures map { IfFound result (λ p. entry_at self.now.slots (Some p) ≡ lookup_entry (Q.names key) (entries self.now.slots)) }
     {
         probe_first_group(self.tags.as_slice(), &self.cells, state, hash, key)

@@ -1,11 +1,11 @@
-use Rattle.std.proofs.Common.{◌≡◌, ℕ, ◌+◌, ◌<◌, ◌≤◌, length, sym, ap, subst, ◌∙◌, Bool, true, inl, inr, arith}
-use Rattle.std.proofs.lemmas.Bool.{cases_lt, eqb-true, ltb-true, ltb-false}
+use Rattle.std.proofs.Common.{◌≡◌, ◌≢◌, ℕ, ◌+◌, ◌<◌, ◌≤◌, length, sym, ap, subst, ◌∙◌, Bool, true, inl, inr, arith}
+use Rattle.std.proofs.lemmas.Bool.{cases_lt, eqb-true, eqb-false, ltb-true, ltb-false}
 use Rattle.hashbag_slots.specs.Hashing.{hash_under}
 use Rattle.hashbag_slots.specs.Slots.{path_slot}
 use Rattle.hashbag_slots.specs.Columns.{tag_at}
 use Rattle.hashbag_slots.proofs.Hashing.{hash_named}
 use Rattle.hashbag_slots.proofs.Reading.{first_low}
-use Rattle.hashbag_slots.proofs.Strides.{path_near, absent_near}
+use Rattle.hashbag_slots.proofs.Strides.{path_near, other, absent_near}
 use Rattle.hashbag_slots.proofs.probe.probe_first_group.Goals as goal
 
 pub returns-then-first_equal-lt-GROUP_WIDTH-clause-absent :
@@ -37,3 +37,17 @@ returns-then-first_equal-lt-GROUP_WIDTH-clause-free g c =
     let ahead : (k : ℕ) → k < 16 → path_slot n h k ≡ first + k = λ k lt. path_near n h k (omega arith) ∙ ap (λ p. p + k) (sym is) in
     first_low ts c.args.cells.now c.requires.agree h (first + lane) lane (omega arith) (sym (ahead lane few)) (ltb-true _ _ (free.hit (omega arith)))
     (λ k lt. subst (λ p. 128 ≤ tag_at ts p) (sym (ahead k (omega arith))) (ltb-false _ _ (free.before (first + k) (omega arith) (omega arith))))
+
+pub returns-clause-open : goal.returns-clause-open
+returns-clause-open g c =
+    let hash : g.row.T.Denot → ℕ = hash_under g.T.Hash.hash_input g.S.BuildHasher g.S.Hasher.Hasher c.args.state.now in
+    let test : g.row.T.Denot → Bool = g.Q.Key.names c.args.key in
+    let alike : (v : g.row.T.Denot) → test v ≡ true → hash v ≡ c.args.hash = hash_named g.T.Hash.hash_input g.Q.Hash.hash_input g.S.BuildHasher g.S.Hasher.Hasher c.args.state.now c.args.key test (g.met.Q.Key.hashed_alike c.args.key) c.args.hash c.requires.hashed in
+    let ts = c.args.tags.now in let first = c.path_slot-first.ensures.value in let whole = c.if-first_equal-lt-GROUP_WIDTH.false in
+    inr (λ p a b.
+    let full : tag_at ts p ≢ 0 = eqb-false _ _ (c.first_equal.ensures.first.before p (omega arith) (omega arith)) in (
+      full,
+      other test hash c.args.hash alike ts c.args.cells.now c.requires.agree c.requires.reached
+          c.mark_of-mark.result c.mark_of-mark.ensures.mark p
+          (λ same. c.in_default.ensures.absent (c.path_slot-first.result + 16) c.match_tag-marked.ensures p (omega arith) (omega arith) same),
+    ))

@@ -25,7 +25,7 @@ ends g c =
     let test : g.row.T.Denot → Bool = g.Q.Key.names c.args.key in
     let alike : (v : g.row.T.Denot) → test v ≡ true → hash v ≡ c.args.hash = hash_named g.T.Hash.hash_input g.Q.Hash.hash_input g.S.BuildHasher g.S.Hasher.Hasher c.args.state.now c.args.key test (g.met.Q.Key.hashed_alike c.args.key) c.args.hash c.requires.hashed in
     let ts = c.self.inside.tags.items in let cs = c.self.inside.cells in let agree = c.self.invariant.agree in
-    let stop = subst (λ us. (p : ℕ) × (path_slot (length us) c.args.hash 0 ≤ p) × (p < c.args.from) × (tag_at us p ≡ 0)) c.as_slice.ensures.value (c.if-is_empty_before.ensures refl) in
+    let stop = subst (λ us. (p : ℕ) × (path_slot (length us) c.args.hash 0 ≤ p) × (p < c.args.from) × (tag_at us p ≡ 0)) c.as_slice.ensures.value (c.if-is_empty_before.ensures.met refl) in
     let len = length-slots_of ts cs agree.same_length in let view = ap (λ s. length s.slots) c.self.view_is in let within = c.requires.within in let before = stop.2 in
     subst (IsAbsent (g.Q.Key.names c.args.key)) (ap (λ s. s.slots) c.self.view_is)
     (absent_behind test hash c.args.hash alike ts cs agree (subst (IsReached hash) (sym c.self.view_is) c.requires.reached)
