@@ -91,6 +91,40 @@ pub fn list<T: Eq + Hash + Drop, S: BuildHasher + Drop>(
     stock.entry(article).or_insert()
 }
 
+/// Sets the count of a present article to what was found of it. An absent article stays absent. If the ledger can't hold them, nothing
+/// changes.
+pub fn recount<T: Eq + Hash + Drop, S: BuildHasher + Drop>(
+    stock: &mut HashBag<T, S>,
+    article: T,
+    found: usize,
+) -> Result<(), BagError>
+    ensures present { OnOk result (0 < count T.eq article stock.old.items → ChangesOnly T.eq article found stock.old stock.new) }
+    ensures absent { OnOk result (count T.eq article stock.old.items ≡ 0 → stock.new ≡ stock.old) }
+    ensures err { OnErr result (stock.new ≡ stock.old) }
+{
+    stock.entry(article).and_modify(
+        |count: &mut usize|
+            ensures { count.new ≡ found }
+        {
+            *count = found;
+        },
+    )?;
+    Ok(())
+}
+
+/// Stores this instance of an article, once, and returns how many there were.
+pub fn keep_one<T: Eq + Hash + Drop, S: BuildHasher + Drop>(
+    stock: &mut HashBag<T, S>,
+    article: T,
+) -> Result<usize, BagError>
+    ensures before { IfOk result (λ before. before ≡ count T.eq article stock.old.items) }
+    ensures one { OnOk result (ChangesOnly T.eq article 1 stock.old stock.new) }
+    ensures err { OnErr result (stock.new ≡ stock.old) }
+{
+    let before = stock.replace(article)?;
+    Ok(before)
+}
+
 /// Keeps at most `most` of each article, as shelves do.
 pub fn keep_at_most<T: Eq + Hash + Drop, S: BuildHasher + Drop>(
     stock: &mut HashBag<T, S>,

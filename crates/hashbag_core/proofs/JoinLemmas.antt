@@ -1,5 +1,5 @@
 -- Joins: whatever the order of the lists, and how they follow from set walks.
-use Rattle.std.proofs.Common.{◌≡◌, ℕ, ◌<◌, ◌≤◌, ◌+◌, ◌-◌, Bool, List, ◌++◌, length, map, filter, All, ℤ, ◌==◌, nat_lt, refl, sym, ap, subst, ◌∙◌, arith}
+use Rattle.std.proofs.Common.{◌≡◌, ℕ, ◌<◌, ◌≤◌, ◌+◌, ◌-◌, Bool, List, ◌++◌, length, map, filter, All, ◌==◌, nat_lt, refl, sym, ap, subst, ◌∙◌, arith}
 use borrow.Author.Tests.{eqb-true, eq-eqb, ltb-true, lt-ltb}
 use Rattle.std.specs.Cmp.{IsEquivalence}
 use Rattle.std.specs.List.{IsDistinct, Contains}
@@ -13,7 +13,7 @@ use Rattle.std.proofs.lemmas.Map.Made.{IsDistinct-keys_filter}
 use Rattle.hashbag_table.proofs.ListLemmas.{IsPermutation-filter, IsPermutation-same}
 use Rattle.hashbag_core.specs.Occurrences.{count}
 use Rattle.hashbag_core.specs.Walks.{IsEach, IsSetWalk}
-use Rattle.hashbag_core.specs.Joins.{alone, IsOuterJoin, IsDifference, IsNotIn, IsSignedDifference}
+use Rattle.hashbag_core.specs.Joins.{alone, IsOuterJoin, IsDifference, IsNotIn}
 use Rattle.hashbag_core.specs.JoinsLeft.{with_second, excesses, lacking, with_no_first}
 use Rattle.hashbag_core.proofs.ContainsLemmas.{All-from_Contains, Contains-same, Contains-map, Contains-map_back, Contains-filter, Contains-filter_back}
 use Rattle.hashbag_core.proofs.MemberLemmas.{map_ext, map-map}
@@ -56,13 +56,6 @@ module _ {T : Type 0} {eq : T → T → Bool} (laws : IsEquivalence eq) where
           λ c. let f = (h.exactly v n).0 c in (Contains-permutation X X' v p f.0, f.1 ∙ in_X, f.2, sym in_Y ∙ f.3),
           λ f. (h.exactly v n).1 (Contains-permutation X' X v (IsPermutation-sym X X' p) f.0, f.1 ∙ sym in_X, f.2, in_Y ∙ f.3),
         );
-  }
-
-  pub signed_rearranged : (X X' Y Y' : List T) (G : List (T × ℤ)) → IsPermutation X X' → IsPermutation Y Y' → IsSignedDifference eq X Y G → IsSignedDifference eq X' Y' G
-  signed_rearranged X X' Y Y' G p q h = record {
-    outer = h.outer;
-    is_outer = outer_rearranged X X' Y Y' h.outer p q h.is_outer;
-    signed = h.signed;
   }
 
   -- ---- joins from walks

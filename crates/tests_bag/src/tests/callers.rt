@@ -2,7 +2,9 @@
 use hashbag::script::Reply;
 use hashbag::{BagError, FixedState, HashBag};
 use hashbag_callers::deliveries::{greatest_surplus, greatest_surplus_by_fold, is_complete};
-use hashbag_callers::ledger::{deliver, keep_at_most, list, sell, sell_out, take_was_last};
+use hashbag_callers::ledger::{
+    deliver, keep_at_most, keep_one, list, recount, sell, sell_out, take_was_last,
+};
 use hashbag_callers::run_uses::insert_and_count;
 use hashbag_callers::words::{count_words, equal_in_any_order, insert_each, two_words};
 use std::alloc::Global;
@@ -13,7 +15,7 @@ use tests_kit::{IdentityState, OneState, ParityState, Rows, calls, rows_of};
 
 // One bag throughout. What is no caller's name is a call on the bag.
 const ROWS: Rows = Rows {
-    count: 36,
+    count: 46,
     text: "\
     deliver 7 5 = Ok(())
     sell 7 6 = false
@@ -37,6 +39,16 @@ const ROWS: Rows = Rows {
     list 9 = Ok(1)
     deliver 9 4 = Ok(())
     list 9 = Ok(5)
+    recount 9 7 = Ok(())
+    recount 3 7 = Ok(())
+    counts [3, 8, 9] = [0, 1, 7]
+    recount 9 18446744073709551615 = Err(TooMany)
+    counts [3, 8, 9] = [0, 1, 7]
+    keep_one 9 = Ok(7)
+    keep_one 3 = Ok(0)
+    recount 3 0 = Ok(())
+    counts [3, 8, 9] = [0, 1, 1]
+    recount 9 5 = Ok(())
     keep_at_most 2 = ()
     counts [8, 9] = [1, 2]
     keep_at_most 0 = ()
@@ -131,6 +143,7 @@ fn with_number<S: BuildHasher + Default + Drop>(
         "sell_out" => debug_of(alloc, &sold_out(bag, number(word)?)),
         "take_was_last" => debug_of(alloc, &was_last(bag, number(word)?)),
         "list" => debug_of(alloc, &list(bag, number(word)?)),
+        "keep_one" => debug_of(alloc, &keep_one(bag, number(word)?)),
         "keep_at_most" => debug_of(alloc, &kept(bag, count(word)?)),
         "insert_and_count" => debug_of(alloc, &replies(alloc, bag, number(word)?)),
         "add_words" => debug_of(alloc, &words_added(bag, values(alloc, word)?.as_slice())),
@@ -148,6 +161,7 @@ fn with_count<S: BuildHasher + Default + Drop>(
     let (article, n) = halves(rest, " ")?;
     match verb {
         "deliver" => debug_of(alloc, &deliver(stock, number(article)?, count(n)?)),
+        "recount" => debug_of(alloc, &recount(stock, number(article)?, count(n)?)),
         _ => debug_of(alloc, &sold(stock, number(article)?, count(n)?)),
     }
 }
@@ -160,6 +174,7 @@ fn answer<S: BuildHasher + Default + Drop>(
     match call.split_once(' ') {
         Some(("deliver", rest)) => with_count(alloc, bag, "deliver", rest),
         Some(("sell", rest)) => with_count(alloc, bag, "sell", rest),
+        Some(("recount", rest)) => with_count(alloc, bag, "recount", rest),
         Some(_) => with_number(alloc, bag, call),
         None => calls::answer(alloc, bag, call),
     }
