@@ -1,5 +1,5 @@
 -- The first bytes of texts as numbers: they never fall where the texts rise.
-use Rattle.std.proofs.Common.{◌≡◌, ℕ, zero, suc, ◌+◌, ◌-◌, ◌*◌, ◌<◌, ◌≤◌, false, List, [], ◌∷◌, length, get_or, drop, map, All, Ordering, Less, Equal, Greater, nat_cmp, is_lt, String, string_bytes, Global, refl, sym, ◌∙◌, ap, subst, arith}
+use Rattle.std.proofs.Common.{◌≡◌, ℕ, zero, suc, ◌+◌, ◌*◌, ◌<◌, ◌≤◌, false, List, [], ◌∷◌, length, get_or, drop, map, All, Ordering, Less, Equal, Greater, nat_cmp, is_lt, String, string_bytes, Global, refl, sym, ◌∙◌, ap, subst, arith}
 use Rattle.std.specs.Borrow.{Bor}
 use Rattle.std.specs.Cmp.{ranks}
 use Rattle.std.specs.Cmp.Lexicographic.{slice_cmp}
@@ -10,7 +10,7 @@ use Rattle.std.specs.List.Sorted.{IsSorted}
 use Rattle.std.proofs.Math.ListN.{get_or-map}
 use Rattle.std.proofs.lemmas.List.{length-map}
 use native.Mathlib.Numerals.{unary_clauses}
-use Rattle.hashbag_words_core.specs.Prefix.{lead, bare_row, row_cmp, HasPrefix}
+use Rattle.hashbag_words_core.specs.Prefix.{lead, bare_row, row_cmp, HasPrefix, IsPrefixOf}
 
 -- 256 to the power of n
 abbrev pub bound : ℕ → ℕ
@@ -70,6 +70,10 @@ lead_rises (suc n) number (u ∷ us) (v ∷ vs) bytes up =
         let other = below_later n (number * 256 + v) (number * 256 + u) vs us (λ k. bytes (suc k)) (omega arith) in
         absurd (omega arith)
 
+-- of two texts the one whose first bytes are less comes first
+pub lesser_prefix : (m n : ℕ) (us vs : List ℕ) → IsPrefixOf m us → IsPrefixOf n vs → m < n → slice_cmp nat_cmp us vs ≡ Less
+lesser_prefix m n us vs at_us at_vs less = lead_rises 8 0 us vs at_vs.bytes (subst (λ k. k < lead 0 8 vs) at_us.value (subst (λ k. m < k) at_vs.value less))
+
 -- a row with its prefix
 abbrev Prefixed : Type 0
 Prefixed = ℕ × (Bor (String Global) × ℕ)
@@ -87,9 +91,7 @@ falls x y at_x at_y up = by (nat_cmp x.0 y.0) (ranks x.0 y.0) up
     by Greater h up =
         let s = string_bytes x.1.0.now in
         let t = string_bytes y.1.0.now in
-        let over : y.0 < x.0 = h in
-        let less : lead 0 8 t < lead 0 8 s = subst (λ m. m < lead 0 8 s) at_y.value (subst (λ m. y.0 < m) at_x.value over) in
-        let is : slice_cmp nat_cmp s t ≡ Greater = nat_list_cmp_total.antisymm s t ∙ ap ordering_reverse (lead_rises 8 0 t s at_x.bytes less) in
+        let is : slice_cmp nat_cmp s t ≡ Greater = nat_list_cmp_total.antisymm s t ∙ ap ordering_reverse (lesser_prefix y.0 x.0 t s at_y at_x h) in
         ap (λ r. is_lt (ordering_then r (nat_cmp x.1.1 y.1.1))) is
 
 -- rows that a sort by their prefixes left are sorted

@@ -1,8 +1,9 @@
 -- Lines of counts, which are written and read again.
 use Rattle.std.proofs.Common.{◌≡◌, ◌≢◌, ℕ, suc, ◌+◌, ◌<◌, ◌^◌, Bool, true, false, cond, eqb, List, [], ◌∷◌, ◌++◌, length, drop, get_or, All, decimal, Option, None, Some, Result, Ok, MatchOption, option_map, option_and_then, refl, sym, ◌∙◌, ap, subst, arith, ne_eqb, append_assoc, drop-cons}
 use borrow.Author.Tests.{eqb-true}
+use Rattle.memchr.specs.Find.{is_byte3, IsFirstByte, Passes}
 use Rattle.std.specs.Borrow.{Bor}
-use Rattle.std.specs.Global.{Vec}
+use Rattle.std.specs.Option.{is_some}
 use Rattle.std.specs.Str.Parse.{ParsesUnsigned}
 use Rattle.std.proofs.lemmas.Fmt.{parse-decimal}
 use Rattle.std.proofs.lemmas.List.Elements.{All-nil, All-cons, All-get_or}
@@ -25,6 +26,36 @@ pub resumed-letter : (token : List ℕ) (letter byte : ℕ) (rest : List ℕ) �
 resumed-letter token letter byte rest is =
     ap (λ (o : Option ℕ). option_map (λ m. token ++ m) (option_and_then (λ c. option_map (λ t. c ∷ t) (unescaped false rest)) o)) is
     ∙ onto token byte (unescaped false rest)
+
+-- ---- what is written as it is
+
+-- what has no backslash is written as it is
+pub unescaped-plain : (written : List ℕ) → ((i : ℕ) → i < length written → get_or written i 0 ≢ 92) → unescaped false written ≡ Some written
+unescaped-plain [] plain = refl
+unescaped-plain (b ∷ bs) plain =
+    ap (λ (c : Bool). cond c (unescaped true bs) (option_map (λ t. b ∷ t) (unescaped false bs))) (ne_eqb b 92 (plain 0 (omega arith)))
+    ∙ ap (λ (o : Option (List ℕ)). option_map (λ t. b ∷ t) o) (unescaped-plain bs (λ i below. plain (suc i) (omega arith)))
+
+-- a search that finds nothing shows that no byte passes its test
+pub none_found : (test : ℕ → Bool) (hay : List ℕ) (r : Option ℕ) → IsFirstByte test hay r → is_some r ≡ false → (i : ℕ) → i < length hay → ¬ Passes test hay i
+none_found test hay None first none i below = first i (omega arith) below
+none_found test hay (Some k) first none i below = absurd (cc)
+
+-- a byte that is none of these four has no letter
+pub no_letter : (b : ℕ) → ¬ (is_byte3 9 10 13 b ≡ true) → b ≢ 92 → letter_of b ≡ None
+no_letter b none other =
+    let rest : Bool → Bool → Bool → Bool → Option ℕ = λ t n r s. cond t (Some 116) (cond n (Some 110) (cond r (Some 114) (cond s (Some 92) None))) in
+    ap (λ t. rest t (eqb b 10) (eqb b 13) (eqb b 92)) (ne_eqb b 9 (λ is. none (subst (λ (x : ℕ). is_byte3 9 10 13 x ≡ true) (sym is) refl)))
+    ∙ ap (λ n. rest false n (eqb b 13) (eqb b 92)) (ne_eqb b 10 (λ is. none (subst (λ (x : ℕ). is_byte3 9 10 13 x ≡ true) (sym is) refl)))
+    ∙ ap (λ r. rest false false r (eqb b 92)) (ne_eqb b 13 (λ is. none (subst (λ (x : ℕ). is_byte3 9 10 13 x ≡ true) (sym is) refl)))
+    ∙ ap (λ s. rest false false false s) (ne_eqb b 92 other)
+
+-- a token whose bytes have no letters
+pub escaped-plain : (token : List ℕ) → ((i : ℕ) → i < length token → letter_of (get_or token i 0) ≡ None) → escaped token ≡ token
+escaped-plain [] plain = refl
+escaped-plain (b ∷ bs) plain =
+    ap (λ (o : Option ℕ). shown_as b o ++ escaped bs) (plain 0 (omega arith))
+    ∙ ap (λ (l : List ℕ). b ∷ l) (escaped-plain bs (λ i below. plain (suc i) (omega arith)))
 
 -- ---- what is written is read again
 
@@ -74,10 +105,6 @@ pub split_row : (r : Option (Bor (List ℕ) × Bor (List ℕ))) (line token : Li
     → MatchOption r ⊥ (λ x. (x.0.now ≡ escaped token) × (x.1.now ≡ decimal count))
 split_row r line token count h is =
     split_after 9 line (escaped token) (decimal count) r h (omega arith) is (λ i below. All-get_or (λ y. y ≢ 9) (escaped token) i 0 below (no_tab token))
-
--- the token that is read from its escaped bytes
-pub token_read : (o : Option (Vec ℕ)) (bytes written token : List ℕ) → option_map (λ v. v.items) o ≡ unescaped false bytes → bytes ≡ written → written ≡ escaped token → option_map (λ v. v.items) o ≡ Some token
-token_read o bytes written token read as_bytes is = read ∙ ap (λ (l : List ℕ). unescaped false l) (as_bytes ∙ is) ∙ unescaped-escaped token
 
 -- the number that is read from decimal digits
 pub count_read : {E : Type 0} (r : Result ℕ E) (n count : ℕ) (digits : List ℕ) → r ≡ Ok n → count < 2 ^ 64 → digits ≡ decimal count → ParsesUnsigned 64 10 digits r → n ≡ count

@@ -11,6 +11,7 @@
 pub mod choice;
 pub mod counting;
 pub mod errors;
+pub mod head;
 pub mod in_runs;
 pub mod lines;
 pub mod lossy;

@@ -2,12 +2,14 @@
 //!
 //! A tab, a line feed, a carriage return and a backslash in a token are written `\t`, `\n`, `\r` and `\\`. So each token is on one
 //! line, which is read as that token again.
-ghost use Rattle.std.specs.Prelude.{◌≡◌, ◌∷◌, ◌++◌, ℕ, [], List, Some, false, option_map, string_bytes, IfOk, OnOk};
+ghost use Rattle.std.specs.Prelude.{◌≡◌, ◌≢◌, ◌∷◌, ◌++◌, ◌<◌, ℕ, [], List, Some, false, length, option_map, slice_index, string_bytes, IfNone, IfOk, IfSome, IsUtf8, OnOk};
 ghost use Rattle.hashbag_words_core.specs.Rows.{byte_of, escaped, letter_of, resumed, row, shown_as, unescaped, IfRow, IsLineOf, IsRead};
 
 use crate::errors::BadLine;
+use itoa::Buffer;
+use memchr::{memchr, memchr3};
 use std::alloc::{AllocError, Global};
-use std::io::{self, Write};
+use std::io;
 
 /// How the lines of a file of counts are written.
 #[derive(Clone, Copy, Debug, PartialEq, Eq)]
@@ -61,16 +63,21 @@ fn push_byte(text: &mut Vec<u8>, byte: u8) -> Result<(), AllocError>
     }
 }
 
+// Returns whether a text has a backslash.
+fn has_backslash(text: &[u8]) -> bool
+    ensures { result ≡ false → (i : ℕ) → i < length text.now → slice_index text.now i ≢ 92 }
+{
+    memchr(b'\\', text).is_some()
+}
+
 // Returns whether a token has a byte that is escaped. Few tokens have one.
 fn has_escape(token: &[u8]) -> bool
     ensures { result ≡ false → escaped token.now ≡ token.now }
 {
-    for byte in token {
-        if escape_of(*byte).is_some() {
-            return true;
-        }
+    if memchr3(b'\t', b'\n', b'\r', token).is_some() {
+        return true;
     }
-    false
+    has_backslash(token)
 }
 
 // Appends a token, escaped. A token without a byte to escape is appended as a whole.
@@ -96,7 +103,11 @@ pub fn push_row(text: &mut Vec<u8>, token: &str, count: usize) -> io::Result<()>
     ensures { OnOk result (text.new.items ≡ text.old.items ++ (row token.now count ++ 10 ∷ [])) }
 {
     push_token(text, token.as_bytes())?;
-    writeln!(text, "\t{count}")
+    let mut digits = Buffer::new();
+    text.push(b'\t')?;
+    text.extend_from_slice(digits.format(count).as_bytes())?;
+    text.push(b'\n')?;
+    Ok(())
 }
 
 // Reads the next byte of an escaped token. Returns whether it is a backslash that escapes the byte after it, or `None` if the byte before
@@ -119,8 +130,8 @@ fn take_byte(token: &mut Vec<u8>, is_marked: bool, byte: u8) -> Result<Option<bo
     Ok(Some(false))
 }
 
-// Returns the token that is written like this, or `None` if it has a bad escape.
-fn token_of(alloc: Global, written: &[u8]) -> Result<Option<Vec<u8>>, AllocError>
+// Returns the bytes that are written like this, or `None` if there is a bad escape.
+fn unescape(alloc: Global, written: &[u8]) -> Result<Option<Vec<u8>>, AllocError>
     ensures { IfOk result (λ token. option_map (λ t. t.items) token ≡ unescaped false written.now) }
 {
     let mut token = Vec::new(alloc);
@@ -134,6 +145,23 @@ fn token_of(alloc: Global, written: &[u8]) -> Result<Option<Vec<u8>>, AllocError
     if is_marked {
         return Ok(None);
     }
+    Ok(Some(token))
+}
+
+// Returns the token that is written like this, or `None` if there is none. Few tokens have a backslash. The others are written as they are.
+fn read_token(alloc: Global, written: &str) -> Result<Option<String>, AllocError>
+    ensures token { IfOk result (λ token. IfSome token (λ t. unescaped false written.now ≡ Some (string_bytes t))) }
+    ensures no_token { IfOk result (λ token. IfNone token ((t : List ℕ) → IsUtf8 t → unescaped false written.now ≢ Some t)) }
+{
+    if !has_backslash(written.as_bytes()) {
+        return Ok(Some(written.to_string(alloc)?));
+    }
+    let Some(bytes) = unescape(alloc, written.as_bytes())? else {
+        return Ok(None);
+    };
+    let Ok(token) = String::from_utf8(bytes) else {
+        return Ok(None);
+    };
     Ok(Some(token))
 }
 
@@ -152,10 +180,7 @@ pub fn read_row(alloc: Global, line: &str) -> Result<Result<(String, usize), Bad
     let Ok(count) = digits.parse::<usize>() else {
         return Ok(Err(BadLine::NoCount));
     };
-    let Some(bytes) = token_of(alloc, written.as_bytes())? else {
-        return Ok(Err(BadLine::BadEscape));
-    };
-    let Ok(token) = String::from_utf8(bytes) else {
+    let Some(token) = read_token(alloc, written)? else {
         return Ok(Err(BadLine::BadEscape));
     };
     Ok(Ok((token, count)))

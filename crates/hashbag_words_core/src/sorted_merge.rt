@@ -3,6 +3,7 @@ ghost use Rattle.std.specs.Prelude.{◌≡◌, ℕ, ◌+◌, ◌<◌, ◌^◌, t
 ghost use Rattle.hashbag_words_core.specs.Sorted.{count_of, shown_of, AreLeft, IsMergeOf, IsNoLater, Joins, Puts, TakesRow};
 
 use crate::errors::Fault;
+use crate::head::Head;
 use crate::sources::{Rows, Source};
 use hashbag::BagError;
 
@@ -31,7 +32,7 @@ fn is_before<S>(source: &Source<S>, other: &Source<S>) -> bool
     ensures later { result ≡ false → IsNoLater other.now.head source.now.head }
 {
     match (&source.head, &other.head) {
-        (Some(row), Some(other_row)) => row.0 < other_row.0,
+        (Some(head), Some(other_head)) => head.is_before(other_head),
         (Some(_), None) => true,
         _ => false,
     }
@@ -53,12 +54,12 @@ fn least<S>(sources: &[Source<S>]) -> usize
 }
 
 // The total with the count of a next row, or `None` if it doesn't fit.
-fn total_with(total: usize, head: &Option<(String, usize)>) -> Option<usize>
+fn total_with(total: usize, head: &Option<Head>) -> Option<usize>
     ensures sum { IfSome result (λ sum. sum ≡ total + count_of head.now) }
     ensures fits { IfSome result (λ sum. sum < 2 ^ 64) }
 {
     match head {
-        Some(row) => total.checked_add(row.1),
+        Some(head) => total.checked_add(head.row().1),
         None => Some(total),
     }
 }

@@ -16,7 +16,7 @@ fn byte_at(bytes: &[u8], i: usize) -> u8
 }
 
 // Returns the first eight bytes of a text as a number, the first highest, with 0 for each that it lacks.
-fn prefix(text: &str) -> u64
+pub(crate) fn prefix(text: &str) -> u64
     ensures { IsPrefixOf result text.now }
 {
     let bytes = text.as_bytes();

@@ -4,6 +4,7 @@ ghost use Rattle.std.specs.declared.cmp.Ordering.TheVariants.{Less};
 ghost use Rattle.hashbag_words_core.specs.Sorted.{text_cmp, with_head, GivesRow, TakesHead};
 
 use crate::errors::{BadLine, Fault};
+use crate::head::Head;
 
 /// Rows that come one by one.
 pub trait Rows {
@@ -41,7 +42,7 @@ fn next_above<S: Rows>(rows: &mut S, last: &str) -> Result<Option<(String, usize
 pub struct Source<S> {
     pub(crate) rows: S,
     // `None` after the last one.
-    pub(crate) head: Option<(String, usize)>,
+    pub(crate) head: Option<Head>,
 }
 
 impl<S: Rows + Drop> Source<S> {
@@ -54,7 +55,11 @@ impl<S: Rows + Drop> Source<S> {
         ensures { IfOk result (λ source. IfSome (S.left rows) (λ left. with_head source.head (S.left source.rows) ≡ Some left)) }
     {
         match rows.next_row() {
-            Ok(head) => Ok(Source { rows, head }),
+            Ok(Some(row)) => {
+                let head = Some(Head::new(row));
+                Ok(Source { rows, head })
+            }
+            Ok(None) => Ok(Source { rows, head: None }),
             Err(fault) => Err((fault, rows)),
         }
     }
@@ -76,10 +81,14 @@ impl<S: Rows + Drop> Source<S> {
         ensures row_taken { IfOk result (λ row. (rows : List (List ℕ × ℕ)) → with_head self.old.head (S.left self.old.rows) ≡ Some rows
             → TakesHead rows row (with_head self.new.head (S.left self.new.rows))) }
     {
-        let Some(row) = self.head.take() else {
+        let Some(head) = self.head.take() else {
             return Ok(None);
         };
-        self.head = next_above(&mut self.rows, row.0.as_str())?;
+        let row = head.into_row();
+        self.head = match next_above(&mut self.rows, row.0.as_str())? {
+            Some(next) => Some(Head::new(next)),
+            None => None,
+        };
         Ok(Some(row))
     }
 }

@@ -1,7 +1,7 @@
 use Rattle.std.proofs.Common.{◌+◌, ◌<◌, ℕ, Bool, List, Option, Some, length, drop, sym, ◌∙◌, ap, arith}
 use Rattle.hashbag_words_core.specs.Rows.{resumed}
 use Rattle.hashbag_words_core.proofs.RowLemmas.{next_byte}
-use Rattle.hashbag_words_core.proofs.rows.token_of.Goals as goal
+use Rattle.hashbag_words_core.proofs.rows.unescape.Goals as goal
 
 pub returns-in_default : goal.returns-in_default
 returns-in_default c =

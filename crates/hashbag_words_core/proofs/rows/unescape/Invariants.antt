@@ -1,6 +1,6 @@
 use Rattle.std.proofs.Common.{◌≡◌, false, drop, Some}
 use Rattle.hashbag_words_core.specs.Rows.{resumed, unescaped}
-use Rattle.hashbag_words_core.proofs.rows.token_of.Given as goal
+use Rattle.hashbag_words_core.proofs.rows.unescape.Given as goal
 
 -- what is to come goes on from what has been read
 abbrev pub invariant-loop-byte : goal.invariant-loop-byte
