@@ -14,6 +14,7 @@ mod extends;
 mod full;
 mod full_runs;
 mod insertions;
+mod limits;
 mod pairs;
 mod requests;
 mod room;
@@ -56,26 +57,71 @@ enum Outcome {
     After(usize),
 }
 
+// The strict calls that insert values or make room.
+const INSERTIONS_AND_ROOM: [&str; 9] = [
+    "insertions",
+    "replacements",
+    "room",
+    "room from the start",
+    "room given back",
+    "reserved room",
+    "full bags",
+    "extends",
+    "collections",
+];
+
+fn inserted(alloc: Global, what: &str, refusals: &mut Refusals) -> Result<(), Wrong> {
+    match what {
+        "insertions" => insertions::insertions(alloc, refusals),
+        "replacements" => insertions::replacements(alloc, refusals),
+        "room" => room::room(alloc, refusals),
+        "room from the start" => room::room_from_the_start(alloc, refusals),
+        "room given back" => room::room_given_back(alloc, refusals),
+        "reserved room" => room::reserved_room(alloc, refusals),
+        "full bags" => full::full_bags(alloc, refusals),
+        "extends" => extends::extends(alloc, refusals),
+        "collections" => extends::collections(alloc, refusals),
+        _ => Err(Wrong("a name in INSERTIONS_AND_ROOM")),
+    }
+}
+
+// The strict calls on texts and trees, and the runs.
+const TEXTS_AND_RUNS: [&str; 9] = [
+    "names that are cloned",
+    "texts that are inserted",
+    "trees",
+    "pairs",
+    "trees without memory",
+    "a tree in a carry",
+    "a run in a carry",
+    "runs in a carry",
+    "runs",
+];
+
+fn read_or_run(alloc: Global, what: &str, refusals: &mut Refusals) -> Result<(), Wrong> {
+    match what {
+        "names that are cloned" => texts::cloned_names(alloc, refusals),
+        "texts that are inserted" => texts::inserted_texts(alloc, refusals),
+        "trees" => trees::trees(alloc, refusals),
+        "pairs" => trees::pairs(alloc, refusals),
+        "trees without memory" => trees::trees_without_memory(alloc, refusals),
+        "a tree in a carry" => carried::written(alloc, refusals),
+        "a run in a carry" => carried::run_alone(alloc, refusals),
+        "runs in a carry" => carried::runs(alloc, refusals),
+        "runs" => runs::runs(alloc, refusals),
+        _ => Err(Wrong("a name in TEXTS_AND_RUNS")),
+    }
+}
+
 // Calls that return each failure.
 fn strict_calls(alloc: Global, refusals: &mut Refusals) -> Result<(), Wrong> {
-    insertions::insertions(alloc, refusals)?;
-    insertions::replacements(alloc, refusals)?;
-    room::room(alloc, refusals)?;
-    room::room_from_the_start(alloc, refusals)?;
-    room::room_given_back(alloc, refusals)?;
-    room::reserved_room(alloc, refusals)?;
-    full::full_bags(alloc, refusals)?;
-    extends::extends(alloc, refusals)?;
-    extends::collections(alloc, refusals)?;
-    texts::cloned_names(alloc, refusals)?;
-    texts::inserted_texts(alloc, refusals)?;
-    trees::trees(alloc, refusals)?;
-    trees::pairs(alloc, refusals)?;
-    trees::trees_without_memory(alloc, refusals)?;
-    carried::written(alloc, refusals)?;
-    carried::run_alone(alloc, refusals)?;
-    carried::runs(alloc, refusals)?;
-    runs::runs(alloc, refusals)
+    for what in &INSERTIONS_AND_ROOM {
+        inserted(alloc, *what, refusals)?;
+    }
+    for what in &TEXTS_AND_RUNS {
+        read_or_run(alloc, *what, refusals)?;
+    }
+    Ok(())
 }
 
 // Calls that do without some requests: std's lists are collected with less room if it can't be allocated. What they return is checked all

@@ -1,6 +1,7 @@
 //! Calls by themselves. The script `tests/refused_memory` knows how many requests for memory each makes, with those that make its bag.
 use crate::checks::{Refusals, Wrong, check};
-use hashbag::{BagError, FixedState, HashBag};
+use crate::limits::limits;
+use hashbag::{BagError, HashBag};
 use hashbag_ops::{
     contains_all, is_disjoint, keep_common, keep_most, max_count, merge, merge_ref, most_common,
     sorted, take_away,
@@ -123,8 +124,8 @@ fn made(answer: Result<HashBag<u64>, BagError>, refusals: &mut Refusals) -> Resu
     Ok(())
 }
 
-// Extends a bag by the numbers below a size, or by those that are lent.
-fn extended(bag: &mut HashBag<u64>, single: Single) -> Result<(), BagError> {
+/// Extends a bag by the numbers below a size, or by those that are lent.
+pub fn extended(bag: &mut HashBag<u64>, single: Single) -> Result<(), BagError> {
     match single.verb {
         Verb::Extend => bag.extend(0..single.size),
         Verb::ExtendMany => bag.extend_many((0..single.size).map(|value| (value, 2))),
@@ -337,45 +338,6 @@ fn cleared(bag: &mut HashBag<u64>) -> Result<(), Wrong> {
 fn used_up(bag: HashBag<u64>) -> Result<(), Wrong> {
     let values = bag.set_len();
     check(bag.into_iter().count() == values, "into_iter")
-}
-
-// A bag at its limit, whether or not it has room: nothing is allocated before the total is tested.
-fn limits(alloc: Global, bag: &mut HashBag<u64>) -> Result<(), Wrong> {
-    let other: HashBag<u64> = HashBag::with_limit(alloc, FixedState::new(), 5);
-    check((other.limit(), other.slots()) == (5, 0), "with_limit")?;
-    let len = bag.len();
-    check(bag.set_limit(len) == Ok(()), "set_limit")?;
-    let below = bag.set_limit(0).is_err();
-    check(below == (len > 0), "set_limit: below the total")?;
-    refuse_all(bag)?;
-    let kept = (bag.len(), bag.set_len(), bag.limit());
-    check(kept == (len, len, len), "what is past the limit")
-}
-
-// Each of these would insert an absent value, or a present one once more.
-fn refuse_all(bag: &mut HashBag<u64>) -> Result<(), Wrong> {
-    is_past(bag.insert(1000))?;
-    is_past(bag.insert_many(1, 1))?;
-    is_past(bag.replace(1000))?;
-    is_past(bag.entry(1000).or_insert())?;
-    is_past(bag.entry(1000).or_insert_many(7))?;
-    for verb in [
-        Verb::Extend,
-        Verb::ExtendMany,
-        Verb::ExtendRefs,
-        Verb::ExtendRefsMany,
-    ] {
-        let answer = extended(bag, Single { verb, size: 1 });
-        check(answer == Err(BagError::TooMany), "an extend past the limit")?;
-    }
-    Ok(())
-}
-
-fn is_past(answer: Result<usize, BagError>) -> Result<(), Wrong> {
-    check(
-        answer == Err(BagError::TooMany),
-        "an insertion past the limit",
-    )
 }
 
 // Walks over the joins of two bags, of which the second has three values of the first.

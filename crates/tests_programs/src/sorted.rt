@@ -256,17 +256,23 @@ fn count_part(alloc: Global, counted: &mut Counted, mut part: &[u8]) -> Result<b
     )
 }
 
-// The run of a part, after which the bag is empty.
-fn run_of(alloc: Global, counted: &mut Counted, part: &[u8]) -> Result<Vec<u8>, Fail> {
-    if count_part(alloc, counted, part)? {
-        return Err(Fail::new("a part has more lines"));
-    }
+// Returns the run of a bag, which is then empty.
+fn run_of(alloc: Global, bag: &mut HashBag<String, RandomState>) -> Result<String, Fail> {
     let mut run = Vec::new(alloc);
-    spill(alloc, &mut run, &mut counted.bag)?;
-    if counted.bag.is_empty() {
-        return Ok(run);
+    spill(alloc, &mut run, bag)?;
+    if bag.is_empty() {
+        return Ok(String::from_utf8(run)?);
     }
     Err(Fail::new("a bag isn't emptied"))
+}
+
+// Returns the run of a part, or what stopped.
+fn run_of_part(alloc: Global, counted: &mut Counted, part: &str) -> Result<String, Fail> {
+    match count_part(alloc, counted, part.as_bytes()) {
+        Ok(false) => run_of(alloc, &mut counted.bag),
+        Ok(true) => Err(Fail::new(format_args!("more lines: {part:?}"))),
+        Err(fault) => stopped(alloc, 0, counted.reading.line, &fault),
+    }
 }
 
 // A run as a source of rows.
@@ -293,21 +299,55 @@ fn twice_in(alloc: Global, first: &[u8], second: &[u8]) -> Result<String, Fail> 
     }
 }
 
-// A text in two parts: each part becomes a run. The runs are as `sort` and `uniq -c` have them, and the limit falls by what they have.
+// The runs of two parts of a text, as `sort` and `uniq -c` have them.
+const FIRST_RUN: &str = "a\t1\nb\t2\n";
+
+const SECOND_RUN: &str = "a\t1\nb\t1\nc\t2\n\u{feff}b\t1\n";
+
+// Parts of a text, counted in turn in one bag with a limit of 9: the part; its run, or what stopped; and the limit after it. The limit
+// falls by what the run has. Lines are numbered through all parts.
+const PARTS: [(&str, &str, usize); 3] = [
+    ("b a\nb\n", FIRST_RUN, 6),
+    ("c \u{feff}b b\nc a\n", SECOND_RUN, 1),
+    ("a b\n", "0: 5: total", 1),
+];
+
+// Checks the run of a part, and the limit after it.
+fn is_spilled(
+    alloc: Global,
+    counted: &mut Counted,
+    part: &str,
+    run: &str,
+    limit: usize,
+) -> Result<(), Fail> {
+    is_text(&run_of_part(alloc, counted, part)?, run)?;
+    let left = counted.bag.limit();
+    if left == limit {
+        return Ok(());
+    }
+    Err(Fail::new(format_args!("{left}, not {limit}: the limit after {part:?}")))
+}
+
+fn are_spilled(alloc: Global, counted: &mut Counted) -> Result<(), Fail> {
+    for (part, run, limit) in &PARTS {
+        is_spilled(alloc, counted, part, run, *limit)?;
+    }
+    Ok(())
+}
+
 #[test]
 fn a_bag_is_spilled(rt: HostRuntime) -> Result<(), Fail> {
-    let alloc = rt.alloc();
     let mut counted = Counted {
-        bag: HashBag::with_limit(alloc, RandomState::new(&rt)?, 9),
+        bag: HashBag::with_limit(rt.alloc(), RandomState::new(&rt)?, 9),
         reading: Reading::new(BadLines::Refused),
     };
-    let first = run_of(alloc, &mut counted, b"b a\nb\n")?;
-    let second = run_of(alloc, &mut counted, "c \u{feff}b b\nc a\n".as_bytes())?;
-    assert_eq!(rt; first.as_slice(), b"a\t1\nb\t2\n".as_slice());
-    is_text(&twice_in(alloc, &first, &second)?, "a\t2\nb\t3\nc\t2\n")?;
-    assert_eq!(rt; counted.bag.limit(), 1);
-    assert!(rt; count_part(alloc, &mut counted, b"a b\n").is_err());
-    Ok(())
+    are_spilled(rt.alloc(), &mut counted)
+}
+
+#[test]
+fn runs_of_parts_are_merged(rt: HostRuntime) -> Result<(), Fail> {
+    let rows = twice_in(rt.alloc(), FIRST_RUN.as_bytes(), SECOND_RUN.as_bytes())?;
+    is_text(&rows, "a\t2\nb\t3\nc\t2\n")
 }
 
 // The lines of a text, and how many of them each run but the last takes. What is wanted was counted by hand.

@@ -218,8 +218,22 @@ where
     }
 }
 
-// Walks over a bag in the middle of a carry that are dropped after some of their items. A drained bag takes a value in again.
-fn walks_dropped<S: BuildHasher + Copy>(
+// A drain that is dropped after some of its items.
+fn drain_dropped<S: BuildHasher + Drop>(
+    rt: &impl Abort,
+    bag: &mut HashBag<Counted<'_>, S>,
+    drops: &Cell<usize>,
+    taken: usize,
+) {
+    let mut drain = bag.drain();
+    drop_items(&mut drain, taken);
+    has_dropped(rt, "the items of a drain", drops, taken);
+    drop(drain);
+    has_dropped(rt, "the drop of a drain", drops, 25);
+}
+
+// A bag that is drained in the middle of a carry. A value is inserted again, and dropped with the bag.
+fn drained_bag_dropped<S: BuildHasher + Drop>(
     rt: &impl Abort,
     alloc: Global,
     state: S,
@@ -227,15 +241,21 @@ fn walks_dropped<S: BuildHasher + Copy>(
 ) -> Result<(), Fail> {
     let drops = Cell::new(0);
     let mut bag = carrying(rt, alloc, state, &drops)?;
-    let mut drain = bag.drain();
-    drop_items(&mut drain, taken);
-    has_dropped(rt, "the items of a drain", &drops, taken);
-    drop(drain);
-    has_dropped(rt, "the drop of a drain", &drops, 25);
+    drain_dropped(rt, &mut bag, &drops, taken);
     insert(&mut bag, value(&drops, 3))?;
     drop(bag);
     has_dropped(rt, "the drop of a drained bag", &drops, 26);
-    drops.set(0);
+    Ok(())
+}
+
+// An owning walk over a bag in the middle of a carry that is dropped after some of its items.
+fn owning_walk_dropped<S: BuildHasher + Drop>(
+    rt: &impl Abort,
+    alloc: Global,
+    state: S,
+    taken: usize,
+) -> Result<(), Fail> {
+    let drops = Cell::new(0);
     let mut walk = carrying(rt, alloc, state, &drops)?.into_iter();
     drop_items(&mut walk, taken);
     has_dropped(rt, "the items of an owning walk", &drops, taken);
@@ -283,7 +303,8 @@ fn each_walk_dropped<S: BuildHasher + Copy>(
     state: S,
 ) -> Result<(), Fail> {
     for taken in 0..=25 {
-        walks_dropped(rt, alloc, state, taken)?;
+        drained_bag_dropped(rt, alloc, state, taken)?;
+        owning_walk_dropped(rt, alloc, state, taken)?;
     }
     lending_walks_dropped(rt, alloc, state)
 }

@@ -2,7 +2,6 @@
 use hashbag::{BagError, FixedState, HashBag};
 use std::alloc::Global;
 use std::hash::BuildHasher;
-use std::process::Abort;
 use std::test::Fail;
 use tests_kit::OneState;
 use tests_kit::texts::is_text_of;
@@ -11,8 +10,18 @@ use tests_kit::texts::is_text_of;
 const HASH_AND_MATH: &str =
     "[('a', 1, 1), ('h', 2, 1), ('s', 1, 0)] then [('m', 0, 1), ('t', 0, 1)]";
 
-// Of ten x, what is left of a letter after this number of it is removed.
-const REMOVALS: [(char, usize, usize); 4] = [('x', 0, 10), ('x', 3, 7), ('x', 10, 0), ('y', 1, 0)];
+// Calls in turn on one bag: the call, a letter, how many of it, and the count that is returned.
+const CALLS: [(&str, char, usize, usize); 9] = [
+    ("insert_many", 'x', 2, 0),
+    ("remove", 'x', 1, 2),
+    ("remove", 'x', 1, 1),
+    ("remove", 'x', 1, 0),
+    ("insert_many", 'x', 10, 0),
+    ("remove_up_to", 'x', 0, 10),
+    ("remove_up_to", 'x', 3, 7),
+    ("remove_up_to", 'x', 10, 0),
+    ("remove_up_to", 'y', 1, 0),
+];
 
 // Each kind of call has a function with no contract, as in `calls` of `tests_kit`.
 
@@ -70,27 +79,39 @@ fn letters_are_joined<S: BuildHasher + Default + Drop>(alloc: Global) -> Result<
     is_text_of("hash and math", got.as_str(), HASH_AND_MATH)
 }
 
-fn letters_are_removed<S: BuildHasher + Default + Drop>(
-    rt: &impl Abort,
-    alloc: Global,
-) -> Result<(), Fail> {
-    let mut bag: HashBag<char, S> = HashBag::default_in(alloc);
-    insert_many(&mut bag, 'x', 2)?;
-    for wanted in [2, 1, 0] {
-        assert_eq!(rt; remove(&mut bag, 'x'), wanted);
+// Makes a call.
+fn answer<S: BuildHasher + Drop>(
+    bag: &mut HashBag<char, S>,
+    call: &str,
+    letter: char,
+    n: usize,
+) -> Result<usize, Fail> {
+    match call {
+        "insert_many" => Ok(insert_many(bag, letter, n)?),
+        "remove" => Ok(remove(bag, letter)),
+        "remove_up_to" => Ok(remove_up_to(bag, letter, n)),
+        _ => Err(Fail::new(format_args!("no such call: {call}"))),
     }
-    insert_many(&mut bag, 'x', 10)?;
-    for (letter, quantity, left) in &REMOVALS {
-        let got = remove_up_to(&mut bag, *letter, *quantity);
-        assert_eq!(rt; got, *left, "{quantity} of {letter}");
+}
+
+fn are_answered<S: BuildHasher + Drop>(bag: &mut HashBag<char, S>) -> Result<(), Fail> {
+    for (call, letter, n, wanted) in &CALLS {
+        let got = answer(bag, call, *letter, *n)?;
+        if got != *wanted {
+            return Err(Fail::new(format_args!("{call} of {n} {letter}: {got}, not {wanted}")));
+        }
     }
     Ok(())
+}
+
+fn letters_are_removed<S: BuildHasher + Default + Drop>(alloc: Global) -> Result<(), Fail> {
+    are_answered::<S>(&mut HashBag::default_in(alloc))
 }
 
 #[test]
 fn letters_of_words(rt: HostRuntime) -> Result<(), Fail> {
     letters_are_joined::<FixedState>(rt.alloc())?;
     letters_are_joined::<OneState>(rt.alloc())?;
-    letters_are_removed::<FixedState>(&rt, rt.alloc())?;
-    letters_are_removed::<OneState>(&rt, rt.alloc())
+    letters_are_removed::<FixedState>(rt.alloc())?;
+    letters_are_removed::<OneState>(rt.alloc())
 }

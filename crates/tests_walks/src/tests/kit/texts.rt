@@ -16,12 +16,18 @@ fn lists_are_read(rt: HostRuntime) -> Result<(), Fail> {
     Ok(())
 }
 
+// Words that are no number.
+const NO_NUMBERS: [&str; 6] = ["", "+5", "-5", "x", "1 2", "18446744073709551616"];
+
+// Texts that aren't in brackets.
+const NOT_IN_BRACKETS: [&str; 5] = ["", "1, 2", "[1", "1]", " [1]"];
+
 #[test]
 fn other_words_are_refused(rt: HostRuntime) {
-    for word in ["", "+5", "-5", "x", "1 2", "18446744073709551616"] {
-        assert_eq!(rt; decimal(word), None, "at {word}");
+    for word in &NO_NUMBERS {
+        assert_eq!(rt; decimal(*word), None, "at {word}");
     }
-    for text in ["", "1, 2", "[1", "1]", " [1]"] {
-        assert_eq!(rt; inside(text), None, "at {text}");
+    for text in &NOT_IN_BRACKETS {
+        assert_eq!(rt; inside(*text), None, "at {text}");
     }
 }
