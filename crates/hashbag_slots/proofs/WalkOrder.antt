@@ -92,7 +92,7 @@ module _ {X : Type 0} where
                     ap (λ l. a ++ l) (cons_first o b c) ∙ sym (λ i. no_more 2 p ps not_two i ++ (one_more 1 p ps one i ++ no_more 0 p ps (λ e. let g : pass_of p ≡ 1 = one in omega arith) i)) in
                     subst (IsPermutation (filter_map f (p ∷ ps))) to (IsPermutation-trans _ _ _ front (cons_later o a (b ++ c)))
                 | inr not_one ↦
-                    let none : pass_of p ≡ 0 = let l : p / 16 % 3 < 3 = omega arith in omega arith in
+                    let none : pass_of p ≡ 0 = let l : p / 256 % 3 < 3 = omega arith in omega arith in
                     let to : a ++ (b ++ cons_option o c) ≡ three (p ∷ ps) =
                     sym (λ i. no_more 2 p ps not_two i ++ (no_more 1 p ps not_one i ++ one_more 0 p ps none i)) in
                     subst (IsPermutation (filter_map f (p ∷ ps))) to

@@ -66,18 +66,19 @@ filter_in f x xs h = ap (λ b. cond b (x ∷ filter f xs) (filter f xs)) h
 
 -- the slots of 16 that begin at a multiple of 16 are of one pass
 pub same_pass : (at p : ℕ) → at % 16 ≡ 0 → at ≤ p → p < at + 16 → pass_of p ≡ pass_of at
-same_pass at p sixteen a b = let e : p / 16 ≡ at / 16 = omega arith in ap (λ k. k % 3) e
+same_pass at p sixteen a b = let e : p / 256 ≡ at / 256 = omega arith in ap (λ k. k % 3) e
 
--- the two groups after one of a pass aren't of it
-pub other_pass : (at p pass : ℕ) → at % 16 ≡ 0 → pass_of at ≡ pass → at + 16 ≤ p → p < at + 48 → pass_of p ≢ pass
-other_pass at p pass sixteen here a b is = omega arith
+-- the group after one that doesn't end its block is of the same pass
+pub in_block : (at : ℕ) → at % 16 ≡ 0 → (at + 16) % 256 ≢ 0 → pass_of (at + 16) ≡ pass_of at
+in_block at sixteen inside = let e : (at + 16) / 256 ≡ at / 256 = omega arith in ap (λ k. k % 3) e
 
--- the first group of a pass from a place on
-pub first_group : (from pass : ℕ) → pass < 3 → from % 16 ≡ 0 → pass_of (from + (pass + 2 * (from / 16)) % 3 * 16) ≡ pass
-first_group from pass few sixteen = omega arith
+-- after the last group of a block the next one of its pass begins the third block
+pub third_block : (at : ℕ) → (at + 16) % 256 ≡ 0 → pass_of (at + 16 + 512) ≡ pass_of at
+third_block at ends = omega arith
 
-pub none_earlier : (from pass p : ℕ) → pass < 3 → from % 16 ≡ 0 → from ≤ p → p < from + (pass + 2 * (from / 16)) % 3 * 16 → pass_of p ≢ pass
-none_earlier from pass p few sixteen a b is = omega arith
+-- the two blocks between aren't of the pass
+pub other_pass : (at p pass : ℕ) → (at + 16) % 256 ≡ 0 → pass_of at ≡ pass → at + 16 ≤ p → p < at + 16 + 512 → pass_of p ≢ pass
+other_pass at p pass ends here a b is = omega arith
 
 module _ (ts : List ℕ) (pass : ℕ) where
   skip_one : (n : ℕ) → (pass_of n ≡ pass → tag_at ts n < 128) → in_pass pass (marks_from n ts) ≡ in_pass pass (marks_from (suc n) ts)

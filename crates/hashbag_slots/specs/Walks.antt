@@ -7,9 +7,9 @@ use Rattle.hashbag_slots.specs.Cells.{cell_at}
 use Rattle.hashbag_slots.specs.Columns.{Agree, tag_at}
 use Rattle.hashbag_slots.specs.Group.{IsMaskOf, IsMaskIn}
 
--- the pass in which a walk comes to a place: every third group of 16 slots is of one pass
+-- the pass in which a walk comes to a place: every third block of 256 slots is of one pass
 abbrev pub pass_of : ℕ → ℕ
-pass_of p = p / 16 % 3
+pass_of p = p / 256 % 3
 
 -- what is of the newer table in odd turns, and of the older one in even turns
 abbrev pub of_turn : {X : Type 0} → ℕ → X → X → X

@@ -32,8 +32,11 @@ pub fn next_live(tags: &[u8], from: usize) -> Option<usize>
     None
 }
 
-/// How many passes a walk makes over each of its tables. Each pass takes every third group of 16 slots.
+/// How many passes a walk makes over each of its tables. Each pass takes every third block of slots.
 const PASSES: usize = 3;
+
+/// The slots of a block. Their cells are some kilobytes, so that a pass doesn't bring those of the other passes into the cache.
+const BLOCK: usize = 256;
 
 /// How far a walk over two tables is.
 #[derive(Clone, Copy)]
@@ -76,14 +79,22 @@ fn live_group(tags: &[u8], pass: usize, from: usize) -> Option<(usize, u64)>
         return None;
     }
     let count = tags.len();
-    let skipped = (pass + (PASSES - 1) * (from / GROUP_WIDTH)) % PASSES;
-    let mut at = from + skipped * GROUP_WIDTH;
+    let block = from / BLOCK;
+    let skipped = (pass + (PASSES - 1) * block) % PASSES;
+    let mut at = if skipped == 0 {
+        from
+    } else {
+        (block + skipped) * BLOCK
+    };
     'groups: while at + GROUP_WIDTH <= count {
         let ahead = match_live(tags, at);
         if ahead != 0 {
             return Some((at, ahead));
         }
-        at += PASSES * GROUP_WIDTH;
+        at += GROUP_WIDTH;
+        if at % BLOCK == 0 {
+            at += (PASSES - 1) * BLOCK;
+        }
     }
     None
 }

@@ -19,6 +19,9 @@ use crate::key::Key;
 use crate::tags::{EMPTY, LEAST_MARK, mark_of};
 use std::hash::{BuildHasher, Hash};
 
+// A table with more slots than this is looked up at its home slot first: its cells are seldom in the processor's cache.
+const MOST_CACHED: usize = 1 << 16;
+
 /// What the first 16 slots of a path show of a value.
 #[derive(Clone, Copy, PartialEq, Eq, Debug)]
 pub enum FirstGroup {
@@ -218,9 +221,10 @@ fn find_at_home<T: Eq + Hash, Q: Key<T>>(
 /// Returns the place of the Live slot with an equal value, if there is one, from the value's hash. It probes until it finds the value or an
 /// Empty slot, or has read all slots, past Removed and Moved ones.
 ///
-/// Most values are in the first slot of their path. That one is read by itself, so that its cell is read without waiting for what the other
-/// tags are. Of the first 16 slots only those before the first Empty one are read: none after it holds the value, and a cell there, whose
-/// tag is the mark by chance, would be read for nothing.
+/// Most values are in the first slot of their path. In a large table, whose cells aren't in the cache, that one is read by itself, so that its
+/// cell is read without waiting for what the other tags are; in a small one a guess that fails costs more. Of the first 16 slots only those
+/// before the first Empty one are read: none after it holds the value, and a cell there, whose tag is the mark by chance, would be read for
+/// nothing.
 #[inline(always)]
 pub fn find_place<T: Eq + Hash, S: BuildHasher, Q: Key<T>>(
     tags: &[u8],
@@ -236,10 +240,12 @@ pub fn find_place<T: Eq + Hash, S: BuildHasher, Q: Key<T>>(
     ensures found { IfSome result (HoldsAt (Q.names key) (slots_of tags.now cells.now)) }
     ensures absent { IfNone result (IsAbsent (Q.names key) (slots_of tags.now cells.now)) }
 {
-    if let Some(place) = find_at_home(tags, cells, hash, key) {
+    let count = tags.len();
+    if count > MOST_CACHED
+        && let Some(place) = find_at_home(tags, cells, hash, key)
+    {
         return Some(place);
     }
-    let count = tags.len();
     if count == 0 {
         return None;
     }

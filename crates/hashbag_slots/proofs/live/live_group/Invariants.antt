@@ -4,7 +4,7 @@ use Rattle.hashbag_slots.proofs.live.live_group.Given as goal
 
 -- the group at `at` is of the pass, and no slot of the pass before it is Live
 abbrev pub invariant-groups : goal.invariant-groups
-invariant-groups l = (l.from ≤ l.at) × (l.at ≤ length l.tags + 48) × (l.at % 16 ≡ 0) × (pass_of l.at ≡ l.pass) × ((q : ℕ) → l.from ≤ q → q < l.at → pass_of q ≡ l.pass → get_or l.tags q 0 < 128)
+invariant-groups l = (l.from ≤ l.at) × (l.at ≤ length l.tags + 512) × (l.at % 16 ≡ 0) × (pass_of l.at ≡ l.pass) × ((q : ℕ) → l.from ≤ q → q < l.at → pass_of q ≡ l.pass → get_or l.tags q 0 < 128)
 
 abbrev pub decreases-groups : goal.decreases-groups
-decreases-groups l = l.count + 48 - l.at
+decreases-groups l = l.count + 512 - l.at

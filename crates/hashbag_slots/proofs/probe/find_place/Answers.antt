@@ -21,4 +21,4 @@ returns-then-ends-clause-absent g c =
     c.mark_of-mark.result c.mark_of-mark.ensures.mark
     first (stop - first) c.path_slot-first.ensures.value
     (omega arith) (ap (tag_at ts) (sym there) ∙ eqb-true _ _ (e.1.hit short))
-    (λ p a b same. c.in_default-find_marked.ensures.absent stop e.2 p a (omega arith) same)
+    (λ p a b same. c.in_default.ensures.absent stop e.2 p a (omega arith) same)
