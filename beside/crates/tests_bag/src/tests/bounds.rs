@@ -5,42 +5,30 @@ use std::alloc::{AllocError, Global};
 use std::hash::BuildHasher;
 use std::test::Fail;
 use tests_kit::texts::{count, halves, number};
-use tests_kit::{IdentityState, OneState, ParityState, Rows, rows_of};
+use tests_kit::{IdentityState, OneState, ParityState, rows_of};
 
 // A run and what it leaves. `in 100` inserts 1 to 100; `in_and_out` takes each value out at once; `window` takes out, from the ninth on,
 // the value of eight before; `limited` sets the limit to each number before its insertion. `clear` and `shrink` are the last steps.
 // `built` is the sum of the slots of all tables made.
-const ALL_ROWS: Rows = Rows {
-    count: 5,
-    text: "\
+const ALL_ROWS: &str = "\
     in_and_out 1000 = slots 16
     in 100 = slots 256, waiting 64, room 92, built 496
     limited 100 = slots 256, waiting 64, room 92, built 496
     in 100 clear = slots 256, waiting 0, room 192
-    in 100 clear shrink = slots 0, room 0",
-};
+    in 100 clear shrink = slots 0, room 0";
 
 // Under a state by which all values collide, Removed slots are used again, and one table is made.
-const ONE_ROWS: Rows = Rows {
-    count: 2,
-    text: "\
+const ONE_ROWS: &str = "\
     in_and_out 1000 = slots 16, built 16
-    window 1000 = slots 16, set_len 8, built 16",
-};
+    window 1000 = slots 16, set_len 8, built 16";
 
 // Under one by which none do they aren't, and a table is made for each twelve values that come and go.
-const IDENTITY_ROWS: Rows = Rows {
-    count: 2,
-    text: "\
+const IDENTITY_ROWS: &str = "\
     in_and_out 1000 = slots 16, built 1344
-    window 1000 = slots 32, set_len 8, built 1936",
-};
+    window 1000 = slots 32, set_len 8, built 1936";
 
 // Of many values: 16 slots and all powers of two after it up to 16384 were built.
-const MANY_ROWS: Rows = Rows {
-    count: 1,
-    text: "in 10000 = slots 16384, waiting 0, room 2288, built 32752",
-};
+const MANY_ROWS: &str = "in 10000 = slots 16384, waiting 0, room 2288, built 32752";
 
 // What a run left of a bag's tables, and what was counted on the way.
 #[derive(Clone, Copy)]
@@ -209,7 +197,11 @@ fn is_bounded<S: BuildHasher + Copy>(alloc: Global, state: S, row: &str) -> Resu
     is_left(Left::of(&bag, built), want)
 }
 
-fn bounded_under<S: BuildHasher + Copy>(alloc: Global, state: S, rows: Rows) -> Result<(), Fail> {
+fn bounded_under<S: BuildHasher + Copy>(
+    alloc: Global,
+    state: S,
+    rows: &'static str,
+) -> Result<(), Fail> {
     for row in rows_of(alloc, rows)? {
         row.tested(is_bounded(alloc, state, row.text))?;
     }

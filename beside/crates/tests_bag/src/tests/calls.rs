@@ -6,12 +6,10 @@ use std::process::Abort;
 use std::test::Fail;
 use tests_kit::calls::{clone_of, make_rows};
 use tests_kit::texts::is_text_of;
-use tests_kit::{IdentityState, OneState, ParityState, Rows};
+use tests_kit::{IdentityState, OneState, ParityState};
 
 // Room changes nothing of what a bag has. It is made for 3 * 2^57 values, which is 432345564227567616, and for no more.
-const ROWS: Rows = Rows {
-    count: 79,
-    text: "\
+const ROWS: &str = "\
     [inserts]
     is_empty = true
     insert_many 2 1 = 0
@@ -97,8 +95,7 @@ const ROWS: Rows = Rows {
     with_capacity 10 = ()
     has_room 10 = true
     is_empty = true
-    with_capacity 432345564227567617 = Memory",
-};
+    with_capacity 432345564227567617 = Memory";
 
 #[test]
 fn calls_of_fixed_state(rt: HostRuntime) -> Result<(), Fail> {

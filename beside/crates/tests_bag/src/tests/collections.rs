@@ -7,13 +7,11 @@ use std::process::Abort;
 use std::test::Fail;
 use tests_kit::calls::{clone_of, make_call, make_calls, make_rows};
 use tests_kit::texts::{count, counts, debug_of, halves, is_text, number};
-use tests_kit::{IdentityState, OneState, ParityState, Row, Rows, rows_of};
+use tests_kit::{IdentityState, OneState, ParityState, Row, rows_of};
 
 // `counts` returns how often each of the values occurs. `retain_itself` keeps of each value as many as it is, and returns how
 // often the closure was called.
-const ROWS: Rows = Rows {
-    count: 54,
-    text: "\
+const ROWS: &str = "\
     [adds none]
     insert 100 = 0
     retain_none = ()
@@ -49,11 +47,11 @@ const ROWS: Rows = Rows {
     insert_many 2 3 = 0
     insert_many 3 2 = 0
     insert_many 4 1 = 0
-    counts [0, 1, 2, 3, 4] = [5, 4, 3, 2, 1]
+    counts [0..=4] = [5, 4, 3, 2, 1]
     len = 15
     set_len = 5
     retain_itself = 5
-    counts [0, 1, 2, 3, 4] = [0, 1, 2, 2, 1]
+    counts [0..=4] = [0, 1, 2, 2, 1]
     len = 6
     set_len = 4
 
@@ -72,13 +70,10 @@ const ROWS: Rows = Rows {
     counts [1] = [0]
     len = 0
     set_len = 0
-    from_counts 1:18446744073709551615 2:0 2:1 = TooMany",
-};
+    from_counts 1:18446744073709551615 2:0 2:1 = TooMany";
 
 // `insert_each` makes a bag of values inserted one by one. `equals` compares it with another such bag, in both directions.
-const EQUAL_ROWS: Rows = Rows {
-    count: 22,
-    text: "\
+const EQUAL_ROWS: &str = "\
     [values in any order]
     insert_each [] = ()
     equals [] = (true, true)
@@ -101,26 +96,19 @@ const EQUAL_ROWS: Rows = Rows {
     remove_up_to 2 4 = 1
     equals [1, 2] = (false, false)
     or_insert 1 = 1
-    equals [1, 2] = (true, true)",
-};
+    equals [1, 2] = (true, true)";
 
 // A bag and its clone, one after the other.
-const SOURCE_ROWS: Rows = Rows {
-    count: 3,
-    text: "\
+const SOURCE_ROWS: &str = "\
     counts [5, 6, 7] = [3, 2, 1]
     len = 6
-    set_len = 3",
-};
+    set_len = 3";
 
-const CLONE_ROWS: Rows = Rows {
-    count: 4,
-    text: "\
+const CLONE_ROWS: &str = "\
     counts [5, 6, 7] = [3, 2, 1]
     len = 6
     set_len = 3
-    take_all 5 = Some((5, 3))",
-};
+    take_all 5 = Some((5, 3))";
 
 // Changes of a clone leave its source.
 fn clones<S: BuildHasher + Default + Copy>(rt: &impl Abort, alloc: Global) -> Result<(), Fail> {
@@ -135,9 +123,7 @@ fn clones<S: BuildHasher + Default + Copy>(rt: &impl Abort, alloc: Global) -> Re
 
 // The rows of a run, with its replies. Where a run retains, of a value stay as many as the first pair that has it says, and
 // none if no pair has it.
-const RUN_ROWS: Rows = Rows {
-    count: 19,
-    text: "\
+const RUN_ROWS: &str = "\
     insert_many 0:5 = Count(0)
     insert_many 1:4 = Count(0)
     insert_many 2:3 = Count(0)
@@ -156,21 +142,17 @@ const RUN_ROWS: Rows = Rows {
     count 3 = Count(0)
     count 4 = Count(0)
     retain none = Done
-    count 1 = Count(0)",
-};
+    count 1 = Count(0)";
 
 // The rows of a run at the end of a `usize`, which leaves one occurrence.
-const FULL_ROWS: Rows = Rows {
-    count: 7,
-    text: "\
+const FULL_ROWS: &str = "\
     insert_many 1:18446744073709551615 = Count(0)
     or 2:0 = Count(0)
     or 2:1 = TooMany
     insert_many 1:0 = Count(18446744073709551615)
     set 1:18446744073709551615 = Done
     replace 2 = TooMany
-    replace 1 = Count(18446744073709551615)",
-};
+    replace 1 = Count(18446744073709551615)";
 
 // The step with a value and a number, as `5:2`.
 fn step_with_number(verb: &str, pair: &str) -> Result<Step<u64>, Fail> {
@@ -235,7 +217,7 @@ fn replies_in_a_run<S: BuildHasher + Drop>(
     rt: &impl Abort,
     alloc: Global,
     state: S,
-    rows: Rows,
+    rows: &'static str,
     total: usize,
 ) -> Result<(), Fail> {
     let rows = rows_of(alloc, rows)?;

@@ -2,12 +2,10 @@
 use hashbag::FixedState;
 use std::test::Fail;
 use tests_kit::calls::make_rows;
-use tests_kit::{IdentityState, OneState, ParityState, Rows};
+use tests_kit::{IdentityState, OneState, ParityState};
 
 // `entry` drops an entry at once. `set` and `raise` are `and_modify`, which calls nothing if the entry is vacant.
-const ROWS: Rows = Rows {
-    count: 47,
-    text: "\
+const ROWS: &str = "\
     [lens after entries]
     entry 42 = ()
     len = 0
@@ -59,8 +57,7 @@ const ROWS: Rows = Rows {
     set 1 18446744073709551615 = ()
     len = 18446744073709551615
     insert_many 2 0 = 0
-    contains 2 = 0",
-};
+    contains 2 = 0";
 
 #[test]
 fn entries_of_fixed_state(rt: HostRuntime) -> Result<(), Fail> {

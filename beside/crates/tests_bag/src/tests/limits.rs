@@ -6,12 +6,10 @@ use std::hash::BuildHasher;
 use std::test::Fail;
 use tests_kit::calls::{answer, clone_of, make_calls, make_rows};
 use tests_kit::texts::{debug_of, is_text_of};
-use tests_kit::{IdentityState, OneState, ParityState, Rows};
+use tests_kit::{IdentityState, OneState, ParityState};
 
 // `set` is `and_modify` that sets the count.
-const ROWS: Rows = Rows {
-    count: 42,
-    text: "\
+const ROWS: &str = "\
     [a limit of five]
     with_limit 5 = ()
     insert_many 1 3 = 0
@@ -56,13 +54,10 @@ const ROWS: Rows = Rows {
     limit = 18446744073709551615
     insert 1 = 0
     insert_many 2 18446744073709551615 = TooMany
-    len = 1",
-};
+    len = 1";
 
 // What leaves the limit of a bag, and what ends it.
-const KEPT: Rows = Rows {
-    count: 26,
-    text: "\
+const KEPT: &str = "\
     [calls leave the limit]
     with_limit 9 = ()
     insert_many 1 3 = 0
@@ -88,8 +83,7 @@ const KEPT: Rows = Rows {
     insert_many 7 5 = TooMany
     insert_many 7 4 = 0
     default_in = ()
-    limit = 18446744073709551615",
-};
+    limit = 18446744073709551615";
 
 // Calls that would pass a limit by one. The number that does so is at the end.
 const BY_NUMBER: [&str; 6] = [
@@ -224,22 +218,16 @@ fn make_limited<S: BuildHasher + Default + Drop>(
 }
 
 // A clone that has reached its limit, which is then raised.
-const RAISED: Rows = Rows {
-    count: 4,
-    text: "\
+const RAISED: &str = "\
     limit = 3
     insert 1 = TooMany
     set_limit 4 = ()
-    insert 1 = 3",
-};
+    insert 1 = 3";
 
 // Its source, of which the limit is as it was.
-const REACHED: Rows = Rows {
-    count: 2,
-    text: "\
+const REACHED: &str = "\
     limit = 3
-    insert 1 = TooMany",
-};
+    insert 1 = TooMany";
 
 fn clone_keeps<S: BuildHasher + Default + Copy>(alloc: Global, state: S) -> Result<(), Fail> {
     let mut bag = HashBag::with_limit(alloc, state, 3);

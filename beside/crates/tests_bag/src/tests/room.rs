@@ -6,7 +6,7 @@ use std::process::Abort;
 use std::test::Fail;
 use tests_kit::calls::make_calls;
 use tests_kit::texts::{debug_of, is_text_of};
-use tests_kit::{IdentityState, OneState, ParityState, Rows};
+use tests_kit::{IdentityState, OneState, ParityState};
 
 // How many distinct values the bags have for which room is made.
 const SIZES: [u64; 8] = [0, 1, 5, 12, 13, 24, 25, 100];
@@ -21,9 +21,7 @@ const BEGINNINGS: [(usize, usize, usize); 5] = [
 ];
 
 // What the calls of a bag return that began with room for 100 values.
-const GIVEN_BACK: Rows = Rows {
-    count: 11,
-    text: "\
+const GIVEN_BACK: &str = "\
     insert 1 = 0
     insert 2 = 0
     capacity = 192
@@ -34,8 +32,7 @@ const GIVEN_BACK: Rows = Rows {
     tables = (16, 0, 12)
     shrink_to_fit = ()
     tables = (0, 0, 0)
-    capacity = 0",
-};
+    capacity = 0";
 
 // Room is made for more values, up to this number.
 const MOST: usize = 40;

@@ -5,12 +5,10 @@ use std::alloc::Global;
 use std::hash::BuildHasher;
 use std::test::Fail;
 use tests_kit::calls::{bag_of, clone_of, insert, make_calls, make_rows, remove};
-use tests_kit::{IdentityState, OneState, ParityState, Rows};
+use tests_kit::{IdentityState, OneState, ParityState};
 
 // `tables` returns the slots of the newer table, the slots that wait, and the room.
-const ROWS: Rows = Rows {
-    count: 286,
-    text: "\
+const ROWS: &str = "\
     [no table]
     tables = (0, 0, 0)
     capacity = 0
@@ -74,7 +72,7 @@ const ROWS: Rows = Rows {
     tables = (64, 0, 21)
 
     [from 48 values to 52]
-    extend [0, 1, 2, 3, 4, 5, 6, 7, 8, 9, 10, 11, 12, 13, 14, 15, 16, 17, 18, 19, 20, 21, 22, 23, 24, 25, 26, 27, 28, 29, 30, 31, 32, 33, 34, 35, 36, 37, 38, 39, 40, 41, 42, 43, 44, 45, 46, 47] = ()
+    extend [0..=47] = ()
     tables = (64, 0, 0)
     insert 48 = 0
     tables = (128, 48, 47)
@@ -84,7 +82,7 @@ const ROWS: Rows = Rows {
     tables = (128, 16, 45)
     insert 51 = 0
     tables = (128, 0, 44)
-    counts [44, 45, 46, 47, 48, 49, 50, 51, 52] = [1, 1, 1, 1, 1, 1, 1, 1, 0]
+    counts [44..=52] = [1, 1, 1, 1, 1, 1, 1, 1, 0]
     set_len = 52
 
     [extends within reserved room]
@@ -100,10 +98,10 @@ const ROWS: Rows = Rows {
     tables = (64, 0, 41)
 
     [in the middle of a carry]
-    insert_each [1, 2, 3, 4, 5, 6, 7, 8, 9, 10, 11, 12, 13, 14, 15, 16, 17, 18, 19, 20, 21, 22, 23, 24, 25] = ()
+    insert_each [1..=25] = ()
     tables = (64, 16, 23)
     capacity = 48
-    counts [0, 1, 2, 3, 4, 5, 6, 7, 8, 9, 10, 11, 12, 13, 14, 15, 16, 17, 18, 19, 20, 21, 22, 23, 24, 25, 26] = [0, 1, 1, 1, 1, 1, 1, 1, 1, 1, 1, 1, 1, 1, 1, 1, 1, 1, 1, 1, 1, 1, 1, 1, 1, 1, 0]
+    counts [0..=26] = [0, 1, 1, 1, 1, 1, 1, 1, 1, 1, 1, 1, 1, 1, 1, 1, 1, 1, 1, 1, 1, 1, 1, 1, 1, 1, 0]
     insert 25 = 1
     insert 24 = 1
     tables = (64, 16, 23)
@@ -118,15 +116,15 @@ const ROWS: Rows = Rows {
     tables = (64, 16, 23)
     set_len = 25
     len = 33
-    equals [1, 2, 3, 4, 5, 6, 7, 8, 9, 10, 11, 12, 13, 14, 15, 16, 17, 18, 19, 20, 21, 22, 23, 24, 25, 24, 25, 22, 22, 22, 22, 22, 22] = (true, true)
+    equals [1..=25, 24, 25, 22, 22, 22, 22, 22, 22] = (true, true)
 
     [a carry is ended]
-    insert_each [1, 2, 3, 4, 5, 6, 7, 8, 9, 10, 11, 12, 13, 14, 15, 16, 17, 18, 19, 20, 21, 22, 23, 24, 25] = ()
+    insert_each [1..=25] = ()
     insert_many 25 2 = 1
     tables = (64, 16, 23)
     finish_carry = ()
     tables = (64, 0, 23)
-    counts [1, 2, 3, 4, 5, 6, 7, 8, 9, 10, 11, 12, 13, 14, 15, 16, 17, 18, 19, 20, 21, 22, 23, 24, 25] = [1, 1, 1, 1, 1, 1, 1, 1, 1, 1, 1, 1, 1, 1, 1, 1, 1, 1, 1, 1, 1, 1, 1, 1, 3]
+    counts [1..=25] = [1, 1, 1, 1, 1, 1, 1, 1, 1, 1, 1, 1, 1, 1, 1, 1, 1, 1, 1, 1, 1, 1, 1, 1, 3]
     len = 27
     finish_carry = ()
     tables = (64, 0, 23)
@@ -134,7 +132,7 @@ const ROWS: Rows = Rows {
     tables = (64, 0, 22)
 
     [a carry of three times sixteen slots is ended]
-    extend [0, 1, 2, 3, 4, 5, 6, 7, 8, 9, 10, 11, 12, 13, 14, 15, 16, 17, 18, 19, 20, 21, 22, 23, 24, 25, 26, 27, 28, 29, 30, 31, 32, 33, 34, 35, 36, 37, 38, 39, 40, 41, 42, 43, 44, 45, 46, 47] = ()
+    extend [0..=47] = ()
     insert_many 48 3 = 0
     tables = (128, 48, 47)
     finish_carry = ()
@@ -151,17 +149,17 @@ const ROWS: Rows = Rows {
     tables = (16, 0, 11)
 
     [takes out of both tables]
-    insert_each [1, 2, 3, 4, 5, 6, 7, 8, 9, 10, 11, 12, 13, 14, 15, 16, 17, 18, 19, 20, 21, 22, 23, 24, 25] = ()
+    insert_each [1..=25] = ()
     remove 24 = 1
     remove 1 = 1
     insert 1 = 0
     tables = (64, 0, 24)
     capacity = 48
     set_len = 24
-    counts [1, 2, 3, 4, 5, 6, 7, 8, 9, 10, 11, 12, 13, 14, 15, 16, 17, 18, 19, 20, 21, 22, 23, 24, 25] = [1, 1, 1, 1, 1, 1, 1, 1, 1, 1, 1, 1, 1, 1, 1, 1, 1, 1, 1, 1, 1, 1, 1, 0, 1]
+    counts [1..=25] = [1, 1, 1, 1, 1, 1, 1, 1, 1, 1, 1, 1, 1, 1, 1, 1, 1, 1, 1, 1, 1, 1, 1, 0, 1]
 
     [takes out what waits, in each way]
-    insert_each [1, 2, 3, 4, 5, 6, 7, 8, 9, 10, 11, 12, 13, 14, 15, 16, 17, 18, 19, 20, 21, 22, 23, 24, 25] = ()
+    insert_each [1..=25] = ()
     take_all 17 = Some((17, 1))
     try_take 18 = Ok(18)
     remove_up_to 19 5 = 0
@@ -170,14 +168,14 @@ const ROWS: Rows = Rows {
     set_len = 22
 
     [retains]
-    insert_each [1, 2, 3, 4, 5, 6, 7, 8, 9, 10, 11, 12, 13, 14, 15, 16, 17, 18, 19, 20, 21, 22, 23, 24, 25] = ()
+    insert_each [1..=25] = ()
     retain_none = ()
     is_empty = true
     insert 3 = 0
     set_len = 1
 
     [retains the odd values in the middle of a carry]
-    insert_each [1, 2, 3, 4, 5, 6, 7, 8, 9, 10, 11, 12, 13, 14, 15, 16, 17, 18, 19, 20, 21, 22, 23, 24, 25] = ()
+    insert_each [1..=25] = ()
     tables = (64, 16, 23)
     retain_odd = ()
     waiting = 16
@@ -188,25 +186,25 @@ const ROWS: Rows = Rows {
     set_len = 14
 
     [half of twelve is taken out, and the others are found]
-    insert_each [1, 2, 3, 4, 5, 6, 7, 8, 9, 10, 11, 12] = ()
+    insert_each [1..=12] = ()
     remove 1 = 1
     remove 3 = 1
     remove 5 = 1
     remove 7 = 1
     remove 9 = 1
     remove 11 = 1
-    counts [1, 2, 3, 4, 5, 6, 7, 8, 9, 10, 11, 12] = [0, 1, 0, 1, 0, 1, 0, 1, 0, 1, 0, 1]
+    counts [1..=12] = [0, 1, 0, 1, 0, 1, 0, 1, 0, 1, 0, 1]
     set_len = 6
 
     [clears]
-    insert_each [1, 2, 3, 4, 5, 6, 7, 8, 9, 10, 11, 12, 13, 14, 15, 16, 17, 18, 19, 20, 21, 22, 23, 24, 25] = ()
+    insert_each [1..=25] = ()
     clear = ()
     tables = (64, 0, 48)
     insert 17 = 0
     tables = (64, 0, 47)
 
     [room is spent, and the table keeps its size]
-    insert_each [0, 1, 2, 3, 4, 5, 6, 7, 8, 9, 10, 11] = ()
+    insert_each [0..=11] = ()
     remove 0 = 1
     remove 1 = 1
     remove 2 = 1
@@ -227,7 +225,7 @@ const ROWS: Rows = Rows {
     capacity = 12
 
     [a table that is nearly empty keeps its size]
-    extend [0, 1, 2, 3, 4, 5, 6, 7, 8, 9, 10, 11] = ()
+    extend [0..=11] = ()
     remove 0 = 1
     remove 1 = 1
     remove 2 = 1
@@ -237,10 +235,10 @@ const ROWS: Rows = Rows {
     tables = (16, 0, 0)
     insert 12 = 0
     tables = (16, 0, 5)
-    counts [5, 6, 7, 8, 9, 10, 11, 12, 13] = [0, 1, 1, 1, 1, 1, 1, 1, 0]
+    counts [5..=13] = [0, 1, 1, 1, 1, 1, 1, 1, 0]
 
     [with seven of twelve it doubles]
-    extend [0, 1, 2, 3, 4, 5, 6, 7, 8, 9, 10, 11] = ()
+    extend [0..=11] = ()
     remove 0 = 1
     remove 1 = 1
     remove 2 = 1
@@ -271,7 +269,7 @@ const ROWS: Rows = Rows {
     [reserves]
     reserve 13 = ()
     tables = (32, 0, 24)
-    extend [0, 1, 2, 3, 4, 5, 6, 7, 8, 9, 10, 11, 12] = ()
+    extend [0..=12] = ()
     tables = (32, 0, 11)
     reserve 11 = ()
     tables = (32, 0, 11)
@@ -285,12 +283,12 @@ const ROWS: Rows = Rows {
     tables = (4194304, 0, 3145715)
 
     [reserves in the middle of a carry]
-    insert_each [1, 2, 3, 4, 5, 6, 7, 8, 9, 10, 11, 12, 13, 14, 15, 16, 17, 18, 19, 20, 21, 22, 23, 24, 25] = ()
+    insert_each [1..=25] = ()
     reserve 23 = ()
     tables = (64, 16, 23)
     reserve 24 = ()
     tables = (128, 0, 71)
-    counts [1, 2, 3, 4, 5, 6, 7, 8, 9, 10, 11, 12, 13, 14, 15, 16, 17, 18, 19, 20, 21, 22, 23, 24, 25] = [1, 1, 1, 1, 1, 1, 1, 1, 1, 1, 1, 1, 1, 1, 1, 1, 1, 1, 1, 1, 1, 1, 1, 1, 1]
+    counts [1..=25] = [1, 1, 1, 1, 1, 1, 1, 1, 1, 1, 1, 1, 1, 1, 1, 1, 1, 1, 1, 1, 1, 1, 1, 1, 1]
 
     [shrinks]
     with_capacity 100 = ()
@@ -307,27 +305,24 @@ const ROWS: Rows = Rows {
     capacity = 0
 
     [shrinks in the middle of a carry]
-    insert_each [1, 2, 3, 4, 5, 6, 7, 8, 9, 10, 11, 12, 13, 14, 15, 16, 17, 18, 19, 20, 21, 22, 23, 24, 25] = ()
+    insert_each [1..=25] = ()
     remove 25 = 1
     remove 24 = 1
     shrink_to_fit = ()
     tables = (32, 0, 1)
     set_len = 23
-    counts [1, 2, 3, 4, 5, 6, 7, 8, 9, 10, 11, 12, 13, 14, 15, 16, 17, 18, 19, 20, 21, 22, 23, 24, 25] = [1, 1, 1, 1, 1, 1, 1, 1, 1, 1, 1, 1, 1, 1, 1, 1, 1, 1, 1, 1, 1, 1, 1, 0, 0]
+    counts [1..=25] = [1, 1, 1, 1, 1, 1, 1, 1, 1, 1, 1, 1, 1, 1, 1, 1, 1, 1, 1, 1, 1, 1, 1, 0, 0]
 
     [has nothing to give back]
-    insert_each [1, 2, 3, 4, 5, 6, 7, 8, 9, 10, 11, 12, 13, 14, 15, 16, 17, 18, 19, 20, 21, 22, 23, 24, 25] = ()
+    insert_each [1..=25] = ()
     shrink_to_fit = ()
-    tables = (64, 16, 23)",
-};
+    tables = (64, 16, 23)";
 
 // Which values wait depends on the hash. Where it is 0 for all, the values 17 to 24 wait, and a value that is taken out leaves more
 // room only there.
-const ONE_ROWS: Rows = Rows {
-    count: 32,
-    text: "\
+const ONE_ROWS: &str = "\
     [takes out of both tables]
-    insert_each [1, 2, 3, 4, 5, 6, 7, 8, 9, 10, 11, 12, 13, 14, 15, 16, 17, 18, 19, 20, 21, 22, 23, 24, 25] = ()
+    insert_each [1..=25] = ()
     remove 24 = 1
     tables = (64, 16, 24)
     remove 1 = 1
@@ -336,10 +331,10 @@ const ONE_ROWS: Rows = Rows {
     tables = (64, 0, 24)
     capacity = 48
     set_len = 24
-    counts [1, 2, 3, 4, 5, 6, 7, 8, 9, 10, 11, 12, 13, 14, 15, 16, 17, 18, 19, 20, 21, 22, 23, 24, 25] = [1, 1, 1, 1, 1, 1, 1, 1, 1, 1, 1, 1, 1, 1, 1, 1, 1, 1, 1, 1, 1, 1, 1, 0, 1]
+    counts [1..=25] = [1, 1, 1, 1, 1, 1, 1, 1, 1, 1, 1, 1, 1, 1, 1, 1, 1, 1, 1, 1, 1, 1, 1, 0, 1]
 
     [takes out what waits, in each way]
-    insert_each [1, 2, 3, 4, 5, 6, 7, 8, 9, 10, 11, 12, 13, 14, 15, 16, 17, 18, 19, 20, 21, 22, 23, 24, 25] = ()
+    insert_each [1..=25] = ()
     take_all 17 = Some((17, 1))
     tables = (64, 16, 24)
     try_take 18 = Ok(18)
@@ -353,23 +348,19 @@ const ONE_ROWS: Rows = Rows {
     set_len = 22
 
     [retains]
-    insert_each [1, 2, 3, 4, 5, 6, 7, 8, 9, 10, 11, 12, 13, 14, 15, 16, 17, 18, 19, 20, 21, 22, 23, 24, 25] = ()
+    insert_each [1..=25] = ()
     retain_none = ()
     is_empty = true
     tables = (64, 16, 31)
     capacity = 31
     insert 3 = 0
-    set_len = 1",
-};
+    set_len = 1";
 
 // What the calls of a clone return, of a bag in the middle of a carry.
-const CLONE: Rows = Rows {
-    count: 3,
-    text: "\
+const CLONE: &str = "\
     tables = (64, 0, 23)
     set_len = 25
-    counts [0, 1, 2, 3, 4, 5, 6, 7, 8, 9, 10, 11, 12, 13, 14, 15, 16, 17, 18, 19, 20, 21, 22, 23, 24, 25, 26] = [0, 1, 1, 1, 1, 1, 1, 1, 1, 1, 1, 1, 1, 1, 1, 1, 1, 1, 1, 1, 1, 1, 1, 1, 1, 1, 0]",
-};
+    counts [0..=26] = [0, 1, 1, 1, 1, 1, 1, 1, 1, 1, 1, 1, 1, 1, 1, 1, 1, 1, 1, 1, 1, 1, 1, 1, 1, 1, 0]";
 
 // Each value is inserted and at once removed: Removed slots are used again, or a table of the same size takes the place of the
 // one that has no room.

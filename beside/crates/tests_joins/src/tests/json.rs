@@ -8,13 +8,11 @@ use std::hash::{BuildHasher, Hash};
 use std::process::Abort;
 use std::test::Fail;
 use tests_kit::texts::{debug_of, halves, is_text, is_text_of};
-use tests_kit::{IdentityState, Named, OneState, ParityState, Rows, rows_of};
+use tests_kit::{IdentityState, Named, OneState, ParityState, Row, rows_of};
 
 // What the items are, a tree, and why it can't be read, or else the total of its bag, the number of distinct values, and the tree that is
 // written of it.
-const TREES: Rows = Rows {
-    count: 40,
-    text: r#"
+const TREES: &str = r#"
     String | null | NotAnArray
     String | true | NotAnArray
     String | 5 | NotAnArray
@@ -54,13 +52,10 @@ const TREES: Rows = Rows {
     u64 | [[10,1],[9,2]] | 3 2 [[9,2],[10,1]]
     Named | [[{"name":"Einar"},1],[{"name":"Olaf"},1],[{"name":"Olaf"},1],[{"name":"Harald"},2],[{"name":"Harald"},1]] | 6 3 [[{"name":"Einar"},1],[{"name":"Harald"},3],[{"name":"Olaf"},2]]
     String | [["Einar",1],["Olaf",2],["Harald",3]] | 6 3 [["Einar",1],["Harald",3],["Olaf",2]]
-    Named | [[{"name":"Einar"},1],[{"name":"Olaf"},2],[{"name":"Harald"},3]] | 6 3 [[{"name":"Einar"},1],[{"name":"Harald"},3],[{"name":"Olaf"},2]]"#,
-};
+    Named | [[{"name":"Einar"},1],[{"name":"Olaf"},2],[{"name":"Harald"},3]] | 6 3 [[{"name":"Einar"},1],[{"name":"Harald"},3],[{"name":"Olaf"},2]]"#;
 
 // The same of trees with a limit, and of what is no such tree.
-const LIMITED_TREES: Rows = Rows {
-    count: 26,
-    text: r#"
+const LIMITED_TREES: &str = r#"
     String | {"limit":5,"pairs":[["b",3],["a",2]]} | 5 2 {"limit":5,"pairs":[["a",2],["b",3]]}
     String | {"pairs":[["b",3],["a",2]],"limit":6} | 5 2 {"limit":6,"pairs":[["a",2],["b",3]]}
     String | {"limit":4,"pairs":[["a",2],["b",3]]} | TooMany(1)
@@ -86,8 +81,7 @@ const LIMITED_TREES: Rows = Rows {
     String | {"limit":18446744073709551615,"pairs":[["a",1]]} | 1 1 [["a",1]]
     String | {"limit":18446744073709551614,"pairs":[["a",18446744073709551614],["b",0]]} | 18446744073709551614 1 {"limit":18446744073709551614,"pairs":[["a",18446744073709551614]]}
     u64 | {"limit":3,"pairs":[[7,2],[6,1]]} | 3 2 {"limit":3,"pairs":[[6,1],[7,2]]}
-    Named | {"limit":2,"pairs":[[{"name":"Olaf"},2]]} | 2 1 {"limit":2,"pairs":[[{"name":"Olaf"},2]]}"#,
-};
+    Named | {"limit":2,"pairs":[[{"name":"Olaf"},2]]} | 2 1 {"limit":2,"pairs":[[{"name":"Olaf"},2]]}"#;
 
 // What bags of inserted texts and names are written as.
 const TEXTS: &str = r#"6 3 [["Einar",1],["Harald",3],["Olaf",2]]"#;
@@ -95,24 +89,18 @@ const TEXTS: &str = r#"6 3 [["Einar",1],["Harald",3],["Olaf",2]]"#;
 const NAMES: &str = r#"6 3 [[{"name":"Einar"},1],[{"name":"Harald"},3],[{"name":"Olaf"},2]]"#;
 
 // Each error, its number and its text.
-const JSON_ERRORS: Rows = Rows {
-    count: 7,
-    text: "
+const JSON_ERRORS: &str = "
     NotAnArray | 3 | not an array
     NotAPair(0) | 4 | pair 0: not a pair
     BadCount(1) | 5 | pair 1: bad count
     BadItem(2) | 6 | pair 2: bad item
     TooMany(3) | 7 | pair 3: total past its end
     Memory | 8 | no memory
-    BadLimit | 10 | bad limit",
-};
+    BadLimit | 10 | bad limit";
 
-const ITEM_ERRORS: Rows = Rows {
-    count: 2,
-    text: "
+const ITEM_ERRORS: &str = "
     NotAnItem | 11 | not an item
-    Memory | 12 | no memory",
-};
+    Memory | 12 | no memory";
 
 pub fn tree_of(alloc: Global, text: &str) -> Result<Value, Fail> {
     match Value::from_str(alloc, text) {
@@ -344,11 +332,11 @@ fn long_trees_of_one_value(rt: HostRuntime) -> Result<(), Fail> {
 }
 
 // Each error has a row.
-fn are_as_many(rows: Rows, errors: usize) -> Result<(), Fail> {
-    if rows.count == errors {
+fn are_as_many(rows: &[Row], errors: usize) -> Result<(), Fail> {
+    if rows.len() == errors {
         return Ok(());
     }
-    Err(Fail::new(format_args!("{} rows of {errors} errors", rows.count)))
+    Err(Fail::new(format_args!("{} rows of {errors} errors", rows.len())))
 }
 
 // The row of an error, its number and its text.
@@ -373,8 +361,8 @@ fn json_errors_are_told(rt: HostRuntime) -> Result<(), Fail> {
         JsonError::Memory,
         JsonError::BadLimit,
     ];
-    are_as_many(JSON_ERRORS, errors.len())?;
     let rows = rows_of(rt.alloc(), JSON_ERRORS)?;
+    are_as_many(rows.as_slice(), errors.len())?;
     for (row, error) in rows.into_iter().zip(errors) {
         row.tested(is_told(rt.alloc(), &error, error.number(), row.text))?;
     }
@@ -384,8 +372,8 @@ fn json_errors_are_told(rt: HostRuntime) -> Result<(), Fail> {
 #[test]
 fn item_errors_are_told(rt: HostRuntime) -> Result<(), Fail> {
     let errors = [ItemError::NotAnItem, ItemError::Memory];
-    are_as_many(ITEM_ERRORS, errors.len())?;
     let rows = rows_of(rt.alloc(), ITEM_ERRORS)?;
+    are_as_many(rows.as_slice(), errors.len())?;
     for (row, error) in rows.into_iter().zip(errors) {
         row.tested(is_told(rt.alloc(), &error, error.number(), row.text))?;
     }

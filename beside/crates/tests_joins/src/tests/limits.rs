@@ -5,13 +5,11 @@ use std::alloc::Global;
 use std::hash::BuildHasher;
 use std::test::Fail;
 use tests_kit::texts::{count, debug_of, halves, is_text};
-use tests_kit::{IdentityState, OneState, ParityState, Rows, rows_of};
+use tests_kit::{IdentityState, OneState, ParityState, rows_of};
 
 // A limit, a tree of texts, and why it can't be read, or else the limit of its bag, the total, the number of distinct values, and the tree
 // that is written of it.
-const ROWS: Rows = Rows {
-    count: 14,
-    text: r#"
+const ROWS: &str = r#"
     4 | [["a",2],["b",3]] | TooMany(1)
     5 | [["a",2],["b",3]] | 5 5 2 {"limit":5,"pairs":[["a",2],["b",3]]}
     0 | [] | 0 0 0 {"limit":0,"pairs":[]}
@@ -25,8 +23,7 @@ const ROWS: Rows = Rows {
     18446744073709551615 | {"limit":7,"pairs":[]} | 7 0 0 {"limit":7,"pairs":[]}
     0 | {"limit":-1,"pairs":[]} | BadLimit
     0 | {"limit":1,"pairs":[],"x":0} | NotAnArray
-    0 | {} | NotAnArray"#,
-};
+    0 | {} | NotAnArray"#;
 
 // The limit of a bag, and what is written of it.
 fn limit_and_rest<S: BuildHasher + Default + Drop>(

@@ -4,18 +4,15 @@ use hashbag::{BagError, FixedState, HashBag};
 use hashbag_ops::laws::{count_in_parts, merges_associate, merges_commute, put_in_and_taken_out};
 use std::alloc::Global;
 use std::test::Fail;
+use tests_kit::rows_of;
 use tests_kit::texts::{debug_of, is_text};
-use tests_kit::{Rows, rows_of};
 
 // Two bags, and the counts of their sum.
-const ROWS: Rows = Rows {
-    count: 4,
-    text: "
+const ROWS: &str = "
     | |
     5:2 6:1 | | 5:2 6:1
     5:2 6:1 | 5:3 7:1 | 5:5 6:1 7:1
-    1..25 | 1:3 26:2 | 1:4 2..25 26:2",
-};
+    1..25 | 1:3 26:2 | 1:4 2..25 26:2";
 
 type Bag = HashBag<u64, FixedState>;
 

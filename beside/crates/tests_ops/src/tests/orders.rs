@@ -10,12 +10,10 @@ use std::test::Fail;
 use tests_kit::calls::insert;
 use tests_kit::states::CountingState;
 use tests_kit::texts::{count, debug_of, halves, is_text};
-use tests_kit::{IdentityState, OneState, ParityState, Rows, rows_of};
+use tests_kit::{IdentityState, OneState, ParityState, rows_of};
 
 // `-` for all pairs, values rising, or how many of the commonest; the bag; the pairs.
-const ROWS: Rows = Rows {
-    count: 36,
-    text: "
+const ROWS: &str = "
     - | |
     - | 5:2 | 5:2
     - | 6:1 5:2 | 5:2 6:1
@@ -51,24 +49,18 @@ const ROWS: Rows = Rows {
     3 | 8:3 1:4 6:3 2:5 4:1 7:3 | 2:5 1:4 6:3
     4 | 8:3 1:4 6:3 2:5 4:1 7:3 | 2:5 1:4 6:3 7:3
     1 | 4:18446744073709551610 2:5 | 4:18446744073709551610
-    1 | 4:7 18446744073709551615:18446744073709551608 | 18446744073709551615:18446744073709551608",
-};
+    1 | 4:7 18446744073709551615:18446744073709551608 | 18446744073709551615:18446744073709551608";
 
 // The same of the words of a text.
-const WORDS: Rows = Rows {
-    count: 5,
-    text: r#"
+const WORDS: &str = r#"
     - | the cat sat on the mat the | [("cat", 1), ("mat", 1), ("on", 1), ("sat", 1), ("the", 3)]
     0 | the cat sat on the mat the | []
     2 | the cat sat on the mat the | [("the", 3), ("cat", 1)]
     9 | the cat sat on the mat the | [("the", 3), ("cat", 1), ("mat", 1), ("on", 1), ("sat", 1)]
-    2 | b a c b a c | [("a", 2), ("b", 2)]"#,
-};
+    2 | b a c b a c | [("a", 2), ("b", 2)]"#;
 
 // A bag, and how often its commonest values occur.
-const GREATEST: Rows = Rows {
-    count: 8,
-    text: "
+const GREATEST: &str = "
     | 0
     5:2 | 2
     6:1 5:2 | 2
@@ -76,8 +68,7 @@ const GREATEST: Rows = Rows {
     1..25 | 1
     30:1 26..29 1..25 12:1 29:2 | 3
     4:18446744073709551610 2:5 | 18446744073709551610
-    1:18446744073709551615 | 18446744073709551615",
-};
+    1:18446744073709551615 | 18446744073709551615";
 
 // The text of all pairs, values rising.
 fn rising<T: Ord + Hash + Debug + Drop, S: BuildHasher + Drop>(

@@ -6,13 +6,11 @@ use std::alloc::Global;
 use std::hash::BuildHasher;
 use std::test::Fail;
 use tests_kit::texts::{count, halves, is_text};
-use tests_kit::{IdentityState, OneState, ParityState, Rows, calls, rows_of};
+use tests_kit::{IdentityState, OneState, ParityState, calls, rows_of};
 
 // A call, and the limit of the first bag, with `-` if none is set; the two bags; the result, and the total that is left; the counts
 // that are left. `1..25` are these values, once each: 25 values are in the middle of a carry. The second bag is at a limit of its own.
-const SUMS: Rows = Rows {
-    count: 44,
-    text: "
+const SUMS: &str = "
     merge - | | | () 0 |
     merge - | | 5:2 6:1 | () 3 | 5:2 6:1
     merge - | 5:2 6:1 | | () 3 | 5:2 6:1
@@ -56,13 +54,10 @@ const SUMS: Rows = Rows {
     keep_most 26 | 1..25 | 1:2 2..25 | () 26 | 1:2 2..25
     keep_most 26 | 1..25 | 1:3 2..25 | TooMany 25 | 1..25
     keep_most - | 1:18446744073709551615 | 1:5 | () 18446744073709551615 | 1:18446744073709551615
-    keep_most - | 1:18446744073709551614 | 1:5 2:2 | TooMany 18446744073709551614 | 1:18446744073709551614",
-};
+    keep_most - | 1:18446744073709551614 | 1:5 2:2 | TooMany 18446744073709551614 | 1:18446744073709551614";
 
 // The same of the calls that can't fail.
-const PARTS: Rows = Rows {
-    count: 41,
-    text: "
+const PARTS: &str = "
     keep_common - | | | () 0 |
     keep_common - | | 5:2 | () 0 |
     keep_common - | 5:2 6:1 | | () 0 |
@@ -103,8 +98,7 @@ const PARTS: Rows = Rows {
     is_disjoint - | 5:1 6:2 7:1 | 8:3 | true 4 | 5:1 6:2 7:1
     is_disjoint - | 1..25 | 26..60 | true 25 | 1..25
     is_disjoint - | 1..25 | 25..60 | false 25 | 1..25
-    is_disjoint - | 1..25 | 17:1 | false 25 | 1..25",
-};
+    is_disjoint - | 1..25 | 17:1 | false 25 | 1..25";
 
 // The bag with the counts of a text, and the limit that a word says.
 fn limited_bag_of<S: BuildHasher + Default + Drop>(

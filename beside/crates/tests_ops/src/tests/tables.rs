@@ -6,13 +6,11 @@ use std::alloc::Global;
 use std::hash::BuildHasher;
 use std::test::Fail;
 use tests_kit::texts::{halves, is_text};
-use tests_kit::{IdentityState, OneState, Rows, calls, rows_of};
+use tests_kit::{IdentityState, OneState, calls, rows_of};
 
 // A call, two bags, and the slots, those that wait, and the room of the first bag after it. 25 values take 64 slots, of which 16 of the
 // table before wait, with room for 23.
-const ROWS: Rows = Rows {
-    count: 29,
-    text: "
+const ROWS: &str = "
     merge | | | (0, 0, 0)
     merge | | 1:1 2:1 | (16, 0, 10)
     merge | 1:1 2:1 | | (16, 0, 10)
@@ -41,8 +39,7 @@ const ROWS: Rows = Rows {
     take_away | | 1:1 | (0, 0, 0)
     take_away | 1:1 2:2 3:1 | 2:1 3:5 | (16, 0, 9)
     take_away | 1..25 | | (64, 16, 23)
-    take_away | 1..25 | 26:1 | (64, 16, 23)",
-};
+    take_away | 1..25 | 26:1 | (64, 16, 23)";
 
 // The tables after a call.
 fn tables_after<S: BuildHasher + Default + Drop, S2: BuildHasher + Default + Clone + Drop>(

@@ -4,12 +4,10 @@ use std::hash::{BuildHasher, Hash, Hasher};
 use std::test::Fail;
 use tests_kit::states::{identity_hash, one_hash, parity_hash};
 use tests_kit::texts::{halves, is_text, number};
-use tests_kit::{IdentityState, OneState, ParityState, Rows, Tagged, rows_of};
+use tests_kit::{IdentityState, OneState, ParityState, Tagged, rows_of};
 
 // Numbers, and what they hash to under the identity, the parity and the one state.
-const ROWS: Rows = Rows {
-    count: 8,
-    text: "\
+const ROWS: &str = "\
     0 = 0 0 0
     1 = 1 1 0
     255 = 255 1 0
@@ -17,8 +15,7 @@ const ROWS: Rows = Rows {
     258 = 258 0 0
     259 = 259 1 0
     9223372036854775808 = 9223372036854775808 0 0
-    18446744073709551615 = 18446744073709551615 1 0",
-};
+    18446744073709551615 = 18446744073709551615 1 0";
 
 // Hashes a value as a map does.
 fn hash_under<S: BuildHasher, T: Hash>(state: &S, value: &T) -> u64 {

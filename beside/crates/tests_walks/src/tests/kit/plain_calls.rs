@@ -3,12 +3,11 @@ use hashbag::script::{Reply, Step};
 use std::alloc::{AllocError, Global};
 use std::test::Fail;
 use tests_kit::texts::{count, debug_of, halves, is_text, tagged};
-use tests_kit::{PlainBag, Rows, Tagged, rows_of};
+use tests_kit::{Tagged, rows_of};
+use tests_plain::PlainBag;
 
 // A value is written as its key and its tag. `tags` returns the tags of all occurrences, in the order of the list.
-const ROWS: Rows = Rows {
-    count: 35,
-    text: "\
+const ROWS: &str = "\
     [keeps the first instance]
     add 1:10 = ()
     add 2:7 = ()
@@ -45,8 +44,7 @@ const ROWS: Rows = Rows {
     step try_take 1:99 = Absent
     step replace 1:99 = Count(0)
     len = 2
-    tags = [7, 99]",
-};
+    tags = [7, 99]";
 
 // Each kind of call has a function with no contract, as in `calls`.
 

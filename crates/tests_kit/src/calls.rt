@@ -4,7 +4,7 @@
 //! value in `Ok`, or else the name of the error. A line such as `[inserts]` names the rows after it, which are on a new bag.
 //!
 //! Each kind of call has a function without a contract of its own. So the proof carries nothing from one call to the next.
-use crate::rows::{Rows, rows_of};
+use crate::rows::rows_of;
 use crate::texts::{count, counts, debug_of, halves, is_text, number, values};
 use hashbag::{BagError, HashBag};
 use std::alloc::Global;
@@ -459,7 +459,7 @@ fn make_row<S: BuildHasher + Default + Drop>(
 pub fn make_calls<S: BuildHasher + Default + Drop>(
     alloc: Global,
     bag: &mut HashBag<u64, S>,
-    rows: Rows,
+    rows: &'static str,
 ) -> Result<(), Fail> {
     for row in rows_of(alloc, rows)? {
         row.tested(make_row(alloc, bag, row.text))?;
@@ -473,14 +473,14 @@ pub fn make_call<S: BuildHasher + Default + Drop>(
     bag: &mut HashBag<u64, S>,
     text: &'static str,
 ) -> Result<(), Fail> {
-    make_calls(alloc, bag, Rows { count: 1, text })
+    make_calls(alloc, bag, text)
 }
 
 /// Makes the calls of the rows, each name on a new bag. A name is a row too.
 pub fn make_rows<S: BuildHasher + Default + Copy>(
     alloc: Global,
     state: S,
-    rows: Rows,
+    rows: &'static str,
 ) -> Result<(), Fail> {
     let mut bag = HashBag::with_hasher(alloc, state);
     for row in rows_of(alloc, rows)? {

@@ -3,7 +3,7 @@ ghost use Rattle.std.specs.Prelude.{◌≡◌, ◌+◌, ◌<◌, ◌↔◌, [], 
 ghost use Rattle.hashbag.specs.Occurrences.{greatest_total, others, count, add, less, put, instance};
 ghost use Rattle.hashbag.specs.Rows.{insert_row, replace_row, remove_row, remove_up_to_row, try_take_row, take_all_row, entry_set_row, entry_or_row, quota as quota_of, retained, retain_row, count_row, limit_row};
 ghost use Rattle.hashbag.specs.Script.{step as step_of, limit_after};
-ghost use Rattle.tests_kit.specs.Plain.{holding};
+ghost use Rattle.tests_plain.specs.Plain.{holding};
 
 use hashbag::script::{Reply, Step};
 use std::alloc::{AllocError, Global};
@@ -23,7 +23,7 @@ pub struct PlainBag<T: Eq + Copy> {
 }
 
 impl<T: Eq + Copy> Model for PlainBag<T> {
-    ghost use Rattle.tests_kit.specs.Plain.{Plain};
+    ghost use Rattle.tests_plain.specs.Plain.{Plain};
 
     ghost Value = { Plain T };
 
