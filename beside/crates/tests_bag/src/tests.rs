@@ -1,12 +1,8 @@
 //! What no clause says of calls on one bag: that they succeed, and that their results are those found by hand, under each hash
 //! state. Also how often a call hashes.
-mod bounds;
 mod callers;
-mod calls;
 mod clones;
-mod collections;
 mod drops;
-mod entries;
 mod hash_counts;
 mod instances;
 mod keys;
@@ -16,5 +12,5 @@ mod owning_states;
 mod refused_clones;
 mod room;
 mod sizes;
-mod tables;
+mod states;
 mod transfers;

@@ -1,8 +1,6 @@
 //! The entry view, with the results found by hand.
-use hashbag::FixedState;
 use std::test::Fail;
-use tests_kit::calls::make_rows;
-use tests_kit::{IdentityState, OneState, ParityState};
+use tests_kit::calls::make_rows_under_each;
 
 // `entry` drops an entry at once. `set` and `raise` are `and_modify`, which calls nothing if the entry is vacant.
 const ROWS: &str = "\
@@ -60,21 +58,6 @@ const ROWS: &str = "\
     contains 2 = 0";
 
 #[test]
-fn entries_of_fixed_state(rt: HostRuntime) -> Result<(), Fail> {
-    make_rows(rt.alloc(), FixedState::new(), ROWS)
-}
-
-#[test]
-fn entries_of_one_state(rt: HostRuntime) -> Result<(), Fail> {
-    make_rows(rt.alloc(), OneState, ROWS)
-}
-
-#[test]
-fn entries_of_parity_state(rt: HostRuntime) -> Result<(), Fail> {
-    make_rows(rt.alloc(), ParityState, ROWS)
-}
-
-#[test]
-fn entries_of_identity_state(rt: HostRuntime) -> Result<(), Fail> {
-    make_rows(rt.alloc(), IdentityState, ROWS)
+fn entries(rt: HostRuntime) -> Result<(), Fail> {
+    make_rows_under_each(rt.alloc(), ROWS)
 }

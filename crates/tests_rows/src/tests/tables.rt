@@ -1,11 +1,11 @@
 //! The two tables of slots behind a bag: how many slots there are, how many wait to be carried, and how much room is left, after
 //! each call. Where nothing is said of the hash, these numbers don't depend on it.
-use hashbag::{BagError, FixedState, HashBag};
+use hashbag::HashBag;
 use std::alloc::Global;
 use std::hash::BuildHasher;
 use std::test::Fail;
-use tests_kit::calls::{bag_of, clone_of, insert, make_calls, make_rows, remove};
-use tests_kit::{IdentityState, OneState, ParityState};
+use tests_kit::OneState;
+use tests_kit::calls::{clone_of, make_calls, make_rows, make_rows_under_each};
 
 // `tables` returns the slots of the newer table, the slots that wait, and the room.
 const ROWS: &str = "\
@@ -356,85 +356,36 @@ const ONE_ROWS: &str = "\
     insert 3 = 0
     set_len = 1";
 
+// A bag in the middle of a carry.
+const CARRYING: &str = "\
+    insert_each [1..=25] = ()
+    tables = (64, 16, 23)";
+
 // What the calls of a clone return, of a bag in the middle of a carry.
 const CLONE: &str = "\
     tables = (64, 0, 23)
     set_len = 25
     counts [0..=26] = [0, 1, 1, 1, 1, 1, 1, 1, 1, 1, 1, 1, 1, 1, 1, 1, 1, 1, 1, 1, 1, 1, 1, 1, 1, 1, 0]";
 
-// Each value is inserted and at once removed: Removed slots are used again, or a table of the same size takes the place of the
-// one that has no room.
-fn in_and_out<S: BuildHasher + Drop>(
-    bag: &mut HashBag<u64, S>,
-    value: u64,
-) -> Result<usize, BagError> {
-    let before = insert(bag, value)?;
-    Ok(remove(bag, value).saturating_add(before))
-}
-
-fn thousand_in_and_out<S: BuildHasher + Default + Drop>(
-    alloc: Global,
-    state: S,
-) -> Result<(), Fail> {
-    let mut bag = HashBag::with_hasher(alloc, state);
-    let mut taken = 0usize;
-    for value in 0..1000 {
-        taken = taken.saturating_add(in_and_out(&mut bag, value)?);
-    }
-    if taken != 1000 || bag.slots() != 16 || !bag.is_empty() {
-        return Err(Fail::new("a thousand values left more than 16 slots"));
-    }
-    Ok(())
-}
-
 // A clone of a bag in a carry has no table that waits, and is equal.
-fn is_cloned<S: BuildHasher + Default + Copy>(
-    alloc: Global,
-    bag: &HashBag<u64, S>,
-) -> Result<(), Fail> {
-    let mut clone = clone_of(bag)?;
+fn is_cloned<S: BuildHasher + Default + Copy>(alloc: Global, state: S) -> Result<(), Fail> {
+    let mut bag = HashBag::with_hasher(alloc, state);
+    make_calls(alloc, &mut bag, CARRYING)?;
+    let mut clone = clone_of(&bag)?;
     make_calls(alloc, &mut clone, CLONE)?;
-    if clone != *bag {
-        return Err(Fail::new("a clone differs"));
+    if clone == bag {
+        return Ok(());
     }
-    Ok(())
-}
-
-fn cloned_in_a_carry<S: BuildHasher + Default + Copy>(alloc: Global, state: S) -> Result<(), Fail> {
-    let bag = bag_of(
-        alloc,
-        state,
-        &[
-            1, 2, 3, 4, 5, 6, 7, 8, 9, 10, 11, 12, 13, 14, 15, 16, 17, 18, 19, 20, 21, 22, 23, 24,
-            25,
-        ],
-    )?;
-    is_cloned(alloc, &bag)
-}
-
-fn tables_under<S: BuildHasher + Default + Copy>(alloc: Global, state: S) -> Result<(), Fail> {
-    make_rows(alloc, state, ROWS)?;
-    thousand_in_and_out(alloc, state)?;
-    cloned_in_a_carry(alloc, state)
+    Err(Fail::new("a clone differs"))
 }
 
 #[test]
-fn tables_of_fixed_state(rt: HostRuntime) -> Result<(), Fail> {
-    tables_under(rt.alloc(), FixedState::new())
+fn tables(rt: HostRuntime) -> Result<(), Fail> {
+    make_rows_under_each(rt.alloc(), ROWS)
 }
 
 #[test]
 fn tables_of_one_state(rt: HostRuntime) -> Result<(), Fail> {
-    tables_under(rt.alloc(), OneState)?;
-    make_rows(rt.alloc(), OneState, ONE_ROWS)
-}
-
-#[test]
-fn tables_of_parity_state(rt: HostRuntime) -> Result<(), Fail> {
-    tables_under(rt.alloc(), ParityState)
-}
-
-#[test]
-fn tables_of_identity_state(rt: HostRuntime) -> Result<(), Fail> {
-    tables_under(rt.alloc(), IdentityState)
+    make_rows(rt.alloc(), OneState, ONE_ROWS)?;
+    is_cloned(rt.alloc(), OneState)
 }
