@@ -43,11 +43,11 @@ fn range(word: &str) -> Result<(u64, u64), Fail> {
     }
 }
 
-/// Returns the values and counts of a list as `5:2 6:1`. `1..=25:2` is each value from 1 to 25 with the count 2.
+/// Returns the values and counts of a list as `5:2 6`, in which 6 occurs once. `1..=25:2` is each value from 1 to 25 with the count 2.
 pub fn counts(alloc: Global, text: &str) -> Result<Vec<(u64, usize)>, Fail> {
     let mut pairs = Vec::new(alloc);
     for word in text.split_whitespace() {
-        let (values, times) = halves(word, ":")?;
+        let (values, times) = word.split_once(':').unwrap_or((word, "1"));
         let (first, last) = range(values)?;
         let times = count(times)?;
         for value in first..=last {

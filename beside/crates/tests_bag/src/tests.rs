@@ -7,7 +7,6 @@ mod hash_counts;
 mod instances;
 mod keys;
 mod limits;
-mod own_bytes;
 mod owning_states;
 mod refused_clones;
 mod room;

@@ -1,5 +1,5 @@
-//! Joins of two bags, step by step, between each two of the four hash states: what is left by their size hints, and that both bags are as
-//! before after each number of steps. `tests_rows` has rows of their items.
+//! Joins of two bags, step by step, under two hash states each: what is left by their size hints, and that both bags are as before after
+//! each number of steps. `tests_rows` has rows of their items.
 use hashbag::{FixedState, HashBag};
 use hashbag_callers::join_uses::excess_of;
 use std::alloc::{AllocError, Global};
@@ -269,32 +269,12 @@ fn joins_under<S: BuildHasher + Default + Drop, S2: BuildHasher + Default + Drop
     Ok(())
 }
 
-// The first bag under one state, and the second under each.
-fn joins_with_each<S: BuildHasher + Default + Drop>(alloc: Global) -> Result<(), Fail> {
-    joins_under::<S, FixedState>(alloc)?;
-    joins_under::<S, OneState>(alloc)?;
-    joins_under::<S, ParityState>(alloc)?;
-    joins_under::<S, IdentityState>(alloc)
-}
-
 #[test]
-fn joins_of_fixed_state(rt: HostRuntime) -> Result<(), Fail> {
-    joins_with_each::<FixedState>(rt.alloc())
-}
-
-#[test]
-fn joins_of_one_state(rt: HostRuntime) -> Result<(), Fail> {
-    joins_with_each::<OneState>(rt.alloc())
-}
-
-#[test]
-fn joins_of_parity_state(rt: HostRuntime) -> Result<(), Fail> {
-    joins_with_each::<ParityState>(rt.alloc())
-}
-
-#[test]
-fn joins_of_identity_state(rt: HostRuntime) -> Result<(), Fail> {
-    joins_with_each::<IdentityState>(rt.alloc())
+fn joins_step_by_step(rt: HostRuntime) -> Result<(), Fail> {
+    joins_under::<OneState, IdentityState>(rt.alloc())?;
+    joins_under::<IdentityState, OneState>(rt.alloc())?;
+    joins_under::<FixedState, ParityState>(rt.alloc())?;
+    joins_under::<ParityState, FixedState>(rt.alloc())
 }
 
 // How many more of a value the first bag has.

@@ -13,14 +13,14 @@ const SUMS: &str = "
     merge | 5:2 6:1 | | 0
     merge | | 5:2 6:1 | 2
     merge | 5:2 6:1 | 5:3 7:1 | 2
-    merge | 1..12 | 1..12 | 24
-    merge | 1..5 | 1..8 | 8
-    merge | 1..5 | 6..20 | 28
-    merge | 1..12 | 13..24 | 25
+    merge | 1..=12 | 1..=12 | 24
+    merge | 1..=5 | 1..=8 | 8
+    merge | 1..=5 | 6..=20 | 28
+    merge | 1..=12 | 13..=24 | 25
     keep_most | 5:2 6:1 | 5:3 7:1 | 4
     keep_most | 5:2 6:1 | 5:1 7:1 | 3
     keep_most | 5:2 6:1 | 5:1 6:1 | 2
-    keep_most | 1..12 | 2..13 | 26";
+    keep_most | 1..=12 | 2..=13 | 26";
 
 // A call that only looks at the second bag, the two bags, and how often each bag's state hashes in it. A copy has a state of its own.
 const PARTS: &str = "
