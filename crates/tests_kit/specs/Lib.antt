@@ -1,3 +1,2 @@
 pub mod LastNumber
 pub mod Named
-pub mod Plain

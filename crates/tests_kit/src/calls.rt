@@ -4,12 +4,14 @@
 //! value in `Ok`, or else the name of the error. A line such as `[inserts]` names the rows after it, which are on a new bag.
 //!
 //! Each kind of call has a function without a contract of its own. So the proof carries nothing from one call to the next.
-use crate::rows::{Rows, rows_of};
+use crate::rows::{failure_text, rows_of};
+use crate::states::{IdentityState, OneState, ParityState};
 use crate::texts::{count, counts, debug_of, halves, is_text, number, values};
-use hashbag::{BagError, HashBag};
+use hashbag::{BagError, FixedState, HashBag};
 use std::alloc::Global;
 use std::fmt::Debug;
 use std::hash::{BuildHasher, Hash};
+use std::mem;
 use std::test::Fail;
 
 // A value with its count.
@@ -103,6 +105,21 @@ fn clear<S: BuildHasher + Drop>(bag: &mut HashBag<u64, S>) {
 
 fn finish_carry<S: BuildHasher + Drop>(bag: &mut HashBag<u64, S>) {
     bag.finish_carry();
+}
+
+// Returns the text of what `Debug` writes of a walk over a bag that is used up. An empty bag is in its place.
+fn into_iter_debug<S: BuildHasher + Default + Drop>(
+    alloc: Global,
+    bag: &mut HashBag<u64, S>,
+) -> Result<String, Fail> {
+    let whole = mem::replace(bag, HashBag::default_in(alloc));
+    debug_of(alloc, &whole.into_iter())
+}
+
+// Drops a drain after one item, and returns whether there was one.
+fn drain_one<S: BuildHasher + Drop>(bag: &mut HashBag<u64, S>) -> bool {
+    let mut drain = bag.drain();
+    drain.next().is_some()
 }
 
 // Returns how many values a drain gives.
@@ -334,10 +351,30 @@ fn with_nothing<S: BuildHasher + Default + Drop>(
         "clear" => debug_of(alloc, &clear(bag)),
         "finish_carry" => debug_of(alloc, &finish_carry(bag)),
         "drain" => debug_of(alloc, &drain(bag)),
+        "drain_one" => debug_of(alloc, &drain_one(bag)),
         "shrink_to_fit" => text_of(alloc, shrink_to_fit(bag)),
         "retain_none" => debug_of(alloc, &retain_none(bag)),
         "retain_odd" => debug_of(alloc, &retain_odd(bag)),
         "retain_itself" => debug_of(alloc, &retain_itself(bag)),
+        _ => with_walk(alloc, bag, verb),
+    }
+}
+
+// Returns the text of what a walk says of itself.
+fn with_walk<S: BuildHasher + Default + Drop>(
+    alloc: Global,
+    bag: &mut HashBag<u64, S>,
+    verb: &str,
+) -> Result<String, Fail> {
+    match verb {
+        "debug" => debug_of(alloc, bag),
+        "iter.debug" => debug_of(alloc, &bag.iter()),
+        "iter.hint" => debug_of(alloc, &bag.iter().size_hint()),
+        "set_iter.debug" => debug_of(alloc, &bag.set_iter()),
+        "set_iter.hint" => debug_of(alloc, &bag.set_iter().size_hint()),
+        "drain.debug" => debug_of(alloc, &bag.drain()),
+        "drain.hint" => debug_of(alloc, &bag.drain().size_hint()),
+        "into_iter.debug" => into_iter_debug(alloc, bag),
         _ => no_call(verb),
     }
 }
@@ -459,7 +496,7 @@ fn make_row<S: BuildHasher + Default + Drop>(
 pub fn make_calls<S: BuildHasher + Default + Drop>(
     alloc: Global,
     bag: &mut HashBag<u64, S>,
-    rows: Rows,
+    rows: &'static str,
 ) -> Result<(), Fail> {
     for row in rows_of(alloc, rows)? {
         row.tested(make_row(alloc, bag, row.text))?;
@@ -473,14 +510,14 @@ pub fn make_call<S: BuildHasher + Default + Drop>(
     bag: &mut HashBag<u64, S>,
     text: &'static str,
 ) -> Result<(), Fail> {
-    make_calls(alloc, bag, Rows { count: 1, text })
+    make_calls(alloc, bag, text)
 }
 
 /// Makes the calls of the rows, each name on a new bag. A name is a row too.
 pub fn make_rows<S: BuildHasher + Default + Copy>(
     alloc: Global,
     state: S,
-    rows: Rows,
+    rows: &'static str,
 ) -> Result<(), Fail> {
     let mut bag = HashBag::with_hasher(alloc, state);
     for row in rows_of(alloc, rows)? {
@@ -491,4 +528,21 @@ pub fn make_rows<S: BuildHasher + Default + Copy>(
         }
     }
     Ok(())
+}
+
+/// Makes the calls of the rows under each hash state. A failure says under which.
+pub fn make_rows_under_each(alloc: Global, rows: &'static str) -> Result<(), Fail> {
+    under("FixedState", make_rows(alloc, FixedState::new(), rows))?;
+    under("OneState", make_rows(alloc, OneState, rows))?;
+    under("ParityState", make_rows(alloc, ParityState, rows))?;
+    under("IdentityState", make_rows(alloc, IdentityState, rows))
+}
+
+// Returns what rows returned. A failure also says the state.
+fn under(state: &str, outcome: Result<(), Fail>) -> Result<(), Fail> {
+    let Err(fail) = outcome else {
+        return Ok(());
+    };
+    let why = failure_text(fail);
+    Err(Fail::new(format_args!("under {state}: {}", why.as_str())))
 }

@@ -7,15 +7,6 @@ use std::io::Eprint;
 use std::process::Termination;
 use std::test::Fail;
 
-/// Rows, one a line, and how many there are.
-#[derive(Clone, Copy)]
-pub struct Rows {
-    /// How many rows the text has. If it has another number, reading them fails.
-    pub count: usize,
-    /// The rows. Empty lines, and spaces before and after a row, mean nothing.
-    pub text: &'static str,
-}
-
 /// A row.
 #[derive(Clone, Copy, Debug)]
 pub struct Row {
@@ -25,24 +16,21 @@ pub struct Row {
     pub text: &'static str,
 }
 
-/// Returns the rows. There have to be as many as their number says.
-pub fn rows_of(alloc: Global, rows: Rows) -> Result<Vec<Row>, Fail> {
+/// Returns the rows of a text, one a line. There has to be one. Empty lines, those that begin with `#`, and spaces before and after a row
+/// mean nothing.
+pub fn rows_of(alloc: Global, text: &'static str) -> Result<Vec<Row>, Fail> {
     let mut list = Vec::new(alloc);
-    let text = rows.text.strip_prefix('\n').unwrap_or(rows.text);
+    let text = text.strip_prefix('\n').unwrap_or(text);
     let mut line = 0usize;
     for row in text.lines() {
         line = line.saturating_add(1);
-        if !row.trim().is_empty() {
-            list.push(Row {
-                line,
-                text: row.trim(),
-            })?;
+        let text = row.trim();
+        if !text.is_empty() && !text.starts_with('#') {
+            list.push(Row { line, text })?;
         }
     }
-    if list.len() != rows.count {
-        let found = list.len();
-        let wanted = rows.count;
-        return Err(Fail::new(format_args!("{found} rows, not {wanted}")));
+    if list.is_empty() {
+        return Err(Fail::new("no rows"));
     }
     Ok(list)
 }

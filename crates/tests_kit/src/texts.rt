@@ -35,12 +35,24 @@ pub fn count(word: &str) -> Result<usize, Fail> {
     Ok(number(word)? as usize)
 }
 
-/// Returns the values and counts of a list as `5:2 6:1`.
+// Returns the first and the last of the values that a word means: `7` is one, and `1..=25` are twenty-five.
+fn range(word: &str) -> Result<(u64, u64), Fail> {
+    match word.split_once("..=") {
+        Some((first, last)) => Ok((number(first)?, number(last)?)),
+        None => Ok((number(word)?, number(word)?)),
+    }
+}
+
+/// Returns the values and counts of a list as `5:2 6`, in which 6 occurs once. `1..=25:2` is each value from 1 to 25 with the count 2.
 pub fn counts(alloc: Global, text: &str) -> Result<Vec<(u64, usize)>, Fail> {
     let mut pairs = Vec::new(alloc);
     for word in text.split_whitespace() {
-        let (value, times) = halves(word, ":")?;
-        pairs.push((number(value)?, count(times)?))?;
+        let (values, times) = word.split_once(':').unwrap_or((word, "1"));
+        let (first, last) = range(values)?;
+        let times = count(times)?;
+        for value in first..=last {
+            pairs.push((value, times))?;
+        }
     }
     Ok(pairs)
 }
@@ -50,7 +62,7 @@ pub fn inside(text: &str) -> Option<&str> {
     text.strip_prefix('[')?.strip_suffix(']')
 }
 
-/// Returns the values of a list as `[1, 2, 3, 3]`.
+/// Returns the values of a list as `[1, 2, 3, 3]`. `[1..=25]` are the values from 1 to 25.
 pub fn values(alloc: Global, text: &str) -> Result<Vec<u64>, Fail> {
     let mut list = Vec::new(alloc);
     let Some(inner) = inside(text) else {
@@ -58,7 +70,10 @@ pub fn values(alloc: Global, text: &str) -> Result<Vec<u64>, Fail> {
     };
     if !inner.is_empty() {
         for word in inner.split(", ") {
-            list.push(number(word)?)?;
+            let (first, last) = range(word)?;
+            for value in first..=last {
+                list.push(value)?;
+            }
         }
     }
     Ok(list)
