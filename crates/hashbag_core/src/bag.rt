@@ -44,7 +44,7 @@ impl BagError {
     /// # Examples
     ///
     /// ```
-    /// BagError::TooMany.number() // 2
+    /// BagError::TooMany.number(); // 2
     /// ```
     pub fn number(&self) -> u8
         ensures number_of_memory { self.now ≡ BagError.Memory → result ≡ 1 }
@@ -141,7 +141,7 @@ impl<T: Eq + Hash + Drop, S: BuildHasher + Drop> HashBag<T, S> {
     ///
     /// ```
     /// let bag: HashBag<u64> = HashBag::with_limit(alloc, FixedState::new(), 1_000);
-    /// bag.limit() // 1000
+    /// bag.limit(); // 1000
     /// ```
     #[inline(always)]
     pub fn limit(&self) -> usize
@@ -238,9 +238,11 @@ impl<T: Eq + Hash + Drop, S: BuildHasher + Drop> HashBag<T, S> {
     /// # Examples
     ///
     /// ```
-    /// let first: HashBag<u64> = HashBag::new(alloc);
-    /// let second = HashBag::with_capacity_and_hasher(alloc, 20, *first.hasher())?;
-    /// Ok(second)
+    /// let state = RandomState::new(&rt)?;
+    /// let first: HashBag<u64, RandomState> = HashBag::with_hasher(alloc, state);
+    /// let second: HashBag<u64, RandomState> = HashBag::with_hasher(alloc, *first.hasher());
+    /// first.hasher().hash_one(7) == second.hasher().hash_one(7); // true
+    /// Ok(())
     /// ```
     pub fn hasher(&self) -> &S
         ensures { result.now ≡ self.now.hasher }

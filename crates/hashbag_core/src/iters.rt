@@ -380,7 +380,8 @@ impl<T: Eq + Hash + Drop, S: BuildHasher + Drop> HashBag<T, S> {
     /// for (_, count) in bag.set_iter() {
     ///     most = count.max(most);
     /// }
-    /// Ok(most) // Ok(2)
+    /// most; // 2
+    /// Ok(())
     /// ```
     pub fn set_iter(&self) -> SetIter<'_, T>
         ensures { IsSetWalkOf T.eq self.now result }
@@ -439,7 +440,8 @@ impl<'a, T: Eq + Hash + Drop, S: BuildHasher + Drop> IntoIterator for &'a HashBa
     /// for word in &bag {
     ///     longest = word.len().max(longest);
     /// }
-    /// Ok(longest) // Ok(5)
+    /// longest; // 5
+    /// Ok(())
     /// ```
     fn into_iter(self) -> Iter<'a, T> {
         self.iter()

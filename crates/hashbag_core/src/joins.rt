@@ -195,7 +195,7 @@ impl<'a, T: Eq + Hash + Drop, S: BuildHasher + Drop, S2: BuildHasher + Drop> Mod
 /// # Examples
 ///
 /// ```
-/// joins::limited_difference(2, 5) // -3
+/// joins::limited_difference(2, 5); // -3
 /// ```
 pub fn limited_difference(first: usize, second: usize) -> isize
     ensures { result ≡ saturated (pos first -ℤ pos second) }

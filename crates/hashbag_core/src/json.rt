@@ -37,7 +37,7 @@ impl ItemError {
     /// # Examples
     ///
     /// ```
-    /// ItemError::NotAnItem.number() // 11
+    /// ItemError::NotAnItem.number(); // 11
     /// ```
     pub fn number(&self) -> u8
         ensures number_of_not_an_item { self.now ≡ ItemError.NotAnItem → result ≡ 11 }
@@ -93,7 +93,7 @@ impl JsonError {
     /// # Examples
     ///
     /// ```
-    /// JsonError::BadCount(0).number() // 5
+    /// JsonError::BadCount(0).number(); // 5
     /// ```
     pub fn number(&self) -> u8
         ensures number_of_not_an_array { self.now ≡ JsonError.NotAnArray → result ≡ 3 }

@@ -66,8 +66,8 @@ pub fn counts<'a, T: Eq + Hash + Drop, S: BuildHasher + Drop>(
 /// words.insert_many("the", 3)?;
 /// words.insert("cat")?;
 /// let pairs = hashbag_ops::sorted(alloc, &words)?;
-/// pairs.first(); // Some(&(&"cat", 1))
-/// pairs.last(); // Some(&(&"the", 3))
+/// pairs.first(); // Some(("cat", 1))
+/// pairs.last(); // Some(("the", 3))
 /// Ok(())
 /// ```
 pub fn sorted<'a, T: Ord + Hash + Drop, S: BuildHasher + Drop>(
@@ -107,8 +107,8 @@ pub fn sorted<'a, T: Ord + Hash + Drop, S: BuildHasher + Drop>(
 /// words.insert("sat")?;
 /// words.insert("cat")?;
 /// let pairs = hashbag_ops::most_common(alloc, &words, 2)?;
-/// pairs.first(); // Some(&(&"the", 3))
-/// pairs.last(); // Some(&(&"cat", 1))
+/// pairs.first(); // Some(("the", 3))
+/// pairs.last(); // Some(("cat", 1))
 /// Ok(())
 /// ```
 pub fn most_common<'a, T: Ord + Hash + Drop, S: BuildHasher + Drop>(

@@ -142,7 +142,8 @@ impl<T: Eq + Hash + Drop, S: BuildHasher + Drop> HashBag<T, S> {
     /// let mut bag = HashBag::new(alloc);
     /// bag.reserve(20)?;
     /// bag.room(); // 24
-    /// bag.insert("apple")?; // takes no memory
+    /// // There is room, so this doesn't allocate.
+    /// bag.insert("apple")?;
     /// Ok(())
     /// ```
     pub fn reserve(&mut self, n: usize) -> Result<(), BagError>

@@ -28,7 +28,8 @@ impl<T: Eq + Hash + Drop, S: BuildHasher + Drop> PartialEq for HashBag<T, S> {
     /// let mut second = HashBag::with_capacity(alloc, 20)?;
     /// second.insert("pear")?;
     /// second.insert("apple")?;
-    /// Ok(first == second) // Ok(true)
+    /// first == second; // true
+    /// Ok(())
     /// ```
     fn eq(&self, other: &HashBag<T, S>) -> bool {
         if self.len != other.len {

@@ -19,7 +19,7 @@ impl<T: Eq + Hash + Drop, S: BuildHasher + Drop> HashBag<T, S> {
     ///
     /// ```
     /// let bag: HashBag<u64> = HashBag::default_in(alloc);
-    /// bag.len() // 0
+    /// bag.len(); // 0
     /// ```
     pub fn default_in(alloc: Global) -> HashBag<T, S>
     where

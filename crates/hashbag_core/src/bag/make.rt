@@ -48,7 +48,8 @@ impl<T: Eq + Hash + Drop> HashBag<T, FixedState> {
     /// ```
     /// let mut bag = HashBag::with_capacity(alloc, 20)?;
     /// bag.room(); // 24
-    /// bag.insert("apple")?; // takes no memory
+    /// // There is room, so this doesn't allocate.
+    /// bag.insert("apple")?;
     /// Ok(())
     /// ```
     pub fn with_capacity(alloc: Global, n: usize) -> Result<HashBag<T, FixedState>, BagError>
@@ -76,6 +77,7 @@ impl<T: Eq + Hash + Drop, S: BuildHasher + Drop> HashBag<T, S> {
     /// # Examples
     ///
     /// ```
+    /// let state = RandomState::new(&rt)?;
     /// let mut bag = HashBag::with_hasher(alloc, state);
     /// bag.insert("apple")?;
     /// bag.contains(&"apple"); // 1
@@ -126,8 +128,10 @@ impl<T: Eq + Hash + Drop, S: BuildHasher + Drop> HashBag<T, S> {
     /// # Examples
     ///
     /// ```
+    /// let state = RandomState::new(&rt)?;
     /// let mut bag = HashBag::with_capacity_and_hasher(alloc, 3, state)?;
-    /// bag.insert("apple")?; // takes no memory
+    /// // There is room, so this doesn't allocate.
+    /// bag.insert("apple")?;
     /// bag.slots(); // 16
     /// Ok(())
     /// ```
