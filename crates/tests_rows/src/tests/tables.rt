@@ -1,11 +1,12 @@
 //! The two tables of slots behind a bag: how many slots there are, how many wait to be carried, and how much room is left, after
 //! each call. Where nothing is said of the hash, these numbers don't depend on it.
-use hashbag::HashBag;
+use hashbag::{BagError, HashBag};
 use std::alloc::Global;
 use std::hash::BuildHasher;
 use std::test::Fail;
-use tests_kit::OneState;
 use tests_kit::calls::{clone_of, make_calls, make_rows, make_rows_under_each};
+use tests_kit::texts::{count, debug_of, halves, is_text};
+use tests_kit::{OneState, rows_of};
 
 // `tables` returns the slots of the newer table, the slots that wait, and the room.
 const ROWS: &str = "\
@@ -377,6 +378,48 @@ fn is_cloned<S: BuildHasher + Default + Copy>(alloc: Global, state: S) -> Result
         return Ok(());
     }
     Err(Fail::new("a clone differs"))
+}
+
+// Numbers of values that room is made for at the start, with the slots and the capacity of the bag.
+const BEGINNINGS: &str = "
+    0 = (0, 0)
+    10 = (16, 12)
+    12 = (16, 12)
+    13 = (32, 24)
+    100 = (256, 192)";
+
+// A bag with the state that is there by default.
+fn with_capacity(alloc: Global, n: usize) -> Result<HashBag<u64>, BagError> {
+    HashBag::with_capacity(alloc, n)
+}
+
+fn with_one_state(alloc: Global, n: usize) -> Result<HashBag<u64, OneState>, BagError> {
+    HashBag::with_capacity_and_hasher(alloc, n, OneState)
+}
+
+// The slots and the capacity of a bag.
+fn is_made<S: BuildHasher + Drop>(
+    alloc: Global,
+    bag: &HashBag<u64, S>,
+    wanted: &str,
+) -> Result<(), Fail> {
+    let got = debug_of(alloc, &(bag.slots(), bag.capacity()))?;
+    is_text(got.as_str(), wanted)
+}
+
+fn begins(alloc: Global, row: &str) -> Result<(), Fail> {
+    let (n, wanted) = halves(row, " = ")?;
+    let n = count(n)?;
+    is_made(alloc, &with_capacity(alloc, n)?, wanted)?;
+    is_made(alloc, &with_one_state(alloc, n)?, wanted)
+}
+
+#[test]
+fn beginnings(rt: HostRuntime) -> Result<(), Fail> {
+    for row in rows_of(rt.alloc(), BEGINNINGS)? {
+        row.tested(begins(rt.alloc(), row.text))?;
+    }
+    Ok(())
 }
 
 #[test]
