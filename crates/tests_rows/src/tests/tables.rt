@@ -9,7 +9,7 @@ use tests_kit::texts::{count, debug_of, halves, is_text};
 use tests_kit::{OneState, rows_of};
 
 // `tables` returns the slots of the newer table, the slots that wait, and the room.
-const ROWS: &str = "\
+const ROWS: &str = "
     [no table]
     tables = (0, 0, 0)
     capacity = 0
@@ -321,7 +321,7 @@ const ROWS: &str = "\
 
 // Which values wait depends on the hash. Where it is 0 for all, the values 17 to 24 wait, and a value that is taken out leaves more
 // room only there.
-const ONE_ROWS: &str = "\
+const ONE_ROWS: &str = "
     [takes out of both tables]
     insert_each [1..=25] = ()
     remove 24 = 1
@@ -358,12 +358,12 @@ const ONE_ROWS: &str = "\
     set_len = 1";
 
 // A bag in the middle of a carry.
-const CARRYING: &str = "\
+const CARRYING: &str = "
     insert_each [1..=25] = ()
     tables = (64, 16, 23)";
 
 // What the calls of a clone return, of a bag in the middle of a carry.
-const CLONE: &str = "\
+const CLONE: &str = "
     tables = (64, 0, 23)
     set_len = 25
     counts [0..=26] = [0, 1, 1, 1, 1, 1, 1, 1, 1, 1, 1, 1, 1, 1, 1, 1, 1, 1, 1, 1, 1, 1, 1, 1, 1, 1, 0]";
