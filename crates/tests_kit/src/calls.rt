@@ -11,7 +11,6 @@ use hashbag::{BagError, FixedState, HashBag};
 use std::alloc::Global;
 use std::fmt::Debug;
 use std::hash::{BuildHasher, Hash};
-use std::mem;
 use std::test::Fail;
 
 // A value with its count.
@@ -105,15 +104,6 @@ fn clear<S: BuildHasher + Drop>(bag: &mut HashBag<u64, S>) {
 
 fn finish_carry<S: BuildHasher + Drop>(bag: &mut HashBag<u64, S>) {
     bag.finish_carry();
-}
-
-// Returns the text of what `Debug` writes of a walk over a bag that is used up. An empty bag is in its place.
-fn into_iter_debug<S: BuildHasher + Default + Drop>(
-    alloc: Global,
-    bag: &mut HashBag<u64, S>,
-) -> Result<String, Fail> {
-    let whole = mem::replace(bag, HashBag::default_in(alloc));
-    debug_of(alloc, &whole.into_iter())
 }
 
 // Drops a drain after one item, and returns whether there was one.
@@ -374,7 +364,6 @@ fn with_walk<S: BuildHasher + Default + Drop>(
         "set_iter.hint" => debug_of(alloc, &bag.set_iter().size_hint()),
         "drain.debug" => debug_of(alloc, &bag.drain()),
         "drain.hint" => debug_of(alloc, &bag.drain().size_hint()),
-        "into_iter.debug" => into_iter_debug(alloc, bag),
         _ => no_call(verb),
     }
 }
@@ -513,7 +502,12 @@ pub fn make_call<S: BuildHasher + Default + Drop>(
     make_calls(alloc, bag, text)
 }
 
-/// Makes the calls of the rows, each name on a new bag. A name is a row too.
+// Puts a new bag in the place of this one.
+fn renew<S: BuildHasher + Drop>(alloc: Global, state: S, bag: &mut HashBag<u64, S>) {
+    *bag = HashBag::with_hasher(alloc, state);
+}
+
+/// Makes the calls of the rows. Those after a line such as `[inserts]` are on a new bag.
 pub fn make_rows<S: BuildHasher + Default + Copy>(
     alloc: Global,
     state: S,
@@ -522,7 +516,7 @@ pub fn make_rows<S: BuildHasher + Default + Copy>(
     let mut bag = HashBag::with_hasher(alloc, state);
     for row in rows_of(alloc, rows)? {
         if row.text.starts_with('[') {
-            bag = HashBag::with_hasher(alloc, state);
+            renew(alloc, state, &mut bag);
         } else {
             row.tested(make_row(alloc, &mut bag, row.text))?;
         }

@@ -20,14 +20,13 @@ pub struct Row {
 /// mean nothing.
 pub fn rows_of(alloc: Global, text: &'static str) -> Result<Vec<Row>, Fail> {
     let mut list = Vec::new(alloc);
-    let text = text.strip_prefix('\n').unwrap_or(text);
     let mut line = 0usize;
     for row in text.lines() {
-        line = line.saturating_add(1);
         let text = row.trim();
         if !text.is_empty() && !text.starts_with('#') {
             list.push(Row { line, text })?;
         }
+        line = line.saturating_add(1);
     }
     if list.is_empty() {
         return Err(Fail::new("no rows"));

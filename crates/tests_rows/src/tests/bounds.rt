@@ -10,7 +10,7 @@ use tests_kit::{IdentityState, OneState, ParityState, rows_of};
 // A run and what it leaves. `in 100` inserts 1 to 100; `in_and_out` takes each value out at once; `window` takes out, from the ninth on,
 // the value of eight before; `limited` sets the limit to each number before its insertion. `clear` and `shrink` are the last steps.
 // `built` is the sum of the slots of all tables made.
-const ALL_ROWS: &str = "\
+const ALL_ROWS: &str = "
     in_and_out 1000 = slots 16
     in 100 = slots 256, waiting 64, room 92, built 496
     limited 100 = slots 256, waiting 64, room 92, built 496
@@ -18,12 +18,12 @@ const ALL_ROWS: &str = "\
     in 100 clear shrink = slots 0, room 0";
 
 // Under a state by which all values collide, Removed slots are used again, and one table is made.
-const ONE_ROWS: &str = "\
+const ONE_ROWS: &str = "
     in_and_out 1000 = slots 16, built 16
     window 1000 = slots 16, set_len 8, built 16";
 
 // Under one by which none do they aren't, and a table is made for each twelve values that come and go.
-const IDENTITY_ROWS: &str = "\
+const IDENTITY_ROWS: &str = "
     in_and_out 1000 = slots 16, built 1344
     window 1000 = slots 32, set_len 8, built 1936";
 

@@ -3,7 +3,7 @@ use std::test::Fail;
 use tests_kit::calls::make_rows_under_each;
 
 // Room changes nothing of what a bag has. It is made for 3 * 2^57 values, which is 432345564227567616, and for no more.
-const ROWS: &str = "\
+const ROWS: &str = "
     [inserts]
     is_empty = true
     insert_many 2 1 = 0

@@ -4,7 +4,7 @@ use tests_kit::calls::make_rows_under_each;
 
 // `counts` returns how often each of the values occurs. `retain_itself` keeps of each value as many as it is, and returns how
 // often the closure was called.
-const ROWS: &str = "\
+const ROWS: &str = "
     [adds none]
     insert 100 = 0
     retain_none = ()
@@ -66,7 +66,7 @@ const ROWS: &str = "\
     from_counts 1:18446744073709551615 2:0 2:1 = TooMany";
 
 // `insert_each` makes a bag of values inserted one by one. `equals` compares it with another such bag, in both directions.
-const EQUAL_ROWS: &str = "\
+const EQUAL_ROWS: &str = "
     [values in any order]
     insert_each [] = ()
     equals [] = (true, true)

@@ -3,7 +3,7 @@ use std::test::Fail;
 use tests_kit::calls::make_rows_under_each;
 
 // `entry` drops an entry at once. `set` and `raise` are `and_modify`, which calls nothing if the entry is vacant.
-const ROWS: &str = "\
+const ROWS: &str = "
     [lens after entries]
     entry 42 = ()
     len = 0

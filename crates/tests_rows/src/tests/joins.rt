@@ -172,3 +172,31 @@ fn joins(rt: HostRuntime) -> Result<(), Fail> {
     are_joined::<FixedState, ParityState>(rt.alloc())?;
     are_joined::<ParityState, FixedState>(rt.alloc())
 }
+
+// The size hints of a difference before each of its items and after them, and whether there is none twice then.
+fn hints_of<S: BuildHasher + Drop, S2: BuildHasher + Drop>(
+    alloc: Global,
+    a: &HashBag<u64, S>,
+    b: &HashBag<u64, S2>,
+) -> Result<String, Fail> {
+    let mut join = a.difference(b);
+    let mut hints = Vec::new(alloc);
+    for _ in 0..a.set_len() {
+        hints.push(join.size_hint())?;
+        let _ = join.next();
+    }
+    hints.push(join.size_hint())?;
+    let ends = (join.next().is_none(), join.next().is_none());
+    debug_of(alloc, &(hints, ends))
+}
+
+#[test]
+fn hints_of_a_difference(rt: HostRuntime) -> Result<(), Fail> {
+    let alloc = rt.alloc();
+    let a = bag_of(alloc, OneState, &[3, 2, 1])?;
+    let b = bag_of(alloc, IdentityState, &[])?;
+    is_text(
+        hints_of(alloc, &a, &b)?.as_str(),
+        "([(0, Some(3)), (0, Some(2)), (0, Some(1)), (0, Some(0))], (true, true))",
+    )
+}

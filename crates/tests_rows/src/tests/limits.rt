@@ -3,7 +3,7 @@ use std::test::Fail;
 use tests_kit::calls::make_rows_under_each;
 
 // `set` is `and_modify` that sets the count.
-const ROWS: &str = "\
+const ROWS: &str = "
     [a limit of five]
     with_limit 5 = ()
     insert_many 1 3 = 0
@@ -51,7 +51,7 @@ const ROWS: &str = "\
     len = 1";
 
 // What leaves the limit of a bag, and what ends it.
-const KEPT: &str = "\
+const KEPT: &str = "
     [calls leave the limit]
     with_limit 9 = ()
     insert_many 1 3 = 0

@@ -10,7 +10,7 @@ use tests_kit::{IdentityState, OneState, ParityState, Row, rows_of};
 
 // The rows of a run, with its replies. Where a run retains, of a value stay as many as the first pair that has it says, and
 // none if no pair has it.
-const RUN_ROWS: &str = "\
+const RUN_ROWS: &str = "
     insert_many 0:5 = Count(0)
     insert_many 1:4 = Count(0)
     insert_many 2:3 = Count(0)
@@ -32,7 +32,7 @@ const RUN_ROWS: &str = "\
     count 1 = Count(0)";
 
 // The rows of a run at the end of a `usize`, which leaves one occurrence.
-const FULL_ROWS: &str = "\
+const FULL_ROWS: &str = "
     insert_many 1:18446744073709551615 = Count(0)
     or 2:0 = Count(0)
     or 2:1 = TooMany

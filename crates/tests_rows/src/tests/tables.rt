@@ -1,14 +1,15 @@
 //! The two tables of slots behind a bag: how many slots there are, how many wait to be carried, and how much room is left, after
 //! each call. Where nothing is said of the hash, these numbers don't depend on it.
-use hashbag::HashBag;
+use hashbag::{BagError, HashBag};
 use std::alloc::Global;
 use std::hash::BuildHasher;
 use std::test::Fail;
-use tests_kit::OneState;
 use tests_kit::calls::{clone_of, make_calls, make_rows, make_rows_under_each};
+use tests_kit::texts::{count, debug_of, halves, is_text};
+use tests_kit::{OneState, rows_of};
 
 // `tables` returns the slots of the newer table, the slots that wait, and the room.
-const ROWS: &str = "\
+const ROWS: &str = "
     [no table]
     tables = (0, 0, 0)
     capacity = 0
@@ -320,7 +321,7 @@ const ROWS: &str = "\
 
 // Which values wait depends on the hash. Where it is 0 for all, the values 17 to 24 wait, and a value that is taken out leaves more
 // room only there.
-const ONE_ROWS: &str = "\
+const ONE_ROWS: &str = "
     [takes out of both tables]
     insert_each [1..=25] = ()
     remove 24 = 1
@@ -357,12 +358,12 @@ const ONE_ROWS: &str = "\
     set_len = 1";
 
 // A bag in the middle of a carry.
-const CARRYING: &str = "\
+const CARRYING: &str = "
     insert_each [1..=25] = ()
     tables = (64, 16, 23)";
 
 // What the calls of a clone return, of a bag in the middle of a carry.
-const CLONE: &str = "\
+const CLONE: &str = "
     tables = (64, 0, 23)
     set_len = 25
     counts [0..=26] = [0, 1, 1, 1, 1, 1, 1, 1, 1, 1, 1, 1, 1, 1, 1, 1, 1, 1, 1, 1, 1, 1, 1, 1, 1, 1, 0]";
@@ -377,6 +378,48 @@ fn is_cloned<S: BuildHasher + Default + Copy>(alloc: Global, state: S) -> Result
         return Ok(());
     }
     Err(Fail::new("a clone differs"))
+}
+
+// Numbers of values that room is made for at the start, with the slots and the capacity of the bag.
+const BEGINNINGS: &str = "
+    0 = (0, 0)
+    10 = (16, 12)
+    12 = (16, 12)
+    13 = (32, 24)
+    100 = (256, 192)";
+
+// A bag with the state that is there by default.
+fn with_capacity(alloc: Global, n: usize) -> Result<HashBag<u64>, BagError> {
+    HashBag::with_capacity(alloc, n)
+}
+
+fn with_one_state(alloc: Global, n: usize) -> Result<HashBag<u64, OneState>, BagError> {
+    HashBag::with_capacity_and_hasher(alloc, n, OneState)
+}
+
+// The slots and the capacity of a bag.
+fn is_made<S: BuildHasher + Drop>(
+    alloc: Global,
+    bag: &HashBag<u64, S>,
+    wanted: &str,
+) -> Result<(), Fail> {
+    let got = debug_of(alloc, &(bag.slots(), bag.capacity()))?;
+    is_text(got.as_str(), wanted)
+}
+
+fn begins(alloc: Global, row: &str) -> Result<(), Fail> {
+    let (n, wanted) = halves(row, " = ")?;
+    let n = count(n)?;
+    is_made(alloc, &with_capacity(alloc, n)?, wanted)?;
+    is_made(alloc, &with_one_state(alloc, n)?, wanted)
+}
+
+#[test]
+fn beginnings(rt: HostRuntime) -> Result<(), Fail> {
+    for row in rows_of(rt.alloc(), BEGINNINGS)? {
+        row.tested(begins(rt.alloc(), row.text))?;
+    }
+    Ok(())
 }
 
 #[test]

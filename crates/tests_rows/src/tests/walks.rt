@@ -3,7 +3,7 @@ use std::test::Fail;
 use tests_kit::calls::make_rows_under_each;
 
 // `hint` is the `size_hint` of a new walk. `drain_one` takes one value out of the bag by a drain, which is then dropped.
-const ROWS: &str = "\
+const ROWS: &str = "
     [of two values]
     from_iter [1, 1, 3] = ()
     iter.count = 3
@@ -24,15 +24,12 @@ const ROWS: &str = "\
     iter.debug = {5, 5, 5}
     set_iter.debug = {(5, 3)}
     drain.debug = [(5, 3)]
-    insert_many 5 3 = 0
-    into_iter.debug = [(5, 3)]
 
     [of no value]
     debug = {}
     iter.debug = {}
     set_iter.debug = {}
-    drain.debug = []
-    into_iter.debug = []";
+    drain.debug = []";
 
 #[test]
 fn walks(rt: HostRuntime) -> Result<(), Fail> {

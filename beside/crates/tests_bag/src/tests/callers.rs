@@ -14,7 +14,7 @@ use tests_kit::texts::{count, counts, debug_of, halves, is_text, is_text_of, num
 use tests_kit::{IdentityState, OneState, ParityState, calls, rows_of};
 
 // One bag throughout. What is no caller's name is a call on the bag.
-const ROWS: &str = "\
+const ROWS: &str = "
     deliver 7 5 = Ok(())
     sell 7 6 = false
     sell 8 1 = false

@@ -14,7 +14,7 @@ use tests_kit::{OneState, rows_of};
 
 // Pairs of a value and a number, and what extending with them gives. Each pair takes one clone, and none if its number is 0
 // or the total would pass its end.
-const ROWS: &str = "\
+const ROWS: &str = "
     1:2 2:0 3:5 = Ok(()) after 2 clones
     1:0 2:0 = Ok(()) after 0 clones
     1:1 1:1 1:1 = Ok(()) after 3 clones

@@ -11,7 +11,7 @@ use tests_kit::{IdentityState, OneState, ParityState, Tagged, rows_of};
 
 // The first instance of a value stays until all of it is taken out or replaced, in a clone too. An entry gives the stored
 // instance, and keeps the given value.
-const ROWS: &str = "\
+const ROWS: &str = "
     [until replaced]
     insert 1:10 = 0
     insert 1:20 = 1

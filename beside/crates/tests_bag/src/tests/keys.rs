@@ -7,7 +7,7 @@ use tests_kit::rows_of;
 use tests_kit::texts::{debug_of, halves, is_text};
 
 // One bag throughout. Some of the texts are present already.
-const ROWS: &str = "\
+const ROWS: &str = "
     contains the = 0
     get the = None
     remove the = 0

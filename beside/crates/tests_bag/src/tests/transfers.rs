@@ -24,7 +24,7 @@ const TRANSFERS: &str = "
     1:5 | | 5 | 1 5 | Ok(()) [0, 0] [5, 0]";
 
 // One hall, which holds four guests.
-const HALL: &str = "\
+const HALL: &str = "
     enter 7 3 = Ok(())
     enter 8 2 = Err(TooMany)
     enter 8 1 = Ok(())

@@ -197,14 +197,11 @@ fn rows_under<S: BuildHasher + Default + Drop, S2: BuildHasher + Default + Clone
 
 #[test]
 fn under_one_state(rt: HostRuntime) -> Result<(), Fail> {
-    rows_under::<FixedState, FixedState>(rt.alloc())?;
     rows_under::<OneState, OneState>(rt.alloc())
 }
 
 #[test]
 fn under_states_that_differ(rt: HostRuntime) -> Result<(), Fail> {
-    rows_under::<FixedState, OneState>(rt.alloc())?;
-    rows_under::<OneState, IdentityState>(rt.alloc())?;
-    rows_under::<IdentityState, ParityState>(rt.alloc())?;
-    rows_under::<ParityState, FixedState>(rt.alloc())
+    rows_under::<FixedState, ParityState>(rt.alloc())?;
+    rows_under::<IdentityState, OneState>(rt.alloc())
 }

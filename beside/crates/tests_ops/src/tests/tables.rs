@@ -69,7 +69,6 @@ fn tables_after_each_call(rt: HostRuntime) -> Result<(), Fail> {
     for row in rows_of(rt.alloc(), ROWS)? {
         row.tested(has_tables::<FixedState, OneState>(rt.alloc(), row.text))?;
         row.tested(has_tables::<OneState, IdentityState>(rt.alloc(), row.text))?;
-        row.tested(has_tables::<IdentityState, FixedState>(rt.alloc(), row.text))?;
     }
     Ok(())
 }

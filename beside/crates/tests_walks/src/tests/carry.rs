@@ -18,7 +18,7 @@ const ALL: &str =
     "[1, 2, 3, 4, 5, 6, 7, 8, 9, 10, 11, 12, 13, 14, 15, 16, 17, 18, 19, 20, 21, 22, 23, 24, 25]";
 
 // What the calls of a bag return that is as it was before a walk.
-const AS_BEFORE: &str = "\
+const AS_BEFORE: &str = "
     counts [0..=25] = [0, 1, 1, 1, 1, 1, 1, 1, 1, 1, 1, 1, 1, 1, 1, 1, 1, 1, 1, 1, 1, 1, 1, 1, 1, 1]
     len = 25
     set_len = 25
@@ -29,7 +29,7 @@ const AS_BEFORE: &str = "\
     contains 25 = 1";
 
 // What the calls of a bag return that was drained.
-const DRAINED: &str = "\
+const DRAINED: &str = "
     counts [0..=25] = [0, 0, 0, 0, 0, 0, 0, 0, 0, 0, 0, 0, 0, 0, 0, 0, 0, 0, 0, 0, 0, 0, 0, 0, 0, 0]
     is_empty = true
     set_len = 0

@@ -182,7 +182,7 @@ fn borrowed_walks_dropped<S: BuildHasher + Drop>(
     Ok(())
 }
 
-const DRAINED_ROWS: &str = "\
+const DRAINED_ROWS: &str = "
     contains 5 = 0
     insert 5 = 0
     contains 5 = 1";
