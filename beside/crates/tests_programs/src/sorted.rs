@@ -15,11 +15,12 @@ use hashbag_words_core::sources::Source;
 use hashbag_words_core::writing::{Format, RowWriter};
 use std::alloc::{AllocError, Global};
 use std::hash::RandomState;
+use std::io::{self, ErrorKind};
 use std::test::Fail;
 
 // Files of counts, split at bars; whether bad lines are skipped; the merged rows, or the place of the source, the number of its line and
 // what is wrong with it.
-const SORTED_MERGES: [(&str, bool, &str); 8] = [
+const SORTED_MERGES: [(&str, bool, &str); 10] = [
     ("", false, ""),
     (
         "b\t1\nc\t2\n|a\t5\nc\t3\n||d\t1\n",
@@ -39,6 +40,8 @@ const SORTED_MERGES: [(&str, bool, &str); 8] = [
         true,
         "b\t2\nc\t2\n",
     ),
+    ("a\t1\nb 2\nc\t3\n", true, "a\t1\nc\t3\n"),
+    ("b 2\na\t1\n\nc\t3\n|\nb\t2\n", true, "a\t1\nb\t2\nc\t3\n"),
     (
         "a\t18446744073709551615\n|a\t0\nb\t1\n",
         false,
@@ -46,10 +49,16 @@ const SORTED_MERGES: [(&str, bool, &str); 8] = [
     ),
 ];
 
-// The same of files of `uniq -c`, which stop at what is no row.
-const SORTED_UNIQ: [(&str, bool, &str); 2] = [
+// The same of files of `uniq -c`.
+const SORTED_UNIQ: [(&str, bool, &str); 4] = [
     ("      1 a\n      2 b\n|      4 b\n", false, "a\t1\nb\t6\n"),
     ("      1 a\n      2\n", false, "0: 2: no count"),
+    (
+        "      0 a\n      1 b\n|      2 a\n      0 c\n",
+        false,
+        "a\t2\nb\t1\n",
+    ),
+    ("      1 a\nb\n      3 c\n", true, "a\t1\nc\t3\n"),
 ];
 
 // What stopped at that line of that source.
@@ -127,6 +136,74 @@ fn sorted_files_merged(rt: HostRuntime) -> Result<(), Fail> {
     }
     for (files, skips, wanted) in &SORTED_UNIQ {
         is_text(&merged(alloc, RowForm::Uniq, files, *skips)?, wanted)?;
+    }
+    Ok(())
+}
+
+// Files of counts, split at bars, and how many bad lines of each are skipped.
+const SKIPPED: [(&str, &[u64]); 4] = [
+    ("a\t1\nb\t2\n|", &[0, 0]),
+    ("a\t1\nb 2\nc\t3\n", &[1]),
+    ("b 2\na\t1\n\nc\t3\n|c\t1\nd", &[2, 1]),
+    ("b\t1\na\t1\nc\t2\nc\t7\n|b\t1\nd 1\ne\t1", &[2, 2]),
+];
+
+// Checks how many bad lines of each file are skipped.
+fn are_skipped(alloc: Global, files: &str, wanted: &[u64]) -> Result<(), Fail> {
+    let Ok(mut sources) = opened(alloc, RowForm::Tsv, files, true)? else {
+        return Err(Fail::new("files aren't opened"));
+    };
+    let mut rows = TopRows::new(alloc, 1, 0);
+    if merge_rows(&mut sources, &mut rows).is_err() {
+        return Err(Fail::new("files aren't merged"));
+    }
+    for (source, wanted) in sources.iter().zip(wanted.iter()) {
+        let found = source.rows().reading().skipped;
+        if found != *wanted {
+            return Err(Fail::new(format_args!("{found}, not {wanted}: {files:?}")));
+        }
+    }
+    Ok(())
+}
+
+#[test]
+fn bad_lines_are_counted_once(rt: HostRuntime) -> Result<(), Fail> {
+    for (files, wanted) in &SKIPPED {
+        are_skipped(rt.alloc(), files, *wanted)?;
+    }
+    Ok(())
+}
+
+// A sink that fails at the first row.
+#[derive(Drop)]
+struct FullSink;
+
+impl Sink for FullSink {
+    ghost use Rattle.std.specs.Prelude.{⊤};
+
+    ghost put_gives = { λ _ _ _. ⊤ };
+
+    fn put(&mut self, _token: String, _count: usize) -> Result<(), Fault> {
+        Err(Fault::Read(io::Error::from(ErrorKind::StorageFull)))
+    }
+}
+
+// Merges files into such a sink. The failure is the sink's, and no source's.
+fn sink_fails(alloc: Global, files: &str) -> Result<(), Fail> {
+    let Ok(mut sources) = opened(alloc, RowForm::Tsv, files, false)? else {
+        return Err(Fail::new("files aren't opened"));
+    };
+    match merge_rows(&mut sources, &mut FullSink) {
+        Err(Stop::Sink(_)) => Ok(()),
+        _ => Err(Fail::new(format_args!("not the sink: {files:?}"))),
+    }
+}
+
+// The first row is put in the middle of a merge, or at its end.
+#[test]
+fn a_sink_that_fails(rt: HostRuntime) -> Result<(), Fail> {
+    for files in ["a\t1\nb\t2\n|c\t1\n", "a\t1\n"] {
+        sink_fails(rt.alloc(), files)?;
     }
     Ok(())
 }

@@ -11,6 +11,7 @@ use hashbag_words_core::parts::counts_of;
 use hashbag_words_core::row_text::RowText;
 use hashbag_words_core::rows::RowForm;
 use hashbag_words_core::rule::{Pieces, Rule};
+use hashbag_words_core::shards::Shard;
 use hashbag_words_core::writing::Format;
 use regex::Regex;
 use std::alloc::Global;
@@ -69,7 +70,7 @@ const MERGES: [(&[u8], bool, &str); 20] = [
 ];
 
 // The same of what `uniq -c` writes.
-const UNIQ_MERGES: [(&[u8], bool, &str); 8] = [
+const UNIQ_MERGES: [(&[u8], bool, &str); 9] = [
     (
         b"      2 a\n1234567 b  c \n",
         false,
@@ -86,6 +87,7 @@ const UNIQ_MERGES: [(&[u8], bool, &str); 8] = [
     (b"\n", false, "1: no count"),
     (b"      1 a\n      1 b", false, "2: no line feed"),
     (b"      1 a\na\t1\n      2 a\n", true, "a\t3\n"),
+    (b"      0 a\n      1 b\n0 b\n", false, "b\t1\n"),
 ];
 
 fn written<S: BuildHasher + Drop>(
@@ -184,6 +186,37 @@ fn merges(rt: &HostRuntime, form: RowForm, rows: &[(&[u8], bool, &str)]) -> Resu
 fn counts_added_up(rt: HostRuntime) -> Result<(), Fail> {
     merges(&rt, RowForm::Tsv, &MERGES)?;
     merges(&rt, RowForm::Uniq, &UNIQ_MERGES)
+}
+
+// Texts that are read as a shard, its index and how many there are.
+const SHARDS: [(&str, u64, u64); 4] = [
+    ("1/1", 0, 1),
+    ("1/3", 0, 3),
+    ("3/3", 2, 3),
+    (
+        "18446744073709551614/18446744073709551615",
+        18446744073709551613,
+        18446744073709551615,
+    ),
+];
+
+// Texts that aren't.
+const NO_SHARDS: [&str; 12] = [
+    "", "1", "1/", "/1", "0/3", "4/3", "1/0", "a/b", "1/2/3", " 1/3", "1/3 ", "1 / 3",
+];
+
+#[test]
+fn shards_of_texts(rt: HostRuntime) {
+    for (text, index, of) in &SHARDS {
+        let shard = Shard {
+            index: *index,
+            of: *of,
+        };
+        assert!(rt; Shard::of_text(*text) == Some(shard), "{text:?}");
+    }
+    for text in &NO_SHARDS {
+        assert!(rt; Shard::of_text(*text).is_none(), "{text:?}");
+    }
 }
 
 // Where each portion of two lines ends, what follows it, and the counts so far. The last line is bad.
