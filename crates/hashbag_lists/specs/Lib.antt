@@ -1,3 +1,6 @@
 pub mod Decimals
+pub mod Faults
 pub mod Marks
 pub mod Quantities
+pub mod Statuses
+pub mod Totals
