@@ -1,5 +1,6 @@
 pub mod Decimals
 pub mod Faults
+pub mod FaultsExamples
 pub mod Marks
 pub mod Quantities
 pub mod Statuses
