@@ -1,3 +1,4 @@
 pub mod DecimalLemmas
+pub mod NumberLemmas
 pub mod QuantityLemmas
 pub mod SortedLemmas

@@ -1,5 +1,5 @@
 -- Bags made of lists with quantities, and lists made of bags.
-use Rattle.std.proofs.Common.{◌≡◌, ℕ, ◌+◌, ◌<◌, ◌≤◌, Bool, true, List, [], ◌∷◌, ◌++◌, length, get_or, take, replicate, cond, sum_by, map, Option, Some, Result, Ok, Err, IfErr, OnErr, Ordering, nat_cmp, is_eq, refl, sym, ◌∙◌, ap, arith}
+use Rattle.std.proofs.Common.{◌≡◌, ℕ, ◌+◌, ◌<◌, ◌≤◌, Bool, true, List, [], ◌∷◌, ◌++◌, length, get_or, take, replicate, cond, sum_by, map, Option, Some, Result, Ok, Err, IfErr, Ordering, nat_cmp, is_eq, refl, sym, ◌∙◌, ap, arith}
 use Rattle.std.specs.Cmp.{IsEquivalence, IsTotalOrder, then_total, on_total, nat_cmp_total}
 use Rattle.std.specs.Ordering.{ordering_then}
 use Rattle.std.specs.List.{Contains}

@@ -19,8 +19,12 @@ pub struct Reading {
 }
 
 impl Reading {
-    /// Returns the reading of commas between fields, and of whole numbers.
-    pub fn plain() -> Reading {
+    /// Returns the reading of commas between fields, and of whole numbers up to `usize::MAX`.
+    pub fn plain() -> Reading
+        ensures delimiter { result.delimiter ≡ Delimiter.Comma }
+        ensures decimals { result.scale.decimals ≡ 0 }
+        ensures most { result.scale.most ≡ usize.MAX }
+    {
         Reading {
             delimiter: Delimiter::Comma,
             scale: Scale::whole(),
@@ -28,7 +32,7 @@ impl Reading {
     }
 }
 
-// A total and the number of the record that was read last.
+// A total and the number of the record that was read last, if the sum is at most the greatest of the scale.
 fn sum_of(
     alloc: Global,
     sheet: &Sheet<'_>,
@@ -36,16 +40,17 @@ fn sum_of(
     number: usize,
     scale: Scale,
 ) -> Result<usize, SheetError>
-    ensures { IfOk result (λ sum. sum ≡ total + number) }
+    ensures sum { IfOk result (λ sum. sum ≡ total + number) }
+    ensures most { IfOk result (λ sum. sum ≤ scale.most) }
 {
     match total.checked_add(number) {
-        Some(sum) => Ok(sum),
-        None => Err(sheet.bad_line(total_too_large(alloc, scale)?)),
+        Some(sum) if sum <= scale.most => Ok(sum),
+        _ => Err(sheet.bad_line(total_too_large(alloc, scale)?)),
     }
 }
 
 /// Reads the articles of a text, each with its number, in the order of the lines. An article is the field of one column, and may occur
-/// more than once. Numbers are in units of the scale, and all together fit a `usize`.
+/// more than once. Numbers are in units of the scale, and all together are at most its greatest number.
 ///
 /// # Errors
 ///
@@ -57,7 +62,7 @@ pub fn read_counts_as(
     number_column: &str,
     reading: Reading,
 ) -> Result<Vec<(String, usize)>, SheetError>
-    ensures fits { IfOk result (λ counts. numbers counts.items ≤ usize.MAX) }
+    ensures fits { IfOk result (λ counts. numbers counts.items ≤ reading.scale.most) }
 {
     let mut sheet = Sheet::open_with(alloc, text, reading.delimiter)?;
     let articles = sheet.column(article)?;

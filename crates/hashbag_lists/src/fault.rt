@@ -1,4 +1,6 @@
 //! What is wrong with a CSV text.
+ghost use Rattle.std.specs.Prelude.{◌≡◌};
+
 use std::alloc::AllocError;
 use thiserror::Error;
 
@@ -48,10 +50,7 @@ pub enum Fault {
         /// The field.
         field: String,
     },
-    /// A number is past `usize::MAX`.
-    #[error("number past {most}: `{0}`", most = usize::MAX)]
-    TooLarge(String),
-    /// A number with decimals is past `usize::MAX` of its units.
+    /// A number is past the greatest that is read.
     #[error("number past {most}: `{field}`")]
     PastMost {
         /// The greatest number, with its decimals.
@@ -62,10 +61,7 @@ pub enum Fault {
     /// A field names no kind of movement.
     #[error("neither `in` nor `out`: `{0}`")]
     NoKind(String),
-    /// With this line the total is past `usize::MAX`.
-    #[error("total past {most}", most = usize::MAX)]
-    TotalTooLarge,
-    /// With this line the total is past `usize::MAX` units of numbers with decimals.
+    /// With this line the total is past the greatest number that is read, which is shown with its decimals.
     #[error("total past {0}")]
     TotalPastMost(String),
 }
@@ -87,12 +83,16 @@ pub enum SheetError {
 }
 
 impl SheetError {
+    ghost use Rattle.hashbag_lists.specs.Totals.{is_total};
+
     /// Returns whether a total is too large.
-    pub fn is_total(&self) -> bool {
+    pub fn is_total(&self) -> bool
+        ensures { result ≡ is_total self.now }
+    {
         matches!(
             self,
             SheetError::Line {
-                fault: Fault::TotalTooLarge | Fault::TotalPastMost(_),
+                fault: Fault::TotalPastMost(_),
                 ..
             }
         )
@@ -100,6 +100,10 @@ impl SheetError {
 }
 
 impl From<AllocError> for SheetError {
+    ghost use Rattle.hashbag_lists.specs.declared.fault.SheetError.{SheetError};
+
+    ghost from_gives = { λ _ error. error ≡ SheetError.Memory };
+
     fn from(_e: AllocError) -> SheetError {
         SheetError::Memory
     }

@@ -1,7 +1,6 @@
 //! CSV texts that are written.
 use crate::delimiter::Delimiter;
 use csv::{Writer, WriterBuilder};
-use itoa::Buffer;
 use std::alloc::{AllocError, Global};
 
 /// A CSV text that grows by a record after the other.
@@ -20,16 +19,6 @@ impl Records {
         }
     }
 
-    /// Returns a text of one record, the header, with commas between fields.
-    pub fn new(alloc: Global, header: &[&str]) -> Result<Records, AllocError> {
-        let mut records = Records::empty(alloc, Delimiter::Comma);
-        for name in header {
-            records.field(*name)?;
-        }
-        records.end()?;
-        Ok(records)
-    }
-
     /// Appends a field to the record that is being written.
     pub fn field(&mut self, text: &str) -> Result<(), AllocError> {
         self.writer
@@ -40,16 +29,6 @@ impl Records {
     /// Ends the record that is being written.
     pub fn end(&mut self) -> Result<(), AllocError> {
         self.writer.end_record().map_err(|_| AllocError)
-    }
-
-    /// Appends a record of an article and numbers.
-    pub fn push(&mut self, article: &str, numbers: &[usize]) -> Result<(), AllocError> {
-        self.field(article)?;
-        for number in numbers {
-            let mut digits = Buffer::new();
-            self.field(digits.format(*number))?;
-        }
-        self.end()
     }
 
     /// Returns the whole text.

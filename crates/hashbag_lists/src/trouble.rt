@@ -1,5 +1,6 @@
 //! Why a program over lists failed, its message and its status.
-ghost use Rattle.std.specs.Prelude.{◌<◌};
+ghost use Rattle.std.specs.Prelude.{◌≡◌, ◌↔◌, IsTrue};
+ghost use Rattle.hashbag_lists.specs.Statuses.{IsSaid, status_of};
 
 use crate::fault::SheetError;
 use hashbag_shell::status::TOTAL_TOO_LARGE;
@@ -59,16 +60,19 @@ pub enum Trouble<'a> {
 
 impl Trouble<'_> {
     /// Returns whether a message is written: not if nobody reads the output any more.
-    pub fn is_said(&self) -> bool {
+    pub fn is_said(&self) -> bool
+        ensures { IsTrue result ↔ IsSaid self.now }
+    {
         match self {
             Trouble::Write(error) => error.kind() != ErrorKind::BrokenPipe,
             _ => true,
         }
     }
 
-    /// Returns the exit status of a program that ends for this reason.
+    /// Returns the exit status of a program that ends for this reason: 2 for an argument or a bad line, 3 for a failed allocation, 5 for
+    /// a total that is too large, and 4 for what the system couldn't do.
     pub fn status(&self) -> u8
-        ensures { (1 < result) × (result < 6) }
+        ensures { result ≡ status_of self.now }
     {
         match self {
             Trouble::BadLine { error, .. } if error.is_total() => TOTAL_TOO_LARGE,
@@ -84,7 +88,7 @@ impl Trouble<'_> {
 
     /// Writes it to standard error in a line that begins with the program's name, if it is said, and returns the exit status.
     pub fn report<R: Eprint>(&self, rt: &R, program: &str) -> u8
-        ensures { (1 < result) × (result < 6) }
+        ensures { result ≡ status_of self.now }
     {
         if self.is_said() {
             let _ = eprintln!(rt; "{program}: {self}");

@@ -60,7 +60,7 @@ fn number_of(
     scaled_number(alloc, sheet.line(), digits, digits, scale)
 }
 
-// Adds an article and its number. The record that was read last has them.
+// Adds an article and its number, which the record that was read last has, if the total is at most the greatest of the scale.
 fn add_line<S: BuildHasher + Drop>(
     alloc: Global,
     sheet: &Sheet<'_>,
@@ -71,6 +71,9 @@ fn add_line<S: BuildHasher + Drop>(
 ) -> Result<(), SheetError>
     ensures { OnOk result (HasLineMore article number tally.old.counts tally.old.zeros tally.new.counts tally.new.zeros) }
 {
+    if number > scale.most.saturating_sub(tally.counts.len()) {
+        return Err(sheet.bad_line(total_too_large(alloc, scale)?));
+    }
     match tally.add(article, number) {
         Ok(()) => Ok(()),
         Err(BagError::TooMany) => Err(sheet.bad_line(total_too_large(alloc, scale)?)),
@@ -100,7 +103,7 @@ fn add_lines<S: BuildHasher + Drop>(
 }
 
 /// Returns the tally of the lines of a text, under this hash state. An article is the fields of the columns that `keys` names, and may
-/// be on more than one line; its numbers add up. Numbers are in units of the scale.
+/// be on more than one line; its numbers add up. Numbers are in units of the scale, and all together are at most its greatest number.
 ///
 /// # Errors
 ///

@@ -1,7 +1,7 @@
 //! What no clause says of lists with quantities: how texts are read, and what is said of bad ones. What is wanted was found by hand,
 //! and that Python's `csv` reads the good texts so too.
 use hashbag::FixedState;
-use hashbag_lists::counts::Reading;
+use hashbag_lists::counts::{Reading, read_counts_as};
 use hashbag_lists::decimals::{read_decimal, write_decimal};
 use hashbag_lists::delimiter::Delimiter;
 use hashbag_lists::files::in_file;
@@ -15,7 +15,7 @@ use std::alloc::{AllocError, Global};
 use std::test::Fail;
 
 // A text, and what it says: each article with its number, or its first bad line and what is wrong with that.
-const TEXTS: [(&[u8], &str); 44] = [
+const TEXTS: [(&[u8], &str); 48] = [
     (b"article,number\n", ""),
     (
         b"article,number\nbolt,5\nnut,0\nbolt,007",
@@ -121,6 +121,19 @@ const TEXTS: [(&[u8], &str); 44] = [
     (
         b"article,number\nbolt,\"1.000,25\"\n",
         "2: whole numbers only: `1.000,25`",
+    ),
+    (
+        b"article,number\nbolt,\"1,000,000.5\"\n",
+        "2: whole numbers only: `1,000,000.5`",
+    ),
+    (b"article,number\nbolt,1.5.5\n", "2: no number: `1.5.5`"),
+    (
+        b"article,number\nbolt,1.000.000\n",
+        "2: no number: `1.000.000`",
+    ),
+    (
+        b"article,number\nbolt,\"1,.5\"\n",
+        "2: no number: `1,.5`",
     ),
     (b"article,number\nbolt,1.\n", "2: no number: `1.`"),
     (
@@ -404,6 +417,86 @@ fn other_texts_are_read(rt: HostRuntime) -> Result<(), Fail> {
     Ok(())
 }
 
+// A text, its decimals, the greatest number, and what the text says, the same as a tally and as a list.
+const LIMITED: [(&[u8], u32, usize, &str); 6] = [
+    (b"article,number\na,60\nb,39\n", 0, 99, "[a 60][b 39]"),
+    (
+        b"article,number\na,100\nb,x\n",
+        0,
+        99,
+        "2: number past 99: `100`",
+    ),
+    (b"article,number\na,60\nb,40\n", 0, 99, "3: total past 99"),
+    (
+        b"article,number\na,0.60\nb,0.4\n",
+        2,
+        99,
+        "3: total past 0.99",
+    ),
+    (
+        b"article,number\na,9223372036854775808\n",
+        0,
+        9223372036854775807,
+        "2: number past 9223372036854775807: `9223372036854775808`",
+    ),
+    (
+        b"article,number\na,99999999999999999999\n",
+        0,
+        9223372036854775807,
+        "2: number past 9223372036854775807: `99999999999999999999`",
+    ),
+];
+
+// What a list says that is read so, in the order of its lines.
+fn said_of_list(alloc: Global, text: &[u8], reading: Reading) -> Result<String, AllocError> {
+    let counts = match read_counts_as(alloc, text, "article", "number", reading) {
+        Ok(counts) => counts,
+        Err(error) => return format!(in alloc; "{error}"),
+    };
+    let mut said = String::new(alloc);
+    for (article, number) in &counts {
+        write!(said, "[{article} {number}]")?;
+    }
+    Ok(said)
+}
+
+#[test]
+fn numbers_past_a_greatest_are_rejected(rt: HostRuntime) -> Result<(), Fail> {
+    for (text, decimals, most, wanted) in &LIMITED {
+        let reading = Reading {
+            delimiter: Delimiter::Comma,
+            scale: scale_of(*decimals, ".").at_most(*most),
+        };
+        let said = said_of(rt.alloc(), text, &["article"], reading)?;
+        assert_eq!(rt; said.as_str(), *wanted);
+        let said = said_of_list(rt.alloc(), text, reading)?;
+        assert_eq!(rt; said.as_str(), *wanted);
+    }
+    Ok(())
+}
+
+// A list, and its entries in the order of its lines: each line has one, also with the number 0.
+const LISTS: [(&[u8], &str); 3] = [
+    (b"article,number\n", ""),
+    (
+        b"article,number\nnut,0\nbolt,5\nnut,2\nnut,0\n",
+        "[nut 0][bolt 5][nut 2][nut 0]",
+    ),
+    (
+        b"article,number\nbolt,18446744073709551615\nnut,1\n",
+        "3: total past 18446744073709551615",
+    ),
+];
+
+#[test]
+fn lists_are_read(rt: HostRuntime) -> Result<(), Fail> {
+    for (text, wanted) in &LISTS {
+        let said = said_of_list(rt.alloc(), text, Reading::plain())?;
+        assert_eq!(rt; said.as_str(), *wanted);
+    }
+    Ok(())
+}
+
 // A text, its decimals, and the status of a program that reads it, 0 if nothing is wrong.
 const STATUSES: [(&[u8], u32, u8); 6] = [
     (b"article,number\na,18446744073709551615\n", 0, 0),
@@ -472,6 +565,9 @@ fn names_are_told_apart(rt: HostRuntime) -> Result<(), Fail> {
     assert_eq!(rt; names.len(), 4);
     assert_eq!(rt; repeated(&names), Some("lot"));
     assert_eq!(rt; repeated(&["a", "b"]), None);
-    assert!(rt; is_reserved("missing") && !is_reserved("Missing"));
+    for name in &["ordered", "delivered", "missing", "surplus"] {
+        assert!(rt; is_reserved(name));
+    }
+    assert!(rt; !is_reserved("Missing") && !is_reserved("article"));
     Ok(())
 }

@@ -22,7 +22,7 @@ type Row = (
     &'static str,
 );
 
-const ROWS: [Row; 14] = [
+const ROWS: [Row; 15] = [
     (
         &[],
         &[],
@@ -97,6 +97,18 @@ b\\u{1b}\\n        7   10000000        0  9999993
 x               2          0        2        0
 \u{30cd}\u{30b8}\u{30cd}\u{30b8}        7          0        7        0
 3 articles differ: 9 missing, 1 surplus
+",
+    ),
+    (
+        &[("x", 2)],
+        &[("wider than x, and hidden", 12345678901)],
+        &["article"],
+        0,
+        "missing",
+        "table",
+        "ARTICLE  ORDERED  DELIVERED  MISSING  SURPLUS
+x              2          0        2        0
+2 articles differ: 2 missing, 12345678901 surplus
 ",
     ),
     (
