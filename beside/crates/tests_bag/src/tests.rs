@@ -1,20 +1,13 @@
-//! What no clause says of calls on one bag: that they succeed, and that their results are those found by hand, under each hash
-//! state. Also how often a call hashes.
-mod bounds;
+//! What no clause says of calls on one bag: that they succeed with ample memory, how often they hash, and what they drop and clone. `tests_rows`
+//! has rows of calls with the results found by hand.
 mod callers;
-mod calls;
 mod clones;
-mod collections;
 mod drops;
-mod entries;
+mod errors;
 mod hash_counts;
 mod instances;
 mod keys;
-mod limits;
-mod own_bytes;
 mod owning_states;
 mod refused_clones;
-mod room;
 mod sizes;
-mod tables;
 mod transfers;

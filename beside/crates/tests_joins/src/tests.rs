@@ -5,4 +5,3 @@ mod instances;
 mod joins;
 mod json;
 mod letters;
-mod limits;

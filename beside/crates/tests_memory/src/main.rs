@@ -32,8 +32,8 @@ use std::io::Read;
 use std::process::ExitCode;
 use std::str;
 
-// More requests than the script lets fail of the calls.
-const SPARE: usize = 330;
+// More requests than the script ever lets fail of the calls.
+const SPARE: usize = 2600;
 
 // What to do.
 #[derive(Clone, Copy)]

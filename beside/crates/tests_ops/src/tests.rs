@@ -4,7 +4,6 @@
 mod bags;
 mod calls;
 mod hash_counts;
-mod heaps;
 mod instances;
 mod laws;
 mod orders;

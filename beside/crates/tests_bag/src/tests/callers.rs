@@ -11,12 +11,10 @@ use std::alloc::Global;
 use std::hash::BuildHasher;
 use std::test::Fail;
 use tests_kit::texts::{count, counts, debug_of, halves, is_text, is_text_of, number, values};
-use tests_kit::{IdentityState, OneState, ParityState, Rows, calls, rows_of};
+use tests_kit::{IdentityState, OneState, ParityState, calls, rows_of};
 
 // One bag throughout. What is no caller's name is a call on the bag.
-const ROWS: Rows = Rows {
-    count: 46,
-    text: "\
+const ROWS: &str = "
     deliver 7 5 = Ok(())
     sell 7 6 = false
     sell 8 1 = false
@@ -62,38 +60,28 @@ const ROWS: Rows = Rows {
     deliver 6 18446744073709551610 = Ok(())
     insert_and_count 3 = Err(TooMany)
     add_words [1] = Err(TooMany)
-    counts [1, 3, 6] = [0, 3, 18446744073709551610]",
-};
+    counts [1, 3, 6] = [0, 3, 18446744073709551610]";
 
 // What was ordered, what was delivered, and whether that is complete, with the greatest surplus by a loop and by a fold.
-const DELIVERIES: Rows = Rows {
-    count: 6,
-    text: "
+const DELIVERIES: &str = "
     | | (true, 0, 0)
     1:2 2:4 | | (false, 0, 0)
     | 1:2 2:4 | (true, 4, 4)
     1:2 2:4 | 1:2 2:4 | (true, 0, 0)
     1:2 2:4 | 2:9 1:2 3:4 | (true, 5, 5)
-    1:2 2:4 | 1:1 2:9 3:8 | (false, 8, 8)",
-};
+    1:2 2:4 | 1:1 2:9 3:8 | (false, 8, 8)";
 
 // Words, how often the first of them occurs, and how many there are.
-const WORDS: Rows = Rows {
-    count: 3,
-    text: "
+const WORDS: &str = "
     [3, 5, 3, 8, 3] = (3, 5)
     [0] = (1, 1)
-    [18446744073709551615, 0, 18446744073709551615] = (2, 3)",
-};
+    [18446744073709551615, 0, 18446744073709551615] = (2, 3)";
 
 // Insertions, whose pairs are made in this order and in that of their values: the two bags are equal.
-const INSERTIONS: Rows = Rows {
-    count: 3,
-    text: "
+const INSERTIONS: &str = "
     9:1 2:3 9:0 1:4 2:1
     1:18446744073709551614 0:1
-    1:0",
-};
+    1:0";
 
 // Each kind of call has a function with no contract, as in `calls` of `tests_kit`.
 

@@ -10,18 +10,15 @@ use std::cell::Cell;
 use std::hash::{BuildHasher, Hash, Hasher};
 use std::test::Fail;
 use tests_kit::texts::{counts, halves, is_text};
-use tests_kit::{OneState, Rows, rows_of};
+use tests_kit::{OneState, rows_of};
 
 // Pairs of a value and a number, and what extending with them gives. Each pair takes one clone, and none if its number is 0
 // or the total would pass its end.
-const ROWS: Rows = Rows {
-    count: 4,
-    text: "\
+const ROWS: &str = "
     1:2 2:0 3:5 = Ok(()) after 2 clones
     1:0 2:0 = Ok(()) after 0 clones
     1:1 1:1 1:1 = Ok(()) after 3 clones
-    1:18446744073709551615 2:0 2:1 3:1 = Err(TooMany) after 1 clones",
-};
+    1:18446744073709551615 2:0 2:1 3:1 = Err(TooMany) after 1 clones";
 
 // A number whose clones are counted.
 #[derive(Drop)]

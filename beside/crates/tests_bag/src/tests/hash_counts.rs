@@ -4,14 +4,12 @@ use serde_json::Value;
 use std::alloc::Global;
 use std::test::Fail;
 use tests_kit::calls::{answer, bag_of_counts, clone_of};
+use tests_kit::rows_of;
 use tests_kit::states::CountingState;
 use tests_kit::texts::{count, counts, debug_of, halves, is_text, is_text_of, number};
-use tests_kit::{Rows, rows_of};
 
 // The counts of a bag, a call on it, and how often its state hashes in the call. A call is named as in the rows of calls.
-const CALLS: Rows = Rows {
-    count: 85,
-    text: "
+const CALLS: &str = "
     5:2 6:1 | len | 0
     5:2 6:1 | set_len | 0
     5:2 6:1 | is_empty | 0
@@ -96,17 +94,13 @@ const CALLS: Rows = Rows {
     5:2 6:1 7:9 | shrink_to_fit | 0
     5:2 6:1 7:9 | finish_carry | 0
     | default_in | 0
-    | with_capacity 10 | 0",
-};
+    | with_capacity 10 | 0";
 
 // The counts of a bag in the middle of a carry: 17 to 24 wait in the older table, and an absent value carries these eight.
-const CARRYING: &str =
-    "1:1 2:1 3:1 4:1 5:1 6:1 7:1 8:1 9:1 10:1 11:1 12:1 13:1 14:1 15:1 16:1 17:1 18:1 19:1 20:1 21:1 22:1 23:1 24:1 25:1";
+const CARRYING: &str = "1..=25:1";
 
 // A call on such a bag, and how often its state hashes in the call.
-const CALLS_IN_A_CARRY: Rows = Rows {
-    count: 63,
-    text: "
+const CALLS_IN_A_CARRY: &str = "
     tables | 0
     contains 5 | 1
     contains 20 | 1
@@ -169,8 +163,7 @@ const CALLS_IN_A_CARRY: Rows = Rows {
     reserve 1000 | 25
     shrink_to_fit | 0
     finish_carry | 8
-    set_limit 25 | 0",
-};
+    set_limit 25 | 0";
 
 type CountingBag = HashBag<u64, CountingState>;
 
@@ -282,9 +275,7 @@ fn clones_are_hashed_once(rt: HostRuntime) -> Result<(), Fail> {
 
 // How many texts a bag has, a call by a key on it, and how often its state hashes in the call. The texts are the numbers from 1 on, each
 // once. With 25 of them the bag is in the middle of a carry, as above.
-const CALLS_BY_A_KEY: Rows = Rows {
-    count: 26,
-    text: "
+const CALLS_BY_A_KEY: &str = "
     0 | contains_key 7 | 1
     2 | contains_key 1 | 1
     2 | contains_key 7 | 1
@@ -310,8 +301,7 @@ const CALLS_BY_A_KEY: Rows = Rows {
     2 | remove_key 7 | 1
     25 | remove_key 5 | 1
     25 | remove_key 20 | 1
-    25 | remove_key 26 | 1",
-};
+    25 | remove_key 26 | 1";
 
 // A bag of the texts of the numbers from 1 to n, each once.
 fn texts_to(alloc: Global, n: usize) -> Result<HashBag<String, CountingState>, Fail> {

@@ -7,13 +7,11 @@ use std::hash::BuildHasher;
 use std::test::Fail;
 use tests_kit::calls::{insert, replace};
 use tests_kit::texts::{count, debug_of, halves, is_text, number, tagged};
-use tests_kit::{IdentityState, OneState, ParityState, Rows, Tagged, rows_of};
+use tests_kit::{IdentityState, OneState, ParityState, Tagged, rows_of};
 
 // The first instance of a value stays until all of it is taken out or replaced, in a clone too. An entry gives the stored
 // instance, and keeps the given value.
-const ROWS: Rows = Rows {
-    count: 27,
-    text: "\
+const ROWS: &str = "
     [until replaced]
     insert 1:10 = 0
     insert 1:20 = 1
@@ -43,8 +41,7 @@ const ROWS: Rows = Rows {
     equals 1:30 1:10 = (true, true)
     equals 1:10 = (false, false)
     clone = ()
-    stored 1 = Some((10, 2))",
-};
+    stored 1 = Some((10, 2))";
 
 // Each kind of call has a function with no contract, as in `calls` of `tests_kit`.
 

@@ -3,13 +3,11 @@ use hashbag::{BagError, HashBag};
 use hashbag_callers::text_uses::{count_texts, how_often};
 use std::alloc::Global;
 use std::test::Fail;
+use tests_kit::rows_of;
 use tests_kit::texts::{debug_of, halves, is_text};
-use tests_kit::{Rows, rows_of};
 
 // One bag throughout. Some of the texts are present already.
-const ROWS: Rows = Rows {
-    count: 22,
-    text: "\
+const ROWS: &str = "
     contains the = 0
     get the = None
     remove the = 0
@@ -31,8 +29,7 @@ const ROWS: Rows = Rows {
     insert_rest the = Ok(4)
     insert the = Err(TooMany)
     insert_none the = Ok(18446744073709551612)
-    contains cat = 3",
-};
+    contains cat = 3";
 
 fn insert(bag: &mut HashBag<String>, word: &str) -> Result<usize, BagError> {
     bag.insert_key(word)

@@ -13,29 +13,23 @@ use std::process::Abort;
 use std::test::Fail;
 use tests_kit::calls::insert;
 use tests_kit::texts::{count, debug_of, halves, is_text, is_text_of};
-use tests_kit::{OneState, Rows, rows_of};
+use tests_kit::{OneState, rows_of};
 
 // The number of the clone that fails, and what an extend by 26, 27, 28 and 27 returns and leaves: the total, the distinct values,
 // the tables, and how many values are alive but for the four given ones.
-const EXTENDS: Rows = Rows {
-    count: 5,
-    text: "\
+const EXTENDS: &str = "
     1 = Err(Memory), 25 of 25 in (64, 16, 23), 25 alive
     2 = Err(Memory), 26 of 26 in (64, 0, 22), 26 alive
     3 = Err(Memory), 27 of 27 in (64, 0, 21), 27 alive
     4 = Err(Memory), 28 of 28 in (64, 0, 20), 28 alive
-    5 = Ok(()), 29 of 28 in (64, 0, 20), 28 alive",
-};
+    5 = Ok(()), 29 of 28 in (64, 0, 20), 28 alive";
 
 // The same of an extend by as many of each value as its key, but 28 with 0, which is not cloned.
-const EXTENDS_MANY: Rows = Rows {
-    count: 4,
-    text: "\
+const EXTENDS_MANY: &str = "
     1 = Err(Memory), 25 of 25 in (64, 16, 23), 25 alive
     2 = Err(Memory), 51 of 26 in (64, 0, 22), 26 alive
     3 = Err(Memory), 78 of 27 in (64, 0, 21), 27 alive
-    4 = Ok(()), 105 of 27 in (64, 0, 21), 27 alive",
-};
+    4 = Ok(()), 105 of 27 in (64, 0, 21), 27 alive";
 
 // What becomes of values: how many are alive, how many were cloned, and which clone fails.
 #[derive(Drop)]

@@ -10,12 +10,10 @@ use std::hash::BuildHasher;
 use std::test::Fail;
 use tests_kit::calls::{bag_of, bag_of_counts, counts_of};
 use tests_kit::texts::{count, counts, debug_of, halves, is_text, number, values};
-use tests_kit::{OneState, ParityState, Rows, rows_of};
+use tests_kit::{OneState, ParityState, rows_of};
 
 // Two bags; the limit of the second; the value and the number that are moved; the result, and the counts of 1 and 2 in each bag.
-const TRANSFERS: Rows = Rows {
-    count: 8,
-    text: "
+const TRANSFERS: &str = "
     1:5 2:1 | 1:1 | 9 | 1 3 | Ok(()) [2, 1] [4, 0]
     1:5 2:1 | 1:1 | 4 | 1 3 | Ok(()) [2, 1] [4, 0]
     1:5 2:1 | 1:1 | 3 | 1 3 | Err(Bag(TooMany)) [5, 1] [1, 0]
@@ -23,13 +21,10 @@ const TRANSFERS: Rows = Rows {
     1:5 2:1 | 2:3 | 9 | 2 1 | Ok(()) [5, 0] [0, 4]
     1:5 | 2:3 | 3 | 2 0 | Ok(()) [5, 0] [0, 3]
     1:5 | 2:3 | 3 | 2 1 | Err(TooFew) [5, 0] [0, 3]
-    1:5 | | 5 | 1 5 | Ok(()) [0, 0] [5, 0]",
-};
+    1:5 | | 5 | 1 5 | Ok(()) [0, 0] [5, 0]";
 
 // One hall, which holds four guests.
-const HALL: Rows = Rows {
-    count: 16,
-    text: "\
+const HALL: &str = "
     enter 7 3 = Ok(())
     enter 8 2 = Err(TooMany)
     enter 8 1 = Ok(())
@@ -45,30 +40,23 @@ const HALL: Rows = Rows {
     leave 7 = true
     leave 7 = false
     enter 6 5 = Err(TooMany)
-    enter 6 4 = Ok(())",
-};
+    enter 6 4 = Ok(())";
 
 // Two lists; the counts of 3, 5 and 9 in a bag of both; how many of the second are removed from a bag of the first, and the counts left.
-const LISTS: Rows = Rows {
-    count: 5,
-    text: "
+const LISTS: &str = "
     [] | [] | [0, 0, 0] | 0 [0, 0, 0]
     [3, 5, 3] | [5, 3, 9] | [3, 2, 1] | 2 [1, 0, 0]
     [3, 5, 3] | [] | [2, 1, 0] | 0 [2, 1, 0]
     [] | [9, 9] | [0, 0, 2] | 0 [0, 0, 0]
-    [3, 9, 3] | [3, 3, 5, 3] | [5, 1, 1] | 2 [0, 0, 1]",
-};
+    [3, 9, 3] | [3, 3, 5, 3] | [5, 1, 1] | 2 [0, 0, 1]";
 
 // A list, and its commonest value: the least if several occur equally often.
-const COMMONEST: Rows = Rows {
-    count: 5,
-    text: "
+const COMMONEST: &str = "
     [] = None
     [5] = Some(5)
     [5, 3, 3] = Some(3)
     [9, 5, 9, 5, 3] = Some(5)
-    [18446744073709551615, 0, 18446744073709551615] = Some(18446744073709551615)",
-};
+    [18446744073709551615, 0, 18446744073709551615] = Some(18446744073709551615)";
 
 // Each kind of call has a function with no contract, as in `callers`.
 

@@ -4,15 +4,13 @@ use hashbag::HashBag;
 use hashbag::script::joins_of;
 use std::alloc::Global;
 use std::test::Fail;
+use tests_kit::rows_of;
 use tests_kit::states::CountingState;
 use tests_kit::texts::is_text;
-use tests_kit::{Rows, rows_of};
 
 // The counts of two bags, a call on both, and how often the state of each hashes. The word `carrying` means the counts of a bag in the
 // middle of a carry.
-const CALLS_ON_TWO: Rows = Rows {
-    count: 19,
-    text: "
+const CALLS_ON_TWO: &str = "
     1:1 2:5 3:2 | 2:1 4:1 5:3 6:1 | outer_join | 4 3
     1:1 2:5 3:2 | 2:1 4:1 5:3 6:1 | difference | 0 3
     1:1 2:5 3:2 | 2:1 4:1 5:3 6:1 | signed_difference | 4 3
@@ -31,12 +29,10 @@ const CALLS_ON_TWO: Rows = Rows {
     20:1 26:1 | carrying | difference | 0 2
     20:1 26:1 | carrying | signed_difference | 25 2
     20:1 26:1 | carrying | not_in | 0 2
-    carrying | carrying | equal | 0 25",
-};
+    carrying | carrying | equal | 0 25";
 
 // The counts of a bag in the middle of a carry: 17 to 24 wait in the older table.
-const CARRYING: &str =
-    "1:1 2:1 3:1 4:1 5:1 6:1 7:1 8:1 9:1 10:1 11:1 12:1 13:1 14:1 15:1 16:1 17:1 18:1 19:1 20:1 21:1 22:1 23:1 24:1 25:1";
+const CARRYING: &str = "1..=25:1";
 
 type CountingBag = HashBag<u64, CountingState>;
 

@@ -1,4 +1,4 @@
-//! Trees of bags, read and written, with the results found by hand.
+//! Trees of bags that were inserted, long trees, and the texts of errors. `tests_rows` has rows of trees that are read.
 use hashbag::{FixedState, HashBag, ItemError, JsonError, JsonItem};
 use hashbag_callers::json_uses::{both_trees, read_again};
 use serde_json::Value;
@@ -7,87 +7,8 @@ use std::fmt::{Debug, Display};
 use std::hash::{BuildHasher, Hash};
 use std::process::Abort;
 use std::test::Fail;
-use tests_kit::texts::{debug_of, halves, is_text, is_text_of};
-use tests_kit::{IdentityState, Named, OneState, ParityState, Rows, rows_of};
-
-// What the items are, a tree, and why it can't be read, or else the total of its bag, the number of distinct values, and the tree that is
-// written of it.
-const TREES: Rows = Rows {
-    count: 40,
-    text: r#"
-    String | null | NotAnArray
-    String | true | NotAnArray
-    String | 5 | NotAnArray
-    String | "x" | NotAnArray
-    String | {} | NotAnArray
-    String | [null] | NotAPair(0)
-    String | ["a"] | NotAPair(0)
-    String | [[]] | NotAPair(0)
-    String | [["a"]] | NotAPair(0)
-    String | [["a",1,2]] | NotAPair(0)
-    String | [["a"],["b",-1]] | NotAPair(0)
-    String | [["a",null]] | BadCount(0)
-    String | [["a","1"]] | BadCount(0)
-    String | [["a",true]] | BadCount(0)
-    String | [["a",[]]] | BadCount(0)
-    String | [["a",1.0]] | BadCount(0)
-    String | [["a",1],["b",-1]] | BadCount(1)
-    String | [[5,-1]] | BadCount(0)
-    String | [[5,0]] | BadItem(0)
-    String | [["a",18446744073709551615],[7,1]] | BadItem(1)
-    u64 | [[-1,1]] | BadItem(0)
-    u64 | [[1.0,1]] | BadItem(0)
-    i64 | [[9223372036854775808,1]] | BadItem(0)
-    Named | [["a",1]] | BadItem(0)
-    Named | [[{},1]] | BadItem(0)
-    Named | [[{"name":5},1]] | BadItem(0)
-    String | [["a",18446744073709551615],["b",1]] | TooMany(1)
-    String | [["a",1],["b",2],["a",18446744073709551613]] | TooMany(2)
-    String | [] | 0 0 []
-    String | [["a",0]] | 0 0 []
-    String | [["a",18446744073709551615],["a",0]] | 18446744073709551615 1 [["a",18446744073709551615]]
-    String | [["a",1],["b",2],["a",18446744073709551612]] | 18446744073709551615 2 [["a",18446744073709551613],["b",2]]
-    u64 | [[18446744073709551615,2]] | 2 1 [[18446744073709551615,2]]
-    String | [["Einar",1],["Olaf",1],["Olaf",1],["Harald",2],["Harald",1]] | 6 3 [["Einar",1],["Harald",3],["Olaf",2]]
-    String | [["ä",1],["\"",1]] | 2 2 [["\"",1],["ä",1]]
-    i64 | [[4,1],[-3,2]] | 3 2 [[-3,2],[4,1]]
-    u64 | [[10,1],[9,2]] | 3 2 [[9,2],[10,1]]
-    Named | [[{"name":"Einar"},1],[{"name":"Olaf"},1],[{"name":"Olaf"},1],[{"name":"Harald"},2],[{"name":"Harald"},1]] | 6 3 [[{"name":"Einar"},1],[{"name":"Harald"},3],[{"name":"Olaf"},2]]
-    String | [["Einar",1],["Olaf",2],["Harald",3]] | 6 3 [["Einar",1],["Harald",3],["Olaf",2]]
-    Named | [[{"name":"Einar"},1],[{"name":"Olaf"},2],[{"name":"Harald"},3]] | 6 3 [[{"name":"Einar"},1],[{"name":"Harald"},3],[{"name":"Olaf"},2]]"#,
-};
-
-// The same of trees with a limit, and of what is no such tree.
-const LIMITED_TREES: Rows = Rows {
-    count: 26,
-    text: r#"
-    String | {"limit":5,"pairs":[["b",3],["a",2]]} | 5 2 {"limit":5,"pairs":[["a",2],["b",3]]}
-    String | {"pairs":[["b",3],["a",2]],"limit":6} | 5 2 {"limit":6,"pairs":[["a",2],["b",3]]}
-    String | {"limit":4,"pairs":[["a",2],["b",3]]} | TooMany(1)
-    String | {"limit":-1,"pairs":[]} | BadLimit
-    String | {"limit":2.0,"pairs":[]} | BadLimit
-    String | {"limit":18446744073709551616,"pairs":[]} | BadLimit
-    String | {"limit":"5","pairs":[]} | BadLimit
-    String | {"limit":null,"pairs":[null]} | BadLimit
-    String | {"pairs":[]} | BadLimit
-    String | {"pairs":["a"]} | BadLimit
-    String | {"limit":1} | NotAnArray
-    String | {"limit":1,"pairs":{}} | NotAnArray
-    String | {"limit":1,"pairs":null} | NotAnArray
-    String | {"limit":1,"pairs":[],"x":0} | NotAnArray
-    String | {"limit":-1,"next":0,"pairs":[]} | NotAnArray
-    String | {"counts":1,"pairs":[]} | NotAnArray
-    String | {"limits":1,"pairs":[]} | NotAnArray
-    String | {"limit":0,"pairs":["a"]} | NotAPair(0)
-    String | {"limit":0,"pairs":[["a",-1]]} | BadCount(0)
-    String | {"limit":0,"pairs":[[5,1]]} | BadItem(0)
-    String | {"limit":0,"pairs":[["a",1]]} | TooMany(0)
-    String | {"limit":0,"pairs":[["a",0]]} | 0 0 {"limit":0,"pairs":[]}
-    String | {"limit":18446744073709551615,"pairs":[["a",1]]} | 1 1 [["a",1]]
-    String | {"limit":18446744073709551614,"pairs":[["a",18446744073709551614],["b",0]]} | 18446744073709551614 1 {"limit":18446744073709551614,"pairs":[["a",18446744073709551614]]}
-    u64 | {"limit":3,"pairs":[[7,2],[6,1]]} | 3 2 {"limit":3,"pairs":[[6,1],[7,2]]}
-    Named | {"limit":2,"pairs":[[{"name":"Olaf"},2]]} | 2 1 {"limit":2,"pairs":[[{"name":"Olaf"},2]]}"#,
-};
+use tests_kit::texts::{debug_of, is_text, is_text_of};
+use tests_kit::{IdentityState, Named, OneState, ParityState, Row, rows_of};
 
 // What bags of inserted texts and names are written as.
 const TEXTS: &str = r#"6 3 [["Einar",1],["Harald",3],["Olaf",2]]"#;
@@ -95,34 +16,28 @@ const TEXTS: &str = r#"6 3 [["Einar",1],["Harald",3],["Olaf",2]]"#;
 const NAMES: &str = r#"6 3 [[{"name":"Einar"},1],[{"name":"Harald"},3],[{"name":"Olaf"},2]]"#;
 
 // Each error, its number and its text.
-const JSON_ERRORS: Rows = Rows {
-    count: 7,
-    text: "
+const JSON_ERRORS: &str = "
     NotAnArray | 3 | not an array
     NotAPair(0) | 4 | pair 0: not a pair
     BadCount(1) | 5 | pair 1: bad count
     BadItem(2) | 6 | pair 2: bad item
     TooMany(3) | 7 | pair 3: total past its end
     Memory | 8 | no memory
-    BadLimit | 10 | bad limit",
-};
+    BadLimit | 10 | bad limit";
 
-const ITEM_ERRORS: Rows = Rows {
-    count: 2,
-    text: "
+const ITEM_ERRORS: &str = "
     NotAnItem | 11 | not an item
-    Memory | 12 | no memory",
-};
+    Memory | 12 | no memory";
 
-pub fn tree_of(alloc: Global, text: &str) -> Result<Value, Fail> {
+fn tree_of(alloc: Global, text: &str) -> Result<Value, Fail> {
     match Value::from_str(alloc, text) {
         Ok(tree) => Ok(tree),
         Err(_) => Err(Fail::new(format_args!("no tree: {text}"))),
     }
 }
 
-/// The total of a bag, the number of its distinct values, and its tree.
-pub fn written<T: JsonItem + Ord + Hash + Drop, S: BuildHasher + Drop>(
+// The total of a bag, the number of its distinct values, and its tree.
+fn written<T: JsonItem + Ord + Hash + Drop, S: BuildHasher + Drop>(
     alloc: Global,
     bag: &HashBag<T, S>,
 ) -> Result<String, Fail> {
@@ -166,69 +81,6 @@ fn is_read_again<T: JsonItem + Ord + Hash + Drop, S: BuildHasher + Default + Dro
         debug_of(alloc, &same)?.as_str(),
         "(true, true, true)",
     )
-}
-
-// Returns the text of what the reading of a text returns.
-fn answer_of<T: JsonItem + Ord + Hash + Drop, S: BuildHasher + Default + Drop>(
-    alloc: Global,
-    text: &str,
-) -> Result<String, Fail> {
-    let tree = tree_of(alloc, text)?;
-    let read: Result<HashBag<T, S>, JsonError> = HashBag::from_value(alloc, &tree);
-    match read {
-        Ok(bag) => {
-            is_read_again(alloc, &bag)?;
-            written(alloc, &bag)
-        }
-        Err(error) => debug_of(alloc, &error),
-    }
-}
-
-fn is_answered_under<T: JsonItem + Ord + Hash + Drop, S: BuildHasher + Default + Drop>(
-    alloc: Global,
-    text: &str,
-    wanted: &str,
-) -> Result<(), Fail> {
-    is_text(answer_of::<T, S>(alloc, text)?.as_str(), wanted)
-}
-
-// Under each state.
-fn is_answered<T: JsonItem + Ord + Hash + Drop>(
-    alloc: Global,
-    text: &str,
-    wanted: &str,
-) -> Result<(), Fail> {
-    is_answered_under::<T, FixedState>(alloc, text, wanted)?;
-    is_answered_under::<T, OneState>(alloc, text, wanted)?;
-    is_answered_under::<T, ParityState>(alloc, text, wanted)?;
-    is_answered_under::<T, IdentityState>(alloc, text, wanted)
-}
-
-// The items of a row are of one of four types.
-fn is_answered_as(alloc: Global, items: &str, text: &str, wanted: &str) -> Result<(), Fail> {
-    match items {
-        "String" => is_answered::<String>(alloc, text, wanted),
-        "u64" => is_answered::<u64>(alloc, text, wanted),
-        "i64" => is_answered::<i64>(alloc, text, wanted),
-        "Named" => is_answered::<Named>(alloc, text, wanted),
-        _ => Err(Fail::new(format_args!("no items: {items}"))),
-    }
-}
-
-fn tree_is_answered(alloc: Global, row: &str) -> Result<(), Fail> {
-    let (items, rest) = halves(row, "|")?;
-    let (text, answer) = halves(rest, "|")?;
-    is_answered_as(alloc, items, text, answer)
-}
-
-#[test]
-fn trees_are_answered(rt: HostRuntime) -> Result<(), Fail> {
-    for rows in [TREES, LIMITED_TREES] {
-        for row in rows_of(rt.alloc(), rows)? {
-            row.tested(tree_is_answered(rt.alloc(), row.text))?;
-        }
-    }
-    Ok(())
 }
 
 // A bag of values inserted so often is written so, and read back as an equal one.
@@ -278,26 +130,6 @@ fn inserted_values_are_written(rt: HostRuntime) -> Result<(), Fail> {
     all_inserted_are_written::<OneState>(rt.alloc())
 }
 
-fn push_often(text: &mut String, mark: char, times: usize) -> Result<(), AllocError> {
-    for _ in 0..times {
-        text.push(mark)?;
-    }
-    Ok(())
-}
-
-// An item of 100 arrays, one inside the other.
-#[test]
-fn deep_items_are_refused(rt: HostRuntime) -> Result<(), Fail> {
-    let mut text = String::new(rt.alloc());
-    push_often(&mut text, '[', 102)?;
-    push_often(&mut text, ']', 100)?;
-    text.push_str(",1]]")?;
-    for items in ["String", "u64", "i64"] {
-        is_answered_as(rt.alloc(), items, text.as_str(), "BadItem(0)")?;
-    }
-    Ok(())
-}
-
 // Returns the tree of `pairs` equal pairs.
 fn long_tree(alloc: Global, pair: &str, pairs: usize) -> Result<Value, Fail> {
     let mut text = String::new(alloc);
@@ -344,11 +176,11 @@ fn long_trees_of_one_value(rt: HostRuntime) -> Result<(), Fail> {
 }
 
 // Each error has a row.
-fn are_as_many(rows: Rows, errors: usize) -> Result<(), Fail> {
-    if rows.count == errors {
+fn are_as_many(rows: &[Row], errors: usize) -> Result<(), Fail> {
+    if rows.len() == errors {
         return Ok(());
     }
-    Err(Fail::new(format_args!("{} rows of {errors} errors", rows.count)))
+    Err(Fail::new(format_args!("{} rows of {errors} errors", rows.len())))
 }
 
 // The row of an error, its number and its text.
@@ -373,8 +205,8 @@ fn json_errors_are_told(rt: HostRuntime) -> Result<(), Fail> {
         JsonError::Memory,
         JsonError::BadLimit,
     ];
-    are_as_many(JSON_ERRORS, errors.len())?;
     let rows = rows_of(rt.alloc(), JSON_ERRORS)?;
+    are_as_many(rows.as_slice(), errors.len())?;
     for (row, error) in rows.into_iter().zip(errors) {
         row.tested(is_told(rt.alloc(), &error, error.number(), row.text))?;
     }
@@ -384,8 +216,8 @@ fn json_errors_are_told(rt: HostRuntime) -> Result<(), Fail> {
 #[test]
 fn item_errors_are_told(rt: HostRuntime) -> Result<(), Fail> {
     let errors = [ItemError::NotAnItem, ItemError::Memory];
-    are_as_many(ITEM_ERRORS, errors.len())?;
     let rows = rows_of(rt.alloc(), ITEM_ERRORS)?;
+    are_as_many(rows.as_slice(), errors.len())?;
     for (row, error) in rows.into_iter().zip(errors) {
         row.tested(is_told(rt.alloc(), &error, error.number(), row.text))?;
     }

@@ -4,31 +4,26 @@ use crate::tests::calls::{answer, answer_beside};
 use hashbag::HashBag;
 use std::alloc::Global;
 use std::test::Fail;
+use tests_kit::rows_of;
 use tests_kit::states::CountingState;
 use tests_kit::texts::{debug_of, halves, is_text};
-use tests_kit::{Rows, rows_of};
 
 // A call that uses the second bag up, the two bags, and how often the first bag's state hashes in it.
-const SUMS: Rows = Rows {
-    count: 11,
-    text: "
+const SUMS: &str = "
     merge | 5:2 6:1 | | 0
     merge | | 5:2 6:1 | 2
     merge | 5:2 6:1 | 5:3 7:1 | 2
-    merge | 1..12 | 1..12 | 24
-    merge | 1..5 | 1..8 | 8
-    merge | 1..5 | 6..20 | 28
-    merge | 1..12 | 13..24 | 25
+    merge | 1..=12 | 1..=12 | 24
+    merge | 1..=5 | 1..=8 | 8
+    merge | 1..=5 | 6..=20 | 28
+    merge | 1..=12 | 13..=24 | 25
     keep_most | 5:2 6:1 | 5:3 7:1 | 4
     keep_most | 5:2 6:1 | 5:1 7:1 | 3
     keep_most | 5:2 6:1 | 5:1 6:1 | 2
-    keep_most | 1..12 | 2..13 | 26",
-};
+    keep_most | 1..=12 | 2..=13 | 26";
 
 // A call that only looks at the second bag, the two bags, and how often each bag's state hashes in it. A copy has a state of its own.
-const PARTS: Rows = Rows {
-    count: 11,
-    text: "
+const PARTS: &str = "
     merge_ref | 5:2 6:1 | 5:3 7:1 | 2 0
     keep_common | 5:2 6:1 7:1 | 5:1 | 0 3
     keep_common | | 5:1 | 0 0
@@ -39,8 +34,7 @@ const PARTS: Rows = Rows {
     is_disjoint | 5:1 | 6:1 7:1 | 0 1
     is_disjoint | 6:1 7:1 | 5:1 | 1 0
     is_disjoint | 5:1 6:1 | 7:1 8:1 | 0 2
-    is_disjoint | 5:1 6:1 | 5:1 6:1 7:1 | 0 1",
-};
+    is_disjoint | 5:1 6:1 | 5:1 6:1 7:1 | 0 1";
 
 type CountingBag = HashBag<u64, CountingState>;
 

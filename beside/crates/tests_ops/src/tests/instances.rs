@@ -6,19 +6,16 @@ use std::alloc::Global;
 use std::hash::BuildHasher;
 use std::test::Fail;
 use tests_kit::texts::{debug_of, halves, is_text, is_text_of};
-use tests_kit::{IdentityState, OneState, Rows, Tagged, rows_of};
+use tests_kit::{IdentityState, OneState, Tagged, rows_of};
 
 // A call on a bag with the key 1 twice, tag 10, and the key 2 once, tag 11, and one with the key 1 three times, tag 20, and the key 3
 // once, tag 21; key, tag and count of what is left.
-const ROWS: Rows = Rows {
-    count: 5,
-    text: "
+const ROWS: &str = "
     merge | [(1, 10, 5), (2, 11, 1), (3, 21, 1)]
     merge_ref | [(1, 10, 5), (2, 11, 1), (3, 21, 1)]
     keep_most | [(1, 10, 3), (2, 11, 1), (3, 21, 1)]
     keep_common | [(1, 10, 2)]
-    take_away | [(2, 11, 1)]",
-};
+    take_away | [(2, 11, 1)]";
 
 // Adds a value with this key and tag, so often.
 fn add<S: BuildHasher + Drop>(

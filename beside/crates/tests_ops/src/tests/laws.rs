@@ -1,21 +1,18 @@
 //! The callers that are laws, once each: what they return, and the counts that are left.
-use crate::tests::bags::{bag_of, counts_of, pairs_of, text_of_list, thirds};
+use crate::tests::bags::{bag_of, counts_of, text_of_list, thirds};
 use hashbag::{BagError, FixedState, HashBag};
 use hashbag_ops::laws::{count_in_parts, merges_associate, merges_commute, put_in_and_taken_out};
 use std::alloc::Global;
 use std::test::Fail;
-use tests_kit::texts::{debug_of, is_text};
-use tests_kit::{Rows, rows_of};
+use tests_kit::rows_of;
+use tests_kit::texts::{counts, debug_of, is_text};
 
 // Two bags, and the counts of their sum.
-const ROWS: Rows = Rows {
-    count: 4,
-    text: "
+const ROWS: &str = "
     | |
     5:2 6:1 | | 5:2 6:1
     5:2 6:1 | 5:3 7:1 | 5:5 6:1 7:1
-    1..25 | 1:3 26:2 | 1:4 2..25 26:2",
-};
+    1..=25 | 1:3 26:2 | 1:4 2..=25 26:2";
 
 type Bag = HashBag<u64, FixedState>;
 
@@ -55,7 +52,7 @@ fn add(list: &mut Vec<u64>, value: u64, times: usize) -> Result<(), Fail> {
 // The list of these values, each so often.
 fn list_of(alloc: Global, text: &str) -> Result<Vec<u64>, Fail> {
     let mut list = Vec::new(alloc);
-    for (value, times) in pairs_of(alloc, text)? {
+    for (value, times) in counts(alloc, text)? {
         add(&mut list, value, times)?;
     }
     Ok(list)

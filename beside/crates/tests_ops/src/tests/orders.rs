@@ -10,18 +10,16 @@ use std::test::Fail;
 use tests_kit::calls::insert;
 use tests_kit::states::CountingState;
 use tests_kit::texts::{count, debug_of, halves, is_text};
-use tests_kit::{IdentityState, OneState, ParityState, Rows, rows_of};
+use tests_kit::{IdentityState, OneState, ParityState, rows_of};
 
 // `-` for all pairs, values rising, or how many of the commonest; the bag; the pairs.
-const ROWS: Rows = Rows {
-    count: 36,
-    text: "
+const ROWS: &str = "
     - | |
     - | 5:2 | 5:2
     - | 6:1 5:2 | 5:2 6:1
     - | 9:1 2:2 7:1 3:2 5:2 1:1 | 1:1 2:2 3:2 5:2 7:1 9:1
-    - | 1..25 | 1..25
-    - | 30:1 26..29 1..25 12:1 29:2 | 1..11 12:2 13..28 29:3 30:1
+    - | 1..=25 | 1..=25
+    - | 30:1 26..=29 1..=25 12:1 29:2 | 1..=11 12:2 13..=28 29:3 30:1
     - | 18446744073709551615:1 0:1 9223372036854775808:3 | 0:1 9223372036854775808:3 18446744073709551615:1
     - | 4:18446744073709551610 2:5 | 2:5 4:18446744073709551610
     0 | |
@@ -39,45 +37,38 @@ const ROWS: Rows = Rows {
     6 | 9:1 2:2 7:1 3:2 5:2 1:1 | 2:2 3:2 5:2 1:1 7:1 9:1
     7 | 9:1 2:2 7:1 3:2 5:2 1:1 | 2:2 3:2 5:2 1:1 7:1 9:1
     18446744073709551615 | 9:1 2:2 7:1 3:2 5:2 1:1 | 2:2 3:2 5:2 1:1 7:1 9:1
-    1 | 1..25 | 1:1
-    10 | 1..25 | 1..10
-    24 | 1..25 | 1..24
-    25 | 1..25 | 1..25
-    26 | 1..25 | 1..25
+    1 | 1..=25 | 1:1
+    10 | 1..=25 | 1..=10
+    24 | 1..=25 | 1..=24
+    25 | 1..=25 | 1..=25
+    26 | 1..=25 | 1..=25
     5 | 1:1 2:2 3:3 4:4 5:5 6:6 7:7 8:8 9:9 10:10 11:11 12:12 | 12:12 11:11 10:10 9:9 8:8
     5 | 1:12 2:11 3:10 4:9 5:8 6:7 7:6 8:5 9:4 10:3 11:2 12:1 | 1:12 2:11 3:10 4:9 5:8
-    13 | 1..40 3..38 20..22 9:1 | 9:3 20:3 21:3 22:3 3:2 4:2 5:2 6:2 7:2 8:2 10:2 11:2 12:2
-    4 | 30:1 26..29 1..25 12:1 29:2 | 29:3 12:2 1:1 2:1
+    13 | 1..=40 3..=38 20..=22 9:1 | 9:3 20:3 21:3 22:3 3:2 4:2 5:2 6:2 7:2 8:2 10:2 11:2 12:2
+    4 | 30:1 26..=29 1..=25 12:1 29:2 | 29:3 12:2 1:1 2:1
     3 | 8:3 1:4 6:3 2:5 4:1 7:3 | 2:5 1:4 6:3
     4 | 8:3 1:4 6:3 2:5 4:1 7:3 | 2:5 1:4 6:3 7:3
     1 | 4:18446744073709551610 2:5 | 4:18446744073709551610
-    1 | 4:7 18446744073709551615:18446744073709551608 | 18446744073709551615:18446744073709551608",
-};
+    1 | 4:7 18446744073709551615:18446744073709551608 | 18446744073709551615:18446744073709551608";
 
 // The same of the words of a text.
-const WORDS: Rows = Rows {
-    count: 5,
-    text: r#"
+const WORDS: &str = r#"
     - | the cat sat on the mat the | [("cat", 1), ("mat", 1), ("on", 1), ("sat", 1), ("the", 3)]
     0 | the cat sat on the mat the | []
     2 | the cat sat on the mat the | [("the", 3), ("cat", 1)]
     9 | the cat sat on the mat the | [("the", 3), ("cat", 1), ("mat", 1), ("on", 1), ("sat", 1)]
-    2 | b a c b a c | [("a", 2), ("b", 2)]"#,
-};
+    2 | b a c b a c | [("a", 2), ("b", 2)]"#;
 
 // A bag, and how often its commonest values occur.
-const GREATEST: Rows = Rows {
-    count: 8,
-    text: "
+const GREATEST: &str = "
     | 0
     5:2 | 2
     6:1 5:2 | 2
     9:1 2:2 7:1 3:2 5:2 1:1 | 2
-    1..25 | 1
-    30:1 26..29 1..25 12:1 29:2 | 3
+    1..=25 | 1
+    30:1 26..=29 1..=25 12:1 29:2 | 3
     4:18446744073709551610 2:5 | 18446744073709551610
-    1:18446744073709551615 | 18446744073709551615",
-};
+    1:18446744073709551615 | 18446744073709551615";
 
 // The text of all pairs, values rising.
 fn rising<T: Ord + Hash + Debug + Drop, S: BuildHasher + Drop>(
@@ -185,7 +176,7 @@ fn hashed(bag: &HashBag<u64, CountingState>) -> u64 {
 
 #[test]
 fn no_hash_in_an_order(rt: HostRuntime) -> Result<(), Fail> {
-    let bag: HashBag<u64, CountingState> = bag_of(rt.alloc(), "1..25 7:3")?;
+    let bag: HashBag<u64, CountingState> = bag_of(rt.alloc(), "1..=25 7:3")?;
     let before = hashed(&bag);
     for word in ["-", "10", "25"] {
         ordered(rt.alloc(), word, &bag)?;

@@ -2,7 +2,7 @@
 use crate::tests::constant::Constant;
 use crate::tests::held::Held;
 use crate::tests::pair::Pair;
-use crate::tests::rows::{Called, Rows, debug_of, make_rows};
+use crate::tests::rows::{Called, debug_of, make_rows};
 use hashbag_slots::slots::Slots;
 use std::alloc::{AllocError, Global};
 use std::test::Fail;
@@ -13,9 +13,7 @@ pub type Numbers = Held<u64, Constant>;
 // Calls on a table. `new 16 3` puts a table of 16 slots, whose values have the hash 3, in the place of the one before. `fill 4` places the
 // values from 1 to 4, each as often as it says, and returns how many could be placed. `take_each 1 3` takes out those from 1 to 3, and
 // returns how many were there as often as they say. `slots` returns how many slots there are, and how many are Live and Removed.
-const ROWS: Rows = Rows {
-    count: 158,
-    text: "\
+const ROWS: &str = "\
     [no slots]
     new 0 0 = ()
     slots = (0, 0, 0)
@@ -186,14 +184,11 @@ const ROWS: Rows = Rows {
     place 17 1 = false
     take 3 = Some((3, 3))
     clear = ()
-    slots = (16, 0, 0)",
-};
+    slots = (16, 0, 0)";
 
 // Calls on two tables. `carry 2` carries two slots, and returns how many were carried in all; `find` returns the places of a value in the
 // newer and in the older table. Values behind Moved and Removed slots are found in the older table until they are carried.
-const PAST_MOVED: Rows = Rows {
-    count: 16,
-    text: "\
+const PAST_MOVED: &str = "\
     carry 1 = 1
     find 1 = (Some(0), None)
     find 2 = (None, None)
@@ -209,13 +204,10 @@ const PAST_MOVED: Rows = Rows {
     find 3 = (Some(1), None)
     find 4 = (Some(2), None)
     older = (16, 0, 1)
-    newer = (32, 3, 0)",
-};
+    newer = (32, 3, 0)";
 
 // A carry to a table of as many slots goes past the last slot too, in both.
-const PAST_THE_LAST_SLOT: Rows = Rows {
-    count: 8,
-    text: "\
+const PAST_THE_LAST_SLOT: &str = "\
     carry 1 = 1
     find 1 = (None, Some(15))
     find 2 = (Some(15), None)
@@ -223,8 +215,7 @@ const PAST_THE_LAST_SLOT: Rows = Rows {
     carry 15 = 16
     find 1 = (Some(1), None)
     find 2 = (Some(15), None)
-    find 3 = (Some(0), None)",
-};
+    find 3 = (Some(0), None)";
 
 // A table of so many slots, all Empty.
 fn table_of(alloc: Global, slots: u64, hash: u64) -> Option<Numbers> {

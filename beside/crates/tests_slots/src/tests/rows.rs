@@ -3,15 +3,6 @@ use std::alloc::Global;
 use std::fmt::Debug;
 use std::test::Fail;
 
-/// Rows, one a line, and how many there are.
-#[derive(Clone, Copy)]
-pub struct Rows {
-    /// How many rows the text has. If it has another number, they fail.
-    pub count: usize,
-    /// The rows: a call and what it returns, as `clear = ()`, or a name in brackets, which calls nothing.
-    pub text: &'static str,
-}
-
 /// What has calls as rows.
 pub trait Called {
     /// Makes a call, and returns the text of what it returns. `None` if there is no such call.
@@ -41,22 +32,16 @@ fn make_row<T: Called>(
     Err(Fail::new(format_args!("line {line}: {got}, not {want}, in the row: {row}")))
 }
 
-/// Makes the calls of the rows in turn.
-pub fn make_rows<T: Called>(alloc: Global, called: &mut T, rows: Rows) -> Result<(), Fail> {
-    let (mut line, mut found) = (0usize, 0usize);
-    for text in rows.text.lines() {
+/// Makes the calls of the rows in turn: each is a line with a call and what it returns, as `clear = ()`. Empty lines, names in brackets, and
+/// lines that begin with `#` call nothing.
+pub fn make_rows<T: Called>(alloc: Global, called: &mut T, rows: &'static str) -> Result<(), Fail> {
+    let mut line = 0usize;
+    for text in rows.lines() {
         line = line.saturating_add(1);
         let row = text.trim();
-        if !row.is_empty() {
-            found = found.saturating_add(1);
-        }
-        if !row.is_empty() && !row.starts_with('[') {
+        if !row.is_empty() && !row.starts_with('[') && !row.starts_with('#') {
             make_row(alloc, called, line, row)?;
         }
     }
-    if found == rows.count {
-        return Ok(());
-    }
-    let wanted = rows.count;
-    Err(Fail::new(format_args!("{found} rows, not {wanted}")))
+    Ok(())
 }

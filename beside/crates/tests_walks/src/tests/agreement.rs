@@ -79,7 +79,7 @@ fn compare_step<T: Sample + Drop, S: BuildHasher + Drop>(
 ) -> Result<(), Fail> {
     let before = state_of(&pair.bag);
     let plain_step = step_of(alloc, number, step)?;
-    met.count(&plain_step);
+    met.count(&plain_step)?;
     let want = plain_reply(&mut pair.plain, plain_step)?;
     let bag_step = with_ballast(alloc, step_of(alloc, number, step)?, pair.plain.times)?;
     let got = bag_reply(alloc, &mut pair.bag, bag_step)?;
@@ -185,7 +185,7 @@ fn compare_pairs<T: Sample + Drop, S: BuildHasher + Drop, S2: BuildHasher + Drop
     b: &mut Pair<T, S2>,
     at_end: usize,
 ) -> Result<(), Fail> {
-    let mut met = Met::new();
+    let mut met = Met::new(alloc)?;
     compare_runs(alloc, a, b, &mut met)?;
     met_enough(alloc, &met, at_end)
 }
@@ -210,11 +210,6 @@ fn compare_under_each_state<T: Sample + Drop>(alloc: Global) -> Result<(), Fail>
     compare_under::<T, _, _>(alloc, OneState, ParityState)?;
     compare_under::<T, _, _>(alloc, ParityState, IdentityState)?;
     compare_under::<T, _, _>(alloc, IdentityState, FixedState::new())
-}
-
-#[test]
-fn numbers_as_in_plain_lists(rt: HostRuntime) -> Result<(), Fail> {
-    compare_under_each_state::<u64>(rt.alloc())
 }
 
 #[test]

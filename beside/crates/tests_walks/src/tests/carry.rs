@@ -8,7 +8,7 @@ use std::process::Abort;
 use std::test::Fail;
 use tests_kit::calls::{insert, make_calls};
 use tests_kit::texts::{debug_of, is_text_of};
-use tests_kit::{IdentityState, OneState, ParityState, Rows};
+use tests_kit::{IdentityState, OneState, ParityState};
 
 // So many distinct values leave 16 slots that wait.
 const VALUES: usize = 25;
@@ -18,30 +18,24 @@ const ALL: &str =
     "[1, 2, 3, 4, 5, 6, 7, 8, 9, 10, 11, 12, 13, 14, 15, 16, 17, 18, 19, 20, 21, 22, 23, 24, 25]";
 
 // What the calls of a bag return that is as it was before a walk.
-const AS_BEFORE: Rows = Rows {
-    count: 8,
-    text: "\
-    counts [0, 1, 2, 3, 4, 5, 6, 7, 8, 9, 10, 11, 12, 13, 14, 15, 16, 17, 18, 19, 20, 21, 22, 23, 24, 25] = [0, 1, 1, 1, 1, 1, 1, 1, 1, 1, 1, 1, 1, 1, 1, 1, 1, 1, 1, 1, 1, 1, 1, 1, 1, 1]
+const AS_BEFORE: &str = "
+    counts [0..=25] = [0, 1, 1, 1, 1, 1, 1, 1, 1, 1, 1, 1, 1, 1, 1, 1, 1, 1, 1, 1, 1, 1, 1, 1, 1, 1]
     len = 25
     set_len = 25
     tables = (64, 16, 23)
     insert 100 = 0
     tables = (64, 0, 22)
     contains 100 = 1
-    contains 25 = 1",
-};
+    contains 25 = 1";
 
 // What the calls of a bag return that was drained.
-const DRAINED: Rows = Rows {
-    count: 6,
-    text: "\
-    counts [0, 1, 2, 3, 4, 5, 6, 7, 8, 9, 10, 11, 12, 13, 14, 15, 16, 17, 18, 19, 20, 21, 22, 23, 24, 25] = [0, 0, 0, 0, 0, 0, 0, 0, 0, 0, 0, 0, 0, 0, 0, 0, 0, 0, 0, 0, 0, 0, 0, 0, 0, 0]
+const DRAINED: &str = "
+    counts [0..=25] = [0, 0, 0, 0, 0, 0, 0, 0, 0, 0, 0, 0, 0, 0, 0, 0, 0, 0, 0, 0, 0, 0, 0, 0, 0, 0]
     is_empty = true
     set_len = 0
     waiting = 0
     insert 100 = 0
-    contains 100 = 1",
-};
+    contains 100 = 1";
 
 // The numbers from 1 to 25, each inserted once.
 fn numbers<S: BuildHasher + Drop>(alloc: Global, state: S) -> Result<HashBag<u64, S>, BagError> {

@@ -6,7 +6,7 @@ use std::alloc::{AllocError, Global};
 use std::fmt::Debug;
 use std::hash::BuildHasher;
 use std::test::Fail;
-use tests_kit::PlainBag;
+use tests_plain::PlainBag;
 
 /// A plain list of occurrences, and how many there are of the ballast.
 #[derive(Drop)]

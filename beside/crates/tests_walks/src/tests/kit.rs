@@ -1,5 +1,3 @@
-//! What no clause says of the plain bag, of hash states and of rows: that they are as found by hand.
-mod hashes;
-mod plain_calls;
+//! How rows of text are read.
 mod rows;
 mod texts;

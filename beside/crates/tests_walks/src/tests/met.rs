@@ -1,10 +1,28 @@
 //! What steps met, so that a list of steps that meets little fails.
 use hashbag::HashBag;
 use hashbag::script::{Reply, Step};
+use std::alloc::{AllocError, Global};
 use std::hash::{BuildHasher, Hash};
+use std::test::Fail;
 
-/// How many kinds of steps there are.
-pub const KINDS: usize = 15;
+// The kinds of steps. A step of another kind fails, and so does a kind that is hardly met.
+const KINDS: &[&str] = &[
+    "insert",
+    "insert_many",
+    "replace",
+    "remove",
+    "remove_up_to",
+    "try_take",
+    "take_all",
+    "entry_set",
+    "entry_or",
+    "retain",
+    "clear",
+    "count",
+    "reserve",
+    "shrink_to_fit",
+    "limit",
+];
 
 /// What a bag's tables are like.
 #[derive(Clone, Copy)]
@@ -54,27 +72,27 @@ pub struct Met {
     /// `BelowTotal`.
     pub below_total: usize,
     /// Steps of each kind.
-    pub kinds: [usize; KINDS],
+    pub kinds: Vec<usize>,
 }
 
-// The place of a kind of step.
-fn kind_of<T>(step: &Step<T>) -> usize {
+// The kind of a step.
+fn kind_of<T>(step: &Step<T>) -> &'static str {
     match step {
-        Step::Insert(_) => 0,
-        Step::InsertMany(_, _) => 1,
-        Step::Replace(_) => 2,
-        Step::Remove(_) => 3,
-        Step::RemoveUpTo(_, _) => 4,
-        Step::TryTake(_) => 5,
-        Step::TakeAll(_) => 6,
-        Step::EntrySet(_, _) => 7,
-        Step::EntryOr(_, _) => 8,
-        Step::Retain(_) => 9,
-        Step::Clear => 10,
-        Step::Count(_) => 11,
-        Step::Reserve(_) => 12,
-        Step::ShrinkToFit => 13,
-        Step::Limit(_) => 14,
+        Step::Insert(_) => "insert",
+        Step::InsertMany(_, _) => "insert_many",
+        Step::Replace(_) => "replace",
+        Step::Remove(_) => "remove",
+        Step::RemoveUpTo(_, _) => "remove_up_to",
+        Step::TryTake(_) => "try_take",
+        Step::TakeAll(_) => "take_all",
+        Step::EntrySet(_, _) => "entry_set",
+        Step::EntryOr(_, _) => "entry_or",
+        Step::Retain(_) => "retain",
+        Step::Clear => "clear",
+        Step::Count(_) => "count",
+        Step::Reserve(_) => "reserve",
+        Step::ShrinkToFit => "shrink_to_fit",
+        Step::Limit(_) => "limit",
     }
 }
 
@@ -86,8 +104,12 @@ fn raise(count: &mut usize, met: bool) {
 
 impl Met {
     /// Nothing yet.
-    pub fn new() -> Met {
-        Met {
+    pub fn new(alloc: Global) -> Result<Met, AllocError> {
+        let mut kinds = Vec::new(alloc);
+        for _ in KINDS {
+            kinds.push(0)?;
+        }
+        Ok(Met {
             growths: 0,
             carries: 0,
             removed: 0,
@@ -96,15 +118,20 @@ impl Met {
             at_end: 0,
             too_many: 0,
             below_total: 0,
-            kinds: [0; KINDS],
-        }
+            kinds,
+        })
     }
 
     /// Counts a step.
-    pub fn count<T>(&mut self, step: &Step<T>) {
-        if let Some(count) = self.kinds.get_mut(kind_of(step)) {
-            raise(count, true);
+    pub fn count<T>(&mut self, step: &Step<T>) -> Result<(), Fail> {
+        let kind = kind_of(step);
+        for (name, count) in KINDS.iter().zip(self.kinds.iter_mut()) {
+            if *name == kind {
+                raise(count, true);
+                return Ok(());
+            }
         }
+        Err(Fail::new(format_args!("no such kind of step: {kind}")))
     }
 
     /// Counts what a step replied and did to the tables.

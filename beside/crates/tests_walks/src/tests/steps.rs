@@ -25,16 +25,6 @@ pub trait Sample: Eq + Hash + Copy + Debug {
     fn mark(&self) -> (u64, u64);
 }
 
-impl Sample for u64 {
-    fn sample(key: u64, _step: u64) -> u64 {
-        key
-    }
-
-    fn mark(&self) -> (u64, u64) {
-        (*self, 0)
-    }
-}
-
 impl Sample for Tagged {
     fn sample(key: u64, step: u64) -> Tagged {
         Tagged { key, tag: step }

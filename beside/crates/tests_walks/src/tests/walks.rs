@@ -11,7 +11,7 @@ use std::process::Abort;
 use std::test::Fail;
 use tests_kit::calls::{bag_of, bag_of_counts, counts_of, make_call, make_calls};
 use tests_kit::texts::{debug_of, is_text_of};
-use tests_kit::{IdentityState, OneState, ParityState, Rows};
+use tests_kit::{IdentityState, OneState, ParityState};
 
 // Occurrences of `sample_bag`.
 const ITEMS: usize = 6;
@@ -182,13 +182,10 @@ fn borrowed_walks_dropped<S: BuildHasher + Drop>(
     Ok(())
 }
 
-const DRAINED_ROWS: Rows = Rows {
-    count: 3,
-    text: "\
+const DRAINED_ROWS: &str = "
     contains 5 = 0
     insert 5 = 0
-    contains 5 = 1",
-};
+    contains 5 = 1";
 
 // A drain that is dropped leaves an empty bag, which takes values in again.
 fn drained_and_filled<S: BuildHasher + Default + Drop>(

@@ -4,56 +4,30 @@ use std::alloc::Global;
 use std::test::Fail;
 use tests_kit::rows::failure_text;
 use tests_kit::texts::{count, debug_of, is_text_of};
-use tests_kit::{Row, Rows, rows_of};
+use tests_kit::{Row, rows_of};
 
-const ROWS: Rows = Rows {
-    count: 2,
-    text: "
+const ROWS: &str = "
     first row
-
-    second",
-};
-
-// The same rows, in a text that begins with the first.
-const BEGUN: Rows = Rows {
-    count: 2,
-    text: "\
-    first row
-
-    second",
-};
+    # no row
+    second";
 
 const READ: &str = "[Row { line: 1, text: \"first row\" }, Row { line: 3, text: \"second\" }]";
 
 #[test]
 fn rows_know_their_lines(rt: HostRuntime) -> Result<(), Fail> {
-    let alloc = rt.alloc();
-    for rows in [ROWS, BEGUN] {
-        let read = debug_of(alloc, &rows_of(alloc, rows)?)?;
-        is_text_of("rows", read.as_str(), READ)?;
-    }
-    Ok(())
-}
-
-// Returns what rows fail with, and nothing if they don't fail.
-fn failure_of_rows(alloc: Global, count: usize) -> Result<String, Fail> {
-    let text = ROWS.text;
-    match rows_of(alloc, Rows { count, text }) {
-        Ok(_) => Ok(String::new(alloc)),
-        Err(fail) => Ok(String::from_str(alloc, failure_text(fail).as_str())?),
-    }
+    let read = debug_of(rt.alloc(), &rows_of(rt.alloc(), ROWS)?)?;
+    is_text_of("rows", read.as_str(), READ)
 }
 
 #[test]
-fn other_numbers_of_rows_fail(rt: HostRuntime) -> Result<(), Fail> {
-    let alloc = rt.alloc();
-    is_text_of("one", failure_of_rows(alloc, 1)?.as_str(), "2 rows, not 1")?;
-    is_text_of("two", failure_of_rows(alloc, 2)?.as_str(), "")?;
-    is_text_of(
-        "three",
-        failure_of_rows(alloc, 3)?.as_str(),
-        "2 rows, not 3",
-    )
+fn no_rows_fail(rt: HostRuntime) -> Result<(), Fail> {
+    for rows in ["", "\n", "    # no row\n\n"] {
+        match rows_of(rt.alloc(), rows) {
+            Ok(_) => return Err(Fail::new(format_args!("rows in {rows:?}"))),
+            Err(fail) => is_text_of("none", failure_text(fail).as_str(), "no rows")?,
+        }
+    }
+    Ok(())
 }
 
 // Fails with an error of a bag.

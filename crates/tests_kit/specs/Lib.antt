@@ -1,0 +1,2 @@
+pub mod LastNumber
+pub mod Named
