@@ -48,13 +48,7 @@ fn join(first: &HashBag<u64>, second: &HashBag<u64>) -> u64 {
 }
 
 // Prints the sum of what was done so many times, and on standard error its time.
-fn tell(
-    rt: &HostRuntime,
-    what: &str,
-    many: u64,
-    time: u128,
-    sum: u64,
-) -> anyhow::Result<()> {
+fn tell(rt: &HostRuntime, what: &str, many: u64, time: u128, sum: u64) -> anyhow::Result<()> {
     println!(rt; "{what} {many} {sum}")?;
     eprintln!(rt; "{what} {many} {time}")?;
     Ok(())
