@@ -1,7 +1,7 @@
 //! Measures Rust's own map of numbers to counts, or the Rust crate `hashbag` (`--cfg bag`), under the hash by which a bag hashes where no
 //! other is given.
 //!
-//! It does step by step what the program `timing` does with a bag, reads the same lines, and answers in the same form.
+//! It does step by step what the program `timing` does with a bag, reads the same lines, and prints in the same form.
 #[cfg(bag)]
 #[path = "of_bag.rs"]
 mod counts;
@@ -116,9 +116,14 @@ fn look_up(map: &Map, values: &[u64]) -> usize {
     sum
 }
 
+fn tell(what: &str, many: u64, time: u128, sum: u64) {
+    println!("{what} {many} {sum}");
+    eprintln!("{what} {many} {time}");
+}
+
 fn say(what: &str, many: u64, since: Instant, sum: u64) {
     let time = since.elapsed().as_nanos();
-    println!("{what} {many} {time} {sum}");
+    tell(what, many, time, sum);
 }
 
 fn small(many: u64) {
@@ -203,9 +208,11 @@ fn growth(many: u64) {
     let worst_of_10000 = longest_but(&times, times.len() / 10_000);
     let worst_of_1000 = longest_but(&times, times.len() / 1000);
     let median = longest_but(&times, times.len() / 2);
-    println!("worst 1 {worst} {many}\nworst_at 1 {worst_at} {many}");
-    println!("worst_of_10000 1 {worst_of_10000} {many}\nworst_of_1000 1 {worst_of_1000} {many}");
-    println!("median 1 {median} {many}");
+    tell("worst", 1, worst as u128, many);
+    tell("worst_at", 1, worst_at as u128, many);
+    tell("worst_of_10000", 1, worst_of_10000 as u128, many);
+    tell("worst_of_1000", 1, worst_of_1000 as u128, many);
+    tell("median", 1, median as u128, many);
 }
 
 // Many values of one map, inserted into another by a walk.

@@ -47,7 +47,14 @@ fn join(first: &HashBag<u64>, second: &HashBag<u64>) -> u64 {
     sum
 }
 
-/// Prints the line of what was done since then.
+// Prints the sum of what was done so many times, and on standard error its time.
+fn tell(rt: &HostRuntime, what: &str, many: u64, time: u128, sum: u64) -> anyhow::Result<()> {
+    println!(rt; "{what} {many} {sum}")?;
+    eprintln!(rt; "{what} {many} {time}")?;
+    Ok(())
+}
+
+/// Prints the lines of what was done since then.
 pub fn say(
     rt: &HostRuntime,
     what: &str,
@@ -55,9 +62,7 @@ pub fn say(
     since: Instant,
     sum: u64,
 ) -> anyhow::Result<()> {
-    let time = since.elapsed(rt)?.as_nanos();
-    println!(rt; "{what} {many} {time} {sum}")?;
-    Ok(())
+    tell(rt, what, many, since.elapsed(rt)?.as_nanos(), sum)
 }
 
 // A few values into a new bag, again and again.
@@ -149,12 +154,11 @@ fn growth(rt: &HostRuntime, many: u64) -> anyhow::Result<()> {
     let worst_of_10000 = longest_but(times.as_slice(), times.len() / 10_000);
     let worst_of_1000 = longest_but(times.as_slice(), times.len() / 1000);
     let median = longest_but(times.as_slice(), times.len() / 2);
-    println!(rt; "worst 1 {worst} {many}\nworst_at 1 {worst_at} {many}")?;
-    println!(rt;
-        "worst_of_10000 1 {worst_of_10000} {many}\nworst_of_1000 1 {worst_of_1000} {many}"
-    )?;
-    println!(rt; "median 1 {median} {many}")?;
-    Ok(())
+    tell(rt, "worst", 1, worst as u128, many)?;
+    tell(rt, "worst_at", 1, worst_at as u128, many)?;
+    tell(rt, "worst_of_10000", 1, worst_of_10000 as u128, many)?;
+    tell(rt, "worst_of_1000", 1, worst_of_1000 as u128, many)?;
+    tell(rt, "median", 1, median as u128, many)
 }
 
 /// Measures what is named, with `many` values.
