@@ -11,4 +11,4 @@ pub mod status;
 pub mod temporary_file;
 
 /// The version of this repository and of each program: that of the Rust crate, and behind the hyphen that of the port.
-pub const VERSION: &str = "0.1.13-2";
+pub const VERSION: &str = "0.1.13-3";
