@@ -1,6 +1,6 @@
 //! Sources of rows that rise, which are merged at once.
 use crate::failure::Failure;
-use crate::input::{Input, said};
+use crate::input::{Input, plural, said};
 use crate::runs::BUFFER;
 use hashbag::BagError;
 use hashbag_words_core::errors::Fault;
@@ -98,7 +98,8 @@ impl<'s, 'a> Batch<'s, 'a> {
         for (name, source) in self.names.iter().zip(self.sources.iter()) {
             let skipped = source.rows().reading().skipped;
             if skipped > 0 {
-                let _ = eprintln!(self.rt; "hashbag_words: {name}: {skipped} bad lines skipped");
+                let s = plural(&skipped);
+                let _ = eprintln!(self.rt; "hashbag_words: {name}: {skipped} bad line{s} skipped");
             }
         }
         Ok(())

@@ -1,4 +1,5 @@
 //! Errors of the program, with their messages and exit statuses.
+use crate::input::plural;
 use hashbag::{BagError, JsonError};
 use hashbag_shell::status::{BAD_INPUT, IO_FAILED, NO_MEMORY, TOTAL_TOO_LARGE};
 use hashbag_words_core::errors::{BadLine, Fault};
@@ -40,7 +41,7 @@ pub enum Failure<'a> {
         name: &'a str,
     },
     /// An allocation failed while an input was read.
-    #[error("{name}: no memory after {line} lines")]
+    #[error("{name}: no memory after {line} line{}", plural(.line))]
     NoMemory {
         name: &'a str,
         line: u64,

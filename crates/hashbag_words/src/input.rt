@@ -57,3 +57,8 @@ impl Read for Input {
 pub fn said(name: &str) -> &str {
     if name == "-" { "standard input" } else { name }
 }
+
+/// Returns how a word ends in messages behind this number.
+pub fn plural(n: &u64) -> &'static str {
+    if *n == 1 { "" } else { "s" }
+}

@@ -2,7 +2,7 @@
 use crate::bag::Bag;
 use crate::failure::Failure;
 use crate::gauge::Gauge;
-use crate::input::{Input, said};
+use crate::input::{Input, plural, said};
 use crate::progress::Progress;
 use crate::runs::{BUFFER, Runs};
 use crate::settings::Settings;
@@ -104,11 +104,15 @@ impl<'s, 'a, 'm> Inputs<'s, 'a, 'm> {
     fn report(&self, name: &str, reading: &Reading) {
         if reading.skipped > 0 {
             let skipped = reading.skipped;
-            let _ = eprintln!(self.rt; "hashbag_words: {name}: {skipped} bad lines skipped");
+            let s = plural(&skipped);
+            let _ = eprintln!(self.rt; "hashbag_words: {name}: {skipped} bad line{s} skipped");
         }
         if reading.replaced > 0 {
             let replaced = reading.replaced;
-            let _ = eprintln!(self.rt; "hashbag_words: {name}: bytes replaced in {replaced} lines");
+            let s = plural(&replaced);
+            let _ = eprintln!(self.rt;
+                "hashbag_words: {name}: bytes replaced in {replaced} line{s}"
+            );
         }
     }
 

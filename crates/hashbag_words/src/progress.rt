@@ -1,5 +1,6 @@
 //! Reports of progress on standard error.
 use crate::bag::Bag;
+use crate::input::plural;
 use std::time::{Duration, Instant};
 
 /// What was reported, and when.
@@ -50,8 +51,9 @@ impl Progress {
         let speed = a_second(tokens, now.duration_since(start));
         let distinct = bag.set_len();
         let of = if in_runs > 0 { " in memory" } else { "" };
+        let (ls, ts) = (plural(&lines), plural(&(tokens as u64)));
         let _ = eprintln!(rt;
-            "{lines} lines, {tokens} tokens ({speed}/s), {distinct} distinct{of}"
+            "{lines} line{ls}, {tokens} token{ts} ({speed}/s), {distinct} distinct{of}"
         );
         self.times = Some((start, now));
     }

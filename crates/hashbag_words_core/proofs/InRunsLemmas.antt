@@ -16,6 +16,7 @@ use Rattle.hashbag_words_core.specs.Tokens.{tokens_of, tokens_of_lines}
 use Rattle.hashbag_words_core.specs.declared.rule.Rule.{Rule}
 use Rattle.hashbag_words_core.proofs.LineLemmas.{lines-drop_lines}
 use Rattle.hashbag_words_core.proofs.ReadLemmas.{tokens_of_lines-append}
+use Rattle.hashbag_words_core.proofs.TextLemmas.{sum_of_map}
 
 none_before : (n : ℕ) → 0 + n ≡ n
 none_before n = omega arith
@@ -24,14 +25,14 @@ none_before n = omega arith
 
 -- the run of a bag that was empty before these texts were added
 run_counts : {S : Type 0} (texts : List (List ℕ)) (old mid : Bag (String Global) S) (rows : List (List ℕ × ℕ)) (run : List ℕ) → old.items ≡ [] → AddsTexts old mid texts → IsRunOf mid rows → run ≡ run_text rows
-    → (v : String Global) → times_in (string_bytes v) (rows_in run) ≡ count bytes_eq (string_bytes v) texts
-run_counts texts old mid rows run none adds is written v =
-    ap (λ (l : List ℕ). times_in (string_bytes v) (rows_in l)) written
-    ∙ ap (λ (l : List (List ℕ × ℕ)). times_in (string_bytes v) l) is.again
-    ∙ is.counts v
-    ∙ adds v
-    ∙ ap (λ (l : List (String Global)). count string_eq v l + count bytes_eq (string_bytes v) texts) none
-    ∙ none_before (count bytes_eq (string_bytes v) texts)
+    → (text : List ℕ) → times_in text (rows_in run) ≡ count bytes_eq text texts
+run_counts texts old mid rows run none adds is written text =
+    ap (λ (l : List ℕ). times_in text (rows_in l)) written
+    ∙ ap (λ (l : List (List ℕ × ℕ)). times_in text l) is.again
+    ∙ is.counts text
+    ∙ adds text
+    ∙ ap (λ (l : List (String Global)). count bytes_eq text (map string_bytes l) + count bytes_eq text texts) none
+    ∙ none_before (count bytes_eq text texts)
 
 pub makes_run : {S : Type 0} (rule : Rule) (most : ℕ) (more : Bool) (a b : Option (List ℕ)) (old mid : Bag (String Global) S) (rows : List (List ℕ × ℕ)) (run : List ℕ) → old.items ≡ []
     → IfSome a (λ bytes. CountsLines rule most bytes more old mid b) → IsRunOf mid rows → run ≡ run_text rows → IfSome a (λ bytes. MakesRun rule most bytes more run b)
@@ -45,14 +46,14 @@ makes_run rule most more (Some bytes) b old mid rows run none counts is written 
 -- ---- one run after the other
 
 -- what runs count of a text
-abbrev pub times_in_runs : String Global → List (Vec ℕ) → ℕ
-times_in_runs v runs = sum_by (λ run. times_in (string_bytes v) (rows_in run.items)) runs
+abbrev pub times_in_runs : List ℕ → List (Vec ℕ) → ℕ
+times_in_runs text runs = sum_by (λ run. times_in text (rows_in run.items)) runs
 
 -- so far these runs were made of the input, and the rest of it is left
 pub record SoFarInRuns (rule : Rule) (bytes : List ℕ) (runs : List (Vec ℕ)) (left : Option (List ℕ)) : Type 0 where
   pub rest : List ℕ
   pub is : left ≡ Some rest
-  pub counts : (v : String Global) → times_in_runs v runs + count bytes_eq (string_bytes v) (tokens_of rule rest) ≡ count bytes_eq (string_bytes v) (tokens_of rule bytes)
+  pub counts : (text : List ℕ) → times_in_runs text runs + count bytes_eq text (tokens_of rule rest) ≡ count bytes_eq text (tokens_of rule bytes)
 
 -- the lines that are read next, and those after them
 split_tokens : (rule : Rule) (most : ℕ) (rest : List ℕ) → tokens_of rule rest ≡ tokens_of_lines rule (take most (lines rest)) ++ tokens_of rule (drop_lines most rest)
@@ -61,16 +62,16 @@ split_tokens rule most rest =
     ∙ tokens_of_lines-append rule (take most (lines rest)) (drop most (lines rest))
     ∙ ap (λ (l : List (List ℕ)). tokens_of_lines rule (take most (lines rest)) ++ tokens_of_lines rule l) (sym (lines-drop_lines most rest))
 
-more_counts : (rule : Rule) (most : ℕ) (more : Bool) (bytes rest : List ℕ) (runs : List (Vec ℕ)) (run : Vec ℕ) (left : Option (List ℕ)) (v : String Global)
-    → times_in_runs v runs + count bytes_eq (string_bytes v) (tokens_of rule rest) ≡ count bytes_eq (string_bytes v) (tokens_of rule bytes) → MakesRun rule most rest more run.items left
-    → times_in_runs v (runs ++ run ∷ []) + count bytes_eq (string_bytes v) (tokens_of rule (drop_lines most rest)) ≡ count bytes_eq (string_bytes v) (tokens_of rule bytes)
-more_counts rule most more bytes rest runs run left v before made =
-    let pushed : times_in_runs v (runs ++ run ∷ []) ≡ times_in_runs v runs + times_in (string_bytes v) (rows_in run.items) =
-    sum_by_push (λ (r : Vec ℕ). times_in (string_bytes v) (rows_in r.items)) runs run in
-    let here : times_in (string_bytes v) (rows_in run.items) ≡ count bytes_eq (string_bytes v) (tokens_of_lines rule (take most (lines rest))) = made.counts v in
-    let split : count bytes_eq (string_bytes v) (tokens_of rule rest) ≡ count bytes_eq (string_bytes v) (tokens_of_lines rule (take most (lines rest))) + count bytes_eq (string_bytes v) (tokens_of rule (drop_lines most rest)) =
-    ap (λ (l : List (List ℕ)). count bytes_eq (string_bytes v) l) (split_tokens rule most rest)
-    ∙ count_append nat_list_eq_equiv (string_bytes v) (tokens_of_lines rule (take most (lines rest))) (tokens_of rule (drop_lines most rest)) in
+more_counts : (rule : Rule) (most : ℕ) (more : Bool) (bytes rest : List ℕ) (runs : List (Vec ℕ)) (run : Vec ℕ) (left : Option (List ℕ)) (text : List ℕ)
+    → times_in_runs text runs + count bytes_eq text (tokens_of rule rest) ≡ count bytes_eq text (tokens_of rule bytes) → MakesRun rule most rest more run.items left
+    → times_in_runs text (runs ++ run ∷ []) + count bytes_eq text (tokens_of rule (drop_lines most rest)) ≡ count bytes_eq text (tokens_of rule bytes)
+more_counts rule most more bytes rest runs run left text before made =
+    let pushed : times_in_runs text (runs ++ run ∷ []) ≡ times_in_runs text runs + times_in text (rows_in run.items) =
+    sum_by_push (λ (r : Vec ℕ). times_in text (rows_in r.items)) runs run in
+    let here : times_in text (rows_in run.items) ≡ count bytes_eq text (tokens_of_lines rule (take most (lines rest))) = made.counts text in
+    let split : count bytes_eq text (tokens_of rule rest) ≡ count bytes_eq text (tokens_of_lines rule (take most (lines rest))) + count bytes_eq text (tokens_of rule (drop_lines most rest)) =
+    ap (λ (l : List (List ℕ)). count bytes_eq text l) (split_tokens rule most rest)
+    ∙ count_append nat_list_eq_equiv text (tokens_of_lines rule (take most (lines rest))) (tokens_of rule (drop_lines most rest)) in
     added _ _ _ _ _ _ _ before pushed here split
   where
     added : (a b c d e f g : ℕ) → a + b ≡ c → d ≡ a + e → e ≡ f → b ≡ f + g → d + g ≡ c
@@ -84,35 +85,29 @@ one_run_more rule most more (Some bytes) b c runs run so makes =
     record {
       rest = drop_lines most so.rest;
       is = made.rest;
-      counts = λ v. more_counts rule most more bytes so.rest runs run c v (so.counts v) made;
+      counts = λ text. more_counts rule most more bytes so.rest runs run c text (so.counts text) made;
     }
 
 -- the last run
 pub all_in_runs : (rule : Rule) (most : ℕ) (more : Bool) (a b c : Option (List ℕ)) (runs : List (Vec ℕ)) (run : Vec ℕ) → more ≡ false → IfSome a (λ bytes. SoFarInRuns rule bytes runs b)
     → IfSome b (λ rest. MakesRun rule most rest more run.items c) → IfSome a (λ bytes. HaveCountsOf (tokens_of rule bytes) (runs ++ run ∷ []))
 all_in_runs rule most more None b c runs run over so makes = tt
-all_in_runs rule most more (Some bytes) b c runs run over so makes = λ v.
+all_in_runs rule most more (Some bytes) b c runs run over so makes = λ text.
     let made : MakesRun rule most so.rest more run.items c = subst (λ (o : Option (List ℕ)). IfSome o (λ rest. MakesRun rule most rest more run.items c)) so.is makes in
-    let all : times_in_runs v (runs ++ run ∷ []) + count bytes_eq (string_bytes v) (tokens_of rule (drop_lines most so.rest)) ≡ count bytes_eq (string_bytes v) (tokens_of rule bytes) =
-    more_counts rule most more bytes so.rest runs run c v (so.counts v) made in
-    let none : count bytes_eq (string_bytes v) (tokens_of rule (drop_lines most so.rest)) ≡ 0 = ap (λ (l : List ℕ). count bytes_eq (string_bytes v) (tokens_of rule l)) (made.ended over) in
+    let all : times_in_runs text (runs ++ run ∷ []) + count bytes_eq text (tokens_of rule (drop_lines most so.rest)) ≡ count bytes_eq text (tokens_of rule bytes) =
+    more_counts rule most more bytes so.rest runs run c text (so.counts text) made in
+    let none : count bytes_eq text (tokens_of rule (drop_lines most so.rest)) ≡ 0 = ap (λ (l : List ℕ). count bytes_eq text (tokens_of rule l)) (made.ended over) in
     whole _ _ _ all none
   where
     whole : (m n k : ℕ) → m + n ≡ k → n ≡ 0 → m ≡ k
     whole m n k p q = omega arith
 
--- ---- the runs are opened
-
 -- ---- the runs are merged
-
-sum_of_map : {X Y : Type 0} (f : Y → ℕ) (g : X → Y) (xs : List X) → sum_by f (map g xs) ≡ sum_by (λ x. f (g x)) xs
-sum_of_map f g [] = refl
-sum_of_map {X} f g (x ∷ xs) = sum_by-cons f (g x) (map g xs) ∙ ap (λ (n : ℕ). f (g x) + n) (sum_of_map f g xs) ∙ sym (sum_by-cons (λ (y : X). f (g y)) x xs)
 
 merged_counts : (texts : List (List ℕ)) (runs : List (Vec ℕ)) (merged : List (List ℕ × ℕ)) → HaveCountsOf texts runs → IsMergeOf (map (λ run. rows_in run.items) runs) merged → AreCountsOf texts merged
 merged_counts texts runs merged have is = record {
   rises = is.rises;
-  counts = λ v. is.sums (string_bytes v) ∙ sum_of_map (times_in (string_bytes v)) (λ (run : Vec ℕ). rows_in run.items) runs ∙ have v;
+  counts = λ text. is.sums text ∙ sum_of_map (times_in text) (λ (run : Vec ℕ). rows_in run.items) runs ∙ have text;
   shown = is.shown;
 }
 

@@ -10,4 +10,5 @@ pub mod RunLemmas
 pub mod RunTextLemmas
 pub mod SortedLemmas
 pub mod SortedMergeLemmas
+pub mod TextLemmas
 pub mod WordLemmas

@@ -1,5 +1,5 @@
 -- Lines that are read and counted, one after the other.
-use Rattle.std.proofs.Common.{◌≡◌, ℕ, ◌+◌, ◌≤◌, Bool, true, false, cond, List, [], ◌∷◌, ◌++◌, length, take, filter, flat_map, String, string_bytes, string_eq, bytes_eq, Global, IsUtf8, Option, None, Some, IfSome, Result, Ok, Err, OnOk, refl, sym, ◌∙◌, ap, subst, arith}
+use Rattle.std.proofs.Common.{◌≡◌, ℕ, ◌+◌, ◌≤◌, Bool, true, false, cond, List, [], ◌∷◌, ◌++◌, length, take, filter, flat_map, map, String, string_bytes, string_eq, bytes_eq, Global, IsUtf8, Option, None, Some, IfSome, Result, Ok, Err, OnOk, refl, sym, ◌∙◌, ap, subst, arith}
 use Rattle.std.specs.Str.{is_utf8}
 use Rattle.std.specs.Str.Lines.{lines}
 use Rattle.std.proofs.lemmas.Grind.{flat_map-append}
@@ -10,12 +10,13 @@ use Rattle.std.specs.Cmp.Lexicographic.{nat_list_eq_equiv}
 use Rattle.hashbag.specs.Bag.{Bag}
 use Rattle.hashbag.specs.EqualityLaws.{count_append}
 use Rattle.hashbag.specs.Occurrences.{count}
-use Rattle.hashbag_words_core.specs.Counts.{AddsTexts, HasCountsOf}
+use Rattle.hashbag_words_core.specs.Counts.{texts_in, AddsTexts, HasCountsOf}
 use Rattle.hashbag_words_core.specs.Reading.{ReadsLine, CountsLines, EndsLine, drop_lines}
 use Rattle.hashbag_words_core.specs.Tokens.{tokens_of, tokens_of_line, tokens_of_lines}
 use Rattle.hashbag_words_core.specs.declared.rule.Rule.{Rule}
 use Rattle.hashbag_words_core.proofs.CountLemmas.{AddsTexts-nil, AddsTexts-append}
 use Rattle.hashbag_words_core.proofs.LineLemmas.{take_next_line, drop_lines-next, drop_lines-past, no_more_lines, length-lines, lines-append}
+use Rattle.hashbag_words_core.proofs.TextLemmas.{both}
 
 pub tokens_of_lines-append : (rule : Rule) (xs ys : List (List ℕ)) → tokens_of_lines rule (xs ++ ys) ≡ tokens_of_lines rule xs ++ tokens_of_lines rule ys
 tokens_of_lines-append rule xs ys =
@@ -97,22 +98,22 @@ module _ {S : Type 0} where
   -- as many lines as there are bytes are all lines
   pub counted_whole : (rule : Rule) (most : ℕ) (bytes : List ℕ) (more : Bool) (old new : Bag (String Global) S) (left : Option (List ℕ)) → length bytes ≤ most → old.items ≡ []
       → CountsLines rule most bytes more old new left → HasCountsOf (tokens_of rule bytes) new
-  counted_whole rule most bytes more old new left le none h v =
+  counted_whole rule most bytes more old new left le none h text =
       let all : take most (lines bytes) ≡ lines bytes = take_all most (lines bytes) (omega (arith, length-lines bytes)) in
-      h.counts v
-      ∙ ap (λ (l : List (String Global)). count string_eq v l + count bytes_eq (string_bytes v) (tokens_of_lines rule (take most (lines bytes)))) none
-      ∙ ap (λ (l : List (List ℕ)). 0 + count bytes_eq (string_bytes v) (tokens_of_lines rule l)) all
+      h.counts text
+      ∙ ap (λ (l : List (String Global)). count bytes_eq text (map string_bytes l) + count bytes_eq text (tokens_of_lines rule (take most (lines bytes)))) none
+      ∙ ap (λ (l : List (List ℕ)). 0 + count bytes_eq text (tokens_of_lines rule l)) all
       ∙ none_before _
 
   -- the counts of two parts, split at a line end, add up to those of the whole
   pub counts_of_both : {S2 : Type 0} (rule : Rule) (xs ys : List ℕ) (first : Bag (String Global) S) (second : Bag (String Global) S2) (sum : Bag (String Global) S) → EndsLine xs → HasCountsOf (tokens_of rule xs) first → HasCountsOf (tokens_of rule ys) second
       → ((v : String Global) → count string_eq v sum.items ≡ count string_eq v first.items + count string_eq v second.items) → HasCountsOf (tokens_of rule (xs ++ ys)) sum
-  counts_of_both rule xs ys first second sum ends f g merged v =
-      let a : count string_eq v first.items ≡ count bytes_eq (string_bytes v) (tokens_of rule xs) = f v in
-      let b : count string_eq v second.items ≡ count bytes_eq (string_bytes v) (tokens_of rule ys) = g v in
-      let both : count string_eq v sum.items ≡ count string_eq v first.items + count string_eq v second.items = merged v in
-      let parts : count bytes_eq (string_bytes v) (tokens_of rule xs ++ tokens_of rule ys) ≡ count bytes_eq (string_bytes v) (tokens_of rule xs) + count bytes_eq (string_bytes v) (tokens_of rule ys) =
-      count_append nat_list_eq_equiv (string_bytes v) (tokens_of rule xs) (tokens_of rule ys) in
-      let whole : count bytes_eq (string_bytes v) (tokens_of rule (xs ++ ys)) ≡ count bytes_eq (string_bytes v) (tokens_of rule xs ++ tokens_of rule ys) =
-      ap (λ (l : List (List ℕ)). count bytes_eq (string_bytes v) l) (ap (λ (l : List (List ℕ)). tokens_of_lines rule l) (lines-append xs ys ends) ∙ tokens_of_lines-append rule (lines xs) (lines ys)) in
-      omega (arith, a, b, both, parts, whole)
+  counts_of_both rule xs ys first second sum ends f g merged text =
+      let a : count bytes_eq text (texts_in first) ≡ count bytes_eq text (tokens_of rule xs) = f text in
+      let b : count bytes_eq text (texts_in second) ≡ count bytes_eq text (tokens_of rule ys) = g text in
+      let together : count bytes_eq text (texts_in sum) ≡ count bytes_eq text (texts_in first) + count bytes_eq text (texts_in second) = both first.items second.items sum.items merged text in
+      let parts : count bytes_eq text (tokens_of rule xs ++ tokens_of rule ys) ≡ count bytes_eq text (tokens_of rule xs) + count bytes_eq text (tokens_of rule ys) =
+      count_append nat_list_eq_equiv text (tokens_of rule xs) (tokens_of rule ys) in
+      let whole : count bytes_eq text (tokens_of rule (xs ++ ys)) ≡ count bytes_eq text (tokens_of rule xs ++ tokens_of rule ys) =
+      ap (λ (l : List (List ℕ)). count bytes_eq text l) (ap (λ (l : List (List ℕ)). tokens_of_lines rule l) (lines-append xs ys ends) ∙ tokens_of_lines-append rule (lines xs) (lines ys)) in
+      omega (arith, a, b, together, parts, whole)

@@ -1,17 +1,19 @@
 -- Lines of runs that are read one by one.
-use Rattle.std.proofs.Common.{◌≡◌, ◌≢◌, ℕ, suc, ◌+◌, ◌<◌, ◌==◌, Bool, true, false, cond, not, List, [], ◌∷◌, ◌++◌, length, get_or, take, drop, filter_map, String, Global, Option, None, Some, option_map, IfSome, refl, sym, ◌∙◌, ap, arith, ne_eqb}
+use Rattle.std.proofs.Common.{◌≡◌, ◌≢◌, ℕ, suc, ◌+◌, ◌<◌, ◌==◌, Bool, true, false, cond, not, List, [], ◌∷◌, ◌++◌, length, get_or, take, drop, filter_map, String, Global, Option, None, Some, option_map, IfSome, IsSome, refl, sym, ◌∙◌, ap, subst, arith, ne_eqb}
 use Rattle.std.specs.Io.BufRead.{first_line, drop_through}
 use Rattle.std.specs.List.{before_first, after_first, cons_option, position_or_len}
 use Rattle.std.specs.Str.Lines.{lines}
 use Rattle.std.specs.Str.Parse.{digits_value, without_leading_plus}
 use Rattle.std.proofs.Math.Seq.{take-append_seam, drop-append-add}
-use Rattle.hashbag_words_core.specs.Reading.{ReadsLine}
+use Rattle.hashbag_words_core.specs.Met.{Meets}
+use Rattle.hashbag_words_core.specs.Reading.{ReadsLine, ReadsToEnd}
 use Rattle.hashbag_words_core.specs.Rows.{unescaped, IsLineOf}
 use Rattle.hashbag_words_core.specs.Runs.{read_as, rows_in, rows_of_file, rows_left, unmarked}
 use Rattle.hashbag_words_core.specs.Sorted.{row_of, GivesRow}
 use Rattle.hashbag_words_core.specs.Tokens.{without_mark}
 use Rattle.hashbag_words_core.specs.declared.lines.BadLines.{BadLines}
 use Rattle.hashbag_words_core.specs.declared.lines.BadLines.TheVariants.{Refused, Skipped}
+use Rattle.hashbag_words_core.specs.declared.row_reader.Met.TheVariants.{Passed}
 use Rattle.hashbag_words_core.specs.declared.rows.RowForm.{RowForm}
 use Rattle.hashbag_words_core.specs.declared.rows.RowForm.TheVariants.{Tsv, Uniq}
 use Rattle.hashbag_words_core.proofs.LineLemmas.{lines-first}
@@ -75,3 +77,20 @@ gives_row Tsv Refused true (Some bytes) new line row reads is = (
 )
 gives_row Tsv Skipped marked old new line row reads is = tt
 gives_row Uniq bad_lines marked old new line row reads is = tt
+
+-- ---- the bytes that are left
+
+-- known rows are not passed over
+pub none_passed : (old new : Option (List (List ℕ × ℕ))) → Meets old Passed new → IsSome old → ⊥
+none_passed None new meets known = absurd (cc)
+none_passed (Some rows) new meets known = meets
+
+-- known bytes are known after a line
+pub known_after : (old new : Option (List ℕ)) (line : List ℕ) → IfSome old (λ bytes. ReadsLine true bytes line new) → IsSome old → IsSome new
+known_after None new line reads known = absurd (cc)
+known_after (Some bytes) new line reads known = subst (λ (o : Option (List ℕ)). IsSome o) (sym reads.2) refl
+
+-- none are left where there was no line
+pub none_after : (old new : Option (List ℕ)) (line : List ℕ) → IfSome old (λ bytes. ReadsLine false bytes line new) → ReadsToEnd old new
+none_after None new line reads known = absurd (cc)
+none_after (Some bytes) new line reads known = reads.1

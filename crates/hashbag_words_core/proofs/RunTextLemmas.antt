@@ -23,6 +23,7 @@ use Rattle.hashbag_words_core.specs.Sorted.{row_of, of_row, times_in, text_cmp, 
 use Rattle.hashbag_words_core.proofs.LineLemmas.{lines-cut}
 use Rattle.hashbag_words_core.proofs.RowLemmas.{letter_back, plain_byte, unescaped-escaped}
 use Rattle.hashbag_words_core.proofs.RunLemmas.{read_as-line}
+use Rattle.hashbag_words_core.proofs.TextLemmas.{same_by}
 
 -- ---- what rows count
 
@@ -117,7 +118,7 @@ rows_again (p ∷ pairs) fits =
 pub is_run : {S : Type 0} (bag : Bag (String Global) S) (pairs : List (String Global × ℕ)) → IsSetWalkOf string_eq bag pairs → IsStrictlySortedBy string_cmp (keys_of pairs) → IsRunOf bag (map row_of pairs)
 is_run bag pairs walk up = record {
   rises = rows_rise pairs up;
-  counts = λ v. sum_of_rows v pairs ∙ sym (count_written string_eq_equiv v pairs) ∙ count_rearranged string_eq_equiv v (occurrences pairs) bag.items walk.means;
+  counts = same_by bag.items pairs (λ v. sum_of_rows v pairs ∙ sym (count_written string_eq_equiv v pairs) ∙ count_rearranged string_eq_equiv v (occurrences pairs) bag.items walk.means);
   again = rows_again pairs (fits (sum_by (λ p. p.1) pairs) (length bag.items) walk.total walk.fits);
 }
   where

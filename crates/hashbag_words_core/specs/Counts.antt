@@ -3,19 +3,22 @@ use Rattle.std.specs.Prelude.{◌≡◌, ℕ, ◌+◌, Bool, List, map, if◌the
 use Rattle.std.specs.Borrow.{Bor}
 use Rattle.std.specs.Iterator.{Drains}
 use Rattle.std.specs.Str.{bytes_eq}
-use Rattle.std.specs.String.{string_eq}
 use Rattle.std.specs.Global.{Global}
 use Rattle.hashbag.specs.Bag.{Bag}
 use Rattle.hashbag.specs.Occurrences.{count}
 use Rattle.hashbag_words_core.specs.Tokens.{token_of}
 
+-- the texts in a bag, each as often as it occurs. What is said of them is said of any bytes, also of those that are no text
+abbrev pub texts_in : {S : Type 0} → Bag (String Global) S → List (List ℕ)
+texts_in bag = map string_bytes bag.items
+
 -- each text is in the bag as often as it is in the list
 abbrev pub HasCountsOf : {S : Type 0} → List (List ℕ) → Bag (String Global) S → Type 0
-HasCountsOf texts bag = (v : String Global) → count string_eq v bag.items ≡ count bytes_eq (string_bytes v) texts
+HasCountsOf texts bag = (text : List ℕ) → count bytes_eq text (texts_in bag) ≡ count bytes_eq text texts
 
 -- each text is in the new bag as often as in the old one and in the list together
 abbrev pub AddsTexts : {S : Type 0} → Bag (String Global) S → Bag (String Global) S → List (List ℕ) → Type 0
-AddsTexts old new texts = (v : String Global) → count string_eq v new.items ≡ count string_eq v old.items + count bytes_eq (string_bytes v) texts
+AddsTexts old new texts = (text : List ℕ) → count bytes_eq text (texts_in new) ≡ count bytes_eq text (texts_in old) + count bytes_eq text texts
 
 -- all pieces that an iterator gave were added, each as its token
 abbrev pub AddsPieces : {I S : Type 0} → Bool → (I → Option (Bor (List ℕ)) → I → Type 0) → I → Bag (String Global) S → Bag (String Global) S → Type 0
@@ -23,4 +26,5 @@ AddsPieces fold steps pieces old new = (came : List (Bor (List ℕ))) × Drains 
 
 -- one text is in the new bag so much oftener than in the old one, and every other as often
 abbrev pub AddsTimes : {S : Type 0} → Bag (String Global) S → Bag (String Global) S → List ℕ → ℕ → Type 0
-AddsTimes old new text n = (v : String Global) → count string_eq v new.items ≡ count string_eq v old.items + (if bytes_eq (string_bytes v) text then n else 0)
+AddsTimes old new added n =
+    (text : List ℕ) → count bytes_eq text (texts_in new) ≡ count bytes_eq text (texts_in old) + (if bytes_eq text added then n else 0)

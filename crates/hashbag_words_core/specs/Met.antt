@@ -1,5 +1,5 @@
 -- What the next line of a file of rows is.
-use Rattle.std.specs.Prelude.{ℕ, List, Option, None, Some}
+use Rattle.std.specs.Prelude.{ℕ, Bool, true, false, List, Option, None, Some}
 use Rattle.hashbag_words_core.specs.Sorted.{GivesRow}
 use Rattle.hashbag_words_core.specs.declared.row_reader.Met.{Met}
 use Rattle.hashbag_words_core.specs.declared.row_reader.Met.TheVariants.{Row, Passed, End}
@@ -10,3 +10,9 @@ Meets old (Row row) new = GivesRow old (Some row) new
 Meets old End new = GivesRow old None new
 Meets None Passed new = Unit {0}
 Meets (Some rows) Passed new = ⊥
+
+-- there was a line: its row was returned, or it was passed over
+abbrev pub is_line : Met → Bool
+is_line (Row row) = true
+is_line Passed = true
+is_line End = false

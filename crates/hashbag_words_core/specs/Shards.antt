@@ -1,5 +1,5 @@
 -- Shards: parts of all tokens, by a hash of the token.
-use Rattle.std.specs.Prelude.{◌≡◌, ℕ, ◌*◌, ◌%◌, Bool, List, [], ◌∷◌, nat_eq, nat_lt, ◌&&◌, if◌then◌else◌, bit_xor, String, string_bytes}
+use Rattle.std.specs.Prelude.{◌≡◌, ℕ, ◌*◌, ◌%◌, Bool, true, List, [], ◌∷◌, nat_eq, nat_lt, ◌&&◌, if◌then◌else◌, bit_xor, String, string_bytes, Option, None, Some}
 use Rattle.std.specs.Global.{Global}
 use Rattle.std.specs.String.{string_eq}
 use Rattle.hashbag.specs.Bag.{Bag}
@@ -22,6 +22,11 @@ fnv bytes = fnv_from 14695981039346656037 bytes
 -- the text is in the shard. So it is in exactly one of those with indices below a number that isn't 0
 abbrev pub is_in : Shard → List ℕ → Bool
 is_in shard text = nat_lt 0 shard.of && nat_eq (fnv text % shard.of) shard.index
+
+-- the text is shown: it is in the shard, or there is none
+abbrev pub is_shown : Option Shard → List ℕ → Bool
+is_shown None text = true
+is_shown (Some shard) text = is_in shard text
 
 -- what isn't in the shard is gone, and all else is as it was
 abbrev pub KeepsShard : {S : Type 0} → Shard → Bag (String Global) S → Bag (String Global) S → Type 0

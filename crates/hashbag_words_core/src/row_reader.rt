@@ -1,8 +1,9 @@
 //! The rows of a file of counts, one by one.
-ghost use Rattle.std.specs.Prelude.{◌≡◌, Some, false, true, option_map, IfOk, IsSomeAnd};
-ghost use Rattle.hashbag_words_core.specs.Met.{Meets};
+ghost use Rattle.std.specs.Prelude.{◌≡◌, Some, false, true, option_map, IfNone, IfOk, IfSome, IsSomeAnd};
+ghost use Rattle.hashbag_words_core.specs.Met.{is_line, Meets};
+ghost use Rattle.hashbag_words_core.specs.Reading.{ReadsLine, ReadsToEnd};
 ghost use Rattle.hashbag_words_core.specs.Runs.{read_as, rows_in, rows_left};
-ghost use Rattle.hashbag_words_core.specs.Sorted.{row_of};
+ghost use Rattle.hashbag_words_core.specs.Sorted.{row_of, GivesRow};
 ghost use Rattle.hashbag_words_core.specs.Tokens.{without_mark};
 
 use crate::errors::{BadLine, Fault};
@@ -112,8 +113,10 @@ impl<R: BufRead> RowReader<R> {
 
     // Reads the next line.
     fn next_line(&mut self) -> Result<Met, Fault>
-        ensures { IfOk result (λ met. Meets (rows_left self.old.form self.old.reading.bad_lines self.old.may_be_marked (R.remaining self.old.input)) met
+        ensures meets { IfOk result (λ met. Meets (rows_left self.old.form self.old.reading.bad_lines self.old.may_be_marked (R.remaining self.old.input)) met
             (rows_left self.new.form self.new.reading.bad_lines self.new.may_be_marked (R.remaining self.new.input))) }
+        ensures line { IfOk result (λ met. IfSome (R.remaining self.old.input)
+            (λ bytes. ReadsLine (is_line met) bytes self.new.line.items (R.remaining self.new.input))) }
     {
         let (there, is_ended) = next_ended_line(&mut self.input, &mut self.line)?;
         if !there {
@@ -134,7 +137,12 @@ impl<R: BufRead> Rows for RowReader<R> {
     // What is left is known, if the bytes are, the form is `tsv`, and no line is skipped.
     ghost left = { λ it. rows_left it.form it.reading.bad_lines it.may_be_marked (R.remaining it.input) };
 
-    fn next_row(&mut self) -> Result<Option<(String, usize)>, Fault> {
+    // In any form, and whatever a bad line does, there are no rows only at the end of the input.
+    fn next_row(&mut self) -> Result<Option<(String, usize)>, Fault>
+        ensures gives { IfOk result (λ row. GivesRow (rows_left self.old.form self.old.reading.bad_lines self.old.may_be_marked (R.remaining self.old.input)) row
+            (rows_left self.new.form self.new.reading.bad_lines self.new.may_be_marked (R.remaining self.new.input))) }
+        ensures end { IfOk result (λ row. IfNone row (ReadsToEnd (R.remaining self.old.input) (R.remaining self.new.input))) }
+    {
         'lines: for _read in 0..u64::MAX {
             match self.next_line()? {
                 Met::Row(row) => return Ok(Some(row)),

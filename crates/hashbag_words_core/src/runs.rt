@@ -1,6 +1,7 @@
 //! Runs: what a bag has, as rows of `tsv` whose tokens rise.
 ghost use Rattle.std.specs.Prelude.{◌≡◌, ℕ, ◌+◌, List, [], length, map, OnOk, OnErr};
 ghost use Rattle.std.specs.Io.KnownBytes.{Appends};
+ghost use Rattle.hashbag.specs.Held.{cleared};
 ghost use Rattle.hashbag.specs.Walks.{seen};
 ghost use Rattle.hashbag_words_core.specs.Sorted.{row_of};
 ghost use Rattle.hashbag_words_core.specs.Runs.{run_text, IsRunOf};
@@ -58,6 +59,8 @@ pub fn spill<W: Write, S: BuildHasher + Drop>(
     ensures run { OnOk result ((rows : List (List ℕ × ℕ)) × IsRunOf bag.old rows × Appends (W.contents out.old) (W.contents out.new) (run_text rows)) }
     ensures empty { OnOk result (bag.new.items ≡ []) }
     ensures limit { OnOk result (bag.new.most + length bag.old.items ≡ bag.old.most) }
+    ensures slots { OnOk result (bag.new.tables ≡ cleared bag.old.tables) }
+    ensures hasher { OnOk result (bag.new.hasher ≡ bag.old.hasher) }
     ensures err { OnErr result (bag.new ≡ bag.old) }
 {
     write_run(alloc, out, bag)?;

@@ -1,5 +1,5 @@
 //! Shards: parts of all tokens, by a fixed hash of the token.
-ghost use Rattle.std.specs.Prelude.{◌≡◌, if◌then◌else◌, string_bytes};
+ghost use Rattle.std.specs.Prelude.{◌≡◌, ◌<◌, if◌then◌else◌, string_bytes, IfSome};
 ghost use Rattle.hashbag_words_core.specs.Shards.{fnv, is_in, KeepsShard};
 
 use hashbag::HashBag;
@@ -29,7 +29,9 @@ pub fn hash(text: &str) -> u64
 
 impl Shard {
     /// Returns the shard that is written as `I/N`, where `I` is from 1 to `N`, or `None` if the text isn't that.
-    pub fn of_text(text: &str) -> Option<Shard> {
+    pub fn of_text(text: &str) -> Option<Shard>
+        ensures { IfSome result (λ shard. shard.index < shard.of) }
+    {
         let (first, second) = text.split_once('/')?;
         let number = first.parse::<u64>().ok()?;
         let of = second.parse::<u64>().ok()?;

@@ -1,4 +1,8 @@
 //! What is shown of rows that come one by one.
+ghost use Rattle.std.specs.Prelude.{◌≡◌, vec_len};
+ghost use Rattle.std.specs.BinaryHeap.{heap_len};
+ghost use Rattle.hashbag_words_core.specs.Shards.{is_shown};
+
 use crate::errors::Fault;
 use crate::shards::Shard;
 use crate::sorted_merge::Sink;
@@ -18,9 +22,10 @@ pub struct WrittenRows<W> {
 }
 
 impl<W: Write> Sink for WrittenRows<W> {
-    ghost use Rattle.std.specs.Prelude.{⊤};
+    ghost use Rattle.std.specs.Prelude.{◌≡◌, ◌<◌};
 
-    ghost put_gives = { λ _ _ _. ⊤ };
+    // A row that counts less than `least` changes nothing.
+    ghost put_gives = { λ old row new. (new.least ≡ old.least) × (row.1 < old.least → new.writer ≡ old.writer) };
 
     fn put(&mut self, token: String, count: usize) -> Result<(), Fault> {
         if count >= self.least {
@@ -39,16 +44,27 @@ pub struct ShardRows<K> {
     pub shard: Option<Shard>,
 }
 
-impl<K: Sink> Sink for ShardRows<K> {
-    ghost use Rattle.std.specs.Prelude.{⊤};
+// Returns whether a token is in the shard, or there is none.
+fn shows(shard: Option<Shard>, token: &str) -> bool
+    ensures { result ≡ is_shown shard token.now }
+{
+    match shard {
+        Some(shard) => shard.has(token),
+        None => true,
+    }
+}
 
-    ghost put_gives = { λ _ _ _. ⊤ };
+impl<K: Sink> Sink for ShardRows<K> {
+    ghost use Rattle.std.specs.Prelude.{◌≡◌, true, false};
+    ghost use Rattle.hashbag_words_core.specs.Shards.{is_shown};
+
+    // The sink takes the rows of the shard, and no other.
+    ghost put_gives = { λ old row new. (new.shard ≡ old.shard) × (is_shown old.shard row.0 ≡ true → K.put_gives old.sink row new.sink)
+        × (is_shown old.shard row.0 ≡ false → new.sink ≡ old.sink) };
 
     fn put(&mut self, token: String, count: usize) -> Result<(), Fault> {
-        if let Some(shard) = self.shard {
-            if !shard.has(token.as_str()) {
-                return Ok(());
-            }
+        if !shows(self.shard, token.as_str()) {
+            return Ok(());
         }
         self.sink.put(token, count)
     }
@@ -65,7 +81,10 @@ pub struct TopRows {
 
 impl TopRows {
     /// Keeps at most `most` rows, and none that counts less than `least`.
-    pub fn new(alloc: Global, most: usize, least: usize) -> TopRows {
+    pub fn new(alloc: Global, most: usize, least: usize) -> TopRows
+        ensures none { heap_len result.kept ≡ 0 }
+        ensures bounds { (result.most ≡ most) × (result.least ≡ least) }
+    {
         TopRows {
             kept: BinaryHeap::new(alloc),
             most,
@@ -74,15 +93,19 @@ impl TopRows {
     }
 
     /// The rows that are kept, the commonest first.
-    pub fn into_rows(self) -> Vec<(Reverse<usize>, String)> {
+    pub fn into_rows(self) -> Vec<(Reverse<usize>, String)>
+        ensures { vec_len result ≡ heap_len self.kept }
+    {
         self.kept.into_sorted_vec()
     }
 }
 
 impl Sink for TopRows {
-    ghost use Rattle.std.specs.Prelude.{⊤};
+    ghost use Rattle.std.specs.Prelude.{◌≡◌, ◌≤◌};
+    ghost use Rattle.std.specs.BinaryHeap.{heap_len};
 
-    ghost put_gives = { λ _ _ _. ⊤ };
+    // No more rows are kept than the most.
+    ghost put_gives = { λ old _ new. (new.most ≡ old.most) × (heap_len old.kept ≤ old.most → heap_len new.kept ≤ new.most) };
 
     fn put(&mut self, token: String, count: usize) -> Result<(), Fault> {
         if count < self.least {

@@ -13,7 +13,7 @@ pub trait Rows {
 
     /// Returns the next row, or `None` after the last one.
     fn next_row(&mut self) -> Result<Option<(String, usize)>, Fault>
-        ensures { IfOk result (λ row. GivesRow (left self.old) row (left self.new)) };
+        ensures gives { IfOk result (λ row. GivesRow (left self.old) row (left self.new)) };
 
     /// Passes over the row that was returned last, since it is bad, or rejects it. If the rows are known, it rejects it.
     fn pass_over(&mut self, bad: BadLine) -> Result<(), Fault>

@@ -38,6 +38,8 @@ enum Verb {
     Merge,
     MergeRef,
     KeepMost,
+    // A sum of a bag at its limit with one of three values, which fails by the limit.
+    FullMergeRef,
     // Calls on two bags that don't allocate.
     Parts,
     // Lists of all pairs, and of the commonest three.
@@ -75,6 +77,7 @@ impl Single {
             "merge" => Verb::Merge,
             "merge_ref" => Verb::MergeRef,
             "keep_most" => Verb::KeepMost,
+            "full_merge_ref" => Verb::FullMergeRef,
             "parts" => Verb::Parts,
             "sorted" => Verb::Sorted,
             "most_common" => Verb::MostCommon,
@@ -169,7 +172,9 @@ fn make_on(
     let mut bag = bag;
     match verb {
         Verb::IntoIter => used_up(bag),
-        Verb::Joins | Verb::Parts => with_three(alloc, &mut bag, verb, refusals),
+        Verb::Joins | Verb::Parts | Verb::FullMergeRef => {
+            with_three(alloc, &mut bag, verb, refusals)
+        }
         Verb::Merge | Verb::MergeRef | Verb::KeepMost => {
             with_sum(alloc, &mut bag, verb, refusals)
         }
@@ -209,6 +214,7 @@ fn with_three(
     match inserted(alloc, 3, refusals)? {
         Some(other) => match verb {
             Verb::Joins => joined(bag, &other),
+            Verb::FullMergeRef => past_the_limit(bag, &other),
             _ => parts(bag, &other),
         },
         None => Ok(()),
@@ -303,6 +309,15 @@ fn parts(bag: &mut HashBag<u64>, other: &HashBag<u64>) -> Result<(), Wrong> {
     check(is_disjoint(bag, other), "is_disjoint of what is left")?;
     keep_common(bag, other);
     check(bag.is_empty(), "keep_common")
+}
+
+// A sum with a bag at its limit fails before anything is cloned.
+fn past_the_limit(bag: &mut HashBag<u64>, other: &HashBag<u64>) -> Result<(), Wrong> {
+    let len = bag.len();
+    check(bag.set_limit(len) == Ok(()), "set_limit before merge_ref")?;
+    let sum = merge_ref(bag, other);
+    check(sum == Err(BagError::TooMany), "merge_ref past the limit")?;
+    check(bag.len() == len, "the total after merge_ref past the limit")
 }
 
 // A list of pairs, as long as the number says.

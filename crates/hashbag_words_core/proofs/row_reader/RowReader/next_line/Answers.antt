@@ -14,8 +14,8 @@ by_mark true line shown plain behind = sym (behind refl)
 by_mark false line shown plain behind = sym (plain refl)
 
 -- the row of a line
-pub returns-in-Some : goal.returns-in-Some
-returns-in-Some g c =
+pub returns-in-Some-clause-meets : goal.returns-in-Some-clause-meets
+returns-in-Some-clause-meets g c =
     let reader = c.args.self.now in
     let rest = g.R.Read.remaining in
     let line = c.next_ended_line.new.line.items in
@@ -30,3 +30,22 @@ returns-in-Some g c =
     in
     subst (λ (b : BadLines). GivesRow (rows_left reader.form reader.reading.bad_lines reader.may_be_marked (rest reader.input)) (Some row) (rows_left reader.form b false (rest c.next_ended_line.new.input))) (sym same)
     (gives_row reader.form reader.reading.bad_lines reader.may_be_marked (rest reader.input) (rest c.next_ended_line.new.input) line row reads is)
+
+-- the line that there was, or that there was none
+pub returns-then-not-there-clause-line : goal.returns-then-not-there-clause-line
+returns-then-not-there-clause-line g c =
+    let rest = g.R.Read.remaining in
+    let line = c.next_ended_line.new.line.items in
+    subst (λ (b : Bool). IfSome (rest c.args.self.now.input) (λ bytes. ReadsLine b bytes line (rest c.next_ended_line.new.input))) c.if-not-there.true c.in_ok-there.ensures.line
+
+pub returns-in-Some-clause-line : goal.returns-in-Some-clause-line
+returns-in-Some-clause-line g c =
+    let rest = g.R.Read.remaining in
+    let line = c.next_ended_line.new.line.items in
+    subst (λ (b : Bool). IfSome (rest c.args.self.now.input) (λ bytes. ReadsLine b bytes line (rest c.next_ended_line.new.input))) c.if-not-there.false c.in_ok-there.ensures.line
+
+pub returns-in-None-clause-line : goal.returns-in-None-clause-line
+returns-in-None-clause-line g c =
+    let rest = g.R.Read.remaining in
+    let line = c.next_ended_line.new.line.items in
+    subst (λ (b : Bool). IfSome (rest c.args.self.now.input) (λ bytes. ReadsLine b bytes line (rest c.next_ended_line.new.input))) c.if-not-there.false c.in_ok-there.ensures.line
