@@ -8,7 +8,7 @@ use Rattle.hashbag_ledger_core.specs.declared.movements.Movement.{Movement}
 use Rattle.hashbag_ledger_core.specs.declared.movements.Refusal.{Refusal}
 use Rattle.hashbag_ledger_core.specs.Ledger.{coming, going, came, went, there, asks_too_much, entered_after, refused_after, refusal, entered_of, refused_of, Changes, RefusesMovement, IsNeverBelowZero, Leaves}
 
-not_below : (m n : ℕ) → n ≤ m → nat_lt m n ≡ false
+pub not_below : (m n : ℕ) → n ≤ m → nat_lt m n ≡ false
 not_below m n enough = by_case (nat_lt m n) refl
   where
     by_case : (b : Bool) → nat_lt m n ≡ b → nat_lt m n ≡ false

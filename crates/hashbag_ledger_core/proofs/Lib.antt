@@ -1,4 +1,5 @@
 pub mod AfterLemmas
+pub mod BookLemmas
 pub mod EnterLemmas
 pub mod LedgerLemmas
 pub mod RunLemmas

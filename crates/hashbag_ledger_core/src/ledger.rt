@@ -4,8 +4,11 @@ ghost use Rattle.hashbag.specs.Occurrences.{count};
 ghost use Rattle.hashbag_lists.specs.Quantities.{numbers, quantity, IsBalance};
 ghost use Rattle.hashbag_ledger_core.specs.declared.movements.Movement.{Movement};
 ghost use Rattle.hashbag_ledger_core.specs.declared.movements.Place.{Place};
+ghost use Rattle.hashbag_ledger_core.specs.Entries.{IsStockAfter};
 ghost use Rattle.hashbag_ledger_core.specs.Ledger.{in_the_end, refused_of, Leaves};
 ghost use Rattle.hashbag_ledger_core.specs.Settled.{listed, IsLedgerOf, IsPastWithin};
+
+pub mod booking;
 
 use crate::entering::{LedgerError, enter};
 use crate::movements::{Movement, Refusal};
@@ -55,8 +58,16 @@ fn stock_of_list<T: Eq + Hash + Drop, S: BuildHasher + Drop>(
     }
 }
 
-// Returns the stock that a list names. Its limit is `most`.
-fn stock_at_start<T: Eq + Hash + Drop, S: BuildHasher + Drop>(
+/// Returns the stock that a list names. Its limit is `most`. An article may be in the list more than once; its numbers add up.
+///
+/// # Errors
+///
+/// `StartTooMany` exactly if the numbers of the list are more than `most` together. `Memory` if an allocation fails.
+///
+/// # Complexity
+///
+/// Hashes each entry of the list once. Allocates for the articles.
+pub fn stock_at_start<T: Eq + Hash + Drop, S: BuildHasher + Drop>(
     alloc: Global,
     state: S,
     most: usize,
@@ -64,6 +75,7 @@ fn stock_at_start<T: Eq + Hash + Drop, S: BuildHasher + Drop>(
 ) -> Result<HashBag<T, S>, LedgerError>
     ensures counts { IfOk result (λ stock. (v : T) → count T.eq v stock.items ≡ quantity T.eq v list.items) }
     ensures len { IfOk result (λ stock. length stock.items ≡ numbers list.items) }
+    ensures begun { IfOk result (λ stock. IsStockAfter T.eq list.items [] stock) }
     ensures limit { IfOk result (λ stock. stock.most ≡ most) }
     ensures too_many { (result ≡ Err LedgerError.StartTooMany) ↔ (most < numbers list.items) }
     ensures fits { OnOk result (numbers list.items ≤ most) }

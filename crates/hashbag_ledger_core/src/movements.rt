@@ -30,6 +30,30 @@ pub struct Movement<T> {
     pub change: Change,
 }
 
+/// What became of a movement.
+#[derive(Clone, Copy, PartialEq, Eq, Debug)]
+pub enum Outcome {
+    /// It was entered.
+    Entered {
+        /// How many of its article there are after it.
+        after: usize,
+    },
+    /// It would remove more than is there, and wasn't entered.
+    Refused {
+        /// How many of its article there are.
+        there: usize,
+    },
+}
+
+/// A movement with what became of it.
+#[derive(PartialEq, Eq, Debug, Drop)]
+pub struct Entry<T> {
+    /// The movement.
+    pub movement: Movement<T>,
+    /// What became of it.
+    pub outcome: Outcome,
+}
+
 /// A movement that would remove more than is there. It isn't entered.
 #[derive(PartialEq, Eq, Debug, Drop)]
 pub struct Refusal<T> {

@@ -1,5 +1,5 @@
 -- Two lists with the same elements at the same places, and what a look at a place gives.
-use Rattle.std.proofs.Common.{◌≡◌, ℕ, ◌+◌, ◌<◌, ◌≤◌, zero, suc, List, [], ◌∷◌, length, map, Option, Some, None, IsNone, slice_get, Bor, inl, inr, refl, sym, ◌∙◌, ap, arith, ◌≢◌}
+use Rattle.std.proofs.Common.{◌≡◌, ℕ, ◌<◌, ◌≤◌, suc, List, [], ◌∷◌, length, map, Option, Some, None, IsNone, slice_get, Bor, inl, inr, refl, sym, ◌∙◌, ap, arith, ◌≢◌}
 use Rattle.std.proofs.lemmas.Bool.{cases_lt}
 use Rattle.std.specs.Option.{option_copied, option_map}
 use Rattle.std.specs.Slice.{IsItemAt}

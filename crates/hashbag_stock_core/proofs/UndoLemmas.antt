@@ -1,14 +1,13 @@
 -- Opposite movements: what they bring in and take out, and when none of them is refused.
-use Rattle.std.proofs.Common.{◌≡◌, ◌≢◌, ℕ, ◌+◌, ◌-◌, ◌<◌, ◌≤◌, nat_lt, Bool, true, false, cond, List, [], ◌∷◌, ◌++◌, Ordering, refl, sym, ◌∙◌, ap, subst, inl, inr, arith}
+use Rattle.std.proofs.Common.{◌≡◌, ◌≢◌, ℕ, ◌+◌, ◌-◌, ◌<◌, nat_lt, Bool, true, false, cond, List, [], ◌∷◌, ◌++◌, Ordering, refl, sym, ◌∙◌, ap, subst, arith}
 use Rattle.std.specs.Cmp.{IsEquivalence}
-use Rattle.std.proofs.lemmas.Bool.{ltb-true, ltb-false}
+use Rattle.std.proofs.lemmas.Bool.{ltb-true}
 use Rattle.std.proofs.lemmas.List.{append_assoc, append-nil}
 use Rattle.std.proofs.lemmas.List.Sums.{sum_by-append, sum_by-cons, sum_by_push}
 use Rattle.hashbag_lists.specs.Quantities.{IsBalance}
 use Rattle.hashbag_ledger_core.specs.declared.movements.Change.{Change}
 use Rattle.hashbag_ledger_core.specs.declared.movements.Change.TheVariants.{In, Out}
 use Rattle.hashbag_ledger_core.specs.declared.movements.Movement.{Movement}
-use Rattle.hashbag_ledger_core.specs.declared.movements.Refusal.{Refusal}
 use Rattle.hashbag_ledger_core.specs.Ledger.{coming, going, came, went, there, asks_too_much, entered_after, refused_after, refusal, entered_of, refused_of, in_the_end, Leaves}
 use Rattle.hashbag_ledger_core.specs.Settled.{listed}
 use Rattle.hashbag_stock_core.specs.Undos.{coming_back, going_back, returns_of, removals_of, opposites_of, FallsBelowZero, TakesBack}

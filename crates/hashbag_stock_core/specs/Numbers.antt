@@ -1,5 +1,5 @@
 -- Changes as whole numbers with a sign.
-use Rattle.std.specs.Prelude.{◌≡◌, ℕ, ◌+◌, ℤ, pos, negsuc, zero, suc}
+use Rattle.std.specs.Prelude.{ℕ, ◌+◌, ℤ, pos, negsuc, zero, suc}
 use Rattle.hashbag_ledger_core.specs.declared.movements.Change.{Change}
 use Rattle.hashbag_ledger_core.specs.declared.movements.Change.TheVariants.{In, Out}
 

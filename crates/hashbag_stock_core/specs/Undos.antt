@@ -1,11 +1,12 @@
 -- A batch that is taken back by its opposite movements.
-use Rattle.std.specs.Prelude.{◌≡◌, ◌≢◌, ℕ, ◌+◌, ◌-◌, ◌<◌, Bool, List, [], ◌∷◌, ◌++◌}
+use Rattle.std.specs.Prelude.{◌≡◌, ℕ, ◌+◌, ◌-◌, ◌<◌, Bool, List, [], ◌∷◌, ◌++◌}
 use Rattle.std.specs.declared.cmp.Ordering.{Ordering}
 use Rattle.hashbag_lists.specs.Quantities.{IsBalance}
 use Rattle.hashbag_ledger_core.specs.declared.movements.Change.{Change}
 use Rattle.hashbag_ledger_core.specs.declared.movements.Change.TheVariants.{In, Out}
 use Rattle.hashbag_ledger_core.specs.declared.movements.Movement.{Movement}
-use Rattle.hashbag_ledger_core.specs.Ledger.{came, went}
+use Rattle.hashbag_ledger_core.specs.Entries.{entries_of}
+use Rattle.hashbag_ledger_core.specs.Ledger.{came, went, refused_of}
 use Rattle.hashbag_ledger_core.specs.Settled.{listed}
 use Rattle.hashbag_stock_core.specs.declared.undoing.Undo.{Undo}
 use Rattle.hashbag_stock_core.specs.declared.undoing.Undo.TheVariants.{Done, Refused}
@@ -41,8 +42,13 @@ module _ {T : Type 0} (eq : T → T → Bool) where
 
   -- if the batch was the last one, the balance is again the one before it
   abbrev pub IsAsBefore : Undo T → (T → ℕ) → Type 0
-  IsAsBefore (Done left) before = (v : T) → listed eq left.items v ≡ before v
+  IsAsBefore (Done booked) before = (v : T) → listed eq booked.balance.items v ≡ before v
   IsAsBefore (Refused refusals) before = ⊥
+
+  -- what became of the opposite movements: all were entered, or these were refused
+  abbrev pub IsUndoOf : List (T × ℕ) → List (Movement T) → Undo T → Type 0
+  IsUndoOf L batch (Done booked) = booked.entries.items ≡ entries_of eq (listed eq L) (opposites_of batch)
+  IsUndoOf L batch (Refused refusals) = refusals.items ≡ refused_of eq (listed eq L) (opposites_of batch)
 
   module _ (cmp : T → T → Ordering) (stock : T → ℕ) (batch : List (Movement T)) where
     -- the batch is taken back: what it took out is there again, and what it brought in is gone
@@ -52,5 +58,5 @@ module _ {T : Type 0} (eq : T → T → Bool) where
 
     -- it is taken back, or an article would fall below zero
     abbrev pub IsUndo : Undo T → Type 0
-    IsUndo (Done left) = TakesBack left.items
+    IsUndo (Done booked) = TakesBack booked.balance.items
     IsUndo (Refused refusals) = (v : T) × FallsBelowZero stock batch v

@@ -1,15 +1,18 @@
 //! A batch of movements entered into the balance that is kept.
-ghost use Rattle.std.specs.Prelude.{◌≡◌, ◌≢◌, ℕ, ◌<◌, ◌^◌, ◌-◌, ◌↔◌, List, IfOk, IfErr, OnOk};
+ghost use Rattle.std.specs.Prelude.{◌≡◌, ◌≢◌, ℕ, ◌<◌, ◌^◌, ◌-◌, ◌↔◌, List, IfOk, IfErr, OnOk, string_cmp};
+ghost use Rattle.std.specs.String.{string_eq};
 ghost use Rattle.hashbag_lists.specs.Quantities.{numbers, IsBalance};
 ghost use Rattle.hashbag_ledger_core.specs.declared.movements.Movement.{Movement};
 ghost use Rattle.hashbag_ledger_core.specs.declared.movements.Place.{Place};
+ghost use Rattle.hashbag_ledger_core.specs.Entries.{IsBooked};
 ghost use Rattle.hashbag_ledger_core.specs.Ledger.{in_the_end, refused_of, Leaves};
 ghost use Rattle.hashbag_ledger_core.specs.Settled.{listed, IsPastWithin};
 ghost use Rattle.hashbag_stock_core.specs.Batches.{Continues};
 
 use crate::numbers::MOST;
 use hashbag_ledger_core::entering::LedgerError;
-use hashbag_ledger_core::ledger::Entered;
+use hashbag_ledger_core::ledger::booking::{Booked, book_all};
+use hashbag_ledger_core::ledger::{Entered, stock_at_start};
 use hashbag_ledger_core::movements::Movement;
 use hashbag_ledger_core::settling::settle_within;
 use std::alloc::Global;
@@ -39,4 +42,24 @@ pub fn enter_batch<T: Ord + Hash + Drop, S: BuildHasher + Drop>(
     ensures past { IfErr result (λ e. (p : Place) → e ≡ LedgerError.TooMany p → IsPastWithin T.eq (2 ^ 63 - 1) kept.items batch.items p) }
 {
     settle_within(alloc, state, MOST, kept, batch)
+}
+
+/// Enters a batch of movements as [`enter_batch`] does, and returns with the new balance what became of each movement: the rows that are
+/// to be written.
+///
+/// # Errors
+///
+/// As of [`enter_batch`].
+pub fn book_batch<S: BuildHasher + Drop>(
+    alloc: Global,
+    state: S,
+    kept: Vec<(String, usize)>,
+    batch: Vec<Movement<String>>,
+) -> Result<Booked<String>, LedgerError>
+    ensures booked { IfOk result (λ b. IsBooked string_eq string_cmp (2 ^ 63 - 1) kept.items batch.items b.balance.items b.entries.items) }
+    ensures too_many { (result ≡ Err LedgerError.StartTooMany) ↔ (2 ^ 63 - 1 < numbers kept.items) }
+    ensures past { IfErr result (λ e. (p : Place) → e ≡ LedgerError.TooMany p → IsPastWithin string_eq (2 ^ 63 - 1) kept.items batch.items p) }
+{
+    let stock = stock_at_start(alloc, state, MOST, kept)?;
+    book_all(alloc, stock, batch)
 }

@@ -1,23 +1,26 @@
 //! A batch that is taken back.
-ghost use Rattle.std.specs.Prelude.{◌≡◌, ℕ, ◌+◌, ◌<◌, ◌^◌, ◌-◌, ◌++◌, [], IfOk, IfErr, OnOk};
+ghost use Rattle.std.specs.Prelude.{◌≡◌, ℕ, ◌+◌, ◌<◌, ◌^◌, ◌-◌, ◌↔◌, ◌++◌, [], String, IfOk, IfErr, OnOk, string_cmp};
+ghost use Rattle.std.specs.Global.{Global};
+ghost use Rattle.std.specs.String.{string_eq};
 ghost use Rattle.hashbag_lists.specs.Quantities.{numbers};
 ghost use Rattle.hashbag_ledger_core.specs.Ledger.{came, went};
 ghost use Rattle.hashbag_ledger_core.specs.declared.movements.Place.{Place};
 ghost use Rattle.hashbag_ledger_core.specs.Settled.{listed, IsPastWithin};
-ghost use Rattle.hashbag_stock_core.specs.Undos.{coming_back, going_back, opposites_of, IsUndo, IsAsBefore};
+ghost use Rattle.hashbag_stock_core.specs.Undos.{coming_back, going_back, opposites_of, IsUndo, IsUndoOf, IsAsBefore};
 
 use crate::numbers::MOST;
 use hashbag_ledger_core::entering::LedgerError;
+use hashbag_ledger_core::ledger::booking::{Booked, book_all, count_refused, refusals_from};
+use hashbag_ledger_core::ledger::stock_at_start;
 use hashbag_ledger_core::movements::{Change, Movement, Refusal};
-use hashbag_ledger_core::settling::settle_within;
 use std::alloc::{AllocError, Global};
-use std::hash::{BuildHasher, Hash};
+use std::hash::BuildHasher;
 
 /// What becomes of an undo.
 #[derive(Drop)]
 pub enum Undo<T> {
-    /// The balance once the batch is taken back.
-    Done(Vec<(T, usize)>),
+    /// The balance once the batch is taken back, and the opposite movements, each with what became of it: all were entered.
+    Done(Booked<T>),
     /// Some articles would fall below zero: the opposite movements that ask for more than is there.
     Refused(Vec<Refusal<T>>),
 }
@@ -85,24 +88,30 @@ pub fn opposites<T: Drop>(
 ///
 /// # Errors
 ///
-/// `StartTooMany` only if the numbers of the balance are more than [`MOST`] together. `TooMany` with the place of a movement only if the
-/// total would pass [`MOST`] with its opposite. `Memory` if an allocation fails.
-pub fn take_back<T: Ord + Hash + Drop, S: BuildHasher + Drop>(
+/// `StartTooMany` exactly if the numbers of the balance are more than [`MOST`] together. `TooMany` with the place of a movement only if
+/// the total would pass [`MOST`] with its opposite. `Memory` if an allocation fails.
+pub fn take_back<S: BuildHasher + Drop>(
     alloc: Global,
     state: S,
-    kept: Vec<(T, usize)>,
-    batch: Vec<Movement<T>>,
-) -> Result<Undo<T>, LedgerError>
-    ensures undo { IfOk result (IsUndo T.eq T.cmp (listed T.eq kept.items) batch.items) }
-    ensures last { IfOk result (λ u. (before : T → ℕ) → ((v : T) → listed T.eq kept.items v + went T.eq v batch.items ≡ before v + came T.eq v batch.items)
-        → IsAsBefore T.eq u before) }
-    ensures past_at_start { result ≡ Err LedgerError.StartTooMany → 2 ^ 63 - 1 < numbers kept.items }
-    ensures past { IfErr result (λ e. (p : Place) → e ≡ LedgerError.TooMany p → IsPastWithin T.eq (2 ^ 63 - 1) kept.items (opposites_of batch.items) p) }
+    kept: Vec<(String, usize)>,
+    batch: Vec<Movement<String>>,
+) -> Result<Undo<String>, LedgerError>
+    ensures undo { IfOk result (IsUndo string_eq string_cmp (listed string_eq kept.items) batch.items) }
+    ensures last { IfOk result (λ u. (before : String Global → ℕ)
+        → ((v : String Global) → listed string_eq kept.items v + went string_eq v batch.items ≡ before v + came string_eq v batch.items)
+        → IsAsBefore string_eq u before) }
+    ensures each { IfOk result (IsUndoOf string_eq kept.items batch.items) }
+    ensures too_many { (result ≡ Err LedgerError.StartTooMany) ↔ (2 ^ 63 - 1 < numbers kept.items) }
+    ensures fit { OnOk result ((p : Place) → ¬ (IsPastWithin string_eq (2 ^ 63 - 1) kept.items (opposites_of batch.items) p)) }
+    ensures past { IfErr result (λ e. (p : Place) → e ≡ LedgerError.TooMany p
+        → IsPastWithin string_eq (2 ^ 63 - 1) kept.items (opposites_of batch.items) p) }
 {
+    let stock = stock_at_start(alloc, state, MOST, kept)?;
     let opposite = opposites(alloc, batch)?;
-    let entered = settle_within(alloc, state, MOST, kept, opposite)?;
-    if entered.refusals.is_empty() {
-        return Ok(Undo::Done(entered.balance));
+    let booked = book_all(alloc, stock, opposite)?;
+    let refused = count_refused(&booked.entries);
+    if refused == 0 {
+        return Ok(Undo::Done(booked));
     }
-    Ok(Undo::Refused(entered.refusals))
+    Ok(Undo::Refused(refusals_from(alloc, booked.entries)?))
 }

@@ -1,7 +1,9 @@
 //! The balance and the refusals that are kept, compared with what the movements make.
-ghost use Rattle.std.specs.Prelude.{◌≡◌, ◌≢◌, ◌≤◌, ◌↔◌, IsTrue, IsNone, IfNone, IfSome, map, slice_get};
+ghost use Rattle.std.specs.Prelude.{◌≡◌, ◌≢◌, ℕ, ◌<◌, ◌≤◌, ◌↔◌, IsTrue, IsNone, IfNone, IfSome, map, slice_get, string_bytes};
+ghost use Rattle.std.specs.Cmp.Lexicographic.{slice_cmp};
 ghost use Rattle.std.specs.Option.{option_copied, option_map};
-ghost use Rattle.hashbag_stock_core.specs.Rows.{row, rows_of, kept_of};
+ghost use Rattle.std.specs.Ordering.{nat_cmp};
+ghost use Rattle.hashbag_stock_core.specs.Rows.{row, rows_of, kept_of, lower_row, wrong_row, wrong_movement, IsFirstDifference};
 
 use crate::once::Batch;
 use hashbag_ledger_core::movements::{Movement, Refusal};
@@ -50,6 +52,7 @@ fn is_same_row(kept: Option<&(String, usize)>, counted: Option<&(String, usize)>
 fn first_difference(kept: &[(String, usize)], counted: &[(String, usize)]) -> Option<usize>
     ensures all_same { IfNone result (rows_of kept.now ≡ rows_of counted.now) }
     ensures differ { IfSome result (λ i. slice_get (rows_of kept.now) i ≢ slice_get (rows_of counted.now) i) }
+    ensures first { IfSome result (λ i. (k : ℕ) → k < i → slice_get (rows_of kept.now) k ≡ slice_get (rows_of counted.now) k) }
 {
     let longest = longest_of(kept.len(), counted.len());
     'rows: for i in 0..longest {
@@ -61,7 +64,10 @@ fn first_difference(kept: &[(String, usize)], counted: &[(String, usize)]) -> Op
 }
 
 // Returns the article of two rows that differ which comes first, with its two numbers.
-fn first_of<'a>(kept: &'a (String, usize), counted: &'a (String, usize)) -> WrongNumber<'a> {
+fn first_of<'a>(kept: &'a (String, usize), counted: &'a (String, usize)) -> WrongNumber<'a>
+    ensures { (result.article.now, result.kept, result.counted)
+        ≡ lower_row (row kept.now) (row counted.now) (slice_cmp nat_cmp (string_bytes kept.now.0) (string_bytes counted.now.0)) }
+{
     match kept.0.as_str().cmp(&counted.0.as_str()) {
         Ordering::Less => WrongNumber {
             article: kept.0.as_str(),
@@ -86,7 +92,8 @@ fn wrong_of<'a>(
     kept: Option<&'a (String, usize)>,
     counted: Option<&'a (String, usize)>,
 ) -> Option<WrongNumber<'a>>
-    ensures { IsNone result ↔ (IsNone (option_copied kept.entry) × IsNone (option_copied counted.entry)) }
+    ensures { option_map (λ w. (w.article.now, w.kept, w.counted)) result
+        ≡ wrong_row (option_map row (option_copied kept.entry)) (option_map row (option_copied counted.entry)) }
 {
     match (kept, counted) {
         (Some(old), Some(new)) => Some(first_of(old, new)),
@@ -104,12 +111,14 @@ fn wrong_of<'a>(
     }
 }
 
-/// Returns the first article whose row differs from what the movements make, or `None` if the two balances are the same.
+/// Returns the first article whose row differs from what the movements make, with its two numbers, or `None` if the two balances are the
+/// same.
 pub fn wrong_number<'a>(
     kept: &'a [(String, usize)],
     counted: &'a [(String, usize)],
 ) -> Option<WrongNumber<'a>>
     ensures agrees { IsNone result ↔ (rows_of kept.now ≡ rows_of counted.now) }
+    ensures first { IfSome result (λ w. IsFirstDifference wrong_row (rows_of kept.now) (rows_of counted.now) (Some (w.article.now, w.kept, w.counted))) }
 {
     match first_difference(kept, counted) {
         Some(at) => wrong_of(kept.get(at), counted.get(at)),
@@ -129,7 +138,9 @@ fn is_same_refusal(kept: Option<&KeptRefusal>, counted: Option<&Refusal<String>>
 }
 
 // Returns the lower number of two movements, or that of the only one.
-fn first_number(kept: Option<&KeptRefusal>, counted: Option<&Refusal<String>>) -> u64 {
+fn first_number(kept: Option<&KeptRefusal>, counted: Option<&Refusal<String>>) -> u64
+    ensures { result ≡ wrong_movement (option_copied kept.entry) (option_map kept_of (option_copied counted.entry)) }
+{
     match (kept, counted) {
         (Some(old), Some(new)) => old.movement.min(new.place.line),
         (Some(old), None) => old.movement,
@@ -142,6 +153,7 @@ fn first_number(kept: Option<&KeptRefusal>, counted: Option<&Refusal<String>>) -
 /// that are kept are those of the movements.
 pub fn wrong_refusal(kept: &[KeptRefusal], counted: &[Refusal<String>]) -> Option<u64>
     ensures agrees { IsNone result ↔ (kept.now ≡ map kept_of counted.now) }
+    ensures first { IfSome result (IsFirstDifference wrong_movement kept.now (map kept_of counted.now)) }
 {
     let longest = longest_of(kept.len(), counted.len());
     'refusals: for i in 0..longest {

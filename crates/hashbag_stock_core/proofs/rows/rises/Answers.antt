@@ -1,4 +1,4 @@
-use Rattle.std.proofs.Common.{◌≡◌, ◌↔◌, IsTrue, ℕ, List, [], ◌∷◌, String, Global, string_bytes, sym, ap, subst}
+use Rattle.std.proofs.Common.{◌≡◌, IsTrue, ℕ, List, [], string_bytes, sym, subst}
 use Rattle.std.proofs.lemmas.List.{nil_from_length}
 use Rattle.hashbag_stock_core.specs.Changes.{Rises, IsBefore}
 use Rattle.hashbag_stock_core.proofs.ChangeLemmas.{none_rise, rises_on, rises_after, first_is_before}

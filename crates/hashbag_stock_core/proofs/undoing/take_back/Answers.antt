@@ -1,53 +1,77 @@
-use Rattle.std.proofs.Common.{◌≡◌, ◌≢◌, ◌-◌, ◌^◌, ◌∙◌, List, [], true, ap, sym, subst, length, vec_len, arith}
-use Rattle.std.proofs.lemmas.Bool.{eqb-true, eq-eqb}
+use Rattle.std.proofs.Common.{◌≡◌, ◌≢◌, ◌-◌, ◌^◌, ◌∙◌, ℕ, List, [], String, Global, ap, sym, subst, length}
 use Rattle.std.proofs.lemmas.List.{nil_from_length}
 use Rattle.std.proofs.lemmas.Result.{err_from_is_err_and}
+use Rattle.std.specs.String.{string_eq, string_cmp, string_eq_equiv}
 use Rattle.hashbag_ledger_core.specs.declared.movements.Movement.{Movement}
+use Rattle.hashbag_ledger_core.specs.Entries.{refusals_in, entries_of}
 use Rattle.hashbag_ledger_core.specs.Ledger.{refused_of}
 use Rattle.hashbag_ledger_core.specs.Settled.{listed, IsPastWithin}
+use Rattle.hashbag_ledger_core.proofs.BookLemmas.{refusals_are}
 use Rattle.hashbag_stock_core.proofs.UndoLemmas.{taken_back_by, falls_by, as_before, none_falls}
 use Rattle.hashbag_stock_core.proofs.undoing.take_back.Goals as goal
 
 -- none of the opposite movements was refused
-pub returns-then-is_empty-clause-undo : goal.returns-then-is_empty-clause-undo
-returns-then-is_empty-clause-undo g c =
-    let eq = g.T.PartialEq.eq in
-    let entered = c.in_ok-entered.entered in
-    let linked = entered.refusals.ok.0 in
-    let zero : vec_len entered.refusals ≡ 0 = eqb-true (vec_len entered.refusals) 0 (sym c.is_empty.ensures ∙ c.if-is_empty.true) in
-    let long : length entered.refusals.items ≡ 0 = omega arith in
-    let none : refused_of eq (listed eq c.args.kept.items) c.in_ok-opposite.opposite.items ≡ [] = sym c.in_ok-entered.ensures.refusals ∙ nil_from_length _ long in
-    taken_back_by eq (listed eq c.args.kept.items) g.T.Ord.cmp c.args.batch.items c.in_ok-opposite.opposite.items entered.balance.items c.in_ok-opposite.ensures none c.in_ok-entered.ensures.balance c.in_ok-entered.ensures.leaves
+pub returns-then-refused-eq0-clause-undo : goal.returns-then-refused-eq0-clause-undo
+returns-then-refused-eq0-clause-undo g c =
+    let start = listed string_eq c.args.kept.items in
+    let opposite = c.in_ok-opposite.opposite.items in
+    let b = c.in_ok-booked.booked in
+    let booked = c.in_ok-booked.ensures.booked c.args.kept.items c.in_ok-stock.ensures.begun in
+    let lent : c.deref.result.now ≡ b.entries.items = c.deref.ensures.value in
+    let zero : length (refusals_in b.entries.items) ≡ 0 = (λ i. length (refusals_in (sym lent i))) ∙ sym c.count_refused-refused.ensures ∙ c.if-refused-eq0.true in
+    let none : refused_of string_eq start opposite ≡ [] = sym (refusals_are string_eq start opposite) ∙ ap refusals_in (sym booked.each) ∙ nil_from_length _ zero in
+    taken_back_by string_eq start string_cmp c.args.batch.items opposite b.balance.items c.in_ok-opposite.ensures none booked.rows booked.leaves
 
-pub returns-then-is_empty-clause-last : goal.returns-then-is_empty-clause-last
-returns-then-is_empty-clause-last g c = λ before was.
-    let eq = g.T.PartialEq.eq in
-    as_before eq (listed eq c.args.kept.items) before c.args.batch.items was g.T.Ord.cmp c.in_ok-entered.entered.balance.items (returns-then-is_empty-clause-undo g c)
+pub returns-then-refused-eq0-clause-last : goal.returns-then-refused-eq0-clause-last
+returns-then-refused-eq0-clause-last g c = λ before was.
+    as_before string_eq (listed string_eq c.args.kept.items) before c.args.batch.items was string_cmp c.in_ok-booked.booked.balance.items (returns-then-refused-eq0-clause-undo g c)
+
+pub returns-then-refused-eq0-clause-each : goal.returns-then-refused-eq0-clause-each
+returns-then-refused-eq0-clause-each g c =
+    let booked = c.in_ok-booked.ensures.booked c.args.kept.items c.in_ok-stock.ensures.begun in
+    booked.each ∙ ap (entries_of string_eq (listed string_eq c.args.kept.items)) c.in_ok-opposite.ensures
+
+pub returns-then-refused-eq0-clause-fit : goal.returns-then-refused-eq0-clause-fit
+returns-then-refused-eq0-clause-fit g c = λ p.
+    let booked = c.in_ok-booked.ensures.booked c.args.kept.items c.in_ok-stock.ensures.begun in
+    subst (λ (l : List (Movement (String Global))). ¬ (IsPastWithin string_eq (2 ^ 63 - 1) c.args.kept.items l p)) c.in_ok-opposite.ensures
+    (subst (λ (n : ℕ). ¬ (IsPastWithin string_eq n c.args.kept.items c.in_ok-opposite.opposite.items p)) c.in_ok-stock.ensures.limit (booked.fit p))
 
 -- some was
 pub returns-clause-undo : goal.returns-clause-undo
 returns-clause-undo g c =
-    let eq = g.T.PartialEq.eq in
-    let entered = c.in_ok-entered.entered in
-    let linked = entered.refusals.ok.0 in
-    let some : refused_of eq (listed eq c.args.kept.items) c.in_ok-opposite.opposite.items ≢ [] = λ none.
-    let long : length entered.refusals.items ≡ 0 = ap length (c.in_ok-entered.ensures.refusals ∙ none) in
-    let zero : vec_len entered.refusals ≡ 0 = omega arith in
-    let yes : c.is_empty.result ≡ true = c.is_empty.ensures ∙ eq-eqb (vec_len entered.refusals) 0 zero in
-    let no = c.if-is_empty.false in
-    cc in
-    falls_by eq (listed eq c.args.kept.items) g.met.T.Eq.laws c.args.batch.items c.in_ok-opposite.opposite.items c.in_ok-opposite.ensures some
+    let start = listed string_eq c.args.kept.items in
+    let opposite = c.in_ok-opposite.opposite.items in
+    let b = c.in_ok-booked.booked in
+    let booked = c.in_ok-booked.ensures.booked c.args.kept.items c.in_ok-stock.ensures.begun in
+    let lent : c.deref.result.now ≡ b.entries.items = c.deref.ensures.value in
+    let some : refused_of string_eq start opposite ≢ [] = λ none.
+    c.if-refused-eq0.false (c.count_refused-refused.ensures ∙ (λ i. length (refusals_in (lent i))) ∙ ap length (ap refusals_in booked.each ∙ refusals_are string_eq start opposite ∙ none)) in
+    falls_by string_eq start string_eq_equiv c.args.batch.items opposite c.in_ok-opposite.ensures some
 
 pub returns-clause-last : goal.returns-clause-last
 returns-clause-last g c = λ before was.
-    let eq = g.T.PartialEq.eq in
     let found = returns-clause-undo g c in
-    none_falls eq (listed eq c.args.kept.items) before c.args.batch.items was found.0 found.1
+    none_falls string_eq (listed string_eq c.args.kept.items) before c.args.batch.items was found.0 found.1
+
+pub returns-clause-each : goal.returns-clause-each
+returns-clause-each g c =
+    let start = listed string_eq c.args.kept.items in
+    let booked = c.in_ok-booked.ensures.booked c.args.kept.items c.in_ok-stock.ensures.begun in
+    c.in_ok-refusals_from.ensures ∙ ap refusals_in booked.each ∙ refusals_are string_eq start c.in_ok-opposite.opposite.items ∙ ap (refused_of string_eq start) c.in_ok-opposite.ensures
+
+pub returns-clause-fit : goal.returns-clause-fit
+returns-clause-fit g c = λ p.
+    let booked = c.in_ok-booked.ensures.booked c.args.kept.items c.in_ok-stock.ensures.begun in
+    subst (λ (l : List (Movement (String Global))). ¬ (IsPastWithin string_eq (2 ^ 63 - 1) c.args.kept.items l p)) c.in_ok-opposite.ensures
+    (subst (λ (n : ℕ). ¬ (IsPastWithin string_eq n c.args.kept.items c.in_ok-opposite.opposite.items p)) c.in_ok-stock.ensures.limit (booked.fit p))
 
 -- the opposites don't fit
-pub returns-in_err-entered-clause-past : goal.returns-in_err-entered-clause-past
-returns-in_err-entered-clause-past g c =
-    let error = err_from_is_err_and c.from_residual-in_err-entered.result c.from_residual-in_err-entered.ensures.1 in
+pub returns-in_err-booked-clause-past : goal.returns-in_err-booked-clause-past
+returns-in_err-booked-clause-past g c =
+    let error = err_from_is_err_and c.from_residual-in_err-booked.result c.from_residual-in_err-booked.ensures.1 in
     rw (error.1, error.2)
     (λ p is.
-    subst (λ (l : List (Movement g.row.T.Denot)). IsPastWithin g.T.PartialEq.eq (2 ^ 63 - 1) c.args.kept.items l p) c.in_ok-opposite.ensures (c.in_err-entered.ensures.past p is))
+    subst (λ (l : List (Movement (String Global))). IsPastWithin string_eq (2 ^ 63 - 1) c.args.kept.items l p) c.in_ok-opposite.ensures
+    (subst (λ (n : ℕ). IsPastWithin string_eq n c.args.kept.items c.in_ok-opposite.opposite.items p) c.in_ok-stock.ensures.limit
+    (c.in_err-booked.ensures.past p is c.args.kept.items c.in_ok-stock.ensures.begun)))

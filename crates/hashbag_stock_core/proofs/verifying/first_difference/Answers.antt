@@ -1,4 +1,4 @@
-use Rattle.std.proofs.Common.{◌≡◌, true, length, slice_get, sym, ◌∙◌, rules, arith, below_more}
+use Rattle.std.proofs.Common.{◌≡◌, true, slice_get, sym, ◌∙◌, rules, arith, below_more}
 use Rattle.std.proofs.lemmas.List.{length-map}
 use Rattle.hashbag_stock_core.specs.Rows.{row, rows_of}
 use Rattle.hashbag_stock_core.proofs.ListLemmas.{lent_as, same_if_same_below}

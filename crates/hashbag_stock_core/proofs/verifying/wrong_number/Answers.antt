@@ -1,15 +1,20 @@
-use Rattle.std.proofs.Common.{List, ℕ, slice_get, ap}
-use Rattle.hashbag_stock_core.specs.Rows.{row, rows_of}
-use Rattle.hashbag_stock_core.proofs.ListLemmas.{one_is_there}
+use Rattle.std.proofs.Common.{List, ℕ, slice_get, ◌∙◌, ap}
+use Rattle.hashbag_stock_core.specs.Rows.{row, rows_of, wrong_row}
+use Rattle.hashbag_stock_core.proofs.ListLemmas.{lent_as}
+use Rattle.hashbag_stock_core.proofs.WrongLemmas.{first_wrong, some_wrong}
 use Rattle.hashbag_stock_core.proofs.verifying.wrong_number.Goals as goal
 
--- where the rows differ, one of them is named
+-- where the rows differ, the first article is named
 pub returns-in-Some : goal.returns-in-Some
-returns-in-Some c = record {
-  agrees = (
-    λ none.
-        let no = c.wrong_of.ensures.0 none in
-        absurd (one_is_there row c.args.kept.now c.args.counted.now c.in-Some.at c.get.result c.get-in-Some.result c.get.ensures.lookup c.get-in-Some.ensures.lookup c.in-Some.ensures.differ no.0 no.1),
-    λ same. absurd (c.in-Some.ensures.differ (ap (λ (l : List (List ℕ × ℕ)). slice_get l c.in-Some.at) same)),
-  );
-}
+returns-in-Some c =
+    let kept = rows_of c.args.kept.now in
+    let counted = rows_of c.args.counted.now in
+    let at = c.in-Some.at in
+    let is = c.wrong_of.ensures ∙ (λ i. wrong_row (lent_as row c.args.kept.now at c.get.result c.get.ensures.lookup i) (lent_as row c.args.counted.now at c.get-in-Some.result c.get-in-Some.ensures.lookup i)) in
+    record {
+      agrees = (
+        λ none. absurd (some_wrong kept counted at _ c.wrong_of.result is c.in-Some.ensures.differ none),
+        λ same. absurd (c.in-Some.ensures.differ (ap (λ (l : List (List ℕ × ℕ)). slice_get l at) same)),
+      );
+      first = first_wrong kept counted at _ c.wrong_of.result is c.in-Some.ensures.differ c.in-Some.ensures.first;
+    }
