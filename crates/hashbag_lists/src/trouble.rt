@@ -69,8 +69,8 @@ impl Trouble<'_> {
         }
     }
 
-    /// Returns the exit status of a program that ends for this reason: 2 for an argument or a bad line, 3 for a failed allocation, 5 for
-    /// a total that is too large, and 4 for what the system couldn't do.
+    /// Returns the exit status of a program that ends for this reason. It is 2 for an argument or a bad line, 3 for a failed allocation, 5
+    /// for a total that is too large, and 4 for what the system couldn't do.
     pub fn status(&self) -> u8
         ensures { result ≡ status_of self.now }
     {
