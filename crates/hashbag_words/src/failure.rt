@@ -40,6 +40,12 @@ pub enum Failure<'a> {
     TooManyInAll {
         name: &'a str,
     },
+    /// With this JSON text the counts would add up to more than its own limit.
+    #[error("{name}: total past its limit, {limit}")]
+    PastLimit {
+        name: &'a str,
+        limit: u64,
+    },
     /// An allocation failed while an input was read.
     #[error("{name}: no memory after {line} line{}", plural(.line))]
     NoMemory {
@@ -98,6 +104,7 @@ impl<'a> Failure<'a> {
             Fault::Tree(JsonError::Memory) => Failure::NoMemory { name, line },
             Fault::Tree(JsonError::TooMany(_)) => Failure::too_many(name, line),
             Fault::Tree(error) => Failure::Tree { name, error },
+            Fault::PastLimit(limit) => Failure::PastLimit { name, limit },
             Fault::Bag(BagError::Memory) => Failure::NoMemory {
                 name,
                 line: line.saturating_sub(1),
@@ -126,6 +133,7 @@ impl<'a> Failure<'a> {
             Failure::File { error, .. } if error.kind() == io::ErrorKind::InvalidData => BAD_INPUT,
             Failure::File { .. } | Failure::NotRandom(_) => IO_FAILED,
             Failure::TooMany { .. } | Failure::TooManyInAll { .. } => TOTAL_TOO_LARGE,
+            Failure::PastLimit { .. } => TOTAL_TOO_LARGE,
         }
     }
 

@@ -41,6 +41,9 @@ pub enum Fault {
     /// The JSON text isn't the tree of a bag, or that bag can't be built.
     #[error("{0}")]
     Tree(JsonError),
+    /// The counts of a JSON tree add up to more than its own limit, which is this.
+    #[error("total past its limit, {0}")]
+    PastLimit(u64),
     /// An insertion failed: an allocation failed, or the total would pass the limit of the bag.
     #[error("{0}")]
     Bag(BagError),

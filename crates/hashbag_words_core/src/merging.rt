@@ -8,7 +8,7 @@ ghost use Rattle.hashbag_words_core.specs.Tokens.{without_mark};
 use crate::errors::{BadLine, Fault};
 use crate::lines::{Reading, next_ended_line};
 use crate::rows::{RowForm, read_row, read_uniq_row};
-use hashbag::HashBag;
+use hashbag::{HashBag, JsonError};
 use hashbag_ops::merge;
 use serde_json::Value;
 use std::alloc::{AllocError, Global};
@@ -150,12 +150,21 @@ pub fn add_rows<R: BufRead, S: BuildHasher + Drop>(
     Ok(true)
 }
 
+// Returns the fault of a tree that isn't read as a bag. If its counts pass a limit of its own, the fault has that.
+fn fault_of(tree: &Value, error: JsonError) -> Fault {
+    match (error, tree.get("limit").and_then(Value::as_u64)) {
+        (JsonError::TooMany(_), Some(limit)) if limit < u64::MAX => Fault::PastLimit(limit),
+        _ => Fault::Tree(error),
+    }
+}
+
 /// Adds the counts of a JSON text, all of them or none. They are first read into a bag of their own, with the hash state `state`.
 ///
 /// # Errors
 ///
 /// `Fault::Text` if the text isn't JSON, or can't be allocated; `Fault::Tree` if it isn't the tree of a bag, or that bag fails;
-/// `Fault::Bag` if an allocation fails, or the total would pass the limit of the bag. Then the bag is unchanged.
+/// `Fault::PastLimit` if its counts pass its own limit; `Fault::Bag` if an allocation fails, or the total would pass the limit of the bag.
+/// Then the bag is unchanged.
 pub fn add_tree<S: BuildHasher + Drop, S2: BuildHasher + Drop>(
     alloc: Global,
     state: S2,
@@ -171,7 +180,7 @@ pub fn add_tree<S: BuildHasher + Drop, S2: BuildHasher + Drop>(
     };
     let counts = match HashBag::from_value_with_hasher(alloc, state, usize::MAX, &tree) {
         Ok(counts) => counts,
-        Err(error) => return Err(Fault::Tree(error)),
+        Err(error) => return Err(fault_of(&tree, error)),
     };
     merge(bag, counts)?;
     Ok(())
