@@ -1,8 +1,8 @@
 //! Uses bags that have just grown, or are about to. Each line of standard input names two bags, the number `n` of their values, and the uses of
 //! these bags, which follow one another.
 //!
-//! Each use prints a line that ends with a number. The number follows from `n` by arithmetic. The work of each use grows as `n` does: if it
-//! grew with the square of `n`, the program would not end in the time that it has.
+//! Each use prints a line that ends with a number, which follows from `n` by arithmetic. `bench/growth` measures that the work of each use grows
+//! as `n` does.
 #![tactic(auto)]
 
 mod bags;

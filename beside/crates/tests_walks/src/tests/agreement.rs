@@ -4,7 +4,7 @@
 //! joins of the two bags are compared too.
 use crate::tests::definitions::{Plain, joins_one_by_one, plain_joins, text_of_joins};
 use crate::tests::met::{Met, state_of};
-use crate::tests::steps::{MOST, STEPS, Sample, ballast, next_number, step_of, with_ballast};
+use crate::tests::steps::{MOST, STEPS, ballast, next_number, step_of, with_ballast};
 use hashbag::script::{Joins, Reply, Step, joins_of, run};
 use hashbag::{FixedState, HashBag};
 use std::alloc::{AllocError, Global};
@@ -20,16 +20,12 @@ const BALLASTS: [(usize, usize); 2] = [(0, 0), (usize::MAX - MOST, 7)];
 
 // A bag, and what it is compared with.
 #[derive(Drop)]
-struct Pair<T: Sample + Drop, S: BuildHasher + Drop> {
-    bag: HashBag<T, S>,
-    plain: Plain<T>,
+struct Pair<S: BuildHasher + Drop> {
+    bag: HashBag<Tagged, S>,
+    plain: Plain,
 }
 
-fn new_pair<T: Sample + Drop, S: BuildHasher + Drop>(
-    alloc: Global,
-    state: S,
-    times: usize,
-) -> Result<Pair<T, S>, Fail> {
+fn new_pair<S: BuildHasher + Drop>(alloc: Global, state: S, times: usize) -> Result<Pair<S>, Fail> {
     let mut bag = HashBag::with_hasher(alloc, state);
     bag.insert_many(ballast(), times)?;
     Ok(Pair {
@@ -39,19 +35,16 @@ fn new_pair<T: Sample + Drop, S: BuildHasher + Drop>(
 }
 
 // What the plain list replies to a step.
-fn plain_reply<T: Sample + Drop>(
-    plain: &mut Plain<T>,
-    step: Step<T>,
-) -> Result<Reply<T>, AllocError> {
+fn plain_reply(plain: &mut Plain, step: Step<Tagged>) -> Result<Reply<Tagged>, AllocError> {
     plain.list.apply(step)
 }
 
 // What a bag replies to a step.
-fn bag_reply<T: Sample + Drop, S: BuildHasher + Drop>(
+fn bag_reply<S: BuildHasher + Drop>(
     alloc: Global,
-    bag: &mut HashBag<T, S>,
-    step: Step<T>,
-) -> Result<Reply<T>, Fail> {
+    bag: &mut HashBag<Tagged, S>,
+    step: Step<Tagged>,
+) -> Result<Reply<Tagged>, Fail> {
     let mut steps = Vec::new(alloc);
     steps.push(step)?;
     let mut replies = Vec::new(alloc);
@@ -69,10 +62,10 @@ fn is_same<T: Debug>(alloc: Global, place: &str, got: &T, want: &T) -> Result<()
 }
 
 // Does the step of this number on both sides.
-fn compare_step<T: Sample + Drop, S: BuildHasher + Drop>(
+fn compare_step<S: BuildHasher + Drop>(
     alloc: Global,
     place: &str,
-    pair: &mut Pair<T, S>,
+    pair: &mut Pair<S>,
     met: &mut Met,
     number: u64,
     step: u64,
@@ -88,10 +81,10 @@ fn compare_step<T: Sample + Drop, S: BuildHasher + Drop>(
 }
 
 // The totals and the distinct values of both sides.
-fn compare_lens<T: Sample + Drop, S: BuildHasher + Drop>(
+fn compare_lens<S: BuildHasher + Drop>(
     alloc: Global,
     place: &str,
-    pair: &Pair<T, S>,
+    pair: &Pair<S>,
 ) -> Result<(), Fail> {
     let got = (pair.bag.len(), pair.bag.set_len());
     let want = (pair.plain.len(), pair.plain.set_len(alloc)?);
@@ -99,21 +92,21 @@ fn compare_lens<T: Sample + Drop, S: BuildHasher + Drop>(
 }
 
 // The joins are these.
-fn are_joins<T: Sample>(
+fn are_joins(
     alloc: Global,
     place: &str,
-    joins: &Joins<'_, T>,
+    joins: &Joins<'_, Tagged>,
     want: &str,
 ) -> Result<(), Fail> {
     is_text_of(place, text_of_joins(alloc, joins)?.as_str(), want)
 }
 
 // The joins of the first bag with the second, each by its own call and all at once.
-fn compare_joins<T: Sample + Drop, S: BuildHasher + Drop, S2: BuildHasher + Drop>(
+fn compare_joins<S: BuildHasher + Drop, S2: BuildHasher + Drop>(
     alloc: Global,
     place: &str,
-    a: &Pair<T, S>,
-    b: &Pair<T, S2>,
+    a: &Pair<S>,
+    b: &Pair<S2>,
 ) -> Result<(), Fail> {
     let want = text_of_joins(alloc, &plain_joins(alloc, &a.plain, &b.plain)?)?;
     let want = want.as_str();
@@ -126,11 +119,11 @@ fn compare_joins<T: Sample + Drop, S: BuildHasher + Drop, S2: BuildHasher + Drop
     are_joins(alloc, place, &joins_of(alloc, &a.bag, &b.bag)?, want)
 }
 
-fn compare_both<T: Sample + Drop, S: BuildHasher + Drop, S2: BuildHasher + Drop>(
+fn compare_both<S: BuildHasher + Drop, S2: BuildHasher + Drop>(
     alloc: Global,
     place: &str,
-    a: &Pair<T, S>,
-    b: &Pair<T, S2>,
+    a: &Pair<S>,
+    b: &Pair<S2>,
 ) -> Result<(), Fail> {
     compare_lens(alloc, place, a)?;
     compare_lens(alloc, place, b)?;
@@ -139,10 +132,10 @@ fn compare_both<T: Sample + Drop, S: BuildHasher + Drop, S2: BuildHasher + Drop>
 }
 
 // The steps of two bags and of what they are compared with.
-fn compare_runs<T: Sample + Drop, S: BuildHasher + Drop, S2: BuildHasher + Drop>(
+fn compare_runs<S: BuildHasher + Drop, S2: BuildHasher + Drop>(
     alloc: Global,
-    a: &mut Pair<T, S>,
-    b: &mut Pair<T, S2>,
+    a: &mut Pair<S>,
+    b: &mut Pair<S2>,
     met: &mut Met,
 ) -> Result<(), Fail> {
     let (mut first, mut second) = (1, 2);
@@ -179,10 +172,10 @@ fn met_enough(alloc: Global, met: &Met, at_end: usize) -> Result<(), Fail> {
     Err(Fail::new(format_args!("too little was met: {met}")))
 }
 
-fn compare_pairs<T: Sample + Drop, S: BuildHasher + Drop, S2: BuildHasher + Drop>(
+fn compare_pairs<S: BuildHasher + Drop, S2: BuildHasher + Drop>(
     alloc: Global,
-    a: &mut Pair<T, S>,
-    b: &mut Pair<T, S2>,
+    a: &mut Pair<S>,
+    b: &mut Pair<S2>,
     at_end: usize,
 ) -> Result<(), Fail> {
     let mut met = Met::new(alloc)?;
@@ -190,14 +183,14 @@ fn compare_pairs<T: Sample + Drop, S: BuildHasher + Drop, S2: BuildHasher + Drop
     met_enough(alloc, &met, at_end)
 }
 
-fn compare_under<T: Sample + Drop, S: BuildHasher + Copy, S2: BuildHasher + Copy>(
+fn compare_under<S: BuildHasher + Copy, S2: BuildHasher + Copy>(
     alloc: Global,
     first: S,
     second: S2,
 ) -> Result<(), Fail> {
     for (times, other_times) in &BALLASTS {
-        let mut a = new_pair::<T, S>(alloc, first, *times)?;
-        let mut b = new_pair::<T, S2>(alloc, second, *other_times)?;
+        let mut a = new_pair::<S>(alloc, first, *times)?;
+        let mut b = new_pair::<S2>(alloc, second, *other_times)?;
         let at_end = if *times == 0 { 0 } else { 100 };
         compare_pairs(alloc, &mut a, &mut b, at_end)?;
     }
@@ -205,14 +198,11 @@ fn compare_under<T: Sample + Drop, S: BuildHasher + Copy, S2: BuildHasher + Copy
 }
 
 // Each state in turn with the next.
-fn compare_under_each_state<T: Sample + Drop>(alloc: Global) -> Result<(), Fail> {
-    compare_under::<T, _, _>(alloc, FixedState::new(), OneState)?;
-    compare_under::<T, _, _>(alloc, OneState, ParityState)?;
-    compare_under::<T, _, _>(alloc, ParityState, IdentityState)?;
-    compare_under::<T, _, _>(alloc, IdentityState, FixedState::new())
-}
-
 #[test]
 fn tagged_as_in_plain_lists(rt: HostRuntime) -> Result<(), Fail> {
-    compare_under_each_state::<Tagged>(rt.alloc())
+    let alloc = rt.alloc();
+    compare_under(alloc, FixedState::new(), OneState)?;
+    compare_under(alloc, OneState, ParityState)?;
+    compare_under(alloc, ParityState, IdentityState)?;
+    compare_under(alloc, IdentityState, FixedState::new())
 }

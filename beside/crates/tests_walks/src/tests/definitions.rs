@@ -1,27 +1,28 @@
 //! The four joins as they are defined: by counting in two plain lists.
-use crate::tests::steps::{Sample, ballast};
+use crate::tests::steps::{ballast, mark};
 use hashbag::HashBag;
 use hashbag::script::Joins;
 use std::alloc::{AllocError, Global};
 use std::fmt::Debug;
 use std::hash::BuildHasher;
 use std::test::Fail;
+use tests_kit::Tagged;
 use tests_plain::PlainBag;
 
 /// A plain list of occurrences, and how many there are of the ballast.
 #[derive(Drop)]
-pub struct Plain<T: Eq + Copy + Drop> {
+pub struct Plain {
     /// The list.
-    pub list: PlainBag<T>,
+    pub list: PlainBag<Tagged>,
     /// The ballast.
-    pub value: T,
+    pub value: Tagged,
     /// How often it occurs.
     pub times: usize,
 }
 
-impl<T: Sample + Drop> Plain<T> {
+impl Plain {
     /// No occurrences but those of the ballast.
-    pub fn new(alloc: Global, times: usize) -> Plain<T> {
+    pub fn new(alloc: Global, times: usize) -> Plain {
         Plain {
             list: PlainBag::new(alloc),
             value: ballast(),
@@ -30,7 +31,7 @@ impl<T: Sample + Drop> Plain<T> {
     }
 
     /// How often a value occurs.
-    pub fn count(&self, value: &T) -> usize {
+    pub fn count(&self, value: &Tagged) -> usize {
         let times = if *value == self.value { self.times } else { 0 };
         self.list.count(value).saturating_add(times)
     }
@@ -41,8 +42,8 @@ impl<T: Sample + Drop> Plain<T> {
     }
 
     // The first occurrence of each value.
-    fn values<'a>(&'a self, alloc: Global) -> Result<Vec<&'a T>, AllocError> {
-        let mut values: Vec<&'a T> = Vec::new(alloc);
+    fn values<'a>(&'a self, alloc: Global) -> Result<Vec<&'a Tagged>, AllocError> {
+        let mut values: Vec<&'a Tagged> = Vec::new(alloc);
         if self.times > 0 {
             values.push(&self.value)?;
         }
@@ -73,11 +74,11 @@ fn limited_difference(x: usize, y: usize) -> isize {
 }
 
 // Each value of either list once, those of the first before, with its counts in both.
-fn outer_join<'a, T: Sample + Drop>(
+fn outer_join<'a>(
     alloc: Global,
-    a: &'a Plain<T>,
-    b: &'a Plain<T>,
-) -> Result<Vec<(&'a T, usize, usize)>, AllocError> {
+    a: &'a Plain,
+    b: &'a Plain,
+) -> Result<Vec<(&'a Tagged, usize, usize)>, AllocError> {
     let mut outer = Vec::new(alloc);
     for value in a.values(alloc)? {
         outer.push((value, a.count(value), b.count(value)))?;
@@ -91,11 +92,11 @@ fn outer_join<'a, T: Sample + Drop>(
 }
 
 // The values that occur more often in the first list, with how much more often.
-fn difference<'a, T: Sample + Drop>(
+fn difference<'a>(
     alloc: Global,
-    a: &'a Plain<T>,
-    b: &Plain<T>,
-) -> Result<Vec<(&'a T, usize)>, AllocError> {
+    a: &'a Plain,
+    b: &Plain,
+) -> Result<Vec<(&'a Tagged, usize)>, AllocError> {
     let mut difference = Vec::new(alloc);
     for value in a.values(alloc)? {
         let (x, y) = (a.count(value), b.count(value));
@@ -107,11 +108,11 @@ fn difference<'a, T: Sample + Drop>(
 }
 
 // Each value of either list once, with how much more often it occurs in the first.
-fn signed_difference<'a, T: Sample + Drop>(
+fn signed_difference<'a>(
     alloc: Global,
-    a: &'a Plain<T>,
-    b: &'a Plain<T>,
-) -> Result<Vec<(&'a T, isize)>, AllocError> {
+    a: &'a Plain,
+    b: &'a Plain,
+) -> Result<Vec<(&'a Tagged, isize)>, AllocError> {
     let mut signed = Vec::new(alloc);
     for (value, x, y) in outer_join(alloc, a, b)? {
         signed.push((value, limited_difference(x, y)))?;
@@ -120,11 +121,11 @@ fn signed_difference<'a, T: Sample + Drop>(
 }
 
 // The values of the first list that don't occur in the second.
-fn not_in<'a, T: Sample + Drop>(
+fn not_in<'a>(
     alloc: Global,
-    a: &'a Plain<T>,
-    b: &Plain<T>,
-) -> Result<Vec<(&'a T, usize)>, AllocError> {
+    a: &'a Plain,
+    b: &Plain,
+) -> Result<Vec<(&'a Tagged, usize)>, AllocError> {
     let mut not_in = Vec::new(alloc);
     for value in a.values(alloc)? {
         if b.count(value) == 0 {
@@ -135,11 +136,11 @@ fn not_in<'a, T: Sample + Drop>(
 }
 
 /// The joins of two plain lists.
-pub fn plain_joins<'a, T: Sample + Drop>(
+pub fn plain_joins<'a>(
     alloc: Global,
-    a: &'a Plain<T>,
-    b: &'a Plain<T>,
-) -> Result<Joins<'a, T>, AllocError> {
+    a: &'a Plain,
+    b: &'a Plain,
+) -> Result<Joins<'a, Tagged>, AllocError> {
     Ok(Joins {
         outer: outer_join(alloc, a, b)?,
         difference: difference(alloc, a, b)?,
@@ -149,11 +150,11 @@ pub fn plain_joins<'a, T: Sample + Drop>(
 }
 
 /// The joins of two bags, each by its own call.
-pub fn joins_one_by_one<'a, T: Sample + Drop, S: BuildHasher + Drop, S2: BuildHasher + Drop>(
+pub fn joins_one_by_one<'a, S: BuildHasher + Drop, S2: BuildHasher + Drop>(
     alloc: Global,
-    a: &'a HashBag<T, S>,
-    b: &'a HashBag<T, S2>,
-) -> Result<Joins<'a, T>, AllocError> {
+    a: &'a HashBag<Tagged, S>,
+    b: &'a HashBag<Tagged, S2>,
+) -> Result<Joins<'a, Tagged>, AllocError> {
     Ok(Joins {
         outer: a.outer_join(b).collect(alloc)?,
         difference: a.difference(b).collect(alloc)?,
@@ -163,37 +164,34 @@ pub fn joins_one_by_one<'a, T: Sample + Drop, S: BuildHasher + Drop, S2: BuildHa
 }
 
 // Values with a number each, rising.
-fn text_of_pairs<T: Sample, N: Ord + Copy + Debug>(
+fn text_of_pairs<N: Ord + Copy + Debug>(
     alloc: Global,
-    pairs: &[(&T, N)],
+    pairs: &[(&Tagged, N)],
 ) -> Result<String, AllocError> {
     let mut rising = Vec::new(alloc);
     for (value, number) in pairs {
-        rising.push((value.mark(), *number))?;
+        rising.push((mark(value), *number))?;
     }
     rising.sort_unstable();
     format!(in alloc; "{rising:?}")
 }
 
 // Values with two counts each, rising, and how many of the first bag come before any other.
-fn text_of_outer<T: Sample>(
-    alloc: Global,
-    outer: &[(&T, usize, usize)],
-) -> Result<String, AllocError> {
+fn text_of_outer(alloc: Global, outer: &[(&Tagged, usize, usize)]) -> Result<String, AllocError> {
     let mut rising = Vec::new(alloc);
     let mut first = 0usize;
     for (value, x, y) in outer {
         if *x > 0 && first == rising.len() {
             first = first.saturating_add(1);
         }
-        rising.push((value.mark(), *x, *y))?;
+        rising.push((mark(value), *x, *y))?;
     }
     rising.sort_unstable();
     format!(in alloc; "{first} first: {rising:?}")
 }
 
 /// What all four joins are.
-pub fn text_of_joins<T: Sample>(alloc: Global, joins: &Joins<'_, T>) -> Result<String, Fail> {
+pub fn text_of_joins(alloc: Global, joins: &Joins<'_, Tagged>) -> Result<String, Fail> {
     let outer = text_of_outer(alloc, &joins.outer)?;
     let difference = text_of_pairs(alloc, &joins.difference)?;
     let signed = text_of_pairs(alloc, &joins.signed)?;

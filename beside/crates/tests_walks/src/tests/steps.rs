@@ -3,8 +3,6 @@
 //! Over two hundred steps the bag is filled and then emptied, so that its tables grow, carry and shrink again and again.
 use hashbag::script::Step;
 use std::alloc::{AllocError, Global};
-use std::fmt::Debug;
-use std::hash::Hash;
 use tests_kit::Tagged;
 
 /// How many steps a list has.
@@ -16,23 +14,14 @@ pub const KEYS: u64 = 39;
 /// The highest limit that a step sets.
 pub const MOST: usize = 72;
 
-/// Values that the steps are on. What `Debug` writes of them says which instance they are.
-pub trait Sample: Eq + Hash + Copy + Debug {
-    /// A value with this key. Which instance it is, is up to the number of the step.
-    fn sample(key: u64, step: u64) -> Self;
-
-    /// The key, and which instance it is.
-    fn mark(&self) -> (u64, u64);
+// A value with this key. Which instance it is, is up to the number of the step.
+fn sample(key: u64, step: u64) -> Tagged {
+    Tagged { key, tag: step }
 }
 
-impl Sample for Tagged {
-    fn sample(key: u64, step: u64) -> Tagged {
-        Tagged { key, tag: step }
-    }
-
-    fn mark(&self) -> (u64, u64) {
-        (self.key, self.tag)
-    }
+/// The key of a value, and which instance it is.
+pub fn mark(value: &Tagged) -> (u64, u64) {
+    (value.key, value.tag)
 }
 
 /// The number after this one in a sequence whose high bits look random.
@@ -43,24 +32,20 @@ pub fn next_number(number: u64) -> u64 {
 }
 
 // How many of each value but the last are to stay. The first value is there a second time, which is not read.
-fn quotas<T: Sample + Drop>(
-    alloc: Global,
-    amount: usize,
-    step: u64,
-) -> Result<Vec<(T, usize)>, AllocError> {
+fn quotas(alloc: Global, amount: usize, step: u64) -> Result<Vec<(Tagged, usize)>, AllocError> {
     let mut list = Vec::new(alloc);
     for key in 1..KEYS {
         list.push((
-            T::sample(key - 1, step),
+            sample(key - 1, step),
             (key as usize).saturating_add(amount) % 5,
         ))?;
     }
-    list.push((T::sample(0, step), 9))?;
+    list.push((sample(0, step), 9))?;
     Ok(list)
 }
 
 // A step that is rare. All totals are far below the number that it says, if it says one.
-fn rare_step<T: Drop>(choice: u64, value: T, amount: usize) -> Step<T> {
+fn rare_step(choice: u64, value: Tagged, amount: usize) -> Step<Tagged> {
     match choice % 8 {
         0 => Step::InsertMany(value, usize::MAX - amount.min(3)),
         1 => Step::EntrySet(value, usize::MAX - amount.min(3)),
@@ -74,7 +59,7 @@ fn rare_step<T: Drop>(choice: u64, value: T, amount: usize) -> Step<T> {
 }
 
 // A step that brings values in, more often than not.
-fn filling_step<T: Drop>(choice: u64, value: T, amount: usize) -> Step<T> {
+fn filling_step(choice: u64, value: Tagged, amount: usize) -> Step<Tagged> {
     match choice % 16 {
         0..=5 => Step::Insert(value),
         6..=8 => Step::InsertMany(value, amount),
@@ -88,7 +73,7 @@ fn filling_step<T: Drop>(choice: u64, value: T, amount: usize) -> Step<T> {
 }
 
 // A step that takes values out, more often than not.
-fn emptying_step<T: Drop>(choice: u64, value: T, amount: usize) -> Step<T> {
+fn emptying_step(choice: u64, value: Tagged, amount: usize) -> Step<Tagged> {
     match choice % 16 {
         0..=2 => Step::Remove(value),
         3..=5 => Step::RemoveUpTo(value, amount),
@@ -103,12 +88,8 @@ fn emptying_step<T: Drop>(choice: u64, value: T, amount: usize) -> Step<T> {
 }
 
 /// The step of this number, which is another one for each random number.
-pub fn step_of<T: Sample + Drop>(
-    alloc: Global,
-    number: u64,
-    step: u64,
-) -> Result<Step<T>, AllocError> {
-    let value = T::sample((number >> 40) % KEYS, step);
+pub fn step_of(alloc: Global, number: u64, step: u64) -> Result<Step<Tagged>, AllocError> {
+    let value = sample((number >> 40) % KEYS, step);
     let amount = ((number >> 30) % 4) as usize;
     let choice = number >> 50;
     Ok(match step % 200 {
@@ -122,17 +103,17 @@ pub fn step_of<T: Sample + Drop>(
 }
 
 /// A value that no step is on.
-pub fn ballast<T: Sample>() -> T {
-    T::sample(KEYS, 0)
+pub fn ballast() -> Tagged {
+    sample(KEYS, 0)
 }
 
 /// What a step is on a bag that has the ballast too, so often that totals are near the end of a `usize`: it leaves the ballast, and a
 /// limit is higher by it. With no ballast it is the step itself.
-pub fn with_ballast<T: Sample + Drop>(
+pub fn with_ballast(
     alloc: Global,
-    step: Step<T>,
+    step: Step<Tagged>,
     count: usize,
-) -> Result<Step<T>, AllocError> {
+) -> Result<Step<Tagged>, AllocError> {
     if count == 0 {
         return Ok(step);
     }
