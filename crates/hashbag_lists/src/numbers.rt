@@ -34,7 +34,8 @@ fn are_digits(text: &str) -> bool
 // The text before the first mark, and the text after it.
 fn cut(text: &str, mark: Mark) -> Option<(&str, &str)>
     ensures { MatchOption result (¬ (HasMark (code_of mark) text.now))
-        (λ x. HasMark (code_of mark) text.now × (x.0.now ≡ whole_of (code_of mark) text.now) × (x.1.now ≡ part_of (code_of mark) text.now)) }
+        (λ x. HasMark (code_of mark) text.now
+        × (x.0.now ≡ whole_of (code_of mark) text.now) × (x.1.now ≡ part_of (code_of mark) text.now)) }
 {
     text.split_once(mark.character())
 }
@@ -101,7 +102,8 @@ fn is_fraction(text: &str) -> bool
 // What is wrong with a text that isn't read at this scale.
 #[tactic(auto, using(crate::proofs::NumberLemmas::parts_decimal, crate::proofs::NumberLemmas::past))]
 fn fault_of(alloc: Global, digits: &str, field: &str, scale: Scale) -> Result<Fault, AllocError>
-    requires { ¬ (IsDecimal (code_of scale.mark) scale.decimals digits.now × (units (code_of scale.mark) scale.decimals digits.now ≤ scale.most)) }
+    requires { ¬ (IsDecimal (code_of scale.mark) scale.decimals digits.now
+        × (units (code_of scale.mark) scale.decimals digits.now ≤ scale.most)) }
     ensures { IfOk result (λ fault. IsFaultOf (code_of scale.mark) scale.decimals scale.most digits.now fault) }
 {
     let field = shown(alloc, field)?;
@@ -137,8 +139,8 @@ fn fault_of(alloc: Global, digits: &str, field: &str, scale: Scale) -> Result<Fa
 ///
 /// - `PastMost` exactly if the text is a number of more than `scale.most` units;
 /// - `TooManyDecimals` exactly if it has digits on both sides of the mark, and more decimals than the scale, which has some;
-/// - `NotWhole` exactly if the scale has no decimals, and it is a number with decimals behind a point or a comma, the other of which may
-///   be between groups of the digits before it;
+/// - `NotWhole` exactly if the scale has no decimals, and the text has some behind a point or a comma. The other of these two marks may
+///   be between groups of the digits before;
 /// - `NoNumber` for any other text.
 ///
 /// `Memory` if the message can't be allocated.

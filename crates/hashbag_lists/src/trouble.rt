@@ -69,8 +69,12 @@ impl Trouble<'_> {
         }
     }
 
-    /// Returns the exit status of a program that ends for this reason. It is 2 for an argument or a bad line, 3 for a failed allocation, 5
-    /// for a total that is too large, and 4 for what the system couldn't do.
+    /// Returns the exit status of a program that ends for this reason:
+    ///
+    /// - 2: an argument or a line is bad;
+    /// - 3: an allocation failed;
+    /// - 4: a file wasn't opened, read or written, or the system gives no random numbers;
+    /// - 5: a total is too large.
     pub fn status(&self) -> u8
         ensures { result ≡ status_of self.now }
     {
