@@ -14,8 +14,9 @@ use Rattle.hashbag_script.specs.declared.script.Reply.{Reply}
 use Rattle.hashbag_core.specs.Occurrences.{distinct_count}
 use Rattle.hashbag_core.specs.Bag.{Bag, Means}
 use Rattle.hashbag_script.specs.declared.script.Step.{Step}
-use Rattle.hashbag_script.specs.Script.{step, limit_after, limit_left, run, peak, arrivals, newcomers, is_about_room, is_reserve, Moves, IsBounded}
+use Rattle.hashbag_script.specs.Script.{step, limit_after, limit_left, run, peak, arrivals, newcomers, is_about_room, is_reserve, IsBounded}
 use Rattle.hashbag_script.proofs.DistinctOrder.{distinct_rearranged}
+use Rattle.hashbag_script.proofs.MoveLemmas.{Moves}
 use Rattle.hashbag_script.proofs.RoomLemmas.{newcomers_rearranged}
 
 or_false : (a b : Bool) → (a || b) ≡ false → (a ≡ false) × (b ≡ false)

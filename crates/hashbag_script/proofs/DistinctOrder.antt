@@ -24,7 +24,7 @@ module _ {T : Type 0} {eq : T → T → Bool} (laws : IsEquivalence eq) where
   count_more : (v y : T) (Y : List T) → count eq v (y ∷ Y) ≡ one_if (eq v y) + count eq v Y
   count_more v y Y = sum_by-cons (λ x. one_if (eq v x)) y Y
 
-  count_alike : (x y : T) → eq x y ≡ true → (Y : List T) → count eq x Y ≡ count eq y Y
+  pub count_alike : (x y : T) → eq x y ≡ true → (Y : List T) → count eq x Y ≡ count eq y Y
   count_alike x y e [] = refl
   count_alike x y e (z ∷ Y) =
       let a = count_more x z Y in
@@ -39,7 +39,7 @@ module _ {T : Type 0} {eq : T → T → Bool} (laws : IsEquivalence eq) where
       let b : one_if (eq v y) ≡ 1 = ap one_if e in
       omega (arith, a, b)
 
-  other_counts : (v y : T) (Y : List T) → eq v y ≡ false → count eq v (y ∷ Y) ≡ count eq v Y
+  pub other_counts : (v y : T) (Y : List T) → eq v y ≡ false → count eq v (y ∷ Y) ≡ count eq v Y
   other_counts v y Y e =
       let a = count_more v y Y in
       let b : one_if (eq v y) ≡ 0 = ap one_if e in

@@ -1,21 +1,19 @@
--- Room along a run: what a step leaves of it, and which steps bring in a value.
-use Rattle.std.proofs.Common.{◌≡◌, ℕ, zero, suc, ◌+◌, ◌-◌, ◌<◌, ◌≤◌, ◌==◌, Bool, true, false, cond, ◌||◌, List, [], ◌∷◌, ◌++◌, length, replicate, refl, sym, ap, subst, ◌∙◌, inl, inr, arith}
+-- Room along a run, and which steps bring in a value.
+use Rattle.std.proofs.Common.{◌≡◌, ℕ, zero, suc, ◌+◌, ◌-◌, ◌<◌, ◌≤◌, ◌==◌, Bool, true, false, cond, ◌||◌, List, [], ◌∷◌, ◌++◌, length, replicate, refl, sym, ap, ◌∙◌, arith}
 use Rattle.std.specs.Cmp.{IsEquivalence}
 use Rattle.std.specs.List.{list_any}
 use Rattle.std.specs.List.Sorted.{IsPermutation}
 use Rattle.std.proofs.lemmas.List.Folds.{list_any-append}
 use Rattle.std.proofs.lemmas.List.Sorted.{list_any-IsPermutation, IsPermutation-refl}
-use Rattle.hashbag_table.specs.Tables.{Tables, room, values, grown_slots, Arrives, KeepsRoom}
-use Rattle.hashbag_table.proofs.RoomKeptLemmas.{keeps_as, keeps_more, keeps_Arrives}
-use Rattle.std.proofs.lemmas.Bool.{cases_lt}
-use Rattle.std.proofs.lemmas.List.{length-replicate}
+use Rattle.hashbag_table.specs.Tables.{Tables, room, KeepsRoom}
 use Rattle.hashbag_core.specs.Occurrences.{count, others, add, put}
 use Rattle.hashbag_core.proofs.OccurrenceLemmas.{count_rearranged, put_absent}
 use Rattle.hashbag_script.specs.declared.script.Step.{Step}
 use Rattle.hashbag_script.specs.declared.script.Reply.{Reply}
 use Rattle.hashbag_script.specs.declared.script.Reply.TheVariants.{Count, TooMany}
-use Rattle.hashbag_script.specs.Script.{step, limit_after, limit_left, run, arrivals, newcomers, has_newcomer, is_about_room, IsRoomy, Outgrows, Moves}
+use Rattle.hashbag_script.specs.Script.{step, limit_after, limit_left, run, arrivals, newcomers, has_newcomer, is_about_room, IsRoomy}
 use Rattle.hashbag_script.specs.Rows.{insert_row, replace_row, entry_or_row}
+use Rattle.hashbag_script.proofs.DistinctOrder.{count_alike, other_counts}
 use Rattle.hashbag_script.proofs.RowLemmas.{not_above, entry_or_row-vacant}
 use Rattle.hashbag_script.proofs.ScriptLemmas.{run_none, run_more, limit_none, limit_more}
 
@@ -37,47 +35,6 @@ or_false_left false b h = refl
 or_false_right : (a b : Bool) → (a || b) ≡ false → b ≡ false
 or_false_right true b h = absurd (cc)
 or_false_right false b h = h
-
--- ---- what is built
-
-module _ {T : Type 0} where
-  -- what an absent value leaves where there was no room
-  pub outgrown : (old new : Tables T) → room old ≡ 0 → Arrives old new → Outgrows old new
-  outgrown old new full h = record {
-    slots = (h.grown full).fills.same_length ∙ length-replicate (grown_slots (length old.newer) (values old)) _;
-    room = h.room_grown full;
-    built = h.built.grown full;
-  }
-
--- ---- what is kept
-
-module _ {T : Type 0} where
-  -- n of a value that occurs c times: with none nothing changes, and where it occurs no room is taken
-  pub moves_inserted : (c n k : ℕ) (old new : Tables T) → (n ≡ 0 → new ≡ old) → (0 < n → 0 < c → KeepsRoom 0 old new) → (0 < n → c ≡ 0 → Arrives old new) → (c ≡ 0 → 0 < n → k ≡ 1) → Moves k old new
-  moves_inserted c zero k old new none stays arrives newcomer = inl (keeps_as k old new (none refl))
-  moves_inserted (suc c) (suc n) k old new none stays arrives newcomer = inl (keeps_more k old new (stays (omega arith) (omega arith)))
-  moves_inserted zero (suc n) k old new none stays arrives newcomer =
-      let one = newcomer refl (omega arith) in
-      let came = arrives (omega arith) refl in
-      elim (cases_lt 0 (room old)) [
-        | inl some ↦ inl (subst (λ k. KeepsRoom k old new) (sym one) (keeps_Arrives old new came some))
-        | inr full ↦ let none_left : room old ≡ 0 = omega (arith, full) in inr (one, none_left, outgrown old new none_left came)
-      ]
-
-  -- the same where a value that occurs leaves all as it is
-  pub moves_entered : (c q k : ℕ) (old new : Tables T) → (q ≡ 0 → new ≡ old) → (0 < c → new ≡ old) → (0 < q → c ≡ 0 → Arrives old new) → (c ≡ 0 → 0 < q → k ≡ 1) → Moves k old new
-  moves_entered c q k old new none same arrives newcomer = moves_inserted c q k old new none (λ more some. keeps_as 0 old new (same some)) arrives newcomer
-
-  -- where there is room, no table is made
-  pub moves_within : (k : ℕ) (old new : Tables T) → Moves k old new → k ≤ room old → KeepsRoom k old new
-  moves_within k old new h enough = elim h [
-    | inl kept ↦ kept
-    | inr grown ↦ absurd (let one = grown.0 in let full = grown.1 in omega (arith, one, full, enough))
-  ]
-
-  -- what leaves all room moves nothing
-  pub moves_kept : (k : ℕ) (old new : Tables T) → KeepsRoom 0 old new → Moves k old new
-  moves_kept k old new h = inl (keeps_more k old new h)
 
 -- no step of a run is about room, so neither is the next one, nor are those after it
 module _ {T : Type 0} where
@@ -107,6 +64,18 @@ module _ {T : Type 0} {eq : T → T → Bool} (laws : IsEquivalence eq) where
 
   none_counts : (k : ℕ) → k ≡ 0 → (k == 0) ≡ true
   none_counts k e = ap (λ (n : ℕ). n == 0) e
+
+  newcomer_found : (v : T) (X Y : List T) → count eq v X ≡ 0 → 0 < count eq v Y → has_newcomer eq X Y ≡ true
+  newcomer_found v X [] none some = absurd (omega (arith, some))
+  newcomer_found v X (y ∷ Y) none some = by_equal (eq v y) refl (newcomer_found v X Y none)
+    where
+      by_equal : (b : Bool) → eq v y ≡ b → (0 < count eq v Y → has_newcomer eq X Y ≡ true) → has_newcomer eq X (y ∷ Y) ≡ true
+      by_equal true same later = ap (λ (b : Bool). b || has_newcomer eq X Y) (none_counts (count eq y X) (sym (count_alike laws v y same X) ∙ none))
+      by_equal false other later = or_true (count eq y X == 0) (has_newcomer eq X Y) (later (let k = other_counts laws v y Y other in omega (arith, k, some)))
+
+  -- a value that is absent before, and present after, came
+  pub newcomer_there : (v : T) (X Y : List T) → count eq v X ≡ 0 → 0 < count eq v Y → newcomers eq X Y ≡ 1
+  newcomer_there v X Y none some = ap one_if (newcomer_found v X Y none some)
 
   newcomer_last : (v : T) (n : ℕ) (X Z : List T) → count eq v X ≡ 0 → 0 < n → has_newcomer eq X (Z ++ replicate n v) ≡ true
   newcomer_last v zero X Z none some = absurd (omega arith)

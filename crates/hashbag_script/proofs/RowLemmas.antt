@@ -12,7 +12,10 @@ use Rattle.hashbag_script.specs.declared.script.Reply.TheVariants.{Count, Left, 
 use Rattle.hashbag_core.specs.Bag.{Bag, IsBagOf}
 use Rattle.hashbag_core.specs.Occurrences.{count, instance_or_itself, stored, add, less, put, IsBag}
 use Rattle.hashbag_script.specs.Rows.{insert_row, replace_row, try_take_row, take_all_row, entry_set_row, entry_or_row, quota}
-use Rattle.hashbag_script.specs.Script.{step, limit_after, AsksForMemory, IsRefusedInsertion}
+use Rattle.hashbag_script.specs.Script.{step, limit_after, AsksForMemory, IsRefusedInsertion, MayShrink}
+use Rattle.hashbag_table.specs.Tables.{Tables, IsLeast}
+use Rattle.std.proofs.lemmas.List.{nil_from_length}
+use Rattle.hashbag_script.proofs.DistinctOrder.{distinct_rearranged}
 use Rattle.hashbag_core.proofs.OccurrenceLemmas.{bag_rearranged, count_rearranged, instance_rearranged, add_rearranged, less_rearranged, put_rearranged, less_absent, length_added}
 use Rattle.hashbag_script.proofs.QuotaLemmas.{quota_congr, retained_rearranged}
 use Rattle.hashbag_core.proofs.TakeLemmas.{stored_there, stored_count, stored_instance, stored_some}
@@ -151,23 +154,29 @@ module _ {T : Type 0} {eq : T → T → Bool} (laws : IsEquivalence eq) {most : 
       let fits = refused.fits in
       record { absent = omega arith; some = refused.some; fits = omega arith }
 
+  shrink_rearranged : (tables : Tables T) → MayShrink eq Y tables → MayShrink eq X tables
+  shrink_rearranged tables may = record {
+    some = λ none. may.some (nil_from_length Y (let nothing : length X ≡ 0 = ap (λ (l : List T). length l) none in let same = long in omega (arith, same, nothing)));
+    smaller = λ m least. may.smaller m (subst (λ (k : ℕ). IsLeast 0 k m) (distinct_rearranged laws X Y h) least);
+  }
+
   -- what asks for memory does so whatever the order of the list
-  pub asks_rearranged : (s : Step T) → AsksForMemory eq most Y s → AsksForMemory eq most X s
-  asks_rearranged (Insert v) asks = refused_rearranged v 1 asks
-  asks_rearranged (InsertMany v n) asks = refused_rearranged v n asks
-  asks_rearranged (Replace v) asks = refused_rearranged v 1 asks
-  asks_rearranged (Remove v) asks = asks
-  asks_rearranged (RemoveUpTo v q) asks = asks
-  asks_rearranged (TryTake v) asks = asks
-  asks_rearranged (TakeAll v) asks = asks
-  asks_rearranged (EntrySet v n) asks = asks
-  asks_rearranged (EntryOr v q) asks = refused_rearranged v q asks
-  asks_rearranged (Retain list) asks = asks
-  asks_rearranged Clear asks = asks
-  asks_rearranged (CountStep v) asks = asks
-  asks_rearranged (Reserve n) asks = asks
-  asks_rearranged ShrinkToFit asks = asks
-  asks_rearranged (Limit n) asks = asks
+  pub asks_rearranged : (tables : Tables T) (s : Step T) → AsksForMemory eq most Y tables s → AsksForMemory eq most X tables s
+  asks_rearranged tables (Insert v) asks = refused_rearranged v 1 asks
+  asks_rearranged tables (InsertMany v n) asks = refused_rearranged v n asks
+  asks_rearranged tables (Replace v) asks = refused_rearranged v 1 asks
+  asks_rearranged tables (Remove v) asks = asks
+  asks_rearranged tables (RemoveUpTo v q) asks = asks
+  asks_rearranged tables (TryTake v) asks = asks
+  asks_rearranged tables (TakeAll v) asks = asks
+  asks_rearranged tables (EntrySet v n) asks = asks
+  asks_rearranged tables (EntryOr v q) asks = refused_rearranged v q asks
+  asks_rearranged tables (Retain list) asks = asks
+  asks_rearranged tables Clear asks = asks
+  asks_rearranged tables (CountStep v) asks = asks
+  asks_rearranged tables (Reserve n) asks = asks
+  asks_rearranged tables ShrinkToFit asks = shrink_rearranged tables asks
+  asks_rearranged tables (Limit n) asks = asks
 
 module _ {T : Type 0} {eq : T → T → Bool} (laws : IsEquivalence eq) where
   -- the same of a bag with the limit m, which is also said otherwise

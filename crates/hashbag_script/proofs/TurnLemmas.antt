@@ -1,21 +1,18 @@
 -- Tables along a run.
-use Rattle.std.proofs.Common.{◌≡◌, ℕ, ◌+◌, ◌-◌, ◌<◌, ◌≤◌, Bool, false, List, [], ◌∷◌, ◌++◌, length, take, Result, Ok, Err, OnOk, refl, sym, ap, subst, ◌∙◌}
+use Rattle.std.proofs.Common.{◌≡◌, ℕ, ◌+◌, ◌-◌, ◌<◌, ◌≤◌, Bool, List, [], ◌∷◌, ◌++◌, length, take, Result, Ok, Err, OnOk, refl, sym, ap, subst, ◌∙◌}
 use Rattle.std.specs.Cmp.{IsEquivalence}
 use Rattle.std.specs.List.Sorted.{IsPermutation}
-use Rattle.std.proofs.lemmas.Bool.{false≢true}
-use Rattle.hashbag_table.specs.Tables.{Tables, values, ReservesOrStays, ShrinksOrStays}
+use Rattle.hashbag_table.specs.Tables.{Tables, values}
 use Rattle.hashbag_core.specs.Bag.{Bag}
 use Rattle.hashbag_core.specs.Held.{AreHeld}
 use Rattle.hashbag_core.specs.Occurrences.{distinct_count}
 use Rattle.hashbag_script.specs.declared.script.Step.{Step}
-use Rattle.hashbag_script.specs.declared.script.Step.TheVariants.{Reserve, ShrinkToFit}
 use Rattle.hashbag_script.specs.declared.script.Reply.{Reply}
 use Rattle.hashbag_script.specs.Pairs.{ran}
-use Rattle.hashbag_script.specs.Script.{step, limit_after, limit_left, run, newcomers, is_about_room, is_reserve, Moves}
+use Rattle.hashbag_script.specs.Script.{step, limit_after, limit_left, run}
 use Rattle.hashbag_script.specs.Turns.{LeavesTables, Hold, TablesInTurn, AreTablesInTurn, IsBoundedRun}
 use Rattle.hashbag_script.proofs.BoundLemmas.{are_answered, bounded_from, no_slots_paid, unanswered}
 use Rattle.hashbag_script.proofs.DistinctOrder.{distinct_rearranged}
-use Rattle.hashbag_script.proofs.RoomLemmas.{newcomers_rearranged}
 
 -- what holds whatever is answered, and what follows where three things hold of an answer
 pub on_ok_from : {A E : Type 0} (P : Type 0) (r : Result A E) → P → OnOk r P
@@ -26,25 +23,12 @@ pub on_ok_all : {A E : Type 0} (P Q R W : Type 0) (r : Result A E) → OnOk r P 
 on_ok_all P Q R W (Ok x) p q h all = all p q h
 on_ok_all P Q R W (Err e) p q h all = tt
 
-module _ {T : Type 0} (eq : T → T → Bool) (most : ℕ) (X : List T) (s : Step T) (old new : Tables T) where
-  -- a step that isn't about room
-  pub turns_quiet : is_about_room s ≡ false → Moves (newcomers eq X (step eq most X s).0) old new → LeavesTables eq most X s old new
-  turns_quiet quiet moves = record {
-    moves = λ _. moves;
-    reserves = λ n is. absurd (false≢true (sym quiet ∙ ap is_about_room is));
-    shrinks = λ is. absurd (false≢true (sym quiet ∙ ap is_about_room is));
-  }
-
-  pub on_ok_quiet : {A E : Type 0} (r : Result A E) → is_about_room s ≡ false → OnOk r (Moves (newcomers eq X (step eq most X s).0) old new) → OnOk r (LeavesTables eq most X s old new)
-  on_ok_quiet (Ok x) quiet moves = turns_quiet quiet moves
-  on_ok_quiet (Err e) quiet moves = tt
-
 module _ {T : Type 0} (eq : T → T → Bool) where
   -- one more step at the end of a run
   pub in_turn_more : (most : ℕ) (X : List T) (done : List (Step T)) (s : Step T) (old now new : Tables T) → TablesInTurn eq most X done old now → Hold eq (run eq most X done).0 now
-      → LeavesTables eq (limit_left eq most X done) (run eq most X done).0 s now new → TablesInTurn eq most X (done ++ s ∷ []) old new
+      → LeavesTables eq (run eq most X done).0 (step eq (limit_left eq most X done) (run eq most X done).0 s).0 s now new → TablesInTurn eq most X (done ++ s ∷ []) old new
   unfolding run limit_left
-  in_turn_more most X [] s old now new before hold turns = (new, subst (λ t. Hold eq X t) before hold, subst (λ t. LeavesTables eq most X s t new) before turns, refl)
+  in_turn_more most X [] s old now new before hold turns = (new, subst (λ t. Hold eq X t) before hold, subst (λ t. LeavesTables eq X (step eq most X s).0 s t new) before turns, refl)
   in_turn_more most X (r ∷ done) s old now new before hold turns = (before.0, before.1, before.2, in_turn_more (limit_after eq most X r) (step eq most X r).0 done s before.0 now new before.3 hold turns)
 
   -- the steps that have replies are those that were done
@@ -66,10 +50,3 @@ module _ {T : Type 0} {eq : T → T → Bool} (laws : IsEquivalence eq) where
   -- whatever the order of the list
   pub hold_rearranged : (X B : List T) (t : Tables T) → IsPermutation X B → AreHeld eq B t → values t ≡ distinct_count eq B → Hold eq X t
   hold_rearranged X B t means held number = record { items = B; means = means; held = held; number = number ∙ sym (distinct_rearranged laws X B means) }
-
-  pub turns_rearranged : (m n : ℕ) (X B : List T) (s : Step T) (old new : Tables T) → IsPermutation X B → IsPermutation (step eq n X s).0 (step eq m B s).0 → LeavesTables eq m B s old new → LeavesTables eq n X s old new
-  turns_rearranged m n X B s old new means left h = record {
-    moves = λ quiet. subst (λ k. Moves k old new) (sym (newcomers_rearranged laws X B _ _ means left)) (h.moves quiet);
-    reserves = λ k is. subst (λ d. ReservesOrStays k d old new) (sym (distinct_rearranged laws X B means)) (h.reserves k is);
-    shrinks = λ is. subst (λ d. ShrinksOrStays d old new) (sym (distinct_rearranged laws X B means)) (h.shrinks is);
-  }

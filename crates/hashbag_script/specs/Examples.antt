@@ -1,16 +1,20 @@
 -- The definitions compute, on the bag of the examples of lists: 1 twice and 2 once, of which a number and a tag are an
 -- instance.
-use Rattle.std.specs.Prelude.{◌≡◌, ℕ, Bool, [], ◌∷◌, refl}
-use Rattle.std.proofs.Common.{arith}
+use Rattle.std.specs.Prelude.{◌≡◌, ◌⊎◌, ℕ, ◌<◌, ◌≤◌, ◌^◌, Bool, true, false, List, [], ◌∷◌, length, replicate, slice_index, refl}
+use Rattle.std.proofs.Common.{zero, suc, inl, inr, lit<, arith}
 use Rattle.std.specs.List.{list_any}
-use Rattle.hashbag_table.specs.Tables.{Tables, room, fresh}
+use lib.Pow.{pow_mono}
+use Rattle.hashbag_table.specs.SlotWords.{Empty, Live}
+use Rattle.hashbag_table.specs.Slots.{is_live, slot_at}
+use Rattle.hashbag_table.specs.Tables.{Tables, room, fresh, Fills, IsLeast}
 use Rattle.hashbag_core.specs.Held.{no_slots}
 use Rattle.hashbag_core.specs.Examples.{same_key, bag}
-use Rattle.hashbag_script.specs.declared.script.Step.TheVariants.{Insert, Remove, Clear, Count as CountStep, Reserve}
+use Rattle.hashbag_script.specs.declared.script.Step.TheVariants.{Insert, InsertMany, Remove, Clear, Count as CountStep, Reserve, ShrinkToFit}
 use Rattle.hashbag_script.specs.declared.script.Reply.TheVariants.{Count, Left, Taken, Absent, Done, TooMany}
 use Rattle.hashbag_core.specs.Occurrences.{greatest_total}
 use Rattle.hashbag_script.specs.Rows.{insert_row, replace_row, remove_row, remove_up_to_row, try_take_row, take_all_row, entry_set_row, entry_or_row, quota, retained, retain_row, clear_row, count_row, reserve_row, shrink_to_fit_row}
-use Rattle.hashbag_script.specs.Script.{step, run, peak, arrivals, has_newcomer, newcomers, is_about_room, IsRoomy}
+use Rattle.hashbag_script.specs.Script.{step, run, peak, arrivals, has_newcomer, newcomers, is_about_room, IsRoomy, AsksForMemory}
+use Rattle.hashbag_script.specs.Turns.{LeavesTables}
 
 -- ---- the table of steps
 
@@ -125,3 +129,91 @@ room_for_twelve = refl
 twice_in_reserved_room : IsRoomy same_key greatest_total [] (Insert (1, 10) ∷ Remove (1, 0) ∷ Insert (1, 30) ∷ []) sixteen
 unfolding arrivals
 twice_in_reserved_room = record { calls = refl; enough = omega arith }
+
+-- ---- what a step leaves of the tables
+
+-- 32 slots, all of them Empty, and 17 of an older table that wait
+abbrev carrying : Tables (ℕ × ℕ)
+carrying = record { newer = replicate 32 Empty; waiting = replicate 17 Empty; older = 32; built = 48 }
+
+-- 1 arrived at the first slot. It carried the next 16, so that one waits
+abbrev carried : Tables (ℕ × ℕ)
+carried = record { newer = Live (1, 10) 1 ∷ replicate 31 Empty; waiting = Empty ∷ []; older = 32; built = 48 }
+
+-- 1 arrived, and all were carried
+abbrev all_carried : Tables (ℕ × ℕ)
+all_carried = record { newer = Live (1, 10) 1 ∷ replicate 31 Empty; waiting = []; older = 0; built = 48 }
+
+abbrev first_place : List ℕ
+first_place = 0 ∷ []
+
+first_filled : Fills 17 carrying.newer carried.newer
+first_filled = record { same_length = refl; places = first_place; few = omega arith; each = at }
+  where
+    at : (p : ℕ) → (slot_at carried.newer p ≡ slot_at carrying.newer p) ⊎ (((i : ℕ) × (i < length first_place) × (slice_index first_place i ≡ p)) × (is_live (slot_at carrying.newer p) ≡ false) × (is_live (slot_at carried.newer p) ≡ true))
+    at zero = inr ((0, lit< tt, refl), refl, refl)
+    at (suc p) = inl refl
+
+arrival : LeavesTables same_key [] ((1, 10) ∷ []) (Insert (1, 10)) carrying carried
+arrival = record {
+  arrives = λ absent present. record {
+    with_room = λ some. record { fills = first_filled; waits = refl };
+    grown = λ full. absurd (omega (arith, full));
+    room_kept = λ some. omega arith;
+    room_grown = λ full. absurd (omega (arith, full));
+    built = record { with_room = λ some. refl; grown = λ full. absurd (omega (arith, full)) };
+  };
+  absent = λ absent still. absurd (omega (arith, still));
+  present = λ some. absurd (omega (arith, some));
+}
+
+-- no insertion carries all slots where more than 16 wait
+never_all_at_once : LeavesTables same_key [] ((1, 10) ∷ []) (Insert (1, 10)) carrying all_carried → ⊥
+never_all_at_once leaves = let waits = ((leaves.arrives refl (omega arith)).with_room (omega arith)).waits in cc
+
+-- none more of a value that is present changes nothing
+none_more : LeavesTables same_key ((1, 10) ∷ []) ((1, 10) ∷ []) (InsertMany (1, 20) 0) carried carried
+none_more = record {
+  arrives = λ none some. absurd (omega (arith, none));
+  absent = λ none still. refl;
+  present = λ some. inr (refl, refl);
+}
+
+emptied : LeavesTables same_key ((1, 10) ∷ []) [] Clear carried (record { newer = replicate 32 Empty; waiting = []; older = 0; built = 48 })
+emptied = refl
+
+asked : LeavesTables same_key [] [] (CountStep (1, 10)) carrying carrying
+asked = refl
+
+-- ---- what may fail for want of memory
+
+reserve_in_room : AsksForMemory same_key greatest_total [] sixteen (Reserve 12) → ⊥
+reserve_in_room asks = omega (arith, asks)
+
+reserve_past_room : AsksForMemory same_key greatest_total [] sixteen (Reserve 13)
+reserve_past_room = omega arith
+
+no_value_to_shrink : AsksForMemory same_key greatest_total [] sixteen ShrinkToFit → ⊥
+no_value_to_shrink asks = asks.some refl
+
+least_for_1 : IsLeast 0 1 16
+least_for_1 = record {
+  count = inr (4, lit< tt, lit< tt, refl);
+  from = omega arith;
+  enough = omega arith;
+  least = λ other c from enough.
+      elim c [
+        | inl z ↦ absurd (omega (arith, z, enough))
+        | inr w ↦ let p : 2 ^ 4 ≤ 2 ^ w.0 = pow_mono {i = 4} {j = w.0} w.1 in let e = w.3 in omega (arith, p, e)
+      ];
+}
+
+-- 16 slots are the least for one value, and 32 are more
+no_slot_to_shrink : AsksForMemory same_key greatest_total ((1, 10) ∷ []) sixteen ShrinkToFit → ⊥
+no_slot_to_shrink asks = let fewer = asks.smaller 16 least_for_1 in omega (arith, fewer)
+
+slots_to_shrink : AsksForMemory same_key greatest_total ((1, 10) ∷ []) carried ShrinkToFit
+slots_to_shrink = record {
+  some = λ none. (cc);
+  smaller = λ m least. let few = least.least 16 least_for_1.count (omega arith) (omega arith) in omega (arith, few);
+}

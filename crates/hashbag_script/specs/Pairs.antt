@@ -29,6 +29,10 @@ pub record IsUntouched {T S : Type 0} (r : Ran T S) : Type 0 where
 abbrev pub IsNotBegun : {T S : Type 0} → Type 0 → Ran T S → Type 0
 IsNotBegun NoRoom r = NoRoom × IsUntouched r
 
+-- no step of two runs was done, since there was no room for the replies
+abbrev pub IsPairNotBegun : {T S S2 : Type 0} → Type 0 → Ran T S → Ran T S2 → Type 0
+IsPairNotBegun NoRoom r q = NoRoom × IsUntouched r × IsUntouched q
+
 module _ {T : Type 0} (eq : T → T → Bool) where
   -- every step was done, from the list X on: the replies of that run were appended, and the bag means what it left
   pub record IsDoneFrom {S : Type 0} (X : List T) (r : Ran T S) : Type 0 where
@@ -51,7 +55,7 @@ module _ {T : Type 0} (eq : T → T → Bool) where
   -- memory stopped the runs of two bags: before the first step, since there was no room for the replies; or in the first
   -- run, and the second bag is untouched; or in the second run, and the first was done
   abbrev pub IsPairCutOff : {S S2 : Type 0} → Type 0 → Ran T S → Ran T S2 → Type 0
-  IsPairCutOff NoRoom r q = (NoRoom × IsUntouched r × IsUntouched q) ⊎ ((IsCutOff r × IsUntouched q) ⊎ (IsDone r × IsCutOff q))
+  IsPairCutOff NoRoom r q = IsPairNotBegun NoRoom r q ⊎ ((IsCutOff r × IsUntouched q) ⊎ (IsDone r × IsCutOff q))
 
   -- memory stopped the runs of two bags, or both were done, and what was to come after them was stopped
   abbrev pub IsCutOffAfter : {S S2 : Type 0} → Type 0 → Ran T S → Ran T S2 → Type 0

@@ -1,8 +1,7 @@
 -- What whole runs of steps reply and leave, on the plain list of a bag's occurrences.
-use Rattle.std.specs.Prelude.{◌≡◌, ℕ, ◌+◌, ◌-◌, ◌*◌, ◌<◌, ◌≤◌, ◌⊎◌, ◌==◌, max, nat_lt, if◌then◌else◌, Bool, true, false, List, [], ◌∷◌, ◌++◌, length}
+use Rattle.std.specs.Prelude.{◌≡◌, ◌≢◌, ℕ, ◌+◌, ◌-◌, ◌*◌, ◌<◌, ◌≤◌, ◌⊎◌, ◌==◌, max, nat_lt, if◌then◌else◌, Bool, true, false, List, [], ◌∷◌, ◌++◌, length}
 use Rattle.std.specs.List.{list_any}
-use Rattle.hashbag_table.specs.Tables.{Tables, limit, room, values, grown_slots}
-pub use Rattle.hashbag_table.specs.Tables.{KeepsRoom}
+use Rattle.hashbag_table.specs.Tables.{Tables, room, IsLeast}
 use Rattle.hashbag_script.specs.declared.script.Step.{Step}
 use Rattle.hashbag_script.specs.declared.script.Step.TheVariants.{Insert, InsertMany, Replace, Remove, RemoveUpTo, TryTake, TakeAll, EntrySet, EntryOr, Retain, Clear, Count, Reserve, ShrinkToFit, Limit}
 use Rattle.hashbag_script.specs.declared.script.Reply.{Reply}
@@ -49,16 +48,6 @@ module _ {T : Type 0} where
   is_reserve (Reserve n) = true
   is_reserve ShrinkToFit = false
   is_reserve (Limit n) = false
-
-  -- a new table took the place of one that had no room, for one value more
-  pub record Outgrows (old new : Tables T) : Type 0 where
-    pub slots : length new.newer ≡ grown_slots (length old.newer) (values old)
-    pub room : room new ≡ limit (length new.newer) - values old - 1
-    pub built : new.built ≡ old.built + length new.newer
-
-  -- k values came: into the slots that there were, or the one value that came for which there was no room into a new table
-  abbrev pub Moves : ℕ → Tables T → Tables T → Type 0
-  Moves k old new = KeepsRoom k old new ⊎ ((k ≡ 1) × (room old ≡ 0) × Outgrows old new)
 
 module _ {T : Type 0} (eq : T → T → Bool) where
   -- the list that a step leaves of X, in a bag with the limit `most`, and its reply
@@ -137,10 +126,6 @@ module _ {T : Type 0} (eq : T → T → Bool) where
   abbrev pub HasRoomFor : {S : Type 0} → Bag T S → List T → Type 0
   HasRoomFor bag Y = newcomers bag.items Y ≤ room bag.tables
 
-  -- what occurs in Y and not in the bag before came into its tables
-  abbrev pub MovesIn : {S : Type 0} → List T → Bag T S → Bag T S → Type 0
-  MovesIn Y before after = Moves (newcomers before.items Y) before.tables after.tables
-
   -- the number of steps of the run that bring in a value which didn't occur before them
   unfoldable pub arrivals : ℕ → List T → List (Step T) → ℕ
   arrivals most X [] = 0
@@ -170,26 +155,32 @@ module _ {T : Type 0} (eq : T → T → Bool) where
     pub some : 0 < n
     pub fits : length X + n ≤ most
 
-  -- a step that may be refused for memory: such an insertion, or a replacement that is one, and what asks for room
-  abbrev pub AsksForMemory : ℕ → List T → Step T → Type 0
-  AsksForMemory most X (Insert v) = IsRefusedInsertion most v 1 X
-  AsksForMemory most X (InsertMany v n) = IsRefusedInsertion most v n X
-  AsksForMemory most X (Replace v) = IsRefusedInsertion most v 1 X
-  AsksForMemory most X (Remove v) = ⊥
-  AsksForMemory most X (RemoveUpTo v q) = ⊥
-  AsksForMemory most X (TryTake v) = ⊥
-  AsksForMemory most X (TakeAll v) = ⊥
-  AsksForMemory most X (EntrySet v n) = ⊥
-  AsksForMemory most X (EntryOr v q) = IsRefusedInsertion most v q X
-  AsksForMemory most X (Retain list) = ⊥
-  AsksForMemory most X Clear = ⊥
-  AsksForMemory most X (Count v) = ⊥
-  AsksForMemory most X (Reserve n) = Unit {0}
-  AsksForMemory most X ShrinkToFit = Unit {0}
-  AsksForMemory most X (Limit n) = ⊥
+  -- there are values, and the least table that has room for them has fewer slots than the newer one
+  pub record MayShrink (X : List T) (tables : Tables T) : Type 0 where
+    pub some : X ≢ []
+    pub smaller : (m : ℕ) → IsLeast 0 (distinct_count eq X) m → m < length tables.newer
 
-  -- a run that memory stopped: the steps that have replies are the run, the bag means what they left, and the next step
-  -- asked for memory, which a value asks for only where there is no room
+  -- a step that may be refused for memory: such an insertion, or a replacement that is one; `Reserve` of more room than there is; and
+  -- `ShrinkToFit` of tables that it may shrink
+  abbrev pub AsksForMemory : ℕ → List T → Tables T → Step T → Type 0
+  AsksForMemory most X tables (Insert v) = IsRefusedInsertion most v 1 X
+  AsksForMemory most X tables (InsertMany v n) = IsRefusedInsertion most v n X
+  AsksForMemory most X tables (Replace v) = IsRefusedInsertion most v 1 X
+  AsksForMemory most X tables (Remove v) = ⊥
+  AsksForMemory most X tables (RemoveUpTo v q) = ⊥
+  AsksForMemory most X tables (TryTake v) = ⊥
+  AsksForMemory most X tables (TakeAll v) = ⊥
+  AsksForMemory most X tables (EntrySet v n) = ⊥
+  AsksForMemory most X tables (EntryOr v q) = IsRefusedInsertion most v q X
+  AsksForMemory most X tables (Retain list) = ⊥
+  AsksForMemory most X tables Clear = ⊥
+  AsksForMemory most X tables (Count v) = ⊥
+  AsksForMemory most X tables (Reserve n) = room tables < n
+  AsksForMemory most X tables ShrinkToFit = MayShrink X tables
+  AsksForMemory most X tables (Limit n) = ⊥
+
+  -- a run that memory stopped: the steps that have replies are the run, the bag means what they left, and the next step asked for
+  -- memory, with the tables as it found them. A value asks for it only where there is no room
   pub record IsStopped {S : Type 0} (most : ℕ) (X : List T) (steps : List (Step T)) (before after : List (Reply T)) (bag : Bag T S) : Type 0 where
     pub done : List (Step T)
     pub stopped_at : Step T
@@ -198,5 +189,5 @@ module _ {T : Type 0} (eq : T → T → Bool) where
     pub replies : after ≡ before ++ (run most X done).1
     pub means : Means bag (run most X done).0
     pub limit : bag.most ≡ limit_left most X done
-    pub refused : AsksForMemory (limit_left most X done) (run most X done).0 stopped_at
+    pub refused : AsksForMemory (limit_left most X done) (run most X done).0 bag.tables stopped_at
     pub full : is_about_room stopped_at ≡ false → room bag.tables ≡ 0

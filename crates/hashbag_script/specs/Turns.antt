@@ -1,27 +1,66 @@
 -- What the steps of a run leave of a bag's tables, one after another.
-use Rattle.std.specs.Prelude.{◌≡◌, ℕ, ◌-◌, Bool, false, List, [], ◌∷◌, length, take}
+use Rattle.std.specs.Prelude.{◌≡◌, ℕ, ◌-◌, ◌<◌, ◌⊎◌, Bool, List, [], ◌∷◌, length, take}
 use Rattle.std.specs.List.Sorted.{IsPermutation}
-use Rattle.hashbag_table.specs.Tables.{Tables, values, ReservesOrStays, ShrinksOrStays}
-use Rattle.hashbag_core.specs.Bag.{Means}
-use Rattle.hashbag_core.specs.Held.{AreHeld}
-use Rattle.hashbag_core.specs.Occurrences.{distinct_count}
+use Rattle.hashbag_table.specs.Tables.{Tables, values, Arrives, ReservesOrStays, ShrinksOrStays}
+use Rattle.hashbag_table.specs.Retained.{RetainsTables}
+use Rattle.hashbag_core.specs.Bag.{Bag, Means}
+use Rattle.hashbag_core.specs.Held.{AreHeld, Recounts, Restores, no_slots, cleared}
+use Rattle.hashbag_core.specs.Occurrences.{count, distinct_count}
 use Rattle.hashbag_script.specs.declared.script.Step.{Step}
-use Rattle.hashbag_script.specs.declared.script.Step.TheVariants.{Reserve, ShrinkToFit}
+use Rattle.hashbag_script.specs.declared.script.Step.TheVariants.{Insert, InsertMany, Replace, Remove, RemoveUpTo, TryTake, TakeAll, EntrySet, EntryOr, Retain, Clear, Count, Reserve, ShrinkToFit, Limit}
 use Rattle.hashbag_script.specs.Pairs.{Ran}
-use Rattle.hashbag_script.specs.Script.{step, limit_after, newcomers, is_about_room, Moves, IsBounded}
+use Rattle.hashbag_script.specs.Script.{step, limit_after, IsBounded}
 
 -- the steps of a run that have replies
 abbrev pub answered : {T S : Type 0} → Ran T S → List (Step T)
 answered r = take (length r.replies_after - length r.replies_before) r.steps
 
+module _ {T : Type 0} where
+  -- What a step on one value leaves of the tables, which found the value c times and left it d times. If it was absent and is present, it
+  -- arrived, which carries the next 16 slots that waited. If it was absent and is so still, the tables are unchanged. If it was present,
+  -- they are as `InPlace` says.
+  pub record LeavesValue (c d : ℕ) (InPlace : Type 0) (old new : Tables T) : Type 0 where
+    pub arrives : c ≡ 0 → 0 < d → Arrives old new
+    pub absent : c ≡ 0 → d ≡ 0 → new ≡ old
+    pub present : 0 < c → InPlace
+
 module _ {T : Type 0} (eq : T → T → Bool) where
-  -- What a step on the list X leaves of the tables. One that isn't about room keeps them, or makes a new one for the value that
-  -- came and had no room. `Reserve n` makes room for n more values where there isn't that room, `ShrinkToFit` a smaller table where
-  -- that is enough, and else both leave the tables as they were.
-  pub record LeavesTables (most : ℕ) (X : List T) (s : Step T) (old new : Tables T) : Type 0 where
-    pub moves : is_about_room s ≡ false → Moves (newcomers eq X (step eq most X s).0) old new
-    pub reserves : (n : ℕ) → s ≡ Reserve n → ReservesOrStays n (distinct_count eq X) old new
-    pub shrinks : s ≡ ShrinkToFit → ShrinksOrStays (distinct_count eq X) old new
+  -- of v, which was there c times, there are d: its slot alone has the new count, or the count and the tables are unchanged
+  abbrev pub SetsCount : T → ℕ → ℕ → Tables T → Tables T → Type 0
+  SetsCount v c d old new = LeavesValue c d (Recounts eq v d old new ⊎ ((d ≡ c) × (new ≡ old))) old new
+
+  -- v itself is stored: in the slot of the value that is equal to it, if there was one
+  abbrev pub StoresValue : T → ℕ → ℕ → Tables T → Tables T → Type 0
+  StoresValue v c d old new = LeavesValue c d (Restores eq v old new) old new
+
+  -- what `shrink_to_fit` leaves of the tables of a bag that means X
+  pub record Shrinks (X : List T) (old new : Tables T) : Type 0 where
+    pub none : X ≡ [] → new ≡ no_slots old.built
+    pub shrinks : ShrinksOrStays (distinct_count eq X) old new
+
+  -- What a step leaves of the tables that made the list Y of X. One on a value changes them for that value alone. `Retain` changes counts
+  -- in place, and `Clear` empties the slots. `Reserve n` makes room for n more values if there isn't that room, and `ShrinkToFit` a smaller
+  -- table if that is enough. Both then leave nothing that waits, or else the tables as they were. The others leave them so, too.
+  abbrev pub LeavesTables : List T → List T → Step T → Tables T → Tables T → Type 0
+  LeavesTables X Y (Insert v) old new = SetsCount v (count eq v X) (count eq v Y) old new
+  LeavesTables X Y (InsertMany v n) old new = SetsCount v (count eq v X) (count eq v Y) old new
+  LeavesTables X Y (Replace v) old new = StoresValue v (count eq v X) (count eq v Y) old new
+  LeavesTables X Y (Remove v) old new = SetsCount v (count eq v X) (count eq v Y) old new
+  LeavesTables X Y (RemoveUpTo v q) old new = SetsCount v (count eq v X) (count eq v Y) old new
+  LeavesTables X Y (TryTake v) old new = SetsCount v (count eq v X) (count eq v Y) old new
+  LeavesTables X Y (TakeAll v) old new = SetsCount v (count eq v X) (count eq v Y) old new
+  LeavesTables X Y (EntrySet v n) old new = SetsCount v (count eq v X) (count eq v Y) old new
+  LeavesTables X Y (EntryOr v q) old new = SetsCount v (count eq v X) (count eq v Y) old new
+  LeavesTables X Y (Retain list) old new = RetainsTables old new
+  LeavesTables X Y Clear old new = new ≡ cleared old
+  LeavesTables X Y (Count v) old new = new ≡ old
+  LeavesTables X Y (Reserve n) old new = ReservesOrStays n (distinct_count eq X) old new
+  LeavesTables X Y ShrinkToFit old new = Shrinks X old new
+  LeavesTables X Y (Limit n) old new = new ≡ old
+
+  -- what a step leaves of the tables of a bag, which means a list before and after it
+  abbrev pub LeavesTablesOf : {S : Type 0} → Step T → Bag T S → Bag T S → Type 0
+  LeavesTablesOf s before after = LeavesTables before.items after.items s before.tables after.tables
 
   -- the tables hold the list X, in whichever order: its values with their counts are the Live slots, of which there are as many as X has
   -- distinct values
@@ -34,7 +73,9 @@ module _ {T : Type 0} (eq : T → T → Bool) where
   -- each step finds tables that hold the list that it finds, and leaves of them what it owes, and the next one begins with those
   abbrev pub TablesInTurn : ℕ → List T → List (Step T) → Tables T → Tables T → Type 0
   TablesInTurn most X [] old new = new ≡ old
-  TablesInTurn most X (s ∷ steps) old new = (next : Tables T) × Hold X old × LeavesTables most X s old next × TablesInTurn (limit_after eq most X s) (step eq most X s).0 steps next new
+  TablesInTurn most X (s ∷ steps) old new =
+      let Y = (step eq most X s).0 in
+      (next : Tables T) × Hold X old × LeavesTables X Y s old next × TablesInTurn (limit_after eq most X s) Y steps next new
 
   -- so do the steps that have replies, whichever list the bag meant
   abbrev pub AreTablesInTurn : {S : Type 0} → Ran T S → Type 0

@@ -4,9 +4,9 @@ ghost use Rattle.hashbag_core.specs.Bag.{Means, IsBagOf, limited};
 ghost use Rattle.hashbag_core.specs.Occurrences.{IsBag};
 ghost use Rattle.hashbag_script.specs.Pairs.{ran, HasNoRoom, IsNotBegun, IsRunCutOff};
 ghost use Rattle.hashbag_script.specs.Rows.{insert_row, replace_row, try_take_row, take_all_row, entry_set_row, entry_or_row, retain_row, limit_row, quota as quota_of};
-ghost use Rattle.hashbag_script.specs.Script.{step as step_of, run as run_of, is_about_room, is_reserve, HasRoomFor, MovesIn, IfRoomy, IsRefusedInsertion, AsksForMemory, limit_after, limit_left};
-ghost use Rattle.hashbag_script.specs.Turns.{LeavesTables, AreTablesInTurn, IsBoundedRun};
-ghost use Rattle.hashbag_table.specs.Tables.{KeepsRoom};
+ghost use Rattle.hashbag_script.specs.Script.{step as step_of, run as run_of, is_about_room, is_reserve, HasRoomFor, IfRoomy, IsRefusedInsertion, AsksForMemory, limit_after, limit_left};
+ghost use Rattle.hashbag_script.specs.Turns.{LeavesTablesOf, AreTablesInTurn, IsBoundedRun};
+ghost use Rattle.hashbag_table.specs.Retained.{RetainsTables};
 
 mod joins;
 mod pair;
@@ -84,7 +84,7 @@ fn insert<T: Eq + Hash + Drop, S: BuildHasher + Drop>(
     ensures asked { OnErr result (IsRefusedInsertion T.eq bag.old.most value n bag.old.items) }
     ensures err { OnErr result (bag.new ≡ bag.old) }
     ensures takes { HasRoomFor T.eq bag.old (insert_row T.eq bag.old.most value n bag.old.items).0 → IsOk result }
-    ensures room { OnOk result (MovesIn T.eq (insert_row T.eq bag.old.most value n bag.old.items).0 bag.old bag.new) }
+    ensures tables { OnOk result (LeavesTablesOf T.eq (Step.InsertMany value n) bag.old bag.new) }
 {
     // `len` is called for its clause that the list is a bag's, which the proof names.
     let _len = bag.len();
@@ -107,7 +107,7 @@ fn replace<T: Eq + Hash + Drop, S: BuildHasher + Drop>(
     ensures asked { OnErr result (IsRefusedInsertion T.eq bag.old.most value 1 bag.old.items) }
     ensures err { OnErr result (bag.new ≡ bag.old) }
     ensures takes { HasRoomFor T.eq bag.old (replace_row T.eq bag.old.most value bag.old.items).0 → IsOk result }
-    ensures room { OnOk result (MovesIn T.eq (replace_row T.eq bag.old.most value bag.old.items).0 bag.old bag.new) }
+    ensures tables { OnOk result (LeavesTablesOf T.eq (Step.Replace value) bag.old bag.new) }
 {
     // `len` is called for its clause that the list is a bag's, which the proof names.
     let _len = bag.len();
@@ -126,7 +126,7 @@ fn try_take<T: Eq + Hash + Drop, S: BuildHasher + Drop>(
 ) -> Reply<T>
     ensures reply { result ≡ (try_take_row T.eq value.now bag.old.items).1 }
     ensures left { IsBagOf T.eq bag.old (try_take_row T.eq value.now bag.old.items).0 bag.new }
-    ensures room { KeepsRoom 0 bag.old.tables bag.new.tables }
+    ensures tables { LeavesTablesOf T.eq (Step.TryTake value.now) bag.old bag.new }
 {
     match bag.take_one(value) {
         Ok(instance) => Reply::Taken(instance, 1),
@@ -142,7 +142,7 @@ fn take_all<T: Eq + Hash + Drop, S: BuildHasher + Drop>(
 ) -> Reply<T>
     ensures reply { result ≡ (take_all_row T.eq value.now bag.old.items).1 }
     ensures left { IsBagOf T.eq bag.old (take_all_row T.eq value.now bag.old.items).0 bag.new }
-    ensures room { KeepsRoom 0 bag.old.tables bag.new.tables }
+    ensures tables { LeavesTablesOf T.eq (Step.TakeAll value.now) bag.old bag.new }
 {
     match bag.take_all(value) {
         Some((instance, count)) => Reply::Taken(instance, count),
@@ -158,7 +158,7 @@ fn entry_set<T: Eq + Hash + Drop, S: BuildHasher + Drop>(
 ) -> Reply<T>
     ensures reply { result ≡ (entry_set_row T.eq bag.old.most value n bag.old.items).1 }
     ensures left { IsBagOf T.eq bag.old (entry_set_row T.eq bag.old.most value n bag.old.items).0 bag.new }
-    ensures room { KeepsRoom 0 bag.old.tables bag.new.tables }
+    ensures tables { LeavesTablesOf T.eq (Step.EntrySet value n) bag.old bag.new }
 {
     if bag.contains(&value) == 0 {
         return Reply::Absent;
@@ -189,7 +189,7 @@ fn entry_or<T: Eq + Hash + Drop, S: BuildHasher + Drop>(
     ensures asked { OnErr result (IsRefusedInsertion T.eq bag.old.most value quantity bag.old.items) }
     ensures err { OnErr result (bag.new ≡ bag.old) }
     ensures takes { HasRoomFor T.eq bag.old (entry_or_row T.eq bag.old.most value quantity bag.old.items).0 → IsOk result }
-    ensures room { OnOk result (MovesIn T.eq (entry_or_row T.eq bag.old.most value quantity bag.old.items).0 bag.old bag.new) }
+    ensures tables { OnOk result (LeavesTablesOf T.eq (Step.EntryOr value quantity) bag.old bag.new) }
 {
     // `len` is called for its clause that the list is a bag's, which the proof names.
     let _len = bag.len();
@@ -214,7 +214,7 @@ fn quota<T: Eq>(list: &[(T, usize)], value: &T) -> usize
 // Keeps of each value at most as many as the list says.
 fn retain<T: Eq + Hash + Drop, S: BuildHasher + Drop>(bag: &mut HashBag<T, S>, list: &[(T, usize)])
     ensures left { IsBagOf T.eq bag.old (retain_row T.eq list.now bag.old.items).0 bag.new }
-    ensures room { KeepsRoom 0 bag.old.tables bag.new.tables }
+    ensures tables { RetainsTables bag.old.tables bag.new.tables }
 {
     // `len` is called for its clause that the list is a bag's, which the proof names.
     let _len = bag.len();
@@ -253,13 +253,13 @@ fn apply<T: Eq + Hash + Drop, S: BuildHasher + Drop>(
 
     // Only an allocation can fail, and only in a step that allocates.
     ensures memory { IfErr result (λ e. e ≡ BagError.Memory) }
-    ensures asked { OnErr result (AsksForMemory T.eq bag.old.most bag.old.items step) }
+    ensures asked { OnErr result (AsksForMemory T.eq bag.old.most bag.old.items bag.old.tables step) }
     ensures err { OnErr result (bag.new ≡ bag.old) }
 
-    // What it leaves of the tables: a step that isn't about room keeps them but for an absent value that it inserts; without room a new
-    // table is made for that. Only a step that reserves room makes a larger table for another reason.
+    // With room for what it inserts a step that isn't about room can't fail. What it leaves of the tables: of the steps about room only
+    // one that reserves it makes a larger table.
     ensures takes { is_about_room step ≡ false → HasRoomFor T.eq bag.old (step_of T.eq bag.old.most bag.old.items step).0 → IsOk result }
-    ensures turns { OnOk result (LeavesTables T.eq bag.old.most bag.old.items step bag.old.tables bag.new.tables) }
+    ensures turns { OnOk result (LeavesTablesOf T.eq step bag.old bag.new) }
     ensures fewer { OnOk result (is_about_room step ≡ true → is_reserve step ≡ false
         → length bag.new.tables.newer ≤ length bag.old.tables.newer) }
 {
@@ -304,11 +304,17 @@ fn apply<T: Eq + Hash + Drop, S: BuildHasher + Drop>(
 ///
 /// `Memory` if an allocation fails. If it is that for all replies, which is the first, nothing changes. Else the run stops at the step that
 /// failed: the steps before it are done and have their replies, the bag is as that step found it, and the other steps are dropped. A step
-/// can fail so if it inserts an absent value (also `Replace` and `EntryOr`), or is `Reserve` or `ShrinkToFit`.
+/// can fail so only if it
+///
+/// - inserts an absent value without room (also `Replace` and `EntryOr`),
+/// - is a `Reserve` of more than the room that there is, or
+/// - is a `ShrinkToFit` of a bag that isn't empty and whose slots are more than its values need.
 ///
 /// # Complexity
 ///
-/// The replies are allocated at once. Each step costs what its call costs, and a `Retain` reads its list for each distinct value.
+/// The replies are allocated at once. Each step costs what its call costs, and a `Retain` reads its list for each distinct value. A step
+/// that inserts an absent value carries at most 16 slots of an older table, and no other step carries any. `Reserve` and `ShrinkToFit`
+/// move all values at once if they build a table.
 ///
 /// # Examples
 ///
@@ -336,7 +342,7 @@ pub fn run<T: Eq + Hash + Drop, S: BuildHasher + Drop>(
     ensures hasher { bag.new.hasher ≡ bag.old.hasher }
 
     // Only a failed allocation stops a run. Either it was that of the replies, and nothing was done; or the steps that have replies are the
-    // run.
+    // run, and the next step found tables that it can't do without an allocation.
     ensures memory { IfErr result (λ e. e ≡ BagError.Memory) }
     ensures stopped { OnErr result (IsRunCutOff T.eq (HasNoRoom replies.old steps)
         (ran bag.old bag.new steps.items replies.old.items replies.new.items)) }
@@ -351,8 +357,9 @@ pub fn run<T: Eq + Hash + Drop, S: BuildHasher + Drop>(
     // the way bound the slots, and the values that arrived bound those that were built.
     ensures bounded { IsBoundedRun T.eq (ran bag.old bag.new steps.items replies.old.items replies.new.items) }
 
-    // The tables follow from those before by the steps with a reply, in turn: a step that reserved room got it, and one that freed room
-    // left the least table, or nothing changed.
+    // The tables follow from those before by the steps with a reply, in turn. An absent value that was inserted carried the next 16 slots
+    // that waited; any other step on a value changed its slot alone. A step that reserved room got it, and one that freed room left the
+    // least table, or nothing changed.
     ensures tables { AreTablesInTurn T.eq (ran bag.old bag.new steps.items replies.old.items replies.new.items) }
 {
     // `slots` and `waiting` are called for their clauses on the tables, which the proof names.

@@ -1,6 +1,6 @@
 //! Runs of steps on two bags, one after the other.
 ghost use Rattle.std.specs.Prelude.{◌≡◌, ◌⊎◌, length, IfErr, OnOk, OnErr};
-ghost use Rattle.hashbag_script.specs.Pairs.{ran, HasNoRoom, IsDone, IsPairCutOff};
+ghost use Rattle.hashbag_script.specs.Pairs.{ran, HasNoRoom, IsDone, IsPairNotBegun, IsPairCutOff};
 ghost use Rattle.hashbag_script.specs.Script.{IfRoomy};
 ghost use Rattle.hashbag_script.specs.Turns.{AreTablesInTurn, IsBoundedRun};
 
@@ -14,8 +14,8 @@ use std::hash::{BuildHasher, Hash};
 /// # Errors
 ///
 /// `Memory` if an allocation fails. If it is that for the replies of both, which comes first, nothing changes. Else the two runs are as
-/// [`run`] does them. If the first one is stopped, the second bag and its replies are unchanged. If the second one is stopped, the first
-/// run was done. So the replies show how far each run was done.
+/// [`run`] does them, and only the steps that can stop it can stop them. If the first one is stopped, the second bag and its replies are
+/// unchanged. If the second one is stopped, the first run was done. So the replies show how far each run was done.
 ///
 /// # Examples
 ///
@@ -51,11 +51,14 @@ pub fn run_pair<T: Eq + Hash + Drop, S: BuildHasher + Drop, S2: BuildHasher + Dr
         (ran a.old a.new steps_a.items replies_a.old.items replies_a.new.items)
         (ran b.old b.new steps_b.items replies_b.old.items replies_b.new.items)) }
 
-    // If the tables have room for all values that arrive, each run keeps its slots, and only the allocation of the replies can fail.
+    // If the tables have room for all values that arrive, each run keeps its slots. Then only the allocation of the replies can fail, and
+    // nothing was done.
     ensures first_slots { IfRoomy T.eq a.old steps_a.items (length a.new.tables.newer ≡ length a.old.tables.newer) }
     ensures second_slots { IfRoomy T.eq b.old steps_b.items (length b.new.tables.newer ≡ length b.old.tables.newer) }
     ensures roomy { IfRoomy T.eq a.old steps_a.items (IfRoomy T.eq b.old steps_b.items (OnErr result
-        (HasNoRoom replies_a.old steps_a ⊎ HasNoRoom replies_b.old steps_b))) }
+        (IsPairNotBegun (HasNoRoom replies_a.old steps_a ⊎ HasNoRoom replies_b.old steps_b)
+            (ran a.old a.new steps_a.items replies_a.old.items replies_a.new.items)
+            (ran b.old b.new steps_b.items replies_b.old.items replies_b.new.items)))) }
 
     // The tables of each bag follow from those before, and are bounded if it was empty and had no slots, as in one run.
     ensures first_tables { AreTablesInTurn T.eq (ran a.old a.new steps_a.items replies_a.old.items replies_a.new.items) }

@@ -3,22 +3,19 @@ use Rattle.std.proofs.lemmas.Bool.{false≢true}
 use Rattle.hashbag_core.proofs.ExtendLemmas.{refuses_memory}
 use Rattle.hashbag_core.specs.declared.bag.BagError.{BagError}
 use Rattle.hashbag_core.specs.Extends.{Refuses}
-use Rattle.hashbag_script.proofs.RoomLemmas.{moves_inserted, one_inserted}
+use Rattle.hashbag_script.proofs.RoomLemmas.{one_inserted}
 use Rattle.hashbag_script.proofs.RowLemmas.{row_kept, insert_row-passes}
+use Rattle.hashbag_script.proofs.StepLemmas.{sets_inserted, sets_unchanged}
 use Rattle.hashbag_script.proofs.script.insert.Goals as goal
 
-pub returns-in-Ok-clause-room : goal.returns-in-Ok-clause-room
-returns-in-Ok-clause-room g c =
-    let before = c.in-Ok.ensures.before in
-    let done = c.in-Ok.ensures.inserted in
-    let long = done.len in
-    let within = done.added.bag.fits in
-    let same = done.added.limit in
-    let fits : length c.args.bag.now.items + c.args.n ≤ c.args.bag.now.most = omega (arith, long, within, same) in
-    moves_inserted c.in-Ok.before c.args.n _ c.args.bag.now.tables c.insert_many.new.self.tables (λ none. ap (λ b. b.tables) (done.none none))
-    (λ more some. done.same_room (subst (λ k. 0 < k) before some))
-    (λ more none. done.arrives more (sym before ∙ none))
-    (λ none some. one_inserted g.met.T.Eq.laws c.args.bag.now.most c.args.value c.args.n c.args.bag.now.items (sym before ∙ none) some fits)
+pub returns-in-Ok-clause-tables : goal.returns-in-Ok-clause-tables
+returns-in-Ok-clause-tables g c = sets_inserted g.met.T.Eq.laws c.args.value c.args.bag.now c.insert_many.new.self c.args.n c.in-Ok.ensures.inserted
+
+pub returns-in-Err-TooMany-clause-tables : goal.returns-in-Err-TooMany-clause-tables
+returns-in-Err-TooMany-clause-tables g c = sets_unchanged g.T.PartialEq.eq c.args.value c.args.bag.now c.insert_many.new.self c.in-Err-TooMany.ensures.err
+
+pub returns-in-Err-BelowTotal-clause-tables : goal.returns-in-Err-BelowTotal-clause-tables
+returns-in-Err-BelowTotal-clause-tables g c = sets_unchanged g.T.PartialEq.eq c.args.value c.args.bag.now c.insert_many.new.self c.in-Err-BelowTotal.ensures.err
 
 pub returns-in-Err-TooMany-clause-left : goal.returns-in-Err-TooMany-clause-left
 returns-in-Err-TooMany-clause-left g c =

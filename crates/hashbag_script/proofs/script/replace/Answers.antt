@@ -3,21 +3,19 @@ use Rattle.std.proofs.lemmas.Bool.{false≢true}
 use Rattle.hashbag_core.proofs.ExtendLemmas.{refuses_memory}
 use Rattle.hashbag_core.specs.declared.bag.BagError.{BagError}
 use Rattle.hashbag_core.specs.Extends.{Refuses}
-use Rattle.hashbag_script.proofs.RoomLemmas.{moves_inserted, one_replaced}
+use Rattle.hashbag_script.proofs.RoomLemmas.{one_replaced}
 use Rattle.hashbag_script.proofs.RowLemmas.{row_kept, replace_row-passes}
+use Rattle.hashbag_script.proofs.StepLemmas.{stores_replaced, stores_unchanged}
 use Rattle.hashbag_script.proofs.script.replace.Goals as goal
 
-pub returns-in-Ok-clause-room : goal.returns-in-Ok-clause-room
-returns-in-Ok-clause-room g c =
-    let before = c.in-Ok.ensures.before in
-    let done = c.in-Ok.ensures.replaced in
-    let long = done.len in
-    let within = done.stored.bag.fits in
-    let same = done.stored.limit in
-    moves_inserted c.in-Ok.before 1 _ c.args.bag.now.tables c.replace.new.self.tables (λ none. absurd (omega (arith, none)))
-    (λ more some. done.same_room (omega (arith, before, some)))
-    (λ more none. done.arrives (sym before ∙ none))
-    (λ none some. one_replaced g.met.T.Eq.laws c.args.bag.now.most c.args.value c.args.bag.now.items (sym before ∙ none) (omega (arith, none, before, long, within, same)))
+pub returns-in-Ok-clause-tables : goal.returns-in-Ok-clause-tables
+returns-in-Ok-clause-tables g c = stores_replaced g.met.T.Eq.laws c.args.value c.args.bag.now c.replace.new.self c.in-Ok.ensures.replaced
+
+pub returns-in-Err-TooMany-clause-tables : goal.returns-in-Err-TooMany-clause-tables
+returns-in-Err-TooMany-clause-tables g c = stores_unchanged g.T.PartialEq.eq c.args.value c.args.bag.now c.replace.new.self c.in-Err-TooMany.ensures.absent c.in-Err-TooMany.ensures.err
+
+pub returns-in-Err-BelowTotal-clause-tables : goal.returns-in-Err-BelowTotal-clause-tables
+returns-in-Err-BelowTotal-clause-tables g c = stores_unchanged g.T.PartialEq.eq c.args.value c.args.bag.now c.replace.new.self c.in-Err-BelowTotal.ensures.absent c.in-Err-BelowTotal.ensures.err
 
 pub returns-in-Err-TooMany-clause-left : goal.returns-in-Err-TooMany-clause-left
 returns-in-Err-TooMany-clause-left g c =

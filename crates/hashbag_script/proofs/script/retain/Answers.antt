@@ -12,5 +12,5 @@ returns g c =
     let answers = answers_are _ (λ p. p.0.now ≡ list) (quota eq list) (λ p q x n a same t. search rules) _ done.walk done.answers done.last refl done.asked in
     record {
       left = retained_of_bag g.met.T.Eq.laws (quota eq list) (quota_congr g.met.T.Eq.laws list) c.args.bag.now c.retain.new.self done.walk done.answers c.len-len.ensures.bag done.set_walk answers done.left;
-      room = c.retain.ensures.room;
+      tables = c.retain.ensures.in_place;
     }

@@ -1,11 +1,11 @@
-use Rattle.std.proofs.Common.{◌≡◌, ◌+◌, ◌≤◌, ◌++◌, ◌∷◌, [], inr, ℕ, Bool, List, length, vec_len, vec_capacity, refl, sym, ◌∙◌, ap, subst, append_assoc, arith, rules}
+use Rattle.std.proofs.Common.{◌≡◌, ◌+◌, ◌≤◌, ◌++◌, ◌∷◌, [], inr, ℕ, Bool, false, List, length, vec_len, vec_capacity, refl, sym, ◌∙◌, ap, subst, append_assoc, arith, rules}
 use Rattle.std.specs.Vec.Iter.{into_iter_items, into_iter_len}
 use Rattle.std.proofs.lemmas.List.{append-nil, nil_from_length}
 use Rattle.std.proofs.lemmas.List.Sorted.{IsPermutation-sym, IsPermutation-trans}
 use Rattle.hashbag_table.proofs.EntryLemmas.{OnErr-from}
 use Rattle.hashbag_core.specs.Bag.{Means}
 use Rattle.hashbag_script.specs.Pairs.{ran, HasNoRoom, IsRunCutOff}
-use Rattle.hashbag_script.specs.Script.{step as step_of, run as run_of, limit_left, AsksForMemory, is_about_room, IsRoomy, IsStopped}
+use Rattle.hashbag_script.specs.Script.{step as step_of, run as run_of, limit_left, newcomers, AsksForMemory, is_about_room, IsRoomy, IsStopped}
 use Rattle.hashbag_core.proofs.OccurrenceLemmas.{bag_rearranged}
 use Rattle.hashbag_script.proofs.RowLemmas.{IsSameRow, same_step, limit_same, asks_rearranged}
 use Rattle.hashbag_script.proofs.ScriptLemmas.{run_none, run_more, limit_none, limit_more}
@@ -14,9 +14,11 @@ use Rattle.std.specs.List.{list_any}
 use Rattle.hashbag_table.specs.Tables.{Tables, room}
 use Rattle.hashbag_script.specs.declared.script.Step.{Step}
 use Rattle.hashbag_core.proofs.HeldLemmas.{none_left}
-use Rattle.hashbag_script.proofs.RoomLemmas.{first_not_about, few_newcomers, roomy_first, next_enough, roomy_next, moves_within}
+use Rattle.hashbag_script.proofs.RoomLemmas.{first_not_about, few_newcomers, roomy_first, next_enough, roomy_next}
+use Rattle.hashbag_script.proofs.MoveLemmas.{Moves, moves_left, moves_within}
+use Rattle.hashbag_script.proofs.StepLemmas.{leaves_rearranged}
 use Rattle.hashbag_script.proofs.BoundLemmas.{shaped_by, smaller_by, no_slots_paid, paid_next, means_none, bounded_from, unanswered}
-use Rattle.hashbag_script.proofs.TurnLemmas.{in_turn_more, in_turn_from, hold_rearranged, turns_rearranged}
+use Rattle.hashbag_script.proofs.TurnLemmas.{in_turn_more, in_turn_from, hold_rearranged}
 use Rattle.hashbag_script.proofs.script.run.Goals as goal
 
 pub loop-step-init : goal.loop-step-init
@@ -51,6 +53,8 @@ loop-step-preserved g c =
     let same : (X : List g.row.T.Denot) → Means c.args.bag.now X → IsSameRow (step_of eq (limit_left eq most X at.yielded) (run_of eq most X at.yielded).0 x) (step_of eq at.bag.most at.bag.items x) = λ X means.
     let before = at.invariant.means X means in
     same_step g.met.T.Eq.laws at.bag.most (limit_left eq most X at.yielded) (run_of eq most X at.yielded).0 at.bag.items x (at.invariant.limit X means) before c.apply.ensures.bag in
+    let moved : is_about_room x ≡ false → Moves (newcomers eq at.bag.items (step_of eq at.bag.most at.bag.items x).0) at.bag.tables c.apply.new.bag.tables = λ quiet.
+    moves_left g.met.T.Eq.laws at.bag.items (step_of eq at.bag.most at.bag.items x).0 c.apply.new.bag.items x at.bag.tables c.apply.new.bag.tables c.in_ok-reply.ensures.left quiet c.in_ok-reply.ensures.turns in
     record {
       taken = append_assoc at.yielded (x ∷ []) _ ∙ rw steps at at.invariant.taken;
       long = omega arith;
@@ -68,17 +72,18 @@ loop-step-preserved g c =
           let whole : at.yielded ++ x ∷ into_iter_items c.next.new.self ≡ into_iter_items c.into_iter-step-iterator.result = rw steps at at.invariant.taken in
           let quiet = first_not_about at.yielded (into_iter_items c.next.new.self) x (ap (list_any is_about_room) whole ∙ roomy.calls) in
           let enough = next_enough g.met.T.Eq.laws most at.bag.most X at.bag.items at.yielded (into_iter_items c.next.new.self) x _ at.bag.tables so_far (at.invariant.means X means) (same X means).left in
-          roomy_next g.met.T.Eq.laws most at.bag.most X at.bag.items at.yielded (into_iter_items c.next.new.self) x _ at.bag.tables _ so_far (at.invariant.means X means) (same X means).left (moves_within _ _ _ (c.in_ok-reply.ensures.turns.moves quiet) enough);
+          roomy_next g.met.T.Eq.laws most at.bag.most X at.bag.items at.yielded (into_iter_items c.next.new.self) x _ at.bag.tables _ so_far (at.invariant.means X means) (same X means).left (moves_within _ _ _ (moved quiet) enough);
       held = c.slots-slots-in-loop-step.ensures.held;
       shaped = let s = c.slots-slots-in-loop-step.ensures in let w = c.waiting-waiting-in-loop-step.ensures in shaped_by g.T.PartialEq.eq _ _ _ _ s.slots s.count s.values s.fits w.waiting w.smaller;
       paid = λ empty none.
           let nothing = means_none g.T.PartialEq.eq c.args.bag.now empty in
           paid_next g.met.T.Eq.laws most at.bag.most at.bag.items at.yielded x c.args.bag.now.tables at.bag.tables c.apply.new.bag.tables (at.invariant.means [] nothing) (same [] nothing).left at.invariant.shaped
-          c.in_ok-reply.ensures.turns.moves c.in_ok-reply.ensures.fewer (at.invariant.paid empty none);
+          moved c.in_ok-reply.ensures.fewer (at.invariant.paid empty none);
       turned = λ X means.
           in_turn_more eq most X at.yielded x c.args.bag.now.tables at.bag.tables c.apply.new.bag.tables (at.invariant.turned X means)
           (hold_rearranged g.met.T.Eq.laws (run_of eq most X at.yielded).0 at.bag.items at.bag.tables (at.invariant.means X means) at.invariant.held at.invariant.shaped.known)
-          (turns_rearranged g.met.T.Eq.laws at.bag.most (limit_left eq most X at.yielded) (run_of eq most X at.yielded).0 at.bag.items x at.bag.tables c.apply.new.bag.tables (at.invariant.means X means) (same X means).left c.in_ok-reply.ensures.turns);
+          (leaves_rearranged g.met.T.Eq.laws (run_of eq most X at.yielded).0 (step_of eq (limit_left eq most X at.yielded) (run_of eq most X at.yielded).0 x).0 at.bag.items c.apply.new.bag.items at.bag.tables c.apply.new.bag.tables (at.invariant.means X means)
+          (IsPermutation-trans _ _ _ (same X means).left c.in_ok-reply.ensures.left) x c.in_ok-reply.ensures.turns);
     }
 
 pub returns-in_err-reply-clause-stopped : goal.returns-in_err-reply-clause-stopped
@@ -98,8 +103,9 @@ returns-in_err-reply-clause-stopped g c =
       limit = rw c.in_err-reply.ensures.err (at.invariant.limit X means);
       refused =
           let before = at.invariant.means X means in
-          subst (λ (m : ℕ). AsksForMemory eq m (run_of eq most X at.yielded).0 c.in-Some.step) (at.invariant.limit X means)
-          (asks_rearranged g.met.T.Eq.laws (run_of eq most X at.yielded).0 at.bag.items before (bag_rearranged g.met.T.Eq.laws _ _ (IsPermutation-sym _ _ before) c.apply.ensures.bag) c.in-Some.step c.in_err-reply.ensures.asked);
+          let asks = asks_rearranged g.met.T.Eq.laws (run_of eq most X at.yielded).0 at.bag.items before (bag_rearranged g.met.T.Eq.laws _ _ (IsPermutation-sym _ _ before) c.apply.ensures.bag) at.bag.tables c.in-Some.step c.in_err-reply.ensures.asked in
+          subst (λ (t : Tables g.row.T.Denot). AsksForMemory eq (limit_left eq most X at.yielded) (run_of eq most X at.yielded).0 t c.in-Some.step) (sym (ap (λ b. b.tables) c.in_err-reply.ensures.err))
+          (subst (λ (m : ℕ). AsksForMemory eq m (run_of eq most X at.yielded).0 at.bag.tables c.in-Some.step) (at.invariant.limit X means) asks);
       full = λ about.
           let few = few_newcomers g.met.T.Eq.laws at.bag.items (step_of eq at.bag.most at.bag.items c.in-Some.step).0 in
           ap (λ b. room b.tables) c.in_err-reply.ensures.err ∙ none_left (room at.bag.tables) (λ some. false≢true (c.in_err-reply.ensures.takes about (omega (arith, few, some))));

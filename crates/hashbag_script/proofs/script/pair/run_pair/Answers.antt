@@ -1,7 +1,10 @@
-use Rattle.std.proofs.Common.{◌⊎◌, vec_len, vec_capacity, ◌+◌, ◌<◌, inl, inr, refl, arith, rules}
+use Rattle.std.proofs.Common.{◌≡◌, ◌⊎◌, List, vec_len, vec_capacity, ◌+◌, ◌<◌, inl, inr, refl, arith, rules}
 use Rattle.std.proofs.lemmas.Result.{on_err_weaker}
 use Rattle.hashbag_table.proofs.EntryLemmas.{OnErr-from}
-use Rattle.hashbag_script.specs.Pairs.{ran, HasNoRoom, IsPairCutOff}
+use Rattle.hashbag_core.specs.Bag.{Bag}
+use Rattle.hashbag_script.specs.declared.script.Step.{Step}
+use Rattle.hashbag_script.specs.declared.script.Reply.{Reply}
+use Rattle.hashbag_script.specs.Pairs.{ran, HasNoRoom, IsPairNotBegun, IsPairCutOff}
 use Rattle.hashbag_script.proofs.BoundLemmas.{smaller_by}
 use Rattle.hashbag_script.proofs.TurnLemmas.{on_ok_from, on_ok_all, untouched_tables, untouched_bounded}
 use Rattle.hashbag_script.proofs.script.pair.run_pair.Goals as goal
@@ -12,6 +15,44 @@ returns-clause-roomy g c X means_a roomy_a Y means_b roomy_b =
     let short : vec_capacity c.reserve-2.new.self < vec_len c.reserve-2.new.self + vec_len c.args.steps_b = h.0 in
     let room = c.in_ok-reserve-2.ensures.ok in let many = c.len-2.ensures in
     absurd (omega arith)) (c.run-2.ensures.roomy Y means_b roomy_b)
+
+pub returns-in_err-run-clause-roomy : goal.returns-in_err-run-clause-roomy
+returns-in_err-run-clause-roomy g c X means_a roomy_a Y means_b roomy_b =
+    let none = c.in_err-run.ensures.roomy X means_a roomy_a in
+    let short : vec_capacity c.reserve.new.self < vec_len c.reserve.new.self + vec_len c.args.steps_a = none.0 in
+    let room = c.in_ok-reserve.ensures.ok in let many = c.len.ensures in
+    absurd (omega arith)
+
+-- no run was begun, since there was no room for the replies
+not_begun : {T S S2 : Type 0} (a : Bag T S) (b : Bag T S2) (steps_a steps_b : List (Step T)) (before_a after_a before_b after_b : List (Reply T)) (NoRoom : Type 0)
+    → NoRoom → after_a ≡ before_a → after_b ≡ before_b → IsPairNotBegun NoRoom (ran a a steps_a before_a after_a) (ran b b steps_b before_b after_b)
+not_begun a b steps_a steps_b before_a after_a before_b after_b NoRoom short first second = (short, record { bag = refl; replies = first }, record { bag = refl; replies = second })
+
+pub returns-in_err-reserve-clause-roomy : goal.returns-in_err-reserve-clause-roomy
+returns-in_err-reserve-clause-roomy g c X means_a roomy_a Y means_b roomy_b =
+    let full = c.in_err-reserve.ensures.full in let many = c.len.ensures in
+    let short : vec_capacity c.args.replies_a.now < vec_len c.args.replies_a.now + vec_len c.args.steps_a = omega arith in
+    let none = not_begun c.args.a.now c.args.b.now c.args.steps_a.items c.args.steps_b.items c.args.replies_a.now.items _ c.args.replies_b.now.items c.args.replies_b.now.items
+    (HasNoRoom c.args.replies_a.now c.args.steps_a ⊎ HasNoRoom c.args.replies_b.now c.args.steps_b) (inl short) c.in_err-reserve.ensures.items refl in
+    OnErr-from _ none
+
+pub returns-in_err-reserve-2-clause-roomy : goal.returns-in_err-reserve-2-clause-roomy
+returns-in_err-reserve-2-clause-roomy g c X means_a roomy_a Y means_b roomy_b =
+    let full = c.in_err-reserve-2.ensures.full in let many = c.len-2.ensures in
+    let short : vec_capacity c.args.replies_b.now < vec_len c.args.replies_b.now + vec_len c.args.steps_b = omega arith in
+    let none = not_begun c.args.a.now c.args.b.now c.args.steps_a.items c.args.steps_b.items c.args.replies_a.now.items _ c.args.replies_b.now.items _
+    (HasNoRoom c.args.replies_a.now c.args.steps_a ⊎ HasNoRoom c.args.replies_b.now c.args.steps_b) (inr short) c.in_ok-reserve.ensures.items c.in_err-reserve-2.ensures.items in
+    OnErr-from _ none
+
+pub returns-in_err-reserve-2-clause-stopped : goal.returns-in_err-reserve-2-clause-stopped
+returns-in_err-reserve-2-clause-stopped g c =
+    let full = c.in_err-reserve-2.ensures.full in let many = c.len-2.ensures in
+    let short : vec_capacity c.args.replies_b.now < vec_len c.args.replies_b.now + vec_len c.args.steps_b = omega arith in
+    let none = not_begun c.args.a.now c.args.b.now c.args.steps_a.items c.args.steps_b.items c.args.replies_a.now.items _ c.args.replies_b.now.items _
+    (HasNoRoom c.args.replies_a.now c.args.steps_a ⊎ HasNoRoom c.args.replies_b.now c.args.steps_b) (inr short) c.in_ok-reserve.ensures.items c.in_err-reserve-2.ensures.items in
+    let cut : IsPairCutOff g.T.PartialEq.eq (HasNoRoom c.args.replies_a.now c.args.steps_a ⊎ HasNoRoom c.args.replies_b.now c.args.steps_b) (ran c.args.a.now c.args.a.now c.args.steps_a.items c.args.replies_a.now.items c.reserve.new.self.items)
+    (ran c.args.b.now c.args.b.now c.args.steps_b.items c.args.replies_b.now.items c.reserve-2.new.self.items) = inl none in
+    OnErr-from _ cut
 
 pub returns-clause-stopped : goal.returns-clause-stopped
 returns-clause-stopped g c =
