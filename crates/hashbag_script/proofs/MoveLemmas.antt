@@ -1,5 +1,5 @@
 -- How a step may change slots and room, from what it leaves of the tables.
-use Rattle.std.proofs.Common.{◌≡◌, ℕ, zero, suc, ◌+◌, ◌-◌, ◌<◌, ◌≤◌, ◌⊎◌, ◌==◌, min, nat_lt, Bool, true, false, cond, List, [], ◌∷◌, length, replicate, refl, sym, ap, subst, ◌∙◌, inl, inr, arith}
+use Rattle.std.proofs.Common.{◌≡◌, ℕ, suc, ◌+◌, ◌-◌, ◌≤◌, ◌⊎◌, ◌==◌, min, nat_lt, Bool, true, false, cond, List, [], ◌∷◌, length, refl, sym, ap, subst, ◌∙◌, inl, inr, arith}
 use Rattle.std.specs.Cmp.{IsEquivalence}
 use Rattle.std.specs.List.Sorted.{IsPermutation}
 use Rattle.std.proofs.lemmas.Bool.{cases_lt, false≢true}
@@ -11,13 +11,13 @@ use Rattle.hashbag_table.specs.Slots.{is_live, is_removed, live_count, removed_c
 use Rattle.hashbag_table.specs.Retained.{slot_kept, RetainsSlots, RetainsTables}
 use Rattle.hashbag_table.specs.Tables.{Tables, limit, room, values, grown_slots, Arrives, KeepsRoom}
 use Rattle.hashbag_table.proofs.RoomKeptLemmas.{IsTaken, kept_Rewrites, keeps_as, keeps_more, keeps_Arrives}
-use Rattle.hashbag_core.specs.Held.{left_in, cleared}
+use Rattle.hashbag_core.specs.Held.{left_in}
 use Rattle.hashbag_core.specs.Occurrences.{count}
 use Rattle.hashbag_core.proofs.HeldLemmas.{room_cleared}
 use Rattle.hashbag_script.specs.declared.script.Step.{Step}
 use Rattle.hashbag_script.specs.declared.script.Step.TheVariants.{Insert, InsertMany, Replace, Remove, RemoveUpTo, TryTake, TakeAll, EntrySet, EntryOr, Retain, Clear, Count, Reserve, ShrinkToFit, Limit}
 use Rattle.hashbag_script.specs.Script.{newcomers, is_about_room}
-use Rattle.hashbag_script.specs.Turns.{LeavesValue, SetsCount, StoresValue, LeavesTables}
+use Rattle.hashbag_script.specs.Turns.{SetsCount, StoresValue, LeavesTables}
 use Rattle.hashbag_script.proofs.RoomLemmas.{newcomer_there, newcomers_rearranged}
 
 module _ {T : Type 0} where

@@ -57,8 +57,8 @@ pub fn run_pair<T: Eq + Hash + Drop, S: BuildHasher + Drop, S2: BuildHasher + Dr
     ensures second_slots { IfRoomy T.eq b.old steps_b.items (length b.new.tables.newer ≡ length b.old.tables.newer) }
     ensures roomy { IfRoomy T.eq a.old steps_a.items (IfRoomy T.eq b.old steps_b.items (OnErr result
         (IsPairNotBegun (HasNoRoom replies_a.old steps_a ⊎ HasNoRoom replies_b.old steps_b)
-            (ran a.old a.new steps_a.items replies_a.old.items replies_a.new.items)
-            (ran b.old b.new steps_b.items replies_b.old.items replies_b.new.items)))) }
+        (ran a.old a.new steps_a.items replies_a.old.items replies_a.new.items)
+        (ran b.old b.new steps_b.items replies_b.old.items replies_b.new.items)))) }
 
     // The tables of each bag follow from those before, and are bounded if it was empty and had no slots, as in one run.
     ensures first_tables { AreTablesInTurn T.eq (ran a.old a.new steps_a.items replies_a.old.items replies_a.new.items) }
