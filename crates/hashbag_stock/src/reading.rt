@@ -30,7 +30,7 @@ trait FromRow: Sized {
     fn from_row(row: &Row) -> Result<Self, StockError>;
 }
 
-// Returns the values of the rows of a query, in turn.
+// Returns the values of the rows of a query, in turn. More rows than the loop reads are an error, and not a shorter list.
 fn list_of<S: Alter, R: FromRow + Drop>(
     alloc: Global,
     conn: &mut Connection<S>,
@@ -41,11 +41,11 @@ fn list_of<S: Alter, R: FromRow + Drop>(
     let mut rows = conn.query(text, values)?;
     for _ in 0..u64::MAX {
         let Some(row) = rows.next()? else {
-            break;
+            return Ok(list);
         };
         list.push(R::from_row(&row)?)?;
     }
-    Ok(list)
+    Err(StockError::Damaged("rows without an end"))
 }
 
 impl FromRow for (String, usize) {

@@ -5,7 +5,8 @@ ghost use Rattle.hashbag_stock.specs.Commits.{IsInside, IsOneCommit};
 
 use crate::error::StockError;
 use crate::tables::{TABLES, VERSION};
-use hashbag_ledger_core::movements::{Movement, Refusal};
+use hashbag_ledger_core::ledger::booking::count_refused;
+use hashbag_ledger_core::movements::{Entry, Movement, Outcome};
 use hashbag_stock_core::numbers::{number_of, signed};
 use hashbag_stock_core::rows::RowChange;
 use sqlite::types::ValueRef;
@@ -31,10 +32,8 @@ pub struct NewBatch<'a> {
     pub sha256: &'a str,
     /// What it is.
     pub kind: Kind,
-    /// Its movements, in turn.
-    pub movements: &'a [Movement<String>],
-    /// Those that are refused, in turn.
-    pub refusals: &'a [Refusal<String>],
+    /// Its movements, in turn, each with what became of it.
+    pub entries: &'a [Entry<String>],
     /// What becomes of the rows of the balance.
     pub changed: &'a [RowChange],
 }
@@ -99,8 +98,8 @@ fn write_batch<S: Alter>(
         Kind::Moves => ("moves", None),
         Kind::Undo(other) => ("undo", Some(other)),
     };
-    let movements = value_of(batch.movements.len())?;
-    let refused = value_of(batch.refusals.len())?;
+    let movements = value_of(batch.entries.len())?;
+    let refused = value_of(count_refused(batch.entries))?;
     run(
         transaction,
         "INSERT INTO batch (file, sha256, kind, undoes, time, movements, refused) VALUES (?1, ?2, ?3, ?4, CURRENT_TIMESTAMP, ?5, ?6)",
@@ -128,7 +127,7 @@ fn write_movement<S: Alter>(
     )
 }
 
-// Writes that the movement which was written last is refused.
+// Writes that the movement which was written last was refused.
 fn write_refusal<S: Alter>(
     transaction: &mut Transaction<'_, S>,
     there: usize,
@@ -145,46 +144,33 @@ fn write_refusal<S: Alter>(
     )
 }
 
-// Writes a movement, and if it is refused, how many were there.
-fn write_outcome<S: Alter>(
+// Writes a movement, and if it was refused, how many were there.
+fn write_entry<S: Alter>(
     transaction: &mut Transaction<'_, S>,
     number: i64,
-    movement: &Movement<String>,
-    refused_at: Option<usize>,
+    entry: &Entry<String>,
 ) -> Result<(), StockError>
     ensures same_reference { transaction.new.conn.ghost_name ≡ transaction.old.conn.ghost_name }
     ensures inside { IsInside (state S.Store transaction.old.conn.now) (state S.Store transaction.new.conn.now) }
 {
-    write_movement(transaction, number, movement)?;
-    match refused_at {
-        Some(there) => write_refusal(transaction, there),
-        None => Ok(()),
+    write_movement(transaction, number, &entry.movement)?;
+    match entry.outcome {
+        Outcome::Refused { there } => write_refusal(transaction, there),
+        Outcome::Entered { .. } => Ok(()),
     }
 }
 
-// Returns how many were there, if the next refusal is of this movement.
-fn refused_at(next: Option<&Refusal<String>>, movement: &Movement<String>) -> Option<usize> {
-    match next {
-        Some(refusal) if refusal.place == movement.place => Some(refusal.there),
-        _ => None,
-    }
-}
-
-// Writes the movements of the batch, and those of them that are refused.
-fn write_movements<S: Alter>(
+// Writes the movements of the batch, each with what became of it.
+fn write_entries<S: Alter>(
     transaction: &mut Transaction<'_, S>,
     number: i64,
-    movements: &[Movement<String>],
-    refusals: &[Refusal<String>],
+    entries: &[Entry<String>],
 ) -> Result<(), StockError>
     ensures same_reference { transaction.new.conn.ghost_name ≡ transaction.old.conn.ghost_name }
     ensures inside { IsInside (state S.Store transaction.old.conn.now) (state S.Store transaction.new.conn.now) }
 {
-    let mut refused = 0usize;
-    for movement in movements {
-        let there = refused_at(refusals.get(refused), movement);
-        write_outcome(transaction, number, movement, there)?;
-        refused = refused.saturating_add(usize::from(there.is_some()));
+    for entry in entries {
+        write_entry(transaction, number, entry)?;
     }
     Ok(())
 }
@@ -233,19 +219,17 @@ fn write_all<S: Alter>(
     transaction: &mut Transaction<'_, S>,
     new_scale: Option<u32>,
     batch: &NewBatch<'_>,
-) -> Result<i64, StockError>
+) -> Result<(), StockError>
     ensures same_reference { transaction.new.conn.ghost_name ≡ transaction.old.conn.ghost_name }
     ensures inside { IsInside (state S.Store transaction.old.conn.now) (state S.Store transaction.new.conn.now) }
 {
     create_new(transaction, new_scale)?;
     let number = write_batch(transaction, batch)?;
-    write_movements(transaction, number, batch.movements, batch.refusals)?;
-    write_rows(transaction, batch.changed)?;
-    Ok(number)
+    write_entries(transaction, number, batch.entries)?;
+    write_rows(transaction, batch.changed)
 }
 
-/// Writes a batch in one transaction, and returns its number. With `new_scale` the tables of a stock are created first, in the same
-/// transaction.
+/// Writes a batch in one transaction. With `new_scale` the tables of a stock are created first, in the same transaction.
 ///
 /// # Errors
 ///
@@ -254,14 +238,14 @@ pub fn put_batch<S: Alter>(
     conn: &mut Connection<S>,
     new_scale: Option<u32>,
     batch: &NewBatch<'_>,
-) -> Result<i64, StockError>
+) -> Result<(), StockError>
     ensures { IsOneCommit (state S.Store conn.old) (state S.Store conn.new) (is_ok result) }
 {
     if !conn.is_autocommit() {
         return Err(StockError::Damaged("a transaction is open"));
     }
     let mut transaction = conn.transaction();
-    let number = write_all(&mut transaction, new_scale, batch)?;
+    write_all(&mut transaction, new_scale, batch)?;
     transaction.commit()?;
-    Ok(number)
+    Ok(())
 }

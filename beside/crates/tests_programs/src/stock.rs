@@ -1,10 +1,11 @@
 //! What is decided of a stock that is kept. The expected values were found by hand.
 use hashbag::FixedState;
-use hashbag_ledger_core::movements::{Change, Movement, Place, Refusal};
+use hashbag_ledger_core::ledger::booking::{count_refused, refusals_from};
+use hashbag_ledger_core::movements::{Change, Entry, Movement, Outcome, Place, Refusal};
 use hashbag_lists::counts::Reading;
 use hashbag_lists::delimiter::Delimiter;
 use hashbag_lists::scale::{Mark, Scale};
-use hashbag_stock_core::entering::enter_batch;
+use hashbag_stock_core::entering::{book_batch, enter_batch};
 use hashbag_stock_core::numbers::{MOST, change_of, number_of, plain_change, signed, size_of};
 use hashbag_stock_core::once::{Batch, batch_of, entered_before, undone_by};
 use hashbag_stock_core::output::{Event, batches_text, history_text};
@@ -176,7 +177,7 @@ fn left_by(
     batch: Vec<Movement<String>>,
 ) -> Result<String, Fail> {
     match take_back(alloc, FixedState::new(), kept, batch) {
-        Ok(Undo::Done(balance)) => balance_in_line(alloc, &balance),
+        Ok(Undo::Done(booked)) => balance_in_line(alloc, &booked.balance),
         Ok(Undo::Refused(refusals)) => refusals_in_line(alloc, &refusals),
         Err(_) => Err(Fail::from("not taken back")),
     }
@@ -189,6 +190,54 @@ fn batches_are_taken_back(rt: HostRuntime) -> Result<(), Fail> {
         let kept = balance_of(alloc, kept)?;
         let said = left_by(alloc, kept, movements_of(alloc, batch)?)?;
         assert_eq!(rt; said.as_str(), *wanted);
+    }
+    Ok(())
+}
+
+// Returns what became of movements, in one line.
+fn outcomes_of(alloc: Global, entries: &[Entry<String>]) -> Result<String, Fail> {
+    let mut said = String::new(alloc);
+    for entry in entries {
+        match entry.outcome {
+            Outcome::Entered { after } => write!(said, "{after} after ")?,
+            Outcome::Refused { there } => write!(said, "{there} there ")?,
+        }
+    }
+    Ok(said)
+}
+
+// A balance, a batch, and what becomes of each movement of it.
+const OUTCOMES: [(&[(&str, usize)], &[(&str, &str, usize)], &str); 3] = [
+    (&[], &[], ""),
+    (
+        &[("b", 3)],
+        &[
+            ("a", "in", 5),
+            ("a", "out", 9),
+            ("b", "out", 3),
+            ("a", "out", 2),
+        ],
+        "5 after 5 there 0 after 3 after ",
+    ),
+    (
+        &[],
+        &[("a", "out", 1), ("a", "out", 0), ("a", "in", 1)],
+        "0 there 0 after 1 after ",
+    ),
+];
+
+#[test]
+fn each_movement_has_its_outcome(rt: HostRuntime) -> Result<(), Fail> {
+    let alloc = rt.alloc();
+    for (kept, batch, wanted) in &OUTCOMES {
+        let (kept, batch) = (balance_of(alloc, kept)?, movements_of(alloc, batch)?);
+        let Ok(booked) = book_batch(alloc, FixedState::new(), kept, batch) else {
+            return Err(Fail::from("not booked"));
+        };
+        assert_eq!(rt; outcomes_of(alloc, &booked.entries)?.as_str(), *wanted);
+        let refused = wanted.matches("there").count();
+        assert_eq!(rt; count_refused(&booked.entries), refused);
+        assert_eq!(rt; refusals_from(alloc, booked.entries)?.len(), refused);
     }
     Ok(())
 }

@@ -61,8 +61,7 @@ pub fn put<'a>(
     new_scale: Option<u32>,
     batch: &NewBatch<'_>,
 ) -> Result<(), Failure<'a>> {
-    in_database(db, put_batch(conn, new_scale, batch))?;
-    Ok(())
+    in_database(db, put_batch(conn, new_scale, batch))
 }
 
 // Returns whether a file has no byte, or doesn't exist.

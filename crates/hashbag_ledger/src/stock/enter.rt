@@ -7,7 +7,8 @@ use crate::stock::failure::Failure;
 use crate::stock::inputs::{Input, digest_of, inputs_of, movements_of};
 use crate::stock::request::Request;
 use hashbag_ledger_core::entering::LedgerError;
-use hashbag_ledger_core::movements::{Movement, Refusal};
+use hashbag_ledger_core::ledger::booking::count_refused;
+use hashbag_ledger_core::movements::{Entry, Movement, Outcome, Refusal};
 use hashbag_ledger_core::output::{balance_text, refusals_table, refusals_text};
 use hashbag_lists::counts::Reading;
 use hashbag_lists::decimals::write_decimal;
@@ -18,8 +19,8 @@ use hashbag_stock::error::StockError;
 use hashbag_stock::query::{Balance, Batches};
 use hashbag_stock::tables::Form;
 use hashbag_stock::writing::{Kind, NewBatch};
-use hashbag_stock_core::entering::enter_batch;
-use hashbag_stock_core::numbers::MOST;
+use hashbag_stock_core::entering::book_batch;
+use hashbag_stock_core::numbers::{MOST, size_of};
 use hashbag_stock_core::once::{Batch, entered_before};
 use hashbag_stock_core::rows::{RowChange, changed_rows};
 use std::alloc::{AllocError, Global};
@@ -28,8 +29,7 @@ use std::hash::RandomState;
 // A batch that is ready to be written.
 #[derive(Drop)]
 struct Ready {
-    movements: Vec<Movement<String>>,
-    refusals: Vec<Refusal<String>>,
+    entries: Vec<Entry<String>>,
     changed: Vec<RowChange>,
 }
 
@@ -44,22 +44,6 @@ pub fn copy_of(
         copy.push(pair)?;
     }
     Ok(copy)
-}
-
-/// Returns a copy of movements.
-pub fn copies_of(
-    alloc: Global,
-    movements: &[Movement<String>],
-) -> Result<Vec<Movement<String>>, AllocError> {
-    let mut copies = Vec::new(alloc);
-    for movement in movements {
-        copies.push(Movement {
-            place: movement.place,
-            article: movement.article.clone()?,
-            change: movement.change,
-        })?;
-    }
-    Ok(copies)
 }
 
 /// Returns the state that bags of strangers' articles take: its keys are random.
@@ -116,19 +100,12 @@ fn ready_of<'a>(
 ) -> Result<Ready, Failure<'a>> {
     let alloc = rt.alloc();
     let state = random_state(rt)?;
-    let entered = enter_batch(
-        alloc,
-        state,
-        copy_of(alloc, kept.as_slice())?,
-        copies_of(alloc, &movements)?,
-    );
-    match entered {
-        Ok(entered) => {
-            let changed = changed_rows(alloc, kept.as_slice(), &entered.balance)?;
-            *kept = entered.balance;
+    match book_batch(alloc, state, copy_of(alloc, kept.as_slice())?, movements) {
+        Ok(booked) => {
+            let changed = changed_rows(alloc, kept.as_slice(), &booked.balance)?;
+            *kept = booked.balance;
             Ok(Ready {
-                movements,
-                refusals: entered.refusals,
+                entries: booked.entries,
                 changed,
             })
         }
@@ -212,14 +189,26 @@ fn write_batches<'a>(
             } else {
                 Kind::Moves
             },
-            movements: &ready.movements,
-            refusals: &ready.refusals,
+            entries: &ready.entries,
             changed: &ready.changed,
         };
         put(db, conn, new_scale, &batch)?;
         new_scale = None;
     }
     Ok(())
+}
+
+// Returns a copy of the refusal of a movement, if it was refused.
+fn refusal_of(entry: &Entry<String>) -> Result<Option<Refusal<String>>, AllocError> {
+    let Outcome::Refused { there } = entry.outcome else {
+        return Ok(None);
+    };
+    Ok(Some(Refusal {
+        place: entry.movement.place,
+        article: entry.movement.article.clone()?,
+        asked: size_of(entry.movement.change),
+        there,
+    }))
 }
 
 // Returns a copy of all refusals in turn; if only the first is named, of no other.
@@ -230,16 +219,13 @@ fn refusals_of(
 ) -> Result<Vec<Refusal<String>>, AllocError> {
     let mut refusals = Vec::new(alloc);
     for ready in all {
-        for refusal in &ready.refusals {
+        for entry in &ready.entries {
             if is_first_alone && !refusals.is_empty() {
                 return Ok(refusals);
             }
-            refusals.push(Refusal {
-                place: refusal.place,
-                article: refusal.article.clone()?,
-                asked: refusal.asked,
-                there: refusal.there,
-            })?;
+            if let Some(refusal) = refusal_of(entry)? {
+                refusals.push(refusal)?;
+            }
         }
     }
     Ok(refusals)
@@ -297,7 +283,7 @@ fn kept_of<'a>(
 
 // Returns whether some movement is refused.
 fn is_refused(all: &[Ready]) -> bool {
-    all.iter().any(|ready| !ready.refusals.is_empty())
+    all.iter().any(|ready| count_refused(&ready.entries) > 0)
 }
 
 // Returns what the inputs would do to an empty stock: what is wrong with one is found before the file of the database is made. If they
@@ -424,8 +410,7 @@ fn begin_in<'a>(
         file: input.file,
         sha256: input.sha256.as_str(),
         kind: Kind::Start,
-        movements: &ready.movements,
-        refusals: &ready.refusals,
+        entries: &ready.entries,
         changed: &ready.changed,
     };
     put(request.into, conn, Some(scale), &batch)

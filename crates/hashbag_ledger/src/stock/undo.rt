@@ -1,9 +1,10 @@
 //! A batch that is taken back.
 use crate::stock::database::{Db, ended, open, put as put_in, read};
-use crate::stock::enter::{copies_of, copy_of, random_state, start_too_many};
+use crate::stock::enter::{copy_of, random_state, start_too_many};
 use crate::stock::failure::Failure;
 use crate::stock::request::Request;
 use hashbag_ledger_core::entering::LedgerError;
+use hashbag_ledger_core::ledger::booking::Booked;
 use hashbag_ledger_core::movements::{Movement, Refusal};
 use hashbag_ledger_core::output::refusals_text;
 use hashbag_lists::decimals::write_decimal;
@@ -14,7 +15,7 @@ use hashbag_stock::writing::{Kind, NewBatch};
 use hashbag_stock_core::numbers::MOST;
 use hashbag_stock_core::once::{Batch, batch_of, undone_by};
 use hashbag_stock_core::rows::changed_rows;
-use hashbag_stock_core::undoing::{Undo, opposites, take_back};
+use hashbag_stock_core::undoing::{Undo, take_back};
 use std::alloc::{AllocError, Global};
 
 // What an undo has to know of its batch.
@@ -53,17 +54,15 @@ fn put<'a>(
     conn: &mut Db,
     db: &'a str,
     found: &Found,
-    movements: &[Movement<String>],
+    booked: &Booked<String>,
     before: &[(String, usize)],
-    after: &[(String, usize)],
 ) -> Result<(), Failure<'a>> {
-    let changed = changed_rows(alloc, before, after)?;
+    let changed = changed_rows(alloc, before, &booked.balance)?;
     let batch = NewBatch {
         file: found.file.as_str(),
         sha256: "",
         kind: Kind::Undo(found.number),
-        movements,
-        refusals: &[],
+        entries: &booked.entries,
         changed: &changed,
     };
     put_in(db, conn, None, &batch)
@@ -82,12 +81,11 @@ fn undo_of<'a>(
     scale: u32,
     file: &str,
     kept: &[(String, usize)],
-    entered: &[Movement<String>],
+    entered: Vec<Movement<String>>,
 ) -> Result<Undo<String>, Failure<'a>> {
     let alloc = rt.alloc();
     let state = random_state(rt)?;
     let kept = copy_of(alloc, kept)?;
-    let entered = copies_of(alloc, entered)?;
     match take_back(alloc, state, kept, entered) {
         Ok(undo) => Ok(undo),
         Err(LedgerError::TooMany(place)) => Err(Failure::UndoneTotal {
@@ -112,11 +110,10 @@ fn take_back_in<'a>(
     let db = request.db;
     let entered = read(alloc, db, conn, &Entered(found.number))?;
     let kept = read(alloc, db, conn, &Balance)?;
-    match undo_of(rt, request, scale, found.file.as_str(), &kept, &entered)? {
+    match undo_of(rt, request, scale, found.file.as_str(), &kept, entered)? {
         Undo::Refused(refusals) => Ok(refusals),
-        Undo::Done(after) => {
-            let movements = opposites(alloc, entered)?;
-            put(alloc, conn, db, found, &movements, &kept, &after)?;
+        Undo::Done(booked) => {
+            put(alloc, conn, db, found, &booked, &kept)?;
             Ok(Vec::new(alloc))
         }
     }

@@ -67,6 +67,12 @@ fn difference_of<'a>(
     }
 }
 
+// Returns a number with its noun, which ends in `ending` unless it is 1.
+fn counted(alloc: Global, number: usize, noun: &str, ending: &str) -> Result<String, AllocError> {
+    let ending = if number == 1 { "" } else { ending };
+    format!(in alloc; "{number} {noun}{ending}")
+}
+
 // Returns what is said of a stock that agrees.
 fn agreement(
     alloc: Global,
@@ -74,8 +80,10 @@ fn agreement(
     movements: usize,
     refused: usize,
 ) -> Result<String, AllocError> {
+    let batches = counted(alloc, batches, "batch", "es")?;
+    let movements = counted(alloc, movements, "movement", "s")?;
     format!(in alloc;
-        "{batches} batches, {movements} movements, {refused} of them refused: the balance and the refusals agree\n"
+        "{batches}, {movements}, {refused} of them refused: the balance and the refusals agree\n"
     )
 }
 

@@ -9,8 +9,8 @@ pub returns-then-not-is_autocommit : goal.returns-then-not-is_autocommit
 returns-then-not-is_autocommit g c = nothing_begun g.S.Store c.args.conn.now
 
 -- a step failed
-pub returns-in_err-number : goal.returns-in_err-number
-returns-in_err-number g c =
+pub returns-in_err-write_all : goal.returns-in_err-write_all
+returns-in_err-write_all g c =
     let old = c.args.conn.now in
     let mid = c.write_all.new.transaction.conn.now in
     let inside : IsInside (state g.S.Store (record old { in_transaction = true })) (state g.S.Store mid) = rw c.transaction-transaction.ensures.begun at c.write_all.ensures.inside in
