@@ -6,7 +6,7 @@ use Rattle.serde_json.specs.View.{view}
 use Rattle.hashbag.specs.Joins.{IsOuterJoin, IsDifference, IsNotIn, IsSignedDifference}
 use Rattle.hashbag.specs.JsonTrees.{IsBagTree}
 use Rattle.hashbag.specs.Script.{Steps, left_by, limit_by, replies_to}
-use Rattle.hashbag_run_core.specs.declared.execute.Answers.{Answers}
+use Rattle.hashbag_run_core.specs.declared.answers.Answers.{Answers}
 
 -- d is the tree of a bag that means a list of numbers and has the limit `most`
 abbrev pub IsTreeOfNumbers : List ℕ → ℕ → Data → Type 0

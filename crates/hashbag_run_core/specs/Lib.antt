@@ -1,3 +1,12 @@
 pub mod Answers
+pub mod Commands
+pub mod CommandsExamples
+pub mod Execution
+pub mod Format
+pub mod Joined
+pub mod Lines
+pub mod LinesExamples
+pub mod Output
+pub mod Program
 pub mod RunAndJoin
 pub use Rattle.hashbag.specs.Pairs

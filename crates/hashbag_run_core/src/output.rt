@@ -1,12 +1,19 @@
 //! The program's output: a line for each reply, a line for each item of the joins, and a line for each bag's tree.
+ghost use Rattle.std.specs.Prelude.{◌≡◌, ◌++◌, false, codes, flat_map, string_bytes, OnOk};
+ghost use Rattle.serde_json.specs.Written.{has_float};
+ghost use Rattle.serde_json.specs.View.{view};
+ghost use Rattle.hashbag_run_core.specs.Lines.{reply_line, outer_line, count_line, signed_line, tree_line};
+ghost use Rattle.hashbag_run_core.specs.Joined.{PrintsJoins};
+
 use crate::joined::JoinLists;
 use hashbag::script::Reply;
 use serde_json::Value;
 use std::alloc::{AllocError, Global};
-use std::io::Write;
 
 // Appends the line of a reply of a bag.
-fn print_reply(text: &mut String, bag: &str, reply: &Reply<u64>) -> Result<(), AllocError> {
+fn print_reply(text: &mut String, bag: &str, reply: &Reply<u64>) -> Result<(), AllocError>
+    ensures { OnOk result (string_bytes text.new ≡ string_bytes text.old ++ reply_line bag.now reply.now) }
+{
     match reply {
         Reply::Count(count) => writeln!(text, "{bag} count {count}"),
         Reply::Left(count) => writeln!(text, "{bag} left {count}"),
@@ -23,45 +30,64 @@ pub fn print_replies(
     text: &mut String,
     bag: &str,
     replies: &Vec<Reply<u64>>,
-) -> Result<(), AllocError> {
+) -> Result<(), AllocError>
+    ensures { OnOk result (string_bytes text.new ≡ string_bytes text.old ++ flat_map (reply_line bag.now) replies.now.items) }
+{
     for reply in replies {
         print_reply(text, bag, reply)?;
     }
     Ok(())
 }
 
+// Appends the line of each value with its two counts.
+fn print_outer(text: &mut String, outer: &Vec<(u64, usize, usize)>) -> Result<(), AllocError>
+    ensures { OnOk result (string_bytes text.new ≡ string_bytes text.old ++ flat_map outer_line outer.now.items) }
+{
+    for (value, first, second) in outer {
+        writeln!(text, "outer {value} {first} {second}")?;
+    }
+    Ok(())
+}
+
 // Appends a line of this kind for each value with its count.
-fn print_counts(
-    text: &mut String,
-    kind: &str,
-    counts: &Vec<(u64, usize)>,
-) -> Result<(), AllocError> {
+fn print_counts(text: &mut String, kind: &str, counts: &Vec<(u64, usize)>) -> Result<(), AllocError>
+    ensures { OnOk result (string_bytes text.new ≡ string_bytes text.old ++ flat_map (count_line kind.now) counts.now.items) }
+{
     for (value, count) in counts {
         writeln!(text, "{kind} {value} {count}")?;
     }
     Ok(())
 }
 
+// Appends the line of each value with its signed count.
+fn print_signed(text: &mut String, signed: &Vec<(u64, isize)>) -> Result<(), AllocError>
+    ensures { OnOk result (string_bytes text.new ≡ string_bytes text.old ++ flat_map signed_line signed.now.items) }
+{
+    for (value, count) in signed {
+        writeln!(text, "signed {value} {count}")?;
+    }
+    Ok(())
+}
+
 /// Sorts the joins by value, and appends their lines.
-pub fn print_joins(text: &mut String, joins: JoinLists<u64>) -> Result<(), AllocError> {
+pub fn print_joins(text: &mut String, joins: JoinLists<u64>) -> Result<(), AllocError>
+    ensures { OnOk result (PrintsJoins joins (string_bytes text.old) (string_bytes text.new)) }
+{
     let JoinLists {
         mut outer,
         mut difference,
         mut signed,
         mut not_in,
     } = joins;
-    outer.sort_unstable();
-    difference.sort_unstable();
-    signed.sort_unstable();
-    not_in.sort_unstable();
-    for (value, first, second) in &outer {
-        writeln!(text, "outer {value} {first} {second}")?;
-    }
+    outer.sort_unstable_by_key(|join| join.0);
+    difference.sort_unstable_by_key(|pair| pair.0);
+    signed.sort_unstable_by_key(|pair| pair.0);
+    not_in.sort_unstable_by_key(|pair| pair.0);
+    print_outer(text, &outer)?;
     print_counts(text, "difference", &difference)?;
-    for (value, count) in &signed {
-        writeln!(text, "signed {value} {count}")?;
-    }
-    print_counts(text, "not_in", &not_in)
+    print_signed(text, &signed)?;
+    print_counts(text, "not_in", &not_in)?;
+    Ok(())
 }
 
 /// Appends the line of the tree of the bag with this name, with no space in the tree.
@@ -70,19 +96,10 @@ pub fn print_tree(
     text: &mut String,
     bag: &str,
     tree: &Value,
-) -> Result<(), AllocError> {
+) -> Result<(), AllocError>
+    requires { has_float (view tree.now) ≡ false }
+    ensures { OnOk result (string_bytes text.new ≡ string_bytes text.old ++ tree_line bag.now (view tree.now)) }
+{
     let compact = tree.to_string(alloc)?;
     writeln!(text, "{bag} json {compact}")
-}
-
-/// Writes the whole text, and returns whether that was done. Any error of the writer is a failure, and so is a write of no byte.
-pub fn write_all<W: Write>(output: &mut W, text: &[u8]) -> bool {
-    let mut left = text;
-    while !left.is_empty() {
-        match output.write(left) {
-            Ok(0) | Err(_) => return false,
-            Ok(taken) => left = &left[taken..],
-        }
-    }
-    true
 }

@@ -7,7 +7,7 @@ use Rattle.serde_json.specs.Data.{Data}
 use Rattle.hashbag.specs.Occurrences.{IsOneInstanceEach, SameCounts}
 use Rattle.hashbag.proofs.OccurrenceLemmas.{count_rearranged}
 use Rattle.hashbag_run_core.specs.Answers.{IsTreeOfNumbers}
-use Rattle.hashbag_run_core.proofs.execute.answers_to.Goals as goal
+use Rattle.hashbag_run_core.proofs.answers.answers_to.Goals as goal
 
 empty_means : (items : List ℕ) → items ≡ [] → IsPermutation [] items
 empty_means items none = subst (λ (l : List ℕ). IsPermutation [] l) (sym none) (IsPermutation-refl [])
@@ -21,8 +21,8 @@ tree_of : (X items : List ℕ) (most limit : ℕ) (d : Data) → ((Y : List ℕ)
 tree_of X items most limit d tree means same =
     subst (λ (n : ℕ). IsTreeOfNumbers X n d) same (tree X (one_each X) (λ v. count_rearranged nat_eq_equiv v X items means))
 
-pub returns : goal.returns
-returns c =
+pub returns-clause-answers : goal.returns-clause-answers
+returns-clause-answers c =
     let whole = c.in_ok-joins.ensures.whole in
     let empty_a = empty_means _ c.new-a.ensures.empty in
     let empty_b = empty_means _ c.new-b.ensures.empty in
