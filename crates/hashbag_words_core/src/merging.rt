@@ -162,8 +162,11 @@ fn fault_of(tree: &Value, error: JsonError) -> Fault {
 ///
 /// # Errors
 ///
-/// `Fault::Text` if the text isn't JSON, or can't be allocated; `Fault::Tree` if it isn't the tree of a bag, or that bag fails;
-/// `Fault::PastLimit` if its counts pass its own limit; `Fault::Bag` if an allocation fails, or the total would pass the limit of the bag.
+/// - `Fault::Text` if the text isn't JSON, or can't be allocated.
+/// - `Fault::Tree` if it isn't the tree of a bag, or that bag fails.
+/// - `Fault::PastLimit` if its counts pass its own limit.
+/// - `Fault::Bag` if an allocation fails, or the total would pass the limit of the bag.
+///
 /// Then the bag is unchanged.
 pub fn add_tree<S: BuildHasher + Drop, S2: BuildHasher + Drop>(
     alloc: Global,

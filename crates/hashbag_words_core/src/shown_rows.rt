@@ -82,7 +82,7 @@ pub struct TopRows {
 impl TopRows {
     /// Keeps at most `most` rows, and none that counts less than `least`.
     pub fn new(alloc: Global, most: usize, least: usize) -> TopRows
-        ensures none { heap_len result.kept ≡ 0 }
+        ensures empty { heap_len result.kept ≡ 0 }
         ensures bounds { (result.most ≡ most) × (result.least ≡ least) }
     {
         TopRows {
