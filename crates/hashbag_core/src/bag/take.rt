@@ -77,8 +77,8 @@ impl<T: Eq + Hash + Drop, S: BuildHasher + Drop> HashBag<T, S> {
     /// Removes one occurrence of a value. Returns the value itself in `Ok` if it was the last one. Else it returns in `Err` the stored
     /// instance, which stays in the bag, with the count before, or `Err(None)` if the value is absent.
     ///
-    /// A caller that is proved learns of this call what was removed, and what the bag is once the loan of the instance is over.
-    /// [`HashBag::take_one`] lends nothing, so it can be called in a loop.
+    /// What the bag is once the loan of the instance is over is proved here, but the proof of a caller doesn't learn it: it learns what was
+    /// removed. [`HashBag::take_one`] says what the bag is. It lends nothing, so it can be called in a loop.
     ///
     /// # Complexity
     ///
