@@ -4,10 +4,9 @@ use crate::stock::request::Request;
 use hashbag_ledger_core::movements::Movement;
 use hashbag_ledger_core::reading::{ChangeColumns, Columns, read_movements};
 use hashbag_lists::counts::{Reading, read_counts_as};
-use hashbag_lists::decimals::write_decimal;
-use hashbag_lists::fault::{Fault, SheetError};
+use hashbag_lists::fault::SheetError;
 use hashbag_lists::files::{in_file, read_file};
-use hashbag_stock_core::numbers::{MOST, plain_change, size_of};
+use hashbag_stock_core::numbers::plain_change;
 use sha2::{Digest, Sha256};
 use std::alloc::{AllocError, Global};
 
@@ -64,24 +63,13 @@ pub fn inputs_of<'a>(
     Ok(inputs)
 }
 
-// Makes each change one that a row may have.
-fn fit_rows(
+// Makes each change one that a row may have: without a sign at 0.
+fn plain_movements(
     alloc: Global,
     movements: Vec<Movement<String>>,
-    reading: Reading,
-) -> Result<Vec<Movement<String>>, SheetError> {
+) -> Result<Vec<Movement<String>>, AllocError> {
     let mut all = Vec::new(alloc);
     for movement in movements {
-        let number = size_of(movement.change);
-        if number > MOST {
-            return Err(SheetError::Line {
-                line: movement.place.line,
-                fault: Fault::PastMost {
-                    most: write_decimal(alloc, MOST, reading.scale)?,
-                    field: write_decimal(alloc, number, reading.scale)?,
-                },
-            });
-        }
         let Movement {
             place,
             article,
@@ -107,22 +95,16 @@ fn read<'a>(
 ) -> Result<Vec<Movement<String>>, SheetError> {
     let text = input.text.as_slice();
     if !input.is_start {
-        return fit_rows(
-            alloc,
-            read_movements(alloc, text, at, request.columns, reading)?,
-            reading,
-        );
+        let movements = read_movements(alloc, text, at, request.columns, reading)?;
+        return Ok(plain_movements(alloc, movements)?);
     }
     // It is read as a list of numbers, which have no sign, and then once more for its lines.
     let (article, number) = request.start_columns;
     read_counts_as(alloc, text, article, number, reading)?;
     let change = ChangeColumns::Signed(number);
     let columns = Columns { article, change };
-    fit_rows(
-        alloc,
-        read_movements(alloc, text, at, columns, reading)?,
-        reading,
-    )
+    let movements = read_movements(alloc, text, at, columns, reading)?;
+    Ok(plain_movements(alloc, movements)?)
 }
 
 /// Returns the movements of an input. What a stock at the beginning has comes in.

@@ -7,6 +7,7 @@ use hashbag_ledger_core::reading::Columns;
 use hashbag_lists::counts::Reading;
 use hashbag_lists::delimiter::Delimiter;
 use hashbag_lists::scale::{Mark, Scale};
+use hashbag_stock_core::numbers::MOST;
 use std::alloc::Global;
 
 /// What a subcommand is asked to do.
@@ -110,11 +111,13 @@ impl<'a> Request<'a> {
         })
     }
 
-    /// Returns how texts are read and written with this many decimals.
+    /// Returns how texts are read and written with this many decimals. No number is past the greatest of a database.
     pub fn reading(&self, decimals: u32) -> Reading {
         Reading {
             delimiter: self.delimiter,
-            scale: Scale::new(decimals, self.mark).unwrap_or(Scale::whole()),
+            scale: Scale::new(decimals, self.mark)
+                .unwrap_or(Scale::whole())
+                .at_most(MOST),
         }
     }
 }
