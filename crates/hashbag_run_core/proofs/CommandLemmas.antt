@@ -1,13 +1,12 @@
 -- What the definitions of `specs/Commands` say at the code's tests.
-use Rattle.std.proofs.Common.{◌≡◌, ◌≢◌, ℕ, ◌+◌, ◌-◌, ◌*◌, ◌^◌, ◌/◌, ◌%◌, ◌<◌, ◌≤◌, ◌==◌, nat_lt, nat_le, Bool, true, false, not, ◌&&◌, ◌||◌, List, [], ◌∷◌, ◌++◌, length, take, drop, get_or, map, Option, Some, None, Result, Ok, Err, Bor, below_more, refl, sym, ◌∙◌, ap, subst, arith, append_assoc, rules}
-use Rattle.std.specs.Prelude.{flat_map, filter_map, position, codes, bytes_eq, option_map, option_and_then, option_to_list, is_none, IsUtf8, IsAscii, OkIff}
+use Rattle.std.proofs.Common.{◌≡◌, ℕ, ◌+◌, ◌^◌, ◌<◌, ◌≤◌, ◌==◌, nat_lt, nat_le, Bool, true, false, ◌&&◌, List, [], ◌∷◌, ◌++◌, length, take, drop, get_or, map, Option, Some, None, Result, Ok, Err, Bor, below_more, refl, sym, ◌∙◌, ap, subst, arith, append_assoc}
+use Rattle.std.specs.Prelude.{filter_map, codes, bytes_eq, option_map, option_and_then, option_to_list, IsUtf8, IsAscii, OkIff}
 use Rattle.std.specs.Char.{is_ascii_digit}
 use Rattle.std.specs.Int.{IsInRange}
-use Rattle.std.specs.List.{list_any, list_all, slice_split, cons_option, position_or_len}
+use Rattle.std.specs.List.{list_any, list_all, cons_option, position_or_len}
 use Rattle.std.specs.Result.{result_ok}
 use Rattle.std.specs.Str.Parse.{digits_value}
-use Rattle.std.proofs.lemmas.Bool.{and_parts, and_from, and_left, and_right, or_from, or_left, true≢false, leb-true, cond-true, cond-false, false_from_ne_true, ltb-true, lt-ltb, le-ltb, le-leb, lt-leb, ne_eqb, eq-eqb, both_ways}
-use Rattle.std.proofs.lemmas.Bool.Decides.{nat_tests}
+use Rattle.std.proofs.lemmas.Bool.{and_parts, and_from, and_left, and_right, or_from, leb-true, cond-true, cond-false, false_from_ne_true, ltb-true, lt-ltb, le-ltb, le-leb, lt-leb}
 use Rattle.std.proofs.lemmas.List.{take_more, take_all, drop_all, at_drop_more, get_or_default, append-nil}
 use Rattle.std.proofs.lemmas.Iterator.Adapters.{option_map_id}
 use Rattle.std.proofs.lemmas.List.Elements.{filter_map-append}
@@ -16,10 +15,8 @@ use Rattle.std.proofs.lemmas.Slice.Eq.{bytes_eq-Decides}
 use Rattle.std.proofs.lemmas.Str.{IsUtf8-from_ascii}
 use Rattle.std.proofs.lemmas.Str.Ascii.{IsAscii-nil, IsAscii-cons}
 use Rattle.std.proofs.lemmas.Str.Parse.{IsDigitsTest, IsNumeralModel, numerals_by_value}
-use Rattle.std.proofs.lemmas.List.{map-append, length-map, get_or-map}
-use Rattle.std.proofs.lemmas.Grind.{flat_map-append}
-use Rattle.hashbag_script.specs.declared.script.Step.{Step}
-use Rattle.hashbag_run_core.specs.Commands.{command_of, number_in, numbers_in, verbs, command, Command, command_in, command_after, command_on, is_bad, lines_of, first_bad, commands_of}
+use Rattle.std.proofs.lemmas.List.{length-map, get_or-map}
+use Rattle.hashbag_run_core.specs.Commands.{number_in, numbers_in, verbs, command, Command, command_on, is_bad, lines_of, first_bad, commands_of}
 
 -- ---- numbers
 

@@ -1,11 +1,11 @@
 -- Bytes that are read and written one piece after another.
-use Rattle.std.proofs.Common.{◌≡◌, ℕ, List, [], ◌∷◌, ◌++◌, take, drop, Option, Some, None, sym, ◌∙◌, ap, append_assoc, inl, inr, refl, arith}
+use Rattle.std.proofs.Common.{◌≡◌, ℕ, List, [], ◌++◌, take, drop, Option, Some, None, sym, ◌∙◌, ap, append_assoc, inl, inr, refl, arith}
 use Rattle.std.proofs.lemmas.List.{append-nil, take-append-drop}
-use Rattle.std.specs.Prelude.{◌⊎◌, string_bytes}
+use Rattle.std.specs.Prelude.{string_bytes}
 use Rattle.std.specs.Io.KnownBytes.{Appends, Consumes, Keeps, IsAtEnd}
 use Rattle.hashbag_run_core.specs.declared.answer.Outcome.{Outcome}
 use Rattle.hashbag_run_core.specs.declared.answer.Outcome.TheVariants.{Done, BadLine, NoMemory}
-use Rattle.hashbag_run_core.specs.Execution.{AppendsPart, IsSent, IsReadAs, ReadsAndWrites, IsToBeWritten, IsExecution}
+use Rattle.hashbag_run_core.specs.Execution.{AppendsPart, IsSent, IsToBeWritten, IsExecution}
 use Rattle.hashbag_run_core.specs.Lines.{no_memory}
 use Rattle.hashbag_run_core.specs.Program.{IsAnswerTo, status_of, text_of}
 

@@ -1,5 +1,5 @@
 -- What inputs mean, by computing.
-use Rattle.std.specs.Prelude.{◌≡◌, ℕ, List, [], ◌∷◌, ◌++◌, codes, Some, None, refl}
+use Rattle.std.specs.Prelude.{◌≡◌, [], ◌∷◌, ◌++◌, codes, Some, None, refl}
 use Rattle.hashbag_run_core.specs.Commands.{number_in, command_on, first_bad, commands_of}
 
 leading_zeros : number_in (codes "007") ≡ Some 7

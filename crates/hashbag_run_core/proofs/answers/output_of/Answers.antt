@@ -1,5 +1,3 @@
-use Rattle.std.proofs.Common.{◌∙◌, ap, sym, ◌++◌}
-use Rattle.hashbag_run_core.specs.Lines.{output}
 use Rattle.hashbag_run_core.proofs.OutputLemmas.{in_turn}
 use Rattle.hashbag_run_core.proofs.answers.output_of.Goals as goal
 
