@@ -14,6 +14,14 @@ module _ {T : Type 0} (names : T → Bool) where
   RefusesNamed most X n Memory = (length X + n ≤ most) × (0 < n) × (count_named names X ≡ 0)
   RefusesNamed most X n BelowTotal = ⊥
 
+-- a value that a key names is inserted once
+abbrev pub NamedOnce : {T Q : Type 0} → (Q → T → Bool) → Q → T × ℕ → Type 0
+NamedOnce names key p = IsTrue (names key p.0) × (p.1 ≡ 1)
+
+-- an insertion by a key may be refused to a bag
+abbrev pub RefusesKey : {T S Q : Type 0} → (Q → T → Bool) → Bag T S → Q → BagError → Type 0
+RefusesKey names bag key e = RefusesNamed (names key) bag.most bag.items 1 e
+
 -- n of some value that the key names went in
 abbrev pub InsertsNamed : {T S : Type 0} → (T → T → Bool) → (T → Bool) → ℕ → Bag T S → Bag T S → Type 0
 InsertsNamed eq names n before after = (v : _) × IsTrue (names v) × Inserts eq v n before after

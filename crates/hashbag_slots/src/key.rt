@@ -1,14 +1,16 @@
 //! What a value is looked up by.
 ghost use Rattle.std.specs.Prelude.{◌≡◌, Bool, IsTrue};
 ghost use Rattle.std.proofs.Common.{ap, sym, ◌∙◌, refl};
-ghost use Rattle.std.specs.Cmp.Lexicographic.{bytes_decides, nat_list_eq_equiv};
+ghost use Rattle.std.specs.Cmp.Lexicographic.{bytes_decides, lists_equiv, nat_list_eq_equiv, pointwise};
 ghost use Rattle.std.specs.Hash as fed;
+ghost use Rattle.std.specs.Hash.{items_Alike};
 ghost use Rattle.std.specs.Str.{bytes_eq};
 ghost use Rattle.std.specs.String.{string_bytes};
 
 use std::hash::Hash;
 
-/// What values are looked up and removed by: a value that is lent, `&T`, or what names one, as a `&str` names a `String`.
+/// What values are looked up and removed by: a value that is lent, `&T`, or what names one: a `&str` names a `String`, a `&[T]` a `Vec<T>`,
+/// and a `&T` a `Box<T>`.
 ///
 /// A key is hashed as the values that it names, so their slots are on its path. It names one value: all that are equal to one that it
 /// names, and no other.
@@ -50,5 +52,31 @@ impl Key<String> for &str {
     #[inline(always)]
     fn names(&self, value: &String) -> bool {
         value.as_str() == *self
+    }
+}
+
+impl<T: Eq + Hash> Key<Vec<T>> for &[T] {
+    ghost names = { λ key v. pointwise T.eq v.items key.now };
+
+    ghost hashed_alike = { λ key v h. (items_Alike (record { fed = T.respects_eq })).fed v.items key.now h };
+
+    ghost names_one = { λ key v w yes. (lists_equiv T.Eq.laws).symm w.items key.now ∙ (lists_equiv T.Eq.laws).congr key.now v.items w.items ((lists_equiv T.Eq.laws).symm key.now v.items ∙ yes) ∙ (lists_equiv T.Eq.laws).symm v.items w.items };
+
+    #[inline(always)]
+    fn names(&self, value: &Vec<T>) -> bool {
+        value.as_slice() == *self
+    }
+}
+
+impl<T: Eq + Hash> Key<Box<T>> for &T {
+    ghost names = { λ key v. T.eq key.now v.value };
+
+    ghost hashed_alike = { λ key v h. sym (T.respects_eq key.now v.value h) };
+
+    ghost names_one = { λ key v w yes. T.Eq.laws.congr key.now v.value w.value yes ∙ T.Eq.laws.symm v.value w.value };
+
+    #[inline(always)]
+    fn names(&self, value: &Box<T>) -> bool {
+        (*self).eq(value.as_ref())
     }
 }

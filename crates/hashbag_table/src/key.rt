@@ -21,3 +21,9 @@ impl ToValue<String> for &str {
         self.to_string(alloc)
     }
 }
+
+impl<T: Copy + Eq + Hash> ToValue<Vec<T>> for &[T] {
+    fn to_value(self, alloc: Global) -> Result<Vec<T>, AllocError> {
+        Vec::from_slice(alloc, self)
+    }
+}

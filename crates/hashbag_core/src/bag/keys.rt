@@ -3,11 +3,15 @@
 //! In the Rust crate look-ups and removals take whatever a value can be borrowed as. Here they take a `Key`, and these insertions a
 //! [`ToValue`], which builds the value only if it is absent.
 ghost use Rattle.std.specs.Prelude.{◌≡◌, ◌+◌, ◌<◌, ◌≤◌, ◌↔◌, length, IsOk, IfOk, IfErr, OnOk, OnErr};
-ghost use Rattle.hashbag_core.specs.Keys.{RefusesNamed, InsertsNamed};
-ghost use Rattle.hashbag_core.specs.Occurrences.{count_named};
+ghost use Rattle.std.specs.Iterator.{IsFinite};
+ghost use Rattle.hashbag_core.specs.Bag.{Bag};
+ghost use Rattle.hashbag_core.specs.Inserts.{empty_bag, InsertsAll, InsertsUpTo};
+ghost use Rattle.hashbag_core.specs.Keys.{RefusesNamed, InsertsNamed, NamedOnce, RefusesKey};
+ghost use Rattle.hashbag_core.specs.Occurrences.{count_named, greatest_total};
 
 use crate::bag::{BagError, HashBag};
 use hashbag_table::ToValue;
+use std::alloc::Global;
 use std::hash::{BuildHasher, Hash};
 
 impl<T: Eq + Hash + Drop, S: BuildHasher + Drop> HashBag<T, S> {
@@ -98,5 +102,72 @@ impl<T: Eq + Hash + Drop, S: BuildHasher + Drop> HashBag<T, S> {
         // `held` is called for its clause on what the slots hold, which the proof names.
         self.table.held();
         Ok(before)
+    }
+
+    /// Inserts one occurrence of the value of each key in turn, as [`HashBag::insert_key`] does, until the iterator ends or an insertion
+    /// fails: `words.extend_keys(text.split_whitespace())?`. The caller ensures that the keys end.
+    ///
+    /// # Errors
+    ///
+    /// Those of [`HashBag::insert_key`]. The values of the keys before the one that fails stay in the bag. The iterator is dropped.
+    ///
+    /// # Complexity
+    ///
+    /// It hashes each key once, and allocates only for values that were absent.
+    ///
+    /// # Examples
+    ///
+    /// ```
+    /// let mut words: HashBag<String> = HashBag::new(alloc);
+    /// words.extend_keys("the cat and the hat".split_whitespace())?;
+    /// words.contains("the"); // 2
+    /// Ok(())
+    /// ```
+    pub fn extend_keys<Q: ToValue<T> + Drop, I: Iterator<Item = Q> + Drop>(
+        &mut self,
+        keys: I,
+    ) -> Result<(), BagError>
+        requires can { I.can_next keys }
+        requires ends { IsFinite (I.remaining keys) }
+        ensures all { OnOk result (InsertsAll T.eq I.next_gives (NamedOnce Q.names) keys self.old self.new) }
+        ensures refused { IfErr result (InsertsUpTo T.eq I.next_gives (NamedOnce Q.names) (RefusesKey Q.names) keys self.old self.new) }
+    {
+        // `len` is called for its clause that the list is a bag's, which the proof names.
+        let _len = self.len();
+        for key in keys {
+            self.insert_key(key)?;
+        }
+        Ok(())
+    }
+
+    /// Builds a bag of the values of the keys, under the default state: an empty bag that is extended by [`HashBag::extend_keys`].
+    ///
+    /// # Errors
+    ///
+    /// Those of [`HashBag::extend_keys`]. Then there is no bag.
+    ///
+    /// # Examples
+    ///
+    /// ```
+    /// let words: HashBag<String> = HashBag::from_keys(alloc, "the cat and the hat".split_whitespace())?;
+    /// words.contains("the"); // 2
+    /// Ok(())
+    /// ```
+    pub fn from_keys<Q: ToValue<T> + Drop, I: Iterator<Item = Q> + Drop>(
+        alloc: Global,
+        keys: I,
+    ) -> Result<HashBag<T, S>, BagError>
+    where
+        S: Default,
+        requires can { I.can_next keys }
+        requires ends { IsFinite (I.remaining keys) }
+        ensures all { IfOk result (λ bag. InsertsAll T.eq I.next_gives (NamedOnce Q.names) keys (empty_bag bag.hasher) bag) }
+        ensures hasher { IfOk result (λ bag. S.is_default bag.hasher) }
+        ensures limit { IfOk result (λ bag. bag.most ≡ greatest_total) }
+        ensures refused { IfErr result (λ e. (bag : Bag T S) × InsertsUpTo T.eq I.next_gives (NamedOnce Q.names) (RefusesKey Q.names) keys (empty_bag bag.hasher) bag e) }
+    {
+        let mut bag = HashBag::default_in(alloc);
+        bag.extend_keys(keys)?;
+        Ok(bag)
     }
 }

@@ -96,3 +96,25 @@ fn counted_texts(rt: HostRuntime) -> Result<(), Fail> {
     }
     Ok(())
 }
+
+// Lists by slices, and boxes by what they hold: insertions by a slice succeed, and both are found and removed.
+#[test]
+fn lists_and_boxes(rt: HostRuntime) -> Result<(), Fail> {
+    let alloc = rt.alloc();
+    let (pair, single): (&[u64], &[u64]) = (&[1, 2], &[1]);
+    let mut lists: HashBag<Vec<u64>> = HashBag::from_keys(alloc, [pair, single, pair].iter().copied())?;
+    let mut boxes: HashBag<Box<u64>> = HashBag::new(alloc);
+    boxes.insert_many(Box::new(alloc, 7)?, 3)?;
+    for (name, now, want) in [
+        ("a list", lists.contains(pair), 2),
+        ("a removed list", lists.remove(single), 1),
+        ("an absent list", lists.contains(single), 0),
+        ("a box", boxes.remove(&7), 3),
+        ("an absent box", boxes.contains(&8), 0),
+    ] {
+        if now != want {
+            return Err(Fail::new(format_args!("{name}: {now}")));
+        }
+    }
+    Ok(())
+}
