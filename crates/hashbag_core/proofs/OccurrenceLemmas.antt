@@ -17,7 +17,7 @@ use Rattle.std.proofs.lemmas.Bool.{false≢true}
 use Rattle.std.proofs.lemmas.Map.Keys.{IsDistinct-head, IsDistinct-tail}
 use Rattle.hashbag_table.specs.Entries.{count_of, stored_or_itself, without, with_count, with_fewer, IsCounted}
 use Rattle.hashbag_table.proofs.EntryLemmas.{entry_none_from_lookup, without_absent, lookup-entry, lookup_key-entry, with_fewer-some, with_fewer-all}
-use Rattle.hashbag_core.specs.Occurrences.{greatest_total, alike, others, count, instance, instance_or_itself, add, less, put, IsBag}
+use Rattle.hashbag_core.specs.Occurrences.{greatest_total, alike, others, count, instance, instance_or_itself, add, less, put, recount, IsBag}
 use Rattle.hashbag_core.specs.Bag.{occurrences, IsTallied}
 use Rattle.hashbag_table.proofs.ListLemmas.{IsPermutation-same, IsPermutation-flat_map, IsPermutation-filter, find-filter, filter-replicate, all_same_rearranged}
 
@@ -226,14 +226,19 @@ module _ {T : Type 0} {eq : T → T → Bool} (laws : IsEquivalence eq) where
       there None p = let none = count_of_entry v es None (sym p) in absurd (omega arith)
       there (Some e) p = refl
 
-  -- what is absent is put as it is added
+  -- what is absent isn't found; it is put as it is added, and so is what its count is set to
+  pub none_found : (v : T) (X : List T) → count eq v X ≡ 0 → instance eq v X ≡ None
+  none_found v X none = find-filter (eq v) X ∙ ap (λ (l : List T). slice_get l 0) (nil_from_length (alike eq v X) (length-filter (eq v) X ∙ none))
+
   pub put_absent : (v : T) (n : ℕ) (X : List T) → count eq v X ≡ 0 → IsPermutation (put eq v n X) (add eq v n X)
   put_absent v n X none =
       let empty : alike eq v X ≡ [] = nil_from_length (alike eq v X) (length-filter (eq v) X ∙ none) in
       let split = IsPermutation-filter_both (eq v) (λ x. not (eq v x)) (λ x. refl) X in
       let left : IsPermutation X (others eq v X) = subst (λ (l : List T). IsPermutation X (l ++ others eq v X)) empty split in
-      let itself : instance eq v X ≡ None = find-filter (eq v) X ∙ ap (λ (l : List T). slice_get l 0) empty in
-      subst (λ (o : Option T). IsPermutation (put eq v n X) (X ++ replicate n (unwrap_or o v))) (sym itself) (IsPermutation-append_left _ _ _ (IsPermutation-sym _ _ left))
+      subst (λ (o : Option T). IsPermutation (put eq v n X) (X ++ replicate n (unwrap_or o v))) (sym (none_found v X none)) (IsPermutation-append_left _ _ _ (IsPermutation-sym _ _ left))
+
+  pub recount_absent : (v : T) (n : ℕ) (X : List T) → count eq v X ≡ 0 → IsPermutation (recount eq v n X) (add eq v n X)
+  recount_absent v n X none = subst (λ (o : Option T). IsPermutation (put eq (unwrap_or o v) n X) (add eq v n X)) (sym (none_found v X none)) (put_absent v n X none)
 
   -- what has no count is absent
   pub absent_from_count : (v : T) (es : List (T × ℕ)) → IsCounted eq es → count_of eq v es ≡ 0 → lookup_entry (eq v) es ≡ None

@@ -4,7 +4,6 @@ use Rattle.std.specs.Cmp.{IsEquivalence}
 use Rattle.std.specs.List.Sorted.{IsPermutation}
 use Rattle.std.specs.Map.{lookup_entry}
 use Rattle.std.proofs.lemmas.List.Sums.{length-filter}
-use Rattle.std.proofs.lemmas.List.{nil_from_length}
 use Rattle.std.proofs.lemmas.List.Elements.{filter-append, filter_passes, All-drop}
 use Rattle.std.proofs.lemmas.List.Sorted.{IsPermutation-sym}
 use Rattle.hashbag_table.specs.Entries.{entry_of, count_of, IsCounted}
@@ -12,7 +11,7 @@ use Rattle.hashbag_table.proofs.EntryLemmas.{lookup_key-entry}
 use Rattle.hashbag_core.specs.Bag.{occurrences}
 use Rattle.hashbag_core.specs.Occurrences.{alike, others, count, instance, instance_or_itself, stored, less, IsBag}
 use Rattle.hashbag_table.proofs.ListLemmas.{find-filter}
-use Rattle.hashbag_core.proofs.OccurrenceLemmas.{alike_same_instance, instance_rearranged, instance_occurrences, count_occurrences, count_of_entry}
+use Rattle.hashbag_core.proofs.OccurrenceLemmas.{alike_same_instance, instance_rearranged, instance_occurrences, count_occurrences, count_of_entry, none_found}
 
 module _ {T : Type 0} (p : T → Bool) where
   kept_step : (x : T) (xs kept : List T) (b : Bool) → b ≡ true → kept ≡ xs → cond b (x ∷ kept) kept ≡ x ∷ xs
@@ -63,9 +62,7 @@ module _ {T : Type 0} {eq : T → T → Bool} (laws : IsEquivalence eq) where
 
   -- nothing is stored of what is absent
   pub stored_absent : (v : T) (X : List T) → count eq v X ≡ 0 → None ≡ stored eq v X
-  stored_absent v X none =
-      let empty : alike eq v X ≡ [] = nil_from_length (alike eq v X) (length-filter (eq v) X ∙ none) in
-      sym (ap (λ (o : Option T). option_map (λ i. (i, count eq v X)) o) (find-filter (eq v) X ∙ ap (λ (l : List T). slice_get l 0) empty))
+  stored_absent v X none = sym (ap (λ (o : Option T). option_map (λ i. (i, count eq v X)) o) (none_found laws v X none))
 
   first_there : (L : List T) → 0 < length L → None ≡ slice_get L 0 → ⊥
   first_there [] some e = absurd (omega arith)

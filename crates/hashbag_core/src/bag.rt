@@ -1,9 +1,7 @@
 //! `HashBag`: how often each of several values occurs.
 ghost use Rattle.std.specs.Prelude.{◌≡◌, ◌+◌, ◌-◌, ◌<◌, ◌≤◌, ◌↔◌, [], length, IsTrue, IsOk, IfOk, IfErr, OnOk, OnErr};
-ghost use Rattle.std.specs.List.Sorted.{IsPermutation};
-ghost use Rattle.hashbag_table.specs.Entries.{count_of, IsCounted};
-ghost use Rattle.hashbag_table.specs.Tables.{limit, room, KeepsRoom};
-ghost use Rattle.hashbag_core.specs.Bag.{occurrences, limited, Lends};
+ghost use Rattle.hashbag_table.specs.Tables.{room, KeepsRoom};
+ghost use Rattle.hashbag_core.specs.Bag.{limited, Lends, IsBagOf};
 ghost use Rattle.hashbag_core.specs.Occurrences.{count_named, stored_named, count, recount, distinct_count, IsBag};
 ghost use Rattle.hashbag_core.specs.Inserts.{Inserts, Replaces, IsRefused};
 ghost use Rattle.hashbag_core.specs.Held.{Recounts};
@@ -14,6 +12,7 @@ mod equality;
 mod extends;
 mod keys;
 mod make;
+mod recount;
 mod retain;
 mod spare;
 mod take;
@@ -111,30 +110,7 @@ impl<T: Eq + Hash + Drop, S: BuildHasher + Drop> Model for HashBag<T, S> {
     ghost invariant = { λ a. IsTallied T.eq a.table.entries a.len a.most };
 }
 
-// Sets the count of a present value, or removes it if the count is 0.
-fn set_or_remove<T: Eq + Hash + Drop, S: BuildHasher + Drop>(
-    table: &mut Table<T, S>,
-    value: &T,
-    n: usize,
-)
-    requires counted { IsCounted T.eq table.old.entries }
-    requires present { 0 < count_of T.eq value.now table.old.entries }
-    ensures set { IsPermutation (recount T.eq value.now n (occurrences table.old.entries)) (occurrences table.new.entries) }
-    ensures hasher { table.new.hasher ≡ table.old.hasher }
-    ensures counted { IsCounted T.eq table.new.entries }
-    ensures slot { Recounts T.eq value.now n table.old.tables table.new.tables }
-    ensures room { KeepsRoom 0 table.old.tables table.new.tables }
-{
-    if n == 0 {
-        let _ = table.remove(value);
-    } else {
-        table.set_count(value, n);
-    }
-}
-
 impl<T: Eq + Hash + Drop, S: BuildHasher + Drop> HashBag<T, S> {
-    ghost use Rattle.hashbag_core.specs.Bag.{IsBagOf};
-
     /// Returns the limit: the greatest total that the bag may have.
     ///
     /// # Examples
@@ -433,6 +409,58 @@ impl<T: Eq + Hash + Drop, S: BuildHasher + Drop> HashBag<T, S> {
         Ok(before)
     }
 
+    /// Sets the count of a value to `n`, and returns the count before. A present value keeps its stored instance, and the given one is
+    /// dropped; an absent one is inserted. With 0 the value is removed.
+    ///
+    /// # Errors
+    ///
+    /// - `TooMany` exactly if the total, with `n` in the place of the count before, would pass the limit. That is tested first.
+    /// - `Memory` if `n` isn't 0, the value is absent, there is no room, and an allocation fails.
+    ///
+    /// Then the bag is unchanged, and the value is dropped.
+    ///
+    /// # Complexity
+    ///
+    /// It hashes the value twice, and once if it returns `TooMany`. It allocates only if it inserts the value and there is no room. If it
+    /// inserts it, up to 16 slots of an older table are carried, and each value in them is hashed once.
+    ///
+    /// # Examples
+    ///
+    /// ```
+    /// let mut bag = HashBag::new(alloc);
+    /// bag.set_count("apple", 3)?; // 0
+    /// bag.set_count("apple", 1)?; // 3
+    /// bag.set_count("apple", 0)?; // 1
+    /// bag.contains(&"apple"); // 0
+    /// Ok(())
+    /// ```
+    pub fn set_count(&mut self, value: T, n: usize) -> Result<usize, BagError>
+        ensures before { IfOk result (λ before. before ≡ count T.eq value self.old.items) }
+        ensures set { OnOk result (IsBagOf T.eq self.old (recount T.eq value n self.old.items) self.new) }
+        ensures inserted { OnOk result (count T.eq value self.old.items ≡ 0 → Inserts T.eq value n self.old self.new) }
+        ensures slot { OnOk result (0 < count T.eq value self.old.items → Recounts T.eq value n self.old.tables self.new.tables) }
+        ensures room { OnOk result (0 < count T.eq value self.old.items → KeepsRoom 0 self.old.tables self.new.tables) }
+        ensures len { OnOk result (length self.new.items + count T.eq value self.old.items ≡ length self.old.items + n) }
+
+        // The total is tested first. Then only an allocation can fail, and only if n isn't 0, the value is absent and there is no room.
+        ensures too_many { (result ≡ Err BagError.TooMany) ↔ (self.old.most < length self.old.items - count T.eq value self.old.items + n) }
+        ensures refused { IfErr result (IsRefused T.eq self.old value n) }
+        ensures err { OnErr result (self.new ≡ self.old) }
+        ensures takes { length self.old.items - count T.eq value self.old.items + n ≤ self.old.most → 0 < room self.old.tables → IsOk result }
+        ensures present { length self.old.items - count T.eq value self.old.items + n ≤ self.old.most → 0 < count T.eq value self.old.items → IsOk result }
+        ensures none { n ≡ 0 → IsOk result }
+    {
+        let before = self.contains(&value);
+        if before == 0 {
+            return self.insert_many(value, n);
+        }
+        if n > self.most - (self.len - before) {
+            return Err(BagError::TooMany);
+        }
+        self.recount(&value, before, n);
+        Ok(before)
+    }
+
     // Inserts occurrences of a value, if the total can have them.
     pub(crate) fn insert_within(&mut self, value: T, n: usize) -> Result<(), BagError>
         ensures inserted { OnOk result (Inserts T.eq value n self.old self.new) }
@@ -458,20 +486,5 @@ impl<T: Eq + Hash + Drop, S: BuildHasher + Drop> HashBag<T, S> {
         // `held` is called for its clause on what the slots hold, which the proof cites.
         self.table.held();
         Ok(())
-    }
-
-    // Sets the count of a present value, whose count is `before`, or removes it if the new count is 0.
-    pub(crate) fn set_count(&mut self, value: &T, before: usize, n: usize)
-        requires before { before ≡ count T.eq value.now self.old.items }
-        requires present { 0 < before }
-        requires fits { length self.old.items - before + n ≤ self.old.most }
-        ensures put { IsBagOf T.eq self.old (recount T.eq value.now n self.old.items) self.new }
-        ensures after { count T.eq value.now self.new.items ≡ n }
-        ensures slot { Recounts T.eq value.now n self.old.tables self.new.tables }
-        ensures room { KeepsRoom 0 self.old.tables self.new.tables }
-        ensures len { length self.new.items + before ≡ length self.old.items + n }
-    {
-        set_or_remove(&mut self.table, value, n);
-        self.len = self.len - before + n;
     }
 }

@@ -121,7 +121,7 @@ impl<'a, T: Eq + Hash + Drop, S: BuildHasher + Drop> Entry<'a, T, S> {
         if n > bag.limit() - (bag.len() - before) {
             return Err(BagError::TooMany);
         }
-        bag.set_count(&value, before, n);
+        bag.recount(&value, before, n);
         Ok(Entry { bag, value })
     }
 

@@ -405,6 +405,7 @@ fn with_count<S: BuildHasher + Drop>(
 ) -> Result<String, Fail> {
     match verb {
         "insert_many" => text_of(alloc, insert_many(bag, value, n)),
+        "set_count" => text_of(alloc, bag.set_count(value, n)),
         "remove_up_to" => debug_of(alloc, &remove_up_to(bag, value, n)),
         "set" => text_of(alloc, set(bag, value, n)),
         "raise" => text_of(alloc, raise(bag, value, n)),

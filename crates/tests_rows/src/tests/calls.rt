@@ -81,6 +81,40 @@ const ROWS: &str = "
     get 8 = Some((8, 1))
     get 9 = None
 
+    [sets counts]
+    set_count 5 0 = 0
+    tables = (0, 0, 0)
+    set_count 5 3 = 0
+    set_count 5 1 = 3
+    len = 1
+    set_count 6 2 = 0
+    get 6 = Some((6, 2))
+    set_count 5 0 = 1
+    contains 5 = 0
+    set_len = 1
+    set_count 6 18446744073709551615 = 2
+    set_count 7 1 = TooMany
+    set_count 7 0 = 0
+    set_count 6 18446744073709551614 = 18446744073709551615
+    set_count 7 1 = 0
+    set_count 7 2 = TooMany
+    contains 7 = 1
+    len = 18446744073709551615
+
+    [sets counts within a limit]
+    with_limit 5 = ()
+    set_count 1 6 = TooMany
+    tables = (0, 0, 0)
+    set_count 1 5 = 0
+    set_count 2 1 = TooMany
+    set_count 1 6 = TooMany
+    set_count 1 4 = 5
+    set_count 2 1 = 0
+    set_count 2 2 = TooMany
+    set_count 1 0 = 4
+    set_count 2 5 = 1
+    len = 5
+
     [begins with room]
     capacity = 0
     with_capacity 0 = ()

@@ -68,6 +68,12 @@ const CALLS: &str = "
     5:2 6:1 | set 5 0 | 2
     5:2 6:1 | set 5 18446744073709551615 | 1
     5:2 6:1 | set 7 3 | 1
+    5:2 6:1 | set_count 5 3 | 2
+    5:2 6:1 | set_count 5 0 | 2
+    5:2 6:1 | set_count 5 18446744073709551615 | 1
+    5:2 6:1 | set_count 7 3 | 2
+    5:2 6:1 | set_count 7 0 | 2
+    5:2 6:1 | set_count 7 18446744073709551615 | 1
     5:2 6:1 | set_or_insert 5 3 | 3
     5:2 6:1 | set_or_insert 5 0 | 4
     5:2 6:1 | set_or_insert 7 3 | 3
@@ -147,6 +153,12 @@ const CALLS_IN_A_CARRY: &str = "
     set 20 3 | 2
     set 20 0 | 2
     set 26 3 | 1
+    set_count 5 3 | 2
+    set_count 20 3 | 2
+    set_count 20 0 | 2
+    set_count 26 3 | 10
+    set_count 26 0 | 2
+    set_count 26 18446744073709551615 | 1
     extend [20, 26] | 10
     extend [26, 27] | 10
     extend_many 20:2 26:1 | 10

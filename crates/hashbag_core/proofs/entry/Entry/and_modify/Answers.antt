@@ -50,12 +50,12 @@ returns g c =
         same_value = refl;
         changes = record {
           absent = λ none. absurd (omega arith);
-          present = λ _. (c.f.new.arg2, record { shown = _; shows = c.contains-before.ensures.count; left = _; met = c.f.ensures; leaves = refl }, omega arith, c.set_count.ensures.put);
+          present = λ _. (c.f.new.arg2, record { shown = _; shows = c.contains-before.ensures.count; left = _; met = c.f.ensures; leaves = refl }, omega arith, c.recount.ensures.put);
         };
         passes = tt;
-        len = omega (arith, c.set_count.ensures.len, c.set_count.ensures.after);
-        slot = λ _. subst (λ (k : ℕ). Recounts g.T.PartialEq.eq c.args.self.value k c.args.self.bag.now.tables c.set_count.new.self.tables) (sym c.set_count.ensures.after) c.set_count.ensures.slot;
-        room = c.set_count.ensures.room;
+        len = omega (arith, c.recount.ensures.len, c.recount.ensures.after);
+        slot = λ _. subst (λ (k : ℕ). Recounts g.T.PartialEq.eq c.args.self.value k c.args.self.bag.now.tables c.recount.new.self.tables) (sym c.recount.ensures.after) c.recount.ensures.slot;
+        room = c.recount.ensures.room;
         stays = tt;
       },
     )

@@ -1,7 +1,7 @@
 use Rattle.hashbag_core.proofs.OccurrenceLemmas.{set_occurrences, set_none_occurrences, present_from_count}
 use Rattle.std.proofs.Common.{Option, IsSome, subst, sym, arith, ℕ}
 use Rattle.hashbag_core.proofs.HeldLemmas.{recounts_some, recounts_none}
-use Rattle.hashbag_core.proofs.bag.set_or_remove.Goals as goal
+use Rattle.hashbag_core.proofs.bag.recount.set_or_remove.Goals as goal
 
 pub set_count-requires-clause-present : goal.set_count-requires-clause-present
 set_count-requires-clause-present g c = present_from_count g.met.T.Eq.laws c.args.value.now _ c.requires.present
