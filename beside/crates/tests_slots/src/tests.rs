@@ -1,12 +1,10 @@
 //! What no clause says: that calls succeed, and values are where the table of steps has them, that memory is given back and each value is
-//! dropped once. It also has what the tests need: a state under which all values collide if a test wants that, and tables
-//! that know that their values are found.
+//! dropped once. It also has what the tests need: tables that know that their values are found.
 //!
 //! A test is proved before it runs, and carries on what each of its calls promises. So calls are made and compared in functions
 //! with no contract.
 mod agreement;
 mod checks;
-mod constant;
 mod drops;
 mod held;
 mod names;

@@ -2,11 +2,12 @@
 use hashbag::{BagError, HashBag};
 use std::alloc::{AllocError, Global};
 use std::cell::Cell;
-use std::hash::{BuildHasher, Hasher};
+use std::hash::BuildHasher;
 use std::process::Abort;
 use std::test::Fail;
 use tests_kit::calls::{clone_of, counts_of, insert};
 use tests_kit::texts::is_text_of;
+use tests_slots::constant::Answer;
 
 // How many states are alive, and how many clones of them were asked for.
 #[derive(Drop)]
@@ -20,24 +21,6 @@ struct States {
 struct Owning<'a> {
     hash: u64,
     states: &'a States,
-}
-
-// Takes in nothing, and returns the number.
-#[derive(Clone, Copy)]
-struct Answer {
-    hash: u64,
-}
-
-impl Hasher for Answer {
-    ghost write = { λ h _. h };
-
-    ghost finish = { λ h. h.hash };
-
-    fn finish(&self) -> u64 {
-        self.hash
-    }
-
-    fn write(&mut self, _bytes: &[u8]) {}
 }
 
 impl<'a> BuildHasher for Owning<'a> {

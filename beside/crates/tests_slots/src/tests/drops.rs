@@ -1,7 +1,7 @@
 //! Each value is dropped once: by its taker, by a table that is cleared or dropped, or by a walk.
+use crate::constant::Constant;
 use crate::counted::Counted;
 use crate::tests::checks::answers;
-use crate::tests::constant::Constant;
 use crate::tests::held::Held;
 use crate::tests::pair::Pair;
 use hashbag_slots::walk::IntoWalk;

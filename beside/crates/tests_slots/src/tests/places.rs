@@ -1,5 +1,5 @@
 //! In which slots values are, worked out by hand: every value has one hash, so that its probe begins where all others begin.
-use crate::tests::constant::Constant;
+use crate::constant::Constant;
 use crate::tests::held::Held;
 use crate::tests::pair::Pair;
 use crate::tests::rows::{Called, debug_of, make_rows};

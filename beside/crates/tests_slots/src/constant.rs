@@ -11,7 +11,8 @@ pub struct Constant {
 /// Takes in nothing, and returns `hash`.
 #[derive(Clone, Copy)]
 pub struct Answer {
-    hash: u64,
+    /// What it returns.
+    pub hash: u64,
 }
 
 impl Hasher for Answer {
