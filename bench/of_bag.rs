@@ -1,15 +1,10 @@
 //! What is measured of the Rust crate `hashbag`, where its source is at hand.
-use crate::Fold;
+use crate::fold::Fold;
 use hashbag::HashBag;
 use std::hash::BuildHasherDefault;
 
 pub type Counts<T> = HashBag<T, BuildHasherDefault<Fold>>;
 pub type Map = Counts<u64>;
-
-#[inline]
-pub fn put(bag: &mut Map, value: u64) {
-    bag.insert(value);
-}
 
 #[inline]
 pub fn put_many(bag: &mut Map, value: u64, many: usize) {
@@ -27,12 +22,8 @@ pub fn distinct_values(bag: &Map) -> usize {
 }
 
 #[inline]
-pub fn take_out(bag: &mut Map, values: &[u64]) -> usize {
-    let mut sum = 0usize;
-    for value in values {
-        sum = sum.wrapping_add(bag.remove(value));
-    }
-    sum
+pub fn take_out(bag: &mut Map, value: &u64) -> usize {
+    bag.remove(value)
 }
 
 #[inline]
@@ -73,9 +64,6 @@ pub fn copy(into: &mut Map, from: &Map) {
         into.insert_many(*value, count);
     }
 }
-
-#[inline]
-pub fn finish_carry(_bag: &mut Map) {}
 
 // That crate can't insert by a text that isn't owned: it makes a `String` of each word.
 #[inline]

@@ -1,16 +1,11 @@
 //! What is measured of Rust's own map: a count for each number, as one keeps them without a bag.
-use crate::Fold;
+use crate::fold::Fold;
 use std::collections::HashMap;
 use std::collections::hash_map::Entry;
 use std::hash::BuildHasherDefault;
 
 pub type Counts<T> = HashMap<T, usize, BuildHasherDefault<Fold>>;
 pub type Map = Counts<u64>;
-
-#[inline]
-pub fn put(map: &mut Map, value: u64) {
-    *map.entry(value).or_insert(0) += 1;
-}
 
 #[inline]
 pub fn put_many(map: &mut Map, value: u64, many: usize) {
@@ -27,22 +22,19 @@ pub fn distinct_values(map: &Map) -> usize {
     map.len()
 }
 
-// One occurrence of each, as a bag removes it.
+// One occurrence, as a bag removes it.
 #[inline]
-pub fn take_out(map: &mut Map, values: &[u64]) -> usize {
-    let mut sum = 0usize;
-    for value in values {
-        if let Entry::Occupied(mut entry) = map.entry(*value) {
-            let count = *entry.get();
-            sum = sum.wrapping_add(count);
-            if count == 1 {
-                entry.remove();
-            } else {
-                *entry.get_mut() -= 1;
-            }
-        }
+pub fn take_out(map: &mut Map, value: &u64) -> usize {
+    let Entry::Occupied(mut entry) = map.entry(*value) else {
+        return 0;
+    };
+    let count = *entry.get();
+    if count == 1 {
+        entry.remove();
+    } else {
+        *entry.get_mut() -= 1;
     }
-    sum
+    count
 }
 
 #[inline]
@@ -88,10 +80,6 @@ pub fn copy(into: &mut Map, from: &Map) {
         *into.entry(*value).or_insert(0) += count;
     }
 }
-
-// A map has one table alone.
-#[inline]
-pub fn finish_carry(_map: &mut Map) {}
 
 // A word becomes a `String` once.
 #[inline]

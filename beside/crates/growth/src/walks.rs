@@ -101,6 +101,7 @@ fn slots_cleared(bag: &mut HashBag<u64>) -> usize {
 /// Does the use of that name, if it is one of these.
 pub fn walked(alloc: Global, what: &str, bag: &mut HashBag<u64>) -> Result<Option<u64>> {
     let number = match what {
+        "len" => bag.len() as u64,
         "iter" => sum_by_iter(bag),
         "set_iter" => sum_by_set_iter(bag),
         "into_iter" => sum_by_into_iter(mem::replace(bag, HashBag::new(alloc))),

@@ -1,9 +1,9 @@
-//! What is measured.
-use crate::grown::{of_copies, of_grown};
+//! What is measured of insertions, look-ups, walks and removals.
 use crate::values::{distinct, words};
-use crate::wholes::{of_commonest, of_merges, of_texts};
+use crate::wholes::{of_commonest, of_copies, of_texts, of_two};
+use anyhow::bail;
 use hashbag::{BagError, HashBag};
-use std::time::Instant;
+use std::time::{CpuClock, Duration};
 
 /// Inserts all of them.
 pub fn fill(bag: &mut HashBag<u64>, values: &[u64]) -> Result<(), BagError> {
@@ -13,8 +13,14 @@ pub fn fill(bag: &mut HashBag<u64>, values: &[u64]) -> Result<(), BagError> {
     Ok(())
 }
 
-/// Returns the sum of the counts of these values.
-pub fn look_up(bag: &HashBag<u64>, values: &[u64]) -> usize {
+/// Returns a bag of these values.
+pub fn filled(rt: &HostRuntime, values: &[u64]) -> Result<HashBag<u64>, BagError> {
+    let mut bag = HashBag::new(rt.alloc());
+    fill(&mut bag, values)?;
+    Ok(bag)
+}
+
+fn look_up(bag: &HashBag<u64>, values: &[u64]) -> usize {
     let mut sum = 0usize;
     for value in values {
         sum = sum.wrapping_add(bag.contains(value));
@@ -30,8 +36,7 @@ fn take_out(bag: &mut HashBag<u64>, values: &[u64]) -> usize {
     sum
 }
 
-/// Returns the sum of the distinct values, each times its count.
-pub fn walk(bag: &HashBag<u64>) -> u64 {
+fn walk(bag: &HashBag<u64>) -> u64 {
     let mut sum = 0u64;
     for (value, count) in bag.set_iter() {
         sum = sum.wrapping_add(value.wrapping_mul(count as u64));
@@ -39,141 +44,153 @@ pub fn walk(bag: &HashBag<u64>) -> u64 {
     sum
 }
 
-fn join(first: &HashBag<u64>, second: &HashBag<u64>) -> u64 {
-    let mut sum = 0u64;
-    for (value, one, other) in first.outer_join(second) {
-        sum = sum.wrapping_add(value.wrapping_mul((one as u64) ^ (other as u64) << 1));
-    }
-    sum
+/// Returns the processor time, of user and system, that the process has used.
+pub fn now(rt: &HostRuntime) -> anyhow::Result<Duration> {
+    Ok(rt.process_cpu_time()?)
 }
 
-// Prints the sum of what was done so many times, and on standard error its time.
-fn tell(rt: &HostRuntime, what: &str, many: u64, time: u128, sum: u64) -> anyhow::Result<()> {
-    println!(rt; "{what} {many} {sum}")?;
-    eprintln!(rt; "{what} {many} {time}")?;
-    Ok(())
+/// Returns the processor time since then.
+pub fn since(rt: &HostRuntime, start: Duration) -> anyhow::Result<Duration> {
+    Ok(now(rt)?.saturating_sub(start))
 }
 
-/// Prints the lines of what was done since then.
+/// Prints the sum of what was done with `many` values, and on standard error how many times it was done to a value, and the time of all.
 pub fn say(
     rt: &HostRuntime,
     what: &str,
     many: u64,
-    since: Instant,
+    done: u64,
+    time: Duration,
     sum: u64,
 ) -> anyhow::Result<()> {
-    tell(rt, what, many, since.elapsed(rt)?.as_nanos(), sum)
+    let nanos = time.as_nanos();
+    println!(rt; "{what} {many} {sum}")?;
+    eprintln!(rt; "{what} {many} {done} {nanos}")?;
+    Ok(())
 }
 
-// A few values into a new bag, again and again.
-fn small(rt: &HostRuntime, many: u64) -> anyhow::Result<()> {
-    let all = distinct(rt.alloc(), 0, many, 1)?;
+// Inserts the values into a new bag, again and again, and returns the last bag.
+fn insertions(
+    rt: &HostRuntime,
+    what: &str,
+    values: &[u64],
+    times: u64,
+) -> anyhow::Result<HashBag<u64>> {
+    let many = values.len() as u64;
     let mut sum = 0u64;
-    let start = Instant::now(rt)?;
-    for _ in 0..300 {
-        let mut bag = HashBag::new(rt.alloc());
-        fill(&mut bag, all.as_slice())?;
-        sum = sum.wrapping_add(bag.len() as u64);
+    let mut bag = HashBag::new(rt.alloc());
+    let start = now(rt)?;
+    for _ in 0..times {
+        bag = filled(rt, values)?;
+        sum = sum.wrapping_add(bag.set_len() as u64);
     }
-    say(rt, "small_insert", many.wrapping_mul(300), start, sum)
+    let time = since(rt, start)?;
+    say(rt, what, many, many.wrapping_mul(times), time, sum)?;
+    Ok(bag)
+}
+
+fn look_ups(
+    rt: &HostRuntime,
+    what: &str,
+    bag: &HashBag<u64>,
+    values: &[u64],
+    times: u64,
+) -> anyhow::Result<()> {
+    let many = values.len() as u64;
+    let mut sum = 0u64;
+    let start = now(rt)?;
+    for _ in 0..times {
+        sum = sum.wrapping_add(look_up(bag, values) as u64);
+    }
+    let time = since(rt, start)?;
+    say(rt, what, many, many.wrapping_mul(times), time, sum)
+}
+
+fn walks(rt: &HostRuntime, bag: &HashBag<u64>, many: u64, times: u64) -> anyhow::Result<()> {
+    let mut sum = 0u64;
+    let start = now(rt)?;
+    for _ in 0..times {
+        sum = sum.wrapping_add(walk(bag));
+    }
+    let time = since(rt, start)?;
+    say(rt, "set_walk", many, many.wrapping_mul(times), time, sum)
+}
+
+// Removes the values and inserts them again, again and again. The insertions aren't measured.
+fn removals(
+    rt: &HostRuntime,
+    mut bag: HashBag<u64>,
+    values: &[u64],
+    times: u64,
+) -> anyhow::Result<()> {
+    let many = values.len() as u64;
+    let mut sum = 0u64;
+    let mut time = Duration::ZERO;
+    for turn in 0..times {
+        if turn > 0 {
+            fill(&mut bag, values)?;
+        }
+        let start = now(rt)?;
+        sum = sum.wrapping_add(take_out(&mut bag, values) as u64);
+        time = time.saturating_add(since(rt, start)?);
+    }
+    say(rt, "remove", many, many.wrapping_mul(times), time, sum)
 }
 
 // Many values into one bag, looked up, walked over, and taken out.
-fn large(rt: &HostRuntime, many: u64) -> anyhow::Result<()> {
-    let all = distinct(rt.alloc(), 0, many, 1)?;
+fn large(rt: &HostRuntime, many: u64, times: u64) -> anyhow::Result<()> {
     let other_order = distinct(rt.alloc(), 0, many, 7919)?;
     let absent = distinct(rt.alloc(), many, many, 1)?;
-    let mut bag = HashBag::new(rt.alloc());
-    let start = Instant::now(rt)?;
-    fill(&mut bag, all.as_slice())?;
-    say(rt, "insert", many, start, bag.len() as u64)?;
-    let start = Instant::now(rt)?;
-    let sum = look_up(&bag, other_order.as_slice());
-    say(rt, "found", many, start, sum as u64)?;
-    let start = Instant::now(rt)?;
-    let sum = look_up(&bag, absent.as_slice());
-    say(rt, "absent", many, start, sum as u64)?;
-    let start = Instant::now(rt)?;
-    let sum = walk(&bag);
-    say(rt, "set_walk", many, start, sum)?;
-    let start = Instant::now(rt)?;
-    let sum = take_out(&mut bag, other_order.as_slice());
-    say(rt, "remove", many, start, sum as u64)
-}
-
-fn of_words(rt: &HostRuntime, many: u64) -> anyhow::Result<()> {
-    let all = words(rt.alloc(), many)?;
-    let mut bag = HashBag::new(rt.alloc());
-    let start = Instant::now(rt)?;
-    fill(&mut bag, all.as_slice())?;
-    say(rt, "words", many, start, bag.set_len() as u64)
-}
-
-// Two bags that have half of their values in common.
-fn of_joins(rt: &HostRuntime, many: u64) -> anyhow::Result<()> {
-    let mut first = HashBag::new(rt.alloc());
-    fill(&mut first, distinct(rt.alloc(), 0, many, 1)?.as_slice())?;
-    let mut second = HashBag::new(rt.alloc());
-    fill(
-        &mut second,
-        distinct(rt.alloc(), many / 2, many, 1)?.as_slice(),
-    )?;
-    let start = Instant::now(rt)?;
-    let sum = join(&first, &second);
-    say(rt, "outer_join", many.wrapping_mul(2), start, sum)
+    let all = distinct(rt.alloc(), 0, many, 1)?;
+    let bag = insertions(rt, "insert", all.as_slice(), times)?;
+    look_ups(rt, "found", &bag, other_order.as_slice(), times)?;
+    look_ups(rt, "absent", &bag, absent.as_slice(), times)?;
+    walks(rt, &bag, many, times)?;
+    removals(rt, bag, other_order.as_slice(), times)
 }
 
 // Returns the longest of these times after `longer` longer ones are left out.
-fn longest_but(times: &[u64], longer: usize) -> u64 {
+fn longest_but(times: &[u64], longer: usize) -> Duration {
     if longer < times.len() {
-        times[times.len() - 1 - longer]
+        Duration::from_nanos(times[times.len() - 1 - longer])
     } else {
-        0
+        Duration::ZERO
     }
 }
 
-// Measures each single insertion, which is assumed to take less than a second, and says the place in the row of the one that took longest.
-// Each value is replaced by its time.
+// Measures each single insertion. Each value is replaced by its time.
 fn growth(rt: &HostRuntime, many: u64) -> anyhow::Result<()> {
     let mut times = distinct(rt.alloc(), 0, many, 1)?;
     let mut bag = HashBag::new(rt.alloc());
-    let mut worst = 0;
-    let mut worst_at = 0;
-    let mut before = Instant::now(rt)?;
+    let mut before = now(rt)?;
     for value in &mut times {
         bag.insert(*value)?;
-        let now = Instant::now(rt)?;
-        *value = now.duration_since(before).subsec_nanos() as u64;
-        before = now;
-        if *value > worst {
-            worst = *value;
-            worst_at = bag.len();
-        }
+        let after = now(rt)?;
+        *value = after.saturating_sub(before).as_nanos() as u64;
+        before = after;
     }
     times.sort_unstable();
-    let worst_of_10000 = longest_but(times.as_slice(), times.len() / 10_000);
-    let worst_of_1000 = longest_but(times.as_slice(), times.len() / 1000);
-    let median = longest_but(times.as_slice(), times.len() / 2);
-    tell(rt, "worst", 1, worst as u128, many)?;
-    tell(rt, "worst_at", 1, worst_at as u128, many)?;
-    tell(rt, "worst_of_10000", 1, worst_of_10000 as u128, many)?;
-    tell(rt, "worst_of_1000", 1, worst_of_1000 as u128, many)?;
-    tell(rt, "median", 1, median as u128, many)
+    let sum = bag.set_len() as u64;
+    let of_10000 = longest_but(times.as_slice(), times.len() / 10_000);
+    let of_1000 = longest_but(times.as_slice(), times.len() / 1000);
+    say(rt, "worst", many, 1, longest_but(times.as_slice(), 0), sum)?;
+    say(rt, "worst_of_10000", many, 1, of_10000, sum)?;
+    say(rt, "worst_of_1000", many, 1, of_1000, sum)
 }
 
-/// Measures what is named, with `many` values.
-pub fn measure(rt: &HostRuntime, what: &str, many: u64) -> anyhow::Result<()> {
+/// Measures what is named, with `many` values, `times` times.
+pub fn measure(rt: &HostRuntime, what: &str, many: u64, times: u64) -> anyhow::Result<()> {
     match what {
-        "small" => small(rt, many),
-        "large" => large(rt, many),
-        "words" => of_words(rt, many),
-        "join" => of_joins(rt, many),
+        "large" => large(rt, many, times),
+        "words" => {
+            insertions(rt, what, words(rt.alloc(), many)?.as_slice(), times)?;
+            Ok(())
+        }
         "growth" => growth(rt, many),
-        "grown" => of_grown(rt, many),
+        "two" => of_two(rt, many, times),
         "copy" => of_copies(rt, many),
-        "merge" => of_merges(rt, many),
         "common" => of_commonest(rt, many),
         "texts" => of_texts(rt, many),
-        _ => Ok(()),
+        _ => bail!("not measured: {what}"),
     }
 }
