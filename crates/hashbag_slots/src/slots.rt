@@ -16,6 +16,7 @@ ghost use Rattle.hashbag_slots.specs.Hashing.{hash_under};
 ghost use Rattle.hashbag_slots.specs.Slots.{IsSlotCount, is_live, holds, live_count, removed_count, slot_at, HoldsAt, IsAbsent, IsNextLive, IsFirstFree, IsSet, slot_entry, entry_at, entries, recounted, raised, count_in, Places, PlacesAlong};
 ghost use Rattle.hashbag_slots.specs.Columns.{IsReached, IsAlike};
 
+pub mod blank;
 mod carry;
 mod find;
 

@@ -166,6 +166,7 @@ impl<T: Drop> Iterator for IntoWalk<T> {
 
     ghost remaining = { item_count (λ s. s) };
 
+    #[inline(always)]
     fn next(&mut self) -> Option<(T, usize)> {
         if self.left == 0 {
             return None;

@@ -6,6 +6,7 @@ ghost use Rattle.hashbag_table.specs.Tables.{limit, values, IsLeast, IsPacked};
 use crate::capacity::least_slots;
 use crate::spare::Spare;
 use crate::table::{MOST_VALUES, Table};
+use hashbag_slots::slots::blank::Blank;
 use std::alloc::AllocError;
 use std::hash::{BuildHasher, Hash};
 
@@ -27,7 +28,8 @@ impl<T: Eq + Hash + Drop, S: BuildHasher + Drop> Table<T, S> {
             return Err(AllocError);
         }
         let count = least_slots(slots, values + n)?;
-        Spare::with_slots(self.alloc, count)
+        let blank = Blank::with_slots(self.alloc, count)?;
+        Ok(Spare { blank })
     }
 
     /// Moves all values into spare slots, which replace those of both tables. These are freed, and the entries stay.
@@ -44,6 +46,6 @@ impl<T: Eq + Hash + Drop, S: BuildHasher + Drop> Table<T, S> {
         ensures entries { IsMapOf T.eq self.old self.old.entries self.new }
     {
         let Spare { blank } = spare;
-        self.move_all_into(blank);
+        self.move_all_into(blank.into_slots());
     }
 }
