@@ -105,44 +105,6 @@ module _ {T : Type 0} where
   pub entries_in_one : (at : ℕ) (ss : List (Slot T)) → at < length ss → entries_in at 1 ss ≡ entries (slot_at ss at ∷ [])
   entries_in_one at ss lt = entries_in_more at 0 ss (omega arith) ∙ ap (λ p. entries (slot_at ss p ∷ [])) (let e : at + 0 ≡ at = omega arith in e)
 
-  -- one more slot, at a place of its own
-  pub Carries-step : (from at : ℕ) (old mid new : List (Slot T)) → from ≤ at → at < length old → Carries from (at - from) old mid → new ≡ slice_set mid at (carried (slot_at mid at)) → Carries from (at + 1 - from) old new
-  Carries-step from at old mid new le lt carry after =
-      let e : at ≡ from + (at - from) = omega arith in
-      let more : at - from + 1 ≡ at + 1 - from = omega arith in
-      subst (λ m. Carries from m old new) more (Carries-more from (at - from) old mid new (omega arith) carry (subst (λ a. new ≡ slice_set mid a (carried (slot_at mid a))) e after))
-
-  pub PlacesAll-step : (hash : T → ℕ) (from at : ℕ) (old mid a b c : List (Slot T)) → from ≤ at → at < length old → Carries from (at - from) old mid → PlacesAll hash (entries_in from (at - from) old) a b → PlacesAll hash (entries (slot_at mid at ∷ [])) b c → PlacesAll hash (entries_in from (at + 1 - from) old) a c
-  PlacesAll-step hash from at old mid a b c le lt carry p q =
-      let e : at ≡ from + (at - from) = omega arith in
-      let more : at + 1 - from ≡ at - from + 1 = omega arith in
-      let same : slot_at mid at ≡ slot_at old (from + (at - from)) = carry.outside at (inr (omega arith)) ∙ ap (slot_at old) e in
-      let es : entries_in from (at + 1 - from) old ≡ entries_in from (at - from) old ++ entries (slot_at mid at ∷ []) =
-      ap (λ m. entries_in from m old) more ∙ entries_in_more from (at - from) old (omega arith) ∙ ap (λ s. entries_in from (at - from) old ++ entries (s ∷ [])) (sym same) in
-      subst (λ xs. PlacesAll hash xs a c) (sym es) (PlacesAll-append hash (entries_in from (at - from) old) (entries (slot_at mid at ∷ [])) a b c p q)
-
-  skip_dead : (hash : T → ℕ) (k from at : ℕ) (old mid a b : List (Slot T)) → from ≤ at → at + k ≤ length old → ((q : ℕ) → at ≤ q → q < at + k → is_live (slot_at mid q) ≡ false)
-      → Carries from (at - from) old mid → PlacesAll hash (entries_in from (at - from) old) a b → Carries from (at + k - from) old mid × PlacesAll hash (entries_in from (at + k - from) old) a b
-  skip_dead hash zero from at old mid a b le room dead carry placed =
-      let e : at ≡ at + 0 = omega arith in
-      (subst (λ x. Carries from (x - from) old mid) e carry, subst (λ x. PlacesAll hash (entries_in from (x - from) old) a b) e placed)
-  skip_dead hash (suc k) from at old mid a b le room dead carry placed =
-      let e : at + 1 + k ≡ at + suc k = omega arith in
-      let here = dead at (omega arith) (omega arith) in
-      let same : mid ≡ slice_set mid at (carried (slot_at mid at)) = sym (ap (slice_set mid at) (carried_same (slot_at mid at) here) ∙ set-get_or mid at Empty) in
-      let none : PlacesAll hash (entries (slot_at mid at ∷ [])) b b = subst (λ es. PlacesAll hash es b b) (sym (no_entries (slot_at mid at) here)) refl in
-      let more = skip_dead hash k from (at + 1) old mid a b (omega arith) (omega arith) (λ q x y. dead q (omega arith) (omega arith))
-      (Carries-step from at old mid mid le (omega arith) carry same) (PlacesAll-step hash from at old mid a b b le (omega arith) carry placed none) in
-      (subst (λ x. Carries from (x - from) old mid) e more.0, subst (λ x. PlacesAll hash (entries_in from (x - from) old) a b) e more.1)
-
-  -- slots that are not Live are carried as they are
-  pub skip_to : (hash : T → ℕ) (from at to : ℕ) (old mid a b : List (Slot T)) → from ≤ at → at ≤ to → to ≤ length old → ((q : ℕ) → at ≤ q → q < to → is_live (slot_at mid q) ≡ false)
-      → Carries from (at - from) old mid → PlacesAll hash (entries_in from (at - from) old) a b → Carries from (to - from) old mid × PlacesAll hash (entries_in from (to - from) old) a b
-  skip_to hash from at to old mid a b begun le room dead carry placed =
-      let e : at + (to - at) ≡ to = omega arith in
-      subst (λ x. Carries from (x - from) old mid × PlacesAll hash (entries_in from (x - from) old) a b) e
-      (skip_dead hash (to - at) from at old mid a b begun (omega arith) (λ q x y. dead q x (omega arith)) carry placed)
-
   -- a carry goes on where another one ended
   pub Carries-join : (from at n : ℕ) (old mid new : List (Slot T)) → from ≤ at → Carries from (at - from) old mid → Carries at n mid new → Carries from (at + n - from) old new
   Carries-join from at n old mid new le a b = record {

@@ -1,6 +1,5 @@
 pub mod Dropping
 pub mod GroupLemmas
-pub mod CarriedOver
 pub mod Carrying
 pub mod Edits
 pub mod Hashing

@@ -1,4 +1,3 @@
-pub mod Carry
 pub mod Cells
 pub mod Columns
 pub mod Examples

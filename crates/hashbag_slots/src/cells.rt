@@ -8,7 +8,7 @@ ghost use Rattle.hashbag_slots.specs.Stores.{cells_of, IsStore};
 
 use crate::block::{Block, Deed, allocate, release};
 use crate::row::Row;
-use core::mem::{replace, replace_with};
+use core::mem::replace_with;
 use std::alloc::{AllocError, Global};
 use std::marker::Model;
 use std_alloc::room::may_hold;
@@ -121,30 +121,6 @@ impl<T> Cells<T> {
             Store::Written(row) => row.take(place),
             Store::Nothing | Store::Unwritten(_, _) => unreachable!(),
         }
-    }
-
-    /// Takes the row of cells out, if a value is in one of them. No cells are left here.
-    #[inline(always)]
-    pub fn take_row(&mut self) -> Row<T>
-        requires { (p : ℕ) × IsFilled self.old p }
-        ensures value { result ≡ self.old }
-        ensures after { self.new ≡ [] }
-    {
-        match replace(&mut self.store, Store::Nothing) {
-            Store::Written(row) => row,
-            _store => unreachable!(),
-        }
-    }
-
-    /// Puts a row that was taken out in the place of these cells, which are all empty.
-    #[inline(always)]
-    pub fn put_back(&mut self, row: Row<T>)
-        requires { IsBlank self.old }
-        ensures { self.new ≡ row }
-    {
-        let alloc = self.alloc;
-        let store = Store::Written(row);
-        replace(self, Cells { store, alloc }).free();
     }
 
     /// Frees the memory of cells that are all empty: no value is dropped here, and none is forgotten.

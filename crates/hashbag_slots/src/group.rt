@@ -73,6 +73,17 @@ pub fn match_live(tags: &[u8], from: usize) -> u64
     live.to_bitmask()
 }
 
+/// Returns the place of the lowest set bit. Bit i is of the place `from + i`.
+#[inline(always)]
+pub fn lowest(bits: u64, from: usize) -> usize
+    requires some { 0 < bits }
+    requires fits { from + 64 ≤ 2 ^ 64 }
+    ensures first { (test : ℕ → Bool) (at until : ℕ) → from ≤ at → IsMaskIn test from at until bits → IsFirstPlace test at until result }
+    ensures before_until { (test : ℕ → Bool) (at until : ℕ) → IsMaskIn test from at until bits → result < until }
+{
+    from + bits.trailing_zeros() as usize
+}
+
 /// Returns the place of the lowest set bit, and the bits without it. Bit i is of the place `from + i`.
 ///
 /// The clauses say it of a test, if each bit shows whether its place passes it. The place is then the first that does, and the bits that

@@ -13,7 +13,8 @@ ghost use Rattle.hashbag_slots.specs.Columns.{tag_at, AreMarked, Agree, columns,
 
 use crate::cells::Cells;
 use crate::group::{
-    GROUP_WIDTH, first_equal, first_not_live, match_tag, match_tag_before_empty, take_lowest,
+    GROUP_WIDTH, first_equal, first_not_live, lowest, match_tag, match_tag_before_empty,
+    take_lowest,
 };
 use crate::key::Key;
 use crate::tags::{EMPTY, LEAST_MARK, mark_of};
@@ -123,10 +124,12 @@ fn find_marked<T: Eq + Hash, Q: Key<T>>(
 {
     let mut ahead = bits;
     'marks: while ahead != 0 {
-        let (place, rest) = take_lowest(ahead, from);
+        // The bit is cleared only if the comparison fails.
+        let place = lowest(ahead, from);
         if is_named(cells, place, key) {
             return Some(place);
         }
+        let (_, rest) = take_lowest(ahead, from);
         ahead = rest;
     }
     None

@@ -1,7 +1,4 @@
-//! A row of cells in hand: those of a row of places, in which a value was put before.
-//!
-//! What handles many cells takes them out of their table first, so that it tests only once whether there is a row, and puts them back
-//! afterwards.
+//! A row of cells in which a value was put before: those of a row of places.
 ghost use Rattle.std.specs.Prelude.{◌≡◌, ◌<◌, length, slice_set, Some, None};
 ghost use Rattle.hashbag_slots.specs.Cells.{cell_at, IsFilled, IsBlank, filled_values};
 ghost use Rattle.core.specs.Mem.Slots.{slots_items, slots_filled, slots_ptr, slots_len};

@@ -7,14 +7,14 @@
 //!
 //! Costs are counted in hashes and in probes; a probe reads a value's path, sixteen slots at once. A call hashes nothing and doesn't
 //! allocate unless its comment says so. The order of slots is what the contracts say.
-ghost use Rattle.std.specs.Prelude.{◌≡◌, ℕ, ◌+◌, ◌<◌, ◌≤◌, ◌^◌, length, true, false, IfSome, IfNone, IfOk, IfErr, IsOk, OnErr, replicate, slice_set, ◌∷◌, ◌++◌, [], Some};
+ghost use Rattle.std.specs.Prelude.{◌≡◌, ℕ, ◌+◌, ◌<◌, ◌≤◌, ◌^◌, length, true, false, IfSome, IfNone, IfOk, IfErr, IsOk, OnErr, replicate, slice_set, ◌∷◌, ◌++◌, [], None, Some};
 ghost use Rattle.std.specs.List.Sorted.{IsPermutation};
 ghost use Rattle.std.specs.Map.{lookup_entry};
 ghost use Rattle.std.specs.Option.{option_map};
 ghost use Rattle.hashbag_slots.specs.FirstGroup.{IfFound, IfAbsent};
 ghost use Rattle.hashbag_slots.specs.Hashing.{hash_under};
 ghost use Rattle.hashbag_slots.specs.Slots.{IsSlotCount, is_live, holds, live_count, removed_count, slot_at, HoldsAt, IsAbsent, IsNextLive, IsFirstFree, IsSet, slot_entry, entry_at, entries, recounted, raised, count_in, Places, PlacesAlong};
-ghost use Rattle.hashbag_slots.specs.Columns.{IsReached, IsAlike};
+ghost use Rattle.hashbag_slots.specs.Columns.{slot_of, IsReached, IsAlike};
 
 pub mod blank;
 mod carry;
@@ -216,9 +216,22 @@ impl<T: Eq> Slots<T> {
         ensures after { self.new.slots ≡ slice_set self.old.slots place Slot.Removed }
         ensures reached { (hash : T → ℕ) → IsReached hash self.old → IsReached hash self.new }
     {
-        self.tags[place] = REMOVED;
+        self.take_leaving(place, REMOVED)
+    }
+
+    // Takes the value at a place out, and leaves the tag of a Removed or a Moved slot there. The slot is Live.
+    #[inline(always)]
+    fn take_leaving(&mut self, place: usize, tag: u8) -> (T, usize)
+        requires live { is_live (slot_at self.old.slots place) ≡ true }
+        requires tag { (0 < tag) × (tag < 3) }
+        ensures taken { slot_at self.old.slots place ≡ Slot.Live result.0 result.1 }
+        ensures positive { 0 < result.1 }
+        ensures after { self.new.slots ≡ slice_set self.old.slots place (slot_of tag None) }
+        ensures reached { (hash : T → ℕ) → IsReached hash self.old → IsReached hash self.new }
+    {
+        self.tags[place] = tag;
         self.live -= 1;
-        self.removed += 1;
+        self.removed += usize::from(tag == REMOVED);
         self.cells.take(place)
     }
 
@@ -349,9 +362,7 @@ impl<T: Eq + Hash> Slots<T> {
         ensures after { self.new.slots ≡ slice_set self.old.slots place (Slot.Live value n) }
         ensures reached { IsReached (hash_under T.hash_input S.BuildHasher S.Hasher.Hasher state.now) self.new }
     {
-        if self.tags[place] == REMOVED {
-            self.removed -= 1;
-        }
+        self.removed -= usize::from(self.tags[place] == REMOVED);
         self.tags[place] = mark_of(hash);
         self.cells.put(place, (value, n));
         self.live += 1;

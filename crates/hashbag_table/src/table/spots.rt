@@ -27,25 +27,6 @@ fn store_once<T: Eq>(slots: &mut Slots<T>, place: usize, value: T) -> T
     former
 }
 
-// As `find_uncarried`, of the older table, which seldom has slots. It is out of line, so that look-ups of the newer table alone are short.
-#[inline(never)]
-fn find_waiting_slow<T: Eq + Hash, S: BuildHasher, Q: Key<T>>(
-    older: &Slots<T>,
-    looked: usize,
-    state: &S,
-    hash: u64,
-    key: Q,
-) -> Option<usize>
-    requires within { looked ≤ length older.now.slots }
-    requires dead { (p : ℕ) → p < looked → is_live (slot_at older.now.slots p) ≡ false }
-    requires hashed { hash ≡ hash_under Q.hash_input S.BuildHasher S.Hasher.Hasher state.now key }
-    requires reached { IsReached (hash_under T.hash_input S.BuildHasher S.Hasher.Hasher state.now) older.now }
-    ensures found { IfSome result (HoldsAt (Q.names key) older.now.slots) }
-    ensures map { entry_at older.now.slots result ≡ lookup_entry (Q.names key) (entries older.now.slots) }
-{
-    older.find_uncarried(state, hash, key, looked)
-}
-
 // Returns the place of the value that a key names in the older table, of which the first `looked` slots were carried.
 #[inline(always)]
 fn find_waiting<T: Eq + Hash, S: BuildHasher, Q: Key<T>>(
@@ -65,7 +46,7 @@ fn find_waiting<T: Eq + Hash, S: BuildHasher, Q: Key<T>>(
     if older.slots() == 0 {
         return None;
     }
-    find_waiting_slow(older, looked, state, hash, key)
+    older.find_uncarried(state, hash, key, looked)
 }
 
 impl<T: Eq + Hash + Drop, S: BuildHasher + Drop> Table<T, S> {

@@ -4,15 +4,6 @@ use Rattle.hashbag_slots.specs.Columns.{CarriesInto}
 use Rattle.hashbag_slots.proofs.Carrying.{CarriesInto-join}
 use Rattle.hashbag_slots.proofs.slots.Slots.carry_from.Goals as goal
 
-pub places-preserved-then-older-gt0 : goal.places-preserved-then-older-gt0
-places-preserved-then-older-gt0 g c =
-    let i = c.places.invariant in let begun = i.begun in let many = c.if-end-at-ge-GROUP_WIDTH.true in let before = c.places-test.true in
-    record {
-      begun = omega arith;
-      within = omega arith;
-      carries = CarriesInto-join g.T.PartialEq.eq _ c.args.from c.places.at 16 c.args.self.now c.args.older.now c.places.self c.places.older c.carry_group.new.self c.carry_group.new.older begun i.carries c.carry_group.ensures;
-    }
-
 pub places-preserved : goal.places-preserved
 places-preserved g c =
     let i = c.places.invariant in let begun = i.begun in let before : c.places.at < c.args.from + c.args.many = c.places-test.true in

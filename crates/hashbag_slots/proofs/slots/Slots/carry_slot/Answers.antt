@@ -9,16 +9,16 @@ use Rattle.hashbag_slots.proofs.Paths.{path_below}
 use Rattle.hashbag_slots.proofs.slots.Slots.carry_slot.Goals as goal
 
 pub place-requires-clause-absent : goal.place-requires-clause-absent
-place-requires-clause-absent g c = c.requires.apart c.args.at _ _ c.move_at-value.ensures.taken
+place-requires-clause-absent g c = c.requires.apart c.args.at _ _ c.take_leaving-value.ensures.taken
 
 pub returns-then-is_live_at : goal.returns-then-is_live_at
 returns-then-is_live_at g c =
     let hash : g.row.T.Denot → ℕ = hash_under g.T.Hash.hash_input g.S.BuildHasher g.S.Hasher.Hasher c.args.state.now in
-    let at = c.args.at in let older = c.args.older.now.slots in let left = c.move_at-value.new.self.slots in
+    let at = c.args.at in let older = c.args.older.now.slots in let left = c.take_leaving-value.new.self.slots in
     let old = c.args.self.now.slots in let new = c.place.new.self.slots in
-    let taken = c.move_at-value.ensures.taken in let after = c.move_at-value.ensures.after in
+    let taken = c.take_leaving-value.ensures.taken in let after = c.take_leaving-value.ensures.after in
     let put = c.place.ensures.placed in let to = c.place.ensures.first in let first = to.1 in let step = first.within in let on = first.on_path in
-    let below = path_below (length old) (hash c.move_at-value.result.0) first.step (omega (arith, step)) in
+    let below = path_below (length old) (hash c.take_leaving-value.result.0) first.step (omega (arith, step)) in
     record {
       placed = subst (λ es. PlacesAll hash es old new) (sym (entries_in_one at older c.requires.within ∙ ap (λ s. entries (s ∷ [])) taken))
           (new, record { places = record { at = to.0; within = omega (arith, below, on); free = first.free; after = to.2 }; first = first }, refl);
@@ -32,7 +32,7 @@ returns-then-is_live_at g c =
       removed = removed-Places _ _ old new put;
       slots = length-Places _ _ old new put;
       reached = c.place.ensures.reached;
-      older_reached = c.move_at-value.ensures.reached;
+      older_reached = c.take_leaving-value.ensures.reached;
     }
 
 pub returns-else-is_live_at : goal.returns-else-is_live_at

@@ -1,7 +1,7 @@
-use Rattle.std.proofs.Common.{◌≡◌, ℕ, ◌+◌, ◌-◌, ◌≤◌, cond, nat_eq, false, length, get_or, Some, None, sym, ap, subst, ◌∙◌, arith, slice_set}
-use Rattle.std.proofs.lemmas.Bool.{ne_eqb}
+use Rattle.std.proofs.Common.{◌≡◌, ℕ, ◌+◌, ◌-◌, ◌≤◌, Bool, true, false, cond, nat_eq, length, get_or, Some, refl, sym, ap, subst, ◌∙◌, arith, slice_set}
 use Rattle.std.proofs.lemmas.List.{get_or_read}
 use Rattle.std.proofs.lemmas.List.Sums.{count_by-le-length}
+use Rattle.core.specs.Int.{from_bool}
 use Rattle.hashbag_slots.specs.Hashing.{hash_under}
 use Rattle.hashbag_slots.specs.declared.slots.Slot.TheVariants.{Live}
 use Rattle.hashbag_slots.specs.Slots.{path_slot, is_live, slot_at, IsAbsent, IsFirstFree}
@@ -10,8 +10,16 @@ use Rattle.hashbag_slots.proofs.Paths.{count_bound}
 use Rattle.hashbag_slots.proofs.Reading.{length-slots_of, dead_at, removed_at, no_cell, first_free}
 use Rattle.hashbag_slots.proofs.Tables.{some_removed}
 use Rattle.hashbag_slots.proofs.Writing.{set-slots_of, IsColumns-put, IsReached-place}
-use Rattle.hashbag_slots.proofs.slots.Slots.place_at.Goals.{then-index-eq-REMOVED, else-index-eq-REMOVED}
 use Rattle.hashbag_slots.proofs.slots.Slots.place_at.Goals as goal
+
+-- what the comparison counts for
+counts : (b : Bool) → from_bool b ≡ cond b 1 0
+counts false = refl
+counts true = refl
+
+one_of : (b : Bool) (n : ℕ) → (b ≡ true → 1 ≤ n) → cond b 1 0 ≤ n
+one_of false n some = omega arith
+one_of true n some = some refl
 
 pub index-requires : goal.index-requires
 index-requires g c =
@@ -24,103 +32,55 @@ pub index_mut-requires : goal.index_mut-requires
 index_mut-requires g c =
     let ts = c.self.inside.tags.items in let cs = c.self.inside.cells in let at = c.args.place in
     let first = first_free ts cs c.self.invariant.agree c.args.hash at (subst (λ s. IsFirstFree c.args.hash s.slots at) (sym c.self.view_is) c.requires.free) in
-    let bound = first.bound in
-    let ins = c.if-index-eq-REMOVED.self-inside in
-    let alike : ins.tags ≡ c.self.inside.tags =
-    elim c.if-index-eq-REMOVED.branch [
-      | then-index-eq-REMOVED w ↦ ap (λ i. i.tags) w.self-inside-is
-      | else-index-eq-REMOVED w ↦ ap (λ i. i.tags) w.self-inside-is
-    ] in
-    let k = ap (λ t. length t.items) alike in let o = ins.tags.ok.0 in omega arith
+    let bound = first.bound in let o = c.self.inside.tags.ok.0 in omega arith
 
 pub put-requires-clause-within : goal.put-requires-clause-within
 put-requires-clause-within g c =
     let ts = c.self.inside.tags.items in let cs = c.self.inside.cells in let at = c.args.place in
     let first = first_free ts cs c.self.invariant.agree c.args.hash at (subst (λ s. IsFirstFree c.args.hash s.slots at) (sym c.self.view_is) c.requires.free) in
-    let bound = first.bound in
-    let ins = c.if-index-eq-REMOVED.self-inside in
-    let alike : ins.cells ≡ cs =
-    elim c.if-index-eq-REMOVED.branch [
-      | then-index-eq-REMOVED w ↦ ap (λ i. i.cells) w.self-inside-is
-      | else-index-eq-REMOVED w ↦ ap (λ i. i.cells) w.self-inside-is
-    ] in
-    let k = ap length alike in let same = c.self.invariant.agree.same_length in omega arith
+    let bound = first.bound in let same = c.self.invariant.agree.same_length in omega arith
 
 pub put-requires-clause-empty : goal.put-requires-clause-empty
 put-requires-clause-empty g c =
     let ts = c.self.inside.tags.items in let cs = c.self.inside.cells in let at = c.args.place in
     let first = first_free ts cs c.self.invariant.agree c.args.hash at (subst (λ s. IsFirstFree c.args.hash s.slots at) (sym c.self.view_is) c.requires.free) in
-    let free = first.free in
-    let ins = c.if-index-eq-REMOVED.self-inside in
-    let alike : ins.cells ≡ cs =
-    elim c.if-index-eq-REMOVED.branch [
-      | then-index-eq-REMOVED w ↦ ap (λ i. i.cells) w.self-inside-is
-      | else-index-eq-REMOVED w ↦ ap (λ i. i.cells) w.self-inside-is
-    ] in
-    ap (λ ds. get_or ds at None) alike ∙ no_cell ts cs c.self.invariant.agree at free
+    no_cell ts cs c.self.invariant.agree at first.free
 
 pub overflow_add-self : goal.overflow_add-self
 overflow_add-self g c =
     let ss = slots_of c.self.inside.tags.items c.self.inside.cells in
     let few = count_by-le-length is_live ss in let bound = count_bound _ c.self.invariant.table.count in let is = c.self.invariant.table.live_is in
-    let ins = c.if-index-eq-REMOVED.self-inside in
-    let alike : ins.live ≡ c.self.inside.live =
-    elim c.if-index-eq-REMOVED.branch [
-      | then-index-eq-REMOVED w ↦ ap (λ i. i.live) w.self-inside-is
-      | else-index-eq-REMOVED w ↦ ap (λ i. i.live) w.self-inside-is
-    ] in
     record { fits = omega arith }
 
 pub overflow_sub-self : goal.overflow_sub-self
 overflow_sub-self g c =
     let ts = c.self.inside.tags.items in let cs = c.self.inside.cells in let at = c.args.place in
     let first = first_free ts cs c.self.invariant.agree c.args.hash at (subst (λ s. IsFirstFree c.args.hash s.slots at) (sym c.self.view_is) c.requires.free) in
-    let bound = first.bound in let free = first.free in
-    let tag : get_or ts at 0 ≡ 1 = sym (get_or_read ts at c.index.result.now bound c.index.ensures 0) ∙ c.if-index-eq-REMOVED.true in
-    let len = length-slots_of ts cs c.self.invariant.agree.same_length in
-    let some = some_removed (slots_of ts cs) at (omega arith) (removed_at ts cs c.self.invariant.agree at free ∙ ap (λ t. nat_eq t 1) tag) in
-    let is = c.self.invariant.table.removed_is in omega arith
+    let bound = first.bound in let free = first.free in let tag : ℕ = get_or ts at 0 in
+    let len = length-slots_of ts cs c.self.invariant.agree.same_length in let is = c.self.invariant.table.removed_is in
+    let one : c.from.result ≡ cond (nat_eq tag 1) 1 0 = c.from.ensures ∙ counts (nat_eq c.index.result.now 1) ∙ ap (λ t. cond (nat_eq t 1) 1 0) (get_or_read ts at c.index.result.now bound c.index.ensures 0) in
+    let some = one_of (nat_eq tag 1) _ (λ yes. some_removed (slots_of ts cs) at (omega arith) (removed_at ts cs c.self.invariant.agree at free ∙ yes)) in
+    omega arith
 
 pub invariant_of-self : goal.invariant_of-self
 invariant_of-self g c =
     let eq = g.T.PartialEq.eq in
     let ts = c.self.inside.tags.items in let cs = c.self.inside.cells in let at = c.args.place in
     let live : ℕ = c.self.inside.live in let removed : ℕ = c.self.inside.removed in let mark = c.mark_of.result in
-    let v = c.args.value in let n : ℕ = c.args.n in let ins = c.if-index-eq-REMOVED.self-inside in
+    let v = c.args.value in let n : ℕ = c.args.n in
     let first = first_free ts cs c.self.invariant.agree c.args.hash at (subst (λ s. IsFirstFree c.args.hash s.slots at) (sym c.self.view_is) c.requires.free) in
-    let bound = first.bound in let free = first.free in
-    let read = get_or_read ts at c.index.result.now bound c.index.ensures 0 in
+    let bound = first.bound in
+    let one : c.from.result ≡ cond (nat_eq (get_or ts at 0) 1) 1 0 = c.from.ensures ∙ counts (nat_eq c.index.result.now 1) ∙ ap (λ t. cond (nat_eq t 1) 1 0) (get_or_read ts at c.index.result.now bound c.index.ensures 0) in
     let absent = subst (λ s. IsAbsent (eq v) s.slots) (sym c.self.view_is) c.requires.absent in
-    let done = IsColumns-put eq g.met.T.Eq.laws ts cs live removed at c.self.invariant v n mark bound free c.mark_of.ensures.least absent c.requires.positive in
-    let alike : (ins.tags.items ≡ ts) × (ins.cells ≡ cs) × (ins.live ≡ live) × (ins.removed ≡ removed - cond (nat_eq (get_or ts at 0) 1) 1 0) =
-    elim c.if-index-eq-REMOVED.branch [
-      | then-index-eq-REMOVED w ↦
-          let tag : get_or ts at 0 ≡ 1 = sym read ∙ w.if-index-eq-REMOVED.true in
-          (ap (λ i. i.tags.items) w.self-inside-is, ap (λ i. i.cells) w.self-inside-is, ap (λ i. i.live) w.self-inside-is, ap (λ i. i.removed) w.self-inside-is ∙ sym (ap (λ t. removed - cond (nat_eq t 1) 1 0) tag))
-      | else-index-eq-REMOVED w ↦
-          let other : nat_eq (get_or ts at 0) 1 ≡ false = ne_eqb (get_or ts at 0) 1 (λ e. w.if-index-eq-REMOVED.false (read ∙ e)) in
-          let same : removed ≡ removed - 0 = omega arith in
-          (ap (λ i. i.tags.items) w.self-inside-is, ap (λ i. i.cells) w.self-inside-is, ap (λ i. i.live) w.self-inside-is, ap (λ i. i.removed) w.self-inside-is ∙ same ∙ sym (ap (λ b. removed - cond b 1 0) other))
-    ] in
-    subst (λ us. IsColumns eq (slice_set us at mark) c.put.new.self (ins.live + 1) ins.removed) (sym alike.0)
-    (subst (λ ds. IsColumns eq (slice_set ts at mark) ds (ins.live + 1) ins.removed) (sym (c.put.ensures ∙ ap (λ ds. slice_set ds at (Some (v, n))) alike.1))
-    (subst (λ l. IsColumns eq (slice_set ts at mark) (slice_set cs at (Some (v, n))) (l + 1) ins.removed) (sym alike.2)
-    (subst (λ r. IsColumns eq (slice_set ts at mark) (slice_set cs at (Some (v, n))) (live + 1) r) (sym alike.3) done)))
+    subst (λ ds. IsColumns eq (slice_set ts at mark) ds (live + 1) (removed - c.from.result)) (sym c.put.ensures)
+    (subst (λ k. IsColumns eq (slice_set ts at mark) (slice_set cs at (Some (v, n))) (live + 1) (removed - k)) (sym one)
+    (IsColumns-put eq g.met.T.Eq.laws ts cs live removed at c.self.invariant v n mark bound first.free c.mark_of.ensures.least absent c.requires.positive))
 
 pub returns-clause-after : goal.returns-clause-after
 returns-clause-after g c =
     let ts = c.self.inside.tags.items in let cs = c.self.inside.cells in let at = c.args.place in let mark = c.mark_of.result in
-    let v = c.args.value in let n : ℕ = c.args.n in let ins = c.if-index-eq-REMOVED.self-inside in
-    let first = first_free ts cs c.self.invariant.agree c.args.hash at (subst (λ s. IsFirstFree c.args.hash s.slots at) (sym c.self.view_is) c.requires.free) in
-    let bound = first.bound in let free = first.free in
-    let alike : (ins.tags.items ≡ ts) × (ins.cells ≡ cs) =
-    elim c.if-index-eq-REMOVED.branch [
-      | then-index-eq-REMOVED w ↦ (ap (λ i. i.tags.items) w.self-inside-is, ap (λ i. i.cells) w.self-inside-is)
-      | else-index-eq-REMOVED w ↦ (ap (λ i. i.tags.items) w.self-inside-is, ap (λ i. i.cells) w.self-inside-is)
-    ] in
-    let len = length-slots_of ts cs c.self.invariant.agree.same_length in
-    let cells : c.put.new.self ≡ slice_set cs at (Some (v, n)) = c.put.ensures ∙ ap (λ ds. slice_set ds at (Some (v, n))) alike.1 in
-    (λ i. slots_of (slice_set (alike.0 i) at mark) (cells i)) ∙ set-slots_of ts cs at mark (Some (v, n)) c.self.invariant.agree.same_length ∙ ap (λ s. slice_set s.slots at (Live v n)) c.self.view_is
+    let v = c.args.value in let n : ℕ = c.args.n in
+    ap (slots_of (slice_set ts at mark)) c.put.ensures ∙ set-slots_of ts cs at mark (Some (v, n)) c.self.invariant.agree.same_length ∙ ap (λ s. slice_set s.slots at (Live v n)) c.self.view_is
 
 pub returns-clause-placed : goal.returns-clause-placed
 returns-clause-placed g c =
@@ -138,17 +98,10 @@ pub returns-clause-reached : goal.returns-clause-reached
 returns-clause-reached g c =
     let hash : g.row.T.Denot → ℕ = hash_under g.T.Hash.hash_input g.S.BuildHasher g.S.Hasher.Hasher c.args.state.now in
     let ts = c.self.inside.tags.items in let cs = c.self.inside.cells in let at = c.args.place in let mark = c.mark_of.result in
-    let v = c.args.value in let n : ℕ = c.args.n in let ins = c.if-index-eq-REMOVED.self-inside in
+    let v = c.args.value in let n : ℕ = c.args.n in
     let first = first_free ts cs c.self.invariant.agree c.args.hash at (subst (λ s. IsFirstFree c.args.hash s.slots at) (sym c.self.view_is) c.requires.free) in
-    let bound = first.bound in
-    let alike : (ins.tags.items ≡ ts) × (ins.cells ≡ cs) =
-    elim c.if-index-eq-REMOVED.branch [
-      | then-index-eq-REMOVED w ↦ (ap (λ i. i.tags.items) w.self-inside-is, ap (λ i. i.cells) w.self-inside-is)
-      | else-index-eq-REMOVED w ↦ (ap (λ i. i.tags.items) w.self-inside-is, ap (λ i. i.cells) w.self-inside-is)
-    ] in
-    let cells : c.put.new.self ≡ slice_set cs at (Some (v, n)) = c.put.ensures ∙ ap (λ ds. slice_set ds at (Some (v, n))) alike.1 in
     let hashed : c.args.hash ≡ hash v = c.requires.hashed in
     let reached = subst (IsReached hash) (sym c.self.view_is) c.requires.reached in
-    let done = IsReached-place ts cs c.self.invariant.agree hash reached v n mark at first.step bound first.within (first.on_path ∙ ap (λ h. path_slot (length ts) h first.step) hashed) (c.mark_of.ensures.mark ∙ ap (λ h. mark_of h) hashed)
+    let done = IsReached-place ts cs c.self.invariant.agree hash reached v n mark at first.step first.bound first.within (first.on_path ∙ ap (λ h. path_slot (length ts) h first.step) hashed) (c.mark_of.ensures.mark ∙ ap (λ h. mark_of h) hashed)
     (λ before lt. subst (λ h. 128 ≤ get_or ts (path_slot (length ts) h before) 0) hashed (first.front before lt)) in
-    subst (IsReached hash) (sym (λ i. columns (slice_set (alike.0 i) at mark) (cells i))) done
+    subst (λ ds. IsReached hash (columns (slice_set ts at mark) ds)) (sym c.put.ensures) done
