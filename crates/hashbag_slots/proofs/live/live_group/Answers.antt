@@ -1,7 +1,5 @@
-use Rattle.std.proofs.Common.{◌≡◌, ℕ, ◌+◌, ◌<◌, ◌≤◌, ◌∙◌, inl, inr, arith}
+use Rattle.std.proofs.Common.{◌+◌, ◌∙◌, inl, inr, arith}
 use Rattle.std.proofs.lemmas.Bool.{cases_lt, leb-false}
-use Rattle.hashbag_slots.specs.Walks.{pass_of}
-use Rattle.hashbag_slots.specs.Columns.{tag_at}
 use Rattle.hashbag_slots.proofs.GroupLemmas.{none_told, tells_fresh}
 use Rattle.hashbag_slots.proofs.Walking.{is_mark, in_block, third_block, other_pass}
 use Rattle.hashbag_slots.proofs.live.live_group.Goals as goal

@@ -1,7 +1,6 @@
-use Rattle.std.proofs.Common.{◌≡◌, ℕ, zero, suc, ◌+◌, ◌-◌, ◌<◌, ◌≤◌, Bool, true, false, ⊥, None, cond, nat_eq, refl, sym, ap, subst, ◌∙◌, arith, slice_set}
+use Rattle.std.proofs.Common.{◌≡◌, ℕ, zero, suc, ◌+◌, ◌-◌, ◌<◌, ◌≤◌, Bool, true, false, None, cond, nat_eq, refl, sym, ap, subst, ◌∙◌, arith, slice_set}
 use Rattle.std.proofs.lemmas.List.Sums.{count_by-le-length}
 use Rattle.core.specs.Int.{from_bool}
-use Rattle.hashbag_slots.specs.declared.slots.Slot.{Slot}
 use Rattle.hashbag_slots.specs.declared.slots.Slot.TheVariants.{Empty}
 use Rattle.hashbag_slots.specs.Slots.{is_live, is_removed, slot_at}
 use Rattle.hashbag_slots.specs.Columns.{columns, slot_of, slots_of, IsColumns, IsReached}
@@ -71,4 +70,4 @@ pub returns-clause-reached : goal.returns-clause-reached
 returns-clause-reached g c hash r =
     let ts = c.self.inside.tags.items in let cs = c.self.inside.cells in let p : ℕ = c.args.place in let t : ℕ = c.args.tag in
     subst (λ ds. IsReached hash (columns (slice_set ts p t) ds)) (sym c.take.ensures.after)
-    (IsReached-take ts cs c.self.invariant.agree p c.take.result c.take.ensures.value hash (subst (IsReached hash) (sym c.self.view_is) r) t (dead_slot g.row.T.Denot t) (not_empty t c.requires.tag.0 c.requires.tag.1))
+    (IsReached-take ts cs c.self.invariant.agree p c.take.result c.take.ensures.value hash (subst (IsReached hash) (sym c.self.view_is) r) t (dead_slot g.row.T.Denot t) (not_empty g.row.T.Denot t c.requires.tag.0 c.requires.tag.1))
