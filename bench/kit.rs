@@ -42,3 +42,13 @@ pub fn mixed(i: u64) -> u64 {
     let z = (y ^ (y >> 27)).wrapping_mul(0x94d0_49bb_1331_11eb);
     z ^ (z >> 31)
 }
+
+/// How many different words there are, at most.
+pub const WORDS: u64 = 50_000;
+
+/// Returns the number of a word of a text, in which a few come often, and many seldom.
+pub fn word(i: u64) -> u64 {
+    let draw = mixed(i);
+    let least = 1u64 << (draw >> 60);
+    (least + draw % least) % WORDS
+}

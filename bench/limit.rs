@@ -2,11 +2,9 @@
 //! carried. There are as many slots as a bag has, each of a tag and 16 bytes. The lines are those of the program `timing`. No sum is printed.
 mod kit;
 
-use kit::{each_line, mixed, now};
+use kit::{WORDS, each_line, mixed, now, word};
 use std::hint::black_box;
 
-// About as many as the different words of `words`.
-const WORDS: u64 = 49_000;
 const LINE: usize = 64;
 const CELLS_OF_LINE: usize = LINE / 16;
 
@@ -72,13 +70,13 @@ fn repeat(what: &str, many: u64, values: u64, times: u64, mut once: impl FnMut()
     eprintln!("{what} {many} {} {}", values * times, now() - start);
 }
 
-// Places that no earlier one predicts.
-fn places(many: u64, slots: usize) -> Vec<usize> {
-    (0..many).map(|i| mixed(i) as usize & (slots - 1)).collect()
+// The places of numbered values, which no earlier one predicts.
+fn places(slots: usize, numbers: impl Iterator<Item = u64>) -> Vec<usize> {
+    numbers.map(|i| mixed(i) as usize & (slots - 1)).collect()
 }
 
 fn large(many: u64, times: u64) {
-    let places = places(many, slots_of(many));
+    let places = places(slots_of(many), 0..many);
     repeat("insert", many, many, times, || {
         let mut new = Slots::new(slots_of(many));
         for place in &places {
@@ -111,7 +109,8 @@ fn large(many: u64, times: u64) {
 fn two(many: u64, times: u64) {
     let (first, mut second) = (Slots::full(slots_of(many)), Slots::full(slots_of(many)));
     repeat("outer_join", many, 2 * many, times, || {
-        [&first, &second, &second, &first].map(|it| black_box(it).walk())[3]
+        let walks = [&first, &second, &second, &first].map(|it| black_box(it).walk());
+        walks.iter().sum()
     });
     repeat("merge", many, many, times, || first.walk_into(&mut second));
 }
@@ -121,7 +120,7 @@ fn main() {
         "large" => large(many, times),
         "words" => {
             let mut slots = Slots::full(slots_of(WORDS));
-            let places = places(many, slots_of(WORDS));
+            let places = places(slots_of(WORDS), (0..many).map(word));
             repeat(what, many, many, times, || slots.count(&places));
         }
         "two" => two(many, times),

@@ -28,15 +28,8 @@ fn distinct(from: u64, many: u64, step: u64) -> Vec<u64> {
         .collect()
 }
 
-// Returns `many` words as they are in a text: a few often, and many seldom.
 fn words(many: u64) -> Vec<u64> {
-    (0..many)
-        .map(|i| {
-            let draw = mixed(i);
-            let least = 1u64 << (draw >> 60);
-            mixed((least + draw % least) % 50_000)
-        })
-        .collect()
+    (0..many).map(|i| mixed(word(i))).collect()
 }
 
 fn fill(map: &mut Map, values: &[u64]) {
