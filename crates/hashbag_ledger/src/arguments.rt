@@ -1,13 +1,11 @@
 //! What the arguments ask for.
-use crate::command::{COLUMNS, PROGRAM, START_COLUMNS, command};
-use clap::error::ErrorKind;
-use clap::{ArgMatches, Error};
+use crate::command::{COLUMNS, START_COLUMNS, command};
+use clap::ArgMatches;
 use hashbag_ledger_core::reading::{ChangeColumns, Columns};
 use hashbag_lists::counts::Reading;
-use hashbag_lists::delimiter::Delimiter;
-use hashbag_lists::scale::{Mark, Scale};
-use hashbag_lists::trouble::Trouble;
-use hashbag_shell::status::{BAD_INPUT, DONE, IO_FAILED};
+use hashbag_shell::options::word;
+use hashbag_shell::program::given_to;
+use hashbag_shell::trouble::Trouble;
 use std::alloc::{AllocError, Global};
 
 /// What the arguments ask for.
@@ -57,16 +55,12 @@ pub fn pair_of(names: &str) -> Option<(&str, &str)> {
 }
 
 // Returns the delimiter, and how numbers are written.
-fn reading_of(matches: &ArgMatches<'_>) -> Reading {
-    let decimals = matches.get_str("scale").unwrap_or("0").parse().unwrap_or(0);
-    let mark = match matches.get_str("mark") {
-        Some(",") => Mark::Comma,
-        _ => Mark::Point,
-    };
-    Reading {
-        delimiter: Delimiter::named(matches.get_str("delimiter").unwrap_or(",")),
-        scale: Scale::new(decimals, mark).unwrap_or(Scale::whole()),
-    }
+fn reading_of(given: &ArgMatches<'_>) -> Reading {
+    Reading::named(
+        word(given, "delimiter", ","),
+        word(given, "scale", "0"),
+        word(given, "mark", "."),
+    )
 }
 
 // Returns the request of the arguments.
@@ -95,45 +89,27 @@ fn request_of<'a>(
     })
 }
 
-// Prints the error, the help or the version, and returns the status.
-fn said<R: Print + Eprint>(rt: &R, error: &Error) -> u8 {
-    if error.kind() == ErrorKind::OutOfMemory {
-        return Trouble::Memory.report(rt, PROGRAM);
-    }
-    if error.print(rt).is_err() {
-        return IO_FAILED;
-    }
-    if error.use_stderr() { BAD_INPUT } else { DONE }
-}
-
 /// Parses the arguments.
 ///
 /// # Errors
 ///
-/// The exit status with which the program ends at once: after the help, the version, bad arguments or a failed allocation. The message
-/// has been written.
+/// `Printed` after the help, the version, or what is wrong with the arguments. `Words` if columns have too few or too many names. `Memory`
+/// if an allocation fails.
 pub fn parse<'a, R: Print + Eprint + AllocGlobal>(
     rt: &R,
     words: &'a [String],
-) -> Result<Request<'a>, u8> {
-    let Ok(command) = command(rt.alloc()) else {
-        return Err(Trouble::Memory.report(rt, PROGRAM));
-    };
-    let matches = match command.try_get_matches_from(words) {
-        Ok(matches) => matches,
-        Err(error) => return Err(said(rt, &error)),
-    };
-    let names = matches.get_str("columns").unwrap_or(COLUMNS);
+) -> Result<Request<'a>, Trouble<'a>> {
+    let alloc = rt.alloc();
+    let given = given_to(rt, command(alloc), words)?;
+    let names = given.get_str("columns").unwrap_or(COLUMNS);
     let Some(columns) = columns_of(names) else {
-        let _ = eprintln!(rt; "{PROGRAM}: --columns takes two or three names: {names}");
-        return Err(BAD_INPUT);
+        let what = format!(in alloc; "--columns takes two or three names: {names}")?;
+        return Err(Trouble::Words(what));
     };
-    let names = matches.get_str("start-columns").unwrap_or(START_COLUMNS);
+    let names = given.get_str("start-columns").unwrap_or(START_COLUMNS);
     let Some(start_columns) = pair_of(names) else {
-        let _ = eprintln!(rt; "{PROGRAM}: --start-columns takes two names: {names}");
-        return Err(BAD_INPUT);
+        let what = format!(in alloc; "--start-columns takes two names: {names}")?;
+        return Err(Trouble::Words(what));
     };
-    request_of(rt.alloc(), &matches, start_columns, columns).map_err(|_| Trouble::Memory.report(
-        rt, PROGRAM,
-    ))
+    Ok(request_of(alloc, &given, start_columns, columns)?)
 }

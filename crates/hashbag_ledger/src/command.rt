@@ -1,8 +1,8 @@
 //! The arguments and their help.
 use clap::{Arg, ArgAction, Command};
-use hashbag_lists::delimiter::NAMES;
 use hashbag_shell::VERSION;
-use std::alloc::{AllocError, Global};
+use hashbag_shell::options::{Made, with, with_output, with_reading};
+use std::alloc::Global;
 
 /// The name of the program. Its messages on standard error begin with it.
 pub const PROGRAM: &str = "hashbag_ledger";
@@ -12,12 +12,6 @@ pub const COLUMNS: &str = "article,change";
 
 /// The default columns of the stock at the beginning.
 pub const START_COLUMNS: &str = "article,number";
-
-/// The numbers of decimals that numbers may have.
-pub static SCALES: [&str; 10] = ["0", "1", "2", "3", "4", "5", "6", "7", "8", "9"];
-
-/// What may be before decimals.
-pub static MARKS: [&str; 2] = [".", ","];
 
 const ABOUT: &str = "Enters movements into a stock, and writes the balance.";
 
@@ -33,14 +27,6 @@ verify or close, it is a subcommand on the database of --db; hashbag_ledger ente
 
 Status: 0 all entered, 1 some refused, 2 bad arguments or a bad line (FILE:LINE is named), 3 no memory, 4 a file can't be opened, or
 a read or a write failed, 5 a total of more than 2^64-1. With 2 to 5 the file of -o is unchanged.";
-
-/// A command, unless an allocation failed.
-pub type Made<'a> = Result<Command<'a>, AllocError>;
-
-/// Adds an argument.
-pub fn with<'a>(command: Made<'a>, arg: Arg<'a>) -> Made<'a> {
-    command?.arg(arg)
-}
 
 // Adds the inputs.
 fn with_inputs<'a>(alloc: Global, command: Made<'a>) -> Made<'a> {
@@ -66,38 +52,10 @@ fn with_inputs<'a>(alloc: Global, command: Made<'a>) -> Made<'a> {
     with(with(command, columns), moves)
 }
 
-// Adds how files are read and written.
-fn with_reading<'a>(alloc: Global, command: Made<'a>) -> Made<'a> {
-    let scale = Arg::new(alloc, "scale")
-        .long("scale")
-        .value_name("D")
-        .value_parser(SCALES.as_slice())
-        .default_value("0")
-        .help("How many decimals numbers may have; all D are written");
-    let mark = Arg::new(alloc, "mark")
-        .long("mark")
-        .value_name("MARK")
-        .value_parser(MARKS.as_slice())
-        .default_value(".")
-        .help("What is before decimals");
-    let delimiter = Arg::new(alloc, "delimiter")
-        .long("delimiter")
-        .value_name("DELIMITER")
-        .value_parser(NAMES.as_slice())
-        .default_value(",")
-        .help("What is between fields, also of CSV that is written");
-    with(with(with(command, scale), mark), delimiter)
-}
-
 // Adds the outputs.
 fn with_outputs<'a>(alloc: Global, command: Made<'a>) -> Made<'a> {
-    let output = Arg::new(alloc, "output")
-        .short('o')
-        .long("output")
-        .value_name("FILE")
-        .help(
-            "Where the balance is written, in place of standard output; the old file is replaced once all is written",
-        );
+    let help =
+        "Where the balance is written, in place of standard output; the old file is replaced once all is written";
     let refused = Arg::new(alloc, "refused")
         .long("refused")
         .value_name("FILE")
@@ -106,7 +64,7 @@ fn with_outputs<'a>(alloc: Global, command: Made<'a>) -> Made<'a> {
         .long("strict")
         .action(ArgAction::SetTrue)
         .help("Ends at the first refusal, without a balance");
-    with(with(with(command, output), refused), strict)
+    with(with(with_output(alloc, command, help), refused), strict)
 }
 
 /// Returns the command with its arguments.

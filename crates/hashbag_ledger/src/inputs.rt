@@ -3,8 +3,9 @@ use crate::arguments::Request;
 use hashbag_ledger_core::ledger::Ledger;
 use hashbag_ledger_core::reading::enter_movements;
 use hashbag_lists::counts::read_counts_as;
-use hashbag_lists::files::{in_file, read_file};
-use hashbag_lists::trouble::Trouble;
+use hashbag_lists::fault::in_file;
+use hashbag_shell::input::read_file;
+use hashbag_shell::trouble::Trouble;
 use std::hash::BuildHasher;
 
 /// Reads the stock at the beginning, which is empty if no file is named.
@@ -28,7 +29,7 @@ pub fn start_of<'a>(
         number,
         request.reading,
     );
-    in_file(file, counts)
+    in_file(rt.alloc(), file, counts)
 }
 
 /// Enters the movements of all files into a ledger, in their order.
@@ -52,7 +53,7 @@ pub fn enter_files<'a, S: BuildHasher + Drop>(
             request.columns,
             request.reading,
         );
-        in_file(file, entered)?;
+        in_file(rt.alloc(), file, entered)?;
     }
     Ok(())
 }

@@ -13,9 +13,9 @@ use crate::inputs::{enter_files, start_of};
 use crate::outputs::{Outputs, Report, conflict};
 use hashbag_ledger_core::ledger::{Entered, Ledger, end};
 use hashbag_ledger_core::output::{balance_text, refusals_table, refusals_text};
-use hashbag_lists::files::arguments;
-use hashbag_lists::trouble::Trouble;
-use hashbag_shell::status::{BAD_INPUT, DENIED, DONE};
+use hashbag_shell::program::{status_of, words_of};
+use hashbag_shell::status::{DENIED, DONE};
+use hashbag_shell::trouble::Trouble;
 use std::hash::RandomState;
 use std::process::ExitCode;
 
@@ -78,9 +78,15 @@ fn report_of<'a>(rt: &HostRuntime, request: &Request<'a>) -> Result<Report, Trou
 }
 
 // Does what the arguments ask for, and returns the exit status.
-fn answer<'a>(rt: &HostRuntime, request: &Request<'a>) -> Result<u8, Trouble<'a>> {
-    let outputs = Outputs::open(rt, request)?;
-    match report_of(rt, request) {
+fn answer<'a>(rt: &HostRuntime, words: &'a [String]) -> Result<u8, Trouble<'a>> {
+    let request = parse(rt, words)?;
+    if let Some(name) = conflict(rt, &request) {
+        let alloc = rt.alloc();
+        let what = format!(in alloc; "{name}: both an input and an output, or two outputs")?;
+        return Err(Trouble::Words(what));
+    }
+    let outputs = Outputs::open(rt, &request)?;
+    match report_of(rt, &request) {
         Ok(report) => {
             outputs.write(rt, &report)?;
             Ok(report.status)
@@ -93,7 +99,7 @@ fn answer<'a>(rt: &HostRuntime, request: &Request<'a>) -> Result<u8, Trouble<'a>
 }
 
 fn run(rt: &HostRuntime) -> u8 {
-    let words = match arguments(rt) {
+    let words = match words_of(rt) {
         Ok(words) => words,
         Err(trouble) => return trouble.report(rt, PROGRAM),
     };
@@ -103,18 +109,7 @@ fn run(rt: &HostRuntime) -> u8 {
     {
         return stock::run(rt, words.as_slice());
     }
-    let request = match parse(rt, words.as_slice()) {
-        Ok(request) => request,
-        Err(status) => return status,
-    };
-    if let Some(name) = conflict(rt, &request) {
-        let _ = eprintln!(rt; "{PROGRAM}: {name}: both an input and an output, or two outputs");
-        return BAD_INPUT;
-    }
-    match answer(rt, &request) {
-        Ok(status) => status,
-        Err(trouble) => trouble.report(rt, PROGRAM),
-    }
+    status_of(rt, PROGRAM, answer(rt, words.as_slice()))
 }
 
 fn main(rt: HostRuntime) -> ExitCode {

@@ -9,12 +9,10 @@ mod show;
 mod undo;
 mod verify;
 
-use crate::command::PROGRAM;
 use clap::ArgMatches;
 pub use command::is_job;
 use failure::Failure;
-use hashbag_lists::trouble::Trouble;
-use hashbag_shell::arguments::explain;
+use hashbag_shell::program::given_to;
 use hashbag_shell::status::BAD_INPUT;
 use request::Request;
 
@@ -32,19 +30,18 @@ fn do_job<'a>(rt: &HostRuntime, name: &str, given: &ArgMatches<'a>) -> Result<u8
     }
 }
 
+// Does what the words of a subcommand ask for, and returns the status.
+fn answer<'a>(rt: &HostRuntime, words: &'a [String]) -> Result<u8, Failure<'a>> {
+    let given = given_to(rt, command::command(rt.alloc()), words)?;
+    match given.subcommand() {
+        Some((name, given)) => do_job(rt, name, given),
+        None => Ok(BAD_INPUT),
+    }
+}
+
 /// Does what the words of a subcommand ask for, and returns the status.
 pub fn run(rt: &HostRuntime, words: &[String]) -> u8 {
-    let Ok(command) = command::command(rt.alloc()) else {
-        return Trouble::Memory.report(rt, PROGRAM);
-    };
-    let matches = match command.try_get_matches_from(words) {
-        Ok(matches) => matches,
-        Err(error) => return explain(rt, &error),
-    };
-    let Some((name, given)) = matches.subcommand() else {
-        return BAD_INPUT;
-    };
-    match do_job(rt, name, given) {
+    match answer(rt, words) {
         Ok(status) => status,
         Err(failure) => failure.report(rt),
     }

@@ -1,4 +1,6 @@
 pub mod DecimalLemmas
+pub mod LineLemmas
 pub mod NumberLemmas
 pub mod QuantityLemmas
+pub mod ReaderLemmas
 pub mod SortedLemmas

@@ -1,7 +1,11 @@
 pub mod Decimals
 pub mod Faults
 pub mod FaultsExamples
+pub mod LineColumns
+pub mod Lines
+pub mod LinesExamples
 pub mod Marks
 pub mod Quantities
-pub mod Statuses
+pub mod Readers
+pub mod Sheets
 pub mod Totals

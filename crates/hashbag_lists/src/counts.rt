@@ -5,7 +5,7 @@ ghost use Rattle.hashbag_lists.specs.Quantities.{numbers};
 use crate::delimiter::Delimiter;
 use crate::fault::SheetError;
 use crate::numbers::{scaled_number, total_too_large};
-use crate::scale::Scale;
+use crate::scale::{Mark, Scale};
 use crate::sheet::Sheet;
 use std::alloc::{AllocError, Global};
 
@@ -28,6 +28,21 @@ impl Reading {
         Reading {
             delimiter: Delimiter::Comma,
             scale: Scale::whole(),
+        }
+    }
+
+    /// Returns the reading that words ask for: a delimiter by one of its names, how many decimals numbers have, and the mark before
+    /// them. An unknown word is taken as `,`, as `0` and as `.`.
+    pub fn named(delimiter: &str, decimals: &str, mark: &str) -> Reading {
+        let decimals = decimals.parse().unwrap_or(0);
+        let mark = if mark == "," {
+            Mark::Comma
+        } else {
+            Mark::Point
+        };
+        Reading {
+            delimiter: Delimiter::named(delimiter),
+            scale: Scale::new(decimals, mark).unwrap_or(Scale::whole()),
         }
     }
 }

@@ -12,9 +12,6 @@ pub enum Delimiter {
     Tab,
 }
 
-/// The names by which arguments choose a delimiter.
-pub static NAMES: [&str; 4] = [",", ";", "tab", "\\t"];
-
 impl Delimiter {
     /// Returns the byte itself.
     pub fn byte(self) -> u8
@@ -29,7 +26,7 @@ impl Delimiter {
         }
     }
 
-    /// Returns the delimiter of one of the [`NAMES`], and a comma for another name.
+    /// Returns the delimiter of one of the names `,`, `;`, `tab` and `\t`, and a comma for another name.
     pub fn named(name: &str) -> Delimiter {
         match name {
             ";" => Delimiter::Semicolon,

@@ -1,7 +1,8 @@
 //! What is wrong with a CSV text.
 ghost use Rattle.std.specs.Prelude.{◌≡◌};
 
-use std::alloc::AllocError;
+use hashbag_shell::trouble::Trouble;
+use std::alloc::{AllocError, Global};
 use thiserror::Error;
 
 /// What is wrong with a line.
@@ -106,5 +107,38 @@ impl From<AllocError> for SheetError {
 
     fn from(_e: AllocError) -> SheetError {
         SheetError::Memory
+    }
+}
+
+// The trouble of a file that has this error.
+fn trouble_of<'a>(
+    alloc: Global,
+    file: &'a str,
+    error: &SheetError,
+) -> Result<Trouble<'a>, AllocError> {
+    match error {
+        SheetError::Memory => Ok(Trouble::Memory),
+        SheetError::Line { line, fault } => Ok(Trouble::BadLine {
+            file,
+            line: *line,
+            what: format!(in alloc; "{fault}")?,
+            is_total: error.is_total(),
+        }),
+    }
+}
+
+/// Names the file in which a line is bad.
+///
+/// # Errors
+///
+/// `BadLine` if a line is bad, `Memory` if an allocation failed or fails.
+pub fn in_file<T: Drop>(
+    alloc: Global,
+    file: &str,
+    read: Result<T, SheetError>,
+) -> Result<T, Trouble<'_>> {
+    match read {
+        Ok(value) => Ok(value),
+        Err(error) => Err(trouble_of(alloc, file, &error)?),
     }
 }

@@ -1,4 +1,8 @@
 //! The records of a CSV text under its header.
+ghost use Rattle.std.specs.Prelude.{◌≡◌, false};
+ghost use Rattle.csv.specs.Reading.{has_failed};
+ghost use Rattle.hashbag_lists.specs.Readers.{IsReader};
+
 use crate::delimiter::Delimiter;
 use crate::escaped::shown;
 use crate::fault::{Fault, SheetError};
@@ -54,11 +58,18 @@ pub struct Sheet<'a> {
     reader: Reader<&'a [u8]>,
     // The record that was read last, the header at first.
     record: ByteRecord,
+    ghost reads: { has_failed reader ≡ false → IsReader delimiter reader },
 }
 
 impl<'a> Sheet<'a> {
+    ghost use Rattle.std.specs.Prelude.{ℕ, ◌∷◌, [], get_or, IfErr, IfOk, IsTrue, IsUtf8, ◌↔◌};
+    ghost use Rattle.hashbag_lists.specs.Readers.{IsNext, records_in};
+    ghost use Rattle.hashbag_lists.specs.Sheets.{IsColumnError, IsOnlyAt, left, place, read_last};
+
     /// Opens the sheet of a text with commas between fields, and reads its header.
-    pub fn open(alloc: Global, text: &'a [u8]) -> Result<Sheet<'a>, SheetError> {
+    pub fn open(alloc: Global, text: &'a [u8]) -> Result<Sheet<'a>, SheetError>
+        ensures { IfOk result (λ sheet. records_in Delimiter.Comma text.now ≡ read_last sheet ∷ left sheet) }
+    {
         Sheet::open_with(alloc, text, Delimiter::Comma)
     }
 
@@ -67,7 +78,9 @@ impl<'a> Sheet<'a> {
         alloc: Global,
         text: &'a [u8],
         delimiter: Delimiter,
-    ) -> Result<Sheet<'a>, SheetError> {
+    ) -> Result<Sheet<'a>, SheetError>
+        ensures { IfOk result (λ sheet. records_in delimiter text.now ≡ read_last sheet ∷ left sheet) }
+    {
         let text = text.strip_prefix(BYTE_ORDER_MARK).unwrap_or(text);
         let mut sheet = Sheet {
             alloc,
@@ -88,7 +101,9 @@ impl<'a> Sheet<'a> {
     }
 
     /// Reads the next record, and returns whether there was one.
-    pub fn read(&mut self) -> Result<bool, SheetError> {
+    pub fn read(&mut self) -> Result<bool, SheetError>
+        ensures { IfOk result (λ found. IsNext found (read_last self.new) (left self.old) (left self.new)) }
+    {
         let read = self.reader.read_byte_record(&mut self.record);
         if let Some(error) = self.quote_error() {
             return Err(error);
@@ -141,11 +156,28 @@ impl<'a> Sheet<'a> {
         }
     }
 
+    // The bytes of the field at this place in the record that was read last, and none if there is no such field.
+    fn bytes_at(&self, place: usize) -> &[u8]
+        ensures { result.now ≡ get_or (read_last self.now) place [] }
+    {
+        self.record.get(place).unwrap_or(&[])
+    }
+
+    // Whether the field at this place is the name.
+    fn is_named(&self, place: usize, name: &str) -> bool
+        ensures { IsTrue result ↔ (get_or (read_last self.now) place [] ≡ name.now) }
+    {
+        self.bytes_at(place) == name.as_bytes()
+    }
+
     /// Returns the column of this name in the header, which must be the record that was read last.
-    pub fn column<'n>(&self, name: &'n str) -> Result<Column<'n>, SheetError> {
+    pub fn column<'n>(&self, name: &'n str) -> Result<Column<'n>, SheetError>
+        ensures column { IfOk result (λ column. IsOnlyAt name.now (read_last self.now) (place column)) }
+        ensures fault { IfErr result (λ e. IsColumnError name.now (read_last self.now) e) }
+    {
         let mut found = None;
         for place in 0..self.record.len() {
-            if self.record.get(place) == Some(name.as_bytes()) {
+            if self.is_named(place, name) {
                 if found.is_some() {
                     let fault = Fault::TwoColumns(shown(self.alloc, name)?);
                     return Err(self.bad_line(fault));
@@ -163,9 +195,10 @@ impl<'a> Sheet<'a> {
     }
 
     /// Returns the text of a column in the record that was read last.
-    pub fn field(&self, column: Column<'_>) -> Result<&str, SheetError> {
-        let field = self.record.get(column.place).unwrap_or(&[]);
-        match str::from_utf8(field) {
+    pub fn field(&self, column: Column<'_>) -> Result<&str, SheetError>
+        ensures { IfOk result (λ text. text.now ≡ get_or (read_last self.now) (place column.entry) []) }
+    {
+        match str::from_utf8(self.bytes_at(column.place)) {
             Ok(text) => Ok(text),
             Err(_) => {
                 let fault = Fault::NotText(shown(self.alloc, column.name)?);
@@ -175,7 +208,9 @@ impl<'a> Sheet<'a> {
     }
 
     /// Returns the error that the record that was read last has this fault.
-    pub fn bad_line(&self, fault: Fault) -> SheetError {
+    pub fn bad_line(&self, fault: Fault) -> SheetError
+        ensures { (line : ℕ) × (result ≡ SheetError.Line line fault) }
+    {
         let line = self.line();
         SheetError::Line { line, fault }
     }

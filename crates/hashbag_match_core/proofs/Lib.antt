@@ -1,4 +1,6 @@
 pub mod ArticleLemmas
+pub mod ByteLemmas
+pub mod LineLemmas
 pub mod RowLemmas
 pub mod SumLemmas
 pub mod TallyLemmas

@@ -1,9 +1,11 @@
 -- Articles as the fields of their key columns.
-use Rattle.std.specs.Prelude.{ℕ, Bool, List, [], ◌∷◌, ◌++◌, String}
+use Rattle.std.specs.Prelude.{◌≡◌, ℕ, Bool, List, [], ◌∷◌, ◌++◌, map, String}
 use Rattle.std.specs.Cmp.Lexicographic.{pointwise}
 use Rattle.std.specs.Global.{Global, Vec}
 use Rattle.std.specs.String.{string_eq}
 use Rattle.hashbag.specs.Bag.{Bag}
+use Rattle.hashbag_lists.specs.LineColumns.{line_bytes}
+use Rattle.hashbag_lists.specs.Readers.{Record}
 use Rattle.hashbag_match_core.specs.Tallies.{IsTallyOf}
 
 abbrev pub Fields : Type 0
@@ -13,9 +15,9 @@ Fields = Vec (String Global)
 abbrev pub same_fields : Fields → Fields → Bool
 same_fields x y = pointwise string_eq x.items y.items
 
--- the bags are the tally of some lines
-abbrev pub IsTallyOfLines : {S : Type 0} → Bag Fields S → Bag Fields S → Type 0
-IsTallyOfLines bag none = (L : List (Fields × ℕ)) × IsTallyOf same_fields L bag none
+-- the bags are the tally of these lines, which are given as bytes
+abbrev pub IsTallyOfLines : {S : Type 0} → List (Record × ℕ) → Bag Fields S → Bag Fields S → Type 0
+IsTallyOfLines lines bag none = (L : List (Fields × ℕ)) × (map line_bytes L ≡ lines) × IsTallyOf same_fields L bag none
 
 -- the bags have a line more
 abbrev pub HasLineMore : {S : Type 0} → Fields → ℕ → Bag Fields S → Bag Fields S → Bag Fields S → Bag Fields S → Type 0

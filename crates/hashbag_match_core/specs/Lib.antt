@@ -1,3 +1,6 @@
+pub mod Asks
 pub mod Fields
+pub mod Matched
 pub mod Matching
 pub mod Tallies
+pub mod Widths

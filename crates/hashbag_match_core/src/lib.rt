@@ -1,10 +1,12 @@
-//! What was ordered and what was delivered, compared: the pure part of the program `hashbag_match`.
+//! What was ordered and what was delivered, compared: the program `hashbag_match` without its files.
 #![tactic(auto)]
 
+pub mod ask;
 pub mod keys;
 pub mod matching;
 pub mod output;
 pub mod reading;
 mod table;
 pub mod tally;
+pub mod texts;
 pub mod totals;

@@ -25,6 +25,16 @@ pub enum Only {
 }
 
 impl Only {
+    /// Returns the choice of one of the names `missing`, `surplus`, `differing` and `all`, and all for another name.
+    pub fn named(name: &str) -> Only {
+        match name {
+            "missing" => Only::Missing,
+            "surplus" => Only::Surplus,
+            "differing" => Only::Differing,
+            _ => Only::All,
+        }
+    }
+
     /// Returns whether the row is written.
     pub fn shows<T>(self, row: &Row<T>) -> bool
         ensures missing { self ≡ Only.Missing → IsTrue result ↔ (0 < missing_of row.now) }
@@ -50,6 +60,17 @@ pub enum Form {
     Csv,
     /// As a JSON array of an object for each row.
     Json,
+}
+
+impl Form {
+    /// Returns the form of one of the names `table`, `csv` and `json`, and a table for another name.
+    pub fn named(name: &str) -> Form {
+        match name {
+            "csv" => Form::Csv,
+            "json" => Form::Json,
+            _ => Form::Table,
+        }
+    }
 }
 
 /// What is written of the rows, and how.

@@ -1,4 +1,8 @@
 //! Rows in columns.
+ghost use Rattle.std.specs.Prelude.{map, IfOk};
+ghost use Rattle.std.specs.String.{string_bytes};
+ghost use Rattle.hashbag_match_core.specs.Widths.{AreWidened};
+
 use crate::matching::{Matched, Row};
 use crate::output::{Layout, numbers_of};
 use crate::totals::Totals;
@@ -45,11 +49,13 @@ fn widened(
     alloc: Global,
     widths: &Vec<usize>,
     cells: &Vec<String>,
-) -> Result<Vec<usize>, AllocError> {
+) -> Result<Vec<usize>, AllocError>
+    ensures { IfOk result (λ wide. AreWidened widths.now.items (map string_bytes cells.now.items) wide.items) }
+{
     let mut wide = Vec::new(alloc);
-    for (index, cell) in cells.iter().enumerate() {
+    for index in 0..cells.len() {
         let width = widths.get(index).copied().unwrap_or(0);
-        wide.push(width.max(cell.as_str().width()))?;
+        wide.push(width.max(cells[index].as_str().width()))?;
     }
     Ok(wide)
 }

@@ -1,14 +1,18 @@
-//! What the programs share: the words of the command line, a file that is written whole or not at all, temporary files, whether two names
-//! are one file, the exit statuses, and the version.
+//! The edge of the programs, once: words and options, files that are read whole, outputs that are written whole or not at all, temporary
+//! files, whether two names are one file, what goes wrong, the exit statuses, and the version.
 //!
 //! No clause can say what a file has, so `tests/words` tries files: see the page of the program `hashbag_words`.
 #![tactic(auto)]
 
-pub mod arguments;
+pub mod input;
 pub mod one_file;
+pub mod options;
+pub mod output;
 pub mod output_file;
+pub mod program;
 pub mod status;
 pub mod temporary_file;
+pub mod trouble;
 
 /// The version of this repository and of each program: that of the Rust crate, and behind the hyphen that of the port.
 pub const VERSION: &str = "0.1.13-3";

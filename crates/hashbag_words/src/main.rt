@@ -19,7 +19,7 @@ mod size;
 
 use failure::Failure;
 use hashbag_shell::VERSION;
-use hashbag_shell::arguments::{arguments, explain};
+use hashbag_shell::program::{printed, words_of as given_words};
 use hashbag_shell::status::BAD_INPUT;
 use settings::Settings;
 use std::alloc::{AllocError, Global};
@@ -85,16 +85,16 @@ fn obey(rt: &HostRuntime, words: &Vec<&str>) -> Result<u8, clap::Error> {
 }
 
 fn run(rt: &HostRuntime) -> u8 {
-    let given = match arguments(rt, "hashbag_words") {
+    let given = match given_words(rt) {
         Ok(given) => given,
-        Err(status) => return status,
+        Err(trouble) => return trouble.report(rt, "hashbag_words"),
     };
     let Ok(words) = words_of(rt.alloc(), &given) else {
         return Failure::NoMemoryLeft.report(rt);
     };
     match obey(rt, &words) {
         Ok(status) => status,
-        Err(error) => explain(rt, &error),
+        Err(error) => printed(rt, &error).report(rt, "hashbag_words"),
     }
 }
 

@@ -4,7 +4,7 @@ use hashbag::FixedState;
 use hashbag_lists::counts::{Reading, read_counts_as};
 use hashbag_lists::decimals::{read_decimal, write_decimal};
 use hashbag_lists::delimiter::Delimiter;
-use hashbag_lists::files::in_file;
+use hashbag_lists::fault::in_file;
 use hashbag_lists::scale::{Mark, Scale};
 use hashbag_match_core::keys::{names_in, repeated};
 use hashbag_match_core::matching::rows_of_tallies;
@@ -521,7 +521,7 @@ fn status_of(alloc: Global, text: &[u8], decimals: u32) -> u8 {
         "number",
         reading,
     );
-    match in_file("ordered.csv", tally) {
+    match in_file(alloc, "ordered.csv", tally) {
         Ok(_) => 0,
         Err(trouble) => trouble.status(),
     }

@@ -1,8 +1,8 @@
 //! The arguments of the subcommands, and their help.
-use crate::command::{COLUMNS, MARKS, Made, PROGRAM, SCALES, START_COLUMNS, with};
+use crate::command::{COLUMNS, PROGRAM, START_COLUMNS};
 use clap::{Arg, ArgAction, Command, value_parser};
-use hashbag_lists::delimiter::NAMES;
 use hashbag_shell::VERSION;
+use hashbag_shell::options::{self, Made, SCALES, with};
 use std::alloc::Global;
 
 const ABOUT: &str = "Keeps a stock in a database.";
@@ -49,29 +49,13 @@ fn job<'a>(alloc: Global, name: &'a str, about: &'a str) -> Made<'a> {
 
 // Adds how fields are delimited, and numbers written.
 fn with_form<'a>(alloc: Global, command: Made<'a>) -> Made<'a> {
-    let mark = Arg::new(alloc, "mark")
-        .long("mark")
-        .value_name("MARK")
-        .value_parser(MARKS.as_slice())
-        .default_value(".")
-        .help("What is before decimals");
-    let delimiter = Arg::new(alloc, "delimiter")
-        .long("delimiter")
-        .value_name("DELIMITER")
-        .value_parser(NAMES.as_slice())
-        .default_value(",")
-        .help("What is between fields");
-    with(with(command, mark), delimiter)
+    options::with_form(alloc, command, "What is between fields")
 }
 
 // Adds where a table is written.
 fn with_output<'a>(alloc: Global, command: Made<'a>) -> Made<'a> {
-    let output = Arg::new(alloc, "output")
-        .short('o')
-        .long("output")
-        .value_name("FILE")
-        .help("Where the table is written, in place of standard output");
-    with(with_form(alloc, command), output)
+    let help = "Where the table is written, in place of standard output";
+    options::with_output(alloc, with_form(alloc, command), help)
 }
 
 // Adds the stock at the beginning.

@@ -1,5 +1,5 @@
 //! Files that are entered into a stock.
-use crate::outputs::{abandon, is_same, open, write_refusals};
+use crate::outputs::{is_same, write_refusals};
 use crate::stock::database::{
     Db, ended, is_new, is_of_database, open_or_make, put, read, read_once,
 };
@@ -12,9 +12,10 @@ use hashbag_ledger_core::movements::{Entry, Movement, Outcome, Refusal};
 use hashbag_ledger_core::output::{balance_text, refusals_table, refusals_text};
 use hashbag_lists::counts::Reading;
 use hashbag_lists::decimals::write_decimal;
-use hashbag_lists::fault::{Fault, SheetError};
-use hashbag_lists::trouble::Trouble;
+use hashbag_lists::fault::{Fault, SheetError, in_file};
+use hashbag_shell::output::Output;
 use hashbag_shell::status::{DENIED, DONE};
+use hashbag_shell::trouble::Trouble;
 use hashbag_stock::error::StockError;
 use hashbag_stock::query::{Balance, Batches};
 use hashbag_stock::tables::Form;
@@ -59,8 +60,11 @@ fn too_large<'a>(alloc: Global, file: &'a str, line: u64, reading: Reading) -> F
     match write_decimal(alloc, MOST, reading.scale) {
         Ok(most) => {
             let fault = Fault::TotalPastMost(most);
-            let error = SheetError::Line { line, fault };
-            Failure::from(Trouble::BadLine { file, error })
+            let error: Result<(), SheetError> = Err(SheetError::Line { line, fault });
+            match in_file(alloc, file, error) {
+                Ok(()) => Failure::from(Trouble::Memory),
+                Err(trouble) => Failure::from(trouble),
+            }
         }
         Err(error) => Failure::from(error),
     }
@@ -381,14 +385,14 @@ pub fn enter<'a>(rt: &HostRuntime, request: &Request<'a>) -> Result<u8, Failure<
     if let Some(name) = conflict(rt, request)? {
         return Err(Failure::Conflict(name));
     }
-    let output = open(rt, request.refused)?;
+    let output = Output::open(rt, request.refused)?;
     match report_of(rt, request) {
         Ok((text, status)) => {
             write_refusals(rt, output, text.as_slice())?;
             Ok(status)
         }
         Err(failure) => {
-            abandon(rt, output);
+            output.abandon(rt);
             Err(failure)
         }
     }

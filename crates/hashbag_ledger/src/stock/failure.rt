@@ -1,9 +1,9 @@
 //! Why a subcommand doesn't do all that it is asked, its message and its status.
 use crate::command::PROGRAM;
-use hashbag_lists::trouble::Trouble;
 use hashbag_shell::status::{
     BAD_INPUT, DENIED, ENTERED_BEFORE, IN_USE, IO_FAILED, NO_MEMORY, TOTAL_TOO_LARGE,
 };
+use hashbag_shell::trouble::Trouble;
 use hashbag_stock::error::StockError;
 use sqlite::ErrorCode;
 use std::alloc::{AllocError, AllocFailed};

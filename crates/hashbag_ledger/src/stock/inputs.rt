@@ -4,8 +4,8 @@ use crate::stock::request::Request;
 use hashbag_ledger_core::movements::Movement;
 use hashbag_ledger_core::reading::{ChangeColumns, Columns, read_movements};
 use hashbag_lists::counts::{Reading, read_counts_as};
-use hashbag_lists::fault::SheetError;
-use hashbag_lists::files::{in_file, read_file};
+use hashbag_lists::fault::{SheetError, in_file};
+use hashbag_shell::input::read_file;
 use hashbag_stock_core::numbers::plain_change;
 use sha2::{Digest, Sha256};
 use std::alloc::{AllocError, Global};
@@ -119,6 +119,10 @@ pub fn movements_of<'a>(
     at: usize,
     reading: Reading,
 ) -> Result<Vec<Movement<String>>, Failure<'a>> {
-    let movements = in_file(input.file, read(rt.alloc(), request, input, at, reading))?;
+    let movements = in_file(
+        rt.alloc(),
+        input.file,
+        read(rt.alloc(), request, input, at, reading),
+    )?;
     Ok(movements)
 }

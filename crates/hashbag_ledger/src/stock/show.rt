@@ -1,9 +1,9 @@
 //! What is shown of a stock: its balance, the history of an article, and the batches.
-use crate::outputs::{open as open_output, write_table};
 use crate::stock::database::{is_of_database, read_once};
 use crate::stock::failure::Failure;
 use crate::stock::request::Request;
 use hashbag_ledger_core::output::balance_text;
+use hashbag_shell::output::Output;
 use hashbag_shell::status::DONE;
 use hashbag_stock::query::{Balance, Batches, History};
 use hashbag_stock_core::output::{batches_text, history_text};
@@ -46,8 +46,7 @@ fn write<'a>(rt: &HostRuntime, request: &Request<'a>, text: &[u8]) -> Result<u8,
     {
         return Err(Failure::Conflict(name));
     }
-    let output = open_output(rt, request.output)?;
-    write_table(rt, output, text)?;
+    Output::open(rt, request.output)?.write(rt, text)?;
     Ok(DONE)
 }
 

@@ -8,7 +8,7 @@ use hashbag_ledger_core::ledger::booking::Booked;
 use hashbag_ledger_core::movements::{Movement, Refusal};
 use hashbag_ledger_core::output::refusals_text;
 use hashbag_lists::decimals::write_decimal;
-use hashbag_lists::files::write_text;
+use hashbag_shell::output::write_text;
 use hashbag_shell::status::{DENIED, DONE};
 use hashbag_stock::query::{Balance, Batches, Entered};
 use hashbag_stock::writing::{Kind, NewBatch};

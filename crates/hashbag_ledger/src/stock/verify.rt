@@ -8,7 +8,7 @@ use hashbag_ledger_core::ledger::Entered;
 use hashbag_lists::counts::Reading;
 use hashbag_lists::decimals::write_decimal;
 use hashbag_lists::escaped::Escaped;
-use hashbag_lists::files::write_text;
+use hashbag_shell::output::write_text;
 use hashbag_shell::status::{DENIED, DONE};
 use hashbag_stock::query::{Everything, Kept};
 use hashbag_stock_core::entering::enter_batch;

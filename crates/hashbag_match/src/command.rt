@@ -1,0 +1,87 @@
+//! The command line.
+use clap::{Arg, Command};
+use hashbag_shell::VERSION;
+use hashbag_shell::options::{Made, with, with_output, with_reading};
+use std::alloc::Global;
+
+/// The name of the program, with which its lines on standard error begin.
+pub const PROGRAM: &str = "hashbag_match";
+
+const ABOUT: &str = "Matches what was ordered with what was delivered, article by article.";
+
+const AFTER: &str = "\
+Both files are CSV with a header; their columns are found by name. An article may be on several lines; its numbers add up.
+`-` is standard input.
+
+Example: hashbag_match --only differing ordered.csv delivered.csv
+         hashbag_match --key sku,lot --number qty --delivered-number Menge --scale 2 ordered.csv delivered.csv
+
+Status: 0 they agree, 1 they differ, 2 bad arguments or a bad line (FILE:LINE is said), 3 no memory, 4 a file can't be opened, or a
+read or a write failed, 5 the numbers of a file add up to more than 2^64-1.";
+
+static ROWS: [&str; 4] = ["missing", "surplus", "differing", "all"];
+
+static FORMS: [&str; 3] = ["table", "csv", "json"];
+
+// The options that name columns.
+fn with_columns<'a>(alloc: Global, command: Made<'a>) -> Made<'a> {
+    let key = Arg::new(alloc, "key")
+        .long("key")
+        .value_name("COLUMNS")
+        .default_value("article")
+        .help("The columns of an article, separated by commas");
+    let number = Arg::new(alloc, "number")
+        .long("number")
+        .value_name("COLUMN")
+        .default_value("number")
+        .help("The column of numbers");
+    let delivered_key = Arg::new(alloc, "delivered-key")
+        .long("delivered-key")
+        .value_name("COLUMNS")
+        .help("The names of the key columns in DELIVERED.csv, if they are others");
+    let delivered_number = Arg::new(alloc, "delivered-number")
+        .long("delivered-number")
+        .value_name("COLUMN")
+        .help("The name of the column of numbers in DELIVERED.csv, if it is another");
+    let command = with(with(command, key), number);
+    with(with(command, delivered_key), delivered_number)
+}
+
+// The options that say what is written.
+fn with_writing<'a>(alloc: Global, command: Made<'a>) -> Made<'a> {
+    let only = Arg::new(alloc, "only")
+        .long("only")
+        .value_name("ROWS")
+        .value_parser(ROWS.as_slice())
+        .default_value("all")
+        .help("Which articles are written; the sums are of all");
+    let form = Arg::new(alloc, "to")
+        .long("to")
+        .value_name("FORM")
+        .value_parser(FORMS.as_slice())
+        .default_value("table")
+        .help("How they are written");
+    let help = "The file that is written, whole or not at all, in place of standard output";
+    with_output(alloc, with(with(command, only), form), help)
+}
+
+/// Returns the command of the program.
+///
+/// # Errors
+///
+/// An error if an allocation fails.
+pub fn command<'a>(alloc: Global) -> Made<'a> {
+    let ordered = Arg::new(alloc, "ORDERED.csv")
+        .required(true)
+        .help("What was ordered");
+    let delivered = Arg::new(alloc, "DELIVERED.csv")
+        .required(true)
+        .help("What was delivered");
+    let command = Command::new(alloc, PROGRAM)
+        .version(VERSION)
+        .about(ABOUT)
+        .after_help(AFTER);
+    let command = with_reading(alloc, with_columns(alloc, Ok(command)));
+    let command = with_writing(alloc, command);
+    with(with(command, ordered), delivered)
+}

@@ -1,0 +1,82 @@
+//! The words of the command line as values.
+use clap::ArgMatches;
+use hashbag_lists::counts::Reading;
+use hashbag_match_core::ask::{Ask, Columns};
+use hashbag_match_core::output::{Form, Only};
+use hashbag_shell::one_file::is_one_file;
+use hashbag_shell::options::word;
+use hashbag_shell::trouble::Trouble;
+use std::alloc::{AllocError, Global};
+use std::rt::Files;
+
+/// The files, and what is asked of them.
+#[derive(Drop)]
+pub struct Request<'a> {
+    /// The file of what was ordered.
+    pub ordered: &'a str,
+    /// The file of what was delivered.
+    pub delivered: &'a str,
+    /// The file that is written, or standard output.
+    pub output: Option<&'a str>,
+    /// What is asked for.
+    pub ask: Ask<'a>,
+}
+
+// What the words ask for.
+fn ask_of<'a>(alloc: Global, given: &ArgMatches<'a>) -> Result<Ask<'a>, AllocError> {
+    let key = word(given, "key", "article");
+    let number = word(given, "number", "number");
+    Ok(Ask {
+        ordered: Columns::named(alloc, key, number)?,
+        delivered: Columns::named(
+            alloc,
+            word(given, "delivered-key", key),
+            word(given, "delivered-number", number),
+        )?,
+        reading: Reading::named(
+            word(given, "delimiter", ","),
+            word(given, "scale", "0"),
+            word(given, "mark", "."),
+        ),
+        only: Only::named(word(given, "only", "all")),
+        form: Form::named(word(given, "to", "table")),
+    })
+}
+
+impl<'a> Request<'a> {
+    /// Returns the request of the words.
+    ///
+    /// # Errors
+    ///
+    /// `Words` if they don't fit together, `Memory` if an allocation fails.
+    pub fn of<R: Files + AllocGlobal>(
+        rt: &R,
+        given: &ArgMatches<'a>,
+    ) -> Result<Request<'a>, Trouble<'a>> {
+        let request = Request {
+            ordered: given.get_str("ORDERED.csv").unwrap_or("-"),
+            delivered: given.get_str("DELIVERED.csv").unwrap_or("-"),
+            output: given.get_str("output"),
+            ask: ask_of(rt.alloc(), given)?,
+        };
+        request.check(rt)?;
+        Ok(request)
+    }
+
+    // Whether the words fit together.
+    fn check<R: Files + AllocGlobal>(&self, rt: &R) -> Result<(), Trouble<'a>> {
+        let alloc = rt.alloc();
+        if self.ordered == "-" && self.delivered == "-" {
+            return Err(Trouble::Words(format!(in alloc; "both files are standard input")?));
+        }
+        if let Err(bad) = self.ask.fits() {
+            return Err(Trouble::Words(format!(in alloc; "{bad}")?));
+        }
+        if let Some(file) = self.output
+            && (is_one_file(rt, self.ordered, file) || is_one_file(rt, self.delivered, file))
+        {
+            return Err(Trouble::Words(format!(in alloc; "the output is one of the inputs")?));
+        }
+        Ok(())
+    }
+}

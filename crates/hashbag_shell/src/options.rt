@@ -1,0 +1,64 @@
+//! Options that several programs have.
+use clap::{Arg, ArgMatches, Command};
+use std::alloc::{AllocError, Global};
+
+/// A command, unless an allocation failed.
+pub type Made<'a> = Result<Command<'a>, AllocError>;
+
+/// The names of the delimiters.
+pub static DELIMITERS: [&str; 4] = [",", ";", "tab", "\\t"];
+
+/// The numbers of decimals that numbers may have.
+pub static SCALES: [&str; 10] = ["0", "1", "2", "3", "4", "5", "6", "7", "8", "9"];
+
+/// What may be before decimals.
+pub static MARKS: [&str; 2] = [".", ","];
+
+/// Adds an argument.
+pub fn with<'a>(command: Made<'a>, arg: Arg<'a>) -> Made<'a> {
+    command?.arg(arg)
+}
+
+/// Adds `--delimiter`, with this help, and `--mark`.
+pub fn with_form<'a>(alloc: Global, command: Made<'a>, help: &'a str) -> Made<'a> {
+    let delimiter = Arg::new(alloc, "delimiter")
+        .long("delimiter")
+        .value_name("DELIMITER")
+        .value_parser(DELIMITERS.as_slice())
+        .default_value(",")
+        .help(help);
+    let mark = Arg::new(alloc, "mark")
+        .long("mark")
+        .value_name("MARK")
+        .value_parser(MARKS.as_slice())
+        .default_value(".")
+        .help("What is before decimals");
+    with(with(command, mark), delimiter)
+}
+
+/// Adds `--scale`, `--mark` and `--delimiter`: how numbers and fields are read and written.
+pub fn with_reading<'a>(alloc: Global, command: Made<'a>) -> Made<'a> {
+    let scale = Arg::new(alloc, "scale")
+        .long("scale")
+        .value_name("D")
+        .value_parser(SCALES.as_slice())
+        .default_value("0")
+        .help("How many decimals numbers may have; all D are written");
+    let help = "What is between fields, also of CSV that is written";
+    with_form(alloc, with(command, scale), help)
+}
+
+/// Adds `-o`, with this help.
+pub fn with_output<'a>(alloc: Global, command: Made<'a>, help: &'a str) -> Made<'a> {
+    let output = Arg::new(alloc, "output")
+        .short('o')
+        .long("output")
+        .value_name("FILE")
+        .help(help);
+    with(command, output)
+}
+
+/// Returns the word that is given to an argument, or the default.
+pub fn word<'a>(given: &ArgMatches<'a>, name: &str, default: &'a str) -> &'a str {
+    given.get_str(name).unwrap_or(default)
+}
