@@ -286,6 +286,7 @@ impl<T: Drop> Iterator for IntoIter<T> {
 
     ghost remaining = { item_count (λ s. s) };
 
+    #[inline(always)]
     fn next(&mut self) -> Option<(T, usize)> {
         self.owned.next()
     }
