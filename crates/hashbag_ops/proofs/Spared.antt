@@ -15,7 +15,7 @@ use Rattle.hashbag.specs.Occurrences.{count, distinct_count, IsBag}
 use Rattle.hashbag.specs.Tables.{room}
 use Rattle.hashbag.specs.Walks.{IsSetWalkOf}
 use Rattle.hashbag.proofs.CallerLemmas.{count_extended, count_kept, items_that_came, pairs_as_they_are}
-use Rattle.hashbag.proofs.InsertLemmas.{few_in_turn, left_in_turn, length_in_turn, spends_in_turn, stays_in_turn, turn_last, StaysWithin}
+use Rattle.hashbag.proofs.InsertLemmas.{few_in_turn, left_in_turn, length_in_turn, spends_in_turn, turn_last, StaysWithin}
 use Rattle.hashbag.proofs.OccurrenceLemmas.{count_rearranged}
 use Rattle.hashbag_ops.proofs.Sums.{count_written, few_lacked, has_in_turn, lacked, none_of_none, one_if, one_lacked, takes_pairs, Has}
 
