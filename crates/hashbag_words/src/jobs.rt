@@ -1,7 +1,6 @@
 //! The jobs: each reads its inputs into a bag, and writes the counts of the bag.
 use crate::bag::{Bag, empty};
 use crate::failure::Failure;
-use crate::gauge::Gauge;
 use crate::inputs::{Bound, Inputs, Intake};
 use crate::names::check;
 use crate::output::{Made, Output, keep_shown, rows_of};
@@ -10,12 +9,31 @@ use crate::runs::Runs;
 use crate::settings::{By, Job, Settings};
 use crate::shown::{show, show_sorted};
 use crate::size::bytes_of;
+use hashbag::HashBag;
 use hashbag_ops::{keep_common, take_away};
 use hashbag_shell::status::{DENIED, DONE};
+use hashbag_words_core::counter::TextCounter;
+use hashbag_words_core::gauge::Gauge;
 use hashbag_words_core::rule::{Pieces, Rule};
 use hashbag_words_core::shards::Shard;
 use regex::Regex;
 use std::mem;
+
+// Counts what the rule says of the inputs.
+fn count_by<'a>(
+    inputs: &mut Inputs<'_, 'a, '_>,
+    rule: Rule<'_>,
+    bag: &mut Bag,
+) -> Result<(), Failure<'a>> {
+    let alloc = inputs.rt.alloc();
+    let none = HashBag::with_hasher(alloc, *bag.hasher());
+    let given = mem::replace(bag, none);
+    let gauge = inputs.bound.as_ref().map(|bound| bound.gauge);
+    let mut counter = TextCounter::new(alloc, given, rule, inputs.settings.bad_lines, gauge);
+    let counted = inputs.count_all(&mut counter);
+    *bag = counter.into_bag();
+    counted
+}
 
 // Counts the tokens of the inputs.
 fn count<'a>(
@@ -23,8 +41,8 @@ fn count<'a>(
     by: By<'a>,
     bag: &mut Bag,
 ) -> Result<(), Failure<'a>> {
-    let settings = inputs.settings;
-    let fold = settings.fold;
+    let fold = inputs.settings.fold;
+    let lossy = inputs.settings.lossy;
     let pieces = match by {
         By::Words => Pieces::Words,
         By::UnicodeWords => Pieces::UnicodeWords,
@@ -35,16 +53,32 @@ fn count<'a>(
                 Err(error) => return Err(Failure::Pattern(error)),
             };
             let pieces = Pieces::Matches(&pattern);
-            return inputs.take_all(Intake::Text(Rule { pieces, fold }), bag);
+            return count_by(
+                inputs,
+                Rule {
+                    pieces,
+                    fold,
+                    lossy,
+                },
+                bag,
+            );
         }
     };
-    inputs.take_all(Intake::Text(Rule { pieces, fold }), bag)
+    count_by(
+        inputs,
+        Rule {
+            pieces,
+            fold,
+            lossy,
+        },
+        bag,
+    )
 }
 
 // Reads the two inputs of a job on a pair: the first into the bag, and the second into a new bag, which is only looked up afterwards.
 fn take_pair<'a>(
     inputs: &mut Inputs<'_, 'a, '_>,
-    counts: Intake<'_>,
+    counts: Intake,
     bag: &mut Bag,
 ) -> Result<Bag, Failure<'a>> {
     let settings = inputs.settings;

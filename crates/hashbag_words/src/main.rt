@@ -5,7 +5,6 @@ mod bag;
 mod batch;
 mod command;
 mod failure;
-mod gauge;
 mod input;
 mod inputs;
 mod jobs;

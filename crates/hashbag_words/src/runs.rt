@@ -1,5 +1,5 @@
 //! Runs: counts of parts of the input in temporary files, tokens rising.
-use crate::bag::Bag;
+use crate::bag::{Bag, Counter};
 use crate::batch::Batch;
 use crate::failure::Failure;
 use hashbag_shell::temporary_file::create_unnamed;
@@ -56,6 +56,13 @@ fn spill_to(rt: &HostRuntime, file: File, bag: &mut Bag) -> io::Result<File> {
     begun(out)
 }
 
+// The same of what a counter counted.
+fn take_run_to(rt: &HostRuntime, file: File, counter: &mut Counter<'_>) -> io::Result<File> {
+    let mut out = BufWriter::with_capacity(rt.alloc(), BUFFER, file)?;
+    counter.take_run(&mut out)?;
+    begun(out)
+}
+
 impl<'s, 'a> Runs<'s, 'a> {
     /// Returns no runs. The temporary files of later ones are in that folder.
     pub fn new(rt: &'s HostRuntime, folder: &'a str) -> Runs<'s, 'a> {
@@ -72,6 +79,15 @@ impl<'s, 'a> Runs<'s, 'a> {
     pub fn spill(&mut self, bag: &mut Bag) -> Result<(), Failure<'a>> {
         let file = temporary(self.rt, self.folder)?;
         match spill_to(self.rt, file, bag) {
+            Ok(file) => self.add(file),
+            Err(error) => Err(Failure::of_file(self.folder, error)),
+        }
+    }
+
+    /// Makes a run of what was counted. The counter's bag is then empty.
+    pub fn take_run(&mut self, counter: &mut Counter<'_>) -> Result<(), Failure<'a>> {
+        let file = temporary(self.rt, self.folder)?;
+        match take_run_to(self.rt, file, counter) {
             Ok(file) => self.add(file),
             Err(error) => Err(Failure::of_file(self.folder, error)),
         }

@@ -1,5 +1,5 @@
 pub mod CountLemmas
-pub mod InRunsLemmas
+pub mod CountedLemmas
 pub mod LineLemmas
 pub mod MatchLemmas
 pub mod MergeLemmas

@@ -77,10 +77,3 @@ same_by strings pairs same text = sym (adds [] strings pairs (λ v. sym (same v)
   where
     none_before : (n : ℕ) → n ≡ 0 + n
     none_before n = omega arith
-
--- of strings that are those of two lists
-pub both : (first second sum : List (String Global)) → ((v : String Global) → count string_eq v sum ≡ count string_eq v first + count string_eq v second)
-    → (text : List ℕ) → times_of text sum ≡ times_of text first + times_of text second
-both first second sum same text =
-    adds first sum (map once second) (λ v. same v ∙ ap (λ (n : ℕ). count string_eq v first + n) (sym (times_by-once (string_bytes v) second ∙ times_of-string v second))) text
-    ∙ ap (λ (n : ℕ). times_of text first + n) (times_by-once text second)
