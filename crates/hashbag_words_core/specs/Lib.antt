@@ -1,6 +1,7 @@
 pub mod Choice
 pub mod Counted
 pub mod Counts
+pub mod Examples
 pub mod Merging
 pub mod Met
 pub mod Prefix
