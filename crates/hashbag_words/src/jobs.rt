@@ -3,19 +3,18 @@ use crate::bag::{Bag, empty};
 use crate::failure::Failure;
 use crate::inputs::{Bound, Inputs, Intake};
 use crate::names::check;
-use crate::output::{Made, Output, keep_shown, rows_of};
+use crate::output::{Made, Output, rows_of};
 use crate::progress::Progress;
 use crate::runs::Runs;
 use crate::settings::{By, Job, Settings};
 use crate::shown::{show, show_sorted};
-use crate::size::bytes_of;
 use hashbag::HashBag;
 use hashbag_ops::{keep_common, take_away};
 use hashbag_shell::status::{DENIED, DONE};
+use hashbag_words_core::choice::keep_shown;
 use hashbag_words_core::counter::TextCounter;
 use hashbag_words_core::gauge::Gauge;
 use hashbag_words_core::rule::{Pieces, Rule};
-use hashbag_words_core::shards::Shard;
 use regex::Regex;
 use std::mem;
 
@@ -95,16 +94,10 @@ fn bound_of<'s, 'a>(
     rt: &'s HostRuntime,
     settings: &Settings<'a, '_>,
     folder: &'a str,
-) -> Result<Option<Bound<'s, 'a>>, Failure<'a>> {
-    let Some(size) = settings.memory else {
-        return Ok(None);
-    };
-    let Some(most) = bytes_of(size) else {
-        return Err(Failure::Size(size));
-    };
-    let gauge = Gauge::new(most);
+) -> Option<Bound<'s, 'a>> {
+    let gauge = Gauge::new(settings.memory?);
     let runs = Runs::new(rt, folder);
-    Ok(Some(Bound { gauge, runs }))
+    Some(Bound { gauge, runs })
 }
 
 // Reads the inputs of a job. What they count is then in the bag, and in the runs that were made.
@@ -129,23 +122,11 @@ fn take_in<'a>(inputs: &mut Inputs<'_, 'a, '_>, bag: &mut Bag) -> Result<(), Fai
     Ok(())
 }
 
-// Returns the shard that is shown, if it isn't all.
-fn shard_of<'a>(settings: &Settings<'a, '_>) -> Result<Option<Shard>, Failure<'a>> {
-    let Some(text) = settings.shard else {
-        return Ok(None);
-    };
-    match Shard::of_text(text) {
-        Some(shard) => Ok(Some(shard)),
-        None => Err(Failure::Shard(text)),
-    }
-}
-
 // Returns what is to be written of runs and of the bag, or `None` if there are no runs. Temporary files are in this folder.
 fn merged<'a>(
     rt: &HostRuntime,
     settings: &Settings<'a, '_>,
     folder: &'a str,
-    shard: Option<Shard>,
     mut runs: Runs<'_, 'a>,
     bag: &mut Bag,
 ) -> Result<Option<Made<'static>>, Failure<'a>> {
@@ -155,7 +136,7 @@ fn merged<'a>(
     if !bag.is_empty() {
         runs.spill(bag)?;
     }
-    let made = show(rt, settings, folder, shard, runs.into_batch()?)?;
+    let made = show(rt, settings, folder, runs.into_batch()?)?;
     Ok(Some(made))
 }
 
@@ -167,12 +148,11 @@ fn read<'a>(
     folder: &'a str,
     bag: &mut Bag,
 ) -> Result<Option<Made<'static>>, Failure<'a>> {
-    let shard = shard_of(settings)?;
     if settings.sorted {
-        let made = show_sorted(rt, settings, folder, shard, names)?;
+        let made = show_sorted(rt, settings, folder, names)?;
         return Ok(Some(made));
     }
-    let bound = bound_of(rt, settings, folder)?;
+    let bound = bound_of(rt, settings, folder);
     let progress = Progress::new(rt, settings.progress);
     let mut inputs = Inputs {
         rt,
@@ -183,11 +163,11 @@ fn read<'a>(
     };
     take_in(&mut inputs, bag)?;
     if let Some(bound) = inputs.bound {
-        if let Some(made) = merged(rt, settings, folder, shard, bound.runs, bag)? {
+        if let Some(made) = merged(rt, settings, folder, bound.runs, bag)? {
             return Ok(Some(made));
         }
     }
-    keep_shown(settings, shard, bag);
+    keep_shown(bag, settings.choice);
     Ok(None)
 }
 

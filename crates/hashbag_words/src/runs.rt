@@ -3,9 +3,9 @@ use crate::bag::{Bag, Counter};
 use crate::batch::Batch;
 use crate::failure::Failure;
 use hashbag_shell::temporary_file::create_unnamed;
+use hashbag_words_core::choice::{Choice, Order};
 use hashbag_words_core::runs::spill;
-use hashbag_words_core::shards::Shard;
-use hashbag_words_core::shown_rows::{ShardRows, WrittenRows};
+use hashbag_words_core::shown_rows::ShownRows;
 use hashbag_words_core::writing::{Format, RowWriter};
 use std::fs::File;
 use std::io::{self, BufWriter, Seek};
@@ -147,34 +147,33 @@ impl<'s, 'a> Runs<'s, 'a> {
 pub struct Shape {
     /// How they are written.
     pub format: Format,
-    /// What counts less isn't written.
-    pub least: usize,
-    /// The shard that is written, if it isn't all.
-    pub shard: Option<Shard>,
+    /// Which are.
+    pub choice: Choice,
 }
 
 // The rows of a run: all of them.
 const RUN: Shape = Shape {
     format: Format::Tsv,
-    least: 0,
-    shard: None,
+    choice: Choice {
+        order: Order::Rising,
+        least: 0,
+        shard: None,
+    },
 };
 
-type FileRows = ShardRows<WrittenRows<BufWriter<File>>>;
+type FileRows = ShownRows<RowWriter<BufWriter<File>>>;
 
 // Begins rows in a file.
 fn begin_rows(rt: &HostRuntime, file: File, shape: Shape) -> io::Result<FileRows> {
     let out = BufWriter::with_capacity(rt.alloc(), BUFFER, file)?;
-    let writer = RowWriter::begin(rt.alloc(), out, shape.format)?;
-    let least = shape.least;
-    let sink = WrittenRows { writer, least };
-    let shard = shape.shard;
-    Ok(ShardRows { sink, shard })
+    let sink = RowWriter::begin(rt.alloc(), out, shape.format)?;
+    let choice = shape.choice;
+    Ok(ShownRows { sink, choice })
 }
 
 // Ends rows. Returns their file, and whether it shows nothing.
 fn end_rows(rows: FileRows) -> io::Result<(File, bool)> {
-    let writer = rows.sink.writer;
+    let writer = rows.sink;
     let is_empty = writer.is_empty();
     let file = begun(writer.finish()?)?;
     Ok((file, is_empty))

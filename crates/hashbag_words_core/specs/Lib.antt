@@ -6,8 +6,10 @@ pub mod Merging
 pub mod Met
 pub mod Prefix
 pub mod Reading
+pub mod RowText
 pub mod Rows
 pub mod Runs
 pub mod Shards
 pub mod Sorted
 pub mod Tokens
+pub mod Writing

@@ -1,6 +1,7 @@
 //! The merge of files whose rows rise. What is wanted was added up by hand.
 use crate::texts::is_text;
 use hashbag::HashBag;
+use hashbag_words_core::choice::{Choice, Order};
 use hashbag_words_core::counter::{Fed, TextCounter};
 use hashbag_words_core::errors::Fault;
 use hashbag_words_core::gauge::Gauge;
@@ -8,7 +9,7 @@ use hashbag_words_core::lines::BadLines;
 use hashbag_words_core::row_reader::RowReader;
 use hashbag_words_core::rows::RowForm;
 use hashbag_words_core::rule::{Pieces, Rule};
-use hashbag_words_core::shown_rows::{TopRows, WrittenRows};
+use hashbag_words_core::shown_rows::{ShownRows, TopRows};
 use hashbag_words_core::sorted_merge::{Sink, Stop, merge_rows};
 use hashbag_words_core::sources::Source;
 use hashbag_words_core::writing::{Format, RowWriter};
@@ -119,11 +120,10 @@ fn merge_into<K: Sink>(
 
 // The merged rows as text, or what stopped.
 fn merged(alloc: Global, form: RowForm, files: &str, skips: bool) -> Result<String, Fail> {
-    let writer = RowWriter::begin(alloc, Vec::new(alloc), Format::Tsv)?;
-    let mut rows = WrittenRows { writer, least: 0 };
+    let mut rows = RowWriter::begin(alloc, Vec::new(alloc), Format::Tsv)?;
     match merge_into(alloc, form, files, skips, &mut rows)? {
         Some(text) => Ok(text),
-        None => Ok(String::from_utf8(rows.writer.finish()?)?),
+        None => Ok(String::from_utf8(rows.finish()?)?),
     }
 }
 
@@ -152,7 +152,7 @@ fn are_skipped(alloc: Global, files: &str, wanted: &[u64]) -> Result<(), Fail> {
     let Ok(mut sources) = opened(alloc, RowForm::Tsv, files, true)? else {
         return Err(Fail::new("files aren't opened"));
     };
-    let mut rows = TopRows::new(alloc, 1, 0);
+    let mut rows = TopRows::new(alloc, 1);
     if merge_rows(&mut sources, &mut rows).is_err() {
         return Err(Fail::new("files aren't merged"));
     }
@@ -218,7 +218,7 @@ fn said_of(alloc: Global, rows: TopRows) -> Result<String, Fail> {
 
 // The commonest row of a run.
 fn top_of_run(alloc: Global, run: &[u8]) -> Result<String, Fail> {
-    let mut top = TopRows::new(alloc, 1, 0);
+    let mut top = TopRows::new(alloc, 1);
     let mut sources = Vec::new(alloc);
     sources
         .push(source_of(alloc, run)?)
@@ -244,14 +244,24 @@ const TOPS: [(usize, usize, &str); 4] = [
     (9, 2, "c9 a4 b4 "),
 ];
 
+// A sink that is put the rows that count `least` or more.
+fn shown_in<K>(sink: K, least: usize) -> ShownRows<K> {
+    let choice = Choice {
+        order: Order::Rising,
+        least,
+        shard: None,
+    };
+    ShownRows { sink, choice }
+}
+
 // Those rows of two files.
 fn top_of(alloc: Global, most: usize, least: usize) -> Result<String, Fail> {
-    let mut top = TopRows::new(alloc, most, least);
+    let mut top = shown_in(TopRows::new(alloc, most), least);
     let files = "a\t4\nc\t2\ne\t1\n|b\t4\nc\t7\nf\t1\n";
     if merge_into(alloc, RowForm::Tsv, files, false, &mut top)?.is_some() {
         return Err(Fail::new("files aren't merged"));
     }
-    said_of(alloc, top)
+    said_of(alloc, top.sink)
 }
 
 #[test]
@@ -351,9 +361,9 @@ fn twice_in(alloc: Global, first: &[u8], second: &[u8]) -> Result<String, Fail> 
             .map_err(AllocError::from)?;
     }
     let writer = RowWriter::begin(alloc, Vec::new(alloc), Format::Tsv)?;
-    let mut rows = WrittenRows { writer, least: 2 };
+    let mut rows = shown_in(writer, 2);
     match merge_rows(&mut sources, &mut rows) {
-        Ok(()) => Ok(String::from_utf8(rows.writer.finish()?)?),
+        Ok(()) => Ok(String::from_utf8(rows.sink.finish()?)?),
         Err(_) => Err(Fail::new("runs aren't merged")),
     }
 }
