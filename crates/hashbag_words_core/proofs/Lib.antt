@@ -6,6 +6,7 @@ pub mod MergeLemmas
 pub mod PrefixLemmas
 pub mod ReadLemmas
 pub mod RowLemmas
+pub mod RowTextLemmas
 pub mod RunLemmas
 pub mod RunTextLemmas
 pub mod SortedLemmas
