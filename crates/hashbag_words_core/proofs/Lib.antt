@@ -9,6 +9,7 @@ pub mod RowLemmas
 pub mod RowTextLemmas
 pub mod RunLemmas
 pub mod RunTextLemmas
+pub mod ShownLemmas
 pub mod SortedLemmas
 pub mod SortedMergeLemmas
 pub mod TextLemmas

@@ -119,7 +119,7 @@ impl<W: Write> RowWriter<W> {
     where
         W: Drop,
         ensures head { IfOk result (λ writer. Appends (W.contents out) (W.contents writer.out) (head_text format)) }
-        ensures none { IfOk result (λ writer. (writer.format ≡ format) × (writer.is_empty ≡ true)) }
+        ensures rows { IfOk result (λ writer. (writer.format ≡ format) × (writer.is_empty ≡ true)) }
     {
         out.write_all(format.head())?;
         Ok(RowWriter {
