@@ -1,10 +1,14 @@
 //! The bag that tokens are counted in.
 use crate::failure::Failure;
 use hashbag::HashBag;
+use hashbag_words_core::counter::TextCounter;
 use std::hash::RandomState;
 
 /// A bag of texts. Strangers choose the texts, so each run hashes with random keys.
 pub type Bag = HashBag<String, RandomState>;
+
+/// What counts the tokens of texts in such a bag.
+pub type Counter<'r> = TextCounter<'r, RandomState>;
 
 /// Returns an empty bag.
 ///

@@ -1,4 +1,6 @@
 //! An input that is open.
+ghost use Rattle.std.specs.Io.{ReadsAtMost};
+
 use std::fs::{self, File};
 use std::io::{self, Read, Stdin};
 
@@ -51,6 +53,23 @@ impl Read for Input {
         self.bytes = self.bytes.saturating_add(n as u64);
         Ok(n)
     }
+}
+
+/// Reads the next bytes of an input into the block, and returns how many there were: 0 at its end.
+///
+/// # Errors
+///
+/// The system's error.
+pub fn read_block(input: &mut Input, block: &mut [u8]) -> io::Result<usize>
+    ensures { ReadsAtMost result block.new }
+{
+    for _ in 0..u64::MAX {
+        match input.read(block) {
+            Err(error) if error.kind() == io::ErrorKind::Interrupted => {}
+            read => return read,
+        }
+    }
+    Err(io::Error::from(io::ErrorKind::Interrupted))
 }
 
 /// Returns what messages call the input of that name.

@@ -1,31 +1,30 @@
 //! The inputs: files by their names, and `-` for standard input.
-use crate::bag::Bag;
+use crate::bag::{Bag, Counter};
 use crate::failure::Failure;
-use crate::gauge::Gauge;
-use crate::input::{Input, plural, said};
+use crate::input::{Input, plural, read_block, said};
 use crate::progress::Progress;
 use crate::runs::{BUFFER, Runs};
 use crate::settings::Settings;
-use hashbag_words_core::counting::count_lines;
+use hashbag_words_core::counter::Fed;
 use hashbag_words_core::errors::Fault;
+use hashbag_words_core::gauge::Gauge;
 use hashbag_words_core::lines::Reading;
-use hashbag_words_core::lossy::count_lossy_lines;
 use hashbag_words_core::merging::{add_first_row, add_rows, add_tree};
 use hashbag_words_core::rows::RowForm;
-use hashbag_words_core::rule::Rule;
 use std::io::{self, BufRead, BufReader};
 
-// How many lines are read between two reports of progress.
+// How many bytes of a text are read at once.
+const BLOCK: usize = 1 << 16;
+
+// How many lines of counts are read between two reports of progress.
 const STEP: u64 = 1 << 16;
 
-// How many lines are read between two measures of a bag whose memory is bounded.
+// How many lines of counts are read between two measures of a bag whose memory is bounded.
 const BOUNDED_STEP: u64 = 16;
 
-/// How an input is read.
+/// How an input of counts is read.
 #[derive(Clone, Copy)]
-pub enum Intake<'r> {
-    /// As text, whose tokens by this rule are counted.
-    Text(Rule<'r>),
+pub enum Intake {
     /// As lines of counts in this form.
     Rows(RowForm),
     /// As a JSON text.
@@ -44,7 +43,7 @@ pub struct Bound<'s, 'a> {
 impl<'s, 'a> Bound<'s, 'a> {
     // Makes a run of the bag if it is full after `read` more bytes of the input.
     fn keep(&mut self, bag: &mut Bag, read: u64) -> Result<(), Failure<'a>> {
-        if self.gauge.is_full(bag, read) {
+        if self.gauge.is_full(bag, read as usize) {
             self.runs.spill(bag)?;
             self.gauge.empty();
         }
@@ -71,7 +70,7 @@ impl<'s, 'a, 'm> Inputs<'s, 'a, 'm> {
     // Reads the next lines of an input into the bag. Returns whether there may be more.
     fn take_lines<R: BufRead>(
         &self,
-        intake: Intake<'_>,
+        intake: Intake,
         bag: &mut Bag,
         input: &mut R,
         reading: &mut Reading,
@@ -83,10 +82,6 @@ impl<'s, 'a, 'm> Inputs<'s, 'a, 'm> {
             STEP
         };
         match intake {
-            Intake::Text(rule) if self.settings.lossy => {
-                count_lossy_lines(alloc, bag, &rule, input, reading, step)
-            }
-            Intake::Text(rule) => count_lines(alloc, bag, &rule, input, reading, step),
             Intake::Rows(form) if reading.line == 0 => {
                 add_first_row(alloc, bag, form, input, reading)
             }
@@ -119,7 +114,7 @@ impl<'s, 'a, 'm> Inputs<'s, 'a, 'm> {
     // Reads the whole input into the bag.
     fn take(
         &mut self,
-        intake: Intake<'_>,
+        intake: Intake,
         bag: &mut Bag,
         name: &'a str,
         mut input: BufReader<Input>,
@@ -146,6 +141,88 @@ impl<'s, 'a, 'm> Inputs<'s, 'a, 'm> {
         Ok(())
     }
 
+    // Makes a run of what was counted.
+    fn make_run(&mut self, counter: &mut Counter<'_>) -> Result<(), Failure<'a>> {
+        match &mut self.bound {
+            Some(bound) => bound.runs.take_run(counter),
+            None => Ok(()),
+        }
+    }
+
+    // Counts the tokens of a block, and makes a run each time the counter is full.
+    fn feed(
+        &mut self,
+        counter: &mut Counter<'_>,
+        name: &'a str,
+        block: &[u8],
+    ) -> Result<(), Failure<'a>> {
+        let mut rest = block;
+        for _ in 0..u64::MAX {
+            match counter.feed(rest) {
+                Ok(Fed::Whole) => break,
+                Ok(Fed::Full(n)) => {
+                    self.make_run(counter)?;
+                    rest = &rest[n..];
+                }
+                Err(fault) => {
+                    return Err(Failure::of_input(name, counter.reading().line, fault));
+                }
+            }
+        }
+        Ok(())
+    }
+
+    // Ends an input whose tokens were counted.
+    fn end_text(&mut self, counter: &mut Counter<'_>, name: &'a str) -> Result<(), Failure<'a>> {
+        let reading = match counter.end_text() {
+            Ok(reading) => reading,
+            Err(fault) => return Err(Failure::of_input(name, counter.reading().line, fault)),
+        };
+        if counter.is_full() {
+            self.make_run(counter)?;
+        }
+        self.progress.end_input(reading.line);
+        self.report(name, &reading);
+        Ok(())
+    }
+
+    // Counts the tokens of the input of this name. It is read by such blocks.
+    fn count_named(
+        &mut self,
+        counter: &mut Counter<'_>,
+        name: &'a str,
+        block: &mut [u8],
+    ) -> Result<(), Failure<'a>> {
+        let mut input = match Input::open(self.rt, name) {
+            Ok(input) => input,
+            Err(error) => return Err(Failure::of_file(said(name), error)),
+        };
+        for _ in 0..u64::MAX {
+            match read_block(&mut input, block) {
+                Ok(0) => break,
+                Ok(n) => self.feed(counter, said(name), &block[..n])?,
+                Err(error) => return Err(Failure::of_file(said(name), error)),
+            }
+            let lines = counter.reading().line;
+            self.progress.tell(self.rt, lines, counter.bag());
+        }
+        self.end_text(counter, said(name))
+    }
+
+    /// Counts the tokens of all inputs, in order.
+    ///
+    /// # Errors
+    ///
+    /// What is wrong with an input or one of its lines, or a failed allocation. Then some of the tokens before it were counted.
+    pub fn count_all(&mut self, counter: &mut Counter<'_>) -> Result<(), Failure<'a>> {
+        let mut block = vec![in self.rt.alloc(); 0u8; BLOCK]?;
+        let names = self.names;
+        for name in names {
+            self.count_named(counter, name, block.as_mut_slice())?;
+        }
+        Ok(())
+    }
+
     /// Reads the input of this name into the bag.
     ///
     /// # Errors
@@ -153,7 +230,7 @@ impl<'s, 'a, 'm> Inputs<'s, 'a, 'm> {
     /// What is wrong with the input or one of its lines, or a failed allocation. Then the bag may have some of its counts.
     pub fn take_named(
         &mut self,
-        intake: Intake<'_>,
+        intake: Intake,
         bag: &mut Bag,
         name: &'a str,
     ) -> Result<(), Failure<'a>> {
@@ -172,7 +249,7 @@ impl<'s, 'a, 'm> Inputs<'s, 'a, 'm> {
     /// # Errors
     ///
     /// The first failure of [`Inputs::take_named`]. Then the inputs after it weren't read.
-    pub fn take_all(&mut self, intake: Intake<'_>, bag: &mut Bag) -> Result<(), Failure<'a>> {
+    pub fn take_all(&mut self, intake: Intake, bag: &mut Bag) -> Result<(), Failure<'a>> {
         let names = self.names;
         for name in names {
             self.take_named(intake, bag, name)?;

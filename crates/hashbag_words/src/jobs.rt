@@ -1,21 +1,38 @@
 //! The jobs: each reads its inputs into a bag, and writes the counts of the bag.
 use crate::bag::{Bag, empty};
 use crate::failure::Failure;
-use crate::gauge::Gauge;
 use crate::inputs::{Bound, Inputs, Intake};
 use crate::names::check;
-use crate::output::{Made, Output, keep_shown, rows_of};
+use crate::output::{Made, Output, rows_of};
 use crate::progress::Progress;
 use crate::runs::Runs;
 use crate::settings::{By, Job, Settings};
 use crate::shown::{show, show_sorted};
-use crate::size::bytes_of;
+use hashbag::HashBag;
 use hashbag_ops::{keep_common, take_away};
 use hashbag_shell::status::{DENIED, DONE};
+use hashbag_words_core::choice::keep_shown;
+use hashbag_words_core::counter::TextCounter;
+use hashbag_words_core::gauge::Gauge;
 use hashbag_words_core::rule::{Pieces, Rule};
-use hashbag_words_core::shards::Shard;
 use regex::Regex;
 use std::mem;
+
+// Counts what the rule says of the inputs.
+fn count_by<'a>(
+    inputs: &mut Inputs<'_, 'a, '_>,
+    rule: Rule<'_>,
+    bag: &mut Bag,
+) -> Result<(), Failure<'a>> {
+    let alloc = inputs.rt.alloc();
+    let none = HashBag::with_hasher(alloc, *bag.hasher());
+    let given = mem::replace(bag, none);
+    let gauge = inputs.bound.as_ref().map(|bound| bound.gauge);
+    let mut counter = TextCounter::new(alloc, given, rule, inputs.settings.bad_lines, gauge);
+    let counted = inputs.count_all(&mut counter);
+    *bag = counter.into_bag();
+    counted
+}
 
 // Counts the tokens of the inputs.
 fn count<'a>(
@@ -23,8 +40,8 @@ fn count<'a>(
     by: By<'a>,
     bag: &mut Bag,
 ) -> Result<(), Failure<'a>> {
-    let settings = inputs.settings;
-    let fold = settings.fold;
+    let fold = inputs.settings.fold;
+    let lossy = inputs.settings.lossy;
     let pieces = match by {
         By::Words => Pieces::Words,
         By::UnicodeWords => Pieces::UnicodeWords,
@@ -35,16 +52,32 @@ fn count<'a>(
                 Err(error) => return Err(Failure::Pattern(error)),
             };
             let pieces = Pieces::Matches(&pattern);
-            return inputs.take_all(Intake::Text(Rule { pieces, fold }), bag);
+            return count_by(
+                inputs,
+                Rule {
+                    pieces,
+                    fold,
+                    lossy,
+                },
+                bag,
+            );
         }
     };
-    inputs.take_all(Intake::Text(Rule { pieces, fold }), bag)
+    count_by(
+        inputs,
+        Rule {
+            pieces,
+            fold,
+            lossy,
+        },
+        bag,
+    )
 }
 
 // Reads the two inputs of a job on a pair: the first into the bag, and the second into a new bag, which is only looked up afterwards.
 fn take_pair<'a>(
     inputs: &mut Inputs<'_, 'a, '_>,
-    counts: Intake<'_>,
+    counts: Intake,
     bag: &mut Bag,
 ) -> Result<Bag, Failure<'a>> {
     let settings = inputs.settings;
@@ -61,16 +94,10 @@ fn bound_of<'s, 'a>(
     rt: &'s HostRuntime,
     settings: &Settings<'a, '_>,
     folder: &'a str,
-) -> Result<Option<Bound<'s, 'a>>, Failure<'a>> {
-    let Some(size) = settings.memory else {
-        return Ok(None);
-    };
-    let Some(most) = bytes_of(size) else {
-        return Err(Failure::Size(size));
-    };
-    let gauge = Gauge::new(most);
+) -> Option<Bound<'s, 'a>> {
+    let gauge = Gauge::new(settings.memory?);
     let runs = Runs::new(rt, folder);
-    Ok(Some(Bound { gauge, runs }))
+    Some(Bound { gauge, runs })
 }
 
 // Reads the inputs of a job. What they count is then in the bag, and in the runs that were made.
@@ -95,23 +122,11 @@ fn take_in<'a>(inputs: &mut Inputs<'_, 'a, '_>, bag: &mut Bag) -> Result<(), Fai
     Ok(())
 }
 
-// Returns the shard that is shown, if it isn't all.
-fn shard_of<'a>(settings: &Settings<'a, '_>) -> Result<Option<Shard>, Failure<'a>> {
-    let Some(text) = settings.shard else {
-        return Ok(None);
-    };
-    match Shard::of_text(text) {
-        Some(shard) => Ok(Some(shard)),
-        None => Err(Failure::Shard(text)),
-    }
-}
-
 // Returns what is to be written of runs and of the bag, or `None` if there are no runs. Temporary files are in this folder.
 fn merged<'a>(
     rt: &HostRuntime,
     settings: &Settings<'a, '_>,
     folder: &'a str,
-    shard: Option<Shard>,
     mut runs: Runs<'_, 'a>,
     bag: &mut Bag,
 ) -> Result<Option<Made<'static>>, Failure<'a>> {
@@ -121,7 +136,7 @@ fn merged<'a>(
     if !bag.is_empty() {
         runs.spill(bag)?;
     }
-    let made = show(rt, settings, folder, shard, runs.into_batch()?)?;
+    let made = show(rt, settings, folder, runs.into_batch()?)?;
     Ok(Some(made))
 }
 
@@ -133,12 +148,11 @@ fn read<'a>(
     folder: &'a str,
     bag: &mut Bag,
 ) -> Result<Option<Made<'static>>, Failure<'a>> {
-    let shard = shard_of(settings)?;
     if settings.sorted {
-        let made = show_sorted(rt, settings, folder, shard, names)?;
+        let made = show_sorted(rt, settings, folder, names)?;
         return Ok(Some(made));
     }
-    let bound = bound_of(rt, settings, folder)?;
+    let bound = bound_of(rt, settings, folder);
     let progress = Progress::new(rt, settings.progress);
     let mut inputs = Inputs {
         rt,
@@ -149,11 +163,11 @@ fn read<'a>(
     };
     take_in(&mut inputs, bag)?;
     if let Some(bound) = inputs.bound {
-        if let Some(made) = merged(rt, settings, folder, shard, bound.runs, bag)? {
+        if let Some(made) = merged(rt, settings, folder, bound.runs, bag)? {
             return Ok(Some(made));
         }
     }
-    keep_shown(settings, shard, bag);
+    keep_shown(bag, settings.choice);
     Ok(None)
 }
 

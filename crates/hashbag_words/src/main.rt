@@ -5,7 +5,6 @@ mod bag;
 mod batch;
 mod command;
 mod failure;
-mod gauge;
 mod input;
 mod inputs;
 mod jobs;
@@ -81,7 +80,10 @@ fn obey(rt: &HostRuntime, words: &Vec<&str>) -> Result<u8, clap::Error> {
     let Some((job, given)) = matches.subcommand() else {
         return Ok(BAD_INPUT);
     };
-    Ok(do_settings(rt, &Settings::of(job, given)))
+    match Settings::of(job, given) {
+        Ok(settings) => Ok(do_settings(rt, &settings)),
+        Err(failure) => Ok(failure.report(rt)),
+    }
 }
 
 fn run(rt: &HostRuntime) -> u8 {

@@ -3,9 +3,8 @@ use crate::bag::Bag;
 use crate::failure::Failure;
 use crate::settings::Settings;
 use hashbag_shell::output_file::OutputFile;
-use hashbag_words_core::choice::{chosen, drop_below};
 use hashbag_words_core::row_text::RowText;
-use hashbag_words_core::shards::{Shard, keep_shard};
+use hashbag_words_core::shown_text::shown_text;
 use std::fs::File;
 use std::io::{self, Read, Write};
 
@@ -92,14 +91,6 @@ fn put<W: Write + Drop, R: Read>(mut to: W, from: &mut R) -> io::Result<()> {
     to.flush()
 }
 
-/// Removes from the bag the tokens that aren't shown: those that occur less often than `settings.least`, or aren't in the shard.
-pub fn keep_shown(settings: &Settings<'_, '_>, shard: Option<Shard>, bag: &mut Bag) {
-    drop_below(bag, settings.least);
-    if let Some(shard) = shard {
-        keep_shard(bag, shard);
-    }
-}
-
 /// Returns what is to be written of a bag.
 ///
 /// # Errors
@@ -110,10 +101,7 @@ pub fn rows_of<'a, 'b>(
     settings: &Settings<'a, '_>,
     bag: &'b Bag,
 ) -> Result<Made<'b>, Failure<'a>> {
-    let Ok(rows) = chosen(rt.alloc(), bag, settings.order) else {
-        return Err(Failure::NoMemoryLeft);
-    };
-    match RowText::new(rt.alloc(), settings.format, rows) {
+    match shown_text(rt.alloc(), bag, settings.choice, settings.format) {
         Ok(rows) => Ok(Made::Rows(rows)),
         Err(_) => Err(Failure::NoMemoryLeft),
     }

@@ -1,11 +1,11 @@
 //! Runs: counts of parts of the input in temporary files, tokens rising.
-use crate::bag::Bag;
+use crate::bag::{Bag, Counter};
 use crate::batch::Batch;
 use crate::failure::Failure;
 use hashbag_shell::temporary_file::create_unnamed;
+use hashbag_words_core::choice::{Choice, Order};
 use hashbag_words_core::runs::spill;
-use hashbag_words_core::shards::Shard;
-use hashbag_words_core::shown_rows::{ShardRows, WrittenRows};
+use hashbag_words_core::shown_rows::ShownRows;
 use hashbag_words_core::writing::{Format, RowWriter};
 use std::fs::File;
 use std::io::{self, BufWriter, Seek};
@@ -56,6 +56,13 @@ fn spill_to(rt: &HostRuntime, file: File, bag: &mut Bag) -> io::Result<File> {
     begun(out)
 }
 
+// The same of what a counter counted.
+fn take_run_to(rt: &HostRuntime, file: File, counter: &mut Counter<'_>) -> io::Result<File> {
+    let mut out = BufWriter::with_capacity(rt.alloc(), BUFFER, file)?;
+    counter.take_run(&mut out)?;
+    begun(out)
+}
+
 impl<'s, 'a> Runs<'s, 'a> {
     /// Returns no runs. The temporary files of later ones are in that folder.
     pub fn new(rt: &'s HostRuntime, folder: &'a str) -> Runs<'s, 'a> {
@@ -72,6 +79,15 @@ impl<'s, 'a> Runs<'s, 'a> {
     pub fn spill(&mut self, bag: &mut Bag) -> Result<(), Failure<'a>> {
         let file = temporary(self.rt, self.folder)?;
         match spill_to(self.rt, file, bag) {
+            Ok(file) => self.add(file),
+            Err(error) => Err(Failure::of_file(self.folder, error)),
+        }
+    }
+
+    /// Makes a run of what was counted. The counter's bag is then empty.
+    pub fn take_run(&mut self, counter: &mut Counter<'_>) -> Result<(), Failure<'a>> {
+        let file = temporary(self.rt, self.folder)?;
+        match take_run_to(self.rt, file, counter) {
             Ok(file) => self.add(file),
             Err(error) => Err(Failure::of_file(self.folder, error)),
         }
@@ -131,34 +147,33 @@ impl<'s, 'a> Runs<'s, 'a> {
 pub struct Shape {
     /// How they are written.
     pub format: Format,
-    /// What counts less isn't written.
-    pub least: usize,
-    /// The shard that is written, if it isn't all.
-    pub shard: Option<Shard>,
+    /// Which are.
+    pub choice: Choice,
 }
 
 // The rows of a run: all of them.
 const RUN: Shape = Shape {
     format: Format::Tsv,
-    least: 0,
-    shard: None,
+    choice: Choice {
+        order: Order::Rising,
+        least: 0,
+        shard: None,
+    },
 };
 
-type FileRows = ShardRows<WrittenRows<BufWriter<File>>>;
+type FileRows = ShownRows<RowWriter<BufWriter<File>>>;
 
 // Begins rows in a file.
 fn begin_rows(rt: &HostRuntime, file: File, shape: Shape) -> io::Result<FileRows> {
     let out = BufWriter::with_capacity(rt.alloc(), BUFFER, file)?;
-    let writer = RowWriter::begin(rt.alloc(), out, shape.format)?;
-    let least = shape.least;
-    let sink = WrittenRows { writer, least };
-    let shard = shape.shard;
-    Ok(ShardRows { sink, shard })
+    let sink = RowWriter::begin(rt.alloc(), out, shape.format)?;
+    let choice = shape.choice;
+    Ok(ShownRows { sink, choice })
 }
 
 // Ends rows. Returns their file, and whether it shows nothing.
 fn end_rows(rows: FileRows) -> io::Result<(File, bool)> {
-    let writer = rows.sink.writer;
+    let writer = rows.sink;
     let is_empty = writer.is_empty();
     let file = begun(writer.finish()?)?;
     Ok((file, is_empty))

@@ -1,8 +1,11 @@
 //! What the arguments ask for.
+use crate::failure::Failure;
+use crate::size::bytes_of;
 use clap::ArgMatches;
-use hashbag_words_core::choice::Order;
+use hashbag_words_core::choice::{Choice, Order};
 use hashbag_words_core::lines::BadLines;
 use hashbag_words_core::rows::RowForm;
+use hashbag_words_core::shards::Shard;
 use hashbag_words_core::writing::Format;
 
 /// A job of the program.
@@ -52,18 +55,14 @@ pub struct Settings<'a, 'm> {
     pub progress: bool,
     /// Of `merge`: whether the rows of each input rise.
     pub sorted: bool,
-    /// How much memory the counts may take, as it was written.
-    pub memory: Option<&'a str>,
+    /// How many bytes of memory the counts may take, if that is bounded.
+    pub memory: Option<usize>,
     /// The folder of temporary files, if it was named.
     pub tmp: Option<&'a str>,
     /// Whether bytes of a text that aren't UTF-8 are replaced.
     pub lossy: bool,
-    /// The shard that is shown, as it was written.
-    pub shard: Option<&'a str>,
     /// Which counts are shown, and in what order.
-    pub order: Order,
-    /// The least count that is shown.
-    pub least: usize,
+    pub choice: Choice,
     /// How counts are written.
     pub format: Format,
     /// The file to which they are written; `None` is standard output.
@@ -101,6 +100,27 @@ fn order_of(given: &ArgMatches<'_>) -> Order {
     }
 }
 
+// Returns which counts are shown, and in what order.
+fn choice_of<'a>(given: &ArgMatches<'a>) -> Result<Choice, Failure<'a>> {
+    let shard = match given.get_str("shard") {
+        Some(text) => Some(Shard::of_text(text).ok_or(Failure::Shard(text))?),
+        None => None,
+    };
+    Ok(Choice {
+        order: order_of(given),
+        least: given.get_one::<usize>("least").unwrap_or(0),
+        shard,
+    })
+}
+
+// Returns the bound of the memory in bytes, if there is one.
+fn memory_of<'a>(given: &ArgMatches<'a>) -> Result<Option<usize>, Failure<'a>> {
+    match given.get_str("memory") {
+        Some(text) => Ok(Some(bytes_of(text).ok_or(Failure::Size(text))?)),
+        None => Ok(None),
+    }
+}
+
 fn format_of(given: &ArgMatches<'_>) -> Format {
     match given.get_str("to") {
         Some("json") => Format::Json,
@@ -119,14 +139,18 @@ fn rows_of(given: &ArgMatches<'_>) -> Option<RowForm> {
 }
 
 impl<'a, 'm> Settings<'a, 'm> {
-    /// Returns the settings of the job `name` with these arguments.
-    pub fn of(name: &str, given: &'m ArgMatches<'a>) -> Settings<'a, 'm> {
+    /// Returns the settings of the job `name` with these arguments. No file has been opened then.
+    ///
+    /// # Errors
+    ///
+    /// `Size` or `Shard` if the word of that option has no meaning.
+    pub fn of(name: &str, given: &'m ArgMatches<'a>) -> Result<Settings<'a, 'm>, Failure<'a>> {
         let bad_lines = if given.get_flag("skip-bad") {
             BadLines::Skipped
         } else {
             BadLines::Refused
         };
-        Settings {
+        Ok(Settings {
             job: job_of(name, given),
             files: given.get_strs("files"),
             files_from: given.get_str("files-from"),
@@ -139,15 +163,13 @@ impl<'a, 'm> Settings<'a, 'm> {
             bad_lines,
             progress: given.get_flag("progress"),
             sorted: given.get_flag("sorted"),
-            memory: given.get_str("memory"),
+            memory: memory_of(given)?,
             tmp: given.get_str("tmp"),
             lossy: given.get_flag("lossy"),
-            shard: given.get_str("shard"),
-            order: order_of(given),
-            least: given.get_one::<usize>("least").unwrap_or(0),
+            choice: choice_of(given)?,
             format: format_of(given),
             output: given.get_str("output"),
             fail_empty: given.get_flag("fail-empty"),
-        }
+        })
     }
 }

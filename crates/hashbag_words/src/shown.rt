@@ -5,8 +5,7 @@ use crate::output::Made;
 use crate::runs::{FAN, Runs, Shape, merge_to_file, merge_to_run};
 use crate::settings::Settings;
 use hashbag_words_core::choice::Order;
-use hashbag_words_core::shards::Shard;
-use hashbag_words_core::shown_rows::{ShardRows, TopRows};
+use hashbag_words_core::shown_rows::{ShownRows, TopRows};
 use hashbag_words_core::writing::{Format, RowWriter};
 use std::io;
 
@@ -26,11 +25,12 @@ fn show_top<'a>(
     settings: &Settings<'a, '_>,
     folder: &'a str,
     batch: &mut Batch<'_, 'a>,
-    shard: Option<Shard>,
     most: usize,
 ) -> Result<Made<'static>, Failure<'a>> {
-    let sink = TopRows::new(rt.alloc(), most, settings.least);
-    let mut top = ShardRows { sink, shard };
+    let mut top = ShownRows {
+        sink: TopRows::new(rt.alloc(), most),
+        choice: settings.choice,
+    };
     batch.merge(folder, &mut top)?;
     match text_of(rt, settings.format, top.sink) {
         Ok((text, is_empty)) => Ok(Made::Text(text, is_empty)),
@@ -43,16 +43,14 @@ pub fn show<'a>(
     rt: &HostRuntime,
     settings: &Settings<'a, '_>,
     folder: &'a str,
-    shard: Option<Shard>,
     mut batch: Batch<'_, 'a>,
 ) -> Result<Made<'static>, Failure<'a>> {
-    if let Order::Commonest(most) = settings.order {
-        return show_top(rt, settings, folder, &mut batch, shard, most);
+    if let Order::Commonest(most) = settings.choice.order {
+        return show_top(rt, settings, folder, &mut batch, most);
     }
     let shape = Shape {
         format: settings.format,
-        least: settings.least,
-        shard,
+        choice: settings.choice,
     };
     let (file, is_empty) = merge_to_file(rt, folder, &mut batch, shape)?;
     Ok(Made::File(file, is_empty))
@@ -63,7 +61,6 @@ pub fn show_sorted<'a>(
     rt: &HostRuntime,
     settings: &Settings<'a, '_>,
     folder: &'a str,
-    shard: Option<Shard>,
     names: &[&'a str],
 ) -> Result<Made<'static>, Failure<'a>> {
     let Some(form) = settings.rows else {
@@ -79,8 +76,8 @@ pub fn show_sorted<'a>(
         batch.push_file(*name, form, settings.bad_lines)?;
     }
     if runs.is_empty() {
-        return show(rt, settings, folder, shard, batch);
+        return show(rt, settings, folder, batch);
     }
     runs.add(merge_to_run(rt, folder, &mut batch)?)?;
-    show(rt, settings, folder, shard, runs.into_batch()?)
+    show(rt, settings, folder, runs.into_batch()?)
 }

@@ -1,13 +1,15 @@
 pub mod CountLemmas
-pub mod InRunsLemmas
+pub mod CountedLemmas
 pub mod LineLemmas
 pub mod MatchLemmas
 pub mod MergeLemmas
 pub mod PrefixLemmas
 pub mod ReadLemmas
 pub mod RowLemmas
+pub mod RowTextLemmas
 pub mod RunLemmas
 pub mod RunTextLemmas
+pub mod ShownLemmas
 pub mod SortedLemmas
 pub mod SortedMergeLemmas
 pub mod TextLemmas

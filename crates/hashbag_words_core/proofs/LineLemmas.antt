@@ -8,11 +8,8 @@ use Rattle.std.proofs.BufReadLemmas.{take_through-append, drop_through-append}
 use Rattle.std.proofs.lemmas.List.{take_at, get_or_at, get_or-append_right, get_or-drop, length-drop, take_more, append-nil}
 use Rattle.std.proofs.lemmas.List.Elements.{All-nil, All-cons, All-get_or}
 use Rattle.std.proofs.lemmas.List.Splits.{slice_split_at, slice_split_none, length-slice_split}
+use Rattle.hashbag_words_core.specs.Counted.{NoLineFeed}
 use Rattle.hashbag_words_core.specs.Reading.{drop_lines, EndsLine}
-
--- no byte is a line feed
-abbrev NoLineFeed : List ℕ → Type 0
-NoLineFeed xs = All (λ x. x ≢ 10) xs
 
 -- the bytes before the first line feed and those after it, or there is no line feed
 abbrev Cut : List ℕ → Type 0
@@ -117,29 +114,6 @@ first_of_cut xs some (inr h) =
 -- an input that isn't empty begins with a line
 pub lines-first : (xs : List ℕ) → 0 < length xs → lines xs ≡ first_line xs ∷ lines (drop_through 10 xs)
 lines-first xs some = first_of_cut xs some (cut xs)
-
-shorter_of_cut : (xs : List ℕ) → 0 < length xs → Cut xs → length (drop_through 10 xs) < length xs
-shorter_of_cut xs some (inl h) =
-    let whole : length xs ≡ length h.0 + length (10 ∷ h.1) = ap length h.2 ∙ length-append h.0 (10 ∷ h.1) in
-    let left : length (drop_through 10 xs) ≡ length h.1 = ap length (ap (drop_through 10) h.2 ∙ drop_through-cut h.0 h.1 h.3) in
-    omega arith
-shorter_of_cut xs some (inr h) = let left : length (drop_through 10 xs) ≡ 0 = ap length (drop_through-whole xs h) in omega arith
-
-shorter : (xs : List ℕ) → 0 < length xs → length (drop_through 10 xs) < length xs
-shorter xs some = shorter_of_cut xs some (cut xs)
-
-fewer : (n : ℕ) (xs : List ℕ) → length xs ≤ n → length (lines xs) ≤ length xs
-fewer n [] fits = omega arith
-fewer zero (x ∷ xs) fits = absurd (omega arith)
-fewer (suc n) (x ∷ xs) fits =
-    let less = shorter (x ∷ xs) (omega arith) in
-    let first : length (lines (x ∷ xs)) ≡ 1 + length (lines (drop_through 10 (x ∷ xs))) = ap length (lines-first (x ∷ xs) (omega arith)) ∙ omega arith in
-    let later = fewer n (drop_through 10 (x ∷ xs)) (omega arith) in
-    omega arith
-
--- an input has no more lines than bytes
-pub length-lines : (xs : List ℕ) → length (lines xs) ≤ length xs
-length-lines xs = fewer (length xs) xs (omega arith)
 
 -- ---- lines that have been read
 

@@ -1,13 +1,17 @@
 -- Which counts of a bag are shown, and in what order.
-use Rattle.std.specs.Prelude.{◌≡◌, ℕ, List, take, nat_lt, if◌then◌else◌, String}
+use Rattle.std.specs.Prelude.{◌≡◌, ℕ, Bool, List, take, nat_le, ◌&&◌, if◌then◌else◌, String}
 use Rattle.std.specs.List.Sorted.{IsStrictlySortedBy}
 use Rattle.std.specs.Map.{keys_of}
 use Rattle.std.specs.String.{string_cmp, string_eq}
+use Rattle.std.specs.Str.{bytes_eq}
 use Rattle.std.specs.Global.{Global}
 use Rattle.hashbag.specs.Bag.{Bag}
 use Rattle.hashbag.specs.Occurrences.{count}
 use Rattle.hashbag.specs.Walks.{IsSetWalkOf}
 use Rattle.hashbag_ops.specs.Order.{rank}
+use Rattle.hashbag_words_core.specs.Counts.{texts_in}
+use Rattle.hashbag_words_core.specs.Shards.{is_shown}
+use Rattle.hashbag_words_core.specs.declared.choice.Choice.{Choice}
 use Rattle.hashbag_words_core.specs.declared.choice.Order.{Order}
 use Rattle.hashbag_words_core.specs.declared.choice.Order.TheVariants.{Rising, Open, Commonest}
 
@@ -19,7 +23,14 @@ IsShown Open bag pairs = IsSetWalkOf string_eq bag pairs
 IsShown (Commonest k) bag pairs =
     (W : List (String Global × ℕ)) × IsSetWalkOf string_eq bag W × IsStrictlySortedBy (rank string_cmp) W × (pairs ≡ take k W)
 
--- what occurred less often is gone, and all else is as it was
-abbrev pub DropsBelow : {S : Type 0} → ℕ → Bag (String Global) S → Bag (String Global) S → Type 0
-DropsBelow least old new =
-    (v : String Global) → count string_eq v new.items ≡ (if nat_lt (count string_eq v old.items) least then 0 else count string_eq v old.items)
+-- a row is shown: it counts as often as the least count or more often, and its token is in the shard, if there is one
+abbrev pub shows : Choice → List ℕ × ℕ → Bool
+shows choice row = nat_le choice.least row.1 && is_shown choice.shard row.0
+
+-- how often a text is shown that occurs so often: as often, or not at all
+abbrev pub shown_count : Choice → List ℕ → ℕ → ℕ
+shown_count choice text n = if shows choice (text, n) then n else 0
+
+-- a bag has each of these texts that is shown as often as it is in the list, and nothing else
+abbrev pub AreKept : {S : Type 0} → Choice → List (List ℕ) → Bag (String Global) S → Type 0
+AreKept choice texts bag = (text : List ℕ) → count bytes_eq text (texts_in bag) ≡ shown_count choice text (count bytes_eq text texts)

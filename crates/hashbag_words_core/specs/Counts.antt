@@ -12,10 +12,6 @@ use Rattle.hashbag_words_core.specs.Tokens.{token_of}
 abbrev pub texts_in : {S : Type 0} → Bag (String Global) S → List (List ℕ)
 texts_in bag = map string_bytes bag.items
 
--- each text is in the bag as often as it is in the list
-abbrev pub HasCountsOf : {S : Type 0} → List (List ℕ) → Bag (String Global) S → Type 0
-HasCountsOf texts bag = (text : List ℕ) → count bytes_eq text (texts_in bag) ≡ count bytes_eq text texts
-
 -- each text is in the new bag as often as in the old one and in the list together
 abbrev pub AddsTexts : {S : Type 0} → Bag (String Global) S → Bag (String Global) S → List (List ℕ) → Type 0
 AddsTexts old new texts = (text : List ℕ) → count bytes_eq text (texts_in new) ≡ count bytes_eq text (texts_in old) + count bytes_eq text texts

@@ -1,12 +1,16 @@
 pub mod Choice
+pub mod Counted
 pub mod Counts
 pub mod Examples
 pub mod Merging
 pub mod Met
 pub mod Prefix
 pub mod Reading
+pub mod RowText
 pub mod Rows
 pub mod Runs
 pub mod Shards
+pub mod Shown
 pub mod Sorted
 pub mod Tokens
+pub mod Writing

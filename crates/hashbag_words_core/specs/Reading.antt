@@ -1,12 +1,6 @@
--- How an input is read line by line, and how its lines are counted.
-use Rattle.std.specs.Prelude.{◌≡◌, ℕ, zero, suc, ◌-◌, ◌<◌, Bool, true, false, List, [], length, take, slice_index, if◌then◌else◌, String, Option, Some, IsSome}
+-- How an input is read line by line.
+use Rattle.std.specs.Prelude.{◌≡◌, ℕ, zero, suc, ◌-◌, ◌<◌, Bool, true, false, List, [], length, slice_index, if◌then◌else◌, Option, Some, IsSome}
 use Rattle.std.specs.Io.BufRead.{ends_with_byte, strip_last, first_line, drop_through}
-use Rattle.std.specs.Str.Lines.{lines}
-use Rattle.std.specs.Global.{Global}
-use Rattle.hashbag.specs.Bag.{Bag}
-use Rattle.hashbag_words_core.specs.Counts.{AddsTexts}
-use Rattle.hashbag_words_core.specs.Tokens.{tokens_of_lines}
-use Rattle.hashbag_words_core.specs.declared.rule.Rule.{Rule}
 
 -- a line without a line feed at its end, and without a carriage return before that
 abbrev pub without_end : List ℕ → List ℕ
@@ -25,12 +19,6 @@ ReadsToEnd old new = IsSome old → new ≡ Some []
 abbrev pub drop_lines : ℕ → List ℕ → List ℕ
 drop_lines zero input = input
 drop_lines (suc n) input = drop_lines n (drop_through 10 input)
-
--- the first lines of these bytes were counted, so many or all that there are, and the others are left; where the reading has ended, none are left
-pub record CountsLines {S : Type 0} (rule : Rule) (most : ℕ) (bytes : List ℕ) (more : Bool) (old new : Bag (String Global) S) (left : Option (List ℕ)) : Type 0 where
-  pub counts : AddsTexts old new (tokens_of_lines rule (take most (lines bytes)))
-  pub rest : left ≡ Some (drop_lines most bytes)
-  pub ended : more ≡ false → drop_lines most bytes ≡ []
 
 -- the input is empty, or ends with a line feed: what follows begins a new line
 abbrev pub EndsLine : List ℕ → Type 0

@@ -1,6 +1,6 @@
 -- The rows of a run: a file of `tsv` that was written here.
-use Rattle.std.specs.Prelude.{◌≡◌, ℕ, ◌<◌, ◌==◌, Bool, true, false, List, [], ◌∷◌, ◌++◌, take, sum_by, filter_map, flat_map, All, String, Option, None, Some, option_map}
-use Rattle.std.specs.Global.{Global, Vec}
+use Rattle.std.specs.Prelude.{◌≡◌, ℕ, ◌==◌, Bool, true, false, List, [], ◌∷◌, ◌++◌, filter_map, flat_map, String, Option, None, option_map}
+use Rattle.std.specs.Global.{Global}
 use Rattle.std.specs.List.{before_first, after_first}
 use Rattle.std.specs.Str.{bytes_eq}
 use Rattle.std.specs.Str.Lines.{lines}
@@ -8,15 +8,13 @@ use Rattle.std.specs.Str.Parse.{digits_value, without_leading_plus}
 use Rattle.hashbag.specs.Bag.{Bag}
 use Rattle.hashbag.specs.Occurrences.{count}
 use Rattle.hashbag_words_core.specs.Counts.{texts_in}
-use Rattle.hashbag_words_core.specs.Reading.{drop_lines}
 use Rattle.hashbag_words_core.specs.Rows.{row, unescaped}
 use Rattle.hashbag_words_core.specs.Sorted.{times_in, Rises}
-use Rattle.hashbag_words_core.specs.Tokens.{tokens_of_lines, without_mark}
+use Rattle.hashbag_words_core.specs.Tokens.{without_mark}
 use Rattle.hashbag_words_core.specs.declared.lines.BadLines.{BadLines}
 use Rattle.hashbag_words_core.specs.declared.lines.BadLines.TheVariants.{Refused, Skipped}
 use Rattle.hashbag_words_core.specs.declared.rows.RowForm.{RowForm}
 use Rattle.hashbag_words_core.specs.declared.rows.RowForm.TheVariants.{Tsv, Uniq}
-use Rattle.hashbag_words_core.specs.declared.rule.Rule.{Rule}
 
 -- what a line is read as: the token before its first tab, unescaped, and the number behind it; none if that has a bad escape
 abbrev pub read_as : List ℕ → Option (List ℕ × ℕ)
@@ -53,19 +51,3 @@ pub record IsRunOf {S : Type 0} (bag : Bag (String Global) S) (rows : List (List
   pub rises : Rises rows
   pub counts : (text : List ℕ) → times_in text rows ≡ count bytes_eq text (texts_in bag)
   pub again : rows_in (run_text rows) ≡ rows
-
--- these runs, read again, count each text together as often as it is in the list
-abbrev pub HaveCountsOf : List (List ℕ) → List (Vec ℕ) → Type 0
-HaveCountsOf texts runs = (text : List ℕ) → sum_by (λ run. times_in text (rows_in run.items)) runs ≡ count bytes_eq text texts
-
--- the first lines of these bytes, so many or all that there are, became a run, and the others are left; if there are no more, none is left
-pub record MakesRun (rule : Rule) (most : ℕ) (bytes : List ℕ) (more : Bool) (run : List ℕ) (left : Option (List ℕ)) : Type 0 where
-  pub counts : (text : List ℕ) → times_in text (rows_in run) ≡ count bytes_eq text (tokens_of_lines rule (take most (lines bytes)))
-  pub rest : left ≡ Some (drop_lines most bytes)
-  pub ended : more ≡ false → drop_lines most bytes ≡ []
-
--- these rows are the counts of these texts: each of them once, rising, beside how often it is in the list, and nothing else
-pub record AreCountsOf (texts : List (List ℕ)) (rows : List (List ℕ × ℕ)) : Type 0 where
-  pub rises : Rises rows
-  pub counts : (text : List ℕ) → times_in text rows ≡ count bytes_eq text texts
-  pub shown : All (λ row. 0 < row.1) rows

@@ -1,9 +1,5 @@
 -- Shards: parts of all tokens, by a hash of the token.
-use Rattle.std.specs.Prelude.{◌≡◌, ℕ, ◌*◌, ◌%◌, Bool, true, List, [], ◌∷◌, nat_eq, nat_lt, ◌&&◌, if◌then◌else◌, bit_xor, String, string_bytes, Option, None, Some}
-use Rattle.std.specs.Global.{Global}
-use Rattle.std.specs.String.{string_eq}
-use Rattle.hashbag.specs.Bag.{Bag}
-use Rattle.hashbag.specs.Occurrences.{count}
+use Rattle.std.specs.Prelude.{ℕ, ◌*◌, ◌%◌, Bool, true, List, [], ◌∷◌, nat_eq, nat_lt, ◌&&◌, bit_xor, Option, None, Some}
 use Rattle.hashbag_words_core.specs.declared.shards.Shard.{Shard}
 
 -- one step of FNV-1a: the byte by exclusive or, then the product with the prime, of which 64 bits are kept
@@ -27,8 +23,3 @@ is_in shard text = nat_lt 0 shard.of && nat_eq (fnv text % shard.of) shard.index
 abbrev pub is_shown : Option Shard → List ℕ → Bool
 is_shown None text = true
 is_shown (Some shard) text = is_in shard text
-
--- what isn't in the shard is gone, and all else is as it was
-abbrev pub KeepsShard : {S : Type 0} → Shard → Bag (String Global) S → Bag (String Global) S → Type 0
-KeepsShard shard old new =
-    (v : String Global) → count string_eq v new.items ≡ (if is_in shard (string_bytes v) then count string_eq v old.items else 0)

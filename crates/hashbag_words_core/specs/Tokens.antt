@@ -1,9 +1,10 @@
 -- The tokens of a line and of an input: what is counted.
-use Rattle.std.specs.Prelude.{ℕ, Bool, List, [], ◌∷◌, nat_eq, nat_lt, length, drop, map, filter, flat_map, chars, encode_utf8_all, if◌then◌else◌, slice_range}
+use Rattle.std.specs.Prelude.{ℕ, Bool, false, not, List, [], ◌∷◌, nat_eq, nat_lt, length, drop, map, filter, flat_map, chars, encode_utf8_all, if◌then◌else◌, slice_range}
 use Rattle.std.specs.Char.{is_whitespace}
 use Rattle.std.specs.List.{slice_split, starts_with}
 use Rattle.std.specs.Str.{is_utf8}
 use Rattle.std.specs.Str.Lines.{lines}
+use Rattle.std.specs.Str.Lossy.{utf8_lossy}
 use Rattle.caseless.specs.Caseless.{default_case_fold}
 use Rattle.regex.specs.Patterns.{Re, find_all_str, span}
 use Rattle.regex.specs.Strings.{regex_pattern}
@@ -43,9 +44,21 @@ token_of fold piece = if fold then encode_utf8_all (default_case_fold (chars pie
 abbrev pub tokens_of_line : Rule → List ℕ → List (List ℕ)
 tokens_of_line rule line = map (token_of rule.fold) (pieces_of rule.pieces (without_mark line))
 
--- the tokens of these lines, as far as they are UTF-8
+-- the text that a line is counted as: the line itself, if it is UTF-8; if not, what it is with its bytes replaced, or none
+abbrev pub texts_of : Bool → List ℕ → List (List ℕ)
+texts_of lossy line = if is_utf8 line then line ∷ [] else (if lossy then utf8_lossy line ∷ [] else [])
+
+-- a line isn't UTF-8, and isn't counted
+abbrev pub is_bad : Rule → List ℕ → Bool
+is_bad rule line = if rule.lossy then false else not (is_utf8 line)
+
+-- a line isn't UTF-8, and is counted with its bytes replaced
+abbrev pub is_replaced : Rule → List ℕ → Bool
+is_replaced rule line = if rule.lossy then not (is_utf8 line) else false
+
+-- the tokens of these lines, as far as they are counted
 abbrev pub tokens_of_lines : Rule → List (List ℕ) → List (List ℕ)
-tokens_of_lines rule lines = flat_map (tokens_of_line rule) (filter is_utf8 lines)
+tokens_of_lines rule lines = flat_map (tokens_of_line rule) (flat_map (texts_of rule.lossy) lines)
 
 -- the tokens of an input: those of its lines
 abbrev pub tokens_of : Rule → List ℕ → List (List ℕ)

@@ -1,18 +1,20 @@
 //! The counts that are shown, and their order.
-ghost use Rattle.std.specs.Prelude.{◌≡◌, map, nat_lt, if◌then◌else◌, IfOk};
+ghost use Rattle.std.specs.Prelude.{◌≡◌, ℕ, List, [], map, if◌then◌else◌, string_bytes, IfOk};
 ghost use Rattle.std.specs.List.Sorted.{IsStrictlySortedBy};
 ghost use Rattle.std.specs.Map.{keys_of};
 ghost use Rattle.std.specs.String.{string_cmp, string_eq};
 ghost use Rattle.hashbag.specs.Walks.{IsSetWalkOf, seen};
-ghost use Rattle.hashbag_words_core.specs.Choice.{DropsBelow, IsShown};
+ghost use Rattle.hashbag_words_core.specs.Choice.{shows, AreKept, IsShown};
+ghost use Rattle.hashbag_words_core.specs.Counted.{HaveTogether};
 
+use crate::shards::{Shard, is_shown};
 use crate::sorting::sort_rows;
 use hashbag::{BagError, HashBag};
 use hashbag_ops::{counts, most_common};
 use std::alloc::Global;
 use std::hash::BuildHasher;
 
-/// Which counts are shown, and in what order.
+/// In what order counts are shown, and how many of them.
 #[derive(Clone, Copy, Debug, PartialEq, Eq)]
 pub enum Order {
     /// All tokens, by rising bytes.
@@ -23,18 +25,44 @@ pub enum Order {
     Commonest(usize),
 }
 
-/// Removes all tokens that occur less often than `least`.
+/// Which counts are shown, and in what order.
+#[derive(Clone, Copy, Debug, PartialEq, Eq)]
+pub struct Choice {
+    /// Their order.
+    pub order: Order,
+    /// The least count that is shown.
+    pub least: usize,
+    /// The shard whose tokens are shown, if not all are.
+    pub shard: Option<Shard>,
+}
+
+impl Choice {
+    /// Returns whether a token that occurs so often is shown.
+    pub fn shows(&self, token: &str, count: usize) -> bool
+        ensures { result ≡ shows self.now (token.now, count) }
+    {
+        self.least <= count && is_shown(self.shard, token)
+    }
+}
+
+/// Removes all tokens that aren't shown.
 ///
 /// # Complexity
 ///
 /// Reads each token once, and allocates nothing.
-pub fn drop_below<S: BuildHasher + Drop>(bag: &mut HashBag<String, S>, least: usize)
-    ensures { DropsBelow least bag.old bag.new }
+pub fn keep_shown<S: BuildHasher + Drop>(bag: &mut HashBag<String, S>, choice: Choice)
+    ensures { (texts : List (List ℕ)) → HaveTogether [] bag.old texts → AreKept choice texts bag.new }
 {
     bag.retain(
-        |_token: &String, count: usize| -> usize
-            ensures { result ≡ (if nat_lt count least then 0 else count) }
-        { if count < least { 0 } else { count } },
+        |token: &String, count: usize| -> usize
+            ensures { result ≡ (if shows choice (string_bytes token.now, count) then count else 0) }
+        {
+            if choice.shows(token.as_str(), count) {
+                count
+            } else {
+                0
+            }
+        },
     );
 }
 

@@ -1,21 +1,21 @@
 //! Counting the tokens of lines.
-ghost use Rattle.std.specs.Prelude.{◌≡◌, ◌∷◌, [], map, true, IfOk, OnOk, IfSome};
+ghost use Rattle.std.specs.Prelude.{◌≡◌, ◌+◌, ◌-◌, ◌^◌, ◌∷◌, [], map, min, true, false, IfErr, OnOk};
 ghost use Rattle.std.specs.Iterator.{IsFinite};
+ghost use Rattle.std.specs.Str.{is_utf8};
+ghost use Rattle.std.specs.Str.Lossy.{utf8_lossy};
 ghost use Rattle.unicode_segmentation.specs.Word.{words};
 ghost use Rattle.hashbag_words_core.specs.Counts.{AddsTexts, AddsPieces};
 ghost use Rattle.regex.specs.Strings.{regex_pattern};
-ghost use Rattle.hashbag_words_core.specs.Tokens.{matches_in, nonempty, spaced_words, token_of, tokens_of_line, tokens_of_lines, without_mark};
-ghost use Rattle.hashbag_words_core.specs.Reading.{CountsLines};
+ghost use Rattle.hashbag_words_core.specs.Tokens.{is_bad, is_replaced, matches_in, nonempty, spaced_words, token_of, tokens_of_line, tokens_of_lines, without_mark};
 
 use crate::errors::{BadLine, Fault};
-use crate::lines::{Reading, next_line};
+use crate::lines::{BadLines, Reading};
 use crate::rule::{Pieces, Rule};
 use caseless::default_case_fold_str;
 use hashbag::{BagError, HashBag};
 use regex::Regex;
 use std::alloc::Global;
 use std::hash::BuildHasher;
-use std::io::BufRead;
 use std::str;
 use unicode_segmentation::UnicodeSegmentation;
 
@@ -171,55 +171,72 @@ pub fn add_line<S: BuildHasher + Drop>(
     }
 }
 
-// Counts a line that has been read. One that isn't UTF-8 is bad.
-fn add_read<S: BuildHasher + Drop>(
+// Counts a line that isn't UTF-8. Each sequence of bytes that isn't is U+FFFD, as `String::from_utf8_lossy` of Rust replaces them.
+fn add_replaced<S: BuildHasher + Drop>(
+    alloc: Global,
+    bag: &mut HashBag<String, S>,
+    rule: &Rule<'_>,
+    line: &[u8],
+) -> Result<(), BagError>
+    ensures { OnOk result (AddsTexts bag.old bag.new (tokens_of_line rule.now (utf8_lossy line.now))) }
+{
+    let text = String::from_utf8_lossy(alloc, line)?;
+    add_line(alloc, bag, rule, text.as_str())
+}
+
+// Counts a line that isn't UTF-8, if the rule replaces its bytes. If not, it is bad.
+fn add_other<S: BuildHasher + Drop>(
     alloc: Global,
     bag: &mut HashBag<String, S>,
     rule: &Rule<'_>,
     line: &[u8],
     reading: &mut Reading,
 ) -> Result<(), Fault>
-    ensures { OnOk result (AddsTexts bag.old bag.new (tokens_of_lines rule.now (line.now ∷ []))) }
+    requires { is_utf8 line.now ≡ false }
+    ensures counts { OnOk result (AddsTexts bag.old bag.new (tokens_of_lines rule.now (line.now ∷ []))) }
+    ensures passed { OnOk result (reading.old.bad_lines ≡ BadLines.Refused → is_bad rule.now line.now ≡ false) }
+    ensures bad { IfErr result (λ e. (bad : BadLine) → e ≡ Fault.Line bad
+        → (reading.old.bad_lines ≡ BadLines.Refused) × (is_bad rule.now line.now ≡ true)) }
+    ensures kept { is_bad rule.now line.now ≡ false → reading.new.skipped ≡ reading.old.skipped }
+    ensures skipped { is_bad rule.now line.now ≡ true → OnOk result (reading.new.skipped ≡ min (reading.old.skipped + 1) (2 ^ 64 - 1)) }
+    ensures plain { is_replaced rule.now line.now ≡ false → reading.new.replaced ≡ reading.old.replaced }
+    ensures replaced { is_replaced rule.now line.now ≡ true → OnOk result (reading.new.replaced ≡ min (reading.old.replaced + 1) (2 ^ 64 - 1)) }
+    ensures bad_lines { reading.new.bad_lines ≡ reading.old.bad_lines }
+    ensures line { reading.new.line ≡ reading.old.line }
 {
+    if rule.lossy {
+        add_replaced(alloc, bag, rule, line)?;
+        reading.count_replaced();
+        return Ok(());
+    }
+    reading.pass_over(BadLine::NotText)
+}
+
+// Counts a line of a text, without its end.
+pub(crate) fn add_bytes<S: BuildHasher + Drop>(
+    alloc: Global,
+    bag: &mut HashBag<String, S>,
+    rule: &Rule<'_>,
+    line: &[u8],
+    reading: &mut Reading,
+) -> Result<(), Fault>
+    ensures counts { OnOk result (AddsTexts bag.old bag.new (tokens_of_lines rule.now (line.now ∷ []))) }
+    ensures passed { OnOk result (reading.old.bad_lines ≡ BadLines.Refused → is_bad rule.now line.now ≡ false) }
+    ensures bad { IfErr result (λ e. (bad : BadLine) → e ≡ Fault.Line bad
+        → (reading.old.bad_lines ≡ BadLines.Refused) × (is_bad rule.now line.now ≡ true)) }
+    ensures kept { is_bad rule.now line.now ≡ false → reading.new.skipped ≡ reading.old.skipped }
+    ensures skipped { is_bad rule.now line.now ≡ true → OnOk result (reading.new.skipped ≡ min (reading.old.skipped + 1) (2 ^ 64 - 1)) }
+    ensures plain { is_replaced rule.now line.now ≡ false → reading.new.replaced ≡ reading.old.replaced }
+    ensures replaced { is_replaced rule.now line.now ≡ true → OnOk result (reading.new.replaced ≡ min (reading.old.replaced + 1) (2 ^ 64 - 1)) }
+    ensures bad_lines { reading.new.bad_lines ≡ reading.old.bad_lines }
+    ensures line { reading.new.line ≡ min (reading.old.line + 1) (2 ^ 64 - 1) }
+{
+    reading.count_line();
     match str::from_utf8(line) {
         Ok(text) => {
             add_line(alloc, bag, rule, text)?;
             Ok(())
         }
-        Err(_) => reading.pass_over(BadLine::NotText),
+        Err(_) => add_other(alloc, bag, rule, line, reading),
     }
-}
-
-/// Counts at most `most` lines of an input and returns whether there may be more.
-///
-/// A line that isn't UTF-8 is bad.
-///
-/// # Errors
-///
-/// `Fault::Line` if a line is bad and bad lines aren't skipped; `Fault::Bag` for an error of [`add_line`]; `Fault::Read` if a read
-/// fails. Then `reading.line` is the number of the last line that was read, and the lines before that one have been counted.
-///
-/// # Complexity
-///
-/// As [`add_line`] for each line. One line at a time is kept in memory.
-pub fn count_lines<R: BufRead, S: BuildHasher + Drop>(
-    alloc: Global,
-    bag: &mut HashBag<String, S>,
-    rule: &Rule<'_>,
-    input: &mut R,
-    reading: &mut Reading,
-    most: u64,
-) -> Result<bool, Fault>
-    ensures { IfOk result (λ more. IfSome (R.remaining input.old)
-        (λ bytes. CountsLines rule.now most bytes more bag.old bag.new (R.remaining input.new))) }
-{
-    let mut line = Vec::new(alloc);
-    'lines: for _read in 0..most {
-        if !next_line(input, &mut line)? {
-            return Ok(false);
-        }
-        reading.count_line();
-        add_read(alloc, bag, rule, &line, reading)?;
-    }
-    Ok(true)
 }

@@ -1,5 +1,5 @@
 //! The lines of an input, one by one.
-ghost use Rattle.std.specs.Prelude.{◌≡◌, ◌+◌, ◌-◌, ◌^◌, min, Err, IsOk, IfOk, OnOk, IfSome};
+ghost use Rattle.std.specs.Prelude.{◌≡◌, ◌+◌, ◌-◌, ◌^◌, min, Err, IsOk, IfErr, IfOk, OnOk, IfSome};
 ghost use Rattle.std.specs.Io.BufRead.{ends_with_byte, strip_last, take_through};
 ghost use Rattle.hashbag_words_core.specs.Reading.{ReadsLine, without_end};
 
@@ -31,7 +31,8 @@ pub struct Reading {
 impl Reading {
     /// Returns the reading of an input before its first line.
     pub fn new(bad_lines: BadLines) -> Reading
-        ensures { (result.bad_lines ≡ bad_lines) × (result.line ≡ 0) × (result.skipped ≡ 0) }
+        ensures bad_lines { result.bad_lines ≡ bad_lines }
+        ensures unread { (result.line ≡ 0) × (result.skipped ≡ 0) × (result.replaced ≡ 0) }
     {
         Reading {
             bad_lines,
@@ -45,21 +46,30 @@ impl Reading {
     pub(crate) fn count_line(&mut self)
         ensures line { self.new.line ≡ min (self.old.line + 1) (2 ^ 64 - 1) }
         ensures skipped { self.new.skipped ≡ self.old.skipped }
+        ensures replaced { self.new.replaced ≡ self.old.replaced }
         ensures bad_lines { self.new.bad_lines ≡ self.old.bad_lines }
     {
         self.line = self.line.saturating_add(1);
     }
 
     // Counts a line of which bytes were replaced.
-    pub(crate) fn count_replaced(&mut self) {
+    pub(crate) fn count_replaced(&mut self)
+        ensures replaced { self.new.replaced ≡ min (self.old.replaced + 1) (2 ^ 64 - 1) }
+        ensures skipped { self.new.skipped ≡ self.old.skipped }
+        ensures line { self.new.line ≡ self.old.line }
+        ensures bad_lines { self.new.bad_lines ≡ self.old.bad_lines }
+    {
         self.replaced = self.replaced.saturating_add(1);
     }
 
     // Skips a bad line, or rejects it.
     pub(crate) fn pass_over(&mut self, bad: BadLine) -> Result<(), Fault>
         ensures rejected { self.old.bad_lines ≡ BadLines.Refused → result ≡ Err (Fault.Line bad) }
+        ensures only_rejected { IfErr result (λ _. self.old.bad_lines ≡ BadLines.Refused) }
         ensures passed { self.old.bad_lines ≡ BadLines.Skipped → IsOk result }
+        ensures only_passed { OnOk result (self.old.bad_lines ≡ BadLines.Skipped) }
         ensures skipped { OnOk result (self.new.skipped ≡ min (self.old.skipped + 1) (2 ^ 64 - 1)) }
+        ensures replaced { self.new.replaced ≡ self.old.replaced }
         ensures line { self.new.line ≡ self.old.line }
         ensures bad_lines { self.new.bad_lines ≡ self.old.bad_lines }
     {
@@ -101,7 +111,9 @@ fn strip_end(line: &mut Vec<u8>) -> bool
     true
 }
 
-/// Reads the next line as [`next_line`] does, and returns whether there was one, and whether a line feed ended it.
+/// Replaces `line` by the next line of the input. Returns whether there was one, and whether a line feed ended it.
+///
+/// The line feed at its end and a carriage return before that are no part of it.
 ///
 /// # Errors
 ///
@@ -116,18 +128,4 @@ pub fn next_ended_line<R: BufRead>(input: &mut R, line: &mut Vec<u8>) -> io::Res
         return Ok((false, false));
     }
     Ok((true, strip_end(line)))
-}
-
-/// Replaces `line` by the next line of the input and returns whether there was one.
-///
-/// The line feed at its end and a carriage return before that are no part of it.
-///
-/// # Errors
-///
-/// A read or an allocation fails.
-pub fn next_line<R: BufRead>(input: &mut R, line: &mut Vec<u8>) -> io::Result<bool>
-    ensures { IfOk result (λ there. IfSome (R.remaining input.old) (λ bytes. ReadsLine there bytes line.new.items (R.remaining input.new))) }
-{
-    let (there, _ended) = next_ended_line(input, line)?;
-    Ok(there)
 }

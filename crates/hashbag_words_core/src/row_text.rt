@@ -1,5 +1,11 @@
 //! The text of rows, in parts.
-use crate::writing::{Format, RowBuilder};
+ghost use Rattle.std.specs.Prelude.{◌≡◌, ◌++◌, map, IfOk, OnOk};
+ghost use Rattle.hashbag.specs.Walks.{seen};
+ghost use Rattle.hashbag_words_core.specs.RowText.{bytes_left, left_in, IsOverIfNone};
+ghost use Rattle.hashbag_words_core.specs.Sorted.{row_of};
+ghost use Rattle.hashbag_words_core.specs.Writing.{text_of};
+
+use crate::writing::{Format, push_in};
 use std::alloc::{AllocError, Global};
 use std::io::{self, Read};
 
@@ -12,8 +18,9 @@ pub struct RowText<'a> {
     rows: Vec<(&'a String, usize)>,
     // How many rows have been built.
     built: usize,
-    builder: RowBuilder,
     format: Format,
+    // The row that is being built.
+    row: Vec<u8>,
     // The part that is being read, and how many bytes of it were read.
     part: Vec<u8>,
     read: usize,
@@ -30,9 +37,9 @@ fn longest(rows: &Vec<(&String, usize)>) -> usize {
     most
 }
 
-// Returns the room for a part that ends with the row of a token of this length. A byte is written as six at most, as `\\u0001`.
+// Returns the room for the row of a token of this length. A byte is written as six at most, as `\\u0001`.
 fn room(longest: usize) -> usize {
-    longest.saturating_mul(6).saturating_add(PART + 64)
+    longest.saturating_mul(6).saturating_add(64)
 }
 
 impl<'a> RowText<'a> {
@@ -44,21 +51,23 @@ impl<'a> RowText<'a> {
     ///
     /// # Complexity
     ///
-    /// Allocates room for some 65,536 bytes, and for six times the longest token.
+    /// Allocates room for some 65,536 bytes, and for twelve times the longest token.
     pub fn new(
         alloc: Global,
         format: Format,
         rows: Vec<(&'a String, usize)>,
-    ) -> Result<RowText<'a>, AllocError> {
-        let longest = longest(&rows);
-        let mut part = Vec::with_capacity(alloc, room(longest))?;
+    ) -> Result<RowText<'a>, AllocError>
+        ensures { IfOk result (λ text. bytes_left text ≡ text_of format (map row_of (map seen rows.entry.items))) }
+    {
+        let room = room(longest(&rows));
+        let row = Vec::with_capacity(alloc, room)?;
+        let mut part = Vec::with_capacity(alloc, room.saturating_add(PART))?;
         part.extend_from_slice(format.head())?;
-        let builder = RowBuilder::new(alloc, format, longest)?;
         Ok(RowText {
             rows,
             built: 0,
-            builder,
             format,
+            row,
             part,
             read: 0,
             is_ended: false,
@@ -70,19 +79,21 @@ impl<'a> RowText<'a> {
         self.rows.is_empty()
     }
 
-    // Builds the next part. It is empty after the end of the text.
-    fn build(&mut self) -> io::Result<()> {
-        self.part.clear();
-        self.read = 0;
-        let left = self.rows.as_slice().get(self.built..).unwrap_or(&[]);
-        for (token, count) in left {
-            if self.part.len() >= PART {
-                return Ok(());
-            }
-            self.builder.push(&mut self.part, token.as_str(), *count)?;
-            self.built = self.built.saturating_add(1);
+    // Appends to the part rows until it is full, or there are no more, and then the end of the text.
+    fn build(&mut self) -> io::Result<()>
+        ensures text { self.new.part.items ++ left_in self.new ≡ self.old.part.items ++ left_in self.old }
+        ensures read { self.new.read ≡ self.old.read }
+        ensures end { OnOk result (IsOverIfNone self.new) }
+    {
+        'rows: while self.built < self.rows.len() && self.part.len() < PART {
+            let (token, count) = self.rows[self.built];
+            self.row.clear();
+            let is_first = self.built == 0;
+            push_in(self.format, is_first, &mut self.row, token.as_str(), count)?;
+            self.part.extend_from_slice(&self.row)?;
+            self.built += 1;
         }
-        if !self.is_ended {
+        if self.built >= self.rows.len() && !self.is_ended {
             self.part.extend_from_slice(self.format.end())?;
             self.is_ended = true;
         }
@@ -91,13 +102,21 @@ impl<'a> RowText<'a> {
 }
 
 impl Read for RowText<'_> {
+    ghost use Rattle.std.specs.Prelude.{Some};
+    ghost use Rattle.hashbag_words_core.specs.RowText.{bytes_left};
+
+    // The bytes of the text that weren't read.
+    ghost remaining = { λ text. Some (bytes_left text) };
+
     fn read(&mut self, buf: &mut [u8]) -> io::Result<usize> {
         if self.read >= self.part.len() {
+            self.part.clear();
+            self.read = 0;
             self.build()?;
         }
-        let mut left = self.part.as_slice().get(self.read..).unwrap_or(&[]);
+        let mut left = &self.part[self.read..];
         let n = left.read(buf)?;
-        self.read = self.read.saturating_add(n);
+        self.read += n;
         Ok(n)
     }
 }

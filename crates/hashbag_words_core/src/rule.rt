@@ -21,4 +21,6 @@ pub struct Rule<'r> {
     pub pieces: Pieces<'r>,
     /// Whether upper and lower case are counted as one, by Unicode's full case folding.
     pub fold: bool,
+    /// Whether bytes that aren't UTF-8 are replaced by U+FFFD. If not, a line that has some is bad.
+    pub lossy: bool,
 }

@@ -1,9 +1,6 @@
 //! Shards: parts of all tokens, by a fixed hash of the token.
-ghost use Rattle.std.specs.Prelude.{◌≡◌, ◌<◌, if◌then◌else◌, string_bytes, IfSome};
-ghost use Rattle.hashbag_words_core.specs.Shards.{fnv, is_in, KeepsShard};
-
-use hashbag::HashBag;
-use std::hash::BuildHasher;
+ghost use Rattle.std.specs.Prelude.{◌≡◌, ◌<◌, IfSome};
+ghost use Rattle.hashbag_words_core.specs.Shards.{fnv, is_in, is_shown};
 
 /// A shard: one of a number of parts of all tokens. Each token is in the part whose index is its hash modulo that number.
 ///
@@ -52,17 +49,12 @@ impl Shard {
     }
 }
 
-/// Removes all tokens that aren't in the shard.
-///
-/// # Complexity
-///
-/// Reads each token once, and allocates nothing.
-pub fn keep_shard<S: BuildHasher + Drop>(bag: &mut HashBag<String, S>, shard: Shard)
-    ensures { KeepsShard shard bag.old bag.new }
+// Returns whether a token is in the shard, or there is none.
+pub(crate) fn is_shown(shard: Option<Shard>, token: &str) -> bool
+    ensures { result ≡ is_shown shard token.now }
 {
-    bag.retain(
-        |token: &String, count: usize| -> usize
-            ensures { result ≡ (if is_in shard (string_bytes token.now) then count else 0) }
-        { if shard.has(token.as_str()) { count } else { 0 } },
-    );
+    match shard {
+        Some(shard) => shard.has(token),
+        None => true,
+    }
 }

@@ -1,8 +1,13 @@
 //! Writing counts.
+ghost use Rattle.std.specs.Prelude.{◌≡◌, ◌++◌, false, true, OnOk, IfOk};
+ghost use Rattle.std.specs.Io.KnownBytes.{Appends};
+ghost use Rattle.hashbag_words_core.specs.Writing.{comma, end_text, head_text, pair_text, pair_tokens, row_text, uniq_text};
+
 use crate::rows::push_row;
-use serde_json::Value;
+use json::Writer;
 use std::alloc::{AllocError, Global};
 use std::io::{self, Write};
+use std::mem;
 
 /// How counts are written.
 #[derive(Clone, Copy, Debug, PartialEq, Eq)]
@@ -17,61 +22,79 @@ pub enum Format {
 
 impl Format {
     /// Returns what is written before the first row.
-    pub(crate) fn head(&self) -> &'static [u8] {
-        if *self == Format::Json { b"[" } else { b"" }
+    pub(crate) fn head(&self) -> &'static [u8]
+        ensures { result.now ≡ head_text self.now }
+    {
+        match self {
+            Format::Json => b"[",
+            _ => b"",
+        }
     }
 
     /// Returns what is written after the last row.
-    pub(crate) fn end(&self) -> &'static [u8] {
-        if *self == Format::Json { b"]\n" } else { b"" }
+    pub(crate) fn end(&self) -> &'static [u8]
+        ensures { result.now ≡ end_text self.now }
+    {
+        match self {
+            Format::Json => b"]\n",
+            _ => b"",
+        }
     }
 }
 
-/// Builds rows in a format.
-#[derive(Drop)]
-pub(crate) struct RowBuilder {
+// Appends a line as `uniq -c` writes it.
+fn push_uniq(text: &mut Vec<u8>, token: &str, count: usize) -> io::Result<()>
+    ensures { OnOk result (text.new.items ≡ text.old.items ++ uniq_text (token.now, count)) }
+{
+    writeln!(text, "{count:7} {token}")
+}
+
+// Writes a pair of JSON.
+fn write_pair(writer: &mut Writer, token: &str, count: usize) -> Result<(), AllocError>
+    ensures before { writer.new.before ≡ writer.old.before }
+    ensures tokens { OnOk result (writer.new.tokens ≡ writer.old.tokens ++ pair_tokens (token.now, count)) }
+{
+    writer.begin_array()?;
+    writer.string(token)?;
+    writer.u64(count as u64)?;
+    writer.end_array()
+}
+
+// Appends a pair of JSON.
+fn push_pair(text: &mut Vec<u8>, token: &str, count: usize) -> Result<(), AllocError>
+    ensures { OnOk result (text.new.items ≡ text.old.items ++ pair_text (token.now, count)) }
+{
+    let none = Vec::new(*text.allocator());
+    let mut writer = Writer::new(mem::replace(text, none));
+    let done = write_pair(&mut writer, token, count);
+    *text = writer.into_inner();
+    done
+}
+
+/// Appends the row of a token and its count. In JSON a comma comes before each but the first.
+///
+/// # Errors
+///
+/// An allocation fails.
+pub(crate) fn push_in(
     format: Format,
-    // A token of JSON, as a text. Each row has it anew, in the same memory.
-    token: Value,
-    // Whether no row has been built.
-    is_empty: bool,
-}
-
-impl RowBuilder {
-    /// Returns the builder of rows whose tokens have at most `longest` bytes. Longer ones allocate in JSON.
-    pub(crate) fn new(
-        alloc: Global,
-        format: Format,
-        longest: usize,
-    ) -> Result<RowBuilder, AllocError> {
-        let room = if format == Format::Json { longest } else { 0 };
-        Ok(RowBuilder {
-            format,
-            token: Value::String(String::with_capacity(alloc, room)?),
-            is_empty: true,
-        })
-    }
-
-    // Appends a row of JSON. A comma comes before each but the first.
-    fn push_pair(&mut self, text: &mut Vec<u8>, token: &str, count: usize) -> io::Result<()> {
-        if let Value::String(room) = &mut self.token {
-            room.clear();
-            room.push_str(token)?;
+    is_first: bool,
+    text: &mut Vec<u8>,
+    token: &str,
+    count: usize,
+) -> io::Result<()>
+    ensures { OnOk result (text.new.items ≡ text.old.items ++ (comma format is_first ++ row_text format (token.now, count))) }
+{
+    match format {
+        Format::Tsv => push_row(text, token, count),
+        Format::Uniq => push_uniq(text, token, count),
+        Format::Json => {
+            if !is_first {
+                text.push(b',')?;
+            }
+            push_pair(text, token, count)?;
+            Ok(())
         }
-        let comma = if self.is_empty { "" } else { "," };
-        let token = &self.token;
-        write!(text, "{comma}[{token},{count}]")
-    }
-
-    /// Appends the row of a token and its count.
-    pub(crate) fn push(&mut self, text: &mut Vec<u8>, token: &str, count: usize) -> io::Result<()> {
-        match self.format {
-            Format::Tsv => push_row(text, token, count)?,
-            Format::Uniq => writeln!(text, "{count:7} {token}")?,
-            Format::Json => self.push_pair(text, token, count)?,
-        }
-        self.is_empty = false;
-        Ok(())
     }
 }
 
@@ -80,7 +103,8 @@ impl RowBuilder {
 pub struct RowWriter<W> {
     out: W,
     format: Format,
-    rows: RowBuilder,
+    // Whether no row has been written.
+    is_empty: bool,
     // The row that is being written.
     text: Vec<u8>,
 }
@@ -94,15 +118,15 @@ impl<W: Write> RowWriter<W> {
     pub fn begin(alloc: Global, mut out: W, format: Format) -> io::Result<RowWriter<W>>
     where
         W: Drop,
+        ensures head { IfOk result (λ writer. Appends (W.contents out) (W.contents writer.out) (head_text format)) }
+        ensures rows { IfOk result (λ writer. (writer.format ≡ format) × (writer.is_empty ≡ true)) }
     {
-        let rows = RowBuilder::new(alloc, format, 0)?;
         out.write_all(format.head())?;
-        let text = Vec::new(alloc);
         Ok(RowWriter {
             out,
             format,
-            rows,
-            text,
+            is_empty: true,
+            text: Vec::new(alloc),
         })
     }
 
@@ -111,15 +135,22 @@ impl<W: Write> RowWriter<W> {
     /// # Errors
     ///
     /// A write or an allocation fails.
-    pub fn write_row(&mut self, token: &str, count: usize) -> io::Result<()> {
+    pub fn write_row(&mut self, token: &str, count: usize) -> io::Result<()>
+        ensures row { OnOk result (Appends (W.contents self.old.out) (W.contents self.new.out)
+            (comma self.old.format self.old.is_empty ++ row_text self.old.format (token.now, count))) }
+        ensures some { OnOk result ((self.new.format ≡ self.old.format) × (self.new.is_empty ≡ false)) }
+    {
         self.text.clear();
-        self.rows.push(&mut self.text, token, count)?;
+        push_in(self.format, self.is_empty, &mut self.text, token, count)?;
+        self.is_empty = false;
         self.out.write_all(&self.text)
     }
 
     /// Returns whether no row has been written.
-    pub fn is_empty(&self) -> bool {
-        self.rows.is_empty
+    pub fn is_empty(&self) -> bool
+        ensures { result ≡ self.now.is_empty }
+    {
+        self.is_empty
     }
 
     /// Ends the output, and returns what it was written to.
@@ -130,6 +161,7 @@ impl<W: Write> RowWriter<W> {
     pub fn finish(self) -> io::Result<W>
     where
         W: Drop,
+        ensures { IfOk result (λ out. Appends (W.contents self.out) (W.contents out) (end_text self.format)) }
     {
         let mut out = self.out;
         out.write_all(self.format.end())?;

@@ -1,15 +1,15 @@
 //! The merge of files whose rows rise. What is wanted was added up by hand.
 use crate::texts::is_text;
 use hashbag::HashBag;
-use hashbag_words_core::counting::count_lines;
+use hashbag_words_core::choice::{Choice, Order};
+use hashbag_words_core::counter::{Fed, TextCounter};
 use hashbag_words_core::errors::Fault;
-use hashbag_words_core::in_runs::{put_in_runs, runs_of};
-use hashbag_words_core::lines::{BadLines, Reading};
+use hashbag_words_core::gauge::Gauge;
+use hashbag_words_core::lines::BadLines;
 use hashbag_words_core::row_reader::RowReader;
 use hashbag_words_core::rows::RowForm;
 use hashbag_words_core::rule::{Pieces, Rule};
-use hashbag_words_core::runs::spill;
-use hashbag_words_core::shown_rows::{TopRows, WrittenRows};
+use hashbag_words_core::shown_rows::{ShownRows, TopRows};
 use hashbag_words_core::sorted_merge::{Sink, Stop, merge_rows};
 use hashbag_words_core::sources::Source;
 use hashbag_words_core::writing::{Format, RowWriter};
@@ -120,11 +120,10 @@ fn merge_into<K: Sink>(
 
 // The merged rows as text, or what stopped.
 fn merged(alloc: Global, form: RowForm, files: &str, skips: bool) -> Result<String, Fail> {
-    let writer = RowWriter::begin(alloc, Vec::new(alloc), Format::Tsv)?;
-    let mut rows = WrittenRows { writer, least: 0 };
+    let mut rows = RowWriter::begin(alloc, Vec::new(alloc), Format::Tsv)?;
     match merge_into(alloc, form, files, skips, &mut rows)? {
         Some(text) => Ok(text),
-        None => Ok(String::from_utf8(rows.writer.finish()?)?),
+        None => Ok(String::from_utf8(rows.finish()?)?),
     }
 }
 
@@ -153,7 +152,7 @@ fn are_skipped(alloc: Global, files: &str, wanted: &[u64]) -> Result<(), Fail> {
     let Ok(mut sources) = opened(alloc, RowForm::Tsv, files, true)? else {
         return Err(Fail::new("files aren't opened"));
     };
-    let mut rows = TopRows::new(alloc, 1, 0);
+    let mut rows = TopRows::new(alloc, 1);
     if merge_rows(&mut sources, &mut rows).is_err() {
         return Err(Fail::new("files aren't merged"));
     }
@@ -219,7 +218,7 @@ fn said_of(alloc: Global, rows: TopRows) -> Result<String, Fail> {
 
 // The commonest row of a run.
 fn top_of_run(alloc: Global, run: &[u8]) -> Result<String, Fail> {
-    let mut top = TopRows::new(alloc, 1, 0);
+    let mut top = TopRows::new(alloc, 1);
     let mut sources = Vec::new(alloc);
     sources
         .push(source_of(alloc, run)?)
@@ -245,14 +244,24 @@ const TOPS: [(usize, usize, &str); 4] = [
     (9, 2, "c9 a4 b4 "),
 ];
 
+// A sink that is put the rows that count `least` or more.
+fn shown_in<K>(sink: K, least: usize) -> ShownRows<K> {
+    let choice = Choice {
+        order: Order::Rising,
+        least,
+        shard: None,
+    };
+    ShownRows { sink, choice }
+}
+
 // Those rows of two files.
 fn top_of(alloc: Global, most: usize, least: usize) -> Result<String, Fail> {
-    let mut top = TopRows::new(alloc, most, least);
+    let mut top = shown_in(TopRows::new(alloc, most), least);
     let files = "a\t4\nc\t2\ne\t1\n|b\t4\nc\t7\nf\t1\n";
     if merge_into(alloc, RowForm::Tsv, files, false, &mut top)?.is_some() {
         return Err(Fail::new("files aren't merged"));
     }
-    said_of(alloc, top)
+    said_of(alloc, top.sink)
 }
 
 #[test]
@@ -311,44 +320,27 @@ fn by_words() -> Rule<'static> {
     Rule {
         pieces: Pieces::Words,
         fold: false,
+        lossy: false,
     }
 }
 
-// A bag that is counted in, and how far its input is.
-#[derive(Drop)]
-struct Counted {
-    bag: HashBag<String, RandomState>,
-    reading: Reading,
-}
+type Counter = TextCounter<'static, RandomState>;
 
-// Counts at most nine lines of a text, and returns whether there are more.
-fn count_part(alloc: Global, counted: &mut Counted, mut part: &[u8]) -> Result<bool, Fault> {
-    count_lines(
-        alloc,
-        &mut counted.bag,
-        &by_words(),
-        &mut part,
-        &mut counted.reading,
-        9,
-    )
-}
-
-// Returns the run of a bag, which is then empty.
-fn run_of(alloc: Global, bag: &mut HashBag<String, RandomState>) -> Result<String, Fail> {
+// Returns the run of what was counted. The bag is then empty.
+fn run_of(alloc: Global, counter: &mut Counter) -> Result<String, Fail> {
     let mut run = Vec::new(alloc);
-    spill(alloc, &mut run, bag)?;
-    if bag.is_empty() {
+    counter.take_run(&mut run)?;
+    if counter.bag().is_empty() {
         return Ok(String::from_utf8(run)?);
     }
     Err(Fail::new("a bag isn't emptied"))
 }
 
 // Returns the run of a part, or what stopped.
-fn run_of_part(alloc: Global, counted: &mut Counted, part: &str) -> Result<String, Fail> {
-    match count_part(alloc, counted, part.as_bytes()) {
-        Ok(false) => run_of(alloc, &mut counted.bag),
-        Ok(true) => Err(Fail::new(format_args!("more lines: {part:?}"))),
-        Err(fault) => stopped(alloc, 0, counted.reading.line, &fault),
+fn run_of_part(alloc: Global, counter: &mut Counter, part: &str) -> Result<String, Fail> {
+    match counter.feed(part.as_bytes()) {
+        Ok(_) => run_of(alloc, counter),
+        Err(fault) => stopped(alloc, 0, counter.reading().line, &fault),
     }
 }
 
@@ -369,9 +361,9 @@ fn twice_in(alloc: Global, first: &[u8], second: &[u8]) -> Result<String, Fail> 
             .map_err(AllocError::from)?;
     }
     let writer = RowWriter::begin(alloc, Vec::new(alloc), Format::Tsv)?;
-    let mut rows = WrittenRows { writer, least: 2 };
+    let mut rows = shown_in(writer, 2);
     match merge_rows(&mut sources, &mut rows) {
-        Ok(()) => Ok(String::from_utf8(rows.writer.finish()?)?),
+        Ok(()) => Ok(String::from_utf8(rows.sink.finish()?)?),
         Err(_) => Err(Fail::new("runs aren't merged")),
     }
 }
@@ -382,92 +374,61 @@ const FIRST_RUN: &str = "a\t1\nb\t2\n";
 const SECOND_RUN: &str = "a\t1\nb\t1\nc\t2\n\u{feff}b\t1\n";
 
 // Parts of a text, counted in turn in one bag with a limit of 9: the part; its run, or what stopped; and the limit after it. The limit
-// falls by what the run has. Lines are numbered through all parts.
+// falls by what the run has. Lines are numbered through all parts, and go across them.
 const PARTS: [(&str, &str, usize); 3] = [
-    ("b a\nb\n", FIRST_RUN, 6),
-    ("c \u{feff}b b\nc a\n", SECOND_RUN, 1),
+    ("b a\nb\nc", FIRST_RUN, 6),
+    (" \u{feff}b b\nc a\n", SECOND_RUN, 1),
     ("a b\n", "0: 5: total", 1),
 ];
 
 // Checks the run of a part, and the limit after it.
 fn is_spilled(
     alloc: Global,
-    counted: &mut Counted,
+    counter: &mut Counter,
     part: &str,
     run: &str,
     limit: usize,
 ) -> Result<(), Fail> {
-    is_text(&run_of_part(alloc, counted, part)?, run)?;
-    let left = counted.bag.limit();
+    is_text(&run_of_part(alloc, counter, part)?, run)?;
+    let left = counter.bag().limit();
     if left == limit {
         return Ok(());
     }
     Err(Fail::new(format_args!("{left}, not {limit}: the limit after {part:?}")))
 }
 
-fn are_spilled(alloc: Global, counted: &mut Counted) -> Result<(), Fail> {
+#[test]
+fn a_bag_is_spilled(rt: HostRuntime) -> Result<(), Fail> {
+    let bag = HashBag::with_limit(rt.alloc(), RandomState::new(&rt)?, 9);
+    let mut counter = TextCounter::new(rt.alloc(), bag, by_words(), BadLines::Refused, None);
     for (part, run, limit) in &PARTS {
-        is_spilled(alloc, counted, part, run, *limit)?;
+        is_spilled(rt.alloc(), &mut counter, part, run, *limit)?;
     }
     Ok(())
 }
 
+// Sixteen lines, of which each has words of its own.
+const WIDE: &str =
+    "a b\nc d\ne f\ng h\ni j\nk l\nm n\no p\nq r\ns t\nu v\nw x\ny z\n1 2\n3 4\n5 6\n";
+
+// A bag is measured after every sixteen lines, whole in a block or not. If it is full, the line after them isn't fed.
 #[test]
-fn a_bag_is_spilled(rt: HostRuntime) -> Result<(), Fail> {
-    let mut counted = Counted {
-        bag: HashBag::with_limit(rt.alloc(), RandomState::new(&rt)?, 9),
-        reading: Reading::new(BadLines::Refused),
-    };
-    are_spilled(rt.alloc(), &mut counted)
+fn a_bag_is_full(rt: HostRuntime) -> Result<(), Fail> {
+    for (most, wanted) in [(1, Fed::Full(WIDE.len() - 1)), (1 << 20, Fed::Whole)] {
+        let bag = HashBag::with_hasher(rt.alloc(), RandomState::new(&rt)?);
+        let gauge = Some(Gauge::new(most));
+        let mut counter = TextCounter::new(rt.alloc(), bag, by_words(), BadLines::Refused, gauge);
+        assert_eq!(rt; counter.feed(b"a")?, Fed::Whole);
+        let mut rest = String::from_str(rt.alloc(), &WIDE[1..])?;
+        rest.push_str("7 8\n")?;
+        assert_eq!(rt; counter.feed(rest.as_bytes())?, wanted);
+        assert_eq!(rt; counter.is_full(), most == 1);
+    }
+    Ok(())
 }
 
 #[test]
 fn runs_of_parts_are_merged(rt: HostRuntime) -> Result<(), Fail> {
     let rows = twice_in(rt.alloc(), FIRST_RUN.as_bytes(), SECOND_RUN.as_bytes())?;
     is_text(&rows, "a\t2\nb\t3\nc\t2\n")
-}
-
-// The lines of a text, and how many of them each run but the last takes. What is wanted was counted by hand.
-const MOMENTS: [[u64; 3]; 4] = [[0, 0, 0], [1, 0, 2], [1, 1, 1], [9, 1, 1]];
-
-const TEXT: &[u8] = b"b a\nb\n\xff b\nc b\na";
-
-// The counts of that text, in such runs.
-fn counted_in_runs(alloc: Global, state: RandomState, moments: &[u64]) -> Result<String, Fail> {
-    let writer = RowWriter::begin(alloc, Vec::new(alloc), Format::Tsv)?;
-    let mut rows = WrittenRows { writer, least: 0 };
-    let mut input = TEXT;
-    match put_in_runs(alloc, state, &by_words(), &mut input, moments, &mut rows) {
-        Ok(()) => Ok(String::from_utf8(rows.writer.finish()?)?),
-        Err(_) => Err(Fail::new("a text isn't counted")),
-    }
-}
-
-#[test]
-fn a_text_is_counted_in_runs(rt: HostRuntime) -> Result<(), Fail> {
-    let state = RandomState::new(&rt)?;
-    for moments in &MOMENTS {
-        let counts = counted_in_runs(rt.alloc(), state, moments.as_slice())?;
-        is_text(&counts, "a\t2\nb\t3\nc\t1\n")?;
-    }
-    Ok(())
-}
-
-#[test]
-fn runs_of_a_text(rt: HostRuntime) -> Result<(), Fail> {
-    let state = RandomState::new(&rt)?;
-    let mut input = TEXT;
-    let runs = runs_of(
-        rt.alloc(),
-        state,
-        &by_words(),
-        &mut input,
-        [2, 1].as_slice(),
-    )?;
-    let wanted = ["a\t1\nb\t2\n", "", "a\t1\nb\t1\nc\t1\n"];
-    assert_eq!(rt; runs.len(), wanted.len());
-    for (run, wanted) in runs.iter().zip(wanted.iter()) {
-        assert_eq!(rt; run.as_slice(), wanted.as_bytes());
-    }
-    Ok(())
 }

@@ -3,11 +3,10 @@
 use crate::texts::is_text;
 use hashbag::{FixedState, HashBag};
 use hashbag_words_core::choice::{Order, chosen};
-use hashbag_words_core::counting::count_lines;
+use hashbag_words_core::counter::{Fed, TextCounter};
 use hashbag_words_core::errors::Fault;
 use hashbag_words_core::lines::{BadLines, Reading};
 use hashbag_words_core::merging::{add_first_row, add_rows, add_tree};
-use hashbag_words_core::parts::counts_of;
 use hashbag_words_core::row_text::RowText;
 use hashbag_words_core::rows::RowForm;
 use hashbag_words_core::rule::{Pieces, Rule};
@@ -115,8 +114,17 @@ fn counted<S: BuildHasher + Drop>(
         _ => Pieces::Matches(&pattern),
     };
     let fold = by == "fold";
-    let bag = counts_of(alloc, state, &Rule { pieces, fold }, input.as_bytes())?;
-    written(alloc, &bag, Format::Tsv)
+    let lossy = false;
+    let rule = Rule {
+        pieces,
+        fold,
+        lossy,
+    };
+    let bag = HashBag::with_hasher(alloc, state);
+    let mut counter = TextCounter::new(alloc, bag, rule, BadLines::Refused, None);
+    counter.feed(input.as_bytes())?;
+    counter.end_text()?;
+    written(alloc, counter.bag(), Format::Tsv)
 }
 
 #[test]
@@ -219,39 +227,112 @@ fn shards_of_texts(rt: HostRuntime) {
     }
 }
 
-// Where each portion of two lines ends, what follows it, and the counts so far. The last line is bad.
-const PORTIONS: [(u64, &str, &str); 4] = [
-    (2, "more", "a\t1\nb\t1\n"),
-    (4, "more", "a\t2\nb\t2\n"),
-    (6, "more", "a\t3\nb\t2\nc\t1\n"),
-    (7, "bad", "a\t3\nb\t2\nc\t1\n"),
+// A text, whether bytes that aren't UTF-8 are replaced, what a bad line does, and the counts of its lines by `printf` and `sort | uniq -c`; or
+// the number of the line that is bad. Then how many lines there are, how many are skipped, and in how many bytes are replaced.
+const TEXTS: [(&[u8], &str, &str, [u64; 3]); 12] = [
+    (b"", "refused", "", [0, 0, 0]),
+    (b"\n", "refused", "\t1\n", [1, 0, 0]),
+    (b"\r\n\r", "refused", "\t1\n\\r\t1\n", [2, 0, 0]),
+    (b"a", "refused", "a\t1\n", [1, 0, 0]),
+    (b"a\rb\r\n\0\n", "refused", "\0\t1\na\\rb\t1\n", [2, 0, 0]),
+    (
+        b"\xef\xbb\xbfb\r\n\r\n\n\xef\xbb\xbfb\nb\r",
+        "refused",
+        "\t2\nb\t2\nb\\r\t1\n",
+        [5, 0, 0],
+    ),
+    (b"\xef\xbb\n\xbf\n", "skipped", "", [2, 2, 0]),
+    (b"a\nb\na\xff\nb\n", "refused", "3", [3, 0, 0]),
+    (b"a\nb\na\xff\nb\n", "skipped", "a\t1\nb\t2\n", [4, 1, 0]),
+    (
+        b"a\nb\na\xff\nb\n",
+        "replaced",
+        "a\t1\na\u{fffd}\t1\nb\t2\n",
+        [4, 0, 1],
+    ),
+    (b"a\n\xe2\x82", "refused", "2", [2, 0, 0]),
+    (b"a\n\xe2\x82", "replaced", "a\t1\n\u{fffd}\t1\n", [2, 0, 1]),
 ];
 
-fn after(portion: Result<bool, Fault>) -> &'static str {
-    match portion {
-        Ok(true) => "more",
-        Ok(false) => "none",
-        Err(_) => "bad",
+// A counter of lines.
+fn counter_of(alloc: Global, how: &str) -> TextCounter<'static, FixedState> {
+    let rule = Rule {
+        pieces: Pieces::Lines,
+        fold: false,
+        lossy: how == "replaced",
+    };
+    let bad_lines = match how {
+        "skipped" => BadLines::Skipped,
+        _ => BadLines::Refused,
+    };
+    let bag = HashBag::with_hasher(alloc, FixedState::new());
+    TextCounter::new(alloc, bag, rule, bad_lines, None)
+}
+
+// Feeds blocks, and ends the text.
+fn feed_all(
+    counter: &mut TextCounter<'static, FixedState>,
+    blocks: &[&[u8]],
+) -> Result<Reading, Fault> {
+    for block in blocks {
+        counter.feed(*block)?;
+    }
+    counter.end_text()
+}
+
+// What is counted of a text that comes in these blocks, or the number of its bad line; and how its lines were read.
+fn fed(alloc: Global, how: &str, blocks: &[&[u8]]) -> Result<(String, [u64; 3]), Fail> {
+    let mut counter = counter_of(alloc, how);
+    match feed_all(&mut counter, blocks) {
+        Ok(reading) => {
+            let counts = [reading.line, reading.skipped, reading.replaced];
+            Ok((written(alloc, counter.bag(), Format::Tsv)?, counts))
+        }
+        Err(_) => {
+            let line = counter.reading().line;
+            Ok((format!(in alloc; "{line}")?, [line, 0, 0]))
+        }
     }
 }
 
+// Checks what is counted of a text in three blocks.
+fn is_fed(alloc: Global, text: &[u8], i: usize, j: usize, row: usize) -> Result<(), Fail> {
+    let (_, how, wanted, counts) = TEXTS[row];
+    let blocks = [&text[..i], &text[i..j], &text[j..]];
+    let (found, read) = fed(alloc, how, blocks.as_slice())?;
+    is_text(&found, &wanted)?;
+    if read == counts {
+        return Ok(());
+    }
+    Err(Fail::new(format_args!("{read:?}, not {counts:?}: {text:?} in {i}, {j}")))
+}
+
+// Wherever a text is cut, each line of it is counted once.
 #[test]
-fn portions(rt: HostRuntime) -> Result<(), Fail> {
-    let alloc = rt.alloc();
-    let rule = Rule {
-        pieces: Pieces::Words,
-        fold: false,
-    };
-    let mut bag = HashBag::with_hasher(alloc, RandomState::new(&rt)?);
-    let mut reading = Reading::new(BadLines::Refused);
-    let mut rest: &[u8] = b"a\nb\na\nb\nc\na\nd \xff\n";
-    for (line, follows, wanted) in &PORTIONS {
-        let portion = count_lines(alloc, &mut bag, &rule, &mut rest, &mut reading, 2);
-        assert_eq!(rt; after(portion), *follows, "at {line}");
-        assert_eq!(rt; reading.line, *line);
-        is_text(&written(alloc, &bag, Format::Tsv)?, wanted)?;
+fn blocks(rt: HostRuntime) -> Result<(), Fail> {
+    for row in 0..TEXTS.len() {
+        let (text, _, _, _) = TEXTS[row];
+        for j in 0..text.len() + 1 {
+            for i in 0..j + 1 {
+                is_fed(rt.alloc(), text, i, j, row)?;
+            }
+        }
     }
     Ok(())
+}
+
+// The last line of a text isn't joined to the first one of the next.
+#[test]
+fn texts_in_turn(rt: HostRuntime) -> Result<(), Fail> {
+    let mut counter = counter_of(rt.alloc(), "refused");
+    for (text, lines) in [("a\nb", 2), ("c", 1), ("", 0), ("b\nd\n", 2), ("c\nd", 2)] {
+        assert_eq!(rt; counter.feed(text.as_bytes())?, Fed::Whole);
+        assert_eq!(rt; counter.end_text()?.line, lines);
+    }
+    is_text(
+        &written(rt.alloc(), counter.bag(), Format::Tsv)?,
+        &"a\t1\nb\t2\nc\t2\nd\t2\n",
+    )
 }
 
 // Trees that are added one after the other, a form, and how the counts are then written.

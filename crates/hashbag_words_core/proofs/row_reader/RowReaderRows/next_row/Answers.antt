@@ -1,9 +1,8 @@
-use Rattle.std.proofs.Common.{◌≡◌, IfSome, IsSome, sym, subst}
+use Rattle.std.proofs.Common.{IfSome, IsSome, sym, subst}
 use Rattle.hashbag_words_core.specs.Met.{is_line, Meets}
 use Rattle.hashbag_words_core.specs.Reading.{ReadsLine}
 use Rattle.hashbag_words_core.specs.Runs.{rows_left}
 use Rattle.hashbag_words_core.specs.declared.row_reader.Met.{Met}
-use Rattle.hashbag_words_core.specs.declared.row_reader.Met.TheVariants.{Passed, End}
 use Rattle.hashbag_words_core.proofs.RunLemmas.{known_after, none_after, none_passed}
 use Rattle.hashbag_words_core.proofs.row_reader.RowReaderRows.next_row.Goals as goal
 
