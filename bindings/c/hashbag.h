@@ -1,0 +1,215 @@
+/* hashbag: counted hash multisets of numbers and of byte strings. Made by `bash tests/header --write` from crates/hashbag_c.
+ *
+ * A handle is one word. It starts as HASHBAG_NONE, which is empty: it has no bag. `hashbag_numbers_new` and `hashbag_texts_new` put a bag into
+ * it, and `hashbag_free` leaves it empty again. A call on an empty handle, or on one that has a bag of the other kind, changes nothing, and
+ * returns HASHBAG_EMPTY or HASHBAG_KIND, or a count of 0.
+ *
+ * The library is proved for callers that keep to this:
+ *  1. Handles. A handle was HASHBAG_NONE first, and since then only this library wrote it. It isn't copied, so that two have one bag. Two
+ *     handles of one call are two, not one twice.
+ *  2. Memory. A pointer isn't null, not even with the length 0. It is aligned, and there is memory of the length that is given. What a call
+ *     writes overlaps no other argument. `malloc`, `realloc` and `free` are of one allocator, and align to 16.
+ *  3. Threads. A handle stays on the thread that put a bag into it, and has one call at a time, also of calls that only read. There is no call
+ *     from a signal handler, or in the child of a `fork` of a program with threads.
+ */
+#ifndef HASHBAG_H
+#define HASHBAG_H
+
+#include <stdbool.h>
+#include <stddef.h>
+#include <stdint.h>
+
+#ifdef __cplusplus
+extern "C" {
+#endif
+
+typedef struct hashbag {
+    void *at;
+} hashbag;
+
+#define HASHBAG_NONE { NULL }
+
+/* What the calls that can fail return. */
+enum hashbag_error {
+    HASHBAG_OK = 0,
+    /* An allocation failed, or a call would make room for more than 3 * 2^57 distinct values. */
+    HASHBAG_MEMORY = 1,
+    /* The total would pass the bag's limit. */
+    HASHBAG_TOO_MANY = 2,
+    /* The limit would be below the total. */
+    HASHBAG_BELOW_TOTAL = 9,
+    /* The handle has no bag. */
+    HASHBAG_EMPTY = 20,
+    /* The handle has a bag of the other kind. */
+    HASHBAG_KIND = 21,
+    /* The ends of byte strings aren't ascending, or pass the bytes. */
+    HASHBAG_ENDS = 22,
+};
+
+/* ---- bags of either kind */
+
+/* Frees the bag, and leaves an empty handle. An empty handle stays empty. */
+void hashbag_free(hashbag *handle);
+
+/* Returns the number of occurrences: the sum of all counts. It is 0 for an empty handle. */
+size_t hashbag_len(hashbag *handle);
+
+/* Returns the number of distinct values. It is 0 for an empty handle. */
+size_t hashbag_set_len(hashbag *handle);
+
+/* Returns the limit: the greatest total that the bag may have. It is 0 for an empty handle. */
+size_t hashbag_limit(hashbag *handle);
+
+/* Sets the limit to `most`, and returns 0. Nothing else changes.
+ *
+ * Errors:
+ * `HASHBAG_BELOW_TOTAL` if `most` is below the total; `HASHBAG_EMPTY`. Nothing changes then. */
+uint8_t hashbag_set_limit(hashbag *handle, size_t most);
+
+/* Removes all occurrences. The limit, the keys and the memory of the bag stay. */
+void hashbag_clear(hashbag *handle);
+
+/* Makes room for `n` values that are absent, and returns 0. Inserting these doesn't allocate then, but for the bytes
+ * of byte strings.
+ *
+ * Errors:
+ * `HASHBAG_MEMORY` if an allocation fails; `HASHBAG_EMPTY`. Nothing changes then. */
+uint8_t hashbag_reserve(hashbag *handle, size_t n);
+
+/* Returns how many distinct values the bag can have before it grows. It is 0 for an empty handle. */
+size_t hashbag_capacity(hashbag *handle);
+
+/* Returns whether two handles have bags of one kind in which each value occurs equally often, or both are empty. They
+ * must be two handles, not one twice. */
+bool hashbag_equal(hashbag *a, hashbag *b);
+
+/* ---- bags of numbers */
+
+/* Puts into the handle an empty bag of numbers, whose total is at most `most`, and returns 0. The bag that the handle
+ * had is freed.
+ *
+ * Its numbers are hashed under fixed keys, alike in every run. Use `hashbag_numbers_new_keyed` if strangers choose the
+ * numbers.
+ *
+ * Errors:
+ * `HASHBAG_MEMORY` if an allocation fails. Nothing changes then. */
+uint8_t hashbag_numbers_new(hashbag *handle, size_t most);
+
+/* Does the same with two keys of the caller, which are best drawn at random: whoever knows them can find numbers that
+ * collide.
+ *
+ * Errors:
+ * `HASHBAG_MEMORY` if an allocation fails. Nothing changes then. */
+uint8_t hashbag_numbers_new_keyed(hashbag *handle, size_t most, uint64_t key0, uint64_t key1);
+
+/* Inserts `n` occurrences of a number, writes the count before, and returns 0.
+ *
+ * Errors:
+ * `HASHBAG_TOO_MANY` if the total would pass the limit; `HASHBAG_MEMORY` if the number is absent, there is no room,
+ * and an allocation fails; `HASHBAG_EMPTY`; `HASHBAG_KIND`. Nothing changes then, and nothing is written. */
+uint8_t hashbag_numbers_insert(hashbag *handle, uint64_t value, size_t n, size_t *before);
+
+/* Returns the count of a number, 0 if it is absent or the handle has no bag of numbers. */
+size_t hashbag_numbers_contains(hashbag *handle, uint64_t value);
+
+/* Removes `n` occurrences of a number, or all if there are fewer, and returns the count after. It is 0 if the handle
+ * has no bag of numbers. */
+size_t hashbag_numbers_remove(hashbag *handle, uint64_t value, size_t n);
+
+/* Sets the count of a number to `n`, writes the count before, and returns 0. With 0 the number is removed.
+ *
+ * Errors:
+ * `HASHBAG_TOO_MANY` if the total would pass the limit; `HASHBAG_MEMORY` if the number is absent, there is no room,
+ * and an allocation fails; `HASHBAG_EMPTY`; `HASHBAG_KIND`. Nothing changes then, and nothing is written. */
+uint8_t hashbag_numbers_set_count(hashbag *handle, uint64_t value, size_t n, size_t *before);
+
+/* ---- bags of numbers, many at once */
+
+/* Inserts each of `values_len` numbers once, in turn, until one fails. Writes how many were inserted, and returns 0 if
+ * that is all.
+ *
+ * Errors:
+ * As of `hashbag_numbers_insert`. The numbers before the one that fails stay in the bag. */
+uint8_t hashbag_numbers_insert_all(hashbag *handle, const uint64_t *values, size_t values_len, size_t *done);
+
+/* Writes distinct numbers and their counts into two arrays, as many as both have places for, and returns how many.
+ * With `hashbag_set_len` places in each these are all, in no particular order. It returns 0 if the handle has no bag
+ * of numbers. */
+size_t hashbag_numbers_read(hashbag *handle, uint64_t *values, size_t values_len, size_t *counts, size_t counts_len);
+
+/* Writes each number of two bags once, with its count in the first and in the second, 0 in the bag that lacks it:
+ * those of the first bag first. It writes as many as the three arrays have places for, and returns how many. With as
+ * many places as both bags have distinct numbers these are all. They must be two handles, not one twice. It returns 0
+ * if one of them has no bag of numbers. */
+size_t hashbag_numbers_outer_join(hashbag *a, hashbag *b, uint64_t *values, size_t values_len, size_t *firsts,
+                                  size_t firsts_len, size_t *seconds, size_t seconds_len);
+
+/* ---- bags of byte strings */
+
+/* Puts into the handle an empty bag of byte strings, whose total is at most `most`, and returns 0. The bag that the
+ * handle had is freed.
+ *
+ * Its byte strings are hashed by SipHash under fixed keys, alike in every run. Use `hashbag_texts_new_keyed` if
+ * strangers choose them.
+ *
+ * Errors:
+ * `HASHBAG_MEMORY` if an allocation fails. Nothing changes then. */
+uint8_t hashbag_texts_new(hashbag *handle, size_t most);
+
+/* Does the same with two keys of SipHash, which the caller draws at random: then nobody can choose byte strings that
+ * collide.
+ *
+ * Errors:
+ * `HASHBAG_MEMORY` if an allocation fails. Nothing changes then. */
+uint8_t hashbag_texts_new_keyed(hashbag *handle, size_t most, uint64_t key0, uint64_t key1);
+
+/* Inserts `n` occurrences of a byte string, writes the count before, and returns 0. The bytes are copied if the string
+ * is absent.
+ *
+ * Errors:
+ * `HASHBAG_TOO_MANY` if the total would pass the limit; `HASHBAG_MEMORY` if the string is absent and an allocation
+ * fails; `HASHBAG_EMPTY`; `HASHBAG_KIND`. Nothing changes then, and nothing is written. */
+uint8_t hashbag_texts_insert(hashbag *handle, const uint8_t *value, size_t value_len, size_t n, size_t *before);
+
+/* Returns the count of a byte string, 0 if it is absent or the handle has no bag of byte strings. */
+size_t hashbag_texts_contains(hashbag *handle, const uint8_t *value, size_t value_len);
+
+/* Removes `n` occurrences of a byte string, or all if there are fewer, and returns the count after. It is 0 if the
+ * handle has no bag of byte strings. */
+size_t hashbag_texts_remove(hashbag *handle, const uint8_t *value, size_t value_len, size_t n);
+
+/* ---- bags of byte strings, many at once */
+
+/* Inserts byte strings that lie one after another in `bytes`, each once, in turn, until one fails. Each begins where
+ * the one before it ends, and ends before the place that `ends` has. Writes how many were inserted, and returns 0 if
+ * that is all.
+ *
+ * Errors:
+ * As of `hashbag_texts_insert`; `HASHBAG_ENDS` if an end is below the one before it, or above `bytes_len`. The strings
+ * before the one that fails stay in the bag. */
+uint8_t hashbag_texts_insert_all(hashbag *handle, const uint8_t *bytes, size_t bytes_len, const size_t *ends,
+                                 size_t ends_len, size_t *done);
+
+/* Inserts the pieces of `bytes` between separators, each once, in turn, until one fails. There is one piece more than
+ * separators, and some may be empty. Writes how many were inserted, and returns 0 if that is all.
+ *
+ * Errors:
+ * As of `hashbag_texts_insert`. The pieces before the one that fails stay in the bag. */
+uint8_t hashbag_texts_insert_split(hashbag *handle, const uint8_t *bytes, size_t bytes_len, uint8_t separator,
+                                   size_t *done);
+
+/* Returns how many bytes the distinct byte strings have in all, which `hashbag_texts_read` needs places for. It is 0
+ * if the handle has no bag of byte strings. */
+size_t hashbag_texts_bytes(hashbag *handle);
+
+/* Writes distinct byte strings one after another into `bytes`, where each ends into `ends`, and their counts, as many
+ * as there are places for, and returns how many. With `hashbag_texts_bytes` and `hashbag_set_len` places these are
+ * all, in no particular order. It returns 0 if the handle has no bag of byte strings. */
+size_t hashbag_texts_read(hashbag *handle, uint8_t *bytes, size_t bytes_len, size_t *ends, size_t ends_len,
+                          size_t *counts, size_t counts_len);
+
+#ifdef __cplusplus
+}
+#endif
+
+#endif

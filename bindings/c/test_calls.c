@@ -1,0 +1,186 @@
+/* Calls each function of the library, and compares what it returns with an array of counts or with a result found by hand. The status is 0 if all is
+ * right. `bindings/try` also runs it under AddressSanitizer and valgrind. */
+#include "hashbag.h"
+#include <stdio.h>
+#include <stdlib.h>
+#include <string.h>
+
+#define CHECK(it)                                          \
+    do {                                                   \
+        if (!(it)) {                                       \
+            printf("test_calls: line %d: %s\n", __LINE__, #it); \
+            exit(1);                                       \
+        }                                                  \
+    } while (0)
+#define TEXT(it) (const uint8_t *)(it), strlen(it)
+
+/* Numbers that repeat in each run. */
+static uint64_t state = 88172645463325252u;
+
+static uint64_t draw(uint64_t n) {
+    state ^= state << 13;
+    state ^= state >> 7;
+    state ^= state << 17;
+    return state % n;
+}
+
+static uint64_t scattered(uint64_t i) {
+    return i * 0x9e3779b97f4a7c15u;
+}
+
+/* An empty handle, and a bag of the other kind: each call says so, and changes nothing. */
+static void wrong_handles(void) {
+    hashbag empty = HASHBAG_NONE, numbers = HASHBAG_NONE, texts = HASHBAG_NONE;
+    size_t word = 77, ends[1] = {1}, counts[1];
+    uint64_t value = 5;
+    uint8_t byte;
+    CHECK(hashbag_numbers_new(&numbers, 9) == HASHBAG_OK && hashbag_texts_new(&texts, 9) == HASHBAG_OK);
+    CHECK(hashbag_numbers_insert(&empty, 5, 1, &word) == HASHBAG_EMPTY && hashbag_numbers_insert(&texts, 5, 1, &word) == HASHBAG_KIND);
+    CHECK(hashbag_numbers_set_count(&empty, 5, 1, &word) == HASHBAG_EMPTY && hashbag_numbers_set_count(&texts, 5, 1, &word) == HASHBAG_KIND);
+    CHECK(hashbag_texts_insert(&empty, TEXT("a"), 1, &word) == HASHBAG_EMPTY && hashbag_texts_insert(&numbers, TEXT("a"), 1, &word) == HASHBAG_KIND);
+    CHECK(word == 77);
+    CHECK(hashbag_numbers_insert_all(&empty, &value, 1, &word) == HASHBAG_EMPTY && word == 0);
+    CHECK(hashbag_numbers_insert_all(&texts, &value, 1, &word) == HASHBAG_KIND && word == 0);
+    CHECK(hashbag_texts_insert_all(&empty, TEXT("a"), ends, 1, &word) == HASHBAG_EMPTY && hashbag_texts_insert_all(&numbers, TEXT("a"), ends, 1, &word) == HASHBAG_KIND);
+    CHECK(hashbag_texts_insert_split(&empty, TEXT("a"), ',', &word) == HASHBAG_EMPTY && hashbag_texts_insert_split(&numbers, TEXT("a"), ',', &word) == HASHBAG_KIND);
+    CHECK(hashbag_set_limit(&empty, 1) == HASHBAG_EMPTY && hashbag_reserve(&empty, 1) == HASHBAG_EMPTY);
+    CHECK(hashbag_numbers_contains(&empty, 5) == 0 && hashbag_numbers_contains(&texts, 5) == 0 && hashbag_texts_contains(&numbers, TEXT("a")) == 0);
+    CHECK(hashbag_numbers_remove(&texts, 5, 1) == 0 && hashbag_texts_remove(&numbers, TEXT("a"), 1) == 0 && hashbag_texts_bytes(&numbers) == 0);
+    CHECK(hashbag_numbers_read(&texts, &value, 1, counts, 1) == 0 && hashbag_texts_read(&numbers, &byte, 1, ends, 1, counts, 1) == 0);
+    CHECK(hashbag_numbers_outer_join(&numbers, &texts, &value, 1, &word, 1, counts, 1) == 0 && hashbag_numbers_outer_join(&empty, &numbers, &value, 1, &word, 1, counts, 1) == 0);
+    CHECK(hashbag_len(&empty) == 0 && hashbag_set_len(&empty) == 0 && hashbag_limit(&empty) == 0 && hashbag_capacity(&empty) == 0);
+    CHECK(!hashbag_equal(&numbers, &texts) && !hashbag_equal(&empty, &texts) && !hashbag_equal(&numbers, &empty));
+    hashbag other = HASHBAG_NONE;
+    CHECK(hashbag_equal(&empty, &other));
+    hashbag_clear(&empty);
+    hashbag_free(&empty);
+    hashbag_free(&numbers);
+    hashbag_free(&numbers);
+    hashbag_free(&texts);
+    CHECK(hashbag_len(&texts) == 0 && texts.at == NULL);
+}
+
+/* Random calls beside an array of counts. */
+static void against_counts(hashbag *bag, size_t *model, uint64_t values, size_t most) {
+    size_t total = 0, distinct = 0, before;
+    for (int i = 0; i < 200000; i++) {
+        uint64_t v = draw(values);
+        size_t n = draw(4);
+        switch (draw(4)) {
+        case 0:
+        case 1: {
+            uint8_t code = hashbag_numbers_insert(bag, scattered(v), n, &before);
+            CHECK(code == (total + n > most ? HASHBAG_TOO_MANY : HASHBAG_OK));
+            if (code == HASHBAG_OK) {
+                CHECK(before == model[v]);
+                model[v] += n, total += n;
+            }
+            break;
+        }
+        case 2: {
+            size_t gone = model[v] < n ? model[v] : n;
+            model[v] -= gone, total -= gone;
+            CHECK(hashbag_numbers_remove(bag, scattered(v), n) == model[v]);
+            break;
+        }
+        default: {
+            uint8_t code = hashbag_numbers_set_count(bag, scattered(v), n, &before);
+            CHECK(code == (total - model[v] + n > most ? HASHBAG_TOO_MANY : HASHBAG_OK));
+            if (code == HASHBAG_OK) {
+                CHECK(before == model[v]);
+                total = total - model[v] + n, model[v] = n;
+            }
+        }
+        }
+    }
+    for (uint64_t v = 0; v < values; v++) {
+        distinct += model[v] > 0;
+        CHECK(hashbag_numbers_contains(bag, scattered(v)) == model[v]);
+    }
+    CHECK(hashbag_len(bag) == total && hashbag_set_len(bag) == distinct && hashbag_limit(bag) == most);
+}
+
+static void numbers(void) {
+    enum { VALUES = 5000, MOST = 6000 };
+    static size_t model[VALUES];
+    hashbag bag = HASHBAG_NONE, twin = HASHBAG_NONE;
+    size_t before, done, sum = 0;
+    CHECK(hashbag_numbers_new(&bag, 10) == HASHBAG_OK && hashbag_numbers_insert(&bag, 5, 10, &before) == HASHBAG_OK && before == 0);
+    CHECK(hashbag_set_limit(&bag, 9) == HASHBAG_BELOW_TOTAL && hashbag_limit(&bag) == 10 && hashbag_set_limit(&bag, MOST) == HASHBAG_OK);
+    hashbag_clear(&bag);
+    CHECK(hashbag_len(&bag) == 0 && hashbag_limit(&bag) == MOST);
+    against_counts(&bag, model, VALUES, MOST);
+    size_t distinct = hashbag_set_len(&bag);
+    uint64_t *values = malloc(2 * distinct * sizeof *values);
+    size_t *counts = malloc(2 * distinct * sizeof *counts), *seconds = malloc(2 * distinct * sizeof *seconds);
+    CHECK(hashbag_numbers_read(&bag, values, distinct, counts, distinct) == distinct);
+    for (size_t i = 0; i < distinct; i++) {
+        CHECK(hashbag_numbers_contains(&bag, values[i]) == counts[i]);
+        sum += counts[i];
+    }
+    CHECK(sum == hashbag_len(&bag));
+    CHECK(hashbag_numbers_read(&bag, values, 3, counts, 2) == 2 && hashbag_numbers_read(&bag, values, 0, counts, 5) == 0);
+    CHECK(hashbag_numbers_new_keyed(&twin, SIZE_MAX, draw(1000), draw(1000)) == HASHBAG_OK && !hashbag_equal(&bag, &twin));
+    CHECK(hashbag_numbers_read(&bag, values, distinct, counts, distinct) == distinct);
+    CHECK(hashbag_reserve(&twin, distinct) == HASHBAG_OK && hashbag_capacity(&twin) >= distinct);
+    CHECK(hashbag_reserve(&twin, SIZE_MAX) == HASHBAG_MEMORY);
+    for (size_t i = 0; i < distinct; i++) CHECK(hashbag_numbers_insert(&twin, values[i], counts[i], &before) == HASHBAG_OK && before == 0);
+    CHECK(hashbag_equal(&bag, &twin));
+    CHECK(hashbag_numbers_insert_all(&twin, values, distinct, &done) == HASHBAG_OK && done == distinct && hashbag_len(&twin) == sum + distinct);
+    CHECK(hashbag_numbers_insert(&twin, 1, 7, &before) == HASHBAG_OK);
+    size_t joined = hashbag_numbers_outer_join(&bag, &twin, values, 2 * distinct, counts, 2 * distinct, seconds, 2 * distinct);
+    CHECK(joined == distinct + 1 && values[distinct] == 1 && counts[distinct] == 0 && seconds[distinct] == 7);
+    for (size_t i = 0; i < distinct; i++) CHECK(counts[i] == hashbag_numbers_contains(&bag, values[i]) && seconds[i] == counts[i] + 1);
+    CHECK(hashbag_numbers_outer_join(&bag, &twin, values, 4, counts, 3, seconds, 2) == 2);
+    CHECK(hashbag_numbers_new(&twin, 3) == HASHBAG_OK && hashbag_numbers_insert_all(&twin, values, 9, &done) == HASHBAG_TOO_MANY && done == 3);
+    free(values), free(counts), free(seconds);
+    hashbag_free(&bag), hashbag_free(&twin);
+}
+
+static void texts(void) {
+    hashbag bag = HASHBAG_NONE, pieces = HASHBAG_NONE;
+    size_t before, done;
+    CHECK(hashbag_texts_new_keyed(&bag, SIZE_MAX, 1, 2) == HASHBAG_OK);
+    CHECK(hashbag_texts_insert(&bag, TEXT("the"), 2, &before) == HASHBAG_OK && before == 0);
+    CHECK(hashbag_texts_insert(&bag, TEXT(""), 1, &before) == HASHBAG_OK && before == 0);
+    CHECK(hashbag_texts_insert(&bag, (const uint8_t *)"a\0b", 3, 1, &before) == HASHBAG_OK && hashbag_texts_contains(&bag, (const uint8_t *)"a\0b", 3) == 1);
+    CHECK(hashbag_texts_contains(&bag, TEXT("a")) == 0 && hashbag_texts_contains(&bag, TEXT("")) == 1 && hashbag_len(&bag) == 4 && hashbag_set_len(&bag) == 3);
+    CHECK(hashbag_texts_insert(&bag, TEXT("none"), 0, &before) == HASHBAG_OK && hashbag_set_len(&bag) == 3);
+    CHECK(hashbag_texts_remove(&bag, TEXT("the"), 1) == 1 && hashbag_texts_remove(&bag, TEXT("the"), 5) == 0 && hashbag_set_len(&bag) == 2);
+    static uint8_t bytes[600000];
+    static size_t ends[40000];
+    size_t at = 0;
+    for (int i = 0; i < 40000; i++) {
+        at += (size_t)sprintf((char *)bytes + at, "word %llu", (unsigned long long)draw(3000));
+        ends[i] = at;
+    }
+    CHECK(hashbag_texts_insert_all(&bag, bytes, at, ends, 40000, &done) == HASHBAG_OK && done == 40000 && hashbag_len(&bag) == 40002);
+    size_t falling[3] = {4, 3, 8}, past[3] = {4, at + 1, at + 2};
+    CHECK(hashbag_texts_insert_all(&bag, bytes, at, falling, 3, &done) == HASHBAG_ENDS && done == 1);
+    CHECK(hashbag_texts_insert_all(&bag, bytes, at, past, 3, &done) == HASHBAG_ENDS && done == 1);
+    CHECK(hashbag_texts_new(&pieces, SIZE_MAX) == HASHBAG_OK && hashbag_texts_insert_split(&pieces, TEXT("ab,,c,ab,"), ',', &done) == HASHBAG_OK && done == 5);
+    CHECK(hashbag_texts_contains(&pieces, TEXT("ab")) == 2 && hashbag_texts_contains(&pieces, TEXT("")) == 2 && hashbag_texts_contains(&pieces, TEXT("c")) == 1);
+    CHECK(hashbag_texts_insert_split(&pieces, TEXT(""), ',', &done) == HASHBAG_OK && done == 1 && hashbag_len(&pieces) == 6);
+    CHECK(hashbag_set_limit(&pieces, 8) == HASHBAG_OK && hashbag_texts_insert_split(&pieces, TEXT("x,y,z"), ',', &done) == HASHBAG_TOO_MANY && done == 2);
+    hashbag_free(&pieces);
+    size_t n = hashbag_set_len(&bag), size = hashbag_texts_bytes(&bag), sum = 0, from = 0;
+    uint8_t *all = malloc(size);
+    size_t *all_ends = malloc(n * sizeof *all_ends), *counts = malloc(n * sizeof *counts);
+    CHECK(hashbag_texts_read(&bag, all, size, all_ends, n, counts, n) == n && all_ends[n - 1] == size);
+    for (size_t i = 0; i < n; i++) {
+        CHECK(hashbag_texts_contains(&bag, all + from, all_ends[i] - from) == counts[i]);
+        from = all_ends[i], sum += counts[i];
+    }
+    CHECK(sum == hashbag_len(&bag));
+    CHECK(hashbag_texts_read(&bag, all, size, all_ends, n - 1, counts, n) == n - 1 && hashbag_texts_read(&bag, all, size, all_ends, n, counts, 2) == 2);
+    free(all), free(all_ends), free(counts);
+    hashbag_free(&bag);
+}
+
+int main(void) {
+    wrong_handles();
+    numbers();
+    texts();
+    puts("test_calls: ok");
+    return 0;
+}

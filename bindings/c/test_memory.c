@@ -1,0 +1,117 @@
+/* Refuses each allocation in turn: the call returns HASHBAG_MEMORY, the bag is as it was, and nothing leaks. It has a heap of its own, so it is linked
+ * without heap.o. The status is 0 if all is right. */
+#include "hashbag.h"
+#include <stdio.h>
+#include <stdlib.h>
+#include <string.h>
+
+#define CHECK(it)                                           \
+    do {                                                    \
+        if (!(it)) {                                        \
+            printf("test_memory: line %d: %s\n", __LINE__, #it); \
+            exit(1);                                        \
+        }                                                   \
+    } while (0)
+
+struct block {
+    unsigned long ok;
+    void *p;
+};
+
+static char none[16] __attribute__((aligned(16)));
+static long left = -1, live = 0, asked = 0;
+
+static int is_refused(void) {
+    asked++;
+    return left >= 0 && left-- == 0;
+}
+
+static struct block given(void *p) {
+    return (struct block){p != NULL, p != NULL ? p : none};
+}
+
+struct block rattle_alloc(size_t size, size_t align);
+struct block rattle_realloc(void *p, size_t before, size_t size, size_t align);
+void rattle_dealloc(void *p);
+
+struct block rattle_alloc(size_t size, size_t align) {
+    void *p = is_refused() ? NULL : malloc(size ? size : align);
+    live += p != NULL;
+    return given(p);
+}
+
+struct block rattle_realloc(void *p, size_t before, size_t size, size_t align) {
+    (void)before;
+    return given(is_refused() ? NULL : realloc(p, size ? size : align));
+}
+
+void rattle_dealloc(void *p) {
+    live--;
+    free(p);
+}
+
+static int refused;
+
+/* Whether a call was refused memory. */
+static int fails(uint8_t code) {
+    refused += code == HASHBAG_MEMORY;
+    return code != HASHBAG_OK;
+}
+
+static void numbers(void) {
+    hashbag bag = HASHBAG_NONE;
+    size_t before, total = 0, done;
+    if (fails(hashbag_numbers_new(&bag, SIZE_MAX))) CHECK(bag.at == NULL);
+    for (uint64_t i = 0; i < 400; i++) {
+        uint64_t v = i * 0x9e3779b97f4a7c15u;
+        size_t distinct = hashbag_set_len(&bag);
+        uint8_t code = i % 2 ? hashbag_numbers_insert(&bag, v, i % 3 + 1, &before) : hashbag_numbers_set_count(&bag, v, i % 3 + 1, &before);
+        if (!fails(code)) total += i % 3 + 1;
+        else CHECK(code == (bag.at ? HASHBAG_MEMORY : HASHBAG_EMPTY) && hashbag_set_len(&bag) == distinct && hashbag_numbers_contains(&bag, v) == 0);
+        CHECK(hashbag_len(&bag) == total);
+    }
+    fails(hashbag_reserve(&bag, 5000));
+    uint64_t values[3] = {1, 2, 3};
+    fails(hashbag_numbers_insert_all(&bag, values, 3, &done));
+    CHECK(hashbag_len(&bag) == total + done);
+    hashbag_free(&bag);
+}
+
+static void texts(void) {
+    hashbag bag = HASHBAG_NONE;
+    size_t before, total = 0, done;
+    char text[32];
+    fails(hashbag_texts_new(&bag, SIZE_MAX));
+    for (int i = 0; i < 100; i++) {
+        size_t size = (size_t)sprintf(text, "word %d", i);
+        if (!fails(hashbag_texts_insert(&bag, (uint8_t *)text, size, 2, &before))) total += 2;
+        else CHECK(hashbag_texts_contains(&bag, (uint8_t *)text, size) == 0);
+        CHECK(hashbag_len(&bag) == total);
+    }
+    size_t ends[3] = {2, 4, 6};
+    fails(hashbag_texts_insert_all(&bag, (const uint8_t *)"aabbcc", 6, ends, 3, &done));
+    total += done;
+    CHECK(hashbag_len(&bag) == total);
+    fails(hashbag_texts_insert_split(&bag, (const uint8_t *)"dd,ee,ff", 8, ',', &done));
+    CHECK(hashbag_len(&bag) == total + done);
+    hashbag_free(&bag);
+}
+
+/* Runs all calls with the nth allocation refused, or none with -1. */
+static int runs(long n) {
+    refused = 0;
+    left = n;
+    numbers();
+    texts();
+    CHECK(live == 0);
+    return refused;
+}
+
+int main(void) {
+    CHECK(runs(-1) == 0);
+    long all = asked;
+    CHECK(all > 100);
+    for (long n = 0; n < all; n++) CHECK(runs(n) > 0);
+    printf("test_memory: each of %ld allocations refused: ok\n", all);
+    return 0;
+}

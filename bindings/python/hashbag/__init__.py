@@ -1,0 +1,310 @@
+"""Counted multisets of texts, over the proved library `libhashbag.so`.
+
+    >>> from hashbag import HashBag
+    >>> words = HashBag("the cat and the hat".split())
+    >>> words["the"], words["dog"], len(words), words.total()
+    (2, 0, 4, 5)
+    >>> words.most_common(1)
+    [('the', 2)]
+
+A `HashBag` has the calls of `collections.Counter`, where these make sense for counts that are never below 0. What is proved is the library; this
+module isn't. It keeps what `hashbag.h` asks of a caller: a handle belongs to one object, is freed with it, and never leaves it; each buffer lives and
+stays where it is during its call; the interpreter's lock is held during a call, and a bag is used by the thread that made it, or an error is raised.
+"""
+
+from __future__ import annotations
+
+import ctypes
+import heapq
+import secrets
+import threading
+from array import array
+from collections.abc import Callable, Iterable, Iterator, Mapping
+from itertools import accumulate, repeat
+from typing import Any, Generic, TypeVar, Union
+
+from ._library import count as _count_of
+from ._library import insert as _insert
+from ._library import is_fast as _is_fast
+from ._library import library as _library
+from ._library import remove as _remove
+
+__all__ = ["BagError", "HashBag", "NO_LIMIT", "is_fast"]
+
+#: Whether calls on one key go by `_fast.c`, and not by ctypes.
+is_fast: bool = _is_fast
+
+#: The limit of a bag for which none is given: no total can be greater.
+NO_LIMIT = 2**64 - 1
+
+Key = Union[str, bytes]
+K = TypeVar("K", str, bytes)
+
+
+class BagError(Exception):
+    """Why a call failed: the total would pass the limit, or the limit be below the total. `number` is the library's."""
+
+    TEXTS = {2: "total past its end", 9: "limit below total"}
+
+    def __init__(self, number: int) -> None:
+        super().__init__(self.TEXTS.get(number, f"error {number}"))
+        self.number = number
+
+
+def _done(number: int) -> None:
+    if number == 1:
+        raise MemoryError
+    if number:
+        raise BagError(number)
+
+
+def _bytes(key: Key) -> bytes:
+    if isinstance(key, str):
+        return key.encode()
+    if isinstance(key, bytes):
+        return key
+    raise TypeError(f"a key is a str or bytes, not {type(key)!r}")
+
+
+def _count(n: int) -> int:
+    if not isinstance(n, int):
+        raise TypeError(f"a count is an int, not {type(n).__name__}")
+    if not 0 <= n <= NO_LIMIT:
+        raise ValueError("a count is from 0 to 2**64 - 1")
+    return n
+
+
+class HashBag(Generic[K]):
+    """A counted multiset of `str`, which are kept as UTF-8, or of `bytes` if it is made with `decode=None`.
+
+    `items` is an iterable of keys, each inserted once, or a mapping from keys to counts. The total of all counts is at most `limit`.
+    """
+
+    __slots__ = ("_word", "_handle", "_size", "_out", "_decode", "_thread", "__weakref__")
+    __hash__ = None  # type: ignore[assignment]
+
+    def __init__(self, items: Iterable[Any] | Mapping[Any, int] = (), *, limit: int = NO_LIMIT, decode: Callable[[bytes], Any] | None = bytes.decode) -> None:
+        self._word = ctypes.c_void_p(0)
+        self._size = ctypes.c_size_t(0)
+        self._out = ctypes.addressof(self._size)
+        self._decode = decode
+        self._thread = threading.get_ident()
+        self._handle = ctypes.addressof(self._word)
+        _done(_library.hashbag_texts_new_keyed(self._handle, _count(limit), secrets.randbits(64), secrets.randbits(64)))
+        self.update(items)
+
+    def __del__(self) -> None:
+        handle = getattr(self, "_handle", None)
+        if handle and _library is not None:
+            _library.hashbag_free(handle)
+
+    def _at(self) -> int:
+        """The handle, for one call, on the thread that made it."""
+        if threading.get_ident() != self._thread:
+            raise RuntimeError("a HashBag is used by the thread that made it")
+        return self._handle
+
+    # ---- one key
+
+    def insert(self, key: Key, n: int = 1) -> int:
+        """Inserts n occurrences of a key, and returns the count before.
+
+        Raises BagError if the total would pass the limit. The bag is then unchanged.
+        """
+        before = _insert(self._at(), key, _count(n))
+        if before < 0:
+            _done(-before)
+        return before
+
+    def remove(self, key: Key, n: int = 1) -> int:
+        """Removes n occurrences of a key, or all if there are fewer, and returns the count after."""
+        return _remove(self._at(), key, _count(n))
+
+    def __getitem__(self, key: Key) -> int:
+        return _count_of(self._at(), key)
+
+    def __setitem__(self, key: Key, n: int) -> None:
+        before, n = self[key], _count(n)
+        if n > before:
+            self.insert(key, n - before)
+        elif n < before:
+            self.remove(key, before - n)
+
+    def __delitem__(self, key: Key) -> None:
+        """Removes all occurrences of a key. As of a Counter, an absent key is no error."""
+        self.remove(key, NO_LIMIT)
+
+    def __contains__(self, key: object) -> bool:
+        return isinstance(key, (str, bytes)) and self[key] > 0
+
+    def get(self, key: Key, default: int = 0) -> int:
+        """Returns the count of a key, `default` if it is absent."""
+        return self[key] or default
+
+    def pop(self, key: Key) -> int:
+        """Removes all occurrences of a key, and returns how many there were."""
+        before = self[key]
+        del self[key]
+        return before
+
+    # ---- the whole
+
+    def __len__(self) -> int:
+        """Returns the number of distinct keys."""
+        return _library.hashbag_set_len(self._at())
+
+    def __bool__(self) -> bool:
+        return len(self) > 0
+
+    def total(self) -> int:
+        """Returns the sum of all counts."""
+        return _library.hashbag_len(self._at())
+
+    @property
+    def limit(self) -> int:
+        """The greatest total that the bag may have. Setting it below the total raises BagError."""
+        return _library.hashbag_limit(self._at())
+
+    @limit.setter
+    def limit(self, most: int) -> None:
+        _done(_library.hashbag_set_limit(self._at(), _count(most)))
+
+    def clear(self) -> None:
+        """Removes everything."""
+        _library.hashbag_clear(self._at())
+
+    def reserve(self, n: int) -> None:
+        """Makes room for n more distinct keys."""
+        _done(_library.hashbag_reserve(self._at(), _count(n)))
+
+    def _pairs(self) -> tuple[list[bytes], list[int]]:
+        """The keys as bytes, and their counts."""
+        n, size = len(self), _library.hashbag_texts_bytes(self._at())
+        text, ends, counts = bytearray(size + 1), array("Q", bytes(8 * n + 8)), array("Q", bytes(8 * n + 8))
+        at = ctypes.addressof(ctypes.c_char.from_buffer(text))
+        n = _library.hashbag_texts_read(self._at(), at, size, ends.buffer_info()[0], n, counts.buffer_info()[0], n)
+        raw, stops = bytes(text), ends[:n].tolist()
+        return [raw[a:b] for a, b in zip([0, *stops], stops)], counts[:n].tolist()
+
+    def items(self) -> list[tuple[K, int]]:
+        """Returns each distinct key with its count, in no particular order."""
+        keys, counts = self._pairs()
+        return list(zip(map(self._decode, keys) if self._decode else keys, counts))  # type: ignore[arg-type]
+
+    def keys(self) -> list[K]:
+        """Returns the distinct keys, in no particular order."""
+        return [key for key, _ in self.items()]
+
+    def values(self) -> list[int]:
+        """Returns the counts, in no particular order."""
+        return self._pairs()[1]
+
+    def __iter__(self) -> Iterator[K]:
+        return iter(self.keys())
+
+    def elements(self) -> Iterator[K]:
+        """Gives each key as often as it occurs."""
+        for key, n in self.items():
+            yield from repeat(key, n)
+
+    def most_common(self, n: int | None = None) -> list[tuple[K, int]]:
+        """Returns the n commonest keys with their counts, the commonest first, or all keys. Keys with equal counts are in no particular order."""
+        items = self.items()
+        if n is None:
+            return sorted(items, key=lambda item: item[1], reverse=True)
+        return heapq.nlargest(n, items, key=lambda item: item[1])
+
+    # ---- many at once
+
+    def update(self, items: Iterable[Any] | Mapping[Any, int] = ()) -> None:
+        """Inserts each key of an iterable once, or each of a mapping as often as it says.
+
+        Raises BagError at the first that fails. Those before it stay.
+        """
+        if isinstance(items, HashBag):
+            for text, n in zip(*items._pairs()):
+                self.insert(text, n)
+        elif isinstance(items, Mapping):
+            for key, n in items.items():
+                self.insert(key, n)
+        else:
+            self._insert_all([_bytes(key) for key in items])
+
+    def _insert_all(self, texts: list[bytes]) -> None:
+        joined, ends = b"".join(texts), array("Q", accumulate(map(len, texts)))
+        if texts:
+            _done(_library.hashbag_texts_insert_all(self._at(), joined, len(joined), ends.buffer_info()[0], len(ends), self._out))
+
+    def update_split(self, data: bytes, separator: bytes = b"\n") -> int:
+        """Inserts each piece of `data` between separators once, in one call, and returns how many there were."""
+        if len(separator) != 1:
+            raise ValueError("a separator is one byte")
+        _done(_library.hashbag_texts_insert_split(self._at(), bytes(data), len(data), separator[0], self._out))
+        return self._size.value
+
+    def subtract(self, items: Iterable[Any] | Mapping[Any, int] = ()) -> None:
+        """Removes each key of an iterable once, or each of a mapping as often as it says. No count gets below 0."""
+        if isinstance(items, HashBag):
+            items = dict(zip(*items._pairs()))
+        if isinstance(items, Mapping):
+            for key, n in items.items():
+                self.remove(key, n)
+        else:
+            for key in items:
+                self.remove(key)
+
+    def copy(self) -> HashBag[K]:
+        """Returns a bag with the same counts, limit and decoder."""
+        return self._made(zip(*self._pairs()))
+
+    __copy__ = copy
+
+    def _made(self, pairs: Iterable[tuple[bytes, int]]) -> HashBag[K]:
+        made: HashBag[K] = HashBag(limit=self.limit, decode=self._decode)
+        for text, n in pairs:
+            if n:
+                made.insert(text, n)
+        return made
+
+    # ---- two bags
+
+    def __eq__(self, other: object) -> bool:
+        if not isinstance(other, HashBag):
+            return NotImplemented
+        # The two handles of a call have to be two.
+        return self is other or _library.hashbag_equal(self._at(), other._at())
+
+    def __add__(self, other: HashBag[K]) -> HashBag[K]:
+        made = self.copy()
+        made.update(other)
+        return made
+
+    def __sub__(self, other: HashBag[K]) -> HashBag[K]:
+        return self._made((text, max(n - other[text], 0)) for text, n in zip(*self._pairs()))
+
+    def __and__(self, other: HashBag[K]) -> HashBag[K]:
+        return self._made((text, min(n, other[text])) for text, n in zip(*self._pairs()))
+
+    def __or__(self, other: HashBag[K]) -> HashBag[K]:
+        made = self.copy()
+        for text, n in zip(*other._pairs()):
+            made[text] = max(n, made[text])
+        return made
+
+    def outer_join(self, other: HashBag[K]) -> list[tuple[K, int, int]]:
+        """Returns each key of either bag once, with its count here and there, those of this bag first."""
+        decode: Callable[[bytes], Any] = self._decode or bytes
+        joined = [(decode(text), n, other[text]) for text, n in zip(*self._pairs())]
+        return joined + [(decode(text), 0, n) for text, n in zip(*other._pairs()) if text not in self]
+
+    def difference(self, other: HashBag[K]) -> list[tuple[K, int]]:
+        """Returns each key that this bag has more often than the other, with how many more."""
+        return [(key, n - m) for key, n, m in self.outer_join(other) if n > m]
+
+    def not_in(self, other: HashBag[K]) -> list[tuple[K, int]]:
+        """Returns each key of this bag that the other lacks, with its count."""
+        return [(key, n) for key, n, m in self.outer_join(other) if n and not m]
+
+    def __repr__(self) -> str:
+        shown = ", ".join(f"{key!r}: {n}" for key, n in self.most_common(10))
+        return f"HashBag({{{shown}{', ..' if len(self) > 10 else ''}}})"

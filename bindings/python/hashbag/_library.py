@@ -1,0 +1,86 @@
+"""The functions of the library, as `hashbag.h` declares them. `bash tests/header` compares their names and numbers of arguments."""
+
+import ctypes
+import os
+from pathlib import Path
+
+HANDLE = ctypes.c_void_p
+SIZE = ctypes.c_size_t
+WORD = ctypes.c_uint64
+BYTE = ctypes.c_uint8
+BYTES = ctypes.c_char_p
+ARRAY = ctypes.c_void_p
+
+
+def _path() -> str:
+    """The file that HASHBAG_SO names, else the library of the prefix that `bash install` was given, else what the system finds."""
+    named = os.environ.get("HASHBAG_SO")
+    installed = Path(__file__).resolve().parents[4] / "lib" / "libhashbag.so"
+    return named or (str(installed) if installed.is_file() else "libhashbag.so")
+
+
+# PyDLL keeps the interpreter's lock during a call, so that a handle has one call at a time.
+library = ctypes.PyDLL(_path())
+
+for _name, _arguments, _result in (
+    ("hashbag_free", [HANDLE], None),
+    ("hashbag_len", [HANDLE], SIZE),
+    ("hashbag_set_len", [HANDLE], SIZE),
+    ("hashbag_limit", [HANDLE], SIZE),
+    ("hashbag_set_limit", [HANDLE, SIZE], BYTE),
+    ("hashbag_clear", [HANDLE], None),
+    ("hashbag_reserve", [HANDLE, SIZE], BYTE),
+    ("hashbag_capacity", [HANDLE], SIZE),
+    ("hashbag_equal", [HANDLE, HANDLE], ctypes.c_bool),
+    ("hashbag_numbers_new", [HANDLE, SIZE], BYTE),
+    ("hashbag_numbers_new_keyed", [HANDLE, SIZE, WORD, WORD], BYTE),
+    ("hashbag_numbers_insert", [HANDLE, WORD, SIZE, ARRAY], BYTE),
+    ("hashbag_numbers_contains", [HANDLE, WORD], SIZE),
+    ("hashbag_numbers_remove", [HANDLE, WORD, SIZE], SIZE),
+    ("hashbag_numbers_set_count", [HANDLE, WORD, SIZE, ARRAY], BYTE),
+    ("hashbag_numbers_insert_all", [HANDLE, ARRAY, SIZE, ARRAY], BYTE),
+    ("hashbag_numbers_read", [HANDLE, ARRAY, SIZE, ARRAY, SIZE], SIZE),
+    ("hashbag_numbers_outer_join", [HANDLE, HANDLE, ARRAY, SIZE, ARRAY, SIZE, ARRAY, SIZE], SIZE),
+    ("hashbag_texts_new", [HANDLE, SIZE], BYTE),
+    ("hashbag_texts_new_keyed", [HANDLE, SIZE, WORD, WORD], BYTE),
+    ("hashbag_texts_insert", [HANDLE, BYTES, SIZE, SIZE, ARRAY], BYTE),
+    ("hashbag_texts_contains", [HANDLE, BYTES, SIZE], SIZE),
+    ("hashbag_texts_remove", [HANDLE, BYTES, SIZE, SIZE], SIZE),
+    ("hashbag_texts_insert_all", [HANDLE, BYTES, SIZE, ARRAY, SIZE, ARRAY], BYTE),
+    ("hashbag_texts_insert_split", [HANDLE, BYTES, SIZE, BYTE, ARRAY], BYTE),
+    ("hashbag_texts_bytes", [HANDLE], SIZE),
+    ("hashbag_texts_read", [HANDLE, ARRAY, SIZE, ARRAY, SIZE, ARRAY, SIZE], SIZE),
+):
+    _function = getattr(library, _name)
+    _function.argtypes, _function.restype = _arguments, _result
+
+# The calls on one key: `insert(handle, key, n)`, which returns the count before or the negative of an error's number, `remove(handle, key, n)` and
+# `count(handle, key)`. By `_fast.c`, if it was built; otherwise by ctypes.
+try:
+    from ._fast import count, insert, remove, use  # type: ignore[import-not-found]
+
+    use(*(ctypes.cast(getattr(library, f"hashbag_texts_{_call}"), ctypes.c_void_p).value for _call in ("insert", "remove", "contains")))
+    is_fast = True
+except ImportError:
+    is_fast = False
+    _before = SIZE(0)
+    _at_before = ctypes.addressof(_before)
+
+    def _bytes(key: "str | bytes") -> bytes:
+        if isinstance(key, str):
+            return key.encode()
+        if isinstance(key, bytes):
+            return key
+        raise TypeError(f"a key is a str or bytes, not {type(key)!r}")
+
+    def insert(handle: int, key: "str | bytes", n: int) -> int:
+        text = _bytes(key)
+        return -library.hashbag_texts_insert(handle, text, len(text), n, _at_before) or _before.value
+
+    def remove(handle: int, key: "str | bytes", n: int) -> int:
+        text = _bytes(key)
+        return library.hashbag_texts_remove(handle, text, len(text), n)
+
+    def count(handle: int, key: "str | bytes") -> int:
+        text = _bytes(key)
+        return library.hashbag_texts_contains(handle, text, len(text))

@@ -1,0 +1,203 @@
+"""Tests of the Python binding, by unittest. Expected values are those of `collections.Counter`, or were found by hand."""
+
+import copy
+import random
+import threading
+import unittest
+from collections import Counter
+
+from hashbag import NO_LIMIT, BagError, HashBag
+
+
+class OneBag(unittest.TestCase):
+    def setUp(self):
+        self.bag = HashBag("the cat and the hat and the bat".split())
+
+    def test_counts(self):
+        self.assertEqual([self.bag[key] for key in ("the", "and", "cat", "dog")], [3, 2, 1, 0])
+        self.assertEqual((len(self.bag), self.bag.total()), (5, 8))
+        self.assertTrue("cat" in self.bag and "dog" not in self.bag and 7 not in self.bag)
+        self.assertEqual((self.bag.get("the"), self.bag.get("dog"), self.bag.get("dog", 9)), (3, 0, 9))
+
+    def test_a_look_up_inserts_nothing(self):
+        self.bag["dog"]
+        self.assertEqual(len(self.bag), 5)
+
+    def test_insert_and_remove(self):
+        self.assertEqual(self.bag.insert("the", 2), 3)
+        self.assertEqual(self.bag.remove("the", 4), 1)
+        self.assertEqual(self.bag.remove("dog"), 0)
+        self.assertEqual(self.bag.pop("the"), 1)
+        self.assertNotIn("the", self.bag)
+
+    def test_set_and_delete(self):
+        self.bag["cat"] = 7
+        self.bag["the"] = 1
+        self.bag["and"] = 0
+        del self.bag["hat"]
+        del self.bag["dog"]
+        self.assertEqual(dict(self.bag.items()), {"cat": 7, "the": 1, "bat": 1})
+
+    def test_walks(self):
+        words = "the cat and the hat and the bat".split()
+        self.assertEqual(sorted(self.bag.elements()), sorted(words))
+        self.assertEqual(sorted(self.bag), sorted(set(words)))
+        self.assertEqual(sorted(self.bag.values()), [1, 1, 1, 2, 3])
+        self.assertEqual(Counter(self.bag.elements()), Counter(words))
+
+    def test_most_common(self):
+        self.assertEqual(self.bag.most_common(2), [("the", 3), ("and", 2)])
+        self.assertEqual(self.bag.most_common(0), [])
+        self.assertEqual([n for _, n in self.bag.most_common()], [3, 2, 1, 1, 1])
+
+    def test_clear(self):
+        self.bag.clear()
+        self.assertEqual((len(self.bag), self.bag.total(), self.bag.items(), bool(self.bag)), (0, 0, [], False))
+
+    def test_copy_is_apart(self):
+        for twin in (self.bag.copy(), copy.copy(self.bag)):
+            self.assertEqual(twin, self.bag)
+            twin.insert("x")
+            self.assertNotEqual(twin, self.bag)
+
+    def test_repr(self):
+        self.assertEqual(repr(HashBag("aab")), "HashBag({'a': 2, 'b': 1})")
+        self.assertEqual(repr(HashBag()), "HashBag({})")
+
+
+class Keys(unittest.TestCase):
+    def test_odd_texts(self):
+        texts = ["", "a\0b", "ä", "日本", "x" * 1000]
+        bag = HashBag(texts)
+        self.assertEqual(sorted(bag.keys()), sorted(texts))
+        self.assertTrue(all(bag[text] == 1 for text in texts))
+
+    def test_bytes(self):
+        bag = HashBag([b"\xff", b"\xff", b""], decode=None)
+        self.assertEqual(sorted(bag.items()), [(b"", 1), (b"\xff", 2)])
+
+    def test_wrong_types(self):
+        bag = HashBag()
+        for call in (lambda: bag.insert(5), lambda: bag[5], lambda: bag.insert("a", "b"), lambda: HashBag([1])):
+            self.assertRaises(TypeError, call)
+        for call in (lambda: bag.insert("a", -1), lambda: bag.insert("a", 2**64), lambda: bag.update_split(b"a", b"--")):
+            self.assertRaises(ValueError, call)
+        self.assertRaises(TypeError, hash, bag)
+
+
+class Limits(unittest.TestCase):
+    def test_limit(self):
+        bag = HashBag(limit=3)
+        with self.assertRaises(BagError) as caught:
+            bag.update("abcd")
+        self.assertEqual((caught.exception.number, str(caught.exception), bag.total()), (2, "total past its end", 3))
+        self.assertRaises(BagError, setattr, bag, "limit", 2)
+        bag.limit = 4
+        bag.insert("d")
+        self.assertEqual((bag.limit, bag.total(), bag.copy().limit), (4, 4, 4))
+        self.assertEqual(HashBag().limit, NO_LIMIT)
+
+    def test_reserve(self):
+        bag = HashBag()
+        bag.reserve(1000)
+        self.assertRaises(MemoryError, bag.reserve, 2**63)
+
+    def test_another_thread(self):
+        bag, raised = HashBag("a"), []
+
+        def look_up():
+            try:
+                bag["a"]
+            except RuntimeError as error:
+                raised.append(error)
+
+        thread = threading.Thread(target=look_up)
+        thread.start()
+        thread.join()
+        self.assertEqual(len(raised), 1)
+
+
+class ManyAtOnce(unittest.TestCase):
+    def test_update(self):
+        bag = HashBag()
+        bag.update(["a", "b", "a"])
+        bag.update({"a": 2, "c": 3})
+        bag.update(HashBag("cc"))
+        bag.update(word for word in ("d", "d"))
+        bag.update()
+        self.assertEqual(dict(bag.items()), {"a": 4, "b": 1, "c": 5, "d": 2})
+
+    def test_subtract(self):
+        bag = HashBag("aaabbc")
+        bag.subtract("ab")
+        bag.subtract({"b": 5})
+        bag.subtract(HashBag("cc"))
+        self.assertEqual(dict(bag.items()), {"a": 2})
+
+    def test_split(self):
+        bag = HashBag()
+        self.assertEqual(bag.update_split(b"ab,,c,ab,", b","), 5)
+        self.assertEqual(dict(bag.items()), {"ab": 2, "": 2, "c": 1})
+
+
+class TwoBags(unittest.TestCase):
+    def setUp(self):
+        self.a, self.b = HashBag("aaab"), HashBag("abbc")
+
+    def test_operators(self):
+        for made, counts in (
+            (self.a + self.b, {"a": 4, "b": 3, "c": 1}),
+            (self.a - self.b, {"a": 2}),
+            (self.a & self.b, {"a": 1, "b": 1}),
+            (self.a | self.b, {"a": 3, "b": 2, "c": 1}),
+        ):
+            self.assertEqual(dict(made.items()), counts)
+
+    def test_operators_as_of_a_counter(self):
+        random.seed(3)
+        for _ in range(200):
+            p, q = ([random.choice("abcdef") for _ in range(random.randrange(12))] for _ in range(2))
+            a, b, c, d = HashBag(p), HashBag(q), Counter(p), Counter(q)
+            for made, wanted in ((a + b, c + d), (a - b, c - d), (a & b, c & d), (a | b, c | d)):
+                self.assertEqual(dict(made.items()), dict(wanted))
+            self.assertEqual(a == b, c == d)
+
+    def test_joins(self):
+        self.assertEqual(sorted(self.a.outer_join(self.b)), [("a", 3, 1), ("b", 1, 2), ("c", 0, 1)])
+        self.assertEqual(self.a.difference(self.b), [("a", 2)])
+        self.assertEqual(self.b.not_in(self.a), [("c", 1)])
+
+    def test_equality(self):
+        self.assertEqual(self.a, self.a)
+        self.assertEqual(self.a, HashBag("baaa", limit=4))
+        self.assertNotEqual(self.a, self.b)
+        self.assertNotEqual(self.a, {"a": 3, "b": 1})
+
+
+class RandomCalls(unittest.TestCase):
+    def test_beside_a_counter(self):
+        random.seed(1)
+        for _ in range(20):
+            bag, counter = HashBag(), Counter()
+            for _ in range(2000):
+                key, n, what = f"k{random.randrange(300)}", random.randrange(5), random.randrange(4)
+                if what == 0:
+                    self.assertEqual(bag.insert(key, n), counter[key])
+                    counter[key] += n
+                elif what == 1:
+                    counter[key] -= min(n, counter[key])
+                    self.assertEqual(bag.remove(key, n), counter[key])
+                elif what == 2:
+                    words = [f"k{random.randrange(300)}" for _ in range(n)]
+                    bag.update(words)
+                    counter.update(words)
+                else:
+                    self.assertEqual(bag[key], counter[key])
+            counter = +counter
+            self.assertEqual(dict(bag.items()), dict(counter))
+            self.assertEqual((bag.total(), len(bag)), (sum(counter.values()), len(counter)))
+            self.assertEqual([n for _, n in bag.most_common(20)], [n for _, n in counter.most_common(20)])
+
+
+if __name__ == "__main__":
+    unittest.main()

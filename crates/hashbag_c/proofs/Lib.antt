@@ -1,0 +1,6 @@
+pub mod AsBox
+pub mod HandleSteps
+pub mod PieceLemmas
+pub mod RawBoxWords
+pub mod ReadLemmas
+pub mod TextReadLemmas

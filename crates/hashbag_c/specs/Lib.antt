@@ -1,0 +1,4 @@
+pub mod Own
+pub mod Calls
+pub mod Pieces
+pub mod Reads

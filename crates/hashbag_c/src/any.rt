@@ -1,0 +1,283 @@
+//! Calls on a bag of either kind.
+ghost use Rattle.std.specs.Prelude.{◌≡◌, ◌≢◌, ◌+◌, ◌<◌, ◌≤◌, ◌↔◌, [], length, nat_eq, None, Some};
+ghost use Rattle.std.specs.Str.{bytes_eq};
+ghost use Rattle.hashbag_table.specs.Tables.{room};
+ghost use Rattle.hashbag_core.specs.Bag.{limited, IsBagOf};
+ghost use Rattle.hashbag_core.specs.Equality.{bag_eq};
+ghost use Rattle.hashbag_core.specs.Occurrences.{distinct_count};
+ghost use Rattle.hashbag_c.specs.Calls.{HasNumbers, HasTexts, IfNumbers, IfTexts};
+
+use crate::handle::Handle;
+use crate::held::Held;
+use std::alloc::Global;
+
+/// The handle has no bag.
+pub const EMPTY: u8 = 20;
+
+/// The handle has a bag of the other kind.
+pub const KIND: u8 = 21;
+
+/// The ends of byte strings aren't ascending, or pass the bytes.
+pub const ENDS: u8 = 22;
+
+/// Frees the bag, and leaves an empty handle. An empty handle stays empty.
+#[unsafe(no_mangle)]
+pub extern "C" fn hashbag_free(alloc: Global, handle: &mut Handle)
+    ensures { handle.new.held ≡ None }
+{
+    drop(handle.take(alloc));
+}
+
+fn len(held: &Held) -> usize
+    ensures numbers { IfNumbers (Some held.now) (λ bag. result ≡ length bag.items) }
+    ensures texts { IfTexts (Some held.now) (λ bag. result ≡ length bag.items) }
+{
+    match held {
+        Held::Numbers(bag) => bag.len(),
+        Held::Texts(bag) => bag.len(),
+    }
+}
+
+/// Returns the number of occurrences: the sum of all counts. It is 0 for an empty handle.
+#[unsafe(no_mangle)]
+pub extern "C" fn hashbag_len(alloc: Global, handle: &mut Handle) -> usize
+    ensures numbers { IfNumbers handle.old.held (λ bag. result ≡ length bag.items) }
+    ensures texts { IfTexts handle.old.held (λ bag. result ≡ length bag.items) }
+    ensures empty { handle.old.held ≡ None → result ≡ 0 }
+    ensures unchanged { handle.new.held ≡ handle.old.held }
+{
+    let Some(held) = handle.take(alloc) else {
+        return 0;
+    };
+    let len = len(&held);
+    handle.put(held);
+    len
+}
+
+fn set_len(held: &Held) -> usize
+    ensures numbers { IfNumbers (Some held.now) (λ bag. result ≡ distinct_count nat_eq bag.items) }
+    ensures texts { IfTexts (Some held.now) (λ bag. result ≡ distinct_count bytes_eq bag.items) }
+{
+    match held {
+        Held::Numbers(bag) => bag.set_len(),
+        Held::Texts(bag) => bag.set_len(),
+    }
+}
+
+/// Returns the number of distinct values. It is 0 for an empty handle.
+#[unsafe(no_mangle)]
+pub extern "C" fn hashbag_set_len(alloc: Global, handle: &mut Handle) -> usize
+    ensures numbers { IfNumbers handle.old.held (λ bag. result ≡ distinct_count nat_eq bag.items) }
+    ensures texts { IfTexts handle.old.held (λ bag. result ≡ distinct_count bytes_eq bag.items) }
+    ensures empty { handle.old.held ≡ None → result ≡ 0 }
+    ensures unchanged { handle.new.held ≡ handle.old.held }
+{
+    let Some(held) = handle.take(alloc) else {
+        return 0;
+    };
+    let set_len = set_len(&held);
+    handle.put(held);
+    set_len
+}
+
+fn limit(held: &Held) -> usize
+    ensures numbers { IfNumbers (Some held.now) (λ bag. result ≡ bag.most) }
+    ensures texts { IfTexts (Some held.now) (λ bag. result ≡ bag.most) }
+{
+    match held {
+        Held::Numbers(bag) => bag.limit(),
+        Held::Texts(bag) => bag.limit(),
+    }
+}
+
+/// Returns the limit: the greatest total that the bag may have. It is 0 for an empty handle.
+#[unsafe(no_mangle)]
+pub extern "C" fn hashbag_limit(alloc: Global, handle: &mut Handle) -> usize
+    ensures numbers { IfNumbers handle.old.held (λ bag. result ≡ bag.most) }
+    ensures texts { IfTexts handle.old.held (λ bag. result ≡ bag.most) }
+    ensures empty { handle.old.held ≡ None → result ≡ 0 }
+    ensures unchanged { handle.new.held ≡ handle.old.held }
+{
+    let Some(held) = handle.take(alloc) else {
+        return 0;
+    };
+    let limit = limit(&held);
+    handle.put(held);
+    limit
+}
+
+fn set_limit(held: &mut Held, most: usize) -> u8
+    ensures numbers { IfNumbers (Some held.old) (λ bag. result ≡ 0 → HasNumbers (Some held.new) (λ after. after ≡ limited most bag)) }
+    ensures texts { IfTexts (Some held.old) (λ bag. result ≡ 0 → HasTexts (Some held.new) (λ after. after ≡ limited most bag)) }
+    ensures below_numbers { IfNumbers (Some held.old) (λ bag. (result ≡ 9) ↔ (most < length bag.items)) }
+    ensures below_texts { IfTexts (Some held.old) (λ bag. (result ≡ 9) ↔ (most < length bag.items)) }
+    ensures only { result ≢ 0 → result ≡ 9 }
+    ensures err { result ≢ 0 → held.new ≡ held.old }
+{
+    let set = match held {
+        Held::Numbers(bag) => bag.set_limit(most),
+        Held::Texts(bag) => bag.set_limit(most),
+    };
+    match set {
+        Ok(()) => 0,
+        Err(error) => error.number(),
+    }
+}
+
+/// Sets the limit to `most`, and returns 0. Nothing else changes.
+///
+/// # Errors
+///
+/// `HASHBAG_BELOW_TOTAL` if `most` is below the total; `HASHBAG_EMPTY`. Nothing changes then.
+#[unsafe(no_mangle)]
+pub extern "C" fn hashbag_set_limit(alloc: Global, handle: &mut Handle, most: usize) -> u8
+    ensures numbers { IfNumbers handle.old.held (λ bag. result ≡ 0 → HasNumbers handle.new.held (λ after. after ≡ limited most bag)) }
+    ensures texts { IfTexts handle.old.held (λ bag. result ≡ 0 → HasTexts handle.new.held (λ after. after ≡ limited most bag)) }
+    ensures below_numbers { IfNumbers handle.old.held (λ bag. (result ≡ 9) ↔ (most < length bag.items)) }
+    ensures below_texts { IfTexts handle.old.held (λ bag. (result ≡ 9) ↔ (most < length bag.items)) }
+    ensures empty { handle.old.held ≡ None → result ≡ EMPTY }
+    ensures err { result ≢ 0 → handle.new.held ≡ handle.old.held }
+{
+    let Some(mut held) = handle.take(alloc) else {
+        return EMPTY;
+    };
+    let code = set_limit(&mut held, most);
+    handle.put(held);
+    code
+}
+
+fn clear(held: &mut Held)
+    ensures numbers { IfNumbers (Some held.old) (λ bag. HasNumbers (Some held.new) (λ after. (after.items ≡ []) × (after.most ≡ bag.most))) }
+    ensures texts { IfTexts (Some held.old) (λ bag. HasTexts (Some held.new) (λ after. (after.items ≡ []) × (after.most ≡ bag.most))) }
+{
+    match held {
+        Held::Numbers(bag) => bag.clear(),
+        Held::Texts(bag) => bag.clear(),
+    }
+}
+
+/// Removes all occurrences. The limit, the keys and the memory of the bag stay.
+#[unsafe(no_mangle)]
+pub extern "C" fn hashbag_clear(alloc: Global, handle: &mut Handle)
+    ensures numbers { IfNumbers handle.old.held (λ bag. HasNumbers handle.new.held (λ after. (after.items ≡ []) × (after.most ≡ bag.most))) }
+    ensures texts { IfTexts handle.old.held (λ bag. HasTexts handle.new.held (λ after. (after.items ≡ []) × (after.most ≡ bag.most))) }
+    ensures empty { handle.old.held ≡ None → handle.new.held ≡ None }
+{
+    let Some(mut held) = handle.take(alloc) else {
+        return;
+    };
+    clear(&mut held);
+    handle.put(held);
+}
+
+fn reserve(held: &mut Held, n: usize) -> u8
+    ensures numbers { IfNumbers (Some held.old) (λ bag. HasNumbers (Some held.new) (λ after. IsBagOf nat_eq bag bag.items after)) }
+    ensures texts { IfTexts (Some held.old) (λ bag. HasTexts (Some held.new) (λ after. IsBagOf bytes_eq bag bag.items after)) }
+    ensures room_numbers { result ≡ 0 → IfNumbers (Some held.new) (λ after. n ≤ room after.tables) }
+    ensures room_texts { result ≡ 0 → IfTexts (Some held.new) (λ after. n ≤ room after.tables) }
+    ensures enough_numbers { IfNumbers (Some held.old) (λ bag. n ≤ room bag.tables → result ≡ 0) }
+    ensures enough_texts { IfTexts (Some held.old) (λ bag. n ≤ room bag.tables → result ≡ 0) }
+    ensures memory { result ≢ 0 → result ≡ 1 }
+    ensures err { result ≢ 0 → held.new ≡ held.old }
+{
+    let reserved = match held {
+        Held::Numbers(bag) => bag.reserve(n),
+        Held::Texts(bag) => bag.reserve(n),
+    };
+    match reserved {
+        Ok(()) => 0,
+        Err(error) => error.number(),
+    }
+}
+
+/// Makes room for `n` values that are absent, and returns 0. Inserting these doesn't allocate then, but for the bytes of byte strings.
+///
+/// # Errors
+///
+/// `HASHBAG_MEMORY` if an allocation fails; `HASHBAG_EMPTY`. Nothing changes then.
+#[unsafe(no_mangle)]
+pub extern "C" fn hashbag_reserve(alloc: Global, handle: &mut Handle, n: usize) -> u8
+    ensures numbers { IfNumbers handle.old.held (λ bag. HasNumbers handle.new.held (λ after. IsBagOf nat_eq bag bag.items after)) }
+    ensures texts { IfTexts handle.old.held (λ bag. HasTexts handle.new.held (λ after. IsBagOf bytes_eq bag bag.items after)) }
+    ensures room_numbers { result ≡ 0 → IfNumbers handle.new.held (λ after. n ≤ room after.tables) }
+    ensures room_texts { result ≡ 0 → IfTexts handle.new.held (λ after. n ≤ room after.tables) }
+    ensures enough_numbers { IfNumbers handle.old.held (λ bag. n ≤ room bag.tables → result ≡ 0) }
+    ensures enough_texts { IfTexts handle.old.held (λ bag. n ≤ room bag.tables → result ≡ 0) }
+    ensures empty { handle.old.held ≡ None → result ≡ EMPTY }
+    ensures err { result ≢ 0 → handle.new.held ≡ handle.old.held }
+{
+    let Some(mut held) = handle.take(alloc) else {
+        return EMPTY;
+    };
+    let code = reserve(&mut held, n);
+    handle.put(held);
+    code
+}
+
+fn capacity(held: &Held) -> usize
+    ensures numbers { IfNumbers (Some held.now) (λ bag. result ≡ distinct_count nat_eq bag.items + room bag.tables) }
+    ensures texts { IfTexts (Some held.now) (λ bag. result ≡ distinct_count bytes_eq bag.items + room bag.tables) }
+{
+    match held {
+        Held::Numbers(bag) => bag.capacity(),
+        Held::Texts(bag) => bag.capacity(),
+    }
+}
+
+/// Returns how many distinct values the bag can have before it grows. It is 0 for an empty handle.
+#[unsafe(no_mangle)]
+pub extern "C" fn hashbag_capacity(alloc: Global, handle: &mut Handle) -> usize
+    ensures numbers { IfNumbers handle.old.held (λ bag. result ≡ distinct_count nat_eq bag.items + room bag.tables) }
+    ensures texts { IfTexts handle.old.held (λ bag. result ≡ distinct_count bytes_eq bag.items + room bag.tables) }
+    ensures empty { handle.old.held ≡ None → result ≡ 0 }
+    ensures unchanged { handle.new.held ≡ handle.old.held }
+{
+    let Some(held) = handle.take(alloc) else {
+        return 0;
+    };
+    let capacity = capacity(&held);
+    handle.put(held);
+    capacity
+}
+
+fn equal(a: &Held, b: &Held) -> bool
+    ensures numbers { IfNumbers (Some a.now) (λ x. IfNumbers (Some b.now) (λ y. result ≡ bag_eq nat_eq x y)) }
+    ensures texts { IfTexts (Some a.now) (λ x. IfTexts (Some b.now) (λ y. result ≡ bag_eq bytes_eq x y)) }
+{
+    match a {
+        Held::Numbers(bag) => match b {
+            Held::Numbers(other) => bag == other,
+            Held::Texts(_) => false,
+        },
+        Held::Texts(bag) => match b {
+            Held::Numbers(_) => false,
+            Held::Texts(other) => bag == other,
+        },
+    }
+}
+
+/// Returns whether two handles have bags of one kind in which each value occurs equally often, or both are empty. They must be two
+/// handles, not one twice.
+#[unsafe(no_mangle)]
+pub extern "C" fn hashbag_equal(alloc: Global, a: &mut Handle, b: &mut Handle) -> bool
+    ensures numbers { IfNumbers a.old.held (λ x. IfNumbers b.old.held (λ y. result ≡ bag_eq nat_eq x y)) }
+    ensures texts { IfTexts a.old.held (λ x. IfTexts b.old.held (λ y. result ≡ bag_eq bytes_eq x y)) }
+    ensures first { a.new.held ≡ a.old.held }
+    ensures second { b.new.held ≡ b.old.held }
+{
+    let Some(first) = a.take(alloc) else {
+        let Some(second) = b.take(alloc) else {
+            return true;
+        };
+        b.put(second);
+        return false;
+    };
+    let Some(second) = b.take(alloc) else {
+        a.put(first);
+        return false;
+    };
+    let equal = equal(&first, &second);
+    a.put(first);
+    b.put(second);
+    equal
+}

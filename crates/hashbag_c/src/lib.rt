@@ -1,0 +1,16 @@
+//! `hashbag` for C: bags of numbers and of byte strings, each behind a handle of one word. `docs/BINDINGS.md` has how to build and call it;
+//! `bindings/c/hashbag.h` is made from the functions that are exported here.
+//!
+//! No exported function requires anything of its values. A handle that has nothing, or a bag of the other kind, is reported by a number.
+#![tactic(auto)]
+
+pub mod any;
+pub mod bytes;
+pub mod handle;
+pub mod held;
+pub mod number_batches;
+pub mod numbers;
+pub mod raw_box;
+pub mod state;
+pub mod text_batches;
+pub mod texts;

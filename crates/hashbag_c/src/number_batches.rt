@@ -1,0 +1,202 @@
+//! Calls on a bag of numbers that take or give many at once.
+ghost use Rattle.std.specs.Prelude.{◌≡◌, ◌+◌, ◌≤◌, ℕ, length, take, map, min, nat_eq, None, Some, OnOk};
+ghost use Rattle.hashbag_core.specs.Occurrences.{count};
+ghost use Rattle.hashbag_c.specs.Calls.{HasNumbers, IfNumbers, IfTexts};
+ghost use Rattle.hashbag_c.specs.Reads.{HasRead, HasReadJoin};
+
+use crate::any::{EMPTY, KIND};
+use crate::handle::Handle;
+use crate::held::Held;
+use crate::state::State;
+use hashbag_core::{BagError, HashBag, OuterJoin, SetIter};
+use std::alloc::Global;
+
+// Inserts each value once, in turn, until one fails, and counts how many were inserted.
+fn insert_each(
+    bag: &mut HashBag<u64, State>,
+    values: &[u64],
+    done: &mut usize,
+) -> Result<(), BagError>
+    ensures counts { (v : ℕ) → count nat_eq v bag.new.items ≡ count nat_eq v bag.old.items + count nat_eq v (take done.new values.now) }
+    ensures len { length bag.new.items ≡ length bag.old.items + done.new }
+    ensures all { OnOk result (done.new ≡ length values.now) }
+    ensures within { done.new ≤ length values.now }
+{
+    *done = 0;
+    for value in values {
+        bag.insert(*value)?;
+        *done += 1;
+    }
+    Ok(())
+}
+
+fn insert_all(held: &mut Held, values: &[u64], done: &mut usize) -> u8
+    ensures counts { IfNumbers (Some held.old) (λ bag. HasNumbers (Some held.new) (λ after. (v : ℕ) → count nat_eq v after.items ≡ count nat_eq v bag.items + count nat_eq v (take done.new values.now))) }
+    ensures len { IfNumbers (Some held.old) (λ bag. HasNumbers (Some held.new) (λ after. length after.items ≡ length bag.items + done.new)) }
+    ensures all { result ≡ 0 → done.new ≡ length values.now }
+    ensures within { done.new ≤ length values.now }
+    ensures kind { IfTexts (Some held.old) (λ _. (result ≡ KIND) × (held.new ≡ held.old)) }
+{
+    match held {
+        Held::Numbers(bag) => match insert_each(bag, values, done) {
+            Ok(()) => 0,
+            Err(error) => error.number(),
+        },
+        Held::Texts(_) => {
+            *done = 0;
+            KIND
+        }
+    }
+}
+
+/// Inserts each of `values_len` numbers once, in turn, until one fails. Writes how many were inserted, and returns 0 if that is all.
+///
+/// # Errors
+///
+/// As of `hashbag_numbers_insert`. The numbers before the one that fails stay in the bag.
+#[unsafe(no_mangle)]
+pub extern "C" fn hashbag_numbers_insert_all(
+    alloc: Global,
+    handle: &mut Handle,
+    values: &[u64],
+    done: &mut usize,
+) -> u8
+    ensures counts { IfNumbers handle.old.held (λ bag. HasNumbers handle.new.held (λ after. (v : ℕ) → count nat_eq v after.items ≡ count nat_eq v bag.items + count nat_eq v (take done.new values.now))) }
+    ensures len { IfNumbers handle.old.held (λ bag. HasNumbers handle.new.held (λ after. length after.items ≡ length bag.items + done.new)) }
+    ensures all { result ≡ 0 → done.new ≡ length values.now }
+    ensures within { done.new ≤ length values.now }
+    ensures kind { IfTexts handle.old.held (λ _. (result ≡ KIND) × (handle.new.held ≡ handle.old.held)) }
+    ensures empty { handle.old.held ≡ None → (result ≡ EMPTY) × (handle.new.held ≡ None) }
+{
+    let Some(mut held) = handle.take(alloc) else {
+        *done = 0;
+        return EMPTY;
+    };
+    let code = insert_all(&mut held, values, done);
+    handle.put(held);
+    code
+}
+
+// Writes the first pairs of a walk, as many as there is room for, and returns how many.
+fn write_pairs(mut walk: SetIter<'_, u64>, values: &mut [u64], counts: &mut [usize]) -> usize
+    ensures written { result ≡ min (length walk.entry) (min (length values.new) (length counts.new)) }
+    ensures values { take result values.new ≡ map (λ e. e.0) (take result walk.entry) }
+    ensures counts { take result counts.new ≡ map (λ e. e.1) (take result walk.entry) }
+{
+    let most = values.len().min(counts.len());
+    for i in 0..most {
+        match walk.next() {
+            Some((value, count)) => {
+                values[i] = *value;
+                counts[i] = count;
+            }
+            None => return i,
+        }
+    }
+    most
+}
+
+fn read(held: &Held, values: &mut [u64], counts: &mut [usize]) -> usize
+    ensures read { IfNumbers (Some held.now) (λ bag. HasRead bag result values.new counts.new) }
+    ensures kind { IfTexts (Some held.now) (λ _. result ≡ 0) }
+{
+    match held {
+        Held::Numbers(bag) => write_pairs(bag.set_iter(), values, counts),
+        Held::Texts(_) => 0,
+    }
+}
+
+/// Writes distinct numbers and their counts into two arrays, as many as both have places for, and returns how many. With
+/// `hashbag_set_len` places in each these are all, in no particular order. It returns 0 if the handle has no bag of numbers.
+#[unsafe(no_mangle)]
+pub extern "C" fn hashbag_numbers_read(
+    alloc: Global,
+    handle: &mut Handle,
+    values: &mut [u64],
+    counts: &mut [usize],
+) -> usize
+    ensures read { IfNumbers handle.old.held (λ bag. HasRead bag result values.new counts.new) }
+    ensures kind { IfTexts handle.old.held (λ _. result ≡ 0) }
+    ensures empty { handle.old.held ≡ None → result ≡ 0 }
+    ensures unchanged { handle.new.held ≡ handle.old.held }
+{
+    let Some(held) = handle.take(alloc) else {
+        return 0;
+    };
+    let n = read(&held, values, counts);
+    handle.put(held);
+    n
+}
+
+// Writes the first items of a join, as many as there is room for, and returns how many.
+fn write_joined(
+    mut walk: OuterJoin<'_, u64, State, State>,
+    values: &mut [u64],
+    firsts: &mut [usize],
+    seconds: &mut [usize],
+) -> usize
+    ensures written { result ≡ min (length walk.entry) (min (length values.new) (min (length firsts.new) (length seconds.new))) }
+    ensures values { take result values.new ≡ map (λ e. e.0) (take result walk.entry) }
+    ensures firsts { take result firsts.new ≡ map (λ e. e.1) (take result walk.entry) }
+    ensures seconds { take result seconds.new ≡ map (λ e. e.2) (take result walk.entry) }
+{
+    let most = values.len().min(firsts.len().min(seconds.len()));
+    for i in 0..most {
+        match walk.next() {
+            Some((value, first, second)) => {
+                values[i] = *value;
+                firsts[i] = first;
+                seconds[i] = second;
+            }
+            None => return i,
+        }
+    }
+    most
+}
+
+fn outer_join(
+    a: &Held,
+    b: &Held,
+    values: &mut [u64],
+    firsts: &mut [usize],
+    seconds: &mut [usize],
+) -> usize
+    ensures read { IfNumbers (Some a.now) (λ x. IfNumbers (Some b.now) (λ y. HasReadJoin x y result values.new firsts.new seconds.new)) }
+{
+    match a {
+        Held::Numbers(bag) => match b {
+            Held::Numbers(other) => write_joined(bag.outer_join(other), values, firsts, seconds),
+            Held::Texts(_) => 0,
+        },
+        Held::Texts(_) => 0,
+    }
+}
+
+/// Writes each number of two bags once, with its count in the first and in the second, 0 in the bag that lacks it: those of the first bag
+/// first. It writes as many as the three arrays have places for, and returns how many. With as many places as both bags have distinct
+/// numbers these are all. They must be two handles, not one twice. It returns 0 if one of them has no bag of numbers.
+#[unsafe(no_mangle)]
+pub extern "C" fn hashbag_numbers_outer_join(
+    alloc: Global,
+    a: &mut Handle,
+    b: &mut Handle,
+    values: &mut [u64],
+    firsts: &mut [usize],
+    seconds: &mut [usize],
+) -> usize
+    ensures read { IfNumbers a.old.held (λ x. IfNumbers b.old.held (λ y. HasReadJoin x y result values.new firsts.new seconds.new)) }
+    ensures first { a.new.held ≡ a.old.held }
+    ensures second { b.new.held ≡ b.old.held }
+{
+    let Some(first) = a.take(alloc) else {
+        return 0;
+    };
+    let Some(second) = b.take(alloc) else {
+        a.put(first);
+        return 0;
+    };
+    let n = outer_join(&first, &second, values, firsts, seconds);
+    a.put(first);
+    b.put(second);
+    n
+}

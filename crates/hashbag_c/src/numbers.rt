@@ -1,0 +1,231 @@
+//! Calls on a bag of numbers.
+ghost use Rattle.std.specs.Prelude.{◌≡◌, ◌≢◌, ◌+◌, ◌-◌, ◌<◌, ◌≤◌, ◌↔◌, ◌⊎◌, [], length, nat_eq, None, Some};
+ghost use Rattle.hashbag_table.specs.Tables.{room};
+ghost use Rattle.hashbag_core.specs.Bag.{IsBagOf};
+ghost use Rattle.hashbag_core.specs.Held.{HasFewer};
+ghost use Rattle.hashbag_core.specs.Inserts.{Inserts};
+ghost use Rattle.hashbag_core.specs.Occurrences.{count, recount};
+ghost use Rattle.hashbag_c.specs.Calls.{HasNumbers, IfNumbers, IfTexts};
+
+use crate::any::{EMPTY, KIND};
+use crate::handle::Handle;
+use crate::held::Held;
+use crate::state::State;
+use hashbag_core::HashBag;
+use std::alloc::Global;
+
+fn fill(alloc: Global, handle: &mut Handle, state: State, most: usize) -> u8
+    ensures made { result ≡ 0 → HasNumbers handle.new.held (λ bag. (bag.items ≡ []) × (bag.most ≡ most) × (bag.hasher ≡ state)) }
+    ensures memory { result ≢ 0 → result ≡ 1 }
+    ensures err { result ≢ 0 → handle.new.held ≡ handle.old.held }
+{
+    let bag: HashBag<u64, State> = HashBag::with_limit(alloc, state, most);
+    match Box::new(alloc, Held::Numbers(bag)) {
+        Ok(held) => {
+            *handle = Handle::of(held);
+            0
+        }
+        Err(_) => 1,
+    }
+}
+
+/// Puts into the handle an empty bag of numbers, whose total is at most `most`, and returns 0. The bag that the handle had is freed.
+///
+/// Its numbers are hashed under fixed keys, alike in every run. Use `hashbag_numbers_new_keyed` if strangers choose the numbers.
+///
+/// # Errors
+///
+/// `HASHBAG_MEMORY` if an allocation fails. Nothing changes then.
+#[unsafe(no_mangle)]
+pub extern "C" fn hashbag_numbers_new(alloc: Global, handle: &mut Handle, most: usize) -> u8
+    ensures made { result ≡ 0 → HasNumbers handle.new.held (λ bag. (bag.items ≡ []) × (bag.most ≡ most)) }
+    ensures memory { result ≢ 0 → result ≡ 1 }
+    ensures err { result ≢ 0 → handle.new.held ≡ handle.old.held }
+{
+    fill(alloc, handle, State::fixed(), most)
+}
+
+/// Does the same with two keys of the caller, which are best drawn at random: whoever knows them can find numbers that collide.
+///
+/// # Errors
+///
+/// `HASHBAG_MEMORY` if an allocation fails. Nothing changes then.
+#[unsafe(no_mangle)]
+pub extern "C" fn hashbag_numbers_new_keyed(
+    alloc: Global,
+    handle: &mut Handle,
+    most: usize,
+    key0: u64,
+    key1: u64,
+) -> u8
+    ensures made { result ≡ 0 → HasNumbers handle.new.held (λ bag. (bag.items ≡ []) × (bag.most ≡ most)) }
+    ensures memory { result ≢ 0 → result ≡ 1 }
+    ensures err { result ≢ 0 → handle.new.held ≡ handle.old.held }
+{
+    fill(alloc, handle, State::keyed(key0, key1), most)
+}
+
+fn insert(held: &mut Held, value: u64, n: usize, before: &mut usize) -> u8
+    ensures inserted { IfNumbers (Some held.old) (λ bag. result ≡ 0 → HasNumbers (Some held.new) (λ after. Inserts nat_eq value n bag after)) }
+    ensures before { IfNumbers (Some held.old) (λ bag. result ≡ 0 → before.new ≡ count nat_eq value bag.items) }
+    ensures too_many { IfNumbers (Some held.old) (λ bag. (result ≡ 2) ↔ (bag.most < length bag.items + n)) }
+    ensures takes { IfNumbers (Some held.old) (λ bag. length bag.items + n ≤ bag.most → 0 < room bag.tables → result ≡ 0) }
+    ensures present { IfNumbers (Some held.old) (λ bag. length bag.items + n ≤ bag.most → 0 < count nat_eq value bag.items → result ≡ 0) }
+    ensures only { IfNumbers (Some held.old) (λ bag. result ≢ 0 → (result ≡ 1) ⊎ (result ≡ 2)) }
+    ensures kind { IfTexts (Some held.old) (λ _. result ≡ KIND) }
+    ensures err { result ≢ 0 → (held.new ≡ held.old) × (before.new ≡ before.old) }
+{
+    match held {
+        Held::Numbers(bag) => match bag.insert_many(value, n) {
+            Ok(count) => {
+                *before = count;
+                0
+            }
+            Err(error) => error.number(),
+        },
+        Held::Texts(_) => KIND,
+    }
+}
+
+/// Inserts `n` occurrences of a number, writes the count before, and returns 0.
+///
+/// # Errors
+///
+/// `HASHBAG_TOO_MANY` if the total would pass the limit; `HASHBAG_MEMORY` if the number is absent, there is no room, and an allocation
+/// fails; `HASHBAG_EMPTY`; `HASHBAG_KIND`. Nothing changes then, and nothing is written.
+#[unsafe(no_mangle)]
+pub extern "C" fn hashbag_numbers_insert(
+    alloc: Global,
+    handle: &mut Handle,
+    value: u64,
+    n: usize,
+    before: &mut usize,
+) -> u8
+    ensures inserted { IfNumbers handle.old.held (λ bag. result ≡ 0 → HasNumbers handle.new.held (λ after. Inserts nat_eq value n bag after)) }
+    ensures before { IfNumbers handle.old.held (λ bag. result ≡ 0 → before.new ≡ count nat_eq value bag.items) }
+    ensures too_many { IfNumbers handle.old.held (λ bag. (result ≡ 2) ↔ (bag.most < length bag.items + n)) }
+    ensures takes { IfNumbers handle.old.held (λ bag. length bag.items + n ≤ bag.most → 0 < room bag.tables → result ≡ 0) }
+    ensures present { IfNumbers handle.old.held (λ bag. length bag.items + n ≤ bag.most → 0 < count nat_eq value bag.items → result ≡ 0) }
+    ensures only { IfNumbers handle.old.held (λ bag. result ≢ 0 → (result ≡ 1) ⊎ (result ≡ 2)) }
+    ensures kind { IfTexts handle.old.held (λ _. result ≡ KIND) }
+    ensures empty { handle.old.held ≡ None → result ≡ EMPTY }
+    ensures err { result ≢ 0 → (handle.new.held ≡ handle.old.held) × (before.new ≡ before.old) }
+{
+    let Some(mut held) = handle.take(alloc) else {
+        return EMPTY;
+    };
+    let code = insert(&mut held, value, n, before);
+    handle.put(held);
+    code
+}
+
+fn contains(held: &Held, value: u64) -> usize
+    ensures count { IfNumbers (Some held.now) (λ bag. result ≡ count nat_eq value bag.items) }
+    ensures kind { IfTexts (Some held.now) (λ _. result ≡ 0) }
+{
+    match held {
+        Held::Numbers(bag) => bag.contains(&value),
+        Held::Texts(_) => 0,
+    }
+}
+
+/// Returns the count of a number, 0 if it is absent or the handle has no bag of numbers.
+#[unsafe(no_mangle)]
+pub extern "C" fn hashbag_numbers_contains(alloc: Global, handle: &mut Handle, value: u64) -> usize
+    ensures count { IfNumbers handle.old.held (λ bag. result ≡ count nat_eq value bag.items) }
+    ensures kind { IfTexts handle.old.held (λ _. result ≡ 0) }
+    ensures empty { handle.old.held ≡ None → result ≡ 0 }
+    ensures unchanged { handle.new.held ≡ handle.old.held }
+{
+    let Some(held) = handle.take(alloc) else {
+        return 0;
+    };
+    let count = contains(&held, value);
+    handle.put(held);
+    count
+}
+
+fn remove(held: &mut Held, value: u64, n: usize) -> usize
+    ensures after { IfNumbers (Some held.old) (λ bag. result ≡ count nat_eq value bag.items - n) }
+    ensures fewer { IfNumbers (Some held.old) (λ bag. HasNumbers (Some held.new) (λ after. HasFewer nat_eq (nat_eq value) n bag after)) }
+    ensures len { IfNumbers (Some held.old) (λ bag. HasNumbers (Some held.new) (λ after. length after.items + count nat_eq value bag.items ≡ length bag.items + result)) }
+    ensures kind { IfTexts (Some held.old) (λ _. held.new ≡ held.old) }
+{
+    match held {
+        Held::Numbers(bag) => bag.remove_up_to(&value, n),
+        Held::Texts(_) => 0,
+    }
+}
+
+/// Removes `n` occurrences of a number, or all if there are fewer, and returns the count after. It is 0 if the handle has no bag of
+/// numbers.
+#[unsafe(no_mangle)]
+pub extern "C" fn hashbag_numbers_remove(
+    alloc: Global,
+    handle: &mut Handle,
+    value: u64,
+    n: usize,
+) -> usize
+    ensures after { IfNumbers handle.old.held (λ bag. result ≡ count nat_eq value bag.items - n) }
+    ensures fewer { IfNumbers handle.old.held (λ bag. HasNumbers handle.new.held (λ after. HasFewer nat_eq (nat_eq value) n bag after)) }
+    ensures len { IfNumbers handle.old.held (λ bag. HasNumbers handle.new.held (λ after. length after.items + count nat_eq value bag.items ≡ length bag.items + result)) }
+    ensures kind { IfTexts handle.old.held (λ _. handle.new.held ≡ handle.old.held) }
+    ensures empty { handle.old.held ≡ None → handle.new.held ≡ None }
+{
+    let Some(mut held) = handle.take(alloc) else {
+        return 0;
+    };
+    let left = remove(&mut held, value, n);
+    handle.put(held);
+    left
+}
+
+fn set_count(held: &mut Held, value: u64, n: usize, before: &mut usize) -> u8
+    ensures set { IfNumbers (Some held.old) (λ bag. result ≡ 0 → HasNumbers (Some held.new) (λ after. IsBagOf nat_eq bag (recount nat_eq value n bag.items) after)) }
+    ensures before { IfNumbers (Some held.old) (λ bag. result ≡ 0 → before.new ≡ count nat_eq value bag.items) }
+    ensures too_many { IfNumbers (Some held.old) (λ bag. (result ≡ 2) ↔ (bag.most < length bag.items - count nat_eq value bag.items + n)) }
+    ensures only { IfNumbers (Some held.old) (λ bag. result ≢ 0 → (result ≡ 1) ⊎ (result ≡ 2)) }
+    ensures kind { IfTexts (Some held.old) (λ _. result ≡ KIND) }
+    ensures err { result ≢ 0 → (held.new ≡ held.old) × (before.new ≡ before.old) }
+{
+    match held {
+        Held::Numbers(bag) => match bag.set_count(value, n) {
+            Ok(count) => {
+                *before = count;
+                0
+            }
+            Err(error) => error.number(),
+        },
+        Held::Texts(_) => KIND,
+    }
+}
+
+/// Sets the count of a number to `n`, writes the count before, and returns 0. With 0 the number is removed.
+///
+/// # Errors
+///
+/// `HASHBAG_TOO_MANY` if the total would pass the limit; `HASHBAG_MEMORY` if the number is absent, there is no room, and an allocation
+/// fails; `HASHBAG_EMPTY`; `HASHBAG_KIND`. Nothing changes then, and nothing is written.
+#[unsafe(no_mangle)]
+pub extern "C" fn hashbag_numbers_set_count(
+    alloc: Global,
+    handle: &mut Handle,
+    value: u64,
+    n: usize,
+    before: &mut usize,
+) -> u8
+    ensures set { IfNumbers handle.old.held (λ bag. result ≡ 0 → HasNumbers handle.new.held (λ after. IsBagOf nat_eq bag (recount nat_eq value n bag.items) after)) }
+    ensures before { IfNumbers handle.old.held (λ bag. result ≡ 0 → before.new ≡ count nat_eq value bag.items) }
+    ensures too_many { IfNumbers handle.old.held (λ bag. (result ≡ 2) ↔ (bag.most < length bag.items - count nat_eq value bag.items + n)) }
+    ensures only { IfNumbers handle.old.held (λ bag. result ≢ 0 → (result ≡ 1) ⊎ (result ≡ 2)) }
+    ensures kind { IfTexts handle.old.held (λ _. result ≡ KIND) }
+    ensures empty { handle.old.held ≡ None → result ≡ EMPTY }
+    ensures err { result ≢ 0 → (handle.new.held ≡ handle.old.held) × (before.new ≡ before.old) }
+{
+    let Some(mut held) = handle.take(alloc) else {
+        return EMPTY;
+    };
+    let code = set_count(&mut held, value, n, before);
+    handle.put(held);
+    code
+}

@@ -1,0 +1,310 @@
+//! Calls on a bag of byte strings that take or give many at once.
+ghost use Rattle.std.specs.Prelude.{◌≡◌, ◌≢◌, ◌+◌, ◌≤◌, ◌++◌, ℕ, List, [], length, slice_range, take, drop, map, flat_map, min, None, Some, IfOk, OnOk};
+ghost use Rattle.std.specs.Str.{bytes_eq};
+ghost use Rattle.hashbag_core.specs.Occurrences.{count};
+ghost use Rattle.hashbag_c.specs.Calls.{HasTexts, IfNumbers, IfTexts};
+ghost use Rattle.hashbag_c.specs.Pieces.{pieces_from, split_from};
+ghost use Rattle.hashbag_c.specs.Reads.{ends_from, size_of, HasReadTexts, HasSize};
+
+use crate::any::{EMPTY, ENDS, KIND};
+use crate::bytes::{Bytes, Name};
+use crate::handle::Handle;
+use crate::held::Held;
+use crate::state::Keys;
+use hashbag_core::{BagError, HashBag, SetIter};
+use std::alloc::Global;
+
+// Why a batch of byte strings ended.
+#[derive(Clone, Copy, Drop)]
+enum PieceError {
+    Bag(BagError),
+    Ends,
+}
+
+impl PieceError {
+    fn number(self) -> u8
+        ensures { result ≢ 0 }
+    {
+        match self {
+            PieceError::Bag(error) => error.number(),
+            PieceError::Ends => ENDS,
+        }
+    }
+}
+
+impl From<BagError> for PieceError {
+    fn from(error: BagError) -> PieceError {
+        PieceError::Bag(error)
+    }
+}
+
+// The bytes from one place to another.
+fn piece(bytes: &[u8], from: usize, end: usize) -> Result<Name<'_>, PieceError>
+    ensures { IfOk result (λ name. (name.bytes.now ≡ slice_range bytes.now from end) × (from ≤ end) × (end ≤ length bytes.now)) }
+{
+    if end < from || end > bytes.len() {
+        return Err(PieceError::Ends);
+    }
+    Ok(Name {
+        bytes: &bytes[from..end],
+    })
+}
+
+// Inserts each piece once, in turn, until one fails, and counts how many were inserted.
+fn insert_each(
+    bag: &mut HashBag<Bytes, Keys>,
+    bytes: &[u8],
+    ends: &[usize],
+    done: &mut usize,
+) -> Result<(), PieceError>
+    ensures counts { OnOk result ((v : List ℕ) → count bytes_eq v bag.new.items ≡ count bytes_eq v bag.old.items + count bytes_eq v (pieces_from 0 bytes.now ends.now)) }
+    ensures len { length bag.new.items ≡ length bag.old.items + done.new }
+    ensures all { OnOk result (done.new ≡ length ends.now) }
+    ensures within { done.new ≤ length ends.now }
+{
+    let mut from = 0;
+    *done = 0;
+    for end in ends {
+        bag.insert_key(piece(bytes, from, *end)?)?;
+        from = *end;
+        *done += 1;
+    }
+    Ok(())
+}
+
+fn insert_all(held: &mut Held, bytes: &[u8], ends: &[usize], done: &mut usize) -> u8
+    ensures counts { IfTexts (Some held.old) (λ bag. result ≡ 0 → HasTexts (Some held.new) (λ after. (v : List ℕ) → count bytes_eq v after.items ≡ count bytes_eq v bag.items + count bytes_eq v (pieces_from 0 bytes.now ends.now))) }
+    ensures len { IfTexts (Some held.old) (λ bag. HasTexts (Some held.new) (λ after. length after.items ≡ length bag.items + done.new)) }
+    ensures all { result ≡ 0 → done.new ≡ length ends.now }
+    ensures within { done.new ≤ length ends.now }
+    ensures kind { IfNumbers (Some held.old) (λ _. (result ≡ KIND) × (held.new ≡ held.old)) }
+{
+    match held {
+        Held::Numbers(_) => {
+            *done = 0;
+            KIND
+        }
+        Held::Texts(bag) => match insert_each(bag, bytes, ends, done) {
+            Ok(()) => 0,
+            Err(error) => error.number(),
+        },
+    }
+}
+
+/// Inserts byte strings that lie one after another in `bytes`, each once, in turn, until one fails. Each begins where the one before it
+/// ends, and ends before the place that `ends` has. Writes how many were inserted, and returns 0 if that is all.
+///
+/// # Errors
+///
+/// As of `hashbag_texts_insert`; `HASHBAG_ENDS` if an end is below the one before it, or above `bytes_len`. The strings before the one
+/// that fails stay in the bag.
+#[unsafe(no_mangle)]
+pub extern "C" fn hashbag_texts_insert_all(
+    alloc: Global,
+    handle: &mut Handle,
+    bytes: &[u8],
+    ends: &[usize],
+    done: &mut usize,
+) -> u8
+    ensures counts { IfTexts handle.old.held (λ bag. result ≡ 0 → HasTexts handle.new.held (λ after. (v : List ℕ) → count bytes_eq v after.items ≡ count bytes_eq v bag.items + count bytes_eq v (pieces_from 0 bytes.now ends.now))) }
+    ensures len { IfTexts handle.old.held (λ bag. HasTexts handle.new.held (λ after. length after.items ≡ length bag.items + done.new)) }
+    ensures all { result ≡ 0 → done.new ≡ length ends.now }
+    ensures within { done.new ≤ length ends.now }
+    ensures kind { IfNumbers handle.old.held (λ _. (result ≡ KIND) × (handle.new.held ≡ handle.old.held)) }
+    ensures empty { handle.old.held ≡ None → (result ≡ EMPTY) × (handle.new.held ≡ None) }
+{
+    let Some(mut held) = handle.take(alloc) else {
+        *done = 0;
+        return EMPTY;
+    };
+    let code = insert_all(&mut held, bytes, ends, done);
+    handle.put(held);
+    code
+}
+
+// Inserts each piece between separators once, in turn, until one fails, and counts how many were inserted.
+fn insert_pieces(
+    bag: &mut HashBag<Bytes, Keys>,
+    bytes: &[u8],
+    separator: u8,
+    done: &mut usize,
+) -> Result<(), BagError>
+    ensures counts { OnOk result ((v : List ℕ) → count bytes_eq v bag.new.items ≡ count bytes_eq v bag.old.items + count bytes_eq v (split_from separator [] bytes.now)) }
+    ensures len { length bag.new.items ≡ length bag.old.items + done.new }
+{
+    let mut from = 0;
+    *done = 0;
+    for (at, byte) in bytes.iter().enumerate() {
+        if *byte != separator {
+            continue;
+        }
+        bag.insert_key(Name {
+            bytes: &bytes[from..at],
+        })?;
+        *done += 1;
+        from = at + 1;
+    }
+    bag.insert_key(Name {
+        bytes: &bytes[from..],
+    })?;
+    *done += 1;
+    Ok(())
+}
+
+fn insert_split(held: &mut Held, bytes: &[u8], separator: u8, done: &mut usize) -> u8
+    ensures counts { IfTexts (Some held.old) (λ bag. result ≡ 0 → HasTexts (Some held.new) (λ after. (v : List ℕ) → count bytes_eq v after.items ≡ count bytes_eq v bag.items + count bytes_eq v (split_from separator [] bytes.now))) }
+    ensures len { IfTexts (Some held.old) (λ bag. HasTexts (Some held.new) (λ after. length after.items ≡ length bag.items + done.new)) }
+    ensures kind { IfNumbers (Some held.old) (λ _. (result ≡ KIND) × (held.new ≡ held.old)) }
+{
+    match held {
+        Held::Numbers(_) => {
+            *done = 0;
+            KIND
+        }
+        Held::Texts(bag) => match insert_pieces(bag, bytes, separator, done) {
+            Ok(()) => 0,
+            Err(error) => error.number(),
+        },
+    }
+}
+
+/// Inserts the pieces of `bytes` between separators, each once, in turn, until one fails. There is one piece more than separators, and
+/// some may be empty. Writes how many were inserted, and returns 0 if that is all.
+///
+/// # Errors
+///
+/// As of `hashbag_texts_insert`. The pieces before the one that fails stay in the bag.
+#[unsafe(no_mangle)]
+pub extern "C" fn hashbag_texts_insert_split(
+    alloc: Global,
+    handle: &mut Handle,
+    bytes: &[u8],
+    separator: u8,
+    done: &mut usize,
+) -> u8
+    ensures counts { IfTexts handle.old.held (λ bag. result ≡ 0 → HasTexts handle.new.held (λ after. (v : List ℕ) → count bytes_eq v after.items ≡ count bytes_eq v bag.items + count bytes_eq v (split_from separator [] bytes.now))) }
+    ensures len { IfTexts handle.old.held (λ bag. HasTexts handle.new.held (λ after. length after.items ≡ length bag.items + done.new)) }
+    ensures kind { IfNumbers handle.old.held (λ _. (result ≡ KIND) × (handle.new.held ≡ handle.old.held)) }
+    ensures empty { handle.old.held ≡ None → (result ≡ EMPTY) × (handle.new.held ≡ None) }
+{
+    let Some(mut held) = handle.take(alloc) else {
+        *done = 0;
+        return EMPTY;
+    };
+    let code = insert_split(&mut held, bytes, separator, done);
+    handle.put(held);
+    code
+}
+
+// The number of bytes of all strings of a walk, or the greatest `usize`.
+fn sizes(walk: SetIter<'_, Bytes>) -> usize
+    ensures { result ≡ min (size_of walk.entry) usize.MAX }
+{
+    let mut sum: usize = 0;
+    for (value, _) in walk {
+        sum = sum.saturating_add(value.as_slice().len());
+    }
+    sum
+}
+
+fn size(held: &Held) -> usize
+    ensures size { IfTexts (Some held.now) (λ bag. HasSize bag result) }
+    ensures kind { IfNumbers (Some held.now) (λ _. result ≡ 0) }
+{
+    match held {
+        Held::Numbers(_) => 0,
+        Held::Texts(bag) => sizes(bag.set_iter()),
+    }
+}
+
+/// Returns how many bytes the distinct byte strings have in all, which `hashbag_texts_read` needs places for. It is 0 if the handle has no
+/// bag of byte strings.
+#[unsafe(no_mangle)]
+pub extern "C" fn hashbag_texts_bytes(alloc: Global, handle: &mut Handle) -> usize
+    ensures size { IfTexts handle.old.held (λ bag. HasSize bag result) }
+    ensures unchanged { handle.new.held ≡ handle.old.held }
+    ensures kind { IfNumbers handle.old.held (λ _. result ≡ 0) }
+    ensures empty { handle.old.held ≡ None → result ≡ 0 }
+{
+    let Some(held) = handle.take(alloc) else {
+        return 0;
+    };
+    let n = size(&held);
+    handle.put(held);
+    n
+}
+
+// Writes a byte string at a place.
+fn put(bytes: &mut [u8], from: usize, piece: &[u8])
+    requires { from + length piece.now ≤ length bytes.old }
+    ensures { bytes.new ≡ take from bytes.old ++ (piece.now ++ drop (from + length piece.now) bytes.old) }
+{
+    bytes[from..from + piece.len()].copy_from_slice(piece);
+}
+
+// Writes the first strings of a walk, as many as there are places for, and returns how many.
+fn write_texts(
+    mut walk: SetIter<'_, Bytes>,
+    bytes: &mut [u8],
+    ends: &mut [usize],
+    counts: &mut [usize],
+) -> usize
+    ensures few { result ≤ length walk.entry }
+    ensures bytes { take (size_of (take result walk.entry)) bytes.new ≡ flat_map (λ e. e.0) (take result walk.entry) }
+    ensures ends { take result ends.new ≡ ends_from 0 (take result walk.entry) }
+    ensures counts { take result counts.new ≡ map (λ e. e.1) (take result walk.entry) }
+    ensures all { length walk.entry ≤ length ends.old → length walk.entry ≤ length counts.old → size_of walk.entry ≤ length bytes.old → result ≡ length walk.entry }
+{
+    let most = ends.len().min(counts.len());
+    let mut from: usize = 0;
+    for i in 0..most {
+        match walk.next() {
+            Some((value, count)) => {
+                let value = value.as_slice();
+                if value.len() > bytes.len() - from {
+                    return i;
+                }
+                put(bytes, from, value);
+                from += value.len();
+                ends[i] = from;
+                counts[i] = count;
+            }
+            None => return i,
+        }
+    }
+    most
+}
+
+fn read(held: &Held, bytes: &mut [u8], ends: &mut [usize], counts: &mut [usize]) -> usize
+    ensures read { IfTexts (Some held.now) (λ bag. HasReadTexts bag result bytes.new ends.new counts.new) }
+    ensures kind { IfNumbers (Some held.now) (λ _. result ≡ 0) }
+{
+    match held {
+        Held::Numbers(_) => 0,
+        Held::Texts(bag) => write_texts(bag.set_iter(), bytes, ends, counts),
+    }
+}
+
+/// Writes distinct byte strings one after another into `bytes`, where each ends into `ends`, and their counts, as many as there are
+/// places for, and returns how many. With `hashbag_texts_bytes` and `hashbag_set_len` places these are all, in no particular order. It
+/// returns 0 if the handle has no bag of byte strings.
+#[unsafe(no_mangle)]
+pub extern "C" fn hashbag_texts_read(
+    alloc: Global,
+    handle: &mut Handle,
+    bytes: &mut [u8],
+    ends: &mut [usize],
+    counts: &mut [usize],
+) -> usize
+    ensures read { IfTexts handle.old.held (λ bag. HasReadTexts bag result bytes.new ends.new counts.new) }
+    ensures unchanged { handle.new.held ≡ handle.old.held }
+    ensures kind { IfNumbers handle.old.held (λ _. result ≡ 0) }
+    ensures empty { handle.old.held ≡ None → result ≡ 0 }
+{
+    let Some(held) = handle.take(alloc) else {
+        return 0;
+    };
+    let n = read(&held, bytes, ends, counts);
+    handle.put(held);
+    n
+}

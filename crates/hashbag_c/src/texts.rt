@@ -1,0 +1,181 @@
+//! Calls on a bag of byte strings.
+ghost use Rattle.std.specs.Prelude.{◌≡◌, ◌≢◌, ◌+◌, ◌-◌, ◌<◌, ◌≤◌, ◌↔◌, ◌⊎◌, [], length, None, Some};
+ghost use Rattle.std.specs.Str.{bytes_eq};
+ghost use Rattle.hashbag_core.specs.Held.{HasFewer};
+ghost use Rattle.hashbag_core.specs.Keys.{InsertsNamed};
+ghost use Rattle.hashbag_core.specs.Occurrences.{count_named};
+ghost use Rattle.hashbag_c.specs.Calls.{HasTexts, IfNumbers, IfTexts};
+
+use crate::any::{EMPTY, KIND};
+use crate::bytes::{Bytes, Name};
+use crate::handle::Handle;
+use crate::held::Held;
+use crate::state::Keys;
+use hashbag_core::HashBag;
+use std::alloc::Global;
+
+fn fill(alloc: Global, handle: &mut Handle, state: Keys, most: usize) -> u8
+    ensures made { result ≡ 0 → HasTexts handle.new.held (λ bag. (bag.items ≡ []) × (bag.most ≡ most) × (bag.hasher ≡ state)) }
+    ensures memory { result ≢ 0 → result ≡ 1 }
+    ensures err { result ≢ 0 → handle.new.held ≡ handle.old.held }
+{
+    let bag: HashBag<Bytes, Keys> = HashBag::with_limit(alloc, state, most);
+    match Box::new(alloc, Held::Texts(bag)) {
+        Ok(held) => {
+            *handle = Handle::of(held);
+            0
+        }
+        Err(_) => 1,
+    }
+}
+
+/// Puts into the handle an empty bag of byte strings, whose total is at most `most`, and returns 0. The bag that the handle had is freed.
+///
+/// Its byte strings are hashed by SipHash under fixed keys, alike in every run. Use `hashbag_texts_new_keyed` if strangers choose them.
+///
+/// # Errors
+///
+/// `HASHBAG_MEMORY` if an allocation fails. Nothing changes then.
+#[unsafe(no_mangle)]
+pub extern "C" fn hashbag_texts_new(alloc: Global, handle: &mut Handle, most: usize) -> u8
+    ensures made { result ≡ 0 → HasTexts handle.new.held (λ bag. (bag.items ≡ []) × (bag.most ≡ most)) }
+    ensures memory { result ≢ 0 → result ≡ 1 }
+    ensures err { result ≢ 0 → handle.new.held ≡ handle.old.held }
+{
+    fill(alloc, handle, Keys { key0: 0, key1: 0 }, most)
+}
+
+/// Does the same with two keys of SipHash, which the caller draws at random: then nobody can choose byte strings that collide.
+///
+/// # Errors
+///
+/// `HASHBAG_MEMORY` if an allocation fails. Nothing changes then.
+#[unsafe(no_mangle)]
+pub extern "C" fn hashbag_texts_new_keyed(
+    alloc: Global,
+    handle: &mut Handle,
+    most: usize,
+    key0: u64,
+    key1: u64,
+) -> u8
+    ensures made { result ≡ 0 → HasTexts handle.new.held (λ bag. (bag.items ≡ []) × (bag.most ≡ most) × (bag.hasher.key0 ≡ key0) × (bag.hasher.key1 ≡ key1)) }
+    ensures memory { result ≢ 0 → result ≡ 1 }
+    ensures err { result ≢ 0 → handle.new.held ≡ handle.old.held }
+{
+    fill(alloc, handle, Keys { key0, key1 }, most)
+}
+
+fn insert(held: &mut Held, value: &[u8], n: usize, before: &mut usize) -> u8
+    ensures inserted { 0 < n → IfTexts (Some held.old) (λ bag. result ≡ 0 → HasTexts (Some held.new) (λ after. InsertsNamed bytes_eq (λ v. bytes_eq v value.now) n bag after)) }
+    ensures none { n ≡ 0 → IfTexts (Some held.old) (λ _. (result ≡ 0) × (held.new ≡ held.old)) }
+    ensures before { IfTexts (Some held.old) (λ bag. result ≡ 0 → before.new ≡ count_named (λ v. bytes_eq v value.now) bag.items) }
+    ensures too_many { IfTexts (Some held.old) (λ bag. (result ≡ 2) ↔ (bag.most < length bag.items + n)) }
+    ensures present { IfTexts (Some held.old) (λ bag. length bag.items + n ≤ bag.most → 0 < count_named (λ v. bytes_eq v value.now) bag.items → result ≡ 0) }
+    ensures only { IfTexts (Some held.old) (λ _. result ≢ 0 → (result ≡ 1) ⊎ (result ≡ 2)) }
+    ensures kind { IfNumbers (Some held.old) (λ _. result ≡ KIND) }
+    ensures err { result ≢ 0 → (held.new ≡ held.old) × (before.new ≡ before.old) }
+{
+    match held {
+        Held::Numbers(_) => KIND,
+        Held::Texts(bag) => match bag.insert_many_key(Name { bytes: value }, n) {
+            Ok(count) => {
+                *before = count;
+                0
+            }
+            Err(error) => error.number(),
+        },
+    }
+}
+
+/// Inserts `n` occurrences of a byte string, writes the count before, and returns 0. The bytes are copied if the string is absent.
+///
+/// # Errors
+///
+/// `HASHBAG_TOO_MANY` if the total would pass the limit; `HASHBAG_MEMORY` if the string is absent and an allocation fails;
+/// `HASHBAG_EMPTY`; `HASHBAG_KIND`. Nothing changes then, and nothing is written.
+#[unsafe(no_mangle)]
+pub extern "C" fn hashbag_texts_insert(
+    alloc: Global,
+    handle: &mut Handle,
+    value: &[u8],
+    n: usize,
+    before: &mut usize,
+) -> u8
+    ensures inserted { 0 < n → IfTexts handle.old.held (λ bag. result ≡ 0 → HasTexts handle.new.held (λ after. InsertsNamed bytes_eq (λ v. bytes_eq v value.now) n bag after)) }
+    ensures none { n ≡ 0 → IfTexts handle.old.held (λ _. (result ≡ 0) × (handle.new.held ≡ handle.old.held)) }
+    ensures before { IfTexts handle.old.held (λ bag. result ≡ 0 → before.new ≡ count_named (λ v. bytes_eq v value.now) bag.items) }
+    ensures too_many { IfTexts handle.old.held (λ bag. (result ≡ 2) ↔ (bag.most < length bag.items + n)) }
+    ensures present { IfTexts handle.old.held (λ bag. length bag.items + n ≤ bag.most → 0 < count_named (λ v. bytes_eq v value.now) bag.items → result ≡ 0) }
+    ensures only { IfTexts handle.old.held (λ _. result ≢ 0 → (result ≡ 1) ⊎ (result ≡ 2)) }
+    ensures kind { IfNumbers handle.old.held (λ _. result ≡ KIND) }
+    ensures empty { handle.old.held ≡ None → result ≡ EMPTY }
+    ensures err { result ≢ 0 → (handle.new.held ≡ handle.old.held) × (before.new ≡ before.old) }
+{
+    let Some(mut held) = handle.take(alloc) else {
+        return EMPTY;
+    };
+    let code = insert(&mut held, value, n, before);
+    handle.put(held);
+    code
+}
+
+fn contains(held: &Held, value: &[u8]) -> usize
+    ensures count { IfTexts (Some held.now) (λ bag. result ≡ count_named (λ v. bytes_eq v value.now) bag.items) }
+    ensures kind { IfNumbers (Some held.now) (λ _. result ≡ 0) }
+{
+    match held {
+        Held::Numbers(_) => 0,
+        Held::Texts(bag) => bag.contains(Name { bytes: value }),
+    }
+}
+
+/// Returns the count of a byte string, 0 if it is absent or the handle has no bag of byte strings.
+#[unsafe(no_mangle)]
+pub extern "C" fn hashbag_texts_contains(alloc: Global, handle: &mut Handle, value: &[u8]) -> usize
+    ensures count { IfTexts handle.old.held (λ bag. result ≡ count_named (λ v. bytes_eq v value.now) bag.items) }
+    ensures kind { IfNumbers handle.old.held (λ _. result ≡ 0) }
+    ensures empty { handle.old.held ≡ None → result ≡ 0 }
+    ensures unchanged { handle.new.held ≡ handle.old.held }
+{
+    let Some(held) = handle.take(alloc) else {
+        return 0;
+    };
+    let count = contains(&held, value);
+    handle.put(held);
+    count
+}
+
+fn remove(held: &mut Held, value: &[u8], n: usize) -> usize
+    ensures after { IfTexts (Some held.old) (λ bag. result ≡ count_named (λ v. bytes_eq v value.now) bag.items - n) }
+    ensures fewer { IfTexts (Some held.old) (λ bag. HasTexts (Some held.new) (λ after. HasFewer bytes_eq (λ v. bytes_eq v value.now) n bag after)) }
+    ensures len { IfTexts (Some held.old) (λ bag. HasTexts (Some held.new) (λ after. length after.items + count_named (λ v. bytes_eq v value.now) bag.items ≡ length bag.items + result)) }
+    ensures kind { IfNumbers (Some held.old) (λ _. held.new ≡ held.old) }
+{
+    match held {
+        Held::Numbers(_) => 0,
+        Held::Texts(bag) => bag.remove_up_to(Name { bytes: value }, n),
+    }
+}
+
+/// Removes `n` occurrences of a byte string, or all if there are fewer, and returns the count after. It is 0 if the handle has no bag of
+/// byte strings.
+#[unsafe(no_mangle)]
+pub extern "C" fn hashbag_texts_remove(
+    alloc: Global,
+    handle: &mut Handle,
+    value: &[u8],
+    n: usize,
+) -> usize
+    ensures after { IfTexts handle.old.held (λ bag. result ≡ count_named (λ v. bytes_eq v value.now) bag.items - n) }
+    ensures fewer { IfTexts handle.old.held (λ bag. HasTexts handle.new.held (λ after. HasFewer bytes_eq (λ v. bytes_eq v value.now) n bag after)) }
+    ensures len { IfTexts handle.old.held (λ bag. HasTexts handle.new.held (λ after. length after.items + count_named (λ v. bytes_eq v value.now) bag.items ≡ length bag.items + result)) }
+    ensures kind { IfNumbers handle.old.held (λ _. handle.new.held ≡ handle.old.held) }
+    ensures empty { handle.old.held ≡ None → handle.new.held ≡ None }
+{
+    let Some(mut held) = handle.take(alloc) else {
+        return 0;
+    };
+    let left = remove(&mut held, value, n);
+    handle.put(held);
+    left
+}
