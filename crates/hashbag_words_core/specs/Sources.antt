@@ -22,6 +22,10 @@ left_with source more = rows_left source.form source.reading.bad_lines source.ma
 abbrev pub MayCome : RowSource → List ℕ → Type 0
 MayCome source more = source.is_ended ≡ true → more ≡ []
 
+-- all bytes have been read, and no more come
+abbrev pub IsAtEnd : RowSource → Type 0
+IsAtEnd source = (source.unread ≡ []) × (source.is_ended ≡ true)
+
 -- the source was given this text so far, and has all of its rows left: whatever comes next, they are the rows of the whole
 abbrev pub Holds : Kind → List ℕ → RowSource → Type 0
 Holds kind text source =

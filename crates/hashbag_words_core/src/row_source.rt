@@ -2,9 +2,9 @@
 //!
 //! A [`RowSource`] reads nothing: it is given bytes. So its clauses hold whatever they come from.
 ghost use Rattle.std.specs.Prelude.{◌≡◌, ℕ, ◌++◌, [], List, Some, false, true, IfOk, IsErr, IsSome, IsSomeAnd, OnOk};
-ghost use Rattle.hashbag_words_core.specs.Runs.{read_as};
+ghost use Rattle.hashbag_words_core.specs.Runs.{read_as, rows_left};
 ghost use Rattle.hashbag_words_core.specs.Sorted.{row_of};
-ghost use Rattle.hashbag_words_core.specs.Sources.{left_with, Gives, Holds, MayCome, Meets};
+ghost use Rattle.hashbag_words_core.specs.Sources.{left_with, Gives, Holds, IsAtEnd, MayCome, Meets};
 ghost use Rattle.hashbag_words_core.specs.Tokens.{without_mark};
 
 use crate::counter::without_return;
@@ -88,15 +88,11 @@ fn read_line(
 }
 
 impl RowSource {
-    /// Returns a source that was given nothing.
-    pub fn new(alloc: Global, kind: Kind) -> RowSource
-        ensures begins { Holds kind [] result }
-        ensures open { result.is_ended ≡ false }
+    // Returns a source of lines of this form that was given nothing.
+    fn of_lines(alloc: Global, form: RowForm, bad_lines: BadLines, may_be_marked: bool) -> RowSource
+        ensures left { (more : List ℕ) → left_with result more ≡ rows_left form bad_lines may_be_marked more }
+        ensures not_ended { result.is_ended ≡ false }
     {
-        let (form, bad_lines, may_be_marked) = match kind {
-            Kind::Run => (RowForm::Tsv, BadLines::Refused, false),
-            Kind::File(form, bad_lines) => (form, bad_lines, true),
-        };
         RowSource {
             form,
             reading: Reading::new(bad_lines),
@@ -104,6 +100,17 @@ impl RowSource {
             unread: Unread::new(alloc),
             is_ended: false,
             alloc,
+        }
+    }
+
+    /// Returns a source that was given nothing.
+    pub fn new(alloc: Global, kind: Kind) -> RowSource
+        ensures begins { Holds kind [] result }
+        ensures not_ended { result.is_ended ≡ false }
+    {
+        match kind {
+            Kind::Run => RowSource::of_lines(alloc, RowForm::Tsv, BadLines::Refused, false),
+            Kind::File(form, bad_lines) => RowSource::of_lines(alloc, form, bad_lines, true),
         }
     }
 
@@ -141,6 +148,7 @@ impl RowSource {
         ensures meets { IfOk result (λ met. (more : List ℕ) → MayCome self.old more → Meets (left_with self.old more) met (left_with self.new more)) }
         ensures ended { self.new.is_ended ≡ self.old.is_ended }
         ensures wants { IfOk result (λ met. met ≡ Some Next.Wants → self.old.is_ended ≡ false) }
+        ensures end { IfOk result (λ met. met ≡ Some Next.End → IsAtEnd self.new) }
     {
         if !self.is_ended {
             return Ok(Some(Next::Wants));
@@ -160,6 +168,7 @@ impl RowSource {
         ensures meets { IfOk result (λ met. (more : List ℕ) → MayCome self.old more → Meets (left_with self.old more) met (left_with self.new more)) }
         ensures ended { self.new.is_ended ≡ self.old.is_ended }
         ensures wants { IfOk result (λ met. met ≡ Some Next.Wants → self.old.is_ended ≡ false) }
+        ensures end { IfOk result (λ met. met ≡ Some Next.End → IsAtEnd self.new) }
     {
         let bytes = self.unread.bytes();
         let Some(at) = memchr(b'\n', bytes) else {
@@ -176,7 +185,7 @@ impl RowSource {
         }
     }
 
-    /// Takes the next row.
+    /// Takes the next row. In any form, and whatever a bad line does, there is none only after the last byte.
     ///
     /// # Errors
     ///
@@ -185,6 +194,7 @@ impl RowSource {
         ensures gives { IfOk result (λ next. (more : List ℕ) → MayCome self.old more → Gives (left_with self.old more) next (left_with self.new more)) }
         ensures ended { self.new.is_ended ≡ self.old.is_ended }
         ensures wants { IfOk result (λ next. next ≡ Next.Wants → self.old.is_ended ≡ false) }
+        ensures end { IfOk result (λ next. next ≡ Next.End → IsAtEnd self.new) }
     {
         'lines: for _read in 0..u64::MAX {
             if let Some(next) = self.next_line()? {

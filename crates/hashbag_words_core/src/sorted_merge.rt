@@ -88,7 +88,7 @@ fn take_least(sources: &mut Vec<Source>, total: &mut usize) -> Result<Merged, St
     ensures fits { total.new < 2 ^ 64 }
     ensures many { length sources.new.items ≡ length sources.old.items }
     ensures ended { (mores : ℕ → List ℕ) → MayComeTo sources.new.items mores → MayComeTo sources.old.items mores }
-    ensures open { IfOk result (λ next. (i : ℕ) → next ≡ Merged.Wants i → IsOpen sources.new.items i) }
+    ensures wants { IfOk result (λ next. (i : ℕ) → next ≡ Merged.Wants i → IsOpen sources.new.items i) }
 {
     let before = *total;
     if sources.is_empty() {
@@ -183,7 +183,7 @@ impl Merger {
     pub fn give(&mut self, i: usize, block: &[u8]) -> Result<(), AllocError>
         ensures given { OnOk result (IsOpen self.old.sources.items i → (given : _) → (out : List (List ℕ × ℕ)) → HasMerged given self.old out
             → (text : _) → text ≡ slice_index_or given i text → HasMerged (slice_set given i (text.0, text.1 ++ block.now)) self.new out) }
-        ensures open { IsOpen self.old.sources.items i → IsOpen self.new.sources.items i }
+        ensures wants { IsOpen self.old.sources.items i → IsOpen self.new.sources.items i }
     {
         if i < self.sources.len() {
             self.sources[i].rows.give(block)?;
