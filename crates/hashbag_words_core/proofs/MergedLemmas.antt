@@ -1,10 +1,11 @@
 -- Sources that are given bytes, from which rows are taken, and their merge so far.
 use Rattle.std.proofs.Common.{◌≡◌, ◌⊎◌, inl, inr, ℕ, ◌+◌, ◌<◌, ◌^◌, Bool, true, false, cond, eqb, eq-eqb, ne_eqb, List, [], ◌∷◌, ◌++◌, length, get_or, set, All, String, string_bytes, Global, Option, None, Some, refl, sym, ◌∙◌, ap, subst, arith, length-set, append_assoc}
 use Rattle.std.proofs.lemmas.Bool.{cases_eq, false≢true}
-use Rattle.std.proofs.lemmas.List.{get_or-set_same, get_or-set_other}
+use Rattle.std.proofs.lemmas.List.{append-nil, length-map, get_or-map, get_or-set_same, get_or-set_other}
 use Rattle.std.proofs.lemmas.List.Elements.{All-from_get_or}
 use Rattle.std.proofs.lemmas.Option.{same_Some}
-use Rattle.hashbag_words_core.specs.Merged.{all_with, with_head, AreBegun, AreInputs, AreLeft, IsSoFar, MayComeTo, Takes, TakesRow}
+use Rattle.hashbag_words_core.specs.Merged.{all_with, texts_of, with_head, AreBegun, AreInputs, AreLeft, AreReadAgain, IsSoFar, MayComeTo, Takes, TakesRow}
+use Rattle.hashbag_words_core.specs.Runs.{rows_in, run_text}
 use Rattle.hashbag_words_core.specs.Sorted.{row_of, shown_of, IsMergeOf, IsNoLater, IsNotBelow, Joins, SoFar}
 use Rattle.hashbag_words_core.specs.Sources.{left_with, rows_of, MayCome}
 use Rattle.hashbag_words_core.specs.declared.row_source.Kind.{Kind}
@@ -255,3 +256,20 @@ module _ (given : List (Kind × List ℕ)) (sources : List Source) (out : List (
           old.2,
         );
   }
+
+-- ---- runs
+
+-- what is the merge of all that was given is the merge of the runs that were given
+pub runs_merged : (runs : List (List (List ℕ × ℕ))) (sources : List Source) (out : List (List ℕ × ℕ)) → AreReadAgain runs
+    → ((mores : ℕ → List ℕ) (inputs : List (List (List ℕ × ℕ))) → MayComeTo sources mores → AreInputs (texts_of runs) mores inputs → IsMergeOf inputs out) → IsMergeOf runs out
+runs_merged runs sources out again whole = whole (λ i. []) runs (λ i lt source ended. refl) (record {
+  many = sym (length-map runs text);
+  each = λ i lt d.
+      let low : i < length runs = subst (λ (n : ℕ). i < n) (length-map runs text) lt in
+      let rows = get_or runs i [] in
+      subst (λ (w : Kind × List ℕ). rows_of w.0 (w.1 ++ []) ≡ Some rows) (sym (get_or-map text runs i [] d low))
+      (ap (λ (l : List ℕ). Some (rows_in l)) (append-nil (run_text rows)) ∙ ap (λ (r : List (List ℕ × ℕ)). Some r) (again i [] low));
+})
+  where
+    text : List (List ℕ × ℕ) → Kind × List ℕ
+    text rows = (Kind.Run, run_text rows)

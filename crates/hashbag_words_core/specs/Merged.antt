@@ -1,9 +1,11 @@
 -- What a merger of texts that come in blocks has merged so far.
-use Rattle.std.specs.Prelude.{◌≡◌, ℕ, ◌<◌, ◌^◌, true, false, List, [], ◌∷◌, ◌++◌, length, All, slice_index_or, String, string_bytes, Option, None, Some, option_map}
+use Rattle.std.specs.Prelude.{◌≡◌, ℕ, ◌<◌, ◌^◌, true, false, List, [], ◌∷◌, ◌++◌, length, map, All, slice_index_or, String, string_bytes, Option, None, Some, option_map}
 use Rattle.std.specs.Global.{Global}
+use Rattle.hashbag_words_core.specs.Runs.{rows_in, run_text}
 use Rattle.hashbag_words_core.specs.Sorted.{row_of, IsAbove, IsMergeOf, SoFar, TakesLeast}
 use Rattle.hashbag_words_core.specs.Sources.{left_with, rows_of, Holds, MayCome}
 use Rattle.hashbag_words_core.specs.declared.row_source.Kind.{Kind}
+use Rattle.hashbag_words_core.specs.declared.row_source.Kind.TheVariants.{Run}
 use Rattle.hashbag_words_core.specs.declared.row_source.Next.{Next}
 use Rattle.hashbag_words_core.specs.declared.row_source.Next.TheVariants.{Row, Wants, End}
 use Rattle.hashbag_words_core.specs.declared.sorted_merge.Merged.{Merged}
@@ -104,3 +106,11 @@ abbrev pub Follows : List (Kind × List ℕ) → List (List ℕ × ℕ) → Merg
 Follows given out (MergedRow row) new = HasMerged given new (out ++ row_of row ∷ [])
 Follows given out (MergedWants i) new = HasMerged given new out × IsOpen new.sources.items i
 Follows given out MergedEnd new = HasMerged given new out × IsWhole given new out
+
+-- the texts of runs
+abbrev pub texts_of : List (List (List ℕ × ℕ)) → List (Kind × List ℕ)
+texts_of runs = map (λ rows. (Run, run_text rows)) runs
+
+-- each run is read again as it was written
+abbrev pub AreReadAgain : List (List (List ℕ × ℕ)) → Type 0
+AreReadAgain runs = All (λ rows. rows_in (run_text rows) ≡ rows) runs

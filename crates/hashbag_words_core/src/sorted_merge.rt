@@ -2,8 +2,8 @@
 //!
 //! A [`Merger`] reads nothing: it is given bytes, and gives rows. So its clauses hold whatever the bytes come from.
 ghost use Rattle.std.specs.Prelude.{◌≡◌, ℕ, ◌+◌, ◌++◌, ◌<◌, ◌^◌, [], None, true, false, List, length, All, slice_index_or, slice_set, string_bytes, IfOk, IfSome, OnOk};
-ghost use Rattle.hashbag_words_core.specs.Merged.{count_of, AreBegun, AreLeft, Follows, HasMerged, IsEnded, IsOpen, MayComeTo, TakesRow};
-ghost use Rattle.hashbag_words_core.specs.Sorted.{count_held, one_of, shown_of, IsNoLater, Joins};
+ghost use Rattle.hashbag_words_core.specs.Merged.{count_of, texts_of, AreBegun, AreLeft, AreReadAgain, Follows, HasMerged, IsEnded, IsOpen, MayComeTo, TakesRow};
+ghost use Rattle.hashbag_words_core.specs.Sorted.{count_held, one_of, shown_of, IsMergeOf, IsNoLater, Joins};
 
 use crate::errors::Fault;
 use crate::head::Head;
@@ -212,7 +212,9 @@ impl Merger {
     ///
     /// A row that is taken needs a comparison with the next row of each source.
     pub fn next_row(&mut self) -> Result<Merged, Stop>
-        ensures { IfOk result (λ next. (given : _) → (out : List (List ℕ × ℕ)) → HasMerged given self.old out → Follows given out next self.new) }
+        ensures follows { IfOk result (λ next. (given : _) → (out : List (List ℕ × ℕ)) → HasMerged given self.old out → Follows given out next self.new) }
+        ensures runs { IfOk result (λ next. next ≡ Merged.End → (runs : List (List (List ℕ × ℕ))) → (out : List (List ℕ × ℕ)) → AreReadAgain runs
+            → HasMerged (texts_of runs) self.old out → IsMergeOf runs out) }
     {
         'rows: for _row in 0..u64::MAX {
             match take_least(&mut self.sources, &mut self.total)? {
