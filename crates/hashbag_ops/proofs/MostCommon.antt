@@ -1,5 +1,5 @@
 -- The first of the most common pairs: no value occurs more often than its value.
-use Rattle.std.proofs.Common.{◌≡◌, ℕ, zero, suc, ◌+◌, ◌<◌, nat_lt, ◌≤◌, inl, inr, Bool, true, false, Option, Some, unwrap_or, List, [], ◌∷◌, length, map, take, get_or, slice_get, refl, sym, ◌∙◌, ap, subst, arith}
+use Rattle.std.proofs.Common.{◌≡◌, ℕ, zero, suc, nat_lt, ◌≤◌, inl, inr, Bool, true, false, Option, Some, unwrap_or, List, [], ◌∷◌, length, map, take, get_or, slice_get, refl, sym, ap, subst, arith}
 use borrow.Author.Tests.{ltb-true, ltb-false}
 use denote.Ref.{Bor}
 use Rattle.std.specs.Cmp.{IsEquivalence, nat_cmp_is}
@@ -7,7 +7,7 @@ use Rattle.std.specs.List.{Contains, AllByRecursion}
 use Rattle.std.specs.List.Sorted.{IsStrictlySortedBy}
 use Rattle.std.specs.Ordering.{nat_cmp, ordering_then}
 use Rattle.std.specs.declared.cmp.Ordering.{Ordering}
-use Rattle.std.specs.declared.cmp.Ordering.TheVariants.{Less, Equal, Greater}
+use Rattle.std.specs.declared.cmp.Ordering.TheVariants.{Less, Greater}
 use Rattle.std.proofs.lemmas.List.Elements.{All-contains, All-from_recursion}
 use Rattle.std.proofs.lemmas.Map.Keys.{sorted_head}
 use Rattle.std.proofs.lemmas.List.Sorted.{IsPermutation-refl}

@@ -1,5 +1,5 @@
 -- Pairs that are sorted by falling count, and then by rising value.
-use Rattle.std.proofs.Common.{◌≡◌, ℕ, zero, suc, ◌<◌, ◌+◌, Bool, false, List, [], ◌∷◌, length, get_or, take, map, Ordering, Less, Equal, Greater, is_lt, is_eq, nat_cmp, refl, sym, ◌∙◌, ap, arith}
+use Rattle.std.proofs.Common.{◌≡◌, ℕ, suc, ◌<◌, ◌+◌, Bool, false, List, [], ◌∷◌, length, get_or, map, Ordering, Less, Equal, Greater, is_lt, is_eq, nat_cmp, refl, sym, ◌∙◌, ap, arith}
 use denote.Ref.{Bor}
 use denote.Param.Members.{Mut}
 use Rattle.std.specs.Cmp.{IsEquivalence, IsTotalOrder, IsStrictWeakOrder, then_total, on_total, back_total, nat_cmp_total}

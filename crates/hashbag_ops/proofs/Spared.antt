@@ -1,19 +1,23 @@
 -- Pairs that are inserted in turn beside spare slots: what they add, what becomes of the slots, and when there is room.
-use Rattle.std.proofs.Common.{◌≡◌, ℕ, ◌+◌, ◌<◌, ◌≤◌, ◌==◌, cond, Bool, List, [], ◌∷◌, ◌++◌, length, length-append, sum_by, Result, Ok, Err, IsOk, IfErr, inl, inr, sym, ◌∙◌, ap, subst, refl, append_assoc, arith}
+use Rattle.std.proofs.Common.{◌≡◌, ℕ, ◌+◌, ◌<◌, ◌≤◌, ◌==◌, cond, Bool, List, [], ◌∷◌, ◌++◌, length, length-append, sum_by, Option, Result, Ok, Err, IsOk, IfErr, inl, inr, sym, ◌∙◌, ap, subst, refl, append_assoc, arith}
 use Rattle.std.specs.Cmp.{IsEquivalence}
 use Rattle.std.proofs.lemmas.Bool.{cases_lt}
-use Rattle.std.proofs.lemmas.List.{append-nil}
-use Rattle.std.proofs.lemmas.List.Sums.{length-filter, sum_by-append, sum_by-cons}
+use Rattle.std.proofs.lemmas.Iterator.{YieldsList}
+use Rattle.std.proofs.lemmas.List.{append-nil, map-id}
+use Rattle.std.proofs.lemmas.List.Sums.{length-filter, count_by-le-length, sum_by-append, sum_by-cons}
 use Rattle.hashbag.specs.declared.bag.BagError.{BagError}
 use Rattle.hashbag.specs.declared.bag.BagError.TheVariants.{Memory, TooMany, BelowTotal}
-use Rattle.hashbag.specs.Bag.{Bag, IsBagOf}
-use Rattle.hashbag.specs.Inserts.{Inserts, InTurn, IsRefused}
+use Rattle.hashbag.specs.Bag.{Bag, IsBagOf, occurrences}
+use Rattle.hashbag.specs.Extends.{AsItIs}
+use Rattle.hashbag.specs.Inserts.{Inserts, InsertsAll, InsertsUpTo, InTurn, IsRefused, RefusesPair}
 use Rattle.hashbag.specs.JoinsLeft.{lacking}
 use Rattle.hashbag.specs.Occurrences.{count, distinct_count, IsBag}
 use Rattle.hashbag.specs.Tables.{room}
-use Rattle.hashbag.proofs.CallerLemmas.{count_extended, count_kept}
-use Rattle.hashbag.proofs.InsertLemmas.{few_in_turn, left_in_turn, length_in_turn, spends_in_turn, stays_in_turn, turn_last, StaysWithin}
-use Rattle.hashbag_ops.proofs.Sums.{few_lacked, has_in_turn, lacked, none_of_none, one_if, one_lacked, Has}
+use Rattle.hashbag.specs.Walks.{IsSetWalkOf}
+use Rattle.hashbag.proofs.CallerLemmas.{count_extended, count_kept, items_that_came, pairs_as_they_are}
+use Rattle.hashbag.proofs.InsertLemmas.{few_in_turn, left_in_turn, length_in_turn, spends_in_turn, turn_last, StaysWithin}
+use Rattle.hashbag.proofs.OccurrenceLemmas.{count_rearranged}
+use Rattle.hashbag_ops.proofs.Sums.{count_written, few_lacked, has_in_turn, lacked, none_of_none, one_if, one_lacked, takes_pairs, Has}
 
 -- a sum over a list in two parts
 pub sum_parts : {A : Type 0} (f : A → ℕ) (first rest all : List A) → first ++ rest ≡ all → sum_by f all ≡ sum_by f first + sum_by f rest
@@ -56,20 +60,10 @@ module _ {T S : Type 0} (eq : T → T → Bool) where
     stays = stays_both before now after so_far.stays (stays_one v n now after went there);
   }
 
-  -- what is left has room in slots that have room for all
-  pub room_for_rest : (before now : Bag T S) (all rest : List (T × ℕ)) (most : ℕ) → SoFar before now all rest → distinct_count eq before.items + length all ≤ most → distinct_count eq now.items + length rest ≤ most
-  room_for_rest before now all rest most so_far enough =
-      let few = few_in_turn eq so_far.first before now so_far.turn in
-      let long = length-append so_far.first rest in
-      let whole = ap (λ (l : List (T × ℕ)). length l) so_far.parts in
-      omega (arith, few, long, whole, enough)
-
-  -- and the total has room for it
-  pub fits_rest : (before now : Bag T S) (all rest : List (T × ℕ)) (most : ℕ) → SoFar before now all rest → length before.items + sum_by (λ p. p.1) all ≤ most → length now.items + sum_by (λ p. p.1) rest ≤ most
-  fits_rest before now all rest most so_far fits =
-      let long = length_in_turn eq so_far.first before now so_far.turn in
-      let parts = sum_parts (λ (p : T × ℕ). p.1) so_far.first rest all so_far.parts in
-      omega (arith, long, parts, fits)
+  -- the pair v, n and those after it have room in slots that have room for all, and below the limit
+  pub record HasRest (now : Bag T S) (n : ℕ) (rest : List (T × ℕ)) (most : ℕ) : Type 0 where
+    pub room : distinct_count eq now.items + (length rest + 1) ≤ most
+    pub fits : length now.items + n + sum_by (λ p. p.1) rest ≤ now.most
 
   -- ---- what pairs add
 
@@ -80,7 +74,19 @@ module _ {T S : Type 0} (eq : T → T → Bool) where
     pub hasher : after.hasher ≡ before.hasher
     pub bag : IsBag eq after.most after.items
 
+  -- a bag `after` has all of `before` and all of X
+  pub record IsSum (before : Bag T S) (X : List T) (after : Bag T S) : Type 0 where
+    pub counts : (v : T) → count eq v after.items ≡ count eq v before.items + count eq v X
+    pub len : length after.items ≡ length before.items + length X
+    pub limit : after.most ≡ before.most
+    pub hasher : after.hasher ≡ before.hasher
+
 module _ {T S : Type 0} {eq : T → T → Bool} (laws : IsEquivalence eq) where
+  -- the pairs of a known list that an extend inserted
+  pub in_turn : {I : Type 0} {steps : I → Option (T × ℕ) → I → Type 0} {it : I} {before after : Bag T S} (pairs : List (T × ℕ)) → InsertsAll eq steps AsItIs it before after → YieldsList steps (λ x. x) it pairs → InTurn eq pairs before after
+  in_turn {before = before} {after = after} pairs h yields =
+      subst (λ l. InTurn eq l before after) (pairs_as_they_are h.items h.pairs h.went ∙ sym (map-id h.items) ∙ items_that_came h.items h.came yields) h.turn
+
   pub adds_in_turn : (pairs : List (T × ℕ)) (before after : Bag T S) → IsBag eq before.most before.items → InTurn eq pairs before after → Adds eq before after pairs
   adds_in_turn pairs before after is turn =
       let left = left_in_turn laws pairs before after is turn in
@@ -134,6 +140,36 @@ module _ {T S : Type 0} {eq : T → T → Bool} (laws : IsEquivalence eq) where
       subst (λ (l : List (T × ℕ)). Adds eq before now l) (sym (append-nil so_far.first) ∙ ap (λ (l : List (T × ℕ)). so_far.first ++ l) (sym none) ∙ so_far.parts)
       (adds_in_turn so_far.first before now is so_far.turn)
 
+  -- what a walk over a bag adds is that bag
+  pub summed : {R : Type 0} (from : Bag T R) (before after : Bag T S) (W : List (T × ℕ)) → IsSetWalkOf eq from W → Adds eq before after W → IsSum eq before from.items after
+  summed from before after W walk adds = record {
+    counts = λ v.
+        let whole = adds.counts v in
+        let written = count_written laws v W in
+        let walked = count_rearranged laws v (occurrences W) from.items walk.means in
+        omega (arith, whole, written, walked);
+    len = let whole = adds.len in let total = walk.total in omega (arith, whole, total);
+    limit = adds.limit;
+    hasher = adds.hasher;
+  }
+
+  -- a pair of a walk came, and the rest is still to come
+  pub has_rest : {R : Type 0} (from : Bag T R) (before now : Bag T S) (W left rest : List (T × ℕ)) (v : T) (n most : ℕ) → IsSetWalkOf eq from W → IsBag eq before.most before.items → SoFar eq before now W left → left ≡ (v, n) ∷ rest
+      → distinct_count eq before.items + distinct_count eq from.items ≤ most → length before.items + length from.items ≤ before.most → HasRest eq now n rest most
+  has_rest from before now W left rest v n most walk is so_far next enough fits =
+      let few = few_in_turn eq so_far.first before now so_far.turn in
+      let long = length-append so_far.first left in
+      let whole = ap (λ (l : List (T × ℕ)). length l) so_far.parts in
+      let later = ap (λ (l : List (T × ℕ)). length l) next in
+      let distinct = walk.distinct in
+      let longer = length_in_turn eq so_far.first before now so_far.turn in
+      let parts = sum_parts (λ (p : T × ℕ). p.1) so_far.first left W so_far.parts in
+      let sum = ap (λ (l : List (T × ℕ)). sum_by (λ p. p.1) l) next in
+      let one = sum_by-cons (λ (p : T × ℕ). p.1) (v, n) rest in
+      let total = walk.total in
+      let same = (adds_in_turn so_far.first before now is so_far.turn).limit in
+      record { room = omega (arith, few, long, whole, later, distinct, enough); fits = omega (arith, longer, parts, sum, one, total, same, fits) }
+
   -- ---- room for what is lacked
 
   -- where there is room for those of the pairs that X lacks, whose values the bag has, no slot was added and nothing was built
@@ -165,3 +201,12 @@ module _ {T S : Type 0} {eq : T → T → Bool} (laws : IsEquivalence eq) where
   takes_one bag v n (Err TooMany) fits refused there = let over = refused.why in absurd (omega (arith, fits, over))
   takes_one bag v n (Err BelowTotal) fits refused there = absurd refused.why
   takes_one bag v n (Err Memory) fits refused there = let is = there (refused.full refl) in let absent = refused.why.2 in absurd (omega (arith, is, absent))
+
+  -- an extend by a known list of pairs isn't refused where there is room for all
+  pub takes_rest : {I A : Type 0} {steps : I → Option (T × ℕ) → I → Type 0} {it : I} (rest : List (T × ℕ)) (before after : Bag T S) (r : Result A BagError)
+      → IfErr r (InsertsUpTo eq steps AsItIs (RefusesPair eq) it before after) → YieldsList steps (λ x. x) it rest → length rest ≤ room before.tables → length before.items + sum_by (λ p. p.1) rest ≤ before.most → IsOk r
+  takes_rest rest before after r refused yields enough fits =
+      let none : List T = [] in
+      let few = length-filter (λ (e : T × ℕ). count eq e.0 none == 0) rest in
+      let most_of = count_by-le-length (λ (e : T × ℕ). count eq e.0 none == 0) rest in
+      takes_pairs laws before after r none (λ v some. absurd (omega (arith, some))) refused yields (omega (arith, few, most_of, enough)) fits

@@ -29,9 +29,9 @@ use std::iter::ExactSizeIterator;
 /// # Complexity
 ///
 /// Each distinct value of `from` is hashed once, and again if it is inserted when `into` has no room left. Those of `into` are hashed once
-/// if it gets other slots. If `into` isn't empty and may not have room, slots for the distinct values of both are allocated first. They are
-/// at most twice as many as are needed, and are freed if they weren't used. If that allocation fails, each distinct value of `from` is
-/// hashed once more, to count those that `into` lacks.
+/// if it gets other slots. If `into` isn't empty and may not have room, memory for the distinct values of both is allocated first. It is at
+/// most twice as much as is needed. If it isn't used, nothing is written to it before it is freed. If that allocation fails, each distinct
+/// value of `from` is hashed once more, to count those that `into` lacks.
 ///
 /// # Examples
 ///
@@ -254,7 +254,7 @@ pub fn keep_common<T: Eq + Hash + Drop, S: BuildHasher + Drop, S2: BuildHasher +
 ///
 /// # Complexity
 ///
-/// It hashes each distinct value of `bag` once. It doesn't allocate and can't fail.
+/// It hashes each distinct value of the bag with fewer of them once, of `bag` if both have as many. It doesn't allocate and can't fail.
 ///
 /// # Examples
 ///
@@ -280,6 +280,12 @@ pub fn take_away<T: Eq + Hash + Drop, S: BuildHasher + Drop, S2: BuildHasher + D
     ensures slots { length bag.new.tables.newer ≡ length bag.old.tables.newer }
     ensures room { room bag.old.tables ≤ room bag.new.tables }
 {
+    if other.set_len() < bag.set_len() {
+        for (value, n) in other.set_iter() {
+            bag.remove_up_to(value, n);
+        }
+        return;
+    }
     bag.retain(
         |value: &T, n: usize| -> usize
             ensures { result ≡ n - count T.eq value.now other.entry.now.items }

@@ -3,8 +3,8 @@ use crate::bag::Bag;
 use crate::failure::Failure;
 use crate::settings::Settings;
 use hashbag_shell::output_file::OutputFile;
-use hashbag_words_core::choice::chosen;
 use hashbag_words_core::row_text::RowText;
+use hashbag_words_core::shown_text::shown_text;
 use std::fs::File;
 use std::io::{self, Read, Write};
 
@@ -101,10 +101,7 @@ pub fn rows_of<'a, 'b>(
     settings: &Settings<'a, '_>,
     bag: &'b Bag,
 ) -> Result<Made<'b>, Failure<'a>> {
-    let Ok(rows) = chosen(rt.alloc(), bag, settings.choice.order) else {
-        return Err(Failure::NoMemoryLeft);
-    };
-    match RowText::new(rt.alloc(), settings.format, rows) {
+    match shown_text(rt.alloc(), bag, settings.choice, settings.format) {
         Ok(rows) => Ok(Made::Rows(rows)),
         Err(_) => Err(Failure::NoMemoryLeft),
     }

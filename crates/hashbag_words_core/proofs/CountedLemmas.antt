@@ -1,5 +1,5 @@
 -- What a line that ends, bytes that are kept, and the end of a text do to what is counted.
-use Rattle.std.proofs.Common.{◌≡◌, ◌≢◌, ℕ, ◌+◌, ◌-◌, ◌^◌, ◌<◌, ◌≤◌, Bool, true, false, not, filter, map, cond, eqb, List, [], ◌∷◌, ◌++◌, length, take, drop, min, get_or, String, string_bytes, bytes_eq, sum_by, Option, None, Some, Result, Ok, Err, OnOk, IfErr, IsErrAnd, Global, refl, sym, ◌∙◌, ap, subst, arith, ne_eqb, eq-eqb, length-append, append_assoc}
+use Rattle.std.proofs.Common.{◌≡◌, ◌≢◌, ℕ, ◌+◌, ◌-◌, ◌^◌, ◌<◌, ◌≤◌, Bool, true, false, filter, map, cond, eqb, List, [], ◌∷◌, ◌++◌, length, take, drop, min, get_or, String, string_bytes, bytes_eq, sum_by, Option, None, Some, Result, Ok, Err, OnOk, IfErr, IsErrAnd, Global, refl, sym, ◌∙◌, ap, subst, arith, ne_eqb, eq-eqb, length-append, append_assoc}
 use borrow.Author.Tests.{eqb-true}
 use Rattle.std.specs.Cmp.Lexicographic.{nat_list_eq_equiv}
 use Rattle.std.specs.Str.Lines.{lines, lines_of_parts, strip_carriage_return}

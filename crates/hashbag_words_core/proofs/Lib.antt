@@ -7,8 +7,10 @@ pub mod MergeLemmas
 pub mod PrefixLemmas
 pub mod ReadLemmas
 pub mod RowLemmas
+pub mod RowTextLemmas
 pub mod RunLemmas
 pub mod RunTextLemmas
+pub mod ShownLemmas
 pub mod SortedLemmas
 pub mod SortedMergeLemmas
 pub mod TextLemmas

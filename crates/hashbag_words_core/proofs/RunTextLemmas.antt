@@ -27,7 +27,7 @@ use Rattle.hashbag_words_core.proofs.TextLemmas.{same_by}
 
 -- ---- what rows count
 
-sum_of_rows : (v : String Global) (pairs : List (String Global × ℕ)) → times_in (string_bytes v) (map row_of pairs) ≡ sum_by (λ p. cond (string_eq v p.0) p.1 0) pairs
+pub sum_of_rows : (v : String Global) (pairs : List (String Global × ℕ)) → times_in (string_bytes v) (map row_of pairs) ≡ sum_by (λ p. cond (string_eq v p.0) p.1 0) pairs
 sum_of_rows v [] = refl
 sum_of_rows v (p ∷ pairs) =
     sum_by-cons (of_row (string_bytes v)) (row_of p) (map row_of pairs)
@@ -38,7 +38,7 @@ behind : (key : String Global) (pairs : List (String Global × ℕ)) → AllByRe
 behind key [] all = tt
 behind key (p ∷ pairs) all = (all.0, behind key pairs all.1)
 
-rows_rise : (pairs : List (String Global × ℕ)) → IsStrictlySortedBy string_cmp (keys_of pairs) → Rises (map row_of pairs)
+pub rows_rise : (pairs : List (String Global × ℕ)) → IsStrictlySortedBy string_cmp (keys_of pairs) → Rises (map row_of pairs)
 unfolding IsStrictlySortedBy
 rows_rise [] up = tt
 rows_rise (p ∷ pairs) up = (behind p.0 pairs up.0, rows_rise pairs up.1)

@@ -3,7 +3,9 @@ use Rattle.std.proofs.Common.{◌≡◌, ◌⊎◌, ℕ, ◌+◌, Bool, true, fa
 use Rattle.std.specs.Cmp.Lexicographic.{bytes_decides}
 use Rattle.std.proofs.lemmas.List.Sums.{sum_by-cons}
 use Rattle.hashbag.specs.Occurrences.{count}
+use Rattle.hashbag_words_core.specs.Choice.{shows, shown_count}
 use Rattle.hashbag_words_core.specs.Sorted.{of_row, row_of, times_in}
+use Rattle.hashbag_words_core.specs.declared.choice.Choice.{Choice}
 
 pub sum_of_map : {X Y : Type 0} (f : Y → ℕ) (g : X → Y) (xs : List X) → sum_by f (map g xs) ≡ sum_by (λ x. f (g x)) xs
 sum_of_map f g [] = refl
@@ -77,3 +79,24 @@ same_by strings pairs same text = sym (adds [] strings pairs (λ v. sym (same v)
   where
     none_before : (n : ℕ) → n ≡ 0 + n
     none_before n = omega arith
+
+-- of a list of strings that has each string as often as it is shown of another list
+pub shown_by : (choice : Choice) (before after : List (String Global)) → ((v : String Global) → count string_eq v after ≡ shown_count choice (string_bytes v) (count string_eq v before))
+    → (text : List ℕ) → times_of text after ≡ shown_count choice text (times_of text before)
+shown_by choice before after same text = by_name (named_in text (map once before)) (named_in text (map once after))
+  where
+    none_shown : (b : Bool) (n : ℕ) → n ≡ 0 → n ≡ cond b 0 0
+    none_shown true n none = none
+    none_shown false n none = none
+
+    of_string : ((v : String Global) × (text ≡ string_bytes v)) → times_of text after ≡ shown_count choice text (times_of text before)
+    of_string v =
+        subst (λ (t : List ℕ). times_of t after ≡ shown_count choice t (times_of t before)) (sym v.1)
+        (times_of-string v.0 after ∙ same v.0 ∙ ap (λ (n : ℕ). shown_count choice (string_bytes v.0) n) (sym (times_of-string v.0 before)))
+
+    by_name : Named text (map once before) → Named text (map once after) → times_of text after ≡ shown_count choice text (times_of text before)
+    by_name (inl v) y = of_string v
+    by_name (inr x) (inl v) = of_string v
+    by_name (inr x) (inr y) =
+        sym (times_by-once text after) ∙ none_shown (shows choice (text, 0)) (times_by text (map once after)) y
+        ∙ ap (λ (n : ℕ). shown_count choice text n) (sym x ∙ times_by-once text before)

@@ -1,13 +1,15 @@
 -- Which counts of a bag are shown, and in what order.
-use Rattle.std.specs.Prelude.{◌≡◌, ℕ, Bool, List, take, nat_le, ◌&&◌, if◌then◌else◌, String, string_bytes}
+use Rattle.std.specs.Prelude.{◌≡◌, ℕ, Bool, List, take, nat_le, ◌&&◌, if◌then◌else◌, String}
 use Rattle.std.specs.List.Sorted.{IsStrictlySortedBy}
 use Rattle.std.specs.Map.{keys_of}
 use Rattle.std.specs.String.{string_cmp, string_eq}
+use Rattle.std.specs.Str.{bytes_eq}
 use Rattle.std.specs.Global.{Global}
 use Rattle.hashbag.specs.Bag.{Bag}
 use Rattle.hashbag.specs.Occurrences.{count}
 use Rattle.hashbag.specs.Walks.{IsSetWalkOf}
 use Rattle.hashbag_ops.specs.Order.{rank}
+use Rattle.hashbag_words_core.specs.Counts.{texts_in}
 use Rattle.hashbag_words_core.specs.Shards.{is_shown}
 use Rattle.hashbag_words_core.specs.declared.choice.Choice.{Choice}
 use Rattle.hashbag_words_core.specs.declared.choice.Order.{Order}
@@ -25,7 +27,10 @@ IsShown (Commonest k) bag pairs =
 abbrev pub shows : Choice → List ℕ × ℕ → Bool
 shows choice row = nat_le choice.least row.1 && is_shown choice.shard row.0
 
--- what isn't shown is gone, and all else is as it was
-abbrev pub KeepsShown : {S : Type 0} → Choice → Bag (String Global) S → Bag (String Global) S → Type 0
-KeepsShown choice old new =
-    (v : String Global) → let n = count string_eq v old.items in count string_eq v new.items ≡ (if shows choice (string_bytes v, n) then n else 0)
+-- how often a text is shown that occurs so often: as often, or not at all
+abbrev pub shown_count : Choice → List ℕ → ℕ → ℕ
+shown_count choice text n = if shows choice (text, n) then n else 0
+
+-- a bag has each of these texts that is shown as often as it is in the list, and nothing else
+abbrev pub AreKept : {S : Type 0} → Choice → List (List ℕ) → Bag (String Global) S → Type 0
+AreKept choice texts bag = (text : List ℕ) → count bytes_eq text (texts_in bag) ≡ shown_count choice text (count bytes_eq text texts)

@@ -10,6 +10,7 @@ pub mod RowText
 pub mod Rows
 pub mod Runs
 pub mod Shards
+pub mod Shown
 pub mod Sorted
 pub mod Sources
 pub mod Tokens

@@ -1,5 +1,5 @@
 -- Shards: parts of all tokens, by a hash of the token.
-use Rattle.std.specs.Prelude.{◌≡◌, ℕ, ◌*◌, ◌%◌, Bool, true, List, [], ◌∷◌, nat_eq, nat_lt, ◌&&◌, bit_xor, Option, None, Some}
+use Rattle.std.specs.Prelude.{ℕ, ◌*◌, ◌%◌, Bool, true, List, [], ◌∷◌, nat_eq, nat_lt, ◌&&◌, bit_xor, Option, None, Some}
 use Rattle.hashbag_words_core.specs.declared.shards.Shard.{Shard}
 
 -- one step of FNV-1a: the byte by exclusive or, then the product with the prime, of which 64 bits are kept

@@ -1,5 +1,5 @@
 -- The tokens of a line and of an input: what is counted.
-use Rattle.std.specs.Prelude.{ℕ, Bool, true, false, not, List, [], ◌∷◌, nat_eq, nat_lt, length, drop, map, filter, flat_map, chars, encode_utf8_all, if◌then◌else◌, slice_range}
+use Rattle.std.specs.Prelude.{ℕ, Bool, false, not, List, [], ◌∷◌, nat_eq, nat_lt, length, drop, map, filter, flat_map, chars, encode_utf8_all, if◌then◌else◌, slice_range}
 use Rattle.std.specs.Char.{is_whitespace}
 use Rattle.std.specs.List.{slice_split, starts_with}
 use Rattle.std.specs.Str.{is_utf8}

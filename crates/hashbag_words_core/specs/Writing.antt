@@ -1,6 +1,6 @@
 -- The bytes that are written of rows.
-use Rattle.std.specs.Prelude.{ℕ, ◌^◌, Bool, true, false, List, [], ◌∷◌, ◌++◌, codes, decimal}
-use Rattle.core.specs.Fmt.{format_spec, styled_decimal}
+use Rattle.std.specs.Prelude.{ℕ, ◌-◌, ◌^◌, Bool, true, false, List, [], ◌∷◌, ◌++◌, decimal}
+use Rattle.std.specs.Fmt.{format_spec, styled_decimal}
 use Rattle.json.specs.Print.{print}
 use Rattle.json.specs.Token.{Token, begin_array, end_array, string, number}
 use Rattle.hashbag_words_core.specs.Rows.{row}

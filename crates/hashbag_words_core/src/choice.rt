@@ -1,10 +1,11 @@
 //! The counts that are shown, and their order.
-ghost use Rattle.std.specs.Prelude.{◌≡◌, map, if◌then◌else◌, string_bytes, IfOk};
+ghost use Rattle.std.specs.Prelude.{◌≡◌, ℕ, List, [], map, if◌then◌else◌, string_bytes, IfOk};
 ghost use Rattle.std.specs.List.Sorted.{IsStrictlySortedBy};
 ghost use Rattle.std.specs.Map.{keys_of};
 ghost use Rattle.std.specs.String.{string_cmp, string_eq};
 ghost use Rattle.hashbag.specs.Walks.{IsSetWalkOf, seen};
-ghost use Rattle.hashbag_words_core.specs.Choice.{shows, KeepsShown, IsShown};
+ghost use Rattle.hashbag_words_core.specs.Choice.{shows, AreKept, IsShown};
+ghost use Rattle.hashbag_words_core.specs.Counted.{HaveTogether};
 
 use crate::shards::{Shard, is_shown};
 use crate::sorting::sort_rows;
@@ -50,7 +51,7 @@ impl Choice {
 ///
 /// Reads each token once, and allocates nothing.
 pub fn keep_shown<S: BuildHasher + Drop>(bag: &mut HashBag<String, S>, choice: Choice)
-    ensures { KeepsShown choice bag.old bag.new }
+    ensures { (texts : List (List ℕ)) → HaveTogether [] bag.old texts → AreKept choice texts bag.new }
 {
     bag.retain(
         |token: &String, count: usize| -> usize

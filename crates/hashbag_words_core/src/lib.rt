@@ -21,6 +21,7 @@ pub mod rule;
 pub mod runs;
 pub mod shards;
 pub mod shown_rows;
+pub mod shown_text;
 pub mod sorted_merge;
 pub mod sorting;
 pub mod sources;

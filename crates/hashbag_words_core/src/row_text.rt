@@ -57,7 +57,7 @@ impl<'a> RowText<'a> {
         format: Format,
         rows: Vec<(&'a String, usize)>,
     ) -> Result<RowText<'a>, AllocError>
-        ensures { IfOk result (λ text. bytes_left text ≡ text_of format (map row_of (map seen rows.items))) }
+        ensures { IfOk result (λ text. bytes_left text ≡ text_of format (map row_of (map seen rows.entry.items))) }
     {
         let room = room(longest(&rows));
         let row = Vec::with_capacity(alloc, room)?;

@@ -118,8 +118,8 @@ impl<W: Write> RowWriter<W> {
     pub fn begin(alloc: Global, mut out: W, format: Format) -> io::Result<RowWriter<W>>
     where
         W: Drop,
-        ensures head { IfOk result (λ writer. Appends (W.contents out.entry) (W.contents writer.out) (head_text format)) }
-        ensures none { IfOk result (λ writer. (writer.format ≡ format) × (writer.is_empty ≡ true)) }
+        ensures head { IfOk result (λ writer. Appends (W.contents out) (W.contents writer.out) (head_text format)) }
+        ensures rows { IfOk result (λ writer. (writer.format ≡ format) × (writer.is_empty ≡ true)) }
     {
         out.write_all(format.head())?;
         Ok(RowWriter {

@@ -3,7 +3,7 @@
 //! A row is a line such as `insert_many 2 4 = 3`: a call and what it returns, as `Debug` writes it. Of a call that can fail that is the
 //! value in `Ok`, or else the name of the error. A line such as `[inserts]` names the rows after it, which are on a new bag.
 //!
-//! Each kind of call has a function without a contract of its own. So the proof carries nothing from one call to the next.
+//! Each kind of arguments has a function without a contract of its own. So the proof carries nothing from one call to the next.
 use crate::rows::{failure_text, rows_of};
 use crate::states::{IdentityState, OneState, ParityState};
 use crate::texts::{count, counts, debug_of, halves, is_text, number, values};
@@ -52,24 +52,9 @@ pub fn replace<T: Eq + Hash + Drop, S: BuildHasher + Drop>(
     bag.replace(value)
 }
 
-fn set_limit<S: BuildHasher + Drop>(
-    bag: &mut HashBag<u64, S>,
-    most: usize,
-) -> Result<(), BagError> {
-    bag.set_limit(most)
-}
-
 /// Removes one of a value.
 pub fn remove<S: BuildHasher + Drop>(bag: &mut HashBag<u64, S>, value: u64) -> usize {
     bag.remove(&value)
-}
-
-fn remove_up_to<S: BuildHasher + Drop>(
-    bag: &mut HashBag<u64, S>,
-    value: u64,
-    quantity: usize,
-) -> usize {
-    bag.remove_up_to(&value, quantity)
 }
 
 fn try_take<S: BuildHasher + Drop>(
@@ -83,27 +68,11 @@ fn try_take<S: BuildHasher + Drop>(
     }
 }
 
-fn take_one<S: BuildHasher + Drop>(bag: &mut HashBag<u64, S>, value: u64) -> Result<u64, usize> {
-    bag.take_one(&value)
-}
-
-fn take_all<S: BuildHasher + Drop>(bag: &mut HashBag<u64, S>, value: u64) -> Option<Count> {
-    bag.take_all(&value)
-}
-
 fn get<S: BuildHasher + Drop>(bag: &HashBag<u64, S>, value: u64) -> Option<Count> {
     match bag.get(&value) {
         Some((stored, count)) => Some((*stored, count)),
         None => None,
     }
-}
-
-fn clear<S: BuildHasher + Drop>(bag: &mut HashBag<u64, S>) {
-    bag.clear();
-}
-
-fn finish_carry<S: BuildHasher + Drop>(bag: &mut HashBag<u64, S>) {
-    bag.finish_carry();
 }
 
 // Drops a drain after one item, and returns whether there was one.
@@ -115,14 +84,6 @@ fn drain_one<S: BuildHasher + Drop>(bag: &mut HashBag<u64, S>) -> bool {
 // Returns how many values a drain gives.
 fn drain<S: BuildHasher + Drop>(bag: &mut HashBag<u64, S>) -> usize {
     bag.drain().count()
-}
-
-fn reserve<S: BuildHasher + Drop>(bag: &mut HashBag<u64, S>, n: usize) -> Result<(), BagError> {
-    bag.reserve(n)
-}
-
-fn shrink_to_fit<S: BuildHasher + Drop>(bag: &mut HashBag<u64, S>) -> Result<(), BagError> {
-    bag.shrink_to_fit()
 }
 
 // Returns whether there is room for `n` more values.
@@ -163,21 +124,6 @@ fn raise<S: BuildHasher + Drop>(
         Ok(_) => Ok(()),
         Err(error) => Err(error),
     }
-}
-
-fn or_insert<S: BuildHasher + Drop>(
-    bag: &mut HashBag<u64, S>,
-    value: u64,
-) -> Result<usize, BagError> {
-    bag.entry(value).or_insert()
-}
-
-fn or_insert_many<S: BuildHasher + Drop>(
-    bag: &mut HashBag<u64, S>,
-    value: u64,
-    n: usize,
-) -> Result<usize, BagError> {
-    bag.entry(value).or_insert_many(n)
 }
 
 fn retain_none<S: BuildHasher + Drop>(bag: &mut HashBag<u64, S>) {
@@ -338,11 +284,11 @@ fn with_nothing<S: BuildHasher + Default + Drop>(
         "waiting" => debug_of(alloc, &bag.waiting()),
         "iter.count" => debug_of(alloc, &bag.iter().count()),
         "set_iter.count" => debug_of(alloc, &bag.set_iter().count()),
-        "clear" => debug_of(alloc, &clear(bag)),
-        "finish_carry" => debug_of(alloc, &finish_carry(bag)),
+        "clear" => debug_of(alloc, &bag.clear()),
+        "finish_carry" => debug_of(alloc, &bag.finish_carry()),
         "drain" => debug_of(alloc, &drain(bag)),
         "drain_one" => debug_of(alloc, &drain_one(bag)),
-        "shrink_to_fit" => text_of(alloc, shrink_to_fit(bag)),
+        "shrink_to_fit" => text_of(alloc, bag.shrink_to_fit()),
         "retain_none" => debug_of(alloc, &retain_none(bag)),
         "retain_odd" => debug_of(alloc, &retain_odd(bag)),
         "retain_itself" => debug_of(alloc, &retain_itself(bag)),
@@ -380,16 +326,16 @@ fn with_number<S: BuildHasher + Default + Drop>(
         "replace" => text_of(alloc, replace(bag, value)),
         "remove" => debug_of(alloc, &remove(bag, value)),
         "try_take" => debug_of(alloc, &try_take(bag, value)),
-        "take_one" => debug_of(alloc, &take_one(bag, value)),
-        "take_all" => debug_of(alloc, &take_all(bag, value)),
+        "take_one" => debug_of(alloc, &bag.take_one(&value)),
+        "take_all" => debug_of(alloc, &bag.take_all(&value)),
         "contains" => debug_of(alloc, &bag.contains(&value)),
         "get" => debug_of(alloc, &get(bag, value)),
         "entry" => debug_of(alloc, &entry(bag, value)),
-        "or_insert" => text_of(alloc, or_insert(bag, value)),
+        "or_insert" => text_of(alloc, bag.entry(value).or_insert()),
         "with_capacity" => text_of(alloc, with_capacity(alloc, bag, value as usize)),
         "with_limit" => debug_of(alloc, &with_limit(alloc, bag, value as usize)),
-        "set_limit" => text_of(alloc, set_limit(bag, value as usize)),
-        "reserve" => text_of(alloc, reserve(bag, value as usize)),
+        "set_limit" => text_of(alloc, bag.set_limit(value as usize)),
+        "reserve" => text_of(alloc, bag.reserve(value as usize)),
         "has_room" => debug_of(alloc, &has_room(bag, value as usize)),
         _ => no_call(verb),
     }
@@ -406,10 +352,10 @@ fn with_count<S: BuildHasher + Drop>(
     match verb {
         "insert_many" => text_of(alloc, insert_many(bag, value, n)),
         "set_count" => text_of(alloc, bag.set_count(value, n)),
-        "remove_up_to" => debug_of(alloc, &remove_up_to(bag, value, n)),
+        "remove_up_to" => debug_of(alloc, &bag.remove_up_to(&value, n)),
         "set" => text_of(alloc, set(bag, value, n)),
         "raise" => text_of(alloc, raise(bag, value, n)),
-        "or_insert_many" => text_of(alloc, or_insert_many(bag, value, n)),
+        "or_insert_many" => text_of(alloc, bag.entry(value).or_insert_many(n)),
         _ => no_call(verb),
     }
 }

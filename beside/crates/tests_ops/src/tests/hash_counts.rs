@@ -27,7 +27,11 @@ const PARTS: &str = "
     merge_ref | 5:2 6:1 | 5:3 7:1 | 2 0
     keep_common | 5:2 6:1 7:1 | 5:1 | 0 3
     keep_common | | 5:1 | 0 0
-    take_away | 5:2 6:1 7:1 | 5:1 | 0 3
+    take_away | 5:2 6:1 7:1 | 5:1 | 1 0
+    take_away | 1..=12 | 3:1 13:1 | 2 0
+    take_away | 3:1 13:1 | 1..=12 | 0 2
+    take_away | 5:2 6:1 | 5:1 7:1 | 0 2
+    take_away | 5:2 6:1 | | 0 0
     contains_all | 5:3 6:1 7:1 | 5:1 6:1 | 2 0
     contains_all | | 5:1 6:1 7:1 | 1 0
     contains_all | 5:1 | | 0 0

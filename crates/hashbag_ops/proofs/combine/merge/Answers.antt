@@ -1,13 +1,7 @@
-use Rattle.std.proofs.Common.{ℕ, List, cond, sum_by, sym, ◌∙◌, ap, subst, refl, arith}
+use Rattle.std.proofs.Common.{◌∙◌, ap, refl, arith}
 use Rattle.std.proofs.lemmas.Iterator.Consumers.{YieldsList-from_first}
-use Rattle.std.proofs.lemmas.List.{map-id}
-use Rattle.hashbag.specs.Bag.{occurrences}
-use Rattle.hashbag.specs.Inserts.{InTurn}
-use Rattle.hashbag.proofs.CallerLemmas.{count_extended, items_that_came, pairs_as_they_are}
-use Rattle.hashbag.proofs.InsertLemmas.{all_added, longer_by_numbers}
-use Rattle.hashbag.proofs.OccurrenceLemmas.{count_rearranged}
-use Rattle.hashbag_ops.proofs.Spared.{stays_lacked}
-use Rattle.hashbag_ops.proofs.Sums.{count_written, takes_pairs}
+use Rattle.hashbag_ops.proofs.Spared.{adds_in_turn, in_turn, stays_lacked, summed}
+use Rattle.hashbag_ops.proofs.Sums.{takes_pairs}
 use Rattle.hashbag_ops.proofs.combine.merge.Goals as goal
 
 -- no pair is refused
@@ -22,47 +16,51 @@ unwrap-requires g c =
     c.extend_many.ensures.refused (YieldsList-from_first (λ x. x) (λ s. s) c.into_iter.result refl)
     (c.in_ok-make_room.ensures.room c.into_iter.result walk) (omega (arith, same, limit, total))
 
--- the pairs that came are those of a walk over `from`
 pub returns-clause-counts : goal.returns-clause-counts
 returns-clause-counts g c =
-    let eq = g.T.PartialEq.eq in
-    let laws = g.met.T.Eq.laws in
     let all = rw c.unwrap.ensures at c.extend_many.ensures.all in
     let W = c.into_iter.result in
-    let came = sym (map-id all.items) ∙ items_that_came all.items all.came (YieldsList-from_first (λ x. x) (λ s. s) W refl) in
+    let turn = in_turn g.met.T.Eq.laws W all (YieldsList-from_first (λ x. x) (λ s. s) W refl) in
+    let sum = summed g.met.T.Eq.laws c.args.from c.make_room.new.into c.extend_many.new.self W c.into_iter.ensures.into_iter_gives (adds_in_turn g.met.T.Eq.laws W c.make_room.new.into c.extend_many.new.self all.bag turn) in
     λ v.
-    let whole = count_extended laws v c.make_room.new.into.items all.pairs c.extend_many.new.self (all_added laws all).means in
-    let same = ap (λ (l : List (g.row.T.Denot × ℕ)). sum_by (λ p. cond (eq v p.0) p.1 0) l) (pairs_as_they_are all.items all.pairs all.went ∙ came) in
-    let written = count_written laws v W in
-    let walked = count_rearranged laws v (occurrences W) c.args.from.items c.into_iter.ensures.into_iter_gives.means in
+    let whole = sum.counts v in
     let kept = c.in_ok-make_room.ensures.counts v in
-    omega (arith, whole, same, written, walked, kept)
+    omega (arith, whole, kept)
 
 pub returns-clause-len : goal.returns-clause-len
 returns-clause-len g c =
     let all = rw c.unwrap.ensures at c.extend_many.ensures.all in
-    let long = longer_by_numbers all (λ p. p.1) (λ x p is. ap (λ (q : g.row.T.Denot × ℕ). q.1) is) in
-    let came = ap (λ (l : List (g.row.T.Denot × ℕ)). sum_by (λ p. p.1) l) (sym (map-id all.items) ∙ items_that_came all.items all.came (YieldsList-from_first (λ x. x) (λ s. s) c.into_iter.result refl)) in
-    let total = c.into_iter.ensures.into_iter_gives.total in
-    let same = c.in_ok-make_room.ensures.len in
-    omega (arith, long, came, total, same)
+    let W = c.into_iter.result in
+    let turn = in_turn g.met.T.Eq.laws W all (YieldsList-from_first (λ x. x) (λ s. s) W refl) in
+    let sum = summed g.met.T.Eq.laws c.args.from c.make_room.new.into c.extend_many.new.self W c.into_iter.ensures.into_iter_gives (adds_in_turn g.met.T.Eq.laws W c.make_room.new.into c.extend_many.new.self all.bag turn) in
+    let whole = sum.len in
+    let kept = c.in_ok-make_room.ensures.len in
+    omega (arith, whole, kept)
 
 pub returns-clause-limit : goal.returns-clause-limit
-returns-clause-limit g c = (all_added g.met.T.Eq.laws (rw c.unwrap.ensures at c.extend_many.ensures.all)).limit ∙ c.in_ok-make_room.ensures.limit
+returns-clause-limit g c =
+    let all = rw c.unwrap.ensures at c.extend_many.ensures.all in
+    let W = c.into_iter.result in
+    let turn = in_turn g.met.T.Eq.laws W all (YieldsList-from_first (λ x. x) (λ s. s) W refl) in
+    let sum = summed g.met.T.Eq.laws c.args.from c.make_room.new.into c.extend_many.new.self W c.into_iter.ensures.into_iter_gives (adds_in_turn g.met.T.Eq.laws W c.make_room.new.into c.extend_many.new.self all.bag turn) in
+    sum.limit ∙ c.in_ok-make_room.ensures.limit
 
 pub returns-clause-hasher : goal.returns-clause-hasher
-returns-clause-hasher g c = (all_added g.met.T.Eq.laws (rw c.unwrap.ensures at c.extend_many.ensures.all)).hasher ∙ c.in_ok-make_room.ensures.hasher
+returns-clause-hasher g c =
+    let all = rw c.unwrap.ensures at c.extend_many.ensures.all in
+    let W = c.into_iter.result in
+    let turn = in_turn g.met.T.Eq.laws W all (YieldsList-from_first (λ x. x) (λ s. s) W refl) in
+    let sum = summed g.met.T.Eq.laws c.args.from c.make_room.new.into c.extend_many.new.self W c.into_iter.ensures.into_iter_gives (adds_in_turn g.met.T.Eq.laws W c.make_room.new.into c.extend_many.new.self all.bag turn) in
+    sum.hasher ∙ c.in_ok-make_room.ensures.hasher
 
 -- all pairs that came had room
 pub returns-clause-slots : goal.returns-clause-slots
 returns-clause-slots g c =
     let all = rw c.unwrap.ensures at c.extend_many.ensures.all in
     let W = c.into_iter.result in
-    let walk = c.into_iter.ensures.into_iter_gives in
-    let pairs = pairs_as_they_are all.items all.pairs all.went ∙ sym (map-id all.items) ∙ items_that_came all.items all.came (YieldsList-from_first (λ x. x) (λ s. s) W refl) in
+    let turn = in_turn g.met.T.Eq.laws W all (YieldsList-from_first (λ x. x) (λ s. s) W refl) in
     let stays = stays_lacked g.met.T.Eq.laws c.args.into.now.items W c.make_room.new.into c.extend_many.new.self
-    (λ v some. let kept = c.in_ok-make_room.ensures.counts v in omega (arith, kept, some))
-    (subst (λ l. InTurn g.T.PartialEq.eq l c.make_room.new.into c.extend_many.new.self) pairs all.turn) (c.in_ok-make_room.ensures.room W walk) in
+    (λ v some. let kept = c.in_ok-make_room.ensures.counts v in omega (arith, kept, some)) turn (c.in_ok-make_room.ensures.room W c.into_iter.ensures.into_iter_gives) in
     let same = stays.slots in
     let more = c.in_ok-make_room.ensures.slots in
     omega (arith, same, more)
@@ -71,9 +69,8 @@ pub returns-clause-unbuilt : goal.returns-clause-unbuilt
 returns-clause-unbuilt g c = λ enough.
     let all = rw c.unwrap.ensures at c.extend_many.ensures.all in
     let W = c.into_iter.result in
-    let walk = c.into_iter.ensures.into_iter_gives in
-    let pairs = pairs_as_they_are all.items all.pairs all.went ∙ sym (map-id all.items) ∙ items_that_came all.items all.came (YieldsList-from_first (λ x. x) (λ s. s) W refl) in
+    let turn = in_turn g.met.T.Eq.laws W all (YieldsList-from_first (λ x. x) (λ s. s) W refl) in
     let stays = stays_lacked g.met.T.Eq.laws c.args.into.now.items W c.make_room.new.into c.extend_many.new.self
-    (λ v some. let kept = c.in_ok-make_room.ensures.counts v in omega (arith, kept, some))
-    (subst (λ l. InTurn g.T.PartialEq.eq l c.make_room.new.into c.extend_many.new.self) pairs all.turn) (c.in_ok-make_room.ensures.room W walk) in
+    (λ v some. let kept = c.in_ok-make_room.ensures.counts v in omega (arith, kept, some)) turn (c.in_ok-make_room.ensures.room W c.into_iter.ensures.into_iter_gives) in
+    let walk = c.into_iter.ensures.into_iter_gives in
     stays.built ∙ ap (λ b. b.tables.built) (c.in_ok-make_room.ensures.enough W walk (enough W walk))

@@ -1,4 +1,4 @@
-use Rattle.std.proofs.Common.{◌≡◌, ℕ, List, String, Global, Result, Ok, Err, IfOk, map, All, sym, subst}
+use Rattle.std.proofs.Common.{◌≡◌, ℕ, List, String, Global, Result, Ok, Err, IfOk, map, sym, subst}
 use Rattle.std.specs.Borrow.{Bor}
 use Rattle.std.specs.Global.{Vec}
 use Rattle.std.specs.List.Sorted.{IsPermutation, IsSorted}

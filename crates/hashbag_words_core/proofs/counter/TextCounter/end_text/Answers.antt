@@ -1,6 +1,5 @@
 use Rattle.std.proofs.Common.{◌++◌}
 use Rattle.hashbag_words_core.specs.Tokens.{tokens_of}
-use Rattle.hashbag_words_core.specs.Counted.{HaveTogether}
 use Rattle.hashbag_words_core.proofs.CountedLemmas.{Counted-nothing, told_same}
 use Rattle.hashbag_words_core.proofs.counter.TextCounter.end_text.Goals as goal
 
