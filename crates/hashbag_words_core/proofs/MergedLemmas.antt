@@ -22,6 +22,10 @@ pub left_here : (sources : List Source) (mores : ℕ → List ℕ) (rows : List 
     → all_with source (mores i) ≡ Some (get_or rows i [])
 left_here sources mores rows i source within here are = ap (λ (s : Source). all_with s (mores i)) here ∙ are.each i within source
 
+-- the bytes that may come next to it
+pub may_here : (sources : List Source) (mores : ℕ → List ℕ) (i : ℕ) (source : Source) → i < length sources → source ≡ get_or sources i source → MayComeTo sources mores → MayCome source.rows (mores i)
+may_here sources mores i source within here may = subst (λ (s : Source). MayCome s.rows (mores i)) (sym here) (may i within source)
+
 -- other bytes come to it, or it has other rows left
 pub left_put : (sources : List Source) (i : ℕ) (new : Source) (mores others : ℕ → List ℕ) (rows left : List (List (List ℕ × ℕ))) → i < length sources → length left ≡ length rows
     → all_with new (others i) ≡ Some (get_or left i []) → ((k : ℕ) → (k ≡ i → ⊥) → others k ≡ mores k) → ((k : ℕ) → (k ≡ i → ⊥) → get_or left k [] ≡ get_or rows k [])
@@ -187,10 +191,17 @@ module _ (given : List (Kind × List ℕ)) (sources new : List Source) (out : Li
       let took = takes mores (may mores come) old.0 old.1 in
       so_far_done inputs old.0 out held before so.fits took.0 old.2
 
+-- the same of what is held, the total and the rows under other names
+pub so_far_as : (given : List (Kind × List ℕ)) (sources : List Source) (held same_held : Option (String Global × ℕ)) (total same_total : ℕ) (out same_out : List (List ℕ × ℕ)) → same_held ≡ held → same_total ≡ total → same_out ≡ out
+    → IsSoFar given sources held total out → IsSoFar given sources same_held same_total same_out
+so_far_as given sources held same_held total same_total out same_out h t o so =
+    subst (λ (x : Option (String Global × ℕ)). IsSoFar given sources x same_total same_out) (sym h)
+    (subst (λ (n : ℕ). IsSoFar given sources held n same_out) (sym t) (subst (λ (l : List (List ℕ × ℕ)). IsSoFar given sources held total l) (sym o) so))
+
 -- ---- bytes that are given
 
 -- what comes to each source, if these bytes come to one of them first
-with_block : ℕ → List ℕ → (ℕ → List ℕ) → ℕ → List ℕ
+abbrev with_block : ℕ → List ℕ → (ℕ → List ℕ) → ℕ → List ℕ
 with_block i block mores k = cond (eqb k i) (block ++ mores k) (mores k)
 
 block_here : (i : ℕ) (block : List ℕ) (mores : ℕ → List ℕ) → with_block i block mores i ≡ block ++ mores i

@@ -81,9 +81,9 @@ gives_none (Some rows) = refl
 
 -- of known rows none is, since bad lines are refused
 pub none_passed : (form : RowForm) (bad_lines : BadLines) (marked : Bool) (bytes : List ℕ) → (form ≡ Tsv → bad_lines ≡ Refused → ⊥) → IsSome (rows_left form bad_lines marked bytes) → ⊥
-none_passed Tsv Refused marked bytes no known = no refl refl
-none_passed Tsv Skipped marked bytes no known = absurd (cc)
-none_passed Uniq bad_lines marked bytes no known = absurd (cc)
+none_passed Tsv Refused marked bytes never known = never refl refl
+none_passed Tsv Skipped marked bytes never known = absurd (cc)
+none_passed Uniq bad_lines marked bytes never known = absurd (cc)
 
 pub known_refused : (form : RowForm) (bad_lines : BadLines) (marked : Bool) (bytes : List ℕ) → IsSome (rows_left form bad_lines marked bytes) → bad_lines ≡ Refused
 known_refused Tsv Refused marked bytes known = refl
