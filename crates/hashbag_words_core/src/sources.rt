@@ -56,7 +56,7 @@ impl Source {
     ///
     /// The fault of [`RowSource::next_row`], and the rows, of which no clause says what is left.
     pub fn open(mut rows: RowSource) -> Result<Opened, (Fault, RowSource)>
-        ensures { IfOk result (λ opened. (kind : _) → (text : List ℕ) → Holds kind text rows.entry → OpensWith kind text opened) }
+        ensures { IfOk result (λ opened. (kind : _) → (text : List ℕ) → Holds kind text rows → OpensWith kind text opened) }
     {
         match rows.next_row() {
             Ok(Next::Row(row)) => {
