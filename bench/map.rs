@@ -163,8 +163,8 @@ fn growth(many: u64) {
     );
 }
 
-// The ten commonest of many values.
-fn commonest(many: u64) {
+// The ten most common of many values.
+fn most_common(many: u64) {
     let mut map = Map::default();
     for i in 0..many {
         put_many(&mut map, mixed(i), (mixed(i ^ many) % 1000) as usize + 1);
@@ -206,7 +206,7 @@ fn main() {
         "growth" => growth(many),
         "two" => two(many, times),
         "copy" => copies(many),
-        "common" => commonest(many),
+        "common" => most_common(many),
         "texts" => texts(many),
         _ => panic!("not measured: {what}"),
     });
