@@ -237,7 +237,10 @@ fn are_skipped(alloc: Global, files: &str, wanted: &[u64], most: usize) -> Resul
     let Ok(mut texts) = texts_of(alloc, file_of(RowForm::Tsv, true), &texts, most)? else {
         return Err(Fail::new("files aren't opened"));
     };
-    if texts.merge_into(alloc, &mut TopRows::new(alloc, 1))?.is_some() {
+    if texts
+        .merge_into(alloc, &mut TopRows::new(alloc, 1))?
+        .is_some()
+    {
         return Err(Fail::new("files aren't merged"));
     }
     for (source, wanted) in texts.merger.sources().iter().zip(wanted.iter()) {
