@@ -1,45 +1,107 @@
 //! Sources of rows that rise, which are merged at once.
 use crate::failure::Failure;
-use crate::input::{Input, plural, said};
+use crate::input::{Input, plural, read_block, said};
 use crate::runs::BUFFER;
 use hashbag::BagError;
 use hashbag_words_core::errors::Fault;
-use hashbag_words_core::lines::BadLines;
-use hashbag_words_core::row_reader::RowReader;
-use hashbag_words_core::rows::RowForm;
-use hashbag_words_core::sorted_merge::{Sink, Stop, merge_rows};
-use hashbag_words_core::sources::Source;
+use hashbag_words_core::row_source::{Kind, RowSource};
+use hashbag_words_core::sorted_merge::{Merged, Merger, Sink, Stop};
+use hashbag_words_core::sources::{Opened, Source};
 use std::fs::File;
-use std::io::BufReader;
+use std::mem;
 
-type Reader = RowReader<BufReader<Input>>;
+// A file, and what messages call it.
+#[derive(Drop)]
+struct Named<'a> {
+    name: &'a str,
+    file: Input,
+}
 
-/// Sources of rows that rise, and their names.
+/// Sources of rows that rise, each with its file.
 #[derive(Drop)]
 pub struct Batch<'s, 'a> {
     rt: &'s HostRuntime,
-    sources: Vec<Source<Reader>>,
-    names: Vec<&'a str>,
+    sources: Vec<Source>,
+    files: Vec<Named<'a>>,
+    // What was read last of a file.
+    block: Vec<u8>,
+}
+
+// Returns why a sink took no more rows. What it takes goes into a file of that folder.
+fn sink_failure<'a>(folder: &'a str, fault: Fault) -> Failure<'a> {
+    match fault {
+        Fault::Read(error) => Failure::of_file(folder, error),
+        Fault::Bag(BagError::TooMany) => Failure::TooManyInAll { name: folder },
+        _ => Failure::NoMemoryLeft,
+    }
+}
+
+// Reads the next block of a file, and gives it to a source that has no row yet.
+fn begin<'a>(
+    file: &mut Named<'a>,
+    block: &mut [u8],
+    rows: &mut RowSource,
+) -> Result<(), Failure<'a>> {
+    match read_block(&mut file.file, block) {
+        Ok(0) => rows.end(),
+        Ok(n) => rows.give(&block[..n])?,
+        Err(error) => return Err(Failure::of_file(file.name, error)),
+    }
+    Ok(())
+}
+
+// Reads the next block of the file of a source that is merged, and gives it to that source.
+fn feed<'a>(
+    file: &mut Named<'a>,
+    block: &mut [u8],
+    merger: &mut Merger,
+    i: usize,
+) -> Result<(), Failure<'a>> {
+    match read_block(&mut file.file, block) {
+        Ok(0) => merger.end(i),
+        Ok(n) => merger.give(i, &block[..n])?,
+        Err(error) => return Err(Failure::of_file(file.name, error)),
+    }
+    Ok(())
 }
 
 impl<'s, 'a> Batch<'s, 'a> {
     /// Returns no sources.
-    pub fn new(rt: &'s HostRuntime) -> Batch<'s, 'a> {
+    ///
+    /// # Errors
+    ///
+    /// An allocation fails.
+    pub fn new(rt: &'s HostRuntime) -> Result<Batch<'s, 'a>, Failure<'a>> {
         let alloc = rt.alloc();
-        Batch {
+        Ok(Batch {
             rt,
             sources: Vec::new(alloc),
-            names: Vec::new(alloc),
-        }
+            files: Vec::new(alloc),
+            block: vec![in alloc; 0u8; BUFFER]?,
+        })
     }
 
-    // Adds a source, whose first row is read.
-    fn push(&mut self, name: &'a str, rows: Reader) -> Result<(), Failure<'a>> {
-        let source = match Source::open(rows) {
-            Ok(source) => source,
-            Err((fault, rows)) => return Err(Failure::of_input(name, rows.reading().line, fault)),
-        };
-        if self.sources.push(source).is_err() || self.names.push(name).is_err() {
+    // Reads a file as far as its first row.
+    fn open(&mut self, file: &mut Named<'a>, kind: Kind) -> Result<Source, Failure<'a>> {
+        let mut rows = RowSource::new(self.rt.alloc(), kind);
+        for _ in 0..u64::MAX {
+            rows = match Source::open(rows) {
+                Ok(Opened::Ready(source)) => return Ok(source),
+                Ok(Opened::Wants(rows)) => rows,
+                Err((fault, rows)) => {
+                    return Err(Failure::of_input(file.name, rows.reading().line, fault));
+                }
+            };
+            begin(file, self.block.as_mut_slice(), &mut rows)?;
+        }
+        Err(Failure::NoMemoryLeft)
+    }
+
+    // Adds a source.
+    fn push(&mut self, name: &'a str, file: Input, kind: Kind) -> Result<(), Failure<'a>> {
+        let mut file = Named { name, file };
+        let source = self.open(&mut file, kind)?;
+        if self.sources.push(source).is_err() || self.files.push(file).is_err() {
             return Err(Failure::NoMemoryLeft);
         }
         Ok(())
@@ -47,61 +109,62 @@ impl<'s, 'a> Batch<'s, 'a> {
 
     /// Adds a run, which is in a temporary file of that folder.
     pub fn push_run(&mut self, folder: &'a str, file: File) -> Result<(), Failure<'a>> {
-        let alloc = self.rt.alloc();
-        match BufReader::with_capacity(alloc, BUFFER, Input::of_file(file)) {
-            Ok(input) => self.push(folder, RowReader::of_run(alloc, input)),
-            Err(error) => Err(Failure::of_file(folder, error)),
-        }
+        self.push(folder, Input::of_file(file), Kind::Run)
     }
 
     /// Adds the file of counts of that name.
-    pub fn push_file(
-        &mut self,
-        name: &'a str,
-        form: RowForm,
-        bad_lines: BadLines,
-    ) -> Result<(), Failure<'a>> {
-        let alloc = self.rt.alloc();
-        let opened = match Input::open(self.rt, name) {
-            Ok(input) => BufReader::with_capacity(alloc, BUFFER, input),
-            Err(error) => Err(error),
-        };
-        match opened {
-            Ok(input) => self.push(
-                said(name),
-                RowReader::of_file(alloc, form, input, bad_lines),
-            ),
+    pub fn push_file(&mut self, name: &'a str, kind: Kind) -> Result<(), Failure<'a>> {
+        match Input::open(self.rt, name) {
+            Ok(file) => self.push(said(name), file, kind),
             Err(error) => Err(Failure::of_file(said(name), error)),
         }
     }
 
-    // Returns why a merge ended early. What it put went into a file of that folder.
-    fn failure(&self, folder: &'a str, stop: Stop) -> Failure<'a> {
+    // Returns why a merge ended early. What it gave went into a file of that folder.
+    fn failure(&self, folder: &'a str, merger: &Merger, stop: Stop) -> Failure<'a> {
         match stop {
-            Stop::Source(i, fault) => match (self.names.get(i), self.sources.get(i)) {
-                (Some(name), Some(source)) => {
-                    Failure::of_input(*name, source.rows().reading().line, fault)
+            Stop::Source(i, fault) => match (self.files.get(i), merger.sources().get(i)) {
+                (Some(file), Some(source)) => {
+                    Failure::of_input(file.name, source.rows().reading().line, fault)
                 }
                 _ => Failure::NoMemoryLeft,
             },
-            Stop::Sink(Fault::Read(error)) => Failure::of_file(folder, error),
-            Stop::Sink(Fault::Bag(BagError::TooMany)) => Failure::TooManyInAll { name: folder },
-            Stop::Sink(_) => Failure::NoMemoryLeft,
+            Stop::TooMany => Failure::TooManyInAll { name: folder },
+        }
+    }
+
+    // Reports how many bad lines of each source were skipped.
+    fn report(&self, merger: &Merger) {
+        for (file, source) in self.files.iter().zip(merger.sources().iter()) {
+            let skipped = source.rows().reading().skipped;
+            if skipped > 0 {
+                let name = file.name;
+                let s = plural(&skipped);
+                let _ = eprintln!(self.rt; "hashbag_words: {name}: {skipped} bad line{s} skipped");
+            }
         }
     }
 
     /// Merges the rows of all sources, and reports how many bad lines of each were skipped.
     pub fn merge<K: Sink>(&mut self, folder: &'a str, sink: &mut K) -> Result<(), Failure<'a>> {
-        if let Err(stop) = merge_rows(&mut self.sources, sink) {
-            return Err(self.failure(folder, stop));
-        }
-        for (name, source) in self.names.iter().zip(self.sources.iter()) {
-            let skipped = source.rows().reading().skipped;
-            if skipped > 0 {
-                let s = plural(&skipped);
-                let _ = eprintln!(self.rt; "hashbag_words: {name}: {skipped} bad line{s} skipped");
+        let none = Vec::new(self.rt.alloc());
+        let mut merger = Merger::new(mem::replace(&mut self.sources, none));
+        for _ in 0..u64::MAX {
+            match merger.next_row() {
+                Ok(Merged::Row((token, count))) => {
+                    if let Err(fault) = sink.put(token, count) {
+                        return Err(sink_failure(folder, fault));
+                    }
+                }
+                Ok(Merged::Wants(i)) => match self.files.get_mut(i) {
+                    Some(file) => feed(file, self.block.as_mut_slice(), &mut merger, i)?,
+                    None => return Err(Failure::NoMemoryLeft),
+                },
+                Ok(Merged::End) => break,
+                Err(stop) => return Err(self.failure(folder, &merger, stop)),
             }
         }
+        self.report(&merger);
         Ok(())
     }
 }

@@ -121,7 +121,7 @@ impl<'s, 'a> Runs<'s, 'a> {
 
     // Takes the runs of that level, which are the last ones, and merges them.
     fn merged(&mut self, level: u32) -> Result<File, Failure<'a>> {
-        let mut batch = Batch::new(self.rt);
+        let mut batch = Batch::new(self.rt)?;
         for _run in 0..FAN {
             match self.runs.pop() {
                 Some(run) if run.level == level => batch.push_run(self.folder, run.file)?,
@@ -134,7 +134,7 @@ impl<'s, 'a> Runs<'s, 'a> {
     /// Returns all runs as sources of one merge.
     pub fn into_batch(self) -> Result<Batch<'s, 'a>, Failure<'a>> {
         let Runs { rt, folder, runs } = self;
-        let mut batch = Batch::new(rt);
+        let mut batch = Batch::new(rt)?;
         for run in runs {
             batch.push_run(folder, run.file)?;
         }

@@ -5,6 +5,7 @@ use crate::output::Made;
 use crate::runs::{FAN, Runs, Shape, merge_to_file, merge_to_run};
 use crate::settings::Settings;
 use hashbag_words_core::choice::Order;
+use hashbag_words_core::row_source::Kind;
 use hashbag_words_core::shown_rows::{ShownRows, TopRows};
 use hashbag_words_core::writing::{Format, RowWriter};
 use std::io;
@@ -66,14 +67,15 @@ pub fn show_sorted<'a>(
     let Some(form) = settings.rows else {
         return Err(Failure::SortedTree);
     };
+    let kind = Kind::File(form, settings.bad_lines);
     let mut runs = Runs::new(rt, folder);
-    let mut batch = Batch::new(rt);
+    let mut batch = Batch::new(rt)?;
     for (i, name) in names.iter().enumerate() {
         if i > 0 && i % FAN == 0 {
             runs.add(merge_to_run(rt, folder, &mut batch)?)?;
-            batch = Batch::new(rt);
+            batch = Batch::new(rt)?;
         }
-        batch.push_file(*name, form, settings.bad_lines)?;
+        batch.push_file(*name, kind)?;
     }
     if runs.is_empty() {
         return show(rt, settings, folder, batch);

@@ -2,6 +2,7 @@ pub mod CountLemmas
 pub mod CountedLemmas
 pub mod LineLemmas
 pub mod MatchLemmas
+pub mod MergedLemmas
 pub mod MergeLemmas
 pub mod PrefixLemmas
 pub mod ReadLemmas

@@ -1,22 +1,22 @@
--- Lines of runs that are read one by one.
-use Rattle.std.proofs.Common.{◌≡◌, ◌≢◌, ℕ, suc, ◌+◌, ◌<◌, ◌==◌, Bool, true, false, cond, not, List, [], ◌∷◌, ◌++◌, length, get_or, take, drop, filter_map, String, Global, Option, None, Some, option_map, IfSome, IsSome, refl, sym, ◌∙◌, ap, subst, arith, ne_eqb}
-use Rattle.std.specs.Io.BufRead.{first_line, drop_through}
+-- Lines of rows that are read one by one.
+use Rattle.std.proofs.Common.{◌≡◌, ◌≢◌, ℕ, suc, ◌+◌, ◌<◌, ◌==◌, Bool, true, false, cond, not, List, [], ◌∷◌, ◌++◌, length, get_or, take, drop, filter_map, String, Global, Option, None, Some, option_map, IsSome, refl, sym, ◌∙◌, ap, subst, arith, ne_eqb}
 use Rattle.std.specs.List.{before_first, after_first, cons_option, position_or_len}
-use Rattle.std.specs.Str.Lines.{lines}
+use Rattle.std.specs.Str.Lines.{strip_carriage_return}
 use Rattle.std.specs.Str.Parse.{digits_value, without_leading_plus}
 use Rattle.std.proofs.Math.Seq.{take-append_seam, drop-append-add}
-use Rattle.hashbag_words_core.specs.Met.{Meets}
-use Rattle.hashbag_words_core.specs.Reading.{ReadsLine, ReadsToEnd}
+use Rattle.hashbag_words_core.specs.Counted.{NoLineFeed}
 use Rattle.hashbag_words_core.specs.Rows.{unescaped, IsLineOf}
-use Rattle.hashbag_words_core.specs.Runs.{read_as, rows_in, rows_of_file, rows_left, unmarked}
-use Rattle.hashbag_words_core.specs.Sorted.{row_of, GivesRow}
+use Rattle.hashbag_words_core.specs.Runs.{read_as, rows_in, rows_left, unmarked}
+use Rattle.hashbag_words_core.specs.Sorted.{row_of}
+use Rattle.hashbag_words_core.specs.Sources.{Gives}
 use Rattle.hashbag_words_core.specs.Tokens.{without_mark}
 use Rattle.hashbag_words_core.specs.declared.lines.BadLines.{BadLines}
 use Rattle.hashbag_words_core.specs.declared.lines.BadLines.TheVariants.{Refused, Skipped}
-use Rattle.hashbag_words_core.specs.declared.row_reader.Met.TheVariants.{Passed}
+use Rattle.hashbag_words_core.specs.declared.row_source.Next.{Next}
+use Rattle.hashbag_words_core.specs.declared.row_source.Next.TheVariants.{Row, Wants, End}
 use Rattle.hashbag_words_core.specs.declared.rows.RowForm.{RowForm}
 use Rattle.hashbag_words_core.specs.declared.rows.RowForm.TheVariants.{Tsv, Uniq}
-use Rattle.hashbag_words_core.proofs.LineLemmas.{lines-first}
+use Rattle.hashbag_words_core.proofs.LineLemmas.{lines-cut}
 
 one_more : (n : ℕ) → 1 + n ≡ suc n
 one_more n = omega arith
@@ -41,56 +41,70 @@ read_as-line line token count is =
     ∙ ap (λ (l : List ℕ). Some (token, digits_value 10 (without_leading_plus l))) back
     ∙ ap (λ (n : ℕ). Some (token, n)) is.number.value
 
--- the rows of a file whose first line is a row
-pub rows_in-first : (bytes : List ℕ) (row : List ℕ × ℕ) → 0 < length bytes → read_as (first_line bytes) ≡ Some row → rows_in bytes ≡ row ∷ rows_in (drop_through 10 bytes)
-rows_in-first bytes row some is =
-    ap (filter_map read_as) (lines-first bytes some)
-    ∙ first (first_line bytes) (lines (drop_through 10 bytes)) is
-  where
-    first : (line : List ℕ) (more : List (List ℕ)) → read_as line ≡ Some row → filter_map read_as (line ∷ more) ≡ row ∷ filter_map read_as more
-    first line more is = ap (λ (o : Option (List ℕ × ℕ)). cons_option o (filter_map read_as more)) is
-
--- the rows of a file whose first line is a row, perhaps with a byte order mark at its beginning
-rows_of_file-first : (bytes : List ℕ) (row : List ℕ × ℕ) → 0 < length bytes → read_as (without_mark (first_line bytes)) ≡ Some row
-    → rows_of_file bytes ≡ row ∷ rows_in (drop_through 10 bytes)
-rows_of_file-first bytes row some is =
-    ap (λ (all : List (List ℕ)). filter_map read_as (unmarked all)) (lines-first bytes some)
-    ∙ ap (λ (o : Option (List ℕ × ℕ)). cons_option o (rows_in (drop_through 10 bytes))) is
+-- ---- the first line of bytes that are left
 
 -- what a line has behind the mark that it may have
 abbrev pub marked_line : Bool → List ℕ → List ℕ
 marked_line true line = without_mark line
 marked_line false line = line
 
--- a reader gave the row of a line
-pub gives_row : (form : RowForm) (bad_lines : BadLines) (marked : Bool) (old new : Option (List ℕ)) (line : List ℕ) (row : String Global × ℕ)
-    → IfSome old (λ bytes. ReadsLine true bytes line new) → (form ≡ Tsv → bad_lines ≡ Refused → read_as (marked_line marked line) ≡ Some (row_of row))
-    → GivesRow (rows_left form bad_lines marked old) (Some row) (rows_left form bad_lines false new)
-gives_row Tsv Refused false None new line row reads is = tt
-gives_row Tsv Refused false (Some bytes) new line row reads is =
-    (rows_in (drop_through 10 bytes), rows_in-first bytes (row_of row) reads.0 (ap read_as (sym reads.1) ∙ is refl refl), ap (option_map rows_in) reads.2)
-gives_row Tsv Refused true None new line row reads is = tt
-gives_row Tsv Refused true (Some bytes) new line row reads is = (
-  rows_in (drop_through 10 bytes),
-  rows_of_file-first bytes (row_of row) reads.0 (ap (λ (l : List ℕ). read_as (without_mark l)) (sym reads.1) ∙ is refl refl),
-  ap (option_map rows_in) reads.2,
+-- it was taken as a row
+pub gives_row : (form : RowForm) (bad_lines : BadLines) (marked : Bool) (front rest : List ℕ) (row : String Global × ℕ) → NoLineFeed front
+    → (form ≡ Tsv → bad_lines ≡ Refused → read_as (marked_line marked (strip_carriage_return front)) ≡ Some (row_of row))
+    → Gives (rows_left form bad_lines marked (front ++ 10 ∷ rest)) (Row row) (rows_left form bad_lines false rest)
+gives_row Tsv Refused false front rest row none is = (
+  rows_in rest,
+  ap (filter_map read_as) (lines-cut front rest none) ∙ ap (λ (o : Option (List ℕ × ℕ)). cons_option o (rows_in rest)) (is refl refl),
+  refl,
 )
-gives_row Tsv Skipped marked old new line row reads is = tt
-gives_row Uniq bad_lines marked old new line row reads is = tt
+gives_row Tsv Refused true front rest row none is = (
+  rows_in rest,
+  ap (λ (all : List (List ℕ)). filter_map read_as (unmarked all)) (lines-cut front rest none) ∙ ap (λ (o : Option (List ℕ × ℕ)). cons_option o (rows_in rest)) (is refl refl),
+  refl,
+)
+gives_row Tsv Skipped marked front rest row none is = tt
+gives_row Uniq bad_lines marked front rest row none is = tt
 
--- ---- the bytes that are left
+-- none is left at the end
+pub gives_end : (form : RowForm) (bad_lines : BadLines) (marked : Bool) → Gives (rows_left form bad_lines marked []) End (rows_left form bad_lines marked [])
+gives_end Tsv Refused false = (refl, refl)
+gives_end Tsv Refused true = (refl, refl)
+gives_end Tsv Skipped marked = tt
+gives_end Uniq bad_lines marked = tt
 
--- known rows are not passed over
-pub none_passed : (old new : Option (List (List ℕ × ℕ))) → Meets old Passed new → IsSome old → ⊥
-none_passed None new meets known = absurd (cc)
-none_passed (Some rows) new meets known = meets
+-- nothing was taken
+pub gives_none : (left : Option (List (List ℕ × ℕ))) → Gives left Wants left
+gives_none None = tt
+gives_none (Some rows) = refl
 
--- known bytes are known after a line
-pub known_after : (old new : Option (List ℕ)) (line : List ℕ) → IfSome old (λ bytes. ReadsLine true bytes line new) → IsSome old → IsSome new
-known_after None new line reads known = absurd (cc)
-known_after (Some bytes) new line reads known = subst (λ (o : Option (List ℕ)). IsSome o) (sym reads.2) refl
+-- ---- lines that are passed over
 
--- none are left where there was no line
-pub none_after : (old new : Option (List ℕ)) (line : List ℕ) → IfSome old (λ bytes. ReadsLine false bytes line new) → ReadsToEnd old new
-none_after None new line reads known = absurd (cc)
-none_after (Some bytes) new line reads known = reads.1
+-- of known rows none is, since bad lines are refused
+pub none_passed : (form : RowForm) (bad_lines : BadLines) (marked : Bool) (bytes : List ℕ) → (form ≡ Tsv → bad_lines ≡ Refused → ⊥) → IsSome (rows_left form bad_lines marked bytes) → ⊥
+none_passed Tsv Refused marked bytes never known = never refl refl
+none_passed Tsv Skipped marked bytes never known = absurd (cc)
+none_passed Uniq bad_lines marked bytes never known = absurd (cc)
+
+pub known_refused : (form : RowForm) (bad_lines : BadLines) (marked : Bool) (bytes : List ℕ) → IsSome (rows_left form bad_lines marked bytes) → bad_lines ≡ Refused
+known_refused Tsv Refused marked bytes known = refl
+known_refused Tsv Skipped marked bytes known = absurd (cc)
+known_refused Uniq bad_lines marked bytes known = absurd (cc)
+
+-- ---- rows that are known stay so, as far as none is taken
+
+-- what is left now is what was left, if that is known
+abbrev pub Stays : Option (List (List ℕ × ℕ)) → Option (List (List ℕ × ℕ)) → Type 0
+Stays old new = IsSome old → new ≡ old
+
+-- what comes behind lines that were passed over
+pub Gives-later : (old middle : Option (List (List ℕ × ℕ))) (next : Next) (new : Option (List (List ℕ × ℕ))) → Stays old middle → Gives middle next new → Gives old next new
+Gives-later None middle next new stays gives = tt
+Gives-later (Some rows) middle next new stays gives = subst (λ (o : Option (List (List ℕ × ℕ))). Gives o next new) (stays refl) gives
+
+pub Stays-passed : (old middle new : Option (List (List ℕ × ℕ))) → Stays old middle → (IsSome middle → ⊥) → Stays old new
+Stays-passed old middle new stays none known = absurd (none (subst (λ (o : Option (List (List ℕ × ℕ))). IsSome o) (sym (stays known)) known))
+
+-- a row was taken after which no row is known to be left
+pub Gives-known : (old : Option (List (List ℕ × ℕ))) (row : String Global × ℕ) (new : Option (List (List ℕ × ℕ))) → Gives old (Row row) new → IsSome old → IsSome new
+Gives-known None row new gives known = absurd (cc)
+Gives-known (Some rows) row new gives known = subst (λ (o : Option (List (List ℕ × ℕ))). IsSome o) (sym gives.2) refl

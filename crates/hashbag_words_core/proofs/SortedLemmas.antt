@@ -7,14 +7,10 @@ use Rattle.std.specs.Map.{keys_of}
 use Rattle.std.specs.Ordering.{ordering_reverse}
 use Rattle.std.proofs.lemmas.Bool.{cases_eq, false≢true}
 use Rattle.std.proofs.lemmas.Cmp.{tied_itself, upto}
-use Rattle.hashbag_words_core.specs.Sorted.{text_cmp, IsAbove, IsNoLater, IsNotBelow, Rises}
+use Rattle.hashbag_words_core.specs.Sorted.{text_cmp, AllBelow, IsAbove, IsNoLater, IsNotBelow, Rises}
 use Rattle.hashbag_words_core.specs.declared.sources.Source.{Source}
 
--- these rows come before the text
-abbrev pub AllBelow : List ℕ → List (List ℕ × ℕ) → Type 0
-AllBelow text rows = AllByRecursion (λ key. text_cmp key text ≡ Less) (keys_of rows)
-
--- so do they before a later text
+-- rows before a text come before a later one
 pub AllBelow-later : (text later : List ℕ) (rows : List (List ℕ × ℕ)) → text_cmp text later ≡ Less → AllBelow text rows → AllBelow later rows
 AllBelow-later text later [] up below = tt
 AllBelow-later text later (row ∷ rows) up below = (nat_list_cmp_total.trans row.0 text later below.0 up, AllBelow-later text later rows up below.1)
@@ -83,19 +79,19 @@ no_later_both (Some x) (Some y) (Some z) f g = λ is.
     false≢true (sym (upto nat_list_cmp_total (string_bytes x.0) (string_bytes y.0) (string_bytes z.0) (not_greater _ f) (not_greater _ g)) ∙ ap is_gt is)
 
 -- the source of a place has the least next row of those before a place
-abbrev pub IsLeastTo : {S : Type 0} → List (Source S) → ℕ → ℕ → Type 0
-IsLeastTo {S} sources best i = (k : ℕ) (d : Source S) → k < i → IsNoLater (get_or sources best d).head (get_or sources k d).head
+abbrev pub IsLeastTo : List Source → ℕ → ℕ → Type 0
+IsLeastTo sources best i = (k : ℕ) (d : Source) → k < i → IsNoLater (get_or sources best d).head (get_or sources k d).head
 
 -- one source more, whose next row comes no earlier, or no later
-pub least_kept : {S : Type 0} (sources : List (Source S)) (best i : ℕ) → IsLeastTo sources best i → ((d : Source S) → IsNoLater (get_or sources best d).head (get_or sources i d).head) → IsLeastTo sources best (i + 1)
-least_kept {S} sources best i least one k d lt = at (cases_eq k i)
+pub least_kept : (sources : List Source) (best i : ℕ) → IsLeastTo sources best i → ((d : Source) → IsNoLater (get_or sources best d).head (get_or sources i d).head) → IsLeastTo sources best (i + 1)
+least_kept sources best i least one k d lt = at (cases_eq k i)
   where
     at : (k ≡ i) ⊎ (k ≡ i → ⊥) → IsNoLater (get_or sources best d).head (get_or sources k d).head
     at (inl is) = subst (λ (j : ℕ). IsNoLater (get_or sources best d).head (get_or sources j d).head) (sym is) (one d)
     at (inr other) = least k d (omega arith)
 
-pub least_taken : {S : Type 0} (sources : List (Source S)) (best i : ℕ) → IsLeastTo sources best i → ((d : Source S) → IsNoLater (get_or sources i d).head (get_or sources best d).head) → IsLeastTo sources i (i + 1)
-least_taken {S} sources best i least one k d lt = at (cases_eq k i)
+pub least_taken : (sources : List Source) (best i : ℕ) → IsLeastTo sources best i → ((d : Source) → IsNoLater (get_or sources i d).head (get_or sources best d).head) → IsLeastTo sources i (i + 1)
+least_taken sources best i least one k d lt = at (cases_eq k i)
   where
     at : (k ≡ i) ⊎ (k ≡ i → ⊥) → IsNoLater (get_or sources i d).head (get_or sources k d).head
     at (inl is) = subst (λ (j : ℕ). IsNoLater (get_or sources i d).head (get_or sources j d).head) (sym is) (no_later_itself (get_or sources i d).head)
@@ -113,7 +109,7 @@ same_at [] j d x lt h = absurd (omega arith)
 same_at (y ∷ l) zero d x lt h = sym h
 same_at (y ∷ l) (suc j) d x lt h = same_at l j d x (omega arith) h
 
-pub at_places : {S : Type 0} (sources : List (Source S)) (i j : ℕ) (x y : Source S) → i < length sources → j < length sources → x ≡ get_or sources i x → y ≡ get_or sources j y → IsNoLater x.head y.head
-    → (d : Source S) → IsNoLater (get_or sources i d).head (get_or sources j d).head
-at_places {S} sources i j x y low high at_i at_j h d =
-    subst₂ IsNoLater (ap (λ (s : Source S). s.head) (sym (same_at sources i d x low at_i))) (ap (λ (s : Source S). s.head) (sym (same_at sources j d y high at_j))) h
+pub at_places : (sources : List Source) (i j : ℕ) (x y : Source) → i < length sources → j < length sources → x ≡ get_or sources i x → y ≡ get_or sources j y → IsNoLater x.head y.head
+    → (d : Source) → IsNoLater (get_or sources i d).head (get_or sources j d).head
+at_places sources i j x y low high at_i at_j h d =
+    subst₂ IsNoLater (ap (λ (s : Source). s.head) (sym (same_at sources i d x low at_i))) (ap (λ (s : Source). s.head) (sym (same_at sources j d y high at_j))) h

@@ -1,51 +1,24 @@
 -- The merge of rows that rise, one row after the other.
-use Rattle.std.proofs.Common.{◌≡◌, ◌⊎◌, ℕ, zero, suc, ◌+◌, ◌<◌, ◌^◌, Bool, true, false, cond, List, [], ◌∷◌, ◌++◌, length, get_or, set, map, sum_by, All, Less, String, string_bytes, string_eq, bytes_eq, Global, Option, None, Some, refl, sym, ◌∙◌, ap, subst, subst₂, arith, inl, inr, eq-eqb, ne_eqb, length-set}
+use Rattle.std.proofs.Common.{◌≡◌, ◌⊎◌, ℕ, zero, suc, ◌+◌, ◌<◌, ◌^◌, Bool, true, false, cond, List, [], ◌∷◌, ◌++◌, length, get_or, set, sum_by, All, Less, String, string_bytes, string_eq, bytes_eq, Global, Option, None, Some, refl, sym, ◌∙◌, ap, subst, subst₂, arith, inl, inr, eq-eqb, ne_eqb, length-set}
 use Rattle.std.specs.Cmp.Lexicographic.{bytes_decides}
 use Rattle.std.proofs.lemmas.Bool.{cases_eq}
-use Rattle.std.proofs.lemmas.List.{append-nil, length-map, get_or-map, map-set, get_or-set_same, get_or-set_other}
+use Rattle.std.proofs.lemmas.List.{append-nil, get_or-set_same, get_or-set_other}
 use Rattle.std.proofs.lemmas.List.Elements.{All-nil, All-head, All-tail, All-push, All-set, All-from_get_or}
 use Rattle.std.proofs.lemmas.List.Sums.{sum_by-cons, sum_by-set, sum_by_push}
-use Rattle.std.proofs.lemmas.Option.{same_Some}
-use Rattle.hashbag_words_core.specs.Sorted.{text_cmp, row_of, of_row, times_in, numbers, shown_of, with_head, AreLeft, IsAbove, IsMergeOf, IsNoLater, IsNotBelow, Joins, Puts, Rises, TakesHead, TakesLeast, TakesRow}
-use Rattle.hashbag_words_core.specs.declared.sources.Source.{Source}
-use Rattle.hashbag_words_core.proofs.SortedLemmas.{AllBelow, AllBelow-later, AllBelow-push, Rises-nil, Rises-push, Rises-cons, IsNotBelow-from_above, less_from}
+use Rattle.hashbag_words_core.specs.Sorted.{held_of, text_cmp, row_of, of_row, times_in, numbers, shown_of, AllBelow, HoldsAbove, IsAbove, IsMergeOf, IsNotBelow, Joins, Rises, SoFar, TakesLeast}
+use Rattle.hashbag_words_core.proofs.SortedLemmas.{AllBelow-later, AllBelow-push, Rises-nil, Rises-push, Rises-cons, IsNotBelow-from_above, less_from}
 
 -- ---- what is held
-
--- what the row that is held counts of a text
-abbrev pub held_of : List ℕ → Option (String Global × ℕ) → ℕ
-held_of text None = 0
-held_of text (Some row) = of_row text (row_of row)
-
--- all rows that were put come before the one that is held; before the first one there are none
-abbrev pub HoldsAbove : List (List ℕ × ℕ) → Option (String Global × ℕ) → Type 0
-HoldsAbove out None = out ≡ []
-HoldsAbove out (Some row) = AllBelow (string_bytes row.0) out
-
--- no next row comes before the one that is held
-abbrev pub HoldsFirst : List (List (List ℕ × ℕ)) → Option (String Global × ℕ) → Type 0
-HoldsFirst rows None = Unit {0}
-HoldsFirst rows (Some row) = All (IsNotBelow (string_bytes row.0)) rows
 
 -- a row that counts something
 abbrev pub Counted : List ℕ × ℕ → Type 0
 Counted row = 0 < row.1
 
--- so far the rows `out` were put, and these are left
-pub record SoFar (inputs rows : List (List (List ℕ × ℕ))) (out : List (List ℕ × ℕ)) (held : Option (String Global × ℕ)) (total : ℕ) : Type 0 where
-  pub risen : All Rises rows → All Rises inputs
-  pub rises : Rises out
-  pub above : HoldsAbove out held
-  pub first : HoldsFirst rows held
-  pub sums : (text : List ℕ) → times_in text out + held_of text held + sum_by (times_in text) rows ≡ sum_by (times_in text) inputs
-  pub shown : All Counted out
-  pub numbered : total + sum_by numbers rows ≡ sum_by numbers inputs
-
 pub so_far_none : (inputs : List (List (List ℕ × ℕ))) → SoFar inputs inputs [] None 0
 so_far_none inputs = record {
   risen = λ risen. risen;
   rises = Rises-nil;
-  above = refl;
+  above = inl refl;
   first = tt;
   sums = λ text. omega arith;
   shown = All-nil Counted;
@@ -112,9 +85,9 @@ shown_all out (Some row) all =
     on_shown (λ (l : List (List ℕ × ℕ)). All Counted (out ++ l)) row
     (λ is. subst (All Counted) (sym (append-nil out)) all) (λ some. All-push Counted out (row_of row) all some)
 
-shown_rises : (out : List (List ℕ × ℕ)) (held : Option (String Global × ℕ)) → Rises out → HoldsAbove out held → Rises (out ++ shown_of held)
-shown_rises out None rises above = subst Rises (sym (append-nil out)) rises
-shown_rises out (Some row) rises above =
+shown_rises : (left : List (List (List ℕ × ℕ))) (out : List (List ℕ × ℕ)) (held : Option (String Global × ℕ)) → Rises out → HoldsAbove left out held → Rises (out ++ shown_of held)
+shown_rises left out None rises above = subst Rises (sym (append-nil out)) rises
+shown_rises left out (Some row) rises above =
     on_shown (λ (l : List (List ℕ × ℕ)). Rises (out ++ l)) row (λ is. subst Rises (sym (append-nil out)) rises) (λ some. Rises-push out (row_of row) rises above)
 
 shown_below : (text : List ℕ) (out : List (List ℕ × ℕ)) (row : String Global × ℕ) → AllBelow (string_bytes row.0) out → text_cmp (string_bytes row.0) text ≡ Less → AllBelow text (out ++ shown_of (Some row))
@@ -139,12 +112,20 @@ module _ (inputs old new : List (List (List ℕ × ℕ))) (out : List (List ℕ 
   first_left : All (IsNotBelow (string_bytes row.0)) new
   first_left = all_left old new (row_of row) took (IsNotBelow (string_bytes row.0)) took.least (IsNotBelow-from_above (string_bytes row.0) took.rest took.above)
 
+  -- before the first row is taken none came out
+  none_yet : HoldsAbove old out None → out ≡ []
+  none_yet (inl none) = none
+  none_yet (inr none) =
+      let some : get_or old took.at [] ≡ row_of row ∷ took.rest = took.was in
+      let nothing : get_or old took.at [] ≡ [] = none took.at [] took.within in
+      absurd (cc)
+
   -- the first row of all is held
   row_first : SoFar inputs old out None total → SoFar inputs new (out ++ []) (Some row) (total + row.1)
   row_first so = record {
     risen = λ risen. so.risen (risen_left old new (row_of row) took risen);
     rises = subst Rises (sym (append-nil out)) so.rises;
-    above = subst (λ (l : List (List ℕ × ℕ)). AllBelow (string_bytes row.0) (l ++ [])) (sym so.above) tt;
+    above = subst (λ (l : List (List ℕ × ℕ)). AllBelow (string_bytes row.0) (l ++ [])) (sym (none_yet so.above)) tt;
     first = first_left;
     sums = λ text.
         let same : times_in text (out ++ []) ≡ times_in text out = ap (times_in text) (append-nil out) in
@@ -182,7 +163,7 @@ module _ (inputs old new : List (List (List ℕ × ℕ))) (out : List (List ℕ 
       let up : text_cmp (string_bytes held.0) (string_bytes row.0) ≡ Less = less_from (string_bytes held.0) (string_bytes row.0) first apart in
       record {
         risen = λ risen. so.risen (risen_left old new (row_of row) took risen);
-        rises = shown_rises out (Some held) so.rises so.above;
+        rises = shown_rises old out (Some held) so.rises so.above;
         above = shown_below (string_bytes row.0) out held so.above up;
         first = first_left;
         sums = λ text.
@@ -211,11 +192,26 @@ sum_of_none f none (r ∷ rows) all =
     let later : sum_by f rows ≡ 0 = sum_of_none f none rows (All-tail (λ (q : List (List ℕ × ℕ)). q ≡ []) r rows all) in
     omega arith
 
+-- the row that was held came out, and no row is left
+pub so_far_over : (inputs rows : List (List (List ℕ × ℕ))) (out : List (List ℕ × ℕ)) (held : Option (String Global × ℕ)) (total : ℕ) → All (λ r. r ≡ []) rows
+    → SoFar inputs rows out held total → SoFar inputs rows (out ++ shown_of held) None total
+so_far_over inputs rows out held total none so = record {
+  risen = so.risen;
+  rises = shown_rises rows out held so.rises so.above;
+  above = inr none;
+  first = tt;
+  sums = λ text.
+      let put : times_in text (out ++ shown_of held) ≡ times_in text out + held_of text held = shown_sum text out held in
+      let before = so.sums text in omega arith;
+  shown = shown_all out held so.shown;
+  numbered = so.numbered;
+}
+
 pub so_far_done : (inputs rows : List (List (List ℕ × ℕ))) (out : List (List ℕ × ℕ)) (held : Option (String Global × ℕ)) (total : ℕ) → total < 2 ^ 64 → All (λ r. r ≡ []) rows
     → SoFar inputs rows out held total → IsMergeOf inputs (out ++ shown_of held)
 so_far_done inputs rows out held total fits none so = record {
   risen = so.risen (λ k d lt. subst Rises (sym (none k d lt)) Rises-nil);
-  rises = shown_rises out held so.rises so.above;
+  rises = shown_rises rows out held so.rises so.above;
   sums = λ text.
       let put : times_in text (out ++ shown_of held) ≡ times_in text out + held_of text held = shown_sum text out held in
       let left : sum_by (times_in text) rows ≡ 0 = sum_of_none (times_in text) refl rows none in
@@ -227,70 +223,3 @@ so_far_done inputs rows out held total fits none so = record {
       let same : total ≡ sum_by numbers inputs = omega arith in
       subst (λ (n : ℕ). n < 2 ^ 64) same fits;
 }
-
--- ---- what is put
-
-pub Puts-append : {K : Type 0} (gives : K → List ℕ × ℕ → K → Type 0) (xs ys : List (List ℕ × ℕ)) (a b c : K) → Puts gives a xs b → Puts gives b ys c → Puts gives a (xs ++ ys) c
-Puts-append {K} gives [] ys a b c f g = subst (λ (s : K). Puts gives s ys c) f g
-Puts-append gives (x ∷ xs) ys a b c f g = (f.0, f.1, Puts-append gives xs ys f.0 b c f.2 g)
-
--- ---- the sources
-
--- the rows of the source of a place
-left_at : {S : Type 0} (left : S → Option (List (List ℕ × ℕ))) (sources : List (Source S)) (rows : List (List (List ℕ × ℕ))) (k : ℕ) (d : Source S) → AreLeft left sources rows → k < length sources
-    → with_head (get_or sources k d).head (left (get_or sources k d).rows) ≡ Some (get_or rows k [])
-left_at {S} left sources rows k d are lt =
-    let long : length rows ≡ length sources =
-    sym (length-map rows Some) ∙ sym (ap length are) ∙ length-map sources (λ (s : Source S). with_head s.head (left s.rows)) in
-    sym (get_or-map (λ (s : Source S). with_head s.head (left s.rows)) sources k d None lt)
-    ∙ ap (λ (l : List (Option (List (List ℕ × ℕ)))). get_or l k None) are ∙ get_or-map Some rows k [] None (omega arith)
-
--- the next row of a source that has these rows left
-not_below : (row : String Global × ℕ) (head : Option (String Global × ℕ)) (left : Option (List (List ℕ × ℕ))) (rows : List (List ℕ × ℕ)) → IsNoLater (Some row) head → with_head head left ≡ Some rows
-    → IsNotBelow (string_bytes row.0) rows
-not_below row None left rows nlt e = subst (IsNotBelow (string_bytes row.0)) (same_Some [] rows e) tt
-not_below row (Some h) None rows nlt e = absurd (cc)
-not_below row (Some h) (Some more) rows nlt e = subst (IsNotBelow (string_bytes row.0)) (same_Some (row_of h ∷ more) rows e) nlt
-
-none_left : (head : Option (String Global × ℕ)) (left : Option (List (List ℕ × ℕ))) (rows : List (List ℕ × ℕ)) → IsNoLater None head → with_head head left ≡ Some rows → rows ≡ []
-none_left None left rows nlt e = sym (same_Some [] rows e)
-none_left (Some h) left rows nlt e = absurd nlt
-
--- a row was taken from the source with the least one
-pub took_row : {S : Type 0} (left : S → Option (List (List ℕ × ℕ))) (sources : List (Source S)) (rows : List (List (List ℕ × ℕ))) (i : ℕ) (new : Source S) (row : Option (String Global × ℕ)) (source : Source S)
-    → i < length sources → source ≡ get_or sources i source → All (λ s. IsNoLater (get_or sources i s).head s.head) sources → row ≡ source.head
-    → ((r : List (List ℕ × ℕ)) → with_head source.head (left source.rows) ≡ Some r → TakesHead r row (with_head new.head (left new.rows)))
-    → AreLeft left sources rows → TakesRow left rows row (set sources i new)
-took_row {S} left sources rows i new row source within here least is takes are =
-    let long : length rows ≡ length sources =
-    sym (length-map rows Some) ∙ sym (ap length are) ∙ length-map sources (λ (s : Source S). with_head s.head (left s.rows)) in
-    let at : with_head source.head (left source.rows) ≡ Some (get_or rows i []) =
-    ap (λ (s : Source S). with_head s.head (left s.rows)) here ∙ left_at left sources rows i source are within in
-    by_row row (takes (get_or rows i []) at)
-    (λ k lt d. subst (λ (h : Option (String Global × ℕ)). IsNoLater h (get_or sources k d).head) (ap (λ (s : Source S). s.head) (same_at sources i (get_or sources k d) source within here) ∙ sym is) (least k d lt))
-    long
-  where
-    same_at : (l : List (Source S)) (j : ℕ) (d e : Source S) → j < length l → e ≡ get_or l j e → get_or l j d ≡ e
-    same_at [] j d e lt h = absurd (omega arith)
-    same_at (x ∷ l) zero d e lt h = sym h
-    same_at (x ∷ l) (suc j) d e lt h = same_at l j d e (omega arith) h
-
-    by_row : (row : Option (String Global × ℕ)) → TakesHead (get_or rows i []) row (with_head new.head (left new.rows))
-        → ((k : ℕ) → k < length sources → (d : Source S) → IsNoLater row (get_or sources k d).head) → length rows ≡ length sources → TakesRow left rows row (set sources i new)
-    by_row None took nlt long = All-from_get_or (λ (r : List (List ℕ × ℕ)). r ≡ []) rows []
-        (λ k lt. none_left (get_or sources k source).head (left (get_or sources k source).rows) (get_or rows k []) (nlt k (omega arith) source) (left_at left sources rows k source are (omega arith)))
-    by_row (Some row) took nlt long = (
-      set rows i took.0,
-      record {
-        at = i;
-        rest = took.0;
-        within = omega arith;
-        was = took.1;
-        is = refl;
-        least = All-from_get_or (IsNotBelow (string_bytes row.0)) rows []
-            (λ k lt. not_below row (get_or sources k source).head (left (get_or sources k source).rows) (get_or rows k []) (nlt k (omega arith) source) (left_at left sources rows k source are (omega arith)));
-        above = took.3;
-      },
-      map-set (λ (s : Source S). with_head s.head (left s.rows)) sources i new ∙ ap (λ (l : List (Option (List (List ℕ × ℕ)))). set l i (with_head new.head (left new.rows))) are
-          ∙ ap (λ (o : Option (List (List ℕ × ℕ))). set (map Some rows) i o) took.2 ∙ sym (map-set Some rows i took.0),
-    )

@@ -2,8 +2,8 @@ pub mod Choice
 pub mod Counted
 pub mod Counts
 pub mod Examples
+pub mod Merged
 pub mod Merging
-pub mod Met
 pub mod Prefix
 pub mod Reading
 pub mod RowText
@@ -12,5 +12,6 @@ pub mod Runs
 pub mod Shards
 pub mod Shown
 pub mod Sorted
+pub mod Sources
 pub mod Tokens
 pub mod Writing

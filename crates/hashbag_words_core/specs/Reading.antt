@@ -1,5 +1,5 @@
 -- How an input is read line by line.
-use Rattle.std.specs.Prelude.{◌≡◌, ℕ, zero, suc, ◌-◌, ◌<◌, Bool, true, false, List, [], length, slice_index, if◌then◌else◌, Option, Some, IsSome}
+use Rattle.std.specs.Prelude.{◌≡◌, ℕ, zero, suc, ◌-◌, ◌<◌, Bool, true, false, List, [], length, slice_index, if◌then◌else◌, Option, Some}
 use Rattle.std.specs.Io.BufRead.{ends_with_byte, strip_last, first_line, drop_through}
 
 -- a line without a line feed at its end, and without a carriage return before that
@@ -10,10 +10,6 @@ without_end line = if ends_with_byte 10 line then strip_last 13 (strip_last 10 l
 abbrev pub ReadsLine : Bool → List ℕ → List ℕ → Option (List ℕ) → Type 0
 ReadsLine true bytes line left = (0 < length bytes) × (line ≡ first_line bytes) × (left ≡ Some (drop_through 10 bytes))
 ReadsLine false bytes line left = (bytes ≡ []) × (left ≡ Some [])
-
--- an input of which these bytes are left, if they are known, has been read to its end
-abbrev pub ReadsToEnd : Option (List ℕ) → Option (List ℕ) → Type 0
-ReadsToEnd old new = IsSome old → new ≡ Some []
 
 -- what is left of an input when so many of its lines have been read
 abbrev pub drop_lines : ℕ → List ℕ → List ℕ

@@ -1,5 +1,5 @@
 -- The rows of a run: a file of `tsv` that was written here.
-use Rattle.std.specs.Prelude.{◌≡◌, ℕ, ◌==◌, Bool, true, false, List, [], ◌∷◌, ◌++◌, filter_map, flat_map, String, Option, None, option_map}
+use Rattle.std.specs.Prelude.{◌≡◌, ℕ, ◌==◌, Bool, true, false, List, [], ◌∷◌, ◌++◌, filter_map, flat_map, String, Option, None, Some, option_map}
 use Rattle.std.specs.Global.{Global}
 use Rattle.std.specs.List.{before_first, after_first}
 use Rattle.std.specs.Str.{bytes_eq}
@@ -34,11 +34,11 @@ unmarked (line ∷ lines) = without_mark line ∷ lines
 abbrev pub rows_of_file : List ℕ → List (List ℕ × ℕ)
 rows_of_file bytes = filter_map read_as (unmarked (lines bytes))
 
--- the rows that a reader has left, if its bytes are known, its lines are of `tsv`, and a bad line isn't skipped; whether the next line may begin
--- with a byte order mark
-abbrev pub rows_left : RowForm → BadLines → Bool → Option (List ℕ) → Option (List (List ℕ × ℕ))
-rows_left Tsv Refused false bytes = option_map rows_in bytes
-rows_left Tsv Refused true bytes = option_map rows_of_file bytes
+-- the rows of the bytes that are left, if the lines are of `tsv`, and a bad line isn't skipped; whether the first line may begin with a byte
+-- order mark
+abbrev pub rows_left : RowForm → BadLines → Bool → List ℕ → Option (List (List ℕ × ℕ))
+rows_left Tsv Refused false bytes = Some (rows_in bytes)
+rows_left Tsv Refused true bytes = Some (rows_of_file bytes)
 rows_left Tsv Skipped marked bytes = None
 rows_left Uniq bad_lines marked bytes = None
 

@@ -1,14 +1,14 @@
 -- Rows whose tokens rise, and their merge.
-use Rattle.std.specs.Prelude.{◌≡◌, ◌≢◌, ℕ, ◌+◌, ◌<◌, ◌^◌, ◌==◌, ◌⊎◌, true, false, List, [], ◌∷◌, length, map, sum_by, All, slice_set, slice_index_or, if◌then◌else◌, String, string_bytes, string_eq, Option, None, Some, option_map}
+use Rattle.std.specs.Prelude.{◌≡◌, ◌≢◌, ℕ, ◌+◌, ◌<◌, ◌^◌, ◌==◌, ◌⊎◌, true, false, List, [], ◌∷◌, length, sum_by, All, slice_set, slice_index_or, if◌then◌else◌, String, string_bytes, string_eq, Option, None, Some}
 use Rattle.std.specs.Cmp.Lexicographic.{slice_cmp}
 use Rattle.std.specs.Global.{Global}
+use Rattle.std.specs.List.{AllByRecursion}
 use Rattle.std.specs.List.Sorted.{IsStrictlySortedBy}
 use Rattle.std.specs.Map.{keys_of}
 use Rattle.std.specs.Ordering.{nat_cmp}
 use Rattle.std.specs.Str.{bytes_eq}
 use Rattle.std.specs.declared.cmp.Ordering.{Ordering}
 use Rattle.std.specs.declared.cmp.Ordering.TheVariants.{Less, Greater}
-use Rattle.hashbag_words_core.specs.declared.sources.Source.{Source}
 
 -- the order of texts: by their bytes
 abbrev pub text_cmp : List ℕ → List ℕ → Ordering
@@ -34,6 +34,10 @@ numbers rows = sum_by (λ row. row.1) rows
 abbrev pub Rises : List (List ℕ × ℕ) → Type 0
 Rises rows = IsStrictlySortedBy text_cmp (keys_of rows)
 
+-- these rows come before the text
+abbrev pub AllBelow : List ℕ → List (List ℕ × ℕ) → Type 0
+AllBelow text rows = AllByRecursion (λ key. text_cmp key text ≡ Less) (keys_of rows)
+
 -- these rows are the merge of those of some sources, whose tokens rise: its tokens rise, and it has of each text what all sources count of it
 -- together, unless that is 0
 pub record IsMergeOf (sources : List (List (List ℕ × ℕ))) (merged : List (List ℕ × ℕ)) : Type 0 where
@@ -43,26 +47,10 @@ pub record IsMergeOf (sources : List (List (List ℕ × ℕ))) (merged : List (L
   pub shown : All (λ row. 0 < row.1) merged
   pub fits : sum_by numbers sources < 2 ^ 64
 
--- a source with these rows left, if they are known, gave a row or had none, and has those left
-abbrev pub GivesRow : Option (List (List ℕ × ℕ)) → Option (String Global × ℕ) → Option (List (List ℕ × ℕ)) → Type 0
-GivesRow None row new = Unit {0}
-GivesRow (Some rows) None new = (rows ≡ []) × (new ≡ Some [])
-GivesRow (Some rows) (Some row) new = (rest : List (List ℕ × ℕ)) × (rows ≡ row_of row ∷ rest) × (new ≡ Some rest)
-
--- the rows of a source of which the next one has been read, or there is none: that one, and those that are left
-abbrev pub with_head : Option (String Global × ℕ) → Option (List (List ℕ × ℕ)) → Option (List (List ℕ × ℕ))
-with_head None left = Some []
-with_head (Some row) left = option_map (λ rest. row_of row ∷ rest) left
-
 -- the first of these rows, if there is one, comes after the text
 abbrev pub IsAbove : List ℕ → List (List ℕ × ℕ) → Type 0
 IsAbove text [] = Unit {0}
 IsAbove text (row ∷ rows) = text_cmp text row.0 ≡ Less
-
--- the next of these rows was taken, and the one after it comes after it; or there is none
-abbrev pub TakesHead : List (List ℕ × ℕ) → Option (String Global × ℕ) → Option (List (List ℕ × ℕ)) → Type 0
-TakesHead old None new = (old ≡ []) × (new ≡ Some [])
-TakesHead old (Some row) new = (rest : List (List ℕ × ℕ)) × (old ≡ row_of row ∷ rest) × (new ≡ Some rest) × IsAbove (string_bytes row.0) rest
 
 -- the first of these rows, if there is one, doesn't come before the text
 abbrev pub IsNotBelow : List ℕ → List (List ℕ × ℕ) → Type 0
@@ -85,20 +73,6 @@ pub record TakesLeast (old : List (List (List ℕ × ℕ))) (row : List ℕ × �
   pub least : All (IsNotBelow row.0) old
   pub above : IsAbove row.0 rest
 
--- these are the rows that sources have left
-abbrev pub AreLeft : {S : Type 0} → (S → Option (List (List ℕ × ℕ))) → List (Source S) → List (List (List ℕ × ℕ)) → Type 0
-AreLeft left sources rows = map (λ source. with_head source.head (left source.rows)) sources ≡ map Some rows
-
--- how many a next row counts, if there is one
-abbrev pub count_of : Option (String Global × ℕ) → ℕ
-count_of None = 0
-count_of (Some row) = row.1
-
--- the least row was taken from sources with these rows left, or there was none
-abbrev pub TakesRow : {S : Type 0} → (S → Option (List (List ℕ × ℕ))) → List (List (List ℕ × ℕ)) → Option (String Global × ℕ) → List (Source S) → Type 0
-TakesRow left old None new = All (λ rows. rows ≡ []) old
-TakesRow left old (Some row) new = (rows : List (List (List ℕ × ℕ))) × TakesLeast old (row_of row) rows × AreLeft left new rows
-
 -- a row came behind one that is held, if there is one: with the same text it is added to that one, else that one is done and this one is held
 abbrev pub Joins : Option (String Global × ℕ) → String Global × ℕ → Option (String Global × ℕ) → Option (String Global × ℕ) → Type 0
 Joins None row done held = (done ≡ None) × (held ≡ Some row)
@@ -106,12 +80,43 @@ Joins (Some old) row done held =
     ((string_eq old.0 row.0 ≡ true) × (done ≡ None) × (held ≡ Some (old.0, old.1 + row.1)))
     ⊎ ((string_eq old.0 row.0 ≡ false) × (done ≡ Some old) × (held ≡ Some row))
 
+-- how many a row counts, if there is one
+abbrev pub count_held : Option (String Global × ℕ) → ℕ
+count_held None = 0
+count_held (Some row) = row.1
+
+-- the row, if there is one
+abbrev pub one_of : Option (String Global × ℕ) → List (List ℕ × ℕ)
+one_of None = []
+one_of (Some row) = row_of row ∷ []
+
 -- what is put of a row that is done: nothing, if it counts nothing
 abbrev pub shown_of : Option (String Global × ℕ) → List (List ℕ × ℕ)
 shown_of None = []
 shown_of (Some row) = if row.1 == 0 then [] else row_of row ∷ []
 
--- these rows were put, one after the other
-abbrev pub Puts : {K : Type 0} → (K → List ℕ × ℕ → K → Type 0) → K → List (List ℕ × ℕ) → K → Type 0
-Puts gives old [] new = new ≡ old
-Puts {K} gives old (row ∷ rows) new = (middle : K) × gives old row middle × Puts gives middle rows new
+-- what the row that is held counts of a text
+abbrev pub held_of : List ℕ → Option (String Global × ℕ) → ℕ
+held_of text None = 0
+held_of text (Some row) = of_row text (row_of row)
+
+-- the rows that came out are all before the one that is held; if none is held, there are none yet, or no row is left
+abbrev pub HoldsAbove : List (List (List ℕ × ℕ)) → List (List ℕ × ℕ) → Option (String Global × ℕ) → Type 0
+HoldsAbove left out None = (out ≡ []) ⊎ All (λ rows. rows ≡ []) left
+HoldsAbove left out (Some row) = AllBelow (string_bytes row.0) out
+
+-- no next row comes before the one that is held
+abbrev pub HoldsFirst : List (List (List ℕ × ℕ)) → Option (String Global × ℕ) → Type 0
+HoldsFirst left None = Unit {0}
+HoldsFirst left (Some row) = All (IsNotBelow (string_bytes row.0)) left
+
+-- a merge of these inputs is so far: the rows `out` came out, one is held or none, these are left, and the counts of the rows that were taken add
+-- up to the total
+pub record SoFar (inputs left : List (List (List ℕ × ℕ))) (out : List (List ℕ × ℕ)) (held : Option (String Global × ℕ)) (total : ℕ) : Type 0 where
+  pub risen : All Rises left → All Rises inputs
+  pub rises : Rises out
+  pub above : HoldsAbove left out held
+  pub first : HoldsFirst left held
+  pub sums : (text : List ℕ) → times_in text out + held_of text held + sum_by (times_in text) left ≡ sum_by (times_in text) inputs
+  pub shown : All (λ row. 0 < row.1) out
+  pub numbered : total + sum_by numbers left ≡ sum_by numbers inputs

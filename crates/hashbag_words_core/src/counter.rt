@@ -47,7 +47,7 @@ pub enum Fed {
 }
 
 // Returns the line without a carriage return at its end.
-fn without_return(line: &[u8]) -> &[u8]
+pub(crate) fn without_return(line: &[u8]) -> &[u8]
     ensures { result.now ≡ strip_carriage_return line.now }
 {
     let n = line.len();

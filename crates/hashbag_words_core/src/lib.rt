@@ -1,7 +1,7 @@
 //! Counts of words, lines or matches in text: the pure part of the program `hashbag_words`.
 //!
 //! - [`rule`] decides what of a line is counted, [`counting`] counts a line, and [`counter`] the lines of texts that come in blocks.
-//! - [`gauge`] says when a bag is full, [`runs`] writes what it has, and [`sorted_merge`] merges what was written.
+//! - [`gauge`] says when a bag is full, [`runs`] writes what it has, and [`sorted_merge`] merges what was written, which [`row_source`] reads.
 //! - [`rows`] and [`merging`] read and add up files of counts, [`choice`] selects the counts that are shown, and [`writing`] and
 //!   [`row_text`] write them. [`shards`] parts all tokens by a fixed hash.
 #![tactic(auto)]
@@ -14,7 +14,7 @@ pub mod gauge;
 pub mod head;
 pub mod lines;
 pub mod merging;
-pub mod row_reader;
+pub mod row_source;
 pub mod row_text;
 pub mod rows;
 pub mod rule;
@@ -25,4 +25,5 @@ pub mod shown_text;
 pub mod sorted_merge;
 pub mod sorting;
 pub mod sources;
+pub mod unread;
 pub mod writing;

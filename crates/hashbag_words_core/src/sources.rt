@@ -1,94 +1,105 @@
 //! Sources of rows whose tokens rise.
-ghost use Rattle.std.specs.Prelude.{◌≡◌, ℕ, List, Option, Some, string_bytes, IfOk, IfSome, IsErr, IsSome};
+ghost use Rattle.std.specs.Prelude.{◌≡◌, ℕ, List, None, Some, false, string_bytes, IfOk, IfSome};
 ghost use Rattle.std.specs.declared.cmp.Ordering.TheVariants.{Less};
-ghost use Rattle.hashbag_words_core.specs.Sorted.{text_cmp, with_head, GivesRow, TakesHead};
+ghost use Rattle.hashbag_words_core.specs.Merged.{with_head, OpensWith, Takes};
+ghost use Rattle.hashbag_words_core.specs.Sorted.{text_cmp};
+ghost use Rattle.hashbag_words_core.specs.Sources.{left_with, row_in, Gives, Holds, MayCome};
 
 use crate::errors::{BadLine, Fault};
 use crate::head::Head;
+use crate::row_source::{Next, RowSource};
+use std::mem;
 
-/// Rows that come one by one.
-pub trait Rows {
-    /// The rows that are left, if they are known.
-    ghost left: { Self → Option (List (List ℕ × ℕ)) };
-
-    /// Returns the next row, or `None` after the last one.
-    fn next_row(&mut self) -> Result<Option<(String, usize)>, Fault>
-        ensures gives { IfOk result (λ row. GivesRow (left self.old) row (left self.new)) };
-
-    /// Passes over the row that was returned last, since it is bad, or rejects it. If the rows are known, it rejects it.
-    fn pass_over(&mut self, bad: BadLine) -> Result<(), Fault>
-        ensures { IsSome (left self.old) → IsErr result };
-}
-
-// Returns the next row whose token comes after `last`. Rows whose token doesn't are passed over or rejected.
-fn next_above<S: Rows>(rows: &mut S, last: &str) -> Result<Option<(String, usize)>, Fault>
-    ensures gives { IfOk result (λ row. GivesRow (S.left rows.old) row (S.left rows.new)) }
-    ensures above { IfOk result (λ row. IfSome row (λ r. text_cmp last.now (string_bytes r.0) ≡ Less)) }
+// Takes the next row whose token comes after `last`. Rows whose token doesn't are passed over or rejected.
+fn next_above(rows: &mut RowSource, last: &str) -> Result<Next, Fault>
+    ensures gives { IfOk result (λ next. (more : List ℕ) → MayCome rows.old more → Gives (left_with rows.old more) next (left_with rows.new more)) }
+    ensures above { IfOk result (λ next. IfSome (row_in next) (λ r. text_cmp last.now (string_bytes r.0) ≡ Less)) }
+    ensures ended { rows.new.is_ended ≡ rows.old.is_ended }
+    ensures wants { IfOk result (λ next. next ≡ Next.Wants → rows.old.is_ended ≡ false) }
 {
     'rows: for _row in 0..u64::MAX {
-        let Some(row) = rows.next_row()? else {
-            return Ok(None);
-        };
-        if last < row.0.as_str() {
-            return Ok(Some(row));
+        match rows.next_row()? {
+            Next::Row(row) => {
+                if last < row.0.as_str() {
+                    return Ok(Next::Row(row));
+                }
+                rows.pass_over(BadLine::NotInOrder)?;
+            }
+            Next::Wants => return Ok(Next::Wants),
+            Next::End => return Ok(Next::End),
         }
-        rows.pass_over(BadLine::NotInOrder)?;
     }
     Err(Fault::Line(BadLine::NotInOrder))
 }
 
 /// A source of rows, and the row of it that comes next.
 #[derive(Drop)]
-pub struct Source<S> {
-    pub(crate) rows: S,
+pub struct Source {
+    pub(crate) rows: RowSource,
     // `None` after the last one.
     pub(crate) head: Option<Head>,
 }
 
-impl<S: Rows + Drop> Source<S> {
-    /// Reads the first row.
+/// What opening a source gives.
+#[derive(Drop)]
+pub enum Opened {
+    /// The source. Its first row is known, or it has none.
+    Ready(Source),
+    /// The rows. The first one isn't known before more bytes are given, or the text is ended.
+    Wants(RowSource),
+}
+
+impl Source {
+    /// Takes the first row.
     ///
     /// # Errors
     ///
-    /// The fault of that read, and the rows, of which no clause says what is left.
-    pub fn open(mut rows: S) -> Result<Source<S>, (Fault, S)>
-        ensures { IfOk result (λ source. IfSome (S.left rows) (λ left. with_head source.head (S.left source.rows) ≡ Some left)) }
+    /// The fault of [`RowSource::next_row`], and the rows, of which no clause says what is left.
+    pub fn open(mut rows: RowSource) -> Result<Opened, (Fault, RowSource)>
+        ensures { IfOk result (λ opened. (kind : _) → (text : List ℕ) → Holds kind text rows → OpensWith kind text opened) }
     {
         match rows.next_row() {
-            Ok(Some(row)) => {
+            Ok(Next::Row(row)) => {
                 let head = Some(Head::new(row));
-                Ok(Source { rows, head })
+                Ok(Opened::Ready(Source { rows, head }))
             }
-            Ok(None) => Ok(Source { rows, head: None }),
+            Ok(Next::Wants) => Ok(Opened::Wants(rows)),
+            Ok(Next::End) => Ok(Opened::Ready(Source { rows, head: None })),
             Err(fault) => Err((fault, rows)),
         }
     }
 
     /// The rows behind the next one.
-    pub fn rows(&self) -> &S
+    pub fn rows(&self) -> &RowSource
         ensures { result.now ≡ self.now.rows }
     {
         &self.rows
     }
 
-    /// Takes the row that comes next, and reads the one after it.
+    /// Takes the row that comes next, if the row after it is known. If that isn't, nothing is taken.
     ///
     /// # Errors
     ///
-    /// The fault of that read. `BadLine::NotInOrder`: the token of the row after it doesn't come after that of the row.
-    pub(crate) fn take(&mut self) -> Result<Option<(String, usize)>, Fault>
-        ensures same { IfOk result (λ row. row ≡ self.old.head) }
-        ensures row_taken { IfOk result (λ row. (rows : List (List ℕ × ℕ)) → with_head self.old.head (S.left self.old.rows) ≡ Some rows
-            → TakesHead rows row (with_head self.new.head (S.left self.new.rows))) }
+    /// The fault of that row. `BadLine::NotInOrder`: the token of the row after it doesn't come after that of the row.
+    pub(crate) fn take(&mut self) -> Result<Next, Fault>
+        ensures same { IfOk result (λ next. IfSome (row_in next) (λ row. self.old.head ≡ Some row)) }
+        ensures none { IfOk result (λ next. next ≡ Next.End → self.old.head ≡ None) }
+        ensures taken { IfOk result (λ next. (more : List ℕ) → MayCome self.old.rows more → (rows : List (List ℕ × ℕ))
+            → with_head self.old.head (left_with self.old.rows more) ≡ Some rows → Takes rows next (with_head self.new.head (left_with self.new.rows more))) }
+        ensures ended { self.new.rows.is_ended ≡ self.old.rows.is_ended }
+        ensures wants { IfOk result (λ next. next ≡ Next.Wants → self.old.rows.is_ended ≡ false) }
     {
-        let Some(head) = self.head.take() else {
-            return Ok(None);
+        let Some(head) = &self.head else {
+            return Ok(Next::End);
         };
-        let row = head.into_row();
-        self.head = match next_above(&mut self.rows, row.0.as_str())? {
-            Some(next) => Some(Head::new(next)),
-            None => None,
+        let next = match next_above(&mut self.rows, head.row().0.as_str())? {
+            Next::Row(row) => Some(Head::new(row)),
+            Next::Wants => return Ok(Next::Wants),
+            Next::End => None,
         };
-        Ok(Some(row))
+        match mem::replace(&mut self.head, next) {
+            Some(head) => Ok(Next::Row(head.into_row())),
+            None => Ok(Next::End),
+        }
     }
 }

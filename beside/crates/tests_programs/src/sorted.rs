@@ -6,16 +6,15 @@ use hashbag_words_core::counter::{Fed, TextCounter};
 use hashbag_words_core::errors::Fault;
 use hashbag_words_core::gauge::Gauge;
 use hashbag_words_core::lines::BadLines;
-use hashbag_words_core::row_reader::RowReader;
+use hashbag_words_core::row_source::{Kind, RowSource};
 use hashbag_words_core::rows::RowForm;
 use hashbag_words_core::rule::{Pieces, Rule};
 use hashbag_words_core::shown_rows::{ShownRows, TopRows};
-use hashbag_words_core::sorted_merge::{Sink, Stop, merge_rows};
-use hashbag_words_core::sources::Source;
+use hashbag_words_core::sorted_merge::{Merged, Merger, Sink, Stop};
+use hashbag_words_core::sources::{Opened, Source};
 use hashbag_words_core::writing::{Format, RowWriter};
 use std::alloc::{AllocError, Global};
 use std::hash::RandomState;
-use std::io::{self, ErrorKind};
 use std::test::Fail;
 
 // Files of counts, split at bars; whether bad lines are skipped; the merged rows, or the place of the source, the number of its line and
@@ -70,71 +69,153 @@ fn stopped(alloc: Global, source: usize, line: u64, fault: &Fault) -> Result<Str
     })
 }
 
-type Sources<'a> = Vec<Source<RowReader<&'a [u8]>>>;
-
-// Opens the files; of the first one that fails, what stopped.
-fn opened<'a>(
-    alloc: Global,
-    form: RowForm,
-    files: &'a str,
-    skips: bool,
-) -> Result<Result<Sources<'a>, String>, Fail> {
+// Returns the kind of a file.
+fn file_of(form: RowForm, skips: bool) -> Kind {
     let bad_lines = if skips {
         BadLines::Skipped
     } else {
         BadLines::Refused
     };
-    let mut sources = Vec::new(alloc);
-    for (i, file) in files.split('|').enumerate() {
-        match Source::open(RowReader::of_file(alloc, form, file.as_bytes(), bad_lines)) {
-            Ok(source) => sources.push(source).map_err(AllocError::from)?,
-            Err((fault, rows)) => return Ok(Err(stopped(alloc, i, rows.reading().line, &fault)?)),
-        }
-    }
-    Ok(Ok(sources))
+    Kind::File(form, bad_lines)
 }
 
-// Merges the files; where that stops, what stopped.
-fn merge_into<K: Sink>(
+// Takes the next block of at most `most` bytes.
+fn next_block<'a>(rest: &mut &'a [u8], most: usize) -> &'a [u8] {
+    let n = rest.len().min(most);
+    let block = &rest[..n];
+    *rest = &rest[n..];
+    block
+}
+
+// Opens a source, which is given such blocks. If it fails, its line and what is wrong with it.
+fn opened(
     alloc: Global,
-    form: RowForm,
+    kind: Kind,
+    rest: &mut &[u8],
+    most: usize,
+) -> Result<Result<Source, (u64, Fault)>, Fail> {
+    let mut rows = RowSource::new(alloc, kind);
+    for _ in 0..u64::MAX {
+        rows = match Source::open(rows) {
+            Ok(Opened::Ready(source)) => return Ok(Ok(source)),
+            Ok(Opened::Wants(rows)) => rows,
+            Err((fault, rows)) => return Ok(Err((rows.reading().line, fault))),
+        };
+        match next_block(rest, most) {
+            [] => rows.end(),
+            block => rows.give(block)?,
+        }
+    }
+    Err(Fail::new("no row comes"))
+}
+
+// Texts of rows, of which the bytes that are left are given in blocks.
+#[derive(Drop)]
+struct Texts<'a> {
+    merger: Merger,
+    rests: Vec<&'a [u8]>,
+    most: usize,
+}
+
+// Opens the texts. Of the first one that fails, what stopped.
+fn texts_of<'a>(
+    alloc: Global,
+    kind: Kind,
+    texts: &[&'a [u8]],
+    most: usize,
+) -> Result<Result<Texts<'a>, String>, Fail> {
+    let mut sources = Vec::new(alloc);
+    let mut rests = Vec::new(alloc);
+    for (i, text) in texts.iter().enumerate() {
+        let mut rest = *text;
+        match opened(alloc, kind, &mut rest, most)? {
+            Ok(source) => sources.push(source).map_err(AllocError::from)?,
+            Err((line, fault)) => return Ok(Err(stopped(alloc, i, line, &fault)?)),
+        }
+        rests.push(rest)?;
+    }
+    let merger = Merger::new(sources);
+    Ok(Ok(Texts {
+        merger,
+        rests,
+        most,
+    }))
+}
+
+impl Texts<'_> {
+    // Gives the next block of a text to its source.
+    fn feed(&mut self, i: usize) -> Result<(), Fail> {
+        let Some(rest) = self.rests.get_mut(i) else {
+            return Err(Fail::new("bytes of no source are wanted"));
+        };
+        match next_block(rest, self.most) {
+            [] => self.merger.end(i),
+            block => self.merger.give(i, block)?,
+        }
+        Ok(())
+    }
+
+    // Puts the merged rows into a sink. Returns what stopped, if something did.
+    fn merge_into<K: Sink>(&mut self, alloc: Global, sink: &mut K) -> Result<Option<String>, Fail> {
+        for _ in 0..u64::MAX {
+            match self.merger.next_row() {
+                Ok(Merged::Row((token, count))) => sink.put(token, count)?,
+                Ok(Merged::Wants(i)) => self.feed(i)?,
+                Ok(Merged::End) => return Ok(None),
+                Err(Stop::Source(i, fault)) => {
+                    let sources = self.merger.sources();
+                    let line = sources.get(i).map_or(0, |s| s.rows().reading().line);
+                    return Ok(Some(stopped(alloc, i, line, &fault)?));
+                }
+                Err(Stop::TooMany) => return Err(Fail::new("a count is too large")),
+            }
+        }
+        Err(Fail::new("the merge doesn't end"))
+    }
+}
+
+// Merges files, split at bars. Where that stops, what stopped.
+fn merge_files<K: Sink>(
+    alloc: Global,
+    kind: Kind,
     files: &str,
-    skips: bool,
+    most: usize,
     sink: &mut K,
 ) -> Result<Option<String>, Fail> {
-    let mut sources = match opened(alloc, form, files, skips)? {
-        Ok(sources) => sources,
-        Err(text) => return Ok(Some(text)),
-    };
-    match merge_rows(&mut sources, sink) {
-        Ok(()) => Ok(None),
-        Err(Stop::Source(i, fault)) => {
-            let line = sources
-                .get(i)
-                .map_or(0, |source| source.rows().reading().line);
-            Ok(Some(stopped(alloc, i, line, &fault)?))
-        }
-        Err(Stop::Sink(_)) => Err(Fail::new("the sink failed")),
+    let mut texts = Vec::new(alloc);
+    for file in files.split('|') {
+        texts.push(file.as_bytes())?;
+    }
+    match texts_of(alloc, kind, &texts, most)? {
+        Ok(mut texts) => texts.merge_into(alloc, sink),
+        Err(text) => Ok(Some(text)),
     }
 }
 
 // The merged rows as text, or what stopped.
-fn merged(alloc: Global, form: RowForm, files: &str, skips: bool) -> Result<String, Fail> {
+fn merged(alloc: Global, kind: Kind, files: &str, most: usize) -> Result<String, Fail> {
     let mut rows = RowWriter::begin(alloc, Vec::new(alloc), Format::Tsv)?;
-    match merge_into(alloc, form, files, skips, &mut rows)? {
+    match merge_files(alloc, kind, files, most, &mut rows)? {
         Some(text) => Ok(text),
         None => Ok(String::from_utf8(rows.finish()?)?),
     }
 }
 
+// How many bytes a block has at most.
+const BLOCKS: [usize; 4] = [1, 2, 5, 1 << 16];
+
 #[test]
 fn sorted_files_merged(rt: HostRuntime) -> Result<(), Fail> {
     let alloc = rt.alloc();
-    for (files, skips, wanted) in &SORTED_MERGES {
-        is_text(&merged(alloc, RowForm::Tsv, files, *skips)?, wanted)?;
-    }
-    for (files, skips, wanted) in &SORTED_UNIQ {
-        is_text(&merged(alloc, RowForm::Uniq, files, *skips)?, wanted)?;
+    for most in BLOCKS {
+        for (files, skips, wanted) in &SORTED_MERGES {
+            let kind = file_of(RowForm::Tsv, *skips);
+            is_text(&merged(alloc, kind, files, most)?, wanted)?;
+        }
+        for (files, skips, wanted) in &SORTED_UNIQ {
+            let kind = file_of(RowForm::Uniq, *skips);
+            is_text(&merged(alloc, kind, files, most)?, wanted)?;
+        }
     }
     Ok(())
 }
@@ -148,15 +229,21 @@ const SKIPPED: [(&str, &[u64]); 4] = [
 ];
 
 // Checks how many bad lines of each file are skipped.
-fn are_skipped(alloc: Global, files: &str, wanted: &[u64]) -> Result<(), Fail> {
-    let Ok(mut sources) = opened(alloc, RowForm::Tsv, files, true)? else {
+fn are_skipped(alloc: Global, files: &str, wanted: &[u64], most: usize) -> Result<(), Fail> {
+    let mut texts = Vec::new(alloc);
+    for file in files.split('|') {
+        texts.push(file.as_bytes())?;
+    }
+    let Ok(mut texts) = texts_of(alloc, file_of(RowForm::Tsv, true), &texts, most)? else {
         return Err(Fail::new("files aren't opened"));
     };
-    let mut rows = TopRows::new(alloc, 1);
-    if merge_rows(&mut sources, &mut rows).is_err() {
+    if texts
+        .merge_into(alloc, &mut TopRows::new(alloc, 1))?
+        .is_some()
+    {
         return Err(Fail::new("files aren't merged"));
     }
-    for (source, wanted) in sources.iter().zip(wanted.iter()) {
+    for (source, wanted) in texts.merger.sources().iter().zip(wanted.iter()) {
         let found = source.rows().reading().skipped;
         if found != *wanted {
             return Err(Fail::new(format_args!("{found}, not {wanted}: {files:?}")));
@@ -167,42 +254,10 @@ fn are_skipped(alloc: Global, files: &str, wanted: &[u64]) -> Result<(), Fail> {
 
 #[test]
 fn bad_lines_are_counted_once(rt: HostRuntime) -> Result<(), Fail> {
-    for (files, wanted) in &SKIPPED {
-        are_skipped(rt.alloc(), files, *wanted)?;
-    }
-    Ok(())
-}
-
-// A sink that fails at the first row.
-#[derive(Drop)]
-struct FullSink;
-
-impl Sink for FullSink {
-    ghost use Rattle.std.specs.Prelude.{⊤};
-
-    ghost put_gives = { λ _ _ _. ⊤ };
-
-    fn put(&mut self, _token: String, _count: usize) -> Result<(), Fault> {
-        Err(Fault::Read(io::Error::from(ErrorKind::StorageFull)))
-    }
-}
-
-// Merges files into such a sink. The failure is the sink's, and no source's.
-fn sink_fails(alloc: Global, files: &str) -> Result<(), Fail> {
-    let Ok(mut sources) = opened(alloc, RowForm::Tsv, files, false)? else {
-        return Err(Fail::new("files aren't opened"));
-    };
-    match merge_rows(&mut sources, &mut FullSink) {
-        Err(Stop::Sink(_)) => Ok(()),
-        _ => Err(Fail::new(format_args!("not the sink: {files:?}"))),
-    }
-}
-
-// The first row is put in the middle of a merge, or at its end.
-#[test]
-fn a_sink_that_fails(rt: HostRuntime) -> Result<(), Fail> {
-    for files in ["a\t1\nb\t2\n|c\t1\n", "a\t1\n"] {
-        sink_fails(rt.alloc(), files)?;
+    for most in BLOCKS {
+        for (files, wanted) in &SKIPPED {
+            are_skipped(rt.alloc(), files, *wanted, most)?;
+        }
     }
     Ok(())
 }
@@ -216,17 +271,22 @@ fn said_of(alloc: Global, rows: TopRows) -> Result<String, Fail> {
     Ok(said)
 }
 
+// Merges runs into a sink.
+fn merge_runs<K: Sink>(alloc: Global, runs: &[&[u8]], sink: &mut K) -> Result<(), Fail> {
+    let Ok(mut texts) = texts_of(alloc, Kind::Run, runs, 3)? else {
+        return Err(Fail::new("runs aren't opened"));
+    };
+    match texts.merge_into(alloc, sink)? {
+        None => Ok(()),
+        Some(_) => Err(Fail::new("runs aren't merged")),
+    }
+}
+
 // The commonest row of a run.
 fn top_of_run(alloc: Global, run: &[u8]) -> Result<String, Fail> {
     let mut top = TopRows::new(alloc, 1);
-    let mut sources = Vec::new(alloc);
-    sources
-        .push(source_of(alloc, run)?)
-        .map_err(AllocError::from)?;
-    match merge_rows(&mut sources, &mut top) {
-        Ok(()) => said_of(alloc, top),
-        Err(_) => Err(Fail::new("a run isn't merged")),
-    }
+    merge_runs(alloc, &[run], &mut top)?;
+    said_of(alloc, top)
 }
 
 // A run may begin with a token that begins with a byte order mark.
@@ -258,7 +318,8 @@ fn shown_in<K>(sink: K, least: usize) -> ShownRows<K> {
 fn top_of(alloc: Global, most: usize, least: usize) -> Result<String, Fail> {
     let mut top = shown_in(TopRows::new(alloc, most), least);
     let files = "a\t4\nc\t2\ne\t1\n|b\t4\nc\t7\nf\t1\n";
-    if merge_into(alloc, RowForm::Tsv, files, false, &mut top)?.is_some() {
+    let kind = file_of(RowForm::Tsv, false);
+    if merge_files(alloc, kind, files, 4, &mut top)?.is_some() {
         return Err(Fail::new("files aren't merged"));
     }
     said_of(alloc, top.sink)
@@ -344,28 +405,12 @@ fn run_of_part(alloc: Global, counter: &mut Counter, part: &str) -> Result<Strin
     }
 }
 
-// A run as a source of rows.
-fn source_of<'a>(alloc: Global, run: &'a [u8]) -> Result<Source<RowReader<&'a [u8]>>, Fail> {
-    match Source::open(RowReader::of_run(alloc, run)) {
-        Ok(source) => Ok(source),
-        Err(_) => Err(Fail::new("a run isn't read")),
-    }
-}
-
 // The rows of two runs with a count of 2 or more.
 fn twice_in(alloc: Global, first: &[u8], second: &[u8]) -> Result<String, Fail> {
-    let mut sources = Vec::new(alloc);
-    for run in [first, second] {
-        sources
-            .push(source_of(alloc, run)?)
-            .map_err(AllocError::from)?;
-    }
     let writer = RowWriter::begin(alloc, Vec::new(alloc), Format::Tsv)?;
     let mut rows = shown_in(writer, 2);
-    match merge_rows(&mut sources, &mut rows) {
-        Ok(()) => Ok(String::from_utf8(rows.sink.finish()?)?),
-        Err(_) => Err(Fail::new("runs aren't merged")),
-    }
+    merge_runs(alloc, &[first, second], &mut rows)?;
+    Ok(String::from_utf8(rows.sink.finish()?)?)
 }
 
 // The runs of two parts of a text, as `sort` and `uniq -c` have them.

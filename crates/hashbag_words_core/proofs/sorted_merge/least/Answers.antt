@@ -4,13 +4,13 @@ use Rattle.hashbag_words_core.proofs.sorted_merge.least.Goals as goal
 use Rattle.hashbag_words_core.proofs.sorted_merge.least.Goals.{then-is_before, else-is_before}
 
 pub sources-init : goal.sources-init
-sources-init g c = record {
+sources-init c = record {
   within = c.requires;
   least = least_kept c.args.sources.now 0 0 (λ k d lt. absurd (omega arith)) (λ d. no_later_itself (get_or c.args.sources.now 0 d).head);
 }
 
 pub sources-preserved : goal.sources-preserved
-sources-preserved g c =
+sources-preserved c =
     let sources = c.args.sources.now in
     let here : c.sources.i < length sources = omega arith in
     let low : c.sources.best < length sources = c.sources.invariant.within in

@@ -4,4 +4,4 @@ use Rattle.hashbag_words_core.proofs.sorted_merge.least.Given as goal
 
 -- the best so far is one of them, and none before this place is less
 abbrev pub invariant-sources : goal.invariant-sources
-invariant-sources g l = record { within : l.best < length l.fn.sources; least : IsLeastTo l.fn.sources l.best l.i }
+invariant-sources l = record { within : l.best < length l.fn.sources; least : IsLeastTo l.fn.sources l.best l.i }

@@ -1,7 +1,7 @@
 use Rattle.std.proofs.Common.{string_bytes, IfOk, subst}
 use Rattle.hashbag_words_core.specs.Rows.{IsLineOf}
 use Rattle.hashbag_words_core.proofs.RunLemmas.{read_as-line}
-use Rattle.hashbag_words_core.proofs.row_reader.read_line.Goals as goal
+use Rattle.hashbag_words_core.proofs.row_source.read_line.Goals as goal
 
 -- what `read_in_form` says of the line is what a run's line is read as
 pub returns-in-Ok-2-clause-row : goal.returns-in-Ok-2-clause-row

@@ -1,0 +1,68 @@
+//! Bytes that were given and haven't been read.
+ghost use Rattle.std.specs.Prelude.{◌≡◌, ◌≤◌, ◌++◌, [], drop, length, OnErr, OnOk};
+
+use std::alloc::{AllocError, Global};
+use std::marker::Model;
+
+/// Bytes that were given and haven't been read, in their order. Contracts see the list of them.
+#[derive(Drop)]
+pub struct Unread {
+    bytes: Vec<u8>,
+    // How many of them have been read.
+    read: usize,
+}
+
+impl Model for Unread {
+    ghost use Rattle.std.specs.Prelude.{◌≤◌, ℕ, List, drop, length};
+
+    ghost Value = { List ℕ };
+
+    ghost view = { λ u. drop u.read u.bytes.items };
+
+    ghost invariant = { λ u. u.read ≤ length u.bytes.items };
+}
+
+impl Unread {
+    /// Returns no bytes.
+    pub fn new(alloc: Global) -> Unread
+        ensures { result ≡ [] }
+    {
+        let bytes = Vec::new(alloc);
+        Unread { bytes, read: 0 }
+    }
+
+    /// The bytes.
+    pub fn bytes(&self) -> &[u8]
+        ensures { result.now ≡ self.now }
+    {
+        &self.bytes[self.read..]
+    }
+
+    /// Notes that the first `n` of them have been read.
+    pub fn skip(&mut self, n: usize)
+        requires { n ≤ length self.old }
+        ensures { self.new ≡ drop n self.old }
+    {
+        self.read += n;
+    }
+
+    /// Adds a block behind them.
+    ///
+    /// # Errors
+    ///
+    /// An allocation fails. Then nothing was added.
+    ///
+    /// # Complexity
+    ///
+    /// Copies the block and the bytes that haven't been read.
+    pub fn append(&mut self, alloc: Global, block: &[u8]) -> Result<(), AllocError>
+        ensures ok { OnOk result (self.new ≡ self.old ++ block.now) }
+        ensures err { OnErr result (self.new ≡ self.old) }
+    {
+        let mut bytes = Vec::new(alloc);
+        bytes.extend_from_slice(self.bytes())?;
+        bytes.extend_from_slice(block)?;
+        *self = Unread { bytes, read: 0 };
+        Ok(())
+    }
+}
