@@ -36,31 +36,58 @@ fn sink_failure<'a>(folder: &'a str, fault: Fault) -> Failure<'a> {
     }
 }
 
-// Reads the next block of a file, and gives it to a source that has no row yet.
+// Reads the next blocks of a file, and gives them to a source that has no row yet: at least as many bytes as it keeps of a line. So the line is
+// searched for its end few times, however long it is.
 fn begin<'a>(
     file: &mut Named<'a>,
     block: &mut [u8],
     rows: &mut RowSource,
 ) -> Result<(), Failure<'a>> {
-    match read_block(&mut file.file, block) {
-        Ok(0) => rows.end(),
-        Ok(n) => rows.give(&block[..n])?,
-        Err(error) => return Err(Failure::of_file(file.name, error)),
+    let kept = rows.kept();
+    let mut given = 0usize;
+    for _ in 0..u64::MAX {
+        match read_block(&mut file.file, block) {
+            Ok(0) => {
+                rows.end();
+                break;
+            }
+            Ok(n) => {
+                rows.give(&block[..n])?;
+                given = given.saturating_add(n);
+            }
+            Err(error) => return Err(Failure::of_file(file.name, error)),
+        }
+        if given >= kept {
+            break;
+        }
     }
     Ok(())
 }
 
-// Reads the next block of the file of a source that is merged, and gives it to that source.
+// The same for a source that is merged.
 fn feed<'a>(
     file: &mut Named<'a>,
     block: &mut [u8],
     merger: &mut Merger,
     i: usize,
 ) -> Result<(), Failure<'a>> {
-    match read_block(&mut file.file, block) {
-        Ok(0) => merger.end(i),
-        Ok(n) => merger.give(i, &block[..n])?,
-        Err(error) => return Err(Failure::of_file(file.name, error)),
+    let kept = merger.kept(i);
+    let mut given = 0usize;
+    for _ in 0..u64::MAX {
+        match read_block(&mut file.file, block) {
+            Ok(0) => {
+                merger.end(i);
+                break;
+            }
+            Ok(n) => {
+                merger.give(i, &block[..n])?;
+                given = given.saturating_add(n);
+            }
+            Err(error) => return Err(Failure::of_file(file.name, error)),
+        }
+        if given >= kept {
+            break;
+        }
     }
     Ok(())
 }

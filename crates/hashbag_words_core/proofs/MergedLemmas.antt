@@ -9,8 +9,8 @@ use Rattle.hashbag_words_core.specs.Runs.{rows_in, run_text}
 use Rattle.hashbag_words_core.specs.Sorted.{row_of, shown_of, IsMergeOf, IsNoLater, IsNotBelow, Joins, SoFar}
 use Rattle.hashbag_words_core.specs.Sources.{left_with, rows_of, MayCome}
 use Rattle.hashbag_words_core.specs.declared.row_source.Kind.{Kind}
-use Rattle.hashbag_words_core.specs.declared.row_source.Next.TheVariants.{Row, Wants, End}
-use Rattle.hashbag_words_core.specs.declared.sorted_merge.Merged.TheVariants.{Row as MergedRow, Wants as MergedWants, End as MergedEnd}
+use Rattle.hashbag_words_core.specs.declared.row_source.Next.TheVariants.{Row, End}
+use Rattle.hashbag_words_core.specs.declared.sorted_merge.Merged.TheVariants.{Row as MergedRow, End as MergedEnd}
 use Rattle.hashbag_words_core.specs.declared.sources.Source.{Source}
 use Rattle.hashbag_words_core.proofs.SortedLemmas.{same_at}
 use Rattle.hashbag_words_core.proofs.SortedMergeLemmas.{so_far_none, so_far_more, so_far_over, so_far_done}

@@ -1,5 +1,5 @@
 -- The merge of rows that rise, one row after the other.
-use Rattle.std.proofs.Common.{◌≡◌, ◌⊎◌, ℕ, zero, suc, ◌+◌, ◌<◌, ◌^◌, Bool, true, false, cond, List, [], ◌∷◌, ◌++◌, length, get_or, set, sum_by, All, Less, String, string_bytes, string_eq, bytes_eq, Global, Option, None, Some, refl, sym, ◌∙◌, ap, subst, subst₂, arith, inl, inr, eq-eqb, ne_eqb, length-set}
+use Rattle.std.proofs.Common.{◌≡◌, ◌⊎◌, ℕ, ◌+◌, ◌<◌, ◌^◌, Bool, true, false, cond, List, [], ◌∷◌, ◌++◌, length, get_or, set, sum_by, All, Less, String, string_bytes, string_eq, bytes_eq, Global, Option, None, Some, refl, sym, ◌∙◌, ap, subst, subst₂, arith, inl, inr, eq-eqb, ne_eqb, length-set}
 use Rattle.std.specs.Cmp.Lexicographic.{bytes_decides}
 use Rattle.std.proofs.lemmas.Bool.{cases_eq}
 use Rattle.std.proofs.lemmas.List.{append-nil, get_or-set_same, get_or-set_other}

@@ -1,7 +1,7 @@
 //! The rows of a file of counts, which is given in blocks, however it is cut.
 //!
 //! A [`RowSource`] reads nothing: it is given bytes. So its clauses hold whatever they come from.
-ghost use Rattle.std.specs.Prelude.{◌≡◌, ℕ, ◌++◌, [], List, Some, false, true, IfOk, IsErr, IsSome, IsSomeAnd, OnOk};
+ghost use Rattle.std.specs.Prelude.{◌≡◌, ℕ, ◌++◌, [], List, length, Some, false, true, IfOk, IsErr, IsSome, IsSomeAnd, OnOk};
 ghost use Rattle.hashbag_words_core.specs.Runs.{read_as, rows_left};
 ghost use Rattle.hashbag_words_core.specs.Sorted.{row_of};
 ghost use Rattle.hashbag_words_core.specs.Sources.{left_with, Gives, Holds, IsAtEnd, MayCome, Meets};
@@ -119,6 +119,13 @@ impl RowSource {
         ensures { result ≡ self.now.reading }
     {
         self.reading
+    }
+
+    /// Returns how many bytes it keeps: those that were given and haven't been read.
+    pub fn kept(&self) -> usize
+        ensures { result ≡ length self.now.unread }
+    {
+        self.unread.bytes().len()
     }
 
     /// Gives the next bytes of the text.

@@ -175,6 +175,14 @@ impl Merger {
         &self.sources
     }
 
+    /// Returns how many bytes the source of that place keeps, or 0 if there is no such source.
+    pub fn kept(&self, i: usize) -> usize {
+        match self.sources.get(i) {
+            Some(source) => source.rows.kept(),
+            None => 0,
+        }
+    }
+
     /// Gives the next bytes of the source of that place.
     ///
     /// # Errors

@@ -54,15 +54,16 @@ impl Unread {
     ///
     /// # Complexity
     ///
-    /// Copies the block and the bytes that haven't been read.
+    /// Copies the block, and the bytes that haven't been read if others were. So a line of many blocks is copied a few times in all.
     pub fn append(&mut self, alloc: Global, block: &[u8]) -> Result<(), AllocError>
         ensures ok { OnOk result (self.new ≡ self.old ++ block.now) }
         ensures err { OnErr result (self.new ≡ self.old) }
     {
-        let mut bytes = Vec::new(alloc);
-        bytes.extend_from_slice(self.bytes())?;
-        bytes.extend_from_slice(block)?;
-        *self = Unread { bytes, read: 0 };
-        Ok(())
+        if self.read > 0 {
+            let mut bytes = Vec::new(alloc);
+            bytes.extend_from_slice(self.bytes())?;
+            *self = Unread { bytes, read: 0 };
+        }
+        self.bytes.extend_from_slice(block)
     }
 }
