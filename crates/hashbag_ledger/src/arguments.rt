@@ -2,7 +2,7 @@
 use crate::command::{COLUMNS, PROGRAM, START_COLUMNS, command};
 use clap::error::ErrorKind;
 use clap::{ArgMatches, Error};
-use hashbag_ledger_core::reading::{ChangeColumns, Columns};
+use hashbag_ledger_lib::reading::{ChangeColumns, Columns};
 use hashbag_lists::counts::Reading;
 use hashbag_lists::delimiter::Delimiter;
 use hashbag_lists::scale::{Mark, Scale};
