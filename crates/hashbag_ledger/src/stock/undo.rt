@@ -1,21 +1,24 @@
 //! A batch that is taken back.
-use crate::stock::database::{Db, ended, open, put as put_in, read};
-use crate::stock::enter::{copy_of, random_state, start_too_many};
+use crate::stock::database::{Db, ended, in_database, open, put as put_in};
+use crate::stock::enter::{random_state, start_too_many};
 use crate::stock::failure::Failure;
 use crate::stock::request::Request;
-use hashbag_ledger_core::entering::LedgerError;
-use hashbag_ledger_core::ledger::booking::Booked;
-use hashbag_ledger_core::movements::{Movement, Refusal};
-use hashbag_ledger_core::output::refusals_text;
+use hashbag_ledger_lib::entering::LedgerError;
+use hashbag_ledger_lib::filing::copy_of;
+use hashbag_ledger_lib::ledger::booking::Booked;
+use hashbag_ledger_lib::movements::{Movement, Refusal};
+use hashbag_ledger_lib::numbers::MOST;
+use hashbag_ledger_lib::once::{Batch, Kind, batch_of, next_number, undone_by};
+use hashbag_ledger_lib::output::refusals_text;
+use hashbag_ledger_lib::rows::changed_rows;
+use hashbag_ledger_lib::sealing::{Draft, row_of};
+use hashbag_ledger_lib::undoing::{Undo, take_back};
 use hashbag_lists::decimals::write_decimal;
 use hashbag_shell::output::write_text;
 use hashbag_shell::status::{DENIED, DONE};
-use hashbag_stock::query::{Balance, Batches, Entered};
-use hashbag_stock::writing::{Kind, NewBatch};
-use hashbag_stock_core::numbers::MOST;
-use hashbag_stock_core::once::{Batch, batch_of, undone_by};
-use hashbag_stock_core::rows::changed_rows;
-use hashbag_stock_core::undoing::{Undo, take_back};
+use hashbag_stock::reading::{balance_of, batches_of, entered_of, time_of};
+use hashbag_stock::tables::Shape;
+use hashbag_stock::writing::NewBatch;
 use std::alloc::{AllocError, Global};
 
 // What an undo has to know of its batch.
@@ -23,6 +26,8 @@ use std::alloc::{AllocError, Global};
 struct Found {
     number: i64,
     file: String,
+    // The number of the batch that undoes it.
+    by: i64,
 }
 
 // Returns the batch that is asked for, if it may be undone.
@@ -44,6 +49,7 @@ fn found_of<'a>(request: &Request<'a>, batches: &[Batch]) -> Result<Found, Failu
         None => Ok(Found {
             number,
             file: batch.file.clone()?,
+            by: next_number(batches),
         }),
     }
 }
@@ -53,24 +59,37 @@ fn put<'a>(
     alloc: Global,
     conn: &mut Db,
     db: &'a str,
+    shape: Shape,
     found: &Found,
     booked: &Booked<String>,
     before: &[(String, usize)],
 ) -> Result<(), Failure<'a>> {
     let changed = changed_rows(alloc, before, &booked.balance)?;
-    let batch = NewBatch {
+    let time = in_database(db, time_of(conn))?;
+    let draft = Draft {
+        number: found.by,
         file: found.file.as_str(),
         sha256: "",
         kind: Kind::Undo(found.number),
-        entries: &booked.entries,
-        changed: &changed,
+        time: time.as_str(),
     };
-    put_in(db, conn, None, &batch)
+    let row = row_of(alloc, shape.scale, draft, &booked.entries)?;
+    let batch = NewBatch {
+        row: &row,
+        is_sealed: shape.is_sealed,
+        entries: &booked.entries,
+    };
+    put_in(db, conn, None, [batch].as_slice(), &changed)
 }
 
 // Returns what is known of the batch that is asked for, if it may be undone.
-fn found_in<'a>(alloc: Global, conn: &mut Db, request: &Request<'a>) -> Result<Found, Failure<'a>> {
-    let batches = read(alloc, request.db, conn, &Batches)?;
+fn found_in<'a>(
+    alloc: Global,
+    conn: &mut Db,
+    request: &Request<'a>,
+    shape: Shape,
+) -> Result<Found, Failure<'a>> {
+    let batches = in_database(request.db, batches_of(alloc, conn, shape))?;
     found_of(request, &batches)
 }
 
@@ -102,18 +121,24 @@ fn undo_of<'a>(
 fn take_back_in<'a>(
     rt: &HostRuntime,
     request: &Request<'a>,
-    scale: u32,
+    shape: Shape,
     conn: &mut Db,
     found: &Found,
 ) -> Result<Vec<Refusal<String>>, Failure<'a>> {
-    let alloc = rt.alloc();
-    let db = request.db;
-    let entered = read(alloc, db, conn, &Entered(found.number))?;
-    let kept = read(alloc, db, conn, &Balance)?;
-    match undo_of(rt, request, scale, found.file.as_str(), &kept, entered)? {
+    let (alloc, db) = (rt.alloc(), request.db);
+    let entered = in_database(db, entered_of(alloc, conn, found.number))?;
+    let kept = in_database(db, balance_of(alloc, conn))?;
+    match undo_of(
+        rt,
+        request,
+        shape.scale,
+        found.file.as_str(),
+        &kept,
+        entered,
+    )? {
         Undo::Refused(refusals) => Ok(refusals),
         Undo::Done(booked) => {
-            put(alloc, conn, db, found, &booked, &kept)?;
+            put(alloc, conn, db, shape, found, &booked, &kept)?;
             Ok(Vec::new(alloc))
         }
     }
@@ -123,23 +148,12 @@ fn take_back_in<'a>(
 fn done_in<'a>(
     rt: &HostRuntime,
     request: &Request<'a>,
-    scale: u32,
+    shape: Shape,
     conn: &mut Db,
 ) -> Result<(Vec<Refusal<String>>, String), Failure<'a>> {
-    let found = found_in(rt.alloc(), conn, request)?;
-    let refusals = take_back_in(rt, request, scale, conn, &found)?;
+    let found = found_in(rt.alloc(), conn, request, shape)?;
+    let refusals = take_back_in(rt, request, shape, conn, &found)?;
     Ok((refusals, found.file))
-}
-
-// Takes the batch back, and returns the refusals with the name of its file and the scale.
-fn done_of<'a>(
-    rt: &HostRuntime,
-    request: &Request<'a>,
-) -> Result<(Vec<Refusal<String>>, String, u32), Failure<'a>> {
-    let (mut conn, scale) = open(rt, request)?;
-    let done = done_in(rt, request, scale, &mut conn);
-    let (refusals, file) = ended(conn, done)?;
-    Ok((refusals, file, scale))
 }
 
 /// Enters the opposite movements of a batch, all or none, and writes the refusals.
@@ -148,12 +162,14 @@ fn done_of<'a>(
 ///
 /// Why the batch can't be taken back.
 pub fn undo<'a>(rt: &HostRuntime, request: &Request<'a>) -> Result<u8, Failure<'a>> {
-    let (refusals, file, scale) = done_of(rt, request)?;
+    let (mut conn, shape) = open(rt, request)?;
+    let done = done_in(rt, request, shape, &mut conn);
+    let (refusals, file) = ended(conn, done)?;
     if refusals.is_empty() {
         return Ok(DONE);
     }
     let names = [file.as_str()];
-    let reading = request.reading(scale);
+    let reading = request.reading(shape.scale);
     let text = refusals_text(rt.alloc(), names.as_slice(), reading.scale, &refusals)?;
     write_text(&mut rt.stderr(), text.as_bytes())?;
     Ok(DENIED)

@@ -1,0 +1,10 @@
+pub mod Batches
+pub mod Changes
+pub mod Entries
+pub mod Ledger
+pub mod Numbers
+pub mod Rows
+pub mod Seals
+pub mod SealsExamples
+pub mod Settled
+pub mod Undos
