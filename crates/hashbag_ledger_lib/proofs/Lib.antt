@@ -2,6 +2,7 @@ pub mod AfterLemmas
 pub mod BatchLemmas
 pub mod BookLemmas
 pub mod ChangeLemmas
+pub mod CopyLemmas
 pub mod EnterLemmas
 pub mod LedgerLemmas
 pub mod ListLemmas

@@ -1,6 +1,7 @@
 pub mod Batches
 pub mod Changes
 pub mod Entries
+pub mod Kinds
 pub mod Ledger
 pub mod Numbers
 pub mod Rows

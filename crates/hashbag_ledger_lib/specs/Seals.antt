@@ -1,5 +1,5 @@
 -- What the seal of a batch is made of: the scale of the stock, the row of the batch, and its movements. Each text has its length before it.
-use Rattle.std.specs.Prelude.{◌≡◌, ℕ, ◌+◌, ℤ, List, [], ◌∷◌, ◌++◌, length, take, drop, Option, None, Some, String, string_bytes}
+use Rattle.std.specs.Prelude.{◌≡◌, ℕ, ℤ, List, [], ◌∷◌, ◌++◌, length, take, drop, Option, None, Some, String, string_bytes}
 use Rattle.std.specs.Global.{Global}
 use Rattle.std.specs.Int.{w64, to_le_bytes, cast_unsigned}
 use Rattle.hex.specs.Hex.{encode_lower}
@@ -9,6 +9,9 @@ use Rattle.hashbag_ledger_lib.specs.declared.movements.Change.TheVariants.{In, O
 use Rattle.hashbag_ledger_lib.specs.declared.movements.Entry.{Entry}
 use Rattle.hashbag_ledger_lib.specs.declared.movements.Movement.{Movement}
 use Rattle.hashbag_ledger_lib.specs.declared.once.Batch.{Batch}
+use Rattle.hashbag_ledger_lib.specs.declared.sealing.Draft.{Draft}
+use Rattle.hashbag_ledger_lib.specs.Entries.{refusals_in}
+use Rattle.hashbag_ledger_lib.specs.Kinds.{name_of, undone_of}
 use Rattle.hashbag_ledger_lib.specs.Numbers.{plain}
 
 -- a message m and then a number, which takes eight bytes
@@ -57,6 +60,25 @@ sealed scale b es = with_movements (with_counts (with_source (with_head [] scale
 -- the seal of a batch: the SHA-256 of all that, in hexadecimal digits
 abbrev pub seal_of : ℕ → Batch → List (Entry (String Global)) → List ℕ
 seal_of scale b es = encode_lower (sha256 (sealed scale b es))
+
+-- the row of a batch that has these entries
+pub record IsRowOf (scale : ℕ) (d : Draft) (es : List (Entry (String Global))) (b : Batch) : Type 0 where
+  pub number : b.number ≡ d.number
+  pub file : string_bytes b.file ≡ d.file.now
+  pub digest : string_bytes b.sha256 ≡ d.sha256.now
+  pub kind : string_bytes b.kind ≡ name_of d.kind
+  pub undoes : b.undoes ≡ undone_of d.kind
+  pub time : string_bytes b.time ≡ d.time.now
+  pub counts : b.movements ≡ length es
+  pub refusals : b.refused ≡ length (refusals_in es)
+  pub seal : string_bytes b.seal ≡ seal_of scale b es
+
+-- the rows of batches, of which each has the next of the entries, as many as its draft says
+abbrev pub AreRowsOf : ℕ → List Draft → List (Entry (String Global)) → List Batch → Type 0
+AreRowsOf scale [] es [] = Unit {0}
+AreRowsOf scale [] es (b ∷ bs) = ⊥
+AreRowsOf scale (d ∷ ds) es [] = ⊥
+AreRowsOf scale (d ∷ ds) es (b ∷ bs) = IsRowOf scale d (take d.movements es) b × AreRowsOf scale ds (drop d.movements es) bs
 
 -- each batch has the seal of its row and of its movements, where the movements of all batches are in turn
 abbrev pub AreSealed : ℕ → List Batch → List (Entry (String Global)) → Type 0

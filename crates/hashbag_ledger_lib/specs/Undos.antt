@@ -1,10 +1,13 @@
 -- A batch that is taken back by its opposite movements.
-use Rattle.std.specs.Prelude.{◌≡◌, ℕ, ◌+◌, ◌-◌, ◌<◌, Bool, List, [], ◌∷◌, ◌++◌}
+use Rattle.std.specs.Prelude.{◌≡◌, ℕ, ◌+◌, ◌-◌, ◌<◌, Bool, List, [], ◌∷◌, ◌++◌, String}
 use Rattle.std.specs.declared.cmp.Ordering.{Ordering}
+use Rattle.std.specs.Global.{Global}
 use Rattle.hashbag_lists.specs.Quantities.{IsBalance}
 use Rattle.hashbag_ledger_lib.specs.declared.movements.Change.{Change}
 use Rattle.hashbag_ledger_lib.specs.declared.movements.Change.TheVariants.{In, Out}
 use Rattle.hashbag_ledger_lib.specs.declared.movements.Movement.{Movement}
+use Rattle.hashbag_ledger_lib.specs.declared.rows.RowChange.{RowChange}
+use Rattle.hashbag_ledger_lib.specs.Changes.{Rises, AreChanges}
 use Rattle.hashbag_ledger_lib.specs.Entries.{entries_of}
 use Rattle.hashbag_ledger_lib.specs.Ledger.{came, went, refused_of}
 use Rattle.hashbag_ledger_lib.specs.Settled.{listed}
@@ -60,3 +63,13 @@ module _ {T : Type 0} (eq : T → T → Bool) where
     abbrev pub IsUndo : Undo T → Type 0
     IsUndo (Done booked) = TakesBack booked.balance.items
     IsUndo (Refused refusals) = (v : T) × FallsBelowZero stock batch v
+
+-- the rows of the balance that an undo leaves rise
+abbrev pub HasRisingRows : Undo (String Global) → Type 0
+HasRisingRows (Done booked) = Rises booked.balance.items
+HasRisingRows (Refused refusals) = Unit {0}
+
+-- what becomes of the rows of the balance that was kept: they are those that the undo leaves, and none changes if it is denied
+abbrev pub IsChangedBy : List (String Global × ℕ) → Undo (String Global) → List RowChange → Type 0
+IsChangedBy kept (Done booked) changed = AreChanges kept booked.balance.items changed
+IsChangedBy kept (Refused refusals) changed = changed ≡ []

@@ -1,16 +1,19 @@
 //! The files of a call, entered in turn into the balance that is kept.
-ghost use Rattle.std.specs.Prelude.{◌≡◌, ◌<◌, ◌^◌, ◌-◌, ◌↔◌, IfOk, IfErr, string_cmp};
+ghost use Rattle.std.specs.Prelude.{◌≡◌, ◌<◌, ◌^◌, ◌-◌, map, vec_len, IfOk, IfErr, string_cmp};
 ghost use Rattle.std.specs.String.{string_eq};
 ghost use Rattle.hashbag_lists.specs.Quantities.{numbers};
 ghost use Rattle.hashbag_ledger_lib.specs.Batches.{all_of};
+ghost use Rattle.hashbag_ledger_lib.specs.Changes.{Rises, AreChanges};
 ghost use Rattle.hashbag_ledger_lib.specs.declared.movements.Place.{Place};
 ghost use Rattle.hashbag_ledger_lib.specs.Entries.{IsBooked};
+ghost use Rattle.hashbag_ledger_lib.specs.Rows.{rows_of};
 ghost use Rattle.hashbag_ledger_lib.specs.Settled.{IsPastWithin};
 
 use crate::entering::LedgerError;
 use crate::ledger::booking::{Booked, book_batch};
 use crate::movements::{Entry, Movement, Outcome, Refusal};
 use crate::numbers::size_of;
+use crate::rows::{RowChange, changed_rows};
 use std::alloc::{AllocError, Global};
 use std::hash::BuildHasher;
 
@@ -19,35 +22,57 @@ use std::hash::BuildHasher;
 pub struct Filed {
     /// The balance, and the movements of all files, in turn, each with what became of it.
     pub booked: Booked<String>,
-    // Where the movements of each file end.
-    ends: Vec<usize>,
+    /// What becomes of the rows of the balance that was kept.
+    pub changed: Vec<RowChange>,
+    /// How many movements each file has.
+    pub counts: Vec<usize>,
 }
 
 /// Enters the movements of files, in turn, into the balance that is kept: each file into what the ones before it left.
 ///
 /// # Errors
 ///
-/// `StartTooMany` exactly if the numbers of the balance are more than 2^63-1 together. `TooMany` with the place of a movement only if
-/// the total would pass 2^63-1 with it. `Memory` if an allocation fails.
+/// `StartTooMany` only if the numbers of the balance are more than 2^63-1 together. `TooMany` with the place of a movement only if the
+/// total would pass 2^63-1 with it. `Memory` if an allocation fails.
 ///
 /// # Complexity
 ///
-/// Hashes each article of the balance once, and the article of each movement at most three times. Sorts the balance once.
+/// Hashes each article of the balance once, and the article of each movement at most three times. Copies and sorts the balance once.
 pub fn enter_files<S: BuildHasher + Drop>(
     alloc: Global,
     state: S,
-    kept: Vec<(String, usize)>,
+    kept: &[(String, usize)],
     files: Vec<Vec<Movement<String>>>,
 ) -> Result<Filed, LedgerError>
-    ensures booked { IfOk result (λ f. IsBooked string_eq string_cmp (2 ^ 63 - 1) kept.items (all_of files.items)
+    ensures booked { IfOk result (λ f. IsBooked string_eq string_cmp (2 ^ 63 - 1) kept.now (all_of files.items)
         f.booked.balance.items f.booked.entries.items) }
+    ensures changed { IfOk result (λ f. Rises kept.now → AreChanges kept.now f.booked.balance.items f.changed.items) }
+    ensures counts { IfOk result (λ f. f.counts.items ≡ map (λ file. vec_len file) files.items) }
     ensures past { IfErr result (λ e. (p : Place) → e ≡ LedgerError.TooMany p
-        → IsPastWithin string_eq (2 ^ 63 - 1) kept.items (all_of files.items) p) }
+        → IsPastWithin string_eq (2 ^ 63 - 1) kept.now (all_of files.items) p) }
+    ensures start { (result ≡ Err LedgerError.StartTooMany) → 2 ^ 63 - 1 < numbers kept.now }
 {
-    let ends = ends_of(alloc, &files)?;
+    let counts = counts_of(alloc, &files)?;
+    let copy = copy_of(alloc, kept)?;
     let all = in_turn(alloc, files)?;
-    let booked = book_batch(alloc, state, kept, all)?;
-    Ok(Filed { booked, ends })
+    let booked = book_batch(alloc, state, copy, all)?;
+    let changed = changed_rows(alloc, kept, &booked.balance)?;
+    Ok(Filed {
+        booked,
+        changed,
+        counts,
+    })
+}
+
+// Returns how many movements each file has.
+fn counts_of(alloc: Global, files: &[Vec<Movement<String>>]) -> Result<Vec<usize>, AllocError>
+    ensures { IfOk result (λ counts. counts.items ≡ map (λ file. vec_len file) files.now) }
+{
+    let mut counts = Vec::new(alloc);
+    for file in files {
+        counts.push(file.len())?;
+    }
+    Ok(counts)
 }
 
 // Returns the movements of files, in turn.
@@ -63,29 +88,6 @@ fn in_turn(
         all.append(&mut movements)?;
     }
     Ok(all)
-}
-
-// Returns where the movements of each file end, if they are in turn.
-fn ends_of(alloc: Global, files: &[Vec<Movement<String>>]) -> Result<Vec<usize>, AllocError> {
-    let mut ends = Vec::new(alloc);
-    let mut end = 0usize;
-    for file in files {
-        end = end.saturating_add(file.len());
-        ends.push(end)?;
-    }
-    Ok(ends)
-}
-
-impl Filed {
-    /// Returns the entries of the file at this place.
-    pub fn entries_at(&self, at: usize) -> &[Entry<String>] {
-        let from = match at.checked_sub(1) {
-            Some(before) => self.ends.get(before).copied().unwrap_or(0),
-            None => 0,
-        };
-        let end = self.ends.get(at).copied().unwrap_or(from);
-        self.booked.entries.get(from..end).unwrap_or(&[])
-    }
 }
 
 // Returns a copy of the refusal of a movement, if it was refused.
@@ -128,10 +130,12 @@ pub fn refusals_of(
 /// # Errors
 ///
 /// An allocation fails.
-pub fn copy_of(
+pub(crate) fn copy_of(
     alloc: Global,
     balance: &[(String, usize)],
-) -> Result<Vec<(String, usize)>, AllocError> {
+) -> Result<Vec<(String, usize)>, AllocError>
+    ensures { IfOk result (λ copy. rows_of copy.items ≡ rows_of balance.now) }
+{
     let mut copy = Vec::new(alloc);
     for entry in balance {
         let pair: (String, usize) = (entry.0.clone()?, entry.1);

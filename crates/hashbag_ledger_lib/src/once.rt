@@ -1,5 +1,6 @@
 //! Whether a file was entered before.
 ghost use Rattle.std.specs.Prelude.{◌≡◌, ◌≢◌, All, Contains, MatchOption, string_bytes};
+ghost use Rattle.hashbag_ledger_lib.specs.Kinds.{name_of, undone_of};
 
 /// What a batch is.
 #[derive(Clone, Copy, PartialEq, Eq, Debug)]
@@ -14,7 +15,9 @@ pub enum Kind {
 
 impl Kind {
     /// Returns its name in the table of batches.
-    pub fn name(self) -> &'static str {
+    pub fn name(self) -> &'static str
+        ensures { result.now ≡ name_of self }
+    {
         match self {
             Kind::Start => "start",
             Kind::Moves => "moves",
@@ -23,7 +26,9 @@ impl Kind {
     }
 
     /// Returns the batch that it undoes.
-    pub fn undoes(self) -> Option<i64> {
+    pub fn undoes(self) -> Option<i64>
+        ensures { result ≡ undone_of self }
+    {
         match self {
             Kind::Undo(other) => Some(other),
             Kind::Start | Kind::Moves => None,

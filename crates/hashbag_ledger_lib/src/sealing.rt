@@ -3,9 +3,8 @@ ghost use Rattle.std.specs.Prelude.{◌≡◌, ℕ, ℤ, ◌↔◌, ◌++◌, Li
 ghost use Rattle.hex.specs.Hex.{encode_lower};
 ghost use Rattle.sha2.specs.Hashers.{Holds256};
 ghost use Rattle.sha2.specs.Sha256.{sha256};
-ghost use Rattle.hashbag_ledger_lib.specs.Entries.{refusals_in};
 ghost use Rattle.hashbag_ledger_lib.specs.Numbers.{plain};
-ghost use Rattle.hashbag_ledger_lib.specs.Seals.{with_number, with_text, with_option, with_change, with_movement, with_movements, with_head, with_source, with_counts, seal_of, AreSealed};
+ghost use Rattle.hashbag_ledger_lib.specs.Seals.{with_number, with_text, with_option, with_change, with_movement, with_movements, with_head, with_source, with_counts, seal_of, IsRowOf, AreRowsOf, AreSealed};
 
 use crate::ledger::booking::count_refused;
 use crate::movements::{Change, Entry, Movement};
@@ -27,6 +26,8 @@ pub struct Draft<'a> {
     pub kind: Kind,
     /// When it is entered, in UTC.
     pub time: &'a str,
+    /// How many movements it has.
+    pub movements: u64,
 }
 
 /// Returns the SHA-256 of bytes, in hexadecimal digits.
@@ -146,20 +147,14 @@ fn seal_for(
     hex::encode(alloc, hasher.finalize())
 }
 
-/// Returns the row of a batch that has these entries, in a stock whose numbers have this many decimals.
-///
-/// # Errors
-///
-/// An allocation fails.
-pub fn row_of(
+// Returns the row of a batch that has these entries, in a stock whose numbers have this many decimals.
+fn row_of(
     alloc: Global,
     scale: u32,
     draft: Draft<'_>,
     entries: &[Entry<String>],
 ) -> Result<Batch, AllocError>
-    ensures counts { IfOk result (λ row. row.movements ≡ length entries.now) }
-    ensures refusals { IfOk result (λ row. row.refused ≡ length (refusals_in entries.now)) }
-    ensures sealed { IfOk result (λ row. string_bytes row.seal ≡ seal_of scale row entries.now) }
+    ensures { IfOk result (IsRowOf scale draft.entry entries.now) }
 {
     let mut row = Batch {
         number: draft.number,
@@ -189,8 +184,8 @@ fn is_sealed(
     Ok(batch.seal.as_str() == seal.as_str())
 }
 
-// Returns the first `count` entries, or all, and those after them.
-fn cut(entries: &[Entry<String>], count: u64) -> (&[Entry<String>], &[Entry<String>])
+/// Returns the first `count` entries, or all, and those after them.
+pub fn cut(entries: &[Entry<String>], count: u64) -> (&[Entry<String>], &[Entry<String>])
     ensures own { result.0.now ≡ take count entries.now }
     ensures later { result.1.now ≡ drop count entries.now }
 {
@@ -199,6 +194,32 @@ fn cut(entries: &[Entry<String>], count: u64) -> (&[Entry<String>], &[Entry<Stri
         return entries.split_at(count);
     }
     (entries, &[])
+}
+
+/// Returns the rows of batches with their seals, in turn, in a stock whose numbers have this many decimals. The entries are those of all
+/// batches, in turn: of each batch as many as its draft says, or those that are left.
+///
+/// # Errors
+///
+/// An allocation fails.
+pub fn sealed_rows(
+    alloc: Global,
+    scale: u32,
+    drafts: &[Draft<'_>],
+    entries: &[Entry<String>],
+) -> Result<Vec<Batch>, AllocError>
+    ensures rows { IfOk result (λ rows. AreRowsOf scale drafts.now entries.now rows.items) }
+    ensures sealed { IfOk result (λ rows. AreSealed scale rows.items entries.now) }
+{
+    let mut rows = Vec::new(alloc);
+    let mut left = entries;
+    for draft in drafts {
+        let (own, later) = cut(left, draft.movements);
+        let row = row_of(alloc, scale, *draft, own)?;
+        rows.push(row)?;
+        left = later;
+    }
+    Ok(rows)
 }
 
 /// Returns the number of the first batch whose seal isn't that of its row and of its movements, or `None` if each has its own. The

@@ -3,16 +3,19 @@ ghost use Rattle.std.specs.Prelude.{◌≡◌, ℕ, ◌+◌, ◌<◌, ◌^◌, �
 ghost use Rattle.std.specs.Global.{Global};
 ghost use Rattle.std.specs.String.{string_eq};
 ghost use Rattle.hashbag_lists.specs.Quantities.{numbers};
+ghost use Rattle.hashbag_ledger_lib.specs.Changes.{Rises};
 ghost use Rattle.hashbag_ledger_lib.specs.Ledger.{came, went};
 ghost use Rattle.hashbag_ledger_lib.specs.declared.movements.Place.{Place};
 ghost use Rattle.hashbag_ledger_lib.specs.Settled.{listed, IsPastWithin};
-ghost use Rattle.hashbag_ledger_lib.specs.Undos.{coming_back, going_back, opposites_of, IsUndo, IsUndoOf, IsAsBefore};
+ghost use Rattle.hashbag_ledger_lib.specs.Undos.{coming_back, going_back, opposites_of, IsUndo, IsUndoOf, IsAsBefore, IsChangedBy, HasRisingRows};
 
 use crate::entering::LedgerError;
+use crate::filing::copy_of;
 use crate::ledger::booking::{Booked, book_all, count_refused, refusals_from};
 use crate::ledger::stock_at_start;
 use crate::movements::{Change, Movement, Refusal};
 use crate::numbers::MOST;
+use crate::rows::{RowChange, changed_rows};
 use std::alloc::{AllocError, Global};
 use std::hash::BuildHasher;
 
@@ -114,4 +117,47 @@ pub fn take_back<S: BuildHasher + Drop>(
         return Ok(Undo::Done(booked));
     }
     Ok(Undo::Refused(refusals_from(alloc, booked.entries)?))
+}
+
+// Returns what becomes of the rows of the balance that is kept after an undo: of none if it is denied.
+fn undone_rows(
+    alloc: Global,
+    kept: &[(String, usize)],
+    undo: &Undo<String>,
+) -> Result<Vec<RowChange>, AllocError>
+    ensures { IfOk result (λ changed. Rises kept.now → HasRisingRows undo.now → IsChangedBy kept.now undo.now changed.items) }
+{
+    match undo {
+        Undo::Done(booked) => {
+            let changed = changed_rows(alloc, kept, &booked.balance)?;
+            Ok(changed)
+        }
+        Undo::Refused(_) => Ok(Vec::new(alloc)),
+    }
+}
+
+/// Enters the opposite movements of a batch into the balance that is kept, all or none, as [`take_back`]. Returns also what becomes of
+/// the rows of the balance: of none if the undo is denied.
+///
+/// # Errors
+///
+/// `StartTooMany` only if the numbers of the balance are more than [`MOST`] together. `TooMany` with the place of a movement only if the
+/// total would pass [`MOST`] with its opposite. `Memory` if an allocation fails.
+pub fn undo_batch<S: BuildHasher + Drop>(
+    alloc: Global,
+    state: S,
+    kept: &[(String, usize)],
+    batch: Vec<Movement<String>>,
+) -> Result<(Undo<String>, Vec<RowChange>), LedgerError>
+    ensures undo { IfOk result (λ u. IsUndo string_eq string_cmp (listed string_eq kept.now) batch.items u.0) }
+    ensures each { IfOk result (λ u. IsUndoOf string_eq kept.now batch.items u.0) }
+    ensures changed { IfOk result (λ u. Rises kept.now → IsChangedBy kept.now u.0 u.1.items) }
+    ensures start { (result ≡ Err LedgerError.StartTooMany) → 2 ^ 63 - 1 < numbers kept.now }
+    ensures past { IfErr result (λ e. (p : Place) → e ≡ LedgerError.TooMany p
+        → IsPastWithin string_eq (2 ^ 63 - 1) kept.now (opposites_of batch.items) p) }
+{
+    let copy = copy_of(alloc, kept)?;
+    let undo = take_back(alloc, state, copy, batch)?;
+    let changed = undone_rows(alloc, kept, &undo)?;
+    Ok((undo, changed))
 }

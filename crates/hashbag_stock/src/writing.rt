@@ -9,18 +9,21 @@ use hashbag_ledger_lib::movements::{Entry, Movement, Outcome};
 use hashbag_ledger_lib::numbers::{number_of, signed};
 use hashbag_ledger_lib::once::Batch;
 use hashbag_ledger_lib::rows::RowChange;
+use hashbag_ledger_lib::sealing::cut;
 use sqlite::types::ValueRef;
 use sqlite::{Alter, Connection, Transaction, params};
 
-/// A batch that is to be written.
+/// What a call writes.
 #[derive(Clone, Copy)]
-pub struct NewBatch<'a> {
-    /// Its row.
-    pub row: &'a Batch,
+pub struct NewRows<'a> {
     /// Whether the stock has seals. A new one has them.
     pub is_sealed: bool,
-    /// Its movements, in turn, each with what became of it.
+    /// The rows of its batches, in turn.
+    pub batches: &'a [Batch],
+    /// The movements of all batches, in turn, each with what became of it: of each batch as many as its row says.
     pub entries: &'a [Entry<String>],
+    /// What becomes of the rows of the balance after all of them.
+    pub changed: &'a [RowChange],
 }
 
 const TOO_LARGE: &str = "a number past 9223372036854775807";
@@ -210,46 +213,50 @@ fn write_rows<S: Alter>(
 // Writes a batch: its row, and its movements.
 fn write_one<S: Alter>(
     transaction: &mut Transaction<'_, S>,
-    batch: &NewBatch<'_>,
+    row: &Batch,
+    is_sealed: bool,
+    entries: &[Entry<String>],
 ) -> Result<(), StockError>
     ensures same_reference { transaction.new.conn.ghost_name ≡ transaction.old.conn.ghost_name }
     ensures inside { IsInside (state S.Store transaction.old.conn.now) (state S.Store transaction.new.conn.now) }
 {
-    write_batch(transaction, batch.row, batch.is_sealed)?;
-    write_entries(transaction, batch.row.number, batch.entries)
+    write_batch(transaction, row, is_sealed)?;
+    write_entries(transaction, row.number, entries)
 }
 
-// Writes batches, in turn.
+// Writes the batches, in turn.
 fn write_batches<S: Alter>(
     transaction: &mut Transaction<'_, S>,
-    batches: &[NewBatch<'_>],
+    new: &NewRows<'_>,
 ) -> Result<(), StockError>
     ensures same_reference { transaction.new.conn.ghost_name ≡ transaction.old.conn.ghost_name }
     ensures inside { IsInside (state S.Store transaction.old.conn.now) (state S.Store transaction.new.conn.now) }
 {
-    for batch in batches {
-        write_one(transaction, batch)?;
+    let mut left = new.entries;
+    for row in new.batches {
+        let (own, later) = cut(left, row.movements);
+        write_one(transaction, row, new.is_sealed, own)?;
+        left = later;
     }
     Ok(())
 }
 
-// Writes batches and rows of the balance, and first the tables of a stock whose numbers have this many decimals, if it is new.
+// Writes what a call writes, and first the tables of a stock whose numbers have this many decimals, if it is new.
 fn write_all<S: Alter>(
     transaction: &mut Transaction<'_, S>,
     new_scale: Option<u32>,
-    batches: &[NewBatch<'_>],
-    changed: &[RowChange],
+    new: &NewRows<'_>,
 ) -> Result<(), StockError>
     ensures same_reference { transaction.new.conn.ghost_name ≡ transaction.old.conn.ghost_name }
     ensures inside { IsInside (state S.Store transaction.old.conn.now) (state S.Store transaction.new.conn.now) }
 {
     create_new(transaction, new_scale)?;
-    write_batches(transaction, batches)?;
-    write_rows(transaction, changed)
+    write_batches(transaction, new)?;
+    write_rows(transaction, new.changed)
 }
 
-/// Writes batches, and what becomes of the rows of the balance after all of them, in one transaction. With `new_scale` the tables of a
-/// stock are created first, in the same transaction.
+/// Writes the batches of a call, and what becomes of the rows of the balance, in one transaction. With `new_scale` the tables of a stock
+/// are created first, in the same transaction.
 ///
 /// # Errors
 ///
@@ -257,8 +264,7 @@ fn write_all<S: Alter>(
 pub fn put_batches<S: Alter>(
     conn: &mut Connection<S>,
     new_scale: Option<u32>,
-    batches: &[NewBatch<'_>],
-    changed: &[RowChange],
+    new: &NewRows<'_>,
 ) -> Result<(), StockError>
     ensures { IsOneCommit (state S.Store conn.old) (state S.Store conn.new) (is_ok result) }
 {
@@ -266,7 +272,7 @@ pub fn put_batches<S: Alter>(
         return Err(StockError::Damaged("a transaction is open"));
     }
     let mut transaction = conn.transaction();
-    write_all(&mut transaction, new_scale, batches, changed)?;
+    write_all(&mut transaction, new_scale, new)?;
     transaction.commit()?;
     Ok(())
 }

@@ -9,7 +9,7 @@ use hashbag_ledger_lib::numbers::{MOST, change_of, number_of, plain_change, sign
 use hashbag_ledger_lib::once::{Batch, Kind, batch_of, entered_before, undone_by};
 use hashbag_ledger_lib::listing::{batches_text, history_text};
 use hashbag_ledger_lib::rows::{RowChange, changed_rows};
-use hashbag_ledger_lib::sealing::{Draft, digest_of, row_of, wrong_seal};
+use hashbag_ledger_lib::sealing::{Draft, digest_of, sealed_rows, wrong_seal};
 use hashbag_ledger_lib::undoing::{Undo, opposites, take_back};
 use hashbag_ledger_lib::verifying::{
     KeptMovement, KeptRefusal, wrong_batch, wrong_number, wrong_refusal,
@@ -474,7 +474,7 @@ fn the_first_wrong_batch_is_found(rt: HostRuntime) -> Result<(), Fail> {
 }
 
 // Returns a batch that undoes the third, and its entries.
-fn sealed_batch(alloc: Global) -> Result<(Batch, Vec<Entry<String>>), Fail> {
+fn sealed_batch(alloc: Global) -> Result<(Vec<Batch>, Vec<Entry<String>>), Fail> {
     let movements = movements_of(alloc, &[("a", "in", 5), ("b", "out", 1), ("a", "out", 0)])?;
     let Ok(booked) = book_batch(alloc, FixedState::new(), Vec::new(alloc), movements) else {
         return Err(Fail::from("not booked"));
@@ -485,8 +485,10 @@ fn sealed_batch(alloc: Global) -> Result<(Batch, Vec<Entry<String>>), Fail> {
         sha256: "ab",
         kind: Kind::Undo(3),
         time: "2026-01-02 03:04:05",
+        movements: 3,
     };
-    Ok((row_of(alloc, 2, draft, &booked.entries)?, booked.entries))
+    let batches = sealed_rows(alloc, 2, [draft].as_slice(), &booked.entries)?;
+    Ok((batches, booked.entries))
 }
 
 // The digest of a text, by another program; and that of what a batch is sealed by, by Python's hashlib.
@@ -495,14 +497,13 @@ fn batches_are_sealed(rt: HostRuntime) -> Result<(), Fail> {
     let alloc = rt.alloc();
     let abc = "ba7816bf8f01cfea414140de5dae2223b00361a396177a9cb410ff61f20015ad";
     assert_eq!(rt; digest_of(alloc, b"abc")?.as_str(), abc);
-    let (row, entries) = sealed_batch(alloc)?;
-    assert_eq!(rt; (row.movements, row.refused), (3, 1));
+    let (batches, entries) = sealed_batch(alloc)?;
+    assert_eq!(rt; batches.len(), 1);
+    assert_eq!(rt; (batches[0].movements, batches[0].refused), (3, 1));
     assert_eq!(rt;
-        row.seal.as_str(),
+        batches[0].seal.as_str(),
         "71697d9e3e0e53dc4bb7dc8c1928b33fe06ed64320a22b48a1620ed63c4255a4"
     );
-    let mut batches = Vec::new(alloc);
-    batches.push(row)?;
     assert_eq!(rt; wrong_seal(alloc, 2, &batches, &entries)?, None);
     assert_eq!(rt; wrong_seal(alloc, 3, &batches, &entries)?, Some(7));
     assert_eq!(rt; wrong_seal(alloc, 2, &batches, &entries[..2])?, Some(7));

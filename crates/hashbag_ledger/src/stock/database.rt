@@ -2,10 +2,9 @@
 use crate::outputs::is_same;
 use crate::stock::failure::Failure;
 use crate::stock::request::Request;
-use hashbag_ledger_lib::rows::RowChange;
 use hashbag_stock::error::StockError;
 use hashbag_stock::tables::{Form, Shape, form_of};
-use hashbag_stock::writing::{NewBatch, put_batches};
+use hashbag_stock::writing::{NewRows, put_batches};
 use sqlite::{Connection, Error, ErrorCode, File, FileStore};
 use std::io::ErrorKind;
 use std::time::Duration;
@@ -39,7 +38,7 @@ pub fn in_database<'a, T>(db: &'a str, done: Result<T, StockError>) -> Result<T,
     }
 }
 
-/// Writes batches and what becomes of the rows of the balance, in one transaction; and first the tables if there is a scale.
+/// Writes what a call writes, in one transaction; and first the tables if there is a scale.
 ///
 /// # Errors
 ///
@@ -48,10 +47,9 @@ pub fn put<'a>(
     db: &'a str,
     conn: &mut Db,
     new_scale: Option<u32>,
-    batches: &[NewBatch<'_>],
-    changed: &[RowChange],
+    new: &NewRows<'_>,
 ) -> Result<(), Failure<'a>> {
-    in_database(db, put_batches(conn, new_scale, batches, changed))
+    in_database(db, put_batches(conn, new_scale, new))
 }
 
 // Returns whether a file has no byte, or doesn't exist.

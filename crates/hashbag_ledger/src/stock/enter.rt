@@ -7,14 +7,13 @@ use crate::stock::failure::Failure;
 use crate::stock::inputs::{Input, inputs_of, movements_of};
 use crate::stock::request::Request;
 use hashbag_ledger_lib::entering::LedgerError;
-use hashbag_ledger_lib::filing::{Filed, copy_of, enter_files, refusals_of};
+use hashbag_ledger_lib::filing::{Filed, enter_files, refusals_of};
 use hashbag_ledger_lib::ledger::booking::count_refused;
 use hashbag_ledger_lib::movements::Movement;
 use hashbag_ledger_lib::numbers::MOST;
 use hashbag_ledger_lib::once::{Batch, Kind, entered_before, next_number};
 use hashbag_ledger_lib::output::{balance_text, refusals_table, refusals_text};
-use hashbag_ledger_lib::rows::{RowChange, changed_rows};
-use hashbag_ledger_lib::sealing::{Draft, digest_of, row_of};
+use hashbag_ledger_lib::sealing::{Draft, digest_of, sealed_rows};
 use hashbag_lists::counts::Reading;
 use hashbag_lists::decimals::write_decimal;
 use hashbag_lists::fault::{Fault, SheetError, in_file};
@@ -24,15 +23,15 @@ use hashbag_shell::trouble::Trouble;
 use hashbag_stock::error::StockError;
 use hashbag_stock::reading::{balance_of, batches_of, time_of};
 use hashbag_stock::tables::{Form, Shape};
-use hashbag_stock::writing::NewBatch;
+use hashbag_stock::writing::NewRows;
 use std::alloc::{AllocError, Global};
 use std::hash::RandomState;
 
-// What the inputs leave, and what becomes of the rows of the balance.
+// What the inputs leave, and the number of the first of their batches.
 #[derive(Drop)]
 struct Ready {
     filed: Filed,
-    changed: Vec<RowChange>,
+    number: i64,
 }
 
 // What the database has before the inputs are entered.
@@ -113,26 +112,23 @@ fn failure_of<'a>(
 }
 
 // Enters the inputs into the balance that is kept. What is wrong first is the failure.
-fn ready_of<'a>(
+fn filed_of<'a>(
     rt: &HostRuntime,
     request: &Request<'a>,
     inputs: &[Input<'a>],
     reading: Reading,
     kept: &[(String, usize)],
-) -> Result<Ready, Failure<'a>> {
+) -> Result<Filed, Failure<'a>> {
     let alloc = rt.alloc();
     let (files, bad) = all_movements(rt, request, inputs, reading)?;
-    let filed = match enter_files(alloc, random_state(rt)?, copy_of(alloc, kept)?, files) {
+    let filed = match enter_files(alloc, random_state(rt)?, kept, files) {
         Ok(filed) => filed,
         Err(error) => return Err(failure_of(alloc, request.db, inputs, reading, error)),
     };
-    if let Some(failure) = bad {
-        return Err(failure);
+    match bad {
+        Some(failure) => Err(failure),
+        None => Ok(filed),
     }
-    Ok(Ready {
-        changed: changed_rows(alloc, kept, &filed.booked.balance)?,
-        filed,
-    })
 }
 
 // Returns the failure that a file was entered before, or that two of the files have the same bytes.
@@ -176,20 +172,19 @@ fn shape_of<'a>(request: &Request<'a>, form: Form) -> Result<(Shape, Option<u32>
     }
 }
 
-// Returns the rows of the batches of the inputs.
-fn rows_of<'a>(
+// Returns what is known of the batches of the inputs, from this number on.
+fn drafts_of<'i, 'a>(
     alloc: Global,
-    shape: Shape,
-    inputs: &[Input<'a>],
-    ready: &Ready,
+    inputs: &'i [Input<'a>],
+    counts: &[usize],
     number: i64,
-    time: &str,
-) -> Result<Vec<Batch>, Failure<'a>> {
-    let mut rows = Vec::new(alloc);
+    time: &'i str,
+) -> Result<Vec<Draft<'i>>, AllocError> {
+    let mut drafts = Vec::new(alloc);
     let mut number = number;
     for i in 0..inputs.len() {
         let input = &inputs[i];
-        let draft = Draft {
+        drafts.push(Draft {
             number,
             file: input.file,
             sha256: input.sha256.as_str(),
@@ -199,32 +194,35 @@ fn rows_of<'a>(
                 Kind::Moves
             },
             time,
-        };
-        rows.push(row_of(alloc, shape.scale, draft, ready.filed.entries_at(i))?)?;
+            movements: counts.get(i).copied().unwrap_or(0) as u64,
+        })?;
         number = number.saturating_add(1);
     }
-    Ok(rows)
+    Ok(drafts)
 }
 
-// Writes the batches of the inputs in one transaction.
-fn write_batches<'a>(
+// Writes the batches of the inputs.
+fn write<'a>(
     alloc: Global,
     conn: &mut Db,
     db: &'a str,
-    new_scale: Option<u32>,
     shape: Shape,
-    rows: &[Batch],
+    new_scale: Option<u32>,
+    inputs: &[Input<'a>],
     ready: &Ready,
 ) -> Result<(), Failure<'a>> {
-    let mut batches = Vec::new(alloc);
-    for i in 0..rows.len() {
-        batches.push(NewBatch {
-            row: &rows[i],
-            is_sealed: shape.is_sealed,
-            entries: ready.filed.entries_at(i),
-        })?;
-    }
-    put(db, conn, new_scale, &batches, &ready.changed)
+    let time = in_database(db, time_of(conn))?;
+    let filed = &ready.filed;
+    let drafts = drafts_of(alloc, inputs, &filed.counts, ready.number, time.as_str())?;
+    let entries = &filed.booked.entries;
+    let batches = sealed_rows(alloc, shape.scale, &drafts, entries)?;
+    let new = NewRows {
+        is_sealed: shape.is_sealed,
+        batches: &batches,
+        entries,
+        changed: &filed.changed,
+    };
+    put(db, conn, new_scale, &new)
 }
 
 // Returns the names of the inputs.
@@ -242,9 +240,9 @@ fn text_of<'a>(
     request: &Request<'a>,
     inputs: &[Input<'a>],
     reading: Reading,
-    ready: &Ready,
+    filed: &Filed,
 ) -> Result<Vec<u8>, AllocError> {
-    let refusals = refusals_of(alloc, &ready.filed.booked.entries, request.strict)?;
+    let refusals = refusals_of(alloc, &filed.booked.entries, request.strict)?;
     let names = names_of(alloc, inputs)?;
     match request.refused {
         Some(_) => refusals_table(alloc, &names, reading, &refusals),
@@ -275,45 +273,47 @@ fn before_in<'a>(
 }
 
 // Returns whether some movement is refused.
-fn is_refused(ready: &Ready) -> bool {
-    count_refused(&ready.filed.booked.entries) > 0
+fn is_refused(filed: &Filed) -> bool {
+    count_refused(&filed.booked.entries) > 0
 }
 
 // Returns what the inputs do to an empty stock: what is wrong with one is found before the file of the database is made.
-fn ready_anew<'a>(
+fn filed_anew<'a>(
     rt: &HostRuntime,
     request: &Request<'a>,
     inputs: &[Input<'a>],
-) -> Result<Ready, Failure<'a>> {
+) -> Result<Filed, Failure<'a>> {
     let reading = request.reading(request.scale.unwrap_or(0));
-    let ready = ready_of(rt, request, inputs, reading, &[])?;
+    let filed = filed_of(rt, request, inputs, reading, &[])?;
     if !request.again {
         entered_twice(inputs, &[])?;
     }
-    Ok(ready)
+    Ok(filed)
 }
 
-// Returns what the inputs do to the stock of an open database, and the number of the first batch. An empty one has that already, unless
-// another process made it meanwhile.
+// Returns what the inputs do to the stock of an open database. For an empty one that is known already, unless another process made it
+// meanwhile.
 fn ready_in<'a>(
     rt: &HostRuntime,
     request: &Request<'a>,
     inputs: &[Input<'a>],
     conn: &mut Db,
     form: Form,
-    anew: Option<Ready>,
-) -> Result<(Ready, i64), Failure<'a>> {
+    anew: Option<Filed>,
+) -> Result<Ready, Failure<'a>> {
     let Form::Stock(shape) = form else {
-        let ready = match anew {
-            Some(ready) => ready,
-            None => ready_anew(rt, request, inputs)?,
+        let filed = match anew {
+            Some(filed) => filed,
+            None => filed_anew(rt, request, inputs)?,
         };
-        return Ok((ready, 1));
+        return Ok(Ready { filed, number: 1 });
     };
     let before = before_in(rt.alloc(), request, inputs, conn, shape)?;
     let reading = request.reading(shape.scale);
-    let ready = ready_of(rt, request, inputs, reading, &before.balance)?;
-    Ok((ready, before.number))
+    Ok(Ready {
+        filed: filed_of(rt, request, inputs, reading, &before.balance)?,
+        number: before.number,
+    })
 }
 
 // Enters the inputs into an open database, and returns the text of the refusals and the status. That text is made before anything is
@@ -324,17 +324,21 @@ fn report_in<'a>(
     inputs: &[Input<'a>],
     conn: &mut Db,
     form: Form,
-    anew: Option<Ready>,
+    anew: Option<Filed>,
 ) -> Result<(Vec<u8>, u8), Failure<'a>> {
     let (alloc, db) = (rt.alloc(), request.db);
     let (shape, new_scale) = shape_of(request, form)?;
-    let (ready, number) = ready_in(rt, request, inputs, conn, form, anew)?;
-    let text = text_of(alloc, request, inputs, request.reading(shape.scale), &ready)?;
-    let denied = is_refused(&ready);
+    let ready = ready_in(rt, request, inputs, conn, form, anew)?;
+    let text = text_of(
+        alloc,
+        request,
+        inputs,
+        request.reading(shape.scale),
+        &ready.filed,
+    )?;
+    let denied = is_refused(&ready.filed);
     if !(request.strict && denied) {
-        let time = in_database(db, time_of(conn))?;
-        let rows = rows_of(alloc, shape, inputs, &ready, number, time.as_str())?;
-        write_batches(alloc, conn, db, new_scale, shape, &rows, &ready)?;
+        write(alloc, conn, db, shape, new_scale, inputs, &ready)?;
     }
     Ok((text, if denied { DENIED } else { DONE }))
 }
@@ -346,13 +350,13 @@ fn report_of<'a>(rt: &HostRuntime, request: &Request<'a>) -> Result<(Vec<u8>, u8
     let inputs = inputs_of(rt, request)?;
     let mut anew = None;
     if is_new(rt, db)? {
-        let ready = ready_anew(rt, request, &inputs)?;
-        if request.strict && is_refused(&ready) {
+        let filed = filed_anew(rt, request, &inputs)?;
+        if request.strict && is_refused(&filed) {
             let reading = request.reading(request.scale.unwrap_or(0));
-            let text = text_of(rt.alloc(), request, &inputs, reading, &ready)?;
+            let text = text_of(rt.alloc(), request, &inputs, reading, &filed)?;
             return Ok((text, DENIED));
         }
-        anew = Some(ready);
+        anew = Some(filed);
     }
     let (mut conn, form) = open_or_make(rt, db, request.wait)?;
     let report = report_in(rt, request, &inputs, &mut conn, form, anew);
@@ -420,15 +424,23 @@ fn begin_in<'a>(
     inputs: &[Input<'a>],
     conn: &mut Db,
 ) -> Result<(), Failure<'a>> {
-    let (alloc, into) = (rt.alloc(), request.into);
     let shape = Shape {
         scale,
         is_sealed: true,
     };
-    let ready = ready_of(rt, request, inputs, request.reading(scale), &[])?;
-    let time = in_database(into, time_of(conn))?;
-    let rows = rows_of(alloc, shape, inputs, &ready, 1, time.as_str())?;
-    write_batches(alloc, conn, into, Some(scale), shape, &rows, &ready)
+    let ready = Ready {
+        filed: filed_of(rt, request, inputs, request.reading(scale), &[])?,
+        number: 1,
+    };
+    write(
+        rt.alloc(),
+        conn,
+        request.into,
+        shape,
+        Some(scale),
+        inputs,
+        &ready,
+    )
 }
 
 // Begins a new database with a balance, which is entered as a text of CSV would be.

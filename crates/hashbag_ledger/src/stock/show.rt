@@ -1,8 +1,9 @@
 //! What is shown of a stock: its balance, the history of an article, and the batches.
 use crate::stock::database::{is_of_database, open, read};
-use crate::stock::enter::random_state;
+use crate::stock::enter::{random_state, start_too_many};
 use crate::stock::failure::Failure;
 use crate::stock::request::Request;
+use hashbag_ledger_lib::entering::LedgerError;
 use hashbag_ledger_lib::ledger::booking::book_batch;
 use hashbag_ledger_lib::listing::{batches_text, history_text};
 use hashbag_ledger_lib::output::balance_text;
@@ -82,8 +83,11 @@ pub fn history<'a>(rt: &HostRuntime, request: &Request<'a>) -> Result<u8, Failur
     let (mut conn, shape) = open(rt, request)?;
     let found = history_of(alloc, &mut conn, shape, article);
     let (batches, movements) = read(request.db, conn, found)?;
-    let Ok(booked) = book_batch(alloc, random_state(rt)?, Vec::new(alloc), movements) else {
-        return Err(Failure::from(AllocError));
+    let booked = match book_batch(alloc, random_state(rt)?, Vec::new(alloc), movements) {
+        Ok(booked) => booked,
+        Err(LedgerError::Memory) => return Err(Failure::from(AllocError)),
+        // No movements that were entered make an article too large.
+        Err(_) => return Err(start_too_many(request.db)),
     };
     let reading = request.reading(shape.scale);
     let text = history_text(alloc, reading, &batches, &booked.entries)?;

@@ -4,21 +4,20 @@ use crate::stock::enter::{random_state, start_too_many};
 use crate::stock::failure::Failure;
 use crate::stock::request::Request;
 use hashbag_ledger_lib::entering::LedgerError;
-use hashbag_ledger_lib::filing::copy_of;
 use hashbag_ledger_lib::ledger::booking::Booked;
 use hashbag_ledger_lib::movements::{Movement, Refusal};
 use hashbag_ledger_lib::numbers::MOST;
 use hashbag_ledger_lib::once::{Batch, Kind, batch_of, next_number, undone_by};
 use hashbag_ledger_lib::output::refusals_text;
-use hashbag_ledger_lib::rows::changed_rows;
-use hashbag_ledger_lib::sealing::{Draft, row_of};
-use hashbag_ledger_lib::undoing::{Undo, take_back};
+use hashbag_ledger_lib::rows::RowChange;
+use hashbag_ledger_lib::sealing::{Draft, sealed_rows};
+use hashbag_ledger_lib::undoing::{Undo, undo_batch};
 use hashbag_lists::decimals::write_decimal;
 use hashbag_shell::output::write_text;
 use hashbag_shell::status::{DENIED, DONE};
 use hashbag_stock::reading::{balance_of, batches_of, entered_of, time_of};
 use hashbag_stock::tables::Shape;
-use hashbag_stock::writing::NewBatch;
+use hashbag_stock::writing::NewRows;
 use std::alloc::{AllocError, Global};
 
 // What an undo has to know of its batch.
@@ -62,9 +61,8 @@ fn put<'a>(
     shape: Shape,
     found: &Found,
     booked: &Booked<String>,
-    before: &[(String, usize)],
+    changed: &[RowChange],
 ) -> Result<(), Failure<'a>> {
-    let changed = changed_rows(alloc, before, &booked.balance)?;
     let time = in_database(db, time_of(conn))?;
     let draft = Draft {
         number: found.by,
@@ -72,14 +70,16 @@ fn put<'a>(
         sha256: "",
         kind: Kind::Undo(found.number),
         time: time.as_str(),
+        movements: booked.entries.len() as u64,
     };
-    let row = row_of(alloc, shape.scale, draft, &booked.entries)?;
-    let batch = NewBatch {
-        row: &row,
+    let batches = sealed_rows(alloc, shape.scale, [draft].as_slice(), &booked.entries)?;
+    let new = NewRows {
         is_sealed: shape.is_sealed,
+        batches: &batches,
         entries: &booked.entries,
+        changed,
     };
-    put_in(db, conn, None, [batch].as_slice(), &changed)
+    put_in(db, conn, None, &new)
 }
 
 // Returns what is known of the batch that is asked for, if it may be undone.
@@ -93,7 +93,7 @@ fn found_in<'a>(
     found_of(request, &batches)
 }
 
-// Decides about an undo of these movements in a stock with this balance.
+// Decides about an undo of these movements in a stock with this balance, and what becomes of the rows of that.
 fn undo_of<'a>(
     rt: &HostRuntime,
     request: &Request<'a>,
@@ -101,12 +101,10 @@ fn undo_of<'a>(
     file: &str,
     kept: &[(String, usize)],
     entered: Vec<Movement<String>>,
-) -> Result<Undo<String>, Failure<'a>> {
+) -> Result<(Undo<String>, Vec<RowChange>), Failure<'a>> {
     let alloc = rt.alloc();
-    let state = random_state(rt)?;
-    let kept = copy_of(alloc, kept)?;
-    match take_back(alloc, state, kept, entered) {
-        Ok(undo) => Ok(undo),
+    match undo_batch(alloc, random_state(rt)?, kept, entered) {
+        Ok(undone) => Ok(undone),
         Err(LedgerError::TooMany(place)) => Err(Failure::UndoneTotal {
             file: file.to_string(alloc)?,
             line: place.line,
@@ -136,9 +134,9 @@ fn take_back_in<'a>(
         &kept,
         entered,
     )? {
-        Undo::Refused(refusals) => Ok(refusals),
-        Undo::Done(booked) => {
-            put(alloc, conn, db, shape, found, &booked, &kept)?;
+        (Undo::Refused(refusals), _) => Ok(refusals),
+        (Undo::Done(booked), changed) => {
+            put(alloc, conn, db, shape, found, &booked, &changed)?;
             Ok(Vec::new(alloc))
         }
     }

@@ -1,6 +1,5 @@
 use Rattle.std.proofs.Common.{◌≡◌, ℕ, List, [], IfOk, string_bytes, subst}
 use Rattle.hex.specs.Hex.{encode_lower}
-use Rattle.sha2.specs.Sha256.{sha256}
 use Rattle.hashbag_ledger_lib.specs.Seals.{sealed}
 use Rattle.hashbag_ledger_lib.proofs.sealing.seal_for.Goals as goal
 
