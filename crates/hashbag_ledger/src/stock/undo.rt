@@ -126,16 +126,11 @@ fn take_back_in<'a>(
     let (alloc, db) = (rt.alloc(), request.db);
     let entered = in_database(db, entered_of(alloc, conn, found.number))?;
     let kept = in_database(db, balance_of(alloc, conn))?;
-    match undo_of(
-        rt,
-        request,
-        shape.scale,
-        found.file.as_str(),
-        &kept,
-        entered,
-    )? {
-        (Undo::Refused(refusals), _) => Ok(refusals),
-        (Undo::Done(booked), changed) => {
+    let file = found.file.as_str();
+    let (undo, changed) = undo_of(rt, request, shape.scale, file, &kept, entered)?;
+    match undo {
+        Undo::Refused(refusals) => Ok(refusals),
+        Undo::Done(booked) => {
             put(alloc, conn, db, shape, found, &booked, &changed)?;
             Ok(Vec::new(alloc))
         }
