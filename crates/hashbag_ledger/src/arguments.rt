@@ -1,7 +1,7 @@
 //! What the arguments ask for.
 use crate::command::{COLUMNS, START_COLUMNS, command};
 use clap::ArgMatches;
-use hashbag_ledger_core::reading::{ChangeColumns, Columns};
+use hashbag_ledger_lib::reading::{ChangeColumns, Columns};
 use hashbag_lists::counts::Reading;
 use hashbag_shell::options::word;
 use hashbag_shell::program::given_to;

@@ -1,7 +1,7 @@
 //! The inputs: the stock at the beginning, and the movements, which are entered as they are read.
 use crate::arguments::Request;
-use hashbag_ledger_core::ledger::Ledger;
-use hashbag_ledger_core::reading::enter_movements;
+use hashbag_ledger_lib::ledger::Ledger;
+use hashbag_ledger_lib::reading::enter_movements;
 use hashbag_lists::counts::read_counts_as;
 use hashbag_lists::fault::in_file;
 use hashbag_shell::input::read_file;

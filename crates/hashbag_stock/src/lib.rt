@@ -4,7 +4,6 @@
 #![tactic(auto)]
 
 pub mod error;
-pub mod query;
 pub mod reading;
 pub mod tables;
 pub mod writing;

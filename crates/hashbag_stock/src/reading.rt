@@ -1,14 +1,14 @@
 //! What is read of a stock.
 ghost use Rattle.std.specs.Prelude.{IfOk};
-ghost use Rattle.hashbag_stock_core.specs.Changes.{Rises};
+ghost use Rattle.hashbag_ledger_lib.specs.Changes.{Rises};
 
 use crate::error::StockError;
-use hashbag_ledger_core::movements::{Movement, Place};
-use hashbag_stock_core::numbers::change_of;
-use hashbag_stock_core::once::Batch;
-use hashbag_stock_core::output::Event;
-use hashbag_stock_core::rows::rises;
-use hashbag_stock_core::verifying::KeptRefusal;
+use crate::tables::Shape;
+use hashbag_ledger_lib::movements::{Movement, Place};
+use hashbag_ledger_lib::numbers::change_of;
+use hashbag_ledger_lib::once::Batch;
+use hashbag_ledger_lib::rows::rises;
+use hashbag_ledger_lib::verifying::{KeptMovement, KeptRefusal};
 use sqlite::types::ValueRef;
 use sqlite::{Alter, Connection, Row, params};
 use std::alloc::Global;
@@ -84,6 +84,7 @@ impl FromRow for Batch {
             time: row.get(5)?,
             movements: natural(row, 6)?,
             refused: natural(row, 7)?,
+            seal: row.get(8)?,
         })
     }
 }
@@ -96,10 +97,23 @@ impl FromRow for Batch {
 pub fn batches_of<S: Alter>(
     alloc: Global,
     conn: &mut Connection<S>,
+    shape: Shape,
 ) -> Result<Vec<Batch>, StockError> {
-    let text =
-        "SELECT batch, file, sha256, kind, undoes, time, movements, refused FROM batch ORDER BY batch";
+    let text = if shape.is_sealed {
+        "SELECT batch, file, sha256, kind, undoes, time, movements, refused, seal FROM batch ORDER BY batch"
+    } else {
+        "SELECT batch, file, sha256, kind, undoes, time, movements, refused, '' FROM batch ORDER BY batch"
+    };
     list_of(alloc, conn, text, &[])
+}
+
+/// Returns what time it is, in UTC, as the table of batches has it.
+///
+/// # Errors
+///
+/// What fails.
+pub fn time_of<S: Alter>(conn: &mut Connection<S>) -> Result<String, StockError> {
+    Ok(conn.query_row("SELECT CURRENT_TIMESTAMP", &[])?.get(0)?)
 }
 
 // Its place, its article and its change.
@@ -132,7 +146,16 @@ pub fn entered_of<S: Alter>(
     list_of(alloc, conn, text, params![batch])
 }
 
-/// Returns all movements, in turn. The file of a place is the number of the batch, and its line is the number of the movement.
+impl FromRow for KeptMovement {
+    fn from_row(row: &Row) -> Result<KeptMovement, StockError> {
+        Ok(KeptMovement {
+            movement: Movement::from_row(row)?,
+            batch: natural(row, 4)?,
+        })
+    }
+}
+
+/// Returns all movements, in turn, each with its batch. The file of a place is the number of the movement.
 ///
 /// # Errors
 ///
@@ -140,15 +163,15 @@ pub fn entered_of<S: Alter>(
 pub fn movements_of<S: Alter>(
     alloc: Global,
     conn: &mut Connection<S>,
-) -> Result<Vec<Movement<String>>, StockError> {
-    let text = "SELECT batch, movement, article, change FROM movement ORDER BY movement";
+) -> Result<Vec<KeptMovement>, StockError> {
+    let text = "SELECT movement, line, article, change, batch FROM movement ORDER BY movement";
     list_of(alloc, conn, text, &[])
 }
 
 impl FromRow for KeptRefusal {
     fn from_row(row: &Row) -> Result<KeptRefusal, StockError> {
         Ok(KeptRefusal {
-            movement: natural(row, 0)?,
+            movement: natural(row, 0)? as usize,
             there: natural(row, 1)? as usize,
         })
     }
@@ -171,42 +194,52 @@ pub fn refusals_of<S: Alter>(
     )
 }
 
-// A movement and whether it was refused. How many there were afterwards isn't in the row.
-impl FromRow for Event {
-    fn from_row(row: &Row) -> Result<Event, StockError> {
-        let there: Option<i64> = row.get(3)?;
-        Ok(Event {
-            batch: row.get(0)?,
-            line: natural(row, 1)?,
-            change: row.get(2)?,
-            is_refused: there.is_some(),
-            number: 0,
-        })
-    }
+// Returns the movements of an article, in turn. The file of a place is the number of the batch.
+fn movements_of_article<S: Alter>(
+    alloc: Global,
+    conn: &mut Connection<S>,
+    article: &str,
+) -> Result<Vec<Movement<String>>, StockError> {
+    let text =
+        "SELECT batch, line, article, change FROM movement WHERE article = ?1 ORDER BY movement";
+    list_of(alloc, conn, text, params![article])
 }
 
-// Returns the number after a change.
-fn number_after(number: usize, change: i64) -> usize {
-    let size = change.unsigned_abs() as usize;
-    if change < 0 {
-        number.saturating_sub(size)
-    } else {
-        number.saturating_add(size)
-    }
+/// All that a stock keeps.
+#[derive(Drop)]
+pub struct Kept {
+    /// What holds of all rows.
+    pub shape: Shape,
+    /// All movements, in turn: [`movements_of`].
+    pub movements: Vec<KeptMovement>,
+    /// All refusals, in turn.
+    pub refusals: Vec<KeptRefusal>,
+    /// The balance, articles rising.
+    pub balance: Vec<(String, usize)>,
+    /// All batches, in turn.
+    pub batches: Vec<Batch>,
 }
 
-// Adds how many there were after each movement.
-fn count_through(events: &mut Vec<Event>) {
-    let mut number = 0;
-    for event in events.iter_mut() {
-        if !event.is_refused {
-            number = number_after(number, event.change);
-        }
-        event.number = number;
-    }
+/// Returns all that a stock keeps.
+///
+/// # Errors
+///
+/// As of [`balance_of`] and [`batches_of`].
+pub fn everything_of<S: Alter>(
+    alloc: Global,
+    conn: &mut Connection<S>,
+    shape: Shape,
+) -> Result<Kept, StockError> {
+    Ok(Kept {
+        shape,
+        movements: movements_of(alloc, conn)?,
+        refusals: refusals_of(alloc, conn)?,
+        balance: balance_of(alloc, conn)?,
+        batches: batches_of(alloc, conn, shape)?,
+    })
 }
 
-/// Returns the movements of an article, in turn, each with how many there were afterwards.
+/// Returns all batches, and the movements of an article. The file of a place is the number of the batch.
 ///
 /// # Errors
 ///
@@ -214,11 +247,11 @@ fn count_through(events: &mut Vec<Event>) {
 pub fn history_of<S: Alter>(
     alloc: Global,
     conn: &mut Connection<S>,
+    shape: Shape,
     article: &str,
-) -> Result<Vec<Event>, StockError> {
-    let text =
-        "SELECT m.batch, m.line, m.change, r.there FROM movement m LEFT JOIN refusal r ON r.movement = m.movement WHERE m.article = ?1 ORDER BY m.movement";
-    let mut events = list_of(alloc, conn, text, params![article])?;
-    count_through(&mut events);
-    Ok(events)
+) -> Result<(Vec<Batch>, Vec<Movement<String>>), StockError> {
+    Ok((
+        batches_of(alloc, conn, shape)?,
+        movements_of_article(alloc, conn, article)?,
+    ))
 }

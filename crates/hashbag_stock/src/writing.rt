@@ -5,36 +5,24 @@ ghost use Rattle.hashbag_stock.specs.Commits.{IsInside, IsOneCommit};
 
 use crate::error::StockError;
 use crate::tables::{TABLES, VERSION};
-use hashbag_ledger_core::ledger::booking::count_refused;
-use hashbag_ledger_core::movements::{Entry, Movement, Outcome};
-use hashbag_stock_core::numbers::{number_of, signed};
-use hashbag_stock_core::rows::RowChange;
+use hashbag_ledger_lib::movements::{Entry, Movement, Outcome};
+use hashbag_ledger_lib::numbers::{number_of, signed};
+use hashbag_ledger_lib::once::Batch;
+use hashbag_ledger_lib::rows::RowChange;
+use hashbag_ledger_lib::sealing::cut;
 use sqlite::types::ValueRef;
 use sqlite::{Alter, Connection, Transaction, params};
 
-/// What a batch is.
-#[derive(Clone, Copy, PartialEq, Eq, Debug)]
-pub enum Kind {
-    /// The stock at the beginning.
-    Start,
-    /// A file of movements.
-    Moves,
-    /// The opposite movements of the batch of this number.
-    Undo(i64),
-}
-
-/// A batch that is to be written.
+/// What a call writes.
 #[derive(Clone, Copy)]
-pub struct NewBatch<'a> {
-    /// The name of its file.
-    pub file: &'a str,
-    /// The SHA-256 of the bytes of its file.
-    pub sha256: &'a str,
-    /// What it is.
-    pub kind: Kind,
-    /// Its movements, in turn, each with what became of it.
+pub struct NewRows<'a> {
+    /// Whether the stock has seals. A new one has them.
+    pub is_sealed: bool,
+    /// The rows of its batches, in turn.
+    pub batches: &'a [Batch],
+    /// The movements of all batches, in turn, each with what became of it: of each batch as many as its row says.
     pub entries: &'a [Entry<String>],
-    /// What becomes of the rows of the balance.
+    /// What becomes of the rows of the balance after all of them.
     pub changed: &'a [RowChange],
 }
 
@@ -85,27 +73,35 @@ fn create_new<S: Alter>(
     }
 }
 
-// Writes the row of the batch, and returns its number.
+// Writes the row of the batch.
 fn write_batch<S: Alter>(
     transaction: &mut Transaction<'_, S>,
-    batch: &NewBatch<'_>,
-) -> Result<i64, StockError>
+    row: &Batch,
+    is_sealed: bool,
+) -> Result<(), StockError>
     ensures same_reference { transaction.new.conn.ghost_name ≡ transaction.old.conn.ghost_name }
     ensures inside { IsInside (state S.Store transaction.old.conn.now) (state S.Store transaction.new.conn.now) }
 {
-    let (kind, undoes) = match batch.kind {
-        Kind::Start => ("start", None),
-        Kind::Moves => ("moves", None),
-        Kind::Undo(other) => ("undo", Some(other)),
-    };
-    let movements = value_of(batch.entries.len())?;
-    let refused = value_of(count_refused(batch.entries))?;
+    let movements = value_of(row.movements as usize)?;
+    let refused = value_of(row.refused as usize)?;
+    let (file, sha256, kind) = (row.file.as_str(), row.sha256.as_str(), row.kind.as_str());
+    let (time, seal) = (row.time.as_str(), row.seal.as_str());
+    if is_sealed {
+        return run(
+            transaction,
+            "INSERT INTO batch (batch, file, sha256, kind, undoes, time, movements, refused, seal) VALUES (?1, ?2, ?3, ?4, ?5, ?6, ?7, ?8, ?9)",
+            params![
+                row.number, file, sha256, kind, row.undoes, time, movements, refused, seal
+            ],
+        );
+    }
     run(
         transaction,
-        "INSERT INTO batch (file, sha256, kind, undoes, time, movements, refused) VALUES (?1, ?2, ?3, ?4, CURRENT_TIMESTAMP, ?5, ?6)",
-        params![batch.file, batch.sha256, kind, undoes, movements, refused],
-    )?;
-    Ok(transaction.last_insert_rowid())
+        "INSERT INTO batch (batch, file, sha256, kind, undoes, time, movements, refused) VALUES (?1, ?2, ?3, ?4, ?5, ?6, ?7, ?8)",
+        params![
+            row.number, file, sha256, kind, row.undoes, time, movements, refused
+        ],
+    )
 }
 
 // Writes a movement of the batch of this number.
@@ -214,30 +210,61 @@ fn write_rows<S: Alter>(
     Ok(())
 }
 
-// Writes the batch, and first the tables of a stock whose numbers have this many decimals, if it is new.
+// Writes a batch: its row, and its movements.
+fn write_one<S: Alter>(
+    transaction: &mut Transaction<'_, S>,
+    row: &Batch,
+    is_sealed: bool,
+    entries: &[Entry<String>],
+) -> Result<(), StockError>
+    ensures same_reference { transaction.new.conn.ghost_name ≡ transaction.old.conn.ghost_name }
+    ensures inside { IsInside (state S.Store transaction.old.conn.now) (state S.Store transaction.new.conn.now) }
+{
+    write_batch(transaction, row, is_sealed)?;
+    write_entries(transaction, row.number, entries)
+}
+
+// Writes the batches, in turn.
+fn write_batches<S: Alter>(
+    transaction: &mut Transaction<'_, S>,
+    new: &NewRows<'_>,
+) -> Result<(), StockError>
+    ensures same_reference { transaction.new.conn.ghost_name ≡ transaction.old.conn.ghost_name }
+    ensures inside { IsInside (state S.Store transaction.old.conn.now) (state S.Store transaction.new.conn.now) }
+{
+    let mut left = new.entries;
+    for row in new.batches {
+        let (own, later) = cut(left, row.movements);
+        write_one(transaction, row, new.is_sealed, own)?;
+        left = later;
+    }
+    Ok(())
+}
+
+// Writes what a call writes, and first the tables of a stock whose numbers have this many decimals, if it is new.
 fn write_all<S: Alter>(
     transaction: &mut Transaction<'_, S>,
     new_scale: Option<u32>,
-    batch: &NewBatch<'_>,
+    new: &NewRows<'_>,
 ) -> Result<(), StockError>
     ensures same_reference { transaction.new.conn.ghost_name ≡ transaction.old.conn.ghost_name }
     ensures inside { IsInside (state S.Store transaction.old.conn.now) (state S.Store transaction.new.conn.now) }
 {
     create_new(transaction, new_scale)?;
-    let number = write_batch(transaction, batch)?;
-    write_entries(transaction, number, batch.entries)?;
-    write_rows(transaction, batch.changed)
+    write_batches(transaction, new)?;
+    write_rows(transaction, new.changed)
 }
 
-/// Writes a batch in one transaction. With `new_scale` the tables of a stock are created first, in the same transaction.
+/// Writes the batches of a call, and what becomes of the rows of the balance, in one transaction. With `new_scale` the tables of a stock
+/// are created first, in the same transaction.
 ///
 /// # Errors
 ///
 /// What fails. Then nothing is written.
-pub fn put_batch<S: Alter>(
+pub fn put_batches<S: Alter>(
     conn: &mut Connection<S>,
     new_scale: Option<u32>,
-    batch: &NewBatch<'_>,
+    new: &NewRows<'_>,
 ) -> Result<(), StockError>
     ensures { IsOneCommit (state S.Store conn.old) (state S.Store conn.new) (is_ok result) }
 {
@@ -245,7 +272,7 @@ pub fn put_batch<S: Alter>(
         return Err(StockError::Damaged("a transaction is open"));
     }
     let mut transaction = conn.transaction();
-    write_all(&mut transaction, new_scale, batch)?;
+    write_all(&mut transaction, new_scale, new)?;
     transaction.commit()?;
     Ok(())
 }

@@ -2,12 +2,11 @@
 //! expected values were found by hand.
 use crate::texts::{are_text, is_text};
 use hashbag::FixedState;
-use hashbag_ledger_core::entering::LedgerError;
-use hashbag_ledger_core::ledger::{Entered, Ledger, end};
-use hashbag_ledger_core::movements::{Change, Movement, Refusal};
-use hashbag_ledger_core::output::{balance_text, refusals_table, refusals_text};
-use hashbag_ledger_core::reading::{ChangeColumns, Columns, enter_movements, read_movements};
-use hashbag_ledger_core::settling::settle;
+use hashbag_ledger_lib::entering::LedgerError;
+use hashbag_ledger_lib::ledger::{Entered, Ledger, end};
+use hashbag_ledger_lib::movements::{Change, Movement, Refusal};
+use hashbag_ledger_lib::output::{balance_text, refusals_table, refusals_text};
+use hashbag_ledger_lib::reading::{ChangeColumns, Columns, enter_movements, read_movements};
 use hashbag_lists::counts::Reading;
 use hashbag_lists::delimiter::Delimiter;
 use hashbag_lists::scale::{Mark, Scale};
@@ -274,11 +273,12 @@ fn entered_into(
     text: &str,
     reading: Reading,
 ) -> Result<Entered<String>, Fail> {
-    let movements = read_movements(alloc, text.as_bytes(), 0, SIGNED, reading)?;
-    match settle(alloc, FixedState::new(), stock_of(alloc, start)?, movements) {
-        Ok(entered) => Ok(entered),
-        Err(_) => Err(Fail::from("not entered")),
-    }
+    let stock = stock_of(alloc, start)?;
+    let Ok(mut ledger) = Ledger::begin(alloc, FixedState::new(), usize::MAX, stock) else {
+        return Err(Fail::from("not begun"));
+    };
+    enter_movements(alloc, &mut ledger, text.as_bytes(), 0, SIGNED, reading)?;
+    Ok(end(alloc, ledger)?)
 }
 
 // What is written with decimals of a stock and of refusals.

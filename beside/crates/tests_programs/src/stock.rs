@@ -1,17 +1,19 @@
 //! What is decided of a stock that is kept. The expected values were found by hand.
 use hashbag::FixedState;
-use hashbag_ledger_core::ledger::booking::{count_refused, refusals_from};
-use hashbag_ledger_core::movements::{Change, Entry, Movement, Outcome, Place, Refusal};
+use hashbag_ledger_lib::ledger::booking::{book_batch, count_refused, refusals_from};
+use hashbag_ledger_lib::movements::{Change, Entry, Movement, Outcome, Place, Refusal};
 use hashbag_lists::counts::Reading;
 use hashbag_lists::delimiter::Delimiter;
 use hashbag_lists::scale::{Mark, Scale};
-use hashbag_stock_core::entering::{book_batch, enter_batch};
-use hashbag_stock_core::numbers::{MOST, change_of, number_of, plain_change, signed, size_of};
-use hashbag_stock_core::once::{Batch, batch_of, entered_before, undone_by};
-use hashbag_stock_core::output::{Event, batches_text, history_text};
-use hashbag_stock_core::rows::{RowChange, changed_rows};
-use hashbag_stock_core::undoing::{Undo, opposites, take_back};
-use hashbag_stock_core::verifying::{KeptRefusal, wrong_batch, wrong_number, wrong_refusal};
+use hashbag_ledger_lib::numbers::{MOST, change_of, number_of, plain_change, signed, size_of};
+use hashbag_ledger_lib::once::{Batch, Kind, batch_of, entered_before, undone_by};
+use hashbag_ledger_lib::listing::{batches_text, history_text};
+use hashbag_ledger_lib::rows::{RowChange, changed_rows};
+use hashbag_ledger_lib::sealing::{Draft, digest_of, sealed_rows, wrong_seal};
+use hashbag_ledger_lib::undoing::{Undo, opposites, take_back};
+use hashbag_ledger_lib::verifying::{
+    KeptMovement, KeptRefusal, wrong_batch, wrong_number, wrong_refusal,
+};
 use std::alloc::Global;
 use std::test::Fail;
 
@@ -267,13 +269,13 @@ fn a_balance_has_a_limit(rt: HostRuntime) -> Result<(), Fail> {
     let alloc = rt.alloc();
     let kept = balance_of(alloc, &[("a", MOST)])?;
     let one = movements_of(alloc, &[("a", "out", 1), ("b", "in", 1)])?;
-    let Ok(entered) = enter_batch(alloc, FixedState::new(), kept, one) else {
+    let Ok(booked) = book_batch(alloc, FixedState::new(), kept, one) else {
         return Err(Fail::from("not entered"));
     };
-    assert_eq!(rt; entered.balance.len(), 2);
-    assert!(rt; entered.refusals.is_empty());
+    assert_eq!(rt; booked.balance.len(), 2);
+    assert_eq!(rt; count_refused(&booked.entries), 0);
     let more = movements_of(alloc, &[("a", "in", 1)])?;
-    assert!(rt; enter_batch(alloc, FixedState::new(), entered.balance, more).is_err());
+    assert!(rt; book_batch(alloc, FixedState::new(), booked.balance, more).is_err());
     Ok(())
 }
 
@@ -314,13 +316,13 @@ fn the_first_wrong_number_is_found(rt: HostRuntime) -> Result<(), Fail> {
     Ok(())
 }
 
-// Returns refusals of movements with these numbers of lines and of what was there.
-fn refusals_of(alloc: Global, list: &[(u64, usize)]) -> Result<Vec<Refusal<String>>, Fail> {
+// Returns refusals of movements of these numbers, with what was there.
+fn refusals_of(alloc: Global, list: &[(usize, usize)]) -> Result<Vec<Refusal<String>>, Fail> {
     let mut refusals = Vec::new(alloc);
-    for (line, there) in list {
+    for (number, there) in list {
         let place = Place {
-            file: 1,
-            line: *line,
+            file: *number,
+            line: 1,
         };
         refusals.push(Refusal {
             place,
@@ -345,7 +347,7 @@ const KEPT: [KeptRefusal; 2] = [
 ];
 
 // Refusals that are counted, and the movement of the first that differs, or 0.
-const REFUSALS: [(&[(u64, usize)], u64); 6] = [
+const REFUSALS: [(&[(usize, usize)], usize); 6] = [
     (&[(3, 1), (8, 0)], 0),
     (&[(3, 1)], 8),
     (&[(3, 1), (8, 0), (9, 4)], 9),
@@ -381,6 +383,7 @@ fn batch_with(
         time: "2026-01-02 03:04:05".to_string(alloc)?,
         movements: counts.0,
         refused: counts.1,
+        seal: String::new(alloc),
     })
 }
 
@@ -412,7 +415,7 @@ fn batches_are_found(rt: HostRuntime) -> Result<(), Fail> {
 }
 
 // The batches of the movements 1, 2 and so on; the movements that are refused; and the first batch that is wrong, or 0.
-const COUNTS: [(&[usize], &[u64], i64); 7] = [
+const COUNTS: [(&[u64], &[usize], i64); 7] = [
     (&[1, 1, 5], &[2], 0),
     (&[1, 5], &[1], 1),
     (&[1, 1, 1, 5], &[2], 1),
@@ -423,23 +426,30 @@ const COUNTS: [(&[usize], &[u64], i64); 7] = [
 ];
 
 // Returns movements of these batches.
-fn movements_in(alloc: Global, files: &[usize]) -> Result<Vec<Movement<String>>, Fail> {
+fn movements_in(alloc: Global, batches: &[u64]) -> Result<Vec<KeptMovement>, Fail> {
     let mut movements = Vec::new(alloc);
-    let mut line = 1u64;
-    for file in files {
-        let place = Place { file: *file, line };
-        movements.push(Movement {
+    let mut number = 1usize;
+    for batch in batches {
+        let place = Place {
+            file: number,
+            line: 1,
+        };
+        let movement = Movement {
             place,
             article: "a".to_string(alloc)?,
             change: Change::In(1),
+        };
+        movements.push(KeptMovement {
+            movement,
+            batch: *batch,
         })?;
-        line = line.saturating_add(1);
+        number = number.saturating_add(1);
     }
     Ok(movements)
 }
 
 // Returns refusals of these movements.
-fn refused_of(alloc: Global, refused: &[u64]) -> Result<Vec<KeptRefusal>, Fail> {
+fn refused_of(alloc: Global, refused: &[usize]) -> Result<Vec<KeptRefusal>, Fail> {
     let mut refusals = Vec::new(alloc);
     for movement in refused {
         refusals.push(KeptRefusal {
@@ -463,26 +473,54 @@ fn the_first_wrong_batch_is_found(rt: HostRuntime) -> Result<(), Fail> {
     Ok(())
 }
 
-// Events of an article.
-const EVENTS: [Event; 2] = [
-    Event {
-        batch: 1,
-        line: 7,
-        change: 25,
-        is_refused: false,
-        number: 25,
-    },
-    Event {
-        batch: 5,
-        line: 7,
-        change: -30,
-        is_refused: true,
-        number: 25,
-    },
-];
+// Returns a batch that undoes the third, and its entries.
+fn sealed_batch(alloc: Global) -> Result<(Vec<Batch>, Vec<Entry<String>>), Fail> {
+    let movements = movements_of(alloc, &[("a", "in", 5), ("b", "out", 1), ("a", "out", 0)])?;
+    let Ok(booked) = book_batch(alloc, FixedState::new(), Vec::new(alloc), movements) else {
+        return Err(Fail::from("not booked"));
+    };
+    let draft = Draft {
+        number: 7,
+        file: "day.csv",
+        sha256: "ab",
+        kind: Kind::Undo(3),
+        time: "2026-01-02 03:04:05",
+        movements: 3,
+    };
+    let batches = sealed_rows(alloc, 2, [draft].as_slice(), &booked.entries)?;
+    Ok((batches, booked.entries))
+}
+
+// The digest of a text, by another program; and that of what a batch is sealed by, by Python's hashlib.
+#[test]
+fn batches_are_sealed(rt: HostRuntime) -> Result<(), Fail> {
+    let alloc = rt.alloc();
+    let abc = "ba7816bf8f01cfea414140de5dae2223b00361a396177a9cb410ff61f20015ad";
+    assert_eq!(rt; digest_of(alloc, b"abc")?.as_str(), abc);
+    let (batches, entries) = sealed_batch(alloc)?;
+    assert_eq!(rt; batches.len(), 1);
+    assert_eq!(rt; (batches[0].movements, batches[0].refused), (3, 1));
+    assert_eq!(rt;
+        batches[0].seal.as_str(),
+        "71697d9e3e0e53dc4bb7dc8c1928b33fe06ed64320a22b48a1620ed63c4255a4"
+    );
+    assert_eq!(rt; wrong_seal(alloc, 2, &batches, &entries)?, None);
+    assert_eq!(rt; wrong_seal(alloc, 3, &batches, &entries)?, Some(7));
+    assert_eq!(rt; wrong_seal(alloc, 2, &batches, &entries[..2])?, Some(7));
+    Ok(())
+}
+
+// Movements of an article, each with what became of it.
+fn two_entries(alloc: Global) -> Result<Vec<Entry<String>>, Fail> {
+    let movements = movements_of(alloc, &[("a", "in", 25), ("a", "out", 30)])?;
+    match book_batch(alloc, FixedState::new(), Vec::new(alloc), movements) {
+        Ok(booked) => Ok(booked.entries),
+        Err(_) => Err(Fail::from("not booked")),
+    }
+}
 
 #[test]
-fn batches_and_events_are_written(rt: HostRuntime) -> Result<(), Fail> {
+fn batches_and_histories_are_written(rt: HostRuntime) -> Result<(), Fail> {
     let alloc = rt.alloc();
     let reading = Reading {
         delimiter: Delimiter::Semicolon,
@@ -493,8 +531,11 @@ fn batches_and_events_are_written(rt: HostRuntime) -> Result<(), Fail> {
         String::from_utf8(batches_text(alloc, reading, &batches)?)?.as_str(),
         "batch;file;sha256;kind;undoes;time;movements;refused\n1;file 1.csv;aa;moves;;2026-01-02 03:04:05;2;1\n2;file 2.csv;bb;moves;;2026-01-02 03:04:05;0;0\n5;file 5.csv;;undo;1;2026-01-02 03:04:05;1;0\n"
     );
+    let mut entries = two_entries(alloc)?;
+    entries[0].movement.place = Place { file: 1, line: 7 };
+    entries[1].movement.place = Place { file: 5, line: 7 };
     assert_eq!(rt;
-        String::from_utf8(history_text(alloc, reading, &batches, EVENTS.as_slice())?)?.as_str(),
+        String::from_utf8(history_text(alloc, reading, &batches, &entries)?)?.as_str(),
         "batch;file;line;time;change;outcome;number\n1;file 1.csv;7;2026-01-02 03:04:05;2,5;entered;2,5\n5;file 5.csv;7;2026-01-02 03:04:05;-3,0;refused;2,5\n"
     );
     Ok(())

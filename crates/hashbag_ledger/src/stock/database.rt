@@ -3,11 +3,9 @@ use crate::outputs::is_same;
 use crate::stock::failure::Failure;
 use crate::stock::request::Request;
 use hashbag_stock::error::StockError;
-use hashbag_stock::query::{Query, Tables};
-use hashbag_stock::tables::Form;
-use hashbag_stock::writing::{NewBatch, put_batch};
+use hashbag_stock::tables::{Form, Shape, form_of};
+use hashbag_stock::writing::{NewRows, put_batches};
 use sqlite::{Connection, Error, ErrorCode, File, FileStore};
-use std::alloc::Global;
 use std::io::ErrorKind;
 use std::time::Duration;
 use std::{fs, thread};
@@ -28,40 +26,30 @@ pub fn failure_of<'a>(db: &'a str, error: StockError) -> Failure<'a> {
     }
 }
 
-// Returns what it is, or the failure of the database.
-fn in_database<'a, T>(db: &'a str, done: Result<T, StockError>) -> Result<T, Failure<'a>> {
+/// Returns what was done in a database, or its failure.
+///
+/// # Errors
+///
+/// Why it wasn't done.
+pub fn in_database<'a, T>(db: &'a str, done: Result<T, StockError>) -> Result<T, Failure<'a>> {
     match done {
         Ok(value) => Ok(value),
         Err(error) => Err(failure_of(db, error)),
     }
 }
 
-/// Reads what is asked of a database.
+/// Writes what a call writes, in one transaction; and first the tables if there is a scale.
 ///
 /// # Errors
 ///
-/// Why it can't be read.
-pub fn read<'a, Q: Query>(
-    alloc: Global,
-    db: &'a str,
-    conn: &mut Db,
-    query: &Q,
-) -> Result<Q::Output, Failure<'a>> {
-    in_database(db, query.read(alloc, conn))
-}
-
-/// Writes a batch, and first the tables if there is a scale.
-///
-/// # Errors
-///
-/// Why it can't be written. Then nothing is.
+/// Why they can't be written. Then nothing is.
 pub fn put<'a>(
     db: &'a str,
     conn: &mut Db,
     new_scale: Option<u32>,
-    batch: &NewBatch<'_>,
+    new: &NewRows<'_>,
 ) -> Result<(), Failure<'a>> {
-    in_database(db, put_batch(conn, new_scale, batch))
+    in_database(db, put_batches(conn, new_scale, new))
 }
 
 // Returns whether a file has no byte, or doesn't exist.
@@ -123,7 +111,7 @@ pub fn open_or_make<'a>(
     wait: usize,
 ) -> Result<(Db, Form), Failure<'a>> {
     let mut conn = open_at(rt, db, wait)?;
-    match read(rt.alloc(), db, &mut conn, &Tables) {
+    match in_database(db, form_of(&mut conn)) {
         Ok(form) => Ok((conn, form)),
         Err(failure) => {
             abandon(conn);
@@ -132,12 +120,12 @@ pub fn open_or_make<'a>(
     }
 }
 
-/// Opens the database of a stock, and returns how many decimals its numbers have.
+/// Opens the database of a stock, and returns what holds of its rows.
 ///
 /// # Errors
 ///
 /// `NoFile` or `NoStock` if there is none, or why it gives none.
-pub fn open<'a>(rt: &HostRuntime, request: &Request<'a>) -> Result<(Db, u32), Failure<'a>> {
+pub fn open<'a>(rt: &HostRuntime, request: &Request<'a>) -> Result<(Db, Shape), Failure<'a>> {
     let db = request.db;
     if is_new(rt, db)? {
         return Err(match fs::metadata(rt, db) {
@@ -147,7 +135,7 @@ pub fn open<'a>(rt: &HostRuntime, request: &Request<'a>) -> Result<(Db, u32), Fa
     }
     let (conn, form) = open_or_make(rt, db, request.wait)?;
     match form {
-        Form::Stock(scale) => Ok((conn, scale)),
+        Form::Stock(shape) => Ok((conn, shape)),
         Form::Empty => {
             close(conn);
             Err(Failure::NoStock { db })
@@ -155,24 +143,18 @@ pub fn open<'a>(rt: &HostRuntime, request: &Request<'a>) -> Result<(Db, u32), Fa
     }
 }
 
-/// Reads what is asked of the stock of the request, and returns with it how many decimals its numbers have.
-///
-/// # Errors
-///
-/// As of [`open`], or why it can't be read.
-pub fn read_once<'a, Q: Query>(
-    rt: &HostRuntime,
-    request: &Request<'a>,
-    query: &Q,
-) -> Result<(Q::Output, u32), Failure<'a>> {
-    let (mut conn, scale) = open(rt, request)?;
-    let output = read(rt.alloc(), request.db, &mut conn, query);
-    Ok((ended(conn, output)?, scale))
-}
-
 // Leaves a database as it is: its log isn't copied into it.
 fn abandon(conn: Db) {
     let _ = conn;
+}
+
+/// Closes a database after what was read of it, or leaves it as it is if that failed. Returns what was read.
+///
+/// # Errors
+///
+/// Why it couldn't be read.
+pub fn read<'a, T>(db: &'a str, conn: Db, done: Result<T, StockError>) -> Result<T, Failure<'a>> {
+    ended(conn, in_database(db, done))
 }
 
 /// Closes a database after what was done in it, or leaves it as it is if that failed. Returns what was done.

@@ -1,15 +1,19 @@
 //! Files that are entered into a stock.
 use crate::outputs::{is_same, write_refusals};
 use crate::stock::database::{
-    Db, ended, is_new, is_of_database, open_or_make, put, read, read_once,
+    Db, ended, in_database, is_new, is_of_database, open as open_stock, open_or_make, put, read,
 };
 use crate::stock::failure::Failure;
-use crate::stock::inputs::{Input, digest_of, inputs_of, movements_of};
+use crate::stock::inputs::{Input, inputs_of, movements_of};
 use crate::stock::request::Request;
-use hashbag_ledger_core::entering::LedgerError;
-use hashbag_ledger_core::ledger::booking::count_refused;
-use hashbag_ledger_core::movements::{Entry, Movement, Outcome, Refusal};
-use hashbag_ledger_core::output::{balance_text, refusals_table, refusals_text};
+use hashbag_ledger_lib::entering::LedgerError;
+use hashbag_ledger_lib::filing::{Filed, enter_files, refusals_of};
+use hashbag_ledger_lib::ledger::booking::count_refused;
+use hashbag_ledger_lib::movements::Movement;
+use hashbag_ledger_lib::numbers::MOST;
+use hashbag_ledger_lib::once::{Batch, Kind, entered_before, next_number};
+use hashbag_ledger_lib::output::{balance_text, refusals_table, refusals_text};
+use hashbag_ledger_lib::sealing::{Draft, digest_of, sealed_rows};
 use hashbag_lists::counts::Reading;
 use hashbag_lists::decimals::write_decimal;
 use hashbag_lists::fault::{Fault, SheetError, in_file};
@@ -17,34 +21,25 @@ use hashbag_shell::output::Output;
 use hashbag_shell::status::{DENIED, DONE};
 use hashbag_shell::trouble::Trouble;
 use hashbag_stock::error::StockError;
-use hashbag_stock::query::{Balance, Batches};
-use hashbag_stock::tables::Form;
-use hashbag_stock::writing::{Kind, NewBatch};
-use hashbag_stock_core::entering::book_batch;
-use hashbag_stock_core::numbers::{MOST, size_of};
-use hashbag_stock_core::once::{Batch, entered_before};
-use hashbag_stock_core::rows::{RowChange, changed_rows};
+use hashbag_stock::reading::{balance_of, batches_of, time_of};
+use hashbag_stock::tables::{Form, Shape};
+use hashbag_stock::writing::NewRows;
 use std::alloc::{AllocError, Global};
 use std::hash::RandomState;
 
-// A batch that is ready to be written.
+// What the inputs leave, and the number of the first of their batches.
 #[derive(Drop)]
 struct Ready {
-    entries: Vec<Entry<String>>,
-    changed: Vec<RowChange>,
+    filed: Filed,
+    number: i64,
 }
 
-/// Returns a copy of a balance.
-pub fn copy_of(
-    alloc: Global,
-    balance: &[(String, usize)],
-) -> Result<Vec<(String, usize)>, AllocError> {
-    let mut copy = Vec::new(alloc);
-    for entry in balance {
-        let pair: (String, usize) = (entry.0.clone()?, entry.1);
-        copy.push(pair)?;
-    }
-    Ok(copy)
+// What the database has before the inputs are entered.
+#[derive(Drop)]
+struct Before {
+    balance: Vec<(String, usize)>,
+    // The number of the next batch.
+    number: i64,
 }
 
 /// Returns the state that bags of strangers' articles take: its keys are random.
@@ -78,42 +73,61 @@ pub fn start_too_many<'a>(db: &'a str) -> Failure<'a> {
     }
 }
 
-// Returns the failure for an error of the ledger in a batch of this file.
-fn failure_in<'a>(
+// Reads the movements of the inputs up to the first that is bad, and returns them with its failure.
+fn all_movements<'a>(
+    rt: &HostRuntime,
+    request: &Request<'a>,
+    inputs: &[Input<'a>],
+    reading: Reading,
+) -> Result<(Vec<Vec<Movement<String>>>, Option<Failure<'a>>), Failure<'a>> {
+    let mut files = Vec::new(rt.alloc());
+    for i in 0..inputs.len() {
+        match movements_of(rt, request, &inputs[i], i, reading) {
+            Ok(movements) => files.push(movements).map_err(AllocError::from)?,
+            Err(failure) => return Ok((files, Some(failure))),
+        }
+    }
+    Ok((files, None))
+}
+
+// Returns the failure for an error of the ledger.
+fn failure_of<'a>(
     alloc: Global,
     db: &'a str,
-    file: &'a str,
+    inputs: &[Input<'a>],
     reading: Reading,
     error: LedgerError,
 ) -> Failure<'a> {
     match error {
-        LedgerError::Memory => Failure::from(AllocError),
-        LedgerError::TooMany(place) => too_large(alloc, file, place.line, reading),
+        LedgerError::TooMany(place) => {
+            let file = match inputs.get(place.file) {
+                Some(input) => input.file,
+                None => db,
+            };
+            too_large(alloc, file, place.line, reading)
+        }
         LedgerError::StartTooMany => start_too_many(db),
+        LedgerError::Memory => Failure::from(AllocError),
     }
 }
 
-// Enters a batch into the balance that is kept, which becomes the new balance.
-fn ready_of<'a>(
+// Enters the inputs into the balance that is kept. What is wrong first is the failure.
+fn filed_of<'a>(
     rt: &HostRuntime,
     request: &Request<'a>,
-    file: &'a str,
+    inputs: &[Input<'a>],
     reading: Reading,
-    kept: &mut Vec<(String, usize)>,
-    movements: Vec<Movement<String>>,
-) -> Result<Ready, Failure<'a>> {
+    kept: &[(String, usize)],
+) -> Result<Filed, Failure<'a>> {
     let alloc = rt.alloc();
-    let state = random_state(rt)?;
-    match book_batch(alloc, state, copy_of(alloc, kept.as_slice())?, movements) {
-        Ok(booked) => {
-            let changed = changed_rows(alloc, kept.as_slice(), &booked.balance)?;
-            *kept = booked.balance;
-            Ok(Ready {
-                entries: booked.entries,
-                changed,
-            })
-        }
-        Err(error) => Err(failure_in(alloc, request.db, file, reading, error)),
+    let (files, bad) = all_movements(rt, request, inputs, reading)?;
+    let filed = match enter_files(alloc, random_state(rt)?, kept, files) {
+        Ok(filed) => filed,
+        Err(error) => return Err(failure_of(alloc, request.db, inputs, reading, error)),
+    };
+    match bad {
+        Some(failure) => Err(failure),
+        None => Ok(filed),
     }
 }
 
@@ -140,52 +154,38 @@ fn entered_twice<'a>(inputs: &[Input<'a>], batches: &[Batch]) -> Result<(), Fail
     Ok(())
 }
 
-// Returns how many decimals the numbers of the stock have, and how many a new one is made with.
-fn scale_of<'a>(request: &Request<'a>, form: Form) -> Result<(u32, Option<u32>), Failure<'a>> {
+// Returns what holds of the rows of the stock, and how many decimals a new one is made with.
+fn shape_of<'a>(request: &Request<'a>, form: Form) -> Result<(Shape, Option<u32>), Failure<'a>> {
     let db = request.db;
     match (form, request.scale) {
         (Form::Empty, asked) => {
             let scale = asked.unwrap_or(0);
-            Ok((scale, Some(scale)))
+            let is_sealed = true;
+            Ok((Shape { scale, is_sealed }, Some(scale)))
         }
-        (Form::Stock(kept), Some(asked)) if kept != asked => Err(Failure::OtherScale {
+        (Form::Stock(shape), Some(asked)) if shape.scale != asked => Err(Failure::OtherScale {
             db,
-            kept,
+            kept: shape.scale,
             asked,
         }),
-        (Form::Stock(kept), _) => Ok((kept, None)),
+        (Form::Stock(shape), _) => Ok((shape, None)),
     }
 }
 
-// Returns the batches of the inputs, ready to be written.
-fn all_ready<'a>(
-    rt: &HostRuntime,
-    request: &Request<'a>,
-    inputs: &[Input<'a>],
-    reading: Reading,
-    kept: Vec<(String, usize)>,
-) -> Result<Vec<Ready>, Failure<'a>> {
-    let mut kept = kept;
-    let mut all = Vec::new(rt.alloc());
+// Returns what is known of the batches of the inputs, from this number on.
+fn drafts_of<'i, 'a>(
+    alloc: Global,
+    inputs: &'i [Input<'a>],
+    counts: &[usize],
+    number: i64,
+    time: &'i str,
+) -> Result<Vec<Draft<'i>>, AllocError> {
+    let mut drafts = Vec::new(alloc);
+    let mut number = number;
     for i in 0..inputs.len() {
         let input = &inputs[i];
-        let movements = movements_of(rt, request, input, i, reading)?;
-        all.push(ready_of(rt, request, input.file, reading, &mut kept, movements)?)?;
-    }
-    Ok(all)
-}
-
-// Writes the batches, each in a transaction of its own.
-fn write_batches<'a>(
-    conn: &mut Db,
-    db: &'a str,
-    new_scale: Option<u32>,
-    inputs: &[Input<'a>],
-    all: &[Ready],
-) -> Result<(), Failure<'a>> {
-    let mut new_scale = new_scale;
-    for (input, ready) in inputs.iter().zip(all.iter()) {
-        let batch = NewBatch {
+        drafts.push(Draft {
+            number,
             file: input.file,
             sha256: input.sha256.as_str(),
             kind: if input.is_start {
@@ -193,46 +193,36 @@ fn write_batches<'a>(
             } else {
                 Kind::Moves
             },
-            entries: &ready.entries,
-            changed: &ready.changed,
-        };
-        put(db, conn, new_scale, &batch)?;
-        new_scale = None;
+            time,
+            movements: counts.get(i).copied().unwrap_or(0) as u64,
+        })?;
+        number = number.saturating_add(1);
     }
-    Ok(())
+    Ok(drafts)
 }
 
-// Returns a copy of the refusal of a movement, if it was refused.
-fn refusal_of(entry: &Entry<String>) -> Result<Option<Refusal<String>>, AllocError> {
-    let Outcome::Refused { there } = entry.outcome else {
-        return Ok(None);
-    };
-    Ok(Some(Refusal {
-        place: entry.movement.place,
-        article: entry.movement.article.clone()?,
-        asked: size_of(entry.movement.change),
-        there,
-    }))
-}
-
-// Returns a copy of all refusals in turn; if only the first is named, of no other.
-fn refusals_of(
+// Writes the batches of the inputs.
+fn write<'a>(
     alloc: Global,
-    all: &[Ready],
-    is_first_alone: bool,
-) -> Result<Vec<Refusal<String>>, AllocError> {
-    let mut refusals = Vec::new(alloc);
-    for ready in all {
-        for entry in &ready.entries {
-            if is_first_alone && !refusals.is_empty() {
-                return Ok(refusals);
-            }
-            if let Some(refusal) = refusal_of(entry)? {
-                refusals.push(refusal)?;
-            }
-        }
-    }
-    Ok(refusals)
+    conn: &mut Db,
+    db: &'a str,
+    shape: Shape,
+    new_scale: Option<u32>,
+    inputs: &[Input<'a>],
+    ready: &Ready,
+) -> Result<(), Failure<'a>> {
+    let time = in_database(db, time_of(conn))?;
+    let filed = &ready.filed;
+    let drafts = drafts_of(alloc, inputs, &filed.counts, ready.number, time.as_str())?;
+    let entries = &filed.booked.entries;
+    let batches = sealed_rows(alloc, shape.scale, &drafts, entries)?;
+    let new = NewRows {
+        is_sealed: shape.is_sealed,
+        batches: &batches,
+        entries,
+        changed: &filed.changed,
+    };
+    put(db, conn, new_scale, &new)
 }
 
 // Returns the names of the inputs.
@@ -244,15 +234,15 @@ fn names_of<'a>(alloc: Global, inputs: &[Input<'a>]) -> Result<Vec<&'a str>, All
     Ok(names)
 }
 
-// Returns the text of the refusals of these batches.
+// Returns the text of the refusals.
 fn text_of<'a>(
     alloc: Global,
     request: &Request<'a>,
     inputs: &[Input<'a>],
     reading: Reading,
-    all: &[Ready],
+    filed: &Filed,
 ) -> Result<Vec<u8>, AllocError> {
-    let refusals = refusals_of(alloc, all, request.strict)?;
+    let refusals = refusals_of(alloc, &filed.booked.entries, request.strict)?;
     let names = names_of(alloc, inputs)?;
     match request.refused {
         Some(_) => refusals_table(alloc, &names, reading, &refusals),
@@ -260,53 +250,70 @@ fn text_of<'a>(
     }
 }
 
-// Returns the balance that the inputs change.
-fn kept_of<'a>(
+// Returns what an open database has, if the inputs may be entered into it.
+fn before_in<'a>(
     alloc: Global,
     request: &Request<'a>,
     inputs: &[Input<'a>],
     conn: &mut Db,
-    is_new: bool,
-) -> Result<Vec<(String, usize)>, Failure<'a>> {
+    shape: Shape,
+) -> Result<Before, Failure<'a>> {
     let db = request.db;
-    if is_new {
-        if !request.again {
-            entered_twice(inputs, &[])?;
-        }
-        return Ok(Vec::new(alloc));
-    }
     if request.from.is_some() {
         return Err(Failure::HasStock { db });
     }
-    let batches = read(alloc, db, conn, &Batches)?;
+    let batches = in_database(db, batches_of(alloc, conn, shape))?;
     if !request.again {
         entered_twice(inputs, &batches)?;
     }
-    read(alloc, db, conn, &Balance)
+    Ok(Before {
+        balance: in_database(db, balance_of(alloc, conn))?,
+        number: next_number(&batches),
+    })
 }
 
 // Returns whether some movement is refused.
-fn is_refused(all: &[Ready]) -> bool {
-    all.iter().any(|ready| count_refused(&ready.entries) > 0)
+fn is_refused(filed: &Filed) -> bool {
+    count_refused(&filed.booked.entries) > 0
 }
 
-// Returns what the inputs would do to an empty stock: what is wrong with one is found before the file of the database is made. If they
-// are to be entered strictly and some movement is refused, it returns the text of the refusals, and no file is made.
-fn denied_of<'a>(
+// Returns what the inputs do to an empty stock: what is wrong with one is found before the file of the database is made.
+fn filed_anew<'a>(
     rt: &HostRuntime,
     request: &Request<'a>,
     inputs: &[Input<'a>],
-) -> Result<Option<Vec<u8>>, Failure<'a>> {
-    let alloc = rt.alloc();
+) -> Result<Filed, Failure<'a>> {
     let reading = request.reading(request.scale.unwrap_or(0));
-    let all = all_ready(rt, request, inputs, reading, Vec::new(alloc))?;
+    let filed = filed_of(rt, request, inputs, reading, &[])?;
     if !request.again {
         entered_twice(inputs, &[])?;
     }
-    if !(request.strict && is_refused(&all)) {
-        return Ok(None);
-    }
-    Ok(Some(text_of(alloc, request, inputs, reading, &all)?))
+    Ok(filed)
+}
+
+// Returns what the inputs do to the stock of an open database. For an empty one that is known already, unless another process made it
+// meanwhile.
+fn ready_in<'a>(
+    rt: &HostRuntime,
+    request: &Request<'a>,
+    inputs: &[Input<'a>],
+    conn: &mut Db,
+    form: Form,
+    anew: Option<Filed>,
+) -> Result<Ready, Failure<'a>> {
+    let Form::Stock(shape) = form else {
+        let filed = match anew {
+            Some(filed) => filed,
+            None => filed_anew(rt, request, inputs)?,
+        };
+        return Ok(Ready { filed, number: 1 });
+    };
+    let before = before_in(rt.alloc(), request, inputs, conn, shape)?;
+    let reading = request.reading(shape.scale);
+    Ok(Ready {
+        filed: filed_of(rt, request, inputs, reading, &before.balance)?,
+        number: before.number,
+    })
 }
 
 // Enters the inputs into an open database, and returns the text of the refusals and the status. That text is made before anything is
@@ -317,31 +324,42 @@ fn report_in<'a>(
     inputs: &[Input<'a>],
     conn: &mut Db,
     form: Form,
+    anew: Option<Filed>,
 ) -> Result<(Vec<u8>, u8), Failure<'a>> {
-    let alloc = rt.alloc();
-    let (scale, new_scale) = scale_of(request, form)?;
-    let reading = request.reading(scale);
-    let kept = kept_of(alloc, request, inputs, conn, new_scale.is_some())?;
-    let all = all_ready(rt, request, inputs, reading, kept)?;
-    let text = text_of(alloc, request, inputs, reading, &all)?;
-    let denied = is_refused(&all);
+    let (alloc, db) = (rt.alloc(), request.db);
+    let (shape, new_scale) = shape_of(request, form)?;
+    let ready = ready_in(rt, request, inputs, conn, form, anew)?;
+    let text = text_of(
+        alloc,
+        request,
+        inputs,
+        request.reading(shape.scale),
+        &ready.filed,
+    )?;
+    let denied = is_refused(&ready.filed);
     if !(request.strict && denied) {
-        write_batches(conn, request.db, new_scale, inputs, &all)?;
+        write(alloc, conn, db, shape, new_scale, inputs, &ready)?;
     }
     Ok((text, if denied { DENIED } else { DONE }))
 }
 
-// Enters the inputs, and returns the text of the refusals and the status.
+// Enters the inputs, and returns the text of the refusals and the status. If they are to be entered strictly into a new stock and some
+// movement is refused, no file is made.
 fn report_of<'a>(rt: &HostRuntime, request: &Request<'a>) -> Result<(Vec<u8>, u8), Failure<'a>> {
     let db = request.db;
     let inputs = inputs_of(rt, request)?;
-    if is_new(rt, db)?
-        && let Some(text) = denied_of(rt, request, &inputs)?
-    {
-        return Ok((text, DENIED));
+    let mut anew = None;
+    if is_new(rt, db)? {
+        let filed = filed_anew(rt, request, &inputs)?;
+        if request.strict && is_refused(&filed) {
+            let reading = request.reading(request.scale.unwrap_or(0));
+            let text = text_of(rt.alloc(), request, &inputs, reading, &filed)?;
+            return Ok((text, DENIED));
+        }
+        anew = Some(filed);
     }
     let (mut conn, form) = open_or_make(rt, db, request.wait)?;
-    let report = report_in(rt, request, &inputs, &mut conn, form);
+    let report = report_in(rt, request, &inputs, &mut conn, form, anew);
     ended(conn, report)
 }
 
@@ -376,11 +394,11 @@ fn is_input(rt: &HostRuntime, request: &Request<'_>, refused: &str) -> bool {
     request.files.iter().any(|file| is_same(rt, refused, *file))
 }
 
-/// Enters files into the stock, each whole or not at all, and writes the refusals.
+/// Enters files into the stock, all or none, and writes the refusals.
 ///
 /// # Errors
 ///
-/// Why nothing is entered; or, if writing to the database fails, why not all is.
+/// Why nothing is entered.
 pub fn enter<'a>(rt: &HostRuntime, request: &Request<'a>) -> Result<u8, Failure<'a>> {
     if let Some(name) = conflict(rt, request)? {
         return Err(Failure::Conflict(name));
@@ -403,21 +421,26 @@ fn begin_in<'a>(
     rt: &HostRuntime,
     request: &Request<'a>,
     scale: u32,
-    input: &Input<'a>,
+    inputs: &[Input<'a>],
     conn: &mut Db,
 ) -> Result<(), Failure<'a>> {
-    let reading = request.reading(scale);
-    let movements = movements_of(rt, request, input, 0, reading)?;
-    let mut kept = Vec::new(rt.alloc());
-    let ready = ready_of(rt, request, input.file, reading, &mut kept, movements)?;
-    let batch = NewBatch {
-        file: input.file,
-        sha256: input.sha256.as_str(),
-        kind: Kind::Start,
-        entries: &ready.entries,
-        changed: &ready.changed,
+    let shape = Shape {
+        scale,
+        is_sealed: true,
     };
-    put(request.into, conn, Some(scale), &batch)
+    let ready = Ready {
+        filed: filed_of(rt, request, inputs, request.reading(scale), &[])?,
+        number: 1,
+    };
+    write(
+        rt.alloc(),
+        conn,
+        request.into,
+        shape,
+        Some(scale),
+        inputs,
+        &ready,
+    )
 }
 
 // Begins a new database with a balance, which is entered as a text of CSV would be.
@@ -430,15 +453,15 @@ fn begin<'a>(
     let alloc = rt.alloc();
     let reading = request.reading(scale);
     let text = balance_text(alloc, ("article", "number"), reading, balance)?;
-    let input = Input {
+    let inputs = [Input {
         file: request.db,
         sha256: digest_of(alloc, text.as_slice())?,
         text,
         is_start: true,
-    };
+    }];
     let (mut conn, form) = open_or_make(rt, request.into, request.wait)?;
     let begun = match form {
-        Form::Empty => begin_in(rt, request, scale, &input, &mut conn),
+        Form::Empty => begin_in(rt, request, scale, inputs.as_slice(), &mut conn),
         Form::Stock(_) => Err(Failure::HasStock { db: request.into }),
     };
     ended(conn, begun)
@@ -453,7 +476,9 @@ pub fn close<'a>(rt: &HostRuntime, request: &Request<'a>) -> Result<u8, Failure<
     if is_of_database(rt, request.db, request.into)? {
         return Err(Failure::Conflict(request.into));
     }
-    let (balance, scale) = read_once(rt, request, &Balance)?;
-    begin(rt, request, scale, &balance)?;
+    let (mut conn, shape) = open_stock(rt, request)?;
+    let found = balance_of(rt.alloc(), &mut conn);
+    let balance = read(request.db, conn, found)?;
+    begin(rt, request, shape.scale, &balance)?;
     Ok(DONE)
 }

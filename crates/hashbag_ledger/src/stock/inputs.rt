@@ -1,13 +1,13 @@
 //! The inputs of `enter`: their bytes, and the movements in them.
 use crate::stock::failure::Failure;
 use crate::stock::request::Request;
-use hashbag_ledger_core::movements::Movement;
-use hashbag_ledger_core::reading::{ChangeColumns, Columns, read_movements};
+use hashbag_ledger_lib::movements::Movement;
+use hashbag_ledger_lib::numbers::plain_change;
+use hashbag_ledger_lib::reading::{ChangeColumns, Columns, read_movements};
+use hashbag_ledger_lib::sealing::digest_of;
 use hashbag_lists::counts::{Reading, read_counts_as};
 use hashbag_lists::fault::{SheetError, in_file};
 use hashbag_shell::input::read_file;
-use hashbag_stock_core::numbers::plain_change;
-use sha2::{Digest, Sha256};
 use std::alloc::{AllocError, Global};
 
 /// A file that is to be entered.
@@ -21,17 +21,6 @@ pub struct Input<'a> {
     pub sha256: String,
     /// Whether it is the stock at the beginning.
     pub is_start: bool,
-}
-
-/// Returns the SHA-256 of bytes, in hexadecimal digits.
-pub fn digest_of(alloc: Global, text: &[u8]) -> Result<String, AllocError> {
-    let digest: [u8; 32] = Sha256::digest(text);
-    let mut name = String::new(alloc);
-    for byte in &digest {
-        let n = *byte;
-        write!(name, "{n:02x}")?;
-    }
-    Ok(name)
 }
 
 fn input_of<'a>(rt: &HostRuntime, file: &'a str, is_start: bool) -> Result<Input<'a>, Failure<'a>> {

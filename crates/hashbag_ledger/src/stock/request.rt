@@ -3,11 +3,11 @@ use crate::arguments::{columns_of, pair_of};
 use crate::command::{COLUMNS, START_COLUMNS};
 use crate::stock::failure::Failure;
 use clap::ArgMatches;
-use hashbag_ledger_core::reading::Columns;
+use hashbag_ledger_lib::numbers::MOST;
+use hashbag_ledger_lib::reading::Columns;
 use hashbag_lists::counts::Reading;
 use hashbag_lists::delimiter::Delimiter;
 use hashbag_lists::scale::{Mark, Scale};
-use hashbag_stock_core::numbers::MOST;
 use std::alloc::Global;
 
 /// What a subcommand is asked to do.

@@ -1,12 +1,15 @@
 //! What is shown of a stock: its balance, the history of an article, and the batches.
-use crate::stock::database::{is_of_database, read_once};
+use crate::stock::database::{is_of_database, open, read};
+use crate::stock::enter::{random_state, start_too_many};
 use crate::stock::failure::Failure;
 use crate::stock::request::Request;
-use hashbag_ledger_core::output::balance_text;
+use hashbag_ledger_lib::entering::LedgerError;
+use hashbag_ledger_lib::ledger::booking::book_batch;
+use hashbag_ledger_lib::listing::{batches_text, history_text};
+use hashbag_ledger_lib::output::balance_text;
 use hashbag_shell::output::Output;
 use hashbag_shell::status::DONE;
-use hashbag_stock::query::{Balance, Batches, History};
-use hashbag_stock_core::output::{batches_text, history_text};
+use hashbag_stock::reading::{balance_of, batches_of, history_of};
 use std::alloc::{AllocError, Global};
 
 // The columns of a balance.
@@ -57,13 +60,15 @@ fn write<'a>(rt: &HostRuntime, request: &Request<'a>, text: &[u8]) -> Result<u8,
 /// Why there is none, or why it can't be written.
 pub fn balance<'a>(rt: &HostRuntime, request: &Request<'a>) -> Result<u8, Failure<'a>> {
     let alloc = rt.alloc();
-    let (all, scale) = read_once(rt, request, &Balance)?;
+    let (mut conn, shape) = open(rt, request)?;
+    let found = balance_of(alloc, &mut conn);
+    let all = read(request.db, conn, found)?;
     let shown = if request.articles.is_empty() {
         all
     } else {
         chosen_of(alloc, &all, &request.articles)?
     };
-    let text = balance_text(alloc, NAMES, request.reading(scale), &shown)?;
+    let text = balance_text(alloc, NAMES, request.reading(shape.scale), &shown)?;
     write(rt, request, text.as_slice())
 }
 
@@ -75,8 +80,17 @@ pub fn balance<'a>(rt: &HostRuntime, request: &Request<'a>) -> Result<u8, Failur
 pub fn history<'a>(rt: &HostRuntime, request: &Request<'a>) -> Result<u8, Failure<'a>> {
     let alloc = rt.alloc();
     let article = request.articles.first().copied().unwrap_or("");
-    let ((batches, events), scale) = read_once(rt, request, &History(article))?;
-    let text = history_text(alloc, request.reading(scale), &batches, &events)?;
+    let (mut conn, shape) = open(rt, request)?;
+    let found = history_of(alloc, &mut conn, shape, article);
+    let (batches, movements) = read(request.db, conn, found)?;
+    let booked = match book_batch(alloc, random_state(rt)?, Vec::new(alloc), movements) {
+        Ok(booked) => booked,
+        Err(LedgerError::Memory) => return Err(Failure::from(AllocError)),
+        // No movements that were entered make an article too large.
+        Err(_) => return Err(start_too_many(request.db)),
+    };
+    let reading = request.reading(shape.scale);
+    let text = history_text(alloc, reading, &batches, &booked.entries)?;
     write(rt, request, text.as_slice())
 }
 
@@ -87,7 +101,9 @@ pub fn history<'a>(rt: &HostRuntime, request: &Request<'a>) -> Result<u8, Failur
 /// As of [`balance`].
 pub fn batches<'a>(rt: &HostRuntime, request: &Request<'a>) -> Result<u8, Failure<'a>> {
     let alloc = rt.alloc();
-    let (batches, scale) = read_once(rt, request, &Batches)?;
-    let text = batches_text(alloc, request.reading(scale), &batches)?;
+    let (mut conn, shape) = open(rt, request)?;
+    let found = batches_of(alloc, &mut conn, shape);
+    let batches = read(request.db, conn, found)?;
+    let text = batches_text(alloc, request.reading(shape.scale), &batches)?;
     write(rt, request, text.as_slice())
 }

@@ -1,21 +1,23 @@
 //! A batch that is taken back.
-use crate::stock::database::{Db, ended, open, put as put_in, read};
-use crate::stock::enter::{copy_of, random_state, start_too_many};
+use crate::stock::database::{Db, ended, in_database, open, put as put_in};
+use crate::stock::enter::{random_state, start_too_many};
 use crate::stock::failure::Failure;
 use crate::stock::request::Request;
-use hashbag_ledger_core::entering::LedgerError;
-use hashbag_ledger_core::ledger::booking::Booked;
-use hashbag_ledger_core::movements::{Movement, Refusal};
-use hashbag_ledger_core::output::refusals_text;
+use hashbag_ledger_lib::entering::LedgerError;
+use hashbag_ledger_lib::ledger::booking::Booked;
+use hashbag_ledger_lib::movements::{Movement, Refusal};
+use hashbag_ledger_lib::numbers::MOST;
+use hashbag_ledger_lib::once::{Batch, Kind, batch_of, next_number, undone_by};
+use hashbag_ledger_lib::output::refusals_text;
+use hashbag_ledger_lib::rows::RowChange;
+use hashbag_ledger_lib::sealing::{Draft, sealed_rows};
+use hashbag_ledger_lib::undoing::{Undo, undo_batch};
 use hashbag_lists::decimals::write_decimal;
 use hashbag_shell::output::write_text;
 use hashbag_shell::status::{DENIED, DONE};
-use hashbag_stock::query::{Balance, Batches, Entered};
-use hashbag_stock::writing::{Kind, NewBatch};
-use hashbag_stock_core::numbers::MOST;
-use hashbag_stock_core::once::{Batch, batch_of, undone_by};
-use hashbag_stock_core::rows::changed_rows;
-use hashbag_stock_core::undoing::{Undo, take_back};
+use hashbag_stock::reading::{balance_of, batches_of, entered_of, time_of};
+use hashbag_stock::tables::Shape;
+use hashbag_stock::writing::NewRows;
 use std::alloc::{AllocError, Global};
 
 // What an undo has to know of its batch.
@@ -23,6 +25,8 @@ use std::alloc::{AllocError, Global};
 struct Found {
     number: i64,
     file: String,
+    // The number of the batch that undoes it.
+    by: i64,
 }
 
 // Returns the batch that is asked for, if it may be undone.
@@ -44,6 +48,7 @@ fn found_of<'a>(request: &Request<'a>, batches: &[Batch]) -> Result<Found, Failu
         None => Ok(Found {
             number,
             file: batch.file.clone()?,
+            by: next_number(batches),
         }),
     }
 }
@@ -53,28 +58,42 @@ fn put<'a>(
     alloc: Global,
     conn: &mut Db,
     db: &'a str,
+    shape: Shape,
     found: &Found,
     booked: &Booked<String>,
-    before: &[(String, usize)],
+    changed: &[RowChange],
 ) -> Result<(), Failure<'a>> {
-    let changed = changed_rows(alloc, before, &booked.balance)?;
-    let batch = NewBatch {
+    let time = in_database(db, time_of(conn))?;
+    let draft = Draft {
+        number: found.by,
         file: found.file.as_str(),
         sha256: "",
         kind: Kind::Undo(found.number),
-        entries: &booked.entries,
-        changed: &changed,
+        time: time.as_str(),
+        movements: booked.entries.len() as u64,
     };
-    put_in(db, conn, None, &batch)
+    let batches = sealed_rows(alloc, shape.scale, [draft].as_slice(), &booked.entries)?;
+    let new = NewRows {
+        is_sealed: shape.is_sealed,
+        batches: &batches,
+        entries: &booked.entries,
+        changed,
+    };
+    put_in(db, conn, None, &new)
 }
 
 // Returns what is known of the batch that is asked for, if it may be undone.
-fn found_in<'a>(alloc: Global, conn: &mut Db, request: &Request<'a>) -> Result<Found, Failure<'a>> {
-    let batches = read(alloc, request.db, conn, &Batches)?;
+fn found_in<'a>(
+    alloc: Global,
+    conn: &mut Db,
+    request: &Request<'a>,
+    shape: Shape,
+) -> Result<Found, Failure<'a>> {
+    let batches = in_database(request.db, batches_of(alloc, conn, shape))?;
     found_of(request, &batches)
 }
 
-// Decides about an undo of these movements in a stock with this balance.
+// Decides about an undo of these movements in a stock with this balance, and what becomes of the rows of that.
 fn undo_of<'a>(
     rt: &HostRuntime,
     request: &Request<'a>,
@@ -82,12 +101,10 @@ fn undo_of<'a>(
     file: &str,
     kept: &[(String, usize)],
     entered: Vec<Movement<String>>,
-) -> Result<Undo<String>, Failure<'a>> {
+) -> Result<(Undo<String>, Vec<RowChange>), Failure<'a>> {
     let alloc = rt.alloc();
-    let state = random_state(rt)?;
-    let kept = copy_of(alloc, kept)?;
-    match take_back(alloc, state, kept, entered) {
-        Ok(undo) => Ok(undo),
+    match undo_batch(alloc, random_state(rt)?, kept, entered) {
+        Ok(undone) => Ok(undone),
         Err(LedgerError::TooMany(place)) => Err(Failure::UndoneTotal {
             file: file.to_string(alloc)?,
             line: place.line,
@@ -102,18 +119,19 @@ fn undo_of<'a>(
 fn take_back_in<'a>(
     rt: &HostRuntime,
     request: &Request<'a>,
-    scale: u32,
+    shape: Shape,
     conn: &mut Db,
     found: &Found,
 ) -> Result<Vec<Refusal<String>>, Failure<'a>> {
-    let alloc = rt.alloc();
-    let db = request.db;
-    let entered = read(alloc, db, conn, &Entered(found.number))?;
-    let kept = read(alloc, db, conn, &Balance)?;
-    match undo_of(rt, request, scale, found.file.as_str(), &kept, entered)? {
+    let (alloc, db) = (rt.alloc(), request.db);
+    let entered = in_database(db, entered_of(alloc, conn, found.number))?;
+    let kept = in_database(db, balance_of(alloc, conn))?;
+    let file = found.file.as_str();
+    let (undo, changed) = undo_of(rt, request, shape.scale, file, &kept, entered)?;
+    match undo {
         Undo::Refused(refusals) => Ok(refusals),
         Undo::Done(booked) => {
-            put(alloc, conn, db, found, &booked, &kept)?;
+            put(alloc, conn, db, shape, found, &booked, &changed)?;
             Ok(Vec::new(alloc))
         }
     }
@@ -123,23 +141,12 @@ fn take_back_in<'a>(
 fn done_in<'a>(
     rt: &HostRuntime,
     request: &Request<'a>,
-    scale: u32,
+    shape: Shape,
     conn: &mut Db,
 ) -> Result<(Vec<Refusal<String>>, String), Failure<'a>> {
-    let found = found_in(rt.alloc(), conn, request)?;
-    let refusals = take_back_in(rt, request, scale, conn, &found)?;
+    let found = found_in(rt.alloc(), conn, request, shape)?;
+    let refusals = take_back_in(rt, request, shape, conn, &found)?;
     Ok((refusals, found.file))
-}
-
-// Takes the batch back, and returns the refusals with the name of its file and the scale.
-fn done_of<'a>(
-    rt: &HostRuntime,
-    request: &Request<'a>,
-) -> Result<(Vec<Refusal<String>>, String, u32), Failure<'a>> {
-    let (mut conn, scale) = open(rt, request)?;
-    let done = done_in(rt, request, scale, &mut conn);
-    let (refusals, file) = ended(conn, done)?;
-    Ok((refusals, file, scale))
 }
 
 /// Enters the opposite movements of a batch, all or none, and writes the refusals.
@@ -148,12 +155,14 @@ fn done_of<'a>(
 ///
 /// Why the batch can't be taken back.
 pub fn undo<'a>(rt: &HostRuntime, request: &Request<'a>) -> Result<u8, Failure<'a>> {
-    let (refusals, file, scale) = done_of(rt, request)?;
+    let (mut conn, shape) = open(rt, request)?;
+    let done = done_in(rt, request, shape, &mut conn);
+    let (refusals, file) = ended(conn, done)?;
     if refusals.is_empty() {
         return Ok(DONE);
     }
     let names = [file.as_str()];
-    let reading = request.reading(scale);
+    let reading = request.reading(shape.scale);
     let text = refusals_text(rt.alloc(), names.as_slice(), reading.scale, &refusals)?;
     write_text(&mut rt.stderr(), text.as_bytes())?;
     Ok(DENIED)

@@ -1,9 +1,0 @@
-use Rattle.std.specs.String.{string_eq}
-use Rattle.hashbag_ledger_core.specs.Settled.{EntersFile}
-use Rattle.hashbag_ledger_core.proofs.reading.enter_movements.Given as goal
-
--- the movements so far are entered
-abbrev pub invariant-records : goal.invariant-records
-invariant-records g l = record {
-  entered : EntersFile string_eq l.fn.file l.fn.ledger.refusals.items l.fn.ledger.stock l.ledger.refusals.items l.ledger.stock;
-}

@@ -1,0 +1,12 @@
+pub mod AfterLemmas
+pub mod BatchLemmas
+pub mod BookLemmas
+pub mod ChangeLemmas
+pub mod CopyLemmas
+pub mod EnterLemmas
+pub mod LedgerLemmas
+pub mod ListLemmas
+pub mod RunLemmas
+pub mod SealLemmas
+pub mod UndoLemmas
+pub mod WrongLemmas

@@ -1,0 +1,11 @@
+use Rattle.std.proofs.Common.{◌↔◌, length}
+use Rattle.hashbag_ledger_lib.specs.Seals.{AreSealed}
+use Rattle.hashbag_ledger_lib.proofs.sealing.wrong_seal.Given as goal
+
+-- all batches have their seals exactly if those that are left have
+abbrev pub invariant-batches : goal.invariant-batches
+invariant-batches l = AreSealed l.scale l.rest l.left ↔ AreSealed l.scale l.fn.batches l.fn.entries
+
+-- the batches that are left
+abbrev pub decreases-batches : goal.decreases-batches
+decreases-batches l = length l.rest

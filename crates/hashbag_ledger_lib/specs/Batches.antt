@@ -1,0 +1,21 @@
+-- Batches of movements that are entered in turn, each into the balance that the ones before left.
+use Rattle.std.specs.Prelude.{◌≡◌, ℕ, ◌++◌, Bool, List, [], ◌∷◌}
+use Rattle.std.specs.declared.cmp.Ordering.{Ordering}
+use Rattle.std.specs.Global.{Vec}
+use Rattle.hashbag_lists.specs.Quantities.{IsBalance}
+use Rattle.hashbag_ledger_lib.specs.declared.movements.Movement.{Movement}
+use Rattle.hashbag_ledger_lib.specs.declared.movements.Refusal.{Refusal}
+use Rattle.hashbag_ledger_lib.specs.Ledger.{in_the_end, refused_of, Leaves}
+use Rattle.hashbag_ledger_lib.specs.Settled.{listed}
+
+-- the movements of files, in turn
+abbrev pub all_of : {T : Type 0} → List (Vec (Movement T)) → List (Movement T)
+all_of [] = []
+all_of (f ∷ fs) = f.items ++ all_of fs
+
+module _ {T : Type 0} (eq : T → T → Bool) (cmp : T → T → Ordering) where
+  -- the balance and the refusals of a batch, after the movements of the batches before it, are those of all the movements in one turn
+  pub record Continues (start : T → ℕ) (before batch : List (Movement T)) (left : List (T × ℕ)) (refusals : List (Refusal T)) : Type 0 where
+    pub balance : IsBalance eq cmp (in_the_end eq start (before ++ batch)) left
+    pub leaves : Leaves eq start (before ++ batch) (listed eq left)
+    pub refused : refused_of eq start before ++ refusals ≡ refused_of eq start (before ++ batch)

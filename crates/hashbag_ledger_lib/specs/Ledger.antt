@@ -1,0 +1,96 @@
+-- Movements of a stock. A stock is how many there are of each article.
+use Rattle.std.specs.Prelude.{◌≡◌, ℕ, ◌+◌, ◌-◌, ◌<◌, ◌≤◌, if◌then◌else◌, nat_lt, Bool, List, [], ◌∷◌, ◌++◌, sum_by, take}
+use Rattle.hashbag.specs.Occurrences.{count}
+use Rattle.hashbag_ledger_lib.specs.declared.movements.Change.{Change}
+use Rattle.hashbag_ledger_lib.specs.declared.movements.Change.TheVariants.{In, Out}
+use Rattle.hashbag_ledger_lib.specs.declared.movements.Movement.{Movement}
+use Rattle.hashbag_ledger_lib.specs.declared.movements.Place.{Place}
+use Rattle.hashbag_ledger_lib.specs.declared.movements.Refusal.{Refusal}
+
+-- how many a change brings in, and how many it takes out
+abbrev pub coming : Change → ℕ
+coming (In n) = n
+coming (Out n) = 0
+
+abbrev pub going : Change → ℕ
+going (In n) = 0
+going (Out n) = n
+
+-- how many of all articles there are after these movements, where so many were there before
+abbrev pub total_after : {T : Type 0} → ℕ → List (Movement T) → ℕ
+total_after total entered = total + sum_by (λ m. coming m.change) entered - sum_by (λ m. going m.change) entered
+
+module _ {T : Type 0} (eq : T → T → Bool) where
+  -- the stock whose items are these
+  abbrev pub stock_of : List T → T → ℕ
+  stock_of X v = count eq v X
+
+  -- a movement that takes out no more than is there changes the stock of its article alone, by its number
+  pub record Changes (m : Movement T) (before after : T → ℕ) : Type 0 where
+    pub enough : going m.change ≤ before m.article
+    pub counts : (v : T) → after v + (if eq v m.article then going m.change else 0) ≡ before v + (if eq v m.article then coming m.change else 0)
+
+  -- a movement that asks for more than is there is refused, with how many there are
+  pub record RefusesMovement (m : Movement T) (before : T → ℕ) (r : Refusal T) : Type 0 where
+    pub too_much : before m.article < going m.change
+    pub is : r ≡ record { place = m.place; article = m.article; asked = going m.change; there = before m.article }
+
+  -- how many of v movements bring in, and how many they take out, in all
+  abbrev pub came : T → List (Movement T) → ℕ
+  came v ms = sum_by (λ m. if eq v m.article then coming m.change else 0) ms
+
+  abbrev pub went : T → List (Movement T) → ℕ
+  went v ms = sum_by (λ m. if eq v m.article then going m.change else 0) ms
+
+  module _ (start : T → ℕ) where
+    -- how many of v there are after these movements were entered
+    abbrev pub there : List (Movement T) → T → ℕ
+    there entered v = start v + came v entered - went v entered
+
+    -- a movement that comes after these asks for more than there is
+    abbrev pub asks_too_much : List (Movement T) → Movement T → Bool
+    asks_too_much entered m = nat_lt (there entered m.article) (going m.change)
+
+    -- the movements that are entered once the movements ms have come, where these were entered before
+    abbrev pub entered_after : List (Movement T) → List (Movement T) → List (Movement T)
+    entered_after entered [] = entered
+    entered_after entered (m ∷ ms) = entered_after (if asks_too_much entered m then entered else entered ++ m ∷ []) ms
+
+    -- a refused movement, with how many there were
+    abbrev pub refusal : List (Movement T) → Movement T → Refusal T
+    refusal entered m = record { place = m.place; article = m.article; asked = going m.change; there = there entered m.article }
+
+    -- those of the movements ms that are refused, where these were entered before
+    abbrev pub refused_after : List (Movement T) → List (Movement T) → List (Refusal T)
+    refused_after entered [] = []
+    refused_after entered (m ∷ ms) = if asks_too_much entered m then refusal entered m ∷ refused_after entered ms else refused_after (entered ++ m ∷ []) ms
+
+    -- of all movements, those that are entered, and those that are refused
+    abbrev pub entered_of : List (Movement T) → List (Movement T)
+    entered_of ms = entered_after [] ms
+
+    abbrev pub refused_of : List (Movement T) → List (Refusal T)
+    refused_of ms = refused_after [] ms
+
+    -- how many there are of each article once all movements have come
+    abbrev pub in_the_end : List (Movement T) → T → ℕ
+    in_the_end ms = there (entered_of ms)
+
+    -- at no time more went out than was there: of each article, after the first k movements that were entered, whichever k
+    abbrev pub IsNeverBelowZero : List (Movement T) → Type 0
+    IsNeverBelowZero entered = (k : ℕ) (v : T) → went v (take k entered) ≤ start v + came v (take k entered)
+
+    -- what movements leave of a stock: what there was and what came in is what there is and what went out
+    pub record Leaves (ms : List (Movement T)) (end : T → ℕ) : Type 0 where
+      pub counts : (v : T) → end v ≡ in_the_end ms v
+      pub conserved : (v : T) → start v + came v (entered_of ms) ≡ end v + went v (entered_of ms)
+      pub never : IsNeverBelowZero (entered_of ms)
+
+    -- with the movement at this place the total, which was so many at first, would pass the most
+    pub record IsPast (total most : ℕ) (ms : List (Movement T)) (place : Place) : Type 0 where
+      pub before : List (Movement T)
+      pub movement : Movement T
+      pub later : List (Movement T)
+      pub in_turn : before ++ movement ∷ later ≡ ms
+      pub at_place : place ≡ movement.place
+      pub over : most < total_after total (entered_of before) + coming movement.change

@@ -1,0 +1,11 @@
+pub mod Batches
+pub mod Changes
+pub mod Entries
+pub mod Kinds
+pub mod Ledger
+pub mod Numbers
+pub mod Rows
+pub mod Seals
+pub mod SealsExamples
+pub mod Settled
+pub mod Undos

@@ -1,0 +1,20 @@
+-- Changes as whole numbers with a sign.
+use Rattle.std.specs.Prelude.{ℕ, ◌+◌, ℤ, pos, negsuc, zero, suc}
+use Rattle.hashbag_ledger_lib.specs.declared.movements.Change.{Change}
+use Rattle.hashbag_ledger_lib.specs.declared.movements.Change.TheVariants.{In, Out}
+
+-- the change that a row with this number has: what is below 0 goes out
+abbrev pub change_at : ℤ → Change
+change_at (pos n) = In n
+change_at (negsuc n) = Out (n + 1)
+
+-- nothing that goes out is nothing that comes in
+abbrev pub plain : Change → Change
+plain (In n) = In n
+plain (Out zero) = In 0
+plain (Out (suc n)) = Out (suc n)
+
+-- how many come in or go out
+abbrev pub size : Change → ℕ
+size (In n) = n
+size (Out n) = n

@@ -1,0 +1,46 @@
+-- What a database keeps of a balance and of refusals: the bytes of texts, and numbers.
+use Rattle.std.specs.Prelude.{◌≡◌, ◌≢◌, ℕ, ◌<◌, min, List, map, Option, None, Some, slice_get, String, string_bytes}
+use Rattle.std.specs.Cmp.Lexicographic.{slice_cmp}
+use Rattle.std.specs.Ordering.{nat_cmp}
+use Rattle.std.specs.declared.cmp.Ordering.{Ordering}
+use Rattle.std.specs.declared.cmp.Ordering.TheVariants.{Less, Equal, Greater}
+use Rattle.std.specs.Global.{Global}
+use Rattle.hashbag_ledger_lib.specs.declared.movements.Refusal.{Refusal}
+use Rattle.hashbag_ledger_lib.specs.declared.verifying.KeptRefusal.{KeptRefusal}
+
+-- the row of an article: its bytes, and its number
+abbrev pub row : String Global × ℕ → List ℕ × ℕ
+row e = (string_bytes e.0, e.1)
+
+abbrev pub rows_of : List (String Global × ℕ) → List (List ℕ × ℕ)
+rows_of L = map row L
+
+-- the row of a refusal, whose movement has the number of its file
+abbrev pub kept_of : Refusal (String Global) → KeptRefusal
+kept_of r = record { movement = r.place.file; there = r.there }
+
+-- what is said of two lists at the first place where they differ
+pub record IsFirstDifference {X W : Type 0} (wrong_at : Option X → Option X → W) (kept counted : List X) (wrong : W) : Type 0 where
+  pub place : ℕ
+  pub before : (k : ℕ) → k < place → slice_get kept k ≡ slice_get counted k
+  pub differ : slice_get kept place ≢ slice_get counted place
+  pub is : wrong ≡ wrong_at (slice_get kept place) (slice_get counted place)
+
+-- of two rows the article that comes first, with its number in each; 0 where the row is another one's
+abbrev pub lower_row : (k c : List ℕ × ℕ) → Ordering → List ℕ × ℕ × ℕ
+lower_row k c Less = (k.0, k.1, 0)
+lower_row k c Equal = (k.0, k.1, c.1)
+lower_row k c Greater = (c.0, 0, c.1)
+
+abbrev pub wrong_row : Option (List ℕ × ℕ) → Option (List ℕ × ℕ) → Option (List ℕ × ℕ × ℕ)
+wrong_row (Some k) (Some c) = Some (lower_row k c (slice_cmp nat_cmp k.0 c.0))
+wrong_row (Some k) None = Some (k.0, k.1, 0)
+wrong_row None (Some c) = Some (c.0, 0, c.1)
+wrong_row None None = None
+
+-- the lower number of two movements, or that of the only one
+abbrev pub wrong_movement : Option KeptRefusal → Option KeptRefusal → ℕ
+wrong_movement (Some k) (Some c) = min k.movement c.movement
+wrong_movement (Some k) None = k.movement
+wrong_movement None (Some c) = c.movement
+wrong_movement None None = 0

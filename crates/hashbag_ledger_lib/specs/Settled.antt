@@ -1,0 +1,39 @@
+-- A stock that begins as a list. An article may be in the list more than once.
+use Rattle.std.specs.Prelude.{◌≡◌, ℕ, ◌+◌, ◌++◌, Bool, List, length, sum_by, All}
+use Rattle.hashbag.specs.Bag.{Bag}
+use Rattle.hashbag.specs.Occurrences.{greatest_total}
+use Rattle.hashbag_lists.specs.Quantities.{numbers, quantity}
+use Rattle.hashbag_ledger_lib.specs.declared.movements.Movement.{Movement}
+use Rattle.hashbag_ledger_lib.specs.declared.movements.Place.{Place}
+use Rattle.hashbag_ledger_lib.specs.declared.movements.Refusal.{Refusal}
+use Rattle.hashbag_ledger_lib.specs.Ledger.{coming, going, stock_of, entered_of, refused_of, Leaves, IsPast}
+
+module _ {T : Type 0} (eq : T → T → Bool) where
+  -- how many of each article a list names
+  abbrev pub listed : List (T × ℕ) → T → ℕ
+  listed L v = quantity eq v L
+
+  -- with the movement at this place the total, which at first is that of the list, would pass the most
+  abbrev pub IsPastWithin : ℕ → List (T × ℕ) → List (Movement T) → Place → Type 0
+  IsPastWithin most L ms place = IsPast eq (listed L) (numbers L) most ms place
+
+  -- so with `usize::MAX` for the most
+  abbrev pub IsPastFrom : List (T × ℕ) → List (Movement T) → Place → Type 0
+  IsPastFrom L ms place = IsPastWithin greatest_total L ms place
+
+  -- these movements came, in turn, to the stock of a list: what they left, which of them were refused, and none passed the most
+  pub record IsAfter (L : List (T × ℕ)) (ms : List (Movement T)) (refused : List (Refusal T)) (items : List T) (most : ℕ) : Type 0 where
+    pub leaves : Leaves eq (listed L) ms (stock_of eq items)
+    pub refusals : refused ≡ refused_of eq (listed L) ms
+    pub total : length items + sum_by (λ m. going m.change) (entered_of eq (listed L) ms) ≡ numbers L + sum_by (λ m. coming m.change) (entered_of eq (listed L) ms)
+    pub fit : (p : Place) → ¬ (IsPastWithin most L ms p)
+
+  -- the same of a bag and the refusals beside it
+  abbrev pub IsLedgerOf : {S : Type 0} → List (T × ℕ) → List (Movement T) → List (Refusal T) → Bag T S → Type 0
+  IsLedgerOf L ms refused stock = IsAfter L ms refused stock.items stock.most
+
+  -- each movement of a file was entered, whatever came before
+  pub record EntersFile {S : Type 0} (file : ℕ) (refused : List (Refusal T)) (stock : Bag T S) (refused' : List (Refusal T)) (stock' : Bag T S) : Type 0 where
+    pub read : List (Movement T)
+    pub places : All (λ m. m.place.file ≡ file) read
+    pub entered : (L : List (T × ℕ)) (ms : List (Movement T)) → IsLedgerOf L ms refused stock → IsLedgerOf L (ms ++ read) refused' stock'

@@ -1,0 +1,75 @@
+-- A batch that is taken back by its opposite movements.
+use Rattle.std.specs.Prelude.{◌≡◌, ℕ, ◌+◌, ◌-◌, ◌<◌, Bool, List, [], ◌∷◌, ◌++◌, String}
+use Rattle.std.specs.declared.cmp.Ordering.{Ordering}
+use Rattle.std.specs.Global.{Global}
+use Rattle.hashbag_lists.specs.Quantities.{IsBalance}
+use Rattle.hashbag_ledger_lib.specs.declared.movements.Change.{Change}
+use Rattle.hashbag_ledger_lib.specs.declared.movements.Change.TheVariants.{In, Out}
+use Rattle.hashbag_ledger_lib.specs.declared.movements.Movement.{Movement}
+use Rattle.hashbag_ledger_lib.specs.declared.rows.RowChange.{RowChange}
+use Rattle.hashbag_ledger_lib.specs.Changes.{Rises, AreChanges}
+use Rattle.hashbag_ledger_lib.specs.Entries.{entries_of}
+use Rattle.hashbag_ledger_lib.specs.Ledger.{came, went, refused_of}
+use Rattle.hashbag_ledger_lib.specs.Settled.{listed}
+use Rattle.hashbag_ledger_lib.specs.declared.undoing.Undo.{Undo}
+use Rattle.hashbag_ledger_lib.specs.declared.undoing.Undo.TheVariants.{Done, Refused}
+
+module _ {T : Type 0} where
+  -- what m took out comes in before these, if it took out some; and what it brought in goes out before these, if it did
+  abbrev pub coming_back : Movement T → Change → List (Movement T) → List (Movement T)
+  coming_back m (In n) later = later
+  coming_back m (Out n) later = (record { place = m.place; article = m.article; change = In n }) ∷ later
+
+  abbrev pub going_back : Movement T → Change → List (Movement T) → List (Movement T)
+  going_back m (In n) later = (record { place = m.place; article = m.article; change = Out n }) ∷ later
+  going_back m (Out n) later = later
+
+  -- what these took out, as movements that come in, in turn
+  abbrev pub returns_of : List (Movement T) → List (Movement T)
+  returns_of [] = []
+  returns_of (m ∷ ms) = coming_back m m.change (returns_of ms)
+
+  -- what these brought in, as movements that go out, in turn
+  abbrev pub removals_of : List (Movement T) → List (Movement T)
+  removals_of [] = []
+  removals_of (m ∷ ms) = going_back m m.change (removals_of ms)
+
+  -- the opposite movements: first what comes in, and then what goes out
+  abbrev pub opposites_of : List (Movement T) → List (Movement T)
+  opposites_of ms = returns_of ms ++ removals_of ms
+
+module _ {T : Type 0} (eq : T → T → Bool) where
+  -- of this article fewer than none would be left once the batch is taken back
+  abbrev pub FallsBelowZero : (T → ℕ) → List (Movement T) → T → Type 0
+  FallsBelowZero stock batch v = stock v + went eq v batch < came eq v batch
+
+  -- if the batch was the last one, the balance is again the one before it
+  abbrev pub IsAsBefore : Undo T → (T → ℕ) → Type 0
+  IsAsBefore (Done booked) before = (v : T) → listed eq booked.balance.items v ≡ before v
+  IsAsBefore (Refused refusals) before = ⊥
+
+  -- what became of the opposite movements: all were entered, or these were refused
+  abbrev pub IsUndoOf : List (T × ℕ) → List (Movement T) → Undo T → Type 0
+  IsUndoOf L batch (Done booked) = booked.entries.items ≡ entries_of eq (listed eq L) (opposites_of batch)
+  IsUndoOf L batch (Refused refusals) = refusals.items ≡ refused_of eq (listed eq L) (opposites_of batch)
+
+  module _ (cmp : T → T → Ordering) (stock : T → ℕ) (batch : List (Movement T)) where
+    -- the batch is taken back: what it took out is there again, and what it brought in is gone
+    pub record TakesBack (left : List (T × ℕ)) : Type 0 where
+      pub counts : (v : T) → listed eq left v + came eq v batch ≡ stock v + went eq v batch
+      pub balance : IsBalance eq cmp (λ v. stock v + went eq v batch - came eq v batch) left
+
+    -- it is taken back, or an article would fall below zero
+    abbrev pub IsUndo : Undo T → Type 0
+    IsUndo (Done booked) = TakesBack booked.balance.items
+    IsUndo (Refused refusals) = (v : T) × FallsBelowZero stock batch v
+
+-- the rows of the balance that an undo leaves rise
+abbrev pub HasRisingRows : Undo (String Global) → Type 0
+HasRisingRows (Done booked) = Rises booked.balance.items
+HasRisingRows (Refused refusals) = Unit {0}
+
+-- what becomes of the rows of the balance that was kept: they are those that the undo leaves, and none changes if it is denied
+abbrev pub IsChangedBy : List (String Global × ℕ) → Undo (String Global) → List RowChange → Type 0
+IsChangedBy kept (Done booked) changed = AreChanges kept booked.balance.items changed
+IsChangedBy kept (Refused refusals) changed = changed ≡ []

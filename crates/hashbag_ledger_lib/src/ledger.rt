@@ -1,0 +1,183 @@
+//! A stock into which movements are entered one by one.
+ghost use Rattle.std.specs.Prelude.{◌≡◌, ◌⊎◌, ◌<◌, ◌↔◌, ◌≤◌, ◌++◌, ◌∷◌, ℕ, List, [], length, IsTrue, IfOk, IfErr, OnOk};
+ghost use Rattle.hashbag.specs.Occurrences.{count};
+ghost use Rattle.hashbag_lists.specs.Quantities.{numbers, quantity, IsBalance};
+ghost use Rattle.hashbag_ledger_lib.specs.declared.movements.Movement.{Movement};
+ghost use Rattle.hashbag_ledger_lib.specs.declared.movements.Place.{Place};
+ghost use Rattle.hashbag_ledger_lib.specs.Entries.{IsStockAfter};
+ghost use Rattle.hashbag_ledger_lib.specs.Ledger.{in_the_end, refused_of, Leaves};
+ghost use Rattle.hashbag_ledger_lib.specs.Settled.{listed, IsLedgerOf, IsPastWithin};
+
+pub mod booking;
+
+use crate::entering::{LedgerError, enter};
+use crate::movements::{Movement, Refusal};
+use hashbag::HashBag;
+use hashbag_lists::quantities::balance_of;
+use std::alloc::{AllocError, Global};
+use std::hash::{BuildHasher, Hash};
+
+/// A stock after movements, and the refusals.
+#[derive(Drop)]
+pub struct Entered<T> {
+    /// Each article of which there are some, once, with how many there are, articles rising.
+    pub balance: Vec<(T, usize)>,
+    /// The refusals, in the order of their movements.
+    pub refusals: Vec<Refusal<T>>,
+}
+
+// Returns whether the numbers of a list are at most `most` together.
+fn numbers_fit<T>(list: &[(T, usize)], most: usize) -> bool
+    ensures { IsTrue result ↔ (numbers list.now ≤ most) }
+{
+    let mut total = 0usize;
+    for entry in list {
+        match total.checked_add(entry.1) {
+            Some(sum) => total = sum,
+            None => return false,
+        }
+    }
+    total <= most
+}
+
+// Returns the stock that a list names, without a limit.
+fn stock_of_list<T: Eq + Hash + Drop, S: BuildHasher + Drop>(
+    alloc: Global,
+    state: S,
+    list: Vec<(T, usize)>,
+) -> Result<HashBag<T, S>, LedgerError>
+    requires { numbers list.items ≤ usize.MAX }
+    ensures counts { IfOk result (λ stock. (v : T) → count T.eq v stock.items ≡ quantity T.eq v list.items) }
+    ensures len { IfOk result (λ stock. length stock.items ≡ numbers list.items) }
+    ensures only { IfErr result (λ e. e ≡ LedgerError.Memory) }
+{
+    let mut stock = HashBag::with_hasher(alloc, state);
+    match stock.extend_many(list.into_iter()) {
+        Ok(()) => Ok(stock),
+        Err(_) => Err(LedgerError::Memory),
+    }
+}
+
+/// Returns the stock that a list names. Its limit is `most`. An article may be in the list more than once; its numbers add up.
+///
+/// # Errors
+///
+/// `StartTooMany` exactly if the numbers of the list are more than `most` together. `Memory` if an allocation fails.
+///
+/// # Complexity
+///
+/// Hashes each entry of the list once. Allocates for the articles.
+pub fn stock_at_start<T: Eq + Hash + Drop, S: BuildHasher + Drop>(
+    alloc: Global,
+    state: S,
+    most: usize,
+    list: Vec<(T, usize)>,
+) -> Result<HashBag<T, S>, LedgerError>
+    ensures counts { IfOk result (λ stock. (v : T) → count T.eq v stock.items ≡ quantity T.eq v list.items) }
+    ensures len { IfOk result (λ stock. length stock.items ≡ numbers list.items) }
+    ensures begun { IfOk result (λ stock. IsStockAfter T.eq list.items [] stock) }
+    ensures limit { IfOk result (λ stock. stock.most ≡ most) }
+    ensures too_many { (result ≡ Err LedgerError.StartTooMany) ↔ (most < numbers list.items) }
+    ensures fits { OnOk result (numbers list.items ≤ most) }
+    ensures only_memory { numbers list.items ≤ most → IfErr result (λ e. e ≡ LedgerError.Memory) }
+{
+    if !numbers_fit(&list, most) {
+        return Err(LedgerError::StartTooMany);
+    }
+    let mut stock = stock_of_list(alloc, state, list)?;
+    match stock.set_limit(most) {
+        Ok(()) => Ok(stock),
+        Err(_) => Err(LedgerError::StartTooMany),
+    }
+}
+
+/// A stock that begins as a list, and the refusals of the movements so far. No movement is kept.
+///
+/// The clauses name the list and the movements that have come: [`Ledger::begin`] returns the ledger of a list after no movements, and
+/// [`Ledger::enter`] adds one to the movements of any list and movements that it was the ledger of.
+#[derive(Drop)]
+pub struct Ledger<T: Eq + Hash + Drop, S: BuildHasher + Drop> {
+    stock: HashBag<T, S>,
+    refusals: Vec<Refusal<T>>,
+}
+
+impl<T: Eq + Hash + Drop, S: BuildHasher + Drop> Ledger<T, S> {
+    /// Returns the ledger of the stock that a list names, whose total may never pass `most`. An article may be in the list more than
+    /// once; its numbers add up.
+    ///
+    /// # Errors
+    ///
+    /// `StartTooMany` exactly if the numbers of the list are more than `most` together. `Memory` if an allocation fails.
+    ///
+    /// # Complexity
+    ///
+    /// Hashes each entry of the list once. Allocates for the articles.
+    pub fn begin(
+        alloc: Global,
+        state: S,
+        most: usize,
+        start: Vec<(T, usize)>,
+    ) -> Result<Ledger<T, S>, LedgerError>
+        ensures begun { IfOk result (λ l. IsLedgerOf T.eq start.items [] l.refusals.items l.stock) }
+        ensures limit { IfOk result (λ l. l.stock.most ≡ most) }
+        ensures too_many { (result ≡ Err LedgerError.StartTooMany) ↔ (most < numbers start.items) }
+        ensures only_memory { numbers start.items ≤ most → IfErr result (λ e. e ≡ LedgerError.Memory) }
+    {
+        let stock = stock_at_start(alloc, state, most, start)?;
+        Ok(Ledger {
+            stock,
+            refusals: Vec::new(alloc),
+        })
+    }
+
+    /// Enters a movement, or notes its refusal if it would remove more than is there.
+    ///
+    /// # Errors
+    ///
+    /// `TooMany` with the place of the movement only if the total would pass the limit with it. `Memory` if an allocation fails. No
+    /// clause says what the ledger is then.
+    ///
+    /// # Complexity
+    ///
+    /// As [`enter`]. Allocates for a refusal.
+    pub fn enter(&mut self, movement: Movement<T>) -> Result<(), LedgerError>
+        ensures entered { OnOk result ((L : List (T × ℕ)) (ms : List (Movement T))
+            → IsLedgerOf T.eq L ms self.old.refusals.items self.old.stock
+            → IsLedgerOf T.eq L (ms ++ movement ∷ []) self.new.refusals.items self.new.stock) }
+        ensures past { IfErr result (λ e. (p : Place) → e ≡ LedgerError.TooMany p → (L : List (T × ℕ)) (ms : List (Movement T))
+            → IsLedgerOf T.eq L ms self.old.refusals.items self.old.stock
+            → IsPastWithin T.eq self.old.stock.most L (ms ++ movement ∷ []) p) }
+        ensures limit { self.new.stock.most ≡ self.old.stock.most }
+        ensures why { IfErr result (λ e. (e ≡ LedgerError.Memory) ⊎ (e ≡ LedgerError.TooMany movement.place)) }
+    {
+        if let Some(refusal) = enter(&mut self.stock, movement)? {
+            self.refusals.push(refusal).map_err(AllocError::from)?;
+        }
+        Ok(())
+    }
+}
+
+/// Returns the balance and the refusals of a ledger.
+///
+/// # Errors
+///
+/// An allocation fails.
+///
+/// # Complexity
+///
+/// Allocates the balance, and sorts it.
+pub fn end<T: Ord + Hash + Drop, S: BuildHasher + Drop>(
+    alloc: Global,
+    ledger: Ledger<T, S>,
+) -> Result<Entered<T>, AllocError>
+    ensures balance { IfOk result (λ e. (L : List (T × ℕ)) (ms : List (Movement T)) → IsLedgerOf T.eq L ms ledger.refusals.items ledger.stock
+        → IsBalance T.eq T.cmp (in_the_end T.eq (listed T.eq L) ms) e.balance.items) }
+    ensures leaves { IfOk result (λ e. (L : List (T × ℕ)) (ms : List (Movement T)) → IsLedgerOf T.eq L ms ledger.refusals.items ledger.stock
+        → Leaves T.eq (listed T.eq L) ms (listed T.eq e.balance.items)) }
+    ensures refusals { IfOk result (λ e. (L : List (T × ℕ)) (ms : List (Movement T)) → IsLedgerOf T.eq L ms ledger.refusals.items ledger.stock
+        → e.refusals.items ≡ refused_of T.eq (listed T.eq L) ms) }
+{
+    let Ledger { stock, refusals } = ledger;
+    let balance = balance_of(alloc, stock)?;
+    Ok(Entered { balance, refusals })
+}

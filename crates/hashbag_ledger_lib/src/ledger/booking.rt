@@ -1,0 +1,188 @@
+//! Movements that are entered into a stock and kept, each with what became of it.
+ghost use Rattle.std.specs.Prelude.{◌≡◌, ◌≢◌, ◌<◌, ◌≤◌, ◌^◌, ◌-◌, ◌↔◌, ◌++◌, ◌∷◌, ℕ, List, [], String, length, IfOk, IfErr, OnOk, string_cmp};
+ghost use Rattle.std.specs.Global.{Global};
+ghost use Rattle.std.specs.String.{string_eq};
+ghost use Rattle.hashbag_lists.specs.Quantities.{numbers};
+ghost use Rattle.hashbag_ledger_lib.specs.Batches.{Continues};
+ghost use Rattle.hashbag_ledger_lib.specs.declared.movements.Movement.{Movement};
+ghost use Rattle.hashbag_ledger_lib.specs.declared.movements.Place.{Place};
+ghost use Rattle.hashbag_ledger_lib.specs.Entries.{refusals_in, IsStockAfter, TakesNext, IsBooked};
+ghost use Rattle.hashbag_ledger_lib.specs.Ledger.{going, Leaves};
+ghost use Rattle.hashbag_ledger_lib.specs.Settled.{listed, IsPastWithin};
+
+use crate::entering::{LedgerError, enter};
+use crate::ledger::stock_at_start;
+use crate::movements::{Change, Entry, Movement, Outcome, Refusal};
+use crate::numbers::MOST;
+use hashbag::HashBag;
+use hashbag_lists::quantities::balance_of;
+use std::alloc::{AllocError, Global};
+use std::hash::BuildHasher;
+
+/// The balance that movements leave, and what became of each of them.
+#[derive(Drop)]
+pub struct Booked<T> {
+    /// Each article of which there are some, once, with how many there are, articles rising.
+    pub balance: Vec<(T, usize)>,
+    /// The movements, in turn, each with what became of it.
+    pub entries: Vec<Entry<T>>,
+}
+
+// Enters a movement into a stock, and returns what became of it.
+fn outcome_of<S: BuildHasher + Drop>(
+    stock: &mut HashBag<String, S>,
+    movement: &Movement<String>,
+) -> Result<Outcome, LedgerError>
+    ensures next { IfOk result (λ o. (L : List (String Global × ℕ)) (ms : List (Movement (String Global)))
+        → IsStockAfter string_eq L ms stock.old → TakesNext string_eq L ms movement.now stock.new o) }
+    ensures past { IfErr result (λ e. (p : Place) → e ≡ LedgerError.TooMany p → (L : List (String Global × ℕ)) (ms : List (Movement (String Global)))
+        → IsStockAfter string_eq L ms stock.old → IsPastWithin string_eq stock.old.most L (ms ++ movement.now ∷ []) p) }
+    ensures limit { stock.new.most ≡ stock.old.most }
+    ensures not_start { IfErr result (λ e. e ≢ LedgerError.StartTooMany) }
+{
+    let copy = Movement {
+        place: movement.place,
+        article: movement.article.clone()?,
+        change: movement.change,
+    };
+    match enter(stock, copy)? {
+        Some(refusal) => Ok(Outcome::Refused {
+            there: refusal.there,
+        }),
+        None => Ok(Outcome::Entered {
+            after: stock.contains(&movement.article),
+        }),
+    }
+}
+
+/// Enters movements, in turn, into a stock, and returns the balance, and what became of each of them.
+///
+/// # Errors
+///
+/// `TooMany` with the place of a movement only if the total would pass the limit of the stock with it. `Memory` if an allocation fails.
+///
+/// # Complexity
+///
+/// Hashes the article of each movement at most three times. Sorts the balance. Allocates for all movements, for absent articles, and for
+/// the balance; the text of an article is allocated for each movement.
+pub fn book_all<S: BuildHasher + Drop>(
+    alloc: Global,
+    stock: HashBag<String, S>,
+    movements: Vec<Movement<String>>,
+) -> Result<Booked<String>, LedgerError>
+    ensures booked { IfOk result (λ b. (L : List (String Global × ℕ)) → IsStockAfter string_eq L [] stock
+        → IsBooked string_eq string_cmp stock.most L movements.items b.balance.items b.entries.items) }
+    ensures past { IfErr result (λ e. (p : Place) → e ≡ LedgerError.TooMany p → (L : List (String Global × ℕ))
+        → IsStockAfter string_eq L [] stock → IsPastWithin string_eq stock.most L movements.items p) }
+    ensures not_start { IfErr result (λ e. e ≢ LedgerError.StartTooMany) }
+{
+    let mut stock = stock;
+    let mut entries = Vec::new(alloc);
+    for movement in movements {
+        let outcome = outcome_of(&mut stock, &movement)?;
+        let entry = Entry { movement, outcome };
+        entries.push(entry).map_err(AllocError::from)?;
+    }
+    let balance = balance_of(alloc, stock)?;
+    Ok(Booked { balance, entries })
+}
+
+/// Enters movements, in turn, into the balance that is kept, and returns the new balance, and what became of each movement: the rows that
+/// are to be written.
+///
+/// If the balance is what other movements left, the new balance and all refusals are those of all movements in one turn.
+///
+/// # Errors
+///
+/// `StartTooMany` exactly if the numbers of the balance are more than [`MOST`] together. `TooMany` with the place of a movement only if
+/// the total would pass [`MOST`] with it. `Memory` if an allocation fails.
+///
+/// # Complexity
+///
+/// As [`book_all`]. Hashes each article of the balance once.
+pub fn book_batch<S: BuildHasher + Drop>(
+    alloc: Global,
+    state: S,
+    kept: Vec<(String, usize)>,
+    batch: Vec<Movement<String>>,
+) -> Result<Booked<String>, LedgerError>
+    ensures booked { IfOk result (λ b. IsBooked string_eq string_cmp (2 ^ 63 - 1) kept.items batch.items b.balance.items b.entries.items) }
+    ensures in_turn { IfOk result (λ b. (start : String Global → ℕ) (before : List (Movement (String Global)))
+        → Leaves string_eq start before (listed string_eq kept.items)
+        → Continues string_eq string_cmp start before batch.items b.balance.items (refusals_in b.entries.items)) }
+    ensures too_many { (result ≡ Err LedgerError.StartTooMany) ↔ (2 ^ 63 - 1 < numbers kept.items) }
+    ensures past { IfErr result (λ e. (p : Place) → e ≡ LedgerError.TooMany p → IsPastWithin string_eq (2 ^ 63 - 1) kept.items batch.items p) }
+{
+    let stock = stock_at_start(alloc, state, MOST, kept)?;
+    book_all(alloc, stock, batch)
+}
+
+// Returns 1 if a movement was refused, else 0.
+fn refused_once<T>(entry: &Entry<T>) -> usize
+    ensures counted { result ≡ length (refusals_in (entry.now ∷ [])) }
+    ensures few { result ≤ 1 }
+{
+    match entry.outcome {
+        Outcome::Entered { .. } => 0,
+        Outcome::Refused { .. } => 1,
+    }
+}
+
+/// Returns how many movements were refused.
+pub fn count_refused<T>(entries: &[Entry<T>]) -> usize
+    ensures { result ≡ length (refusals_in entries.now) }
+{
+    let mut refused = 0usize;
+    for entry in entries {
+        refused += refused_once(entry);
+    }
+    refused
+}
+
+// Returns how many a change asks for.
+fn asked_by(change: Change) -> usize
+    ensures { result ≡ going change }
+{
+    match change {
+        Change::In(_) => 0,
+        Change::Out(n) => n,
+    }
+}
+
+// Appends the refusal of a movement, if it was refused.
+fn push_refusal<T: Drop>(refusals: &mut Vec<Refusal<T>>, entry: Entry<T>) -> Result<(), AllocError>
+    ensures { OnOk result (refusals.new.items ≡ refusals.old.items ++ refusals_in (entry ∷ [])) }
+{
+    let Entry { movement, outcome } = entry;
+    match outcome {
+        Outcome::Entered { .. } => Ok(()),
+        Outcome::Refused { there } => {
+            let asked = asked_by(movement.change);
+            refusals.push(Refusal {
+                place: movement.place,
+                article: movement.article,
+                asked,
+                there,
+            })?;
+            Ok(())
+        }
+    }
+}
+
+/// Returns the movements that were refused, in turn.
+///
+/// # Errors
+///
+/// An allocation fails.
+pub fn refusals_from<T: Drop>(
+    alloc: Global,
+    entries: Vec<Entry<T>>,
+) -> Result<Vec<Refusal<T>>, AllocError>
+    ensures { IfOk result (λ refusals. refusals.items ≡ refusals_in entries.items) }
+{
+    let mut refusals = Vec::new(alloc);
+    for entry in entries {
+        push_refusal(&mut refusals, entry)?;
+    }
+    Ok(refusals)
+}

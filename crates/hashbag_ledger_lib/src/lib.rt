@@ -1,0 +1,16 @@
+//! Movements of a stock, and a stock that is kept: what the program `hashbag_ledger` decides, as functions of texts, lists and bags.
+#![tactic(auto)]
+
+pub mod entering;
+pub mod filing;
+pub mod ledger;
+pub mod listing;
+pub mod movements;
+pub mod numbers;
+pub mod once;
+pub mod output;
+pub mod reading;
+pub mod rows;
+pub mod sealing;
+pub mod undoing;
+pub mod verifying;

@@ -1,0 +1,114 @@
+//! The batches and the history of an article, as CSV.
+use crate::movements::{Change, Entry, Outcome};
+use crate::once::{Batch, batch_of};
+use crate::output::push_record;
+use hashbag_lists::counts::Reading;
+use hashbag_lists::decimals::write_decimal;
+use hashbag_lists::records::Records;
+use hashbag_lists::scale::Scale;
+use std::alloc::{AllocError, Global};
+
+// Returns a change with its sign.
+fn change_text(alloc: Global, change: Change, scale: Scale) -> Result<String, AllocError> {
+    match change {
+        Change::In(n) => write_decimal(alloc, n, scale),
+        Change::Out(n) => {
+            let digits = write_decimal(alloc, n, scale)?;
+            format!(in alloc; "-{digits}")
+        }
+    }
+}
+
+/// Returns the batches as CSV, with the header `batch,file,sha256,kind,undoes,time,movements,refused`.
+///
+/// # Errors
+///
+/// An error if an allocation fails.
+pub fn batches_text(
+    alloc: Global,
+    reading: Reading,
+    batches: &[Batch],
+) -> Result<Vec<u8>, AllocError> {
+    let mut records = Records::empty(alloc, reading.delimiter);
+    let header = [
+        "batch",
+        "file",
+        "sha256",
+        "kind",
+        "undoes",
+        "time",
+        "movements",
+        "refused",
+    ];
+    push_record(&mut records, header.as_slice())?;
+    for batch in batches {
+        let number = format!(in alloc; "{}", batch.number)?;
+        let undoes = match batch.undoes {
+            Some(other) => format!(in alloc; "{other}")?,
+            None => String::new(alloc),
+        };
+        let movements = format!(in alloc; "{}", batch.movements)?;
+        let refused = format!(in alloc; "{}", batch.refused)?;
+        let fields = [
+            number.as_str(),
+            batch.file.as_str(),
+            batch.sha256.as_str(),
+            batch.kind.as_str(),
+            undoes.as_str(),
+            batch.time.as_str(),
+            movements.as_str(),
+            refused.as_str(),
+        ];
+        push_record(&mut records, fields.as_slice())?;
+    }
+    records.into_text()
+}
+
+/// Returns the movements of an article as CSV, with the header `batch,file,line,time,change,outcome,number`.
+///
+/// The file of a place is the number of the batch, whose file and time are written. The outcome is `entered` or `refused`; the number is
+/// how many there are after the movement.
+///
+/// # Errors
+///
+/// An error if an allocation fails.
+pub fn history_text(
+    alloc: Global,
+    reading: Reading,
+    batches: &[Batch],
+    entries: &[Entry<String>],
+) -> Result<Vec<u8>, AllocError> {
+    let mut records = Records::empty(alloc, reading.delimiter);
+    let header = [
+        "batch", "file", "line", "time", "change", "outcome", "number",
+    ];
+    push_record(&mut records, header.as_slice())?;
+    for entry in entries {
+        let place = entry.movement.place;
+        let number = i64::try_from(place.file).unwrap_or(0);
+        let (file, time) = match batch_of(batches, number) {
+            Some(batch) => (batch.file.as_str(), batch.time.as_str()),
+            None => ("", ""),
+        };
+        let (is_refused, after) = match entry.outcome {
+            Outcome::Entered { after } => (false, after),
+            Outcome::Refused { there } => (true, there),
+        };
+        let outcome = if is_refused { "refused" } else { "entered" };
+        let batch = format!(in alloc; "{}", place.file)?;
+        let line = format!(in alloc; "{}", place.line)?;
+        let change = change_text(alloc, entry.movement.change, reading.scale)?;
+        let left = write_decimal(alloc, after, reading.scale)?;
+        let fields = [
+            batch.as_str(),
+            file,
+            line.as_str(),
+            time,
+            change.as_str(),
+            outcome,
+            left.as_str(),
+        ];
+        push_record(&mut records, fields.as_slice())?;
+    }
+    records.into_text()
+}

@@ -1,0 +1,99 @@
+//! The rows of the balance that a batch changes.
+ghost use Rattle.std.specs.Prelude.{◌≡◌, ◌≢◌, ℕ, ◌+◌, ◌<◌, ◌↔◌, List, length, map, All, string_bytes, string_cmp, IsTrue, IfOk};
+ghost use Rattle.std.specs.List.Sorted.{IsStrictlySortedBy};
+ghost use Rattle.hashbag_ledger_lib.specs.Changes.{Rises, IsBefore, number_in, article_of, applied, listed_of, Begins};
+
+use std::alloc::{AllocError, Global};
+use std::cmp::Ordering;
+
+/// What becomes of the row of an article.
+#[derive(PartialEq, Eq, Debug, Drop)]
+pub enum RowChange {
+    /// The row has this number, and is new if there was none.
+    Put(String, usize),
+    /// The row is removed, since there are none left.
+    Remove(String),
+}
+
+// The rows of a balance: its articles with their numbers.
+type Balance<'a> = &'a [(String, usize)];
+
+// Returns whether an article comes before the first of these rows, if there is one.
+fn is_before(article: &str, rows: Balance<'_>) -> bool
+    ensures { IsTrue result ↔ IsBefore article.now rows.now }
+{
+    match rows.first() {
+        Some(next) => article < next.0.as_str(),
+        None => true,
+    }
+}
+
+/// Returns whether the articles of a balance rise, each once.
+pub fn rises(balance: &[(String, usize)]) -> bool
+    ensures { IsTrue result ↔ Rises balance.now }
+{
+    let mut rest = balance;
+    'rows: while let Some((first, others)) = rest.split_first() {
+        if !is_before(first.0.as_str(), others) {
+            return false;
+        }
+        rest = others;
+    }
+    true
+}
+
+// Returns what becomes of the row of the next article, unless it stays as it is, and the rows after that one in both balances.
+fn next_change<'a, 'b>(
+    before: Balance<'a>,
+    after: Balance<'b>,
+) -> Result<(Option<RowChange>, Balance<'a>, Balance<'b>), AllocError>
+    ensures begins { IfOk result (λ next. Begins before.now after.now (listed_of next.0) next.1.now next.2.now) }
+    ensures shorter { IfOk result (λ next. 0 < length before.now + length after.now
+        → length next.1.now + length next.2.now < length before.now + length after.now) }
+{
+    match (before.split_first(), after.split_first()) {
+        (None, None) => Ok((None, before, after)),
+        (Some((old, olds)), None) => Ok((Some(RowChange::Remove(old.0.clone()?)), olds, after)),
+        (None, Some((new, news))) => Ok((
+            Some(RowChange::Put(new.0.clone()?, new.1)),
+            before,
+            news,
+        )),
+        (Some((old, olds)), Some((new, news))) => match old.0.as_str().cmp(&new.0.as_str()) {
+            Ordering::Less => Ok((Some(RowChange::Remove(old.0.clone()?)), olds, after)),
+            Ordering::Greater => Ok((Some(RowChange::Put(new.0.clone()?, new.1)), before, news)),
+            Ordering::Equal if old.1 == new.1 => Ok((None, olds, news)),
+            Ordering::Equal => Ok((Some(RowChange::Put(new.0.clone()?, new.1)), olds, news)),
+        },
+    }
+}
+
+/// Returns the changes that turn a balance into another one, articles rising, if the articles of both balances rise. A row that stays as
+/// it is isn't changed.
+///
+/// # Errors
+///
+/// An error if an allocation fails.
+pub fn changed_rows(
+    alloc: Global,
+    before: &[(String, usize)],
+    after: &[(String, usize)],
+) -> Result<Vec<RowChange>, AllocError>
+    ensures makes { IfOk result (λ changes. Rises before.now → Rises after.now
+        → (v : List ℕ) → applied v changes.items (number_in v before.now) ≡ number_in v after.now) }
+    ensures rising { IfOk result (λ changes. Rises before.now → Rises after.now
+        → IsStrictlySortedBy string_cmp (map article_of changes.items)) }
+    ensures needed { IfOk result (λ changes. Rises before.now → Rises after.now
+        → All (λ c. let v = string_bytes (article_of c) in number_in v before.now ≢ number_in v after.now) changes.items) }
+{
+    let mut changes = Vec::new(alloc);
+    let (mut old, mut new) = (before, after);
+    'rows: while !old.is_empty() || !new.is_empty() {
+        let (change, olds, news) = next_change(old, new)?;
+        if let Some(change) = change {
+            changes.push(change)?;
+        }
+        (old, new) = (olds, news);
+    }
+    Ok(changes)
+}

@@ -1,0 +1,248 @@
+//! The seal of a batch. It shows that nobody changed what no count of the movements shows: files, lines, times, the scale.
+ghost use Rattle.std.specs.Prelude.{◌≡◌, ℕ, ℤ, ◌↔◌, ◌++◌, List, Option, length, take, drop, string_bytes, IfOk, IsNone, IsTrue};
+ghost use Rattle.hex.specs.Hex.{encode_lower};
+ghost use Rattle.sha2.specs.Hashers.{Holds256};
+ghost use Rattle.sha2.specs.Sha256.{sha256};
+ghost use Rattle.hashbag_ledger_lib.specs.Numbers.{plain};
+ghost use Rattle.hashbag_ledger_lib.specs.Seals.{with_number, with_text, with_option, with_change, with_movement, with_movements, with_head, with_source, with_counts, seal_of, IsRowOf, AreRowsOf, AreSealed};
+
+use crate::ledger::booking::count_refused;
+use crate::movements::{Change, Entry, Movement};
+use crate::numbers::plain_change;
+use crate::once::{Batch, Kind};
+use sha2::{Digest, Sha256};
+use std::alloc::{AllocError, Global};
+
+/// What is known of a batch before it is counted and sealed.
+#[derive(Clone, Copy)]
+pub struct Draft<'a> {
+    /// Its number.
+    pub number: i64,
+    /// The name of its file.
+    pub file: &'a str,
+    /// The SHA-256 of the bytes of its file, in hexadecimal digits; empty if it has no file.
+    pub sha256: &'a str,
+    /// What it is.
+    pub kind: Kind,
+    /// When it is entered, in UTC.
+    pub time: &'a str,
+    /// How many movements it has.
+    pub movements: u64,
+}
+
+/// Returns the SHA-256 of bytes, in hexadecimal digits.
+///
+/// # Errors
+///
+/// An allocation fails.
+pub fn digest_of(alloc: Global, bytes: &[u8]) -> Result<String, AllocError>
+    ensures { IfOk result (λ digits. string_bytes digits ≡ encode_lower (sha256 bytes.now)) }
+{
+    hex::encode(alloc, Sha256::digest(bytes))
+}
+
+// Adds a number.
+fn add_number(hasher: &mut Sha256, number: u64)
+    ensures { (m : List ℕ) → Holds256 hasher.old m → Holds256 hasher.new (with_number m number) }
+{
+    hasher.update(number.to_le_bytes());
+}
+
+// Adds a text, its length first.
+fn add_text(hasher: &mut Sha256, text: &str)
+    ensures { (m : List ℕ) → Holds256 hasher.old m → Holds256 hasher.new (with_text m text.now) }
+{
+    add_number(hasher, text.len() as u64);
+    hasher.update(text);
+}
+
+// Adds a number that may be missing.
+fn add_option(hasher: &mut Sha256, number: Option<i64>)
+    ensures { (m : List ℕ) → Holds256 hasher.old m → Holds256 hasher.new (with_option m number) }
+{
+    match number {
+        Some(number) => {
+            add_number(hasher, 1);
+            add_number(hasher, number.cast_unsigned());
+        }
+        None => add_number(hasher, 0),
+    }
+}
+
+// Adds a change.
+fn add_change(hasher: &mut Sha256, change: Change)
+    ensures { (m : List ℕ) → Holds256 hasher.old m → Holds256 hasher.new (with_change m change) }
+{
+    match change {
+        Change::In(n) => {
+            add_number(hasher, 0);
+            add_number(hasher, n as u64);
+        }
+        Change::Out(n) => {
+            add_number(hasher, 1);
+            add_number(hasher, n as u64);
+        }
+    }
+}
+
+// Adds a movement.
+fn add_movement(hasher: &mut Sha256, movement: &Movement<String>)
+    ensures { (m : List ℕ) → Holds256 hasher.old m → Holds256 hasher.new (with_movement m movement.now) }
+{
+    add_number(hasher, movement.place.line);
+    add_text(hasher, movement.article.as_str());
+    add_change(hasher, plain_change(movement.change));
+}
+
+// Adds movements in turn.
+fn add_movements(hasher: &mut Sha256, entries: &[Entry<String>])
+    ensures { (m : List ℕ) → Holds256 hasher.old m → Holds256 hasher.new (with_movements m entries.now) }
+{
+    for entry in entries {
+        add_movement(hasher, &entry.movement);
+    }
+}
+
+// Adds the scale of the stock, and the number of a batch.
+fn add_head(hasher: &mut Sha256, scale: u32, batch: &Batch)
+    ensures { (m : List ℕ) → Holds256 hasher.old m → Holds256 hasher.new (with_head m scale batch.now) }
+{
+    add_number(hasher, scale as u64);
+    add_option(hasher, Some(batch.number));
+}
+
+// Adds where a batch comes from.
+fn add_source(hasher: &mut Sha256, batch: &Batch)
+    ensures { (m : List ℕ) → Holds256 hasher.old m → Holds256 hasher.new (with_source m batch.now) }
+{
+    add_text(hasher, batch.file.as_str());
+    add_text(hasher, batch.sha256.as_str());
+    add_text(hasher, batch.kind.as_str());
+}
+
+// Adds the rest of the row of a batch.
+fn add_counts(hasher: &mut Sha256, batch: &Batch)
+    ensures { (m : List ℕ) → Holds256 hasher.old m → Holds256 hasher.new (with_counts m batch.now) }
+{
+    add_option(hasher, batch.undoes);
+    add_text(hasher, batch.time.as_str());
+    add_number(hasher, batch.movements);
+    add_number(hasher, batch.refused);
+}
+
+// Returns the seal of a batch of a stock whose numbers have this many decimals.
+fn seal_for(
+    alloc: Global,
+    scale: u32,
+    batch: &Batch,
+    entries: &[Entry<String>],
+) -> Result<String, AllocError>
+    ensures { IfOk result (λ seal. string_bytes seal ≡ seal_of scale batch.now entries.now) }
+{
+    let mut hasher = Sha256::new();
+    add_head(&mut hasher, scale, batch);
+    add_source(&mut hasher, batch);
+    add_counts(&mut hasher, batch);
+    add_movements(&mut hasher, entries);
+    hex::encode(alloc, hasher.finalize())
+}
+
+// Returns the row of a batch that has these entries, in a stock whose numbers have this many decimals.
+fn row_of(
+    alloc: Global,
+    scale: u32,
+    draft: Draft<'_>,
+    entries: &[Entry<String>],
+) -> Result<Batch, AllocError>
+    ensures { IfOk result (IsRowOf scale draft.entry entries.now) }
+{
+    let mut row = Batch {
+        number: draft.number,
+        file: String::from_str(alloc, draft.file)?,
+        sha256: String::from_str(alloc, draft.sha256)?,
+        kind: String::from_str(alloc, draft.kind.name())?,
+        undoes: draft.kind.undoes(),
+        time: String::from_str(alloc, draft.time)?,
+        movements: entries.len() as u64,
+        refused: count_refused(entries) as u64,
+        seal: String::new(alloc),
+    };
+    row.seal = seal_for(alloc, scale, &row, entries)?;
+    Ok(row)
+}
+
+// Returns whether a batch has the seal of its row and of these entries.
+fn is_sealed(
+    alloc: Global,
+    scale: u32,
+    batch: &Batch,
+    entries: &[Entry<String>],
+) -> Result<bool, AllocError>
+    ensures { IfOk result (λ same. IsTrue same ↔ (string_bytes batch.now.seal ≡ seal_of scale batch.now entries.now)) }
+{
+    let seal = seal_for(alloc, scale, batch, entries)?;
+    Ok(batch.seal.as_str() == seal.as_str())
+}
+
+/// Returns the first `count` entries, or all, and those after them.
+pub fn cut(entries: &[Entry<String>], count: u64) -> (&[Entry<String>], &[Entry<String>])
+    ensures own { result.0.now ≡ take count entries.now }
+    ensures later { result.1.now ≡ drop count entries.now }
+{
+    let count = count as usize;
+    if count < entries.len() {
+        return entries.split_at(count);
+    }
+    (entries, &[])
+}
+
+/// Returns the rows of batches with their seals, in turn, in a stock whose numbers have this many decimals. The entries are those of all
+/// batches, in turn: of each batch as many as its draft says, or those that are left.
+///
+/// # Errors
+///
+/// An allocation fails.
+pub fn sealed_rows(
+    alloc: Global,
+    scale: u32,
+    drafts: &[Draft<'_>],
+    entries: &[Entry<String>],
+) -> Result<Vec<Batch>, AllocError>
+    ensures rows { IfOk result (λ rows. AreRowsOf scale drafts.now entries.now rows.items) }
+    ensures sealed { IfOk result (λ rows. AreSealed scale rows.items entries.now) }
+{
+    let mut rows = Vec::new(alloc);
+    let mut left = entries;
+    for draft in drafts {
+        let (own, later) = cut(left, draft.movements);
+        let row = row_of(alloc, scale, *draft, own)?;
+        rows.push(row)?;
+        left = later;
+    }
+    Ok(rows)
+}
+
+/// Returns the number of the first batch whose seal isn't that of its row and of its movements, or `None` if each has its own. The
+/// entries are those of all batches, in turn.
+///
+/// # Errors
+///
+/// An allocation fails.
+pub fn wrong_seal(
+    alloc: Global,
+    scale: u32,
+    batches: &[Batch],
+    entries: &[Entry<String>],
+) -> Result<Option<i64>, AllocError>
+    ensures { IfOk result (λ wrong. IsNone wrong ↔ AreSealed scale batches.now entries.now) }
+{
+    let (mut rest, mut left) = (batches, entries);
+    'batches: while let Some((batch, others)) = rest.split_first() {
+        let (own, later) = cut(left, batch.movements);
+        if !is_sealed(alloc, scale, batch, own)? {
+            return Ok(Some(batch.number));
+        }
+        (rest, left) = (others, later);
+    }
+    Ok(None)
+}

@@ -1,0 +1,163 @@
+//! A batch that is taken back.
+ghost use Rattle.std.specs.Prelude.{◌≡◌, ℕ, ◌+◌, ◌<◌, ◌^◌, ◌-◌, ◌↔◌, ◌++◌, [], String, IfOk, IfErr, OnOk, string_cmp};
+ghost use Rattle.std.specs.Global.{Global};
+ghost use Rattle.std.specs.String.{string_eq};
+ghost use Rattle.hashbag_lists.specs.Quantities.{numbers};
+ghost use Rattle.hashbag_ledger_lib.specs.Changes.{Rises};
+ghost use Rattle.hashbag_ledger_lib.specs.Ledger.{came, went};
+ghost use Rattle.hashbag_ledger_lib.specs.declared.movements.Place.{Place};
+ghost use Rattle.hashbag_ledger_lib.specs.Settled.{listed, IsPastWithin};
+ghost use Rattle.hashbag_ledger_lib.specs.Undos.{coming_back, going_back, opposites_of, IsUndo, IsUndoOf, IsAsBefore, IsChangedBy, HasRisingRows};
+
+use crate::entering::LedgerError;
+use crate::filing::copy_of;
+use crate::ledger::booking::{Booked, book_all, count_refused, refusals_from};
+use crate::ledger::stock_at_start;
+use crate::movements::{Change, Movement, Refusal};
+use crate::numbers::MOST;
+use crate::rows::{RowChange, changed_rows};
+use std::alloc::{AllocError, Global};
+use std::hash::BuildHasher;
+
+/// What becomes of an undo.
+#[derive(Drop)]
+pub enum Undo<T> {
+    /// The balance once the batch is taken back, and the opposite movements, each with what became of it: all were entered.
+    Done(Booked<T>),
+    /// Some articles would fall below zero: the opposite movements that ask for more than is there.
+    Refused(Vec<Refusal<T>>),
+}
+
+// Appends the opposite of a movement to those that come in, or to those that go out.
+fn turn<T: Drop>(
+    movement: Movement<T>,
+    coming_in: &mut Vec<Movement<T>>,
+    going_out: &mut Vec<Movement<T>>,
+) -> Result<(), AllocError>
+    ensures back { OnOk result (coming_in.new.items ≡ coming_in.old.items ++ coming_back movement movement.change []) }
+    ensures again { OnOk result (going_out.new.items ≡ going_out.old.items ++ going_back movement movement.change []) }
+{
+    let Movement {
+        place,
+        article,
+        change,
+    } = movement;
+    match change {
+        Change::Out(n) => {
+            let change = Change::In(n);
+            coming_in.push(Movement {
+                place,
+                article,
+                change,
+            })?;
+            Ok(())
+        }
+        Change::In(n) => {
+            let change = Change::Out(n);
+            going_out.push(Movement {
+                place,
+                article,
+                change,
+            })?;
+            Ok(())
+        }
+    }
+}
+
+/// Returns the opposite movements of a batch: first what it took out comes in, and then what it brought in goes out, each in turn.
+///
+/// # Errors
+///
+/// An error if an allocation fails.
+pub fn opposites<T: Drop>(
+    alloc: Global,
+    batch: Vec<Movement<T>>,
+) -> Result<Vec<Movement<T>>, AllocError>
+    ensures { IfOk result (λ all. all.items ≡ opposites_of batch.items) }
+{
+    let mut all = Vec::new(alloc);
+    let mut going = Vec::new(alloc);
+    for movement in batch {
+        turn(movement, &mut all, &mut going)?;
+    }
+    all.append(&mut going)?;
+    Ok(all)
+}
+
+/// Enters the opposite movements of a batch into the balance that is kept, all or none.
+///
+/// `Refused` is returned exactly if an article would fall below zero. After the last batch it never is, and the balance is again the one
+/// before that batch.
+///
+/// # Errors
+///
+/// `StartTooMany` exactly if the numbers of the balance are more than [`MOST`] together. `TooMany` with the place of a movement only if
+/// the total would pass [`MOST`] with its opposite. `Memory` if an allocation fails.
+pub fn take_back<S: BuildHasher + Drop>(
+    alloc: Global,
+    state: S,
+    kept: Vec<(String, usize)>,
+    batch: Vec<Movement<String>>,
+) -> Result<Undo<String>, LedgerError>
+    ensures undo { IfOk result (IsUndo string_eq string_cmp (listed string_eq kept.items) batch.items) }
+    ensures last { IfOk result (λ u. (before : String Global → ℕ)
+        → ((v : String Global) → listed string_eq kept.items v + went string_eq v batch.items ≡ before v + came string_eq v batch.items)
+        → IsAsBefore string_eq u before) }
+    ensures each { IfOk result (IsUndoOf string_eq kept.items batch.items) }
+    ensures too_many { (result ≡ Err LedgerError.StartTooMany) ↔ (2 ^ 63 - 1 < numbers kept.items) }
+    ensures fit { OnOk result ((p : Place) → ¬ (IsPastWithin string_eq (2 ^ 63 - 1) kept.items (opposites_of batch.items) p)) }
+    ensures past { IfErr result (λ e. (p : Place) → e ≡ LedgerError.TooMany p
+        → IsPastWithin string_eq (2 ^ 63 - 1) kept.items (opposites_of batch.items) p) }
+{
+    let stock = stock_at_start(alloc, state, MOST, kept)?;
+    let opposite = opposites(alloc, batch)?;
+    let booked = book_all(alloc, stock, opposite)?;
+    let refused = count_refused(&booked.entries);
+    if refused == 0 {
+        return Ok(Undo::Done(booked));
+    }
+    Ok(Undo::Refused(refusals_from(alloc, booked.entries)?))
+}
+
+// Returns what becomes of the rows of the balance that is kept after an undo: of none if it is denied.
+fn undone_rows(
+    alloc: Global,
+    kept: &[(String, usize)],
+    undo: &Undo<String>,
+) -> Result<Vec<RowChange>, AllocError>
+    ensures { IfOk result (λ changed. Rises kept.now → HasRisingRows undo.now → IsChangedBy kept.now undo.now changed.items) }
+{
+    match undo {
+        Undo::Done(booked) => {
+            let changed = changed_rows(alloc, kept, &booked.balance)?;
+            Ok(changed)
+        }
+        Undo::Refused(_) => Ok(Vec::new(alloc)),
+    }
+}
+
+/// Enters the opposite movements of a batch into the balance that is kept, all or none, as [`take_back`]. Returns also what becomes of
+/// the rows of the balance: of none if the undo is denied.
+///
+/// # Errors
+///
+/// `StartTooMany` only if the numbers of the balance are more than [`MOST`] together. `TooMany` with the place of a movement only if the
+/// total would pass [`MOST`] with its opposite. `Memory` if an allocation fails.
+pub fn undo_batch<S: BuildHasher + Drop>(
+    alloc: Global,
+    state: S,
+    kept: &[(String, usize)],
+    batch: Vec<Movement<String>>,
+) -> Result<(Undo<String>, Vec<RowChange>), LedgerError>
+    ensures undo { IfOk result (λ u. IsUndo string_eq string_cmp (listed string_eq kept.now) batch.items u.0) }
+    ensures each { IfOk result (λ u. IsUndoOf string_eq kept.now batch.items u.0) }
+    ensures changed { IfOk result (λ u. Rises kept.now → IsChangedBy kept.now u.0 u.1.items) }
+    ensures start { (result ≡ Err LedgerError.StartTooMany) → 2 ^ 63 - 1 < numbers kept.now }
+    ensures past { IfErr result (λ e. (p : Place) → e ≡ LedgerError.TooMany p
+        → IsPastWithin string_eq (2 ^ 63 - 1) kept.now (opposites_of batch.items) p) }
+{
+    let copy = copy_of(alloc, kept)?;
+    let undo = take_back(alloc, state, copy, batch)?;
+    let changed = undone_rows(alloc, kept, &undo)?;
+    Ok((undo, changed))
+}

@@ -1,0 +1,250 @@
+//! The balance and the refusals that are kept, compared with what the movements make.
+ghost use Rattle.std.specs.Prelude.{◌≡◌, ◌≢◌, ℕ, ◌<◌, ◌≤◌, ◌↔◌, IsTrue, IsNone, IfNone, IfSome, map, slice_get, string_bytes};
+ghost use Rattle.std.specs.Cmp.Lexicographic.{slice_cmp};
+ghost use Rattle.std.specs.Option.{option_copied, option_map};
+ghost use Rattle.std.specs.Ordering.{nat_cmp};
+ghost use Rattle.hashbag_ledger_lib.specs.Rows.{row, rows_of, kept_of, lower_row, wrong_row, wrong_movement, IsFirstDifference};
+
+use crate::movements::{Movement, Refusal};
+use crate::once::Batch;
+use std::alloc::{AllocError, Global};
+use std::cmp::Ordering;
+
+/// A movement as the database keeps it.
+#[derive(PartialEq, Eq, Debug, Drop)]
+pub struct KeptMovement {
+    /// The movement; the file of its place is its number.
+    pub movement: Movement<String>,
+    /// The number of its batch.
+    pub batch: u64,
+}
+
+/// A refusal as the database keeps it.
+#[derive(Clone, Copy, PartialEq, Eq, Debug)]
+pub struct KeptRefusal {
+    /// The number of the movement.
+    pub movement: usize,
+    /// How many there were.
+    pub there: usize,
+}
+
+/// The first article whose row differs, with its two numbers; 0 if there is no row.
+#[derive(Clone, Copy, PartialEq, Eq, Debug)]
+pub struct WrongNumber<'a> {
+    /// The article.
+    pub article: &'a str,
+    /// The number that is kept.
+    pub kept: usize,
+    /// The number that the movements make.
+    pub counted: usize,
+}
+
+// Returns the greater of two lengths.
+fn longest_of(kept: usize, counted: usize) -> usize
+    ensures first { kept ≤ result }
+    ensures second { counted ≤ result }
+{
+    if kept < counted { counted } else { kept }
+}
+
+// Returns whether two rows have the same article and the same number, or neither is there.
+fn is_same_row(kept: Option<&(String, usize)>, counted: Option<&(String, usize)>) -> bool
+    ensures { IsTrue result ↔ (option_map row (option_copied kept.entry) ≡ option_map row (option_copied counted.entry)) }
+{
+    match (kept, counted) {
+        (Some(old), Some(new)) => old.0.as_str() == new.0.as_str() && old.1 == new.1,
+        (None, None) => true,
+        _ => false,
+    }
+}
+
+// Returns the first place at which two balances differ.
+fn first_difference(kept: &[(String, usize)], counted: &[(String, usize)]) -> Option<usize>
+    ensures all_same { IfNone result (rows_of kept.now ≡ rows_of counted.now) }
+    ensures differ { IfSome result (λ i. slice_get (rows_of kept.now) i ≢ slice_get (rows_of counted.now) i) }
+    ensures first { IfSome result (λ i. (k : ℕ) → k < i → slice_get (rows_of kept.now) k ≡ slice_get (rows_of counted.now) k) }
+{
+    let longest = longest_of(kept.len(), counted.len());
+    'rows: for i in 0..longest {
+        if !is_same_row(kept.get(i), counted.get(i)) {
+            return Some(i);
+        }
+    }
+    None
+}
+
+// Returns the article of two rows that differ which comes first, with its two numbers.
+fn first_of<'a>(kept: &'a (String, usize), counted: &'a (String, usize)) -> WrongNumber<'a>
+    ensures { (result.article.now, result.kept, result.counted)
+        ≡ lower_row (row kept.now) (row counted.now) (slice_cmp nat_cmp (string_bytes kept.now.0) (string_bytes counted.now.0)) }
+{
+    match kept.0.as_str().cmp(&counted.0.as_str()) {
+        Ordering::Less => WrongNumber {
+            article: kept.0.as_str(),
+            kept: kept.1,
+            counted: 0,
+        },
+        Ordering::Greater => WrongNumber {
+            article: counted.0.as_str(),
+            kept: 0,
+            counted: counted.1,
+        },
+        Ordering::Equal => WrongNumber {
+            article: kept.0.as_str(),
+            kept: kept.1,
+            counted: counted.1,
+        },
+    }
+}
+
+// Returns what is wrong of two rows, if there is one.
+fn wrong_of<'a>(
+    kept: Option<&'a (String, usize)>,
+    counted: Option<&'a (String, usize)>,
+) -> Option<WrongNumber<'a>>
+    ensures { option_map (λ w. (w.article.now, w.kept, w.counted)) result
+        ≡ wrong_row (option_map row (option_copied kept.entry)) (option_map row (option_copied counted.entry)) }
+{
+    match (kept, counted) {
+        (Some(old), Some(new)) => Some(first_of(old, new)),
+        (Some(old), None) => Some(WrongNumber {
+            article: old.0.as_str(),
+            kept: old.1,
+            counted: 0,
+        }),
+        (None, Some(new)) => Some(WrongNumber {
+            article: new.0.as_str(),
+            kept: 0,
+            counted: new.1,
+        }),
+        (None, None) => None,
+    }
+}
+
+/// Returns the first article whose row differs from what the movements make, with its two numbers, or `None` if the two balances are the
+/// same.
+pub fn wrong_number<'a>(
+    kept: &'a [(String, usize)],
+    counted: &'a [(String, usize)],
+) -> Option<WrongNumber<'a>>
+    ensures agrees { IsNone result ↔ (rows_of kept.now ≡ rows_of counted.now) }
+    ensures first { IfSome result (λ w. IsFirstDifference wrong_row (rows_of kept.now) (rows_of counted.now) (Some (w.article.now, w.kept, w.counted))) }
+{
+    match first_difference(kept, counted) {
+        Some(at) => wrong_of(kept.get(at), counted.get(at)),
+        None => None,
+    }
+}
+
+// Returns whether a refusal that is kept is that of the movements, or neither is there.
+fn is_same_refusal(kept: Option<&KeptRefusal>, counted: Option<&Refusal<String>>) -> bool
+    ensures { IsTrue result ↔ (option_copied kept.entry ≡ option_map kept_of (option_copied counted.entry)) }
+{
+    match (kept, counted) {
+        (Some(old), Some(new)) => old.movement == new.place.file && old.there == new.there,
+        (None, None) => true,
+        _ => false,
+    }
+}
+
+// Returns the lower number of two movements, or that of the only one.
+fn first_number(kept: Option<&KeptRefusal>, counted: Option<&Refusal<String>>) -> usize
+    ensures { result ≡ wrong_movement (option_copied kept.entry) (option_map kept_of (option_copied counted.entry)) }
+{
+    match (kept, counted) {
+        (Some(old), Some(new)) => old.movement.min(new.place.file),
+        (Some(old), None) => old.movement,
+        (None, Some(new)) => new.place.file,
+        (None, None) => 0,
+    }
+}
+
+/// Returns the number of the first movement that is refused in one list alone, or with another number there; `None` if the refusals
+/// that are kept are those of the movements.
+pub fn wrong_refusal(kept: &[KeptRefusal], counted: &[Refusal<String>]) -> Option<usize>
+    ensures agrees { IsNone result ↔ (kept.now ≡ map kept_of counted.now) }
+    ensures first { IfSome result (IsFirstDifference wrong_movement kept.now (map kept_of counted.now)) }
+{
+    let longest = longest_of(kept.len(), counted.len());
+    'refusals: for i in 0..longest {
+        let (stored, made) = (kept.get(i), counted.get(i));
+        if !is_same_refusal(stored, made) {
+            return Some(first_number(stored, made));
+        }
+    }
+    None
+}
+
+// How many movements and refusals have been read.
+#[derive(Clone, Copy)]
+struct Read {
+    movements: usize,
+    refusals: usize,
+}
+
+// Reads the movements of a batch, and those of them that were refused.
+fn read_batch(
+    movements: &[KeptMovement],
+    refusals: &[KeptRefusal],
+    batch: u64,
+    from: Read,
+) -> Read {
+    let mut read = from;
+    'movements: for _ in 0..movements.len() {
+        let Some(kept) = movements.get(read.movements) else {
+            break;
+        };
+        if kept.batch != batch {
+            break;
+        }
+        read.movements = read.movements.saturating_add(1);
+        if let Some(refusal) = refusals.get(read.refusals)
+            && refusal.movement == kept.movement.place.file
+        {
+            read.refusals = read.refusals.saturating_add(1);
+        }
+    }
+    read
+}
+
+/// Returns the number of the first batch that has other numbers of movements or refusals than its row says; or that of the batch of the
+/// first movement after them, which is then of no batch, or out of turn.
+///
+/// Movements and refusals are in turn.
+pub fn wrong_batch(
+    batches: &[Batch],
+    movements: &[KeptMovement],
+    refusals: &[KeptRefusal],
+) -> Option<i64> {
+    let mut read = Read {
+        movements: 0,
+        refusals: 0,
+    };
+    for batch in batches {
+        let next = read_batch(movements, refusals, batch.number.unsigned_abs(), read);
+        let count = next.movements.saturating_sub(read.movements) as u64;
+        let refused = next.refusals.saturating_sub(read.refusals) as u64;
+        if count != batch.movements || refused != batch.refused {
+            return Some(batch.number);
+        }
+        read = next;
+    }
+    let kept = movements.get(read.movements)?;
+    i64::try_from(kept.batch).ok()
+}
+
+/// Returns the movements without their batches, in turn.
+///
+/// # Errors
+///
+/// An allocation fails.
+pub fn movements_from(
+    alloc: Global,
+    kept: Vec<KeptMovement>,
+) -> Result<Vec<Movement<String>>, AllocError> {
+    let mut movements = Vec::new(alloc);
+    for one in kept {
+        movements.push(one.movement).map_err(AllocError::from)?;
+    }
+    Ok(movements)
+}
