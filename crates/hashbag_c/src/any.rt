@@ -1,5 +1,5 @@
 //! Calls on a bag of either kind.
-ghost use Rattle.std.specs.Prelude.{◌≡◌, ◌≢◌, ◌+◌, ◌<◌, ◌≤◌, ◌↔◌, [], length, nat_eq, None, Some};
+ghost use Rattle.std.specs.Prelude.{◌≡◌, ◌≢◌, ◌+◌, ◌<◌, ◌≤◌, ◌↔◌, ◌⊎◌, false, [], length, nat_eq, None, Some, IsTrue};
 ghost use Rattle.std.specs.Str.{bytes_eq};
 ghost use Rattle.hashbag_table.specs.Tables.{room};
 ghost use Rattle.hashbag_core.specs.Bag.{limited, IsBagOf};
@@ -147,8 +147,8 @@ pub extern "C" fn hashbag_set_limit(alloc: Global, handle: &mut Handle, most: us
 }
 
 fn clear(held: &mut Held)
-    ensures numbers { IfNumbers (Some held.old) (λ bag. HasNumbers (Some held.new) (λ after. (after.items ≡ []) × (after.most ≡ bag.most))) }
-    ensures texts { IfTexts (Some held.old) (λ bag. HasTexts (Some held.new) (λ after. (after.items ≡ []) × (after.most ≡ bag.most))) }
+    ensures numbers { IfNumbers (Some held.old) (λ bag. HasNumbers (Some held.new) (λ after. (after.items ≡ []) × (after.most ≡ bag.most) × (after.hasher ≡ bag.hasher))) }
+    ensures texts { IfTexts (Some held.old) (λ bag. HasTexts (Some held.new) (λ after. (after.items ≡ []) × (after.most ≡ bag.most) × (after.hasher ≡ bag.hasher))) }
 {
     match held {
         Held::Numbers(bag) => bag.clear(),
@@ -159,8 +159,8 @@ fn clear(held: &mut Held)
 /// Removes all occurrences. The limit, the keys and the memory of the bag stay.
 #[unsafe(no_mangle)]
 pub extern "C" fn hashbag_clear(alloc: Global, handle: &mut Handle)
-    ensures numbers { IfNumbers handle.old.held (λ bag. HasNumbers handle.new.held (λ after. (after.items ≡ []) × (after.most ≡ bag.most))) }
-    ensures texts { IfTexts handle.old.held (λ bag. HasTexts handle.new.held (λ after. (after.items ≡ []) × (after.most ≡ bag.most))) }
+    ensures numbers { IfNumbers handle.old.held (λ bag. HasNumbers handle.new.held (λ after. (after.items ≡ []) × (after.most ≡ bag.most) × (after.hasher ≡ bag.hasher))) }
+    ensures texts { IfTexts handle.old.held (λ bag. HasTexts handle.new.held (λ after. (after.items ≡ []) × (after.most ≡ bag.most) × (after.hasher ≡ bag.hasher))) }
     ensures empty { handle.old.held ≡ None → handle.new.held ≡ None }
 {
     let Some(mut held) = handle.take(alloc) else {
@@ -203,6 +203,7 @@ pub extern "C" fn hashbag_reserve(alloc: Global, handle: &mut Handle, n: usize) 
     ensures room_texts { result ≡ 0 → IfTexts handle.new.held (λ after. n ≤ room after.tables) }
     ensures enough_numbers { IfNumbers handle.old.held (λ bag. n ≤ room bag.tables → result ≡ 0) }
     ensures enough_texts { IfTexts handle.old.held (λ bag. n ≤ room bag.tables → result ≡ 0) }
+    ensures memory { result ≢ 0 → (result ≡ 1) ⊎ (handle.old.held ≡ None) }
     ensures empty { handle.old.held ≡ None → result ≡ EMPTY }
     ensures err { result ≢ 0 → handle.new.held ≡ handle.old.held }
 {
@@ -243,6 +244,8 @@ pub extern "C" fn hashbag_capacity(alloc: Global, handle: &mut Handle) -> usize
 fn equal(a: &Held, b: &Held) -> bool
     ensures numbers { IfNumbers (Some a.now) (λ x. IfNumbers (Some b.now) (λ y. result ≡ bag_eq nat_eq x y)) }
     ensures texts { IfTexts (Some a.now) (λ x. IfTexts (Some b.now) (λ y. result ≡ bag_eq bytes_eq x y)) }
+    ensures kinds { IfNumbers (Some a.now) (λ _. IfTexts (Some b.now) (λ _. result ≡ false)) }
+    ensures other_kinds { IfTexts (Some a.now) (λ _. IfNumbers (Some b.now) (λ _. result ≡ false)) }
 {
     match a {
         Held::Numbers(bag) => match b {
@@ -262,6 +265,10 @@ fn equal(a: &Held, b: &Held) -> bool
 pub extern "C" fn hashbag_equal(alloc: Global, a: &mut Handle, b: &mut Handle) -> bool
     ensures numbers { IfNumbers a.old.held (λ x. IfNumbers b.old.held (λ y. result ≡ bag_eq nat_eq x y)) }
     ensures texts { IfTexts a.old.held (λ x. IfTexts b.old.held (λ y. result ≡ bag_eq bytes_eq x y)) }
+    ensures kinds { IfNumbers a.old.held (λ _. IfTexts b.old.held (λ _. result ≡ false)) }
+    ensures other_kinds { IfTexts a.old.held (λ _. IfNumbers b.old.held (λ _. result ≡ false)) }
+    ensures empty { a.old.held ≡ None → IsTrue result ↔ (b.old.held ≡ None) }
+    ensures other_empty { b.old.held ≡ None → IsTrue result ↔ (a.old.held ≡ None) }
     ensures first { a.new.held ≡ a.old.held }
     ensures second { b.new.held ≡ b.old.held }
 {

@@ -162,6 +162,8 @@ fn outer_join(
     seconds: &mut [usize],
 ) -> usize
     ensures read { IfNumbers (Some a.now) (λ x. IfNumbers (Some b.now) (λ y. HasReadJoin x y result values.new firsts.new seconds.new)) }
+    ensures kind { IfTexts (Some a.now) (λ _. result ≡ 0) }
+    ensures other_kind { IfTexts (Some b.now) (λ _. result ≡ 0) }
 {
     match a {
         Held::Numbers(bag) => match b {
@@ -185,6 +187,10 @@ pub extern "C" fn hashbag_numbers_outer_join(
     seconds: &mut [usize],
 ) -> usize
     ensures read { IfNumbers a.old.held (λ x. IfNumbers b.old.held (λ y. HasReadJoin x y result values.new firsts.new seconds.new)) }
+    ensures kind { IfTexts a.old.held (λ _. result ≡ 0) }
+    ensures other_kind { IfTexts b.old.held (λ _. result ≡ 0) }
+    ensures empty { a.old.held ≡ None → result ≡ 0 }
+    ensures other_empty { b.old.held ≡ None → result ≡ 0 }
     ensures first { a.new.held ≡ a.old.held }
     ensures second { b.new.held ≡ b.old.held }
 {
