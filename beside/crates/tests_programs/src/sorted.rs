@@ -81,10 +81,10 @@ fn file_of(form: RowForm, skips: bool) -> Kind {
 
 // Takes the next block of at most `most` bytes.
 fn next_block<'a>(rest: &mut &'a [u8], most: usize) -> &'a [u8] {
-    let n = rest.len().min(most);
-    let block = &rest[..n];
-    *rest = &rest[n..];
-    block
+    let whole: &'a [u8] = *rest;
+    let n = whole.len().min(most);
+    *rest = &whole[n..];
+    &whole[..n]
 }
 
 // Opens a source, which is given such blocks. If it fails, its line and what is wrong with it.
@@ -132,7 +132,7 @@ fn texts_of<'a>(
             Ok(source) => sources.push(source).map_err(AllocError::from)?,
             Err((line, fault)) => return Ok(Err(stopped(alloc, i, line, &fault)?)),
         }
-        rests.push(rest)?;
+        rests.push(rest).map_err(AllocError::from)?;
     }
     let merger = Merger::new(sources);
     Ok(Ok(Texts {
@@ -184,7 +184,7 @@ fn merge_files<K: Sink>(
 ) -> Result<Option<String>, Fail> {
     let mut texts = Vec::new(alloc);
     for file in files.split('|') {
-        texts.push(file.as_bytes())?;
+        texts.push(file.as_bytes()).map_err(AllocError::from)?;
     }
     match texts_of(alloc, kind, &texts, most)? {
         Ok(mut texts) => texts.merge_into(alloc, sink),
@@ -232,7 +232,7 @@ const SKIPPED: [(&str, &[u64]); 4] = [
 fn are_skipped(alloc: Global, files: &str, wanted: &[u64], most: usize) -> Result<(), Fail> {
     let mut texts = Vec::new(alloc);
     for file in files.split('|') {
-        texts.push(file.as_bytes())?;
+        texts.push(file.as_bytes()).map_err(AllocError::from)?;
     }
     let Ok(mut texts) = texts_of(alloc, file_of(RowForm::Tsv, true), &texts, most)? else {
         return Err(Fail::new("files aren't opened"));
