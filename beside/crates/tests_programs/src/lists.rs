@@ -131,10 +131,7 @@ const TEXTS: [(&[u8], &str); 48] = [
         b"article,number\nbolt,1.000.000\n",
         "2: no number: `1.000.000`",
     ),
-    (
-        b"article,number\nbolt,\"1,.5\"\n",
-        "2: no number: `1,.5`",
-    ),
+    (b"article,number\nbolt,\"1,.5\"\n", "2: no number: `1,.5`"),
     (b"article,number\nbolt,1.\n", "2: no number: `1.`"),
     (
         b"article,number\nbolt,\xd9\xa3\n",

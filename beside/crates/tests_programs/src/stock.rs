@@ -1,19 +1,19 @@
 //! What is decided of a stock that is kept. The expected values were found by hand.
 use hashbag::FixedState;
 use hashbag_ledger_lib::ledger::booking::{book_batch, count_refused, refusals_from};
+use hashbag_ledger_lib::listing::{batches_text, history_text};
 use hashbag_ledger_lib::movements::{Change, Entry, Movement, Outcome, Place, Refusal};
-use hashbag_lists::counts::Reading;
-use hashbag_lists::delimiter::Delimiter;
-use hashbag_lists::scale::{Mark, Scale};
 use hashbag_ledger_lib::numbers::{MOST, change_of, number_of, plain_change, signed, size_of};
 use hashbag_ledger_lib::once::{Batch, Kind, batch_of, entered_before, undone_by};
-use hashbag_ledger_lib::listing::{batches_text, history_text};
 use hashbag_ledger_lib::rows::{RowChange, changed_rows};
 use hashbag_ledger_lib::sealing::{Draft, digest_of, sealed_rows, wrong_seal};
 use hashbag_ledger_lib::undoing::{Undo, opposites, take_back};
 use hashbag_ledger_lib::verifying::{
     KeptMovement, KeptRefusal, wrong_batch, wrong_number, wrong_refusal,
 };
+use hashbag_lists::counts::Reading;
+use hashbag_lists::delimiter::Delimiter;
+use hashbag_lists::scale::{Mark, Scale};
 use std::alloc::Global;
 use std::test::Fail;
 

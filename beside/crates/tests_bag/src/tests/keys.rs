@@ -102,7 +102,10 @@ fn counted_texts(rt: HostRuntime) -> Result<(), Fail> {
 fn lists_and_boxes(rt: HostRuntime) -> Result<(), Fail> {
     let alloc = rt.alloc();
     let (pair, single): (&[u64], &[u64]) = (&[1, 2], &[1]);
-    let mut lists: HashBag<Vec<u64>> = HashBag::from_keys(alloc, [pair, single, pair].iter().copied())?;
+    let mut lists: HashBag<Vec<u64>> = HashBag::from_keys(
+        alloc,
+        [pair, single, pair].iter().copied(),
+    )?;
     let mut boxes: HashBag<Box<u64>> = HashBag::new(alloc);
     boxes.insert_many(Box::new(alloc, 7)?, 3)?;
     for (name, now, want) in [
