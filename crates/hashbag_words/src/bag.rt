@@ -1,14 +1,103 @@
-//! The bag that tokens are counted in.
+//! The bag that tokens are counted in, and what counts in it.
+ghost use Rattle.std.specs.Prelude.{IfOk};
+ghost use Rattle.hashbag_words_core.specs.Counted.{IsWithin};
+
 use crate::failure::Failure;
-use hashbag::HashBag;
-use hashbag_words_core::counter::TextCounter;
+use hashbag::{BagError, HashBag};
+use hashbag_words_core::counter::{Fed, TextCounter};
+use hashbag_words_core::errors::Fault;
+use hashbag_words_core::lines::Reading;
+use hashbag_words_core::row_counter::RowCounter;
+use hashbag_words_core::row_text::RowText;
 use std::hash::RandomState;
 
 /// A bag of texts. Strangers choose the texts, so each run hashes with random keys.
 pub type Bag = HashBag<String, RandomState>;
 
-/// What counts the tokens of texts in such a bag.
-pub type Counter<'r> = TextCounter<'r, RandomState>;
+/// Counts what inputs have, which are fed in blocks. Its bag may be emptied into runs.
+pub trait Counter {
+    /// Counts what a block brings, as far as the bag has room.
+    fn feed(&mut self, block: &[u8]) -> Result<Fed, Fault>
+        ensures within { IfOk result (λ fed. IsWithin fed block.now) };
+
+    /// Ends an input. Returns how its lines were read.
+    fn end(&mut self) -> Result<Reading, Fault>;
+
+    /// Returns how the lines of the present input were read.
+    fn reading(&self) -> Reading;
+
+    /// The bag.
+    fn bag(&self) -> &Bag;
+
+    /// Returns whether the bag is full.
+    fn is_full(&mut self) -> bool;
+
+    /// Returns the text of a run of the bag.
+    fn run(&self) -> Result<RowText<'_>, BagError>;
+
+    /// Empties the bag, since its run was written.
+    fn end_run(&mut self);
+}
+
+impl Counter for TextCounter<'_, RandomState> {
+    fn feed(&mut self, block: &[u8]) -> Result<Fed, Fault> {
+        TextCounter::feed(self, block)
+    }
+
+    fn end(&mut self) -> Result<Reading, Fault> {
+        self.end_text()
+    }
+
+    fn reading(&self) -> Reading {
+        TextCounter::reading(self)
+    }
+
+    fn bag(&self) -> &Bag {
+        TextCounter::bag(self)
+    }
+
+    fn is_full(&mut self) -> bool {
+        TextCounter::is_full(self)
+    }
+
+    fn run(&self) -> Result<RowText<'_>, BagError> {
+        TextCounter::run(self)
+    }
+
+    fn end_run(&mut self) {
+        TextCounter::end_run(self)
+    }
+}
+
+impl Counter for RowCounter<RandomState> {
+    fn feed(&mut self, block: &[u8]) -> Result<Fed, Fault> {
+        RowCounter::feed(self, block)
+    }
+
+    fn end(&mut self) -> Result<Reading, Fault> {
+        self.end_file()
+    }
+
+    fn reading(&self) -> Reading {
+        RowCounter::reading(self)
+    }
+
+    fn bag(&self) -> &Bag {
+        RowCounter::bag(self)
+    }
+
+    fn is_full(&mut self) -> bool {
+        RowCounter::is_full(self)
+    }
+
+    fn run(&self) -> Result<RowText<'_>, BagError> {
+        RowCounter::run(self)
+    }
+
+    fn end_run(&mut self) {
+        RowCounter::end_run(self)
+    }
+}
 
 /// Returns an empty bag.
 ///

@@ -136,7 +136,7 @@ impl<'s, 'a> Batch<'s, 'a> {
 
     /// Adds a run, which is in a temporary file of that folder.
     pub fn push_run(&mut self, folder: &'a str, file: File) -> Result<(), Failure<'a>> {
-        self.push(folder, Input::of_file(file), Kind::Run)
+        self.push(folder, Input::File(file), Kind::Run)
     }
 
     /// Adds the file of counts of that name.

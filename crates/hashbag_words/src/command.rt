@@ -5,7 +5,7 @@ use std::alloc::{AllocError, Global};
 const ABOUT: &str = "Counts words, lines or matches of a pattern, and adds up files of counts";
 
 const AFTER: &str = "\
-Where no command is named it is `count`, so these count words, and show the ten commonest, upper and lower case as one:
+Where no command is named it is `count`, so these count words, and show the ten most common, upper and lower case as one:
     hashbag_words --fold --top 10 text
     cat text | hashbag_words --fold --top 10
 `hashbag_words count --help` says what else may be counted, and how it is shown.
@@ -48,12 +48,12 @@ fn with_input<'a>(alloc: Global, command: Made<'a>) -> Made<'a> {
 
 // Adds which counts are shown, and in which order.
 fn with_choice<'a>(alloc: Global, command: Made<'a>) -> Made<'a> {
-    let top = arg!(in alloc; --top <K> "Show the K commonest alone, commonest first")
+    let top = arg!(in alloc; --top <K> "Show the K most common alone, the most common first")
         .value_parser(value_parser!(usize))
         .conflicts_with("unsorted");
     let unsorted = arg!(in alloc; --unsorted "Show them in no order, which is faster");
     let least =
-        arg!(in alloc; --least <N> "Show what occurs N times or oftener alone").value_parser(
+        arg!(in alloc; --least <N> "Show what occurs N times or more often alone").value_parser(
             value_parser!(usize),
         );
     with(with(with(command, top), Ok(unsorted)), Ok(least))

@@ -4,18 +4,11 @@ ghost use Rattle.std.specs.Io.{ReadsAtMost};
 use std::fs::{self, File};
 use std::io::{self, Read, Stdin};
 
-// Where the bytes come from.
+/// An input that is open.
 #[derive(Drop)]
-enum Origin {
+pub enum Input {
     Standard(Stdin),
     File(File),
-}
-
-/// An input that is open, and how many bytes of it were read.
-#[derive(Drop)]
-pub struct Input {
-    origin: Origin,
-    bytes: u64,
 }
 
 impl Input {
@@ -26,32 +19,18 @@ impl Input {
     /// The system's error.
     pub fn open(rt: &HostRuntime, name: &str) -> io::Result<Input> {
         if name == "-" {
-            let origin = Origin::Standard(rt.stdin());
-            return Ok(Input { origin, bytes: 0 });
+            return Ok(Input::Standard(rt.stdin()));
         }
-        Ok(Input::of_file(fs::open(rt, name)?))
-    }
-
-    /// Returns the input of an open file.
-    pub fn of_file(file: File) -> Input {
-        let origin = Origin::File(file);
-        Input { origin, bytes: 0 }
-    }
-
-    /// Returns how many bytes were read.
-    pub fn bytes(&self) -> u64 {
-        self.bytes
+        Ok(Input::File(fs::open(rt, name)?))
     }
 }
 
 impl Read for Input {
     fn read(&mut self, buf: &mut [u8]) -> io::Result<usize> {
-        let n = match &mut self.origin {
-            Origin::Standard(stdin) => stdin.read(buf)?,
-            Origin::File(file) => file.read(buf)?,
-        };
-        self.bytes = self.bytes.saturating_add(n as u64);
-        Ok(n)
+        match self {
+            Input::Standard(stdin) => stdin.read(buf),
+            Input::File(file) => file.read(buf),
+        }
     }
 }
 

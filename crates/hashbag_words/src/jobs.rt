@@ -1,12 +1,12 @@
 //! The jobs: each reads its inputs into a bag, and writes the counts of the bag.
 use crate::bag::{Bag, empty};
 use crate::failure::Failure;
-use crate::inputs::{Bound, Inputs, Intake};
+use crate::inputs::{Bound, Inputs};
 use crate::names::check;
 use crate::output::{Made, Output, rows_of};
 use crate::progress::Progress;
 use crate::runs::Runs;
-use crate::settings::{By, Job, Settings};
+use crate::settings::{Ask, By, Pair, Settings, Tokens};
 use crate::shown::{show, show_sorted};
 use hashbag::HashBag;
 use hashbag_ops::{keep_common, take_away};
@@ -15,6 +15,7 @@ use hashbag_words_core::choice::keep_shown;
 use hashbag_words_core::counter::TextCounter;
 use hashbag_words_core::gauge::Gauge;
 use hashbag_words_core::rule::{Pieces, Rule};
+use hashbag_words_core::runs::run_of;
 use regex::Regex;
 use std::mem;
 
@@ -29,7 +30,7 @@ fn count_by<'a>(
     let given = mem::replace(bag, none);
     let gauge = inputs.bound.as_ref().map(|bound| bound.gauge);
     let mut counter = TextCounter::new(alloc, given, rule, inputs.settings.bad_lines, gauge);
-    let counted = inputs.count_all(&mut counter);
+    let counted = inputs.count_all(&mut counter, inputs.names);
     *bag = counter.into_bag();
     counted
 }
@@ -37,54 +38,38 @@ fn count_by<'a>(
 // Counts the tokens of the inputs.
 fn count<'a>(
     inputs: &mut Inputs<'_, 'a, '_>,
-    by: By<'a>,
+    tokens: Tokens<'a>,
     bag: &mut Bag,
 ) -> Result<(), Failure<'a>> {
-    let fold = inputs.settings.fold;
-    let lossy = inputs.settings.lossy;
-    let pieces = match by {
-        By::Words => Pieces::Words,
-        By::UnicodeWords => Pieces::UnicodeWords,
-        By::Lines => Pieces::Lines,
+    let (fold, lossy) = (tokens.fold, tokens.lossy);
+    let rule = |pieces| Rule {
+        pieces,
+        fold,
+        lossy,
+    };
+    match tokens.by {
+        By::Words => count_by(inputs, rule(Pieces::Words), bag),
+        By::UnicodeWords => count_by(inputs, rule(Pieces::UnicodeWords), bag),
+        By::Lines => count_by(inputs, rule(Pieces::Lines), bag),
         By::Pattern(text) => {
             let pattern = match Regex::new(inputs.rt.alloc(), text) {
                 Ok(pattern) => pattern,
                 Err(error) => return Err(Failure::Pattern(error)),
             };
-            let pieces = Pieces::Matches(&pattern);
-            return count_by(
-                inputs,
-                Rule {
-                    pieces,
-                    fold,
-                    lossy,
-                },
-                bag,
-            );
+            count_by(inputs, rule(Pieces::Matches(&pattern)), bag)
         }
-    };
-    count_by(
-        inputs,
-        Rule {
-            pieces,
-            fold,
-            lossy,
-        },
-        bag,
-    )
+    }
 }
 
 // Reads the two inputs of a job on a pair: the first into the bag, and the second into a new bag, which is only looked up afterwards.
 fn take_pair<'a>(
     inputs: &mut Inputs<'_, 'a, '_>,
-    counts: Intake,
+    pair: Pair<'a>,
     bag: &mut Bag,
 ) -> Result<Bag, Failure<'a>> {
-    let settings = inputs.settings;
-    let (first, second) = settings.pair;
     let mut other = empty(inputs.rt)?;
-    inputs.take_named(counts, bag, first)?;
-    inputs.take_named(counts, &mut other, second)?;
+    inputs.add_all(pair.rows, bag, &[pair.first])?;
+    inputs.add_all(pair.rows, &mut other, &[pair.second])?;
     other.finish_carry();
     Ok(other)
 }
@@ -95,27 +80,23 @@ fn bound_of<'s, 'a>(
     settings: &Settings<'a, '_>,
     folder: &'a str,
 ) -> Option<Bound<'s, 'a>> {
-    let gauge = Gauge::new(settings.memory?);
+    let gauge = Gauge::new(settings.ask.many()?.memory?);
     let runs = Runs::new(rt, folder);
     Some(Bound { gauge, runs })
 }
 
 // Reads the inputs of a job. What they count is then in the bag, and in the runs that were made.
 fn take_in<'a>(inputs: &mut Inputs<'_, 'a, '_>, bag: &mut Bag) -> Result<(), Failure<'a>> {
-    let settings = inputs.settings;
-    let counts = match settings.rows {
-        Some(form) => Intake::Rows(form),
-        None => Intake::Tree,
-    };
-    match settings.job {
-        Job::Count(by) => count(inputs, by, bag)?,
-        Job::Merge => inputs.take_all(counts, bag)?,
-        Job::Less => {
-            let other = take_pair(inputs, counts, bag)?;
+    match inputs.settings.ask {
+        Ask::Count(tokens, _) => count(inputs, tokens, bag)?,
+        Ask::Merge(rows, _) => inputs.add_all(rows, bag, inputs.names)?,
+        Ask::MergeSorted(form, _) => inputs.add_all(Some(form), bag, inputs.names)?,
+        Ask::Less(pair) => {
+            let other = take_pair(inputs, pair, bag)?;
             take_away(bag, &other);
         }
-        Job::Common => {
-            let other = take_pair(inputs, counts, bag)?;
+        Ask::Common(pair) => {
+            let other = take_pair(inputs, pair, bag)?;
             keep_common(bag, &other);
         }
     }
@@ -128,13 +109,13 @@ fn merged<'a>(
     settings: &Settings<'a, '_>,
     folder: &'a str,
     mut runs: Runs<'_, 'a>,
-    bag: &mut Bag,
+    bag: &Bag,
 ) -> Result<Option<Made<'static>>, Failure<'a>> {
     if runs.is_empty() {
         return Ok(None);
     }
     if !bag.is_empty() {
-        runs.spill(bag)?;
+        runs.write(run_of(rt.alloc(), bag))?;
     }
     let made = show(rt, settings, folder, runs.into_batch()?)?;
     Ok(Some(made))
@@ -148,8 +129,8 @@ fn read<'a>(
     folder: &'a str,
     bag: &mut Bag,
 ) -> Result<Option<Made<'static>>, Failure<'a>> {
-    if settings.sorted {
-        let made = show_sorted(rt, settings, folder, names)?;
+    if let Ask::MergeSorted(form, _) = settings.ask {
+        let made = show_sorted(rt, settings, form, folder, names)?;
         return Ok(Some(made));
     }
     let bound = bound_of(rt, settings, folder);

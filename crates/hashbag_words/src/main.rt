@@ -48,7 +48,8 @@ fn do_job(rt: &HostRuntime, settings: &Settings<'_, '_>, list: Option<&String>) 
         Ok(folder) => folder,
         Err(failure) => return failure.report(rt),
     };
-    let folder = settings.tmp.unwrap_or(folder.as_str());
+    let tmp = settings.ask.many().and_then(|many| many.tmp);
+    let folder = tmp.unwrap_or(folder.as_str());
     match jobs::run(rt, settings, names.as_slice(), folder) {
         Ok(status) => status,
         Err(failure) => failure.report(rt),
@@ -57,7 +58,7 @@ fn do_job(rt: &HostRuntime, settings: &Settings<'_, '_>, list: Option<&String>) 
 
 // Reads the list of inputs, if one is named, does the job, and returns the exit status.
 fn do_settings(rt: &HostRuntime, settings: &Settings<'_, '_>) -> u8 {
-    let Some(name) = settings.files_from else {
+    let Some(name) = settings.ask.files_from() else {
         return do_job(rt, settings, None);
     };
     match names::read_list(rt, name) {

@@ -1,6 +1,6 @@
 //! The names of the inputs.
 use crate::failure::Failure;
-use crate::settings::{Job, Settings};
+use crate::settings::{Ask, Settings};
 use hashbag_shell::one_file::is_one_file;
 use std::alloc::{AllocError, Global};
 use std::{env, fs, io};
@@ -43,13 +43,15 @@ pub fn inputs_of<'a>(
         return listed(alloc, list.as_str());
     }
     let mut names = Vec::new(alloc);
-    match (settings.job, settings.files) {
-        (Job::Less | Job::Common, _) => {
-            names.push(settings.pair.0)?;
-            names.push(settings.pair.1)?;
+    match settings.ask {
+        Ask::Less(pair) | Ask::Common(pair) => {
+            names.push(pair.first)?;
+            names.push(pair.second)?;
         }
-        (_, Some(files)) => names.extend_from_slice(files)?,
-        (_, None) => names.push("-")?,
+        Ask::Count(_, many) | Ask::Merge(_, many) | Ask::MergeSorted(_, many) => match many.files {
+            Some(files) => names.extend_from_slice(files)?,
+            None => names.push("-")?,
+        },
     }
     Ok(names)
 }
@@ -76,7 +78,7 @@ pub fn check<'a>(
     settings: &Settings<'a, '_>,
     names: &[&'a str],
 ) -> Result<(), Failure<'a>> {
-    let mut reads = u64::from(settings.files_from == Some("-"));
+    let mut reads = u64::from(settings.ask.files_from() == Some("-"));
     for name in names {
         if *name == "-" {
             reads = reads.saturating_add(1);

@@ -1,10 +1,10 @@
 //! Runs: counts of parts of the input in temporary files, tokens rising.
-use crate::bag::{Bag, Counter};
 use crate::batch::Batch;
 use crate::failure::Failure;
+use hashbag::BagError;
 use hashbag_shell::temporary_file::create_unnamed;
 use hashbag_words_core::choice::{Choice, Order};
-use hashbag_words_core::runs::spill;
+use hashbag_words_core::row_text::RowText;
 use hashbag_words_core::shown_rows::ShownRows;
 use hashbag_words_core::writing::{Format, RowWriter};
 use std::fs::File;
@@ -49,18 +49,11 @@ fn begun(written: BufWriter<File>) -> io::Result<File> {
     Ok(file)
 }
 
-// Makes a run of what a bag has in a file, and empties the bag.
-fn spill_to(rt: &HostRuntime, file: File, bag: &mut Bag) -> io::Result<File> {
-    let mut out = BufWriter::with_capacity(rt.alloc(), BUFFER, file)?;
-    spill(rt.alloc(), &mut out, bag)?;
-    begun(out)
-}
-
-// The same of what a counter counted.
-fn take_run_to(rt: &HostRuntime, file: File, counter: &mut Counter<'_>) -> io::Result<File> {
-    let mut out = BufWriter::with_capacity(rt.alloc(), BUFFER, file)?;
-    counter.take_run(&mut out)?;
-    begun(out)
+// Writes the text of a run into a file, which is then to be read from its beginning.
+fn written(mut file: File, text: &mut RowText<'_>) -> io::Result<File> {
+    let _bytes = io::copy(text, &mut file)?;
+    file.rewind()?;
+    Ok(file)
 }
 
 impl<'s, 'a> Runs<'s, 'a> {
@@ -75,19 +68,11 @@ impl<'s, 'a> Runs<'s, 'a> {
         self.runs.is_empty()
     }
 
-    /// Makes a run of what the bag has, and empties it.
-    pub fn spill(&mut self, bag: &mut Bag) -> Result<(), Failure<'a>> {
+    /// Writes a run of this text into a temporary file.
+    pub fn write(&mut self, text: Result<RowText<'_>, BagError>) -> Result<(), Failure<'a>> {
+        let mut text = text.map_err(|_refused| Failure::NoMemoryLeft)?;
         let file = temporary(self.rt, self.folder)?;
-        match spill_to(self.rt, file, bag) {
-            Ok(file) => self.add(file),
-            Err(error) => Err(Failure::of_file(self.folder, error)),
-        }
-    }
-
-    /// Makes a run of what was counted. The counter's bag is then empty.
-    pub fn take_run(&mut self, counter: &mut Counter<'_>) -> Result<(), Failure<'a>> {
-        let file = temporary(self.rt, self.folder)?;
-        match take_run_to(self.rt, file, counter) {
+        match written(file, &mut text) {
             Ok(file) => self.add(file),
             Err(error) => Err(Failure::of_file(self.folder, error)),
         }

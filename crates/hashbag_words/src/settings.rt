@@ -8,19 +8,6 @@ use hashbag_words_core::rows::RowForm;
 use hashbag_words_core::shards::Shard;
 use hashbag_words_core::writing::Format;
 
-/// A job of the program.
-#[derive(Clone, Copy, Debug, PartialEq, Eq)]
-pub enum Job<'a> {
-    /// Counts text, cut into these pieces.
-    Count(By<'a>),
-    /// Adds up counts.
-    Merge,
-    /// Subtracts the counts of the second file from those of the first.
-    Less,
-    /// Finds the lesser counts of two files.
-    Common,
-}
-
 /// What is counted.
 #[derive(Clone, Copy, Debug, PartialEq, Eq)]
 pub enum By<'a> {
@@ -34,33 +21,82 @@ pub enum By<'a> {
     Pattern(&'a str),
 }
 
-/// What the arguments ask for.
-#[derive(Drop)]
-pub struct Settings<'a, 'm> {
-    /// The job.
-    pub job: Job<'a>,
-    /// The names of the inputs; `None` is standard input.
-    pub files: Option<&'m [&'a str]>,
-    /// The file that has the names of the inputs, if there is one.
-    pub files_from: Option<&'a str>,
-    /// The two inputs of `less` and `common`.
-    pub pair: (&'a str, &'a str),
+/// How text is counted.
+#[derive(Clone, Copy)]
+pub struct Tokens<'a> {
+    /// What is counted.
+    pub by: By<'a>,
     /// Whether upper and lower case are counted as one.
     pub fold: bool,
-    /// The form of the counts that are read; `None` is JSON.
-    pub rows: Option<RowForm>,
-    /// What a bad line does.
-    pub bad_lines: BadLines,
-    /// Whether progress is reported.
-    pub progress: bool,
-    /// Of `merge`: whether the rows of each input rise.
-    pub sorted: bool,
+    /// Whether bytes of a text that aren't UTF-8 are replaced.
+    pub lossy: bool,
+}
+
+/// Any number of inputs, and the memory that their counts may take.
+#[derive(Clone, Copy)]
+pub struct Many<'a, 'm> {
+    /// Their names; `None` is standard input.
+    pub files: Option<&'m [&'a str]>,
+    /// The file that has their names, if there is one.
+    pub files_from: Option<&'a str>,
     /// How many bytes of memory the counts may take, if that is bounded.
     pub memory: Option<usize>,
     /// The folder of temporary files, if it was named.
     pub tmp: Option<&'a str>,
-    /// Whether bytes of a text that aren't UTF-8 are replaced.
-    pub lossy: bool,
+}
+
+/// Two files of counts.
+#[derive(Clone, Copy)]
+pub struct Pair<'a> {
+    /// The name of the first.
+    pub first: &'a str,
+    /// The name of the second.
+    pub second: &'a str,
+    /// The form of their lines; `None` is JSON.
+    pub rows: Option<RowForm>,
+}
+
+/// A job of the program, with what is set for it alone.
+#[derive(Clone, Copy)]
+pub enum Ask<'a, 'm> {
+    /// Counts text.
+    Count(Tokens<'a>, Many<'a, 'm>),
+    /// Adds up files of counts, whose lines have this form; `None` is JSON.
+    Merge(Option<RowForm>, Many<'a, 'm>),
+    /// Merges files of counts whose rows rise, line by line.
+    MergeSorted(RowForm, Many<'a, 'm>),
+    /// Subtracts the counts of the second file from those of the first.
+    Less(Pair<'a>),
+    /// Finds the lesser counts of two files.
+    Common(Pair<'a>),
+}
+
+impl<'a, 'm> Ask<'a, 'm> {
+    /// Returns the inputs of a job that has any number of them.
+    pub fn many(&self) -> Option<Many<'a, 'm>> {
+        match self {
+            Ask::Count(_, many) => Some(*many),
+            Ask::Merge(_, many) => Some(*many),
+            Ask::MergeSorted(_, many) => Some(*many),
+            Ask::Less(_) | Ask::Common(_) => None,
+        }
+    }
+
+    /// Returns the file that has the names of the inputs, if there is one.
+    pub fn files_from(&self) -> Option<&'a str> {
+        self.many()?.files_from
+    }
+}
+
+/// What the arguments ask for.
+#[derive(Drop)]
+pub struct Settings<'a, 'm> {
+    /// The job.
+    pub ask: Ask<'a, 'm>,
+    /// What a bad line does.
+    pub bad_lines: BadLines,
+    /// Whether progress is reported.
+    pub progress: bool,
     /// Which counts are shown, and in what order.
     pub choice: Choice,
     /// How counts are written.
@@ -80,15 +116,6 @@ fn by_of<'a>(given: &ArgMatches<'a>) -> By<'a> {
         Some("unicode") => By::UnicodeWords,
         Some("lines") => By::Lines,
         _ => By::Words,
-    }
-}
-
-fn job_of<'a>(name: &str, given: &ArgMatches<'a>) -> Job<'a> {
-    match name {
-        "merge" => Job::Merge,
-        "less" => Job::Less,
-        "common" => Job::Common,
-        _ => Job::Count(by_of(given)),
     }
 }
 
@@ -129,7 +156,7 @@ fn format_of(given: &ArgMatches<'_>) -> Format {
     }
 }
 
-// Returns the form of the counts that are read. Text has none, so `count` doesn't use it.
+// Returns the form of the counts that are read.
 fn rows_of(given: &ArgMatches<'_>) -> Option<RowForm> {
     match given.get_str("from") {
         Some("json") => None,
@@ -138,12 +165,51 @@ fn rows_of(given: &ArgMatches<'_>) -> Option<RowForm> {
     }
 }
 
+fn tokens_of<'a>(given: &ArgMatches<'a>) -> Tokens<'a> {
+    Tokens {
+        by: by_of(given),
+        fold: given.get_flag("fold"),
+        lossy: given.get_flag("lossy"),
+    }
+}
+
+fn many_of<'a, 'm>(given: &'m ArgMatches<'a>) -> Result<Many<'a, 'm>, Failure<'a>> {
+    Ok(Many {
+        files: given.get_strs("files"),
+        files_from: given.get_str("files-from"),
+        memory: memory_of(given)?,
+        tmp: given.get_str("tmp"),
+    })
+}
+
+fn pair_of<'a>(given: &ArgMatches<'a>) -> Pair<'a> {
+    Pair {
+        first: given.get_str("first").unwrap_or("-"),
+        second: given.get_str("second").unwrap_or("-"),
+        rows: rows_of(given),
+    }
+}
+
+// Returns the job of this name.
+fn ask_of<'a, 'm>(name: &str, given: &'m ArgMatches<'a>) -> Result<Ask<'a, 'm>, Failure<'a>> {
+    match name {
+        "merge" if given.get_flag("sorted") => {
+            let form = rows_of(given).ok_or(Failure::SortedTree)?;
+            Ok(Ask::MergeSorted(form, many_of(given)?))
+        }
+        "merge" => Ok(Ask::Merge(rows_of(given), many_of(given)?)),
+        "less" => Ok(Ask::Less(pair_of(given))),
+        "common" => Ok(Ask::Common(pair_of(given))),
+        _ => Ok(Ask::Count(tokens_of(given), many_of(given)?)),
+    }
+}
+
 impl<'a, 'm> Settings<'a, 'm> {
     /// Returns the settings of the job `name` with these arguments. No file has been opened then.
     ///
     /// # Errors
     ///
-    /// `Size` or `Shard` if the word of that option has no meaning.
+    /// `Size` or `Shard` if the word of that option has no meaning, `SortedTree` if JSON is to be merged line by line.
     pub fn of(name: &str, given: &'m ArgMatches<'a>) -> Result<Settings<'a, 'm>, Failure<'a>> {
         let bad_lines = if given.get_flag("skip-bad") {
             BadLines::Skipped
@@ -151,21 +217,9 @@ impl<'a, 'm> Settings<'a, 'm> {
             BadLines::Refused
         };
         Ok(Settings {
-            job: job_of(name, given),
-            files: given.get_strs("files"),
-            files_from: given.get_str("files-from"),
-            pair: (
-                given.get_str("first").unwrap_or("-"),
-                given.get_str("second").unwrap_or("-"),
-            ),
-            fold: given.get_flag("fold"),
-            rows: rows_of(given),
+            ask: ask_of(name, given)?,
             bad_lines,
             progress: given.get_flag("progress"),
-            sorted: given.get_flag("sorted"),
-            memory: memory_of(given)?,
-            tmp: given.get_str("tmp"),
-            lossy: given.get_flag("lossy"),
             choice: choice_of(given)?,
             format: format_of(given),
             output: given.get_str("output"),

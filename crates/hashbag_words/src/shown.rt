@@ -6,6 +6,7 @@ use crate::runs::{FAN, Runs, Shape, merge_to_file, merge_to_run};
 use crate::settings::Settings;
 use hashbag_words_core::choice::Order;
 use hashbag_words_core::row_source::Kind;
+use hashbag_words_core::rows::RowForm;
 use hashbag_words_core::shown_rows::{ShownRows, TopRows};
 use hashbag_words_core::writing::{Format, RowWriter};
 use std::io;
@@ -20,7 +21,7 @@ fn text_of(rt: &HostRuntime, format: Format, top: TopRows) -> io::Result<(Vec<u8
     Ok((writer.finish()?, is_empty))
 }
 
-// Merges sources, and keeps the commonest.
+// Merges sources, and keeps the most common rows.
 fn show_top<'a>(
     rt: &HostRuntime,
     settings: &Settings<'a, '_>,
@@ -57,16 +58,14 @@ pub fn show<'a>(
     Ok(Made::File(file, is_empty))
 }
 
-/// Merges the files of counts of these names, whose tokens rise. If there are more than `FAN`, each `FAN` of them become a run first.
+/// Merges the files of counts of these names, whose lines have this form and whose tokens rise. If there are more than `FAN`, each `FAN` of them become a run first.
 pub fn show_sorted<'a>(
     rt: &HostRuntime,
     settings: &Settings<'a, '_>,
+    form: RowForm,
     folder: &'a str,
     names: &[&'a str],
 ) -> Result<Made<'static>, Failure<'a>> {
-    let Some(form) = settings.rows else {
-        return Err(Failure::SortedTree);
-    };
     let kind = Kind::File(form, settings.bad_lines);
     let mut runs = Runs::new(rt, folder);
     let mut batch = Batch::new(rt)?;

@@ -27,17 +27,17 @@ use Rattle.memchr.specs.Find.{IsFirstByte, Nowhere, NoneBefore, Passes, is_byte}
 
 -- ---- lines of what is put together
 
-ended_lines : (ended part : List ℕ) → EndsLine ended → NoLineFeed part → lines (ended ++ (part ++ 10 ∷ [])) ≡ lines ended ++ strip_carriage_return part ∷ []
+pub ended_lines : (ended part : List ℕ) → EndsLine ended → NoLineFeed part → lines (ended ++ (part ++ 10 ∷ [])) ≡ lines ended ++ strip_carriage_return part ∷ []
 ended_lines ended part ends none = lines-append ended (part ++ 10 ∷ []) ends ∙ ap (λ (l : List (List ℕ)). lines ended ++ l) (lines-cut part [] none)
 
-last_lines : (ended part : List ℕ) → EndsLine ended → NoLineFeed part → 0 < length part → lines (ended ++ part) ≡ lines ended ++ part ∷ []
+pub last_lines : (ended part : List ℕ) → EndsLine ended → NoLineFeed part → 0 < length part → lines (ended ++ part) ≡ lines ended ++ part ∷ []
 last_lines ended part ends none some =
     lines-append ended part ends
     ∙ ap (λ (l : List (List ℕ)). lines ended ++ l)
     (ap lines_of_parts (slice_split_none (λ b. eqb b 10) part (λ k d l. ne_eqb (get_or part k d) 10 (none k d l)))
     ∙ ap (λ (b : Bool). cond b [] (part ∷ [])) (ne_eqb (length part) 0 (λ z. omega arith)))
 
-ends_push : (xs : List ℕ) → EndsLine (xs ++ 10 ∷ [])
+pub ends_push : (xs : List ℕ) → EndsLine (xs ++ 10 ∷ [])
 ends_push xs some = get_or_at xs 10 [] 0 (length (xs ++ 10 ∷ []) - 1) (omega (arith, length-append xs (10 ∷ [])))
 
 -- ---- the first line feed
@@ -70,7 +70,7 @@ pub nil_of : {X : Type 0} (xs : List X) → length xs ≡ 0 → xs ≡ []
 nil_of [] is = refl
 nil_of (x ∷ xs) is = absurd (omega arith)
 
-nil_first : (xs ys : List ℕ) → [] ≡ xs ++ ys → xs ≡ []
+pub nil_first : (xs ys : List ℕ) → [] ≡ xs ++ ys → xs ≡ []
 nil_first [] ys is = refl
 nil_first (x ∷ xs) ys is = absurd (cc)
 
@@ -127,7 +127,7 @@ Eaten-below P Q block rest front left cut h =
 
 -- ---- how a line was read
 
--- what follows from what is told of a bad line
+-- what follows from what a clause says of a bad line
 pub told : {X : Type 0} {P Q : Type 0} (r : Result X Fault) → (P → Q) → IfErr r (λ e. (bad : BadLine) → e ≡ Line bad → P) → IfErr r (λ e. (bad : BadLine) → e ≡ Line bad → Q)
 told (Ok x) f h = tt
 told (Err e) f h = λ bad is. f (h bad is)
@@ -198,7 +198,7 @@ nothing_read rule reading none = record {
 }
 
 -- what was kept, and a line that ends behind it
-ended_with : (text ended partial rest : List ℕ) → text ≡ ended ++ partial → text ++ (rest ++ 10 ∷ []) ≡ ended ++ ((partial ++ rest) ++ 10 ∷ [])
+pub ended_with : (text ended partial rest : List ℕ) → text ≡ ended ++ partial → text ++ (rest ++ 10 ∷ []) ≡ ended ++ ((partial ++ rest) ++ 10 ∷ [])
 ended_with text ended partial rest cut =
     ap (λ (l : List ℕ). l ++ (rest ++ 10 ∷ [])) cut ∙ append_assoc ended partial (rest ++ 10 ∷ []) ∙ ap (λ (l : List ℕ). ended ++ l) (sym (append_assoc partial rest (10 ∷ [])))
 
@@ -292,7 +292,7 @@ module _ {S : Type 0} where
       λ before runs text h. Counted-line rule before runs old new partial rest line kept first after text none is empty adds read h
   Counted-line-ok (Err e) rule old new partial rest line kept first after none is empty adds read = tt
 
-  -- the line that ended is bad, and is refused
+  -- the line that ended is bad, and is rejected
   pub Counted-bad : (rule : Rule) (before : List (List ℕ)) (runs : List (List (List ℕ × ℕ))) (bag : Bag (String Global) S) (partial rest line : List ℕ) (first after : Reading) (text more : List ℕ) → NoLineFeed rest
       → line ≡ strip_carriage_return (partial ++ rest) → (first.bad_lines ≡ Refused) × (is_bad rule line ≡ true) → after.bad_lines ≡ first.bad_lines → after.line ≡ min (first.line + 1) (2 ^ 64 - 1)
       → Counted rule before runs bag partial first text → IsFirstBad rule ((text ++ (rest ++ 10 ∷ [])) ++ more) after
@@ -314,7 +314,7 @@ module _ {S : Type 0} where
         refused = same ∙ bad.0;
       }
 
-  -- the last line is bad, and is refused
+  -- the last line is bad, and is rejected
   pub Counted-bad-last : (rule : Rule) (before : List (List ℕ)) (runs : List (List (List ℕ × ℕ))) (bag : Bag (String Global) S) (partial line : List ℕ) (first after : Reading) (text : List ℕ) → 0 < length partial
       → line ≡ partial → (first.bad_lines ≡ Refused) × (is_bad rule line ≡ true) → after.bad_lines ≡ first.bad_lines → after.line ≡ min (first.line + 1) (2 ^ 64 - 1)
       → Counted rule before runs bag partial first text → IsFirstBad rule text after

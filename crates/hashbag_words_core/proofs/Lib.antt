@@ -1,5 +1,7 @@
+pub mod AddedLemmas
 pub mod CountLemmas
 pub mod CountedLemmas
+pub mod DepthLemmas
 pub mod LineLemmas
 pub mod MatchLemmas
 pub mod MergedLemmas
@@ -14,4 +16,5 @@ pub mod ShownLemmas
 pub mod SortedLemmas
 pub mod SortedMergeLemmas
 pub mod TextLemmas
+pub mod UniqLemmas
 pub mod WordLemmas

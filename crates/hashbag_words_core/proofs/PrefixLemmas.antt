@@ -1,16 +1,10 @@
 -- The first bytes of texts as numbers: they never fall where the texts rise.
-use Rattle.std.proofs.Common.{◌≡◌, ℕ, zero, suc, ◌+◌, ◌*◌, ◌<◌, ◌≤◌, false, List, [], ◌∷◌, length, get_or, drop, map, All, Ordering, Less, Equal, Greater, nat_cmp, is_lt, String, string_bytes, Global, refl, sym, ◌∙◌, ap, subst, arith}
-use Rattle.std.specs.Borrow.{Bor}
+use Rattle.std.proofs.Common.{◌≡◌, ℕ, zero, suc, ◌+◌, ◌*◌, ◌<◌, ◌≤◌, List, [], ◌∷◌, get_or, drop, Ordering, Less, Equal, Greater, nat_cmp, refl, sym, ◌∙◌, ap, subst, arith}
 use Rattle.std.specs.Cmp.{ranks}
 use Rattle.std.specs.Cmp.Lexicographic.{slice_cmp}
-use Rattle.std.specs.Ordering.{MatchOrdering, ordering_then, ordering_reverse}
-use Rattle.std.proofs.lemmas.Bool.{false≢true}
-use Rattle.std.proofs.lemmas.Cmp.{nat_list_cmp_total}
-use Rattle.std.specs.List.Sorted.{IsSorted}
-use Rattle.std.proofs.Math.ListN.{get_or-map}
-use Rattle.std.proofs.lemmas.List.{length-map}
+use Rattle.std.specs.Ordering.{MatchOrdering, ordering_then}
 use native.Mathlib.Numerals.{unary_clauses}
-use Rattle.hashbag_words_core.specs.Prefix.{lead, bare_row, row_cmp, HasPrefix, IsPrefixOf}
+use Rattle.hashbag_words_core.specs.Prefix.{lead, IsPrefixOf}
 
 -- 256 to the power of n
 abbrev pub bound : ℕ → ℕ
@@ -73,33 +67,3 @@ lead_rises (suc n) number (u ∷ us) (v ∷ vs) bytes up =
 -- of two texts the one whose first bytes are less comes first
 pub lesser_prefix : (m n : ℕ) (us vs : List ℕ) → IsPrefixOf m us → IsPrefixOf n vs → m < n → slice_cmp nat_cmp us vs ≡ Less
 lesser_prefix m n us vs at_us at_vs less = lead_rises 8 0 us vs at_vs.bytes (subst (λ k. k < lead 0 8 vs) at_us.value (subst (λ k. m < k) at_vs.value less))
-
--- a row with its prefix
-abbrev Prefixed : Type 0
-Prefixed = ℕ × (Bor (String Global) × ℕ)
-
--- the order by the prefix, then by the row
-abbrev prefixed_cmp : Prefixed → Prefixed → Ordering
-prefixed_cmp x y = ordering_then (nat_cmp x.0 y.0) (row_cmp x.1 y.1)
-
-falls : (x y : Prefixed) → HasPrefix x → HasPrefix y → is_lt (prefixed_cmp x y) ≡ false → is_lt (row_cmp x.1 y.1) ≡ false
-falls x y at_x at_y up = by (nat_cmp x.0 y.0) (ranks x.0 y.0) up
-  where
-    by : (r : Ordering) → MatchOrdering r (x.0 < y.0) (x.0 ≡ y.0) (y.0 < x.0) → is_lt (ordering_then r (row_cmp x.1 y.1)) ≡ false → is_lt (row_cmp x.1 y.1) ≡ false
-    by Less h up = absurd (false≢true (sym up))
-    by Equal h up = up
-    by Greater h up =
-        let s = string_bytes x.1.0.now in
-        let t = string_bytes y.1.0.now in
-        let is : slice_cmp nat_cmp s t ≡ Greater = nat_list_cmp_total.antisymm s t ∙ ap ordering_reverse (lesser_prefix y.0 x.0 t s at_y at_x h) in
-        ap (λ r. is_lt (ordering_then r (nat_cmp x.1.1 y.1.1))) is
-
--- rows that a sort by their prefixes left are sorted
-pub sorted_by_row : (rows : List Prefixed) → All HasPrefix rows → IsSorted prefixed_cmp rows → IsSorted row_cmp (map bare_row rows)
-sorted_by_row rows has up k d low high =
-    let inside : k + 1 < length rows = subst (λ n. k + 1 < n) (length-map rows bare_row) high in
-    let e : Prefixed = (0, d) in
-    let here = get_or-map bare_row rows k e in
-    let next = get_or-map bare_row rows (k + 1) e in
-    ap (λ x. is_lt (row_cmp x (get_or (map bare_row rows) k d))) next ∙ ap (λ y. is_lt (row_cmp (get_or rows (k + 1) e).1 y)) here
-    ∙ falls (get_or rows (k + 1) e) (get_or rows k e) (has (k + 1) e inside) (has k e (omega arith)) (up k e low inside)

@@ -3,8 +3,9 @@ use Rattle.std.proofs.Common.{◌≡◌, ◌≢◌, ℕ, suc, ◌+◌, ◌<◌, 
 use borrow.Author.Tests.{eqb-true}
 use Rattle.memchr.specs.Find.{is_byte3, IsFirstByte, Passes}
 use Rattle.std.specs.Borrow.{Bor}
+use Rattle.std.specs.Char.{digit_value}
 use Rattle.std.specs.Option.{is_some}
-use Rattle.std.specs.Str.Parse.{ParsesUnsigned}
+use Rattle.std.specs.Str.Parse.{AllDigits, ParsesUnsigned}
 use Rattle.std.proofs.lemmas.Fmt.{parse-decimal}
 use Rattle.std.proofs.lemmas.List.Elements.{All-nil, All-cons, All-get_or}
 use Rattle.std.proofs.lemmas.Option.{same_Some}
@@ -122,6 +123,11 @@ number_read {E} r count digits was h =
       value = sym both.1;
       fits = subst (λ (n : ℕ). n < 2 ^ 64) (sym both.1) both.0.1;
     }
+
+-- digits have no byte that is none
+pub no_digit : (k : ℕ) → ¬ (digit_value k < 10) → (ds : List ℕ) → AllDigits 10 ds → All (λ y. y ≢ k) ds
+no_digit k other [] all = All-nil (λ y. y ≢ k)
+no_digit k other (d ∷ ds) all = All-cons (λ y. y ≢ k) d ds (λ is. other (subst (λ (x : ℕ). digit_value x < 10) is all.0)) (no_digit k other ds all.1)
 
 -- a line that was split at its first tab is read as what the parts are
 pub line_read : (line token : List ℕ) (count : ℕ) (written digits : Bor (List ℕ)) → IsSplitOnceResult 9 line (Some (written, digits))

@@ -79,7 +79,7 @@ gives_none (Some rows) = refl
 
 -- ---- lines that are passed over
 
--- of known rows none is, since bad lines are refused
+-- of known rows none is, since bad lines are rejected
 pub none_passed : (form : RowForm) (bad_lines : BadLines) (marked : Bool) (bytes : List ℕ) → (form ≡ Tsv → bad_lines ≡ Refused → ⊥) → IsSome (rows_left form bad_lines marked bytes) → ⊥
 none_passed Tsv Refused marked bytes never known = never refl refl
 none_passed Tsv Skipped marked bytes never known = absurd (cc)

@@ -1,15 +1,15 @@
 -- Rows that are written as the lines of a run, and read again.
-use Rattle.std.proofs.Common.{◌≡◌, ◌≢◌, ℕ, ◌+◌, ◌-◌, ◌<◌, ◌≤◌, ◌^◌, Bool, cond, List, [], ◌∷◌, ◌++◌, length, get_or, take, map, filter_map, sum_by, All, decimal, String, string_bytes, string_eq, string_cmp, Global, Option, None, Some, Result, Ok, Err, OnOk, Less, refl, sym, ◌∙◌, ap, subst, arith, append_assoc, length-append, ne_eqb}
-use Rattle.std.specs.Io.KnownBytes.{Appends}
+use Rattle.std.proofs.Common.{◌≡◌, ◌≢◌, ℕ, ◌+◌, ◌-◌, ◌<◌, ◌≤◌, ◌^◌, Bool, true, false, cond, List, [], ◌∷◌, ◌++◌, length, get_or, take, map, filter_map, sum_by, All, decimal, String, string_bytes, string_eq, string_cmp, Global, Option, None, Some, Less, refl, sym, ◌∙◌, ap, subst, arith, append_assoc, length-append, ne_eqb}
 use Rattle.std.specs.List.{AllByRecursion, cons_option}
 use Rattle.std.specs.List.Sorted.{IsStrictlySortedBy}
 use Rattle.std.specs.Char.{digit_value}
 use Rattle.std.specs.Map.{keys_of}
 use Rattle.std.specs.Str.Lines.{lines, strip_carriage_return}
-use Rattle.std.specs.Str.Parse.{AllDigits, IsNumeral, digits_value, without_leading_plus}
+use Rattle.std.specs.Str.Parse.{IsNumeral, digits_value, without_leading_plus}
 use Rattle.std.specs.String.{string_eq_equiv}
 use Rattle.std.proofs.lemmas.Fmt.{decimal_is_IsNumeral}
 use Rattle.std.proofs.lemmas.Str.Parse.{without_leading_plus_none}
+use Rattle.std.proofs.lemmas.List.{append-nil}
 use Rattle.std.proofs.lemmas.List.Elements.{All-nil, All-cons, All-append, All-get_or}
 use Rattle.std.proofs.lemmas.List.Sums.{sum_by-cons}
 use Rattle.hashbag.specs.Bag.{Bag, occurrences}
@@ -20,8 +20,10 @@ use Rattle.hashbag_ops.proofs.Sums.{count_written}
 use Rattle.hashbag_words_core.specs.Rows.{byte_of, escaped, letter_of, row, shown_as}
 use Rattle.hashbag_words_core.specs.Runs.{read_as, rows_in, run_text, IsRunOf}
 use Rattle.hashbag_words_core.specs.Sorted.{row_of, of_row, times_in, text_cmp, Rises}
+use Rattle.hashbag_words_core.specs.Writing.{rows_text, text_of}
+use Rattle.hashbag_words_core.specs.declared.writing.Format.TheVariants.{Tsv}
 use Rattle.hashbag_words_core.proofs.LineLemmas.{lines-cut}
-use Rattle.hashbag_words_core.proofs.RowLemmas.{letter_back, plain_byte, unescaped-escaped}
+use Rattle.hashbag_words_core.proofs.RowLemmas.{letter_back, no_digit, plain_byte, unescaped-escaped}
 use Rattle.hashbag_words_core.proofs.RunLemmas.{read_as-line}
 use Rattle.hashbag_words_core.proofs.TextLemmas.{same_by}
 
@@ -55,10 +57,6 @@ none_shown k l has without other b rest (Some m) e later =
 none_escaped : (k l : ℕ) → letter_of k ≡ Some l → byte_of k ≡ None → k ≢ 92 → (token : List ℕ) → All (λ y. y ≢ k) (escaped token)
 none_escaped k l has without other [] = All-nil (λ y. y ≢ k)
 none_escaped k l has without other (b ∷ bs) = none_shown k l has without other b (escaped bs) (letter_of b) refl (none_escaped k l has without other bs)
-
-no_digit : (k : ℕ) → ¬ (digit_value k < 10) → (ds : List ℕ) → AllDigits 10 ds → All (λ y. y ≢ k) ds
-no_digit k other [] all = All-nil (λ y. y ≢ k)
-no_digit k other (d ∷ ds) all = All-cons (λ y. y ≢ k) d ds (λ is. other (subst (λ (x : ℕ). digit_value x < 10) is all.0)) (no_digit k other ds all.1)
 
 none_in_row : (k l : ℕ) → letter_of k ≡ Some l → byte_of k ≡ None → k ≢ 92 → k ≢ 9 → ¬ (digit_value k < 10) → (token : List ℕ) (n : ℕ) → n < 2 ^ 64 → All (λ y. y ≢ k) (row token n)
 none_in_row k l has without other tab low token n fits =
@@ -125,9 +123,11 @@ is_run bag pairs walk up = record {
     fits : (n m : ℕ) → n ≡ m → m ≤ greatest_total → n < 2 ^ 64
     fits n m e le = omega arith
 
--- ---- lines that are written one by one
+-- ---- the text of a run
 
-pub on_run : {X E S : Type 0} (r : Result X E) (bag : Bag (String Global) S) (old new : Option (List ℕ)) (rows : List (List ℕ × ℕ)) → IsRunOf bag rows → OnOk r (Appends old new (run_text rows))
-    → OnOk r ((run : List (List ℕ × ℕ)) × IsRunOf bag run × Appends old new (run_text run))
-on_run (Ok x) bag old new rows run done = (rows, run, done)
-on_run (Err e) bag old new rows run done = tt
+tsv_rows : (first : Bool) (rows : List (List ℕ × ℕ)) → rows_text Tsv first rows ≡ run_text rows
+tsv_rows first [] = refl
+tsv_rows first (r ∷ rows) = ap (λ (l : List ℕ). (row r.0 r.1 ++ 10 ∷ []) ++ l) (tsv_rows false rows)
+
+pub tsv_text : (rows : List (List ℕ × ℕ)) → text_of Tsv rows ≡ run_text rows
+tsv_text rows = append-nil (rows_text Tsv true rows) ∙ tsv_rows true rows

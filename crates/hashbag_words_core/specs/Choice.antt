@@ -15,8 +15,8 @@ use Rattle.hashbag_words_core.specs.declared.choice.Choice.{Choice}
 use Rattle.hashbag_words_core.specs.declared.choice.Order.{Order}
 use Rattle.hashbag_words_core.specs.declared.choice.Order.TheVariants.{Rising, Open, Commonest}
 
--- these pairs are what is shown of the bag: each text of it once, beside its count, by the bytes or in an open order; or the first k of
--- those in the one order of the commonest
+-- these pairs are what is shown of the bag: each text of it once, with its count, by the bytes or in no particular order; or the
+-- first k of those, the most common first
 abbrev pub IsShown : {S : Type 0} → Order → Bag (String Global) S → List (String Global × ℕ) → Type 0
 IsShown Rising bag pairs = IsSetWalkOf string_eq bag pairs × IsStrictlySortedBy string_cmp (keys_of pairs)
 IsShown Open bag pairs = IsSetWalkOf string_eq bag pairs
@@ -27,7 +27,7 @@ IsShown (Commonest k) bag pairs =
 abbrev pub shows : Choice → List ℕ × ℕ → Bool
 shows choice row = nat_le choice.least row.1 && is_shown choice.shard row.0
 
--- how often a text is shown that occurs so often: as often, or not at all
+-- how often a text is shown that occurs n times: n times, or not at all
 abbrev pub shown_count : Choice → List ℕ → ℕ → ℕ
 shown_count choice text n = if shows choice (text, n) then n else 0
 

@@ -28,7 +28,7 @@ how_many test texts = length (filter test texts)
 abbrev pub NoneIsBad : Rule → List (List ℕ) → Type 0
 NoneIsBad rule texts = All (λ line. is_bad rule line ≡ false) texts
 
--- the line that was read last is the first bad one of the text, and bad lines are refused
+-- the line that was read last is the first bad one of the text, and bad lines are rejected
 pub record IsFirstBad (rule : Rule) (text : List ℕ) (reading : Reading) : Type 0 where
   pub front : List (List ℕ)
   pub bad : List ℕ

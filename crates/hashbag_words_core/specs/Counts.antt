@@ -20,7 +20,7 @@ AddsTexts old new texts = (text : List ℕ) → count bytes_eq text (texts_in ne
 abbrev pub AddsPieces : {I S : Type 0} → Bool → (I → Option (Bor (List ℕ)) → I → Type 0) → I → Bag (String Global) S → Bag (String Global) S → Type 0
 AddsPieces fold steps pieces old new = (came : List (Bor (List ℕ))) × Drains steps pieces came × AddsTexts old new (map (λ piece. token_of fold piece.now) came)
 
--- one text is in the new bag so much oftener than in the old one, and every other as often
+-- one text is in the new bag n times more often than in the old one, and every other as often
 abbrev pub AddsTimes : {S : Type 0} → Bag (String Global) S → Bag (String Global) S → List ℕ → ℕ → Type 0
 AddsTimes old new added n =
     (text : List ℕ) → count bytes_eq text (texts_in new) ≡ count bytes_eq text (texts_in old) + (if bytes_eq text added then n else 0)

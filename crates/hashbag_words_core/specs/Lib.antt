@@ -1,3 +1,4 @@
+pub mod Added
 pub mod Choice
 pub mod Counted
 pub mod Counts

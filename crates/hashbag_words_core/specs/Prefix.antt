@@ -1,7 +1,8 @@
--- The first bytes of a text as a number, by which rows are sorted.
-use Rattle.std.specs.Prelude.{◌≡◌, ℕ, zero, suc, ◌+◌, ◌*◌, ◌<◌, List, [], ◌∷◌, slice_index, String, string_bytes}
+-- Bytes of a text as a number, by which rows are sorted.
+use Rattle.std.specs.Prelude.{◌≡◌, ℕ, zero, suc, ◌+◌, ◌*◌, ◌<◌, List, [], ◌∷◌, drop, map, All, slice_index, String, string_bytes}
 use Rattle.std.specs.Borrow.{Bor}
 use Rattle.std.specs.Global.{Global}
+use Rattle.std.specs.List.Sorted.{IsNonDecreasingBy, IsPermutation, IsSorted}
 use Rattle.std.specs.Ordering.{ordering_then, nat_cmp}
 use Rattle.std.specs.String.{string_cmp}
 use Rattle.std.specs.declared.cmp.Ordering.{Ordering}
@@ -17,14 +18,41 @@ pub record IsPrefixOf (number : ℕ) (text : List ℕ) : Type 0 where
   pub value : number ≡ lead 0 8 text
   pub bytes : (k : ℕ) → slice_index text k < 256
 
--- a row, without the prefix before it
+-- the number is the eight bytes from this place on
+pub record IsWordAt (from number : ℕ) (text : List ℕ) : Type 0 where
+  pub value : number ≡ lead 0 8 (drop from text)
+  pub bytes : (k : ℕ) → slice_index text k < 256
+
+-- the number before a row
+abbrev pub number_of : ℕ × (Bor (String Global) × ℕ) → ℕ
+number_of p = p.0
+
+-- a row, without the number before it
 abbrev pub bare_row : ℕ × (Bor (String Global) × ℕ) → Bor (String Global) × ℕ
 bare_row p = p.1
 
--- the number before the row is the prefix of its token
-abbrev pub HasPrefix : ℕ × (Bor (String Global) × ℕ) → Type 0
-HasPrefix p = IsPrefixOf p.0 (string_bytes p.1.0.now)
+-- the number before the row is the eight bytes of its token from this place on
+abbrev pub HasWord : ℕ → ℕ × (Bor (String Global) × ℕ) → Type 0
+HasWord from p = IsWordAt from p.0 (string_bytes p.1.0.now)
+
+-- the bytes of the token before this place are the number
+abbrev pub Starts : ℕ → ℕ → ℕ × (Bor (String Global) × ℕ) → Type 0
+Starts from number p = lead 0 from (string_bytes p.1.0.now) ≡ number
+
+-- each row has its eight bytes from this place on before it, and these rise
+abbrev pub AreRising : ℕ → List (ℕ × (Bor (String Global) × ℕ)) → Type 0
+AreRising from rows = All (HasWord from) rows × IsNonDecreasingBy number_of rows
 
 -- the order of the tokens, and of the counts where they are the same
 abbrev pub row_cmp : Bor (String Global) × ℕ → Bor (String Global) × ℕ → Ordering
 row_cmp x y = ordering_then (string_cmp x.0.now y.0.now) (nat_cmp x.1 y.1)
+
+-- the rows only moved, and are sorted if their tokens agreed before this place
+pub record SortsFrom (from : ℕ) (rows sorted_rows : List (ℕ × (Bor (String Global) × ℕ))) : Type 0 where
+  pub permutation : IsPermutation (map bare_row rows) (map bare_row sorted_rows)
+  pub sorted : (number : ℕ) → All (Starts from number) rows → IsSorted row_cmp (map bare_row sorted_rows)
+
+-- the same of rows that were sorted by their eight bytes from there on
+pub record SortsRuns (from : ℕ) (rows sorted_rows : List (ℕ × (Bor (String Global) × ℕ))) : Type 0 where
+  pub permutation : IsPermutation (map bare_row rows) (map bare_row sorted_rows)
+  pub sorted : (number : ℕ) → AreRising from rows → All (Starts from number) rows → IsSorted row_cmp (map bare_row sorted_rows)

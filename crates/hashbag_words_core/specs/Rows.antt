@@ -1,7 +1,9 @@
 -- How a token and its count are written as a line, and read again.
-use Rattle.std.specs.Prelude.{◌≡◌, ◌≢◌, ℕ, ◌<◌, ◌^◌, ◌==◌, Bool, true, false, List, [], ◌∷◌, ◌++◌, length, slice_index, flat_map, if◌then◌else◌, String, string_bytes, decimal, Option, None, Some, option_map, option_and_then, Result, IsOkAnd, IsUtf8}
+use Rattle.std.specs.Prelude.{◌≡◌, ◌≢◌, ℕ, ◌<◌, ◌^◌, ◌==◌, Bool, true, false, List, [], ◌∷◌, ◌++◌, length, slice_index, flat_map, All, if◌then◌else◌, String, string_bytes, decimal, Option, None, Some, option_map, option_and_then, Result, IsOkAnd, IsUtf8}
 use Rattle.std.specs.Global.{Global}
 use Rattle.std.specs.Str.Parse.{IsNumeral, digits_value, without_leading_plus}
+use Rattle.hashbag_words_core.specs.declared.rows.RowForm.{RowForm}
+use Rattle.hashbag_words_core.specs.declared.rows.RowForm.TheVariants.{Tsv, Uniq}
 
 -- the letter that stands for this byte behind a backslash, if it is escaped: t for a tab, n for a line feed, r for a carriage return, and
 -- the backslash for itself
@@ -25,9 +27,22 @@ escaped token = flat_map (λ byte. shown_as byte (letter_of byte)) token
 abbrev pub row : List ℕ → ℕ → List ℕ
 row token count = escaped token ++ 9 ∷ decimal count
 
+-- no byte but spaces
+abbrev pub AreSpaces : List ℕ → Type 0
+AreSpaces xs = All (λ b. b ≡ 32) xs
+
+-- this is the line of a token and its count in this form; as `uniq -c` writes it, with any number of spaces before the count
+abbrev pub IsWritten : RowForm → List ℕ → List ℕ → ℕ → Type 0
+IsWritten Tsv line token count = line ≡ row token count
+IsWritten Uniq line token count = (spaces : List ℕ) × AreSpaces spaces × (line ≡ spaces ++ (decimal count ++ 32 ∷ token))
+
 -- P holds of a token that is text and a count of 64 bits, if this is their line
-abbrev pub IfRow : List ℕ → (List ℕ → ℕ → Type 0) → Type 0
-IfRow line P = (token : List ℕ) (count : ℕ) → IsUtf8 token → count < 2 ^ 64 → line ≡ row token count → P token count
+abbrev pub IfRow : RowForm → List ℕ → (List ℕ → ℕ → Type 0) → Type 0
+IfRow form line P = (token : List ℕ) (count : ℕ) → IsUtf8 token → count < 2 ^ 64 → IsWritten form line token count → P token count
+
+-- this line isn't UTF-8, or is that of no token with a count
+abbrev pub IsNoRow : RowForm → List ℕ → Type 0
+IsNoRow form line = IsUtf8 line → IfRow form line (λ _ _. ⊥)
 
 -- what is written so stands for, where a backslash has just been read or not; none where a backslash is followed by no letter
 abbrev pub unescaped : Bool → List ℕ → Option (List ℕ)
@@ -51,7 +66,21 @@ pub record IsLineOf (line token : List ℕ) (count : ℕ) : Type 0 where
   pub means : unescaped false written ≡ Some token
   pub number : IsNumber digits count
 
--- the same, where these bytes of the token have been read, and those are to come; none where they have been found bad
+-- the same of a line that `uniq -c` may have written: spaces, the count, a space, and the token
+pub record IsUniqLineOf (line token : List ℕ) (count : ℕ) : Type 0 where
+  pub spaces : List ℕ
+  pub digits : List ℕ
+  pub parts : line ≡ spaces ++ (digits ++ 32 ∷ token)
+  pub blank : AreSpaces spaces
+  pub first : (i : ℕ) → i < length digits → slice_index digits i ≢ 32
+  pub number : IsNumber digits count
+
+-- this line is read as that token and count, in this form
+abbrev pub IsRowOf : RowForm → List ℕ → List ℕ × ℕ → Type 0
+IsRowOf Tsv line r = IsLineOf line r.0 r.1
+IsRowOf Uniq line r = IsUniqLineOf line r.0 r.1
+
+-- what is written so stands for, where these bytes of the token have been read, and those are to come; none where they have been found bad
 abbrev pub resumed : List ℕ → Option Bool → List ℕ → Option (List ℕ)
 resumed token None rest = None
 resumed token (Some is_marked) rest = option_map (λ more. token ++ more) (unescaped is_marked rest)

@@ -14,7 +14,7 @@ use Rattle.hashbag_words_core.specs.declared.choice.Order.{Order}
 use Rattle.hashbag_words_core.specs.declared.choice.Order.TheVariants.{Rising, Open, Commonest}
 use Rattle.hashbag_words_core.specs.declared.writing.Format.{Format}
 
--- the rows have each of these texts that is shown once, beside how often it is in the list, and nothing else
+-- the rows have each of these texts that is shown once, with its count in the list, and nothing else
 pub record HasShown (choice : Choice) (texts : List (List ℕ)) (rows : List (List ℕ × ℕ)) : Type 0 where
   pub once : IsDistinct bytes_eq (keys_of rows)
   pub counts : (text : List ℕ) → times_in text rows ≡ shown_count choice text (count bytes_eq text texts)

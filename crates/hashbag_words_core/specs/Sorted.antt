@@ -14,7 +14,7 @@ use Rattle.std.specs.declared.cmp.Ordering.TheVariants.{Less, Greater}
 abbrev pub text_cmp : List ℕ → List ℕ → Ordering
 text_cmp x y = slice_cmp nat_cmp x y
 
--- a row: the bytes of a token, beside a count
+-- a row: the bytes of a token, and a count
 abbrev pub row_of : String Global × ℕ → List ℕ × ℕ
 row_of row = (string_bytes row.0, row.1)
 

@@ -21,7 +21,7 @@ pub enum Order {
     Rising,
     /// All tokens, in the order of a walk over the bag, which is no particular order.
     Open,
-    /// The k commonest tokens: by falling counts, and tokens that occur equally often by rising bytes.
+    /// The k most common tokens: by falling counts, and tokens that occur equally often by rising bytes.
     Commonest(usize),
 }
 
@@ -37,7 +37,7 @@ pub struct Choice {
 }
 
 impl Choice {
-    /// Returns whether a token that occurs so often is shown.
+    /// Returns whether a token with this count is shown.
     pub fn shows(&self, token: &str, count: usize) -> bool
         ensures { result ≡ shows self.now (token.now, count) }
     {

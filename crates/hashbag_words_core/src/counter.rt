@@ -2,27 +2,27 @@
 //!
 //! A [`TextCounter`] reads nothing: it is given bytes. So its clauses hold whatever they come from.
 ghost use Rattle.std.specs.Prelude.{◌≡◌, ℕ, List, [], ◌∷◌, ◌++◌, IfOk, IfErr, OnOk};
-ghost use Rattle.std.specs.Io.KnownBytes.{Appends};
 ghost use Rattle.hashbag_words_core.specs.declared.errors.BadLine.{BadLine};
 ghost use Rattle.hashbag_words_core.specs.declared.errors.Fault.{Fault};
 ghost use Rattle.hashbag_core.specs.declared.bag.BagError.{BagError};
 ghost use Rattle.hashbag_words_core.specs.Counted.{fed_of, HasCounted, HasEnded, HaveTogether, IsFirstBad, IsReadingOf, IsWithin, NoLineFeed};
 ghost use Rattle.hashbag_words_core.specs.Counts.{texts_in};
+ghost use Rattle.hashbag_words_core.specs.RowText.{bytes_left};
 ghost use Rattle.hashbag_words_core.specs.Runs.{run_text, IsRunOf};
 ghost use Rattle.hashbag_words_core.specs.Tokens.{tokens_of};
 ghost use Rattle.std.specs.Str.Lines.{strip_carriage_return};
 
 use crate::counting::add_bytes;
 use crate::errors::Fault;
-use crate::gauge::Gauge;
+use crate::gauge::{Gauge, is_full, is_full_after_line, note_empty};
 use crate::lines::{BadLines, Reading};
+use crate::row_text::RowText;
 use crate::rule::Rule;
-use crate::runs::spill;
+use crate::runs::{empty, run_of};
 use hashbag::{BagError, HashBag};
 use memchr::memchr;
 use std::alloc::Global;
 use std::hash::BuildHasher;
-use std::io::{self, Write};
 
 /// What was counted of a text so far.
 ///
@@ -61,31 +61,12 @@ pub(crate) fn without_return(line: &[u8]) -> &[u8]
 }
 
 // Returns the fault of a failed allocation in the line that hasn't ended.
-fn no_memory(reading: &mut Reading) -> Fault
+pub(crate) fn no_memory(reading: &mut Reading) -> Fault
     ensures fault { result ≡ Fault.Bag BagError.Memory }
     ensures bad_lines { reading.new.bad_lines ≡ reading.old.bad_lines }
 {
     reading.count_line();
     Fault::Bag(BagError::Memory)
-}
-
-// Returns whether the bag is full after one more line, of `read` bytes.
-fn is_full_after_line<S: BuildHasher + Drop>(
-    gauge: &mut Option<Gauge>,
-    bag: &HashBag<String, S>,
-    read: usize,
-) -> bool {
-    match gauge {
-        Some(gauge) => gauge.is_full_after_line(bag, read),
-        None => false,
-    }
-}
-
-// Notes that the bag is empty.
-fn note_empty(gauge: &mut Option<Gauge>) {
-    if let Some(gauge) = gauge {
-        gauge.empty();
-    }
 }
 
 impl<'r, S: BuildHasher + Drop> TextCounter<'r, S> {
@@ -251,26 +232,28 @@ impl<'r, S: BuildHasher + Drop> TextCounter<'r, S> {
         ensures partial { self.new.partial ≡ self.old.partial }
         ensures reading { self.new.reading ≡ self.old.reading }
     {
-        match &mut self.gauge {
-            Some(gauge) => gauge.is_full(&self.bag, 0),
-            None => false,
-        }
+        is_full(&mut self.gauge, &self.bag)
     }
 
-    /// Writes a run of what is in the bag, as [`spill`] does, and empties the bag. It may be called within a text.
+    /// Returns the text of a run of what is in the bag, as [`run_of`] does. Once it is written, [`TextCounter::end_run`] empties the bag.
     ///
     /// # Errors
     ///
-    /// A write or an allocation fails. Then the counter is unchanged.
-    pub fn take_run<W: Write>(&mut self, out: &mut W) -> io::Result<()>
-        ensures run { OnOk result ((rows : List (List ℕ × ℕ)) × IsRunOf self.old.bag rows
-            × Appends (W.contents out.old) (W.contents out.new) (run_text rows)
-            × ((before : _) → (runs : _) → (text : List ℕ) → HasCounted before runs self.old text
-            → HasCounted before (runs ++ rows ∷ []) self.new text)) }
+    /// `Memory` if an allocation fails.
+    pub fn run(&self) -> Result<RowText<'_>, BagError>
+        ensures { IfOk result (λ text. (rows : List (List ℕ × ℕ)) × IsRunOf self.now.bag rows × (bytes_left text ≡ run_text rows)) }
     {
-        spill(self.alloc, out, &mut self.bag)?;
+        run_of(self.alloc, &self.bag)
+    }
+
+    /// Empties the bag, since the run of what is in it was written. It may be called within a text.
+    pub fn end_run(&mut self)
+        ensures run { (rows : List (List ℕ × ℕ)) → IsRunOf self.old.bag rows
+            → (before : _) → (runs : _) → (text : List ℕ) → HasCounted before runs self.old text
+            → HasCounted before (runs ++ rows ∷ []) self.new text }
+    {
+        empty(&mut self.bag);
         note_empty(&mut self.gauge);
-        Ok(())
     }
 
     /// Returns the bag. Of a text that hasn't ended, it lacks the line that hasn't.

@@ -62,6 +62,11 @@ impl Gauge {
         self.texts = 0;
     }
 
+    /// Notes that as many bytes were read.
+    pub fn read(&mut self, read: usize) {
+        self.texts = self.texts.saturating_add(read);
+    }
+
     /// Returns whether the bag is full after `read` more bytes of the input.
     ///
     /// The bytes read count as texts until their bound reaches `most`. Then all texts of the bag are measured, and the bag is full if it takes
@@ -92,5 +97,42 @@ impl Gauge {
         }
         self.lines = 0;
         self.is_full(bag, 0)
+    }
+}
+
+/// Returns whether the bag is full. Without a gauge it never is.
+pub(crate) fn is_full<S: BuildHasher + Drop>(
+    gauge: &mut Option<Gauge>,
+    bag: &HashBag<String, S>,
+) -> bool {
+    match gauge {
+        Some(gauge) => gauge.is_full(bag, 0),
+        None => false,
+    }
+}
+
+/// Returns whether the bag is full after one more line, of `read` bytes. Without a gauge it never is.
+pub(crate) fn is_full_after_line<S: BuildHasher + Drop>(
+    gauge: &mut Option<Gauge>,
+    bag: &HashBag<String, S>,
+    read: usize,
+) -> bool {
+    match gauge {
+        Some(gauge) => gauge.is_full_after_line(bag, read),
+        None => false,
+    }
+}
+
+/// Notes that the bag is empty.
+pub(crate) fn note_empty(gauge: &mut Option<Gauge>) {
+    if let Some(gauge) = gauge {
+        gauge.empty();
+    }
+}
+
+/// Notes that as many bytes were read.
+pub(crate) fn note_read(gauge: &mut Option<Gauge>, read: usize) {
+    if let Some(gauge) = gauge {
+        gauge.read(read);
     }
 }

@@ -1,9 +1,9 @@
 //! Counts of words, lines or matches in text: the pure part of the program `hashbag_words`.
 //!
 //! - [`rule`] decides what of a line is counted, [`counting`] counts a line, and [`counter`] the lines of texts that come in blocks.
-//! - [`gauge`] says when a bag is full, [`runs`] writes what it has, and [`sorted_merge`] merges what was written, which [`row_source`] reads.
-//! - [`rows`] and [`merging`] read and add up files of counts, [`choice`] selects the counts that are shown, and [`writing`] and
-//!   [`row_text`] write them. [`shards`] parts all tokens by a fixed hash.
+//! - [`row_counter`] adds up files of counts that come in blocks, whose lines [`rows`] reads, and [`merging`] JSON texts.
+//! - [`gauge`] says when a bag is full, [`runs`] has what is then written, and [`sorted_merge`] merges that, which [`row_source`] reads.
+//! - [`choice`] selects the counts that are shown, and [`writing`] and [`row_text`] write them. [`shards`] parts all tokens by a fixed hash.
 #![tactic(auto)]
 
 pub mod choice;
@@ -14,6 +14,7 @@ pub mod gauge;
 pub mod head;
 pub mod lines;
 pub mod merging;
+pub mod row_counter;
 pub mod row_source;
 pub mod row_text;
 pub mod rows;

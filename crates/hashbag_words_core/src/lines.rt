@@ -1,10 +1,7 @@
-//! The lines of an input, one by one.
-ghost use Rattle.std.specs.Prelude.{◌≡◌, ◌+◌, ◌-◌, ◌^◌, min, Err, IsOk, IfErr, IfOk, OnOk, IfSome};
-ghost use Rattle.std.specs.Io.BufRead.{ends_with_byte, strip_last, take_through};
-ghost use Rattle.hashbag_words_core.specs.Reading.{ReadsLine, without_end};
+//! How the lines of an input are read.
+ghost use Rattle.std.specs.Prelude.{◌≡◌, ◌+◌, ◌-◌, ◌^◌, min, Err, IsOk, IfErr, OnOk};
 
 use crate::errors::{BadLine, Fault};
-use std::io::{self, BufRead};
 
 /// What a bad line does.
 #[derive(Clone, Copy, Debug, PartialEq, Eq)]
@@ -81,51 +78,4 @@ impl Reading {
             }
         }
     }
-}
-
-// Removes this byte from the end of a line, if it is there. Returns whether it was.
-fn strip(line: &mut Vec<u8>, byte: u8) -> bool
-    ensures rest { line.new.items ≡ strip_last byte line.old.items }
-    ensures was { result ≡ ends_with_byte byte line.old.items }
-{
-    let n = line.len();
-    if n == 0 {
-        return false;
-    }
-    if line[n - 1] != byte {
-        return false;
-    }
-    line.truncate(n - 1);
-    true
-}
-
-// Removes the line feed at the end of a line, and a carriage return before that. Returns whether there was a line feed.
-fn strip_end(line: &mut Vec<u8>) -> bool
-    ensures rest { line.new.items ≡ without_end line.old.items }
-    ensures was { result ≡ ends_with_byte 10 line.old.items }
-{
-    if !strip(line, b'\n') {
-        return false;
-    }
-    let _was = strip(line, b'\r');
-    true
-}
-
-/// Replaces `line` by the next line of the input. Returns whether there was one, and whether a line feed ended it.
-///
-/// The line feed at its end and a carriage return before that are no part of it.
-///
-/// # Errors
-///
-/// A read or an allocation fails.
-pub fn next_ended_line<R: BufRead>(input: &mut R, line: &mut Vec<u8>) -> io::Result<(bool, bool)>
-    ensures line { IfOk result (λ met. IfSome (R.remaining input.old)
-        (λ bytes. ReadsLine met.0 bytes line.new.items (R.remaining input.new))) }
-    ensures ended { IfOk result (λ met. IfSome (R.remaining input.old) (λ bytes. met.1 ≡ ends_with_byte 10 (take_through 10 bytes))) }
-{
-    line.clear();
-    if input.read_until(b'\n', line)? == 0 {
-        return Ok((false, false));
-    }
-    Ok((true, strip_end(line)))
 }

@@ -1,19 +1,18 @@
-//! Adding up files of counts.
-ghost use Rattle.std.specs.Prelude.{◌≡◌, true, string_bytes, IfErr, IfOk, IfSome, OnErr, OnOk};
+//! Adding a line of counts, or a JSON text.
+ghost use Rattle.std.specs.Prelude.{◌≡◌, IfErr, IfOk, OnErr, OnOk};
 ghost use Rattle.hashbag_words_core.specs.Counts.{AddsTimes};
-ghost use Rattle.hashbag_words_core.specs.Merging.{AddsLine, AddsTree, IsNoRow, TakesFirst, TakesLine, TakesRows};
-ghost use Rattle.hashbag_words_core.specs.Rows.{IfRow, IsLineOf, IsRead};
+ghost use Rattle.hashbag_words_core.specs.Merging.{AddsLine, AddsTree};
+ghost use Rattle.hashbag_words_core.specs.Rows.{IfRow, IsNoRow, IsRead, IsRowOf};
+ghost use Rattle.hashbag_words_core.specs.Sorted.{row_of};
 ghost use Rattle.hashbag_words_core.specs.Tokens.{without_mark};
 
 use crate::errors::{BadLine, Fault};
-use crate::lines::{Reading, next_ended_line};
 use crate::rows::{RowForm, read_row, read_uniq_row};
 use hashbag::{HashBag, JsonError};
 use hashbag_ops::merge;
 use serde_json::Value;
 use std::alloc::{AllocError, Global};
 use std::hash::BuildHasher;
-use std::io::BufRead;
 use std::str;
 
 // Returns the token and the count of a line in this form, or what is wrong with it.
@@ -22,8 +21,8 @@ pub(crate) fn read_in_form(
     form: RowForm,
     line: &str,
 ) -> Result<Result<(String, usize), BadLine>, AllocError>
-    ensures row { form ≡ RowForm.Tsv → IfOk result (λ read. IfRow line.now (λ token count. IsRead token count read)) }
-    ensures line { form ≡ RowForm.Tsv → IfOk result (λ read. IfOk read (λ p. IsLineOf line.now (string_bytes p.0) p.1)) }
+    ensures row { IfOk result (λ read. IfRow form line.now (λ token count. IsRead token count read)) }
+    ensures line { IfOk result (λ read. IfOk read (λ p. IsRowOf form line.now (row_of p))) }
 {
     match form {
         RowForm::Tsv => read_row(alloc, line),
@@ -43,9 +42,9 @@ pub fn add_row<S: BuildHasher + Drop>(
     form: RowForm,
     line: &[u8],
 ) -> Result<(), Fault>
-    ensures row { form ≡ RowForm.Tsv → IfRow line.now (λ token count. OnOk result (AddsTimes bag.old bag.new token count)) }
-    ensures line { form ≡ RowForm.Tsv → OnOk result (AddsLine line.now bag.old bag.new) }
-    ensures bad { form ≡ RowForm.Tsv → IfErr result (λ e. (b : BadLine) → e ≡ Fault.Line b → IsNoRow line.now) }
+    ensures row { IfRow form line.now (λ token count. OnOk result (AddsTimes bag.old bag.new token count)) }
+    ensures line { OnOk result (AddsLine form line.now bag.old bag.new) }
+    ensures bad { IfErr result (λ e. (bad : BadLine) → e ≡ Fault.Line bad → IsNoRow form line.now) }
     ensures err { OnErr result (bag.new ≡ bag.old) }
 {
     let Ok(text) = str::from_utf8(line) else {
@@ -60,27 +59,6 @@ pub fn add_row<S: BuildHasher + Drop>(
     }
 }
 
-// Adds a line that has been read. A line that is bad, or has no line feed, is skipped or rejected.
-fn add_read_row<S: BuildHasher + Drop>(
-    alloc: Global,
-    bag: &mut HashBag<String, S>,
-    form: RowForm,
-    line: &[u8],
-    is_ended: bool,
-    reading: &mut Reading,
-) -> Result<(), Fault>
-    ensures { form ≡ RowForm.Tsv → OnOk result (TakesLine (is_ended ≡ true) line.now bag.old bag.new) }
-{
-    if !is_ended {
-        return reading.pass_over(BadLine::CutOff);
-    }
-    match add_row(alloc, bag, form, line) {
-        Ok(()) => Ok(()),
-        Err(Fault::Line(bad)) => reading.pass_over(bad),
-        Err(fault) => Err(fault),
-    }
-}
-
 // Returns a line without the byte order mark at its beginning.
 pub(crate) fn past_mark(line: &[u8]) -> &[u8]
     ensures { result.now ≡ without_mark line.now }
@@ -89,65 +67,6 @@ pub(crate) fn past_mark(line: &[u8]) -> &[u8]
         return &line[3..];
     }
     line
-}
-
-/// Adds the first line of a file of counts as [`add_rows`] does, and returns whether there was a line.
-///
-/// A byte order mark at its beginning is no part of it.
-///
-/// # Errors
-///
-/// As of [`add_rows`].
-pub fn add_first_row<R: BufRead, S: BuildHasher + Drop>(
-    alloc: Global,
-    bag: &mut HashBag<String, S>,
-    form: RowForm,
-    input: &mut R,
-    reading: &mut Reading,
-) -> Result<bool, Fault>
-    ensures { form ≡ RowForm.Tsv → IfOk result (λ there. IfSome (R.remaining input.old)
-        (λ bytes. TakesFirst there bytes bag.old bag.new (R.remaining input.new))) }
-{
-    let mut line = Vec::new(alloc);
-    let (there, is_ended) = next_ended_line(input, &mut line)?;
-    if !there {
-        return Ok(false);
-    }
-    reading.count_line();
-    add_read_row(alloc, bag, form, past_mark(&line), is_ended, reading)?;
-    Ok(true)
-}
-
-/// Adds at most `most` lines of a file of counts and returns whether there may be more.
-///
-/// A line is bad if it isn't a token and a count in this form, or has no line feed.
-///
-/// # Errors
-///
-/// `Fault::Line` if a line is bad and bad lines aren't skipped; `Fault::Bag` if an allocation fails, or the total would pass the limit
-/// of the bag; `Fault::Read` if a read fails. Then `reading.line` is the number of the last line that was read, and the lines before
-/// that one have been added.
-pub fn add_rows<R: BufRead, S: BuildHasher + Drop>(
-    alloc: Global,
-    bag: &mut HashBag<String, S>,
-    form: RowForm,
-    input: &mut R,
-    reading: &mut Reading,
-    most: u64,
-) -> Result<bool, Fault>
-    ensures { form ≡ RowForm.Tsv → IfOk result (λ more. IfSome (R.remaining input.old)
-        (λ bytes. TakesRows most bytes more bag.old bag.new (R.remaining input.new))) }
-{
-    let mut line = Vec::new(alloc);
-    'lines: for _read in 0..most {
-        let (there, is_ended) = next_ended_line(input, &mut line)?;
-        if !there {
-            return Ok(false);
-        }
-        reading.count_line();
-        add_read_row(alloc, bag, form, &line, is_ended, reading)?;
-    }
-    Ok(true)
 }
 
 // Returns the fault of a tree that isn't read as a bag. If its counts pass a limit of its own, the fault has that.

@@ -3,7 +3,7 @@
 //! A tab, a line feed, a carriage return and a backslash in a token are written `\t`, `\n`, `\r` and `\\`. So each token is on one
 //! line, which is read as that token again.
 ghost use Rattle.std.specs.Prelude.{◌≡◌, ◌≢◌, ◌∷◌, ◌++◌, ◌<◌, ℕ, [], List, Some, false, length, option_map, slice_index, string_bytes, IfNone, IfOk, IfSome, IsUtf8, OnOk};
-ghost use Rattle.hashbag_words_core.specs.Rows.{byte_of, escaped, letter_of, resumed, row, shown_as, unescaped, IfRow, IsLineOf, IsRead};
+ghost use Rattle.hashbag_words_core.specs.Rows.{byte_of, escaped, letter_of, resumed, row, shown_as, unescaped, AreSpaces, IfRow, IsLineOf, IsRead, IsUniqLineOf};
 
 use crate::errors::BadLine;
 use itoa::Buffer;
@@ -171,7 +171,7 @@ fn read_token(alloc: Global, written: &str) -> Result<Option<String>, AllocError
 ///
 /// An allocation fails.
 pub fn read_row(alloc: Global, line: &str) -> Result<Result<(String, usize), BadLine>, AllocError>
-    ensures row { IfOk result (λ read. IfRow line.now (λ token count. IsRead token count read)) }
+    ensures row { IfOk result (λ read. IfRow RowForm.Tsv line.now (λ token count. IsRead token count read)) }
     ensures line { IfOk result (λ read. IfOk read (λ p. IsLineOf line.now (string_bytes p.0) p.1)) }
 {
     let Some((written, digits)) = line.split_once('\t') else {
@@ -186,6 +186,18 @@ pub fn read_row(alloc: Global, line: &str) -> Result<Result<(String, usize), Bad
     Ok(Ok((token, count)))
 }
 
+// Returns a line without the spaces at its beginning.
+fn past_spaces(line: &str) -> &str
+    ensures rest { (spaces : List ℕ) × AreSpaces spaces × (line.now ≡ spaces ++ result.now) }
+    ensures first { slice_index result.now 0 ≢ 32 }
+{
+    let mut rest = line;
+    'spaces: while let Some(shorter) = rest.strip_prefix(' ') {
+        rest = shorter;
+    }
+    rest
+}
+
 /// Returns the token and the count of a line that `uniq -c` wrote, or what is wrong with the line. It is given without its line feed.
 ///
 /// The token is everything after the space that follows the count.
@@ -196,8 +208,11 @@ pub fn read_row(alloc: Global, line: &str) -> Result<Result<(String, usize), Bad
 pub fn read_uniq_row(
     alloc: Global,
     line: &str,
-) -> Result<Result<(String, usize), BadLine>, AllocError> {
-    let Some((digits, token)) = line.trim_start_matches(' ').split_once(' ') else {
+) -> Result<Result<(String, usize), BadLine>, AllocError>
+    ensures row { IfOk result (λ read. IfRow RowForm.Uniq line.now (λ token count. IsRead token count read)) }
+    ensures line { IfOk result (λ read. IfOk read (λ p. IsUniqLineOf line.now (string_bytes p.0) p.1)) }
+{
+    let Some((digits, token)) = past_spaces(line).split_once(' ') else {
         return Ok(Err(BadLine::NoCount));
     };
     let Ok(count) = digits.parse::<usize>() else {

@@ -51,7 +51,7 @@ impl<K: Sink> Sink for ShownRows<K> {
     }
 }
 
-/// Keeps the commonest of the rows that come: counts falling, then tokens rising. It has one row more in memory than it keeps.
+/// Keeps the most common of the rows that come: counts falling, then tokens rising. It has one row more in memory than it keeps.
 #[derive(Drop)]
 pub struct TopRows {
     // The last in that order is at the top of the heap.
@@ -71,7 +71,7 @@ impl TopRows {
         }
     }
 
-    /// The rows that are kept, the commonest first.
+    /// The rows that are kept, the most common first.
     pub fn into_rows(self) -> Vec<(Reverse<usize>, String)>
         ensures { vec_len result ≡ heap_len self.kept }
     {

@@ -15,6 +15,7 @@ use hashbag_words_core::sources::{Opened, Source};
 use hashbag_words_core::writing::{Format, RowWriter};
 use std::alloc::{AllocError, Global};
 use std::hash::RandomState;
+use std::io;
 use std::test::Fail;
 
 // Files of counts, split at bars; whether bad lines are skipped; the merged rows, or the place of the source, the number of its line and
@@ -390,11 +391,9 @@ type Counter = TextCounter<'static, RandomState>;
 // Returns the run of what was counted. The bag is then empty.
 fn run_of(alloc: Global, counter: &mut Counter) -> Result<String, Fail> {
     let mut run = Vec::new(alloc);
-    counter.take_run(&mut run)?;
-    if counter.bag().is_empty() {
-        return Ok(String::from_utf8(run)?);
-    }
-    Err(Fail::new("a bag isn't emptied"))
+    let _bytes = io::copy(&mut counter.run()?, &mut run)?;
+    counter.end_run();
+    Ok(String::from_utf8(run)?)
 }
 
 // Returns the run of a part, or what stopped.

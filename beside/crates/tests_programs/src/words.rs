@@ -6,7 +6,8 @@ use hashbag_words_core::choice::{Order, chosen};
 use hashbag_words_core::counter::{Fed, TextCounter};
 use hashbag_words_core::errors::Fault;
 use hashbag_words_core::lines::{BadLines, Reading};
-use hashbag_words_core::merging::{add_first_row, add_rows, add_tree};
+use hashbag_words_core::merging::add_tree;
+use hashbag_words_core::row_counter::RowCounter;
 use hashbag_words_core::row_text::RowText;
 use hashbag_words_core::rows::RowForm;
 use hashbag_words_core::rule::{Pieces, Rule};
@@ -138,22 +139,11 @@ fn counts_of_text(rt: HostRuntime) -> Result<(), Fail> {
     Ok(())
 }
 
-// Adds a file in portions of two lines after its first line.
-fn add_file<S: BuildHasher + Drop>(
-    alloc: Global,
-    bag: &mut HashBag<String, S>,
-    form: RowForm,
-    file: &[u8],
-    reading: &mut Reading,
-) -> Result<(), Fault> {
-    let mut rest = file;
-    let mut more = add_first_row(alloc, bag, form, &mut rest, reading)?;
-    for _ in 0..u64::MAX {
-        if !more {
-            break;
-        }
-        more = add_rows(alloc, bag, form, &mut rest, reading, 2)?;
-    }
+// Adds a file, whose first byte is a block of its own.
+fn add_file<S: BuildHasher + Drop>(counter: &mut RowCounter<S>, file: &[u8]) -> Result<(), Fault> {
+    counter.feed(&file[..1])?;
+    counter.feed(&file[1..])?;
+    counter.end_file()?;
     Ok(())
 }
 
@@ -164,16 +154,17 @@ fn merged<S: BuildHasher + Drop>(
     file: &[u8],
     is_skipped: bool,
 ) -> Result<String, Fail> {
-    let mut bag = HashBag::with_hasher(alloc, state);
-    let mut reading = Reading::new(if is_skipped {
+    let bag = HashBag::with_hasher(alloc, state);
+    let bad_lines = if is_skipped {
         BadLines::Skipped
     } else {
         BadLines::Refused
-    });
-    match add_file(alloc, &mut bag, form, file, &mut reading) {
-        Ok(()) => written(alloc, &bag, Format::Tsv),
+    };
+    let mut counter = RowCounter::new(alloc, bag, form, bad_lines, None);
+    match add_file(&mut counter, file) {
+        Ok(()) => written(alloc, counter.bag(), Format::Tsv),
         Err(fault) => {
-            let line = reading.line;
+            let line = counter.reading().line;
             Ok(format!(in alloc; "{line}: {fault}")?)
         }
     }
