@@ -76,12 +76,60 @@ void hashbag_clear(hashbag *handle);
  * `HASHBAG_MEMORY` if an allocation fails; `HASHBAG_EMPTY`. Nothing changes then. */
 uint8_t hashbag_reserve(hashbag *handle, size_t n);
 
+/* Frees memory that the bag doesn't need, and returns 0. If an allocation of less memory would be enough for its
+ * values, it moves them there. An empty bag allocates nothing.
+ *
+ * Errors:
+ * `HASHBAG_MEMORY` if an allocation fails; `HASHBAG_EMPTY`. Nothing changes then. */
+uint8_t hashbag_shrink_to_fit(hashbag *handle);
+
 /* Returns how many distinct values the bag can have before it grows. It is 0 for an empty handle. */
 size_t hashbag_capacity(hashbag *handle);
+
+/* Puts into `copy` a bag with the same counts, limit and keys, and returns 0. The bag that `copy` had is freed. They
+ * must be two handles, not one twice.
+ *
+ * Errors:
+ * `HASHBAG_MEMORY` if an allocation fails; `HASHBAG_EMPTY` if `handle` is empty. Nothing changes then. */
+uint8_t hashbag_clone(hashbag *handle, hashbag *copy);
 
 /* Returns whether two handles have bags of one kind in which each value occurs equally often, or both are empty. They
  * must be two handles, not one twice. */
 bool hashbag_equal(hashbag *a, hashbag *b);
+
+/* ---- two bags of one kind */
+
+/* Adds all occurrences of the bag of `from` to that of `into`, and returns 0: each count is then the sum of both. The
+ * bag of `from` stays. They must be two handles, not one twice.
+ *
+ * Errors:
+ * `HASHBAG_TOO_MANY` if the total would pass the limit of `into`; `HASHBAG_MEMORY` if an allocation fails;
+ * `HASHBAG_EMPTY` if a handle is empty; `HASHBAG_KIND` if the bags are of different kinds. Nothing changes then. */
+uint8_t hashbag_merge(hashbag *into, hashbag *from);
+
+/* Keeps of each value as many as both bags have, the lesser of both counts, and returns 0. It changes the bag of
+ * `handle`, doesn't allocate, and that of `other` stays. They must be two handles, not one twice.
+ *
+ * Errors:
+ * `HASHBAG_EMPTY` if a handle is empty; `HASHBAG_KIND` if the bags are of different kinds. Nothing changes then. */
+uint8_t hashbag_keep_common(hashbag *handle, hashbag *other);
+
+/* Removes from the bag of `handle` what that of `other` has, of each value as many as there are there, or all if there
+ * are fewer, and returns 0. It doesn't allocate, and the bag of `other` stays. They must be two handles, not one
+ * twice.
+ *
+ * Errors:
+ * `HASHBAG_EMPTY` if a handle is empty; `HASHBAG_KIND` if the bags are of different kinds. Nothing changes then. */
+uint8_t hashbag_take_away(hashbag *handle, hashbag *other);
+
+/* Raises each count in the bag of `into` to the greater of the counts in both bags, and returns 0. The bag of `from`
+ * stays. They must be two handles, not one twice. It copies the bag of `from` while it runs.
+ *
+ * Errors:
+ * `HASHBAG_MEMORY` if an allocation fails; `HASHBAG_TOO_MANY` if the total of the greater counts would pass the limit
+ * of `into`; `HASHBAG_EMPTY` if a handle is empty; `HASHBAG_KIND` if the bags are of different kinds. Nothing changes
+ * then. */
+uint8_t hashbag_keep_most(hashbag *into, hashbag *from);
 
 /* ---- bags of numbers */
 
@@ -115,6 +163,9 @@ size_t hashbag_numbers_contains(hashbag *handle, uint64_t value);
 /* Removes `n` occurrences of a number, or all if there are fewer, and returns the count after. It is 0 if the handle
  * has no bag of numbers. */
 size_t hashbag_numbers_remove(hashbag *handle, uint64_t value, size_t n);
+
+/* Removes all occurrences of a number, and returns how many there were. It is 0 if the handle has no bag of numbers. */
+size_t hashbag_numbers_take_all(hashbag *handle, uint64_t value);
 
 /* Sets the count of a number to `n`, writes the count before, and returns 0. With 0 the number is removed.
  *
@@ -178,6 +229,18 @@ size_t hashbag_texts_contains(hashbag *handle, const uint8_t *value, size_t valu
  * handle has no bag of byte strings. */
 size_t hashbag_texts_remove(hashbag *handle, const uint8_t *value, size_t value_len, size_t n);
 
+/* Removes all occurrences of a byte string, and returns how many there were. It is 0 if the handle has no bag of byte
+ * strings. */
+size_t hashbag_texts_take_all(hashbag *handle, const uint8_t *value, size_t value_len);
+
+/* Sets the count of a byte string to `n`, writes the count before, and returns 0. With 0 the string is removed. The
+ * bytes are copied if the string is absent.
+ *
+ * Errors:
+ * `HASHBAG_TOO_MANY` if the total would pass the limit; `HASHBAG_MEMORY` if the string is absent and an allocation
+ * fails; `HASHBAG_EMPTY`; `HASHBAG_KIND`. Nothing changes then, and nothing is written. */
+uint8_t hashbag_texts_set_count(hashbag *handle, const uint8_t *value, size_t value_len, size_t n, size_t *before);
+
 /* ---- bags of byte strings, many at once */
 
 /* Inserts byte strings that lie one after another in `bytes`, each once, in turn, until one fails. Each begins where
@@ -207,6 +270,16 @@ size_t hashbag_texts_bytes(hashbag *handle);
  * all, in no particular order. It returns 0 if the handle has no bag of byte strings. */
 size_t hashbag_texts_read(hashbag *handle, uint8_t *bytes, size_t bytes_len, size_t *ends, size_t ends_len,
                           size_t *counts, size_t counts_len);
+
+/* ---- joins of bags of byte strings */
+
+/* Writes the byte strings of two bags, each once, as `hashbag_texts_read` does, with the count of each in the first
+ * and in the second. A bag that lacks it counts 0. The strings of the first bag are first. It writes as many as there
+ * are places for, and returns how many. With as many places as both bags have distinct strings, and bytes in all,
+ * these are all. They must be two handles, not one twice. It returns 0 if one of them has no bag of byte strings. */
+size_t hashbag_texts_outer_join(hashbag *a, hashbag *b, uint8_t *bytes, size_t bytes_len, size_t *ends,
+                                size_t ends_len, size_t *firsts, size_t firsts_len, size_t *seconds,
+                                size_t seconds_len);
 
 #ifdef __cplusplus
 }

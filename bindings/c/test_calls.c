@@ -38,16 +38,24 @@ static void wrong_handles(void) {
     CHECK(hashbag_numbers_insert(&empty, 5, 1, &word) == HASHBAG_EMPTY && hashbag_numbers_insert(&texts, 5, 1, &word) == HASHBAG_KIND);
     CHECK(hashbag_numbers_set_count(&empty, 5, 1, &word) == HASHBAG_EMPTY && hashbag_numbers_set_count(&texts, 5, 1, &word) == HASHBAG_KIND);
     CHECK(hashbag_texts_insert(&empty, TEXT("a"), 1, &word) == HASHBAG_EMPTY && hashbag_texts_insert(&numbers, TEXT("a"), 1, &word) == HASHBAG_KIND);
+    CHECK(hashbag_texts_set_count(&empty, TEXT("a"), 1, &word) == HASHBAG_EMPTY && hashbag_texts_set_count(&numbers, TEXT("a"), 1, &word) == HASHBAG_KIND);
     CHECK(word == 77);
     CHECK(hashbag_numbers_insert_all(&empty, &value, 1, &word) == HASHBAG_EMPTY && word == 0);
     CHECK(hashbag_numbers_insert_all(&texts, &value, 1, &word) == HASHBAG_KIND && word == 0);
     CHECK(hashbag_texts_insert_all(&empty, TEXT("a"), ends, 1, &word) == HASHBAG_EMPTY && hashbag_texts_insert_all(&numbers, TEXT("a"), ends, 1, &word) == HASHBAG_KIND);
     CHECK(hashbag_texts_insert_split(&empty, TEXT("a"), ',', &word) == HASHBAG_EMPTY && hashbag_texts_insert_split(&numbers, TEXT("a"), ',', &word) == HASHBAG_KIND);
-    CHECK(hashbag_set_limit(&empty, 1) == HASHBAG_EMPTY && hashbag_reserve(&empty, 1) == HASHBAG_EMPTY);
+    CHECK(hashbag_set_limit(&empty, 1) == HASHBAG_EMPTY && hashbag_reserve(&empty, 1) == HASHBAG_EMPTY && hashbag_shrink_to_fit(&empty) == HASHBAG_EMPTY);
+    CHECK(hashbag_clone(&empty, &texts) == HASHBAG_EMPTY && hashbag_limit(&texts) == 9);
+    CHECK(hashbag_merge(&empty, &numbers) == HASHBAG_EMPTY && hashbag_merge(&texts, &empty) == HASHBAG_EMPTY && hashbag_merge(&numbers, &texts) == HASHBAG_KIND);
+    CHECK(hashbag_keep_common(&empty, &texts) == HASHBAG_EMPTY && hashbag_keep_common(&numbers, &empty) == HASHBAG_EMPTY && hashbag_keep_common(&texts, &numbers) == HASHBAG_KIND);
+    CHECK(hashbag_keep_most(&empty, &texts) == HASHBAG_EMPTY && hashbag_keep_most(&texts, &empty) == HASHBAG_EMPTY && hashbag_keep_most(&numbers, &texts) == HASHBAG_KIND);
+    CHECK(hashbag_take_away(&empty, &texts) == HASHBAG_EMPTY && hashbag_take_away(&texts, &empty) == HASHBAG_EMPTY && hashbag_take_away(&numbers, &texts) == HASHBAG_KIND);
+    CHECK(hashbag_numbers_take_all(&empty, 5) == 0 && hashbag_numbers_take_all(&texts, 5) == 0 && hashbag_texts_take_all(&numbers, TEXT("a")) == 0);
     CHECK(hashbag_numbers_contains(&empty, 5) == 0 && hashbag_numbers_contains(&texts, 5) == 0 && hashbag_texts_contains(&numbers, TEXT("a")) == 0);
     CHECK(hashbag_numbers_remove(&texts, 5, 1) == 0 && hashbag_texts_remove(&numbers, TEXT("a"), 1) == 0 && hashbag_texts_bytes(&numbers) == 0);
     CHECK(hashbag_numbers_read(&texts, &value, 1, counts, 1) == 0 && hashbag_texts_read(&numbers, &byte, 1, ends, 1, counts, 1) == 0);
     CHECK(hashbag_numbers_outer_join(&numbers, &texts, &value, 1, &word, 1, counts, 1) == 0 && hashbag_numbers_outer_join(&empty, &numbers, &value, 1, &word, 1, counts, 1) == 0);
+    CHECK(hashbag_texts_outer_join(&texts, &numbers, &byte, 1, ends, 1, &word, 1, counts, 1) == 0 && hashbag_texts_outer_join(&texts, &empty, &byte, 1, ends, 1, &word, 1, counts, 1) == 0);
     CHECK(hashbag_len(&empty) == 0 && hashbag_set_len(&empty) == 0 && hashbag_limit(&empty) == 0 && hashbag_capacity(&empty) == 0);
     CHECK(!hashbag_equal(&numbers, &texts) && !hashbag_equal(&empty, &texts) && !hashbag_equal(&numbers, &empty));
     hashbag other = HASHBAG_NONE;
@@ -132,6 +140,14 @@ static void numbers(void) {
     CHECK(joined == distinct + 1 && values[distinct] == 1 && counts[distinct] == 0 && seconds[distinct] == 7);
     for (size_t i = 0; i < distinct; i++) CHECK(counts[i] == hashbag_numbers_contains(&bag, values[i]) && seconds[i] == counts[i] + 1);
     CHECK(hashbag_numbers_outer_join(&bag, &twin, values, 4, counts, 3, seconds, 2) == 2);
+    CHECK(hashbag_clone(&bag, &twin) == HASHBAG_OK && hashbag_equal(&bag, &twin) && hashbag_limit(&twin) == MOST && hashbag_len(&twin) == sum);
+    CHECK(hashbag_reserve(&twin, 20000) == HASHBAG_OK && hashbag_shrink_to_fit(&twin) == HASHBAG_OK && hashbag_capacity(&twin) < 20000 && hashbag_equal(&bag, &twin));
+    CHECK(hashbag_numbers_read(&bag, values, distinct, counts, distinct) == distinct);
+    for (size_t i = 0; i < distinct; i++) {
+        CHECK(hashbag_numbers_take_all(&twin, values[i]) == counts[i] && hashbag_numbers_take_all(&twin, values[i]) == 0);
+        CHECK(hashbag_set_len(&twin) == distinct - 1 - i && hashbag_numbers_contains(&bag, values[i]) == counts[i]);
+    }
+    CHECK(hashbag_len(&twin) == 0 && hashbag_shrink_to_fit(&twin) == HASHBAG_OK && hashbag_capacity(&twin) == 0);
     CHECK(hashbag_numbers_new(&twin, 3) == HASHBAG_OK && hashbag_numbers_insert_all(&twin, values, 9, &done) == HASHBAG_TOO_MANY && done == 3);
     free(values), free(counts), free(seconds);
     hashbag_free(&bag), hashbag_free(&twin);
@@ -177,10 +193,85 @@ static void texts(void) {
     hashbag_free(&bag);
 }
 
+/* Counts of byte strings that are set, copies of bags, and joins, found by hand. */
+static void two_bags_of_texts(void) {
+    hashbag bag = HASHBAG_NONE, twin = HASHBAG_NONE;
+    size_t before, ends[9], firsts[9], seconds[9];
+    uint8_t bytes[9];
+    CHECK(hashbag_texts_new_keyed(&bag, 9, 1, 2) == HASHBAG_OK && hashbag_texts_set_count(&bag, TEXT("bb"), 5, &before) == HASHBAG_OK && before == 0);
+    CHECK(hashbag_texts_set_count(&bag, TEXT("bb"), 2, &before) == HASHBAG_OK && before == 5 && hashbag_texts_contains(&bag, TEXT("bb")) == 2);
+    CHECK(hashbag_texts_set_count(&bag, TEXT("bb"), 10, &before) == HASHBAG_TOO_MANY && before == 5 && hashbag_texts_contains(&bag, TEXT("bb")) == 2);
+    CHECK(hashbag_texts_set_count(&bag, TEXT("bb"), 9, &before) == HASHBAG_OK && before == 2 && hashbag_len(&bag) == 9);
+    CHECK(hashbag_texts_set_count(&bag, TEXT("bb"), 0, &before) == HASHBAG_OK && before == 9 && hashbag_set_len(&bag) == 0);
+    CHECK(hashbag_texts_insert(&bag, TEXT("a"), 2, &before) == HASHBAG_OK && hashbag_texts_insert(&bag, TEXT(""), 3, &before) == HASHBAG_OK);
+    CHECK(hashbag_clone(&bag, &twin) == HASHBAG_OK && hashbag_equal(&bag, &twin) && hashbag_limit(&twin) == 9);
+    CHECK(hashbag_texts_take_all(&twin, TEXT("a")) == 2 && hashbag_texts_take_all(&twin, TEXT("a")) == 0 && hashbag_texts_contains(&bag, TEXT("a")) == 2);
+    CHECK(hashbag_texts_insert(&twin, TEXT("ccc"), 1, &before) == HASHBAG_OK);
+    CHECK(hashbag_texts_outer_join(&bag, &twin, bytes, 4, ends, 3, firsts, 3, seconds, 3) == 3);
+    CHECK(!memcmp(bytes, "accc", 4) && ends[2] == 4 && firsts[2] == 0 && seconds[2] == 1);
+    CHECK(ends[0] == 0 ? firsts[0] == 3 && seconds[0] == 3 && ends[1] == 1 : ends[0] == 1 && firsts[0] == 2 && seconds[0] == 0 && ends[1] == 1);
+    CHECK(ends[0] == 0 ? firsts[1] == 2 && seconds[1] == 0 : firsts[1] == 3 && seconds[1] == 3);
+    CHECK(hashbag_texts_outer_join(&bag, &twin, bytes, 3, ends, 9, firsts, 9, seconds, 9) == 2);
+    CHECK(hashbag_texts_outer_join(&bag, &twin, bytes, 9, ends, 9, firsts, 1, seconds, 9) == 1);
+    CHECK(hashbag_shrink_to_fit(&bag) == HASHBAG_OK && hashbag_len(&bag) == 5);
+    hashbag_free(&bag), hashbag_free(&twin);
+}
+
+/* Sums, common parts and differences of random bags of numbers, beside arrays of counts. */
+static void combined_numbers(void) {
+    enum { VALUES = 300 };
+    for (int round = 0; round < 200; round++) {
+        hashbag a = HASHBAG_NONE, b = HASHBAG_NONE, sum = HASHBAG_NONE, common = HASHBAG_NONE, most = HASHBAG_NONE, less = HASHBAG_NONE;
+        size_t x[VALUES] = {0}, y[VALUES] = {0}, before, total = 0;
+        CHECK(hashbag_numbers_new(&a, SIZE_MAX) == HASHBAG_OK && hashbag_numbers_new_keyed(&b, SIZE_MAX, draw(9), draw(9)) == HASHBAG_OK);
+        uint64_t m = draw(VALUES) + 1, n = draw(VALUES) + 1;
+        for (int i = 0; i < 200; i++) {
+            uint64_t v = draw(m), w = draw(n);
+            CHECK(hashbag_numbers_insert(&a, scattered(v), 1, &before) == HASHBAG_OK && hashbag_numbers_insert(&b, scattered(w), 2, &before) == HASHBAG_OK);
+            x[v]++, y[w] += 2, total += 3;
+        }
+        CHECK(hashbag_clone(&a, &sum) == HASHBAG_OK && hashbag_clone(&a, &common) == HASHBAG_OK && hashbag_clone(&a, &less) == HASHBAG_OK);
+        CHECK(hashbag_clone(&a, &most) == HASHBAG_OK && hashbag_keep_most(&most, &b) == HASHBAG_OK);
+        CHECK(hashbag_set_limit(&sum, total - 1) == HASHBAG_OK && hashbag_merge(&sum, &b) == HASHBAG_TOO_MANY && hashbag_equal(&sum, &a));
+        CHECK(hashbag_set_limit(&sum, total) == HASHBAG_OK && hashbag_merge(&sum, &b) == HASHBAG_OK && hashbag_len(&sum) == total);
+        CHECK(hashbag_keep_common(&common, &b) == HASHBAG_OK && hashbag_take_away(&less, &b) == HASHBAG_OK);
+        for (uint64_t v = 0; v < VALUES; v++) {
+            CHECK(hashbag_numbers_contains(&sum, scattered(v)) == x[v] + y[v] && hashbag_numbers_contains(&b, scattered(v)) == y[v]);
+            CHECK(hashbag_numbers_contains(&common, scattered(v)) == (x[v] < y[v] ? x[v] : y[v]));
+            CHECK(hashbag_numbers_contains(&most, scattered(v)) == (x[v] < y[v] ? y[v] : x[v]));
+            CHECK(hashbag_numbers_contains(&less, scattered(v)) == (x[v] < y[v] ? 0 : x[v] - y[v]));
+        }
+        size_t greatest = hashbag_len(&most);
+        CHECK(hashbag_clone(&a, &most) == HASHBAG_OK && (greatest == 200 || hashbag_set_limit(&most, greatest - 1) == HASHBAG_OK));
+        CHECK(hashbag_keep_most(&most, &b) == (greatest == 200 ? HASHBAG_OK : HASHBAG_TOO_MANY) && hashbag_equal(&most, &a) && hashbag_len(&b) == 400);
+        hashbag_free(&a), hashbag_free(&b), hashbag_free(&sum), hashbag_free(&common), hashbag_free(&most), hashbag_free(&less);
+    }
+}
+
+static void combined_texts(void) {
+    hashbag a = HASHBAG_NONE, b = HASHBAG_NONE, made = HASHBAG_NONE;
+    size_t done;
+    CHECK(hashbag_texts_new_keyed(&a, SIZE_MAX, 1, 2) == HASHBAG_OK && hashbag_texts_insert_split(&a, TEXT("x,x,x,,y"), ',', &done) == HASHBAG_OK);
+    CHECK(hashbag_texts_new_keyed(&b, 5, 3, 4) == HASHBAG_OK && hashbag_texts_insert_split(&b, TEXT("x,,,z,z"), ',', &done) == HASHBAG_OK);
+    CHECK(hashbag_clone(&a, &made) == HASHBAG_OK && hashbag_merge(&made, &b) == HASHBAG_OK && hashbag_len(&made) == 10 && hashbag_set_len(&made) == 4);
+    CHECK(hashbag_texts_contains(&made, TEXT("x")) == 4 && hashbag_texts_contains(&made, TEXT("")) == 3 && hashbag_texts_contains(&made, TEXT("z")) == 2);
+    CHECK(hashbag_clone(&a, &made) == HASHBAG_OK && hashbag_keep_common(&made, &b) == HASHBAG_OK && hashbag_len(&made) == 2 && hashbag_set_len(&made) == 2);
+    CHECK(hashbag_texts_contains(&made, TEXT("x")) == 1 && hashbag_texts_contains(&made, TEXT("")) == 1);
+    CHECK(hashbag_clone(&a, &made) == HASHBAG_OK && hashbag_take_away(&made, &b) == HASHBAG_OK && hashbag_len(&made) == 3 && hashbag_set_len(&made) == 2);
+    CHECK(hashbag_texts_contains(&made, TEXT("x")) == 2 && hashbag_texts_contains(&made, TEXT("y")) == 1);
+    CHECK(hashbag_clone(&a, &made) == HASHBAG_OK && hashbag_keep_most(&made, &b) == HASHBAG_OK && hashbag_len(&made) == 8 && hashbag_set_len(&made) == 4);
+    CHECK(hashbag_texts_contains(&made, TEXT("x")) == 3 && hashbag_texts_contains(&made, TEXT("")) == 2 && hashbag_texts_contains(&made, TEXT("z")) == 2);
+    CHECK(hashbag_merge(&b, &a) == HASHBAG_TOO_MANY && hashbag_len(&b) == 5 && hashbag_len(&a) == 5);
+    hashbag_free(&a), hashbag_free(&b), hashbag_free(&made);
+}
+
 int main(void) {
     wrong_handles();
     numbers();
     texts();
+    two_bags_of_texts();
+    combined_numbers();
+    combined_texts();
     puts("test_calls: ok");
     return 0;
 }

@@ -19,11 +19,13 @@ struct block {
 };
 
 static char none[16] __attribute__((aligned(16)));
-static long left = -1, live = 0, asked = 0;
+static long left = -1, live = 0, asked = 0, hits = 0;
 
 static int is_refused(void) {
     asked++;
-    return left >= 0 && left-- == 0;
+    int is = left >= 0 && left-- == 0;
+    hits += is;
+    return is;
 }
 
 static struct block given(void *p) {
@@ -58,6 +60,34 @@ static int fails(uint8_t code) {
     return code != HASHBAG_OK;
 }
 
+/* A bag that is copied over another one, and one that is shrunk. */
+static void copies(hashbag *bag) {
+    hashbag copy = HASHBAG_NONE;
+    size_t total = hashbag_len(bag);
+    fails(hashbag_numbers_new(&copy, 7));
+    if (fails(hashbag_clone(bag, &copy))) CHECK(hashbag_limit(&copy) == (copy.at ? 7 : 0));
+    else CHECK(hashbag_equal(bag, &copy) && hashbag_len(&copy) == total);
+    if (copy.at) {
+        size_t before = hashbag_len(&copy);
+        long hits_before = hits;
+        int is_unchanged = fails(hashbag_merge(&copy, bag));
+        CHECK(hashbag_len(&copy) == before + (is_unchanged ? 0 : total));
+        /* A merge that was refused one table may go on with a smaller one. */
+        if (!is_unchanged) refused += (int)(hits - hits_before);
+        before = hashbag_len(&copy);
+        hits_before = hits;
+        is_unchanged = fails(hashbag_keep_most(&copy, bag));
+        CHECK(is_unchanged ? hashbag_len(&copy) == before : hashbag_len(&copy) >= before);
+        if (!is_unchanged) refused += (int)(hits - hits_before);
+    }
+    CHECK(hashbag_len(bag) == total);
+    fails(hashbag_reserve(bag, 9000));
+    size_t capacity = hashbag_capacity(bag);
+    if (fails(hashbag_shrink_to_fit(bag))) CHECK(hashbag_capacity(bag) == capacity);
+    CHECK(hashbag_len(bag) == total && hashbag_capacity(bag) <= capacity);
+    hashbag_free(&copy);
+}
+
 static void numbers(void) {
     hashbag bag = HASHBAG_NONE;
     size_t before, total = 0, done;
@@ -74,6 +104,7 @@ static void numbers(void) {
     uint64_t values[3] = {1, 2, 3};
     fails(hashbag_numbers_insert_all(&bag, values, 3, &done));
     CHECK(hashbag_len(&bag) == total + done);
+    copies(&bag);
     hashbag_free(&bag);
 }
 
@@ -93,7 +124,11 @@ static void texts(void) {
     total += done;
     CHECK(hashbag_len(&bag) == total);
     fails(hashbag_texts_insert_split(&bag, (const uint8_t *)"dd,ee,ff", 8, ',', &done));
-    CHECK(hashbag_len(&bag) == total + done);
+    total += done;
+    CHECK(hashbag_len(&bag) == total);
+    if (!fails(hashbag_texts_set_count(&bag, (const uint8_t *)"gg", 2, 3, &before))) total += 3;
+    CHECK(hashbag_len(&bag) == total);
+    copies(&bag);
     hashbag_free(&bag);
 }
 

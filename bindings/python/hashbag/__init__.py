@@ -28,6 +28,8 @@ from ._library import insert as _insert
 from ._library import is_fast as _is_fast
 from ._library import library as _library
 from ._library import remove as _remove
+from ._library import set_count as _set_count
+from ._library import take_all as _take_all
 
 __all__ = ["BagError", "HashBag", "NO_LIMIT", "is_fast"]
 
@@ -72,6 +74,15 @@ def _count(n: int) -> int:
     if not 0 <= n <= NO_LIMIT:
         raise ValueError("a count is from 0 to 2**64 - 1")
     return n
+
+
+def _read(n: int, size: int, lists: int, call: Callable[..., int]) -> list[Any]:
+    """What a call writes that is given places for `size` bytes, n ends, and n numbers in each of some lists: the texts, and these lists."""
+    text, words = bytearray(size + 1), [array("Q", bytes(8 * n + 8)) for _ in range(lists + 1)]
+    at = ctypes.addressof(ctypes.c_char.from_buffer(text))
+    n = call(at, size, *(place for numbers in words for place in (numbers.buffer_info()[0], n)))
+    raw, stops = bytes(text), words[0][:n].tolist()
+    return [[raw[a:b] for a, b in zip([0, *stops], stops)], *(numbers[:n].tolist() for numbers in words[1:])]
 
 
 class HashBag(Generic[K]):
@@ -124,15 +135,13 @@ class HashBag(Generic[K]):
         return _count_of(self._at(), key)
 
     def __setitem__(self, key: Key, n: int) -> None:
-        before, n = self[key], _count(n)
-        if n > before:
-            self.insert(key, n - before)
-        elif n < before:
-            self.remove(key, before - n)
+        before = _set_count(self._at(), key, _count(n))
+        if before < 0:
+            _done(-before)
 
     def __delitem__(self, key: Key) -> None:
         """Removes all occurrences of a key. As of a Counter, an absent key is no error."""
-        self.remove(key, NO_LIMIT)
+        _take_all(self._at(), key)
 
     def __contains__(self, key: object) -> bool:
         return isinstance(key, (str, bytes)) and self[key] > 0
@@ -143,9 +152,7 @@ class HashBag(Generic[K]):
 
     def pop(self, key: Key) -> int:
         """Removes all occurrences of a key, and returns how many there were."""
-        before = self[key]
-        del self[key]
-        return before
+        return _take_all(self._at(), key)
 
     # ---- the whole
 
@@ -177,14 +184,19 @@ class HashBag(Generic[K]):
         """Makes room for n more distinct keys."""
         _done(_library.hashbag_reserve(self._at(), _count(n)))
 
+    def shrink_to_fit(self) -> None:
+        """Frees memory that the bag doesn't need."""
+        _done(_library.hashbag_shrink_to_fit(self._at()))
+
+    def _sizes(self) -> tuple[int, int]:
+        """How many distinct keys there are, and how many bytes these have."""
+        return len(self), _library.hashbag_texts_bytes(self._at())
+
     def _pairs(self) -> tuple[list[bytes], list[int]]:
         """The keys as bytes, and their counts."""
-        n, size = len(self), _library.hashbag_texts_bytes(self._at())
-        text, ends, counts = bytearray(size + 1), array("Q", bytes(8 * n + 8)), array("Q", bytes(8 * n + 8))
-        at = ctypes.addressof(ctypes.c_char.from_buffer(text))
-        n = _library.hashbag_texts_read(self._at(), at, size, ends.buffer_info()[0], n, counts.buffer_info()[0], n)
-        raw, stops = bytes(text), ends[:n].tolist()
-        return [raw[a:b] for a, b in zip([0, *stops], stops)], counts[:n].tolist()
+        n, size = self._sizes()
+        keys, counts = _read(n, size, 1, lambda *places: _library.hashbag_texts_read(self._at(), *places))
+        return keys, counts
 
     def items(self) -> list[tuple[K, int]]:
         """Returns each distinct key with its count, in no particular order."""
@@ -219,11 +231,11 @@ class HashBag(Generic[K]):
     def update(self, items: Iterable[Any] | Mapping[Any, int] = ()) -> None:
         """Inserts each key of an iterable once, or each of a mapping as often as it says.
 
-        Raises BagError at the first that fails. Those before it stay.
+        Raises BagError at the first that fails. Those before it stay, but of a HashBag none.
         """
         if isinstance(items, HashBag):
-            for text, n in zip(*items._pairs()):
-                self.insert(text, n)
+            other = self._other(items)
+            _done(_library.hashbag_merge(self._at(), other._at()))
         elif isinstance(items, Mapping):
             for key, n in items.items():
                 self.insert(key, n)
@@ -245,8 +257,9 @@ class HashBag(Generic[K]):
     def subtract(self, items: Iterable[Any] | Mapping[Any, int] = ()) -> None:
         """Removes each key of an iterable once, or each of a mapping as often as it says. No count gets below 0."""
         if isinstance(items, HashBag):
-            items = dict(zip(*items._pairs()))
-        if isinstance(items, Mapping):
+            other = self._other(items)
+            _done(_library.hashbag_take_away(self._at(), other._at()))
+        elif isinstance(items, Mapping):
             for key, n in items.items():
                 self.remove(key, n)
         else:
@@ -255,16 +268,15 @@ class HashBag(Generic[K]):
 
     def copy(self) -> HashBag[K]:
         """Returns a bag with the same counts, limit and decoder."""
-        return self._made(zip(*self._pairs()))
+        made: HashBag[K] = HashBag(decode=self._decode)
+        _done(_library.hashbag_clone(self._at(), made._at()))
+        return made
 
     __copy__ = copy
 
-    def _made(self, pairs: Iterable[tuple[bytes, int]]) -> HashBag[K]:
-        made: HashBag[K] = HashBag(limit=self.limit, decode=self._decode)
-        for text, n in pairs:
-            if n:
-                made.insert(text, n)
-        return made
+    def _other(self, other: HashBag[K]) -> HashBag[K]:
+        """Another bag, or a copy if it is this one: the two handles of a call have to be two. The caller keeps it in a variable during the call."""
+        return self.copy() if self is other else other
 
     # ---- two bags
 
@@ -280,22 +292,29 @@ class HashBag(Generic[K]):
         return made
 
     def __sub__(self, other: HashBag[K]) -> HashBag[K]:
-        return self._made((text, max(n - other[text], 0)) for text, n in zip(*self._pairs()))
+        made = self.copy()
+        made.subtract(other)
+        return made
 
     def __and__(self, other: HashBag[K]) -> HashBag[K]:
-        return self._made((text, min(n, other[text])) for text, n in zip(*self._pairs()))
+        made = self.copy()
+        _done(_library.hashbag_keep_common(made._at(), other._at()))
+        return made
 
     def __or__(self, other: HashBag[K]) -> HashBag[K]:
         made = self.copy()
-        for text, n in zip(*other._pairs()):
-            made[text] = max(n, made[text])
+        _done(_library.hashbag_keep_most(made._at(), other._at()))
         return made
 
     def outer_join(self, other: HashBag[K]) -> list[tuple[K, int, int]]:
         """Returns each key of either bag once, with its count here and there, those of this bag first."""
         decode: Callable[[bytes], Any] = self._decode or bytes
-        joined = [(decode(text), n, other[text]) for text, n in zip(*self._pairs())]
-        return joined + [(decode(text), 0, n) for text, n in zip(*other._pairs()) if text not in self]
+        # The two handles of a call have to be two.
+        if self is other:
+            return [(decode(text), n, n) for text, n in zip(*self._pairs())]
+        (n, size), (m, more) = self._sizes(), other._sizes()
+        joined = _read(n + m, size + more, 2, lambda *places: _library.hashbag_texts_outer_join(self._at(), other._at(), *places))
+        return [(decode(text), first, second) for text, first, second in zip(*joined)]
 
     def difference(self, other: HashBag[K]) -> list[tuple[K, int]]:
         """Returns each key that this bag has more often than the other, with how many more."""

@@ -30,13 +30,20 @@ for _name, _arguments, _result in (
     ("hashbag_set_limit", [HANDLE, SIZE], BYTE),
     ("hashbag_clear", [HANDLE], None),
     ("hashbag_reserve", [HANDLE, SIZE], BYTE),
+    ("hashbag_shrink_to_fit", [HANDLE], BYTE),
     ("hashbag_capacity", [HANDLE], SIZE),
+    ("hashbag_clone", [HANDLE, HANDLE], BYTE),
     ("hashbag_equal", [HANDLE, HANDLE], ctypes.c_bool),
+    ("hashbag_merge", [HANDLE, HANDLE], BYTE),
+    ("hashbag_keep_common", [HANDLE, HANDLE], BYTE),
+    ("hashbag_keep_most", [HANDLE, HANDLE], BYTE),
+    ("hashbag_take_away", [HANDLE, HANDLE], BYTE),
     ("hashbag_numbers_new", [HANDLE, SIZE], BYTE),
     ("hashbag_numbers_new_keyed", [HANDLE, SIZE, WORD, WORD], BYTE),
     ("hashbag_numbers_insert", [HANDLE, WORD, SIZE, ARRAY], BYTE),
     ("hashbag_numbers_contains", [HANDLE, WORD], SIZE),
     ("hashbag_numbers_remove", [HANDLE, WORD, SIZE], SIZE),
+    ("hashbag_numbers_take_all", [HANDLE, WORD], SIZE),
     ("hashbag_numbers_set_count", [HANDLE, WORD, SIZE, ARRAY], BYTE),
     ("hashbag_numbers_insert_all", [HANDLE, ARRAY, SIZE, ARRAY], BYTE),
     ("hashbag_numbers_read", [HANDLE, ARRAY, SIZE, ARRAY, SIZE], SIZE),
@@ -46,20 +53,24 @@ for _name, _arguments, _result in (
     ("hashbag_texts_insert", [HANDLE, BYTES, SIZE, SIZE, ARRAY], BYTE),
     ("hashbag_texts_contains", [HANDLE, BYTES, SIZE], SIZE),
     ("hashbag_texts_remove", [HANDLE, BYTES, SIZE, SIZE], SIZE),
+    ("hashbag_texts_take_all", [HANDLE, BYTES, SIZE], SIZE),
+    ("hashbag_texts_set_count", [HANDLE, BYTES, SIZE, SIZE, ARRAY], BYTE),
     ("hashbag_texts_insert_all", [HANDLE, BYTES, SIZE, ARRAY, SIZE, ARRAY], BYTE),
     ("hashbag_texts_insert_split", [HANDLE, BYTES, SIZE, BYTE, ARRAY], BYTE),
     ("hashbag_texts_bytes", [HANDLE], SIZE),
     ("hashbag_texts_read", [HANDLE, ARRAY, SIZE, ARRAY, SIZE, ARRAY, SIZE], SIZE),
+    ("hashbag_texts_outer_join", [HANDLE, HANDLE, ARRAY, SIZE, ARRAY, SIZE, ARRAY, SIZE, ARRAY, SIZE], SIZE),
 ):
     _function = getattr(library, _name)
     _function.argtypes, _function.restype = _arguments, _result
 
-# The calls on one key: `insert(handle, key, n)`, which returns the count before or the negative of an error's number, `remove(handle, key, n)` and
-# `count(handle, key)`. By `_fast.c`, if it was built; otherwise by ctypes.
+# The calls on one key: `insert(handle, key, n)` and `set_count(handle, key, n)`, which return the count before or the negative of an error's number,
+# `remove(handle, key, n)`, `take_all(handle, key)` and `count(handle, key)`. By `_fast.c`, if it was built; otherwise by ctypes.
 try:
-    from ._fast import count, insert, remove, use  # type: ignore[import-not-found]
+    from ._fast import count, insert, remove, set_count, take_all, use  # type: ignore[import-not-found]
 
-    use(*(ctypes.cast(getattr(library, f"hashbag_texts_{_call}"), ctypes.c_void_p).value for _call in ("insert", "remove", "contains")))
+    _calls = ("insert", "set_count", "remove", "take_all", "contains")
+    use(*(ctypes.cast(getattr(library, f"hashbag_texts_{_call}"), ctypes.c_void_p).value for _call in _calls))
     is_fast = True
 except ImportError:
     is_fast = False
@@ -76,6 +87,14 @@ except ImportError:
     def insert(handle: int, key: "str | bytes", n: int) -> int:
         text = _bytes(key)
         return -library.hashbag_texts_insert(handle, text, len(text), n, _at_before) or _before.value
+
+    def set_count(handle: int, key: "str | bytes", n: int) -> int:
+        text = _bytes(key)
+        return -library.hashbag_texts_set_count(handle, text, len(text), n, _at_before) or _before.value
+
+    def take_all(handle: int, key: "str | bytes") -> int:
+        text = _bytes(key)
+        return library.hashbag_texts_take_all(handle, text, len(text))
 
     def remove(handle: int, key: "str | bytes", n: int) -> int:
         text = _bytes(key)

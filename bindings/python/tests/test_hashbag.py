@@ -59,6 +59,7 @@ class OneBag(unittest.TestCase):
             self.assertEqual(twin, self.bag)
             twin.insert("x")
             self.assertNotEqual(twin, self.bag)
+            self.assertEqual((self.bag["x"], twin.pop("the"), self.bag["the"]), (0, 3, 3))
 
     def test_repr(self):
         self.assertEqual(repr(HashBag("aab")), "HashBag({'a': 2, 'b': 1})")
@@ -93,7 +94,9 @@ class Limits(unittest.TestCase):
         self.assertEqual((caught.exception.number, str(caught.exception), bag.total()), (2, "total past its end", 3))
         self.assertRaises(BagError, setattr, bag, "limit", 2)
         bag.limit = 4
-        bag.insert("d")
+        self.assertRaises(BagError, bag.__setitem__, "a", 3)
+        self.assertEqual(bag["a"], 1)
+        bag["d"] = 1
         self.assertEqual((bag.limit, bag.total(), bag.copy().limit), (4, 4, 4))
         self.assertEqual(HashBag().limit, NO_LIMIT)
 
@@ -101,6 +104,9 @@ class Limits(unittest.TestCase):
         bag = HashBag()
         bag.reserve(1000)
         self.assertRaises(MemoryError, bag.reserve, 2**63)
+        bag.insert("a")
+        bag.shrink_to_fit()
+        self.assertEqual(bag.items(), [("a", 1)])
 
     def test_another_thread(self):
         bag, raised = HashBag("a"), []
@@ -162,10 +168,28 @@ class TwoBags(unittest.TestCase):
                 self.assertEqual(dict(made.items()), dict(wanted))
             self.assertEqual(a == b, c == d)
 
+    def test_a_bag_with_itself(self):
+        for made, counts in ((self.a + self.a, {"a": 6, "b": 2}), (self.a - self.a, {}), (self.a & self.a, {"a": 3, "b": 1}), (self.a | self.a, {"a": 3, "b": 1})):
+            self.assertEqual(dict(made.items()), counts)
+        self.a.update(self.a)
+        self.assertEqual(dict(self.a.items()), {"a": 6, "b": 2})
+        self.a.subtract(self.a)
+        self.assertEqual(dict(self.a.items()), {})
+
+    def test_an_update_by_a_bag_is_whole_or_nothing(self):
+        self.a.limit = 7
+        self.assertRaises(BagError, self.a.update, self.b)
+        self.assertEqual(dict(self.a.items()), {"a": 3, "b": 1})
+        self.assertEqual((self.a | self.b).limit, 7)
+
     def test_joins(self):
         self.assertEqual(sorted(self.a.outer_join(self.b)), [("a", 3, 1), ("b", 1, 2), ("c", 0, 1)])
         self.assertEqual(self.a.difference(self.b), [("a", 2)])
         self.assertEqual(self.b.not_in(self.a), [("c", 1)])
+        self.assertEqual(sorted(self.a.outer_join(self.a)), [("a", 3, 3), ("b", 1, 1)])
+        self.assertEqual(HashBag().outer_join(HashBag()), [])
+        texts = HashBag([b"\xff", b""], decode=None)
+        self.assertEqual(sorted(texts.outer_join(HashBag([b"\xff\xff", b""], decode=None))), [(b"", 1, 1), (b"\xff", 1, 0), (b"\xff\xff", 0, 1)])
 
     def test_equality(self):
         self.assertEqual(self.a, self.a)

@@ -24,7 +24,7 @@ impl<'a, T: Value, S: BuildHasher> Entry<'a, T, S> {
         if before > 0 {
             let mut count = before;
             f(&mut count);
-            panics(self.bag.set(&self.value, before, count));
+            panics(self.bag.set(&self.value, count));
         }
         self
     }

@@ -1,17 +1,17 @@
 //! What a bag is by std's traits.
-use crate::{error::panics, sys, Bytes, HashBag, IntoIter, Iter, Value};
+use crate::error::{done, panics};
+use crate::{sys, Bytes, HashBag, IntoIter, Iter, Value};
 use std::borrow::Borrow;
+use std::cell::UnsafeCell;
 use std::fmt;
 use std::hash::BuildHasher;
 use std::ops::Index;
 
-impl<T: Value, S: BuildHasher + Clone> Clone for HashBag<T, S> {
+impl<T, S: Clone> Clone for HashBag<T, S> {
     fn clone(&self) -> Self {
-        let mut made = HashBag::with_limit(self.limit(), self.hasher().clone());
-        made.reserve(self.set_len());
-        for (value, count) in self.pairs() {
-            made.insert_many(value, count);
-        }
+        let made = HashBag { handle: UnsafeCell::new(sys::Handle::NONE), lent: UnsafeCell::new(Vec::new()), hasher: self.hasher.clone() };
+        // SAFETY: the two handles of the call are two.
+        panics(done(unsafe { sys::hashbag_clone(self.at(), made.at()) }));
         made
     }
 }

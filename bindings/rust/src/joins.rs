@@ -14,15 +14,16 @@ impl<T: Value, S: BuildHasher> HashBag<T, S> {
         if T::IS_NUMBER {
             return self.joined_numbers(other);
         }
-        let (mut pairs, alone) = (self.pairs(), other.pairs());
-        let mut counts: Vec<usize> = pairs.iter().map(|pair| other.count(&pair.0)).collect();
-        for (value, count) in alone {
-            if self.count(&value) == 0 {
-                pairs.push((value, 0));
-                counts.push(count);
-            }
-        }
-        (pairs, counts)
+        let n = self.set_len() + other.set_len();
+        let size = unsafe { sys::hashbag_texts_bytes(self.at()) + sys::hashbag_texts_bytes(other.at()) };
+        let (mut bytes, mut ends, mut firsts, mut seconds) = (vec![0u8; size], vec![0usize; n], vec![0usize; n], vec![0usize; n]);
+        let (ends_at, firsts_at, seconds_at) = (ends.as_mut_ptr(), firsts.as_mut_ptr(), seconds.as_mut_ptr());
+        // SAFETY: the handles are two, and the arrays have `size`, n, n and n places.
+        let n = unsafe {
+            sys::hashbag_texts_outer_join(self.at(), other.at(), bytes.as_mut_ptr(), size, ends_at, n, firsts_at, n, seconds_at, n)
+        };
+        seconds.truncate(n);
+        (Self::pairs_of(&bytes, &ends[..n], firsts), seconds)
     }
 
     fn joined_numbers<S2: BuildHasher>(&self, other: &HashBag<T, S2>) -> (Vec<(T, usize)>, Vec<usize>) {

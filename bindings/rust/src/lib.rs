@@ -148,6 +148,59 @@ impl<T, S> HashBag<T, S> {
     pub fn try_reserve(&mut self, additional: usize) -> Result<(), BagError> {
         done(unsafe { sys::hashbag_reserve(self.at(), additional) })
     }
+
+    /// Frees memory that the bag doesn't need.
+    ///
+    /// # Errors
+    ///
+    /// [`BagError::Memory`] if an allocation of less memory fails. The bag is then unchanged.
+    pub fn try_shrink_to_fit(&mut self) -> Result<(), BagError> {
+        done(unsafe { sys::hashbag_shrink_to_fit(self.at()) })
+    }
+}
+
+// What two bags make. The handles of a call are two, since one bag is lent by `&mut` and the other by `&`.
+impl<T: Value, S> HashBag<T, S> {
+    /// Adds all occurrences of another bag: each count is then the sum of both.
+    ///
+    /// # Errors
+    ///
+    /// [`BagError::TooMany`] if the total would pass the limit; [`BagError::Memory`] if an allocation fails. The bag is then unchanged.
+    ///
+    /// ```
+    /// use hashbag::HashBag;
+    ///
+    /// let mut stock: HashBag<u32> = [5, 5].into_iter().collect();
+    /// let delivery: HashBag<u32> = [5, 6].into_iter().collect();
+    /// assert_eq!(stock.try_merge(&delivery), Ok(()));
+    /// assert_eq!((stock[&5], stock[&6]), (3, 1));
+    /// ```
+    pub fn try_merge<S2>(&mut self, from: &HashBag<T, S2>) -> Result<(), BagError> {
+        self.take_back();
+        done(unsafe { sys::hashbag_merge(self.at(), from.at()) })
+    }
+
+    /// Keeps of each value as many as both bags have: the lesser of both counts.
+    pub fn keep_common<S2>(&mut self, other: &HashBag<T, S2>) {
+        self.take_back();
+        panics(done(unsafe { sys::hashbag_keep_common(self.at(), other.at()) }));
+    }
+
+    /// Raises each count to the greater of the counts in both bags.
+    ///
+    /// # Errors
+    ///
+    /// As of [`HashBag::try_merge`], for the total of the greater counts.
+    pub fn try_keep_most<S2>(&mut self, from: &HashBag<T, S2>) -> Result<(), BagError> {
+        self.take_back();
+        done(unsafe { sys::hashbag_keep_most(self.at(), from.at()) })
+    }
+
+    /// Removes what another bag has, of each value as many as there are there, or all if there are fewer.
+    pub fn take_away<S2>(&mut self, other: &HashBag<T, S2>) {
+        self.take_back();
+        panics(done(unsafe { sys::hashbag_take_away(self.at(), other.at()) }));
+    }
 }
 
 impl<T: Value, S> HashBag<T, S> {
@@ -165,13 +218,18 @@ impl<T: Value, S> HashBag<T, S> {
         let (mut bytes, mut ends) = (vec![0u8; size], vec![0usize; n]);
         // SAFETY: the arrays have `size`, n and n places.
         let n = unsafe { sys::hashbag_texts_read(self.at(), bytes.as_mut_ptr(), size, ends.as_mut_ptr(), n, counts.as_mut_ptr(), n) };
+        Self::pairs_of(&bytes, &ends[..n], counts)
+    }
+
+    // The values whose bytes lie one after another, each up to its end, with their counts.
+    fn pairs_of(bytes: &[u8], ends: &[usize], counts: Vec<usize>) -> Vec<(T, usize)> {
         let mut from = 0;
-        let pair = |(end, count)| {
-            let value = T::of_bytes(&bytes[from..end]);
-            from = end;
+        let pair = |(end, count): (&usize, usize)| {
+            let value = T::of_bytes(&bytes[from..*end]);
+            from = *end;
             (value, count)
         };
-        ends.into_iter().zip(counts).take(n).map(pair).collect()
+        ends.iter().zip(counts).map(pair).collect()
     }
 
     /// Gives each value once for each of its occurrences, in no particular order.
@@ -237,8 +295,14 @@ impl<T: Value, S: BuildHasher> HashBag<T, S> {
         panics(self.try_reserve(additional));
     }
 
-    /// Does nothing: the library has no such call yet.
-    pub fn shrink_to_fit(&mut self) {}
+    /// Frees memory that the bag doesn't need.
+    ///
+    /// # Panics
+    ///
+    /// If an allocation of less memory fails.
+    pub fn shrink_to_fit(&mut self) {
+        panics(self.try_shrink_to_fit());
+    }
 
     /// Returns the count of a value, 0 if it is absent.
     #[inline]
@@ -323,14 +387,7 @@ impl<T: Value, S: BuildHasher> HashBag<T, S> {
     ///
     /// As [`HashBag::insert_many`].
     pub fn replace(&mut self, value: T) -> usize {
-        let before = self.count(&value);
-        match before {
-            0 => self.insert(value),
-            _ => {
-                self.less(&value, before - 1);
-                before
-            }
-        }
+        panics(self.set(&value, 1))
     }
 
     /// Removes one occurrence of a value and returns the count before.
@@ -383,12 +440,14 @@ impl<T: Value, S: BuildHasher> HashBag<T, S> {
     where
         T: Borrow<Q>,
     {
-        let before = self.count(value);
-        if before == 0 {
-            return None;
-        }
-        self.less(value, before);
-        Some((Self::value_of(value), before))
+        self.take_back();
+        let before = if T::IS_NUMBER {
+            unsafe { sys::hashbag_numbers_take_all(self.at(), value.number()) }
+        } else {
+            // SAFETY: a slice's pointer isn't null and has its length.
+            value.with_bytes(|bytes| unsafe { sys::hashbag_texts_take_all(self.at(), bytes.as_ptr(), bytes.len()) })
+        };
+        (before > 0).then(|| (Self::value_of(value), before))
     }
 
     /// Calls `f` once for each distinct value, with its count, and keeps the lesser of its count and what `f` returns.
@@ -401,14 +460,17 @@ impl<T: Value, S: BuildHasher> HashBag<T, S> {
         }
     }
 
-    // Sets the count of a value.
-    fn set(&mut self, value: &T, before: usize, count: usize) -> Result<(), BagError> {
-        if count > before {
-            self.try_insert_many::<T>(value, count - before)?;
+    // Sets the count of a value and returns the count before.
+    fn set(&mut self, value: &T, count: usize) -> Result<usize, BagError> {
+        self.take_back();
+        let mut before = 0;
+        done(if T::IS_NUMBER {
+            unsafe { sys::hashbag_numbers_set_count(self.at(), value.number(), count, &mut before) }
         } else {
-            self.less(value, before - count);
-        }
-        Ok(())
+            // SAFETY: a slice's pointer isn't null and has its length, and `before` isn't part of it.
+            value.with_bytes(|bytes| unsafe { sys::hashbag_texts_set_count(self.at(), bytes.as_ptr(), bytes.len(), count, &mut before) })
+        })?;
+        Ok(before)
     }
 }
 

@@ -19,15 +19,21 @@ extern "C" {
     pub fn hashbag_set_limit(handle: *mut Handle, most: usize) -> u8;
     pub fn hashbag_clear(handle: *mut Handle);
     pub fn hashbag_reserve(handle: *mut Handle, n: usize) -> u8;
+    pub fn hashbag_shrink_to_fit(handle: *mut Handle) -> u8;
     pub fn hashbag_capacity(handle: *mut Handle) -> usize;
+    pub fn hashbag_clone(handle: *mut Handle, copy: *mut Handle) -> u8;
     pub fn hashbag_equal(a: *mut Handle, b: *mut Handle) -> bool;
+    pub fn hashbag_merge(into: *mut Handle, from: *mut Handle) -> u8;
+    pub fn hashbag_keep_common(handle: *mut Handle, other: *mut Handle) -> u8;
+    pub fn hashbag_keep_most(into: *mut Handle, from: *mut Handle) -> u8;
+    pub fn hashbag_take_away(handle: *mut Handle, other: *mut Handle) -> u8;
     #[allow(dead_code)]
     pub fn hashbag_numbers_new(handle: *mut Handle, most: usize) -> u8;
     pub fn hashbag_numbers_new_keyed(handle: *mut Handle, most: usize, key0: u64, key1: u64) -> u8;
     pub fn hashbag_numbers_insert(handle: *mut Handle, value: u64, n: usize, before: *mut usize) -> u8;
     pub fn hashbag_numbers_contains(handle: *mut Handle, value: u64) -> usize;
     pub fn hashbag_numbers_remove(handle: *mut Handle, value: u64, n: usize) -> usize;
-    #[allow(dead_code)]
+    pub fn hashbag_numbers_take_all(handle: *mut Handle, value: u64) -> usize;
     pub fn hashbag_numbers_set_count(handle: *mut Handle, value: u64, n: usize, before: *mut usize) -> u8;
     pub fn hashbag_numbers_insert_all(handle: *mut Handle, values: *const u64, values_len: usize, done: *mut usize) -> u8;
     pub fn hashbag_numbers_read(handle: *mut Handle, values: *mut u64, values_len: usize, counts: *mut usize, counts_len: usize) -> usize;
@@ -38,8 +44,11 @@ extern "C" {
     pub fn hashbag_texts_insert(handle: *mut Handle, value: *const u8, value_len: usize, n: usize, before: *mut usize) -> u8;
     pub fn hashbag_texts_contains(handle: *mut Handle, value: *const u8, value_len: usize) -> usize;
     pub fn hashbag_texts_remove(handle: *mut Handle, value: *const u8, value_len: usize, n: usize) -> usize;
+    pub fn hashbag_texts_take_all(handle: *mut Handle, value: *const u8, value_len: usize) -> usize;
+    pub fn hashbag_texts_set_count(handle: *mut Handle, value: *const u8, value_len: usize, n: usize, before: *mut usize) -> u8;
     pub fn hashbag_texts_insert_all(handle: *mut Handle, bytes: *const u8, bytes_len: usize, ends: *const usize, ends_len: usize, done: *mut usize) -> u8;
     pub fn hashbag_texts_insert_split(handle: *mut Handle, bytes: *const u8, bytes_len: usize, separator: u8, done: *mut usize) -> u8;
     pub fn hashbag_texts_bytes(handle: *mut Handle) -> usize;
     pub fn hashbag_texts_read(handle: *mut Handle, bytes: *mut u8, bytes_len: usize, ends: *mut usize, ends_len: usize, counts: *mut usize, counts_len: usize) -> usize;
+    pub fn hashbag_texts_outer_join(a: *mut Handle, b: *mut Handle, bytes: *mut u8, bytes_len: usize, ends: *mut usize, ends_len: usize, firsts: *mut usize, firsts_len: usize, seconds: *mut usize, seconds_len: usize) -> usize;
 }

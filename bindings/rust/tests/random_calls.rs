@@ -85,6 +85,12 @@ fn runs<T: Value + Ord + Clone + std::fmt::Debug>(seed: u64, value_of: impl Fn(u
     compare(&bag, &model);
     let twin = bag.clone();
     assert_eq!(twin, bag);
+    compare(&twin, &model);
+    assert_eq!(twin.limit(), bag.limit());
+    bag.reserve(5000);
+    bag.shrink_to_fit();
+    assert!(bag.capacity() < 5000);
+    compare(&bag, &model);
     let drained: usize = bag.drain().map(|(_, count)| count).sum();
     assert_eq!(drained, twin.len());
     assert!(bag.is_empty());
@@ -141,6 +147,8 @@ fn joins_say_both_counts() {
     let mut outer: Vec<(String, usize, usize)> = texts.outer_join(&others).map(|(value, x, y)| (value.clone(), x, y)).collect();
     outer.sort();
     assert_eq!(outer, [("x".to_string(), 2, 0), ("y".to_string(), 1, 1), ("z".to_string(), 0, 1)]);
+    assert_eq!(texts.not_in(&others).collect::<Vec<_>>(), [(&"x".to_string(), 2)]);
+    assert_eq!(others.difference(&texts).collect::<Vec<_>>(), [(&"z".to_string(), 1)]);
 }
 
 #[test]
@@ -155,6 +163,75 @@ fn errors_change_nothing() {
     assert_eq!(bag.contains(&7), 1);
     assert_eq!(bag.try_reserve(usize::MAX), Err(BagError::Memory));
     assert_eq!(BagError::TooMany.to_string(), "total past its end");
+}
+
+fn two_bags<T: Value + Ord + Clone + std::fmt::Debug>(seed: u64, value_of: impl Fn(u64) -> T) {
+    let mut draw = Draw(seed);
+    for _ in 0..60 {
+        let mut made: Vec<(HashBag<T>, Model<T>)> = Vec::new();
+        for _ in 0..2 {
+            let (values, many) = (draw.below(90) + 1, draw.below(200));
+            let (mut bag, mut model): (HashBag<T>, Model<T>) = (HashBag::new(), BTreeMap::new());
+            for _ in 0..many {
+                let value = value_of(draw.below(values));
+                bag.insert(value.clone());
+                *model.entry(value).or_insert(0) += 1;
+            }
+            made.push((bag, model));
+        }
+        let (b, other) = made.pop().unwrap();
+        let (a, model) = made.pop().unwrap();
+        let (mut sum, mut common, mut most, mut left) = (a.clone(), a.clone(), a.clone(), a.clone());
+        assert_eq!(sum.try_merge(&b), Ok(()));
+        common.keep_common(&b);
+        assert_eq!(most.try_keep_most(&b), Ok(()));
+        left.take_away(&b);
+        let of = |model: &Model<T>, value: &T| model.get(value).copied().unwrap_or(0);
+        let both = |f: &dyn Fn(usize, usize) -> usize| -> Model<T> {
+            let pair = |value: &T| (value.clone(), f(of(&model, value), of(&other, value)));
+            model.keys().chain(other.keys()).map(pair).filter(|pair| pair.1 > 0).collect()
+        };
+        compare(&sum, &both(&|m, n| m + n));
+        compare(&common, &both(&|m, n| m.min(n)));
+        compare(&most, &both(&|m, n| m.max(n)));
+        compare(&left, &both(&|m, n| m.saturating_sub(n)));
+        compare(&a, &model);
+        compare(&b, &other);
+        let mut full = a.clone();
+        full.set_limit(a.len()).unwrap();
+        assert_eq!(full.try_merge(&b), if b.is_empty() { Ok(()) } else { Err(BagError::TooMany) });
+        assert_eq!(full, a);
+    }
+}
+
+#[test]
+fn two_bags_of_numbers() {
+    two_bags(17, |n| n.wrapping_mul(0x9e37_79b9_7f4a_7c15));
+}
+
+#[test]
+fn two_bags_of_texts() {
+    two_bags(19, |n| format!("wörd {n}"));
+}
+
+#[test]
+fn a_clone_is_apart() {
+    let bag: HashBag<String> = ["x", "x", "y"].iter().map(|it| it.to_string()).collect();
+    let mut twin = bag.clone();
+    assert_eq!(twin.take_all("x"), Some(("x".to_string(), 2)));
+    assert_eq!(twin.take_all("x"), None);
+    assert_eq!((bag.contains("x"), twin.contains("x"), twin.len()), (2, 0, 1));
+}
+
+#[test]
+fn entries_set_counts() {
+    let mut bag: HashBag<String> = HashBag::with_limit(5, std::hash::RandomState::new());
+    bag.insert_many("x".to_string(), 2);
+    bag.entry("x".to_string()).and_modify(|count| *count += 3);
+    assert_eq!(bag.contains("x"), 5);
+    assert_eq!(bag.replace("x".to_string()), 5);
+    bag.entry("x".to_string()).and_modify(|count| *count = 0);
+    assert!(bag.is_empty());
 }
 
 #[test]

@@ -3,4 +3,5 @@ pub mod HandleSteps
 pub mod PieceLemmas
 pub mod RawBoxWords
 pub mod ReadLemmas
+pub mod TakeLemmas
 pub mod TextReadLemmas

@@ -18,6 +18,10 @@ IfNumbers None P = Unit {0}
 IfNumbers (Some (Numbers bag)) P = P bag
 IfNumbers (Some (Texts bag)) P = Unit {0}
 
+-- if both handles have bags of numbers, P holds for these
+abbrev pub BothNumbers : Option Held → Option Held → (Bag ℕ State → Bag ℕ State → Type 0) → Type 0
+BothNumbers a b P = IfNumbers a (λ x. IfNumbers b (λ y. P x y))
+
 -- the same of a bag of byte strings
 abbrev pub HasTexts : Option Held → (Bag (List ℕ) Keys → Type 0) → Type 0
 HasTexts None P = ⊥
@@ -28,3 +32,6 @@ abbrev pub IfTexts : Option Held → (Bag (List ℕ) Keys → Type 0) → Type 0
 IfTexts None P = Unit {0}
 IfTexts (Some (Numbers bag)) P = Unit {0}
 IfTexts (Some (Texts bag)) P = P bag
+
+abbrev pub BothTexts : Option Held → Option Held → (Bag (List ℕ) Keys → Bag (List ℕ) Keys → Type 0) → Type 0
+BothTexts a b P = IfTexts a (λ x. IfTexts b (λ y. P x y))

@@ -43,6 +43,21 @@ pub record HasReadTexts (bag : Bag (List ℕ) Keys) (n : ℕ) (bytes ends counts
   pub counts_are : take n counts ≡ map (λ e. e.1) (take n walk)
   pub all : length walk ≤ length ends → length walk ≤ length counts → size_of walk ≤ length bytes → n ≡ length walk
 
+-- the strings of a join, each with its first count
+abbrev pub with_firsts : List (List ℕ × ℕ × ℕ) → List (List ℕ × ℕ)
+with_firsts join = map (λ j. (j.0, j.1)) join
+
+-- the first n strings of an outer join of two bags are written as those of a walk, each with both counts
+pub record HasReadTextJoin (first second : Bag (List ℕ) Keys) (n : ℕ) (bytes ends firsts seconds : List ℕ) : Type 0 where
+  pub join : List (List ℕ × ℕ × ℕ)
+  pub outer_join : (X Y : List (List ℕ)) → Means first X → Means second Y → IsOuterJoin bytes_eq X Y join
+  pub few : n ≤ length join
+  pub bytes_are : take (size_of (take n (with_firsts join))) bytes ≡ flat_map (λ e. e.0) (take n (with_firsts join))
+  pub ends_are : take n ends ≡ ends_from 0 (take n (with_firsts join))
+  pub firsts_are : take n firsts ≡ map (λ j. j.1) (take n join)
+  pub seconds_are : take n seconds ≡ map (λ j. j.2) (take n join)
+  pub all : length join ≤ length ends → length join ≤ length firsts → length join ≤ length seconds → size_of (with_firsts join) ≤ length bytes → n ≡ length join
+
 -- the number of bytes of all distinct strings, or the greatest `usize` if there are more
 pub record HasSize (bag : Bag (List ℕ) Keys) (size : ℕ) : Type 0 where
   pub walk : List (List ℕ × ℕ)

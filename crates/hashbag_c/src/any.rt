@@ -1,14 +1,16 @@
 //! Calls on a bag of either kind.
-ghost use Rattle.std.specs.Prelude.{◌≡◌, ◌≢◌, ◌+◌, ◌<◌, ◌≤◌, ◌↔◌, ◌⊎◌, false, [], length, nat_eq, None, Some, IsTrue};
+ghost use Rattle.std.specs.Prelude.{◌≡◌, ◌≢◌, ◌+◌, ◌<◌, ◌≤◌, ◌↔◌, ◌⊎◌, false, [], length, nat_eq, None, Some, IfOk, IsTrue};
 ghost use Rattle.std.specs.Str.{bytes_eq};
 ghost use Rattle.hashbag_table.specs.Tables.{room};
 ghost use Rattle.hashbag_core.specs.Bag.{limited, IsBagOf};
 ghost use Rattle.hashbag_core.specs.Equality.{bag_eq};
 ghost use Rattle.hashbag_core.specs.Occurrences.{distinct_count};
 ghost use Rattle.hashbag_c.specs.Calls.{HasNumbers, HasTexts, IfNumbers, IfTexts};
+ghost use Rattle.hashbag_c.specs.Whole.{HasShrunk, IsCopy};
 
 use crate::handle::Handle;
 use crate::held::Held;
+use hashbag_core::BagError;
 use std::alloc::Global;
 
 /// The handle has no bag.
@@ -215,6 +217,52 @@ pub extern "C" fn hashbag_reserve(alloc: Global, handle: &mut Handle, n: usize) 
     code
 }
 
+fn shrink_to_fit(held: &mut Held) -> u8
+    ensures numbers { IfNumbers (Some held.old) (λ bag. HasNumbers (Some held.new) (λ after. IsBagOf nat_eq bag bag.items after)) }
+    ensures texts { IfTexts (Some held.old) (λ bag. HasTexts (Some held.new) (λ after. IsBagOf bytes_eq bag bag.items after)) }
+    ensures slots_numbers { IfNumbers (Some held.old) (λ bag. result ≡ 0 → HasNumbers (Some held.new) (HasShrunk nat_eq bag)) }
+    ensures slots_texts { IfTexts (Some held.old) (λ bag. result ≡ 0 → HasTexts (Some held.new) (HasShrunk bytes_eq bag)) }
+    ensures none_numbers { IfNumbers (Some held.old) (λ bag. bag.items ≡ [] → result ≡ 0) }
+    ensures none_texts { IfTexts (Some held.old) (λ bag. bag.items ≡ [] → result ≡ 0) }
+    ensures memory { result ≢ 0 → result ≡ 1 }
+    ensures err { result ≢ 0 → held.new ≡ held.old }
+{
+    let shrunk = match held {
+        Held::Numbers(bag) => bag.shrink_to_fit(),
+        Held::Texts(bag) => bag.shrink_to_fit(),
+    };
+    match shrunk {
+        Ok(()) => 0,
+        Err(error) => error.number(),
+    }
+}
+
+/// Frees memory that the bag doesn't need, and returns 0. If an allocation of less memory would be enough for its values, it moves them
+/// there. An empty bag allocates nothing.
+///
+/// # Errors
+///
+/// `HASHBAG_MEMORY` if an allocation fails; `HASHBAG_EMPTY`. Nothing changes then.
+#[unsafe(no_mangle)]
+pub extern "C" fn hashbag_shrink_to_fit(alloc: Global, handle: &mut Handle) -> u8
+    ensures numbers { IfNumbers handle.old.held (λ bag. HasNumbers handle.new.held (λ after. IsBagOf nat_eq bag bag.items after)) }
+    ensures texts { IfTexts handle.old.held (λ bag. HasTexts handle.new.held (λ after. IsBagOf bytes_eq bag bag.items after)) }
+    ensures slots_numbers { IfNumbers handle.old.held (λ bag. result ≡ 0 → HasNumbers handle.new.held (HasShrunk nat_eq bag)) }
+    ensures slots_texts { IfTexts handle.old.held (λ bag. result ≡ 0 → HasTexts handle.new.held (HasShrunk bytes_eq bag)) }
+    ensures none_numbers { IfNumbers handle.old.held (λ bag. bag.items ≡ [] → result ≡ 0) }
+    ensures none_texts { IfTexts handle.old.held (λ bag. bag.items ≡ [] → result ≡ 0) }
+    ensures memory { result ≢ 0 → (result ≡ 1) ⊎ (handle.old.held ≡ None) }
+    ensures empty { handle.old.held ≡ None → result ≡ EMPTY }
+    ensures err { result ≢ 0 → handle.new.held ≡ handle.old.held }
+{
+    let Some(mut held) = handle.take(alloc) else {
+        return EMPTY;
+    };
+    let code = shrink_to_fit(&mut held);
+    handle.put(held);
+    code
+}
+
 fn capacity(held: &Held) -> usize
     ensures numbers { IfNumbers (Some held.now) (λ bag. result ≡ distinct_count nat_eq bag.items + room bag.tables) }
     ensures texts { IfTexts (Some held.now) (λ bag. result ≡ distinct_count bytes_eq bag.items + room bag.tables) }
@@ -239,6 +287,57 @@ pub extern "C" fn hashbag_capacity(alloc: Global, handle: &mut Handle) -> usize
     let capacity = capacity(&held);
     handle.put(held);
     capacity
+}
+
+fn copied(held: &Held) -> Result<Held, BagError>
+    ensures numbers { IfOk result (λ made. IfNumbers (Some held.now) (λ bag. HasNumbers (Some made) (IsCopy nat_eq bag))) }
+    ensures texts { IfOk result (λ made. IfTexts (Some held.now) (λ bag. HasTexts (Some made) (IsCopy bytes_eq bag))) }
+{
+    match held {
+        Held::Numbers(bag) => Ok(Held::Numbers(bag.clone()?)),
+        Held::Texts(bag) => Ok(Held::Texts(bag.clone()?)),
+    }
+}
+
+fn put_copy(alloc: Global, held: &Held, copy: &mut Handle) -> u8
+    ensures numbers { IfNumbers (Some held.now) (λ bag. result ≡ 0 → HasNumbers copy.new.held (IsCopy nat_eq bag)) }
+    ensures texts { IfTexts (Some held.now) (λ bag. result ≡ 0 → HasTexts copy.new.held (IsCopy bytes_eq bag)) }
+    ensures memory { result ≢ 0 → result ≡ 1 }
+    ensures err { result ≢ 0 → copy.new.held ≡ copy.old.held }
+{
+    let Ok(made) = copied(held) else {
+        return 1;
+    };
+    match Box::new(alloc, made) {
+        Ok(held) => {
+            *copy = Handle::of(held);
+            0
+        }
+        Err(_) => 1,
+    }
+}
+
+/// Puts into `copy` a bag with the same counts, limit and keys, and returns 0. The bag that `copy` had is freed. They must be two handles,
+/// not one twice.
+///
+/// # Errors
+///
+/// `HASHBAG_MEMORY` if an allocation fails; `HASHBAG_EMPTY` if `handle` is empty. Nothing changes then.
+#[unsafe(no_mangle)]
+pub extern "C" fn hashbag_clone(alloc: Global, handle: &mut Handle, copy: &mut Handle) -> u8
+    ensures numbers { IfNumbers handle.old.held (λ bag. result ≡ 0 → HasNumbers copy.new.held (IsCopy nat_eq bag)) }
+    ensures texts { IfTexts handle.old.held (λ bag. result ≡ 0 → HasTexts copy.new.held (IsCopy bytes_eq bag)) }
+    ensures memory { result ≢ 0 → (result ≡ 1) ⊎ (handle.old.held ≡ None) }
+    ensures empty { handle.old.held ≡ None → result ≡ EMPTY }
+    ensures unchanged { handle.new.held ≡ handle.old.held }
+    ensures err { result ≢ 0 → copy.new.held ≡ copy.old.held }
+{
+    let Some(held) = handle.take(alloc) else {
+        return EMPTY;
+    };
+    let code = put_copy(alloc, &held, copy);
+    handle.put(held);
+    code
 }
 
 fn equal(a: &Held, b: &Held) -> bool

@@ -6,6 +6,7 @@
 
 pub mod any;
 pub mod bytes;
+pub mod combine;
 pub mod handle;
 pub mod held;
 pub mod number_batches;
@@ -13,4 +14,5 @@ pub mod numbers;
 pub mod raw_box;
 pub mod state;
 pub mod text_batches;
+pub mod text_joins;
 pub mod texts;

@@ -180,6 +180,47 @@ pub extern "C" fn hashbag_numbers_remove(
     left
 }
 
+// Removes all occurrences of a number, and returns how many there were.
+fn take_number(bag: &mut HashBag<u64, State>, value: u64) -> usize
+    ensures before { result ≡ count nat_eq value bag.old.items }
+    ensures fewer { HasFewer nat_eq (nat_eq value) (count nat_eq value bag.old.items) bag.old bag.new }
+    ensures len { length bag.new.items + result ≡ length bag.old.items }
+{
+    match bag.take_all(&value) {
+        Some((_, count)) => count,
+        None => 0,
+    }
+}
+
+fn take_all(held: &mut Held, value: u64) -> usize
+    ensures before { IfNumbers (Some held.old) (λ bag. result ≡ count nat_eq value bag.items) }
+    ensures fewer { IfNumbers (Some held.old) (λ bag. HasNumbers (Some held.new) (λ after. HasFewer nat_eq (nat_eq value) (count nat_eq value bag.items) bag after)) }
+    ensures len { IfNumbers (Some held.old) (λ bag. HasNumbers (Some held.new) (λ after. length after.items + result ≡ length bag.items)) }
+    ensures kind { IfTexts (Some held.old) (λ _. (result ≡ 0) × (held.new ≡ held.old)) }
+{
+    match held {
+        Held::Numbers(bag) => take_number(bag, value),
+        Held::Texts(_) => 0,
+    }
+}
+
+/// Removes all occurrences of a number, and returns how many there were. It is 0 if the handle has no bag of numbers.
+#[unsafe(no_mangle)]
+pub extern "C" fn hashbag_numbers_take_all(alloc: Global, handle: &mut Handle, value: u64) -> usize
+    ensures before { IfNumbers handle.old.held (λ bag. result ≡ count nat_eq value bag.items) }
+    ensures fewer { IfNumbers handle.old.held (λ bag. HasNumbers handle.new.held (λ after. HasFewer nat_eq (nat_eq value) (count nat_eq value bag.items) bag after)) }
+    ensures len { IfNumbers handle.old.held (λ bag. HasNumbers handle.new.held (λ after. length after.items + result ≡ length bag.items)) }
+    ensures kind { IfTexts handle.old.held (λ _. (result ≡ 0) × (handle.new.held ≡ handle.old.held)) }
+    ensures empty { handle.old.held ≡ None → (result ≡ 0) × (handle.new.held ≡ None) }
+{
+    let Some(mut held) = handle.take(alloc) else {
+        return 0;
+    };
+    let before = take_all(&mut held, value);
+    handle.put(held);
+    before
+}
+
 fn set_count(held: &mut Held, value: u64, n: usize, before: &mut usize) -> u8
     ensures set { IfNumbers (Some held.old) (λ bag. result ≡ 0 → HasNumbers (Some held.new) (λ after. IsBagOf nat_eq bag (recount nat_eq value n bag.items) after)) }
     ensures before { IfNumbers (Some held.old) (λ bag. result ≡ 0 → before.new ≡ count nat_eq value bag.items) }

@@ -235,7 +235,7 @@ pub extern "C" fn hashbag_texts_bytes(alloc: Global, handle: &mut Handle) -> usi
 }
 
 // Writes a byte string at a place.
-fn put(bytes: &mut [u8], from: usize, piece: &[u8])
+pub(crate) fn put(bytes: &mut [u8], from: usize, piece: &[u8])
     requires { from + length piece.now ≤ length bytes.old }
     ensures { bytes.new ≡ take from bytes.old ++ (piece.now ++ drop (from + length piece.now) bytes.old) }
 {

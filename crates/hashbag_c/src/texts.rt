@@ -1,17 +1,18 @@
 //! Calls on a bag of byte strings.
-ghost use Rattle.std.specs.Prelude.{◌≡◌, ◌≢◌, ◌+◌, ◌-◌, ◌<◌, ◌≤◌, ◌↔◌, ◌⊎◌, [], length, None, Some};
+ghost use Rattle.std.specs.Prelude.{◌≡◌, ◌≢◌, ◌+◌, ◌-◌, ◌<◌, ◌≤◌, ◌↔◌, ◌⊎◌, [], length, None, Some, IsOk, IfErr, OnOk, OnErr};
 ghost use Rattle.std.specs.Str.{bytes_eq};
 ghost use Rattle.hashbag_core.specs.Held.{HasFewer};
 ghost use Rattle.hashbag_core.specs.Keys.{InsertsNamed};
 ghost use Rattle.hashbag_core.specs.Occurrences.{count_named};
 ghost use Rattle.hashbag_c.specs.Calls.{HasTexts, IfNumbers, IfTexts};
+ghost use Rattle.hashbag_c.specs.Whole.{SetsNamed};
 
 use crate::any::{EMPTY, KIND};
 use crate::bytes::{Bytes, Name};
 use crate::handle::Handle;
 use crate::held::Held;
 use crate::state::Keys;
-use hashbag_core::HashBag;
+use hashbag_core::{BagError, HashBag};
 use std::alloc::Global;
 
 fn fill(alloc: Global, handle: &mut Handle, state: Keys, most: usize) -> u8
@@ -178,4 +179,120 @@ pub extern "C" fn hashbag_texts_remove(
     let left = remove(&mut held, value, n);
     handle.put(held);
     left
+}
+
+fn take_all(held: &mut Held, value: &[u8]) -> usize
+    ensures before { IfTexts (Some held.old) (λ bag. result ≡ count_named (λ v. bytes_eq v value.now) bag.items) }
+    ensures fewer { IfTexts (Some held.old) (λ bag. HasTexts (Some held.new) (λ after. HasFewer bytes_eq (λ v. bytes_eq v value.now) (count_named (λ v. bytes_eq v value.now) bag.items) bag after)) }
+    ensures len { IfTexts (Some held.old) (λ bag. HasTexts (Some held.new) (λ after. length after.items + result ≡ length bag.items)) }
+    ensures kind { IfNumbers (Some held.old) (λ _. (result ≡ 0) × (held.new ≡ held.old)) }
+{
+    match held {
+        Held::Numbers(_) => 0,
+        Held::Texts(bag) => {
+            let count = bag.contains(Name { bytes: value });
+            bag.remove_up_to(Name { bytes: value }, count);
+            count
+        }
+    }
+}
+
+/// Removes all occurrences of a byte string, and returns how many there were. It is 0 if the handle has no bag of byte strings.
+#[unsafe(no_mangle)]
+pub extern "C" fn hashbag_texts_take_all(alloc: Global, handle: &mut Handle, value: &[u8]) -> usize
+    ensures before { IfTexts handle.old.held (λ bag. result ≡ count_named (λ v. bytes_eq v value.now) bag.items) }
+    ensures fewer { IfTexts handle.old.held (λ bag. HasTexts handle.new.held (λ after. HasFewer bytes_eq (λ v. bytes_eq v value.now) (count_named (λ v. bytes_eq v value.now) bag.items) bag after)) }
+    ensures len { IfTexts handle.old.held (λ bag. HasTexts handle.new.held (λ after. length after.items + result ≡ length bag.items)) }
+    ensures kind { IfNumbers handle.old.held (λ _. (result ≡ 0) × (handle.new.held ≡ handle.old.held)) }
+    ensures empty { handle.old.held ≡ None → (result ≡ 0) × (handle.new.held ≡ None) }
+{
+    let Some(mut held) = handle.take(alloc) else {
+        return 0;
+    };
+    let before = take_all(&mut held, value);
+    handle.put(held);
+    before
+}
+
+// Sets the count of a byte string, of which there are `before`.
+fn recount(
+    bag: &mut HashBag<Bytes, Keys>,
+    value: &[u8],
+    before: usize,
+    n: usize,
+) -> Result<(), BagError>
+    requires { before ≡ count_named (λ v. bytes_eq v value.now) bag.old.items }
+    ensures set { OnOk result (SetsNamed bytes_eq (λ v. bytes_eq v value.now) n bag.old bag.new) }
+    ensures too_many { (result ≡ Err BagError.TooMany) ↔ (bag.old.most < length bag.old.items + (n - before)) }
+    ensures only { IfErr result (λ e. (e ≡ BagError.Memory) ⊎ (e ≡ BagError.TooMany)) }
+    ensures present { length bag.old.items + (n - before) ≤ bag.old.most → 0 < before → IsOk result }
+    ensures none { n ≡ 0 → IsOk result }
+    ensures err { OnErr result (bag.new ≡ bag.old) }
+{
+    // `limit` is called for its clause that the total is within it, which the proof names.
+    let _limit = bag.limit();
+    if n <= before {
+        bag.remove_up_to(Name { bytes: value }, before - n);
+        return Ok(());
+    }
+    bag.insert_many_key(Name { bytes: value }, n - before)?;
+    Ok(())
+}
+
+fn set_count(held: &mut Held, value: &[u8], n: usize, before: &mut usize) -> u8
+    ensures set { IfTexts (Some held.old) (λ bag. result ≡ 0 → HasTexts (Some held.new) (SetsNamed bytes_eq (λ v. bytes_eq v value.now) n bag)) }
+    ensures before { IfTexts (Some held.old) (λ bag. result ≡ 0 → before.new ≡ count_named (λ v. bytes_eq v value.now) bag.items) }
+    ensures too_many { IfTexts (Some held.old) (λ bag. (result ≡ 2) ↔ (bag.most < length bag.items + (n - count_named (λ v. bytes_eq v value.now) bag.items))) }
+    ensures present { IfTexts (Some held.old) (λ bag. length bag.items + (n - count_named (λ v. bytes_eq v value.now) bag.items) ≤ bag.most → 0 < count_named (λ v. bytes_eq v value.now) bag.items → result ≡ 0) }
+    ensures none { n ≡ 0 → IfTexts (Some held.old) (λ _. result ≡ 0) }
+    ensures only { IfTexts (Some held.old) (λ _. result ≢ 0 → (result ≡ 1) ⊎ (result ≡ 2)) }
+    ensures kind { IfNumbers (Some held.old) (λ _. result ≡ KIND) }
+    ensures err { result ≢ 0 → (held.new ≡ held.old) × (before.new ≡ before.old) }
+{
+    match held {
+        Held::Numbers(_) => KIND,
+        Held::Texts(bag) => {
+            let count = bag.contains(Name { bytes: value });
+            match recount(bag, value, count, n) {
+                Ok(()) => {
+                    *before = count;
+                    0
+                }
+                Err(error) => error.number(),
+            }
+        }
+    }
+}
+
+/// Sets the count of a byte string to `n`, writes the count before, and returns 0. With 0 the string is removed. The bytes are copied if the
+/// string is absent.
+///
+/// # Errors
+///
+/// `HASHBAG_TOO_MANY` if the total would pass the limit; `HASHBAG_MEMORY` if the string is absent and an allocation fails;
+/// `HASHBAG_EMPTY`; `HASHBAG_KIND`. Nothing changes then, and nothing is written.
+#[unsafe(no_mangle)]
+pub extern "C" fn hashbag_texts_set_count(
+    alloc: Global,
+    handle: &mut Handle,
+    value: &[u8],
+    n: usize,
+    before: &mut usize,
+) -> u8
+    ensures set { IfTexts handle.old.held (λ bag. result ≡ 0 → HasTexts handle.new.held (SetsNamed bytes_eq (λ v. bytes_eq v value.now) n bag)) }
+    ensures before { IfTexts handle.old.held (λ bag. result ≡ 0 → before.new ≡ count_named (λ v. bytes_eq v value.now) bag.items) }
+    ensures too_many { IfTexts handle.old.held (λ bag. (result ≡ 2) ↔ (bag.most < length bag.items + (n - count_named (λ v. bytes_eq v value.now) bag.items))) }
+    ensures present { IfTexts handle.old.held (λ bag. length bag.items + (n - count_named (λ v. bytes_eq v value.now) bag.items) ≤ bag.most → 0 < count_named (λ v. bytes_eq v value.now) bag.items → result ≡ 0) }
+    ensures none { n ≡ 0 → IfTexts handle.old.held (λ _. result ≡ 0) }
+    ensures only { IfTexts handle.old.held (λ _. result ≢ 0 → (result ≡ 1) ⊎ (result ≡ 2)) }
+    ensures kind { IfNumbers handle.old.held (λ _. result ≡ KIND) }
+    ensures empty { handle.old.held ≡ None → result ≡ EMPTY }
+    ensures err { result ≢ 0 → (handle.new.held ≡ handle.old.held) × (before.new ≡ before.old) }
+{
+    let Some(mut held) = handle.take(alloc) else {
+        return EMPTY;
+    };
+    let code = set_count(&mut held, value, n, before);
+    handle.put(held);
+    code
 }

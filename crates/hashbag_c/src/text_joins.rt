@@ -1,0 +1,104 @@
+//! Joins of two bags of byte strings.
+ghost use Rattle.std.specs.Prelude.{◌≡◌, ◌≤◌, length, take, map, flat_map, None, Some};
+ghost use Rattle.hashbag_c.specs.Calls.{IfNumbers, IfTexts};
+ghost use Rattle.hashbag_c.specs.Reads.{ends_from, size_of, with_firsts, HasReadTextJoin};
+
+use crate::bytes::Bytes;
+use crate::handle::Handle;
+use crate::held::Held;
+use crate::state::Keys;
+use crate::text_batches::put;
+use hashbag_core::OuterJoin;
+use std::alloc::Global;
+
+// Writes the first items of a join, as many as there are places for, and returns how many.
+fn write_joined(
+    mut walk: OuterJoin<'_, Bytes, Keys, Keys>,
+    bytes: &mut [u8],
+    ends: &mut [usize],
+    firsts: &mut [usize],
+    seconds: &mut [usize],
+) -> usize
+    ensures few { result ≤ length walk.entry }
+    ensures bytes { take (size_of (take result (with_firsts walk.entry))) bytes.new ≡ flat_map (λ e. e.0) (take result (with_firsts walk.entry)) }
+    ensures ends { take result ends.new ≡ ends_from 0 (take result (with_firsts walk.entry)) }
+    ensures firsts { take result firsts.new ≡ map (λ e. e.1) (take result walk.entry) }
+    ensures seconds { take result seconds.new ≡ map (λ e. e.2) (take result walk.entry) }
+    ensures all { length walk.entry ≤ length ends.old → length walk.entry ≤ length firsts.old → length walk.entry ≤ length seconds.old → size_of (with_firsts walk.entry) ≤ length bytes.old → result ≡ length walk.entry }
+{
+    let most = ends.len().min(firsts.len().min(seconds.len()));
+    let mut from: usize = 0;
+    for i in 0..most {
+        match walk.next() {
+            Some((value, first, second)) => {
+                let value = value.as_slice();
+                if value.len() > bytes.len() - from {
+                    return i;
+                }
+                put(bytes, from, value);
+                from += value.len();
+                ends[i] = from;
+                firsts[i] = first;
+                seconds[i] = second;
+            }
+            None => return i,
+        }
+    }
+    most
+}
+
+fn outer_join(
+    a: &Held,
+    b: &Held,
+    bytes: &mut [u8],
+    ends: &mut [usize],
+    firsts: &mut [usize],
+    seconds: &mut [usize],
+) -> usize
+    ensures read { IfTexts (Some a.now) (λ x. IfTexts (Some b.now) (λ y. HasReadTextJoin x y result bytes.new ends.new firsts.new seconds.new)) }
+    ensures kind { IfNumbers (Some a.now) (λ _. result ≡ 0) }
+    ensures other_kind { IfNumbers (Some b.now) (λ _. result ≡ 0) }
+{
+    match a {
+        Held::Numbers(_) => 0,
+        Held::Texts(bag) => match b {
+            Held::Numbers(_) => 0,
+            Held::Texts(other) => write_joined(bag.outer_join(other), bytes, ends, firsts, seconds),
+        },
+    }
+}
+
+/// Writes the byte strings of two bags, each once, as `hashbag_texts_read` does, with the count of each in the first and in the second. A bag
+/// that lacks it counts 0. The strings of the first bag are first. It writes as many as there are places for, and returns how many. With as
+/// many places as both bags have distinct strings, and bytes in all, these are all. They must be two handles, not one twice. It returns 0 if
+/// one of them has no bag of byte strings.
+#[unsafe(no_mangle)]
+pub extern "C" fn hashbag_texts_outer_join(
+    alloc: Global,
+    a: &mut Handle,
+    b: &mut Handle,
+    bytes: &mut [u8],
+    ends: &mut [usize],
+    firsts: &mut [usize],
+    seconds: &mut [usize],
+) -> usize
+    ensures read { IfTexts a.old.held (λ x. IfTexts b.old.held (λ y. HasReadTextJoin x y result bytes.new ends.new firsts.new seconds.new)) }
+    ensures kind { IfNumbers a.old.held (λ _. result ≡ 0) }
+    ensures other_kind { IfNumbers b.old.held (λ _. result ≡ 0) }
+    ensures empty { a.old.held ≡ None → result ≡ 0 }
+    ensures other_empty { b.old.held ≡ None → result ≡ 0 }
+    ensures first { a.new.held ≡ a.old.held }
+    ensures second { b.new.held ≡ b.old.held }
+{
+    let Some(first) = a.take(alloc) else {
+        return 0;
+    };
+    let Some(second) = b.take(alloc) else {
+        a.put(first);
+        return 0;
+    };
+    let n = outer_join(&first, &second, bytes, ends, firsts, seconds);
+    a.put(first);
+    b.put(second);
+    n
+}
