@@ -166,7 +166,7 @@ fn growth(rt: &HostRuntime, many: u64) -> anyhow::Result<()> {
     for value in &mut times {
         bag.insert(*value)?;
         let after = now(rt)?;
-        *value = after.saturating_sub(before).as_nanos() as u64;
+        *value = u64::try_from(after.saturating_sub(before).as_nanos()).unwrap_or(u64::MAX);
         before = after;
     }
     times.sort_unstable();
