@@ -1,5 +1,5 @@
 //! The inputs: the stock at the beginning, and the movements, which are entered as they are read.
-use crate::arguments::Request;
+use hashbag_ledger_args::arguments::Request;
 use hashbag_ledger_lib::ledger::Ledger;
 use hashbag_ledger_lib::reading::enter_movements;
 use hashbag_lists::counts::read_counts_as;

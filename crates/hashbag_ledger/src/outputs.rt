@@ -1,5 +1,5 @@
 //! The outputs: the refusals and the balance.
-use crate::arguments::Request;
+use hashbag_ledger_args::arguments::Request;
 use hashbag_shell::one_file::is_one_file;
 use hashbag_shell::output::{Output, write_text};
 use hashbag_shell::trouble::Trouble;

@@ -1,24 +1,22 @@
 //! A stock that is kept in a database: the subcommands with `--db`.
-mod command;
 mod database;
 mod enter;
 mod failure;
 mod inputs;
-mod request;
 mod show;
 mod undo;
 mod verify;
 
 use clap::ArgMatches;
-pub use command::is_job;
 use failure::Failure;
+use hashbag_ledger_args::job::Job;
+use hashbag_ledger_args::jobs::command;
 use hashbag_shell::program::given_to;
 use hashbag_shell::status::BAD_INPUT;
-use request::Request;
 
 // Does a job, and returns the status.
 fn do_job<'a>(rt: &HostRuntime, name: &str, given: &ArgMatches<'a>) -> Result<u8, Failure<'a>> {
-    let request = Request::of(rt.alloc(), given)?;
+    let request = Job::of(rt.alloc(), given)?;
     match name {
         "enter" => enter::enter(rt, &request),
         "balance" => show::balance(rt, &request),
@@ -32,7 +30,7 @@ fn do_job<'a>(rt: &HostRuntime, name: &str, given: &ArgMatches<'a>) -> Result<u8
 
 // Does what the words of a subcommand ask for, and returns the status.
 fn answer<'a>(rt: &HostRuntime, words: &'a [String]) -> Result<u8, Failure<'a>> {
-    let given = given_to(rt, command::command(rt.alloc()), words)?;
+    let given = given_to(rt, command(rt.alloc()), words)?;
     match given.subcommand() {
         Some((name, given)) => do_job(rt, name, given),
         None => Ok(BAD_INPUT),

@@ -72,15 +72,6 @@ pub enum Failure<'a> {
     OutputIsInput {
         name: &'a str,
     },
-    /// The size of the memory isn't one.
-    #[error("--memory: {0}: no size")]
-    Size(&'a str),
-    /// The shard isn't one.
-    #[error("--shard: {0}: not I/N with I from 1 to N")]
-    Shard(&'a str),
-    /// JSON is to be merged row by row.
-    #[error("--sorted: JSON has no lines")]
-    SortedTree,
     /// The system gave no random keys for the hash state.
     #[error("no random numbers: {0}")]
     NotRandom(io::Error),
@@ -128,7 +119,6 @@ impl<'a> Failure<'a> {
             Failure::Line { .. } | Failure::Text { .. } | Failure::Tree { .. } => BAD_INPUT,
             Failure::Pattern(_) | Failure::ReadTwice => BAD_INPUT,
             Failure::OutputIsInput { .. } => BAD_INPUT,
-            Failure::Size(_) | Failure::Shard(_) | Failure::SortedTree => BAD_INPUT,
             Failure::NoMemory { .. } | Failure::NoMemoryLeft => NO_MEMORY,
             Failure::File { error, .. } if error.kind() == io::ErrorKind::InvalidData => BAD_INPUT,
             Failure::File { .. } | Failure::NotRandom(_) => IO_FAILED,

@@ -4,7 +4,7 @@ use crate::failure::Failure;
 use crate::input::{Input, plural, read_block, said};
 use crate::progress::Progress;
 use crate::runs::Runs;
-use crate::settings::Settings;
+use hashbag_words_args::settings::Settings;
 use hashbag_words_core::counter::Fed;
 use hashbag_words_core::errors::Fault;
 use hashbag_words_core::gauge::Gauge;

@@ -6,11 +6,11 @@ use crate::names::check;
 use crate::output::{Made, Output, rows_of};
 use crate::progress::Progress;
 use crate::runs::Runs;
-use crate::settings::{Ask, By, Pair, Settings, Tokens};
 use crate::shown::{show, show_sorted};
 use hashbag::HashBag;
 use hashbag_ops::{keep_common, take_away};
 use hashbag_shell::status::{DENIED, DONE};
+use hashbag_words_args::settings::{Ask, By, Pair, Settings, Tokens};
 use hashbag_words_core::choice::keep_shown;
 use hashbag_words_core::counter::TextCounter;
 use hashbag_words_core::gauge::Gauge;
@@ -85,12 +85,19 @@ fn bound_of<'s, 'a>(
     Some(Bound { gauge, runs })
 }
 
-// Reads the inputs of a job. What they count is then in the bag, and in the runs that were made.
-fn take_in<'a>(inputs: &mut Inputs<'_, 'a, '_>, bag: &mut Bag) -> Result<(), Failure<'a>> {
+// Reads the inputs of a job. What they count is then in the bag, and in the runs that were made; what is merged line by line is returned.
+fn take_in<'a>(
+    inputs: &mut Inputs<'_, 'a, '_>,
+    folder: &'a str,
+    bag: &mut Bag,
+) -> Result<Option<Made<'static>>, Failure<'a>> {
     match inputs.settings.ask {
         Ask::Count(tokens, _) => count(inputs, tokens, bag)?,
         Ask::Merge(rows, _) => inputs.add_all(rows, bag, inputs.names)?,
-        Ask::MergeSorted(form, _) => inputs.add_all(Some(form), bag, inputs.names)?,
+        Ask::MergeSorted(form, _) => {
+            let made = show_sorted(inputs.rt, inputs.settings, form, folder, inputs.names)?;
+            return Ok(Some(made));
+        }
         Ask::Less(pair) => {
             let other = take_pair(inputs, pair, bag)?;
             take_away(bag, &other);
@@ -100,7 +107,7 @@ fn take_in<'a>(inputs: &mut Inputs<'_, 'a, '_>, bag: &mut Bag) -> Result<(), Fai
             keep_common(bag, &other);
         }
     }
-    Ok(())
+    Ok(None)
 }
 
 // Returns what is to be written of runs and of the bag, or `None` if there are no runs. Temporary files are in this folder.
@@ -129,10 +136,6 @@ fn read<'a>(
     folder: &'a str,
     bag: &mut Bag,
 ) -> Result<Option<Made<'static>>, Failure<'a>> {
-    if let Ask::MergeSorted(form, _) = settings.ask {
-        let made = show_sorted(rt, settings, form, folder, names)?;
-        return Ok(Some(made));
-    }
     let bound = bound_of(rt, settings, folder);
     let progress = Progress::new(rt, settings.progress);
     let mut inputs = Inputs {
@@ -142,7 +145,9 @@ fn read<'a>(
         progress,
         bound,
     };
-    take_in(&mut inputs, bag)?;
+    if let Some(made) = take_in(&mut inputs, folder, bag)? {
+        return Ok(Some(made));
+    }
     if let Some(bound) = inputs.bound {
         if let Some(made) = merged(rt, settings, folder, bound.runs, bag)? {
             return Ok(Some(made));

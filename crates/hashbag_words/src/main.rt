@@ -3,7 +3,6 @@
 
 mod bag;
 mod batch;
-mod command;
 mod failure;
 mod input;
 mod inputs;
@@ -12,15 +11,14 @@ mod names;
 mod output;
 mod progress;
 mod runs;
-mod settings;
 mod shown;
-mod size;
 
 use failure::Failure;
 use hashbag_shell::VERSION;
 use hashbag_shell::program::{printed, words_of as given_words};
 use hashbag_shell::status::BAD_INPUT;
-use settings::Settings;
+use hashbag_words_args::command::{command, is_job};
+use hashbag_words_args::settings::Settings;
 use std::alloc::{AllocError, Global};
 use std::process::ExitCode;
 use unicode_segmentation::UNICODE_VERSION;
@@ -30,7 +28,7 @@ fn words_of(alloc: Global, given: &Vec<String>) -> Result<Vec<&str>, AllocError>
     let mut words = Vec::new(alloc);
     words.push("hashbag_words")?;
     let first = given.get(1).map_or("", |word| word.as_str());
-    if !command::is_job(first) {
+    if !is_job(first) {
         words.push("count")?;
     }
     for word in given.iter().skip(1) {
@@ -76,14 +74,14 @@ fn version(alloc: Global) -> Result<String, AllocError> {
 // Parses the arguments, does the job, and returns the exit status.
 fn obey(rt: &HostRuntime, words: &Vec<&str>) -> Result<u8, clap::Error> {
     let version = version(rt.alloc())?;
-    let command = command::command(rt.alloc(), version.as_str())?;
+    let command = command(rt.alloc(), version.as_str())?;
     let matches = command.try_get_matches_from(words.as_slice())?;
     let Some((job, given)) = matches.subcommand() else {
         return Ok(BAD_INPUT);
     };
-    match Settings::of(job, given) {
+    match Settings::of(rt.alloc(), job, given) {
         Ok(settings) => Ok(do_settings(rt, &settings)),
-        Err(failure) => Ok(failure.report(rt)),
+        Err(trouble) => Ok(trouble.report(rt, "hashbag_words")),
     }
 }
 

@@ -1,7 +1,7 @@
 //! The names of the inputs.
 use crate::failure::Failure;
-use crate::settings::{Ask, Settings};
 use hashbag_shell::one_file::is_one_file;
+use hashbag_words_args::settings::{Ask, Settings};
 use std::alloc::{AllocError, Global};
 use std::{env, fs, io};
 

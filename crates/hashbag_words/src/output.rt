@@ -1,8 +1,8 @@
 //! The output: standard output, or a file.
 use crate::bag::Bag;
 use crate::failure::Failure;
-use crate::settings::Settings;
 use hashbag_shell::output_file::OutputFile;
+use hashbag_words_args::settings::Settings;
 use hashbag_words_core::row_text::RowText;
 use hashbag_words_core::shown_text::shown_text;
 use std::fs::File;

@@ -3,7 +3,7 @@ use crate::batch::Batch;
 use crate::failure::Failure;
 use crate::output::Made;
 use crate::runs::{FAN, Runs, Shape, merge_to_file, merge_to_run};
-use crate::settings::Settings;
+use hashbag_words_args::settings::Settings;
 use hashbag_words_core::choice::Order;
 use hashbag_words_core::row_source::Kind;
 use hashbag_words_core::rows::RowForm;
@@ -47,7 +47,7 @@ pub fn show<'a>(
     folder: &'a str,
     mut batch: Batch<'_, 'a>,
 ) -> Result<Made<'static>, Failure<'a>> {
-    if let Order::Commonest(most) = settings.choice.order {
+    if let Order::MostCommon(most) = settings.choice.order {
         return show_top(rt, settings, folder, &mut batch, most);
     }
     let shape = Shape {

@@ -1,7 +1,7 @@
 //! The file of a database.
 use crate::outputs::is_same;
 use crate::stock::failure::Failure;
-use crate::stock::request::Request;
+use hashbag_ledger_args::job::Job;
 use hashbag_stock::error::StockError;
 use hashbag_stock::tables::{Form, Shape, form_of};
 use hashbag_stock::writing::{NewRows, put_batches};
@@ -125,7 +125,7 @@ pub fn open_or_make<'a>(
 /// # Errors
 ///
 /// `NoFile` or `NoStock` if there is none, or why it gives none.
-pub fn open<'a>(rt: &HostRuntime, request: &Request<'a>) -> Result<(Db, Shape), Failure<'a>> {
+pub fn open<'a>(rt: &HostRuntime, request: &Job<'a>) -> Result<(Db, Shape), Failure<'a>> {
     let db = request.db;
     if is_new(rt, db)? {
         return Err(match fs::metadata(rt, db) {

@@ -5,7 +5,7 @@ use crate::stock::database::{
 };
 use crate::stock::failure::Failure;
 use crate::stock::inputs::{Input, inputs_of, movements_of};
-use crate::stock::request::Request;
+use hashbag_ledger_args::job::Job;
 use hashbag_ledger_lib::entering::LedgerError;
 use hashbag_ledger_lib::filing::{Filed, enter_files, refusals_of};
 use hashbag_ledger_lib::ledger::booking::count_refused;
@@ -76,7 +76,7 @@ pub fn start_too_many<'a>(db: &'a str) -> Failure<'a> {
 // Reads the movements of the inputs up to the first that is bad, and returns them with its failure.
 fn all_movements<'a>(
     rt: &HostRuntime,
-    request: &Request<'a>,
+    request: &Job<'a>,
     inputs: &[Input<'a>],
     reading: Reading,
 ) -> Result<(Vec<Vec<Movement<String>>>, Option<Failure<'a>>), Failure<'a>> {
@@ -114,7 +114,7 @@ fn failure_of<'a>(
 // Enters the inputs into the balance that is kept. What is wrong first is the failure.
 fn filed_of<'a>(
     rt: &HostRuntime,
-    request: &Request<'a>,
+    request: &Job<'a>,
     inputs: &[Input<'a>],
     reading: Reading,
     kept: &[(String, usize)],
@@ -155,7 +155,7 @@ fn entered_twice<'a>(inputs: &[Input<'a>], batches: &[Batch]) -> Result<(), Fail
 }
 
 // Returns what holds of the rows of the stock, and how many decimals a new one is made with.
-fn shape_of<'a>(request: &Request<'a>, form: Form) -> Result<(Shape, Option<u32>), Failure<'a>> {
+fn shape_of<'a>(request: &Job<'a>, form: Form) -> Result<(Shape, Option<u32>), Failure<'a>> {
     let db = request.db;
     match (form, request.scale) {
         (Form::Empty, asked) => {
@@ -237,7 +237,7 @@ fn names_of<'a>(alloc: Global, inputs: &[Input<'a>]) -> Result<Vec<&'a str>, All
 // Returns the text of the refusals.
 fn text_of<'a>(
     alloc: Global,
-    request: &Request<'a>,
+    request: &Job<'a>,
     inputs: &[Input<'a>],
     reading: Reading,
     filed: &Filed,
@@ -253,7 +253,7 @@ fn text_of<'a>(
 // Returns what an open database has, if the inputs may be entered into it.
 fn before_in<'a>(
     alloc: Global,
-    request: &Request<'a>,
+    request: &Job<'a>,
     inputs: &[Input<'a>],
     conn: &mut Db,
     shape: Shape,
@@ -280,7 +280,7 @@ fn is_refused(filed: &Filed) -> bool {
 // Returns what the inputs do to an empty stock: what is wrong with one is found before the file of the database is made.
 fn filed_anew<'a>(
     rt: &HostRuntime,
-    request: &Request<'a>,
+    request: &Job<'a>,
     inputs: &[Input<'a>],
 ) -> Result<Filed, Failure<'a>> {
     let reading = request.reading(request.scale.unwrap_or(0));
@@ -295,7 +295,7 @@ fn filed_anew<'a>(
 // meanwhile.
 fn ready_in<'a>(
     rt: &HostRuntime,
-    request: &Request<'a>,
+    request: &Job<'a>,
     inputs: &[Input<'a>],
     conn: &mut Db,
     form: Form,
@@ -320,7 +320,7 @@ fn ready_in<'a>(
 // written.
 fn report_in<'a>(
     rt: &HostRuntime,
-    request: &Request<'a>,
+    request: &Job<'a>,
     inputs: &[Input<'a>],
     conn: &mut Db,
     form: Form,
@@ -345,7 +345,7 @@ fn report_in<'a>(
 
 // Enters the inputs, and returns the text of the refusals and the status. If they are to be entered strictly into a new stock and some
 // movement is refused, no file is made.
-fn report_of<'a>(rt: &HostRuntime, request: &Request<'a>) -> Result<(Vec<u8>, u8), Failure<'a>> {
+fn report_of<'a>(rt: &HostRuntime, request: &Job<'a>) -> Result<(Vec<u8>, u8), Failure<'a>> {
     let db = request.db;
     let inputs = inputs_of(rt, request)?;
     let mut anew = None;
@@ -364,7 +364,7 @@ fn report_of<'a>(rt: &HostRuntime, request: &Request<'a>) -> Result<(Vec<u8>, u8
 }
 
 // Returns a file that is named for two things.
-fn conflict<'a>(rt: &HostRuntime, request: &Request<'a>) -> Result<Option<&'a str>, Failure<'a>> {
+fn conflict<'a>(rt: &HostRuntime, request: &Job<'a>) -> Result<Option<&'a str>, Failure<'a>> {
     for name in [request.from, request.refused] {
         if let Some(file) = name
             && is_of_database(rt, request.db, file)?
@@ -385,7 +385,7 @@ fn conflict<'a>(rt: &HostRuntime, request: &Request<'a>) -> Result<Option<&'a st
 }
 
 // Returns whether the file of refusals is an input.
-fn is_input(rt: &HostRuntime, request: &Request<'_>, refused: &str) -> bool {
+fn is_input(rt: &HostRuntime, request: &Job<'_>, refused: &str) -> bool {
     if let Some(name) = request.from
         && is_same(rt, refused, name)
     {
@@ -399,7 +399,7 @@ fn is_input(rt: &HostRuntime, request: &Request<'_>, refused: &str) -> bool {
 /// # Errors
 ///
 /// Why nothing is entered.
-pub fn enter<'a>(rt: &HostRuntime, request: &Request<'a>) -> Result<u8, Failure<'a>> {
+pub fn enter<'a>(rt: &HostRuntime, request: &Job<'a>) -> Result<u8, Failure<'a>> {
     if let Some(name) = conflict(rt, request)? {
         return Err(Failure::Conflict(name));
     }
@@ -419,7 +419,7 @@ pub fn enter<'a>(rt: &HostRuntime, request: &Request<'a>) -> Result<u8, Failure<
 // Writes the first batch of a new database.
 fn begin_in<'a>(
     rt: &HostRuntime,
-    request: &Request<'a>,
+    request: &Job<'a>,
     scale: u32,
     inputs: &[Input<'a>],
     conn: &mut Db,
@@ -446,7 +446,7 @@ fn begin_in<'a>(
 // Begins a new database with a balance, which is entered as a text of CSV would be.
 fn begin<'a>(
     rt: &HostRuntime,
-    request: &Request<'a>,
+    request: &Job<'a>,
     scale: u32,
     balance: &[(String, usize)],
 ) -> Result<(), Failure<'a>> {
@@ -472,7 +472,7 @@ fn begin<'a>(
 /// # Errors
 ///
 /// Why there is no balance, or why the new database takes none.
-pub fn close<'a>(rt: &HostRuntime, request: &Request<'a>) -> Result<u8, Failure<'a>> {
+pub fn close<'a>(rt: &HostRuntime, request: &Job<'a>) -> Result<u8, Failure<'a>> {
     if is_of_database(rt, request.db, request.into)? {
         return Err(Failure::Conflict(request.into));
     }

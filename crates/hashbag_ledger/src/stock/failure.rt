@@ -1,5 +1,5 @@
 //! Why a subcommand doesn't do all that it is asked, its message and its status.
-use crate::command::PROGRAM;
+use hashbag_ledger_args::command::PROGRAM;
 use hashbag_shell::status::{
     BAD_INPUT, DENIED, ENTERED_BEFORE, IN_USE, IO_FAILED, NO_MEMORY, TOTAL_TOO_LARGE,
 };
@@ -15,12 +15,6 @@ pub enum Failure<'a> {
     /// An input or an output is bad.
     #[error("{0}")]
     Trouble(Trouble<'a>),
-    /// `--columns` has too few or too many names.
-    #[error("--columns takes two or three names: {0}")]
-    Columns(&'a str),
-    /// `--start-columns` has too few or too many names.
-    #[error("--start-columns takes two names: {0}")]
-    StartColumns(&'a str),
     /// A file is named for two things.
     #[error("{0}: both an input and an output, or two outputs")]
     Conflict(&'a str),
@@ -114,9 +108,7 @@ impl Failure<'_> {
             Failure::EnteredBefore { .. } | Failure::SameBytes { .. } => ENTERED_BEFORE,
             Failure::UndoneBefore { .. } => DENIED,
             Failure::UndoneTotal { .. } => TOTAL_TOO_LARGE,
-            Failure::Columns(_)
-            | Failure::StartColumns(_)
-            | Failure::Conflict(_)
+            Failure::Conflict(_)
             | Failure::NoStock { .. }
             | Failure::HasStock { .. }
             | Failure::OtherScale { .. }

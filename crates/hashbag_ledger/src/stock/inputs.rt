@@ -1,6 +1,6 @@
 //! The inputs of `enter`: their bytes, and the movements in them.
 use crate::stock::failure::Failure;
-use crate::stock::request::Request;
+use hashbag_ledger_args::job::Job;
 use hashbag_ledger_lib::movements::Movement;
 use hashbag_ledger_lib::numbers::plain_change;
 use hashbag_ledger_lib::reading::{ChangeColumns, Columns, read_movements};
@@ -38,10 +38,7 @@ fn input_of<'a>(rt: &HostRuntime, file: &'a str, is_start: bool) -> Result<Input
 /// # Errors
 ///
 /// What is wrong with the first file that can't be read, or a failed allocation.
-pub fn inputs_of<'a>(
-    rt: &HostRuntime,
-    request: &Request<'a>,
-) -> Result<Vec<Input<'a>>, Failure<'a>> {
+pub fn inputs_of<'a>(rt: &HostRuntime, request: &Job<'a>) -> Result<Vec<Input<'a>>, Failure<'a>> {
     let mut inputs = Vec::new(rt.alloc());
     if let Some(file) = request.from {
         inputs.push(input_of(rt, file, true)?)?;
@@ -77,7 +74,7 @@ fn plain_movements(
 // Reads the movements of an input.
 fn read<'a>(
     alloc: Global,
-    request: &Request<'a>,
+    request: &Job<'a>,
     input: &Input<'a>,
     at: usize,
     reading: Reading,
@@ -103,7 +100,7 @@ fn read<'a>(
 /// What is wrong with its first bad line, or a failed allocation.
 pub fn movements_of<'a>(
     rt: &HostRuntime,
-    request: &Request<'a>,
+    request: &Job<'a>,
     input: &Input<'a>,
     at: usize,
     reading: Reading,

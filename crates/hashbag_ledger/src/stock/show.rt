@@ -2,7 +2,7 @@
 use crate::stock::database::{is_of_database, open, read};
 use crate::stock::enter::{random_state, start_too_many};
 use crate::stock::failure::Failure;
-use crate::stock::request::Request;
+use hashbag_ledger_args::job::Job;
 use hashbag_ledger_lib::entering::LedgerError;
 use hashbag_ledger_lib::ledger::booking::book_batch;
 use hashbag_ledger_lib::listing::{batches_text, history_text};
@@ -43,7 +43,7 @@ fn chosen_of(
 }
 
 // Writes a table, and returns the status.
-fn write<'a>(rt: &HostRuntime, request: &Request<'a>, text: &[u8]) -> Result<u8, Failure<'a>> {
+fn write<'a>(rt: &HostRuntime, request: &Job<'a>, text: &[u8]) -> Result<u8, Failure<'a>> {
     if let Some(name) = request.output
         && is_of_database(rt, request.db, name)?
     {
@@ -58,7 +58,7 @@ fn write<'a>(rt: &HostRuntime, request: &Request<'a>, text: &[u8]) -> Result<u8,
 /// # Errors
 ///
 /// Why there is none, or why it can't be written.
-pub fn balance<'a>(rt: &HostRuntime, request: &Request<'a>) -> Result<u8, Failure<'a>> {
+pub fn balance<'a>(rt: &HostRuntime, request: &Job<'a>) -> Result<u8, Failure<'a>> {
     let alloc = rt.alloc();
     let (mut conn, shape) = open(rt, request)?;
     let found = balance_of(alloc, &mut conn);
@@ -77,7 +77,7 @@ pub fn balance<'a>(rt: &HostRuntime, request: &Request<'a>) -> Result<u8, Failur
 /// # Errors
 ///
 /// As of [`balance`].
-pub fn history<'a>(rt: &HostRuntime, request: &Request<'a>) -> Result<u8, Failure<'a>> {
+pub fn history<'a>(rt: &HostRuntime, request: &Job<'a>) -> Result<u8, Failure<'a>> {
     let alloc = rt.alloc();
     let article = request.articles.first().copied().unwrap_or("");
     let (mut conn, shape) = open(rt, request)?;
@@ -99,7 +99,7 @@ pub fn history<'a>(rt: &HostRuntime, request: &Request<'a>) -> Result<u8, Failur
 /// # Errors
 ///
 /// As of [`balance`].
-pub fn batches<'a>(rt: &HostRuntime, request: &Request<'a>) -> Result<u8, Failure<'a>> {
+pub fn batches<'a>(rt: &HostRuntime, request: &Job<'a>) -> Result<u8, Failure<'a>> {
     let alloc = rt.alloc();
     let (mut conn, shape) = open(rt, request)?;
     let found = batches_of(alloc, &mut conn, shape);

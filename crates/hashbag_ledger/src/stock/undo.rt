@@ -2,7 +2,7 @@
 use crate::stock::database::{Db, ended, in_database, open, put as put_in};
 use crate::stock::enter::{random_state, start_too_many};
 use crate::stock::failure::Failure;
-use crate::stock::request::Request;
+use hashbag_ledger_args::job::Job;
 use hashbag_ledger_lib::entering::LedgerError;
 use hashbag_ledger_lib::ledger::booking::Booked;
 use hashbag_ledger_lib::movements::{Movement, Refusal};
@@ -30,7 +30,7 @@ struct Found {
 }
 
 // Returns the batch that is asked for, if it may be undone.
-fn found_of<'a>(request: &Request<'a>, batches: &[Batch]) -> Result<Found, Failure<'a>> {
+fn found_of<'a>(request: &Job<'a>, batches: &[Batch]) -> Result<Found, Failure<'a>> {
     let db = request.db;
     let number = i64::try_from(request.batch).unwrap_or(i64::MAX);
     let Some(batch) = batch_of(batches, number) else {
@@ -86,7 +86,7 @@ fn put<'a>(
 fn found_in<'a>(
     alloc: Global,
     conn: &mut Db,
-    request: &Request<'a>,
+    request: &Job<'a>,
     shape: Shape,
 ) -> Result<Found, Failure<'a>> {
     let batches = in_database(request.db, batches_of(alloc, conn, shape))?;
@@ -96,7 +96,7 @@ fn found_in<'a>(
 // Decides about an undo of these movements in a stock with this balance, and what becomes of the rows of that.
 fn undo_of<'a>(
     rt: &HostRuntime,
-    request: &Request<'a>,
+    request: &Job<'a>,
     scale: u32,
     file: &str,
     kept: &[(String, usize)],
@@ -118,7 +118,7 @@ fn undo_of<'a>(
 // Takes the batch back in an open database, and returns the refusals.
 fn take_back_in<'a>(
     rt: &HostRuntime,
-    request: &Request<'a>,
+    request: &Job<'a>,
     shape: Shape,
     conn: &mut Db,
     found: &Found,
@@ -140,7 +140,7 @@ fn take_back_in<'a>(
 // Takes the batch back in an open database, and returns the refusals with the name of its file.
 fn done_in<'a>(
     rt: &HostRuntime,
-    request: &Request<'a>,
+    request: &Job<'a>,
     shape: Shape,
     conn: &mut Db,
 ) -> Result<(Vec<Refusal<String>>, String), Failure<'a>> {
@@ -154,7 +154,7 @@ fn done_in<'a>(
 /// # Errors
 ///
 /// Why the batch can't be taken back.
-pub fn undo<'a>(rt: &HostRuntime, request: &Request<'a>) -> Result<u8, Failure<'a>> {
+pub fn undo<'a>(rt: &HostRuntime, request: &Job<'a>) -> Result<u8, Failure<'a>> {
     let (mut conn, shape) = open(rt, request)?;
     let done = done_in(rt, request, shape, &mut conn);
     let (refusals, file) = ended(conn, done)?;

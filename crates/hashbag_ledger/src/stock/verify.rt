@@ -2,7 +2,7 @@
 use crate::stock::database::{open, read};
 use crate::stock::enter::random_state;
 use crate::stock::failure::Failure;
-use crate::stock::request::Request;
+use hashbag_ledger_args::job::Job;
 use hashbag_ledger_lib::entering::LedgerError;
 use hashbag_ledger_lib::ledger::booking::{Booked, book_batch, refusals_from};
 use hashbag_ledger_lib::numbers::MOST;
@@ -131,7 +131,7 @@ fn agreement(
 /// # Errors
 ///
 /// Why they can't be read, or the answer can't be written.
-pub fn verify<'a>(rt: &HostRuntime, request: &Request<'a>) -> Result<u8, Failure<'a>> {
+pub fn verify<'a>(rt: &HostRuntime, request: &Job<'a>) -> Result<u8, Failure<'a>> {
     let alloc = rt.alloc();
     let (mut conn, shape) = open(rt, request)?;
     let found = everything_of(alloc, &mut conn, shape);

@@ -1,7 +1,8 @@
 //! What the arguments ask for.
+use crate::columns::{columns_of, start_columns_of};
 use crate::command::{COLUMNS, START_COLUMNS, command};
 use clap::ArgMatches;
-use hashbag_ledger_lib::reading::{ChangeColumns, Columns};
+use hashbag_ledger_lib::reading::Columns;
 use hashbag_lists::counts::Reading;
 use hashbag_shell::options::word;
 use hashbag_shell::program::given_to;
@@ -27,31 +28,6 @@ pub struct Request<'a> {
     pub refused: Option<&'a str>,
     /// Whether, after a refusal, only the first refusal is written.
     pub strict: bool,
-}
-
-/// Returns the columns of two or three names with commas between them.
-pub fn columns_of(names: &str) -> Option<Columns<&str>> {
-    let mut parts = names.split(',');
-    let article = parts.next()?;
-    let second = parts.next()?;
-    let third = parts.next();
-    if parts.next().is_some() {
-        return None;
-    }
-    let change = match third {
-        Some(number) => ChangeColumns::ByKind(second, number),
-        None => ChangeColumns::Signed(second),
-    };
-    Some(Columns { article, change })
-}
-
-/// Returns two names that have a comma between them.
-pub fn pair_of(names: &str) -> Option<(&str, &str)> {
-    let (first, second) = names.split_once(',')?;
-    if second.contains(',') {
-        return None;
-    }
-    Some((first, second))
 }
 
 // Returns the delimiter, and how numbers are written.
@@ -101,15 +77,7 @@ pub fn parse<'a, R: Print + Eprint + AllocGlobal>(
 ) -> Result<Request<'a>, Trouble<'a>> {
     let alloc = rt.alloc();
     let given = given_to(rt, command(alloc), words)?;
-    let names = given.get_str("columns").unwrap_or(COLUMNS);
-    let Some(columns) = columns_of(names) else {
-        let what = format!(in alloc; "--columns takes two or three names: {names}")?;
-        return Err(Trouble::Words(what));
-    };
-    let names = given.get_str("start-columns").unwrap_or(START_COLUMNS);
-    let Some(start_columns) = pair_of(names) else {
-        let what = format!(in alloc; "--start-columns takes two names: {names}")?;
-        return Err(Trouble::Words(what));
-    };
+    let columns = columns_of(alloc, word(&given, "columns", COLUMNS))?;
+    let start_columns = start_columns_of(alloc, word(&given, "start-columns", START_COLUMNS))?;
     Ok(request_of(alloc, &given, start_columns, columns)?)
 }

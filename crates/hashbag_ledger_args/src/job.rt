@@ -1,18 +1,19 @@
-//! What the arguments of a subcommand ask for.
-use crate::arguments::{columns_of, pair_of};
+//! What is asked of a database, by a subcommand's arguments.
+use crate::columns::{columns_of, start_columns_of};
 use crate::command::{COLUMNS, START_COLUMNS};
-use crate::stock::failure::Failure;
 use clap::ArgMatches;
 use hashbag_ledger_lib::numbers::MOST;
 use hashbag_ledger_lib::reading::Columns;
 use hashbag_lists::counts::Reading;
 use hashbag_lists::delimiter::Delimiter;
 use hashbag_lists::scale::{Mark, Scale};
-use std::alloc::Global;
+use hashbag_shell::options::word;
+use hashbag_shell::trouble::Trouble;
+use std::alloc::{AllocError, Global};
 
 /// What a subcommand is asked to do.
 #[derive(Drop)]
-pub struct Request<'a> {
+pub struct Job<'a> {
     /// The file of the database.
     pub db: &'a str,
     /// For how many seconds to wait while it is in use.
@@ -52,7 +53,7 @@ fn words_of<'a>(
     alloc: Global,
     given: &ArgMatches<'a>,
     name: &str,
-) -> Result<Vec<&'a str>, Failure<'a>> {
+) -> Result<Vec<&'a str>, AllocError> {
     let mut words = Vec::new(alloc);
     for word in given.get_strs(name).unwrap_or(&[]) {
         words.push(*word)?;
@@ -61,7 +62,7 @@ fn words_of<'a>(
 }
 
 // Returns the files of movements: standard input if none is named, and no stock at the beginning either.
-fn files_of<'a>(alloc: Global, given: &ArgMatches<'a>) -> Result<Vec<&'a str>, Failure<'a>> {
+fn files_of<'a>(alloc: Global, given: &ArgMatches<'a>) -> Result<Vec<&'a str>, AllocError> {
     let mut files = words_of(alloc, given, "MOVES.csv")?;
     if files.is_empty() && given.get_str("from").is_none() {
         files.push("-")?;
@@ -69,26 +70,20 @@ fn files_of<'a>(alloc: Global, given: &ArgMatches<'a>) -> Result<Vec<&'a str>, F
     Ok(files)
 }
 
-impl<'a> Request<'a> {
+impl<'a> Job<'a> {
     /// Returns what these arguments ask for.
     ///
     /// # Errors
     ///
-    /// `Columns` or `StartColumns` if the names of columns are too few or too many, `Trouble` if an allocation fails.
-    pub fn of(alloc: Global, given: &ArgMatches<'a>) -> Result<Request<'a>, Failure<'a>> {
-        let names = given.get_str("columns").unwrap_or(COLUMNS);
-        let Some(columns) = columns_of(names) else {
-            return Err(Failure::Columns(names));
-        };
-        let names = given.get_str("start-columns").unwrap_or(START_COLUMNS);
-        let Some(start_columns) = pair_of(names) else {
-            return Err(Failure::StartColumns(names));
-        };
+    /// `Words` if the names of columns are too few or too many, `Memory` if an allocation fails.
+    pub fn of(alloc: Global, given: &ArgMatches<'a>) -> Result<Job<'a>, Trouble<'a>> {
+        let columns = columns_of(alloc, word(given, "columns", COLUMNS))?;
+        let start_columns = start_columns_of(alloc, word(given, "start-columns", START_COLUMNS))?;
         let scale = match given.get_str("scale") {
             Some(digits) => digits.parse().ok(),
             None => None,
         };
-        Ok(Request {
+        Ok(Job {
             db: given.get_str("db").unwrap_or(""),
             wait: given.get_one::<usize>("wait").unwrap_or(5),
             files: files_of(alloc, given)?,

@@ -1,12 +1,13 @@
 //! What the arguments ask for.
-use crate::failure::Failure;
 use crate::size::bytes_of;
 use clap::ArgMatches;
+use hashbag_shell::trouble::Trouble;
 use hashbag_words_core::choice::{Choice, Order};
 use hashbag_words_core::lines::BadLines;
 use hashbag_words_core::rows::RowForm;
 use hashbag_words_core::shards::Shard;
 use hashbag_words_core::writing::Format;
+use std::alloc::Global;
 
 /// What is counted.
 #[derive(Clone, Copy, Debug, PartialEq, Eq)]
@@ -121,16 +122,27 @@ fn by_of<'a>(given: &ArgMatches<'a>) -> By<'a> {
 
 fn order_of(given: &ArgMatches<'_>) -> Order {
     match given.get_one::<usize>("top") {
-        Some(k) => Order::Commonest(k),
+        Some(k) => Order::MostCommon(k),
         None if given.get_flag("unsorted") => Order::Open,
         None => Order::Rising,
     }
 }
 
+// Returns the shard of its text.
+fn shard_of<'a>(alloc: Global, text: &str) -> Result<Shard, Trouble<'a>> {
+    match Shard::of_text(text) {
+        Some(shard) => Ok(shard),
+        None => {
+            let what = format!(in alloc; "--shard: {text}: not I/N with I from 1 to N")?;
+            Err(Trouble::Words(what))
+        }
+    }
+}
+
 // Returns which counts are shown, and in what order.
-fn choice_of<'a>(given: &ArgMatches<'a>) -> Result<Choice, Failure<'a>> {
+fn choice_of<'a>(alloc: Global, given: &ArgMatches<'a>) -> Result<Choice, Trouble<'a>> {
     let shard = match given.get_str("shard") {
-        Some(text) => Some(Shard::of_text(text).ok_or(Failure::Shard(text))?),
+        Some(text) => Some(shard_of(alloc, text)?),
         None => None,
     };
     Ok(Choice {
@@ -141,10 +153,16 @@ fn choice_of<'a>(given: &ArgMatches<'a>) -> Result<Choice, Failure<'a>> {
 }
 
 // Returns the bound of the memory in bytes, if there is one.
-fn memory_of<'a>(given: &ArgMatches<'a>) -> Result<Option<usize>, Failure<'a>> {
-    match given.get_str("memory") {
-        Some(text) => Ok(Some(bytes_of(text).ok_or(Failure::Size(text))?)),
-        None => Ok(None),
+fn memory_of<'a>(alloc: Global, given: &ArgMatches<'a>) -> Result<Option<usize>, Trouble<'a>> {
+    let Some(text) = given.get_str("memory") else {
+        return Ok(None);
+    };
+    match bytes_of(text) {
+        Some(bytes) => Ok(Some(bytes)),
+        None => {
+            let what = format!(in alloc; "--memory: {text}: no size")?;
+            Err(Trouble::Words(what))
+        }
     }
 }
 
@@ -173,11 +191,11 @@ fn tokens_of<'a>(given: &ArgMatches<'a>) -> Tokens<'a> {
     }
 }
 
-fn many_of<'a, 'm>(given: &'m ArgMatches<'a>) -> Result<Many<'a, 'm>, Failure<'a>> {
+fn many_of<'a, 'm>(alloc: Global, given: &'m ArgMatches<'a>) -> Result<Many<'a, 'm>, Trouble<'a>> {
     Ok(Many {
         files: given.get_strs("files"),
         files_from: given.get_str("files-from"),
-        memory: memory_of(given)?,
+        memory: memory_of(alloc, given)?,
         tmp: given.get_str("tmp"),
     })
 }
@@ -191,16 +209,23 @@ fn pair_of<'a>(given: &ArgMatches<'a>) -> Pair<'a> {
 }
 
 // Returns the job of this name.
-fn ask_of<'a, 'm>(name: &str, given: &'m ArgMatches<'a>) -> Result<Ask<'a, 'm>, Failure<'a>> {
+fn ask_of<'a, 'm>(
+    alloc: Global,
+    name: &str,
+    given: &'m ArgMatches<'a>,
+) -> Result<Ask<'a, 'm>, Trouble<'a>> {
     match name {
         "merge" if given.get_flag("sorted") => {
-            let form = rows_of(given).ok_or(Failure::SortedTree)?;
-            Ok(Ask::MergeSorted(form, many_of(given)?))
+            let Some(form) = rows_of(given) else {
+                let what = format!(in alloc; "--sorted: JSON has no lines")?;
+                return Err(Trouble::Words(what));
+            };
+            Ok(Ask::MergeSorted(form, many_of(alloc, given)?))
         }
-        "merge" => Ok(Ask::Merge(rows_of(given), many_of(given)?)),
+        "merge" => Ok(Ask::Merge(rows_of(given), many_of(alloc, given)?)),
         "less" => Ok(Ask::Less(pair_of(given))),
         "common" => Ok(Ask::Common(pair_of(given))),
-        _ => Ok(Ask::Count(tokens_of(given), many_of(given)?)),
+        _ => Ok(Ask::Count(tokens_of(given), many_of(alloc, given)?)),
     }
 }
 
@@ -209,18 +234,22 @@ impl<'a, 'm> Settings<'a, 'm> {
     ///
     /// # Errors
     ///
-    /// `Size` or `Shard` if the word of that option has no meaning, `SortedTree` if JSON is to be merged line by line.
-    pub fn of(name: &str, given: &'m ArgMatches<'a>) -> Result<Settings<'a, 'm>, Failure<'a>> {
+    /// `Words` if the word of `--memory` or `--shard` has no meaning, or if JSON is to be merged line by line. `Memory` if an allocation fails.
+    pub fn of(
+        alloc: Global,
+        name: &str,
+        given: &'m ArgMatches<'a>,
+    ) -> Result<Settings<'a, 'm>, Trouble<'a>> {
         let bad_lines = if given.get_flag("skip-bad") {
             BadLines::Skipped
         } else {
             BadLines::Refused
         };
         Ok(Settings {
-            ask: ask_of(name, given)?,
+            ask: ask_of(alloc, name, given)?,
             bad_lines,
             progress: given.get_flag("progress"),
-            choice: choice_of(given)?,
+            choice: choice_of(alloc, given)?,
             format: format_of(given),
             output: given.get_str("output"),
             fail_empty: given.get_flag("fail-empty"),
