@@ -35,7 +35,7 @@ pub fn take_each<T: Eq + Hash + Drop, S: BuildHasher + Drop>(
     before - bag.len()
 }
 
-/// Returns the commonest value of a list, or `None` if it is empty.
+/// Returns the most common value of a list, or `None` if it is empty.
 pub fn commonest<T: Ord + Hash + Copy + Drop>(
     alloc: Global,
     values: Vec<T>,

@@ -1,5 +1,5 @@
 -- For callers: how often each value occurs after a call, from the clause that says what the bag then means (`IsBagOf`,
--- `Extends`, `IsRetained`). docs/CALLING.md shows which call needs which.
+-- `InsertsAll`, `IsRetained`). Each comment says after which call, and by which clause.
 --
 -- `laws` is `g.met.T.Eq.laws` under a bound `T: Eq`, and `nat_eq_equiv` of `Rattle.std.specs.Cmp` at unsigned numbers.
 use Rattle.std.proofs.Common.{◌≡◌, ℕ, zero, suc, ◌+◌, ◌-◌, ◌<◌, ◌≤◌, min, Bool, true, false, cond, nat_lt, List, [], ◌∷◌, ◌++◌, length, replicate, take, drop, get_or, filter, map, count_by, sum_by, Option, String, string_bytes, Result, Ok, Err, IfErr, refl, sym, ◌∙◌, ap, subst, arith}
@@ -55,7 +55,7 @@ pairs_as_they_are [] (p ∷ pairs) h = absurd h
 pairs_as_they_are (e ∷ came) [] h = absurd h
 pairs_as_they_are (e ∷ came) (p ∷ pairs) h = λ i. h.0 i ∷ pairs_as_they_are came pairs h.1 i
 
--- a text names one `String`: the law `names_one` of the key `&str`, whose bytes are k
+-- the law `one` of a text as a key: a text names one `String`, whose bytes are k
 pub text_names_one : {Z : Type 0} (k : List ℕ) (x w : String Z) → bytes_eq (string_bytes x) k ≡ true → bytes_eq (string_bytes w) k ≡ string_eq w x
 text_names_one k x w does =
     nat_list_eq_equiv.symm (string_bytes w) k ∙ nat_list_eq_equiv.congr k (string_bytes x) (string_bytes w) (nat_list_eq_equiv.symm k (string_bytes x) ∙ does)
@@ -147,80 +147,86 @@ module _ {T : Type 0} {eq : T → T → Bool} (laws : IsEquivalence eq) where
 
   -- ---- keys
 
-  -- a key names what equals any value that it names. `one` is its law `names_one`
+  -- if the key names v (`does`), what it names occurs as often as v. `one` is the key's law `names_one`
   pub count_of_key : (v : T) (names : T → Bool) → ((x w : T) → names x ≡ true → names w ≡ eq w x) → names v ≡ true → (X : List T) → count_named names X ≡ count eq v X
   count_of_key v names one does X = ap (λ (test : T → Bool). count_named test X) (named_is eq laws names one v does)
 
-  -- a removal by a key that names x is one of x
+  -- a removal by a key that names x is one of x, so that a proof goes on as at `&x`. `one` is the key's law `names_one`
   pub less_of_key : (x : T) (names : T → Bool) → ((y w : T) → names y ≡ true → names w ≡ eq w y) → names x ≡ true → (n : ℕ) (X : List T) → less_named names n X ≡ less eq x n X
   less_of_key x names one does n X = ap (λ (test : T → Bool). less_named test n X) (named_is eq laws names one x does)
 
   -- ---- bags
 
   module _ {S : Type 0} (before after : Bag T S) where
-    -- a bag has the counts of each list that it means
+    -- any call: the bag has the counts of each list X that it means, as by `IsBagOf`
     pub count_means : (v : T) (X : List T) → Means after X → count eq v after.items ≡ count eq v X
     count_means v X means = sym (count_rearranged laws v X after.items means)
 
-    -- after `reserve` and `shrink_to_fit` each count is what it was
+    -- after `reserve`, `use_spare`, `shrink_to_fit`, `finish_carry` (`items`): each count is what it was
     pub count_kept : (v : T) → IsBagOf eq before before.items after → count eq v after.items ≡ count eq v before.items
     count_kept v h = count_means v before.items h.means
 
-    -- after `insert` and `insert_many`, and an entry's `or_insert` that put something in: of x, and of a value that doesn't equal x
+    -- after `insert`, `insert_many` (`added` of `inserted`), or an entry that inserted (`added` of `vacant`): x occurs n times more
     pub count_inserted : (x : T) (n : ℕ) → IsBagOf eq before (add eq x n before.items) after → count eq x after.items ≡ count eq x before.items + n
     count_inserted x n h = count_means x (add eq x n before.items) h.means ∙ count_added laws x x n before.items ∙ ap (λ (b : Bool). count eq x before.items + cond b n 0) (laws.refl x)
 
+    -- after the same, if v doesn't equal x: v occurs as often as before
     pub count_inserted_other : (v x : T) (n : ℕ) → IsBagOf eq before (add eq x n before.items) after → eq v x ≡ false → count eq v after.items ≡ count eq v before.items
     count_inserted_other v x n h other =
         let all = count_means v (add eq x n before.items) h.means in
         let more : count eq v (add eq x n before.items) ≡ count eq v before.items + 0 = count_added laws v x n before.items ∙ ap (λ (b : Bool). count eq v before.items + cond b n 0) other in
         omega arith
 
-    -- the same in one line, for every value v
+    -- after the same, of every value v: n times more if v equals x, else as often as before
     pub count_inserted_any : (v x : T) (n : ℕ) → IsBagOf eq before (add eq x n before.items) after → count eq v after.items ≡ count eq v before.items + cond (eq v x) n 0
     count_inserted_any v x n h = count_means v (add eq x n before.items) h.means ∙ count_added laws v x n before.items
 
-    -- after `insert_key` (n is 1) and `insert_many_key`: n more of what the key names. `one` is the key's law `names_one`
+    -- after `insert_key`, `insert_many_key` (`inserted`): n times more if the key names v, else as often as before. `one` is the key's law
+    -- `names_one`
     pub count_inserted_key : (v : T) (names : T → Bool) (n : ℕ) → ((x w : T) → names x ≡ true → names w ≡ eq w x) → InsertsNamed eq names n before after → count eq v after.items ≡ count eq v before.items + cond (names v) n 0
     count_inserted_key v names n one h = count_inserted_any v h.0 n h.2.added ∙ ap (λ (b : Bool). count eq v before.items + cond b n 0) (sym (one h.0 v h.1))
 
-    -- after `remove` (n is 1), `remove_up_to`, `take_one` (n is 1) and `take_all` (n is the count)
+    -- after `remove`, `remove_up_to`, `take_one`, `take_all` (`left` of `fewer`): x occurs n times less, or not at all
     pub count_removed : (x : T) (n : ℕ) → IsBagOf eq before (less eq x n before.items) after → count eq x after.items ≡ count eq x before.items - n
     count_removed x n h = count_means x (less eq x n before.items) h.means ∙ count_less_at x x n before.items true (laws.refl x)
 
+    -- after the same, if v doesn't equal x: v occurs as often as before
     pub count_removed_other : (v x : T) (n : ℕ) → IsBagOf eq before (less eq x n before.items) after → eq v x ≡ false → count eq v after.items ≡ count eq v before.items
     count_removed_other v x n h other = count_means v (less eq x n before.items) h.means ∙ count_less_at v x n before.items false other
 
-    -- the same in one line, for every value v
+    -- after the same, of every value v: n times less, or not at all, if v equals x, else as often as before
     pub count_removed_any : (v x : T) (n : ℕ) → IsBagOf eq before (less eq x n before.items) after → count eq v after.items ≡ cond (eq v x) (count eq v before.items - n) (count eq v before.items)
     count_removed_any v x n h = count_means v (less eq x n before.items) h.means ∙ count_less v x n before.items
 
-    -- after a removal of n by a key that names x. `one` is the key's law `names_one`
+    -- after a removal by a key that names x (`does`): x occurs n times less, or not at all. `one` is the key's law `names_one`
     pub count_removed_key : (x : T) (names : T → Bool) (n : ℕ) → ((y w : T) → names y ≡ true → names w ≡ eq w y) → names x ≡ true → IsBagOf eq before (less_named names n before.items) after → count eq x after.items ≡ count eq x before.items - n
     count_removed_key x names n one does h =
         count_means x (less_named names n before.items) h.means ∙ ap (λ (X : List T). count eq x X) (less_of_key x names one does n before.items) ∙ count_less_at x x n before.items true (laws.refl x)
 
-    -- after `replace` (n is 1)
+    -- after `replace` (`stored` of `replaced`): x occurs n times, here once
     pub count_replaced : (x : T) (n : ℕ) → IsBagOf eq before (put eq x n before.items) after → count eq x after.items ≡ n
     count_replaced x n h = count_means x (put eq x n before.items) h.means ∙ count_put_at x x n before.items true (laws.refl x)
 
+    -- after the same, if v doesn't equal x: v occurs as often as before
     pub count_replaced_other : (v x : T) (n : ℕ) → IsBagOf eq before (put eq x n before.items) after → eq v x ≡ false → count eq v after.items ≡ count eq v before.items
     count_replaced_other v x n h other = count_means v (put eq x n before.items) h.means ∙ count_put_at v x n before.items false other
 
-    -- after an entry's `and_modify` that left n
+    -- after `set_count` (`set`), or an `and_modify` that left n (`changes`: `present`, `absent`): x occurs n times
     pub count_set : (x : T) (n : ℕ) → IsBagOf eq before (put eq (instance_or_itself eq x before.items) n before.items) after → count eq x after.items ≡ n
     count_set x n h =
         count_means x (put eq (instance_or_itself eq x before.items) n before.items) h.means ∙ count_put_instance x x n before.items ∙ ap (λ (b : Bool). cond b n (count eq x before.items)) (laws.refl x)
 
+    -- after the same, if v doesn't equal x: v occurs as often as before
     pub count_set_other : (v x : T) (n : ℕ) → IsBagOf eq before (put eq (instance_or_itself eq x before.items) n before.items) after → eq v x ≡ false → count eq v after.items ≡ count eq v before.items
     count_set_other v x n h other =
         count_means v (put eq (instance_or_itself eq x before.items) n before.items) h.means ∙ count_put_instance v x n before.items ∙ ap (λ (b : Bool). cond b n (count eq v before.items)) other
 
-  -- after the extends and collections: as many more as the numbers beside the values that equal v. X is what the bag had, [] for a collection
+  -- after extends and collections (`all` by `all_added`, `refused` by `some_added`): v occurs as often as in X, and as the numbers of the
+  -- pairs whose value equals v add up to. X is what the bag had, [] for a collection
   pub count_extended : {S : Type 0} (v : T) (X : List T) (pairs : List (T × ℕ)) (after : Bag T S) → Means after (add_all eq X pairs) → count eq v after.items ≡ count eq v X + sum_by (λ p. cond (eq v p.0) p.1 0) pairs
   count_extended v X pairs after means = sym (count_rearranged laws v (add_all eq X pairs) after.items means) ∙ count_all_added laws v X pairs
 
-  -- the items of a collection, each once, are as often among its pairs as in their list
+  -- if each item is inserted once, the numbers of the pairs whose value equals v add up to its count in the list
   pub count_once : (v : T) (xs : List T) (pairs : List (T × ℕ)) → AllZip Once xs pairs → sum_by (λ p. cond (eq v p.0) p.1 0) pairs ≡ count eq v xs
   count_once v [] [] h = refl
   count_once v [] (p ∷ pairs) h = absurd h
@@ -233,14 +239,14 @@ module _ {T : Type 0} {eq : T → T → Bool} (laws : IsEquivalence eq) where
       let later = count_once v xs pairs h.1 in
       omega arith
 
-  -- one more item of a list, as a loop goes over it
+  -- the count in the first k + 1 items of a list, as a loop goes over it, from that in the first k
   pub count_take_next : (v : T) (xs : List T) (k : ℕ) (d : T) → k < length xs → count eq v (take (k + 1) xs) ≡ count eq v (take k xs) + cond (eq v (get_or xs k d)) 1 0
   count_take_next v xs k d below =
       ap (λ (l : List T). count eq v l) (take_more xs k d below) ∙ count_append laws v (take k xs) (get_or xs k d ∷ []) ∙ ap (λ (n : ℕ). count eq v (take k xs) + n) (none_before _)
 
   -- ---- equality
 
-  -- bags with the same counts are equal
+  -- `==`: bags with the same counts are equal
   pub equal_from_counts : {S : Type 0} (a b : Bag T S) → SameCounts eq a.items b.items → bag_eq eq a b ≡ true
   equal_from_counts a b same = (same_counts-Decides laws a.items b.items).1 same
 
@@ -251,7 +257,7 @@ module _ {T : Type 0} {eq : T → T → Bool} (laws : IsEquivalence eq) where
 
   -- ---- differences
 
-  -- a value of which X has more than Y is listed with its excess
+  -- of a `difference`: a value of which X has more than Y is listed with its excess
   pub excess_listed : (X Y : List T) (E : List (T × ℕ)) → IsDifference eq X Y E → (v : T) → 0 < count eq v X - count eq v Y → (x : T) × Contains E (x, count eq v X - count eq v Y)
   excess_listed X Y E h v some =
       let found = an_instance laws v X (omega arith) in
@@ -260,7 +266,7 @@ module _ {T : Type 0} {eq : T → T → Bool} (laws : IsEquivalence eq) where
       let in_Y = count_congr laws Y v x found.2 in
       (x, (h.exactly x (count eq v X - count eq v Y)).1 (found.1, (λ i. in_X i - in_Y i), some))
 
-  -- so where nothing is listed X has no more of any value
+  -- of a `difference`: if nothing is listed, X has no more of any value than Y
   pub none_listed : (X Y : List T) (E : List (T × ℕ)) → IsDifference eq X Y E → E ≡ [] → (v : T) → count eq v X ≤ count eq v Y
   none_listed X Y E h none v = by_excess (count eq v X - count eq v Y) refl
     where
@@ -268,7 +274,7 @@ module _ {T : Type 0} {eq : T → T → Bool} (laws : IsEquivalence eq) where
       by_excess zero e = omega arith
       by_excess (suc n) e = let there = excess_listed X Y E h v (omega arith) in absurd (not_in_nil _ (Contains-same E [] _ none there.1))
 
-  -- and what is listed X has more often
+  -- of a `difference`: X has more of what is listed than Y
   pub listed_exceeds : (X Y : List T) (E : List (T × ℕ)) → IsDifference eq X Y E → (e : T × ℕ) → Contains E e → count eq e.0 Y < count eq e.0 X
   listed_exceeds X Y E h e there =
       let is = (h.exactly e.0 e.1).0 there in
@@ -319,8 +325,8 @@ module _ {T : Type 0} {eq : T → T → Bool} (laws : IsEquivalence eq) where
         ap (λ (l : List T). count eq v l) (entry_kept (nat_lt 0 (min (many e.0) e.1)) e.0 (min (many e.0) e.1) (kept W (map (λ e. many e.0) W)) refl)
         ∙ kept_step v e W (kept W (map (λ e. many e.0) W)) (eq v e.0) refl (absent_later laws e W distinct) (count_of_kept v W (IsDistinct-tail eq e.0 (keys_of W) distinct))
 
-    -- after `retain`: the lesser of the count and what the closure answers for the value. `answers_are` (`RetainLemmas`) shows that
-    -- the answers are those
+    -- after `retain` (`retained`): the lesser of the count before and `many v`, if the closure returns `many` of the value alone, as
+    -- `answers_are` of `RetainLemmas` shows
     pub count_retained : {F S : Type 0} (g : Mut F (Bor T × (ℕ × Unit {0})) ℕ) (f : F) (before after : Bag T S) (done : IsRetained eq g f before after) → done.answers ≡ map (λ e. many e.0) done.walk
         → (v : T) → count eq v after.items ≡ min (many v) (count eq v before.items)
     count_retained g f before after done are v =
@@ -340,7 +346,7 @@ pub items_that_came : {S A B : Type 0} {steps : S → Option A → S → Type 0}
 items_that_came came h yields = items_from_drains came (h.1.0, h.1.1, λ _. (h.0, h.1.2)) yields
 
 module _ {T : Type 0} {eq : T → T → Bool} (laws : IsEquivalence eq) where
-  -- after an `extend` by the items of a known list, or `from_iter` of them
+  -- after an `extend` by a known list xs, or `from_iter` (`all`): v occurs as often more as in xs
   pub count_listed : {S I : Type 0} {steps : I → Option T → I → Type 0} {it : I} (before after : Bag T S) (xs : List T) → InsertsAll eq steps Once it before after → YieldsList steps (λ x. x) it xs
       → (v : T) → count eq v after.items ≡ count eq v before.items + count eq v xs
   count_listed before after xs all yields v =
@@ -353,7 +359,8 @@ module _ {T : Type 0} {eq : T → T → Bool} (laws : IsEquivalence eq) where
   moved_at true f f' t t' n some less more = let least = some refl in omega arith
   moved_at false f f' t t' n some less more = omega arith
 
-  -- n of x were removed from one bag, which had them, and n of an equal y inserted into another: both together have as many of each value
+  -- after a removal of n of x from one bag, which had them (`left` of `fewer`), and an insertion of n of an equal y into another (`added` of
+  -- `inserted`): both together have v as often as before
   pub count_moved : {S S2 : Type 0} (from from' : Bag T S) (to to' : Bag T S2) (v x y : T) (n : ℕ) → eq x y ≡ true
       → n ≤ count eq x from.items → IsBagOf eq from (less eq x n from.items) from' → IsBagOf eq to (add eq y n to.items) to'
       → count eq v from'.items + count eq v to'.items ≡ count eq v from.items + count eq v to.items
@@ -361,7 +368,7 @@ module _ {T : Type 0} {eq : T → T → Bool} (laws : IsEquivalence eq) where
       let went = count_inserted_any laws to to' v y n more ∙ ap (λ (b : Bool). count eq v to.items + cond b n 0) (laws.symm v y ∙ sym (laws.congr x y v alike) ∙ laws.symm x v) in
       moved_at (eq v x) _ _ _ _ n (λ same. let equal = count_congr laws from.items v x same in omega arith) (count_removed_any laws from from' v x n less) went
 
--- of a value that is removed one by one, as far as it occurs, `seen` times so far: what is left after the next removal
+-- after the next `remove` of a loop over a list: as many less than at the start as the list so far has (`seen`), or none
 pub left_after : (b : Bool) (start old new seen seen' : ℕ) → old ≡ start - seen → new ≡ cond b (old - 1) old → seen' ≡ seen + cond b 1 0 → new ≡ start - seen'
 left_after true start old new seen seen' before gone next = omega arith
 left_after false start old new seen seen' before gone next = omega arith

@@ -1,4 +1,4 @@
--- Insertions in turn: what they leave of the occurrences, of the slots and of the room, and what may be refused after them.
+-- Insertions in turn: what they leave of the occurrences, of the slots and of the room, and why one may fail after them.
 use Rattle.std.proofs.Common.{◌≡◌, ℕ, ◌+◌, ◌<◌, ◌≤◌, Bool, List, [], ◌∷◌, ◌++◌, length, sum_by, Option, Some, Result, Ok, Err, IsOk, IfErr, refl, sym, ◌∙◌, ap, subst, append_assoc, inl, inr, arith}
 use Rattle.std.specs.Cmp.{IsEquivalence}
 use Rattle.std.specs.Iterator.{Drains, YieldsThen}
@@ -92,6 +92,8 @@ module _ {T S : Type 0} (eq : T → T → Bool) where
     ]
   ]
 
+  -- of pairs that were inserted one after the other: within the room there are as many slots, no table is built, and room is lower by no
+  -- more than the new values
   pub spends_in_turn : (pairs : List (T × ℕ)) (before after : Bag T S) → InTurn eq pairs before after → Spends before after
   spends_in_turn [] before after same = subst (λ (b : Bag T S). Spends before b) (sym same) (spends_none before)
   spends_in_turn (p ∷ pairs) before after h = spends_trans before h.0 after (spends_inserted p.0 p.1 before h.0 h.1) (spends_in_turn pairs h.0 after h.2)
@@ -112,7 +114,8 @@ module _ {T S : Type 0} (eq : T → T → Bool) where
 
   -- ---- refusals
 
-  -- memory is refused to an item only once as many distinct values came as there was room for
+  -- if an item failed with `Memory` (`IsRefused`), as many new values had arrived as there was room for. Over references a clone may have
+  -- failed instead
   pub refused_past_room : (pairs : List (T × ℕ)) (before after : Bag T S) (v : T) (n : ℕ) → InTurn eq pairs before after → IsRefused eq after v n Memory
       → distinct_count eq before.items + room before.tables ≤ distinct_count eq after.items
   refused_past_room pairs before after v n h declined =
@@ -176,10 +179,12 @@ module _ {T S : Type 0} {eq : T → T → Bool} (laws : IsEquivalence eq) where
 
   -- ---- for callers, of the clauses of extends and collections
 
+  -- of `all` of extends and collections: the bag means what it had, and the pairs
   pub all_added : {I A : Type 0} {steps : I → Option A → I → Type 0} {Goes : A → T × ℕ → Type 0} {it : I} {before after : Bag T S} → (h : InsertsAll eq steps Goes it before after)
       → IsBagOf eq before (add_all eq before.items h.pairs) after
   all_added {before = before} {after = after} h = left_in_turn h.pairs before after h.bag h.turn
 
+  -- of `refused` of extends and collections: the bag means what it had, and the pairs before the item that failed
   pub some_added : {I A : Type 0} {steps : I → Option A → I → Type 0} {Goes : A → T × ℕ → Type 0} {Why : Bag T S → A → BagError → Type 0} {it : I} {before after : Bag T S} {e : BagError}
       → (h : InsertsUpTo eq steps Goes Why it before after e) → IsBagOf eq before (add_all eq before.items h.pairs) after
   some_added {before = before} {after = after} h = left_in_turn h.pairs before after h.bag h.turn
@@ -204,6 +209,7 @@ module _ {T S : Type 0} {eq : T → T → Bool} (laws : IsEquivalence eq) where
       let empty : start ≡ limited bag.most (empty_bag bag.hasher) = λ i. record { items = none i; hasher = sym same i; tables = slots i; most = sym limit i } in
       subst (λ (b : Bag T S). InTurn eq pairs b bag) empty h
 
+  -- of `read` of `from_value` and its variants: the bag means what its pairs add up to
   pub made_means : (pairs : List (T × ℕ)) (bag : Bag T S) → IsMadeOf eq pairs bag → Means bag (add_all eq [] pairs)
   made_means pairs bag h = (left_in_turn pairs (limited bag.most (empty_bag bag.hasher)) bag (record { one_instance = All-nil _; fits = omega arith }) h).means
 
@@ -257,21 +263,21 @@ module _ {T S A : Type 0} (eq : T → T → Bool) (Goes : A → T × ℕ → Typ
 -- ---- for callers of the extends
 
 module _ {T S I A : Type 0} {eq : T → T → Bool} {steps : I → Option A → I → Type 0} {Goes : A → T × ℕ → Type 0} {it : I} {before after : Bag T S} (h : InsertsAll eq steps Goes it before after) where
-  -- longer by the number of items, where each goes in once
+  -- of `all`, if each item is inserted once: the bag is longer by their number
   pub longer_by_items : ((x : A) (p : T × ℕ) → Goes x p → p.1 ≡ 1) → length after.items ≡ length before.items + length h.items
   longer_by_items says =
       let long = length_in_turn eq h.pairs before after h.turn in
       let numbers = sum_went_once Goes says h.items h.pairs h.went in
       omega (arith, long, numbers)
 
-  -- longer by the numbers beside them
+  -- of `all`: the bag is longer by the sum of the numbers
   pub longer_by_numbers : (number : A → ℕ) → ((x : A) (p : T × ℕ) → Goes x p → p.1 ≡ number x) → length after.items ≡ length before.items + sum_by number h.items
   longer_by_numbers number says =
       let long = length_in_turn eq h.pairs before after h.turn in
       let numbers = sum_went Goes number says h.items h.pairs h.went in
       omega (arith, long, numbers)
 
-  -- where there was room for all of them no slot was added and nothing was built
+  -- of `all`, with room for as many values as items: there are as many slots, and no table is built
   pub stays_within : length h.items ≤ room before.tables → StaysWithin eq before after
   stays_within enough =
       let as_many = AllZip-long Goes h.items h.pairs h.went in
@@ -284,7 +290,7 @@ module _ {T S : Type 0} {eq : T → T → Bool} (laws : IsEquivalence eq) where
   declined_once bag v Memory asks fits = refl
   declined_once bag v BelowTotal never fits = absurd never
 
-  -- an extend by a known list isn't refused where there is room for as many values, and the limit allows their number
+  -- an `extend` by a known list doesn't fail, with room for its length and within the limit
   pub none_refused : {I B : Type 0} {steps : I → Option T → I → Type 0} {view : T → B} {it : I} {all : List B} {before after : Bag T S} {e : BagError}
       → InsertsUpTo eq steps Once (RefusesOne eq) it before after e → YieldsList steps view it all → length all ≤ room before.tables → length before.items + length all ≤ before.most → ⊥
   none_refused {all = all} {before = before} {after = after} {e = e} h yields enough fits =
@@ -297,7 +303,7 @@ module _ {T S : Type 0} {eq : T → T → Bool} (laws : IsEquivalence eq) where
       let late = refused_after_room eq h.pairs before after h.refused 1 h.turn (subst (λ (x : BagError). IsRefused eq after h.refused 1 x) memory h.why) in
       omega (arith, late, as_many, fewer, enough)
 
-  -- so it succeeds
+  -- so such an `extend` succeeds
   pub takes_all : {I A B : Type 0} {steps : I → Option T → I → Type 0} {view : T → B} {it : I} {all : List B} → (before after : Bag T S) (r : Result A BagError)
       → IfErr r (InsertsUpTo eq steps Once (RefusesOne eq) it before after) → YieldsList steps view it all → length all ≤ room before.tables → length before.items + length all ≤ before.most → IsOk r
   takes_all before after (Ok a) h yields enough fits = refl

@@ -70,7 +70,7 @@ module _ {T : Type 0} {eq : T → T → Bool} (laws : IsEquivalence eq) where
   pub keys_of_walk : (X : List T) (W : List (T × ℕ)) (h : IsSetWalk eq X W) → keys_of W ≡ h.values
   keys_of_walk X W h = ap (λ (l : List (T × ℕ)). keys_of l) h.counts ∙ map-map (λ v. (v, count eq v X)) (λ e. e.0) h.values ∙ map-id h.values
 
-  -- what stands in a set walk
+  -- a pair of a set walk has a value that occurs, with its count
   pub in_walk : (X : List T) (W : List (T × ℕ)) → IsSetWalk eq X W → (e : T × ℕ) → Contains W e → Contains X e.0 × (e.1 ≡ count eq e.0 X)
   in_walk X W h e c =
       let u = Contains-map_back (λ v. (v, count eq v X)) e h.values (Contains-same W _ e h.counts c) in

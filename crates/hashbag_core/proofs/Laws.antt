@@ -19,7 +19,7 @@ module _ {T : Type 0} {eq : T → T → Bool} (laws : IsEquivalence eq) where
   alike_step x y X true same h = same
   alike_step x y X false other h = h
 
-  -- the instance of a value equals it
+  -- of `entry(v).value()`: the instance of a value equals it
   pub instance_equals : (x : T) (X : List T) → eq x (instance_or_itself eq x X) ≡ true
   instance_equals x [] = laws.refl x
   instance_equals x (y ∷ X) = alike_step x y X (eq x y) refl (instance_equals x X)

@@ -107,11 +107,14 @@ module _ {T : Type 0} {eq : T → T → Bool} (laws : IsEquivalence eq) (X Y : L
       ∙ map-map both first (filter alone_in_X h.first)
       ∙ filter_map_same counted alone_in_X (λ e. count eq e.0 Y == 0) (λ v. refl) h.first
 
+  -- the values of an outer join whose first count is above the second are a difference, with the excess
   pub difference_from_outer : IsDifference eq X Y (exceeding J)
   difference_from_outer = subst (λ (l : List (T × ℕ)). IsDifference eq X Y l) (sym exceeding_is) (difference_from_walk laws X Y first_walk is_walk)
 
+  -- the values of an outer join whose second count is 0 are what `not_in` gives
   pub not_in_from_outer : IsNotIn eq X Y (unmatched J)
   not_in_from_outer = subst (λ (l : List (T × ℕ)). IsNotIn eq X Y l) (sym unmatched_is) (not_in_from_walk laws X Y first_walk is_walk)
 
+  -- an outer join with the first count less the second is the signed difference
   pub signed_from_outer : IsSignedDifference eq X Y (subtracted J)
   signed_from_outer = record { outer = J; is_outer = h; signed = refl }

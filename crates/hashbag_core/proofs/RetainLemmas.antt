@@ -1,4 +1,4 @@
--- What a closure's answers leave of a bag.
+-- What the numbers that a closure returns leave of a bag.
 use Rattle.std.proofs.Common.{◌≡◌, ℕ, ◌<◌, ◌≤◌, ◌^◌, Bool, List, [], ◌∷◌, length, map, refl, sym, ◌∙◌, ap, arith}
 use Rattle.std.specs.Cmp.{IsEquivalence}
 use Rattle.std.proofs.lemmas.List.Sorted.{sum_by-IsPermutation}
@@ -60,6 +60,7 @@ module _ {F T : Type 0} {eq : T → T → Bool} (laws : IsEquivalence eq) (g : M
 -- what a closure answers that answers by the value alone, as long as J holds of it
 module _ {F T : Type 0} (g : Mut F (Bor T × (ℕ × Unit {0})) ℕ) (J : F → Type 0) (many : T → ℕ)
     (says : (p q : F) (x : Bor T) (n a : ℕ) → J p → Called g p (x, (n, tt)) a q → (a ≡ many x.now) × J q) where
+  -- what a closure returned along a walk, if it returns `many` of the value alone
   pub answers_are : (p : F) (walk : List (T × ℕ)) (answers : List ℕ) (last : F) → J p → AnswersInTurn g p walk answers last → answers ≡ map (λ e. many e.0) walk
   answers_are p [] [] last j asked = refl
   answers_are p [] (a ∷ answers) last j asked = absurd asked

@@ -60,7 +60,7 @@ module _ {T : Type 0} {eq : T → T → Bool} (laws : IsEquivalence eq) where
           let n : count_of eq v es ≡ f.1 = count_of_entry laws v es (Some f) (sym e) in
           ap (λ (o : Option (T × ℕ)). option_map (λ (i : T). (i, count_of eq v es)) (option_map (λ (e : T × ℕ). e.0) o)) e ∙ ap (λ (k : ℕ). Some (f.0, k)) n ∙ sym e
 
-  -- nothing is stored of what is absent
+  -- of `get`: nothing is stored of an absent value
   pub stored_absent : (v : T) (X : List T) → count eq v X ≡ 0 → None ≡ stored eq v X
   stored_absent v X none = sym (ap (λ (o : Option T). option_map (λ i. (i, count eq v X)) o) (none_found laws v X none))
 
@@ -82,7 +82,7 @@ module _ {T : Type 0} {eq : T → T → Bool} (laws : IsEquivalence eq) where
   count_kept n None = refl
   count_kept n (Some i) = refl
 
-  -- what is stored has its count
+  -- of `get`: the number that is returned is the count
   pub stored_count : (v : T) (X : List T) (i : T) (m : ℕ) → Some (i, m) ≡ stored eq v X → m ≡ count eq v X
   stored_count v X i m e = ap (λ (o : Option (T × ℕ)). unwrap_or (option_map (λ (e : T × ℕ). e.1) o) (count eq v X)) e ∙ count_kept (count eq v X) (instance eq v X)
 
@@ -93,7 +93,7 @@ module _ {T : Type 0} {eq : T → T → Bool} (laws : IsEquivalence eq) where
   pub stored_instance : (v : T) (X : List T) (i : T) (m : ℕ) → Some (i, m) ≡ stored eq v X → i ≡ instance_or_itself eq v X
   stored_instance v X i m e = instance_kept v (count eq v X) (instance eq v X) i m e
 
-  -- what is stored occurs
+  -- of `get`: the count of what is returned is above 0
   pub stored_some : (v : T) (X : List T) (p : T × ℕ) → Some p ≡ stored eq v X → 0 < count eq v X
   stored_some v X p e = by_count (count eq v X) refl
     where

@@ -6,15 +6,15 @@ use Rattle.hashbag_table.specs.Entries.{IsCounted}
 use Rattle.hashbag_table.specs.Tables.{Tables}
 use Rattle.hashbag_core.specs.Occurrences.{greatest_total, distinct_count, IsBag}
 
--- its occurrences, in an order that means nothing, the state that hashes its values, the two tables of slots that hold them, and
--- its limit, the number of occurrences that it has at most
+-- what clauses see of a bag: the list of its occurrences, whose order means nothing; the state that hashes its values; the two tables
+-- of slots that hold them; and its limit, the greatest total that it may have
 pub record Bag (T S : Type 0) : Type 0 where
   pub items : List T
   pub hasher : S
   pub tables : Tables T
   pub most : ℕ
 
--- the bag means the list X: its occurrences are a rearrangement of X
+-- the bag means the list X: its occurrences are a rearrangement of X, instances included
 abbrev pub Means : {T S : Type 0} → Bag T S → List T → Type 0
 Means bag X = IsPermutation X bag.items
 
@@ -22,7 +22,7 @@ Means bag X = IsPermutation X bag.items
 abbrev pub limited : {T S : Type 0} → ℕ → Bag T S → Bag T S
 limited most bag = record { items = bag.items; hasher = bag.hasher; tables = bag.tables; most = most }
 
--- `after` means X, under the state of `before` and with its limit
+-- `after` means X, has the state and the limit of `before`, and its list is a bag's
 pub record IsBagOf {T S : Type 0} (eq : T → T → Bool) (before : Bag T S) (X : List T) (after : Bag T S) : Type 0 where
   pub means : Means after X
   pub hasher : after.hasher ≡ before.hasher
@@ -37,7 +37,7 @@ IsShorterBy n before after = length after.items + n ≡ length before.items
 abbrev pub HasOneValueMore : {T S : Type 0} → (T → T → Bool) → Bag T S → Bag T S → Type 0
 HasOneValueMore eq before after = distinct_count eq after.items ≡ distinct_count eq before.items + 1
 
--- a value is lent beside a number, and they are these; or nothing is lent, and there are none
+-- a value is lent with a number, and they are these; or nothing is lent, and there are none
 abbrev pub Lends : {T : Type 0} → Option (Bor T × ℕ) → Option (T × ℕ) → Type 0
 Lends lent found = option_map (λ e. (e.0.now, e.1)) lent ≡ found
 

@@ -5,10 +5,10 @@ use Rattle.hashbag_core.specs.Bag.{Bag}
 use Rattle.hashbag_core.specs.Occurrences.{count}
 
 module _ {T : Type 0} (eq : T → T → Bool) where
-  -- whether each value that occurs in X or in Y occurs as often in both. That is so exactly where `SameCounts` holds
+  -- whether each value that occurs in X or in Y occurs as often in both: exactly if `SameCounts` holds
   unfoldable pub same_counts : List T → List T → Bool
   same_counts X Y = list_all (λ x. nat_eq (count eq x X) (count eq x Y)) (X ++ Y)
 
-  -- instances, states and the order of the occurrences don't matter
+  -- whether two bags have the same counts: instances, states, limits and the order of the occurrences don't matter
   abbrev pub bag_eq : {S : Type 0} → Bag T S → Bag T S → Bool
   bag_eq a b = same_counts a.items b.items

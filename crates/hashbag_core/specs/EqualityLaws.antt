@@ -1,4 +1,4 @@
--- The equality of bags tells whether all counts agree, and is an equivalence.
+-- The equality of bags decides whether all counts agree, and is an equivalence.
 use Rattle.std.specs.Prelude.{◌≡◌, ℕ, zero, suc, ◌+◌, Bool, true, false, cond, nat_eq, List, [], ◌∷◌, ◌++◌, length, filter, refl}
 use Rattle.std.proofs.Common.{sym, ◌∙◌, ap, arith}
 use Rattle.std.specs.List.{count_by, AllByRecursion}
@@ -27,7 +27,7 @@ module _ {T : Type 0} {eq : T → T → Bool} (laws : IsEquivalence eq) where
       let e = length-append (filter (eq v) X) (filter (eq v) Y) in
       omega arith
 
-  -- ---- the test tells whether all counts agree
+  -- ---- the test decides whether all counts agree
 
   module _ (X Y : List T) where
     abbrev agrees : T → Bool
@@ -48,6 +48,7 @@ module _ {T : Type 0} {eq : T → T → Bool} (laws : IsEquivalence eq) where
     some_or_none zero (suc m) f = f (λ e. absurd (omega arith))
     some_or_none (suc n) m f = f (λ e. absurd (omega arith))
 
+  -- of `==`: `same_counts` is true exactly if the lists have the same counts
   pub same_counts-Decides : (X Y : List T) → Decides (same_counts eq X Y) (SameCounts eq X Y)
   unfolding same_counts
   same_counts-Decides X Y = (

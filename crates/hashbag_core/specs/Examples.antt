@@ -1,4 +1,4 @@
--- The definitions compute. An item here is a key with a tag, and two items are equal where their keys are: so `(1, 10)` and
+-- The definitions compute. An item here is a key with a tag, and two items are equal if their keys are: so `(1, 10)` and
 -- `(1, 20)` are two instances of one value.
 use Rattle.std.specs.Prelude.{◌≡◌, ℕ, ◌==◌, Bool, List, [], ◌∷◌, Some, None, refl}
 use Rattle.std.proofs.Common.{lit<, sym}
@@ -97,7 +97,7 @@ entries_as_occurrences = refl
 
 -- ---- walks
 
--- 2 stands at place 0 of the values and at place 1 of the bag, 1 at place 1 and at place 0
+-- 2 is at place 0 of the values and at place 1 of the bag, 1 at place 1 and at place 0
 pub each_value : IsEach same_key bag ((2, 7) ∷ (1, 10) ∷ [])
 unfolding IsDistinct
 each_value =
@@ -110,7 +110,7 @@ each_value =
       only = All-from_recursion (Contains bag) ((2, 7) ∷ (1, 10) ∷ []) ((1, lit< tt, refl), ((0, lit< tt, refl), tt));
     }
 
--- no value stands twice
+-- no value occurs twice
 no_each : IsEach same_key bag ((1, 10) ∷ (2, 7) ∷ (1, 10) ∷ []) → ⊥
 unfolding IsDistinct
 no_each h = false≢true (sym h.once.0.1.0)
@@ -121,7 +121,7 @@ set_walk = record { values = (2, 7) ∷ (1, 10) ∷ []; each = each_value; count
 walk : IsWalk same_key bag ((2, 7) ∷ (1, 10) ∷ (1, 10) ∷ [])
 walk = record { values = (2, 7) ∷ (1, 10) ∷ []; each = each_value; pieces = refl }
 
--- ---- answers, insertions in turn and equality
+-- ---- returned numbers, insertions in turn and equality
 
 -- 2 keeps all of its 3, 1 has 5 and keeps 4, and 3 goes
 answered : kept_of {T = ℕ} ((2, 3) ∷ (1, 5) ∷ (3, 7) ∷ []) (9 ∷ 4 ∷ 0 ∷ []) ≡ (2, 3) ∷ (1, 4) ∷ []

@@ -9,15 +9,15 @@ use Rattle.hashbag_core.specs.Bag.{Bag, IsBagOf, occurrences}
 use Rattle.hashbag_core.specs.Occurrences.{count_named, less_named, count, distinct_count}
 
 module _ {T : Type 0} where
-  -- no slots in either table, after so many were built
+  -- no slots in either table, after k were built
   abbrev pub no_slots : ℕ → Tables T
   no_slots k = record { newer = []; waiting = []; older = 0; built = k }
 
-  -- so many slots as before, all of them Empty, none that waits, and none built
+  -- as many slots as before, all of them Empty, none yet to be carried, and none built
   abbrev pub cleared : Tables T → Tables T
   cleared t = record { newer = replicate (length t.newer) Empty; waiting = []; older = 0; built = t.built }
 
-  -- the slot of a value of which n are left: with that count, and Removed where it is 0
+  -- the slot of a value of which n are left: with that count, and Removed if it is 0
   abbrev pub left_in : ℕ → Slot T → Slot T
   left_in n s = if n == 0 then Removed else recounted n s
 
@@ -27,7 +27,7 @@ module _ {T : Type 0} (eq : T → T → Bool) where
     pub entries : items ≡ occurrences (entries_of tables.newer tables.waiting)
     pub counted : IsCounted eq (entries_of tables.newer tables.waiting)
 
-  -- of v, which was there, n are left: its slot alone is changed, in whichever table it is
+  -- v was present, and its slot alone is changed, in whichever table it is: it has the count n, or is Removed if n is 0
   abbrev pub Recounts : T → ℕ → Tables T → Tables T → Type 0
   Recounts v n old new = Rewrites (eq v) (left_in n) old new
 
@@ -48,8 +48,8 @@ module _ {T S : Type 0} (eq : T → T → Bool) where
 abbrev pub BuildsSlots : {T S : Type 0} → ℕ → Bag T S → Bag T S → Type 0
 BuildsSlots m before after = after.tables.built ≡ before.tables.built + m
 
--- the bag `after` is the bag `before` less n occurrences of the value that a key names, or less all where they were fewer: its list;
--- the slot of the value, where it was there; and as many slots, and no less room
+-- `after` is `before` without n occurrences of the value that a key names, or without all if they are fewer. The fields say its list; the
+-- slot of the value, if it was present; that nothing changed, if it was absent; as many slots, and no less room
 pub record HasFewer {T S : Type 0} (eq : T → T → Bool) (names : T → Bool) (n : ℕ) (before after : Bag T S) : Type 0 where
   pub left : IsBagOf eq before (less_named names n before.items) after
   pub slot : 0 < count_named names before.items → Rewrites names (left_in (count_named names before.items - n)) before.tables after.tables

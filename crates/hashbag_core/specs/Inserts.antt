@@ -16,8 +16,8 @@ abbrev pub empty_bag : {T S : Type 0} → S → Bag T S
 empty_bag hasher = record { items = []; hasher = hasher; tables = no_slots 0; most = greatest_total }
 
 module _ {T S : Type 0} (eq : T → T → Bool) where
-  -- n of v went into the bag `before`, and `after` is what is left. The occurrences; how many distinct values there are; the
-  -- slots, where v was absent and where it was there; and how many slots and how much room there are
+  -- n of v were inserted into `before`, which left `after`. The fields say the list and its length; how many distinct values; the slots,
+  -- if v was absent and if it was present; how many slots, and how much room
   pub record Inserts (v : T) (n : ℕ) (before after : Bag T S) : Type 0 where
     pub added : IsBagOf eq before (add eq v n before.items) after
     pub none : n ≡ 0 → after ≡ before
@@ -31,8 +31,8 @@ module _ {T S : Type 0} (eq : T → T → Bool) where
     pub same_room : 0 < count eq v before.items → KeepsRoom 0 before.tables after.tables
     pub held : 0 < n → AreHeld eq after.items after.tables
 
-  -- v took the place of all values equal to it in the bag `before`, once, and `after` is what is left. The occurrences; how many there
-  -- are, and how many distinct values; the slots, if v was absent and if it was present; and how many slots and how much room there are
+  -- v itself was stored, once, for all values equal to it in `before`, which left `after`. Its fields mean what
+  -- those of `Inserts` mean
   pub record Replaces (v : T) (before after : Bag T S) : Type 0 where
     pub stored : IsBagOf eq before (put eq v 1 before.items) after
     pub len : length after.items + count eq v before.items ≡ length before.items + 1
@@ -42,22 +42,23 @@ module _ {T S : Type 0} (eq : T → T → Bool) where
     pub less_room : 0 < room before.tables → KeepsRoom 1 before.tables after.tables
     pub same_room : 0 < count eq v before.items → KeepsRoom 0 before.tables after.tables
 
-  -- n of v may be refused to a bag, for this reason: for memory only where no room is left
+  -- why an insertion of n of v may fail. `TooMany`: the total would pass the limit. `Memory`: it fits, n isn't 0, v is absent, and there is
+  -- no room (`full`)
   pub record IsRefused (bag : Bag T S) (v : T) (n : ℕ) (e : BagError) : Type 0 where
     pub why : Refuses eq bag.most bag.items v n e
     pub full : e ≡ Memory → room bag.tables ≡ 0
 
-  -- these values went into `before` in turn, each as often as the number beside it, and `after` is what is left
+  -- these pairs were inserted into `before` one after the other, each value as often as its number says, which left `after`
   abbrev pub InTurn : List (T × ℕ) → Bag T S → Bag T S → Type 0
   InTurn [] before after = after ≡ before
   InTurn (p ∷ pairs) before after = (middle : Bag T S) × Inserts p.0 p.1 before middle × InTurn pairs middle after
 
-  -- the bag is what these pairs made in turn of an empty one of no slots, under its state and with its limit
+  -- the bag is what these pairs, inserted one after the other, made of an empty bag without slots that has its state and its limit
   abbrev pub IsMadeOf : List (T × ℕ) → Bag T S → Type 0
   IsMadeOf pairs bag = InTurn pairs (limited bag.most (empty_bag bag.hasher)) bag
 
   module _ {I A : Type 0} (steps : I → Option A → I → Type 0) (Goes : A → T × ℕ → Type 0) where
-    -- all items that an iterator gave went in in turn
+    -- all items that an iterator gave were inserted one after the other
     pub record InsertsAll (it : I) (before after : Bag T S) : Type 0 where
       pub bag : IsBag eq before.most before.items
       pub items : List A
@@ -66,7 +67,7 @@ module _ {T S : Type 0} (eq : T → T → Bool) where
       pub went : AllZip Goes items pairs
       pub turn : InTurn pairs before after
 
-    -- the items before one went in in turn, and that one was refused to what is left
+    -- the items before one were inserted one after the other, and that one failed in the bag that they left
     pub record InsertsUpTo (Why : Bag T S → A → BagError → Type 0) (it : I) (before after : Bag T S) (e : BagError) : Type 0 where
       pub bag : IsBag eq before.most before.items
       pub items : List A
@@ -78,21 +79,21 @@ module _ {T S : Type 0} (eq : T → T → Bool) where
       pub turn : InTurn pairs before after
       pub why : Why after refused e
 
-  -- an item may be refused that goes in once, or as often as the number beside it
+  -- inserting an item once, or as often as its number says, may fail
   abbrev pub RefusesOne : Bag T S → T → BagError → Type 0
   RefusesOne bag v e = IsRefused bag v 1 e
 
   abbrev pub RefusesPair : Bag T S → T × ℕ → BagError → Type 0
   RefusesPair bag p e = IsRefused bag p.0 p.1 e
 
-  -- n clones of v may be: for memory only where a clone of v may be refused it, or where n of a clone may
+  -- n clones of v may fail so: with `Memory` only if cloning v may fail, or if inserting n of a clone may
   module _ (is_clone : T → T → Type 0) (is_infallible : T → Type 0) where
     pub record IsCloneRefused (bag : Bag T S) (v : T) (n : ℕ) (e : BagError) : Type 0 where
       pub why : RefusesClones bag.most bag.items n e
       pub memory : e ≡ Memory → (¬ (is_infallible v)) ⊎ ((x : T) × is_clone v x × IsRefused bag x n e)
 
     module _ {I : Type 0} where
-      -- clones of the values before one that is lent went in in turn, and a clone of that one was refused
+      -- clones of the lent values before one were inserted in turn, and a clone of that one failed
       abbrev pub ClonesUpTo : (I → Option (Bor T) → I → Type 0) → I → Bag T S → Bag T S → BagError → Type 0
       ClonesUpTo steps it before after e = InsertsUpTo steps (CloneOnce is_clone) (λ bag v e. IsCloneRefused bag v.now 1 e) it before after e
 

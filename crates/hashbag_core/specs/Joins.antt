@@ -1,7 +1,7 @@
 -- What the joins of two bags give in all, by the plain lists X and Y of their occurrences. The order of X and of Y means
 -- nothing, and the states that hash them don't appear.
 --
--- A join names a value by an instance that occurs in X, or, where X has none, in Y. `Contains` is by the instance itself.
+-- A join names a value by an instance that occurs in X, or, if X has none, in Y. `Contains` is by the instance itself.
 use Rattle.std.specs.Prelude.{◌≡◌, ℕ, ◌-◌, ◌<◌, ◌^◌, ◌==◌, ◌↔◌, ℤ, pos, negsuc, ◌-ℤ◌, Bool, List, ◌++◌, map, filter}
 use Rattle.std.specs.Int.{int_max, int_min}
 use Rattle.std.specs.List.{IsDistinct, Contains}
@@ -16,7 +16,7 @@ least_signed = negsuc (2 ^ 63 - 1)
 abbrev pub greatest_signed : ℤ
 greatest_signed = pos (2 ^ 63 - 1)
 
--- the number between these two that is nearest to z
+-- the number from `isize::MIN` to `isize::MAX` that is nearest to z
 abbrev pub saturated : ℤ → ℤ
 saturated z = int_max least_signed (int_min z greatest_signed)
 
@@ -25,7 +25,7 @@ module _ {T : Type 0} (eq : T → T → Bool) where
   abbrev pub alone : List T → List T → List T
   alone X Y = filter (λ y. count eq y X == 0) Y
 
-  -- J names each value of X once, and then each value that Y alone has, once, and puts both counts beside each
+  -- J has each value of X once, and then each value that Y alone has, once, each with its counts in X and in Y
   pub record IsOuterJoin (X Y : List T) (J : List (T × ℕ × ℕ)) : Type 0 where
     pub first : List T
     pub second : List T
@@ -33,17 +33,17 @@ module _ {T : Type 0} (eq : T → T → Bool) where
     pub of_second : IsEach eq (alone X Y) second
     pub counts : J ≡ map (λ v. (v, count eq v X, count eq v Y)) (first ++ second)
 
-  -- E names no value twice, and has an item v of X beside n exactly where X has n more of v than Y, and n isn't 0
+  -- E has no value twice, and has an item v of X with n exactly if X has n more of v than Y, and n isn't 0
   pub record IsDifference (X Y : List T) (E : List (T × ℕ)) : Type 0 where
     pub once : IsDistinct eq (keys_of E)
     pub exactly : (v : T) (n : ℕ) → Contains E (v, n) ↔ (Contains X v × (n ≡ count eq v X - count eq v Y) × (0 < n))
 
-  -- M names no value twice, and has an item v of X beside n exactly where n is its count in X, isn't 0, and Y has none of v
+  -- M has no value twice, and has an item v of X with n exactly if n is its count in X, isn't 0, and Y has none of v
   pub record IsNotIn (X Y : List T) (M : List (T × ℕ)) : Type 0 where
     pub once : IsDistinct eq (keys_of M)
     pub exactly : (v : T) (n : ℕ) → Contains M (v, n) ↔ (Contains X v × (n ≡ count eq v X) × (0 < n) × (count eq v Y ≡ 0))
 
-  -- G has the values of an outer join in its places, each beside its count in X less that in Y, as near as an isize comes
+  -- G has the values of an outer join, in its order, each with its count in X less its count in Y, saturated to an `isize`
   pub record IsSignedDifference (X Y : List T) (G : List (T × ℤ)) : Type 0 where
     pub outer : List (T × ℕ × ℕ)
     pub is_outer : IsOuterJoin X Y outer

@@ -4,7 +4,7 @@ use Rattle.hashbag_core.specs.Occurrences.{count}
 use Rattle.hashbag_core.specs.Joins.{saturated}
 
 module _ {T : Type 0} (eq : T → T → Bool) (Y : List T) where
-  -- each value with its count, and its count in Y beside that
+  -- each value with its count, and with its count in Y
   abbrev pub with_second : List (T × ℕ) → List (T × ℕ × ℕ)
   with_second es = map (λ e. (e.0, e.1, count eq e.0 Y)) es
 

@@ -72,7 +72,7 @@ bad_count : fault_of (pair (tree_of 1) (tree_of 1) ∷ pair text null ∷ []) �
 unfolding first_fault
 bad_count = refl
 
--- the item is judged where the count is 0, and before the total
+-- the item is judged even if the count is 0, and before the total
 bad_item : fault_of (pair text (tree_of 0) ∷ []) ≡ Some (BadItem 0)
 unfolding first_fault
 bad_item = refl
@@ -127,7 +127,7 @@ lesser_given : fault 5 has_item (limited_tree (tree_of 9) (pair (tree_of 1) (tre
 unfolding first_fault
 lesser_given = refl
 
--- a bad limit is told before a pair is judged
+-- a bad limit is returned before a pair is judged
 negative_limit : fault 9 has_item (limited_tree (number (negative (ℤ.negsuc 0))) (null ∷ [])) ≡ Some BadLimit
 negative_limit = refl
 

@@ -10,7 +10,7 @@ use Rattle.hashbag_core.specs.Occurrences.{greatest_total}
 use Rattle.hashbag_core.specs.declared.json.JsonError.{JsonError}
 use Rattle.hashbag_core.specs.declared.json.JsonError.TheVariants.{NotAnArray, NotAPair, BadCount, BadItem, TooMany, BadLimit}
 
--- the trees in an array, none where a tree is no array
+-- the trees in an array, none if a tree is no array
 abbrev pub list_of : Items → List Data
 list_of no_items = []
 list_of (item d ds) = d ∷ list_of ds
@@ -32,21 +32,21 @@ abbrev pub has_no_other : Members → Bool
 has_no_other no_members = true
 has_no_other (member name d ms) = (bytes_eq name limit_name || bytes_eq name pairs_name) && has_no_other ms
 
--- the member `pairs`, where it is an array and no member has a third name
+-- the member `pairs`, if it is an array and no member has a third name
 abbrev pub pairs_in : Members → Option (List Data)
 pairs_in ms = if has_no_other ms then option_and_then array_of (get_member pairs_name ms) else None
 
--- the member `limit`, where it is a whole number from 0 to `usize::MAX`
+-- the member `limit`, if it is a whole number from 0 to `usize::MAX`
 abbrev pub limit_in : Members → Option ℕ
 limit_in ms = option_and_then u64_item (get_member limit_name ms)
 
--- the pairs are asked for before the limit
+-- the pairs are judged before the limit
 abbrev pub opened_object : Option (List Data) → Option ℕ → Result (ℕ × List Data) JsonError
 opened_object None limit = Err NotAnArray
 opened_object (Some ds) None = Err BadLimit
 opened_object (Some ds) (Some limit) = Ok (limit, ds)
 
--- the limit of a tree and the trees of its pairs, or why it is refused before any pair is judged: an array has the greatest limit
+-- the limit of a tree and the trees of its pairs, or why it is rejected before any pair is judged: an array has the greatest limit
 -- and its own trees, and an object names both
 abbrev pub opened : Data → Result (ℕ × List Data) JsonError
 opened null = Err NotAnArray
@@ -60,7 +60,7 @@ abbrev pub limit_opened : Result (ℕ × List Data) JsonError → ℕ
 limit_opened (Ok p) = p.0
 limit_opened (Err e) = 0
 
--- the limit of a tree that isn't refused so
+-- the limit of a tree that isn't rejected so
 abbrev pub limit_of : Data → ℕ
 limit_of d = limit_opened (opened d)
 
@@ -76,7 +76,7 @@ two_of (d ∷ e ∷ f ∷ more) = None
 abbrev pub pair_of : Data → Option (Data × Data)
 pair_of d = option_and_then two_of (array_of d)
 
--- the count that stands in a pair, none where the tree is no pair or its second part no whole number from 0 to 2 ^ 64 - 1
+-- the count in a pair, none if the tree is no pair or its second part no whole number from 0 to 2 ^ 64 - 1
 abbrev pub pair_count : Data → Option ℕ
 pair_count d = option_and_then (λ p. u64_of p.1) (pair_of d)
 
@@ -89,9 +89,9 @@ pub record IsCountedItem (has_item : Data → Bool) (d : Data) : Type 0 where
   pub is_count : u64_of number ≡ Some count
   pub item : has_item tree ≡ true
 
--- `end` is the greatest total, and `has_item` tells which trees are those of items
+-- `end` is the greatest total, and `has_item` decides which trees are those of items
 module _ (end : ℕ) (has_item : Data → Bool) where
-  -- the fault of pair i by its item and its count, where the counts before it come to `total`: the count is judged before the
+  -- the fault of pair i by its item and its count, if the counts before it sum to `total`: the count is judged before the
   -- item, and the item before the total
   abbrev pub part_fault : ℕ → ℕ → Data → Option ℕ → Option JsonError
   part_fault i total d None = Some (BadCount i)
@@ -117,7 +117,7 @@ module _ (end : ℕ) (has_item : Data → Bool) where
     pub asks : IsCountedItem has_item pair
 
 module _ (has_item : Data → Bool) where
-  -- the fault of pair i where the pairs before it were read as this bag
+  -- the fault of pair i if the pairs before it were read as this bag
   abbrev pub fault_after : {T S : Type 0} → ℕ → Bag T S → Data → Option JsonError
   fault_after i bag d = pair_fault bag.most has_item i (length bag.items) (pair_of d)
 
@@ -131,7 +131,7 @@ module _ (most : ℕ) (has_item : Data → Bool) where
   opened_fault (Err e) = Some e
   opened_fault (Ok p) = first_fault (min most p.0) has_item 0 0 p.1
 
-  -- the first fault of a tree, none where it is read
+  -- the first fault of a tree under its limit or `most`, whichever is less, in the order of docs/FORMAT.md; none if it is read
   abbrev pub fault : Data → Option JsonError
   fault d = opened_fault (opened d)
 

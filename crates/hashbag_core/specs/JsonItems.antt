@@ -11,7 +11,7 @@ abbrev pub IsI64 : ℤ → Type 0
 IsI64 (pos n) = n < 2 ^ 63
 IsI64 (negsuc n) = n < 2 ^ 63
 
--- the number that a tree is, none where it is no whole number, or where its sign doesn't fit. A float is no whole number, 1.0
+-- the number that a tree is, none if it is no whole number, or if its sign doesn't fit. A float is no whole number, 1.0
 -- neither
 abbrev pub u64_of : Data → Option ℕ
 u64_of d = option_and_then as_u64 (as_number d)
@@ -19,7 +19,7 @@ u64_of d = option_and_then as_u64 (as_number d)
 abbrev pub i64_of : Data → Option ℤ
 i64_of d = option_and_then as_i64 (as_number d)
 
--- the same, none where it is out of range. No tree of a `Value` holds such a number
+-- the same, none if it is out of range. No tree of a `Value` holds such a number
 abbrev pub u64_within : ℕ → Option ℕ
 u64_within n = if nat_lt n (2 ^ 64) then Some n else None
 

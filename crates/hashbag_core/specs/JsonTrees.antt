@@ -24,7 +24,7 @@ module _ {T : Type 0} (reads : Data → T → Type 0) where
     pub item : reads tree p.0
     pub count : u64_of number ≡ Some p.1
 
-  -- d has a limit and these pairs, in this order
+  -- d has a limit, and is read as these pairs, in this order
   pub record IsReading (d : Data) (pairs : List (T × ℕ)) : Type 0 where
     pub limit : ℕ
     pub trees : List Data
@@ -42,7 +42,7 @@ module _ {T : Type 0} (eq : T → T → Bool) (reads : Data → T → Type 0) wh
 abbrev pub pair_tree : {T : Type 0} → (T → Data) → T × ℕ → Data
 pair_tree tree_of e = array (items_of (tree_of e.0 ∷ number (unsigned e.1) ∷ []))
 
--- the tree of a bag with the limit `most` whose pairs are the array p: that array where `most` is the greatest limit, else an
+-- the tree of a bag with the limit `most` whose pairs are the array p: that array if `most` is the greatest limit, else an
 -- object with the limit and the array
 abbrev pub written : ℕ → Data → Data
 written most p = if most == greatest_total then p else object (member limit_name (number (unsigned most)) (member pairs_name p no_members))
@@ -55,7 +55,8 @@ module _ {T : Type 0} (eq : T → T → Bool) (cmp : T → T → Ordering) (tree
     pub rising : IsStrictlySortedBy cmp (keys_of pairs)
     pub is : d ≡ array (items_of (map (pair_tree tree_of) pairs))
 
-  -- d is the tree of a bag that means X and has the limit `most`
+  -- d is the tree of a bag that means X and has the limit `most`: the array of `IsTree` if that is the greatest limit, else the object of
+  -- the limit and the array
   pub record IsBagTree (X : List T) (most : ℕ) (d : Data) : Type 0 where
     pub pairs : Data
     pub array : IsTree X pairs
@@ -65,6 +66,6 @@ module _ {T : Type 0} (eq : T → T → Bool) (cmp : T → T → Ordering) (tree
   abbrev pub IsTreeOfCounts : List T → ℕ → Data → Type 0
   IsTreeOfCounts X most d = (Y : List T) → IsOneInstanceEach eq Y → SameCounts eq Y X → IsBagTree Y most d
 
-  -- d is the tree of a bag exactly where that bag has the counts of X and the limit `most`
+  -- d is the tree of a bag exactly if that bag has the counts of X and the limit `most`
   abbrev pub TellsApart : (T → Type 0) → List T → ℕ → Data → Type 0
   TellsApart is_item X most d = (Y : List T) (n : ℕ) (e : Data) → All is_item Y → IsBagTree Y n e → ((same_counts eq X Y ≡ true) × (most ≡ n)) ↔ (d ≡ e)

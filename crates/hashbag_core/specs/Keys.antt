@@ -7,8 +7,8 @@ use Rattle.hashbag_core.specs.Inserts.{Inserts}
 use Rattle.hashbag_core.specs.Occurrences.{count_named}
 
 module _ {T : Type 0} (names : T → Bool) where
-  -- n of what the key names may be refused to a bag that means X, whose limit is `most`: then memory is asked for only where the key
-  -- names nothing that is there
+  -- why an insertion of n of what a key names may fail in a bag that means X, whose limit is `most`. `TooMany`: the total would pass the
+  -- limit. `Memory`: it fits, n isn't 0, and no value that the key names is present
   abbrev pub RefusesNamed : ℕ → List T → ℕ → BagError → Type 0
   RefusesNamed most X n TooMany = most < length X + n
   RefusesNamed most X n Memory = (length X + n ≤ most) × (0 < n) × (count_named names X ≡ 0)
@@ -18,10 +18,10 @@ module _ {T : Type 0} (names : T → Bool) where
 abbrev pub NamedOnce : {T Q : Type 0} → (Q → T → Bool) → Q → T × ℕ → Type 0
 NamedOnce names key p = IsTrue (names key p.0) × (p.1 ≡ 1)
 
--- an insertion by a key may be refused to a bag
+-- an insertion by a key may fail in a bag
 abbrev pub RefusesKey : {T S Q : Type 0} → (Q → T → Bool) → Bag T S → Q → BagError → Type 0
 RefusesKey names bag key e = RefusesNamed (names key) bag.most bag.items 1 e
 
--- n of some value that the key names went in
+-- n of some value that the key names were inserted
 abbrev pub InsertsNamed : {T S : Type 0} → (T → T → Bool) → (T → Bool) → ℕ → Bag T S → Bag T S → Type 0
 InsertsNamed eq names n before after = (v : _) × IsTrue (names v) × Inserts eq v n before after

@@ -20,6 +20,6 @@ module _ (T S H : RattleType) (key : HashMembers T.Denot) (build : builder.Ghost
   abbrev pub ends_taking : MutBor (Bag T.Denot S.Denot) → (T.Denot → Bool) → Fml
   ends_taking b names = follows_so bag_row bag_row b.ghost_name none (λ _ _. ⊤) (HasFewer key.eq names 1 b.now)
 
-  -- a call that took an entry of the bag behind b gives it back with the loan; where it was refused, the bag is as it was
+  -- a call that took an entry of the bag behind b gives it back with the loan; if it failed, the bag is as it was
   abbrev pub rests_if_refused : MutBor (Bag T.Denot S.Denot) → Result (Entry T.Denot S.Denot H.Denot) BagError → Fml
   rests_if_refused b r = RestsIfErr bag_row b (λ e. e.bag.ghost_name) r (λ n. n ≡ b.now)

@@ -11,19 +11,19 @@ abbrev pub seen : {T : Type 0} → Bor T × ℕ → T × ℕ
 seen e = (e.0.now, e.1)
 
 module _ {T : Type 0} (eq : T → T → Bool) where
-  -- ys names the values of X: no value twice, each by the very instance that occurs in X, and none that doesn't occur
+  -- ys has each value of X once, by the very instance that occurs in X, and no other
   pub record IsEach (X ys : List T) : Type 0 where
     pub once : IsDistinct eq ys
     pub all : All (λ x. Contains ys x) X
     pub only : All (λ y. Contains X y) ys
 
-  -- W names the values of X, each beside its count
+  -- W has each value of X once, by the very instance that occurs in X, with its count, and no other
   pub record IsSetWalk (X : List T) (W : List (T × ℕ)) : Type 0 where
     pub values : List T
     pub each : IsEach X values
     pub counts : W ≡ map (λ v. (v, count eq v X)) values
 
-  -- W goes through the values of X and repeats each as often as it occurs, before it goes on to the next
+  -- W has each value of X, repeated as often as it occurs, before the next value
   pub record IsWalk (X W : List T) : Type 0 where
     pub values : List T
     pub each : IsEach X values

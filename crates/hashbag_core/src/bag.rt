@@ -483,7 +483,7 @@ impl<T: Eq + Hash + Drop, S: BuildHasher + Drop> HashBag<T, S> {
     {
         self.table.insert_new(value, quantity)?;
         self.len += quantity;
-        // `held` is called for its clause on what the slots hold, which the proof cites.
+        // The call is made for what `held` promises of the slots; the proof uses it.
         self.table.held();
         Ok(())
     }

@@ -29,7 +29,7 @@ module _ {T : Type 0} (eq : T → T → Bool) where
     abbrev pub outcome_after : List (Movement T) → Movement T → Outcome
     outcome_after entered m = if asks_too_much eq start entered m then Refused (there eq start entered m.article) else Entered (there eq start (entered ++ m ∷ []) m.article)
 
-    -- the movements ms with what becomes of them, where these were entered before
+    -- the movements ms with what becomes of them, if these were entered before
     abbrev pub entries_after : List (Movement T) → List (Movement T) → List (Entry T)
     entries_after entered [] = []
     entries_after entered (m ∷ ms) = (record { movement = m; outcome = outcome_after entered m }) ∷ entries_after (if asks_too_much eq start entered m then entered else entered ++ m ∷ []) ms
@@ -47,7 +47,7 @@ module _ {T : Type 0} (eq : T → T → Bool) where
     pub left : IsStockAfter L (ms ++ m ∷ []) stock
     pub became : outcome ≡ outcome_after (listed eq L) (entered_of eq (listed eq L) ms) m
 
-  -- what movements leave of the stock of a list, where no total passes the most, and what became of each of them
+  -- what movements leave of the stock of a list, if no total passes the most, and what became of each of them
   pub record IsBooked (cmp : T → T → Ordering) (most : ℕ) (L : List (T × ℕ)) (ms : List (Movement T)) (balance : List (T × ℕ)) (entries : List (Entry T)) : Type 0 where
     pub each : entries ≡ entries_of (listed eq L) ms
     pub rows : IsBalance eq cmp (in_the_end eq (listed eq L) ms) balance

@@ -16,7 +16,7 @@ abbrev pub going : Change → ℕ
 going (In n) = 0
 going (Out n) = n
 
--- how many of all articles there are after these movements, where so many were there before
+-- how many of all articles there are after these movements, if `total` were there before
 abbrev pub total_after : {T : Type 0} → ℕ → List (Movement T) → ℕ
 total_after total entered = total + sum_by (λ m. coming m.change) entered - sum_by (λ m. going m.change) entered
 
@@ -30,7 +30,7 @@ module _ {T : Type 0} (eq : T → T → Bool) where
     pub enough : going m.change ≤ before m.article
     pub counts : (v : T) → after v + (if eq v m.article then going m.change else 0) ≡ before v + (if eq v m.article then coming m.change else 0)
 
-  -- a movement that asks for more than is there is refused, with how many there are
+  -- a movement that would take out more than is there is refused, with how many there are
   pub record RefusesMovement (m : Movement T) (before : T → ℕ) (r : Refusal T) : Type 0 where
     pub too_much : before m.article < going m.change
     pub is : r ≡ record { place = m.place; article = m.article; asked = going m.change; there = before m.article }
@@ -47,11 +47,11 @@ module _ {T : Type 0} (eq : T → T → Bool) where
     abbrev pub there : List (Movement T) → T → ℕ
     there entered v = start v + came v entered - went v entered
 
-    -- a movement that comes after these asks for more than there is
+    -- a movement that comes after these would take out more than there is
     abbrev pub asks_too_much : List (Movement T) → Movement T → Bool
     asks_too_much entered m = nat_lt (there entered m.article) (going m.change)
 
-    -- the movements that are entered once the movements ms have come, where these were entered before
+    -- the movements that are entered once the movements ms have come, if these were entered before
     abbrev pub entered_after : List (Movement T) → List (Movement T) → List (Movement T)
     entered_after entered [] = entered
     entered_after entered (m ∷ ms) = entered_after (if asks_too_much entered m then entered else entered ++ m ∷ []) ms
@@ -60,7 +60,7 @@ module _ {T : Type 0} (eq : T → T → Bool) where
     abbrev pub refusal : List (Movement T) → Movement T → Refusal T
     refusal entered m = record { place = m.place; article = m.article; asked = going m.change; there = there entered m.article }
 
-    -- those of the movements ms that are refused, where these were entered before
+    -- those of the movements ms that are refused, if these were entered before
     abbrev pub refused_after : List (Movement T) → List (Movement T) → List (Refusal T)
     refused_after entered [] = []
     refused_after entered (m ∷ ms) = if asks_too_much entered m then refusal entered m ∷ refused_after entered ms else refused_after (entered ++ m ∷ []) ms
@@ -86,7 +86,7 @@ module _ {T : Type 0} (eq : T → T → Bool) where
       pub conserved : (v : T) → start v + came v (entered_of ms) ≡ end v + went v (entered_of ms)
       pub never : IsNeverBelowZero (entered_of ms)
 
-    -- with the movement at this place the total, which was so many at first, would pass the most
+    -- the movement at this place would make the total, which was `total` at first, pass `most`
     pub record IsPast (total most : ℕ) (ms : List (Movement T)) (place : Place) : Type 0 where
       pub before : List (Movement T)
       pub movement : Movement T

@@ -26,7 +26,7 @@ pub record IsFirstDifference {X W : Type 0} (wrong_at : Option X → Option X �
   pub differ : slice_get kept place ≢ slice_get counted place
   pub is : wrong ≡ wrong_at (slice_get kept place) (slice_get counted place)
 
--- of two rows the article that comes first, with its number in each; 0 where the row is another one's
+-- of two rows the article that comes first, with its number in each; 0 if the row is another one's
 abbrev pub lower_row : (k c : List ℕ × ℕ) → Ordering → List ℕ × ℕ × ℕ
 lower_row k c Less = (k.0, k.1, 0)
 lower_row k c Equal = (k.0, k.1, c.1)

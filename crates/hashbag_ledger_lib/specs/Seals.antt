@@ -80,7 +80,7 @@ AreRowsOf scale [] es (b ∷ bs) = ⊥
 AreRowsOf scale (d ∷ ds) es [] = ⊥
 AreRowsOf scale (d ∷ ds) es (b ∷ bs) = IsRowOf scale d (take d.movements es) b × AreRowsOf scale ds (drop d.movements es) bs
 
--- each batch has the seal of its row and of its movements, where the movements of all batches are in turn
+-- each batch has the seal of its row and of its movements, given the movements of all batches in turn
 abbrev pub AreSealed : ℕ → List Batch → List (Entry (String Global)) → Type 0
 AreSealed scale [] es = Unit {0}
 AreSealed scale (b ∷ bs) es = (string_bytes b.seal ≡ seal_of scale b (take b.movements es)) × AreSealed scale bs (drop b.movements es)

@@ -28,7 +28,7 @@ module _ {T : Type 0} (eq : T → T → Bool) where
     pub total : length items + sum_by (λ m. going m.change) (entered_of eq (listed L) ms) ≡ numbers L + sum_by (λ m. coming m.change) (entered_of eq (listed L) ms)
     pub fit : (p : Place) → ¬ (IsPastWithin most L ms p)
 
-  -- the same of a bag and the refusals beside it
+  -- the same of a bag and the refusals with it
   abbrev pub IsLedgerOf : {S : Type 0} → List (T × ℕ) → List (Movement T) → List (Refusal T) → Bag T S → Type 0
   IsLedgerOf L ms refused stock = IsAfter L ms refused stock.items stock.most
 

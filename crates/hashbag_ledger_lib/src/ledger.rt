@@ -139,7 +139,7 @@ impl<T: Eq + Hash + Drop, S: BuildHasher + Drop> Ledger<T, S> {
     ///
     /// # Complexity
     ///
-    /// As [`enter`]. Allocates for a refusal.
+    /// As [`enter`]. A refusal is put into a list, which may allocate.
     pub fn enter(&mut self, movement: Movement<T>) -> Result<(), LedgerError>
         ensures entered { OnOk result ((L : List (T × ℕ)) (ms : List (Movement T))
             → IsLedgerOf T.eq L ms self.old.refusals.items self.old.stock

@@ -68,8 +68,8 @@ fn next_change<'a, 'b>(
     }
 }
 
-/// Returns the changes that turn a balance into another one, articles rising, if the articles of both balances rise. A row that stays as
-/// it is isn't changed.
+/// Returns the changes that turn the balance `before` into `after`, sorted by article. Both balances have to be sorted by article. An article
+/// with the same quantity in both has no change.
 ///
 /// # Errors
 ///

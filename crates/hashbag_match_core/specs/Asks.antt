@@ -1,4 +1,4 @@
--- What is asked for, and the lines of both texts.
+-- What a request names, and the lines of both texts.
 use Rattle.std.specs.Prelude.{ℕ, List, map}
 use Rattle.hashbag_lists.specs.Lines.{lines_in}
 use Rattle.hashbag_lists.specs.Readers.{Record}

@@ -1,4 +1,4 @@
--- What was ordered beside what was delivered.
+-- What was ordered next to what was delivered.
 use Rattle.std.specs.Prelude.{◌≡◌, ℕ, ◌-◌, ◌<◌, ◌==◌, not, Bool, true, List, length, map, sum_by, count_by, All}
 use Rattle.std.specs.Borrow.{Bor}
 use Rattle.std.specs.List.{Contains}
@@ -30,7 +30,7 @@ module _ {T : Type 0} where
 abbrev pub lent_rows : {T : Type 0} → List (Row (Bor T)) → List (Row T)
 lent_rows rows = map (λ row. record { article = row.article.now; ordered = row.ordered; delivered = row.delivered }) rows
 
--- the rows of the articles that are named: each in one row, beside both its numbers, articles rising
+-- the rows of the articles that are named: each in one row, with both its numbers, articles rising
 pub record AreRows {T : Type 0} (eq : T → T → Bool) (cmp : T → T → Ordering) (named ordered delivered : T → ℕ) (rows : List (Row T)) : Type 0 where
   pub rising : IsStrictlySortedBy cmp (map (λ row. row.article) rows)
   pub counts : All (λ row. (row.ordered ≡ ordered row.article) × (row.delivered ≡ delivered row.article) × (0 < named row.article)) rows

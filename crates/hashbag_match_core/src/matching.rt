@@ -56,16 +56,6 @@ pub struct Matched<T> {
     pub agree: bool,
 }
 
-impl<T> Matched<T> {
-    /// Returns the exit status of a program that compares, as `diff` does: 0 if as many of each article were delivered as ordered, and
-    /// 1 if some article differs.
-    pub fn status(&self) -> u8
-        ensures { result ≡ (if self.now.agree then 0 else 1) }
-    {
-        if self.agree { 0 } else { 1 }
-    }
-}
-
 // Returns a row for each article that either bag has, with its count in both, in no particular order.
 fn rows_of<'a, T: Ord + Hash + Drop, S: BuildHasher + Drop>(
     alloc: Global,

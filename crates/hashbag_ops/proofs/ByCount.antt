@@ -1,4 +1,4 @@
--- After a `retain` whose closure answers by the value and its count.
+-- After a `retain` whose closure returns a number that follows from the value and its count.
 use Rattle.std.proofs.Common.{◌≡◌, ℕ, ◌+◌, min, Bool, true, false, cond, nat_lt, List, [], ◌∷◌, ◌++◌, replicate, map, refl, sym, ◌∙◌, ap, subst, arith}
 use borrow.Author.Tests.{ltb-false}
 use denote.Ref.{Bor}
@@ -22,6 +22,7 @@ use Rattle.hashbag.proofs.OccurrenceLemmas.{count_rearranged}
 
 module _ {F T : Type 0} (g : Mut F (Bor T × (ℕ × Unit {0})) ℕ) (J : F → Type 0) (many : T → ℕ → ℕ)
     (says : (p q : F) (x : Bor T) (n a : ℕ) → J p → Called g p (x, (n, tt)) a q → (a ≡ many x.now n) × J q) where
+  -- what a closure returned along a walk, if it returns `many` of the value and its count
   pub answers_by_count : (p : F) (walk : List (T × ℕ)) (answers : List ℕ) (last : F) → J p → AnswersInTurn g p walk answers last → answers ≡ map (λ e. many e.0 e.1) walk
   answers_by_count p [] [] last j asked = refl
   answers_by_count p [] (a ∷ answers) last j asked = absurd asked
@@ -77,6 +78,7 @@ module _ {T : Type 0} {eq : T → T → Bool} (laws : IsEquivalence eq) (many : 
       ap (λ (l : List T). count eq v l) (entry_kept (nat_lt 0 (min (many e.0 e.1) e.1)) e.0 (min (many e.0 e.1) e.1) (kept W (map (λ e. many e.0 e.1) W)) refl)
       ∙ kept_step v e W (kept W (map (λ e. many e.0 e.1) W)) (eq v e.0) refl (absent_later laws e W distinct) (count_of_kept v W (IsDistinct-tail eq e.0 (keys_of W) distinct))
 
+  -- after a `retain` (`retained`) whose closure returns that: the lesser of the count and `many` of v and its count
   pub count_retained_by : {F S : Type 0} (g : Mut F (Bor T × (ℕ × Unit {0})) ℕ) (f : F) (before after : Bag T S) (done : IsRetained eq g f before after) → done.answers ≡ map (λ e. many e.0 e.1) done.walk
       → (v : T) → count eq v after.items ≡ min (many v (count eq v before.items)) (count eq v before.items)
   count_retained_by g f before after done are v =

@@ -52,6 +52,7 @@ module _ {T : Type 0} {eq : T → T → Bool} (laws : IsEquivalence eq) where
       let itself : one (eq v v) ≡ 1 = ap one (laws.refl v) in
       omega (arith, here, itself)
 
+  -- lists with the same counts are equally long
   pub same_length : (X Y : List T) → SameCounts eq X Y → length X ≡ length Y
   same_length [] [] same = refl
   same_length [] (y ∷ Y) same = let some = own_count y Y in let none = same y in absurd (omega (arith, some, none))

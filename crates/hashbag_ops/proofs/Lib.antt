@@ -1,8 +1,8 @@
 pub mod ByCount
-pub mod Commonest
 pub mod Lacking
 pub mod Lengths
 pub mod MostCommon
+pub mod MostCommonFirst
 pub mod Ranked
 pub mod Spared
 pub mod Sums

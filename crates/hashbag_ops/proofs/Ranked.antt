@@ -61,7 +61,7 @@ module _ {T : Type 0} {eq : T → T → Bool} (laws : IsEquivalence eq) {cmp : T
   ranked_from_rising [] up distinct = tt
   ranked_from_rising (p ∷ ps) up distinct = (all_after p ps up.0 (IsDistinct-head eq p.0 (keys_of ps) distinct), ranked_from_rising ps up.1 (IsDistinct-tail eq p.0 (keys_of ps) distinct))
 
-  -- the same from a sort by a closure that compares so
+  -- pairs of distinct values that a closure sorted by `rank` are strictly sorted by it
   pub ranked_from_sort_by : {F : Type 0} {g : Mut F (Bor (Bor T × ℕ) × (Bor (Bor T × ℕ) × Unit {0})) Ordering} {f : F} (ps : List (Bor T × ℕ))
       → ((lt : Bor T × ℕ → Bor T × ℕ → Bool) → IsStrictWeakOrder lt → ComparesAs g lt f → IsSortedBy lt ps)
       → ((a : Bor (Bor T × ℕ) × (Bor (Bor T × ℕ) × Unit {0})) (r : Ordering) (f' : F) → Called g f a r f' → (r ≡ rank cmp (seen a.0.now) (seen a.1.0.now)) × (f' ≡ f))

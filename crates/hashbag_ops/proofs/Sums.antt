@@ -1,4 +1,4 @@
--- The counts of what a walk gives as sums over it, and an extend by pairs that is refused nothing.
+-- The counts of what a walk gives as sums over it, and an extend by pairs that doesn't fail.
 use Rattle.std.proofs.Common.{◌≡◌, ℕ, zero, suc, ◌+◌, ◌<◌, ◌≤◌, ◌==◌, cond, Bool, List, [], ◌∷◌, length, replicate, sum_by, take, get_or, Option, Some, Result, Ok, Err, IsOk, IfErr, inl, inr, sym, ◌∙◌, ap, subst, refl, arith}
 use Rattle.std.specs.Cmp.{IsEquivalence}
 use Rattle.std.proofs.lemmas.Bool.{cases_lt}
@@ -49,7 +49,7 @@ one_or_none k d e one none = elim (cases_lt 0 k) [
 ]
 
 module _ {T : Type 0} {eq : T → T → Bool} (laws : IsEquivalence eq) where
-  -- how often v occurs in what a walk gives: the sum of the counts beside the values that equal it
+  -- how often v occurs in what a walk gives: the sum of the counts of the values that equal it
   pub count_written : (v : T) (W : List (T × ℕ)) → count eq v (occurrences W) ≡ sum_by (λ p. cond (eq v p.0) p.1 0) W
   count_written v [] = refl
   count_written v (e ∷ W) =
@@ -132,7 +132,8 @@ module _ {T S : Type 0} {eq : T → T → Bool} (laws : IsEquivalence eq) where
       let many : length (lacking eq X all) ≡ lacked eq X all = length-filter (λ e. count eq e.0 X == 0) all in
       omega (arith, past, few, one, same, so_far, last, many, enough)
 
-  -- so it succeeds
+  -- an `extend_many` by known pairs succeeds, within the limit, with room for the pairs whose value isn't in a list X, if the bag has each
+  -- value of X
   pub takes_pairs : {I A : Type 0} {steps : I → Option (T × ℕ) → I → Type 0} {it : I} {all : List (T × ℕ)} → (before after : Bag T S) (r : Result A BagError) (X : List T) → ((v : T) → 0 < count eq v X → 0 < count eq v before.items)
       → IfErr r (InsertsUpTo eq steps AsItIs (RefusesPair eq) it before after) → YieldsList steps (λ x. x) it all → length (lacking eq X all) ≤ room before.tables → length before.items + sum_by (λ p. p.1) all ≤ before.most → IsOk r
   takes_pairs before after (Ok a) X has h yields enough fits = refl

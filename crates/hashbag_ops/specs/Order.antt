@@ -11,11 +11,11 @@ use Rattle.std.specs.declared.collections.BinaryHeap.{BinaryHeap}
 use Rattle.hashbag.specs.Bag.{Bag}
 use Rattle.hashbag.specs.Walks.{IsSetWalkOf}
 
--- the order of the commonest: what occurs oftener comes first, and of what occurs as often the lesser value
+-- the order of the most common: what occurs more often comes first, and of what occurs as often the lesser value
 abbrev pub rank : {T : Type 0} → (T → T → Ordering) → T × ℕ → T × ℕ → Ordering
 rank cmp x y = ordering_then (nat_cmp y.1 x.1) (cmp x.0 y.0)
 
--- P are the first k of a set walk of the bag that is in that order, or all of it where it is shorter
+-- P are the first k of a set walk of the bag that is strictly sorted by `rank`, or all of it if it is shorter
 abbrev pub IsMostCommon : {T S : Type 0} → (T → T → Bool) → (T → T → Ordering) → ℕ → Bag T S → List (T × ℕ) → Type 0
 IsMostCommon {T} eq cmp k bag P = (W : List (T × ℕ)) × IsSetWalkOf eq bag W × IsStrictlySortedBy (rank cmp) W × (P ≡ take k W)
 
@@ -23,7 +23,7 @@ IsMostCommon {T} eq cmp k bag P = (W : List (T × ℕ)) × IsSetWalkOf eq bag W 
 abbrev pub comes_first : {T : Type 0} → (T → T → Ordering) → T × ℕ → T × ℕ → Bool
 comes_first cmp x y = is_lt (rank cmp x y)
 
--- H are k of P, or all where there are fewer, and none that is left out comes before one of them
+-- H are k of P, or all if there are fewer, and none that is left out comes before one of them
 pub record IsFirstOf {X : Type 0} (lt : X → X → Bool) (k : ℕ) (P H : List X) : Type 0 where
   pub rest : List X
   pub parts : IsPermutation P (H ++ rest)
@@ -31,11 +31,11 @@ pub record IsFirstOf {X : Type 0} (lt : X → X → Bool) (k : ℕ) (P H : List 
   pub full : length H < k → rest ≡ []
   pub first : AllByRecursion (λ r. AllByRecursion (λ h. lt r h ≡ false) H) rest
 
--- where H are the first k of what came so far, H' are the first k when x comes too
+-- if H are the first k of what came so far, H' are the first k when x comes too
 abbrev pub KeepsFirst : {X : Type 0} → (X → X → Bool) → ℕ → List X → X → List X → Type 0
 KeepsFirst {X} lt k H x H' = (P : List X) → IsFirstOf lt k P H → IsFirstOf lt k (P ++ x ∷ []) H'
 
--- a count and a value that is lent, as a heap holds them. What they are compared by themselves is the order of the commonest
+-- a count and a value that is lent, as a heap holds them. Compared by themselves, they are in the order of the most common
 abbrev pub counted_pair : {T : Type 0} → Reverse ℕ × Bor T → T × ℕ
 counted_pair e = (e.1.now, e.0.0)
 

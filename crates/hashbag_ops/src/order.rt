@@ -21,7 +21,7 @@ use std::hash::{BuildHasher, Hash};
 ///
 /// # Complexity
 ///
-/// It allocates the list at once, and hashes and compares nothing.
+/// It makes one allocation, of the whole list. It neither hashes nor compares.
 ///
 /// # Examples
 ///
@@ -57,7 +57,7 @@ pub fn counts<'a, T: Eq + Hash + Drop, S: BuildHasher + Drop>(
 ///
 /// # Complexity
 ///
-/// It allocates the list at once, hashes nothing, and compares as often as a sort of as many pairs does.
+/// It makes one allocation, of the whole list, and sorts it. It hashes nothing.
 ///
 /// # Examples
 ///
@@ -83,7 +83,7 @@ pub fn sorted<'a, T: Ord + Hash + Drop, S: BuildHasher + Drop>(
     Ok(pairs)
 }
 
-/// Returns the `k` commonest values of a bag with their counts, or all if there are fewer: counts falling, and values that occur equally
+/// Returns the `k` most common values of a bag with their counts, or all if there are fewer: counts falling, and values that occur equally
 /// often rising. They are the first of the one list of all values in that order.
 ///
 /// # Errors
@@ -131,7 +131,7 @@ pub fn most_common<'a, T: Ord + Hash + Drop, S: BuildHasher + Drop>(
     Ok(pairs)
 }
 
-/// Returns how often the commonest values of a bag occur, 0 if it is empty.
+/// Returns how often the most common values of a bag occur, 0 if it is empty.
 ///
 /// # Complexity
 ///
@@ -157,7 +157,7 @@ pub fn max_count<T: Eq + Hash + Drop, S: BuildHasher + Drop>(bag: &HashBag<T, S>
     greatest
 }
 
-// Returns the `k` commonest, by a heap.
+// Returns the `k` most common, by a heap.
 fn first_ranked<'a, T: Ord + Hash + Drop, S: BuildHasher + Drop>(
     alloc: Global,
     bag: &'a HashBag<T, S>,

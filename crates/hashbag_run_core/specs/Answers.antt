@@ -1,4 +1,4 @@
--- What the steps of two bags answer.
+-- What the steps of two bags return.
 use Rattle.std.specs.Prelude.{◌≡◌, ℕ, List, nat_eq}
 use Rattle.std.specs.Ordering.{nat_cmp}
 use Rattle.serde_json.specs.Data.{Data, number, unsigned}
@@ -12,7 +12,7 @@ use Rattle.hashbag_run_core.specs.declared.answers.Answers.{Answers}
 abbrev pub IsTreeOfNumbers : List ℕ → ℕ → Data → Type 0
 IsTreeOfNumbers X most d = IsBagTree nat_eq nat_cmp (λ n. number (unsigned n)) X most d
 
--- these are the answers to the steps of two bags that are empty at first: the replies of each, the joins of what the steps leave,
+-- these are the results of the steps of two bags that are empty at first: the replies of each, the joins of what the steps leave,
 -- and the trees of that, with the limits that the steps leave
 pub record AreAnswersTo (steps_a steps_b : Steps ℕ) (answers : Answers) : Type 0 where
   pub replies_a : answers.replies_a.items ≡ replies_to nat_eq steps_a

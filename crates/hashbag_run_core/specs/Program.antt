@@ -18,7 +18,7 @@ IsAnswerTo input (Done text) = IsRunOf input (string_bytes text)
 IsAnswerTo input (BadLine text) = NamesBadLine input (string_bytes text)
 IsAnswerTo input NoMemory = Unit {0}
 
--- the text of an answer, and its status
+-- the text of an outcome, and its status
 abbrev pub text_of : Outcome → List ℕ
 text_of (Done text) = string_bytes text
 text_of (BadLine text) = string_bytes text

@@ -90,7 +90,7 @@ pub fn print_joins(text: &mut String, joins: JoinLists<u64>) -> Result<(), Alloc
     Ok(())
 }
 
-/// Appends the line of the tree of the bag with this name, with no space in the tree.
+/// Appends the line `NAME json TREE`. There is no space in the tree.
 pub fn print_tree(
     alloc: Global,
     text: &mut String,

@@ -21,7 +21,7 @@ module _ {T : Type 0} {eq : T → T → Bool} (laws : IsEquivalence eq) where
   pub insert_row-fits : (most : ℕ) (v : T) (n : ℕ) (X : List T) → length X + n ≤ most → insert_row eq most v n X ≡ (add eq v n X, Count (count eq v X))
   insert_row-fits most v n X fits = ap (λ (b : Bool). cond b (X, TooMany) (add eq v n X, Count (count eq v X))) (not_above most (length X + n) fits _ refl)
 
-  -- an insertion that fits, and a count of the same value
+  -- of `run` of two steps: the replies of an insertion that fits, and of a count of the same value
   pub run-insert_count : (most : ℕ) (v : T) (X : List T) → length X + 1 ≤ most → (run eq most X (Insert v ∷ CountStep v ∷ [])).1 ≡ Count (count eq v X) ∷ Count (count eq v X + 1) ∷ []
   unfolding run
   run-insert_count most v X fits =

@@ -167,7 +167,7 @@ arrival = record {
   present = λ some. absurd (omega (arith, some));
 }
 
--- no insertion carries all slots where more than 16 wait
+-- no insertion carries all slots if more than 16 wait
 never_all_at_once : LeavesTables same_key [] ((1, 10) ∷ []) (Insert (1, 10)) carrying all_carried → ⊥
 never_all_at_once leaves = let waits = ((leaves.arrives refl (omega arith)).with_room (omega arith)).waits in cc
 

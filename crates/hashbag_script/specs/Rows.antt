@@ -26,7 +26,7 @@ module _ {T : Type 0} (eq : T → T → Bool) where
   abbrev pub remove_up_to_row : T → ℕ → List T → List T × Reply T
   remove_up_to_row v q X = (less eq v q X, Count (count eq v X - min q (count eq v X)))
 
-  -- try_take: one fewer of v; the instance where it was the last, else how many there were
+  -- try_take: one fewer of v; the instance if it was the last, else how many there were
   abbrev pub try_take_row : T → List T → List T × Reply T
   try_take_row v X =
       if count eq v X == 0 then (X, Absent)
@@ -39,25 +39,25 @@ module _ {T : Type 0} (eq : T → T → Bool) where
       if count eq v X == 0 then (X, Absent)
       else (less eq v (count eq v X) X, Taken (instance_or_itself eq v X) (count eq v X))
 
-  -- the entry's and_modify, where the closure sets n: n of v's instance where v occurs, unless the total would pass the limit `most`
+  -- the entry's and_modify, if the closure sets n: n of v's instance if v occurs, unless the total would pass the limit `most`
   abbrev pub entry_set_row : ℕ → T → ℕ → List T → List T × Reply T
   entry_set_row most v n X =
       if count eq v X == 0 then (X, Absent)
       else (if nat_lt most (length X - count eq v X + n) then (X, TooMany)
       else (put eq (instance_or_itself eq v X) n X, Done))
 
-  -- the entry's or_insert_many: q of v where v doesn't occur, unless the total would pass the limit `most`; the count after
+  -- the entry's or_insert_many: q of v if v doesn't occur, unless the total would pass the limit `most`; the count after
   abbrev pub entry_or_row : ℕ → T → ℕ → List T → List T × Reply T
   entry_or_row most v q X =
       if nat_lt 0 (count eq v X) then (X, Count (count eq v X))
       else (if nat_lt most (length X + q) then (X, TooMany)
       else (add eq v q X, Count q))
 
-  -- the number beside the first value of the list that is equal to u, 0 where there is none
+  -- the number of the first value of the list that is equal to u, 0 if there is none
   abbrev pub quota : List (T × ℕ) → T → ℕ
   quota list u = unwrap_or (option_map (λ p. p.1) (find (λ p. eq u p.0) list)) 0
 
-  -- of each value u of X the lesser of its count and `many u`: an item stays where fewer than that are equal to it later on
+  -- of each value u of X the lesser of its count and `many u`: an item is kept if fewer than that are equal to it later on
   abbrev pub retained : (T → ℕ) → List T → List T
   retained many [] = []
   retained many (x ∷ X) = if nat_lt (count eq x X) (many x) then x ∷ retained many X else retained many X

@@ -13,7 +13,7 @@ abbrev pub Steps : Type 0 → Type 0
 Steps T = List (Step T)
 
 module _ {T : Type 0} where
-  -- whether the step asks for room, or gives it back
+  -- whether the step reserves room, or gives it back
   abbrev pub is_about_room : Step T → Bool
   is_about_room (Insert v) = false
   is_about_room (InsertMany v n) = false
@@ -31,7 +31,7 @@ module _ {T : Type 0} where
   is_about_room ShrinkToFit = true
   is_about_room (Limit n) = false
 
-  -- whether the step asks for room
+  -- whether the step reserves room
   abbrev pub is_reserve : Step T → Bool
   is_reserve (Insert v) = false
   is_reserve (InsertMany v n) = false
@@ -68,7 +68,7 @@ module _ {T : Type 0} (eq : T → T → Bool) where
   step most X ShrinkToFit = shrink_to_fit_row eq X
   step most X (Limit n) = limit_row eq n X
 
-  -- the limit that a step leaves: n where `Limit n` isn't below the total, else as it was
+  -- the limit that a step leaves: n if `Limit n` isn't below the total, else as it was
   abbrev pub limit_after : ℕ → List T → Step T → ℕ
   limit_after most X (Insert v) = most
   limit_after most X (InsertMany v n) = most
@@ -94,7 +94,7 @@ module _ {T : Type 0} (eq : T → T → Bool) where
       let rest = run (limit_after most X s) one.0 steps in
       (rest.0, one.1 ∷ rest.1)
 
-  -- the limit that they leave
+  -- the limit that the steps leave, applied in order to X, in a bag with the limit `most`
   unfoldable pub limit_left : ℕ → List T → List (Step T) → ℕ
   limit_left most X [] = most
   limit_left most X (s ∷ steps) = limit_left (limit_after most X s) (step most X s).0 steps
@@ -118,7 +118,7 @@ module _ {T : Type 0} (eq : T → T → Bool) where
   abbrev pub has_newcomer : List T → List T → Bool
   has_newcomer X Y = list_any (λ y. count eq y X == 0) Y
 
-  -- 1 where some value occurs in Y that doesn't occur in X, else 0
+  -- 1 if some value occurs in Y that doesn't occur in X, else 0
   abbrev pub newcomers : List T → List T → ℕ
   newcomers X Y = if has_newcomer X Y then 1 else 0
 
@@ -142,8 +142,9 @@ module _ {T : Type 0} (eq : T → T → Bool) where
   abbrev pub IfRoomy : {S : Type 0} → Bag T S → List (Step T) → Type 0 → Type 0
   IfRoomy bag steps P = (X : List T) → Means bag X → IsRoomy bag.most X steps bag.tables → P
 
-  -- What a run from no slots leaves. With no `Reserve` the slots are bounded by the most distinct values that there were. Fewer slots
-  -- wait than the newer table has. With no `ShrinkToFit` either, the values that came pay for the slots of all tables made.
+  -- What a run from no slots leaves. With no `Reserve` the slots are bounded by the most distinct values that there were (`peak`). Fewer
+  -- slots wait than the newer table has. With no `ShrinkToFit` either, the values that arrived (`arrivals`) bound the slots of all tables
+  -- that were built.
   pub record IsBounded (most : ℕ) (steps : List (Step T)) (old new : Tables T) : Type 0 where
     pub slots : list_any is_reserve steps ≡ false → 3 * length new.newer ≤ max 48 (16 * peak most [] steps)
     pub smaller : 0 < length new.waiting → length new.waiting + 16 ≤ length new.newer
@@ -160,7 +161,7 @@ module _ {T : Type 0} (eq : T → T → Bool) where
     pub some : X ≢ []
     pub smaller : (m : ℕ) → IsLeast 0 (distinct_count eq X) m → m < length tables.newer
 
-  -- a step that may be refused for memory: such an insertion, or a replacement that is one; `Reserve` of more room than there is; and
+  -- a step that may allocate: an insertion or a replacement of an absent value whose total fits; `Reserve` of more room than there is; and
   -- `ShrinkToFit` of tables that it may shrink
   abbrev pub AsksForMemory : ℕ → List T → Tables T → Step T → Type 0
   AsksForMemory most X tables (Insert v) = IsRefusedInsertion most v 1 X
@@ -179,8 +180,8 @@ module _ {T : Type 0} (eq : T → T → Bool) where
   AsksForMemory most X tables ShrinkToFit = MayShrink X tables
   AsksForMemory most X tables (Limit n) = ⊥
 
-  -- a run that memory stopped: the steps that have replies are the run, the bag means what they left, and the next step asked for
-  -- memory, with the tables as it found them. A value asks for it only where there is no room
+  -- a run that a failed allocation stopped: the steps before it have replies, the bag means what they left, and the next step is one that
+  -- may allocate (`AsksForMemory`), with the tables as it found them. If that step isn't about room, there was no room
   pub record IsStopped {S : Type 0} (most : ℕ) (X : List T) (steps : List (Step T)) (before after : List (Reply T)) (bag : Bag T S) : Type 0 where
     pub done : List (Step T)
     pub stopped_at : Step T

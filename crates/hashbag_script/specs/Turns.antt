@@ -38,9 +38,9 @@ module _ {T : Type 0} (eq : T → T → Bool) where
     pub none : X ≡ [] → new ≡ no_slots old.built
     pub shrinks : ShrinksOrStays (distinct_count eq X) old new
 
-  -- What a step leaves of the tables that made the list Y of X. One on a value changes them for that value alone. `Retain` changes counts
-  -- in place, and `Clear` empties the slots. `Reserve n` makes room for n more values if there isn't that room, and `ShrinkToFit` a smaller
-  -- table if that is enough. Both then leave nothing that waits, or else the tables as they were. The others leave them so, too.
+  -- What a step leaves of the tables, if it turned the list X into Y. One on a value changes them for that value alone. `Retain` changes
+  -- counts in place, and `Clear` empties the slots. `Reserve n` makes room for n more values if there isn't that room, and `ShrinkToFit`
+  -- a smaller table if that is enough. Both then leave nothing that waits, or else the tables as they were. The others leave them so, too.
   abbrev pub LeavesTables : List T → List T → Step T → Tables T → Tables T → Type 0
   LeavesTables X Y (Insert v) old new = SetsCount v (count eq v X) (count eq v Y) old new
   LeavesTables X Y (InsertMany v n) old new = SetsCount v (count eq v X) (count eq v Y) old new
@@ -70,14 +70,14 @@ module _ {T : Type 0} (eq : T → T → Bool) where
     pub held : AreHeld eq items t
     pub number : values t ≡ distinct_count eq X
 
-  -- each step finds tables that hold the list that it finds, and leaves of them what it owes, and the next one begins with those
+  -- each step finds tables that hold the list that it finds, and leaves what `LeavesTables` says, with which the next one begins
   abbrev pub TablesInTurn : ℕ → List T → List (Step T) → Tables T → Tables T → Type 0
   TablesInTurn most X [] old new = new ≡ old
   TablesInTurn most X (s ∷ steps) old new =
       let Y = (step eq most X s).0 in
       (next : Tables T) × Hold X old × LeavesTables X Y s old next × TablesInTurn (limit_after eq most X s) Y steps next new
 
-  -- so do the steps that have replies, whichever list the bag meant
+  -- `TablesInTurn` holds of the steps that have replies, whichever list the bag meant
   abbrev pub AreTablesInTurn : {S : Type 0} → Ran T S → Type 0
   AreTablesInTurn r = (X : List T) → Means r.before X → TablesInTurn r.before.most X (answered r) r.before.tables r.after.tables
 

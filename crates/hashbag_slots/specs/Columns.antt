@@ -1,4 +1,4 @@
--- A table of slots as it is kept: a tag for each slot, which is a byte, beside a row of cells. How the two mean slots, and
+-- A table of slots as it is kept: a tag for each slot, which is a byte, and a row of cells. How the two mean slots, and
 -- what a probe rests on.
 use Rattle.std.specs.Prelude.{◌≡◌, ℕ, ◌+◌, ◌/◌, ◌^◌, ◌<◌, ◌≤◌, Bool, true, List, [], ◌∷◌, length, Option, Some, None, if◌then◌else◌, nat_eq, slice_index_or}
 use Rattle.hashbag_slots.specs.declared.slots.Slot.{Slot}
@@ -18,7 +18,7 @@ tag_at ts p = slice_index_or ts p 0
 abbrev pub IsNextMark : List ℕ → ℕ → ℕ → Type 0
 IsNextMark ts from p = (from ≤ p) × (p < length ts) × (128 ≤ tag_at ts p) × ((q : ℕ) → from ≤ q → q < p → tag_at ts q < 128)
 
--- the tags of the first so many slots on the path of a hash are those of Live ones
+-- the tags of the first `many` slots on the path of a hash are those of Live ones
 abbrev pub AreMarked : ℕ → List ℕ → ℕ → Type 0
 AreMarked hash ts many = (step : ℕ) → step < many → 128 ≤ tag_at ts (path_slot (length ts) hash step)
 
@@ -42,7 +42,7 @@ module _ {T : Type 0} where
   abbrev pub columns : List ℕ → List (Option (T × ℕ)) → Columns T
   columns ts cs = record { slots = slots_of ts cs; tags = ts }
 
-  -- a cell has a value exactly where the tag is 128 or more
+  -- a cell has a value exactly if the tag is 128 or more
   pub record Agree (ts : List ℕ) (cs : List (Option (T × ℕ))) : Type 0 where
     pub same_length : length ts ≡ length cs
     pub filled : (p : ℕ) → 128 ≤ tag_at ts p → (e : T × ℕ) × (cell_at cs p ≡ Some e)
@@ -60,7 +60,7 @@ module _ {T : Type 0} where
     pub paths : KeepsPaths hash table.slots
     pub marks : (p : ℕ) (v : T) (n : ℕ) → slot_at table.slots p ≡ Live v n → tag_at table.tags p ≡ mark_of (hash v)
 
-  -- so many slots of an older table, from the place `from` on, are carried into a newer one: each Live value goes there in turn,
+  -- `many` slots of an older table, from the place `from` on, are carried into a newer one: each Live value goes there in turn,
   -- into the first slot on its path that was not Live, and becomes Moved here
   pub record CarriesInto (eq : T → T → Bool) (hash : T → ℕ) (from many : ℕ) (newer older newer' older' : Columns T) : Type 0 where
     pub placed : PlacesAll hash (entries_in from many older.slots) newer.slots newer'.slots

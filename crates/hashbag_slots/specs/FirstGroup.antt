@@ -5,19 +5,19 @@ use Rattle.hashbag_slots.specs.declared.probe.FirstGroup.TheVariants.{Found, Abs
 use Rattle.hashbag_slots.specs.Slots.{path_slot, holds, slot_at}
 use Rattle.hashbag_slots.specs.Columns.{Columns, tag_at}
 
--- where a value was found, P holds of its place
+-- if a value was found, P holds of its place
 abbrev pub IfFound : FirstGroup → (ℕ → Type 0) → Type 0
 IfFound (Found p) P = P p
 IfFound (Absent p) P = ⊤
 IfFound Open P = ⊤
 
--- where it is known to be absent, P holds of the place into which it is put
+-- if it is known to be absent, P holds of the place into which it is put
 abbrev pub IfAbsent : FirstGroup → (ℕ → Type 0) → Type 0
 IfAbsent (Found p) P = ⊤
 IfAbsent (Absent p) P = P p
 IfAbsent Open P = ⊤
 
--- where they don't decide, P holds
+-- if they don't decide, P holds
 abbrev pub IfOpen : FirstGroup → Type 0 → Type 0
 IfOpen (Found p) P = ⊤
 IfOpen (Absent p) P = ⊤

@@ -9,7 +9,7 @@ use Rattle.hashbag_slots.specs.Slots.{holds, slot_at}
 abbrev pub from_place_on : (ℕ → Bool) → ℕ → ℕ → Bool
 from_place_on test from p = nat_le from p && test p
 
--- bit i is 1 where the place from + i is below `until` and passes the test, and 0 elsewhere
+-- bit i is 1 if the place from + i is below `until` and passes the test, and 0 otherwise
 abbrev pub IsMaskOf : (ℕ → Bool) → ℕ → ℕ → ℕ → Type 0
 IsMaskOf test from until bits = (i : ℕ) → bit_at bits i ≡ (if nat_lt (from + i) until then (if test (from + i) then 1 else 0) else 0)
 
@@ -17,15 +17,15 @@ IsMaskOf test from until bits = (i : ℕ) → bit_at bits i ≡ (if nat_lt (from
 abbrev pub IsMaskIn : (ℕ → Bool) → ℕ → ℕ → ℕ → ℕ → Type 0
 IsMaskIn test from at until bits = IsMaskOf (from_place_on test at) from until bits
 
--- bits tell which tags from the place `from` to before `until` are this one
+-- bits show which tags from the place `from` to before `until` are this one
 abbrev pub IsTagMask : List ℕ → ℕ → ℕ → ℕ → ℕ → Type 0
 IsTagMask ts tag from until bits = IsMaskOf (λ p. tag_at ts p == tag) from until bits
 
--- bits tell which of the 16 tags from the place `from` on that come before the first Empty one are this one, and `ends` whether one
+-- bits show which of the 16 tags from the place `from` on that come before the first Empty one are this one, and `ends` whether one
 -- of the 16 is Empty
 abbrev pub IsTagMaskBeforeEmpty : List ℕ → ℕ → ℕ → ℕ → Bool → Type 0
 IsTagMaskBeforeEmpty ts tag from bits ends = (stop : ℕ) × IsFirstPlace (λ p. tag_at ts p == 0) from (from + 16) stop × IsTagMask ts tag from stop bits × (ends ≡ nat_lt stop (from + 16))
 
--- no value that passes the test is Live in the slots from the place `from` on of which bits tell that their tag is this one
+-- no value that passes the test is Live in the slots from the place `from` on of which bits show that their tag is this one
 abbrev pub IsAbsentAmong : {T : Type 0} → (T → Bool) → Columns T → ℕ → ℕ → ℕ → Type 0
 IsAbsentAmong test table tag from bits = (until : ℕ) → IsTagMask table.tags tag from until bits → (p : ℕ) → from ≤ p → p < until → tag_at table.tags p ≡ tag → holds test (slot_at table.slots p) ≡ false

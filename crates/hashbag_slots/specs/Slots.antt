@@ -9,7 +9,7 @@ use Rattle.hashbag_slots.specs.declared.slots.Slot.TheVariants.{Empty, Removed, 
 abbrev pub IsSlotCount : ℕ → Type 0
 IsSlotCount n = (n ≡ 0) ⊎ ((k : ℕ) × (4 ≤ k) × (k ≤ 59) × (n ≡ 2 ^ k))
 
--- the slot that a probe looks at after so many steps, among n: it begins at the hash modulo n
+-- the slot that a probe reads after `step` steps, among n: it begins at the hash modulo n
 abbrev pub path_slot : ℕ → ℕ → ℕ → ℕ
 path_slot n hash step = (hash + step) % n
 
@@ -105,21 +105,21 @@ module _ {T : Type 0} where
     pub removed_is : removed ≡ removed_count ss
     pub distinct : IsSet eq ss
 
-  -- a slot with another count, where it is Live
+  -- a slot with another count, if it is Live
   abbrev pub recounted : ℕ → Slot T → Slot T
   recounted n Empty = Empty
   recounted n Removed = Removed
   recounted n Moved = Moved
   recounted n (Live v m) = Live v n
 
-  -- a slot with more at its count, where it is Live
+  -- a slot with more at its count, if it is Live
   abbrev pub raised : ℕ → Slot T → Slot T
   raised n Empty = Empty
   raised n Removed = Removed
   raised n Moved = Moved
   raised n (Live v m) = Live v (m + n)
 
-  -- the count of a slot, 0 where it is not Live
+  -- the count of a slot, 0 if it is not Live
   abbrev pub count_in : Slot T → ℕ
   count_in Empty = 0
   count_in Removed = 0
@@ -154,13 +154,13 @@ module _ {T : Type 0} where
   carried Moved = Moved
   carried (Live v n) = Moved
 
-  -- so many slots from the place `from` on are carried, and all others are as they were
+  -- `many` slots from the place `from` on are carried, and all others are as they were
   pub record Carries (from many : ℕ) (old new : List (Slot T)) : Type 0 where
     pub same_length : length new ≡ length old
     pub inside : (p : ℕ) → from ≤ p → p < from + many → slot_at new p ≡ carried (slot_at old p)
     pub outside : (p : ℕ) → (p < from) ⊎ (from + many ≤ p) → slot_at new p ≡ slot_at old p
 
-  -- the entries of so many slots from the place `from` on
+  -- the entries of `many` slots from the place `from` on
   abbrev pub entries_in : ℕ → ℕ → List (Slot T) → List (T × ℕ)
   entries_in from many ss = entries (take many (drop from ss))
 

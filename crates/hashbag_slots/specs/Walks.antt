@@ -28,11 +28,11 @@ marks_from from ts = marks from (drop from ts)
 abbrev pub in_pass : ℕ → List ℕ → List ℕ
 in_pass pass ps = filter (λ p. nat_eq (pass_of p) pass) ps
 
--- the Live places of a turn from the place `from` on, each beside its turn: those of the pass that is half of it
+-- the Live places of a turn from the place `from` on, each with its turn: those of the pass that is half of it
 abbrev pub turn_places : ℕ → ℕ → List ℕ → List ℕ → List (ℕ × ℕ)
 turn_places turn from newer older = map (λ p. (turn, p)) (in_pass (turn / 2) (marks_from from (of_turn turn newer older)))
 
--- those of the last so many turns
+-- those of the last n turns
 abbrev pub turns : ℕ → List ℕ → List ℕ → List (ℕ × ℕ)
 turns zero newer older = []
 turns (suc turn) newer older = turn_places turn 0 newer older ++ turns turn newer older
@@ -56,7 +56,7 @@ pub record IsNextGroup (ts : List ℕ) (pass from : ℕ) (group : ℕ × ℕ) : 
   pub told : IsMaskOf (λ p. nat_le 128 (tag_at ts p)) group.0 (group.0 + 16) group.1
   pub none : (p : ℕ) → from ≤ p → p < group.0 → pass_of p ≡ pass → tag_at ts p < 128
 
--- the bits of a course tell which of the 16 slots below `until`, all of them of its pass, are Live and not before `next`
+-- the bits of a course show which of the 16 slots below `until`, all of them of its pass, are Live and not before `next`
 pub record IsCourse (newer older : List ℕ) (c : Course) : Type 0 where
   pub told : IsMaskIn (λ p. nat_le 128 (tag_at (of_turn c.turn newer older) p)) (c.until - 16) c.next c.until c.ahead
   pub whole : 0 < c.ahead → 16 ≤ c.until
@@ -88,7 +88,7 @@ module _ {T : Type 0} where
   abbrev pub entries_left : ℕ → ℕ → List ℕ → List ℕ → List (Option (T × ℕ)) → List (Option (T × ℕ)) → List (T × ℕ)
   entries_left turn next ts us cs ds = filter_map (entry_in cs ds) (places_left turn next ts us)
 
-  -- the invariant of a walk in this turn at `next`, which has so many entries left
+  -- the invariant of a walk in this turn at `next`, which has `left` entries left
   pub record IsWalk (ts us : List ℕ) (cs ds : List (Option (T × ℕ))) (turn next left : ℕ) : Type 0 where
     pub agree : Agree ts cs
     pub older_agree : Agree us ds

@@ -100,8 +100,8 @@ pub fn take_lowest(bits: u64, from: usize) -> (usize, u64)
     (from + bits.trailing_zeros() as usize, bits & (bits - 1))
 }
 
-/// Returns a bit for each of the 16 tags from a place on, the lowest for the first: whether it is `tag` and comes before the first Empty
-/// one. It also returns whether one of the 16 is Empty.
+/// Returns a mask of the 16 tags from `from` on, the lowest bit for the first: the bit is set if the tag is `tag` and no Empty one comes before
+/// it. It also returns whether one of the 16 is Empty.
 #[inline(always)]
 pub fn match_tag_before_empty(tags: &[u8], from: usize, tag: u8) -> (u64, bool)
     requires room { from + 16 ≤ length tags.now }

@@ -343,7 +343,8 @@ impl<T: Eq + Hash> Slots<T> {
         self.place_at(place, state, hash, value, n);
     }
 
-    /// Places a value as [`Slots::place_hashed`] does, in a given slot: the first on the path of the value's hash that is not Live.
+    /// Places a value as [`Slots::place_hashed`] does, if the caller has found the slot: `place` is the first on the path of `hash` that is not
+    /// Live.
     #[inline(always)]
     pub fn place_at<S: BuildHasher>(
         &mut self,

@@ -135,7 +135,7 @@ impl FromRow for Movement<String> {
 ///
 /// # Errors
 ///
-/// As of [`batches_of`].
+/// As [`batches_of`].
 pub fn entered_of<S: Alter>(
     alloc: Global,
     conn: &mut Connection<S>,
@@ -159,7 +159,7 @@ impl FromRow for KeptMovement {
 ///
 /// # Errors
 ///
-/// As of [`batches_of`].
+/// As [`batches_of`].
 pub fn movements_of<S: Alter>(
     alloc: Global,
     conn: &mut Connection<S>,
@@ -181,7 +181,7 @@ impl FromRow for KeptRefusal {
 ///
 /// # Errors
 ///
-/// As of [`batches_of`].
+/// As [`batches_of`].
 pub fn refusals_of<S: Alter>(
     alloc: Global,
     conn: &mut Connection<S>,
@@ -224,7 +224,7 @@ pub struct Kept {
 ///
 /// # Errors
 ///
-/// As of [`balance_of`] and [`batches_of`].
+/// As [`balance_of`] and [`batches_of`].
 pub fn everything_of<S: Alter>(
     alloc: Global,
     conn: &mut Connection<S>,
@@ -243,7 +243,7 @@ pub fn everything_of<S: Alter>(
 ///
 /// # Errors
 ///
-/// As of [`batches_of`].
+/// As [`batches_of`].
 pub fn history_of<S: Alter>(
     alloc: Global,
     conn: &mut Connection<S>,

@@ -1,4 +1,4 @@
--- What the answers of a closure leave of slots.
+-- What the numbers returned by a closure leave of slots.
 use Rattle.std.specs.Prelude.{◌≡◌, ℕ, ◌<◌, min, nat_lt, if◌then◌else◌, List, [], ◌∷◌, drop, length}
 use denote.Ref.{Bor}
 use denote.Param.Members.{Mut}
@@ -8,19 +8,19 @@ use Rattle.hashbag_slots.specs.Slots.{slot_at}
 use Rattle.hashbag_table.specs.Asked.{MayAnswer}
 use Rattle.hashbag_table.specs.Tables.{Tables}
 
--- what the answer a leaves of a Live slot: the lesser of its count and the answer, and Removed where that is 0
+-- what the returned number a leaves of a Live slot: the lesser of its count and a, and Removed if that is 0
 abbrev pub slot_left : {T : Type 0} → T → ℕ → ℕ → Slot T
 slot_left v n a = if nat_lt 0 (min a n) then Live v (min a n) else Removed
 
 module _ {T : Type 0} where
-  -- what the answer a leaves of a slot: one that is not Live stays as it is
+  -- what the returned number a leaves of a slot: one that is not Live is unchanged
   abbrev pub slot_kept : ℕ → Slot T → Slot T
   slot_kept a Empty = Empty
   slot_kept a Removed = Removed
   slot_kept a Moved = Moved
   slot_kept a (Live v n) = slot_left v n a
 
-  -- each slot is, at its own place, what some answer leaves of it: no value comes to another slot
+  -- each slot is, at its own place, what some number leaves of it: no value comes to another slot
   pub record RetainsSlots (old new : List (Slot T)) : Type 0 where
     pub same_length : length new ≡ length old
     pub each : (p : ℕ) → (a : ℕ) × (slot_at new p ≡ slot_kept a (slot_at old p))
@@ -32,21 +32,21 @@ module _ {T : Type 0} where
     pub built : new.built ≡ old.built
 
 module _ {F T : Type 0} (g : Mut F (Bor T × (ℕ × Unit {0})) ℕ) where
-  -- f, asked at the slot s where that is Live, may leave the slot t and be left as f'
+  -- f, called at the slot s if that is Live, may leave the slot t and be left as f'
   abbrev pub LeavesSlot : F → Slot T → Slot T → F → Type 0
   LeavesSlot f Empty t f' = (t ≡ Empty) × (f ≡ f')
   LeavesSlot f Removed t f' = (t ≡ Removed) × (f ≡ f')
   LeavesSlot f Moved t f' = (t ≡ Moved) × (f ≡ f')
   LeavesSlot f (Live v n) t f' = (a : ℕ) × MayAnswer g f (v, n) a f' × (t ≡ slot_left v n a)
 
-  -- f, asked at each Live slot in turn, each time as the call before left it, may leave these slots and be left as f'
+  -- f, called at each Live slot in turn, each time as the call before left it, may leave these slots and be left as f'
   abbrev pub LeavesSlots : F → List (Slot T) → List (Slot T) → F → Type 0
   LeavesSlots f [] [] f' = f ≡ f'
   LeavesSlots f [] (t ∷ ts) f' = ⊥
   LeavesSlots f (s ∷ ss) [] f' = ⊥
   LeavesSlots f (s ∷ ss) (t ∷ ts) f' = (next : F) × LeavesSlot f s t next × LeavesSlots next ss ts f'
 
-  -- f was asked at each Live slot from the place `from` on, in the order of places, and left these; those before are as they were
+  -- f was called at each Live slot from the place `from` on, in the order of places, and left these; those before are as they were
   pub record RetainsFrom (from : ℕ) (f : F) (old new : List (Slot T)) (f' : F) : Type 0 where
     pub same_length : length new ≡ length old
     pub before : (p : ℕ) → p < from → slot_at new p ≡ slot_at old p

@@ -1,4 +1,4 @@
--- What answers leave computes.
+-- What returned numbers leave, computed.
 use Rattle.std.specs.Prelude.{◌≡◌, ℕ, List, [], ◌∷◌, refl}
 use denote.Ref.{Bor}
 use denote.Param.Members.{Mut}
@@ -7,7 +7,7 @@ use Rattle.hashbag_slots.specs.declared.slots.Slot.TheVariants.{Empty, Removed, 
 use Rattle.hashbag_table.specs.Asked.{MayAnswer, kept}
 use Rattle.hashbag_table.specs.Retained.{slot_left, slot_kept, LeavesSlots}
 
--- the value 7 with the count 5, and a lesser, a greater and no answer
+-- the value 7 with the count 5, and a lesser number returned, a greater one, and 0
 lesser_answer : slot_left {T = ℕ} 7 5 3 ≡ Live 7 3
 lesser_answer = refl
 
@@ -20,7 +20,7 @@ answer_of_0 = refl
 stays_removed : slot_kept {T = ℕ} 3 Removed ≡ Removed
 stays_removed = refl
 
--- 5 keeps its count, 15 the answer, and 31 goes
+-- 5 keeps its count, 15 has the returned one, and 31 is removed
 abbrev walk : List (ℕ × ℕ)
 walk = (5, 2) ∷ (15, 7) ∷ (31, 4) ∷ []
 

@@ -63,7 +63,7 @@ least_for_12 = record {
       ];
 }
 
--- where 2^j slots are too few, and twice as many are enough
+-- if 2^j slots are too few, and twice as many are enough
 twice : (j k : ℕ) → 4 ≤ j → j < 59 → limit (2 ^ j) < k → k ≤ limit (2 ^ suc j) → IsLeast 0 k (2 ^ suc j)
 twice j k low high short long = record {
   count = inr (suc j, omega (arith, low), omega (arith, high), refl);

@@ -9,8 +9,8 @@ use Rattle.hashbag_table.specs.declared.table.Spot.{Spot}
 use Rattle.hashbag_table.specs.declared.table.Spot.TheVariants.{Newer, Waiting}
 use Rattle.hashbag_table.specs.Entries.{IsCounted}
 
--- the slots of the newer table in place order, those of the older one that wait to be carried, how many slots the older one
--- has, and how many all tables had that were the newer one
+-- the slots of the newer table in place order; those of the older one that wait to be carried; how many slots the older one has; and how
+-- many slots all tables had that were ever the newer one
 pub record Tables (T : Type 0) : Type 0 where
   pub newer : List (Slot T)
   pub waiting : List (Slot T)
@@ -21,7 +21,7 @@ pub record Tables (T : Type 0) : Type 0 where
 abbrev pub limit : ℕ → ℕ
 limit n = 3 * n / 4
 
--- the slots from which the number of a new table's follows: n slots there were, and s distinct values
+-- how many slots the new table of a growth has, if there were n slots and s distinct values
 abbrev pub grown_slots : ℕ → ℕ → ℕ
 grown_slots n s = if nat_eq n 0 then 16 else if nat_le (8 * s) (3 * n) then n else 2 * n
 
@@ -59,8 +59,8 @@ module _ {T : Type 0} where
   abbrev pub entries_of : List (Slot T) → List (Slot T) → List (T × ℕ)
   entries_of newer waiting = entries newer ++ entries waiting
 
-  -- two tables, of whose older one so many slots were looked at: values are found in both, none is Live in both, none was
-  -- carried out of the newer one, what was looked at is not Live, and all is within the limit
+  -- two tables, of whose older one `looked` slots were carried: values are found in both, none is Live in both, none was
+  -- carried out of the newer one, what was carried is not Live, and all is within the limit
   pub record AreTables (eq : T → T → Bool) (hash : T → ℕ) (newer older : Columns T) (looked : ℕ) : Type 0 where
     pub newer_reached : IsReached hash newer
     pub older_reached : IsReached hash older
@@ -70,8 +70,8 @@ module _ {T : Type 0} where
     pub looked_dead : (p : ℕ) → p < looked → is_live (slot_at older.slots p) ≡ false
     pub fits : live_count newer.slots + removed_count newer.slots + live_count (drop looked older.slots) ≤ limit (length newer.slots)
 
-  -- what holds between two calls: what waits is at most 16 times the room, and at least 16 fewer than the newer slots; and where
-  -- nothing waits the older table has no slots
+  -- what holds between two calls: what waits is at most 16 times the room, and at least 16 fewer than the newer slots; and if
+  -- nothing waits, the older table has no slots
   pub record IsTables (eq : T → T → Bool) (hash : T → ℕ) (newer older : Columns T) (looked : ℕ) : Type 0 where
     pub tables : AreTables eq hash newer older looked
     pub counted : IsCounted eq (entries_of newer.slots (drop looked older.slots))
@@ -79,7 +79,7 @@ module _ {T : Type 0} where
     pub smaller : (drop looked older.slots ≡ []) ⊎ (16 + length (drop looked older.slots) ≤ length newer.slots)
     pub freed : length older.slots ≤ looked → length older.slots ≡ 0
 
-  -- a table may take the place of these newer slots, so many of which are carried at once: values are found in it, all are
+  -- a table may take the place of these newer slots, `many` of which are carried at once: values are found in it, all are
   -- within its limit, and those that wait are few enough for its room
   pub record MayAdopt (eq : T → T → Bool) (hash : T → ℕ) (newer : Columns T) (former : List (Slot T)) (many : ℕ) : Type 0 where
     pub reached : IsReached hash newer
@@ -103,16 +103,17 @@ module _ {T : Type 0} where
   abbrev pub values : Tables T → ℕ
   values t = live_count t.newer + live_count t.waiting
 
+  -- how many absent values can be inserted before a table grows
   abbrev pub room : Tables T → ℕ
   room t = room_of t.newer t.waiting
 
-  -- as many slots are left, none were built, and there is room but for k values
+  -- there are as many slots as before, no table was built, and room is at most k lower
   pub record KeepsRoom (k : ℕ) (old new : Tables T) : Type 0 where
     pub slots : length new.newer ≡ length old.newer
     pub room : room old ≤ room new + k
     pub built : new.built ≡ old.built
 
-  -- from these newer slots at most so many became Live, and from these waiting ones the first 16 wait no more
+  -- of these newer slots at most k became Live, and of these waiting ones the first 16 wait no more
   pub record Settles (k : ℕ) (newer waiting : List (Slot T)) (new : Tables T) : Type 0 where
     pub fills : Fills k newer new.newer
     pub waits : new.waiting ≡ drop 16 waiting
@@ -121,7 +122,7 @@ module _ {T : Type 0} where
   abbrev pub fresh : Tables T → List (Slot T)
   fresh t = replicate (grown_slots (length t.newer) (values t)) Empty
 
-  -- where there was room no table was built, and where there was none the one that is the newer now
+  -- if there was room, no table was built, and if there was none, the one that is the newer now
   pub record Builds (old new : Tables T) : Type 0 where
     pub with_room : 0 < room old → new.built ≡ old.built
     pub grown : room old ≡ 0 → new.built ≡ old.built + length new.newer
@@ -134,10 +135,10 @@ module _ {T : Type 0} where
     pub carries : length new.waiting ≤ 16 * (room new - 1)
     pub built : Builds old new
 
-  -- What an absent value leaves. Where there was room: the same slots but for at most 17, which became Live; what waited,
-  -- without its first 16; and room lower by at most 1. Where there was none: the grown number of slots, Empty but for at
-  -- most 17, which became Live; what was the newer table waits, without its first 16; room is three quarters of the
-  -- slots without all values; and their number is added to what was built.
+  -- What an inserted absent value leaves. If there was room: the same newer slots but for at most 17, which became Live; what waited,
+  -- without its first 16; room at most 1 lower; and no table built. If there was none: a new table of `grown_slots`, Empty but for at most
+  -- 17 slots, which became Live, and counted as built. The former newer table waits, without its first 16 slots. Room is the limit of the
+  -- new table less all values.
   pub record Arrives (old new : Tables T) : Type 0 where
     pub with_room : 0 < room old → Settles 17 old.newer old.waiting new
     pub grown : room old ≡ 0 → Settles 17 (fresh old) old.newer new
@@ -149,7 +150,7 @@ module _ {T : Type 0} where
   abbrev pub HasLeast : ℕ → ℕ → Tables T → Type 0
   HasLeast n k t = IsLeast n k (length t.newer)
 
-  -- one table of slots: nothing waits, and what values don't take of the limit is room
+  -- one table of slots: nothing waits, and room is the limit of the table less the values
   pub record IsPacked (t : Tables T) : Type 0 where
     pub waiting : t.waiting ≡ []
     pub room : room t ≡ limit (length t.newer) - values t

@@ -13,14 +13,14 @@ use Rattle.hashbag_words_core.specs.Counts.{texts_in}
 use Rattle.hashbag_words_core.specs.Shards.{is_shown}
 use Rattle.hashbag_words_core.specs.declared.choice.Choice.{Choice}
 use Rattle.hashbag_words_core.specs.declared.choice.Order.{Order}
-use Rattle.hashbag_words_core.specs.declared.choice.Order.TheVariants.{Rising, Open, Commonest}
+use Rattle.hashbag_words_core.specs.declared.choice.Order.TheVariants.{Rising, Open, MostCommon}
 
 -- these pairs are what is shown of the bag: each text of it once, with its count, by the bytes or in no particular order; or the
 -- first k of those, the most common first
 abbrev pub IsShown : {S : Type 0} → Order → Bag (String Global) S → List (String Global × ℕ) → Type 0
 IsShown Rising bag pairs = IsSetWalkOf string_eq bag pairs × IsStrictlySortedBy string_cmp (keys_of pairs)
 IsShown Open bag pairs = IsSetWalkOf string_eq bag pairs
-IsShown (Commonest k) bag pairs =
+IsShown (MostCommon k) bag pairs =
     (W : List (String Global × ℕ)) × IsSetWalkOf string_eq bag W × IsStrictlySortedBy (rank string_cmp) W × (pairs ≡ take k W)
 
 -- a row is shown: it counts as often as the least count or more often, and its token is in the shard, if there is one

@@ -43,7 +43,7 @@ Starts from number p = lead 0 from (string_bytes p.1.0.now) ≡ number
 abbrev pub AreRising : ℕ → List (ℕ × (Bor (String Global) × ℕ)) → Type 0
 AreRising from rows = All (HasWord from) rows × IsNonDecreasingBy number_of rows
 
--- the order of the tokens, and of the counts where they are the same
+-- the order of the tokens, and of the counts if they are the same
 abbrev pub row_cmp : Bor (String Global) × ℕ → Bor (String Global) × ℕ → Ordering
 row_cmp x y = ordering_then (string_cmp x.0.now y.0.now) (nat_cmp x.1 y.1)
 

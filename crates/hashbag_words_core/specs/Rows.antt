@@ -44,7 +44,7 @@ IfRow form line P = (token : List ℕ) (count : ℕ) → IsUtf8 token → count 
 abbrev pub IsNoRow : RowForm → List ℕ → Type 0
 IsNoRow form line = IsUtf8 line → IfRow form line (λ _ _. ⊥)
 
--- what is written so stands for, where a backslash has just been read or not; none where a backslash is followed by no letter
+-- the bytes that are written so, given whether a backslash was just read; none if a backslash is followed by no letter
 abbrev pub unescaped : Bool → List ℕ → Option (List ℕ)
 unescaped false [] = Some []
 unescaped true [] = None
@@ -80,7 +80,7 @@ abbrev pub IsRowOf : RowForm → List ℕ → List ℕ × ℕ → Type 0
 IsRowOf Tsv line r = IsLineOf line r.0 r.1
 IsRowOf Uniq line r = IsUniqLineOf line r.0 r.1
 
--- what is written so stands for, where these bytes of the token have been read, and those are to come; none where they have been found bad
+-- the token that is written so, if these bytes of it have been read, and those are to come; none if they have been found bad
 abbrev pub resumed : List ℕ → Option Bool → List ℕ → Option (List ℕ)
 resumed token None rest = None
 resumed token (Some is_marked) rest = option_map (λ more. token ++ more) (unescaped is_marked rest)

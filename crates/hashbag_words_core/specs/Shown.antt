@@ -11,7 +11,7 @@ use Rattle.hashbag_words_core.specs.Sorted.{text_cmp, times_in, Rises}
 use Rattle.hashbag_words_core.specs.Writing.{text_of}
 use Rattle.hashbag_words_core.specs.declared.choice.Choice.{Choice}
 use Rattle.hashbag_words_core.specs.declared.choice.Order.{Order}
-use Rattle.hashbag_words_core.specs.declared.choice.Order.TheVariants.{Rising, Open, Commonest}
+use Rattle.hashbag_words_core.specs.declared.choice.Order.TheVariants.{Rising, Open, MostCommon}
 use Rattle.hashbag_words_core.specs.declared.writing.Format.{Format}
 
 -- the rows have each of these texts that is shown once, with its count in the list, and nothing else
@@ -24,7 +24,7 @@ pub record HasShown (choice : Choice) (texts : List (List ℕ)) (rows : List (Li
 abbrev pub AreShown : Order → Choice → List (List ℕ) → List (List ℕ × ℕ) → Type 0
 AreShown Rising choice texts rows = HasShown choice texts rows × Rises rows
 AreShown Open choice texts rows = HasShown choice texts rows
-AreShown (Commonest k) choice texts rows =
+AreShown (MostCommon k) choice texts rows =
     (all : List (List ℕ × ℕ)) × HasShown choice texts all × IsStrictlySortedBy (rank text_cmp) all × (rows ≡ take k all)
 
 -- the bytes are what is written of these texts

@@ -21,7 +21,7 @@ without_mark line = if starts_with nat_eq line (0xEF ∷ 0xBB ∷ 0xBF ∷ []) t
 abbrev pub nonempty : List (List ℕ) → List (List ℕ)
 nonempty texts = filter (λ text. nat_lt 0 (length text)) texts
 
--- what stands between white space
+-- what is between white space
 abbrev pub spaced_words : List ℕ → List (List ℕ)
 spaced_words line = map encode_utf8_all (nonempty (slice_split is_whitespace (chars line)))
 

@@ -22,7 +22,7 @@ pub enum Order {
     /// All tokens, in the order of a walk over the bag, which is no particular order.
     Open,
     /// The k most common tokens: by falling counts, and tokens that occur equally often by rising bytes.
-    Commonest(usize),
+    MostCommon(usize),
 }
 
 /// Which counts are shown, and in what order.
@@ -98,6 +98,6 @@ pub fn chosen<'a, S: BuildHasher + Drop>(
     match order {
         Order::Rising => rising(alloc, bag),
         Order::Open => counts(alloc, bag),
-        Order::Commonest(k) => most_common(alloc, bag, k),
+        Order::MostCommon(k) => most_common(alloc, bag, k),
     }
 }

@@ -72,7 +72,7 @@ pub(crate) fn no_memory(reading: &mut Reading) -> Fault
 impl<'r, S: BuildHasher + Drop> TextCounter<'r, S> {
     /// Returns a counter that was given nothing. What it counts is added to this bag.
     ///
-    /// If there is a gauge, it says when the bag is full. It has to be that of an empty bag.
+    /// A gauge, if there is one, says when the bag is full. Then the bag has to be empty, and the gauge new.
     pub fn new(
         alloc: Global,
         bag: HashBag<String, S>,

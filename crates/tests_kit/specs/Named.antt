@@ -18,7 +18,7 @@ use Rattle.serde_json.specs.declared.value.Value.TheFolds.{map-Value, fold_out-V
 use Rattle.serde_json.proofs.Views.{view-lookup}
 use Rattle.hashbag.specs.JsonItemLaws.{text_is_read}
 
--- the text of the member `name`, none where a tree has none
+-- the text of the member `name`, none if a tree has none
 abbrev pub name_of : Data → Option (List ℕ)
 name_of d = option_and_then as_str (get (codes "name") d)
 

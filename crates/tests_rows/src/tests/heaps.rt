@@ -1,4 +1,4 @@
-//! How much memory the commonest values take, by the most that the process has addressed so far.
+//! How much memory the most common values take, by the most that the process has addressed so far.
 use hashbag::HashBag;
 use hashbag_ops::most_common;
 use std::fs;
@@ -20,7 +20,7 @@ fn peak(rt: &HostRuntime) -> Result<Option<usize>, Fail> {
     Ok(None)
 }
 
-// How many kilobytes more the process has addressed at most, after the k commonest were found.
+// How many kilobytes more the process has addressed at most, after the k most common were found.
 fn taken(rt: &HostRuntime, bag: &HashBag<usize>, k: usize) -> Result<Option<usize>, Fail> {
     let before = peak(rt)?;
     let found = most_common(rt.alloc(), bag, k)?.len();
@@ -34,7 +34,7 @@ fn taken(rt: &HostRuntime, bag: &HashBag<usize>, k: usize) -> Result<Option<usiz
     Ok(Some(after.saturating_sub(before)))
 }
 
-// The commonest few allocate a list of themselves; all of them a list of all.
+// The few most common allocate a list of themselves; all of them a list of all.
 #[test]
 fn few_take_little_memory(rt: HostRuntime) -> Result<(), Fail> {
     let mut bag: HashBag<usize> = HashBag::with_capacity(rt.alloc(), VALUES)?;

@@ -3,7 +3,7 @@ use Rattle.std.specs.Borrow.{Bor}
 use Rattle.std.proofs.lemmas.List.{append-nil, map-append}
 use Rattle.hashbag.specs.Walks.{IsSetWalkOf, seen}
 use Rattle.hashbag_ops.specs.Order.{counted_pair, comes_first, IsFirstOf}
-use Rattle.hashbag_ops.proofs.Commonest.{first_none}
+use Rattle.hashbag_ops.proofs.MostCommonFirst.{first_none}
 use Rattle.hashbag_ops.proofs.order.heap_of_first.Goals as goal
 
 pub loop-value-init : goal.loop-value-init

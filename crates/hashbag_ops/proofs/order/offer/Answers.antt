@@ -5,7 +5,7 @@ use Rattle.std.proofs.lemmas.Bool.{false≢true}
 use Rattle.std.proofs.lemmas.List.{length-map}
 use Rattle.std.proofs.lemmas.List.Sorted.{IsPermutation-map, length_permutation}
 use Rattle.hashbag_ops.specs.Order.{counted_pair, comes_first}
-use Rattle.hashbag_ops.proofs.Commonest.{every_map, first_push, first_skip, first_swap, after_last}
+use Rattle.hashbag_ops.proofs.MostCommonFirst.{every_map, first_push, first_skip, first_swap, after_last}
 use Rattle.hashbag_ops.proofs.Ranked.{rank_weak}
 use Rattle.hashbag_ops.proofs.order.offer.Goals as goal
 

@@ -5,7 +5,7 @@ use Rattle.hashbag.specs.Bag.{Bag}
 use Rattle.hashbag.specs.Walks.{seen}
 use Rattle.hashbag_words_core.specs.Choice.{IsShown}
 use Rattle.hashbag_words_core.specs.declared.choice.Order.{Order}
-use Rattle.hashbag_words_core.specs.declared.choice.Order.TheVariants.{Rising, Open, Commonest}
+use Rattle.hashbag_words_core.specs.declared.choice.Order.TheVariants.{Rising, Open, MostCommon}
 use Rattle.hashbag_words_core.proofs.choice.chosen.Goals as goal
 
 by_order : {S E : Type 0} (r : Result (Vec (Bor (String Global) × ℕ)) E) (bag : Bag (String Global) S) (order is : Order) → order ≡ is
@@ -22,5 +22,5 @@ returns-in-Rising g c = by_order c.rising.result c.args.bag.now c.args.order Ris
 pub returns-in-Open : goal.returns-in-Open
 returns-in-Open g c = by_order c.counts.result c.args.bag.now c.args.order Open c.in-Open.is c.counts.ensures.walk
 
-pub returns-in-Commonest : goal.returns-in-Commonest
-returns-in-Commonest g c = by_order c.most_common.result c.args.bag.now c.args.order (Commonest c.in-Commonest.k) c.in-Commonest.is c.most_common.ensures.first
+pub returns-in-MostCommon : goal.returns-in-MostCommon
+returns-in-MostCommon g c = by_order c.most_common.result c.args.bag.now c.args.order (MostCommon c.in-MostCommon.k) c.in-MostCommon.is c.most_common.ensures.first
