@@ -9,7 +9,7 @@ use crate::inputs::{enter_files, start_of};
 use crate::outputs::{Outputs, Report, conflict};
 use hashbag_ledger_args::arguments::{Request, parse};
 use hashbag_ledger_args::command::PROGRAM;
-use hashbag_ledger_args::jobs::is_job;
+use hashbag_ledger_args::jobs::has_job;
 use hashbag_ledger_lib::ledger::{Entered, Ledger, end};
 use hashbag_ledger_lib::output::{balance_text, refusals_table, refusals_text};
 use hashbag_shell::program::{status_of, words_of};
@@ -102,7 +102,7 @@ fn run(rt: &HostRuntime) -> u8 {
         Ok(words) => words,
         Err(trouble) => return trouble.report(rt, PROGRAM),
     };
-    if words.get(1).is_some_and(|word| is_job(word.as_str())) {
+    if has_job(words.as_slice()) {
         return stock::run(rt, words.as_slice());
     }
     status_of(rt, PROGRAM, answer(rt, words.as_slice()))

@@ -1,16 +1,16 @@
 //! A stock that is kept in a database: the subcommands with `--db`.
 mod database;
 mod enter;
-mod failure;
 mod inputs;
+mod say;
 mod show;
 mod undo;
 mod verify;
 
 use clap::ArgMatches;
-use failure::Failure;
 use hashbag_ledger_args::job::Job;
 use hashbag_ledger_args::jobs::command;
+use hashbag_ledger_db::failure::Failure;
 use hashbag_shell::program::given_to;
 use hashbag_shell::status::BAD_INPUT;
 

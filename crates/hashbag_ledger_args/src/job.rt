@@ -42,8 +42,12 @@ pub struct Job<'a> {
     pub again: bool,
     /// The articles that are asked for.
     pub articles: Vec<&'a str>,
-    /// The batch that is asked for.
-    pub batch: usize,
+    /// The number of the batch that is asked for, or the name of its file.
+    pub batch: Option<&'a str>,
+    /// Whether the last batch is asked for.
+    pub last: bool,
+    /// Whether nothing is said of what was done.
+    pub quiet: bool,
     /// The new database.
     pub into: &'a str,
 }
@@ -101,7 +105,9 @@ impl<'a> Job<'a> {
             strict: given.get_flag("strict"),
             again: given.get_flag("again"),
             articles: words_of(alloc, given, "ARTICLE")?,
-            batch: given.get_one::<usize>("BATCH").unwrap_or(0),
+            batch: given.get_str("BATCH"),
+            last: given.get_flag("last"),
+            quiet: given.get_flag("quiet"),
             into: given.get_str("into").unwrap_or(""),
         })
     }

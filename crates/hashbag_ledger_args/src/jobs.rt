@@ -16,12 +16,24 @@ arguments, a bad line, no such batch, no stock or more than one, or a database t
 be opened, or a read or a write failed, 5 a total of more than 2^63-1, 6 a file was entered before or is named twice, 7 another process
 has a database open.";
 
-/// Returns whether this first word names a subcommand.
-pub fn is_job(word: &str) -> bool {
+// Returns whether a word names a subcommand.
+fn is_job(word: &str) -> bool {
     matches!(
         word,
         "enter" | "balance" | "history" | "batches" | "undo" | "verify" | "close"
     )
+}
+
+// Returns whether a word is `--db`, also with a name behind it.
+fn is_database(word: &str) -> bool {
+    word == "--db" || word.starts_with("--db=")
+}
+
+/// Returns whether these words, of which the first is the program's name, ask for a subcommand: the next one names one, or a database is
+/// named.
+pub fn has_job(words: &[String]) -> bool {
+    words.get(1).is_some_and(|word| is_job(word.as_str()))
+        || words.iter().any(|word| is_database(word.as_str()))
 }
 
 // Adds a subcommand.
@@ -102,6 +114,15 @@ fn with_rules<'a>(alloc: Global, command: Made<'a>) -> Made<'a> {
     with(with(command, scale), refused)
 }
 
+// Adds `--quiet`.
+fn with_quiet<'a>(alloc: Global, command: Made<'a>, help: &'a str) -> Made<'a> {
+    let quiet = Arg::new(alloc, "quiet")
+        .long("quiet")
+        .action(ArgAction::SetTrue)
+        .help(help);
+    with(command, quiet)
+}
+
 // Adds the flags of `enter`.
 fn with_flags<'a>(alloc: Global, command: Made<'a>) -> Made<'a> {
     let strict = Arg::new(alloc, "strict")
@@ -112,7 +133,8 @@ fn with_flags<'a>(alloc: Global, command: Made<'a>) -> Made<'a> {
         .long("again")
         .action(ArgAction::SetTrue)
         .help("Enters a file also if it was entered before");
-    with(with(command, strict), again)
+    let help = "Doesn't say which batches were entered";
+    with_quiet(alloc, with(with(command, strict), again), help)
 }
 
 fn enter<'a>(alloc: Global) -> Made<'a> {
@@ -132,8 +154,9 @@ fn balance<'a>(alloc: Global) -> Made<'a> {
         .help(
             "Articles to be written, each with 0 if there are none; all that there are by default",
         );
-    let command = job(alloc, "balance", "Writes the balance");
-    with_output(alloc, with(command, articles))
+    let command = with(job(alloc, "balance", "Writes the balance"), articles);
+    let help = "Doesn't say which of the articles aren't there";
+    with_output(alloc, with_quiet(alloc, command, help))
 }
 
 fn history<'a>(alloc: Global) -> Made<'a> {
@@ -146,20 +169,25 @@ fn history<'a>(alloc: Global) -> Made<'a> {
         "history",
         "Writes the movements of an article, with the balance after each",
     );
-    with_output(alloc, with(command, article))
+    let help = "Doesn't say that the article has no movement";
+    with_output(alloc, with_quiet(alloc, with(command, article), help))
 }
 
 fn undo<'a>(alloc: Global) -> Made<'a> {
-    let batch = Arg::new(alloc, "BATCH")
-        .required(true)
-        .value_parser(value_parser!(usize))
-        .help("The number of the batch");
+    let batch = Arg::new(alloc, "BATCH").action(ArgAction::Set).help(
+        "The number of the batch, or the name of its file: then the last batch of that file that wasn't undone",
+    );
+    let last = Arg::new(alloc, "last")
+        .long("last")
+        .action(ArgAction::SetTrue)
+        .help("The last batch that is no undo and wasn't undone");
     let command = job(
         alloc,
         "undo",
         "Enters the opposite movements of a batch, all or none",
     );
-    with(command, batch)
+    let help = "Doesn't say which batch was entered";
+    with_quiet(alloc, with(with(command, batch), last), help)
 }
 
 fn close<'a>(alloc: Global) -> Made<'a> {

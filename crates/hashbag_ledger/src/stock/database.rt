@@ -1,10 +1,10 @@
 //! The file of a database.
 use crate::outputs::is_same;
-use crate::stock::failure::Failure;
 use hashbag_ledger_args::job::Job;
+use hashbag_ledger_db::failure::Failure;
+use hashbag_ledger_db::putting::{failure_of, in_database};
 use hashbag_stock::error::StockError;
 use hashbag_stock::tables::{Form, Shape, form_of};
-use hashbag_stock::writing::{NewRows, put_batches};
 use sqlite::{Connection, Error, ErrorCode, File, FileStore};
 use std::io::ErrorKind;
 use std::time::Duration;
@@ -17,40 +17,6 @@ pub type Db = Connection<FileStore<File>>;
 const PAUSE: u64 = 50;
 
 const TRIES: usize = 20;
-
-/// Returns the failure of an error of a database.
-pub fn failure_of<'a>(db: &'a str, error: StockError) -> Failure<'a> {
-    match error {
-        StockError::Memory => Failure::from(std::alloc::AllocError),
-        error => Failure::Stock { db, error },
-    }
-}
-
-/// Returns what was done in a database, or its failure.
-///
-/// # Errors
-///
-/// Why it wasn't done.
-pub fn in_database<'a, T>(db: &'a str, done: Result<T, StockError>) -> Result<T, Failure<'a>> {
-    match done {
-        Ok(value) => Ok(value),
-        Err(error) => Err(failure_of(db, error)),
-    }
-}
-
-/// Writes what a call writes, in one transaction; and first the tables if there is a scale.
-///
-/// # Errors
-///
-/// Why they can't be written. Then nothing is.
-pub fn put<'a>(
-    db: &'a str,
-    conn: &mut Db,
-    new_scale: Option<u32>,
-    new: &NewRows<'_>,
-) -> Result<(), Failure<'a>> {
-    in_database(db, put_batches(conn, new_scale, new))
-}
 
 // Returns whether a file has no byte, or doesn't exist.
 fn is_blank(rt: &HostRuntime, name: &str) -> bool {

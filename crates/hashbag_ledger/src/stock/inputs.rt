@@ -1,27 +1,9 @@
-//! The inputs of `enter`: their bytes, and the movements in them.
-use crate::stock::failure::Failure;
+//! The bytes of the inputs.
 use hashbag_ledger_args::job::Job;
-use hashbag_ledger_lib::movements::Movement;
-use hashbag_ledger_lib::numbers::plain_change;
-use hashbag_ledger_lib::reading::{ChangeColumns, Columns, read_movements};
+use hashbag_ledger_db::failure::Failure;
+use hashbag_ledger_db::movements::Input;
 use hashbag_ledger_lib::sealing::digest_of;
-use hashbag_lists::counts::{Reading, read_counts_as};
-use hashbag_lists::fault::{SheetError, in_file};
 use hashbag_shell::input::read_file;
-use std::alloc::{AllocError, Global};
-
-/// A file that is to be entered.
-#[derive(Drop)]
-pub struct Input<'a> {
-    /// Its name.
-    pub file: &'a str,
-    /// Its bytes.
-    pub text: Vec<u8>,
-    /// The SHA-256 of its bytes, in hexadecimal digits.
-    pub sha256: String,
-    /// Whether it is the stock at the beginning.
-    pub is_start: bool,
-}
 
 fn input_of<'a>(rt: &HostRuntime, file: &'a str, is_start: bool) -> Result<Input<'a>, Failure<'a>> {
     let text = read_file(rt, file)?;
@@ -47,68 +29,4 @@ pub fn inputs_of<'a>(rt: &HostRuntime, request: &Job<'a>) -> Result<Vec<Input<'a
         inputs.push(input_of(rt, *file, false)?)?;
     }
     Ok(inputs)
-}
-
-// Makes each change one that a row may have: without a sign at 0.
-fn plain_movements(
-    alloc: Global,
-    movements: Vec<Movement<String>>,
-) -> Result<Vec<Movement<String>>, AllocError> {
-    let mut all = Vec::new(alloc);
-    for movement in movements {
-        let Movement {
-            place,
-            article,
-            change,
-        } = movement;
-        all.push(Movement {
-            place,
-            article,
-            change: plain_change(change),
-        })
-        .map_err(AllocError::from)?;
-    }
-    Ok(all)
-}
-
-// Reads the movements of an input.
-fn read<'a>(
-    alloc: Global,
-    request: &Job<'a>,
-    input: &Input<'a>,
-    at: usize,
-    reading: Reading,
-) -> Result<Vec<Movement<String>>, SheetError> {
-    let text = input.text.as_slice();
-    if !input.is_start {
-        let movements = read_movements(alloc, text, at, request.columns, reading)?;
-        return Ok(plain_movements(alloc, movements)?);
-    }
-    // It is read as a list of numbers, which have no sign, and then once more for its lines.
-    let (article, number) = request.start_columns;
-    read_counts_as(alloc, text, article, number, reading)?;
-    let change = ChangeColumns::Signed(number);
-    let columns = Columns { article, change };
-    let movements = read_movements(alloc, text, at, columns, reading)?;
-    Ok(plain_movements(alloc, movements)?)
-}
-
-/// Returns the movements of an input. What a stock at the beginning has comes in.
-///
-/// # Errors
-///
-/// What is wrong with its first bad line, or a failed allocation.
-pub fn movements_of<'a>(
-    rt: &HostRuntime,
-    request: &Job<'a>,
-    input: &Input<'a>,
-    at: usize,
-    reading: Reading,
-) -> Result<Vec<Movement<String>>, Failure<'a>> {
-    let movements = in_file(
-        rt.alloc(),
-        input.file,
-        read(rt.alloc(), request, input, at, reading),
-    )?;
-    Ok(movements)
 }

@@ -66,12 +66,15 @@ pub enum Failure<'a> {
         line: u64,
         most: String,
     },
-    /// There is no batch of that number.
-    #[error("{db}: no batch {number}")]
+    /// There is no batch of that number or file, or none that may be undone.
+    #[error("{db}: no batch {name}")]
     NoBatch {
         db: &'a str,
-        number: usize,
+        name: &'a str,
     },
+    /// Not one batch is named.
+    #[error("undo takes a batch, by its number or its file, or --last")]
+    NoBatchNamed,
     /// The batch was undone before.
     #[error("{db}: batch {number} was undone by batch {by}")]
     UndoneBefore {
@@ -112,12 +115,13 @@ impl Failure<'_> {
             | Failure::NoStock { .. }
             | Failure::HasStock { .. }
             | Failure::OtherScale { .. }
-            | Failure::NoBatch { .. } => BAD_INPUT,
+            | Failure::NoBatch { .. }
+            | Failure::NoBatchNamed => BAD_INPUT,
         }
     }
 
     /// Writes it to standard error, and returns the exit status.
-    pub fn report(&self, rt: &HostRuntime) -> u8 {
+    pub fn report<R: Eprint>(&self, rt: &R) -> u8 {
         if let Failure::Trouble(trouble) = self {
             return trouble.report(rt, PROGRAM);
         }

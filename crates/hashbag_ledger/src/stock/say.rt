@@ -1,0 +1,20 @@
+//! What all subcommands take of the system.
+use hashbag_ledger_db::failure::Failure;
+use hashbag_shell::output::write_text;
+use hashbag_shell::trouble::Trouble;
+use std::hash::RandomState;
+
+/// Returns the state that bags of strangers' articles take: its keys are random.
+pub fn random_state<'a>(rt: &HostRuntime) -> Result<RandomState, Failure<'a>> {
+    match RandomState::new(rt) {
+        Ok(state) => Ok(state),
+        Err(error) => Err(Failure::from(Trouble::Random(error))),
+    }
+}
+
+/// Writes a text to standard error, unless nothing is to be said. What was done is done: if it can't be written, nothing is wrong.
+pub fn say(rt: &HostRuntime, quiet: bool, text: &str) {
+    if !quiet {
+        let _ = write_text(&mut rt.stderr(), text.as_bytes());
+    }
+}

@@ -1,0 +1,40 @@
+//! What is written into a database, and the errors of databases.
+use crate::failure::Failure;
+use hashbag_stock::error::StockError;
+use hashbag_stock::writing::{NewRows, put_batches};
+use sqlite::{Alter, Connection};
+use std::alloc::AllocError;
+
+/// Returns the failure of an error of a database.
+pub fn failure_of<'a>(db: &'a str, error: StockError) -> Failure<'a> {
+    match error {
+        StockError::Memory => Failure::from(AllocError),
+        error => Failure::Stock { db, error },
+    }
+}
+
+/// Returns what was done in a database, or its failure.
+///
+/// # Errors
+///
+/// Why it wasn't done.
+pub fn in_database<'a, T>(db: &'a str, done: Result<T, StockError>) -> Result<T, Failure<'a>> {
+    match done {
+        Ok(value) => Ok(value),
+        Err(error) => Err(failure_of(db, error)),
+    }
+}
+
+/// Writes what a call writes, in one transaction; and first the tables if there is a scale.
+///
+/// # Errors
+///
+/// Why they can't be written. Then nothing is.
+pub fn put<'a, D: Alter>(
+    db: &'a str,
+    conn: &mut Connection<D>,
+    new_scale: Option<u32>,
+    new: &NewRows<'_>,
+) -> Result<(), Failure<'a>> {
+    in_database(db, put_batches(conn, new_scale, new))
+}

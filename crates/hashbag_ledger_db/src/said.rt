@@ -1,0 +1,109 @@
+//! What is said on standard error of what was done, or isn't there.
+use hashbag_ledger_args::command::PROGRAM;
+use hashbag_ledger_lib::once::Batch;
+use hashbag_lists::escaped::Escaped;
+use std::alloc::{AllocError, Global};
+use std::fmt::Write;
+use strsim::levenshtein;
+
+// From how many movements on a new database is suggested: the open of a file with that many takes about a second.
+const MANY: u64 = 1_000_000;
+
+// How many letters are other ones in a name that is near.
+const NEAR: usize = 2;
+
+// Returns the ending of a noun of which there are so many.
+fn ending(count: u64) -> &'static str {
+    if count == 1 { "" } else { "s" }
+}
+
+/// Returns how many movements batches have.
+pub fn movements_in(batches: &[Batch]) -> u64 {
+    let mut all: u64 = 0;
+    for batch in batches {
+        all = all.saturating_add(batch.movements);
+    }
+    all
+}
+
+// Appends the line of a batch.
+fn push_batch(text: &mut String, batch: &Batch) -> Result<(), AllocError> {
+    let (movements, refused) = (batch.movements, batch.refused);
+    let (file, number, s) = (batch.file.as_str(), batch.number, ending(movements));
+    write!(text, "{file}: batch {number}, {movements} movement{s}")?;
+    if let Some(other) = batch.undoes {
+        write!(text, ", the opposites of batch {other}")?;
+    }
+    if refused > 0 {
+        write!(text, ", {refused} refused")?;
+    }
+    text.push('\n')
+}
+
+/// Returns a line for each batch that is entered; and one more if the database, which had `before` movements, then has a million: each
+/// subcommand reads all of them.
+///
+/// # Errors
+///
+/// An allocation fails.
+pub fn entered_text(
+    alloc: Global,
+    db: &str,
+    before: u64,
+    batches: &[Batch],
+) -> Result<String, AllocError> {
+    let mut text = String::new(alloc);
+    for batch in batches {
+        push_batch(&mut text, batch)?;
+    }
+    let all = before.saturating_add(movements_in(batches));
+    if all >= MANY {
+        writeln!(
+            text,
+            "{PROGRAM}: {db}: {all} movements, which each call reads: `close` begins a new database with the balance"
+        )?;
+    }
+    Ok(text)
+}
+
+// Returns the article of a balance whose name is the most like this one, if one is near.
+fn near_to<'b>(
+    alloc: Global,
+    balance: &'b [(String, usize)],
+    article: &str,
+) -> Result<Option<&'b str>, AllocError> {
+    let mut near = None;
+    let mut most = NEAR;
+    for entry in balance {
+        let edits = levenshtein(alloc, entry.0.as_str(), article)?;
+        if edits > 0 && edits <= most && edits < article.len() {
+            near = Some(entry.0.as_str());
+            most = edits - 1;
+        }
+    }
+    Ok(near)
+}
+
+/// Returns a line for each of these articles that isn't in the balance, with one whose name is near.
+///
+/// # Errors
+///
+/// An allocation fails.
+pub fn absent_text(
+    alloc: Global,
+    db: &str,
+    balance: &[(String, usize)],
+    articles: &[&str],
+) -> Result<String, AllocError> {
+    let mut text = String::new(alloc);
+    for article in articles {
+        if balance.iter().all(|entry| entry.0.as_str() != *article) {
+            write!(text, "{PROGRAM}: {db}: none of \"{}\"", Escaped(article))?;
+            if let Some(near) = near_to(alloc, balance, article)? {
+                write!(text, "; is it \"{}\"?", Escaped(near))?;
+            }
+            text.push('\n')?;
+        }
+    }
+    Ok(text)
+}

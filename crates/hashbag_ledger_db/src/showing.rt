@@ -1,0 +1,133 @@
+//! What is shown of a stock: its balance, the history of an article, and the batches.
+use crate::entering::start_too_many;
+use crate::failure::Failure;
+use crate::putting::in_database;
+use crate::said::absent_text;
+use hashbag_ledger_args::command::PROGRAM;
+use hashbag_ledger_args::job::Job;
+use hashbag_ledger_lib::entering::LedgerError;
+use hashbag_ledger_lib::ledger::booking::book_batch;
+use hashbag_ledger_lib::listing::{batches_text, history_text};
+use hashbag_ledger_lib::output::balance_text;
+use hashbag_lists::escaped::Escaped;
+use hashbag_stock::reading::{balance_of, batches_of, history_of};
+use hashbag_stock::tables::Shape;
+use sqlite::{Alter, Connection};
+use std::alloc::{AllocError, Global};
+use std::hash::BuildHasher;
+
+/// A table, and what is said with it.
+#[derive(Drop)]
+pub struct Shown {
+    /// The table.
+    pub table: Vec<u8>,
+    /// What isn't there.
+    pub said: String,
+}
+
+// The columns of a balance.
+const NAMES: (&str, &str) = ("article", "number");
+
+// Returns how many there are of an article.
+fn number_of(balance: &[(String, usize)], article: &str) -> usize {
+    for entry in balance {
+        if entry.0.as_str() == article {
+            return entry.1;
+        }
+    }
+    0
+}
+
+// Returns the entries of these articles, rising, each once.
+fn chosen_of(
+    alloc: Global,
+    balance: &[(String, usize)],
+    articles: &[&str],
+) -> Result<Vec<(String, usize)>, AllocError> {
+    let mut chosen: Vec<(String, usize)> = Vec::new(alloc);
+    for article in articles {
+        if chosen.iter().all(|entry| entry.0.as_str() != *article) {
+            let entry: (String, usize) = (article.to_string(alloc)?, number_of(balance, *article));
+            chosen.push(entry)?;
+        }
+    }
+    chosen.sort_unstable();
+    Ok(chosen)
+}
+
+/// Returns the balance of an open database, or the numbers of some articles; and which of these aren't there.
+///
+/// # Errors
+///
+/// Why there is none.
+pub fn balance_in<'a, D: Alter>(
+    alloc: Global,
+    request: &Job<'a>,
+    shape: Shape,
+    conn: &mut Connection<D>,
+) -> Result<Shown, Failure<'a>> {
+    let all = in_database(request.db, balance_of(alloc, conn))?;
+    let said = absent_text(alloc, request.db, &all, &request.articles)?;
+    let shown = if request.articles.is_empty() {
+        all
+    } else {
+        chosen_of(alloc, &all, &request.articles)?
+    };
+    let table = balance_text(alloc, NAMES, request.reading(shape.scale), &shown)?;
+    Ok(Shown { table, said })
+}
+
+// Returns what is said if an article has no movement.
+fn none_of(alloc: Global, db: &str, article: &str) -> Result<String, AllocError> {
+    format!(in alloc;
+        "{PROGRAM}: {db}: no movement of \"{}\"\n",
+        Escaped(article)
+    )
+}
+
+/// Returns the movements of an article in an open database, and whether there are none.
+///
+/// # Errors
+///
+/// Why they can't be read.
+pub fn history_in<'a, D: Alter, S: BuildHasher + Drop>(
+    alloc: Global,
+    state: S,
+    request: &Job<'a>,
+    shape: Shape,
+    conn: &mut Connection<D>,
+) -> Result<Shown, Failure<'a>> {
+    let article = request.articles.first().copied().unwrap_or("");
+    let (batches, movements) = in_database(request.db, history_of(alloc, conn, shape, article))?;
+    let said = if movements.is_empty() {
+        none_of(alloc, request.db, article)?
+    } else {
+        String::new(alloc)
+    };
+    let booked = match book_batch(alloc, state, Vec::new(alloc), movements) {
+        Ok(booked) => booked,
+        Err(LedgerError::Memory) => return Err(Failure::from(AllocError)),
+        // No movements that were entered make an article too large.
+        Err(_) => return Err(start_too_many(request.db)),
+    };
+    let reading = request.reading(shape.scale);
+    let table = history_text(alloc, reading, &batches, &booked.entries)?;
+    Ok(Shown { table, said })
+}
+
+/// Returns the batches of an open database.
+///
+/// # Errors
+///
+/// Why they can't be read.
+pub fn batches_in<'a, D: Alter>(
+    alloc: Global,
+    request: &Job<'a>,
+    shape: Shape,
+    conn: &mut Connection<D>,
+) -> Result<Shown, Failure<'a>> {
+    let batches = in_database(request.db, batches_of(alloc, conn, shape))?;
+    let table = batches_text(alloc, request.reading(shape.scale), &batches)?;
+    let said = String::new(alloc);
+    Ok(Shown { table, said })
+}

@@ -1,0 +1,240 @@
+//! A batch that is taken back, in an open database.
+use crate::entering::start_too_many;
+use crate::failure::Failure;
+use crate::putting::{in_database, put as put_in};
+use crate::said::{entered_text, movements_in};
+use hashbag_ledger_args::job::Job;
+use hashbag_ledger_lib::entering::LedgerError;
+use hashbag_ledger_lib::ledger::booking::Booked;
+use hashbag_ledger_lib::movements::{Movement, Refusal};
+use hashbag_ledger_lib::numbers::MOST;
+use hashbag_ledger_lib::once::{Batch, Kind, batch_of, next_number, undone_by};
+use hashbag_ledger_lib::output::refusals_text;
+use hashbag_ledger_lib::rows::RowChange;
+use hashbag_ledger_lib::sealing::{Draft, sealed_rows};
+use hashbag_ledger_lib::undoing::{Undo, undo_batch};
+use hashbag_lists::decimals::write_decimal;
+use hashbag_shell::status::{DENIED, DONE};
+use hashbag_stock::reading::{balance_of, batches_of, entered_of, time_of};
+use hashbag_stock::tables::Shape;
+use hashbag_stock::writing::NewRows;
+use sqlite::{Alter, Connection};
+use std::alloc::{AllocError, Global};
+use std::hash::BuildHasher;
+
+// What an undo has to know of its batch.
+#[derive(Drop)]
+struct Found {
+    number: i64,
+    file: String,
+    // The number of the batch that undoes it.
+    by: i64,
+    // How many movements there are before.
+    movements: u64,
+}
+
+// What an undo leaves: its refusals, or what is said of it.
+#[derive(Drop)]
+struct Undone {
+    refusals: Vec<Refusal<String>>,
+    said: String,
+}
+
+// Returns the last batch that is no undo and wasn't undone.
+fn last_of(batches: &[Batch]) -> Option<&Batch> {
+    let mut last = None;
+    for batch in batches {
+        if batch.undoes.is_none() && undone_by(batches, batch.number).is_none() {
+            last = Some(batch);
+        }
+    }
+    last
+}
+
+// Returns the last batch of a file that wasn't undone, or else its first.
+fn batch_of_file<'b>(batches: &'b [Batch], file: &str) -> Option<&'b Batch> {
+    let mut found = None;
+    for batch in batches {
+        if batch.file.as_str() == file && batch.undoes.is_none() {
+            let is_undone = undone_by(batches, batch.number).is_some();
+            if found.is_none() || !is_undone {
+                found = Some(batch);
+            }
+        }
+    }
+    found
+}
+
+// Returns the batch that is asked for.
+fn wanted_of<'a, 'b>(request: &Job<'a>, batches: &'b [Batch]) -> Result<&'b Batch, Failure<'a>> {
+    let db = request.db;
+    let (wanted, name) = match request.batch {
+        None => (last_of(batches), "to undo"),
+        Some(name) => match name.parse::<i64>() {
+            Ok(number) => (batch_of(batches, number), name),
+            Err(_) => (batch_of_file(batches, name), name),
+        },
+    };
+    match wanted {
+        Some(batch) => Ok(batch),
+        None => Err(Failure::NoBatch { db, name }),
+    }
+}
+
+// Returns what is known of the batch that is asked for, if it may be undone.
+fn found_of<'a>(request: &Job<'a>, batches: &[Batch]) -> Result<Found, Failure<'a>> {
+    let batch = wanted_of(request, batches)?;
+    match undone_by(batches, batch.number) {
+        Some(other) => Err(Failure::UndoneBefore {
+            db: request.db,
+            number: batch.number,
+            by: other.number,
+        }),
+        None => Ok(Found {
+            number: batch.number,
+            file: batch.file.clone()?,
+            by: next_number(batches),
+            movements: movements_in(batches),
+        }),
+    }
+}
+
+// Writes the undo of a batch, and returns what is said of it.
+fn put<'a, D: Alter>(
+    alloc: Global,
+    conn: &mut Connection<D>,
+    db: &'a str,
+    shape: Shape,
+    found: &Found,
+    booked: &Booked<String>,
+    changed: &[RowChange],
+) -> Result<String, Failure<'a>> {
+    let time = in_database(db, time_of(conn))?;
+    let draft = Draft {
+        number: found.by,
+        file: found.file.as_str(),
+        sha256: "",
+        kind: Kind::Undo(found.number),
+        time: time.as_str(),
+        movements: booked.entries.len() as u64,
+    };
+    let batches = sealed_rows(alloc, shape.scale, [draft].as_slice(), &booked.entries)?;
+    let new = NewRows {
+        is_sealed: shape.is_sealed,
+        batches: &batches,
+        entries: &booked.entries,
+        changed,
+    };
+    let said = entered_text(alloc, db, found.movements, &batches)?;
+    put_in(db, conn, None, &new)?;
+    Ok(said)
+}
+
+// Returns what is known of the batch that is asked for, if it may be undone.
+fn found_in<'a, D: Alter>(
+    alloc: Global,
+    conn: &mut Connection<D>,
+    request: &Job<'a>,
+    shape: Shape,
+) -> Result<Found, Failure<'a>> {
+    let batches = in_database(request.db, batches_of(alloc, conn, shape))?;
+    found_of(request, &batches)
+}
+
+// Decides about an undo of these movements in a stock with this balance, and what becomes of the rows of that.
+fn undo_of<'a, S: BuildHasher + Drop>(
+    alloc: Global,
+    state: S,
+    request: &Job<'a>,
+    scale: u32,
+    file: &str,
+    kept: &[(String, usize)],
+    entered: Vec<Movement<String>>,
+) -> Result<(Undo<String>, Vec<RowChange>), Failure<'a>> {
+    match undo_batch(alloc, state, kept, entered) {
+        Ok(undone) => Ok(undone),
+        Err(LedgerError::TooMany(place)) => Err(Failure::UndoneTotal {
+            file: file.to_string(alloc)?,
+            line: place.line,
+            most: write_decimal(alloc, MOST, request.reading(scale).scale)?,
+        }),
+        Err(LedgerError::StartTooMany) => Err(start_too_many(request.db)),
+        Err(LedgerError::Memory) => Err(Failure::from(AllocError)),
+    }
+}
+
+// Takes the batch back in an open database, and returns what is written of that.
+fn take_back_in<'a, D: Alter, S: BuildHasher + Drop>(
+    alloc: Global,
+    state: S,
+    request: &Job<'a>,
+    shape: Shape,
+    conn: &mut Connection<D>,
+    found: &Found,
+) -> Result<Undone, Failure<'a>> {
+    let db = request.db;
+    let entered = in_database(db, entered_of(alloc, conn, found.number))?;
+    let kept = in_database(db, balance_of(alloc, conn))?;
+    let file = found.file.as_str();
+    let (undo, changed) = undo_of(alloc, state, request, shape.scale, file, &kept, entered)?;
+    match undo {
+        Undo::Refused(refusals) => Ok(Undone {
+            refusals,
+            said: String::new(alloc),
+        }),
+        Undo::Done(booked) => Ok(Undone {
+            refusals: Vec::new(alloc),
+            said: put(alloc, conn, db, shape, found, &booked, &changed)?,
+        }),
+    }
+}
+
+/// What is written of an undo.
+#[derive(Drop)]
+pub struct Report {
+    /// The refusals.
+    pub refusals: String,
+    /// What is said of the batch that was entered.
+    pub said: String,
+    /// The status with which the program ends.
+    pub status: u8,
+}
+
+// Returns what is written of an undo of a batch of that file.
+fn report_of(
+    alloc: Global,
+    request: &Job<'_>,
+    shape: Shape,
+    file: &str,
+    undone: Undone,
+) -> Result<Report, AllocError> {
+    let names = [file];
+    let reading = request.reading(shape.scale);
+    let refusals = refusals_text(alloc, names.as_slice(), reading.scale, &undone.refusals)?;
+    Ok(Report {
+        refusals,
+        status: if undone.refusals.is_empty() {
+            DONE
+        } else {
+            DENIED
+        },
+        said: undone.said,
+    })
+}
+
+/// Takes the batch back in an open database, and returns what is written of that.
+///
+/// # Errors
+///
+/// Why the batch can't be taken back.
+pub fn undo_in<'a, D: Alter, S: BuildHasher + Drop>(
+    alloc: Global,
+    state: S,
+    request: &Job<'a>,
+    shape: Shape,
+    conn: &mut Connection<D>,
+) -> Result<Report, Failure<'a>> {
+    let found = found_in(alloc, conn, request, shape)?;
+    let undone = take_back_in(alloc, state, request, shape, conn, &found)?;
+    Ok(report_of(alloc, request, shape, found.file.as_str(), undone)?)
+}

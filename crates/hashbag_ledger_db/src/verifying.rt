@@ -1,0 +1,161 @@
+//! A stock that is counted again from all its movements, in an open database.
+use crate::failure::Failure;
+use crate::putting::in_database;
+use hashbag_ledger_args::job::Job;
+use hashbag_ledger_lib::entering::LedgerError;
+use hashbag_ledger_lib::ledger::booking::{Booked, book_batch, refusals_from};
+use hashbag_ledger_lib::numbers::MOST;
+use hashbag_ledger_lib::once::Batch;
+use hashbag_ledger_lib::sealing::wrong_seal;
+use hashbag_ledger_lib::verifying::{
+    KeptRefusal, movements_from, wrong_batch, wrong_number, wrong_refusal,
+};
+use hashbag_lists::counts::Reading;
+use hashbag_lists::decimals::write_decimal;
+use hashbag_lists::escaped::Escaped;
+use hashbag_stock::reading::{Kept, everything_of};
+use hashbag_stock::tables::Shape;
+use sqlite::{Alter, Connection};
+use std::alloc::{AllocError, Global};
+use std::hash::BuildHasher;
+
+// Returns the first article whose row of the balance isn't what the movements make.
+fn wrong_article(
+    alloc: Global,
+    reading: Reading,
+    balance: &[(String, usize)],
+    counted: &[(String, usize)],
+) -> Result<Option<String>, AllocError> {
+    let Some(wrong) = wrong_number(balance, counted) else {
+        return Ok(None);
+    };
+    let article = Escaped(wrong.article);
+    let stored = write_decimal(alloc, wrong.kept, reading.scale)?;
+    let counted = write_decimal(alloc, wrong.counted, reading.scale)?;
+    Ok(Some(format!(in alloc; "\"{article}\": {stored} kept, {counted} by the movements")?))
+}
+
+// Returns the first row that isn't as it was written, or isn't what the movements make.
+fn wrong_row(
+    alloc: Global,
+    reading: Reading,
+    shape: Shape,
+    batches: &[Batch],
+    balance: &[(String, usize)],
+    refusals: &[KeptRefusal],
+    booked: Booked<String>,
+) -> Result<Option<String>, AllocError> {
+    if let Some(said) = wrong_article(alloc, reading, balance, &booked.balance)? {
+        return Ok(Some(said));
+    }
+    if shape.is_sealed
+        && let Some(number) = wrong_seal(alloc, shape.scale, batches, &booked.entries)?
+    {
+        return Ok(Some(format!(in alloc;
+            "batch {number}: not as it was entered: the scale, its row, or a row of its movements was changed"
+        )?));
+    }
+    match wrong_refusal(refusals, &refusals_from(alloc, booked.entries)?) {
+        Some(number) => Ok(Some(format!(in alloc;
+            "movement {number}: another refusal than by the movements"
+        )?)),
+        None => Ok(None),
+    }
+}
+
+// Returns what is said if the total is too large with the movement of this number.
+fn past_the_most(alloc: Global, reading: Reading, number: usize) -> Result<String, AllocError> {
+    let most = write_decimal(alloc, MOST, reading.scale)?;
+    format!(in alloc; "movement {number}: total past {most}")
+}
+
+// Returns the first way in which the stock differs from its movements, or `None` if it agrees.
+fn difference_of<'a, S: BuildHasher + Drop>(
+    alloc: Global,
+    state: S,
+    kept: Kept,
+    reading: Reading,
+) -> Result<Option<String>, Failure<'a>> {
+    let Kept {
+        shape,
+        movements,
+        refusals,
+        balance,
+        batches,
+    } = kept;
+    if let Some(number) = wrong_batch(&batches, &movements, &refusals) {
+        return Ok(Some(format!(in alloc;
+            "batch {number}: other numbers of movements than it has"
+        )?));
+    }
+    let movements = movements_from(alloc, movements)?;
+    match book_batch(alloc, state, Vec::new(alloc), movements) {
+        Ok(booked) => {
+            Ok(wrong_row(alloc, reading, shape, &batches, &balance, &refusals, booked)?)
+        }
+        Err(LedgerError::TooMany(place)) => Ok(Some(past_the_most(alloc, reading, place.file)?)),
+        Err(_) => Err(Failure::from(AllocError)),
+    }
+}
+
+// Returns a number with its noun, which ends in `ending` unless it is 1.
+fn counted(alloc: Global, number: usize, noun: &str, ending: &str) -> Result<String, AllocError> {
+    let ending = if number == 1 { "" } else { ending };
+    format!(in alloc; "{number} {noun}{ending}")
+}
+
+// Returns what is said of a stock that agrees.
+fn agreement(
+    alloc: Global,
+    batches: usize,
+    movements: usize,
+    refused: usize,
+    is_sealed: bool,
+) -> Result<String, AllocError> {
+    let batches = counted(alloc, batches, "batch", "es")?;
+    let movements = counted(alloc, movements, "movement", "s")?;
+    let seals = if is_sealed {
+        ""
+    } else {
+        "; its batches have no seals"
+    };
+    format!(in alloc;
+        "{batches}, {movements}, {refused} of them refused: the balance and the refusals agree{seals}\n"
+    )
+}
+
+/// What is said of a stock: that it agrees, or the first way in which it doesn't.
+#[derive(Drop)]
+pub enum Verdict {
+    /// The balance, the refusals and the seals are those of the movements.
+    Agrees(String),
+    /// The first difference.
+    Differs(String),
+}
+
+/// Counts all movements of an open database again, and compares the balance, the refusals and the seals that are kept.
+///
+/// # Errors
+///
+/// Why they can't be read.
+pub fn verify_in<'a, D: Alter, S: BuildHasher + Drop>(
+    alloc: Global,
+    state: S,
+    request: &Job<'a>,
+    shape: Shape,
+    conn: &mut Connection<D>,
+) -> Result<Verdict, Failure<'a>> {
+    let db = request.db;
+    let kept = in_database(db, everything_of(alloc, conn, shape))?;
+    let said = agreement(
+        alloc,
+        kept.batches.len(),
+        kept.movements.len(),
+        kept.refusals.len(),
+        shape.is_sealed,
+    )?;
+    match difference_of(alloc, state, kept, request.reading(shape.scale))? {
+        Some(what) => Ok(Verdict::Differs(format!(in alloc; "{db}: {what}\n")?)),
+        None => Ok(Verdict::Agrees(said)),
+    }
+}
