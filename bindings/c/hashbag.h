@@ -195,6 +195,51 @@ size_t hashbag_numbers_read(hashbag *handle, uint64_t *values, size_t values_len
 size_t hashbag_numbers_outer_join(hashbag *a, hashbag *b, uint64_t *values, size_t values_len, size_t *firsts,
                                   size_t firsts_len, size_t *seconds, size_t seconds_len);
 
+/* ---- joins of bags of numbers */
+
+/* Writes each number that the first bag has more often than the second, with how many more: as many as both arrays
+ * have places for, in no particular order. Returns how many. With as many places as the first bag has distinct numbers
+ * these are all. They must be two handles, not one twice. It returns 0 if one of them has no bag of numbers. It
+ * doesn't allocate. */
+size_t hashbag_numbers_difference(hashbag *a, hashbag *b, uint64_t *values, size_t values_len, size_t *counts,
+                                  size_t counts_len);
+
+/* Writes each number of the first bag that the second lacks, with its count: as many as both arrays have places for,
+ * in no particular order. Returns how many. With as many places as the first bag has distinct numbers these are all.
+ * They must be two handles, not one twice. It returns 0 if one of them has no bag of numbers. It doesn't allocate. */
+size_t hashbag_numbers_not_in(hashbag *a, hashbag *b, uint64_t *values, size_t values_len, size_t *counts,
+                              size_t counts_len);
+
+/* Writes each number of two bags once, with its count in the first less its count in the second: those of the first
+ * bag first. A difference above `PTRDIFF_MAX` or below `PTRDIFF_MIN` is written as that bound. It writes as many as
+ * both arrays have places for, and returns how many. With as many places as both bags have distinct numbers these are
+ * all. They must be two handles, not one twice. It returns 0 if one of them has no bag of numbers. It doesn't
+ * allocate. */
+size_t hashbag_numbers_signed_difference(hashbag *a, hashbag *b, uint64_t *values, size_t values_len,
+                                         ptrdiff_t *differences, size_t differences_len);
+
+/* ---- bags of numbers, in an order */
+
+/* Writes the distinct numbers, rising, and their counts into two arrays, as many as both have places for. Writes how
+ * many into `n`, and returns 0. With `hashbag_set_len` places in each these are all. It makes one allocation, a list
+ * of all distinct numbers, and sorts it.
+ *
+ * Errors:
+ * `HASHBAG_MEMORY` if the allocation fails; `HASHBAG_EMPTY`; `HASHBAG_KIND`. Nothing is written then. The bag is
+ * unchanged in any case. */
+uint8_t hashbag_numbers_sorted(hashbag *handle, uint64_t *values, size_t values_len, size_t *counts,
+                               size_t counts_len, size_t *n);
+
+/* Writes the most common numbers and their counts into two arrays, as many as both have places for, or all if there
+ * are fewer: counts falling, and numbers that occur equally often rising. Writes how many into `n`, and returns 0. It
+ * reads each distinct number once, and makes two allocations at most, each of as many pairs as it writes.
+ *
+ * Errors:
+ * `HASHBAG_MEMORY` if an allocation fails; `HASHBAG_EMPTY`; `HASHBAG_KIND`. Nothing is written then. The bag is
+ * unchanged in any case. */
+uint8_t hashbag_numbers_most_common(hashbag *handle, uint64_t *values, size_t values_len, size_t *counts,
+                                    size_t counts_len, size_t *n);
+
 /* ---- bags of byte strings */
 
 /* Puts into the handle an empty bag of byte strings, whose total is at most `most`, and returns 0. The bag that the
@@ -280,6 +325,53 @@ size_t hashbag_texts_read(hashbag *handle, uint8_t *bytes, size_t bytes_len, siz
 size_t hashbag_texts_outer_join(hashbag *a, hashbag *b, uint8_t *bytes, size_t bytes_len, size_t *ends,
                                 size_t ends_len, size_t *firsts, size_t firsts_len, size_t *seconds,
                                 size_t seconds_len);
+
+/* Writes the byte strings that the first bag has more often than the second, each with how many more, as
+ * `hashbag_texts_read` does: as many as there are places for, in no particular order. Returns how many. With as many
+ * places as the first bag has distinct strings, and bytes in all, these are all. They must be two handles, not one
+ * twice. It returns 0 if one of them has no bag of byte strings. It doesn't allocate. */
+size_t hashbag_texts_difference(hashbag *a, hashbag *b, uint8_t *bytes, size_t bytes_len, size_t *ends,
+                                size_t ends_len, size_t *counts, size_t counts_len);
+
+/* Writes the byte strings of the first bag that the second lacks, each with its count, as `hashbag_texts_read` does:
+ * as many as there are places for, in no particular order. Returns how many. With as many places as the first bag has
+ * distinct strings, and bytes in all, these are all. They must be two handles, not one twice. It returns 0 if one of
+ * them has no bag of byte strings. It doesn't allocate. */
+size_t hashbag_texts_not_in(hashbag *a, hashbag *b, uint8_t *bytes, size_t bytes_len, size_t *ends, size_t ends_len,
+                            size_t *counts, size_t counts_len);
+
+/* Writes the byte strings of two bags, each once, as `hashbag_texts_read` does, with its count in the first less its
+ * count in the second: those of the first bag first. A difference above `PTRDIFF_MAX` or below `PTRDIFF_MIN` is
+ * written as that bound. It writes as many as there are places for, and returns how many. With as many places as both
+ * bags have distinct strings, and bytes in all, these are all. They must be two handles, not one twice. It returns 0
+ * if one of them has no bag of byte strings. It doesn't allocate. */
+size_t hashbag_texts_signed_difference(hashbag *a, hashbag *b, uint8_t *bytes, size_t bytes_len, size_t *ends,
+                                       size_t ends_len, ptrdiff_t *differences, size_t differences_len);
+
+/* ---- bags of byte strings, in an order */
+
+/* Writes the distinct byte strings, rising byte by byte, and their counts, as `hashbag_texts_read` does: one string
+ * after another, as many as there are places for. Writes how many into `n`, and returns 0. With `hashbag_set_len` ends
+ * and counts, and `hashbag_texts_bytes` bytes, these are all. It makes one allocation, a list of all distinct strings,
+ * and sorts it.
+ *
+ * Errors:
+ * `HASHBAG_MEMORY` if the allocation fails; `HASHBAG_EMPTY`; `HASHBAG_KIND`. Nothing is written then. The bag is
+ * unchanged in any case. */
+uint8_t hashbag_texts_sorted(hashbag *handle, uint8_t *bytes, size_t bytes_len, size_t *ends, size_t ends_len,
+                             size_t *counts, size_t counts_len, size_t *n);
+
+/* Writes the most common byte strings and their counts, as `hashbag_texts_read` does: one string after another. These
+ * are as many as `ends` and `counts` both have places for, or all if there are fewer: counts falling, and strings that
+ * occur equally often rising byte by byte. Writes how many into `n`, and returns 0. If `bytes` has no place for the
+ * next string, it ends before that one; with `hashbag_texts_bytes` bytes it doesn't. It reads each distinct string
+ * once, and makes two allocations at most, each of as many pairs as it may write.
+ *
+ * Errors:
+ * `HASHBAG_MEMORY` if an allocation fails; `HASHBAG_EMPTY`; `HASHBAG_KIND`. Nothing is written then. The bag is
+ * unchanged in any case. */
+uint8_t hashbag_texts_most_common(hashbag *handle, uint8_t *bytes, size_t bytes_len, size_t *ends, size_t ends_len,
+                                  size_t *counts, size_t counts_len, size_t *n);
 
 #ifdef __cplusplus
 }

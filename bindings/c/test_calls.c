@@ -39,6 +39,10 @@ static void wrong_handles(void) {
     CHECK(hashbag_numbers_set_count(&empty, 5, 1, &word) == HASHBAG_EMPTY && hashbag_numbers_set_count(&texts, 5, 1, &word) == HASHBAG_KIND);
     CHECK(hashbag_texts_insert(&empty, TEXT("a"), 1, &word) == HASHBAG_EMPTY && hashbag_texts_insert(&numbers, TEXT("a"), 1, &word) == HASHBAG_KIND);
     CHECK(hashbag_texts_set_count(&empty, TEXT("a"), 1, &word) == HASHBAG_EMPTY && hashbag_texts_set_count(&numbers, TEXT("a"), 1, &word) == HASHBAG_KIND);
+    CHECK(hashbag_numbers_sorted(&empty, &value, 1, counts, 1, &word) == HASHBAG_EMPTY && hashbag_numbers_sorted(&texts, &value, 1, counts, 1, &word) == HASHBAG_KIND);
+    CHECK(hashbag_numbers_most_common(&empty, &value, 1, counts, 1, &word) == HASHBAG_EMPTY && hashbag_numbers_most_common(&texts, &value, 1, counts, 1, &word) == HASHBAG_KIND);
+    CHECK(hashbag_texts_sorted(&empty, &byte, 1, ends, 1, counts, 1, &word) == HASHBAG_EMPTY && hashbag_texts_sorted(&numbers, &byte, 1, ends, 1, counts, 1, &word) == HASHBAG_KIND);
+    CHECK(hashbag_texts_most_common(&empty, &byte, 1, ends, 1, counts, 1, &word) == HASHBAG_EMPTY && hashbag_texts_most_common(&numbers, &byte, 1, ends, 1, counts, 1, &word) == HASHBAG_KIND);
     CHECK(word == 77);
     CHECK(hashbag_numbers_insert_all(&empty, &value, 1, &word) == HASHBAG_EMPTY && word == 0);
     CHECK(hashbag_numbers_insert_all(&texts, &value, 1, &word) == HASHBAG_KIND && word == 0);
@@ -56,6 +60,13 @@ static void wrong_handles(void) {
     CHECK(hashbag_numbers_read(&texts, &value, 1, counts, 1) == 0 && hashbag_texts_read(&numbers, &byte, 1, ends, 1, counts, 1) == 0);
     CHECK(hashbag_numbers_outer_join(&numbers, &texts, &value, 1, &word, 1, counts, 1) == 0 && hashbag_numbers_outer_join(&empty, &numbers, &value, 1, &word, 1, counts, 1) == 0);
     CHECK(hashbag_texts_outer_join(&texts, &numbers, &byte, 1, ends, 1, &word, 1, counts, 1) == 0 && hashbag_texts_outer_join(&texts, &empty, &byte, 1, ends, 1, &word, 1, counts, 1) == 0);
+    CHECK(hashbag_numbers_difference(&numbers, &texts, &value, 1, counts, 1) == 0 && hashbag_numbers_difference(&empty, &numbers, &value, 1, counts, 1) == 0);
+    CHECK(hashbag_numbers_not_in(&texts, &numbers, &value, 1, counts, 1) == 0 && hashbag_numbers_not_in(&numbers, &empty, &value, 1, counts, 1) == 0);
+    ptrdiff_t sign;
+    CHECK(hashbag_numbers_signed_difference(&texts, &numbers, &value, 1, &sign, 1) == 0 && hashbag_numbers_signed_difference(&numbers, &empty, &value, 1, &sign, 1) == 0);
+    CHECK(hashbag_texts_signed_difference(&texts, &numbers, &byte, 1, ends, 1, &sign, 1) == 0 && hashbag_texts_signed_difference(&empty, &texts, &byte, 1, ends, 1, &sign, 1) == 0);
+    CHECK(hashbag_texts_difference(&texts, &numbers, &byte, 1, ends, 1, counts, 1) == 0 && hashbag_texts_difference(&empty, &texts, &byte, 1, ends, 1, counts, 1) == 0);
+    CHECK(hashbag_texts_not_in(&numbers, &texts, &byte, 1, ends, 1, counts, 1) == 0 && hashbag_texts_not_in(&texts, &empty, &byte, 1, ends, 1, counts, 1) == 0);
     CHECK(hashbag_len(&empty) == 0 && hashbag_set_len(&empty) == 0 && hashbag_limit(&empty) == 0 && hashbag_capacity(&empty) == 0);
     CHECK(!hashbag_equal(&numbers, &texts) && !hashbag_equal(&empty, &texts) && !hashbag_equal(&numbers, &empty));
     hashbag other = HASHBAG_NONE;
@@ -128,6 +139,19 @@ static void numbers(void) {
     }
     CHECK(sum == hashbag_len(&bag));
     CHECK(hashbag_numbers_read(&bag, values, 3, counts, 2) == 2 && hashbag_numbers_read(&bag, values, 0, counts, 5) == 0);
+    CHECK(hashbag_numbers_sorted(&bag, values, distinct, counts, distinct, &done) == HASHBAG_OK && done == distinct);
+    for (size_t i = 0; i < distinct; i++) CHECK(hashbag_numbers_contains(&bag, values[i]) == counts[i] && counts[i] > 0 && (i == 0 || values[i - 1] < values[i]));
+    uint64_t first_values[5];
+    size_t first_counts[5];
+    CHECK(hashbag_numbers_sorted(&bag, first_values, 5, first_counts, 4, &done) == HASHBAG_OK && done == 4 && !memcmp(first_values, values, 4 * sizeof *values));
+    CHECK(hashbag_numbers_most_common(&bag, values, distinct, counts, distinct, &done) == HASHBAG_OK && done == distinct);
+    for (size_t i = 0; i < distinct; i++) {
+        CHECK(hashbag_numbers_contains(&bag, values[i]) == counts[i] && counts[i] > 0);
+        CHECK(i == 0 || counts[i - 1] > counts[i] || (counts[i - 1] == counts[i] && values[i - 1] < values[i]));
+    }
+    CHECK(hashbag_numbers_most_common(&bag, first_values, 4, first_counts, 5, &done) == HASHBAG_OK && done == 4);
+    CHECK(!memcmp(first_values, values, 4 * sizeof *values) && !memcmp(first_counts, counts, 4 * sizeof *counts));
+    CHECK(hashbag_numbers_most_common(&bag, values, 0, counts, 5, &done) == HASHBAG_OK && done == 0);
     CHECK(hashbag_numbers_new_keyed(&twin, SIZE_MAX, draw(1000), draw(1000)) == HASHBAG_OK && !hashbag_equal(&bag, &twin));
     CHECK(hashbag_numbers_read(&bag, values, distinct, counts, distinct) == distinct);
     CHECK(hashbag_reserve(&twin, distinct) == HASHBAG_OK && hashbag_capacity(&twin) >= distinct);
@@ -213,8 +237,35 @@ static void two_bags_of_texts(void) {
     CHECK(ends[0] == 0 ? firsts[1] == 2 && seconds[1] == 0 : firsts[1] == 3 && seconds[1] == 3);
     CHECK(hashbag_texts_outer_join(&bag, &twin, bytes, 3, ends, 9, firsts, 9, seconds, 9) == 2);
     CHECK(hashbag_texts_outer_join(&bag, &twin, bytes, 9, ends, 9, firsts, 1, seconds, 9) == 1);
+    CHECK(hashbag_texts_difference(&bag, &twin, bytes, 9, ends, 9, firsts, 9) == 1 && bytes[0] == 'a' && ends[0] == 1 && firsts[0] == 2);
+    CHECK(hashbag_texts_insert(&twin, TEXT(""), 1, &before) == HASHBAG_OK && hashbag_texts_difference(&twin, &bag, bytes, 9, ends, 9, firsts, 9) == 2);
+    CHECK(ends[1] == 3 && !memcmp(bytes, "ccc", 3) && firsts[0] == 1 && firsts[1] == 1 && (ends[0] == 0 || ends[0] == 3));
+    CHECK(hashbag_texts_not_in(&bag, &twin, bytes, 9, ends, 9, firsts, 9) == 1 && bytes[0] == 'a' && ends[0] == 1 && firsts[0] == 2);
+    CHECK(hashbag_texts_not_in(&twin, &bag, bytes, 3, ends, 1, firsts, 1) == 1 && !memcmp(bytes, "ccc", 3) && ends[0] == 3 && firsts[0] == 1);
+    CHECK(hashbag_texts_not_in(&twin, &bag, bytes, 2, ends, 9, firsts, 9) == 0 && hashbag_texts_not_in(&twin, &bag, bytes, 9, ends, 9, firsts, 0) == 0);
+    ptrdiff_t signs[9];
+    CHECK(hashbag_texts_signed_difference(&bag, &twin, bytes, 4, ends, 3, signs, 3) == 3 && !memcmp(bytes, "accc", 4) && ends[2] == 4 && signs[2] == -1);
+    CHECK(ends[0] == 0 ? signs[0] == -1 && signs[1] == 2 && ends[1] == 1 : ends[0] == 1 && signs[0] == 2 && signs[1] == -1 && ends[1] == 1);
+    CHECK(hashbag_texts_signed_difference(&bag, &twin, bytes, 3, ends, 9, signs, 9) == 2 && hashbag_texts_signed_difference(&bag, &twin, bytes, 9, ends, 9, signs, 1) == 1);
     CHECK(hashbag_shrink_to_fit(&bag) == HASHBAG_OK && hashbag_len(&bag) == 5);
     hashbag_free(&bag), hashbag_free(&twin);
+}
+
+/* Byte strings in an order, found by hand. */
+static void ordered_texts(void) {
+    hashbag bag = HASHBAG_NONE;
+    size_t done, n = 77, ends[9], counts[9];
+    uint8_t bytes[9];
+    CHECK(hashbag_texts_new(&bag, SIZE_MAX) == HASHBAG_OK && hashbag_texts_insert_split(&bag, TEXT("b,ab,,b"), ',', &done) == HASHBAG_OK);
+    CHECK(hashbag_texts_sorted(&bag, bytes, 9, ends, 9, counts, 9, &n) == HASHBAG_OK && n == 3 && !memcmp(bytes, "abb", 3));
+    CHECK(ends[0] == 0 && ends[1] == 2 && ends[2] == 3 && counts[0] == 1 && counts[1] == 1 && counts[2] == 2);
+    CHECK(hashbag_texts_sorted(&bag, bytes, 2, ends, 3, counts, 3, &n) == HASHBAG_OK && n == 2 && hashbag_texts_sorted(&bag, bytes, 9, ends, 9, counts, 1, &n) == HASHBAG_OK && n == 1);
+    CHECK(hashbag_texts_most_common(&bag, bytes, 3, ends, 3, counts, 3, &n) == HASHBAG_OK && n == 3 && !memcmp(bytes, "bab", 3));
+    CHECK(ends[0] == 1 && ends[1] == 1 && ends[2] == 3 && counts[0] == 2 && counts[1] == 1 && counts[2] == 1);
+    CHECK(hashbag_texts_most_common(&bag, bytes, 2, ends, 3, counts, 3, &n) == HASHBAG_OK && n == 2 && hashbag_texts_most_common(&bag, bytes, 0, ends, 3, counts, 3, &n) == HASHBAG_OK && n == 0);
+    CHECK(hashbag_texts_most_common(&bag, bytes, 9, ends, 1, counts, 9, &n) == HASHBAG_OK && n == 1 && bytes[0] == 'b' && ends[0] == 1 && counts[0] == 2);
+    CHECK(hashbag_len(&bag) == 4 && hashbag_set_len(&bag) == 3);
+    hashbag_free(&bag);
 }
 
 /* Sums, common parts and differences of random bags of numbers, beside arrays of counts. */
@@ -241,11 +292,49 @@ static void combined_numbers(void) {
             CHECK(hashbag_numbers_contains(&most, scattered(v)) == (x[v] < y[v] ? y[v] : x[v]));
             CHECK(hashbag_numbers_contains(&less, scattered(v)) == (x[v] < y[v] ? 0 : x[v] - y[v]));
         }
+        uint64_t values[VALUES];
+        size_t counts[VALUES], all = 0, alone = 0;
+        size_t found = hashbag_numbers_difference(&a, &b, values, VALUES, counts, VALUES);
+        for (size_t i = 0; i < found; i++) {
+            CHECK(counts[i] > 0 && hashbag_numbers_contains(&less, values[i]) == counts[i]);
+            all += counts[i];
+        }
+        CHECK(found == hashbag_set_len(&less) && all == hashbag_len(&less));
+        CHECK(hashbag_numbers_difference(&a, &b, values, 3, counts, 2) == (found < 2 ? found : 2));
+        for (uint64_t v = 0; v < VALUES; v++) alone += x[v] > 0 && y[v] == 0;
+        found = hashbag_numbers_not_in(&a, &b, values, VALUES, counts, VALUES);
+        CHECK(found == alone && hashbag_numbers_not_in(&a, &b, values, found, counts, found) == found);
+        for (size_t i = 0; i < found; i++) {
+            CHECK(counts[i] > 0 && hashbag_numbers_contains(&a, values[i]) == counts[i] && hashbag_numbers_contains(&b, values[i]) == 0);
+            for (size_t j = 0; j < i; j++) CHECK(values[i] != values[j]);
+        }
+        static uint64_t both[2 * VALUES];
+        static ptrdiff_t signs[2 * VALUES];
+        found = hashbag_numbers_signed_difference(&a, &b, both, 2 * VALUES, signs, 2 * VALUES);
+        CHECK(found == hashbag_set_len(&sum));
+        for (size_t i = 0; i < found; i++) {
+            CHECK(signs[i] == (ptrdiff_t)hashbag_numbers_contains(&a, both[i]) - (ptrdiff_t)hashbag_numbers_contains(&b, both[i]));
+            for (size_t j = 0; j < i; j++) CHECK(both[i] != both[j]);
+        }
         size_t greatest = hashbag_len(&most);
         CHECK(hashbag_clone(&a, &most) == HASHBAG_OK && (greatest == 200 || hashbag_set_limit(&most, greatest - 1) == HASHBAG_OK));
         CHECK(hashbag_keep_most(&most, &b) == (greatest == 200 ? HASHBAG_OK : HASHBAG_TOO_MANY) && hashbag_equal(&most, &a) && hashbag_len(&b) == 400);
         hashbag_free(&a), hashbag_free(&b), hashbag_free(&sum), hashbag_free(&common), hashbag_free(&most), hashbag_free(&less);
     }
+}
+
+/* Differences past the bounds of a signed number are written as the bounds. */
+static void signed_bounds(void) {
+    hashbag a = HASHBAG_NONE, b = HASHBAG_NONE;
+    size_t before;
+    uint64_t value;
+    ptrdiff_t sign;
+    CHECK(hashbag_numbers_new(&a, SIZE_MAX) == HASHBAG_OK && hashbag_numbers_new(&b, SIZE_MAX) == HASHBAG_OK);
+    CHECK(hashbag_numbers_insert(&a, 5, SIZE_MAX, &before) == HASHBAG_OK && hashbag_numbers_signed_difference(&a, &b, &value, 1, &sign, 1) == 1);
+    CHECK(value == 5 && sign == PTRDIFF_MAX && hashbag_numbers_signed_difference(&b, &a, &value, 1, &sign, 1) == 1 && value == 5 && sign == PTRDIFF_MIN);
+    CHECK(hashbag_numbers_insert(&b, 5, 7, &before) == HASHBAG_OK && hashbag_numbers_remove(&a, 5, SIZE_MAX - 3) == 3);
+    CHECK(hashbag_numbers_signed_difference(&a, &b, &value, 1, &sign, 1) == 1 && sign == -4 && hashbag_numbers_signed_difference(&b, &a, &value, 1, &sign, 1) == 1 && sign == 4);
+    hashbag_free(&a), hashbag_free(&b);
 }
 
 static void combined_texts(void) {
@@ -270,7 +359,9 @@ int main(void) {
     numbers();
     texts();
     two_bags_of_texts();
+    ordered_texts();
     combined_numbers();
+    signed_bounds();
     combined_texts();
     puts("test_calls: ok");
     return 0;

@@ -104,6 +104,15 @@ static void numbers(void) {
     uint64_t values[3] = {1, 2, 3};
     fails(hashbag_numbers_insert_all(&bag, values, 3, &done));
     CHECK(hashbag_len(&bag) == total + done);
+    static uint64_t listed[500];
+    static size_t counts[500];
+    size_t n = 999;
+    if (fails(hashbag_numbers_sorted(&bag, listed, 500, counts, 500, &n))) CHECK(n == 999);
+    else CHECK(n == hashbag_set_len(&bag));
+    n = 999;
+    if (fails(hashbag_numbers_most_common(&bag, listed, 10, counts, 10, &n))) CHECK(n == 999);
+    else CHECK(n == 10);
+    CHECK(hashbag_len(&bag) == total + done);
     copies(&bag);
     hashbag_free(&bag);
 }
@@ -127,6 +136,15 @@ static void texts(void) {
     total += done;
     CHECK(hashbag_len(&bag) == total);
     if (!fails(hashbag_texts_set_count(&bag, (const uint8_t *)"gg", 2, 3, &before))) total += 3;
+    CHECK(hashbag_len(&bag) == total);
+    static uint8_t bytes[2000];
+    static size_t listed[200], counts[200];
+    size_t n = 999;
+    if (fails(hashbag_texts_sorted(&bag, bytes, 2000, listed, 200, counts, 200, &n))) CHECK(n == 999);
+    else CHECK(n == hashbag_set_len(&bag));
+    n = 999;
+    if (fails(hashbag_texts_most_common(&bag, bytes, 2000, listed, 10, counts, 10, &n))) CHECK(n == 999);
+    else CHECK(n == 10);
     CHECK(hashbag_len(&bag) == total);
     copies(&bag);
     hashbag_free(&bag);

@@ -15,7 +15,6 @@ stays where it is during its call; the interpreter's lock is held during a call,
 from __future__ import annotations
 
 import ctypes
-import heapq
 import secrets
 import threading
 from array import array
@@ -81,7 +80,8 @@ def _read(n: int, size: int, lists: int, call: Callable[..., int]) -> list[Any]:
     text, words = bytearray(size + 1), [array("Q", bytes(8 * n + 8)) for _ in range(lists + 1)]
     at = ctypes.addressof(ctypes.c_char.from_buffer(text))
     n = call(at, size, *(place for numbers in words for place in (numbers.buffer_info()[0], n)))
-    raw, stops = bytes(text), words[0][:n].tolist()
+    stops = words[0][:n].tolist()
+    raw = bytes(memoryview(text)[: stops[-1]]) if stops else b""
     return [[raw[a:b] for a, b in zip([0, *stops], stops)], *(numbers[:n].tolist() for numbers in words[1:])]
 
 
@@ -200,7 +200,10 @@ class HashBag(Generic[K]):
 
     def items(self) -> list[tuple[K, int]]:
         """Returns each distinct key with its count, in no particular order."""
-        keys, counts = self._pairs()
+        return self._decoded(*self._pairs())
+
+    def _decoded(self, keys: list[bytes], counts: list[int]) -> list[tuple[K, int]]:
+        """Keys with their counts."""
         return list(zip(map(self._decode, keys) if self._decode else keys, counts))  # type: ignore[arg-type]
 
     def keys(self) -> list[K]:
@@ -220,11 +223,16 @@ class HashBag(Generic[K]):
             yield from repeat(key, n)
 
     def most_common(self, n: int | None = None) -> list[tuple[K, int]]:
-        """Returns the n commonest keys with their counts, the commonest first, or all keys. Keys with equal counts are in no particular order."""
-        items = self.items()
-        if n is None:
-            return sorted(items, key=lambda item: item[1], reverse=True)
-        return heapq.nlargest(n, items, key=lambda item: item[1])
+        """Returns the n commonest keys with their counts, the commonest first, or all keys. Keys with equal counts rise by their bytes."""
+        distinct, size = self._sizes()
+        most = distinct if n is None else min(max(n, 0), distinct)
+
+        def call(*places: int) -> int:
+            _done(_library.hashbag_texts_most_common(self._at(), *places, self._out))
+            return self._size.value
+
+        keys, counts = _read(most, size, 1, call)
+        return self._decoded(keys, counts)
 
     # ---- many at once
 
@@ -318,11 +326,19 @@ class HashBag(Generic[K]):
 
     def difference(self, other: HashBag[K]) -> list[tuple[K, int]]:
         """Returns each key that this bag has more often than the other, with how many more."""
-        return [(key, n - m) for key, n, m in self.outer_join(other) if n > m]
+        return self._left(other, _library.hashbag_texts_difference)
 
     def not_in(self, other: HashBag[K]) -> list[tuple[K, int]]:
         """Returns each key of this bag that the other lacks, with its count."""
-        return [(key, n) for key, n, m in self.outer_join(other) if n and not m]
+        return self._left(other, _library.hashbag_texts_not_in)
+
+    def _left(self, other: HashBag[K], call: Callable[..., int]) -> list[tuple[K, int]]:
+        """What a call on two bags writes of the keys of this one."""
+        # The two handles of a call have to be two. A bag has no key more often than itself.
+        if self is other:
+            return []
+        keys, counts = _read(*self._sizes(), 1, lambda *places: call(self._at(), other._at(), *places))
+        return self._decoded(keys, counts)
 
     def __repr__(self) -> str:
         shown = ", ".join(f"{key!r}: {n}" for key, n in self.most_common(10))

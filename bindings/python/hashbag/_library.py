@@ -48,6 +48,11 @@ for _name, _arguments, _result in (
     ("hashbag_numbers_insert_all", [HANDLE, ARRAY, SIZE, ARRAY], BYTE),
     ("hashbag_numbers_read", [HANDLE, ARRAY, SIZE, ARRAY, SIZE], SIZE),
     ("hashbag_numbers_outer_join", [HANDLE, HANDLE, ARRAY, SIZE, ARRAY, SIZE, ARRAY, SIZE], SIZE),
+    ("hashbag_numbers_difference", [HANDLE, HANDLE, ARRAY, SIZE, ARRAY, SIZE], SIZE),
+    ("hashbag_numbers_not_in", [HANDLE, HANDLE, ARRAY, SIZE, ARRAY, SIZE], SIZE),
+    ("hashbag_numbers_signed_difference", [HANDLE, HANDLE, ARRAY, SIZE, ARRAY, SIZE], SIZE),
+    ("hashbag_numbers_sorted", [HANDLE, ARRAY, SIZE, ARRAY, SIZE, ARRAY], BYTE),
+    ("hashbag_numbers_most_common", [HANDLE, ARRAY, SIZE, ARRAY, SIZE, ARRAY], BYTE),
     ("hashbag_texts_new", [HANDLE, SIZE], BYTE),
     ("hashbag_texts_new_keyed", [HANDLE, SIZE, WORD, WORD], BYTE),
     ("hashbag_texts_insert", [HANDLE, BYTES, SIZE, SIZE, ARRAY], BYTE),
@@ -60,6 +65,11 @@ for _name, _arguments, _result in (
     ("hashbag_texts_bytes", [HANDLE], SIZE),
     ("hashbag_texts_read", [HANDLE, ARRAY, SIZE, ARRAY, SIZE, ARRAY, SIZE], SIZE),
     ("hashbag_texts_outer_join", [HANDLE, HANDLE, ARRAY, SIZE, ARRAY, SIZE, ARRAY, SIZE, ARRAY, SIZE], SIZE),
+    ("hashbag_texts_difference", [HANDLE, HANDLE, ARRAY, SIZE, ARRAY, SIZE, ARRAY, SIZE], SIZE),
+    ("hashbag_texts_not_in", [HANDLE, HANDLE, ARRAY, SIZE, ARRAY, SIZE, ARRAY, SIZE], SIZE),
+    ("hashbag_texts_signed_difference", [HANDLE, HANDLE, ARRAY, SIZE, ARRAY, SIZE, ARRAY, SIZE], SIZE),
+    ("hashbag_texts_sorted", [HANDLE, ARRAY, SIZE, ARRAY, SIZE, ARRAY, SIZE, ARRAY], BYTE),
+    ("hashbag_texts_most_common", [HANDLE, ARRAY, SIZE, ARRAY, SIZE, ARRAY, SIZE, ARRAY], BYTE),
 ):
     _function = getattr(library, _name)
     _function.argtypes, _function.restype = _arguments, _result

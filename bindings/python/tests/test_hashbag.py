@@ -47,8 +47,10 @@ class OneBag(unittest.TestCase):
 
     def test_most_common(self):
         self.assertEqual(self.bag.most_common(2), [("the", 3), ("and", 2)])
-        self.assertEqual(self.bag.most_common(0), [])
-        self.assertEqual([n for _, n in self.bag.most_common()], [3, 2, 1, 1, 1])
+        self.assertEqual((self.bag.most_common(0), self.bag.most_common(-1), HashBag().most_common()), ([], [], []))
+        self.assertEqual(self.bag.most_common(), [("the", 3), ("and", 2), ("bat", 1), ("cat", 1), ("hat", 1)])
+        self.assertEqual(self.bag.most_common(4), self.bag.most_common(9)[:4])
+        self.assertEqual(HashBag([b"\xff", b"a", b"", b"\xff"], decode=None).most_common(), [(b"\xff", 2), (b"", 1), (b"a", 1)])
 
     def test_clear(self):
         self.bag.clear()
@@ -166,6 +168,8 @@ class TwoBags(unittest.TestCase):
             a, b, c, d = HashBag(p), HashBag(q), Counter(p), Counter(q)
             for made, wanted in ((a + b, c + d), (a - b, c - d), (a & b, c & d), (a | b, c | d)):
                 self.assertEqual(dict(made.items()), dict(wanted))
+            self.assertEqual(sorted(a.difference(b)), sorted((c - d).items()))
+            self.assertEqual(sorted(a.not_in(b)), sorted((key, n) for key, n in c.items() if key not in d))
             self.assertEqual(a == b, c == d)
 
     def test_a_bag_with_itself(self):
@@ -188,6 +192,7 @@ class TwoBags(unittest.TestCase):
         self.assertEqual(self.b.not_in(self.a), [("c", 1)])
         self.assertEqual(sorted(self.a.outer_join(self.a)), [("a", 3, 3), ("b", 1, 1)])
         self.assertEqual(HashBag().outer_join(HashBag()), [])
+        self.assertEqual((self.a.difference(self.a), self.a.not_in(self.a), HashBag().not_in(self.a)), ([], [], []))
         texts = HashBag([b"\xff", b""], decode=None)
         self.assertEqual(sorted(texts.outer_join(HashBag([b"\xff\xff", b""], decode=None))), [(b"", 1, 1), (b"\xff", 1, 0), (b"\xff\xff", 0, 1)])
 
@@ -220,7 +225,9 @@ class RandomCalls(unittest.TestCase):
             counter = +counter
             self.assertEqual(dict(bag.items()), dict(counter))
             self.assertEqual((bag.total(), len(bag)), (sum(counter.values()), len(counter)))
-            self.assertEqual([n for _, n in bag.most_common(20)], [n for _, n in counter.most_common(20)])
+            ordered = sorted(counter.items(), key=lambda item: (-item[1], item[0]))
+            for n in (0, 1, 20, 10**9):
+                self.assertEqual(bag.most_common(n), ordered[:n])
 
 
 if __name__ == "__main__":

@@ -212,13 +212,18 @@ impl<T: Value, S> HashBag<T, S> {
             let mut values = vec![0u64; n];
             // SAFETY: both arrays have n places.
             let n = unsafe { sys::hashbag_numbers_read(self.at(), values.as_mut_ptr(), n, counts.as_mut_ptr(), n) };
-            return values.into_iter().zip(counts).take(n).map(|(value, count)| (T::of_number(value), count)).collect();
+            return Self::pairs_of_numbers(&values[..n], counts);
         }
         let size = unsafe { sys::hashbag_texts_bytes(self.at()) };
         let (mut bytes, mut ends) = (vec![0u8; size], vec![0usize; n]);
         // SAFETY: the arrays have `size`, n and n places.
         let n = unsafe { sys::hashbag_texts_read(self.at(), bytes.as_mut_ptr(), size, ends.as_mut_ptr(), n, counts.as_mut_ptr(), n) };
         Self::pairs_of(&bytes, &ends[..n], counts)
+    }
+
+    // The values of these numbers, with their counts.
+    fn pairs_of_numbers(values: &[u64], counts: Vec<usize>) -> Vec<(T, usize)> {
+        values.iter().zip(counts).map(|(value, count)| (T::of_number(*value), count)).collect()
     }
 
     // The values whose bytes lie one after another, each up to its end, with their counts.
@@ -240,6 +245,39 @@ impl<T: Value, S> HashBag<T, S> {
     /// Gives each distinct value once, with its count, in no particular order.
     pub fn set_iter(&self) -> SetIter<'_, T> {
         SetIter::new(self.lend(self.pairs()))
+    }
+
+    /// Returns the `k` most common values with their counts, or all if there are fewer: counts falling.
+    ///
+    /// Values that occur equally often are in the order of what the library has: numbers rising, where a negative one is above all others, or
+    /// bytes rising.
+    ///
+    /// # Panics
+    ///
+    /// If an allocation fails.
+    ///
+    /// ```
+    /// use hashbag::HashBag;
+    ///
+    /// let words: HashBag<String> = "the cat and the hat".split(' ').map(str::to_string).collect();
+    /// assert_eq!(words.most_common(2), [("the".to_string(), 2), ("and".to_string(), 1)]);
+    /// ```
+    pub fn most_common(&self, k: usize) -> Vec<(T, usize)> {
+        let places = k.min(self.set_len());
+        let (mut counts, mut n) = (vec![0usize; places], 0);
+        if T::IS_NUMBER {
+            let mut values = vec![0u64; places];
+            let (values_at, counts_at) = (values.as_mut_ptr(), counts.as_mut_ptr());
+            // SAFETY: both arrays have these places.
+            panics(done(unsafe { sys::hashbag_numbers_most_common(self.at(), values_at, places, counts_at, places, &mut n) }));
+            return Self::pairs_of_numbers(&values[..n], counts);
+        }
+        let size = unsafe { sys::hashbag_texts_bytes(self.at()) };
+        let (mut bytes, mut ends) = (vec![0u8; size], vec![0usize; places]);
+        let (bytes_at, ends_at, counts_at) = (bytes.as_mut_ptr(), ends.as_mut_ptr(), counts.as_mut_ptr());
+        // SAFETY: the arrays have `size` places, and as many ends and counts as the call is told.
+        panics(done(unsafe { sys::hashbag_texts_most_common(self.at(), bytes_at, size, ends_at, places, counts_at, places, &mut n) }));
+        Self::pairs_of(&bytes, &ends[..n], counts)
     }
 
     /// Gives each distinct value once, with its count. The bag is empty from the start.

@@ -38,6 +38,13 @@ extern "C" {
     pub fn hashbag_numbers_insert_all(handle: *mut Handle, values: *const u64, values_len: usize, done: *mut usize) -> u8;
     pub fn hashbag_numbers_read(handle: *mut Handle, values: *mut u64, values_len: usize, counts: *mut usize, counts_len: usize) -> usize;
     pub fn hashbag_numbers_outer_join(a: *mut Handle, b: *mut Handle, values: *mut u64, values_len: usize, firsts: *mut usize, firsts_len: usize, seconds: *mut usize, seconds_len: usize) -> usize;
+    pub fn hashbag_numbers_difference(a: *mut Handle, b: *mut Handle, values: *mut u64, values_len: usize, counts: *mut usize, counts_len: usize) -> usize;
+    pub fn hashbag_numbers_not_in(a: *mut Handle, b: *mut Handle, values: *mut u64, values_len: usize, counts: *mut usize, counts_len: usize) -> usize;
+    #[allow(dead_code)]
+    pub fn hashbag_numbers_signed_difference(a: *mut Handle, b: *mut Handle, values: *mut u64, values_len: usize, differences: *mut isize, differences_len: usize) -> usize;
+    #[allow(dead_code)]
+    pub fn hashbag_numbers_sorted(handle: *mut Handle, values: *mut u64, values_len: usize, counts: *mut usize, counts_len: usize, n: *mut usize) -> u8;
+    pub fn hashbag_numbers_most_common(handle: *mut Handle, values: *mut u64, values_len: usize, counts: *mut usize, counts_len: usize, n: *mut usize) -> u8;
     #[allow(dead_code)]
     pub fn hashbag_texts_new(handle: *mut Handle, most: usize) -> u8;
     pub fn hashbag_texts_new_keyed(handle: *mut Handle, most: usize, key0: u64, key1: u64) -> u8;
@@ -51,4 +58,11 @@ extern "C" {
     pub fn hashbag_texts_bytes(handle: *mut Handle) -> usize;
     pub fn hashbag_texts_read(handle: *mut Handle, bytes: *mut u8, bytes_len: usize, ends: *mut usize, ends_len: usize, counts: *mut usize, counts_len: usize) -> usize;
     pub fn hashbag_texts_outer_join(a: *mut Handle, b: *mut Handle, bytes: *mut u8, bytes_len: usize, ends: *mut usize, ends_len: usize, firsts: *mut usize, firsts_len: usize, seconds: *mut usize, seconds_len: usize) -> usize;
+    pub fn hashbag_texts_difference(a: *mut Handle, b: *mut Handle, bytes: *mut u8, bytes_len: usize, ends: *mut usize, ends_len: usize, counts: *mut usize, counts_len: usize) -> usize;
+    pub fn hashbag_texts_not_in(a: *mut Handle, b: *mut Handle, bytes: *mut u8, bytes_len: usize, ends: *mut usize, ends_len: usize, counts: *mut usize, counts_len: usize) -> usize;
+    #[allow(dead_code)]
+    pub fn hashbag_texts_signed_difference(a: *mut Handle, b: *mut Handle, bytes: *mut u8, bytes_len: usize, ends: *mut usize, ends_len: usize, differences: *mut isize, differences_len: usize) -> usize;
+    #[allow(dead_code)]
+    pub fn hashbag_texts_sorted(handle: *mut Handle, bytes: *mut u8, bytes_len: usize, ends: *mut usize, ends_len: usize, counts: *mut usize, counts_len: usize, n: *mut usize) -> u8;
+    pub fn hashbag_texts_most_common(handle: *mut Handle, bytes: *mut u8, bytes_len: usize, ends: *mut usize, ends_len: usize, counts: *mut usize, counts_len: usize, n: *mut usize) -> u8;
 }

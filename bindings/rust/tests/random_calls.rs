@@ -91,6 +91,14 @@ fn runs<T: Value + Ord + Clone + std::fmt::Debug>(seed: u64, value_of: impl Fn(u
     bag.shrink_to_fit();
     assert!(bag.capacity() < 5000);
     compare(&bag, &model);
+    let mut counts: Vec<usize> = model.values().copied().collect();
+    counts.sort_unstable_by(|a, b| b.cmp(a));
+    for k in [0, 1, 7, 10000] {
+        let top = bag.most_common(k);
+        assert_eq!(top.iter().map(|pair| pair.1).collect::<Vec<_>>(), counts[..k.min(counts.len())]);
+        assert!(top.iter().all(|(value, count)| model.get(value) == Some(count)));
+        assert_eq!(top.iter().map(|pair| &pair.0).collect::<std::collections::BTreeSet<_>>().len(), top.len());
+    }
     let drained: usize = bag.drain().map(|(_, count)| count).sum();
     assert_eq!(drained, twin.len());
     assert!(bag.is_empty());
@@ -152,6 +160,17 @@ fn joins_say_both_counts() {
 }
 
 #[test]
+fn most_common_of_equal_counts() {
+    let numbers: HashBag<u64> = [9, 7, 7, 8, 3, 3].into_iter().collect();
+    assert_eq!(numbers.most_common(3), [(3, 2), (7, 2), (8, 1)]);
+    let signed: HashBag<i32> = [-1, 5].into_iter().collect();
+    assert_eq!(signed.most_common(9), [(5, 1), (-1, 1)]);
+    let texts: HashBag<String> = ["b", "ab", "", "b"].iter().map(|it| it.to_string()).collect();
+    assert_eq!(texts.most_common(3), [("b".to_string(), 2), (String::new(), 1), ("ab".to_string(), 1)]);
+    assert_eq!(texts.most_common(0), []);
+}
+
+#[test]
 fn errors_change_nothing() {
     let mut bag: HashBag<u64> = HashBag::with_limit(3, std::hash::RandomState::new());
     assert_eq!(bag.try_insert_many(&5, 3), Ok(0));
@@ -195,6 +214,10 @@ fn two_bags<T: Value + Ord + Clone + std::fmt::Debug>(seed: u64, value_of: impl 
         compare(&common, &both(&|m, n| m.min(n)));
         compare(&most, &both(&|m, n| m.max(n)));
         compare(&left, &both(&|m, n| m.saturating_sub(n)));
+        let owned = |(value, count): (&T, usize)| (value.clone(), count);
+        assert_eq!(a.difference(&b).map(owned).collect::<Model<T>>(), both(&|m, n| m.saturating_sub(n)));
+        assert_eq!(a.not_in(&b).map(owned).collect::<Model<T>>(), both(&|m, n| if n == 0 { m } else { 0 }));
+        assert_eq!((a.difference(&b).count(), a.difference(&a).count(), a.not_in(&a).count()), (left.set_len(), 0, 0));
         compare(&a, &model);
         compare(&b, &other);
         let mut full = a.clone();

@@ -1,5 +1,6 @@
 pub mod AsBox
 pub mod HandleSteps
+pub mod ListedLemmas
 pub mod PieceLemmas
 pub mod RawBoxWords
 pub mod ReadLemmas

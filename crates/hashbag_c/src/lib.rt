@@ -1,4 +1,4 @@
-//! `hashbag` for C: bags of numbers and of byte strings, each behind a handle of one word. `docs/BINDINGS.md` has how to build and call it;
+//! `hashbag` for C: bags of numbers and of byte strings, each behind a handle of one word. `docs/use/BINDINGS.md` has how to build and call it;
 //! `bindings/c/hashbag.h` is made from the functions that are exported here.
 //!
 //! No exported function requires anything of its values. A handle that has nothing, or a bag of the other kind, is reported by a number.
@@ -10,9 +10,12 @@ pub mod combine;
 pub mod handle;
 pub mod held;
 pub mod number_batches;
+pub mod number_joins;
+pub mod number_orders;
 pub mod numbers;
 pub mod raw_box;
 pub mod state;
 pub mod text_batches;
 pub mod text_joins;
+pub mod text_orders;
 pub mod texts;

@@ -1,6 +1,7 @@
 //! Joins of two bags of byte strings.
 ghost use Rattle.std.specs.Prelude.{◌≡◌, ◌≤◌, length, take, map, flat_map, None, Some};
 ghost use Rattle.hashbag_c.specs.Calls.{IfNumbers, IfTexts};
+ghost use Rattle.hashbag_c.specs.Differences.{with_none, HasReadTextDifference, HasReadTextNotIn, HasReadTextSignedDifference};
 ghost use Rattle.hashbag_c.specs.Reads.{ends_from, size_of, with_firsts, HasReadTextJoin};
 
 use crate::bytes::Bytes;
@@ -8,7 +9,7 @@ use crate::handle::Handle;
 use crate::held::Held;
 use crate::state::Keys;
 use crate::text_batches::put;
-use hashbag_core::OuterJoin;
+use hashbag_core::{Difference, NotIn, OuterJoin, SignedDifference};
 use std::alloc::Global;
 
 // Writes the first items of a join, as many as there are places for, and returns how many.
@@ -98,6 +99,268 @@ pub extern "C" fn hashbag_texts_outer_join(
         return 0;
     };
     let n = outer_join(&first, &second, bytes, ends, firsts, seconds);
+    a.put(first);
+    b.put(second);
+    n
+}
+
+// Writes the first strings of a difference, as many as there are places for, and returns how many.
+fn write_difference(
+    mut walk: Difference<'_, Bytes, Keys, Keys>,
+    bytes: &mut [u8],
+    ends: &mut [usize],
+    counts: &mut [usize],
+) -> usize
+    ensures few { result ≤ length walk.entry }
+    ensures bytes { take (size_of (take result walk.entry)) bytes.new ≡ flat_map (λ e. e.0) (take result walk.entry) }
+    ensures ends { take result ends.new ≡ ends_from 0 (take result walk.entry) }
+    ensures counts { take result counts.new ≡ map (λ e. e.1) (take result walk.entry) }
+    ensures all { length walk.entry ≤ length ends.old → length walk.entry ≤ length counts.old → size_of walk.entry ≤ length bytes.old → result ≡ length walk.entry }
+{
+    let most = ends.len().min(counts.len());
+    let mut from: usize = 0;
+    for i in 0..most {
+        match walk.next() {
+            Some((value, count)) => {
+                let value = value.as_slice();
+                if value.len() > bytes.len() - from {
+                    return i;
+                }
+                put(bytes, from, value);
+                from += value.len();
+                ends[i] = from;
+                counts[i] = count;
+            }
+            None => return i,
+        }
+    }
+    most
+}
+
+fn read_difference(
+    a: &Held,
+    b: &Held,
+    bytes: &mut [u8],
+    ends: &mut [usize],
+    counts: &mut [usize],
+) -> usize
+    ensures read { IfTexts (Some a.now) (λ x. IfTexts (Some b.now) (λ y. HasReadTextDifference x y result bytes.new ends.new counts.new)) }
+    ensures kind { IfNumbers (Some a.now) (λ _. result ≡ 0) }
+    ensures other_kind { IfNumbers (Some b.now) (λ _. result ≡ 0) }
+{
+    match a {
+        Held::Numbers(_) => 0,
+        Held::Texts(bag) => match b {
+            Held::Numbers(_) => 0,
+            Held::Texts(other) => write_difference(bag.difference(other), bytes, ends, counts),
+        },
+    }
+}
+
+/// Writes the byte strings that the first bag has more often than the second, each with how many more, as `hashbag_texts_read` does: as many
+/// as there are places for, in no particular order. Returns how many. With as many places as the first bag has distinct strings, and bytes in
+/// all, these are all. They must be two handles, not one twice. It returns 0 if one of them has no bag of byte strings. It doesn't allocate.
+#[unsafe(no_mangle)]
+pub extern "C" fn hashbag_texts_difference(
+    alloc: Global,
+    a: &mut Handle,
+    b: &mut Handle,
+    bytes: &mut [u8],
+    ends: &mut [usize],
+    counts: &mut [usize],
+) -> usize
+    ensures read { IfTexts a.old.held (λ x. IfTexts b.old.held (λ y. HasReadTextDifference x y result bytes.new ends.new counts.new)) }
+    ensures kind { IfNumbers a.old.held (λ _. result ≡ 0) }
+    ensures other_kind { IfNumbers b.old.held (λ _. result ≡ 0) }
+    ensures empty { a.old.held ≡ None → result ≡ 0 }
+    ensures other_empty { b.old.held ≡ None → result ≡ 0 }
+    ensures first { a.new.held ≡ a.old.held }
+    ensures second { b.new.held ≡ b.old.held }
+{
+    let Some(first) = a.take(alloc) else {
+        return 0;
+    };
+    let Some(second) = b.take(alloc) else {
+        a.put(first);
+        return 0;
+    };
+    let n = read_difference(&first, &second, bytes, ends, counts);
+    a.put(first);
+    b.put(second);
+    n
+}
+
+// Writes the first strings that another bag lacks, as many as there are places for, and returns how many.
+fn write_not_in(
+    mut walk: NotIn<'_, Bytes, Keys, Keys>,
+    bytes: &mut [u8],
+    ends: &mut [usize],
+    counts: &mut [usize],
+) -> usize
+    ensures few { result ≤ length walk.entry }
+    ensures bytes { take (size_of (take result walk.entry)) bytes.new ≡ flat_map (λ e. e.0) (take result walk.entry) }
+    ensures ends { take result ends.new ≡ ends_from 0 (take result walk.entry) }
+    ensures counts { take result counts.new ≡ map (λ e. e.1) (take result walk.entry) }
+    ensures all { length walk.entry ≤ length ends.old → length walk.entry ≤ length counts.old → size_of walk.entry ≤ length bytes.old → result ≡ length walk.entry }
+{
+    let most = ends.len().min(counts.len());
+    let mut from: usize = 0;
+    for i in 0..most {
+        match walk.next() {
+            Some((value, count)) => {
+                let value = value.as_slice();
+                if value.len() > bytes.len() - from {
+                    return i;
+                }
+                put(bytes, from, value);
+                from += value.len();
+                ends[i] = from;
+                counts[i] = count;
+            }
+            None => return i,
+        }
+    }
+    most
+}
+
+fn read_not_in(
+    a: &Held,
+    b: &Held,
+    bytes: &mut [u8],
+    ends: &mut [usize],
+    counts: &mut [usize],
+) -> usize
+    ensures read { IfTexts (Some a.now) (λ x. IfTexts (Some b.now) (λ y. HasReadTextNotIn x y result bytes.new ends.new counts.new)) }
+    ensures kind { IfNumbers (Some a.now) (λ _. result ≡ 0) }
+    ensures other_kind { IfNumbers (Some b.now) (λ _. result ≡ 0) }
+{
+    match a {
+        Held::Numbers(_) => 0,
+        Held::Texts(bag) => match b {
+            Held::Numbers(_) => 0,
+            Held::Texts(other) => write_not_in(bag.not_in(other), bytes, ends, counts),
+        },
+    }
+}
+
+/// Writes the byte strings of the first bag that the second lacks, each with its count, as `hashbag_texts_read` does: as many as there are
+/// places for, in no particular order. Returns how many. With as many places as the first bag has distinct strings, and bytes in all, these
+/// are all. They must be two handles, not one twice. It returns 0 if one of them has no bag of byte strings. It doesn't allocate.
+#[unsafe(no_mangle)]
+pub extern "C" fn hashbag_texts_not_in(
+    alloc: Global,
+    a: &mut Handle,
+    b: &mut Handle,
+    bytes: &mut [u8],
+    ends: &mut [usize],
+    counts: &mut [usize],
+) -> usize
+    ensures read { IfTexts a.old.held (λ x. IfTexts b.old.held (λ y. HasReadTextNotIn x y result bytes.new ends.new counts.new)) }
+    ensures kind { IfNumbers a.old.held (λ _. result ≡ 0) }
+    ensures other_kind { IfNumbers b.old.held (λ _. result ≡ 0) }
+    ensures empty { a.old.held ≡ None → result ≡ 0 }
+    ensures other_empty { b.old.held ≡ None → result ≡ 0 }
+    ensures first { a.new.held ≡ a.old.held }
+    ensures second { b.new.held ≡ b.old.held }
+{
+    let Some(first) = a.take(alloc) else {
+        return 0;
+    };
+    let Some(second) = b.take(alloc) else {
+        a.put(first);
+        return 0;
+    };
+    let n = read_not_in(&first, &second, bytes, ends, counts);
+    a.put(first);
+    b.put(second);
+    n
+}
+
+// Writes the first strings of two bags with the differences of their counts, as many as there are places for, and returns how many.
+fn write_signed_difference(
+    mut walk: SignedDifference<'_, Bytes, Keys, Keys>,
+    bytes: &mut [u8],
+    ends: &mut [usize],
+    differences: &mut [isize],
+) -> usize
+    ensures few { result ≤ length walk.entry }
+    ensures bytes { take (size_of (take result (with_none walk.entry))) bytes.new ≡ flat_map (λ e. e.0) (take result (with_none walk.entry)) }
+    ensures ends { take result ends.new ≡ ends_from 0 (take result (with_none walk.entry)) }
+    ensures differences { take result differences.new ≡ map (λ e. e.1) (take result walk.entry) }
+    ensures all { length walk.entry ≤ length ends.old → length walk.entry ≤ length differences.old → size_of (with_none walk.entry) ≤ length bytes.old → result ≡ length walk.entry }
+{
+    let most = ends.len().min(differences.len());
+    let mut from: usize = 0;
+    for i in 0..most {
+        match walk.next() {
+            Some((value, difference)) => {
+                let value = value.as_slice();
+                if value.len() > bytes.len() - from {
+                    return i;
+                }
+                put(bytes, from, value);
+                from += value.len();
+                ends[i] = from;
+                differences[i] = difference;
+            }
+            None => return i,
+        }
+    }
+    most
+}
+
+fn read_signed_difference(
+    a: &Held,
+    b: &Held,
+    bytes: &mut [u8],
+    ends: &mut [usize],
+    differences: &mut [isize],
+) -> usize
+    ensures read { IfTexts (Some a.now) (λ x. IfTexts (Some b.now) (λ y. HasReadTextSignedDifference x y result bytes.new ends.new differences.new)) }
+    ensures kind { IfNumbers (Some a.now) (λ _. result ≡ 0) }
+    ensures other_kind { IfNumbers (Some b.now) (λ _. result ≡ 0) }
+{
+    match a {
+        Held::Numbers(_) => 0,
+        Held::Texts(bag) => match b {
+            Held::Numbers(_) => 0,
+            Held::Texts(other) => {
+                let join = bag.signed_difference(other);
+                write_signed_difference(join, bytes, ends, differences)
+            }
+        },
+    }
+}
+
+/// Writes the byte strings of two bags, each once, as `hashbag_texts_read` does, with its count in the first less its count in the second:
+/// those of the first bag first. A difference above `PTRDIFF_MAX` or below `PTRDIFF_MIN` is written as that bound. It writes as many as there
+/// are places for, and returns how many. With as many places as both bags have distinct strings, and bytes in all, these are all. They must
+/// be two handles, not one twice. It returns 0 if one of them has no bag of byte strings. It doesn't allocate.
+#[unsafe(no_mangle)]
+pub extern "C" fn hashbag_texts_signed_difference(
+    alloc: Global,
+    a: &mut Handle,
+    b: &mut Handle,
+    bytes: &mut [u8],
+    ends: &mut [usize],
+    differences: &mut [isize],
+) -> usize
+    ensures read { IfTexts a.old.held (λ x. IfTexts b.old.held (λ y. HasReadTextSignedDifference x y result bytes.new ends.new differences.new)) }
+    ensures kind { IfNumbers a.old.held (λ _. result ≡ 0) }
+    ensures other_kind { IfNumbers b.old.held (λ _. result ≡ 0) }
+    ensures empty { a.old.held ≡ None → result ≡ 0 }
+    ensures other_empty { b.old.held ≡ None → result ≡ 0 }
+    ensures first { a.new.held ≡ a.old.held }
+    ensures second { b.new.held ≡ b.old.held }
+{
+    let Some(first) = a.take(alloc) else {
+        return 0;
+    };
+    let Some(second) = b.take(alloc) else {
+        a.put(first);
+        return 0;
+    };
+    let n = read_signed_difference(&first, &second, bytes, ends, differences);
     a.put(first);
     b.put(second);
     n

@@ -1,0 +1,16 @@
+use Rattle.std.proofs.Common.{◌≡◌, ◌≤◌, length, take, drop, map, flat_map}
+use Rattle.hashbag_c.specs.Differences.{with_none}
+use Rattle.hashbag_c.specs.Reads.{ends_from, size_of}
+use Rattle.hashbag_c.proofs.text_joins.write_signed_difference.Given as goal
+
+-- the first items of the join are written, and the others are left
+abbrev pub invariant-loop-i : goal.invariant-loop-i
+invariant-loop-i l = record {
+  few : l.i ≤ length l.fn.walk;
+  left : l.walk ≡ drop l.i l.fn.walk;
+  size : l.from ≡ size_of (take l.i (with_none l.fn.walk));
+  within : l.from ≤ length l.bytes;
+  bytes : take l.from l.bytes ≡ flat_map (λ e. e.0) (take l.i (with_none l.fn.walk));
+  ends : take l.i l.ends ≡ ends_from 0 (take l.i (with_none l.fn.walk));
+  differences : take l.i l.differences ≡ map (λ e. e.1) (take l.i l.fn.walk);
+}
