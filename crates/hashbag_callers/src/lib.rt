@@ -1,4 +1,4 @@
-//! Callers to copy, one file for each kind of use; docs/DEFINITIONS.md lists them. Each is proved from the contracts of the calls alone.
+//! Callers to copy, one file for each kind of use; docs/prove/DEFINITIONS.md lists them. Each is proved from the contracts of the calls alone.
 #![tactic(auto)]
 
 pub mod deliveries;

@@ -1,5 +1,5 @@
 //! Eight short programs to copy, one a module. Each works on a text or a list of its own, and writes its result under its name.
-//! `docs/COOKBOOK.md` shows them one by one.
+//! `docs/use/COOKBOOK.md` shows them one by one.
 #![tactic(auto)]
 
 mod anagrams;
