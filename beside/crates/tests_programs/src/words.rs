@@ -141,8 +141,9 @@ fn counts_of_text(rt: HostRuntime) -> Result<(), Fail> {
 
 // Adds a file, whose first byte is a block of its own.
 fn add_file<S: BuildHasher + Drop>(counter: &mut RowCounter<S>, file: &[u8]) -> Result<(), Fault> {
-    counter.feed(&file[..1])?;
-    counter.feed(&file[1..])?;
+    let (first, rest) = file.split_at(file.len().min(1));
+    counter.feed(first)?;
+    counter.feed(rest)?;
     counter.end_file()?;
     Ok(())
 }
@@ -220,7 +221,9 @@ fn shards_of_texts(rt: HostRuntime) {
 
 // A text, whether bytes that aren't UTF-8 are replaced, what a bad line does, and the counts of its lines by `printf` and `sort | uniq -c`; or
 // the number of the line that is bad. Then how many lines there are, how many are skipped, and in how many bytes are replaced.
-const TEXTS: [(&[u8], &str, &str, [u64; 3]); 12] = [
+type Text = (&'static [u8], &'static str, &'static str, [u64; 3]);
+
+const TEXTS: [Text; 12] = [
     (b"", "refused", "", [0, 0, 0]),
     (b"\n", "refused", "\t1\n", [1, 0, 0]),
     (b"\r\n\r", "refused", "\t1\n\\r\t1\n", [2, 0, 0]),
@@ -286,10 +289,19 @@ fn fed(alloc: Global, how: &str, blocks: &[&[u8]]) -> Result<(String, [u64; 3]),
     }
 }
 
+// The bytes of a text between two places.
+fn part(text: &[u8], from: usize, end: usize) -> &[u8] {
+    text.get(from..end).unwrap_or(&[])
+}
+
 // Checks what is counted of a text in three blocks.
-fn is_fed(alloc: Global, text: &[u8], i: usize, j: usize, row: usize) -> Result<(), Fail> {
-    let (_, how, wanted, counts) = TEXTS[row];
-    let blocks = [&text[..i], &text[i..j], &text[j..]];
+fn is_fed(alloc: Global, row: Text, i: usize, j: usize) -> Result<(), Fail> {
+    let (text, how, wanted, counts) = row;
+    let blocks = [
+        part(text, 0, i),
+        part(text, i, j),
+        part(text, j, text.len()),
+    ];
     let (found, read) = fed(alloc, how, blocks.as_slice())?;
     is_text(&found, &wanted)?;
     if read == counts {
@@ -301,11 +313,10 @@ fn is_fed(alloc: Global, text: &[u8], i: usize, j: usize, row: usize) -> Result<
 // Wherever a text is cut, each line of it is counted once.
 #[test]
 fn blocks(rt: HostRuntime) -> Result<(), Fail> {
-    for row in 0..TEXTS.len() {
-        let (text, _, _, _) = TEXTS[row];
-        for j in 0..text.len() + 1 {
-            for i in 0..j + 1 {
-                is_fed(rt.alloc(), text, i, j, row)?;
+    for row in &TEXTS {
+        for j in 0..=row.0.len() {
+            for i in 0..=j {
+                is_fed(rt.alloc(), *row, i, j)?;
             }
         }
     }
