@@ -1,5 +1,5 @@
 //! Measures the least that memory allows: what is read and written if each value's slot is known, and nothing is hashed, probed, compared or
-//! carried. There are as many slots as a bag has, each of a tag and 16 bytes. The lines are those of the program `timing`. No sum is printed.
+//! carried. There are as many slots as a bag has, each of a tag and 16 bytes. The lines are those of the program `bench_times`. No sum is printed.
 mod kit;
 
 use kit::{WORDS, each_line, mixed, now, word};

@@ -1,7 +1,7 @@
 //! Measures Rust's own map of numbers to counts, or the Rust crate `hashbag` (`--cfg bag`), under the hash by which a bag hashes where no
 //! other is given.
 //!
-//! It does step by step what the program `timing` does with a bag, reads the same lines, and prints in the same form.
+//! It does step by step what the program `bench_times` does with a bag, reads the same lines, and prints in the same form.
 #[cfg(bag)]
 #[path = "of_bag.rs"]
 mod counts;

@@ -1,4 +1,4 @@
-/* hashbag: counted hash multisets of numbers and of byte strings. Made by `bash tests/header --write` from crates/hashbag_c.
+/* hashbag: counted hash multisets of numbers and of byte strings. Made by `bash tests/pages/header.sh --write` from crates/hashbag_c.
  *
  * A handle is one word. It starts as HASHBAG_NONE, which is empty: it has no bag. `hashbag_numbers_new` and `hashbag_texts_new` put a bag into
  * it, and `hashbag_free` leaves it empty again. A call on an empty handle, or on one that has a bag of the other kind, changes nothing, and

@@ -1,4 +1,4 @@
-"""The functions of the library, as `hashbag.h` declares them. `bash tests/header` compares their names and numbers of arguments."""
+"""The functions of the library, as `hashbag.h` declares them. `bash tests/pages/header.sh` compares their names and numbers of arguments."""
 
 import ctypes
 import os

@@ -1,4 +1,5 @@
-//! Calls on a bag of either kind.
+//! Calls on a bag of either kind. In clauses `held` is the bag of a handle. `IfNumbers` says what holds if it is one of numbers, and
+//! `HasNumbers` also that it is; so `IfTexts` and `HasTexts` of byte strings.
 ghost use Rattle.std.specs.Prelude.{◌≡◌, ◌≢◌, ◌+◌, ◌<◌, ◌≤◌, ◌↔◌, ◌⊎◌, false, [], length, nat_eq, None, Some, IfOk, IsTrue};
 ghost use Rattle.std.specs.Str.{bytes_eq};
 ghost use Rattle.hashbag_table.specs.Tables.{room};

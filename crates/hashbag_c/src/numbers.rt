@@ -1,4 +1,5 @@
-//! Calls on a bag of numbers.
+//! Calls on a bag of numbers. In clauses `held` is the bag of a handle. `IfNumbers` says what holds if it is one of numbers, and
+//! `HasNumbers` also that it is.
 ghost use Rattle.std.specs.Prelude.{◌≡◌, ◌≢◌, ◌+◌, ◌-◌, ◌<◌, ◌≤◌, ◌↔◌, ◌⊎◌, [], length, nat_eq, None, Some};
 ghost use Rattle.hashbag_table.specs.Tables.{room};
 ghost use Rattle.hashbag_core.specs.Bag.{IsBagOf};

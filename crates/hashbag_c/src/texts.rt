@@ -1,4 +1,5 @@
-//! Calls on a bag of byte strings.
+//! Calls on a bag of byte strings. In clauses `held` is the bag of a handle. `IfTexts` says what holds if it is one of byte strings, and
+//! `HasTexts` also that it is.
 ghost use Rattle.std.specs.Prelude.{◌≡◌, ◌≢◌, ◌+◌, ◌-◌, ◌<◌, ◌≤◌, ◌↔◌, ◌⊎◌, [], length, None, Some, IsOk, IfErr, OnOk, OnErr};
 ghost use Rattle.std.specs.Str.{bytes_eq};
 ghost use Rattle.hashbag_core.specs.Held.{HasFewer};
@@ -229,7 +230,7 @@ fn recount(
     ensures none { n ≡ 0 → IsOk result }
     ensures err { OnErr result (bag.new ≡ bag.old) }
 {
-    // `limit` is called for its clause that the total is within it, which the proof names.
+    // `limit` is called for its clause `within`.
     let _limit = bag.limit();
     if n <= before {
         bag.remove_up_to(Name { bytes: value }, before - n);

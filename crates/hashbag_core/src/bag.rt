@@ -1,4 +1,7 @@
 //! `HashBag`: how often each of several values occurs.
+//!
+//! In clauses `self.old` is the bag before a call, `self.new` the bag after it, and `self.now` one that is only read. `OnOk` and `OnErr`
+//! say what holds on success and on failure; in `IfOk` and `IfErr` it is said of the returned value or error. `×` is "and", `⊎` is "or".
 ghost use Rattle.std.specs.Prelude.{◌≡◌, ◌+◌, ◌-◌, ◌<◌, ◌≤◌, ◌↔◌, [], length, IsTrue, IsOk, IfOk, IfErr, OnOk, OnErr};
 ghost use Rattle.hashbag_table.specs.Tables.{room, KeepsRoom};
 ghost use Rattle.hashbag_core.specs.Bag.{limited, Lends, IsBagOf};
@@ -169,6 +172,8 @@ impl<T: Eq + Hash + Drop, S: BuildHasher + Drop> HashBag<T, S> {
     /// ```
     pub fn len(&self) -> usize
         ensures len { result ≡ length self.now.items }
+
+        // Equal occurrences are one instance, and the total is within the limit.
         ensures bag { IsBag T.eq self.now.most self.now.items }
     {
         self.len
@@ -246,6 +251,8 @@ impl<T: Eq + Hash + Drop, S: BuildHasher + Drop> HashBag<T, S> {
     #[inline(always)]
     pub fn contains<Q: Key<T>>(&self, key: Q) -> usize
         ensures count { result ≡ count_named (Q.names key) self.now.items }
+
+        // Equal occurrences are one instance, and the total is within the limit.
         ensures bag { IsBag T.eq self.now.most self.now.items }
     {
         match self.table.get(key) {
@@ -272,6 +279,8 @@ impl<T: Eq + Hash + Drop, S: BuildHasher + Drop> HashBag<T, S> {
     #[inline(always)]
     pub fn get<Q: Key<T>>(&self, key: Q) -> Option<(&T, usize)>
         ensures found { Lends result (stored_named (Q.names key) self.now.items) }
+
+        // Equal occurrences are one instance, and the total is within the limit.
         ensures bag { IsBag T.eq self.now.most self.now.items }
     {
         self.table.get(key)
@@ -302,12 +311,16 @@ impl<T: Eq + Hash + Drop, S: BuildHasher + Drop> HashBag<T, S> {
     #[inline(always)]
     pub fn insert(&mut self, value: T) -> Result<usize, BagError>
         ensures before { IfOk result (λ before. before ≡ count T.eq value self.old.items) }
+
+        // The value has one occurrence more, other values as many as before. `Inserts` also says which slots changed.
         ensures inserted { OnOk result (Inserts T.eq value 1 self.old self.new) }
 
-        // The total is tested first. Then only an allocation can fail, and only if the value is absent and there is no room.
+        // When it fails, as under `# Errors`.
         ensures too_many { (result ≡ Err BagError.TooMany) ↔ (self.old.most < length self.old.items + 1) }
         ensures refused { IfErr result (IsRefused T.eq self.old value 1) }
         ensures err { OnErr result (self.new ≡ self.old) }
+
+        // If the total fits, it succeeds if there is room or the value is present.
         ensures takes { length self.old.items + 1 ≤ self.old.most → 0 < room self.old.tables → IsOk result }
         ensures present { length self.old.items + 1 ≤ self.old.most → 0 < count T.eq value self.old.items → IsOk result }
     {
@@ -343,12 +356,16 @@ impl<T: Eq + Hash + Drop, S: BuildHasher + Drop> HashBag<T, S> {
     #[inline(always)]
     pub fn insert_many(&mut self, value: T, n: usize) -> Result<usize, BagError>
         ensures before { IfOk result (λ before. before ≡ count T.eq value self.old.items) }
+
+        // The value has `n` occurrences more, other values as many as before. `Inserts` also says which slots changed.
         ensures inserted { OnOk result (Inserts T.eq value n self.old self.new) }
 
-        // The total is tested first. Then only an allocation can fail, and only if n isn't 0, the value is absent and there is no room.
+        // When it fails, as under `# Errors`.
         ensures too_many { (result ≡ Err BagError.TooMany) ↔ (self.old.most < length self.old.items + n) }
         ensures refused { IfErr result (IsRefused T.eq self.old value n) }
         ensures err { OnErr result (self.new ≡ self.old) }
+
+        // If the total fits, it succeeds if there is room or the value is present, or `n` is 0.
         ensures takes { length self.old.items + n ≤ self.old.most → 0 < room self.old.tables → IsOk result }
         ensures present { length self.old.items + n ≤ self.old.most → 0 < count T.eq value self.old.items → IsOk result }
         ensures none { n ≡ 0 → IsOk result }
@@ -392,13 +409,17 @@ impl<T: Eq + Hash + Drop, S: BuildHasher + Drop> HashBag<T, S> {
     /// ```
     pub fn replace(&mut self, value: T) -> Result<usize, BagError>
         ensures before { IfOk result (λ before. before ≡ count T.eq value self.old.items) }
+
+        // The given instance is the value's only occurrence; other values have as many as before. `Replaces` also says which slots changed.
         ensures replaced { OnOk result (Replaces T.eq value self.old self.new) }
 
-        // The total is tested first. Then only an allocation can fail, and only if the value is absent and there is no room.
+        // When it fails, as under `# Errors`.
         ensures too_many { (result ≡ Err BagError.TooMany) ↔ (self.old.most < length self.old.items - count T.eq value self.old.items + 1) }
         ensures refused { IfErr result (IsRefused T.eq self.old value 1) }
         ensures absent { OnErr result (count T.eq value self.old.items ≡ 0) }
         ensures err { OnErr result (self.new ≡ self.old) }
+
+        // If the new total fits, it succeeds if there is room.
         ensures takes { length self.old.items - count T.eq value self.old.items + 1 ≤ self.old.most → 0 < room self.old.tables → IsOk result }
     {
         if self.len == self.most && self.contains(&value) == 0 {
@@ -437,15 +458,19 @@ impl<T: Eq + Hash + Drop, S: BuildHasher + Drop> HashBag<T, S> {
     pub fn set_count(&mut self, value: T, n: usize) -> Result<usize, BagError>
         ensures before { IfOk result (λ before. before ≡ count T.eq value self.old.items) }
         ensures set { OnOk result (IsBagOf T.eq self.old (recount T.eq value n self.old.items) self.new) }
+
+        // An absent value was inserted `n` times. Of a present one only the slot changed, and room isn't lower.
         ensures inserted { OnOk result (count T.eq value self.old.items ≡ 0 → Inserts T.eq value n self.old self.new) }
         ensures slot { OnOk result (0 < count T.eq value self.old.items → Recounts T.eq value n self.old.tables self.new.tables) }
         ensures room { OnOk result (0 < count T.eq value self.old.items → KeepsRoom 0 self.old.tables self.new.tables) }
         ensures len { OnOk result (length self.new.items + count T.eq value self.old.items ≡ length self.old.items + n) }
 
-        // The total is tested first. Then only an allocation can fail, and only if n isn't 0, the value is absent and there is no room.
+        // When it fails, as under `# Errors`.
         ensures too_many { (result ≡ Err BagError.TooMany) ↔ (self.old.most < length self.old.items - count T.eq value self.old.items + n) }
         ensures refused { IfErr result (IsRefused T.eq self.old value n) }
         ensures err { OnErr result (self.new ≡ self.old) }
+
+        // If the new total fits, it succeeds if there is room or the value is present, or `n` is 0.
         ensures takes { length self.old.items - count T.eq value self.old.items + n ≤ self.old.most → 0 < room self.old.tables → IsOk result }
         ensures present { length self.old.items - count T.eq value self.old.items + n ≤ self.old.most → 0 < count T.eq value self.old.items → IsOk result }
         ensures none { n ≡ 0 → IsOk result }
@@ -479,6 +504,8 @@ impl<T: Eq + Hash + Drop, S: BuildHasher + Drop> HashBag<T, S> {
         ensures inserted { OnOk result (Inserts T.eq value quantity self.old self.new) }
         ensures memory { IfErr result (λ e. e ≡ BagError.Memory) }
         ensures err { OnErr result (self.new ≡ self.old) }
+
+        // It succeeds if there is room.
         ensures takes { 0 < room self.old.tables → IsOk result }
     {
         self.table.insert_new(value, quantity)?;

@@ -1,4 +1,4 @@
-//! `Entry`: the place of a value in a bag.
+//! `Entry`: the place of a value in a bag. In clauses `self.entry` is the entry at the call, and `self.exit.0` the bag that it leaves.
 ghost use Rattle.std.specs.Prelude.{◌≡◌, ◌+◌, ◌<◌, ◌≤◌, ◌↔◌, ℕ, length, IsOk, IfOk, IfErr, OnErr};
 ghost use Rattle.hashbag_table.specs.Tables.{room, KeepsRoom};
 ghost use Rattle.hashbag_core.specs.Held.{RecountsAs};
@@ -40,6 +40,7 @@ impl<T: Eq + Hash + Drop, S: BuildHasher + Drop> HashBag<T, S> {
     /// Ok(())
     /// ```
     pub fn entry(&mut self, value: T) -> Entry<'_, T, S>
+        // The entry has the loan of this bag, which is unchanged, and the given value.
         ensures same_bag { result.bag.ghost_name ≡ self.entry.ghost_name }
         ensures unchanged { result.bag.now ≡ self.old }
         ensures value { result.value ≡ value }
@@ -99,15 +100,25 @@ impl<'a, T: Eq + Hash + Drop, S: BuildHasher + Drop> Entry<'a, T, S> {
     /// Ok(())
     /// ```
     pub fn and_modify<F: FnOnce(&mut usize) + Drop>(self, f: F) -> Result<Entry<'a, T, S>, BagError>
-        // Nine clauses, since the entry that comes back is a loan: three say which one it is, and what the bag is if there is none.
+        // `f` can be called on the count of an occupied entry.
         requires { (p : MutBor ℕ) → p.now ≡ count T.eq self.value self.bag.now.items → 0 < p.now → F.pre f p }
+
+        // The returned entry has the same loan and the same value.
         ensures same_bag { IfOk result (λ e. e.bag.ghost_name ≡ self.entry.bag.ghost_name) }
         ensures same_value { IfOk result (λ e. e.value ≡ self.entry.value) }
+
+        // A vacant entry is unchanged. Of an occupied one `f` left the new count; or it left one that passes the limit, and the call failed.
         ensures changes { IfOk result (λ e. ChangesCount T.eq F.FnOnce f self.entry.value self.entry.bag.now e.bag.now) }
         ensures passes { IfErr result (λ e. (e ≡ BagError.TooMany) × PassesEnd T.eq F.FnOnce f self.entry.value self.entry.bag.now) }
+
+        // The other values have as many occurrences together as before.
         ensures len { IfOk result (λ e. KeepsOthers T.eq self.entry.value self.entry.bag.now e.bag.now) }
+
+        // The slot of an occupied entry alone changed, no table was built, and room isn't lower.
         ensures slot { IfOk result (λ e. IsOccupied T.eq self.entry → RecountsAs T.eq self.entry.value self.entry.bag.now e.bag.now) }
         ensures room { IfOk result (λ e. KeepsRoom 0 self.entry.bag.now.tables e.bag.now.tables) }
+
+        // If it failed, the bag is unchanged once the loan is over.
         ensures* stays { sem 𝓛 (rests_if_refused T.row S.row S.Hasher.row T.Hash S.BuildHasher S.Hasher.Hasher self.entry.bag result) }
     {
         let Entry { bag, value } = self;
@@ -146,9 +157,13 @@ impl<'a, T: Eq + Hash + Drop, S: BuildHasher + Drop> Entry<'a, T, S> {
     pub fn or_insert(self) -> Result<usize, BagError>
         ensures occupied { IsOccupied T.eq self.entry → (result ≡ Ok (entry_count T.eq self.entry)) × (self.exit.0.now ≡ self.entry.bag.now) }
         ensures vacant { IsVacant T.eq self.entry → IfOk result (λ after. (after ≡ 1) × Inserts T.eq self.entry.value 1 self.entry.bag.now self.exit.0.now) }
+
+        // When it fails, as under `# Errors`.
         ensures too_many { (result ≡ Err BagError.TooMany) ↔ (IsVacant T.eq self.entry × (self.entry.bag.now.most < length self.entry.bag.now.items + 1)) }
         ensures refused { IfErr result (IsRefused T.eq self.entry.bag.now self.entry.value 1) }
         ensures err { OnErr result (self.exit.0.now ≡ self.entry.bag.now) }
+
+        // If the total fits with one more, it succeeds if there is room.
         ensures takes { length self.entry.bag.now.items + 1 ≤ self.entry.bag.now.most → 0 < room self.entry.bag.now.tables → IsOk result }
     {
         self.or_insert_many(1)
@@ -182,9 +197,13 @@ impl<'a, T: Eq + Hash + Drop, S: BuildHasher + Drop> Entry<'a, T, S> {
         ensures occupied { IsOccupied T.eq self.entry → (result ≡ Ok (entry_count T.eq self.entry)) × (self.exit.0.now ≡ self.entry.bag.now) }
         ensures vacant { IsVacant T.eq self.entry → IfOk result (λ after. (after ≡ quantity) × Inserts T.eq self.entry.value quantity self.entry.bag.now self.exit.0.now) }
         ensures none { quantity ≡ 0 → IsOk result × (self.exit.0.now ≡ self.entry.bag.now) }
+
+        // When it fails, as under `# Errors`.
         ensures too_many { (result ≡ Err BagError.TooMany) ↔ (IsVacant T.eq self.entry × (self.entry.bag.now.most < length self.entry.bag.now.items + quantity)) }
         ensures refused { IfErr result (IsRefused T.eq self.entry.bag.now self.entry.value quantity) }
         ensures err { OnErr result (self.exit.0.now ≡ self.entry.bag.now) }
+
+        // If the total fits with `quantity` more, it succeeds if there is room.
         ensures takes { length self.entry.bag.now.items + quantity ≤ self.entry.bag.now.most → 0 < room self.entry.bag.now.tables → IsOk result }
     {
         let Entry { bag, value } = self;

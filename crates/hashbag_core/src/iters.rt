@@ -1,7 +1,6 @@
 //! Walks over a bag: what it holds, one after another.
 //!
-//! A walk gives the values in no particular order. It knows how many items are left, and after the last one it gives `None` for good. It
-//! hashes nothing and doesn't allocate.
+//! A walk gives the values in no particular order. It knows how many items are left, and after the last one it gives `None` for good.
 ghost use Rattle.std.specs.Prelude.{◌≡◌, length, Some, IfSome, ⊤};
 ghost use Rattle.std.specs.Borrow.{sem};
 ghost use Rattle.std.specs.Iterator.{YieldsFirst, YieldsFirstBy, YieldsFirstRef, item_count, at_most, UpTo};
@@ -17,8 +16,7 @@ use std::hash::{BuildHasher, Hash};
 use std::iter::ExactSizeIterator;
 use std::marker::Model;
 
-/// The occurrences of a bag that is lent: [`HashBag::iter`]. A value is given once for each of its occurrences, as the stored instance,
-/// before the next value is.
+/// The occurrences of a bag that is lent: [`HashBag::iter`].
 ///
 /// Contracts see it as the list of the occurrences that are left.
 #[derive(Drop)]
@@ -186,8 +184,7 @@ impl<'a, T: Debug> Debug for SetIter<'a, T> {
     }
 }
 
-/// The distinct values that were removed from a bag, by value, each with its count: [`HashBag::drain`]. The bag is empty from the start,
-/// and values that aren't read are dropped with the walk.
+/// The distinct values that were removed from a bag, by value, each with its count: [`HashBag::drain`].
 ///
 /// Contracts see the list of the values that are left, with their counts, as `drain_rest`.
 pub struct Drain<'a, T> {
@@ -412,7 +409,10 @@ impl<T: Eq + Hash + Drop, S: BuildHasher + Drop> HashBag<T, S> {
     /// Ok(())
     /// ```
     pub fn drain(&mut self) -> Drain<'_, T>
+        // Once the loan is over, the bag has no occurrences and no slots, and the same state and limit.
         ensures* writes_back { sem 𝓛 (follows_drain T.row S.row S.Hasher.row T.Hash S.BuildHasher S.Hasher.Hasher self.entry (drain_name result)) }
+
+        // The walk gives each value that was in the bag once, with its count.
         ensures set_walk { IsSetWalkOf T.eq self.old (drain_rest result) }
     {
         self.len = 0;

@@ -1,8 +1,8 @@
 //! Joins of two bags of the same type of values: what each value's counts in the two are, and how they differ.
 //!
 //! The states that hash the values of the two bags may be of different types: a join looks a value up in a bag under that bag's own state.
-//! A join gives the values in no particular order, but an outer join gives those of the first bag first. It hashes each value once, to look
-//! it up in the other bag, and doesn't allocate. After its end it gives `None` for good.
+//! A join gives the values in no particular order, but an outer join gives those of the first bag first. After its end it gives `None` for
+//! good.
 ghost use Rattle.std.specs.Prelude.{◌≡◌, List, pos, ◌-ℤ◌, length, IfSome};
 ghost use Rattle.std.specs.Iterator.{YieldsFirstBy, item_count, at_most, UpTo};
 ghost use Rattle.std.specs.Iterator.SizeHint.{IsWithinCount};
@@ -265,6 +265,7 @@ impl<T: Eq + Hash + Drop, S: BuildHasher + Drop> HashBag<T, S> {
         &'a self,
         other: &'a HashBag<T, S2>,
     ) -> OuterJoin<'a, T, S, S2>
+        // X and Y are the occurrences of both bags, each in any order.
         ensures { (X Y : List T) → Means self.now X → Means other.now Y → IsOuterJoin T.eq X Y result }
     {
         OuterJoin {
@@ -296,6 +297,7 @@ impl<T: Eq + Hash + Drop, S: BuildHasher + Drop> HashBag<T, S> {
         &'a self,
         other: &'a HashBag<T, S2>,
     ) -> Difference<'a, T, S, S2>
+        // X and Y are the occurrences of both bags, each in any order.
         ensures { (X Y : List T) → Means self.now X → Means other.now Y → IsDifference T.eq X Y result }
     {
         Difference {
@@ -326,6 +328,7 @@ impl<T: Eq + Hash + Drop, S: BuildHasher + Drop> HashBag<T, S> {
         &'a self,
         other: &'a HashBag<T, S2>,
     ) -> SignedDifference<'a, T, S, S2>
+        // X and Y are the occurrences of both bags, each in any order.
         ensures { (X Y : List T) → Means self.now X → Means other.now Y → IsSignedDifference T.eq X Y result }
     {
         SignedDifference {
@@ -355,6 +358,7 @@ impl<T: Eq + Hash + Drop, S: BuildHasher + Drop> HashBag<T, S> {
         &'a self,
         other: &'a HashBag<T, S2>,
     ) -> NotIn<'a, T, S, S2>
+        // X and Y are the occurrences of both bags, each in any order.
         ensures { (X Y : List T) → Means self.now X → Means other.now Y → IsNotIn T.eq X Y result }
     {
         NotIn {

@@ -146,6 +146,7 @@ pub trait JsonItem: Eq + Sized {
     /// Ok(())
     /// ```
     fn to_json(&self, alloc: Global) -> Result<Value, BagError>
+        // The value is an item.
         ensures item { is_item self.now }
         ensures tree { IfOk result (λ v. view v ≡ tree_of self.now) }
         ensures memory { IfErr result (λ e. e ≡ BagError.Memory) };
@@ -165,6 +166,7 @@ pub trait JsonItem: Eq + Sized {
     /// Ok(())
     /// ```
     fn from_json(alloc: Global, v: &Value) -> Result<Self, ItemError>
+        // The result is an item, as which the tree is read.
         ensures item { IfOk result (λ x. is_item x × reads (view v.now) x) }
         ensures not_an_item { (result ≡ Err ItemError.NotAnItem) ↔ (has_item (view v.now) ≡ false) };
 
@@ -282,6 +284,8 @@ impl<T: JsonItem + Hash + Drop, S: BuildHasher + Drop> HashBag<T, S> {
         ensures limit { IfOk result (λ bag. bag.most ≡ most) }
         ensures bag { IfOk result (λ bag. IsBag T.eq bag.most bag.items) }
         ensures hasher { IfOk result (λ bag. bag.hasher ≡ state) }
+
+        // An error is the first fault. `Memory` comes only at a pair with a count and an item, with no fault before it.
         ensures fault { IfErr result (λ e. e ≢ JsonError.Memory → first_fault most T.has_item 0 0 (map view list.now.items) ≡ Some e) }
         ensures may_end { IfErr result (λ e. e ≡ JsonError.Memory → MayEndAmong most T.has_item (map view list.now.items)) }
     {
@@ -324,11 +328,16 @@ impl<T: JsonItem + Hash + Drop, S: BuildHasher + Drop> HashBag<T, S> {
         most: usize,
         tree: &Value,
     ) -> Result<HashBag<T, S>, JsonError>
+        // On success the tree has no fault, and its pairs, inserted in turn into an empty bag, made this bag.
         ensures no_fault { OnOk result (fault most T.has_item (view tree.now) ≡ None) }
         ensures read { IfOk result (λ bag. (pairs : List (T × ℕ)) × IsReading T.reads (view tree.now) pairs × IsMadeOf T.eq pairs bag) }
+
+        // The limit is the lesser one. The total is within it, and equal occurrences are one instance.
         ensures limit { IfOk result (λ bag. bag.most ≡ min most (limit_of (view tree.now))) }
         ensures bag { IfOk result (λ bag. IsBag T.eq bag.most bag.items) }
         ensures hasher { IfOk result (λ bag. bag.hasher ≡ state) }
+
+        // An error is the first fault. `Memory` comes only at a pair with a count and an item, with no fault before it.
         ensures fault { IfErr result (λ e. e ≢ JsonError.Memory → fault most T.has_item (view tree.now) ≡ Some e) }
         ensures may_end { IfErr result (λ e. e ≡ JsonError.Memory → MayEnd most T.has_item (view tree.now)) }
     {
@@ -359,6 +368,7 @@ impl<T: JsonItem + Hash + Drop, S: BuildHasher + Drop> HashBag<T, S> {
     ) -> Result<HashBag<T, S>, JsonError>
     where
         S: Default,
+        // As of [`HashBag::from_value_with_hasher`], but the state is the default.
         ensures no_fault { OnOk result (fault most T.has_item (view tree.now) ≡ None) }
         ensures read { IfOk result (λ bag. (pairs : List (T × ℕ)) × IsReading T.reads (view tree.now) pairs × IsMadeOf T.eq pairs bag) }
         ensures limit { IfOk result (λ bag. bag.most ≡ min most (limit_of (view tree.now))) }
@@ -388,6 +398,7 @@ impl<T: JsonItem + Hash + Drop, S: BuildHasher + Drop> HashBag<T, S> {
     pub fn from_value(alloc: Global, tree: &Value) -> Result<HashBag<T, S>, JsonError>
     where
         S: Default,
+        // As of [`HashBag::from_value_with_hasher`], but the state is the default, and the limit that of the tree.
         ensures no_fault { OnOk result (fault greatest_total T.has_item (view tree.now) ≡ None) }
         ensures read { IfOk result (λ bag. (pairs : List (T × ℕ)) × IsReading T.reads (view tree.now) pairs × IsMadeOf T.eq pairs bag) }
         ensures limit { IfOk result (λ bag. bag.most ≡ limit_of (view tree.now)) }

@@ -1,9 +1,9 @@
 //! The inputs: the stock at the beginning, and the movements, which are entered as they are read.
+use hashbag_csv::counts::read_counts_as;
+use hashbag_csv::fault::in_file;
 use hashbag_ledger_args::arguments::Request;
 use hashbag_ledger_lib::ledger::Ledger;
 use hashbag_ledger_lib::reading::enter_movements;
-use hashbag_lists::counts::read_counts_as;
-use hashbag_lists::fault::in_file;
 use hashbag_shell::input::read_file;
 use hashbag_shell::trouble::Trouble;
 use std::hash::BuildHasher;

@@ -2,8 +2,8 @@
 use crate::columns::{columns_of, start_columns_of};
 use crate::command::{COLUMNS, START_COLUMNS, command};
 use clap::ArgMatches;
+use hashbag_csv::counts::Reading;
 use hashbag_ledger_lib::reading::Columns;
-use hashbag_lists::counts::Reading;
 use hashbag_shell::options::word;
 use hashbag_shell::program::given_to;
 use hashbag_shell::trouble::Trouble;

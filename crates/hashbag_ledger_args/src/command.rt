@@ -71,7 +71,7 @@ fn with_outputs<'a>(alloc: Global, command: Made<'a>) -> Made<'a> {
 ///
 /// # Errors
 ///
-/// An error if an allocation fails.
+/// An allocation fails.
 pub fn command<'a>(alloc: Global) -> Made<'a> {
     let command = Command::new(alloc, PROGRAM)
         .version(VERSION)

@@ -2,11 +2,11 @@
 use crate::columns::{columns_of, start_columns_of};
 use crate::command::{COLUMNS, START_COLUMNS};
 use clap::ArgMatches;
+use hashbag_csv::counts::Reading;
+use hashbag_csv::delimiter::Delimiter;
+use hashbag_csv::scale::{Mark, Scale};
 use hashbag_ledger_lib::numbers::MOST;
 use hashbag_ledger_lib::reading::Columns;
-use hashbag_lists::counts::Reading;
-use hashbag_lists::delimiter::Delimiter;
-use hashbag_lists::scale::{Mark, Scale};
 use hashbag_shell::options::word;
 use hashbag_shell::trouble::Trouble;
 use std::alloc::{AllocError, Global};

@@ -1,8 +1,14 @@
 //! Files that are entered into a stock, in an open database.
+ghost use Rattle.std.specs.Prelude.{◌≡◌, None, IfOk};
+ghost use Rattle.hashbag_ledger_db.specs.Filed.{AreMovementsOf, IsFiledOf};
+
 use crate::failure::Failure;
 use crate::movements::{Input, is_once, movements_of};
 use crate::putting::{in_database, put};
 use crate::said::{entered_text, movements_in};
+use hashbag_csv::counts::Reading;
+use hashbag_csv::decimals::write_decimal;
+use hashbag_csv::fault::{Fault, SheetError, in_file};
 use hashbag_ledger_args::job::Job;
 use hashbag_ledger_lib::entering::LedgerError;
 use hashbag_ledger_lib::filing::{Filed, enter_files, refusals_of};
@@ -12,9 +18,6 @@ use hashbag_ledger_lib::numbers::MOST;
 use hashbag_ledger_lib::once::{Batch, Kind, entered_before, next_number};
 use hashbag_ledger_lib::output::{balance_text, refusals_table, refusals_text};
 use hashbag_ledger_lib::sealing::{Draft, digest_of, sealed_rows};
-use hashbag_lists::counts::Reading;
-use hashbag_lists::decimals::write_decimal;
-use hashbag_lists::fault::{Fault, SheetError, in_file};
 use hashbag_shell::status::{DENIED, DONE};
 use hashbag_shell::trouble::Trouble;
 use hashbag_stock::error::StockError;
@@ -82,7 +85,9 @@ fn all_movements<'a>(
     request: &Job<'a>,
     inputs: &[Input<'a>],
     reading: Reading,
-) -> Result<(Vec<Vec<Movement<String>>>, Option<Failure<'a>>), Failure<'a>> {
+) -> Result<(Vec<Vec<Movement<String>>>, Option<Failure<'a>>), Failure<'a>>
+    ensures { IfOk result (λ all. all.1 ≡ None → AreMovementsOf request.now reading inputs.now all.0.items) }
+{
     let mut files = Vec::new(alloc);
     for i in 0..inputs.len() {
         match movements_of(alloc, request, &inputs[i], i, reading) {
@@ -122,7 +127,9 @@ fn filed_of<'a, S: BuildHasher + Drop>(
     inputs: &[Input<'a>],
     reading: Reading,
     kept: &[(String, usize)],
-) -> Result<Filed, Failure<'a>> {
+) -> Result<Filed, Failure<'a>>
+    ensures { IfOk result (λ filed. IsFiledOf request.now reading inputs.now kept.now filed) }
+{
     let (files, bad) = all_movements(alloc, request, inputs, reading)?;
     let filed = match enter_files(alloc, state, kept, files) {
         Ok(filed) => filed,

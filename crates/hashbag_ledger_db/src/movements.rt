@@ -1,11 +1,15 @@
 //! The movements of the inputs.
+ghost use Rattle.std.specs.Prelude.{◌≡◌, map, IfOk};
+ghost use Rattle.hashbag_ledger_db.specs.Filed.{plain_movement, rows_in};
+ghost use Rattle.hashbag_ledger_lib.specs.Movements.{said};
+
 use crate::failure::Failure;
+use hashbag_csv::counts::{Reading, read_counts_as};
+use hashbag_csv::fault::{SheetError, in_file};
 use hashbag_ledger_args::job::Job;
 use hashbag_ledger_lib::movements::Movement;
 use hashbag_ledger_lib::numbers::plain_change;
 use hashbag_ledger_lib::reading::{ChangeColumns, Columns, read_movements};
-use hashbag_lists::counts::{Reading, read_counts_as};
-use hashbag_lists::fault::{SheetError, in_file};
 use std::alloc::{AllocError, Global};
 
 /// A file that is to be entered.
@@ -43,7 +47,9 @@ pub fn is_once(input: &Input<'_>) -> bool {
 fn plain_movements(
     alloc: Global,
     movements: Vec<Movement<String>>,
-) -> Result<Vec<Movement<String>>, AllocError> {
+) -> Result<Vec<Movement<String>>, AllocError>
+    ensures { IfOk result (λ all. all.items ≡ map plain_movement movements.items) }
+{
     let mut all = Vec::new(alloc);
     for movement in movements {
         let Movement {
@@ -68,7 +74,9 @@ fn read<'a>(
     input: &Input<'a>,
     at: usize,
     reading: Reading,
-) -> Result<Vec<Movement<String>>, SheetError> {
+) -> Result<Vec<Movement<String>>, SheetError>
+    ensures { IfOk result (λ all. map said all.items ≡ rows_in request.now reading input.now) }
+{
     let text = input.text.as_slice();
     if !input.is_start {
         let movements = read_movements(alloc, text, at, request.columns, reading)?;
@@ -94,7 +102,9 @@ pub fn movements_of<'a>(
     input: &Input<'a>,
     at: usize,
     reading: Reading,
-) -> Result<Vec<Movement<String>>, Failure<'a>> {
+) -> Result<Vec<Movement<String>>, Failure<'a>>
+    ensures { IfOk result (λ all. map said all.items ≡ rows_in request.now reading input.now) }
+{
     let read = read(alloc, request, input, at, reading);
     Ok(in_file(alloc, input.file, read)?)
 }

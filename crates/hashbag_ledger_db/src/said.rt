@@ -1,7 +1,7 @@
 //! What is said on standard error of what was done, or isn't there.
+use hashbag_csv::escaped::Escaped;
 use hashbag_ledger_args::command::PROGRAM;
 use hashbag_ledger_lib::once::Batch;
-use hashbag_lists::escaped::Escaped;
 use std::alloc::{AllocError, Global};
 use std::fmt::Write;
 use strsim::levenshtein;
@@ -12,7 +12,7 @@ const MANY: u64 = 1_000_000;
 // How many letters are other ones in a name that is near.
 const NEAR: usize = 2;
 
-// Returns the ending of a noun of which there are so many.
+// Returns the ending of a noun behind this number.
 fn ending(count: u64) -> &'static str {
     if count == 1 { "" } else { "s" }
 }

@@ -1,6 +1,9 @@
 //! A stock that is counted again from all its movements, in an open database.
 use crate::failure::Failure;
 use crate::putting::in_database;
+use hashbag_csv::counts::Reading;
+use hashbag_csv::decimals::write_decimal;
+use hashbag_csv::escaped::Escaped;
 use hashbag_ledger_args::job::Job;
 use hashbag_ledger_lib::entering::LedgerError;
 use hashbag_ledger_lib::ledger::booking::{Booked, book_batch, refusals_from};
@@ -10,9 +13,6 @@ use hashbag_ledger_lib::sealing::wrong_seal;
 use hashbag_ledger_lib::verifying::{
     KeptRefusal, movements_from, wrong_batch, wrong_number, wrong_refusal,
 };
-use hashbag_lists::counts::Reading;
-use hashbag_lists::decimals::write_decimal;
-use hashbag_lists::escaped::Escaped;
 use hashbag_stock::reading::{Kept, everything_of};
 use hashbag_stock::tables::Shape;
 use sqlite::{Alter, Connection};

@@ -5,7 +5,7 @@ use Rattle.std.proofs.Math.Seq.{take-nil}
 use Rattle.hashbag_ledger_lib.specs.declared.movements.Movement.{Movement}
 use Rattle.hashbag_ledger_lib.specs.declared.movements.Place.{Place}
 use Rattle.hashbag_ledger_lib.specs.declared.movements.Refusal.{Refusal}
-use Rattle.hashbag_lists.specs.Quantities.{numbers, quantity}
+use Rattle.hashbag_csv.specs.Quantities.{numbers, quantity}
 use Rattle.hashbag_ledger_lib.specs.Ledger.{coming, going, total_after, stock_of, came, went, asks_too_much, entered_after, refused_after, refusal, entered_of, Changes, RefusesMovement}
 use Rattle.hashbag_ledger_lib.specs.Settled.{listed, IsPastWithin, IsAfter}
 use Rattle.hashbag_ledger_lib.proofs.LedgerLemmas.{SoFar, entered_more, one_entered, one_refused, leaves}

@@ -6,7 +6,7 @@ use Rattle.std.proofs.lemmas.Bool.{lt-ltb}
 use Rattle.std.proofs.lemmas.List.{append_assoc, append-nil}
 use Rattle.hashbag.specs.Bag.{Bag}
 use Rattle.hashbag.specs.EqualityLaws.{count_congr}
-use Rattle.hashbag_lists.specs.Quantities.{IsBalance}
+use Rattle.hashbag_csv.specs.Quantities.{IsBalance}
 use Rattle.hashbag_ledger_lib.specs.declared.movements.Entry.{Entry}
 use Rattle.hashbag_ledger_lib.specs.declared.movements.Movement.{Movement}
 use Rattle.hashbag_ledger_lib.specs.declared.movements.Outcome.{Outcome}

@@ -1,7 +1,7 @@
 -- A copy of a balance: movements do the same to both, since they have the same rows.
 use Rattle.std.proofs.Common.{◌≡◌, ℕ, List, [], ◌∷◌, sum_by, cond, bytes_eq, string_bytes, string_eq, string_cmp, String, Global, refl, sym, ◌∙◌, ap, subst, subst₂, ◌+◌}
 use Rattle.std.proofs.lemmas.List.Sums.{sum_by-cons}
-use Rattle.hashbag_lists.specs.Quantities.{numbers, quantity, IsBalance}
+use Rattle.hashbag_csv.specs.Quantities.{numbers, quantity, IsBalance}
 use Rattle.hashbag_ledger_lib.specs.declared.movements.Entry.{Entry}
 use Rattle.hashbag_ledger_lib.specs.declared.movements.Movement.{Movement}
 use Rattle.hashbag_ledger_lib.specs.declared.movements.Place.{Place}

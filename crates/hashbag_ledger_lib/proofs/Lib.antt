@@ -6,6 +6,7 @@ pub mod CopyLemmas
 pub mod EnterLemmas
 pub mod LedgerLemmas
 pub mod ListLemmas
+pub mod ReadLemmas
 pub mod RunLemmas
 pub mod SealLemmas
 pub mod UndoLemmas

@@ -1,7 +1,6 @@
--- A ledger after one more movement, and after all of a list or of a file.
+-- A ledger after one more movement, and after all of a list.
 use Rattle.std.proofs.Common.{◌≡◌, ◌≢◌, ◌⊎◌, ℕ, ◌+◌, ◌<◌, ◌≤◌, Bool, List, [], ◌∷◌, ◌++◌, length, inl, inr, refl, sym, ◌∙◌, ap, subst, arith}
 use Rattle.std.proofs.lemmas.List.{append_assoc, append-nil}
-use Rattle.std.proofs.lemmas.List.Elements.{All-push}
 use Rattle.hashbag.specs.Bag.{Bag}
 use Rattle.hashbag_ledger_lib.specs.declared.entering.LedgerError.{LedgerError}
 use Rattle.hashbag_ledger_lib.specs.declared.entering.LedgerError.TheVariants.{Memory, TooMany}
@@ -9,7 +8,7 @@ use Rattle.hashbag_ledger_lib.specs.declared.movements.Movement.{Movement}
 use Rattle.hashbag_ledger_lib.specs.declared.movements.Place.{Place}
 use Rattle.hashbag_ledger_lib.specs.declared.movements.Refusal.{Refusal}
 use Rattle.hashbag_ledger_lib.specs.Ledger.{coming, going, stock_of, Changes, RefusesMovement}
-use Rattle.hashbag_ledger_lib.specs.Settled.{IsAfter, IsLedgerOf, IsPastWithin, EntersFile}
+use Rattle.hashbag_ledger_lib.specs.Settled.{IsAfter, IsLedgerOf, IsPastWithin}
 use Rattle.hashbag_ledger_lib.proofs.AfterLemmas.{after_entered, after_refused, after_past, past_later}
 
 -- which movement is too many
@@ -39,7 +38,7 @@ module _ {T S : Type 0} (eq : T → T → Bool) where
   ledger_past m stock e p h is why over = after_past eq m p h (place_of e p m.place is why) (over (elim why [ inl memory ↦ absurd (not_memory e p is memory) | inr place ↦ place ]))
 
   -- a ledger takes a movement, whatever came before
-  abbrev Takes : Movement T → List (Refusal T) → Bag T S → List (Refusal T) → Bag T S → Type 0
+  abbrev pub Takes : Movement T → List (Refusal T) → Bag T S → List (Refusal T) → Bag T S → Type 0
   Takes m R stock R' stock' = (L : List (T × ℕ)) (ms : List (Movement T)) → IsLedgerOf eq L ms R stock → IsLedgerOf eq L (ms ++ m ∷ []) R' stock'
 
   -- of all movements it has taken these, and those are left
@@ -48,10 +47,10 @@ module _ {T S : Type 0} (eq : T → T → Bool) where
     pub in_turn : done ++ left ≡ all
     pub entered : (L : List (T × ℕ)) (ms : List (Movement T)) → IsLedgerOf eq L ms R stock → IsLedgerOf eq L (ms ++ done) R' stock'
 
-  none_more : (R : List (Refusal T)) (stock : Bag T S) (L : List (T × ℕ)) (ms : List (Movement T)) → IsLedgerOf eq L ms R stock → IsLedgerOf eq L (ms ++ []) R stock
+  pub none_more : (R : List (Refusal T)) (stock : Bag T S) (L : List (T × ℕ)) (ms : List (Movement T)) → IsLedgerOf eq L ms R stock → IsLedgerOf eq L (ms ++ []) R stock
   none_more R stock L ms h = subst (λ (l : List (Movement T)). IsLedgerOf eq L l R stock) (sym (append-nil ms)) h
 
-  one_more : (done : List (Movement T)) (m : Movement T) (R R' R'' : List (Refusal T)) (stock stock' stock'' : Bag T S) → ((L : List (T × ℕ)) (ms : List (Movement T)) → IsLedgerOf eq L ms R stock → IsLedgerOf eq L (ms ++ done) R' stock')
+  pub one_more : (done : List (Movement T)) (m : Movement T) (R R' R'' : List (Refusal T)) (stock stock' stock'' : Bag T S) → ((L : List (T × ℕ)) (ms : List (Movement T)) → IsLedgerOf eq L ms R stock → IsLedgerOf eq L (ms ++ done) R' stock')
       → Takes m R' stock' R'' stock'' → (L : List (T × ℕ)) (ms : List (Movement T)) → IsLedgerOf eq L ms R stock → IsLedgerOf eq L (ms ++ (done ++ m ∷ [])) R'' stock''
   one_more done m R R' R'' stock stock' stock'' entered takes L ms h = subst (λ (l : List (Movement T)). IsLedgerOf eq L l R'' stock'') (append_assoc ms done (m ∷ [])) (takes L (ms ++ done) (entered L ms h))
 
@@ -78,15 +77,3 @@ module _ {T S : Type 0} (eq : T → T → Bool) where
   took_all {R' = R'} {stock' = stock'} none h L ms was =
       let done = sym (append-nil h.done) ∙ (λ i. h.done ++ sym none i) ∙ h.in_turn in
       subst (λ (l : List (Movement T)). IsLedgerOf eq L (ms ++ l) R' stock') done (h.entered L ms was)
-
-  -- the movements of a file, so far
-  pub enters_none : (file : ℕ) (R : List (Refusal T)) (stock : Bag T S) → EntersFile eq file R stock R stock
-  enters_none file R stock = record { read = []; places = λ k d few. absurd (omega (arith, few)); entered = none_more R stock }
-
-  pub enters_one : (file : ℕ) {R R' : List (Refusal T)} {stock stock' : Bag T S} (m : Movement T) (R'' : List (Refusal T)) (stock'' : Bag T S) → EntersFile eq file R stock R' stock' → m.place.file ≡ file → Takes m R' stock' R'' stock''
-      → EntersFile eq file R stock R'' stock''
-  enters_one file {R} {R'} {stock} {stock'} m R'' stock'' h at takes = record {
-    read = h.read ++ m ∷ [];
-    places = All-push (λ (m : Movement T). m.place.file ≡ file) h.read m h.places at;
-    entered = one_more h.read m R R' R'' stock stock' stock'' h.entered takes;
-  }

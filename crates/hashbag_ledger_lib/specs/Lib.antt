@@ -3,6 +3,8 @@ pub mod Changes
 pub mod Entries
 pub mod Kinds
 pub mod Ledger
+pub mod Movements
+pub mod MovementsExamples
 pub mod Numbers
 pub mod Rows
 pub mod Seals

@@ -1,8 +1,8 @@
 -- A stock that begins as a list. An article may be in the list more than once.
-use Rattle.std.specs.Prelude.{◌≡◌, ℕ, ◌+◌, ◌++◌, Bool, List, length, sum_by, All}
+use Rattle.std.specs.Prelude.{◌≡◌, ℕ, ◌+◌, ◌++◌, Bool, List, length, sum_by}
 use Rattle.hashbag.specs.Bag.{Bag}
 use Rattle.hashbag.specs.Occurrences.{greatest_total}
-use Rattle.hashbag_lists.specs.Quantities.{numbers, quantity}
+use Rattle.hashbag_csv.specs.Quantities.{numbers, quantity}
 use Rattle.hashbag_ledger_lib.specs.declared.movements.Movement.{Movement}
 use Rattle.hashbag_ledger_lib.specs.declared.movements.Place.{Place}
 use Rattle.hashbag_ledger_lib.specs.declared.movements.Refusal.{Refusal}
@@ -31,9 +31,3 @@ module _ {T : Type 0} (eq : T → T → Bool) where
   -- the same of a bag and the refusals with it
   abbrev pub IsLedgerOf : {S : Type 0} → List (T × ℕ) → List (Movement T) → List (Refusal T) → Bag T S → Type 0
   IsLedgerOf L ms refused stock = IsAfter L ms refused stock.items stock.most
-
-  -- each movement of a file was entered, whatever came before
-  pub record EntersFile {S : Type 0} (file : ℕ) (refused : List (Refusal T)) (stock : Bag T S) (refused' : List (Refusal T)) (stock' : Bag T S) : Type 0 where
-    pub read : List (Movement T)
-    pub places : All (λ m. m.place.file ≡ file) read
-    pub entered : (L : List (T × ℕ)) (ms : List (Movement T)) → IsLedgerOf L ms refused stock → IsLedgerOf L (ms ++ read) refused' stock'

@@ -44,11 +44,15 @@ pub fn enter<T: Eq + Hash + Drop, S: BuildHasher + Drop>(
     stock: &mut HashBag<T, S>,
     movement: Movement<T>,
 ) -> Result<Option<Refusal<T>>, LedgerError>
-    // Nine clauses, since there are three outcomes: a movement is entered, or refused, or fails.
+    // If it returns `None`, the movement was entered: the number of its article alone changed.
     ensures entered { IfOk result (λ r. r ≡ None → Changes T.eq movement (stock_of T.eq stock.old.items) (stock_of T.eq stock.new.items)) }
     ensures total { IfOk result (λ r. r ≡ None → length stock.new.items + going movement.change ≡ length stock.old.items + coming movement.change) }
+
+    // If it returns a refusal, more was to go out than was there.
     ensures refusal { IfOk result (λ r. IfSome r (RefusesMovement T.eq movement (stock_of T.eq stock.old.items))) }
     ensures unchanged { IfOk result (λ r. IsSome r → stock.new ≡ stock.old) }
+
+    // If it succeeds, the total stays within the limit.
     ensures fits { OnOk result (length stock.old.items + coming movement.change ≤ stock.old.most) }
     ensures limit { stock.new.most ≡ stock.old.most }
     ensures why { IfErr result (λ e. (e ≡ LedgerError.Memory) ⊎ (e ≡ LedgerError.TooMany movement.place)) }

@@ -1,7 +1,7 @@
 //! The files of a call, entered in turn into the balance that is kept.
 ghost use Rattle.std.specs.Prelude.{◌≡◌, ◌<◌, ◌^◌, ◌-◌, map, vec_len, IfOk, IfErr, string_cmp};
 ghost use Rattle.std.specs.String.{string_eq};
-ghost use Rattle.hashbag_lists.specs.Quantities.{numbers};
+ghost use Rattle.hashbag_csv.specs.Quantities.{numbers};
 ghost use Rattle.hashbag_ledger_lib.specs.Batches.{all_of};
 ghost use Rattle.hashbag_ledger_lib.specs.Changes.{Rises, AreChanges};
 ghost use Rattle.hashbag_ledger_lib.specs.declared.movements.Place.{Place};
@@ -46,8 +46,12 @@ pub fn enter_files<S: BuildHasher + Drop>(
 ) -> Result<Filed, LedgerError>
     ensures booked { IfOk result (λ f. IsBooked string_eq string_cmp (2 ^ 63 - 1) kept.now (all_of files.items)
         f.booked.balance.items f.booked.entries.items) }
+
+    // If the kept rows rise, the changes turn them into the rows of the new balance.
     ensures changed { IfOk result (λ f. Rises kept.now → AreChanges kept.now f.booked.balance.items f.changed.items) }
     ensures counts { IfOk result (λ f. f.counts.items ≡ map (λ file. vec_len file) files.items) }
+
+    // `TooMany p`: with the movement at `p` the total would pass 2^63-1.
     ensures past { IfErr result (λ e. (p : Place) → e ≡ LedgerError.TooMany p
         → IsPastWithin string_eq (2 ^ 63 - 1) kept.now (all_of files.items) p) }
     ensures start { (result ≡ Err LedgerError.StartTooMany) → 2 ^ 63 - 1 < numbers kept.now }
@@ -103,7 +107,7 @@ fn refusal_of(entry: &Entry<String>) -> Result<Option<Refusal<String>>, AllocErr
     }))
 }
 
-/// Returns a copy of the refusals among these entries, in turn; if only the first is named, of no other.
+/// Returns copies of the refusals among these entries, in turn, or of the first one alone.
 ///
 /// # Errors
 ///

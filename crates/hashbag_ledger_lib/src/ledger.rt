@@ -1,7 +1,7 @@
-//! A stock into which movements are entered one by one.
+//! A stock into which movements are entered one by one. In clauses L is the list that it began as, and ms are the movements so far.
 ghost use Rattle.std.specs.Prelude.{◌≡◌, ◌⊎◌, ◌<◌, ◌↔◌, ◌≤◌, ◌++◌, ◌∷◌, ℕ, List, [], length, IsTrue, IfOk, IfErr, OnOk};
 ghost use Rattle.hashbag.specs.Occurrences.{count};
-ghost use Rattle.hashbag_lists.specs.Quantities.{numbers, quantity, IsBalance};
+ghost use Rattle.hashbag_csv.specs.Quantities.{numbers, quantity, IsBalance};
 ghost use Rattle.hashbag_ledger_lib.specs.declared.movements.Movement.{Movement};
 ghost use Rattle.hashbag_ledger_lib.specs.declared.movements.Place.{Place};
 ghost use Rattle.hashbag_ledger_lib.specs.Entries.{IsStockAfter};
@@ -13,7 +13,7 @@ pub mod booking;
 use crate::entering::{LedgerError, enter};
 use crate::movements::{Movement, Refusal};
 use hashbag::HashBag;
-use hashbag_lists::quantities::balance_of;
+use hashbag_csv::quantities::balance_of;
 use std::alloc::{AllocError, Global};
 use std::hash::{BuildHasher, Hash};
 
@@ -73,6 +73,7 @@ pub fn stock_at_start<T: Eq + Hash + Drop, S: BuildHasher + Drop>(
     most: usize,
     list: Vec<(T, usize)>,
 ) -> Result<HashBag<T, S>, LedgerError>
+    // v occurs as often as the list names it in all, and no movement has come.
     ensures counts { IfOk result (λ stock. (v : T) → count T.eq v stock.items ≡ quantity T.eq v list.items) }
     ensures len { IfOk result (λ stock. length stock.items ≡ numbers list.items) }
     ensures begun { IfOk result (λ stock. IsStockAfter T.eq list.items [] stock) }
@@ -118,6 +119,7 @@ impl<T: Eq + Hash + Drop, S: BuildHasher + Drop> Ledger<T, S> {
         most: usize,
         start: Vec<(T, usize)>,
     ) -> Result<Ledger<T, S>, LedgerError>
+        // It is the ledger of the list after no movements.
         ensures begun { IfOk result (λ l. IsLedgerOf T.eq start.items [] l.refusals.items l.stock) }
         ensures limit { IfOk result (λ l. l.stock.most ≡ most) }
         ensures too_many { (result ≡ Err LedgerError.StartTooMany) ↔ (most < numbers start.items) }
@@ -141,9 +143,12 @@ impl<T: Eq + Hash + Drop, S: BuildHasher + Drop> Ledger<T, S> {
     ///
     /// As [`enter`]. A refusal is put into a list, which may allocate.
     pub fn enter(&mut self, movement: Movement<T>) -> Result<(), LedgerError>
+        // It is the ledger of this movement too: entered, or among the refusals.
         ensures entered { OnOk result ((L : List (T × ℕ)) (ms : List (Movement T))
             → IsLedgerOf T.eq L ms self.old.refusals.items self.old.stock
             → IsLedgerOf T.eq L (ms ++ movement ∷ []) self.new.refusals.items self.new.stock) }
+
+        // `TooMany p`: with the movement, which is at `p`, the total would pass the limit.
         ensures past { IfErr result (λ e. (p : Place) → e ≡ LedgerError.TooMany p → (L : List (T × ℕ)) (ms : List (Movement T))
             → IsLedgerOf T.eq L ms self.old.refusals.items self.old.stock
             → IsPastWithin T.eq self.old.stock.most L (ms ++ movement ∷ []) p) }
@@ -170,6 +175,7 @@ pub fn end<T: Ord + Hash + Drop, S: BuildHasher + Drop>(
     alloc: Global,
     ledger: Ledger<T, S>,
 ) -> Result<Entered<T>, AllocError>
+    // The balance and the refusals are those of all movements, and what was there and came in is what is there and went out.
     ensures balance { IfOk result (λ e. (L : List (T × ℕ)) (ms : List (Movement T)) → IsLedgerOf T.eq L ms ledger.refusals.items ledger.stock
         → IsBalance T.eq T.cmp (in_the_end T.eq (listed T.eq L) ms) e.balance.items) }
     ensures leaves { IfOk result (λ e. (L : List (T × ℕ)) (ms : List (Movement T)) → IsLedgerOf T.eq L ms ledger.refusals.items ledger.stock

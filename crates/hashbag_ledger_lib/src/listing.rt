@@ -2,10 +2,10 @@
 use crate::movements::{Change, Entry, Outcome};
 use crate::once::{Batch, batch_of};
 use crate::output::push_record;
-use hashbag_lists::counts::Reading;
-use hashbag_lists::decimals::write_decimal;
-use hashbag_lists::records::Records;
-use hashbag_lists::scale::Scale;
+use hashbag_csv::counts::Reading;
+use hashbag_csv::decimals::write_decimal;
+use hashbag_csv::records::Records;
+use hashbag_csv::scale::Scale;
 use std::alloc::{AllocError, Global};
 
 // Returns a change with its sign.
@@ -23,7 +23,7 @@ fn change_text(alloc: Global, change: Change, scale: Scale) -> Result<String, Al
 ///
 /// # Errors
 ///
-/// An error if an allocation fails.
+/// An allocation fails.
 pub fn batches_text(
     alloc: Global,
     reading: Reading,
@@ -71,7 +71,7 @@ pub fn batches_text(
 ///
 /// # Errors
 ///
-/// An error if an allocation fails.
+/// An allocation fails.
 pub fn history_text(
     alloc: Global,
     reading: Reading,

@@ -1,4 +1,5 @@
-//! The numbers of a database: whole, with a sign, at most 2^63-1.
+//! The numbers of a database: whole, with a sign, at most 2^63-1. `MatchOption` says when a result is `None`, and what is true of its value
+//! else.
 ghost use Rattle.std.specs.Prelude.{◌≡◌, ◌≤◌, ◌<◌, ◌^◌, ◌-◌, pos, MatchOption};
 ghost use Rattle.hashbag_ledger_lib.specs.Numbers.{change_at, plain, size};
 
@@ -31,6 +32,7 @@ pub fn size_of(change: Change) -> usize
 ///
 /// [`change_of`] turns the number into the same change.
 pub fn number_of(change: Change) -> Option<i64>
+    // It is the number of the same change, but without a sign at 0.
     ensures { MatchOption result (2 ^ 63 - 1 < size change) (λ n. (size change ≤ 2 ^ 63 - 1) × (change_at n ≡ plain change)) }
 {
     match change {
@@ -52,7 +54,7 @@ pub fn signed(n: usize) -> Option<i64>
     Some(n as i64)
 }
 
-/// Returns the change that a row has.
+/// Returns the change whose number a row has: what is below 0 goes out.
 pub fn change_of(number: i64) -> Change
     ensures { result ≡ change_at number }
 {

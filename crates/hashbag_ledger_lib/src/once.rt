@@ -61,6 +61,7 @@ pub struct Batch {
 
 /// Returns the first batch whose file has these bytes, by their SHA-256.
 pub fn entered_before<'a>(batches: &'a [Batch], sha256: &str) -> Option<&'a Batch>
+    // It is `None` exactly if no batch has this digest.
     ensures { MatchOption result (All (λ b. string_bytes b.sha256 ≢ sha256.now) batches.now)
         (λ b. Contains batches.now b.now × (string_bytes b.now.sha256 ≡ sha256.now)) }
 {

@@ -1,9 +1,9 @@
 //! A balance and refusals as text.
 use crate::movements::Refusal;
-use hashbag_lists::counts::Reading;
-use hashbag_lists::decimals::write_decimal;
-use hashbag_lists::records::Records;
-use hashbag_lists::scale::Scale;
+use hashbag_csv::counts::Reading;
+use hashbag_csv::decimals::write_decimal;
+use hashbag_csv::records::Records;
+use hashbag_csv::scale::Scale;
 use std::alloc::{AllocError, Global};
 use std::fmt;
 
@@ -23,7 +23,7 @@ pub fn push_record(records: &mut Records, fields: &[&str]) -> Result<(), AllocEr
 ///
 /// # Errors
 ///
-/// An error if an allocation fails.
+/// An allocation fails.
 pub fn balance_text(
     alloc: Global,
     names: (&str, &str),
@@ -68,7 +68,7 @@ impl fmt::Display for Quoted<'_> {
 ///
 /// # Errors
 ///
-/// An error if an allocation fails.
+/// An allocation fails.
 pub fn refusals_text(
     alloc: Global,
     files: &[&str],
@@ -94,7 +94,7 @@ pub fn refusals_text(
 ///
 /// # Errors
 ///
-/// An error if an allocation fails.
+/// An allocation fails.
 pub fn refusals_table(
     alloc: Global,
     files: &[&str],

@@ -1,19 +1,23 @@
 //! Reading movements from CSV texts.
-ghost use Rattle.std.specs.Prelude.{◌≡◌, ◌++◌, ◌∷◌, ℕ, List, [], String, All, IfOk, IfSome, OnOk};
+ghost use Rattle.std.specs.Prelude.{◌≡◌, ◌++◌, ◌∷◌, ℕ, List, [], String, All, IfOk, IfSome, MatchOption, OnOk, map};
 ghost use Rattle.std.specs.Global.{Global};
 ghost use Rattle.std.specs.String.{string_eq};
+ghost use Rattle.hashbag_csv.specs.Lines.{place_of};
+ghost use Rattle.hashbag_csv.specs.Sheets.{left, place, read_last};
 ghost use Rattle.hashbag_ledger_lib.specs.declared.movements.Movement.{Movement};
-ghost use Rattle.hashbag_ledger_lib.specs.Settled.{EntersFile, IsLedgerOf};
+ghost use Rattle.hashbag_ledger_lib.specs.Movements.{said, signed, of_kind, change_by, columns_by, change_in, movements_in, EntersFile, IsNextMovement};
+ghost use Rattle.hashbag_ledger_lib.specs.Settled.{IsLedgerOf};
 
 use crate::entering::LedgerError;
 use crate::ledger::Ledger;
 use crate::movements::{Change, Movement, Place};
-use hashbag_lists::counts::Reading;
-use hashbag_lists::escaped::shown;
-use hashbag_lists::fault::{Fault, SheetError};
-use hashbag_lists::numbers::{scaled_number, total_too_large};
-use hashbag_lists::scale::Scale;
-use hashbag_lists::sheet::{Column, Sheet};
+use hashbag_csv::counts::Reading;
+use hashbag_csv::escaped::shown;
+use hashbag_csv::fault::{Fault, SheetError};
+use hashbag_csv::lines::column_of;
+use hashbag_csv::numbers::{scaled_number, total_too_large};
+use hashbag_csv::scale::Scale;
+use hashbag_csv::sheet::{Column, Sheet};
 use std::alloc::{AllocError, Global};
 use std::hash::BuildHasher;
 
@@ -35,29 +39,38 @@ pub enum ChangeColumns<C> {
     ByKind(C, C),
 }
 
-// Finds the columns of these names in the header.
+// Finds the columns of a change in the header, which is the record that was read last.
+fn change_columns_of<'n>(
+    sheet: &Sheet<'_>,
+    names: ChangeColumns<&'n str>,
+) -> Result<ChangeColumns<Column<'n>>, SheetError>
+    ensures { IfOk result (λ columns. change_by place columns ≡ change_by (λ n. place_of (read_last sheet.now) n.now) names.entry) }
+{
+    match names {
+        ChangeColumns::Signed(change) => Ok(ChangeColumns::Signed(column_of(sheet, change)?)),
+        ChangeColumns::ByKind(kind, number) => {
+            let kind = column_of(sheet, kind)?;
+            Ok(ChangeColumns::ByKind(kind, column_of(sheet, number)?))
+        }
+    }
+}
+
+// Finds the columns of these names in the header, which is the record that was read last.
 fn columns_of<'n>(
     sheet: &Sheet<'_>,
     names: Columns<&'n str>,
-) -> Result<Columns<Column<'n>>, SheetError> {
-    Ok(Columns {
-        article: sheet.column(names.article)?,
-        change: match names.change {
-            ChangeColumns::Signed(change) => ChangeColumns::Signed(sheet.column(change)?),
-            ChangeColumns::ByKind(kind, number) => {
-                ChangeColumns::ByKind(sheet.column(kind)?, sheet.column(number)?)
-            }
-        },
-    })
+) -> Result<Columns<Column<'n>>, SheetError>
+    ensures { IfOk result (λ columns. columns_by place columns ≡ columns_by (λ n. place_of (read_last sheet.now) n.now) names.entry) }
+{
+    let article = column_of(sheet, names.article)?;
+    let change = change_columns_of(sheet, names.change)?;
+    Ok(Columns { article, change })
 }
 
 // Reads the change from a number with a sign.
-fn signed_change(
-    alloc: Global,
-    line: u64,
-    field: &str,
-    scale: Scale,
-) -> Result<Change, SheetError> {
+fn signed_change(alloc: Global, line: u64, field: &str, scale: Scale) -> Result<Change, SheetError>
+    ensures { IfOk result (λ change. change ≡ signed scale field.now) }
+{
     if let Some(digits) = field.strip_prefix('-') {
         let n = scaled_number(alloc, line, digits, field, scale)?;
         return Ok(Change::Out(n));
@@ -67,7 +80,9 @@ fn signed_change(
 }
 
 // Returns the change of a kind and a number.
-fn change_of_kind(alloc: Global, line: u64, kind: &str, n: usize) -> Result<Change, SheetError> {
+fn change_of_kind(alloc: Global, line: u64, kind: &str, n: usize) -> Result<Change, SheetError>
+    ensures { IfOk result (λ change. change ≡ of_kind kind.now n) }
+{
     match kind {
         "in" => Ok(Change::In(n)),
         "out" => Ok(Change::Out(n)),
@@ -85,7 +100,9 @@ fn change_of(
     line: u64,
     columns: ChangeColumns<Column<'_>>,
     scale: Scale,
-) -> Result<Change, SheetError> {
+) -> Result<Change, SheetError>
+    ensures { IfOk result (λ change. change ≡ change_in scale (change_by place columns.entry) (read_last sheet.now)) }
+{
     match columns {
         ChangeColumns::Signed(change) => {
             signed_change(alloc, line, sheet.field(change)?, scale)
@@ -98,7 +115,7 @@ fn change_of(
     }
 }
 
-// Reads the next movement, or `None` after the last one.
+// Reads the next movement, or returns `None` after the last one.
 fn next_movement(
     alloc: Global,
     sheet: &mut Sheet<'_>,
@@ -106,7 +123,9 @@ fn next_movement(
     columns: Columns<Column<'_>>,
     scale: Scale,
 ) -> Result<Option<Movement<String>>, SheetError>
-    ensures { IfOk result (λ read. IfSome read (λ m. m.place.file ≡ file)) }
+    ensures read { IfOk result (λ read. MatchOption read (left sheet.old ≡ [])
+        (λ m. IsNextMovement scale (columns_by place columns.entry) (left sheet.old) (left sheet.new) m)) }
+    ensures place { IfOk result (λ read. IfSome read (λ m. m.place.file ≡ file)) }
 {
     if !sheet.read()? {
         return Ok(None);
@@ -136,15 +155,21 @@ pub fn read_movements(
     names: Columns<&str>,
     reading: Reading,
 ) -> Result<Vec<Movement<String>>, SheetError>
+    // They are those that the text has.
+    ensures movements { IfOk result (λ movements.
+        map said movements.items ≡ movements_in reading (columns_by (λ n. n.now) names.entry) text.now) }
     ensures places { IfOk result (λ movements. All (λ m. m.place.file ≡ file) movements.items) }
 {
     let mut sheet = Sheet::open_with(alloc, text, reading.delimiter)?;
     let columns = columns_of(&sheet, names)?;
     let mut movements = Vec::new(alloc);
-    'records: for _ in 0..u64::MAX {
-        let Some(movement) = next_movement(alloc, &mut sheet, file, columns, reading.scale)? else {
-            break;
-        };
+    'records: while let Some(movement) = next_movement(
+        alloc,
+        &mut sheet,
+        file,
+        columns,
+        reading.scale,
+    )? {
         movements.push(movement).map_err(AllocError::from)?;
     }
     Ok(movements)
@@ -189,14 +214,19 @@ pub fn enter_movements<S: BuildHasher + Drop>(
     names: Columns<&str>,
     reading: Reading,
 ) -> Result<(), SheetError>
-    ensures { OnOk result (EntersFile string_eq file ledger.old.refusals.items ledger.old.stock ledger.new.refusals.items ledger.new.stock) }
+    // The ledger has the movements of the text more, whatever it had before.
+    ensures { OnOk result (EntersFile file (movements_in reading (columns_by (λ n. n.now) names.entry) text.now)
+        ledger.old.refusals.items ledger.old.stock ledger.new.refusals.items ledger.new.stock) }
 {
     let mut sheet = Sheet::open_with(alloc, text, reading.delimiter)?;
     let columns = columns_of(&sheet, names)?;
-    'records: for _ in 0..u64::MAX {
-        let Some(movement) = next_movement(alloc, &mut sheet, file, columns, reading.scale)? else {
-            break;
-        };
+    'records: while let Some(movement) = next_movement(
+        alloc,
+        &mut sheet,
+        file,
+        columns,
+        reading.scale,
+    )? {
         enter_record(alloc, &sheet, ledger, movement, reading.scale)?;
     }
     Ok(())

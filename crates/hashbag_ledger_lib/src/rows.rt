@@ -73,12 +73,13 @@ fn next_change<'a, 'b>(
 ///
 /// # Errors
 ///
-/// An error if an allocation fails.
+/// An allocation fails.
 pub fn changed_rows(
     alloc: Global,
     before: &[(String, usize)],
     after: &[(String, usize)],
 ) -> Result<Vec<RowChange>, AllocError>
+    // If both balances are sorted, the changes turn one into the other, are sorted, and none is needless. v is an article's bytes.
     ensures makes { IfOk result (λ changes. Rises before.now → Rises after.now
         → (v : List ℕ) → applied v changes.items (number_in v before.now) ≡ number_in v after.now) }
     ensures rising { IfOk result (λ changes. Rises before.now → Rises after.now

@@ -2,7 +2,7 @@
 ghost use Rattle.std.specs.Prelude.{◌≡◌, ℕ, ◌+◌, ◌<◌, ◌^◌, ◌-◌, ◌↔◌, ◌++◌, [], String, IfOk, IfErr, OnOk, string_cmp};
 ghost use Rattle.std.specs.Global.{Global};
 ghost use Rattle.std.specs.String.{string_eq};
-ghost use Rattle.hashbag_lists.specs.Quantities.{numbers};
+ghost use Rattle.hashbag_csv.specs.Quantities.{numbers};
 ghost use Rattle.hashbag_ledger_lib.specs.Changes.{Rises};
 ghost use Rattle.hashbag_ledger_lib.specs.Ledger.{came, went};
 ghost use Rattle.hashbag_ledger_lib.specs.declared.movements.Place.{Place};
@@ -68,7 +68,7 @@ fn turn<T: Drop>(
 ///
 /// # Errors
 ///
-/// An error if an allocation fails.
+/// An allocation fails.
 pub fn opposites<T: Drop>(
     alloc: Global,
     batch: Vec<Movement<T>>,
@@ -86,8 +86,8 @@ pub fn opposites<T: Drop>(
 
 /// Enters the opposite movements of a batch into the balance that is kept, all or none.
 ///
-/// `Refused` is returned exactly if an article would fall below zero. After the last batch it never is, and the balance is again the one
-/// before that batch.
+/// It returns `Refused` exactly if an article would fall below zero. This can't be for the last batch: the balance is then again the one
+/// before it.
 ///
 /// # Errors
 ///
@@ -99,12 +99,19 @@ pub fn take_back<S: BuildHasher + Drop>(
     kept: Vec<(String, usize)>,
     batch: Vec<Movement<String>>,
 ) -> Result<Undo<String>, LedgerError>
+    // The batch is taken back, or an article would fall below zero.
     ensures undo { IfOk result (IsUndo string_eq string_cmp (listed string_eq kept.items) batch.items) }
+
+    // If the batch turned `before` into the balance kept, it is taken back, and the balance is `before` again.
     ensures last { IfOk result (λ u. (before : String Global → ℕ)
         → ((v : String Global) → listed string_eq kept.items v + went string_eq v batch.items ≡ before v + came string_eq v batch.items)
         → IsAsBefore string_eq u before) }
+
+    // The opposite movements were all entered, or the refusals are theirs.
     ensures each { IfOk result (IsUndoOf string_eq kept.items batch.items) }
     ensures too_many { (result ≡ Err LedgerError.StartTooMany) ↔ (2 ^ 63 - 1 < numbers kept.items) }
+
+    // On success no total passes [`MOST`]. `TooMany p`: with the opposite of the movement at `p` it would.
     ensures fit { OnOk result ((p : Place) → ¬ (IsPastWithin string_eq (2 ^ 63 - 1) kept.items (opposites_of batch.items) p)) }
     ensures past { IfErr result (λ e. (p : Place) → e ≡ LedgerError.TooMany p
         → IsPastWithin string_eq (2 ^ 63 - 1) kept.items (opposites_of batch.items) p) }
@@ -149,10 +156,15 @@ pub fn undo_batch<S: BuildHasher + Drop>(
     kept: &[(String, usize)],
     batch: Vec<Movement<String>>,
 ) -> Result<(Undo<String>, Vec<RowChange>), LedgerError>
+    // The batch is taken back, or an article would fall below zero.
     ensures undo { IfOk result (λ u. IsUndo string_eq string_cmp (listed string_eq kept.now) batch.items u.0) }
     ensures each { IfOk result (λ u. IsUndoOf string_eq kept.now batch.items u.0) }
+
+    // If the kept rows rise, the changes turn them into the rows of the new balance; there are none if it is denied.
     ensures changed { IfOk result (λ u. Rises kept.now → IsChangedBy kept.now u.0 u.1.items) }
     ensures start { (result ≡ Err LedgerError.StartTooMany) → 2 ^ 63 - 1 < numbers kept.now }
+
+    // `TooMany p`: with the opposite of the movement at `p` the total would pass [`MOST`].
     ensures past { IfErr result (λ e. (p : Place) → e ≡ LedgerError.TooMany p
         → IsPastWithin string_eq (2 ^ 63 - 1) kept.now (opposites_of batch.items) p) }
 {

@@ -69,7 +69,7 @@ fn with_writing<'a>(alloc: Global, command: Made<'a>) -> Made<'a> {
 ///
 /// # Errors
 ///
-/// An error if an allocation fails.
+/// An allocation fails.
 pub fn command<'a>(alloc: Global) -> Made<'a> {
     let ordered = Arg::new(alloc, "ORDERED.csv")
         .required(true)

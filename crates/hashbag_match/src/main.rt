@@ -6,8 +6,8 @@ mod request;
 
 use crate::command::{PROGRAM, command};
 use crate::request::Request;
-use hashbag_lists::fault::in_file;
-use hashbag_match_core::texts::{match_delivered, read_ordered};
+use hashbag_csv::fault::in_file;
+use hashbag_match_lib::texts::{match_delivered, read_ordered};
 use hashbag_shell::input::read_file;
 use hashbag_shell::output::Output;
 use hashbag_shell::program::{given_to, status_of, words_of};

@@ -1,8 +1,8 @@
 //! The words of the command line as values.
 use clap::ArgMatches;
-use hashbag_lists::counts::Reading;
-use hashbag_match_core::ask::{Ask, Columns};
-use hashbag_match_core::output::{Form, Only};
+use hashbag_csv::counts::Reading;
+use hashbag_match_lib::ask::{Ask, Columns};
+use hashbag_match_lib::output::{Form, Only};
 use hashbag_shell::one_file::is_one_file;
 use hashbag_shell::options::word;
 use hashbag_shell::trouble::Trouble;

@@ -50,20 +50,19 @@ pub fn merge<T: Eq + Hash + Drop, S: BuildHasher + Drop, S2: BuildHasher + Drop>
     into: &mut HashBag<T, S>,
     from: HashBag<T, S2>,
 ) -> Result<(), BagError>
-    // Eleven clauses, since a caller with room, and one without, is told when it fails and which slots are built.
     ensures counts { OnOk result ((v : T) → count T.eq v into.new.items ≡ count T.eq v into.old.items + count T.eq v from.items) }
     ensures len { OnOk result (length into.new.items ≡ length into.old.items + length from.items) }
     ensures limit { into.new.most ≡ into.old.most }
     ensures hasher { into.new.hasher ≡ into.old.hasher }
     ensures err { OnErr result (into.new ≡ into.old) }
 
-    // The total is tested first. Then only an allocation can fail, and only if there isn't room for the values of `from` that `into` lacks.
+    // When it fails, as under `# Errors`.
     ensures too_many { (result ≡ Err BagError.TooMany) ↔ (into.old.most < length into.old.items + length from.items) }
     ensures only_memory { length into.old.items + length from.items ≤ into.old.most → IfErr result (λ e. e ≡ BagError.Memory) }
     ensures full { result ≡ Err BagError.Memory → room into.old.tables < distinct_count T.eq from.items }
     ensures lacks { result ≡ Err BagError.Memory → LacksMoreThan T.eq (room into.old.tables) from.items into.old.items }
 
-    // There are no fewer slots, and no other ones if there was room for the values that were lacked.
+    // There are no fewer slots. If there was room for the values that `into` lacked, no table was built.
     ensures slots { OnOk result (length into.old.tables.newer ≤ length into.new.tables.newer) }
     ensures unbuilt { HasRoomForLacked T.eq from into.old.items into.old.tables → OnOk result (into.new.tables.built ≡ into.old.tables.built) }
 {
@@ -109,7 +108,7 @@ fn insert_beside_spare<T: Eq + Hash + Drop, S: BuildHasher + Drop, S2: BuildHash
     ensures slots { length into.old.tables.newer ≤ length into.new.tables.newer }
     ensures unbuilt { HasRoomForLacked T.eq from into.old.items into.old.tables → into.new.tables.built ≡ into.old.tables.built }
 {
-    // `len` is called for its clause that the list is a bag's, which the proof names.
+    // `len` is called for its clause `bag`.
     let _len = into.len();
     let mut pairs = from.into_iter();
     'pairs: while let Some((value, n)) = pairs.next() {
@@ -158,14 +157,14 @@ fn lacked_by<T: Eq + Hash + Drop, S: BuildHasher + Drop, S2: BuildHasher + Drop>
     if bag.is_empty() {
         return from.set_iter().len();
     }
-    // `limit` is called for its clause that the occurrences can be counted, which the proof names.
+    // `limit` is called for its clause `within`.
     let _limit = from.limit();
     from.not_in(bag).count()
 }
 
 /// Adds clones of all occurrences of a bag to another, and leaves the first as it is: [`merge`] of a copy.
 ///
-/// Everything is added, or nothing. The caller ensures that clones of the values equal them.
+/// The caller ensures that clones of the values equal them.
 ///
 /// # Errors
 ///
@@ -202,6 +201,8 @@ pub fn merge_ref<
     ensures limit { into.new.most ≡ into.old.most }
     ensures hasher { into.new.hasher ≡ into.old.hasher }
     ensures err { OnErr result (into.new ≡ into.old) }
+
+    // The total is tested first. Then only an allocation or a clone can fail.
     ensures too_many { (result ≡ Err BagError.TooMany) ↔ (into.old.most < length into.old.items + length from.now.items) }
     ensures only_memory { length into.old.items + length from.now.items ≤ into.old.most → IfErr result (λ e. e ≡ BagError.Memory) }
 {
@@ -240,6 +241,8 @@ pub fn keep_common<T: Eq + Hash + Drop, S: BuildHasher + Drop, S2: BuildHasher +
     ensures len { length bag.new.items ≤ length bag.old.items }
     ensures limit { bag.new.most ≡ bag.old.most }
     ensures hasher { bag.new.hasher ≡ bag.old.hasher }
+
+    // There are as many slots as before, and room isn't lower.
     ensures slots { length bag.new.tables.newer ≡ length bag.old.tables.newer }
     ensures room { room bag.old.tables ≤ room bag.new.tables }
 {
@@ -277,6 +280,8 @@ pub fn take_away<T: Eq + Hash + Drop, S: BuildHasher + Drop, S2: BuildHasher + D
     ensures len { length bag.new.items ≤ length bag.old.items }
     ensures limit { bag.new.most ≡ bag.old.most }
     ensures hasher { bag.new.hasher ≡ bag.old.hasher }
+
+    // There are as many slots as before, and room isn't lower.
     ensures slots { length bag.new.tables.newer ≡ length bag.old.tables.newer }
     ensures room { room bag.old.tables ≤ room bag.new.tables }
 {
@@ -295,7 +300,7 @@ pub fn take_away<T: Eq + Hash + Drop, S: BuildHasher + Drop, S2: BuildHasher + D
 
 /// Raises each count in `into` to the greater of the counts in both bags, and uses `from` up.
 ///
-/// Everything is added, or nothing. What `from` has more often is added as [`merge`] does, so the limit of `into` stays.
+/// What `from` has more often is added as [`merge`] does, so the limit of `into` stays.
 ///
 /// # Errors
 ///
@@ -330,6 +335,8 @@ pub fn keep_most<T: Eq + Hash + Drop, S: BuildHasher + Drop, S2: BuildHasher + D
     ensures limit { into.new.most ≡ into.old.most }
     ensures hasher { into.new.hasher ≡ into.old.hasher }
     ensures err { OnErr result (into.new ≡ into.old) }
+
+    // If both totals together fit, only an allocation can fail.
     ensures fits { length into.old.items + length from.items ≤ into.old.most → IfErr result (λ e. e ≡ BagError.Memory) }
 
     // The total is that of every list with the greater counts: all these are equally long.

@@ -9,7 +9,9 @@ pub mod combine;
 pub mod compare;
 pub mod laws;
 pub mod order;
+pub mod third;
 
 pub use combine::{keep_common, keep_most, merge, merge_ref, take_away};
 pub use compare::{contains_all, is_disjoint};
 pub use order::{counts, max_count, most_common, sorted};
+pub use third::{intersection, sum, union};

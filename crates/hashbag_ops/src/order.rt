@@ -147,6 +147,7 @@ pub fn most_common<'a, T: Ord + Hash + Drop, S: BuildHasher + Drop>(
 /// Ok(())
 /// ```
 pub fn max_count<T: Eq + Hash + Drop, S: BuildHasher + Drop>(bag: &HashBag<T, S>) -> usize
+    // No value occurs more often, and some value as often, unless the result is 0.
     ensures most { (v : T) → count T.eq v bag.now.items ≤ result }
     ensures reached { 0 < result → (v : T) × (count T.eq v bag.now.items ≡ result) }
 {

@@ -2,7 +2,7 @@
 //! their trees. Arguments are ignored.
 #![tactic(auto)]
 
-use hashbag_run_core::execute::execute;
+use hashbag_run_lib::execute::execute;
 use std::process::ExitCode;
 
 fn main(rt: HostRuntime) -> ExitCode {

@@ -86,7 +86,7 @@ fn insert<T: Eq + Hash + Drop, S: BuildHasher + Drop>(
     ensures takes { HasRoomFor T.eq bag.old (insert_row T.eq bag.old.most value n bag.old.items).0 → IsOk result }
     ensures tables { OnOk result (LeavesTablesOf T.eq (Step.InsertMany value n) bag.old bag.new) }
 {
-    // `len` is called for its clause that the list is a bag's, which the proof names.
+    // `len` is called for its clause `bag`.
     let _len = bag.len();
     match bag.insert_many(value, n) {
         Ok(before) => Ok(Reply::Count(before)),
@@ -109,7 +109,7 @@ fn replace<T: Eq + Hash + Drop, S: BuildHasher + Drop>(
     ensures takes { HasRoomFor T.eq bag.old (replace_row T.eq bag.old.most value bag.old.items).0 → IsOk result }
     ensures tables { OnOk result (LeavesTablesOf T.eq (Step.Replace value) bag.old bag.new) }
 {
-    // `len` is called for its clause that the list is a bag's, which the proof names.
+    // `len` is called for its clause `bag`.
     let _len = bag.len();
     match bag.replace(value) {
         Ok(before) => Ok(Reply::Count(before)),
@@ -191,7 +191,7 @@ fn entry_or<T: Eq + Hash + Drop, S: BuildHasher + Drop>(
     ensures takes { HasRoomFor T.eq bag.old (entry_or_row T.eq bag.old.most value quantity bag.old.items).0 → IsOk result }
     ensures tables { OnOk result (LeavesTablesOf T.eq (Step.EntryOr value quantity) bag.old bag.new) }
 {
-    // `len` is called for its clause that the list is a bag's, which the proof names.
+    // `len` is called for its clause `bag`.
     let _len = bag.len();
     match bag.entry(value).or_insert_many(quantity) {
         Ok(count) => Ok(Reply::Count(count)),
@@ -216,7 +216,7 @@ fn retain<T: Eq + Hash + Drop, S: BuildHasher + Drop>(bag: &mut HashBag<T, S>, l
     ensures left { IsBagOf T.eq bag.old (retain_row T.eq list.now bag.old.items).0 bag.new }
     ensures tables { RetainsTables bag.old.tables bag.new.tables }
 {
-    // `len` is called for its clause that the list is a bag's, which the proof names.
+    // `len` is called for its clause `bag`.
     let _len = bag.len();
     bag.retain(
         |value: &T, _count: usize| -> usize
@@ -245,6 +245,7 @@ fn apply<T: Eq + Hash + Drop, S: BuildHasher + Drop>(
     bag: &mut HashBag<T, S>,
     step: Step<T>,
 ) -> Result<Reply<T>, BagError>
+    // The reply, the occurrences and the limit are those of a step on a plain list.
     ensures reply { IfOk result (λ reply. reply ≡ (step_of T.eq bag.old.most bag.old.items step).1) }
     ensures left { OnOk result (Means bag.new (step_of T.eq bag.old.most bag.old.items step).0) }
     ensures limit { OnOk result (bag.new.most ≡ limit_after T.eq bag.old.most bag.old.items step) }
@@ -263,7 +264,7 @@ fn apply<T: Eq + Hash + Drop, S: BuildHasher + Drop>(
     ensures fewer { OnOk result (is_about_room step ≡ true → is_reserve step ≡ false
         → length bag.new.tables.newer ≤ length bag.old.tables.newer) }
 {
-    // `len` is called for its clause that the list is a bag's, which the proof names.
+    // `len` is called for its clause `bag`.
     let _len = bag.len();
     match step {
         Step::Insert(value) => insert(bag, value, 1),
@@ -331,35 +332,29 @@ pub fn run<T: Eq + Hash + Drop, S: BuildHasher + Drop>(
     steps: Vec<Step<T>>,
     replies: &mut Vec<Reply<T>>,
 ) -> Result<(), BagError>
-    // Ten clauses, since a run is told of as a list, as one that memory stops, and as tables of slots.
-    //
-    // Each step replies as the plain list of occurrences replies, whichever list the bag means, and the bag then means
-    // what that list has become.
+    // X is the occurrences of the bag in any order. Each step replies as that list would, and the bag then has what the list has become.
     ensures replies { OnOk result ((X : List T) → Means bag.old X
         → replies.new.items ≡ replies.old.items ++ (run_of T.eq bag.old.most X steps.items).1) }
     ensures means { OnOk result ((X : List T) → Means bag.old X → Means bag.new (run_of T.eq bag.old.most X steps.items).0) }
     ensures limit { OnOk result ((X : List T) → Means bag.old X → bag.new.most ≡ limit_left T.eq bag.old.most X steps.items) }
     ensures hasher { bag.new.hasher ≡ bag.old.hasher }
 
-    // Only a failed allocation stops a run. Either it was that of the replies, and nothing was done; or the steps that have replies are the
-    // run, and the next step found tables that it can't do without an allocation.
+    // Only a failed allocation stops a run: that of the replies, before the first step, or one in the step after those with replies.
     ensures memory { IfErr result (λ e. e ≡ BagError.Memory) }
     ensures stopped { OnErr result (IsRunCutOff T.eq (HasNoRoom replies.old steps)
         (ran bag.old bag.new steps.items replies.old.items replies.new.items)) }
 
-    // If the tables have room for all values that arrive, and no step is about room, a run keeps its slots. Then only the allocation of the
-    // replies can fail.
+    // If there is room for all values that arrive, and no step is about room, there are as many slots as before, and only the allocation of
+    // the replies can fail.
     ensures slots { IfRoomy T.eq bag.old steps.items (length bag.new.tables.newer ≡ length bag.old.tables.newer) }
     ensures roomy { IfRoomy T.eq bag.old steps.items (OnErr result (IsNotBegun (HasNoRoom replies.old steps)
         (ran bag.old bag.new steps.items replies.old.items replies.new.items))) }
 
-    // What the steps that have replies leave of an empty bag without slots, whether or not the run was stopped: the most distinct values on
-    // the way bound the slots, and the values that arrived bound those that were built.
+    // Of an empty bag without slots, as far as the run went: the most distinct values on the way bound the slots, and the values that
+    // arrived those that were built.
     ensures bounded { IsBoundedRun T.eq (ran bag.old bag.new steps.items replies.old.items replies.new.items) }
 
-    // The tables follow from those before by the steps with a reply, in turn. An absent value that was inserted carried the next 16 slots
-    // that waited; any other step on a value changed its slot alone. A step that reserved room got it, and one that freed room left the
-    // least table, or nothing changed.
+    // The tables follow from those before by the steps with a reply, in turn, each as `LeavesTables` says.
     ensures tables { AreTablesInTurn T.eq (ran bag.old bag.new steps.items replies.old.items replies.new.items) }
 {
     // `slots` and `waiting` are called for their clauses on the tables, which the proof names.

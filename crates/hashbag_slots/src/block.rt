@@ -23,7 +23,7 @@ impl<T> Model for Block<T> {
     ghost also_owns = { λ r. block_owns T.row r.ptr r.len };
 }
 
-/// The right to free a block by its allocator. It takes no bytes of its own.
+/// The right to free a block by its allocator. It takes no bytes of its own. Contracts see where the block is, its length, and the allocator.
 pub struct Deed<T, A: Allocator> {
     by: PhantomData<(T, A)>,
     pub ghost at: { Ptr },

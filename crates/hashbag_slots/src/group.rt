@@ -78,6 +78,8 @@ pub fn match_live(tags: &[u8], from: usize) -> u64
 pub fn lowest(bits: u64, from: usize) -> usize
     requires some { 0 < bits }
     requires fits { from + 64 ≤ 2 ^ 64 }
+
+    // If the bits show which places pass a test, the result is the first of them.
     ensures first { (test : ℕ → Bool) (at until : ℕ) → from ≤ at → IsMaskIn test from at until bits → IsFirstPlace test at until result }
     ensures before_until { (test : ℕ → Bool) (at until : ℕ) → IsMaskIn test from at until bits → result < until }
 {

@@ -1,7 +1,7 @@
 //! Tables of slots with open addressing: distinct values, each with a count, found by their hashes.
 //!
 //! This crate knows how values are stored in memory and how a probe finds them. A table here doesn't grow: `hashbag_table` decides how many
-//! slots there are, when a larger table is made, and when values are carried into it. The design is this project's own.
+//! slots there are, when a larger table is made, and when values are carried into it.
 #![tactic(auto)]
 
 mod block;

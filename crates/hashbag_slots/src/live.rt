@@ -1,4 +1,5 @@
-//! The Live slots of a table, one after the other: the next one, that of a walk over two tables, and all of them dropped.
+//! The Live slots of a table: the next one, the next one of a walk over two tables, and dropping the values of all. In clauses `places_left`
+//! are the places of Live slots that a walk has still to come to.
 ghost use Rattle.std.specs.Prelude.{◌≡◌, ℕ, ◌+◌, ◌%◌, ◌<◌, ◌≤◌, [], length, IfSome, IfNone, replicate, None};
 ghost use Rattle.hashbag_slots.specs.Walks.{of_turn, first_course, places_left, IsNextGroup, NoneLive, IsNextOn, IsCourse};
 ghost use Rattle.hashbag_slots.specs.Columns.{tag_at, IsNextMark, Agree, AgreeFrom};
@@ -137,6 +138,8 @@ pub fn next_on_course(newer: &[u8], older: &[u8], course: Course) -> Option<(usi
     requires newer { length newer.now % 16 ≡ 0 }
     requires older { length older.now % 16 ≡ 0 }
     requires course { IsCourse newer.now older.now course }
+
+    // It is the first of the places that are left, and the walk has those after it left; or none is.
     ensures some { IfSome result (λ r. IsNextOn newer.now older.now course.turn course.next r.0 r.1) }
     ensures none { IfNone result (places_left course.turn course.next newer.now older.now ≡ []) }
 {

@@ -3,6 +3,9 @@
 //! A path begins at the hash modulo the number of slots, has the slots in turn, and has slot 0 after the last one. A probe reads tags,
 //! sixteen at once, and a cell only if the tag is the mark of its own hash. Under a hash that spreads its values, one in 128 of the other
 //! values on its path has that mark.
+//!
+//! In clauses `hash_under ..` is the hash under the state, `HoldsAt` says that a place has the value that the key names, and `IsAbsent` that
+//! none has. `Agree`: the cells of Live slots have a value, and no others. `IsFirstFree`: it is the first slot on the path that isn't Live.
 ghost use Rattle.std.specs.Prelude.{◌≡◌, ◌≢◌, ℕ, ◌+◌, ◌<◌, ◌≤◌, length, true, false, IfSome, IfNone, Some};
 ghost use Rattle.hashbag_slots.specs.Cells.{cell_at, IsFilled};
 ghost use Rattle.hashbag_slots.specs.Hashing.{hash_under};

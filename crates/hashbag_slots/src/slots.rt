@@ -3,7 +3,8 @@
 //! A table has no slots, or a power of two from 16 to 2^59 of them. A place is the index of a slot. A probe for a value begins at its
 //! 64-bit hash modulo the number of slots, reads slot after slot, slot 0 after the last one, and ends at an Empty slot or at a Live one
 //! with an equal value. So a value is found if no Empty slot is before its own on that path. Every call keeps this, and says so by
-//! `IsReached`.
+//! `IsReached`. In clauses `hash_under ..` is the hash under a state, and `Places` says that the value is now Live in a slot that wasn't Live, and
+//! no other slot changed.
 //!
 //! Costs are counted in hashes and in probes; a probe reads a value's path, sixteen slots at once. A call hashes nothing and doesn't
 //! allocate unless its comment says so. The order of slots is what the contracts say.

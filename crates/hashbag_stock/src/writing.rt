@@ -1,4 +1,4 @@
-//! A batch written into the tables of a stock, in one transaction.
+//! A batch written into the tables of a stock, in one transaction. The clauses `same_reference` say that the connection is the same one.
 ghost use Rattle.std.specs.Prelude.{◌≡◌, is_ok, IfOk};
 ghost use Rattle.sqlite.specs.Held.{state};
 ghost use Rattle.hashbag_stock.specs.Commits.{IsInside, IsOneCommit};

@@ -16,6 +16,8 @@ pub const MOST_SLOTS: usize = 1 << 59;
 /// Returns a table without slots. It doesn't allocate.
 pub fn no_slots<T: Eq + Drop>(alloc: Global) -> Slots<T>
     ensures slots { result.slots ≡ [] }
+
+    // Under any hash its values are found: there are none.
     ensures reached { (hash : T → ℕ) → IsReached hash result }
 {
     match Slots::with_slots(alloc, 0) {

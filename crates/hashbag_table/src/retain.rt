@@ -8,8 +8,7 @@ ghost use Rattle.hashbag_table.specs.Retained.{LeavesSlot, RetainsFrom};
 
 use hashbag_slots::slots::Slots;
 
-// Calls `f` once for the value at a place, whose slot is Live, and returns the count that is left. The value keeps the lesser of its
-// count and what `f` returns. If that is 0 the value is dropped, and its slot becomes Removed.
+// Calls `f` once for the value at a place, whose slot is Live, and returns the count that is left, as [`retain_slots`].
 #[inline(always)]
 fn retain_at<T: Eq + Drop, F: FnMut(&T, usize) -> usize>(
     slots: &mut Slots<T>,

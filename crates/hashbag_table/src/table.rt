@@ -2,6 +2,9 @@
 //!
 //! Values are inserted into the newer table. If it has no room left, it becomes the older one, and a new one takes its place. Each
 //! insertion of an absent value then carries the next 16 slots of the older table, so no insertion moves all values at once.
+//!
+//! In clauses `IsMapOf` says which entries there are; `Adds` and `Stores` also which slots changed. `Rewrites`: one value's slot alone changed.
+//! `KeepsRoom 0`: no table was built, and room isn't lower. `FailsIfFull`: it fails only without room, for an absent value, and changes nothing.
 ghost use Rattle.std.specs.Prelude.{◌≡◌, ◌+◌, ◌-◌, ◌*◌, ◌<◌, ◌≤◌, ◌^◌, [], ◌∷◌, length, replicate, true, Some, None, IfOk, IfErr, OnOk, OnErr, IsOk, IsSome, IsTrue};
 ghost use Rattle.std.specs.Borrow.{sem};
 ghost use Rattle.std.specs.List.Sorted.{IsPermutation};
@@ -50,7 +53,7 @@ pub enum Spot {
 /// Distinct values, each stored once with its count, a `usize` of at least 1. Values that `==` calls equal are one value.
 ///
 /// Contracts see a table as the list of its entries, in an order that means nothing, and the state that hashes its values. They also see
-/// the slots of the newer table, and those of the older one that wait to be carried. The calls are this project's own.
+/// the slots of the newer table, and those of the older one that wait to be carried.
 #[derive(Drop)]
 pub struct Table<T: Eq + Hash + Drop, S: BuildHasher + Drop> {
     newer: Slots<T>,
@@ -89,6 +92,8 @@ impl<T: Eq + Hash + Drop, S: BuildHasher + Drop> Table<T, S> {
         ensures count { IsSlotCount result }
         ensures entries { self.now.entries ≡ entries_of self.now.tables.newer self.now.tables.waiting }
         ensures unmoved { NoneMoved self.now.tables.newer }
+
+        // All values and the Removed slots of the newer table are within its limit: three quarters of its slots.
         ensures fits { live_count self.now.tables.newer + removed_count self.now.tables.newer + live_count self.now.tables.waiting ≤ limit (length self.now.tables.newer) }
     {
         self.newer.slots()
@@ -340,7 +345,7 @@ impl<T: Eq + Hash + Drop, S: BuildHasher + Drop> Table<T, S> {
     ///
     /// # Complexity
     ///
-    /// It hashes the value once, and each value that it carries. It allocates only if the value is absent and there is no room.
+    /// It hashes the value once, and each value that it carries.
     #[inline(always)]
     pub fn add(&mut self, value: T, n: usize) -> Result<usize, AllocError>
         requires some { 0 < n }
@@ -375,7 +380,7 @@ impl<T: Eq + Hash + Drop, S: BuildHasher + Drop> Table<T, S> {
     ///
     /// # Complexity
     ///
-    /// It hashes the value once, and each value that it carries. It allocates only if the value is absent and there is no room.
+    /// It hashes the value once, and each value that it carries.
     pub fn put_instance(&mut self, value: T) -> Result<usize, AllocError>
         ensures before { IfOk result (λ before. before ≡ count_of T.eq value self.old.entries) }
         ensures stored { OnOk result (Stores T.eq value 1 self.old self.new) }
@@ -420,7 +425,6 @@ impl<T: Eq + Hash + Drop, S: BuildHasher + Drop> Table<T, S> {
     /// It hashes nothing and doesn't allocate. It reads sixteen tags at once, and ends in each of the two tables with the last Live slot.
     /// If there is no value it reads no tag, however many slots there are.
     pub fn retain<F: FnMut(&T, usize) -> usize + Drop>(&mut self, mut f: F) -> usize
-        // Nine clauses: the entries, and then the slots, the room and what waits, which the bag's own call passes on.
         requires asks { (walk : _) → IsPermutation self.old.entries walk → MayAskInTurn F.FnMut f walk }
         requires fits { total self.old.entries < 2 ^ 64 }
         ensures kept { Retains F.FnMut f self.old.entries self.new.entries }
@@ -436,8 +440,7 @@ impl<T: Eq + Hash + Drop, S: BuildHasher + Drop> Table<T, S> {
         newer + waiting
     }
 
-    /// Walks over the entries, in no particular order: each value once, with its count. It doesn't allocate and hashes nothing, here and at
-    /// each step.
+    /// Walks over the entries, in no particular order: each value once, with its count.
     pub fn walk(&self) -> Walk<'_, T>
         ensures entries { IsPermutation self.now.entries result }
         ensures counted { IsCounted T.eq self.now.entries }
@@ -446,8 +449,7 @@ impl<T: Eq + Hash + Drop, S: BuildHasher + Drop> Table<T, S> {
         self.newer.walk(&self.older)
     }
 
-    /// Turns the table into a walk, in no particular order: each value once, with its count. Unread entries are dropped with the walk. It
-    /// doesn't allocate and hashes nothing, here and at each step.
+    /// Turns the table into a walk, in no particular order: each value once, with its count. Unread entries are dropped with the walk.
     pub fn into_walk(self) -> IntoWalk<T>
         ensures entries { IsPermutation self.entries result }
         ensures counted { IsCounted T.eq self.entries }
@@ -468,8 +470,9 @@ impl<T: Eq + Hash + Drop, S: BuildHasher + Drop> Table<T, S> {
     /// Removes all entries, and walks over them, in no particular order: each value once, with its count.
     ///
     /// The table is empty at once, keeps its state, and has no room, however many entries are read. The unread ones are dropped with the
-    /// walk. It doesn't allocate and hashes nothing, here and at each step.
+    /// walk.
     pub fn drain(&mut self) -> DrainWalk<'_, T>
+        // Once the loan is over, the table is empty.
         ensures* writes_back { sem 𝓛 (follows_drain T.row S.row S.Hasher.row T.Hash S.BuildHasher S.Hasher.Hasher self.entry (drain_name result)) }
         ensures entries { IsPermutation self.old.entries (drain_rest result) }
         ensures counted { IsCounted T.eq self.old.entries }

@@ -1,7 +1,6 @@
 //! Walks over a table: its entries one after another, each once.
 //!
-//! A walk gives them in no particular order. It knows how many entries are left, and after the last one it gives `None` for good. It hashes
-//! nothing and doesn't allocate. It reads the slots of both tables once, as [`hashbag_slots::walk`] says.
+//! They come in no particular order, as [`hashbag_slots::walk`] says.
 ghost use Rattle.std.specs.Prelude.{◌≡◌, length, Some, IfSome};
 ghost use Rattle.std.specs.Iterator.{YieldsFirst, item_count, at_most, UpTo};
 ghost use Rattle.std.specs.Iterator.SizeHint.{IsWithinCount};

@@ -1,14 +1,14 @@
 //! The bag that tokens are counted in, and what counts in it.
 ghost use Rattle.std.specs.Prelude.{IfOk};
-ghost use Rattle.hashbag_words_core.specs.Counted.{IsWithin};
+ghost use Rattle.hashbag_words_lib.specs.Counted.{IsWithin};
 
 use crate::failure::Failure;
 use hashbag::{BagError, HashBag};
-use hashbag_words_core::counter::{Fed, TextCounter};
-use hashbag_words_core::errors::Fault;
-use hashbag_words_core::lines::Reading;
-use hashbag_words_core::row_counter::RowCounter;
-use hashbag_words_core::row_text::RowText;
+use hashbag_words_lib::counter::{Fed, TextCounter};
+use hashbag_words_lib::errors::Fault;
+use hashbag_words_lib::lines::Reading;
+use hashbag_words_lib::row_counter::RowCounter;
+use hashbag_words_lib::row_text::RowText;
 use std::hash::RandomState;
 
 /// A bag of texts. Strangers choose the texts, so each run hashes with random keys.

@@ -3,10 +3,10 @@ use crate::failure::Failure;
 use crate::input::{Input, plural, read_block, said};
 use crate::runs::BUFFER;
 use hashbag::BagError;
-use hashbag_words_core::errors::Fault;
-use hashbag_words_core::row_source::{Kind, RowSource};
-use hashbag_words_core::sorted_merge::{Merged, Merger, Sink, Stop};
-use hashbag_words_core::sources::{Opened, Source};
+use hashbag_words_lib::errors::Fault;
+use hashbag_words_lib::row_source::{Kind, RowSource};
+use hashbag_words_lib::sorted_merge::{Merged, Merger, Stop};
+use hashbag_words_lib::sources::{Opened, Source};
 use std::fs::File;
 use std::mem;
 
@@ -27,8 +27,8 @@ pub struct Batch<'s, 'a> {
     block: Vec<u8>,
 }
 
-// Returns why a sink took no more rows. What it takes goes into a file of that folder.
-fn sink_failure<'a>(folder: &'a str, fault: Fault) -> Failure<'a> {
+/// Returns why merged rows weren't taken. They go into a file of that folder.
+pub fn target_failure<'a>(folder: &'a str, fault: Fault) -> Failure<'a> {
     match fault {
         Fault::Read(error) => Failure::of_file(folder, error),
         Fault::Bag(BagError::TooMany) => Failure::TooManyInAll { name: folder },
@@ -172,26 +172,30 @@ impl<'s, 'a> Batch<'s, 'a> {
         }
     }
 
-    /// Merges the rows of all sources, and reports how many bad lines of each were skipped.
-    pub fn merge<K: Sink>(&mut self, folder: &'a str, sink: &mut K) -> Result<(), Failure<'a>> {
+    /// Returns a merger of the sources, which it takes.
+    pub fn merger(&mut self) -> Merger {
         let none = Vec::new(self.rt.alloc());
-        let mut merger = Merger::new(mem::replace(&mut self.sources, none));
+        Merger::new(mem::replace(&mut self.sources, none))
+    }
+
+    /// Returns the next merged row. After the last one it reports how many bad lines of each source were skipped, and returns `None`.
+    pub fn next_row(
+        &mut self,
+        folder: &'a str,
+        merger: &mut Merger,
+    ) -> Result<Option<(String, usize)>, Failure<'a>> {
         for _ in 0..u64::MAX {
             match merger.next_row() {
-                Ok(Merged::Row((token, count))) => {
-                    if let Err(fault) = sink.put(token, count) {
-                        return Err(sink_failure(folder, fault));
-                    }
-                }
+                Ok(Merged::Row(row)) => return Ok(Some(row)),
                 Ok(Merged::Wants(i)) => match self.files.get_mut(i) {
-                    Some(file) => feed(file, self.block.as_mut_slice(), &mut merger, i)?,
+                    Some(file) => feed(file, self.block.as_mut_slice(), merger, i)?,
                     None => return Err(Failure::NoMemoryLeft),
                 },
                 Ok(Merged::End) => break,
-                Err(stop) => return Err(self.failure(folder, &merger, stop)),
+                Err(stop) => return Err(self.failure(folder, merger, stop)),
             }
         }
-        self.report(&merger);
-        Ok(())
+        self.report(merger);
+        Ok(None)
     }
 }

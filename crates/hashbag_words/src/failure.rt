@@ -2,7 +2,7 @@
 use crate::input::plural;
 use hashbag::{BagError, JsonError};
 use hashbag_shell::status::{BAD_INPUT, IO_FAILED, NO_MEMORY, TOTAL_TOO_LARGE};
-use hashbag_words_core::errors::{BadLine, Fault};
+use hashbag_words_lib::errors::{BadLine, Fault};
 use std::alloc::AllocError;
 use std::io;
 use thiserror::Error;
@@ -16,6 +16,12 @@ pub enum Failure<'a> {
         name: &'a str,
         line: u64,
         bad: BadLine,
+    },
+    /// An input is no UTF-8, by its first bytes.
+    #[error("{name}: {kind}")]
+    Kind {
+        name: &'a str,
+        kind: &'static str,
     },
     /// An input isn't JSON.
     #[error("{name}: {error}")]
@@ -117,7 +123,7 @@ impl<'a> Failure<'a> {
     fn status(&self) -> u8 {
         match self {
             Failure::Line { .. } | Failure::Text { .. } | Failure::Tree { .. } => BAD_INPUT,
-            Failure::Pattern(_) | Failure::ReadTwice => BAD_INPUT,
+            Failure::Pattern(_) | Failure::ReadTwice | Failure::Kind { .. } => BAD_INPUT,
             Failure::OutputIsInput { .. } => BAD_INPUT,
             Failure::NoMemory { .. } | Failure::NoMemoryLeft => NO_MEMORY,
             Failure::File { error, .. } if error.kind() == io::ErrorKind::InvalidData => BAD_INPUT,

@@ -4,13 +4,14 @@ use crate::failure::Failure;
 use crate::input::{Input, plural, read_block, said};
 use crate::progress::Progress;
 use crate::runs::Runs;
-use hashbag_words_args::settings::Settings;
-use hashbag_words_core::counter::Fed;
-use hashbag_words_core::errors::Fault;
-use hashbag_words_core::gauge::Gauge;
-use hashbag_words_core::lines::Reading;
-use hashbag_words_core::row_counter::RowCounter;
-use hashbag_words_core::rows::RowForm;
+use hashbag_words_args::settings::{Ask, Settings};
+use hashbag_words_lib::counter::Fed;
+use hashbag_words_lib::errors::Fault;
+use hashbag_words_lib::gauge::Gauge;
+use hashbag_words_lib::lines::Reading;
+use hashbag_words_lib::row_counter::RowCounter;
+use hashbag_words_lib::rows::RowForm;
+use memchr::memchr;
 use std::hash::RandomState;
 use std::{io, mem};
 
@@ -41,6 +42,17 @@ pub struct Inputs<'s, 'a, 'm> {
     pub bound: Option<Bound<'s, 'a>>,
 }
 
+// Returns what a text is that begins with these bytes, if it isn't UTF-8, and what makes it that.
+fn kind_of(block: &[u8]) -> Option<&'static str> {
+    if block.starts_with(b"\x1f\x8b") {
+        return Some("gzip; `zcat` makes it text");
+    }
+    if block.starts_with(b"\xff\xfe") || block.starts_with(b"\xfe\xff") {
+        return Some("UTF-16; `iconv -f UTF-16 -t UTF-8` makes it UTF-8");
+    }
+    None
+}
+
 // Reads the whole input of this name.
 fn read_whole<'a>(rt: &HostRuntime, name: &'a str) -> Result<String, Failure<'a>> {
     let read = match Input::open(rt, name) {
@@ -65,6 +77,21 @@ impl<'s, 'a, 'm> Inputs<'s, 'a, 'm> {
                 "hashbag_words: {name}: bytes replaced in {replaced} line{s}"
             );
         }
+    }
+
+    // Returns why the text of this name, which begins with this block, isn't counted: another form than UTF-8, unless bytes are replaced.
+    fn other_kind(&self, name: &'a str, block: &[u8]) -> Option<Failure<'a>> {
+        match self.settings.ask {
+            Ask::Count(tokens, _) if tokens.lossy => None,
+            _ => kind_of(block).map(|kind| Failure::Kind { name, kind }),
+        }
+    }
+
+    // Reports that a text has NUL bytes, as UTF-16 without a mark has.
+    fn report_nul(&self, name: &str) {
+        let _ = eprintln!(self.rt;
+            "hashbag_words: {name}: it has NUL bytes; if it is UTF-16, `iconv -f UTF-16LE -t UTF-8`"
+        );
     }
 
     // Makes a run of what was counted, and empties the bag.
@@ -124,14 +151,25 @@ impl<'s, 'a, 'm> Inputs<'s, 'a, 'm> {
             Ok(input) => input,
             Err(error) => return Err(Failure::of_file(said(name), error)),
         };
-        for _ in 0..u64::MAX {
-            match read_block(&mut input, block) {
+        let mut has_nul = false;
+        for i in 0..u64::MAX {
+            let n = match read_block(&mut input, block) {
                 Ok(0) => break,
-                Ok(n) => self.feed(counter, said(name), &block[..n])?,
+                Ok(n) => n,
                 Err(error) => return Err(Failure::of_file(said(name), error)),
+            };
+            if i == 0
+                && let Some(failure) = self.other_kind(said(name), &block[..n])
+            {
+                return Err(failure);
             }
+            has_nul = has_nul || memchr(0, &block[..n]).is_some();
+            self.feed(counter, said(name), &block[..n])?;
             let lines = counter.reading().line;
             self.progress.tell(self.rt, lines, counter.bag());
+        }
+        if has_nul {
+            self.report_nul(said(name));
         }
         self.end(counter, said(name))
     }

@@ -11,11 +11,11 @@ use hashbag::HashBag;
 use hashbag_ops::{keep_common, take_away};
 use hashbag_shell::status::{DENIED, DONE};
 use hashbag_words_args::settings::{Ask, By, Pair, Settings, Tokens};
-use hashbag_words_core::choice::keep_shown;
-use hashbag_words_core::counter::TextCounter;
-use hashbag_words_core::gauge::Gauge;
-use hashbag_words_core::rule::{Pieces, Rule};
-use hashbag_words_core::runs::run_of;
+use hashbag_words_lib::choice::keep_shown;
+use hashbag_words_lib::counter::TextCounter;
+use hashbag_words_lib::gauge::Gauge;
+use hashbag_words_lib::rule::{Pieces, Rule};
+use hashbag_words_lib::runs::run_of;
 use regex::Regex;
 use std::mem;
 

@@ -18,9 +18,17 @@ pub fn read_list<'a>(rt: &HostRuntime, name: &'a str) -> Result<String, Failure<
     read.map_err(|error| Failure::of_file(name, error))
 }
 
-// Returns the names in a list, one for each line. Empty lines are skipped.
-fn listed(alloc: Global, list: &str) -> Result<Vec<&str>, AllocError> {
+// Returns the names in a list, one for each line, or each ending in a NUL byte. Empty ones are skipped.
+fn listed(alloc: Global, list: &str, null: bool) -> Result<Vec<&str>, AllocError> {
     let mut names = Vec::new(alloc);
+    if null {
+        for name in list.split('\0') {
+            if !name.is_empty() {
+                names.push(name)?;
+            }
+        }
+        return Ok(names);
+    }
     for line in list.lines() {
         if !line.is_empty() {
             names.push(line)?;
@@ -40,7 +48,8 @@ pub fn inputs_of<'a>(
     list: Option<&'a String>,
 ) -> Result<Vec<&'a str>, AllocError> {
     if let Some(list) = list {
-        return listed(alloc, list.as_str());
+        let null = settings.ask.many().is_some_and(|many| many.null);
+        return listed(alloc, list.as_str(), null);
     }
     let mut names = Vec::new(alloc);
     match settings.ask {

@@ -3,8 +3,8 @@ use crate::bag::Bag;
 use crate::failure::Failure;
 use hashbag_shell::output_file::OutputFile;
 use hashbag_words_args::settings::Settings;
-use hashbag_words_core::row_text::RowText;
-use hashbag_words_core::shown_text::shown_text;
+use hashbag_words_lib::row_text::RowText;
+use hashbag_words_lib::shown_text::shown_text;
 use std::fs::File;
 use std::io::{self, Read, Write};
 

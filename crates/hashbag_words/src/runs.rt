@@ -1,14 +1,17 @@
 //! Runs: counts of parts of the input in temporary files, tokens rising.
-use crate::batch::Batch;
+use crate::batch::{Batch, target_failure};
 use crate::failure::Failure;
 use hashbag::BagError;
 use hashbag_shell::temporary_file::create_unnamed;
-use hashbag_words_core::choice::{Choice, Order};
-use hashbag_words_core::row_text::RowText;
-use hashbag_words_core::shown_rows::ShownRows;
-use hashbag_words_core::writing::{Format, RowWriter};
+use hashbag_words_lib::choice::{Choice, Order};
+use hashbag_words_lib::errors::Fault;
+use hashbag_words_lib::row_parts::RowParts;
+use hashbag_words_lib::row_text::RowText;
+use hashbag_words_lib::shown_rows::ShownRows;
+use hashbag_words_lib::sorted_merge::Sink;
+use hashbag_words_lib::writing::Format;
 use std::fs::File;
-use std::io::{self, BufWriter, Seek};
+use std::io::{self, Seek, Write};
 use std::process;
 
 /// How many bytes are read or written at once.
@@ -37,16 +40,6 @@ pub struct Runs<'s, 'a> {
 fn temporary<'a>(rt: &HostRuntime, folder: &'a str) -> Result<File, Failure<'a>> {
     let number = process::id(rt.process());
     create_unnamed(rt, folder, number).map_err(|error| Failure::of_file(folder, error))
-}
-
-// Flushes, and returns the file, to be read from its beginning.
-fn begun(written: BufWriter<File>) -> io::Result<File> {
-    let mut file = match written.into_inner() {
-        Ok(file) => file,
-        Err(error) => return Err(error.into_error()),
-    };
-    file.rewind()?;
-    Ok(file)
 }
 
 // Writes the text of a run into a file, which is then to be read from its beginning.
@@ -142,26 +135,38 @@ const RUN: Shape = Shape {
     choice: Choice {
         order: Order::Rising,
         least: 0,
+        shortest: 0,
         shard: None,
     },
 };
 
-type FileRows = ShownRows<RowWriter<BufWriter<File>>>;
-
-// Begins rows in a file.
-fn begin_rows(rt: &HostRuntime, file: File, shape: Shape) -> io::Result<FileRows> {
-    let out = BufWriter::with_capacity(rt.alloc(), BUFFER, file)?;
-    let sink = RowWriter::begin(rt.alloc(), out, shape.format)?;
-    let choice = shape.choice;
-    Ok(ShownRows { sink, choice })
+// Writes what was built of rows.
+fn write_part(parts: &mut RowParts, file: &mut File) -> io::Result<()> {
+    file.write_all(parts.part())?;
+    parts.take();
+    Ok(())
 }
 
-// Ends rows. Returns their file, and whether it shows nothing.
-fn end_rows(rows: FileRows) -> io::Result<(File, bool)> {
-    let writer = rows.sink;
-    let is_empty = writer.is_empty();
-    let file = begun(writer.finish()?)?;
-    Ok((file, is_empty))
+// Puts a row, and writes what was built if that is as much as is written at once.
+fn put_row(
+    rows: &mut ShownRows<RowParts>,
+    file: &mut File,
+    token: String,
+    count: usize,
+) -> Result<(), Fault> {
+    rows.put(token, count)?;
+    if rows.sink.part().len() >= BUFFER {
+        write_part(&mut rows.sink, file)?;
+    }
+    Ok(())
+}
+
+// Writes the end of rows. Returns their file, to be read from its beginning, and whether it shows nothing.
+fn end_rows(mut parts: RowParts, mut file: File) -> io::Result<(File, bool)> {
+    parts.end()?;
+    file.write_all(parts.part())?;
+    file.rewind()?;
+    Ok((file, parts.is_empty()))
 }
 
 /// Merges sources into a temporary file in that folder. Returns the file, to be read from its beginning, and whether it shows nothing.
@@ -171,13 +176,21 @@ pub fn merge_to_file<'a>(
     batch: &mut Batch<'_, 'a>,
     shape: Shape,
 ) -> Result<(File, bool), Failure<'a>> {
-    let file = temporary(rt, folder)?;
-    let mut rows = match begin_rows(rt, file, shape) {
-        Ok(rows) => rows,
-        Err(error) => return Err(Failure::of_file(folder, error)),
+    let mut file = temporary(rt, folder)?;
+    let mut rows = ShownRows {
+        sink: RowParts::begin(rt.alloc(), shape.format)?,
+        choice: shape.choice,
     };
-    batch.merge(folder, &mut rows)?;
-    end_rows(rows).map_err(|error| Failure::of_file(folder, error))
+    let mut merger = batch.merger();
+    for _ in 0..u64::MAX {
+        let Some((token, count)) = batch.next_row(folder, &mut merger)? else {
+            break;
+        };
+        if let Err(fault) = put_row(&mut rows, &mut file, token, count) {
+            return Err(target_failure(folder, fault));
+        }
+    }
+    end_rows(rows.sink, file).map_err(|error| Failure::of_file(folder, error))
 }
 
 /// Merges sources into a run in that folder.

@@ -1,24 +1,28 @@
 //! What is shown of sources that are merged.
-use crate::batch::Batch;
+use crate::batch::{Batch, target_failure};
 use crate::failure::Failure;
 use crate::output::Made;
 use crate::runs::{FAN, Runs, Shape, merge_to_file, merge_to_run};
 use hashbag_words_args::settings::Settings;
-use hashbag_words_core::choice::Order;
-use hashbag_words_core::row_source::Kind;
-use hashbag_words_core::rows::RowForm;
-use hashbag_words_core::shown_rows::{ShownRows, TopRows};
-use hashbag_words_core::writing::{Format, RowWriter};
+use hashbag_words_lib::choice::Order;
+use hashbag_words_lib::row_parts::RowParts;
+use hashbag_words_lib::row_source::Kind;
+use hashbag_words_lib::rows::RowForm;
+use hashbag_words_lib::shown_rows::{ShownRows, TopRows};
+use hashbag_words_lib::sorted_merge::Sink;
+use hashbag_words_lib::writing::Format;
 use std::io;
 
-// Writes rows. Returns their text, and whether it shows nothing. Only an allocation can fail.
+// Returns the text of rows, and whether it shows nothing. Only an allocation can fail.
 fn text_of(rt: &HostRuntime, format: Format, top: TopRows) -> io::Result<(Vec<u8>, bool)> {
-    let mut writer = RowWriter::begin(rt.alloc(), Vec::new(rt.alloc()), format)?;
+    let mut parts = RowParts::begin(rt.alloc(), format)?;
     for (count, token) in &top.into_rows() {
-        writer.write_row(token.as_str(), count.0)?;
+        parts.push(token.as_str(), count.0)?;
     }
-    let is_empty = writer.is_empty();
-    Ok((writer.finish()?, is_empty))
+    parts.end()?;
+    let mut text = Vec::new(rt.alloc());
+    text.extend_from_slice(parts.part())?;
+    Ok((text, parts.is_empty()))
 }
 
 // Merges sources, and keeps the most common rows.
@@ -33,7 +37,15 @@ fn show_top<'a>(
         sink: TopRows::new(rt.alloc(), most),
         choice: settings.choice,
     };
-    batch.merge(folder, &mut top)?;
+    let mut merger = batch.merger();
+    for _ in 0..u64::MAX {
+        let Some((token, count)) = batch.next_row(folder, &mut merger)? else {
+            break;
+        };
+        if let Err(fault) = top.put(token, count) {
+            return Err(target_failure(folder, fault));
+        }
+    }
     match text_of(rt, settings.format, top.sink) {
         Ok((text, is_empty)) => Ok(Made::Text(text, is_empty)),
         Err(_) => Err(Failure::NoMemoryLeft),

@@ -56,7 +56,12 @@ fn with_choice<'a>(alloc: Global, command: Made<'a>) -> Made<'a> {
         arg!(in alloc; --least <N> "Show what occurs N times or more often alone").value_parser(
             value_parser!(usize),
         );
-    with(with(with(command, top), Ok(unsorted)), Ok(least))
+    let shortest =
+        arg!(in alloc; --"min-length" <N> "Show tokens of N characters or more alone").value_parser(
+            value_parser!(usize),
+        );
+    let command = with(with(command, top), Ok(unsorted));
+    with(with(command, Ok(least)), Ok(shortest))
 }
 
 // Adds how counts are written, and where.
@@ -97,7 +102,9 @@ fn with_memory<'a>(alloc: Global, command: Made<'a>) -> Made<'a> {
 fn with_list<'a>(alloc: Global, command: Made<'a>) -> Made<'a> {
     let list =
         arg!(in alloc; --"files-from" <FILE> "Read the names of the inputs there, one a line; `-`: from standard input");
-    with(command, list.conflicts_with("files"))
+    let null =
+        arg!(in alloc; --null "Names in that file end in a NUL byte, as `find -print0` writes them");
+    with(with(command, list.conflicts_with("files")), Ok(null))
 }
 
 // Adds what is counted.
@@ -151,7 +158,7 @@ fn pair<'a>(alloc: Global, name: &'a str, about: &'a str) -> Made<'a> {
 ///
 /// # Errors
 ///
-/// An error if an allocation fails.
+/// An allocation fails.
 pub fn command<'a>(alloc: Global, version: &'a str) -> Result<Command<'a>, AllocError> {
     let command = Command::new(alloc, "hashbag_words")
         .version(version)

@@ -2,11 +2,11 @@
 use crate::size::bytes_of;
 use clap::ArgMatches;
 use hashbag_shell::trouble::Trouble;
-use hashbag_words_core::choice::{Choice, Order};
-use hashbag_words_core::lines::BadLines;
-use hashbag_words_core::rows::RowForm;
-use hashbag_words_core::shards::Shard;
-use hashbag_words_core::writing::Format;
+use hashbag_words_lib::choice::{Choice, Order};
+use hashbag_words_lib::lines::BadLines;
+use hashbag_words_lib::rows::RowForm;
+use hashbag_words_lib::shards::Shard;
+use hashbag_words_lib::writing::Format;
 use std::alloc::Global;
 
 /// What is counted.
@@ -40,6 +40,8 @@ pub struct Many<'a, 'm> {
     pub files: Option<&'m [&'a str]>,
     /// The file that has their names, if there is one.
     pub files_from: Option<&'a str>,
+    /// Whether each of these names ends in a NUL byte, and not in a line feed.
+    pub null: bool,
     /// How many bytes of memory the counts may take, if that is bounded.
     pub memory: Option<usize>,
     /// The folder of temporary files, if it was named.
@@ -148,6 +150,7 @@ fn choice_of<'a>(alloc: Global, given: &ArgMatches<'a>) -> Result<Choice, Troubl
     Ok(Choice {
         order: order_of(given),
         least: given.get_one::<usize>("least").unwrap_or(0),
+        shortest: given.get_one::<usize>("min-length").unwrap_or(0),
         shard,
     })
 }
@@ -195,6 +198,7 @@ fn many_of<'a, 'm>(alloc: Global, given: &'m ArgMatches<'a>) -> Result<Many<'a, 
     Ok(Many {
         files: given.get_strs("files"),
         files_from: given.get_str("files-from"),
+        null: given.get_flag("null"),
         memory: memory_of(alloc, given)?,
         tmp: given.get_str("tmp"),
     })

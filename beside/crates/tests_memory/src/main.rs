@@ -1,4 +1,4 @@
-//! Makes calls that allocate, of which the script `tests/refused_memory` lets one request fail. It says whether a call returned that error,
+//! Makes calls that allocate, of which the script `tests/crates/refused_memory.sh` lets one request fail. It says whether a call returned that error,
 //! and whether all is then as it must be.
 //!
 //! Standard input is `strict`, `lenient` or `all`, or a single call such as `clone-25`: these name the calls. After it is the number of

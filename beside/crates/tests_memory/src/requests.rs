@@ -1,4 +1,4 @@
-//! Calls by themselves. The script `tests/refused_memory` knows how many requests for memory each makes, with those that make its bag.
+//! Calls by themselves. The script `tests/crates/refused_memory.sh` knows how many requests for memory each makes, with those that make its bag.
 use crate::checks::{Refusals, Wrong, check};
 use crate::limits::limits;
 use hashbag::{BagError, HashBag};

@@ -1,6 +1,6 @@
 //! Whole runs of the program's text, over a reader and a writer that don't allocate.
 use crate::checks::{Refusals, Wrong, check};
-use hashbag_run_core::execute::{BAD_LINE, DONE, NO_MEMORY, execute};
+use hashbag_run_lib::execute::{BAD_LINE, DONE, NO_MEMORY, execute};
 use std::alloc::Global;
 use std::io;
 use std::io::{Read, Write};

@@ -1,21 +1,21 @@
 //! What no clause says of lists with quantities: how texts are read, and what is said of bad ones. What is wanted was found by hand,
 //! and that Python's `csv` reads the good texts so too.
 use hashbag::FixedState;
-use hashbag_lists::counts::{Reading, read_counts_as};
-use hashbag_lists::decimals::{read_decimal, write_decimal};
-use hashbag_lists::delimiter::Delimiter;
-use hashbag_lists::fault::in_file;
-use hashbag_lists::scale::{Mark, Scale};
-use hashbag_match_core::keys::{names_in, repeated};
-use hashbag_match_core::matching::rows_of_tallies;
-use hashbag_match_core::output::is_reserved;
-use hashbag_match_core::reading::read_tally;
-use hashbag_match_core::tally::{Tally, empty_tally};
+use hashbag_csv::counts::{Reading, read_counts_as};
+use hashbag_csv::decimals::{read_decimal, write_decimal};
+use hashbag_csv::delimiter::Delimiter;
+use hashbag_csv::fault::in_file;
+use hashbag_csv::scale::{Mark, Scale};
+use hashbag_match_lib::keys::{names_in, repeated};
+use hashbag_match_lib::matching::rows_of_tallies;
+use hashbag_match_lib::output::is_reserved;
+use hashbag_match_lib::reading::read_tally;
+use hashbag_match_lib::tally::{Tally, empty_tally};
 use std::alloc::{AllocError, Global};
 use std::test::Fail;
 
 // A text, and what it says: each article with its number, or its first bad line and what is wrong with that.
-const TEXTS: [(&[u8], &str); 48] = [
+const TEXTS: [(&[u8], &str); 52] = [
     (b"article,number\n", ""),
     (
         b"article,number\nbolt,5\nnut,0\nbolt,007",
@@ -36,9 +36,34 @@ const TEXTS: [(&[u8], &str); 48] = [
     ),
     (b"", "1: no header"),
     (b"\xef\xbb\xbf\r\n\n", "1: no header"),
-    (b"\n\narticle;number\n", "3: no column `article`"),
-    (b"article, number\n", "1: no column `number`"),
-    (b"Article,number\n", "1: no column `article`"),
+    (
+        b"\n\narticle;number\n",
+        "3: no column `article`; there are: `article;number`; is the delimiter `;`?",
+    ),
+    (
+        b"article\tnumber\n",
+        "1: no column `article`; there are: `article\\tnumber`; is the delimiter `tab`?",
+    ),
+    (
+        b"article, number\n",
+        "1: no column `number`; there are: `article`, ` number`",
+    ),
+    (
+        b"Article,\xff,number\n",
+        "1: no column `article`; there are: `Article`, one that is not UTF-8, `number`",
+    ),
+    (
+        b"a,b,c,d,e,f,g,h,i,j,k,l,m,number\n",
+        "1: no column `article`; there are: `a`, `b`, `c`, `d`, `e`, `f`, `g`, `h`, `i`, `j`, `k`, `l` and 2 more",
+    ),
+    (
+        b"\xff\xfea\0r\0t\0",
+        "1: UTF-16; `iconv -f UTF-16 -t UTF-8` makes it UTF-8",
+    ),
+    (
+        b"\xfe\xff\0a\0r\0t",
+        "1: UTF-16; `iconv -f UTF-16 -t UTF-8` makes it UTF-8",
+    ),
     (
         b"article,number,article\n",
         "1: more than one column `article`",
@@ -103,11 +128,11 @@ const TEXTS: [(&[u8], &str); 48] = [
     ),
     (
         b"article,number\nbo\xfft,5\n",
-        "2: column `article` is not UTF-8",
+        "2: column `article` is not UTF-8; if it is Windows-1252, `iconv -f CP1252 -t UTF-8`",
     ),
     (
         b"article,number\nbolt,5\nnut,\xff\n",
-        "3: column `number` is not UTF-8",
+        "3: column `number` is not UTF-8; if it is Windows-1252, `iconv -f CP1252 -t UTF-8`",
     ),
     (b"article,number,remark\nbolt,5,\xff\n", "[bolt 5]"),
     (b"article,number\nbolt,\n", "2: no number: ``"),
@@ -259,7 +284,7 @@ const READINGS: [(&[u8], &str, &str, u32, &str, &str); 22] = [
         ";",
         0,
         ".",
-        "1: no column `article`",
+        "1: no column `article`; there are: `article,number`; is the delimiter `,`?",
     ),
     (
         b"number,lot,article\n1,L8,a\n2,,b\n",
@@ -275,7 +300,7 @@ const READINGS: [(&[u8], &str, &str, u32, &str, &str); 22] = [
         ",",
         0,
         ".",
-        "1: no column `lot`",
+        "1: no column `lot`; there are: `number`, `article`",
     ),
     (
         b"article,number\na,1.5\na,0.25\na,007.10\na,3\n",

@@ -1,11 +1,11 @@
 //! What no clause says of matched lists: how their rows are written. What is wanted was found by hand.
 use crate::texts::are_text;
 use hashbag::{BagError, FixedState};
-use hashbag_lists::delimiter::Delimiter;
-use hashbag_lists::scale::{Mark, Scale};
-use hashbag_match_core::matching::match_tallies;
-use hashbag_match_core::output::{Form, Layout, Only, text_of};
-use hashbag_match_core::tally::{Tally, empty_tally};
+use hashbag_csv::delimiter::Delimiter;
+use hashbag_csv::scale::{Mark, Scale};
+use hashbag_match_lib::matching::match_tallies;
+use hashbag_match_lib::output::{Form, Layout, Only, text_of};
+use hashbag_match_lib::tally::{Tally, empty_tally};
 use std::alloc::{AllocError, Global};
 use std::hash::{BuildHasher, RandomState};
 use std::test::Fail;

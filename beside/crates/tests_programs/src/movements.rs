@@ -2,14 +2,14 @@
 //! expected values were found by hand.
 use crate::texts::{are_text, is_text};
 use hashbag::FixedState;
+use hashbag_csv::counts::Reading;
+use hashbag_csv::delimiter::Delimiter;
+use hashbag_csv::scale::{Mark, Scale};
 use hashbag_ledger_lib::entering::LedgerError;
 use hashbag_ledger_lib::ledger::{Entered, Ledger, end};
 use hashbag_ledger_lib::movements::{Change, Movement, Refusal};
 use hashbag_ledger_lib::output::{balance_text, refusals_table, refusals_text};
 use hashbag_ledger_lib::reading::{ChangeColumns, Columns, enter_movements, read_movements};
-use hashbag_lists::counts::Reading;
-use hashbag_lists::delimiter::Delimiter;
-use hashbag_lists::scale::{Mark, Scale};
 use std::alloc::{AllocError, Global};
 use std::hash::{BuildHasher, RandomState};
 use std::test::Fail;
@@ -60,7 +60,11 @@ const TEXTS: [(&str, &str, &str); 18] = [
         "article,change\nbolt,-18446744073709551616\n",
         "2: number past 18446744073709551615: `-18446744073709551616`",
     ),
-    ("signed", "article,number\n", "1: no column `change`"),
+    (
+        "signed",
+        "article,number\n",
+        "1: no column `change`; there are: `article`, `number`",
+    ),
     (
         "by kind",
         "number,kind,part\n5,in,bolt\n4,out,bolt\n",

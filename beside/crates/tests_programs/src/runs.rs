@@ -1,5 +1,5 @@
 //! Whole runs of the program over readers and writers in memory.
-use hashbag_run_core::execute::execute;
+use hashbag_run_lib::execute::execute;
 use std::alloc::{AllocError, Global};
 use std::fmt::Write as _;
 use std::io::{ErrorKind, Read, Write};

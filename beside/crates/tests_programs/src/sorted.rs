@@ -1,22 +1,23 @@
 //! The merge of files whose rows rise. What is wanted was added up by hand.
 use crate::texts::is_text;
 use hashbag::HashBag;
-use hashbag_words_core::choice::{Choice, Order};
-use hashbag_words_core::counter::{Fed, TextCounter};
-use hashbag_words_core::errors::Fault;
-use hashbag_words_core::gauge::Gauge;
-use hashbag_words_core::lines::BadLines;
-use hashbag_words_core::row_source::{Kind, RowSource};
-use hashbag_words_core::rows::RowForm;
-use hashbag_words_core::rule::{Pieces, Rule};
-use hashbag_words_core::shown_rows::{ShownRows, TopRows};
-use hashbag_words_core::sorted_merge::{Merged, Merger, Sink, Stop};
-use hashbag_words_core::sources::{Opened, Source};
-use hashbag_words_core::writing::{Format, RowWriter};
+use hashbag_words_lib::choice::{Choice, Order};
+use hashbag_words_lib::counter::{Fed, TextCounter};
+use hashbag_words_lib::errors::Fault;
+use hashbag_words_lib::gauge::Gauge;
+use hashbag_words_lib::lines::BadLines;
+use hashbag_words_lib::row_parts::RowParts;
+use hashbag_words_lib::row_source::{Kind, RowSource};
+use hashbag_words_lib::rows::RowForm;
+use hashbag_words_lib::rule::{Pieces, Rule};
+use hashbag_words_lib::shown_rows::{ShownRows, TopRows};
+use hashbag_words_lib::sorted_merge::{Merged, Merger, Sink, Stop};
+use hashbag_words_lib::sources::{Opened, Source};
+use hashbag_words_lib::writing::Format;
 use std::alloc::{AllocError, Global};
 use std::hash::RandomState;
-use std::io;
 use std::test::Fail;
+use std::{io, str};
 
 // Files of counts, split at bars; whether bad lines are skipped; the merged rows, or the place of the source, the number of its line and
 // what is wrong with it.
@@ -193,12 +194,18 @@ fn merge_files<K: Sink>(
     }
 }
 
+// The end of a text, and the part before it.
+fn ended(alloc: Global, rows: &mut RowParts) -> Result<String, Fail> {
+    rows.end()?;
+    Ok(str::from_utf8(rows.part())?.to_string(alloc)?)
+}
+
 // The merged rows as text, or what stopped.
 fn merged(alloc: Global, kind: Kind, files: &str, most: usize) -> Result<String, Fail> {
-    let mut rows = RowWriter::begin(alloc, Vec::new(alloc), Format::Tsv)?;
+    let mut rows = RowParts::begin(alloc, Format::Tsv)?;
     match merge_files(alloc, kind, files, most, &mut rows)? {
         Some(text) => Ok(text),
-        None => Ok(String::from_utf8(rows.finish()?)?),
+        None => ended(alloc, &mut rows),
     }
 }
 
@@ -310,6 +317,7 @@ fn shown_in<K>(sink: K, least: usize) -> ShownRows<K> {
     let choice = Choice {
         order: Order::Rising,
         least,
+        shortest: 0,
         shard: None,
     };
     ShownRows { sink, choice }
@@ -359,14 +367,14 @@ fn format_of(word: &str) -> Format {
 
 // What is written of these rows.
 fn written(alloc: Global, format: Format, rows: &[(&str, usize)]) -> Result<String, Fail> {
-    let mut writer = RowWriter::begin(alloc, Vec::new(alloc), format)?;
+    let mut parts = RowParts::begin(alloc, format)?;
     for (token, count) in rows {
-        writer.write_row(*token, *count)?;
+        parts.push(*token, *count)?;
     }
-    if writer.is_empty() != rows.is_empty() {
+    if parts.is_empty() != rows.is_empty() {
         return Err(Fail::new("is_empty is wrong"));
     }
-    Ok(String::from_utf8(writer.finish()?)?)
+    ended(alloc, &mut parts)
 }
 
 #[test]
@@ -406,10 +414,9 @@ fn run_of_part(alloc: Global, counter: &mut Counter, part: &str) -> Result<Strin
 
 // The rows of two runs with a count of 2 or more.
 fn twice_in(alloc: Global, first: &[u8], second: &[u8]) -> Result<String, Fail> {
-    let writer = RowWriter::begin(alloc, Vec::new(alloc), Format::Tsv)?;
-    let mut rows = shown_in(writer, 2);
+    let mut rows = shown_in(RowParts::begin(alloc, Format::Tsv)?, 2);
     merge_runs(alloc, &[first, second], &mut rows)?;
-    Ok(String::from_utf8(rows.sink.finish()?)?)
+    ended(alloc, &mut rows.sink)
 }
 
 // The runs of two parts of a text, as `sort` and `uniq -c` have them.

@@ -1,5 +1,8 @@
 //! What is decided of a stock that is kept. The expected values were found by hand.
 use hashbag::FixedState;
+use hashbag_csv::counts::Reading;
+use hashbag_csv::delimiter::Delimiter;
+use hashbag_csv::scale::{Mark, Scale};
 use hashbag_ledger_lib::ledger::booking::{book_batch, count_refused, refusals_from};
 use hashbag_ledger_lib::listing::{batches_text, history_text};
 use hashbag_ledger_lib::movements::{Change, Entry, Movement, Outcome, Place, Refusal};
@@ -11,9 +14,6 @@ use hashbag_ledger_lib::undoing::{Undo, opposites, take_back};
 use hashbag_ledger_lib::verifying::{
     KeptMovement, KeptRefusal, wrong_batch, wrong_number, wrong_refusal,
 };
-use hashbag_lists::counts::Reading;
-use hashbag_lists::delimiter::Delimiter;
-use hashbag_lists::scale::{Mark, Scale};
 use std::alloc::Global;
 use std::test::Fail;
 

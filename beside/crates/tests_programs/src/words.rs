@@ -2,17 +2,17 @@
 //! What is wanted was found by hand, and by `tr`, `sort` and `uniq -c` where these find it. Each row is tried under two hash states.
 use crate::texts::is_text;
 use hashbag::{FixedState, HashBag};
-use hashbag_words_core::choice::{Order, chosen};
-use hashbag_words_core::counter::{Fed, TextCounter};
-use hashbag_words_core::errors::Fault;
-use hashbag_words_core::lines::{BadLines, Reading};
-use hashbag_words_core::merging::add_tree;
-use hashbag_words_core::row_counter::RowCounter;
-use hashbag_words_core::row_text::RowText;
-use hashbag_words_core::rows::RowForm;
-use hashbag_words_core::rule::{Pieces, Rule};
-use hashbag_words_core::shards::Shard;
-use hashbag_words_core::writing::Format;
+use hashbag_words_lib::choice::{Order, chosen};
+use hashbag_words_lib::counter::{Fed, TextCounter};
+use hashbag_words_lib::errors::Fault;
+use hashbag_words_lib::lines::{BadLines, Reading};
+use hashbag_words_lib::merging::add_tree;
+use hashbag_words_lib::row_counter::RowCounter;
+use hashbag_words_lib::row_text::RowText;
+use hashbag_words_lib::rows::RowForm;
+use hashbag_words_lib::rule::{Pieces, Rule};
+use hashbag_words_lib::shards::Shard;
+use hashbag_words_lib::writing::Format;
 use regex::Regex;
 use std::alloc::Global;
 use std::hash::{BuildHasher, RandomState};

@@ -44,9 +44,15 @@ impl<T: Eq + Hash + Drop, S: BuildHasher + Drop> HashBag<T, S> {
     /// ```
     pub fn slots(&self) -> usize
         ensures slots { result ≡ length self.now.tables.newer }
+
+        // It is 0, or a power of two from 16 to 2^59.
         ensures count { IsSlotCount result }
+
+        // Each value is in one Live slot of either table, with its count, and none was moved out of the newer table.
         ensures held { AreHeld T.eq self.now.items self.now.tables }
         ensures unmoved { NoneMoved self.now.tables.newer }
+
+        // The values of both tables and the Removed slots of the newer one are within its limit: three quarters of its slots.
         ensures fits { live_count self.now.tables.newer + removed_count self.now.tables.newer + live_count self.now.tables.waiting ≤ limit (length self.now.tables.newer) }
         ensures values { values self.now.tables ≡ distinct_count T.eq self.now.items }
     {
@@ -68,7 +74,11 @@ impl<T: Eq + Hash + Drop, S: BuildHasher + Drop> HashBag<T, S> {
     /// ```
     pub fn waiting(&self) -> usize
         ensures waiting { result ≡ length self.now.tables.waiting }
+
+        // If each insertion that there is room for carries 16 of them, all are carried.
         ensures carries { result ≤ 16 * room self.now.tables }
+
+        // If there are some, they are at least 16 fewer than the newer slots; if none, the older table has no slots.
         ensures smaller { 0 < result → result + 16 ≤ length self.now.tables.newer }
         ensures freed { result ≡ 0 → self.now.tables.older ≡ 0 }
     {
@@ -101,7 +111,11 @@ impl<T: Eq + Hash + Drop, S: BuildHasher + Drop> HashBag<T, S> {
         ensures items { IsBagOf T.eq self.old self.old.items self.new }
         ensures len { length self.new.items ≡ length self.old.items }
         ensures waiting { self.new.tables.waiting ≡ [] }
+
+        // The waiting values are in slots of the newer table that weren't Live. Its other slots are unchanged.
         ensures carried { Carried (length self.old.tables.waiting) self.old.tables.newer self.old.tables.waiting self.new.tables.newer self.new.tables.waiting }
+
+        // There are as many slots as before, no table was built, and room isn't lower.
         ensures room { KeepsRoom 0 self.old.tables self.new.tables }
     {
         self.table.finish_carry();
@@ -154,7 +168,7 @@ impl<T: Eq + Hash + Drop, S: BuildHasher + Drop> HashBag<T, S> {
         ensures err { OnErr result (self.new ≡ self.old) }
         ensures room { OnOk result (n ≤ room self.new.tables) }
 
-        // If there is room already nothing is done; else what the new table is.
+        // What becomes of the tables, as under `# Complexity`.
         ensures enough { n ≤ room self.old.tables → IsOk result × (self.new ≡ self.old) }
         ensures reserves { OnOk result (ReservesOrStays n (distinct_count T.eq self.old.items) self.old.tables self.new.tables) }
     {
@@ -189,7 +203,7 @@ impl<T: Eq + Hash + Drop, S: BuildHasher + Drop> HashBag<T, S> {
         ensures memory { IfErr result (λ e. e ≡ BagError.Memory) }
         ensures err { OnErr result (self.new ≡ self.old) }
 
-        // An empty bag is left with no slots. If the least table, of m slots, isn't smaller, nothing is done; else it is the new table.
+        // What becomes of the tables, as under `# Complexity`: m is the number of slots of the least table.
         ensures none { self.old.items ≡ [] → IsOk result }
         ensures freed { OnOk result (self.old.items ≡ [] → self.new.tables ≡ no_slots self.old.tables.built) }
         ensures shrinks { OnOk result (ShrinksOrStays (distinct_count T.eq self.old.items) self.old.tables self.new.tables) }

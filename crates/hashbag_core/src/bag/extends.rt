@@ -27,6 +27,8 @@ impl<T: Eq + Hash + Drop, S: BuildHasher + Drop> HashBag<T, S> {
         ensures empty { result.items ≡ [] }
         ensures hasher { S.is_default result.hasher }
         ensures slots { result.tables ≡ no_slots 0 }
+
+        // No limit is set.
         ensures limit { result.most ≡ greatest_total }
     {
         HashBag::with_hasher(alloc, S::default())
@@ -55,8 +57,12 @@ impl<T: Eq + Hash + Drop, S: BuildHasher + Drop> HashBag<T, S> {
         requires can { I.can_next items }
         requires ends { IsFinite (I.remaining items) }
         ensures all { IfOk result (λ bag. InsertsAll T.eq I.next_gives Once items (empty_bag bag.hasher) bag) }
+
+        // The state is the default, and no limit is set.
         ensures hasher { IfOk result (λ bag. S.is_default bag.hasher) }
         ensures limit { IfOk result (λ bag. bag.most ≡ greatest_total) }
+
+        // If it fails, an item failed, after those before it were inserted into some bag.
         ensures refused { IfErr result (λ e. (bag : Bag T S) × InsertsUpTo T.eq I.next_gives Once (RefusesOne T.eq) items (empty_bag bag.hasher) bag e) }
     {
         let mut bag = HashBag::default_in(alloc);
@@ -87,8 +93,12 @@ impl<T: Eq + Hash + Drop, S: BuildHasher + Drop> HashBag<T, S> {
         requires can { I.can_next pairs }
         requires ends { IsFinite (I.remaining pairs) }
         ensures all { IfOk result (λ bag. InsertsAll T.eq I.next_gives AsItIs pairs (empty_bag bag.hasher) bag) }
+
+        // The state is the default, and no limit is set.
         ensures hasher { IfOk result (λ bag. S.is_default bag.hasher) }
         ensures limit { IfOk result (λ bag. bag.most ≡ greatest_total) }
+
+        // If it fails, a pair failed, after those before it were inserted into some bag.
         ensures refused { IfErr result (λ e. (bag : Bag T S) × InsertsUpTo T.eq I.next_gives AsItIs (RefusesPair T.eq) pairs (empty_bag bag.hasher) bag e) }
     {
         let mut bag = HashBag::default_in(alloc);
@@ -122,10 +132,12 @@ impl<T: Eq + Hash + Drop, S: BuildHasher + Drop> HashBag<T, S> {
     pub fn extend<I: Iterator<Item = T> + Drop>(&mut self, items: I) -> Result<(), BagError>
         requires can { I.can_next items }
         requires ends { IsFinite (I.remaining items) }
+
+        // All items were inserted in turn, or those before one that failed.
         ensures all { OnOk result (InsertsAll T.eq I.next_gives Once items self.old self.new) }
         ensures refused { IfErr result (InsertsUpTo T.eq I.next_gives Once (RefusesOne T.eq) items self.old self.new) }
     {
-        // `len` is called for its clause that the list is a bag's, which the proof names.
+        // `len` is called for its clause `bag`.
         let _len = self.len();
         for item in items {
             self.insert_within(item, 1)?;
@@ -158,10 +170,12 @@ impl<T: Eq + Hash + Drop, S: BuildHasher + Drop> HashBag<T, S> {
     ) -> Result<(), BagError>
         requires can { I.can_next pairs }
         requires ends { IsFinite (I.remaining pairs) }
+
+        // All pairs were inserted in turn, or those before one that failed.
         ensures all { OnOk result (InsertsAll T.eq I.next_gives AsItIs pairs self.old self.new) }
         ensures refused { IfErr result (InsertsUpTo T.eq I.next_gives AsItIs (RefusesPair T.eq) pairs self.old self.new) }
     {
-        // `len` is called for its clause that the list is a bag's, which the proof names.
+        // `len` is called for its clause `bag`.
         let _len = self.len();
         for (value, n) in pairs {
             self.insert_within(value, n)?;
@@ -198,10 +212,12 @@ impl<T: Eq + Hash + Drop, S: BuildHasher + Drop> HashBag<T, S> {
         T: Clone + 'a,
         requires can { I.can_next items }
         requires ends { IsFinite (I.remaining items) }
+
+        // Clones of all items were inserted in turn, or of those before one that failed.
         ensures all { OnOk result (InsertsAll T.eq I.next_gives (CloneOnce T.is_clone) items self.old self.new) }
         ensures refused { IfErr result (ClonesUpTo T.eq T.is_clone T.is_infallible I.next_gives items self.old self.new) }
     {
-        // `len` is called for its clause that the list is a bag's, which the proof names.
+        // `len` is called for its clause `bag`.
         let _len = self.len();
         for item in items {
             self.insert_clone(item, 1)?;
@@ -238,10 +254,12 @@ impl<T: Eq + Hash + Drop, S: BuildHasher + Drop> HashBag<T, S> {
         T: Clone + 'a,
         requires can { I.can_next pairs }
         requires ends { IsFinite (I.remaining pairs) }
+
+        // Clones of all pairs were inserted in turn, or of those before one that failed.
         ensures all { OnOk result (InsertsAll T.eq I.next_gives (CloneAsOften T.is_clone) pairs self.old self.new) }
         ensures refused { IfErr result (ClonesManyUpTo T.eq T.is_clone T.is_infallible I.next_gives pairs self.old self.new) }
     {
-        // `len` is called for its clause that the list is a bag's, which the proof names.
+        // `len` is called for its clause `bag`.
         let _len = self.len();
         for (value, n) in pairs {
             self.insert_clone(value, n)?;

@@ -41,13 +41,17 @@ impl<T: Eq + Hash + Drop, S: BuildHasher + Drop> HashBag<T, S> {
     #[inline(always)]
     pub fn insert_key<Q: ToValue<T>>(&mut self, key: Q) -> Result<usize, BagError>
         ensures before { IfOk result (λ before. before ≡ count_named (Q.names key) self.old.items) }
+
+        // What the key names has one occurrence more, other values as many as before.
         ensures inserted { OnOk result (InsertsNamed T.eq (Q.names key) 1 self.old self.new) }
         ensures len { OnOk result (length self.new.items ≡ length self.old.items + 1) }
 
-        // The total is tested first. Then only an allocation can fail, and only if the value is absent.
+        // When it fails, as under `# Errors`.
         ensures too_many { (result ≡ Err BagError.TooMany) ↔ (self.old.most < length self.old.items + 1) }
         ensures refused { IfErr result (RefusesNamed (Q.names key) self.old.most self.old.items 1) }
         ensures err { OnErr result (self.new ≡ self.old) }
+
+        // If the total fits and the value is present, it succeeds.
         ensures present { length self.old.items + 1 ≤ self.old.most → 0 < count_named (Q.names key) self.old.items → IsOk result }
     {
         self.insert_many_key(key, 1)
@@ -81,14 +85,18 @@ impl<T: Eq + Hash + Drop, S: BuildHasher + Drop> HashBag<T, S> {
     #[inline(always)]
     pub fn insert_many_key<Q: ToValue<T>>(&mut self, key: Q, n: usize) -> Result<usize, BagError>
         ensures before { IfOk result (λ before. before ≡ count_named (Q.names key) self.old.items) }
+
+        // What the key names has `n` occurrences more, other values as many as before.
         ensures inserted { 0 < n → OnOk result (InsertsNamed T.eq (Q.names key) n self.old self.new) }
         ensures none { n ≡ 0 → IsOk result × (self.new ≡ self.old) }
         ensures len { OnOk result (length self.new.items ≡ length self.old.items + n) }
 
-        // The total is tested first. Then only an allocation can fail, and only if n isn't 0 and the value is absent.
+        // When it fails, as under `# Errors`.
         ensures too_many { (result ≡ Err BagError.TooMany) ↔ (self.old.most < length self.old.items + n) }
         ensures refused { IfErr result (RefusesNamed (Q.names key) self.old.most self.old.items n) }
         ensures err { OnErr result (self.new ≡ self.old) }
+
+        // If the total fits and the value is present, it succeeds.
         ensures present { length self.old.items + n ≤ self.old.most → 0 < count_named (Q.names key) self.old.items → IsOk result }
     {
         if n > self.most - self.len {
@@ -129,10 +137,12 @@ impl<T: Eq + Hash + Drop, S: BuildHasher + Drop> HashBag<T, S> {
     ) -> Result<(), BagError>
         requires can { I.can_next keys }
         requires ends { IsFinite (I.remaining keys) }
+
+        // Values of all keys were inserted in turn, or of those before one that failed.
         ensures all { OnOk result (InsertsAll T.eq I.next_gives (NamedOnce Q.names) keys self.old self.new) }
         ensures refused { IfErr result (InsertsUpTo T.eq I.next_gives (NamedOnce Q.names) (RefusesKey Q.names) keys self.old self.new) }
     {
-        // `len` is called for its clause that the list is a bag's, which the proof names.
+        // `len` is called for its clause `bag`.
         let _len = self.len();
         for key in keys {
             self.insert_key(key)?;
@@ -162,8 +172,12 @@ impl<T: Eq + Hash + Drop, S: BuildHasher + Drop> HashBag<T, S> {
         requires can { I.can_next keys }
         requires ends { IsFinite (I.remaining keys) }
         ensures all { IfOk result (λ bag. InsertsAll T.eq I.next_gives (NamedOnce Q.names) keys (empty_bag bag.hasher) bag) }
+
+        // The state is the default, and no limit is set.
         ensures hasher { IfOk result (λ bag. S.is_default bag.hasher) }
         ensures limit { IfOk result (λ bag. bag.most ≡ greatest_total) }
+
+        // If it fails, a key failed, after values of those before it were inserted into some bag.
         ensures refused { IfErr result (λ e. (bag : Bag T S) × InsertsUpTo T.eq I.next_gives (NamedOnce Q.names) (RefusesKey Q.names) keys (empty_bag bag.hasher) bag e) }
     {
         let mut bag = HashBag::default_in(alloc);

@@ -27,6 +27,8 @@ impl<T: Eq + Hash + Drop> HashBag<T, FixedState> {
         ensures empty { result.items ≡ [] }
         ensures hasher { ⟦<FixedState as Default>⟧.is_default result.hasher }
         ensures slots { result.tables ≡ no_slots 0 }
+
+        // No limit is set.
         ensures limit { result.most ≡ greatest_total }
     {
         HashBag::with_hasher(alloc, FixedState::new())
@@ -53,18 +55,19 @@ impl<T: Eq + Hash + Drop> HashBag<T, FixedState> {
     /// Ok(())
     /// ```
     pub fn with_capacity(alloc: Global, n: usize) -> Result<HashBag<T, FixedState>, BagError>
-        // Ten clauses, since they say what two things are: the bag, and the table of slots that was made.
         ensures empty { IfOk result (λ bag. bag.items ≡ []) }
         ensures hasher { IfOk result (λ bag. ⟦<FixedState as Default>⟧.is_default bag.hasher) }
         ensures none { n ≡ 0 → IsOk result }
         ensures beyond { MOST_VALUES < n → result ≡ Err BagError.Memory }
         ensures memory { IfErr result (λ e. e ≡ BagError.Memory) }
 
-        // The new table of slots.
+        // Nothing waits in an older table, and no other one was built.
         ensures least { IfOk result (λ bag. IsLeast 0 n (length bag.tables.newer)) }
         ensures packed { IfOk result (λ bag. IsPacked bag.tables) }
         ensures room { IfOk result (λ bag. n ≤ room bag.tables) }
         ensures built { IfOk result (λ bag. bag.tables.built ≡ length bag.tables.newer) }
+
+        // No limit is set.
         ensures limit { IfOk result (λ bag. bag.most ≡ greatest_total) }
     {
         HashBag::with_capacity_and_hasher(alloc, n, FixedState::new())
@@ -87,6 +90,8 @@ impl<T: Eq + Hash + Drop, S: BuildHasher + Drop> HashBag<T, S> {
         ensures empty { result.items ≡ [] }
         ensures hasher { result.hasher ≡ hasher }
         ensures slots { result.tables ≡ no_slots 0 }
+
+        // No limit is set.
         ensures limit { result.most ≡ greatest_total }
     {
         HashBag::with_limit(alloc, hasher, usize::MAX)
@@ -140,18 +145,19 @@ impl<T: Eq + Hash + Drop, S: BuildHasher + Drop> HashBag<T, S> {
         n: usize,
         hasher: S,
     ) -> Result<HashBag<T, S>, BagError>
-        // Ten clauses, since they say what two things are: the bag, and the table of slots that was made.
         ensures empty { IfOk result (λ bag. bag.items ≡ []) }
         ensures hasher { IfOk result (λ bag. bag.hasher ≡ hasher) }
         ensures none { n ≡ 0 → IsOk result }
         ensures beyond { MOST_VALUES < n → result ≡ Err BagError.Memory }
         ensures memory { IfErr result (λ e. e ≡ BagError.Memory) }
 
-        // The new table of slots.
+        // Nothing waits in an older table, and no other one was built.
         ensures least { IfOk result (λ bag. IsLeast 0 n (length bag.tables.newer)) }
         ensures packed { IfOk result (λ bag. IsPacked bag.tables) }
         ensures room { IfOk result (λ bag. n ≤ room bag.tables) }
         ensures built { IfOk result (λ bag. bag.tables.built ≡ length bag.tables.newer) }
+
+        // No limit is set.
         ensures limit { IfOk result (λ bag. bag.most ≡ greatest_total) }
     {
         let table = Table::with_room(alloc, hasher, n)?;
@@ -188,14 +194,17 @@ impl<T: Eq + Hash + Drop, S: BuildHasher + Drop> HashBag<T, S> {
     where
         T: Clone,
         S: Clone,
-        // Ten clauses, since they say what two things are: the new bag, and the table of slots that was made.
         requires equal { All (λ x. (y : _) → T.is_clone x y → T.eq x y ≡ true) self.now.items }
+
+        // The new bag has a clone of each occurrence, so each value as often, and the same total.
         ensures clones { IfOk result (λ bag. HasClones T.is_clone self.now.items bag.items) }
         ensures counts { IfOk result (λ bag. SameCounts T.eq self.now.items bag.items) }
         ensures len { IfOk result (λ bag. length bag.items ≡ length self.now.items) }
         ensures hasher { IfOk result (λ bag. S.is_clone self.now.hasher bag.hasher) }
         ensures limit { IfOk result (λ bag. bag.most ≡ self.now.most) }
         ensures memory { IfErr result (λ e. e ≡ BagError.Memory) }
+
+        // Its table is the least with room for the values. Nothing waits in an older one, and no other was built.
         ensures least { IfOk result (λ bag. NeedsSlots T.eq self.now (length bag.tables.newer)) }
         ensures packed { IfOk result (λ bag. IsPacked bag.tables) }
         ensures built { IfOk result (λ bag. bag.tables.built ≡ length bag.tables.newer) }

@@ -32,6 +32,8 @@ impl<T: Eq + Hash + Drop, S: BuildHasher + Drop> HashBag<T, S> {
         ensures hasher { self.new.hasher ≡ self.old.hasher }
         ensures limit { self.new.most ≡ self.old.most }
         ensures cleared { self.new.tables ≡ cleared self.old.tables }
+
+        // No table was built, and room isn't lower.
         ensures room { KeepsRoom 0 self.old.tables self.new.tables }
     {
         self.table.clear();
@@ -57,9 +59,12 @@ impl<T: Eq + Hash + Drop, S: BuildHasher + Drop> HashBag<T, S> {
     /// Ok(())
     /// ```
     pub fn retain<F: FnMut(&T, usize) -> usize + Drop>(&mut self, f: F)
+        // `f` can be called with each distinct value and its count, in whatever order.
         requires asks { (walk : _) → IsSetWalkOf T.eq self.old walk → MayAskInTurn F.FnMut f walk }
         ensures retained { IsRetained T.eq F.FnMut f self.old self.new }
         ensures len { length self.new.items ≤ length self.old.items }
+
+        // Counts changed in place: no value is in another slot, no table was built, and room isn't lower.
         ensures waiting { length self.new.tables.waiting ≡ length self.old.tables.waiting }
         ensures in_place { RetainsTables self.old.tables self.new.tables }
         ensures room { KeepsRoom 0 self.old.tables self.new.tables }

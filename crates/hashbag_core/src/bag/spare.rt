@@ -64,6 +64,8 @@ impl<T: Eq + Hash + Drop, S: BuildHasher + Drop> HashBag<T, S> {
         requires enough { distinct_count T.eq self.old.items ≤ limit spare }
         ensures items { IsBagOf T.eq self.old self.old.items self.new }
         ensures len { length self.new.items ≡ length self.old.items }
+
+        // The spare is the only table, so nothing waits. Room is its limit less the distinct values, and its slots count as built.
         ensures slots { length self.new.tables.newer ≡ spare }
         ensures room { room self.new.tables ≡ limit spare - distinct_count T.eq self.old.items }
         ensures packed { IsPacked self.new.tables }

@@ -33,7 +33,11 @@ impl<T: Eq + Hash + Drop, S: BuildHasher + Drop> HashBag<T, S> {
     /// ```
     pub fn remove<Q: Key<T>>(&mut self, key: Q) -> usize
         ensures before { result ≡ count_named (Q.names key) self.old.items }
+
+        // If the value was present, only its slot changed; else nothing did. Room isn't lower.
         ensures fewer { HasFewer T.eq (Q.names key) 1 self.old self.new }
+
+        // The total is lower by what was removed.
         ensures len { IsShorterBy (min result 1) self.old self.new }
     {
         self.take_up_to(key, 1)
@@ -57,7 +61,11 @@ impl<T: Eq + Hash + Drop, S: BuildHasher + Drop> HashBag<T, S> {
     /// ```
     pub fn remove_up_to<Q: Key<T>>(&mut self, key: Q, quantity: usize) -> usize
         ensures after { result ≡ count_named (Q.names key) self.old.items - quantity }
+
+        // If the value was present, only its slot changed; else nothing did. Room isn't lower.
         ensures fewer { HasFewer T.eq (Q.names key) quantity self.old self.new }
+
+        // The total is lower by what was removed.
         ensures len { length self.new.items + count_named (Q.names key) self.old.items ≡ length self.old.items + result }
     {
         self.take_up_to(key, quantity).saturating_sub(quantity)
@@ -95,7 +103,7 @@ impl<T: Eq + Hash + Drop, S: BuildHasher + Drop> HashBag<T, S> {
     /// Ok(())
     /// ```
     pub fn try_take<Q: Key<T>>(&mut self, key: Q) -> Result<T, Option<(&T, usize)>>
-        // Once the loan is over.
+        // Once the loan is over, one occurrence of the value is gone, if there was one.
         ensures* left { sem 𝓛 (ends_taking T.row S.row S.Hasher.row T.Hash S.BuildHasher S.Hasher.Hasher self.entry (Q.names key)) }
         ensures last { IfOk result (λ instance. stored_named (Q.names key) self.old.items ≡ Some (instance, 1)) }
         ensures others { IfErr result (λ found. Lends found (stored_named (Q.names key) self.old.items) × (count_named (Q.names key) self.old.items ≢ 1)) }
@@ -143,10 +151,15 @@ impl<T: Eq + Hash + Drop, S: BuildHasher + Drop> HashBag<T, S> {
     /// Ok(())
     /// ```
     pub fn take_one<Q: Key<T>>(&mut self, key: Q) -> Result<T, usize>
+        // If the value was present, only its slot changed; else nothing did. Room isn't lower.
         ensures fewer { HasFewer T.eq (Q.names key) 1 self.old self.new }
+
+        // The total is lower by what was removed.
         ensures len { MatchResult result (λ _. IsShorterBy 1 self.old self.new) (λ before. IsShorterBy (min before 1) self.old self.new) }
         ensures last { IfOk result (λ instance. stored_named (Q.names key) self.old.items ≡ Some (instance, 1)) }
         ensures others { IfErr result (λ before. (before ≡ count_named (Q.names key) self.old.items) × (before ≢ 1)) }
+
+        // Before the call equal occurrences were one instance, and the total was within the limit.
         ensures bag { IsBag T.eq self.old.most self.old.items }
     {
         match self.table.take_one(key) {
@@ -178,7 +191,11 @@ impl<T: Eq + Hash + Drop, S: BuildHasher + Drop> HashBag<T, S> {
     /// ```
     pub fn take_all<Q: Key<T>>(&mut self, key: Q) -> Option<(T, usize)>
         ensures taken { result ≡ stored_named (Q.names key) self.old.items }
+
+        // If the value was present, only its slot changed; else nothing did. Room isn't lower.
         ensures fewer { HasFewer T.eq (Q.names key) (count_named (Q.names key) self.old.items) self.old self.new }
+
+        // The total is lower by the returned count.
         ensures len { MatchOption result (length self.new.items ≡ length self.old.items) (λ taken. IsShorterBy taken.1 self.old self.new) }
     {
         let (instance, count) = self.table.remove(key)?;

@@ -1,8 +1,8 @@
-//! Movements that are entered into a stock and kept, each with what became of it.
+//! Movements that are entered into a stock and kept, each with what became of it. In clauses L is the list that the stock began as.
 ghost use Rattle.std.specs.Prelude.{◌≡◌, ◌≢◌, ◌<◌, ◌≤◌, ◌^◌, ◌-◌, ◌↔◌, ◌++◌, ◌∷◌, ℕ, List, [], String, length, IfOk, IfErr, OnOk, string_cmp};
 ghost use Rattle.std.specs.Global.{Global};
 ghost use Rattle.std.specs.String.{string_eq};
-ghost use Rattle.hashbag_lists.specs.Quantities.{numbers};
+ghost use Rattle.hashbag_csv.specs.Quantities.{numbers};
 ghost use Rattle.hashbag_ledger_lib.specs.Batches.{Continues};
 ghost use Rattle.hashbag_ledger_lib.specs.declared.movements.Movement.{Movement};
 ghost use Rattle.hashbag_ledger_lib.specs.declared.movements.Place.{Place};
@@ -15,7 +15,7 @@ use crate::ledger::stock_at_start;
 use crate::movements::{Change, Entry, Movement, Outcome, Refusal};
 use crate::numbers::MOST;
 use hashbag::HashBag;
-use hashbag_lists::quantities::balance_of;
+use hashbag_csv::quantities::balance_of;
 use std::alloc::{AllocError, Global};
 use std::hash::BuildHasher;
 
@@ -70,8 +70,11 @@ pub fn book_all<S: BuildHasher + Drop>(
     stock: HashBag<String, S>,
     movements: Vec<Movement<String>>,
 ) -> Result<Booked<String>, LedgerError>
+    // The balance and the entries follow from the list and the movements.
     ensures booked { IfOk result (λ b. (L : List (String Global × ℕ)) → IsStockAfter string_eq L [] stock
         → IsBooked string_eq string_cmp stock.most L movements.items b.balance.items b.entries.items) }
+
+    // `TooMany p`: with the movement at `p` the total would pass the limit.
     ensures past { IfErr result (λ e. (p : Place) → e ≡ LedgerError.TooMany p → (L : List (String Global × ℕ))
         → IsStockAfter string_eq L [] stock → IsPastWithin string_eq stock.most L movements.items p) }
     ensures not_start { IfErr result (λ e. e ≢ LedgerError.StartTooMany) }
@@ -106,11 +109,14 @@ pub fn book_batch<S: BuildHasher + Drop>(
     kept: Vec<(String, usize)>,
     batch: Vec<Movement<String>>,
 ) -> Result<Booked<String>, LedgerError>
+    // `start` and `before` are the stock and the movements that left the balance `kept`.
     ensures booked { IfOk result (λ b. IsBooked string_eq string_cmp (2 ^ 63 - 1) kept.items batch.items b.balance.items b.entries.items) }
     ensures in_turn { IfOk result (λ b. (start : String Global → ℕ) (before : List (Movement (String Global)))
         → Leaves string_eq start before (listed string_eq kept.items)
         → Continues string_eq string_cmp start before batch.items b.balance.items (refusals_in b.entries.items)) }
     ensures too_many { (result ≡ Err LedgerError.StartTooMany) ↔ (2 ^ 63 - 1 < numbers kept.items) }
+
+    // `TooMany p`: with the movement at `p` the total would pass [`MOST`].
     ensures past { IfErr result (λ e. (p : Place) → e ≡ LedgerError.TooMany p → IsPastWithin string_eq (2 ^ 63 - 1) kept.items batch.items p) }
 {
     let stock = stock_at_start(alloc, state, MOST, kept)?;

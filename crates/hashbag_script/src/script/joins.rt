@@ -90,7 +90,7 @@ pub fn joins_of<'a, T: Eq + Hash + Drop, S: BuildHasher + Drop, S2: BuildHasher 
     a: &'a HashBag<T, S>,
     b: &'a HashBag<T, S2>,
 ) -> Result<Joins<'a, T>, BagError>
-    // Of all lists that the bags mean.
+    // X and Y are the occurrences of both bags, each in any order. Each list is that join of them.
     ensures outer { IfOk result (λ joins. (X Y : List T) → Means a.now X → Means b.now Y
         → IsOuterJoin T.eq X Y (map (λ j. (j.0.now, j.1, j.2)) joins.outer.items)) }
     ensures difference { IfOk result (λ joins. (X Y : List T) → Means a.now X → Means b.now Y

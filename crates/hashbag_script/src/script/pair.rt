@@ -36,10 +36,8 @@ pub fn run_pair<T: Eq + Hash + Drop, S: BuildHasher + Drop, S2: BuildHasher + Dr
     replies_a: &mut Vec<Reply<T>>,
     replies_b: &mut Vec<Reply<T>>,
 ) -> Result<(), BagError>
-    // Thirteen clauses, since what `run` says is said of two runs.
-    //
-    // Each step replies as the plain list of occurrences replies, whichever list its bag means, and each bag then means what
-    // its list has become.
+    // `ran` is one run: its bag and its replies before and after. Each step replies as the list of its bag's occurrences would, and the
+    // bag then has what that list has become.
     ensures first { OnOk result (IsDone T.eq (ran a.old a.new steps_a.items replies_a.old.items replies_a.new.items)) }
     ensures second { OnOk result (IsDone T.eq (ran b.old b.new steps_b.items replies_b.old.items replies_b.new.items)) }
     ensures first_hasher { a.new.hasher ≡ a.old.hasher }

@@ -1,4 +1,5 @@
-//! Look-ups by a key: by a value that is lent, or by what names it.
+//! Look-ups by a key: by a value that is lent, or by what names it. In clauses `HoldsAt` says that the slot at a place has a value that the
+//! key names, and `IsAbsent` that none has.
 ghost use Rattle.std.specs.Prelude.{◌≡◌, ℕ, ◌<◌, ◌≤◌, length, false, IfSome, IfNone, Some};
 ghost use Rattle.std.specs.Map.{lookup_entry};
 ghost use Rattle.hashbag_slots.specs.FirstGroup.{IfFound, IfAbsent, IfOpen, IsUndecided};
@@ -22,6 +23,8 @@ impl<T: Eq + Hash> Slots<T> {
         requires reached { IsReached (hash_under T.hash_input S.BuildHasher S.Hasher.Hasher state.now) self.now }
         ensures found { IfSome result (HoldsAt (Q.names key) self.now.slots) }
         ensures absent { IfNone result (IsAbsent (Q.names key) self.now.slots) }
+
+        // So it is the entry that the map has for the key.
         ensures map { entry_at self.now.slots result ≡ lookup_entry (Q.names key) (entries self.now.slots) }
     {
         let hash = hash_of(state, key);
@@ -86,6 +89,8 @@ impl<T: Eq + Hash> Slots<T> {
         ensures found { IfFound result (HoldsAt (Q.names key) self.now.slots) }
         ensures absent { IfAbsent result (λ _. IsAbsent (Q.names key) self.now.slots) }
         ensures free { IfAbsent result (IsFirstFree hash self.now.slots) }
+
+        // No Empty slot is among the 16, nor the value; or the table ends before the sixteenth.
         ensures open { IfOpen result (IsUndecided (Q.names key) hash self.now) }
         ensures map { IfFound result (λ p. entry_at self.now.slots (Some p) ≡ lookup_entry (Q.names key) (entries self.now.slots)) }
     {

@@ -46,6 +46,8 @@ impl<T: Eq + Hash + Drop, S: BuildHasher + Drop> Table<T, S> {
         ensures hasher { IfOk result (λ table. table.hasher ≡ hasher) }
         ensures none { n ≡ 0 → IsOk result }
         ensures beyond { MOST_VALUES < n → IsErr result }
+
+        // All its slots are Empty, nothing waits in an older table, and no other was built.
         ensures fresh { IfOk result (λ table. table.tables.newer ≡ replicate (length table.tables.newer) Slot.Empty) }
         ensures least { IfOk result (λ table. IsLeast 0 n (length table.tables.newer)) }
         ensures packed { IfOk result (λ table. IsPacked table.tables) }
@@ -82,6 +84,8 @@ impl<T: Eq + Hash + Drop, S: BuildHasher + Drop> Table<T, S> {
         ensures clones { IfOk result (λ table. HasClones (λ e c. T.is_clone e.0 c.0 × (c.1 ≡ e.1)) self.now.entries table.entries) }
         ensures hasher { IfOk result (λ table. S.is_clone self.now.hasher table.hasher) }
         ensures counted { IfOk result (λ table. IsCounted T.eq table.entries) }
+
+        // Nothing waits in an older table, and no other was built.
         ensures least { IfOk result (λ table. IsLeast 0 (length self.now.entries) (length table.tables.newer)) }
         ensures packed { IfOk result (λ table. IsPacked table.tables) }
         ensures built { IfOk result (λ table. table.tables.built ≡ length table.tables.newer) }

@@ -186,6 +186,8 @@ impl<T: Eq + Hash + Drop, S: BuildHasher + Drop> Table<T, S> {
         ensures entries { IsMapOf T.eq self.old self.old.entries self.new }
         ensures beyond { 0 < n → MOST_VALUES < length self.old.entries + n → IsErr result }
         ensures err { OnErr result (self.new ≡ self.old) }
+
+        // What becomes of the slots, as under `# Complexity`.
         ensures enough { n ≤ room self.old.tables → IsOk result × (self.new ≡ self.old) }
         ensures room { OnOk result (n ≤ room self.new.tables) }
         ensures reserves { OnOk result (ReservesOrStays n (length self.old.entries) self.old.tables self.new.tables) }
@@ -218,6 +220,8 @@ impl<T: Eq + Hash + Drop, S: BuildHasher + Drop> Table<T, S> {
         ensures entries { IsMapOf T.eq self.old self.old.entries self.new }
         ensures err { OnErr result (self.new ≡ self.old) }
         ensures none { self.old.entries ≡ [] → IsOk result }
+
+        // What becomes of the slots, as under `# Complexity`: m is the number of slots of the least table.
         ensures freed { self.old.entries ≡ [] → self.new.tables.newer ≡ [] }
         ensures freed_built { self.old.entries ≡ [] → self.new.tables.built ≡ self.old.tables.built }
         ensures shrinks { OnOk result (ShrinksOrStays (length self.old.entries) self.old.tables self.new.tables) }

@@ -13,8 +13,6 @@ use std::hash::{BuildHasher, Hash};
 impl<T: Eq + Hash + Drop, S: BuildHasher + Drop> Table<T, S> {
     /// Allocates the slots that [`Table::reserve`] would build for `n` more distinct values, and leaves them unused.
     ///
-    /// They are the least table of slots that has room for all, and is not smaller than the newer one.
-    ///
     /// # Errors
     ///
     /// `AllocError` if the allocation fails, or if there would be more than [`MOST_VALUES`].
@@ -40,6 +38,8 @@ impl<T: Eq + Hash + Drop, S: BuildHasher + Drop> Table<T, S> {
     pub fn use_spare(&mut self, spare: Spare<T>)
         requires enough { length self.old.entries ≤ limit spare }
         ensures slots { length self.new.tables.newer ≡ spare }
+
+        // Nothing waits, the spare's slots count as built, and all values are in them.
         ensures packed { IsPacked self.new.tables }
         ensures built { self.new.tables.built ≡ self.old.tables.built + spare }
         ensures values { values self.new.tables ≡ length self.old.entries }

@@ -1,5 +1,5 @@
 use Rattle.std.proofs.Common.{ℕ, sym, subst}
-use Rattle.hashbag_lists.specs.Quantities.{IsBalance}
+use Rattle.hashbag_csv.specs.Quantities.{IsBalance}
 use Rattle.hashbag_ledger_lib.specs.Ledger.{Leaves}
 use Rattle.hashbag_ledger_lib.specs.Settled.{listed}
 use Rattle.hashbag_ledger_lib.proofs.ledger.end.Goals as goal

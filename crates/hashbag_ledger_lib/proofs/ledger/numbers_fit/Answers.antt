@@ -1,7 +1,7 @@
 use Rattle.std.proofs.Common.{◌≡◌, ◌≤◌, ◌∙◌, ℕ, List, sum_by, ap, arith}
 use Rattle.std.proofs.lemmas.Bool.{leb-true, le-leb}
 use Rattle.std.proofs.lemmas.List.{take_all}
-use Rattle.hashbag_lists.specs.Quantities.{numbers}
+use Rattle.hashbag_csv.specs.Quantities.{numbers}
 use Rattle.hashbag_ledger_lib.proofs.ledger.numbers_fit.Goals as goal
 
 -- all have been added

@@ -1,8 +1,15 @@
-use Rattle.std.proofs.Common.{◌≡◌, All}
+use Rattle.std.proofs.Common.{◌≡◌, ◌++◌, All, length, map}
+use Rattle.hashbag_csv.specs.Sheets.{left, place}
+use Rattle.hashbag_ledger_lib.specs.Movements.{columns_by, movement_in, movements_in, said}
 use Rattle.hashbag_ledger_lib.proofs.reading.read_movements.Given as goal
 
--- the movements so far are of this file
+-- the movements so far are of this file, and with those of the records that are left all of the text
 abbrev pub invariant-records : goal.invariant-records
 invariant-records l = record {
   places : All (λ m. m.place.file ≡ l.fn.file) l.movements.items;
+  read : movements_in l.reading (columns_by (λ n. n.now) l.names) l.text ≡ map said l.movements.items ++ map (movement_in l.reading.scale (columns_by place l.columns)) (left l.sheet);
 }
+
+-- a record less is left
+abbrev pub decreases-records : goal.decreases-records
+decreases-records l = length (left l.sheet)

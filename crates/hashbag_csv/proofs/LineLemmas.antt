@@ -1,0 +1,20 @@
+-- Columns and fields by their places.
+use Rattle.std.proofs.Common.{◌≡◌, ◌<◌, ℕ, Bool, true, false, List, [], get_or, length, bytes_eq, refl, sym, ◌∙◌, arith}
+use Rattle.std.proofs.lemmas.Bool.{cases_Bool}
+use Rattle.std.proofs.lemmas.List.Sums.{position_or_len_is}
+use Rattle.std.proofs.lemmas.Slice.Eq.{bytes_eq-Decides}
+use Rattle.hashbag_csv.specs.Lines.{place_of}
+use Rattle.hashbag_csv.specs.Readers.{Record}
+use Rattle.hashbag_csv.specs.Sheets.{IsOnlyAt}
+
+fails : (b : Bool) → (b ≡ true → ⊥) → b ≡ false
+fails true never = absurd (never refl)
+fails false never = refl
+
+-- the only column of a name is the first
+pub only_place : (name : List ℕ) (fields : Record) (p : ℕ) → IsOnlyAt name fields p → p ≡ place_of fields name
+only_place name fields p (below, is, only) =
+    let same = λ (f : List ℕ). bytes_eq-Decides name f in
+    sym (position_or_len_is (bytes_eq name) fields p [] (omega (arith, below))
+    (λ k less. fails _ (λ yes. let here = only k (omega (arith, less, below)) (sym ((same (get_or fields k [])).0 yes)) in absurd (omega (arith, less, here))))
+    (λ low. (same (get_or fields p [])).1 (sym is)))

@@ -1,0 +1,44 @@
+-- Which error a text has that isn't read as a number.
+use Rattle.std.specs.Prelude.{◌≡◌, ℕ, ◌<◌, ◌==◌, ◌&&◌, ◌⊎◌, ◌++◌, ◌∷◌, if◌then◌else◌, Bool, true, false, List, [], length, IsTrue, ⊤}
+use Rattle.std.specs.Char.{is_ascii_digit}
+use Rattle.std.specs.String.{string_bytes}
+use Rattle.std.specs.Str.Parse.{IsNumeral}
+use Rattle.hashbag_csv.specs.Decimals.{IsDecimal, part_of, units, whole_of}
+use Rattle.hashbag_csv.specs.declared.fault.Fault.{Fault}
+use Rattle.hashbag_csv.specs.declared.fault.Fault.TheVariants.{NoNumber, NotWhole, TooManyDecimals, PastMost}
+use Rattle.hashbag_csv.specs.declared.fault.SheetError.{SheetError}
+use Rattle.hashbag_csv.specs.declared.fault.SheetError.TheVariants.{Line, Memory}
+
+-- the mark is in the text
+unfoldable pub HasMark : ℕ → List ℕ → Type 0
+HasMark mark text = text ≡ whole_of mark text ++ mark ∷ part_of mark text
+
+-- digits, the mark, and digits, however many
+unfoldable pub HasParts : ℕ → List ℕ → Type 0
+HasParts mark text = HasMark mark text × IsNumeral 10 (whole_of mark text) × IsNumeral 10 (part_of mark text)
+
+-- digits, single marks between them; `after` says whether a digit is before the text
+abbrev pub is_grouped : ℕ → Bool → List ℕ → Bool
+is_grouped mark after [] = after
+is_grouped mark after (c ∷ cs) = if is_ascii_digit c then is_grouped mark true cs else (if after && (c == mark) then is_grouped mark false cs else false)
+
+-- a number with decimals behind this mark, and the other one between groups of the digits before it
+unfoldable pub HasGroups : ℕ → ℕ → List ℕ → Type 0
+HasGroups mark other text = HasMark mark text × IsTrue (is_grouped other false (whole_of mark text)) × IsNumeral 10 (part_of mark text)
+
+-- a number with decimals, as some write it: behind a point or a comma
+unfoldable pub IsFraction : List ℕ → Type 0
+IsFraction text = HasGroups 46 44 text ⊎ HasGroups 44 46 text
+
+-- what is wrong with a text that isn't a number of at most `most` units, with up to D decimals behind this mark
+abbrev pub IsFaultOf : ℕ → ℕ → ℕ → List ℕ → Fault → Type 0
+IsFaultOf mark D most text (NoNumber field) = ¬ (IsNumeral 10 text) × (D ≡ 0 → ¬ (IsFraction text)) × (0 < D → ¬ (HasParts mark text))
+IsFaultOf mark D most text (NotWhole field) = (D ≡ 0) × IsFraction text
+IsFaultOf mark D most text (TooManyDecimals decimals field) = (decimals ≡ D) × (0 < D) × HasParts mark text × (D < length (part_of mark text))
+IsFaultOf mark D most text (PastMost greatest field) = IsDecimal mark D text × (most < units mark D text) × IsDecimal mark D (string_bytes greatest) × (units mark D (string_bytes greatest) ≡ most)
+IsFaultOf mark D most text _ = ⊥
+
+-- the error of such a text in this line; an allocation may fail instead
+abbrev pub IsErrorOf : ℕ → ℕ → ℕ → ℕ → List ℕ → SheetError → Type 0
+IsErrorOf mark D most line text (Line at fault) = (at ≡ line) × IsFaultOf mark D most text fault
+IsErrorOf mark D most line text Memory = ⊤

@@ -1,0 +1,22 @@
+-- Totals that are too large, and what is said of them.
+use Rattle.std.specs.Prelude.{◌≡◌, ℕ, Bool, true, false}
+use Rattle.std.specs.String.{string_bytes}
+use Rattle.hashbag_csv.specs.Decimals.{IsDecimal, units}
+use Rattle.hashbag_csv.specs.declared.fault.Fault.{Fault}
+use Rattle.hashbag_csv.specs.declared.fault.Fault.TheVariants.{TotalPastMost}
+use Rattle.hashbag_csv.specs.declared.fault.SheetError.{SheetError}
+use Rattle.hashbag_csv.specs.declared.fault.SheetError.TheVariants.{Line, Memory}
+
+-- a line's fault is that a total is too large
+abbrev pub is_total_fault : Fault → Bool
+is_total_fault (TotalPastMost most) = true
+is_total_fault _ = false
+
+abbrev pub is_total : SheetError → Bool
+is_total (Line line fault) = is_total_fault fault
+is_total Memory = false
+
+-- the fault that a total is past `most` units, of which there are 10^D in one
+abbrev pub IsTotalPast : ℕ → ℕ → ℕ → Fault → Type 0
+IsTotalPast mark D most (TotalPastMost greatest) = IsDecimal mark D (string_bytes greatest) × (units mark D (string_bytes greatest) ≡ most)
+IsTotalPast mark D most _ = ⊥

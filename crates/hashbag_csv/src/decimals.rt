@@ -1,0 +1,114 @@
+//! Numbers with decimals: read exactly, and written with all their decimals. `MatchOption` says when a result is `None`, and what is true of
+//! its value else.
+ghost use Rattle.std.specs.Prelude.{◌≡◌, ◌≤◌, ◌<◌, ◌*◌, ◌^◌, length, Some, MatchOption, IfOk};
+ghost use Rattle.std.specs.String.{string_bytes};
+ghost use Rattle.std.specs.Str.Parse.{AllDigits, IsNumeral, digits_value};
+ghost use Rattle.hashbag_csv.specs.Decimals.{ArePartsOf, IsDecimal, units, units_of};
+ghost use Rattle.hashbag_csv.specs.Marks.{code_of};
+
+use crate::scale::Scale;
+use std::alloc::{AllocError, Global};
+
+// The number that digits are, if they are digits alone and it fits.
+fn number_of(digits: &str) -> Option<usize>
+    ensures { MatchOption result (¬ (IsNumeral 10 digits.now × (digits_value 10 digits.now ≤ usize.MAX)))
+        (λ n. IsNumeral 10 digits.now × (digits_value 10 digits.now ≡ n)) }
+{
+    if digits.starts_with('+') {
+        return None;
+    }
+    digits.parse().ok()
+}
+
+// How many units one is.
+fn unit_of(decimals: u32) -> usize
+    requires { decimals ≤ 9 }
+    ensures { result ≡ 10 ^ decimals }
+{
+    10usize.pow(decimals)
+}
+
+// The units of a whole number.
+fn alone(digits: &str, decimals: u32) -> Option<usize>
+    requires { decimals ≤ 9 }
+    ensures { MatchOption result (¬ (IsNumeral 10 digits.now × (digits_value 10 digits.now * 10 ^ decimals ≤ usize.MAX)))
+        (λ n. IsNumeral 10 digits.now × (digits_value 10 digits.now * 10 ^ decimals ≡ n)) }
+{
+    let Some(number) = number_of(digits) else {
+        return None;
+    };
+    number.checked_mul(unit_of(decimals))
+}
+
+// The units of a whole part and the decimals after it.
+fn joined(whole: &str, part: &str, decimals: u32) -> Option<usize>
+    requires { decimals ≤ 9 }
+    ensures { MatchOption result (¬ (ArePartsOf decimals whole.now part.now × (units_of decimals whole.now part.now ≤ usize.MAX)))
+        (λ n. ArePartsOf decimals whole.now part.now × (units_of decimals whole.now part.now ≡ n)) }
+{
+    if part.len() > decimals as usize {
+        return None;
+    }
+    let Some(ones) = alone(whole, decimals) else {
+        return None;
+    };
+    let Some(parts) = alone(part, decimals - part.len() as u32) else {
+        return None;
+    };
+    ones.checked_add(parts)
+}
+
+/// Returns the number that a text is, in units of its scale. The text is digits, or digits, the mark and at least one decimal.
+///
+/// Returns `None` for another text, for more decimals than the scale has, and for a number of more than `usize::MAX` units.
+pub fn read_decimal(text: &str, scale: Scale) -> Option<usize>
+    // It is `None` exactly if the text is no such number, or one of more than `usize::MAX` units.
+    ensures { MatchOption result
+        (¬ (IsDecimal (code_of scale.mark) scale.decimals text.now × (units (code_of scale.mark) scale.decimals text.now ≤ usize.MAX)))
+        (λ n. IsDecimal (code_of scale.mark) scale.decimals text.now × (units (code_of scale.mark) scale.decimals text.now ≡ n)) }
+{
+    match text.split_once(scale.mark.character()) {
+        Some((whole, part)) => joined(whole, part, scale.decimals),
+        None => alone(text, scale.decimals),
+    }
+}
+
+// The digits of a number, after as many zeros as there have to be for this width.
+fn padded(alloc: Global, number: usize, width: u32) -> Result<String, AllocError>
+    requires fits { number < 10 ^ width }
+    requires wide { 0 < width }
+    ensures { IfOk result (λ text. AllDigits 10 (string_bytes text) × (length (string_bytes text) ≡ width)
+        × (digits_value 10 (string_bytes text) ≡ number)) }
+{
+    let digits = format!(in alloc; "{number}")?;
+    let missing = (width as usize).saturating_sub(digits.len());
+    let mut text = String::new(alloc);
+    'zeros: while text.len() < missing {
+        text.push('0')?;
+    }
+    text.push_str(digits.as_str())?;
+    Ok(text)
+}
+
+/// Writes a number of units with all decimals of the scale. [`read_decimal`] returns the number again.
+pub fn write_decimal(alloc: Global, number: usize, scale: Scale) -> Result<String, AllocError>
+    ensures { IfOk result (λ text. IsDecimal (code_of scale.mark) scale.decimals (string_bytes text)
+        × (units (code_of scale.mark) scale.decimals (string_bytes text) ≡ number)) }
+{
+    let unit = unit_of(scale.decimals);
+    let mut text = format!(in alloc; "{}", number / unit)?;
+    if scale.decimals == 0 {
+        return Ok(text);
+    }
+    text.push(scale.mark.character())?;
+    text.push_str(padded(alloc, number % unit, scale.decimals)?.as_str())?;
+    Ok(text)
+}
+
+/// Writes a number of units, reads the text again, and returns what was read, which is the number.
+pub fn read_back(alloc: Global, number: usize, scale: Scale) -> Result<Option<usize>, AllocError>
+    ensures { IfOk result (λ read. read ≡ Some number) }
+{
+    let text = write_decimal(alloc, number, scale)?;
+    Ok(read_decimal(text.as_str(), scale))
+}

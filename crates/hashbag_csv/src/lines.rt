@@ -1,0 +1,123 @@
+//! The lines of a sheet: an article, which is the fields of its key columns, and a number.
+ghost use Rattle.std.specs.Prelude.{◌≡◌, ◌∷◌, ℕ, [], map, get_or, IfOk, MatchOption, OnOk};
+ghost use Rattle.std.specs.String.{string_bytes};
+ghost use Rattle.hashbag_csv.specs.LineColumns.{IsNextLine, key_places, number_place};
+ghost use Rattle.hashbag_csv.specs.Lines.{fields_at, number_in, place_of};
+ghost use Rattle.hashbag_csv.specs.Sheets.{left, place, read_last};
+
+use crate::fault::SheetError;
+use crate::numbers::scaled_number;
+use crate::scale::Scale;
+use crate::sheet::{Column, Sheet};
+use std::alloc::{AllocError, Global};
+
+/// The columns of a line: those of the article's fields, and that of its number.
+#[derive(Drop)]
+pub struct LineColumns<'n> {
+    article: Vec<Column<'n>>,
+    number: Column<'n>,
+}
+
+/// Returns the column of this name in the header, which must be the record that was read last.
+///
+/// # Errors
+///
+/// `Line` if it is the name of no column, or of more than one. `Memory` if an allocation fails.
+pub fn column_of<'n>(sheet: &Sheet<'_>, name: &'n str) -> Result<Column<'n>, SheetError>
+    // It is the first that has the name.
+    ensures { IfOk result (λ column. place column ≡ place_of (read_last sheet.now) name.now) }
+{
+    let column = sheet.column(name)?;
+    Ok(column)
+}
+
+// The columns of these names in the header, which must be the record that was read last.
+fn columns_of<'n>(
+    alloc: Global,
+    sheet: &Sheet<'_>,
+    names: &[&'n str],
+) -> Result<Vec<Column<'n>>, SheetError>
+    ensures { IfOk result (λ columns. map place columns.items ≡ map (λ n. place_of (read_last sheet.now) n.now) names.now) }
+{
+    let mut columns = Vec::new(alloc);
+    for name in names {
+        let column = column_of(sheet, *name)?;
+        columns.push(column).map_err(AllocError::from)?;
+    }
+    Ok(columns)
+}
+
+// The fields of several columns in the record that was read last.
+fn fields_of(
+    alloc: Global,
+    sheet: &Sheet<'_>,
+    columns: &[Column<'_>],
+) -> Result<Vec<String>, SheetError>
+    ensures { IfOk result (λ fields. map string_bytes fields.items ≡ fields_at (map place columns.now) (read_last sheet.now)) }
+{
+    let mut fields = Vec::new(alloc);
+    for column in columns {
+        let field = sheet.field(*column)?;
+        fields
+            .push(String::from_str(alloc, field)?)
+            .map_err(AllocError::from)?;
+    }
+    Ok(fields)
+}
+
+// The number in this column of the record that was read last, in units of the scale.
+fn number_of(
+    alloc: Global,
+    sheet: &Sheet<'_>,
+    column: Column<'_>,
+    scale: Scale,
+) -> Result<usize, SheetError>
+    ensures { IfOk result (λ n. n ≡ number_in scale (get_or (read_last sheet.now) (place column.entry) [])) }
+{
+    let digits = sheet.field(column)?;
+    scaled_number(alloc, sheet.line(), digits, digits, scale)
+}
+
+impl<'n> LineColumns<'n> {
+    /// Returns the columns of these names in the header, which must be the record that was read last.
+    ///
+    /// # Errors
+    ///
+    /// `Line` if a name is that of no column, or of more than one. `Memory` if an allocation fails.
+    pub fn named(
+        alloc: Global,
+        sheet: &Sheet<'_>,
+        keys: &[&'n str],
+        number: &'n str,
+    ) -> Result<LineColumns<'n>, SheetError>
+        ensures keys { IfOk result (λ columns. key_places columns ≡ map (λ n. place_of (read_last sheet.now) n.now) keys.now) }
+        ensures number { IfOk result (λ columns. number_place columns ≡ place_of (read_last sheet.now) number.now) }
+    {
+        let article = columns_of(alloc, sheet, keys)?;
+        let number = column_of(sheet, number)?;
+        Ok(LineColumns { article, number })
+    }
+
+    /// Reads the next record, and returns its article and its number in units of the scale, or `None` if no record is left.
+    ///
+    /// # Errors
+    ///
+    /// `Line` if the record is bad, and what is wrong with it. `Memory` if an allocation fails.
+    pub fn read(
+        &self,
+        alloc: Global,
+        sheet: &mut Sheet<'_>,
+        scale: Scale,
+    ) -> Result<Option<(Vec<String>, usize)>, SheetError>
+        // The line is the next of the records that were left; or none was left.
+        ensures { IfOk result (λ next. MatchOption next (left sheet.old ≡ [])
+            (λ line. IsNextLine scale (key_places self.now) (number_place self.now) (left sheet.old) (left sheet.new) line)) }
+    {
+        if !sheet.read()? {
+            return Ok(None);
+        }
+        let article = fields_of(alloc, sheet, &self.article)?;
+        let number = number_of(alloc, sheet, self.number, scale)?;
+        Ok(Some((article, number)))
+    }
+}

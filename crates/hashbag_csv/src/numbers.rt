@@ -1,0 +1,189 @@
+//! Numbers in fields.
+ghost use Rattle.std.specs.Prelude.{◌≡◌, ◌≤◌, ◌↔◌, IfErr, IfOk, IsTrue, MatchOption, false, length};
+ghost use Rattle.std.specs.Char.{is_ascii_digit};
+ghost use Rattle.std.specs.List.{list_all};
+ghost use Rattle.std.specs.Str.Parse.{IsNumeral};
+ghost use Rattle.hashbag_csv.specs.Decimals.{IsDecimal, part_of, units, whole_of};
+ghost use Rattle.hashbag_csv.specs.Faults.{HasGroups, HasMark, HasParts, IsErrorOf, IsFaultOf, IsFraction, is_grouped};
+ghost use Rattle.hashbag_csv.specs.Marks.{code_of};
+ghost use Rattle.hashbag_csv.specs.Totals.{IsTotalPast};
+
+use crate::decimals::{read_decimal, write_decimal};
+use crate::escaped::shown;
+use crate::fault::{Fault, SheetError};
+use crate::scale::{Mark, Scale};
+use std::alloc::{AllocError, Global};
+
+// Whether each byte is a digit.
+fn has_digits_alone(text: &[u8]) -> bool
+    ensures { result ≡ list_all is_ascii_digit text.now }
+{
+    text.iter().all(|byte| byte.is_ascii_digit())
+}
+
+// Whether a text is digits, at least one.
+fn are_digits(text: &str) -> bool
+    ensures { IsTrue result ↔ IsNumeral 10 text.now }
+{
+    if text.is_empty() {
+        return false;
+    }
+    has_digits_alone(text.as_bytes())
+}
+
+// The text before the first mark, and the text after it.
+fn cut(text: &str, mark: Mark) -> Option<(&str, &str)>
+    ensures { MatchOption result (¬ (HasMark (code_of mark) text.now))
+        (λ x. HasMark (code_of mark) text.now
+        × (x.0.now ≡ whole_of (code_of mark) text.now) × (x.1.now ≡ part_of (code_of mark) text.now)) }
+{
+    text.split_once(mark.character())
+}
+
+// The number of decimals of a text that is digits, the mark, and digits.
+#[tactic(auto, unfolding(crate::specs::Faults::HasParts))]
+fn decimals_in(text: &str, mark: Mark) -> Option<usize>
+    ensures { MatchOption result (¬ (HasParts (code_of mark) text.now))
+        (λ n. HasParts (code_of mark) text.now × (n ≡ length (part_of (code_of mark) text.now))) }
+{
+    let Some((whole, part)) = cut(text, mark) else {
+        return None;
+    };
+    if !are_digits(whole) {
+        return None;
+    }
+    if !are_digits(part) {
+        return None;
+    }
+    Some(part.len())
+}
+
+// Whether a text is digits, single marks between them.
+#[tactic(auto, using(crate::proofs::NumberLemmas::grouped_step, crate::proofs::NumberLemmas::grouped_end))]
+fn are_groups(text: &[u8], mark: u8) -> bool
+    ensures { result ≡ is_grouped mark false text.now }
+{
+    let mut after_digit = false;
+    for byte in text {
+        let is_digit = byte.is_ascii_digit();
+        if !is_digit && (!after_digit || *byte != mark) {
+            return false;
+        }
+        after_digit = is_digit;
+    }
+    after_digit
+}
+
+// Whether a text is a number with decimals behind this mark, and the other one between groups of the digits before it.
+#[tactic(auto, unfolding(crate::specs::Faults::HasGroups))]
+fn has_groups(text: &str, mark: Mark, other: u8) -> bool
+    ensures { IsTrue result ↔ HasGroups (code_of mark) other text.now }
+{
+    let Some((whole, part)) = cut(text, mark) else {
+        return false;
+    };
+    if !are_groups(whole.as_bytes(), other) {
+        return false;
+    }
+    are_digits(part)
+}
+
+// Whether a text is a number with decimals, as some write it.
+#[tactic(auto, unfolding(crate::specs::Faults::IsFraction))]
+fn is_fraction(text: &str) -> bool
+    ensures { IsTrue result ↔ IsFraction text.now }
+{
+    if has_groups(text, Mark::Point, b',') {
+        return true;
+    }
+    has_groups(text, Mark::Comma, b'.')
+}
+
+// What is wrong with a text that isn't read at this scale.
+#[tactic(auto, using(crate::proofs::NumberLemmas::parts_decimal, crate::proofs::NumberLemmas::past))]
+fn fault_of(alloc: Global, digits: &str, field: &str, scale: Scale) -> Result<Fault, AllocError>
+    requires { ¬ (IsDecimal (code_of scale.mark) scale.decimals digits.now
+        × (units (code_of scale.mark) scale.decimals digits.now ≤ scale.most)) }
+    ensures { IfOk result (λ fault. IsFaultOf (code_of scale.mark) scale.decimals scale.most digits.now fault) }
+{
+    let field = shown(alloc, field)?;
+    if are_digits(digits) {
+        let most = write_decimal(alloc, scale.most, scale)?;
+        return Ok(Fault::PastMost { most, field });
+    }
+    if scale.decimals == 0 {
+        if is_fraction(digits) {
+            return Ok(Fault::NotWhole(field));
+        }
+        return Ok(Fault::NoNumber(field));
+    }
+    let Some(decimals) = decimals_in(digits, scale.mark) else {
+        return Ok(Fault::NoNumber(field));
+    };
+    if decimals > scale.decimals as usize {
+        let most = scale.decimals;
+        return Ok(Fault::TooManyDecimals { most, field });
+    }
+    let greatest = write_decimal(alloc, scale.most, scale)?;
+    Ok(Fault::PastMost {
+        most: greatest,
+        field,
+    })
+}
+
+/// Returns the number that `digits` are, in units of this scale. `field` is the text that an error shows.
+///
+/// # Errors
+///
+/// `Line` with this line:
+///
+/// - `PastMost` exactly if the text is a number of more than `scale.most` units;
+/// - `TooManyDecimals` exactly if it has digits on both sides of the mark, and more decimals than the scale, which has some;
+/// - `NotWhole` exactly if the scale has no decimals, and the text has some behind a point or a comma. The other of these two marks may
+///   be between groups of the digits before;
+/// - `NoNumber` for any other text.
+///
+/// `Memory` if the message can't be allocated.
+pub fn scaled_number(
+    alloc: Global,
+    line: u64,
+    digits: &str,
+    field: &str,
+    scale: Scale,
+) -> Result<usize, SheetError>
+    // `digits` is a number of n units in the scale, and n is at most its greatest number.
+    ensures number { IfOk result (λ n. IsDecimal (code_of scale.mark) scale.decimals digits.now
+        × (units (code_of scale.mark) scale.decimals digits.now ≡ n)) }
+    ensures most { IfOk result (λ n. n ≤ scale.most) }
+
+    // The error is in this line, and has the fault that the text has; or it is `Memory`.
+    ensures fault { IfErr result (λ e. IsErrorOf (code_of scale.mark) scale.decimals scale.most line digits.now e) }
+{
+    match read_decimal(digits, scale) {
+        Some(number) if number <= scale.most => Ok(number),
+        _ => {
+            let fault = fault_of(alloc, digits, field, scale)?;
+            Err(SheetError::Line { line, fault })
+        }
+    }
+}
+
+/// Returns the whole number that `digits` are. `field` is the text that an error shows.
+///
+/// # Errors
+///
+/// As of [`scaled_number`].
+pub fn number(alloc: Global, line: u64, digits: &str, field: &str) -> Result<usize, SheetError>
+    // 46 is the point, and 0 the number of decimals.
+    ensures number { IfOk result (λ n. IsDecimal 46 0 digits.now × (units 46 0 digits.now ≡ n)) }
+    ensures fault { IfErr result (λ e. IsErrorOf 46 0 usize.MAX line digits.now e) }
+{
+    scaled_number(alloc, line, digits, field, Scale::whole())
+}
+
+/// Returns the fault of a line with which a total is past the greatest of this scale.
+pub fn total_too_large(alloc: Global, scale: Scale) -> Result<Fault, AllocError>
+    ensures { IfOk result (λ fault. IsTotalPast (code_of scale.mark) scale.decimals scale.most fault) }
+{
+    Ok(Fault::TotalPastMost(write_decimal(alloc, scale.most, scale)?))
+}

@@ -1,0 +1,82 @@
+//! How numbers with decimals are written, and the greatest that is read.
+ghost use Rattle.std.specs.Prelude.{◌≡◌, ◌≤◌, ◌<◌, MatchOption};
+ghost use Rattle.hashbag_csv.specs.Decimals.{most_decimals};
+
+/// What is between the whole part of a number and its decimals.
+#[derive(Clone, Copy, PartialEq, Eq, Debug)]
+pub enum Mark {
+    /// `.`
+    Point,
+    /// `,`
+    Comma,
+}
+
+impl Mark {
+    ghost use Rattle.hashbag_csv.specs.Marks.{code_of};
+
+    /// Returns the mark itself.
+    pub fn character(self) -> char
+        ensures { result ≡ code_of self }
+    {
+        match self {
+            Mark::Point => '.',
+            Mark::Comma => ',',
+        }
+    }
+}
+
+/// The number of decimals, 0 to 9, the mark before them, and the greatest number. Numbers are counted in units of the last decimal.
+#[derive(Clone, Copy, PartialEq, Eq, Debug)]
+pub struct Scale {
+    /// The number of decimals.
+    pub decimals: u32,
+    /// The mark before them.
+    pub mark: Mark,
+    /// The greatest number that is read, and the greatest total.
+    pub most: usize,
+    ghost few: { decimals ≤ most_decimals },
+}
+
+impl Scale {
+    /// Returns the scale of whole numbers: no decimals, the mark `.`, and `usize::MAX` as the greatest number.
+    pub fn whole() -> Scale
+        ensures decimals { result.decimals ≡ 0 }
+        ensures mark { result.mark ≡ Mark.Point }
+        ensures most { result.most ≡ usize.MAX }
+    {
+        Scale {
+            decimals: 0,
+            mark: Mark::Point,
+            most: usize::MAX,
+        }
+    }
+
+    /// Returns the scale with this number of decimals after this mark, or `None` if there are more than 9. The greatest number is
+    /// `usize::MAX` units.
+    pub fn new(decimals: u32, mark: Mark) -> Option<Scale>
+        ensures { MatchOption result (most_decimals < decimals)
+            (λ scale. (scale.decimals ≡ decimals) × (scale.mark ≡ mark) × (scale.most ≡ usize.MAX)) }
+    {
+        if decimals > 9 {
+            return None;
+        }
+        Some(Scale {
+            decimals,
+            mark,
+            most: usize::MAX,
+        })
+    }
+
+    /// Returns the scale with another greatest number, in units of the last decimal.
+    pub fn at_most(self, most: usize) -> Scale
+        ensures decimals { result.decimals ≡ self.decimals }
+        ensures mark { result.mark ≡ self.mark }
+        ensures most { result.most ≡ most }
+    {
+        Scale {
+            decimals: self.decimals,
+            mark: self.mark,
+            most,
+        }
+    }
+}

@@ -1,0 +1,278 @@
+//! The records of a CSV text under its header.
+ghost use Rattle.std.specs.Prelude.{◌≡◌, false};
+ghost use Rattle.csv.specs.Reading.{has_failed};
+ghost use Rattle.hashbag_csv.specs.Readers.{IsReader};
+
+use crate::delimiter::Delimiter;
+use crate::escaped::shown;
+use crate::fault::{Fault, SheetError};
+use crate::quotes::misplaced_quote;
+use csv::{ByteRecord, Error, ErrorKind, Position, Reader, ReaderBuilder};
+use std::alloc::{AllocError, Global};
+use std::fmt::Write;
+use std::str;
+
+// What some programs write at the beginning of a text: a byte order mark.
+const BYTE_ORDER_MARK: &[u8] = b"\xef\xbb\xbf";
+
+// A message names at most this many columns.
+const NAMED: usize = 12;
+
+// Returns the word of another delimiter than this one that these bytes have, if they have one.
+fn delimiter_in(bytes: &[u8], own: u8) -> Option<&'static str> {
+    for byte in bytes {
+        match *byte {
+            byte if byte == own => {}
+            b';' => return Some(";"),
+            b'\t' => return Some("tab"),
+            b',' => return Some(","),
+            _ => {}
+        }
+    }
+    None
+}
+
+// Returns whether a text has a mark of UTF-16.
+fn is_utf16(text: &[u8]) -> bool {
+    text.starts_with(b"\xff\xfe") || text.starts_with(b"\xfe\xff")
+}
+
+// How many lines end in these bytes.
+fn lines_in(bytes: &[u8]) -> u64 {
+    let mut lines = 0u64;
+    for byte in bytes {
+        if *byte == b'\n' {
+            lines = lines.saturating_add(1);
+        }
+    }
+    lines
+}
+
+// The line on which the record begins that was read from there on: the ends of empty lines before it are passed over.
+fn line_of(text: &[u8], position: Position) -> u64 {
+    let mut line = position.line();
+    let rest = text.get(position.byte() as usize..).unwrap_or(&[]);
+    for byte in rest {
+        match byte {
+            b'\n' => line = line.saturating_add(1),
+            b'\r' => {}
+            _ => break,
+        }
+    }
+    line
+}
+
+/// A column of a sheet.
+#[derive(Clone, Copy)]
+pub struct Column<'n> {
+    name: &'n str,
+    place: usize,
+}
+
+/// A CSV text whose records are read one after the other.
+///
+/// Its first record is the header, and each other one has as many fields. A byte order mark, the ends of lines as `\n` or `\r\n`,
+/// fields in quotes and empty lines are read as most programs write them. A quote that is out of place is an error.
+#[derive(Drop)]
+pub struct Sheet<'a> {
+    alloc: Global,
+    text: &'a [u8],
+    delimiter: Delimiter,
+    reader: Reader<&'a [u8]>,
+    // The record that was read last, the header at first.
+    record: ByteRecord,
+    ghost reads: { has_failed reader ≡ false → IsReader delimiter reader },
+}
+
+impl<'a> Sheet<'a> {
+    ghost use Rattle.std.specs.Prelude.{ℕ, ◌∷◌, [], get_or, IfErr, IfOk, IsTrue, IsUtf8, ◌↔◌};
+    ghost use Rattle.hashbag_csv.specs.Readers.{IsNext, records_in};
+    ghost use Rattle.hashbag_csv.specs.Sheets.{IsColumnError, IsOnlyAt, left, place, read_last};
+
+    /// Opens the sheet of a text with commas between fields, and reads its header.
+    pub fn open(alloc: Global, text: &'a [u8]) -> Result<Sheet<'a>, SheetError>
+        // The header was read last, and the records after it are left.
+        ensures { IfOk result (λ sheet. records_in Delimiter.Comma text.now ≡ read_last sheet ∷ left sheet) }
+    {
+        Sheet::open_with(alloc, text, Delimiter::Comma)
+    }
+
+    /// Opens the sheet of a text with this delimiter between fields, and reads its header.
+    pub fn open_with(
+        alloc: Global,
+        text: &'a [u8],
+        delimiter: Delimiter,
+    ) -> Result<Sheet<'a>, SheetError>
+        // The header was read last, and the records after it are left.
+        ensures { IfOk result (λ sheet. records_in delimiter text.now ≡ read_last sheet ∷ left sheet) }
+    {
+        if is_utf16(text) {
+            let fault = Fault::Utf16;
+            return Err(SheetError::Line { line: 1, fault });
+        }
+        let text = text.strip_prefix(BYTE_ORDER_MARK).unwrap_or(text);
+        let mut sheet = Sheet {
+            alloc,
+            text,
+            delimiter,
+            reader: ReaderBuilder::new()
+                .has_headers(false)
+                .delimiter(delimiter.byte())
+                .from_reader(alloc, text),
+            record: ByteRecord::new(alloc),
+        };
+        if sheet.read()? {
+            Ok(sheet)
+        } else {
+            let fault = Fault::NoHeader;
+            Err(SheetError::Line { line: 1, fault })
+        }
+    }
+
+    /// Reads the next record, and returns whether there was one.
+    pub fn read(&mut self) -> Result<bool, SheetError>
+        // The next of the records that were left was read; or none was left.
+        ensures { IfOk result (λ found. IsNext found (read_last self.new) (left self.old) (left self.new)) }
+    {
+        let read = self.reader.read_byte_record(&mut self.record);
+        if let Some(error) = self.quote_error() {
+            return Err(error);
+        }
+        match read {
+            Ok(found) => Ok(found),
+            Err(error) => Err(self.error_of(&error)),
+        }
+    }
+
+    // The error that a quote of the record that was read last is out of place.
+    fn quote_error(&self) -> Option<SheetError> {
+        let start = self.record.position()?;
+        let (from, end) = (
+            start.byte() as usize,
+            self.reader.position().byte() as usize,
+        );
+        let bytes = self.text.get(from..end).unwrap_or(&[]);
+        let (index, misplaced) = misplaced_quote(bytes, self.delimiter.byte())?;
+        let before = lines_in(bytes.get(..index).unwrap_or(&[]));
+        Some(SheetError::Line {
+            line: start.line().saturating_add(before),
+            fault: misplaced.fault(),
+        })
+    }
+
+    // Why a record wasn't read. The text is in memory, so no read of it fails.
+    fn error_of(&self, error: &Error) -> SheetError {
+        match error.kind() {
+            ErrorKind::UnequalLengths {
+                expected_len,
+                len,
+                ..
+            } => SheetError::Line {
+                line: self.line(),
+                fault: Fault::Fields {
+                    found: *len,
+                    header: *expected_len,
+                },
+            },
+            _ => SheetError::Memory,
+        }
+    }
+
+    /// Returns the line on which the record that was read last begins, from 1.
+    pub fn line(&self) -> u64 {
+        match self.record.position() {
+            Some(position) => line_of(self.text, position),
+            None => 1,
+        }
+    }
+
+    // The bytes of the field at this place in the record that was read last, and none if there is no such field.
+    fn bytes_at(&self, place: usize) -> &[u8]
+        ensures { result.now ≡ get_or (read_last self.now) place [] }
+    {
+        self.record.get(place).unwrap_or(&[])
+    }
+
+    // Whether the field at this place is the name.
+    fn is_named(&self, place: usize, name: &str) -> bool
+        ensures { IsTrue result ↔ (get_or (read_last self.now) place [] ≡ name.now) }
+    {
+        self.bytes_at(place) == name.as_bytes()
+    }
+
+    // Appends the name of the column at this place, as a message shows it.
+    fn push_name(&self, text: &mut String, place: usize) -> Result<(), AllocError> {
+        match str::from_utf8(self.bytes_at(place)) {
+            Ok(name) => write!(text, "`{}`", shown(self.alloc, name)?),
+            Err(_) => text.push_str("one that is not UTF-8"),
+        }
+    }
+
+    // Returns the names of the columns of the header; and another delimiter, if that is in the name of the only column.
+    fn names_shown(&self) -> Result<String, AllocError> {
+        let mut text = String::new(self.alloc);
+        let columns = self.record.len();
+        for place in 0..columns.min(NAMED) {
+            if place > 0 {
+                text.push_str(", ")?;
+            }
+            self.push_name(&mut text, place)?;
+        }
+        if columns > NAMED {
+            write!(text, " and {} more", columns - NAMED)?;
+        }
+        if columns == 1
+            && let Some(other) = delimiter_in(self.bytes_at(0), self.delimiter.byte())
+        {
+            write!(text, "; is the delimiter `{other}`?")?;
+        }
+        Ok(text)
+    }
+
+    /// Returns the column of this name in the header, which must be the record that was read last.
+    pub fn column<'n>(&self, name: &'n str) -> Result<Column<'n>, SheetError>
+        // Its field, and no other, has this name. Else there is none, there are two, or the error is `Memory`.
+        ensures column { IfOk result (λ column. IsOnlyAt name.now (read_last self.now) (place column)) }
+        ensures fault { IfErr result (λ e. IsColumnError name.now (read_last self.now) e) }
+    {
+        let mut found = None;
+        for place in 0..self.record.len() {
+            if self.is_named(place, name) {
+                if found.is_some() {
+                    let fault = Fault::TwoColumns(shown(self.alloc, name)?);
+                    return Err(self.bad_line(fault));
+                }
+                found = Some(place);
+            }
+        }
+        match found {
+            Some(place) => Ok(Column { name, place }),
+            None => {
+                let there = self.names_shown()?;
+                let name = shown(self.alloc, name)?;
+                Err(self.bad_line(Fault::NoColumn { name, there }))
+            }
+        }
+    }
+
+    /// Returns the text of a column in the record that was read last.
+    pub fn field(&self, column: Column<'_>) -> Result<&str, SheetError>
+        ensures { IfOk result (λ text. text.now ≡ get_or (read_last self.now) (place column.entry) []) }
+    {
+        match str::from_utf8(self.bytes_at(column.place)) {
+            Ok(text) => Ok(text),
+            Err(_) => {
+                let fault = Fault::NotText(shown(self.alloc, column.name)?);
+                Err(self.bad_line(fault))
+            }
+        }
+    }
+
+    /// Returns the error that the record that was read last has this fault.
+    pub fn bad_line(&self, fault: Fault) -> SheetError
+        ensures { (line : ℕ) × (result ≡ SheetError.Line line fault) }
+    {
+        let line = self.line();
+        SheetError::Line { line, fault }
+    }
+}

@@ -1,0 +1,41 @@
+-- What the inputs of a call do to the balance that is kept.
+use Rattle.std.specs.Prelude.{◌≡◌, ℕ, ◌^◌, ◌-◌, if◌then◌else◌, List, [], ◌∷◌, map, All, Contains, String, string_cmp}
+use Rattle.std.specs.Global.{Global, Vec}
+use Rattle.std.specs.String.{string_eq}
+use Rattle.hashbag_csv.specs.declared.counts.Reading.{Reading}
+use Rattle.hashbag_ledger_args.specs.declared.job.Job.{Job}
+use Rattle.hashbag_ledger_db.specs.declared.movements.Input.{Input}
+use Rattle.hashbag_ledger_lib.specs.Batches.{all_of}
+use Rattle.hashbag_ledger_lib.specs.Entries.{IsBooked}
+use Rattle.hashbag_ledger_lib.specs.Movements.{columns_by, movements_in, said}
+use Rattle.hashbag_ledger_lib.specs.Numbers.{plain}
+use Rattle.hashbag_ledger_lib.specs.declared.filing.Filed.{Filed}
+use Rattle.hashbag_ledger_lib.specs.declared.movements.Change.{Change}
+use Rattle.hashbag_ledger_lib.specs.declared.movements.Movement.{Movement}
+use Rattle.hashbag_ledger_lib.specs.declared.reading.ChangeColumns.TheVariants.{Signed}
+use Rattle.hashbag_ledger_lib.specs.declared.reading.Columns.{Columns}
+
+-- a movement as a row has it: nothing that goes out is nothing that comes in
+abbrev pub plain_movement : Movement (String Global) → Movement (String Global)
+plain_movement m = record { place = m.place; article = m.article; change = plain m.change }
+
+abbrev pub plain_said : List ℕ × Change → List ℕ × Change
+plain_said m = (m.0, plain m.1)
+
+-- the names of the columns of an input; the stock at the beginning has its own
+abbrev pub names_of : Job → Input → Columns (List ℕ)
+names_of job input = if input.is_start then record { article = job.start_columns.0.now; change = Signed job.start_columns.1.now } else columns_by (λ n. n.now) job.columns
+
+-- the movements of an input, as rows have them
+abbrev pub rows_in : Job → Reading → Input → List (List ℕ × Change)
+rows_in job reading input = map plain_said (movements_in reading (names_of job input) input.text.items)
+
+-- these are the movements of the inputs, in turn
+abbrev pub AreMovementsOf : Job → Reading → List Input → List (Vec (Movement (String Global))) → Type 0
+AreMovementsOf job reading inputs files = map (λ f. map said f.items) files ≡ map (rows_in job reading) inputs
+
+-- all movements of all inputs were booked, in turn, on the balance that is kept
+pub record IsFiledOf (job : Job) (reading : Reading) (inputs : List Input) (kept : List (String Global × ℕ)) (filed : Filed) : Type 0 where
+  pub files : List (Vec (Movement (String Global)))
+  pub read : AreMovementsOf job reading inputs files
+  pub booked : IsBooked string_eq string_cmp (2 ^ 63 - 1) kept (all_of files) filed.booked.balance.items filed.booked.entries.items

@@ -1,0 +1,65 @@
+-- The movements of a CSV text under its header: of each record an article and a change.
+use Rattle.std.specs.Prelude.{◌≡◌, ℕ, Bool, true, false, List, [], ◌∷◌, ◌==◌, ◌++◌, if◌then◌else◌, map, get_or, bytes_eq, codes, All, String}
+use Rattle.std.specs.Global.{Global}
+use Rattle.std.specs.String.{string_bytes, string_eq}
+use Rattle.hashbag.specs.Bag.{Bag}
+use Rattle.hashbag_csv.specs.Lines.{number_in, place_of}
+use Rattle.hashbag_csv.specs.Readers.{Record, records_in}
+use Rattle.hashbag_csv.specs.declared.counts.Reading.{Reading}
+use Rattle.hashbag_csv.specs.declared.scale.Scale.{Scale}
+use Rattle.hashbag_ledger_lib.specs.declared.movements.Change.{Change}
+use Rattle.hashbag_ledger_lib.specs.declared.movements.Change.TheVariants.{In, Out}
+use Rattle.hashbag_ledger_lib.specs.declared.movements.Movement.{Movement}
+use Rattle.hashbag_ledger_lib.specs.declared.movements.Refusal.{Refusal}
+use Rattle.hashbag_ledger_lib.specs.declared.reading.ChangeColumns.{ChangeColumns}
+use Rattle.hashbag_ledger_lib.specs.declared.reading.ChangeColumns.TheVariants.{Signed, ByKind}
+use Rattle.hashbag_ledger_lib.specs.declared.reading.Columns.{Columns}
+use Rattle.hashbag_ledger_lib.specs.Settled.{IsLedgerOf}
+
+-- what a movement says, wherever it is: its article, as bytes, and its change
+abbrev pub said : Movement (String Global) → List ℕ × Change
+said m = (string_bytes m.article, m.change)
+
+-- a number behind `-` goes, another comes, also behind `+`
+abbrev pub signed : Scale → List ℕ → Change
+signed scale [] = In (number_in scale [])
+signed scale (c ∷ digits) = if c == 45 then Out (number_in scale digits) else (if c == 43 then In (number_in scale digits) else In (number_in scale (c ∷ digits)))
+
+-- of the kind `in` it comes, of another it goes
+abbrev pub of_kind : List ℕ → ℕ → Change
+of_kind kind n = if bytes_eq (codes "in") kind then In n else Out n
+
+-- the same columns by something else: their places by their names
+abbrev pub change_by : {C D : Type 0} → (C → D) → ChangeColumns C → ChangeColumns D
+change_by f (Signed change) = Signed (f change)
+change_by f (ByKind kind number) = ByKind (f kind) (f number)
+
+abbrev pub columns_by : {C D : Type 0} → (C → D) → Columns C → Columns D
+columns_by f columns = record { article = f columns.article; change = change_by f columns.change }
+
+-- the change of a record, and what its movement says
+abbrev pub change_in : Scale → ChangeColumns ℕ → Record → Change
+change_in scale (Signed change) r = signed scale (get_or r change [])
+change_in scale (ByKind kind number) r = of_kind (get_or r kind []) (number_in scale (get_or r number []))
+
+abbrev pub movement_in : Scale → Columns ℕ → Record → List ℕ × Change
+movement_in scale columns r = (get_or r columns.article [], change_in scale columns.change r)
+
+abbrev pub movements_under : Scale → Columns (List ℕ) → List Record → List (List ℕ × Change)
+movements_under scale names [] = []
+movements_under scale names (header ∷ records) = map (movement_in scale (columns_by (place_of header) names)) records
+
+-- the movements of a text, whose columns have these names
+abbrev pub movements_in : Reading → Columns (List ℕ) → List ℕ → List (List ℕ × Change)
+movements_in reading names text = movements_under reading.scale names (records_in reading.delimiter text)
+
+-- the next record was read, and is this movement
+abbrev pub IsNextMovement : Scale → Columns ℕ → List Record → List Record → Movement (String Global) → Type 0
+IsNextMovement scale columns before after m = (r : Record) × (before ≡ r ∷ after) × (said m ≡ movement_in scale columns r)
+
+-- movements that say this were entered, whatever came before: those of this file
+pub record EntersFile {S : Type 0} (file : ℕ) (moved : List (List ℕ × Change)) (refused : List (Refusal (String Global))) (stock : Bag (String Global) S) (refused' : List (Refusal (String Global))) (stock' : Bag (String Global) S) : Type 0 where
+  pub read : List (Movement (String Global))
+  pub all : map said read ≡ moved
+  pub places : All (λ m. m.place.file ≡ file) read
+  pub entered : (L : List (String Global × ℕ)) (ms : List (Movement (String Global))) → IsLedgerOf string_eq L ms refused stock → IsLedgerOf string_eq L (ms ++ read) refused' stock'

@@ -1,6 +1,0 @@
-use Rattle.hashbag_lists.proofs.DecimalLemmas.{none_alone}
-use Rattle.hashbag_lists.proofs.decimals.alone.Goals as goal
-
--- a number that doesn't fit has no units that fit
-pub returns-in_default : goal.returns-in_default
-returns-in_default c = none_alone c.args.decimals c.args.digits.now c.in_default.ensures

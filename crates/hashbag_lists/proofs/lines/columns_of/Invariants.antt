@@ -1,7 +1,0 @@
-use Rattle.std.proofs.Common.{◌≡◌, map, take}
-use Rattle.hashbag_lists.specs.Lines.{place_of}
-use Rattle.hashbag_lists.specs.Sheets.{place, read_last}
-use Rattle.hashbag_lists.proofs.lines.columns_of.Given as goal
-
-abbrev pub invariant-loop-name : goal.invariant-loop-name
-invariant-loop-name l = map place l.columns.items ≡ map (λ n. place_of (read_last l.sheet) n.now) (take l.name-index l.names)

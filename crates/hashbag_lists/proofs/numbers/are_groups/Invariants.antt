@@ -1,7 +1,0 @@
-use Rattle.std.proofs.Common.{◌≡◌, false, drop}
-use Rattle.hashbag_lists.specs.Faults.{is_grouped}
-use Rattle.hashbag_lists.proofs.numbers.are_groups.Given as goal
-
--- what is left decides, after what was read
-abbrev pub invariant-loop-byte : goal.invariant-loop-byte
-invariant-loop-byte l = is_grouped l.mark false l.text ≡ is_grouped l.mark l.after_digit (drop l.byte-index l.text)

@@ -1,0 +1,75 @@
+-- Articles by the bytes of their fields.
+use Rattle.std.proofs.Common.{◌≡◌, ℕ, ◌+◌, ◌↔◌, ◌⊎◌, ◌&&◌, Bool, cond, List, [], ◌∷◌, map, IsTrue, String, inl, inr, refl, sym, ◌∙◌, ap, subst}
+use Rattle.std.specs.Bool.{Decides}
+use Rattle.std.specs.Cmp.Lexicographic.{pointwise}
+use Rattle.std.specs.Global.{Global}
+use Rattle.std.specs.Map.{keys_of}
+use Rattle.std.specs.Str.{bytes_eq}
+use Rattle.std.specs.String.{string_bytes, string_eq}
+use Rattle.std.proofs.lemmas.Bool.{cases_Bool}
+use Rattle.std.proofs.lemmas.List.Sums.{sum_by-cons}
+use Rattle.std.proofs.lemmas.Slice.Eq.{bytes_eq-Decides, slice_eq-Decides}
+use Rattle.hashbag_csv.specs.LineColumns.{line_bytes}
+use Rattle.hashbag_csv.specs.Quantities.{quantity}
+use Rattle.hashbag_csv.specs.Readers.{Record}
+use Rattle.hashbag_match_lib.specs.Fields.{Fields, same_fields}
+use Rattle.hashbag_match_lib.specs.Matched.{HaveSameQuantities, same_article}
+
+module _ {T K : Type 0} {eq : T → T → Bool} {eq' : K → K → Bool} (f : T → K) (same : (x y : T) → eq x y ≡ eq' (f x) (f y)) (decides : (x y : K) → Decides (eq' x y) (x ≡ y)) where
+  abbrev entry : T × ℕ → K × ℕ
+  entry e = (f e.0, e.1)
+
+  -- ---- what a list names
+
+  pub quantity_of : (v : T) (L : List (T × ℕ)) → quantity eq v L ≡ quantity eq' (f v) (map entry L)
+  quantity_of v [] = refl
+  quantity_of v (e ∷ L) =
+      sum_by-cons (λ (p : T × ℕ). cond (eq v p.0) p.1 0) e L
+      ∙ (λ i. cond (same v e.0 i) e.1 0 + quantity_of v L i)
+      ∙ sym (sum_by-cons (λ (p : K × ℕ). cond (eq' (f v) p.0) p.1 0) (entry e) (map entry L))
+
+  -- a list names a key as the bytes of an article, or not at all
+  named : (k : K) (L : List (T × ℕ)) → ((v : T) × (f v ≡ k)) ⊎ (quantity eq' k (map entry L) ≡ 0)
+  named k [] = inr refl
+  named k (e ∷ L) = elim (cases_Bool (eq' k (f e.0))) [
+    | inl y ↦ inl (e.0, sym ((decides k (f e.0)).0 y))
+    | inr n ↦ elim (named k L) [
+      | inl v ↦ inl v
+      | inr none ↦ inr (sum_by-cons (λ (p : K × ℕ). cond (eq' k p.0) p.1 0) (entry e) (map entry L) ∙ (λ i. cond (n i) e.1 0 + none i))
+    ]
+  ]
+
+  -- lists agree on articles if they do on keys
+  pub agree_of : (L M : List (T × ℕ)) → ((v : T) → quantity eq v L ≡ quantity eq v M) ↔ ((k : K) → quantity eq' k (map entry L) ≡ quantity eq' k (map entry M))
+  agree_of L M = (
+    (λ agree k. elim (named k L) [
+      | inl x ↦ subst (λ j. quantity eq' j (map entry L) ≡ quantity eq' j (map entry M)) x.1 (sym (quantity_of x.0 L) ∙ agree x.0 ∙ quantity_of x.0 M)
+      | inr none ↦ elim (named k M) [
+        | inl x ↦ subst (λ j. quantity eq' j (map entry L) ≡ quantity eq' j (map entry M)) x.1 (sym (quantity_of x.0 L) ∙ agree x.0 ∙ quantity_of x.0 M)
+        | inr neither ↦ none ∙ sym neither
+      ]
+    ]),
+    (λ agree v. quantity_of v L ∙ agree (f v) ∙ sym (quantity_of v M)),
+  )
+
+-- ---- articles, as the bytes of their fields
+
+strings_same : (xs ys : List (String Global)) → pointwise string_eq xs ys ≡ pointwise bytes_eq (map string_bytes xs) (map string_bytes ys)
+strings_same [] [] = refl
+strings_same [] (y ∷ ys) = refl
+strings_same (x ∷ xs) [] = refl
+strings_same (x ∷ xs) (y ∷ ys) = ap (λ (b : Bool). string_eq x y && b) (strings_same xs ys)
+
+pub fields_same : (x y : Fields) → same_fields x y ≡ same_article (map string_bytes x.items) (map string_bytes y.items)
+fields_same x y = strings_same x.items y.items
+
+pub articles_decide : (x y : Record) → Decides (same_article x y) (x ≡ y)
+articles_decide x y = slice_eq-Decides bytes_eq-Decides x y (same_article x y) refl
+
+-- lists agree on articles exactly if they do on the bytes of their fields
+pub agree_by_bytes : (L M : List (Record × ℕ)) (F G : List (Fields × ℕ)) (b : Bool) → map line_bytes F ≡ L → map line_bytes G ≡ M
+    → (IsTrue b ↔ ((v : Fields) → quantity same_fields v F ≡ quantity same_fields v G)) → (IsTrue b ↔ HaveSameQuantities L M)
+agree_by_bytes L M F G b first second agree =
+    let same = agree_of (λ (x : Fields). map string_bytes x.items) fields_same articles_decide F G in
+    subst (λ l. IsTrue b ↔ HaveSameQuantities l M) first
+    (subst (λ m. IsTrue b ↔ HaveSameQuantities (map line_bytes F) m) second (λ yes. same.0 (agree.0 yes), λ all. agree.1 (same.1 all)))

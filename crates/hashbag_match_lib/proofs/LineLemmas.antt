@@ -1,0 +1,36 @@
+-- Lines that are tallied one after the other.
+use Rattle.std.proofs.Common.{◌≡◌, ℕ, Bor, List, [], ◌∷◌, ◌++◌, length, map, refl, sym, ◌∙◌, ap, append_assoc}
+use Rattle.std.proofs.lemmas.List.{append-nil, map-append}
+use Rattle.hashbag_csv.specs.LineColumns.{line_bytes}
+use Rattle.hashbag_csv.specs.Lines.{line_of, lines_under, place_of}
+use Rattle.hashbag_csv.specs.Readers.{Record}
+use Rattle.hashbag_csv.specs.declared.scale.Scale.{Scale}
+use Rattle.hashbag.specs.Bag.{Bag}
+use Rattle.hashbag.proofs.MemberLemmas.{map-map}
+use Rattle.hashbag_match_lib.specs.Fields.{Fields, HasLineMore, IsTallyOfLines}
+
+-- the lines before are those so far
+pub no_lines : {S : Type 0} (K : List (Record × ℕ)) (bag none : Bag Fields S) → IsTallyOfLines K bag none → IsTallyOfLines (K ++ []) bag none
+no_lines K bag none (L, are, is) = (L, are ∙ sym (append-nil K), is)
+
+-- one line more
+pub more_lines : {S : Type 0} (K D : List (Record × ℕ)) (article : Fields) (number : ℕ) (bag none bag' none' : Bag Fields S)
+    → HasLineMore article number bag none bag' none' → IsTallyOfLines (K ++ D) bag none → IsTallyOfLines (K ++ (D ++ line_bytes (article, number) ∷ [])) bag' none'
+more_lines K D article number bag none bag' none' more (L, are, is) = (
+  L ++ (article, number) ∷ [],
+  map-append line_bytes L ((article, number) ∷ []) ∙ ap (λ (l : List (Record × ℕ)). l ++ line_bytes (article, number) ∷ []) are ∙ append_assoc K D (line_bytes (article, number) ∷ []),
+  more L is,
+)
+
+-- the records that are left, after one was read
+pub record_read : (f : Record → Record × ℕ) (all : List (Record × ℕ)) (D : List (Record × ℕ)) (before after : List Record) (r : Record) (line : Record × ℕ)
+    → all ≡ D ++ map f before → before ≡ r ∷ after → line ≡ f r → all ≡ (D ++ line ∷ []) ++ map f after
+record_read f all D before after r line is next same =
+    is ∙ ap (λ (l : List Record). D ++ map f l) next ∙ ap (λ (x : Record × ℕ). D ++ x ∷ map f after) (sym same) ∙ sym (append_assoc D (line ∷ []) (map f after))
+
+-- the lines below the header, by the places of the columns
+pub all_lines : (scale : Scale) (keys : List (Bor (List ℕ))) (number : List ℕ) (all : List Record) (header : Record) (records : List Record) (places : List ℕ) (place : ℕ)
+    → all ≡ header ∷ records → places ≡ map (λ k. place_of header k.now) keys → place ≡ place_of header number
+    → map (line_of scale places place) records ≡ lines_under scale (map (λ k. k.now) keys) number all
+all_lines scale keys number all header records places place is keys_are number_is =
+    (λ i. map (line_of scale ((keys_are ∙ sym (map-map (λ k. k.now) (place_of header) keys)) i) (number_is i)) records) ∙ ap (lines_under scale (map (λ k. k.now) keys) number) (sym is)

@@ -1,0 +1,24 @@
+-- What a request names, and the lines of both texts.
+use Rattle.std.specs.Prelude.{ℕ, List, map}
+use Rattle.hashbag_csv.specs.Lines.{lines_in}
+use Rattle.hashbag_csv.specs.Readers.{Record}
+use Rattle.hashbag_csv.specs.declared.counts.Reading.{Reading}
+use Rattle.hashbag_match_lib.specs.declared.ask.Ask.{Ask}
+use Rattle.hashbag_match_lib.specs.declared.ask.Columns.{Columns}
+
+-- articles, as the bytes of their fields, with their numbers
+abbrev pub Lines : Type 0
+Lines = List (Record × ℕ)
+
+abbrev pub names_of : Columns → List (List ℕ)
+names_of c = map (λ k. k.now) c.keys.items
+
+abbrev pub lines_of : Reading → Columns → List ℕ → Lines
+lines_of reading c text = lines_in reading (names_of c) c.number.now text
+
+-- what was ordered, and what was delivered
+abbrev pub ordered_in : Ask → List ℕ → Lines
+ordered_in ask text = lines_of ask.reading ask.ordered text
+
+abbrev pub delivered_in : Ask → List ℕ → Lines
+delivered_in ask text = lines_of ask.reading ask.delivered text

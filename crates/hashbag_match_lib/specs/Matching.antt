@@ -1,0 +1,37 @@
+-- What was ordered next to what was delivered.
+use Rattle.std.specs.Prelude.{◌≡◌, ℕ, ◌-◌, ◌<◌, ◌==◌, not, Bool, true, List, length, map, sum_by, count_by, All}
+use Rattle.std.specs.Borrow.{Bor}
+use Rattle.std.specs.List.{Contains}
+use Rattle.std.specs.List.Sorted.{IsStrictlySortedBy}
+use Rattle.std.specs.declared.cmp.Ordering.{Ordering}
+use Rattle.hashbag_match_lib.specs.declared.matching.Row.{Row}
+use Rattle.hashbag_match_lib.specs.declared.totals.Totals.{Totals}
+
+module _ {T : Type 0} where
+  -- how many were ordered that weren't delivered, and the other way round
+  abbrev pub missing_of : Row T → ℕ
+  missing_of row = row.ordered - row.delivered
+
+  abbrev pub surplus_of : Row T → ℕ
+  surplus_of row = row.delivered - row.ordered
+
+  -- as many were ordered as delivered
+  abbrev pub agrees : Row T → Bool
+  agrees row = row.ordered == row.delivered
+
+  -- the sums over all rows
+  pub record AreTotals (rows : List (Row T)) (totals : Totals) : Type 0 where
+    pub articles : totals.articles ≡ length rows
+    pub differing : totals.differing ≡ count_by (λ row. not (agrees row)) rows
+    pub missing : totals.missing ≡ sum_by missing_of rows
+    pub surplus : totals.surplus ≡ sum_by surplus_of rows
+
+-- rows whose articles are lent, as rows of the articles themselves
+abbrev pub lent_rows : {T : Type 0} → List (Row (Bor T)) → List (Row T)
+lent_rows rows = map (λ row. record { article = row.article.now; ordered = row.ordered; delivered = row.delivered }) rows
+
+-- the rows of the articles that are named: each in one row, with both its numbers, articles rising
+pub record AreRows {T : Type 0} (eq : T → T → Bool) (cmp : T → T → Ordering) (named ordered delivered : T → ℕ) (rows : List (Row T)) : Type 0 where
+  pub rising : IsStrictlySortedBy cmp (map (λ row. row.article) rows)
+  pub counts : All (λ row. (row.ordered ≡ ordered row.article) × (row.delivered ≡ delivered row.article) × (0 < named row.article)) rows
+  pub each : (v : T) → 0 < named v → (row : Row T) × Contains rows row × (eq v row.article ≡ true)

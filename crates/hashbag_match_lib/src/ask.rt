@@ -1,0 +1,78 @@
+//! What is asked for: how two lists are read, and what is written of them.
+use crate::keys::{names_in, repeated};
+use crate::output::{Form, Only, is_reserved};
+use hashbag_csv::counts::Reading;
+use hashbag_csv::escaped::Escaped;
+use std::alloc::{AllocError, Global};
+use thiserror::Error;
+
+/// The columns of a list, by their names.
+#[derive(Drop)]
+pub struct Columns<'a> {
+    /// Those of an article.
+    pub keys: Vec<&'a str>,
+    /// That of numbers.
+    pub number: &'a str,
+}
+
+impl<'a> Columns<'a> {
+    /// Returns the columns of these names; those of an article have commas between them.
+    pub fn named(alloc: Global, keys: &'a str, number: &'a str) -> Result<Columns<'a>, AllocError> {
+        let keys = names_in(alloc, keys)?;
+        Ok(Columns { keys, number })
+    }
+}
+
+/// What is asked for.
+#[derive(Drop)]
+pub struct Ask<'a> {
+    /// The columns of what was ordered. The key columns have these names in what is written, too.
+    pub ordered: Columns<'a>,
+    /// The columns of what was delivered.
+    pub delivered: Columns<'a>,
+    /// How both texts are read, and how numbers and CSV are written.
+    pub reading: Reading,
+    /// Which rows are written.
+    pub only: Only,
+    /// How they are written.
+    pub form: Form,
+}
+
+/// Why columns don't fit.
+#[derive(Clone, Copy, Debug, Error)]
+pub enum BadColumns<'a> {
+    /// A key column is named twice.
+    #[error("key column `{}` is named twice", Escaped(.0))]
+    Twice(&'a str),
+    /// A key column has the name of a column of numbers of the output.
+    #[error("a key column can't have the name `{0}`, which is a column of the output")]
+    Reserved(&'a str),
+    /// The lists have a different number of key columns.
+    #[error("--key and --delivered-key name a different number of columns")]
+    Unequal,
+}
+
+// Returns an error if a key column is named twice.
+fn repeated_key<'a>(columns: &Columns<'a>) -> Result<(), BadColumns<'a>> {
+    match repeated(&columns.keys) {
+        Some(name) => Err(BadColumns::Twice(name)),
+        None => Ok(()),
+    }
+}
+
+impl<'a> Ask<'a> {
+    /// Returns `Ok` if the columns fit.
+    pub fn fits(&self) -> Result<(), BadColumns<'a>> {
+        repeated_key(&self.ordered)?;
+        repeated_key(&self.delivered)?;
+        for name in &self.ordered.keys {
+            if is_reserved(*name) {
+                return Err(BadColumns::Reserved(*name));
+            }
+        }
+        if self.ordered.keys.len() != self.delivered.keys.len() {
+            return Err(BadColumns::Unequal);
+        }
+        Ok(())
+    }
+}

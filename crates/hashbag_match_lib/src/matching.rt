@@ -1,0 +1,176 @@
+//! Rows of what was ordered and what was delivered.
+ghost use Rattle.std.specs.Prelude.{◌≡◌, ℕ, ◌+◌, ◌≤◌, ◌↔◌, ◌++◌, if◌then◌else◌, List, filter, length, map, sum_by, IsTrue, IfOk, OnOk};
+ghost use Rattle.hashbag.specs.Joins.{IsOuterJoin};
+ghost use Rattle.hashbag_csv.specs.Quantities.{quantity, times};
+ghost use Rattle.hashbag_match_lib.specs.Matching.{missing_of, surplus_of, agrees, lent_rows, AreTotals, AreRows};
+ghost use Rattle.hashbag_match_lib.specs.Tallies.{IsTallyOf, in_neither, row_of_join, zero_row};
+
+use crate::tally::Tally;
+use crate::totals::{Totals, totals_of};
+use hashbag::HashBag;
+use std::alloc::{AllocError, Global};
+use std::hash::{BuildHasher, Hash};
+
+/// One article of either list.
+#[derive(Clone, Copy, PartialEq, Eq, PartialOrd, Ord, Debug)]
+pub struct Row<T> {
+    /// The article.
+    pub article: T,
+    /// How many were ordered.
+    pub ordered: usize,
+    /// How many were delivered.
+    pub delivered: usize,
+}
+
+impl<T> Row<T> {
+    /// Returns how many were ordered and not delivered.
+    pub fn missing(&self) -> usize
+        ensures { result ≡ missing_of self.now }
+    {
+        self.ordered.saturating_sub(self.delivered)
+    }
+
+    /// Returns how many were delivered and not ordered.
+    pub fn surplus(&self) -> usize
+        ensures { result ≡ surplus_of self.now }
+    {
+        self.delivered.saturating_sub(self.ordered)
+    }
+
+    /// Returns whether as many were delivered as ordered.
+    pub fn agrees(&self) -> bool
+        ensures { result ≡ agrees self.now }
+    {
+        self.ordered == self.delivered
+    }
+}
+
+/// Two lists, matched.
+#[derive(Drop)]
+pub struct Matched<T> {
+    /// A row for each article of either list, articles rising.
+    pub rows: Vec<Row<T>>,
+    /// The sums of the rows.
+    pub totals: Totals,
+    /// Whether as many of each article were delivered as ordered.
+    pub agree: bool,
+}
+
+// Returns a row for each article that either bag has, with its count in both, in no particular order.
+fn rows_of<'a, T: Ord + Hash + Drop, S: BuildHasher + Drop>(
+    alloc: Global,
+    ordered: &'a HashBag<T, S>,
+    delivered: &'a HashBag<T, S>,
+) -> Result<Vec<Row<&'a T>>, AllocError>
+    ensures { IfOk result (λ rows. (J : List (T × ℕ × ℕ)) × IsOuterJoin T.eq ordered.now.items delivered.now.items J
+        × (lent_rows rows.items ≡ map row_of_join J)) }
+{
+    let mut rows = Vec::new(alloc);
+    for (article, first, second) in ordered.outer_join(delivered) {
+        rows.push(Row {
+            article,
+            ordered: first,
+            delivered: second,
+        })?;
+    }
+    Ok(rows)
+}
+
+// Returns whether neither bag has the article.
+fn is_in_neither<T: Eq + Hash + Drop, S: BuildHasher + Drop>(
+    ordered: &HashBag<T, S>,
+    delivered: &HashBag<T, S>,
+    article: &T,
+) -> bool
+    ensures { result ≡ in_neither T.eq ordered.now.items delivered.now.items article.now }
+{
+    ordered.contains(article) == 0 && delivered.contains(article) == 0
+}
+
+// Appends a row without numbers for each article that only lines with the number 0 name.
+fn push_zeros<'a, T: Ord + Hash + Drop, S: BuildHasher + Drop>(
+    rows: &mut Vec<Row<&'a T>>,
+    ordered: &'a Tally<T, S>,
+    delivered: &'a Tally<T, S>,
+) -> Result<(), AllocError>
+    ensures { OnOk result ((J : List (T × ℕ × ℕ)) × IsOuterJoin T.eq ordered.now.zeros.items delivered.now.zeros.items J
+        × (lent_rows rows.new.items ≡ lent_rows rows.old.items
+        ++ map zero_row (filter (λ j. in_neither T.eq ordered.now.counts.items delivered.now.counts.items j.0) J))) }
+{
+    for (article, _, _) in ordered.zeros.outer_join(&delivered.zeros) {
+        if is_in_neither(&ordered.counts, &delivered.counts, article) {
+            rows.push(Row {
+                article,
+                ordered: 0,
+                delivered: 0,
+            })?;
+        }
+    }
+    Ok(())
+}
+
+/// Returns the rows of two tallies: each article that is named in one row, with its quantity in both, articles rising. The sums of the
+/// rows are at most the totals of the tallies.
+///
+/// # Errors
+///
+/// An allocation fails.
+///
+/// # Complexity
+///
+/// Allocates the rows. Looks each article up in the other bag, and an article that a line names with the number 0 in three bags more.
+/// Sorts the rows.
+pub fn rows_of_tallies<'a, T: Ord + Hash + Drop, S: BuildHasher + Drop>(
+    alloc: Global,
+    ordered: &'a Tally<T, S>,
+    delivered: &'a Tally<T, S>,
+) -> Result<Vec<Row<&'a T>>, AllocError>
+    // L and M are the lines of both tallies. Each article that one names has one row, with what each names of it in all.
+    ensures table { IfOk result (λ rows. (L M : List (T × ℕ)) → IsTallyOf T.eq L ordered.now.counts ordered.now.zeros
+        → IsTallyOf T.eq M delivered.now.counts delivered.now.zeros
+        → AreRows T.eq T.cmp (λ v. times T.eq v L + times T.eq v M) (λ v. quantity T.eq v L) (λ v. quantity T.eq v M) (lent_rows rows.items)) }
+    ensures missing { IfOk result (λ rows. sum_by missing_of rows.items ≤ length ordered.now.counts.items) }
+    ensures surplus { IfOk result (λ rows. sum_by surplus_of rows.items ≤ length delivered.now.counts.items) }
+{
+    let mut rows = rows_of(alloc, &ordered.counts, &delivered.counts)?;
+    push_zeros(&mut rows, ordered, delivered)?;
+    rows.sort_unstable();
+    Ok(rows)
+}
+
+/// Matches what was ordered with what was delivered. The rows don't depend on the hash states.
+///
+/// # Errors
+///
+/// An allocation fails.
+///
+/// # Complexity
+///
+/// As of [`rows_of_tallies`]. Looks each article up once more to compare the bags.
+pub fn match_tallies<'a, T: Ord + Hash + Drop, S: BuildHasher + Drop>(
+    alloc: Global,
+    ordered: &'a Tally<T, S>,
+    delivered: &'a Tally<T, S>,
+) -> Result<Matched<&'a T>, AllocError>
+    // L and M are the lines of both tallies. Each article that one names has one row, with what each names of it in all.
+    ensures table { IfOk result (λ matched. (L M : List (T × ℕ)) → IsTallyOf T.eq L ordered.now.counts ordered.now.zeros
+        → IsTallyOf T.eq M delivered.now.counts delivered.now.zeros
+        → AreRows T.eq T.cmp (λ v. times T.eq v L + times T.eq v M) (λ v. quantity T.eq v L) (λ v. quantity T.eq v M) (lent_rows matched.rows.items)) }
+    ensures totals { IfOk result (λ matched. AreTotals matched.rows.items matched.totals) }
+
+    // It is true exactly if both name as many of each article.
+    ensures agree { IfOk result (λ matched. (L M : List (T × ℕ)) → IsTallyOf T.eq L ordered.now.counts ordered.now.zeros
+        → IsTallyOf T.eq M delivered.now.counts delivered.now.zeros
+        → (IsTrue matched.agree ↔ ((v : T) → quantity T.eq v L ≡ quantity T.eq v M))) }
+{
+    let rows = rows_of_tallies(alloc, ordered, delivered)?;
+    // `len` is called for its clause: the sums of the rows fit.
+    let (_ordered, _delivered) = (ordered.counts.len(), delivered.counts.len());
+    let totals = totals_of(&rows);
+    let agree = ordered.counts == delivered.counts;
+    Ok(Matched {
+        rows,
+        totals,
+        agree,
+    })
+}

@@ -1,0 +1,89 @@
+//! Tallies of CSV texts.
+ghost use Rattle.std.specs.Prelude.{◌≡◌, ◌++◌, ℕ, List, [], map, IfOk, OnOk};
+ghost use Rattle.hashbag_csv.specs.LineColumns.{key_places, number_place};
+ghost use Rattle.hashbag_csv.specs.Lines.{line_of, lines_in};
+ghost use Rattle.hashbag_csv.specs.Readers.{Record};
+ghost use Rattle.hashbag_csv.specs.Sheets.{left};
+ghost use Rattle.hashbag_match_lib.specs.Fields.{HasLineMore, IsTallyOfLines};
+
+use crate::tally::{Tally, empty_tally};
+use hashbag::BagError;
+use hashbag_csv::counts::Reading;
+use hashbag_csv::fault::SheetError;
+use hashbag_csv::lines::LineColumns;
+use hashbag_csv::numbers::total_too_large;
+use hashbag_csv::scale::Scale;
+use hashbag_csv::sheet::Sheet;
+use std::alloc::Global;
+use std::hash::BuildHasher;
+
+// Adds an article and its number, which the record that was read last has, if the total is at most the greatest of the scale.
+fn add_line<S: BuildHasher + Drop>(
+    alloc: Global,
+    sheet: &Sheet<'_>,
+    tally: &mut Tally<Vec<String>, S>,
+    article: Vec<String>,
+    number: usize,
+    scale: Scale,
+) -> Result<(), SheetError>
+    ensures { OnOk result (HasLineMore article number tally.old.counts tally.old.zeros tally.new.counts tally.new.zeros) }
+{
+    if number > scale.most.saturating_sub(tally.counts.len()) {
+        return Err(sheet.bad_line(total_too_large(alloc, scale)?));
+    }
+    match tally.add(article, number) {
+        Ok(()) => Ok(()),
+        Err(BagError::TooMany) => Err(sheet.bad_line(total_too_large(alloc, scale)?)),
+        Err(BagError::BelowTotal | BagError::Memory) => Err(SheetError::Memory),
+    }
+}
+
+// Adds the lines that are left of a text.
+fn add_lines<S: BuildHasher + Drop>(
+    alloc: Global,
+    sheet: &mut Sheet<'_>,
+    columns: &LineColumns<'_>,
+    tally: &mut Tally<Vec<String>, S>,
+    scale: Scale,
+) -> Result<(), SheetError>
+    ensures { OnOk result ((K : List (Record × ℕ)) → IsTallyOfLines K tally.old.counts tally.old.zeros
+        → IsTallyOfLines (K ++ map (line_of scale (key_places columns.now) (number_place columns.now)) (left sheet.old)) tally.new.counts tally.new.zeros) }
+{
+    'lines: while let Some((article, number)) = columns.read(alloc, sheet, scale)? {
+        add_line(alloc, sheet, tally, article, number, scale)?;
+    }
+    Ok(())
+}
+
+/// Returns the tally of the lines of a text, under this hash state. An article is the fields of the columns that `keys` names, and may
+/// be on more than one line; its numbers add up. Numbers are in units of the scale, and all together are at most its greatest number.
+///
+/// # Errors
+///
+/// `Line` for the first bad line, and what is wrong with it. `Memory` if an allocation fails.
+///
+/// # Complexity
+///
+/// Allocates the article of each line: a vector, and a text for each field. Keeps those of new articles, and drops the others. Hashes
+/// the article of each line once, and one that is carried into a larger table once more.
+pub fn read_tally<S: BuildHasher + Copy + Drop>(
+    alloc: Global,
+    state: S,
+    text: &[u8],
+    keys: &[&str],
+    number_column: &str,
+    reading: Reading,
+) -> Result<Tally<Vec<String>, S>, SheetError>
+    ensures lines { IfOk result (λ tally.
+        IsTallyOfLines (lines_in reading (map (λ k. k.now) keys.now) number_column.now text.now) tally.counts tally.zeros) }
+
+    // Nothing waits in either bag.
+    ensures carried { IfOk result (λ tally. (tally.counts.tables.waiting ≡ []) × (tally.zeros.tables.waiting ≡ [])) }
+{
+    let mut sheet = Sheet::open_with(alloc, text, reading.delimiter)?;
+    let columns = LineColumns::named(alloc, &sheet, keys, number_column)?;
+    let mut tally = empty_tally(alloc, state);
+    add_lines(alloc, &mut sheet, &columns, &mut tally, reading.scale)?;
+    tally.finish_carry();
+    Ok(tally)
+}

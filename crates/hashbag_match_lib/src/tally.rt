@@ -1,0 +1,77 @@
+//! How many of each article lines name, added up as they are read.
+ghost use Rattle.std.specs.Prelude.{◌≡◌, ℕ, ◌+◌, ◌<◌, ◌≤◌, ◌↔◌, [], ◌∷◌, ◌++◌, List, length, IfErr, OnOk, OnErr};
+ghost use Rattle.hashbag_match_lib.specs.Tallies.{IsTallyOf};
+
+use hashbag::{BagError, HashBag};
+use std::alloc::Global;
+use std::hash::{BuildHasher, Hash};
+
+/// The articles of a list, with their quantities: one entry for each article, however many lines name it.
+#[derive(Drop)]
+pub struct Tally<T: Eq + Hash + Drop, S: BuildHasher + Drop> {
+    /// Each article as often as the numbers of its lines say together.
+    pub counts: HashBag<T, S>,
+    /// The articles of the lines with the number 0, each once for each of these lines.
+    pub zeros: HashBag<T, S>,
+}
+
+impl<T: Eq + Hash + Drop, S: BuildHasher + Drop> Tally<T, S> {
+    /// Adds a line: an article and its number.
+    ///
+    /// # Errors
+    ///
+    /// `TooMany` exactly if the numbers would be more than `usize::MAX` together. Else only `Memory`, if an allocation fails. After an
+    /// error the tally is unchanged.
+    ///
+    /// # Complexity
+    ///
+    /// Hashes the article once. An article that is present is dropped. An absent one is kept, and slots are allocated if there is no room.
+    pub fn add(&mut self, article: T, number: usize) -> Result<(), BagError>
+        // L are the lines so far.
+        ensures added { OnOk result ((L : List (T × ℕ)) → IsTallyOf T.eq L self.old.counts self.old.zeros
+            → IsTallyOf T.eq (L ++ (article, number) ∷ []) self.new.counts self.new.zeros) }
+        ensures too_many { (result ≡ Err BagError.TooMany) ↔ (self.old.counts.most < length self.old.counts.items + number) }
+        ensures only_memory { length self.old.counts.items + number ≤ self.old.counts.most → IfErr result (λ e. e ≡ BagError.Memory) }
+        ensures err { OnErr result (self.new ≡ self.old) }
+    {
+        if number == 0 {
+            // `len` is called for its clause: what the bag has fits.
+            let _len = self.counts.len();
+            return match self.zeros.insert(article) {
+                Ok(_) => Ok(()),
+                // `TooMany` can't be: no file has as many lines.
+                Err(_) => Err(BagError::Memory),
+            };
+        }
+        self.counts.insert_many(article, number)?;
+        Ok(())
+    }
+
+    /// Carries what waits in both bags, so that each look-up probes one table.
+    ///
+    /// # Complexity
+    ///
+    /// Hashes each waiting article once, and doesn't allocate.
+    pub fn finish_carry(&mut self)
+        // It is the tally of the same lines, and nothing waits.
+        ensures same { (L : List (T × ℕ)) → IsTallyOf T.eq L self.old.counts self.old.zeros
+            → IsTallyOf T.eq L self.new.counts self.new.zeros }
+        ensures waiting { (self.new.counts.tables.waiting ≡ []) × (self.new.zeros.tables.waiting ≡ []) }
+    {
+        self.counts.finish_carry();
+        self.zeros.finish_carry();
+    }
+}
+
+/// Returns the tally of no lines, whose bags hash by this state. It doesn't allocate.
+pub fn empty_tally<T: Eq + Hash + Drop, S: BuildHasher + Copy + Drop>(
+    alloc: Global,
+    state: S,
+) -> Tally<T, S>
+    ensures { IsTallyOf T.eq [] result.counts result.zeros }
+{
+    Tally {
+        counts: HashBag::with_hasher(alloc, state),
+        zeros: HashBag::with_hasher(alloc, state),
+    }
+}

@@ -1,0 +1,132 @@
+//! Bags that are made of two others, which stay as they are.
+ghost use Rattle.std.specs.Prelude.{◌≡◌, ◌+◌, ◌<◌, ◌≤◌, ◌↔◌, min, max, length, All, true, IfErr, IfOk};
+ghost use Rattle.hashbag.specs.Occurrences.{count};
+
+use crate::combine::{keep_common, keep_most, merge_ref};
+use hashbag::{BagError, HashBag};
+use std::hash::{BuildHasher, Hash};
+
+/// Returns the sum of two bags: each value as often as in both together. It has the limit of the first.
+///
+/// The caller ensures that clones of the values equal them.
+///
+/// # Errors
+///
+/// - `TooMany` exactly if the total would pass the limit of `a`. That is tested before anything is cloned.
+/// - `Memory` if an allocation fails, or the clone of a value or of a state.
+///
+/// # Complexity
+///
+/// It clones both bags: each distinct value of `a` is hashed once, each of `b` twice.
+///
+/// # Examples
+///
+/// ```
+/// let mut stock: HashBag<&str> = HashBag::new(alloc);
+/// stock.insert_many("bolt", 2)?;
+/// let mut delivery: HashBag<&str> = HashBag::new(alloc);
+/// delivery.insert_many("bolt", 3)?;
+/// hashbag_ops::sum(&stock, &delivery)?.contains(&"bolt"); // 5
+/// stock.contains(&"bolt"); // 2
+/// Ok(())
+/// ```
+pub fn sum<
+    T: Eq + Hash + Clone + Drop,
+    S: BuildHasher + Clone + Drop,
+    S2: BuildHasher + Clone + Drop,
+>(a: &HashBag<T, S>, b: &HashBag<T, S2>) -> Result<HashBag<T, S>, BagError>
+    requires first { All (λ x. (y : _) → T.is_clone x y → T.eq x y ≡ true) a.now.items }
+    requires second { All (λ x. (y : _) → T.is_clone x y → T.eq x y ≡ true) b.now.items }
+    ensures counts { IfOk result (λ bag. (v : T) → count T.eq v bag.items ≡ count T.eq v a.now.items + count T.eq v b.now.items) }
+    ensures len { IfOk result (λ bag. length bag.items ≡ length a.now.items + length b.now.items) }
+    ensures limit { IfOk result (λ bag. bag.most ≡ a.now.most) }
+    ensures too_many { (result ≡ Err BagError.TooMany) ↔ (a.now.most < length a.now.items + length b.now.items) }
+    ensures only_memory { length a.now.items + length b.now.items ≤ a.now.most → IfErr result (λ e. e ≡ BagError.Memory) }
+{
+    if b.len() > a.limit() - a.len() {
+        return Err(BagError::TooMany);
+    }
+    let mut bag = a.clone()?;
+    merge_ref(&mut bag, b)?;
+    Ok(bag)
+}
+
+/// Returns the union of two bags: each value as often as in the bag that has it more often. It has the limit of the first.
+///
+/// The caller ensures that clones of the values equal them.
+///
+/// # Errors
+///
+/// - `TooMany` if the total would pass the limit of `a`.
+/// - `Memory` if an allocation fails, or the clone of a value or of a state.
+///
+/// # Complexity
+///
+/// It clones both bags. Each distinct value of `a` is hashed once, each of `b` at most four times.
+///
+/// # Examples
+///
+/// ```
+/// let mut needed: HashBag<&str> = HashBag::new(alloc);
+/// needed.insert_many("bolt", 2)?;
+/// let mut other: HashBag<&str> = HashBag::new(alloc);
+/// other.insert_many("bolt", 3)?;
+/// hashbag_ops::union(&needed, &other)?.contains(&"bolt"); // 3
+/// needed.contains(&"bolt"); // 2
+/// Ok(())
+/// ```
+pub fn union<
+    T: Eq + Hash + Clone + Drop,
+    S: BuildHasher + Clone + Drop,
+    S2: BuildHasher + Clone + Drop,
+>(a: &HashBag<T, S>, b: &HashBag<T, S2>) -> Result<HashBag<T, S>, BagError>
+    requires first { All (λ x. (y : _) → T.is_clone x y → T.eq x y ≡ true) a.now.items }
+    requires second { All (λ x. (y : _) → T.is_clone x y → T.eq x y ≡ true) b.now.items }
+    ensures counts { IfOk result (λ bag. (v : T) → count T.eq v bag.items ≡ max (count T.eq v a.now.items) (count T.eq v b.now.items)) }
+    ensures len { IfOk result (λ bag. length bag.items ≤ length a.now.items + length b.now.items) }
+    ensures limit { IfOk result (λ bag. bag.most ≡ a.now.most) }
+    ensures only_memory { length a.now.items + length b.now.items ≤ a.now.most → IfErr result (λ e. e ≡ BagError.Memory) }
+{
+    let mut bag = a.clone()?;
+    keep_most(&mut bag, b.clone()?)?;
+    Ok(bag)
+}
+
+/// Returns what two bags have in common: each value as often as in the bag that has it less often. It has the limit of the first.
+///
+/// The caller ensures that clones of the values equal them.
+///
+/// # Errors
+///
+/// `Memory` if an allocation fails, or the clone of a value or of the state.
+///
+/// # Complexity
+///
+/// It clones `a`, and hashes each of its distinct values twice.
+///
+/// # Examples
+///
+/// ```
+/// let mut stock: HashBag<&str> = HashBag::new(alloc);
+/// stock.insert_many("bolt", 5)?;
+/// let mut order: HashBag<&str> = HashBag::new(alloc);
+/// order.insert_many("bolt", 3)?;
+/// hashbag_ops::intersection(&stock, &order)?.contains(&"bolt"); // 3
+/// stock.contains(&"bolt"); // 5
+/// Ok(())
+/// ```
+pub fn intersection<
+    T: Eq + Hash + Clone + Drop,
+    S: BuildHasher + Clone + Drop,
+    S2: BuildHasher + Drop,
+>(a: &HashBag<T, S>, b: &HashBag<T, S2>) -> Result<HashBag<T, S>, BagError>
+    requires first { All (λ x. (y : _) → T.is_clone x y → T.eq x y ≡ true) a.now.items }
+    ensures counts { IfOk result (λ bag. (v : T) → count T.eq v bag.items ≡ min (count T.eq v a.now.items) (count T.eq v b.now.items)) }
+    ensures len { IfOk result (λ bag. length bag.items ≤ length a.now.items) }
+    ensures limit { IfOk result (λ bag. bag.most ≡ a.now.most) }
+    ensures memory { IfErr result (λ e. e ≡ BagError.Memory) }
+{
+    let mut bag = a.clone()?;
+    keep_common(&mut bag, b);
+    Ok(bag)
+}

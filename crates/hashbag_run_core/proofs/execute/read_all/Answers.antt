@@ -1,5 +1,0 @@
-use Rattle.hashbag_run_core.proofs.ExecutionLemmas.{consumes_none}
-use Rattle.hashbag_run_core.proofs.execute.read_all.Goals as goal
-
-pub reads-init : goal.reads-init
-reads-init g c = rw c.new-text.ensures.items (consumes_none (g.R.Read.remaining c.args.input.now))

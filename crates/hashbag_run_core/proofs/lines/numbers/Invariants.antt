@@ -1,6 +1,0 @@
-use Rattle.std.proofs.Common.{map}
-use Rattle.hashbag_run_core.proofs.CommandLemmas.{HasRead}
-use Rattle.hashbag_run_core.proofs.lines.numbers.Given as goal
-
-abbrev pub invariant-loop-word : goal.invariant-loop-word
-invariant-loop-word l = HasRead (map (λ w. w.now) l.words) l.word-index l.numbers.items

@@ -1,7 +1,0 @@
-use Rattle.std.proofs.Common.{◌≡◌, ◌++◌, take}
-use Rattle.std.specs.Prelude.{flat_map, string_bytes}
-use Rattle.hashbag_run_core.specs.Lines.{outer_line}
-use Rattle.hashbag_run_core.proofs.output.print_outer.Given as goal
-
-abbrev pub invariant-loop-value : goal.invariant-loop-value
-invariant-loop-value l = string_bytes l.text ≡ string_bytes l.initial.text ++ flat_map (outer_line) (take l.value-index l.outer.items)

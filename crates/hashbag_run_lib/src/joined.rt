@@ -1,0 +1,93 @@
+//! Two runs of steps, and the joins of what they leave.
+ghost use Rattle.std.specs.Prelude.{◌≡◌, ◌⊎◌, map, IfOk, IfErr, OnErr};
+ghost use Rattle.hashbag.specs.Pairs.{ran, HasNoRoom, IsCutOffAfter};
+ghost use Rattle.hashbag_run_lib.specs.RunAndJoin.{IsRunAndJoined};
+
+use hashbag::script::{Joins, Reply, Step, joins_of, run_pair};
+use hashbag::{BagError, HashBag};
+use std::alloc::{AllocError, Global};
+use std::hash::{BuildHasher, Hash};
+
+/// The four joins of two bags, by value.
+#[derive(Drop)]
+pub struct JoinLists<T> {
+    /// Copies of [`Joins::outer`].
+    pub outer: Vec<(T, usize, usize)>,
+    /// Copies of [`Joins::difference`].
+    pub difference: Vec<(T, usize)>,
+    /// Copies of [`Joins::signed`].
+    pub signed: Vec<(T, isize)>,
+    /// Copies of [`Joins::not_in`].
+    pub not_in: Vec<(T, usize)>,
+}
+
+// Returns copies of values with a number each.
+fn copied_pairs<T: Copy, N: Copy>(
+    alloc: Global,
+    pairs: &Vec<(&T, N)>,
+) -> Result<Vec<(T, N)>, AllocError>
+    ensures { IfOk result (λ copies. copies.items ≡ map (λ e. (e.0.now, e.1)) pairs.now.items) }
+{
+    pairs.iter().map(|pair| (*pair.0, pair.1)).collect(alloc)
+}
+
+// Returns copies of values with two counts each.
+fn copied_joins<T: Copy>(
+    alloc: Global,
+    joins: &Vec<(&T, usize, usize)>,
+) -> Result<Vec<(T, usize, usize)>, AllocError>
+    ensures { IfOk result (λ copies. copies.items ≡ map (λ j. (j.0.now, j.1, j.2)) joins.now.items) }
+{
+    joins
+        .iter()
+        .map(|join| (*join.0, join.1, join.2))
+        .collect(alloc)
+}
+
+// Returns the joins by value.
+fn copied<T: Copy + Drop>(alloc: Global, joins: &Joins<'_, T>) -> Result<JoinLists<T>, AllocError>
+    ensures outer { IfOk result (λ lists. lists.outer.items ≡ map (λ j. (j.0.now, j.1, j.2)) joins.now.outer.items) }
+    ensures difference { IfOk result (λ lists. lists.difference.items ≡ map (λ e. (e.0.now, e.1)) joins.now.difference.items) }
+    ensures signed { IfOk result (λ lists. lists.signed.items ≡ map (λ e. (e.0.now, e.1)) joins.now.signed.items) }
+    ensures not_in { IfOk result (λ lists. lists.not_in.items ≡ map (λ e. (e.0.now, e.1)) joins.now.not_in.items) }
+{
+    Ok(JoinLists {
+        outer: copied_joins(alloc, &joins.outer)?,
+        difference: copied_pairs(alloc, &joins.difference)?,
+        signed: copied_pairs(alloc, &joins.signed)?,
+        not_in: copied_pairs(alloc, &joins.not_in)?,
+    })
+}
+
+/// Does the steps of two bags, those of the first before those of the second, appends a reply for each, and returns the joins of what the
+/// two runs leave.
+///
+/// # Errors
+///
+/// `Memory` if an allocation fails. Then there are no joins. Either the runs are as [`run_pair`] leaves them, or both were done.
+pub fn run_and_join<T: Eq + Hash + Copy + Drop, S: BuildHasher + Drop, S2: BuildHasher + Drop>(
+    alloc: Global,
+    a: &mut HashBag<T, S>,
+    b: &mut HashBag<T, S2>,
+    steps_a: Vec<Step<T>>,
+    steps_b: Vec<Step<T>>,
+    replies_a: &mut Vec<Reply<T>>,
+    replies_b: &mut Vec<Reply<T>>,
+) -> Result<JoinLists<T>, BagError>
+    ensures whole { IfOk result (λ joins. IsRunAndJoined T.eq
+        (ran a.old a.new steps_a.items replies_a.old.items replies_a.new.items)
+        (ran b.old b.new steps_b.items replies_b.old.items replies_b.new.items)
+        joins.outer.items joins.difference.items joins.signed.items joins.not_in.items) }
+    ensures first_hasher { a.new.hasher ≡ a.old.hasher }
+    ensures second_hasher { b.new.hasher ≡ b.old.hasher }
+
+    // Only an allocation can fail.
+    ensures memory { IfErr result (λ e. e ≡ BagError.Memory) }
+    ensures stopped { OnErr result (IsCutOffAfter T.eq (HasNoRoom replies_a.old steps_a ⊎ HasNoRoom replies_b.old steps_b)
+        (ran a.old a.new steps_a.items replies_a.old.items replies_a.new.items)
+        (ran b.old b.new steps_b.items replies_b.old.items replies_b.new.items)) }
+{
+    run_pair(a, b, steps_a, steps_b, replies_a, replies_b)?;
+    let joins = joins_of(alloc, a, b)?;
+    Ok(copied(alloc, &joins)?)
+}

@@ -1,5 +1,0 @@
-use Rattle.hashbag_words_core.proofs.MergedLemmas.{so_far_begins}
-use Rattle.hashbag_words_core.proofs.sorted_merge.Merger.new.Goals as goal
-
-pub returns : goal.returns
-returns c = record { begins = λ given begun. so_far_begins given c.args.sources.items begun }

@@ -1,7 +1,0 @@
-use Rattle.std.proofs.Common.{◌≡◌, ◌++◌, map}
-use Rattle.hashbag_words_core.specs.Prefix.{bare_row}
-use Rattle.hashbag_words_core.proofs.sorting.without_numbers.Given as goal
-
--- the rows so far are there
-abbrev pub invariant-loop-row : goal.invariant-loop-row
-invariant-loop-row l = (l.made.items ≡ map bare_row l.yielded) × (l.yielded ++ l.row-iterator.rest.items ≡ l.fn.rows.items)

@@ -1,0 +1,249 @@
+-- What a line that ends, bytes that are kept, and the end of a file do to the rows that are added.
+use Rattle.std.proofs.Common.{◌≡◌, ◌≢◌, ℕ, ◌+◌, ◌-◌, ◌^◌, ◌<◌, Bool, true, false, cond, eqb, List, [], ◌∷◌, ◌++◌, length, get_or, map, min, String, string_bytes, bytes_eq, sum_by, Result, Ok, Err, OnOk, Global, refl, sym, ◌∙◌, ap, subst, arith, ne_eqb, length-append, append_assoc}
+use borrow.Author.Tests.{eqb-true, eqb-false}
+use Rattle.std.specs.Str.Lines.{lines, strip_carriage_return}
+use Rattle.std.proofs.lemmas.List.{append-nil, get_or-append_right}
+use Rattle.std.proofs.lemmas.List.Elements.{All-nil, All-append}
+use Rattle.std.proofs.lemmas.List.Sums.{sum_by-append, sum_by-cons, sum_by_push}
+use Rattle.hashbag.specs.Bag.{Bag}
+use Rattle.hashbag.specs.Occurrences.{count}
+use Rattle.hashbag_words_lib.specs.Added.{line_at, Added, AddsRows, AreReadAs, AreRowsOf, HaveRows, IsFirstNoRow, IsReadAs}
+use Rattle.hashbag_words_lib.specs.Counted.{NoLineFeed}
+use Rattle.hashbag_words_lib.specs.Counts.{texts_in, AddsTimes}
+use Rattle.hashbag_words_lib.specs.Reading.{EndsLine}
+use Rattle.hashbag_words_lib.specs.Rows.{IsNoRow}
+use Rattle.hashbag_words_lib.specs.Runs.{unmarked}
+use Rattle.hashbag_words_lib.specs.Sorted.{of_row, times_in}
+use Rattle.hashbag_words_lib.specs.Tokens.{without_mark}
+use Rattle.hashbag_words_lib.specs.declared.lines.BadLines.{BadLines}
+use Rattle.hashbag_words_lib.specs.declared.lines.BadLines.TheVariants.{Refused, Skipped}
+use Rattle.hashbag_words_lib.specs.declared.lines.Reading.{Reading}
+use Rattle.hashbag_words_lib.specs.declared.rows.RowForm.{RowForm}
+use Rattle.hashbag_words_lib.proofs.CountedLemmas.{ended_lines, ended_with, ends_push, nil_first}
+use Rattle.hashbag_words_lib.proofs.LineLemmas.{lines-append}
+
+-- ---- lines that are read as rows
+
+pub read_none : (form : RowForm) (bad_lines : BadLines) → AreReadAs form bad_lines [] []
+read_none form bad_lines = refl
+
+-- one line more was read
+read_push : (form : RowForm) (bad_lines : BadLines) (xs : List (List ℕ)) (line : List ℕ) (rows more : List (List ℕ × ℕ)) → AreReadAs form bad_lines xs rows → IsReadAs form bad_lines line more → AreReadAs form bad_lines (xs ++ line ∷ []) (rows ++ more)
+read_push form bad_lines [] line rows more h one = (more, [], ap (λ (l : List (List ℕ × ℕ)). l ++ more) h ∙ sym (append-nil more), one, refl)
+read_push form bad_lines (x ∷ xs) line rows more h one = (
+  h.0,
+  h.1 ++ more,
+  ap (λ (l : List (List ℕ × ℕ)). l ++ more) h.2 ∙ append_assoc h.0 h.1 more,
+  h.3,
+  read_push form bad_lines xs line h.1 more h.4 one,
+)
+
+-- a line before which lines come
+later_line : (n : ℕ) (line : List ℕ) → 0 < n → line_at n line ≡ line
+later_line n line some = ap (λ (b : Bool). cond b (without_mark line) line) (ne_eqb n 0 (λ z. omega arith))
+
+-- a line of a file, of which these come before
+unmarked_middle : (xs : List (List ℕ)) (line : List ℕ) (rest : List (List ℕ)) → unmarked (xs ++ line ∷ rest) ≡ unmarked xs ++ line_at (length xs) line ∷ rest
+unmarked_middle [] line rest = refl
+unmarked_middle (x ∷ xs) line rest = ap (λ (l : List ℕ). unmarked (x ∷ xs) ++ l ∷ rest) (sym (later_line (length (x ∷ xs)) line (omega arith)))
+
+long_unmarked : (xs : List (List ℕ)) → length (unmarked xs) ≡ length xs
+long_unmarked [] = refl
+long_unmarked (x ∷ xs) = refl
+
+-- the number of lines that were read shows which line is the first, also if it can't count them all
+at_number : (line n : ℕ) (bytes : List ℕ) → line ≡ min n (2 ^ 64 - 1) → line_at line bytes ≡ line_at n bytes
+at_number line n bytes is = ap (λ (b : Bool). cond b (without_mark bytes) bytes) (both (eqb n 0) refl)
+  where
+    both : (b : Bool) → eqb n 0 ≡ b → eqb line 0 ≡ eqb n 0
+    both true zero = let none : n ≡ 0 = eqb-true n 0 zero in let at : line ≡ 0 = omega (arith, is, none) in ap (λ (k : ℕ). eqb k 0) at ∙ sym zero
+    both false some = ne_eqb line 0 (λ z. eqb-false n 0 some (omega (arith, is, z))) ∙ sym some
+
+module _ {S : Type 0} where
+  -- ---- the bag and its runs
+
+  -- a row was added
+  pub adds_one : (old new : Bag (String Global) S) (token : List ℕ) (n : ℕ) → AddsTimes old new token n → AddsRows old new ((token, n) ∷ [])
+  adds_one old new token n h text =
+      h text ∙ ap (λ (k : ℕ). count bytes_eq text (texts_in old) + k) (none_behind (cond (bytes_eq text token) n 0) ∙ sym (sum_by-cons (of_row text) (token, n) []))
+    where
+      none_behind : (k : ℕ) → k ≡ k + 0
+      none_behind k = omega arith
+
+  pub adds_none : (bag : Bag (String Global) S) → AddsRows bag bag []
+  adds_none bag text = none_behind (count bytes_eq text (texts_in bag))
+    where
+      none_behind : (k : ℕ) → k ≡ k + 0
+      none_behind k = omega arith
+
+  -- a line that is no row was skipped, or rejected
+  pub skipped_line : {X E : Type 0} (r : Result X E) (form : RowForm) (bad_lines before : BadLines) (line : List ℕ) (old new : Bag (String Global) S) → OnOk r (before ≡ Skipped) → before ≡ bad_lines → IsNoRow form line → new ≡ old
+      → OnOk r ((rows : List (List ℕ × ℕ)) × IsReadAs form bad_lines line rows × AddsRows old new rows)
+  skipped_line (Ok x) form bad_lines before line old new is same none kept = ([], (sym same ∙ is, none), subst (λ (b : Bag (String Global) S). AddsRows old b []) (sym kept) (adds_none old))
+  skipped_line (Err e) form bad_lines before line old new is same none kept = tt
+
+  -- rows were added
+  have_more : (runs : List (List (List ℕ × ℕ))) (old new : Bag (String Global) S) (before rows more : List (List ℕ × ℕ)) → HaveRows runs old (before ++ rows) → AddsRows old new more → HaveRows runs new (before ++ (rows ++ more))
+  have_more runs old new before rows more h adds text =
+      let was : count bytes_eq text (texts_in old) + sum_by (times_in text) runs ≡ times_in text (before ++ rows) = h text in
+      let grows : count bytes_eq text (texts_in new) ≡ count bytes_eq text (texts_in old) + times_in text more = adds text in
+      let parts : times_in text ((before ++ rows) ++ more) ≡ times_in text (before ++ rows) + times_in text more = sum_by-append (of_row text) (before ++ rows) more in
+      let same : times_in text (before ++ (rows ++ more)) ≡ times_in text ((before ++ rows) ++ more) = ap (times_in text) (sym (append_assoc before rows more)) in
+      omega (arith, was, grows, parts, same)
+
+  -- the bag became a run
+  have_run : (runs : List (List (List ℕ × ℕ))) (run : List (List ℕ × ℕ)) (old new : Bag (String Global) S) (rows : List (List ℕ × ℕ)) → new.items ≡ [] → ((text : List ℕ) → times_in text run ≡ count bytes_eq text (texts_in old))
+      → HaveRows runs old rows → HaveRows (runs ++ run ∷ []) new rows
+  have_run runs run old new rows none is h text =
+      let gone : count bytes_eq text (texts_in new) ≡ 0 = ap (λ (l : List (String Global)). count bytes_eq text (map string_bytes l)) none in
+      let pushed : sum_by (times_in text) (runs ++ run ∷ []) ≡ sum_by (times_in text) runs + times_in text run = sum_by_push (times_in text) runs run in
+      let was : times_in text run ≡ count bytes_eq text (texts_in old) = is text in
+      let before : count bytes_eq text (texts_in old) + sum_by (times_in text) runs ≡ times_in text rows = h text in
+      omega (arith, gone, pushed, was, before)
+
+  -- ---- the counter
+
+  -- nothing was given
+  pub Added-nothing : (form : RowForm) (before : List (List ℕ × ℕ)) (runs : List (List (List ℕ × ℕ))) (bag : Bag (String Global) S) (partial : List ℕ) (reading : Reading) → HaveRows runs bag before → partial ≡ []
+      → reading.line ≡ 0 → Added form before runs bag partial reading []
+  Added-nothing form before runs bag partial reading counts empty none = record {
+    ended = [];
+    cut = sym empty;
+    ends = λ some. absurd (omega arith);
+    unended = subst NoLineFeed (sym empty) (All-nil (λ x. x ≢ 10));
+    rows = [];
+    read = refl;
+    counts = subst (HaveRows runs bag) (sym (append-nil before)) counts;
+    line = none ∙ omega arith;
+  }
+
+  -- a line has ended, and was read with what was kept of it
+  Added-line : (form : RowForm) (before : List (List ℕ × ℕ)) (runs : List (List (List ℕ × ℕ))) (old new : Bag (String Global) S) (partial rest line kept : List ℕ) (first after : Reading) (more : List (List ℕ × ℕ)) (text : List ℕ) → NoLineFeed rest
+      → line ≡ strip_carriage_return (partial ++ rest) → kept ≡ [] → IsReadAs form first.bad_lines (line_at first.line line) more → AddsRows old new more
+      → after.bad_lines ≡ first.bad_lines → after.line ≡ min (first.line + 1) (2 ^ 64 - 1)
+      → Added form before runs old partial first text → Added form before runs new kept after (text ++ (rest ++ 10 ∷ []))
+  Added-line form before runs old new partial rest line kept first after more text none is empty one adds same next h =
+      let part = partial ++ rest in
+      let whole = h.ended ++ (part ++ 10 ∷ []) in
+      let both : lines whole ≡ lines h.ended ++ line ∷ [] =
+      ended_lines h.ended part h.ends (All-append (λ x. x ≢ 10) partial rest h.unended none) ∙ ap (λ (l : List ℕ). lines h.ended ++ l ∷ []) (sym is) in
+      let at : line_at first.line line ≡ line_at (length (lines h.ended)) line = at_number first.line (length (lines h.ended)) line h.line in
+      let so_far : first.line ≡ min (length (lines h.ended)) (2 ^ 64 - 1) = h.line in
+      let long : length (lines whole) ≡ length (lines h.ended) + 1 = ap length both ∙ length-append (lines h.ended) (line ∷ []) in
+      record {
+        ended = whole;
+        cut = ended_with text h.ended partial rest h.cut ∙ sym (append-nil whole) ∙ ap (λ (l : List ℕ). whole ++ l) (sym empty);
+        ends = subst EndsLine (append_assoc h.ended part (10 ∷ [])) (ends_push (h.ended ++ part));
+        unended = subst NoLineFeed (sym empty) (All-nil (λ x. x ≢ 10));
+        rows = h.rows ++ more;
+        read =
+            subst (λ (b : BadLines). AreReadAs form b (unmarked (lines whole)) (h.rows ++ more)) (sym same)
+            (subst (λ (l : List (List ℕ)). AreReadAs form first.bad_lines l (h.rows ++ more)) (sym (ap unmarked both ∙ unmarked_middle (lines h.ended) line []))
+            (read_push form first.bad_lines (unmarked (lines h.ended)) (line_at (length (lines h.ended)) line) h.rows more h.read
+            (subst (λ (l : List ℕ). IsReadAs form first.bad_lines l more) at one)));
+        counts = have_more runs old new before h.rows more h.counts adds;
+        line = omega (arith, next, so_far, long);
+      }
+
+  -- the same, where that may have been an error
+  pub Added-line-ok : {X E : Type 0} (r : Result X E) (form : RowForm) (old new : Bag (String Global) S) (partial rest line kept : List ℕ) (first after : Reading) → NoLineFeed rest
+      → line ≡ strip_carriage_return (partial ++ rest) → kept ≡ []
+      → OnOk r ((rows : List (List ℕ × ℕ)) × IsReadAs form first.bad_lines (line_at first.line line) rows × AddsRows old new rows)
+      → after.bad_lines ≡ first.bad_lines → after.line ≡ min (first.line + 1) (2 ^ 64 - 1)
+      → OnOk r ((before : List (List ℕ × ℕ)) (runs : List (List (List ℕ × ℕ))) (text : List ℕ) → Added form before runs old partial first text → Added form before runs new kept after (text ++ (rest ++ 10 ∷ [])))
+  Added-line-ok (Ok x) form old new partial rest line kept first after none is empty one same next =
+      λ before runs text h. Added-line form before runs old new partial rest line kept first after one.0 text none is empty one.1 one.2 same next h
+  Added-line-ok (Err e) form old new partial rest line kept first after none is empty one same next = tt
+
+  -- the line that ended is no row, and bad lines are rejected
+  pub Added-bad : (form : RowForm) (before : List (List ℕ × ℕ)) (runs : List (List (List ℕ × ℕ))) (bag : Bag (String Global) S) (partial rest line : List ℕ) (first after : Reading) (text more : List ℕ) → NoLineFeed rest
+      → line ≡ strip_carriage_return (partial ++ rest) → (first.bad_lines ≡ Refused) × IsNoRow form (line_at first.line line) → after.bad_lines ≡ first.bad_lines → after.line ≡ min (first.line + 1) (2 ^ 64 - 1)
+      → Added form before runs bag partial first text → IsFirstNoRow form ((text ++ (rest ++ 10 ∷ [])) ++ more) after
+  Added-bad form before runs bag partial rest line first after text more none is bad same next h =
+      let part = partial ++ rest in
+      let whole = h.ended ++ (part ++ 10 ∷ []) in
+      let both : lines whole ≡ lines h.ended ++ line ∷ [] =
+      ended_lines h.ended part h.ends (All-append (λ x. x ≢ 10) partial rest h.unended none) ∙ ap (λ (l : List ℕ). lines h.ended ++ l ∷ []) (sym is) in
+      let ends : EndsLine whole = subst EndsLine (append_assoc h.ended part (10 ∷ [])) (ends_push (h.ended ++ part)) in
+      let at : line_at first.line line ≡ line_at (length (lines h.ended)) line = at_number first.line (length (lines h.ended)) line h.line in
+      let so_far : first.line ≡ min (length (lines h.ended)) (2 ^ 64 - 1) = h.line in
+      let long = long_unmarked (lines h.ended) in
+      record {
+        front = unmarked (lines h.ended);
+        bad = line_at (length (lines h.ended)) line;
+        rest = lines more;
+        rows = h.rows;
+        cut =
+            ap (λ (l : List ℕ). unmarked (lines (l ++ more))) (ended_with text h.ended partial rest h.cut)
+            ∙ ap unmarked (lines-append whole more ends ∙ ap (λ (l : List (List ℕ)). l ++ lines more) both ∙ append_assoc (lines h.ended) (line ∷ []) (lines more))
+            ∙ unmarked_middle (lines h.ended) line (lines more);
+        read = subst (λ (b : BadLines). AreReadAs form b (unmarked (lines h.ended)) h.rows) bad.0 h.read;
+        is = subst (IsNoRow form) at bad.1;
+        line = omega (arith, next, so_far, long);
+        refused = same ∙ bad.0;
+      }
+
+  -- bytes were kept
+  pub Added-rest : (form : RowForm) (before : List (List ℕ × ℕ)) (runs : List (List (List ℕ × ℕ))) (bag : Bag (String Global) S) (partial rest : List ℕ) (reading : Reading) (text : List ℕ) → NoLineFeed rest
+      → Added form before runs bag partial reading text → Added form before runs bag (partial ++ rest) reading (text ++ rest)
+  Added-rest form before runs bag partial rest reading text none h = record {
+    ended = h.ended;
+    cut = ap (λ (l : List ℕ). l ++ rest) h.cut ∙ append_assoc h.ended partial rest;
+    ends = h.ends;
+    unended = All-append (λ x. x ≢ 10) partial rest h.unended none;
+    rows = h.rows;
+    read = h.read;
+    counts = h.counts;
+    line = h.line;
+  }
+
+  -- the bag became a run
+  pub Added-run : (form : RowForm) (before : List (List ℕ × ℕ)) (runs : List (List (List ℕ × ℕ))) (run : List (List ℕ × ℕ)) (old new : Bag (String Global) S) (partial : List ℕ) (reading : Reading) (text : List ℕ) → new.items ≡ []
+      → ((text : List ℕ) → times_in text run ≡ count bytes_eq text (texts_in old)) → Added form before runs old partial reading text → Added form before (runs ++ run ∷ []) new partial reading text
+  Added-run form before runs run old new partial reading text none is h = record {
+    ended = h.ended;
+    cut = h.cut;
+    ends = h.ends;
+    unended = h.unended;
+    rows = h.rows;
+    read = h.read;
+    counts = have_run runs run old new (before ++ h.rows) none is h.counts;
+    line = h.line;
+  }
+
+  -- no file was begun
+  pub Added-none : (form : RowForm) (before : List (List ℕ × ℕ)) (runs : List (List (List ℕ × ℕ))) (bag : Bag (String Global) S) (partial : List ℕ) (reading : Reading) → Added form before runs bag partial reading [] → HaveRows runs bag before
+  Added-none form before runs bag partial reading h =
+      let none : lines h.ended ≡ [] = ap lines (nil_first h.ended partial h.cut) in
+      let rows : h.rows ≡ [] = subst (λ (l : List (List ℕ)). AreReadAs form reading.bad_lines (unmarked l) h.rows) none h.read in
+      subst (HaveRows runs bag) (ap (λ (l : List (List ℕ × ℕ)). before ++ l) rows ∙ append-nil before) h.counts
+
+  -- the file ends, and what was kept was skipped
+  pub Added-all : (form : RowForm) (before : List (List ℕ × ℕ)) (runs : List (List (List ℕ × ℕ))) (bag : Bag (String Global) S) (partial : List ℕ) (reading : Reading) (text : List ℕ) → (reading.bad_lines ≡ Refused → partial ≡ [])
+      → Added form before runs bag partial reading text → (rows : List (List ℕ × ℕ)) × AreRowsOf form reading.bad_lines text rows × HaveRows runs bag (before ++ rows)
+  Added-all form before runs bag partial reading text whole h = (
+    h.rows,
+    record {
+      ended = h.ended;
+      rest = partial;
+      cut = h.cut;
+      ends = h.ends;
+      unended = h.unended;
+      read = h.read;
+      whole = whole;
+    },
+    h.counts,
+  )
+
+  -- what is kept is no line that has ended
+  pub Added-cut : (form : RowForm) (before : List (List ℕ × ℕ)) (runs : List (List (List ℕ × ℕ))) (bag : Bag (String Global) S) (partial : List ℕ) (reading : Reading) (text : List ℕ) → 0 < length partial
+      → Added form before runs bag partial reading text → EndsLine text → ⊥
+  Added-cut form before runs bag partial reading text some h ends = not_ended h.ended partial some h.unended (subst EndsLine h.cut ends)
+    where
+      not_ended : (ended part : List ℕ) → 0 < length part → NoLineFeed part → EndsLine (ended ++ part) → ⊥
+      not_ended ended part some none ends =
+          let whole : length (ended ++ part) ≡ length ended + length part = length-append ended part in
+          let last = length (ended ++ part) - 1 in
+          let place : last - length ended ≡ length part - 1 = omega arith in
+          none (length part - 1) 0 (omega arith)
+          (sym (get_or-append_right ended part (length ended) last 0 refl (omega arith) ∙ ap (λ (k : ℕ). get_or part k 0) place) ∙ ends (omega arith))

@@ -1,0 +1,393 @@
+-- What a line that ends, bytes that are kept, and the end of a text do to what is counted.
+use Rattle.std.proofs.Common.{◌≡◌, ◌≢◌, ℕ, ◌+◌, ◌-◌, ◌^◌, ◌<◌, ◌≤◌, Bool, true, false, filter, map, cond, eqb, List, [], ◌∷◌, ◌++◌, length, take, drop, min, get_or, String, string_bytes, bytes_eq, sum_by, Option, None, Some, Result, Ok, Err, OnOk, IfErr, IsErrAnd, Global, refl, sym, ◌∙◌, ap, subst, arith, ne_eqb, eq-eqb, length-append, append_assoc}
+use borrow.Author.Tests.{eqb-true}
+use Rattle.std.specs.Cmp.Lexicographic.{nat_list_eq_equiv}
+use Rattle.std.specs.Str.Lines.{lines, lines_of_parts, strip_carriage_return}
+use Rattle.std.proofs.lemmas.List.{append-nil, get_or_at, get_or_default, get_or-take, drop_more, take_at, take-append-drop, length-take-le}
+use Rattle.std.proofs.lemmas.List.Elements.{All-nil, All-cons, All-append, filter-append}
+use Rattle.std.proofs.lemmas.List.Splits.{slice_split_none}
+use Rattle.std.proofs.lemmas.List.Sums.{sum_by_push}
+use Rattle.hashbag.specs.Bag.{Bag}
+use Rattle.hashbag.specs.EqualityLaws.{count_append}
+use Rattle.hashbag.specs.Occurrences.{count}
+use Rattle.hashbag_words_lib.specs.Counts.{texts_in, AddsTexts}
+use Rattle.hashbag_words_lib.specs.Counted.{how_many, Counted, HaveTogether, IsFirstBad, IsReadingOf, NoLineFeed, NoneIsBad}
+use Rattle.hashbag_words_lib.specs.Reading.{EndsLine}
+use Rattle.hashbag_words_lib.specs.Sorted.{times_in}
+use Rattle.hashbag_words_lib.specs.Tokens.{is_bad, is_replaced, tokens_of, tokens_of_lines}
+use Rattle.hashbag_words_lib.specs.declared.errors.BadLine.{BadLine}
+use Rattle.hashbag_words_lib.specs.declared.errors.Fault.{Fault}
+use Rattle.hashbag_words_lib.specs.declared.errors.Fault.TheVariants.{Line}
+use Rattle.hashbag_words_lib.specs.declared.lines.BadLines.TheVariants.{Refused}
+use Rattle.hashbag_words_lib.specs.declared.lines.Reading.{Reading}
+use Rattle.hashbag_words_lib.specs.declared.rule.Rule.{Rule}
+use Rattle.hashbag_words_lib.proofs.LineLemmas.{lines-cut, lines-append}
+use Rattle.hashbag_words_lib.proofs.ReadLemmas.{tokens_of_lines-append}
+use Rattle.memchr.specs.Find.{IsFirstByte, Nowhere, NoneBefore, Passes, is_byte}
+
+-- ---- lines of what is put together
+
+pub ended_lines : (ended part : List ℕ) → EndsLine ended → NoLineFeed part → lines (ended ++ (part ++ 10 ∷ [])) ≡ lines ended ++ strip_carriage_return part ∷ []
+ended_lines ended part ends none = lines-append ended (part ++ 10 ∷ []) ends ∙ ap (λ (l : List (List ℕ)). lines ended ++ l) (lines-cut part [] none)
+
+pub last_lines : (ended part : List ℕ) → EndsLine ended → NoLineFeed part → 0 < length part → lines (ended ++ part) ≡ lines ended ++ part ∷ []
+last_lines ended part ends none some =
+    lines-append ended part ends
+    ∙ ap (λ (l : List (List ℕ)). lines ended ++ l)
+    (ap lines_of_parts (slice_split_none (λ b. eqb b 10) part (λ k d l. ne_eqb (get_or part k d) 10 (none k d l)))
+    ∙ ap (λ (b : Bool). cond b [] (part ∷ [])) (ne_eqb (length part) 0 (λ z. omega arith)))
+
+pub ends_push : (xs : List ℕ) → EndsLine (xs ++ 10 ∷ [])
+ends_push xs some = get_or_at xs 10 [] 0 (length (xs ++ 10 ∷ []) - 1) (omega (arith, length-append xs (10 ∷ [])))
+
+-- ---- the first line feed
+
+pub no_feed : (xs : List ℕ) → Nowhere (Passes (is_byte 10) xs) 0 (length xs) → NoLineFeed xs
+no_feed xs h i d l is = h i (omega arith) l (eq-eqb (get_or xs i 0) 10 (get_or_default xs i 0 d l ∙ is))
+
+pub no_feed_before : (xs : List ℕ) (k : ℕ) → NoneBefore (Passes (is_byte 10) xs) 0 (length xs) k → NoLineFeed (take k xs)
+no_feed_before xs k h i d l is =
+    let high : k < length xs = h.high in
+    let long : length (take k xs) ≡ k = length-take-le k xs (omega arith) in
+    let below : i < k = omega arith in
+    let within : i < length xs = omega arith in
+    h.before i (omega arith) below (eq-eqb (get_or xs i 0) 10 (get_or_default xs i 0 d within ∙ sym (get_or-take k xs i d below) ∙ is))
+
+pub cut_at_feed : (xs : List ℕ) (k : ℕ) → k < length xs → Passes (is_byte 10) xs k → xs ≡ take k xs ++ 10 ∷ drop (k + 1) xs
+cut_at_feed xs k high is =
+    sym (take-append-drop k xs)
+    ∙ ap (λ (l : List ℕ). take k xs ++ l) (drop_more xs k 0 high ∙ ap (λ (x : ℕ). x ∷ drop (k + 1) xs) (eqb-true (get_or xs k 0) 10 is))
+
+-- what a search for a line feed answered
+pub none_found : (r : Option ℕ) (xs : List ℕ) → r ≡ None → IsFirstByte (is_byte 10) xs r → NoLineFeed xs
+none_found r xs is h = no_feed xs (subst (IsFirstByte (is_byte 10) xs) is h)
+
+pub one_found : (r : Option ℕ) (k : ℕ) (xs : List ℕ) → r ≡ Some k → IsFirstByte (is_byte 10) xs r → NoLineFeed (take k xs) × (xs ≡ take k xs ++ 10 ∷ drop (k + 1) xs) × (k < length xs)
+one_found r k xs is h = let at = subst (IsFirstByte (is_byte 10) xs) is h in (no_feed_before xs k at.0, cut_at_feed xs k at.0.high at.1, at.0.high)
+
+-- what has no length is empty
+pub nil_of : {X : Type 0} (xs : List X) → length xs ≡ 0 → xs ≡ []
+nil_of [] is = refl
+nil_of (x ∷ xs) is = absurd (omega arith)
+
+pub nil_first : (xs ys : List ℕ) → [] ≡ xs ++ ys → xs ≡ []
+nil_first [] ys is = refl
+nil_first (x ∷ xs) ys is = absurd (cc)
+
+pub some_of : {X : Type 0} (xs : List X) → (length xs ≡ 0 → ⊥) → 0 < length xs
+some_of [] ne = absurd (ne refl)
+some_of (x ∷ xs) ne = omega arith
+
+-- ---- a block of which some bytes were fed
+
+-- what was before holds of each text, and what is now of that text and the bytes of the block before the rest
+abbrev pub Eaten : (List ℕ → Type 0) → (List ℕ → Type 0) → List ℕ → List ℕ → Type 0
+Eaten Old New block rest = (eaten : List ℕ) × (block ≡ eaten ++ rest) × ((text : List ℕ) → Old text → New (text ++ eaten))
+
+pub Eaten-none : (P : List ℕ → Type 0) (block : List ℕ) → Eaten P P block block
+Eaten-none P block = ([], refl, λ text h. subst P (sym (append-nil text)) h)
+
+pub Eaten-more : (P Q R : List ℕ → Type 0) (block rest front left : List ℕ) → rest ≡ front ++ 10 ∷ left → ((text : List ℕ) → Q text → R (text ++ (front ++ 10 ∷ []))) → Eaten P Q block rest → Eaten P R block left
+Eaten-more P Q R block rest front left cut step h = (
+  h.0 ++ (front ++ 10 ∷ []),
+  h.1 ∙ ap (λ (l : List ℕ). h.0 ++ l) (cut ∙ sym (append_assoc front (10 ∷ []) left)) ∙ sym (append_assoc h.0 (front ++ 10 ∷ []) left),
+  λ text p. subst R (append_assoc text h.0 (front ++ 10 ∷ [])) (step (text ++ h.0) (h.2 text p)),
+)
+
+pub Eaten-all : (P Q R : List ℕ → Type 0) (block rest : List ℕ) → ((text : List ℕ) → Q text → R (text ++ rest)) → Eaten P Q block rest → (text : List ℕ) → P text → R (text ++ block)
+Eaten-all P Q R block rest step h text p =
+    subst R (append_assoc text h.0 rest ∙ ap (λ (l : List ℕ). text ++ l) (sym h.1)) (step (text ++ h.0) (h.2 text p))
+
+pub Eaten-bad : (P Q B : List ℕ → Type 0) (block rest front left : List ℕ) → rest ≡ front ++ 10 ∷ left → ((text : List ℕ) → Q text → (more : List ℕ) → B ((text ++ (front ++ 10 ∷ [])) ++ more)) → Eaten P Q block rest → (text : List ℕ) → P text → B (text ++ block)
+Eaten-bad P Q B block rest front left cut bad h text p =
+    subst B
+    (append_assoc (text ++ h.0) (front ++ 10 ∷ []) left
+    ∙ ap (λ (l : List ℕ). (text ++ h.0) ++ l) (append_assoc front (10 ∷ []) left ∙ sym cut)
+    ∙ append_assoc text h.0 rest
+    ∙ ap (λ (l : List ℕ). text ++ l) (sym h.1))
+    (bad (text ++ h.0) (h.2 text p) left)
+
+-- the block was fed as far as the rest
+pub Eaten-full : (P Q : List ℕ → Type 0) (block rest : List ℕ) (n : ℕ) → n ≡ length block - length rest → Eaten P Q block rest → (text : List ℕ) → P text → Q (text ++ take n block)
+Eaten-full P Q block rest n is h text p =
+    let whole : length block ≡ length h.0 + length rest = ap length h.1 ∙ length-append h.0 rest in
+    subst Q (ap (λ (l : List ℕ). text ++ l) (sym (ap (take n) h.1 ∙ take_at h.0 rest n (omega (arith, whole, is))))) (h.2 text p)
+
+pub Eaten-within : (P Q : List ℕ → Type 0) (block rest front left : List ℕ) → rest ≡ front ++ 10 ∷ left → Eaten P Q block rest → (0 < length block - length left) × (length block - length left ≤ length block)
+Eaten-within P Q block rest front left cut h =
+    let whole : length block ≡ length h.0 + length rest = ap length h.1 ∙ length-append h.0 rest in
+    let parts : length rest ≡ length front + length (10 ∷ left) = ap length cut ∙ length-append front (10 ∷ left) in
+    (omega (arith, whole, parts), omega arith)
+
+pub Eaten-below : (P Q : List ℕ → Type 0) (block rest front left : List ℕ) → rest ≡ front ++ 10 ∷ left → Eaten P Q block rest → length left ≤ length block
+Eaten-below P Q block rest front left cut h =
+    let whole : length block ≡ length h.0 + length rest = ap length h.1 ∙ length-append h.0 rest in
+    let parts : length rest ≡ length front + length (10 ∷ left) = ap length cut ∙ length-append front (10 ∷ left) in
+    omega (arith, whole, parts)
+
+-- ---- how a line was read
+
+-- what follows from what a clause says of a bad line
+pub told : {X : Type 0} {P Q : Type 0} (r : Result X Fault) → (P → Q) → IfErr r (λ e. (bad : BadLine) → e ≡ Line bad → P) → IfErr r (λ e. (bad : BadLine) → e ≡ Line bad → Q)
+told (Ok x) f h = tt
+told (Err e) f h = λ bad is. f (h bad is)
+
+pub told_same : {X : Type 0} {Q : Type 0} (r : Result X Fault) (given : Fault) → IsErrAnd r (λ e. e ≡ given) → ((bad : BadLine) → given ≡ Line bad → Q) → IfErr r (λ e. (bad : BadLine) → e ≡ Line bad → Q)
+told_same (Ok x) given same h = tt
+told_same (Err e) given same h = λ bad is. h bad (sym same ∙ is)
+
+-- what a line that was read does to the reading
+pub record Read (rule : Rule) (before after : Reading) (bytes : List ℕ) : Type 0 where
+  pub passed : before.bad_lines ≡ Refused → is_bad rule bytes ≡ false
+  pub kept : is_bad rule bytes ≡ false → after.skipped ≡ before.skipped
+  pub skipped : is_bad rule bytes ≡ true → after.skipped ≡ min (before.skipped + 1) (2 ^ 64 - 1)
+  pub plain : is_replaced rule bytes ≡ false → after.replaced ≡ before.replaced
+  pub replaced : is_replaced rule bytes ≡ true → after.replaced ≡ min (before.replaced + 1) (2 ^ 64 - 1)
+  pub bad_lines : after.bad_lines ≡ before.bad_lines
+  pub line : after.line ≡ min (before.line + 1) (2 ^ 64 - 1)
+
+-- the same from clauses one by one
+pub read_ok : {X E : Type 0} (r : Result X E) (rule : Rule) (before after : Reading) (line : List ℕ) → OnOk r (before.bad_lines ≡ Refused → is_bad rule line ≡ false)
+    → (is_bad rule line ≡ false → after.skipped ≡ before.skipped) → (is_bad rule line ≡ true → OnOk r (after.skipped ≡ min (before.skipped + 1) (2 ^ 64 - 1)))
+    → (is_replaced rule line ≡ false → after.replaced ≡ before.replaced) → (is_replaced rule line ≡ true → OnOk r (after.replaced ≡ min (before.replaced + 1) (2 ^ 64 - 1)))
+    → after.bad_lines ≡ before.bad_lines → after.line ≡ min (before.line + 1) (2 ^ 64 - 1) → OnOk r (Read rule before after line)
+read_ok (Ok x) rule before after line passed kept skipped plain replaced bad_lines number =
+    record { passed = passed; kept = kept; skipped = skipped; plain = plain; replaced = replaced; bad_lines = bad_lines; line = number }
+read_ok (Err e) rule before after line passed kept skipped plain replaced bad_lines number = tt
+
+-- how many lines pass a test, with one more line
+count_more : (test : List ℕ → Bool) (old new : ℕ) (front : List (List ℕ)) (line : List ℕ) (b : Bool) → test line ≡ b → (test line ≡ false → new ≡ old) → (test line ≡ true → new ≡ min (old + 1) (2 ^ 64 - 1))
+    → old ≡ min (how_many test front) (2 ^ 64 - 1) → new ≡ min (how_many test (front ++ line ∷ [])) (2 ^ 64 - 1)
+count_more test old new front line true is same more so_far =
+    let both : how_many test (front ++ line ∷ []) ≡ how_many test front + how_many test (line ∷ []) =
+    ap length (filter-append test front (line ∷ [])) ∙ length-append (filter test front) (filter test (line ∷ [])) in
+    let one : how_many test (line ∷ []) ≡ 1 = ap (λ (b : Bool). length (cond b (line ∷ []) [])) is in
+    let next : new ≡ min (old + 1) (2 ^ 64 - 1) = more is in
+    omega (arith, both, one, next, so_far)
+count_more test old new front line false is same more so_far =
+    let both : how_many test (front ++ line ∷ []) ≡ how_many test front + how_many test (line ∷ []) =
+    ap length (filter-append test front (line ∷ [])) ∙ length-append (filter test front) (filter test (line ∷ [])) in
+    let none : how_many test (line ∷ []) ≡ 0 = ap (λ (b : Bool). length (cond b (line ∷ []) [])) is in
+    let next : new ≡ old = same is in
+    next ∙ so_far ∙ ap (λ (n : ℕ). min n (2 ^ 64 - 1)) (omega (arith, both, none))
+
+-- one line more of a text was read
+lines_read : (rule : Rule) (ended whole line : List ℕ) (before after : Reading) → lines whole ≡ lines ended ++ line ∷ [] → Read rule before after line → IsReadingOf rule ended before → IsReadingOf rule whole after
+lines_read rule ended whole line before after both read h =
+    let many : length (lines whole) ≡ length (lines ended) + length (line ∷ []) = ap length both ∙ length-append (lines ended) (line ∷ []) in
+    let next : after.line ≡ min (before.line + 1) (2 ^ 64 - 1) = read.line in
+    let so_far : before.line ≡ min (length (lines ended)) (2 ^ 64 - 1) = h.line in
+    record {
+      line = omega (arith, next, so_far, many);
+      skipped = count_more (is_bad rule) before.skipped after.skipped (lines ended) line (is_bad rule line) refl read.kept read.skipped h.skipped
+          ∙ ap (λ (l : List (List ℕ)). min (how_many (is_bad rule) l) (2 ^ 64 - 1)) (sym both);
+      replaced = count_more (is_replaced rule) before.replaced after.replaced (lines ended) line (is_replaced rule line) refl read.plain read.replaced h.replaced
+          ∙ ap (λ (l : List (List ℕ)). min (how_many (is_replaced rule) l) (2 ^ 64 - 1)) (sym both);
+      passed = λ is. subst (NoneIsBad rule) (sym both)
+          (All-append (λ t. is_bad rule t ≡ false) (lines ended) (line ∷ []) (h.passed (sym read.bad_lines ∙ is))
+          (All-cons (λ t. is_bad rule t ≡ false) line [] (read.passed (sym read.bad_lines ∙ is)) (All-nil (λ t. is_bad rule t ≡ false))));
+    }
+
+-- nothing was read
+nothing_read : (rule : Rule) (reading : Reading) → (reading.line ≡ 0) × (reading.skipped ≡ 0) × (reading.replaced ≡ 0) → IsReadingOf rule [] reading
+nothing_read rule reading none = record {
+  line = none.0 ∙ omega arith;
+  skipped = none.1 ∙ omega arith;
+  replaced = none.2 ∙ omega arith;
+  passed = λ is. All-nil (λ t. is_bad rule t ≡ false);
+}
+
+-- what was kept, and a line that ends behind it
+pub ended_with : (text ended partial rest : List ℕ) → text ≡ ended ++ partial → text ++ (rest ++ 10 ∷ []) ≡ ended ++ ((partial ++ rest) ++ 10 ∷ [])
+ended_with text ended partial rest cut =
+    ap (λ (l : List ℕ). l ++ (rest ++ 10 ∷ [])) cut ∙ append_assoc ended partial (rest ++ 10 ∷ []) ∙ ap (λ (l : List ℕ). ended ++ l) (sym (append_assoc partial rest (10 ∷ [])))
+
+module _ {S : Type 0} where
+  -- ---- the bag and its runs
+
+  -- what was in the bag
+  pub Together-start : (bag : Bag (String Global) S) → HaveTogether [] bag (texts_in bag)
+  Together-start bag text = none_behind (count bytes_eq text (texts_in bag))
+    where
+      none_behind : (n : ℕ) → n + 0 ≡ n
+      none_behind n = omega arith
+
+  -- texts were added
+  Together-more : (runs : List (List (List ℕ × ℕ))) (old new : Bag (String Global) S) (xs ys : List (List ℕ)) → HaveTogether runs old xs → AddsTexts old new ys → HaveTogether runs new (xs ++ ys)
+  Together-more runs old new xs ys h adds text =
+      let before : count bytes_eq text (texts_in old) + sum_by (times_in text) runs ≡ count bytes_eq text xs = h text in
+      let more : count bytes_eq text (texts_in new) ≡ count bytes_eq text (texts_in old) + count bytes_eq text ys = adds text in
+      let parts : count bytes_eq text (xs ++ ys) ≡ count bytes_eq text xs + count bytes_eq text ys = count_append nat_list_eq_equiv text xs ys in
+      omega (arith, before, more, parts)
+
+  -- the tokens of one line more were added
+  tokens_more : (rule : Rule) (before : List (List ℕ)) (runs : List (List (List ℕ × ℕ))) (old new : Bag (String Global) S) (ended whole line : List ℕ) → lines whole ≡ lines ended ++ line ∷ []
+      → AddsTexts old new (tokens_of_lines rule (line ∷ [])) → HaveTogether runs old (before ++ tokens_of rule ended) → HaveTogether runs new (before ++ tokens_of rule whole)
+  tokens_more rule before runs old new ended whole line both adds h =
+      subst (HaveTogether runs new)
+      (append_assoc before (tokens_of rule ended) (tokens_of_lines rule (line ∷ []))
+      ∙ ap (λ (l : List (List ℕ)). before ++ l) (sym (ap (λ (l : List (List ℕ)). tokens_of_lines rule l) both ∙ tokens_of_lines-append rule (lines ended) (line ∷ []))))
+      (Together-more runs old new (before ++ tokens_of rule ended) (tokens_of_lines rule (line ∷ [])) h adds)
+
+  -- the bag became a run
+  Together-run : (runs : List (List (List ℕ × ℕ))) (rows : List (List ℕ × ℕ)) (old new : Bag (String Global) S) (tokens : List (List ℕ)) → new.items ≡ [] → ((text : List ℕ) → times_in text rows ≡ count bytes_eq text (texts_in old))
+      → HaveTogether runs old tokens → HaveTogether (runs ++ rows ∷ []) new tokens
+  Together-run runs rows old new tokens none is h text =
+      let gone : count bytes_eq text (texts_in new) ≡ 0 = ap (λ (l : List (String Global)). count bytes_eq text (map string_bytes l)) none in
+      let pushed : sum_by (times_in text) (runs ++ rows ∷ []) ≡ sum_by (times_in text) runs + times_in text rows = sum_by_push (times_in text) runs rows in
+      let run : times_in text rows ≡ count bytes_eq text (texts_in old) = is text in
+      let before : count bytes_eq text (texts_in old) + sum_by (times_in text) runs ≡ count bytes_eq text tokens = h text in
+      omega (arith, gone, pushed, run, before)
+
+  -- ---- the counter
+
+  -- how the ended lines were read
+  so_read : (rule : Rule) (before : List (List ℕ)) (runs : List (List (List ℕ × ℕ))) (bag : Bag (String Global) S) (partial : List ℕ) (reading : Reading) (text : List ℕ) (h : Counted rule before runs bag partial reading text) → IsReadingOf rule h.ended reading
+  so_read rule before runs bag partial reading text h = record { line = h.line; skipped = h.skipped; replaced = h.replaced; passed = h.passed }
+
+  -- nothing was given
+  pub Counted-nothing : (rule : Rule) (before : List (List ℕ)) (runs : List (List (List ℕ × ℕ))) (bag : Bag (String Global) S) (partial : List ℕ) (reading : Reading) → HaveTogether runs bag before → partial ≡ []
+      → (reading.line ≡ 0) × (reading.skipped ≡ 0) × (reading.replaced ≡ 0) → Counted rule before runs bag partial reading []
+  Counted-nothing rule before runs bag partial reading counts empty none =
+      let read = nothing_read rule reading none in
+      record {
+        ended = [];
+        cut = sym empty;
+        ends = λ some. absurd (omega arith);
+        unended = subst NoLineFeed (sym empty) (All-nil (λ x. x ≢ 10));
+        counts = subst (HaveTogether runs bag) (sym (append-nil before)) counts;
+        line = read.line;
+        skipped = read.skipped;
+        replaced = read.replaced;
+        passed = read.passed;
+      }
+
+  -- a line has ended, and was counted with what was kept of it
+  Counted-line : (rule : Rule) (before : List (List ℕ)) (runs : List (List (List ℕ × ℕ))) (old new : Bag (String Global) S) (partial rest line kept : List ℕ) (first after : Reading) (text : List ℕ) → NoLineFeed rest
+      → line ≡ strip_carriage_return (partial ++ rest) → kept ≡ [] → AddsTexts old new (tokens_of_lines rule (line ∷ [])) → Read rule first after line
+      → Counted rule before runs old partial first text → Counted rule before runs new kept after (text ++ (rest ++ 10 ∷ []))
+  Counted-line rule before runs old new partial rest line kept first after text none is empty adds read h =
+      let part = partial ++ rest in
+      let whole = h.ended ++ (part ++ 10 ∷ []) in
+      let both : lines whole ≡ lines h.ended ++ line ∷ [] =
+      ended_lines h.ended part h.ends (All-append (λ x. x ≢ 10) partial rest h.unended none) ∙ ap (λ (l : List ℕ). lines h.ended ++ l ∷ []) (sym is) in
+      let now : IsReadingOf rule whole after = lines_read rule h.ended whole line first after both read (so_read rule before runs old partial first text h) in
+      record {
+        ended = whole;
+        cut = ended_with text h.ended partial rest h.cut ∙ sym (append-nil whole) ∙ ap (λ (l : List ℕ). whole ++ l) (sym empty);
+        ends = subst EndsLine (append_assoc h.ended part (10 ∷ [])) (ends_push (h.ended ++ part));
+        unended = subst NoLineFeed (sym empty) (All-nil (λ x. x ≢ 10));
+        counts = tokens_more rule before runs old new h.ended whole line both adds h.counts;
+        line = now.line;
+        skipped = now.skipped;
+        replaced = now.replaced;
+        passed = now.passed;
+      }
+
+  -- the same, where that may have been an error
+  pub Counted-line-ok : {X E : Type 0} (r : Result X E) (rule : Rule) (old new : Bag (String Global) S) (partial rest line kept : List ℕ) (first after : Reading) → NoLineFeed rest
+      → line ≡ strip_carriage_return (partial ++ rest) → kept ≡ [] → OnOk r (AddsTexts old new (tokens_of_lines rule (line ∷ []))) → OnOk r (Read rule first after line)
+      → OnOk r ((before : List (List ℕ)) (runs : List (List (List ℕ × ℕ))) (text : List ℕ) → Counted rule before runs old partial first text → Counted rule before runs new kept after (text ++ (rest ++ 10 ∷ [])))
+  Counted-line-ok (Ok x) rule old new partial rest line kept first after none is empty adds read =
+      λ before runs text h. Counted-line rule before runs old new partial rest line kept first after text none is empty adds read h
+  Counted-line-ok (Err e) rule old new partial rest line kept first after none is empty adds read = tt
+
+  -- the line that ended is bad, and is rejected
+  pub Counted-bad : (rule : Rule) (before : List (List ℕ)) (runs : List (List (List ℕ × ℕ))) (bag : Bag (String Global) S) (partial rest line : List ℕ) (first after : Reading) (text more : List ℕ) → NoLineFeed rest
+      → line ≡ strip_carriage_return (partial ++ rest) → (first.bad_lines ≡ Refused) × (is_bad rule line ≡ true) → after.bad_lines ≡ first.bad_lines → after.line ≡ min (first.line + 1) (2 ^ 64 - 1)
+      → Counted rule before runs bag partial first text → IsFirstBad rule ((text ++ (rest ++ 10 ∷ [])) ++ more) after
+  Counted-bad rule before runs bag partial rest line first after text more none is bad same next h =
+      let part = partial ++ rest in
+      let whole = h.ended ++ (part ++ 10 ∷ []) in
+      let both : lines whole ≡ lines h.ended ++ line ∷ [] =
+      ended_lines h.ended part h.ends (All-append (λ x. x ≢ 10) partial rest h.unended none) ∙ ap (λ (l : List ℕ). lines h.ended ++ l ∷ []) (sym is) in
+      let ends : EndsLine whole = subst EndsLine (append_assoc h.ended part (10 ∷ [])) (ends_push (h.ended ++ part)) in
+      let so_far : first.line ≡ min (length (lines h.ended)) (2 ^ 64 - 1) = h.line in
+      record {
+        front = lines h.ended;
+        bad = line;
+        rest = lines more;
+        cut = ap (λ (l : List ℕ). lines (l ++ more)) (ended_with text h.ended partial rest h.cut) ∙ lines-append whole more ends ∙ ap (λ (l : List (List ℕ)). l ++ lines more) both ∙ append_assoc (lines h.ended) (line ∷ []) (lines more);
+        good = h.passed bad.0;
+        is = bad.1;
+        line = omega (arith, next, so_far);
+        refused = same ∙ bad.0;
+      }
+
+  -- the last line is bad, and is rejected
+  pub Counted-bad-last : (rule : Rule) (before : List (List ℕ)) (runs : List (List (List ℕ × ℕ))) (bag : Bag (String Global) S) (partial line : List ℕ) (first after : Reading) (text : List ℕ) → 0 < length partial
+      → line ≡ partial → (first.bad_lines ≡ Refused) × (is_bad rule line ≡ true) → after.bad_lines ≡ first.bad_lines → after.line ≡ min (first.line + 1) (2 ^ 64 - 1)
+      → Counted rule before runs bag partial first text → IsFirstBad rule text after
+  Counted-bad-last rule before runs bag partial line first after text some is bad same next h =
+      let so_far : first.line ≡ min (length (lines h.ended)) (2 ^ 64 - 1) = h.line in
+      record {
+        front = lines h.ended;
+        bad = line;
+        rest = [];
+        cut = ap lines h.cut ∙ last_lines h.ended partial h.ends h.unended some ∙ ap (λ (l : List ℕ). lines h.ended ++ l ∷ []) (sym is);
+        good = h.passed bad.0;
+        is = bad.1;
+        line = omega (arith, next, so_far);
+        refused = same ∙ bad.0;
+      }
+
+  -- bytes were kept
+  pub Counted-rest : (rule : Rule) (before : List (List ℕ)) (runs : List (List (List ℕ × ℕ))) (bag : Bag (String Global) S) (partial rest : List ℕ) (reading : Reading) (text : List ℕ) → NoLineFeed rest
+      → Counted rule before runs bag partial reading text → Counted rule before runs bag (partial ++ rest) reading (text ++ rest)
+  Counted-rest rule before runs bag partial rest reading text none h = record {
+    ended = h.ended;
+    cut = ap (λ (l : List ℕ). l ++ rest) h.cut ∙ append_assoc h.ended partial rest;
+    ends = h.ends;
+    unended = All-append (λ x. x ≢ 10) partial rest h.unended none;
+    counts = h.counts;
+    line = h.line;
+    skipped = h.skipped;
+    replaced = h.replaced;
+    passed = h.passed;
+  }
+
+  -- the bag became a run
+  pub Counted-run : (rule : Rule) (before : List (List ℕ)) (runs : List (List (List ℕ × ℕ))) (rows : List (List ℕ × ℕ)) (old new : Bag (String Global) S) (partial : List ℕ) (reading : Reading) (text : List ℕ) → new.items ≡ []
+      → ((text : List ℕ) → times_in text rows ≡ count bytes_eq text (texts_in old)) → Counted rule before runs old partial reading text → Counted rule before (runs ++ rows ∷ []) new partial reading text
+  Counted-run rule before runs rows old new partial reading text none is h = record {
+    ended = h.ended;
+    cut = h.cut;
+    ends = h.ends;
+    unended = h.unended;
+    counts = Together-run runs rows old new (before ++ tokens_of rule h.ended) none is h.counts;
+    line = h.line;
+    skipped = h.skipped;
+    replaced = h.replaced;
+    passed = h.passed;
+  }
+
+  -- no text was begun
+  pub Counted-none : (rule : Rule) (before : List (List ℕ)) (runs : List (List (List ℕ × ℕ))) (bag : Bag (String Global) S) (partial : List ℕ) (reading : Reading) → Counted rule before runs bag partial reading [] → HaveTogether runs bag before
+  Counted-none rule before runs bag partial reading h =
+      subst (HaveTogether runs bag) (ap (λ (l : List ℕ). before ++ tokens_of rule l) (nil_first h.ended partial h.cut) ∙ append-nil before) h.counts
+
+  -- the text ends, and nothing is kept
+  pub ended_whole : (rule : Rule) (before : List (List ℕ)) (runs : List (List (List ℕ × ℕ))) (bag : Bag (String Global) S) (partial : List ℕ) (reading : Reading) (text : List ℕ) → partial ≡ []
+      → Counted rule before runs bag partial reading text → HaveTogether runs bag (before ++ tokens_of rule text) × IsReadingOf rule text reading
+  ended_whole rule before runs bag partial reading text none h =
+      let all : h.ended ≡ text = sym (h.cut ∙ ap (λ (l : List ℕ). h.ended ++ l) none ∙ append-nil h.ended) in (
+        subst (λ (l : List ℕ). HaveTogether runs bag (before ++ tokens_of rule l)) all h.counts,
+        subst (λ (l : List ℕ). IsReadingOf rule l reading) all (so_read rule before runs bag partial reading text h),
+      )
+
+  -- the text ends, and what is kept is counted as its last line
+  pub ended_last : (rule : Rule) (before : List (List ℕ)) (runs : List (List (List ℕ × ℕ))) (old new : Bag (String Global) S) (partial line : List ℕ) (first after : Reading) (text : List ℕ) → 0 < length partial → line ≡ partial
+      → AddsTexts old new (tokens_of_lines rule (line ∷ [])) → Read rule first after line
+      → Counted rule before runs old partial first text → HaveTogether runs new (before ++ tokens_of rule text) × IsReadingOf rule text after
+  ended_last rule before runs old new partial line first after text some same adds read h =
+      let both : lines text ≡ lines h.ended ++ line ∷ [] = ap lines h.cut ∙ last_lines h.ended partial h.ends h.unended some ∙ ap (λ (l : List ℕ). lines h.ended ++ l ∷ []) (sym same) in (
+        tokens_more rule before runs old new h.ended text line both adds h.counts,
+        lines_read rule h.ended text line first after both read (so_read rule before runs old partial first text h),
+      )
+
+  -- the same, where that may have been an error
+  pub ended_last-ok : {X E : Type 0} (r : Result X E) (rule : Rule) (old new : Bag (String Global) S) (partial line : List ℕ) (first after : Reading) → 0 < length partial → line ≡ partial
+      → OnOk r (AddsTexts old new (tokens_of_lines rule (line ∷ []))) → OnOk r (Read rule first after line)
+      → OnOk r ((before : List (List ℕ)) (runs : List (List (List ℕ × ℕ))) (text : List ℕ) → Counted rule before runs old partial first text → HaveTogether runs new (before ++ tokens_of rule text) × IsReadingOf rule text after)
+  ended_last-ok (Ok x) rule old new partial line first after some same adds read = λ before runs text h. ended_last rule before runs old new partial line first after text some same adds read h
+  ended_last-ok (Err e) rule old new partial line first after some same adds read = tt

@@ -1,0 +1,38 @@
+use Rattle.std.proofs.Common.{◌≡◌, ℕ, ◌+◌, min, Bool, true, false, cond, String, Global, string_bytes, string_eq, bytes_eq, refl, ◌∙◌, ap, arith, rules}
+use Rattle.std.specs.Cmp.Lexicographic.{bytes_decides}
+use Rattle.std.specs.String.{string_eq_equiv}
+use Rattle.hashbag.specs.Occurrences.{count}
+use Rattle.hashbag_ops.proofs.ByCount.{answers_by_count, count_retained_by}
+use Rattle.hashbag_words_lib.specs.Choice.{shows, shown_count}
+use Rattle.hashbag_words_lib.specs.Counts.{texts_in}
+use Rattle.hashbag_words_lib.specs.declared.choice.Choice.{Choice}
+use Rattle.hashbag_words_lib.proofs.TextLemmas.{shown_by}
+use Rattle.hashbag_words_lib.proofs.choice.keep_shown.Goals as goal
+
+no_more : (b : Bool) (n : ℕ) → min (cond b n 0) n ≡ cond b n 0
+no_more true n = omega arith
+no_more false n = omega arith
+
+no_runs : (n m : ℕ) → n + 0 ≡ m → n ≡ m
+no_runs n m is = omega arith
+
+-- the count of a string that is shown, and 0 of another
+abbrev kept : Choice → String Global → ℕ → ℕ
+kept choice x n = shown_count choice (string_bytes x) n
+
+-- equal strings are shown alike
+same_kept : (choice : Choice) (u w : String Global) (n : ℕ) → string_eq u w ≡ true → kept choice u n ≡ kept choice w n
+same_kept choice u w n same = ap (λ bytes. shown_count choice bytes n) ((bytes_decides (string_bytes u) (string_bytes w)).0 same)
+
+-- the closure answers by the choice
+pub returns : goal.returns
+returns g c =
+    let choice = c.args.choice in
+    let before = c.args.bag.now in
+    let done = c.retain.ensures.retained in
+    let answers = answers_by_count _ (λ p. p.0.now ≡ choice) (kept choice) (λ p q x n a same t. search rules) _ done.walk done.answers done.last refl done.asked in
+    λ texts together text.
+    shown_by choice before.items c.retain.new.self.items
+    (λ v. let n = count string_eq v before.items in count_retained_by string_eq_equiv (kept choice) (same_kept choice) _ _ before c.retain.new.self done answers v ∙ no_more (shows choice (string_bytes v, n)) n)
+    text
+    ∙ ap (λ (n : ℕ). shown_count choice text n) (no_runs (count bytes_eq text (texts_in before)) _ (together text))

@@ -1,0 +1,36 @@
+-- Which counts of a bag are shown, and in what order.
+use Rattle.std.specs.Prelude.{◌≡◌, ℕ, Bool, List, length, take, nat_le, ◌&&◌, if◌then◌else◌, String}
+use Rattle.std.specs.List.Sorted.{IsStrictlySortedBy}
+use Rattle.std.specs.Map.{keys_of}
+use Rattle.std.specs.String.{string_cmp, string_eq}
+use Rattle.std.specs.Str.{bytes_eq, chars}
+use Rattle.std.specs.Global.{Global}
+use Rattle.hashbag.specs.Bag.{Bag}
+use Rattle.hashbag.specs.Occurrences.{count}
+use Rattle.hashbag.specs.Walks.{IsSetWalkOf}
+use Rattle.hashbag_ops.specs.Order.{rank}
+use Rattle.hashbag_words_lib.specs.Counts.{texts_in}
+use Rattle.hashbag_words_lib.specs.Shards.{is_shown}
+use Rattle.hashbag_words_lib.specs.declared.choice.Choice.{Choice}
+use Rattle.hashbag_words_lib.specs.declared.choice.Order.{Order}
+use Rattle.hashbag_words_lib.specs.declared.choice.Order.TheVariants.{Rising, Open, MostCommon}
+
+-- these pairs are what is shown of the bag: each text of it once, with its count, by the bytes or in no particular order; or the
+-- first k of those, the most common first
+abbrev pub IsShown : {S : Type 0} → Order → Bag (String Global) S → List (String Global × ℕ) → Type 0
+IsShown Rising bag pairs = IsSetWalkOf string_eq bag pairs × IsStrictlySortedBy string_cmp (keys_of pairs)
+IsShown Open bag pairs = IsSetWalkOf string_eq bag pairs
+IsShown (MostCommon k) bag pairs =
+    (W : List (String Global × ℕ)) × IsSetWalkOf string_eq bag W × IsStrictlySortedBy (rank string_cmp) W × (pairs ≡ take k W)
+
+-- a row is shown: its count and its token's length in characters aren't below the least ones, and the token is in the shard, if there is one
+abbrev pub shows : Choice → List ℕ × ℕ → Bool
+shows choice row = nat_le choice.least row.1 && nat_le choice.shortest (length (chars row.0)) && is_shown choice.shard row.0
+
+-- how often a text is shown that occurs n times: n times, or not at all
+abbrev pub shown_count : Choice → List ℕ → ℕ → ℕ
+shown_count choice text n = if shows choice (text, n) then n else 0
+
+-- a bag has each of these texts that is shown as often as it is in the list, and nothing else
+abbrev pub AreKept : {S : Type 0} → Choice → List (List ℕ) → Bag (String Global) S → Type 0
+AreKept choice texts bag = (text : List ℕ) → count bytes_eq text (texts_in bag) ≡ shown_count choice text (count bytes_eq text texts)

@@ -1,0 +1,116 @@
+-- What a merger of texts that come in blocks has merged so far.
+use Rattle.std.specs.Prelude.{◌≡◌, ℕ, ◌<◌, ◌^◌, true, false, List, [], ◌∷◌, ◌++◌, length, map, All, slice_index_or, String, string_bytes, Option, None, Some, option_map}
+use Rattle.std.specs.Global.{Global}
+use Rattle.hashbag_words_lib.specs.Runs.{rows_in, run_text}
+use Rattle.hashbag_words_lib.specs.Sorted.{row_of, IsAbove, IsMergeOf, SoFar, TakesLeast}
+use Rattle.hashbag_words_lib.specs.Sources.{left_with, rows_of, Holds, MayCome}
+use Rattle.hashbag_words_lib.specs.declared.row_source.Kind.{Kind}
+use Rattle.hashbag_words_lib.specs.declared.row_source.Kind.TheVariants.{Run}
+use Rattle.hashbag_words_lib.specs.declared.row_source.Next.{Next}
+use Rattle.hashbag_words_lib.specs.declared.row_source.Next.TheVariants.{Row, Wants, End}
+use Rattle.hashbag_words_lib.specs.declared.sorted_merge.Merged.{Merged}
+use Rattle.hashbag_words_lib.specs.declared.sorted_merge.Merged.TheVariants.{Row as MergedRow, Wants as MergedWants, End as MergedEnd}
+use Rattle.hashbag_words_lib.specs.declared.sorted_merge.Merger.{Merger}
+use Rattle.hashbag_words_lib.specs.declared.sources.Opened.{Opened}
+use Rattle.hashbag_words_lib.specs.declared.sources.Opened.TheVariants.{Ready, Wants as OpenedWants}
+use Rattle.hashbag_words_lib.specs.declared.sources.Source.{Source}
+
+-- ---- one source
+
+-- the rows of a source of which the next one is known, or there is none: that one, and those that are left
+abbrev pub with_head : Option (String Global × ℕ) → Option (List (List ℕ × ℕ)) → Option (List (List ℕ × ℕ))
+with_head None left = Some []
+with_head (Some row) left = option_map (λ rest. row_of row ∷ rest) left
+
+-- the rows that a source has left if these bytes come next, and then the end
+abbrev pub all_with : Source → List ℕ → Option (List (List ℕ × ℕ))
+all_with source more = with_head source.head (left_with source.rows more)
+
+-- the source was given this text so far, and has all of its rows left: whatever comes next, they are the rows of the whole
+abbrev pub HoldsAll : Kind → List ℕ → Source → Type 0
+HoldsAll kind text source =
+    (more : List ℕ) → MayCome source.rows more → (rows : List (List ℕ × ℕ)) → rows_of kind (text ++ more) ≡ Some rows → all_with source more ≡ Some rows
+
+-- what was opened was given this text so far, and has all of its rows left
+abbrev pub OpensWith : Kind → List ℕ → Opened → Type 0
+OpensWith kind text (Ready source) = HoldsAll kind text source
+OpensWith kind text (OpenedWants rows) = Holds kind text rows × (rows.is_ended ≡ false)
+
+-- the next of these rows was taken, and the one after it comes after it; or none was, since that one isn't known, or there is none
+abbrev pub Takes : List (List ℕ × ℕ) → Next → Option (List (List ℕ × ℕ)) → Type 0
+Takes old (Row row) new = (rest : List (List ℕ × ℕ)) × (old ≡ row_of row ∷ rest) × (new ≡ Some rest) × IsAbove (string_bytes row.0) rest
+Takes old Wants new = new ≡ Some old
+Takes old End new = (old ≡ []) × (new ≡ Some [])
+
+-- ---- several sources
+
+-- these bytes may come next to each source
+abbrev pub MayComeTo : List Source → (ℕ → List ℕ) → Type 0
+MayComeTo sources mores = (i : ℕ) → i < length sources → (source : Source) → MayCome (slice_index_or sources i source).rows (mores i)
+
+-- these are the rows that the sources have left if these bytes come next
+pub record AreLeft (sources : List Source) (mores : ℕ → List ℕ) (left : List (List (List ℕ × ℕ))) : Type 0 where
+  pub many : length left ≡ length sources
+  pub each : (i : ℕ) → i < length sources → (source : Source) → all_with (slice_index_or sources i source) (mores i) ≡ Some (slice_index_or left i [])
+
+-- how many a row counts that was taken, if one was
+abbrev pub count_of : Merged → ℕ
+count_of (MergedRow row) = row.1
+count_of (MergedWants i) = 0
+count_of MergedEnd = 0
+
+-- the least row was taken from sources with these rows left, or none was: the row after the least isn't known, or none is left
+abbrev pub TakesRow : (ℕ → List ℕ) → List (List (List ℕ × ℕ)) → Merged → List Source → Type 0
+TakesRow mores old (MergedRow row) new = (rows : List (List (List ℕ × ℕ))) × TakesLeast old (row_of row) rows × AreLeft new mores rows
+TakesRow mores old (MergedWants i) new = AreLeft new mores old
+TakesRow mores old MergedEnd new = All (λ rows. rows ≡ []) old × AreLeft new mores old
+
+-- the source of this place has not been ended
+abbrev pub IsOpen : List Source → ℕ → Type 0
+IsOpen sources i = (i < length sources) × ((source : Source) → (slice_index_or sources i source).rows.is_ended ≡ false)
+
+-- the source of this place has been ended
+abbrev pub IsEnded : List Source → ℕ → Type 0
+IsEnded sources i = (source : Source) → (slice_index_or sources i source).rows.is_ended ≡ true
+
+-- ---- a merger
+
+-- these are the rows of the texts, each with these bytes behind what was given of it
+pub record AreInputs (given : List (Kind × List ℕ)) (mores : ℕ → List ℕ) (inputs : List (List (List ℕ × ℕ))) : Type 0 where
+  pub many : length inputs ≡ length given
+  pub each : (i : ℕ) → i < length given → (text : Kind × List ℕ) → let whole = slice_index_or given i text in rows_of whole.0 (whole.1 ++ mores i) ≡ Some (slice_index_or inputs i [])
+
+-- the sources were given these texts so far, and none of their rows was taken
+pub record AreBegun (given : List (Kind × List ℕ)) (sources : List Source) : Type 0 where
+  pub many : length given ≡ length sources
+  pub each : (i : ℕ) → i < length given → (text : Kind × List ℕ) → (source : Source) → let part = slice_index_or given i text in HoldsAll part.0 part.1 (slice_index_or sources i source)
+
+-- these texts were given so far, and these rows came out: whatever comes next, the merge of the whole is so far
+pub record IsSoFar (given : List (Kind × List ℕ)) (sources : List Source) (held : Option (String Global × ℕ)) (total : ℕ) (out : List (List ℕ × ℕ)) : Type 0 where
+  pub many : length given ≡ length sources
+  pub fits : total < 2 ^ 64
+  pub so_far : (mores : ℕ → List ℕ) (inputs : List (List (List ℕ × ℕ))) → MayComeTo sources mores → AreInputs given mores inputs
+      → ((left : List (List (List ℕ × ℕ))) × AreLeft sources mores left × SoFar inputs left out held total)
+
+-- the merger was given these texts so far, and gave these rows
+abbrev pub HasMerged : List (Kind × List ℕ) → Merger → List (List ℕ × ℕ) → Type 0
+HasMerged given merger out = IsSoFar given merger.sources.items merger.held merger.total out
+
+-- the rows that came out are the merge of the rows of the texts, whatever may come next
+abbrev pub IsWhole : List (Kind × List ℕ) → Merger → List (List ℕ × ℕ) → Type 0
+IsWhole given merger out =
+    (mores : ℕ → List ℕ) (inputs : List (List (List ℕ × ℕ))) → MayComeTo merger.sources.items mores → AreInputs given mores inputs → IsMergeOf inputs out
+
+-- what the merger gave next: one row more, which comes behind; or nothing, since a source is to be given more bytes, or all is merged
+abbrev pub Follows : List (Kind × List ℕ) → List (List ℕ × ℕ) → Merged → Merger → Type 0
+Follows given out (MergedRow row) new = HasMerged given new (out ++ row_of row ∷ [])
+Follows given out (MergedWants i) new = HasMerged given new out × IsOpen new.sources.items i
+Follows given out MergedEnd new = HasMerged given new out × IsWhole given new out
+
+-- the texts of runs
+abbrev pub texts_of : List (List (List ℕ × ℕ)) → List (Kind × List ℕ)
+texts_of runs = map (λ rows. (Run, run_text rows)) runs
+
+-- each run is read again as it was written
+abbrev pub AreReadAgain : List (List (List ℕ × ℕ)) → Type 0
+AreReadAgain runs = All (λ rows. rows_in (run_text rows) ≡ rows) runs

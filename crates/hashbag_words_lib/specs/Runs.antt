@@ -1,0 +1,53 @@
+-- The rows of a run: a file of `tsv` that was written here.
+use Rattle.std.specs.Prelude.{◌≡◌, ℕ, ◌==◌, Bool, true, false, List, [], ◌∷◌, ◌++◌, filter_map, flat_map, String, Option, None, Some, option_map}
+use Rattle.std.specs.Global.{Global}
+use Rattle.std.specs.List.{before_first, after_first}
+use Rattle.std.specs.Str.{bytes_eq}
+use Rattle.std.specs.Str.Lines.{lines}
+use Rattle.std.specs.Str.Parse.{digits_value, without_leading_plus}
+use Rattle.hashbag.specs.Bag.{Bag}
+use Rattle.hashbag.specs.Occurrences.{count}
+use Rattle.hashbag_words_lib.specs.Counts.{texts_in}
+use Rattle.hashbag_words_lib.specs.Rows.{row, unescaped}
+use Rattle.hashbag_words_lib.specs.Sorted.{times_in, Rises}
+use Rattle.hashbag_words_lib.specs.Tokens.{without_mark}
+use Rattle.hashbag_words_lib.specs.declared.lines.BadLines.{BadLines}
+use Rattle.hashbag_words_lib.specs.declared.lines.BadLines.TheVariants.{Refused, Skipped}
+use Rattle.hashbag_words_lib.specs.declared.rows.RowForm.{RowForm}
+use Rattle.hashbag_words_lib.specs.declared.rows.RowForm.TheVariants.{Tsv, Uniq}
+
+-- what a line is read as: the token before its first tab, unescaped, and the number behind it; none if that has a bad escape
+abbrev pub read_as : List ℕ → Option (List ℕ × ℕ)
+read_as line =
+    option_map (λ token. (token, digits_value 10 (without_leading_plus (after_first (λ b. b == 9) line)))) (unescaped false (before_first (λ b. b == 9) line))
+
+-- the rows of a run
+abbrev pub rows_in : List ℕ → List (List ℕ × ℕ)
+rows_in bytes = filter_map read_as (lines bytes)
+
+-- lines of which the first one has no byte order mark at its beginning
+abbrev pub unmarked : List (List ℕ) → List (List ℕ)
+unmarked [] = []
+unmarked (line ∷ lines) = without_mark line ∷ lines
+
+-- the rows of a file, which may begin with a byte order mark
+abbrev pub rows_of_file : List ℕ → List (List ℕ × ℕ)
+rows_of_file bytes = filter_map read_as (unmarked (lines bytes))
+
+-- the rows of the bytes that are left, if the lines are of `tsv`, and a bad line isn't skipped; whether the first line may begin with a byte
+-- order mark
+abbrev pub rows_left : RowForm → BadLines → Bool → List ℕ → Option (List (List ℕ × ℕ))
+rows_left Tsv Refused false bytes = Some (rows_in bytes)
+rows_left Tsv Refused true bytes = Some (rows_of_file bytes)
+rows_left Tsv Skipped marked bytes = None
+rows_left Uniq bad_lines marked bytes = None
+
+-- the lines of rows
+abbrev pub run_text : List (List ℕ × ℕ) → List ℕ
+run_text rows = flat_map (λ r. row r.0 r.1 ++ 10 ∷ []) rows
+
+-- these rows are a run of a bag: they rise, count each text as often as the bag has it, and are read again as they were written
+pub record IsRunOf {S : Type 0} (bag : Bag (String Global) S) (rows : List (List ℕ × ℕ)) : Type 0 where
+  pub rises : Rises rows
+  pub counts : (text : List ℕ) → times_in text rows ≡ count bytes_eq text (texts_in bag)
+  pub again : rows_in (run_text rows) ≡ rows

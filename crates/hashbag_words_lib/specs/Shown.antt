@@ -1,0 +1,34 @@
+-- What is shown of texts that were counted, and the bytes that are written of it.
+use Rattle.std.specs.Prelude.{◌≡◌, ℕ, List, take}
+use Rattle.std.specs.List.{IsDistinct}
+use Rattle.std.specs.List.Sorted.{IsStrictlySortedBy}
+use Rattle.std.specs.Map.{keys_of}
+use Rattle.std.specs.Str.{bytes_eq}
+use Rattle.hashbag.specs.Occurrences.{count}
+use Rattle.hashbag_ops.specs.Order.{rank}
+use Rattle.hashbag_words_lib.specs.Choice.{shown_count}
+use Rattle.hashbag_words_lib.specs.Sorted.{text_cmp, times_in, Rises}
+use Rattle.hashbag_words_lib.specs.Writing.{text_of}
+use Rattle.hashbag_words_lib.specs.declared.choice.Choice.{Choice}
+use Rattle.hashbag_words_lib.specs.declared.choice.Order.{Order}
+use Rattle.hashbag_words_lib.specs.declared.choice.Order.TheVariants.{Rising, Open, MostCommon}
+use Rattle.hashbag_words_lib.specs.declared.writing.Format.{Format}
+
+-- the rows have each of these texts that is shown once, with its count in the list, and nothing else
+pub record HasShown (choice : Choice) (texts : List (List ℕ)) (rows : List (List ℕ × ℕ)) : Type 0 where
+  pub once : IsDistinct bytes_eq (keys_of rows)
+  pub counts : (text : List ℕ) → times_in text rows ≡ shown_count choice text (count bytes_eq text texts)
+
+-- these rows are shown, in that order: tokens rising, or as they come; or the first k of them, the most common first and tokens rising among
+-- those that are as common
+abbrev pub AreShown : Order → Choice → List (List ℕ) → List (List ℕ × ℕ) → Type 0
+AreShown Rising choice texts rows = HasShown choice texts rows × Rises rows
+AreShown Open choice texts rows = HasShown choice texts rows
+AreShown (MostCommon k) choice texts rows =
+    (all : List (List ℕ × ℕ)) × HasShown choice texts all × IsStrictlySortedBy (rank text_cmp) all × (rows ≡ take k all)
+
+-- the bytes are what is written of these texts
+pub record IsShownText (choice : Choice) (format : Format) (texts : List (List ℕ)) (bytes : List ℕ) : Type 0 where
+  pub rows : List (List ℕ × ℕ)
+  pub shown : AreShown choice.order choice texts rows
+  pub is : bytes ≡ text_of format rows

@@ -1,0 +1,50 @@
+-- What a source of rows has left, whatever bytes come next.
+use Rattle.std.specs.Prelude.{◌≡◌, ℕ, true, List, [], ◌∷◌, ◌++◌, String, Option, None, Some, IsSome}
+use Rattle.std.specs.Global.{Global}
+use Rattle.hashbag_words_lib.specs.Runs.{rows_in, rows_left}
+use Rattle.hashbag_words_lib.specs.Sorted.{row_of}
+use Rattle.hashbag_words_lib.specs.declared.row_source.Kind.{Kind}
+use Rattle.hashbag_words_lib.specs.declared.row_source.Kind.TheVariants.{Run, File}
+use Rattle.hashbag_words_lib.specs.declared.row_source.Next.{Next}
+use Rattle.hashbag_words_lib.specs.declared.row_source.Next.TheVariants.{Row, Wants, End}
+use Rattle.hashbag_words_lib.specs.declared.row_source.RowSource.{RowSource}
+
+-- the rows of a whole text of this kind, if they are known
+abbrev pub rows_of : Kind → List ℕ → Option (List (List ℕ × ℕ))
+rows_of Run text = Some (rows_in text)
+rows_of (File form bad_lines) text = rows_left form bad_lines true text
+
+-- the rows that a source has left if these bytes come next, and then the end
+abbrev pub left_with : RowSource → List ℕ → Option (List (List ℕ × ℕ))
+left_with source more = rows_left source.form source.reading.bad_lines source.may_be_marked (source.unread ++ more)
+
+-- these bytes may come next: none, after the end
+abbrev pub MayCome : RowSource → List ℕ → Type 0
+MayCome source more = source.is_ended ≡ true → more ≡ []
+
+-- all bytes have been read, and no more come
+abbrev pub IsAtEnd : RowSource → Type 0
+IsAtEnd source = (source.unread ≡ []) × (source.is_ended ≡ true)
+
+-- the source was given this text so far, and has all of its rows left: whatever comes next, they are the rows of the whole
+abbrev pub Holds : Kind → List ℕ → RowSource → Type 0
+Holds kind text source =
+    (more : List ℕ) → MayCome source more → (rows : List (List ℕ × ℕ)) → rows_of kind (text ++ more) ≡ Some rows → left_with source more ≡ Some rows
+
+-- the row that comes next, if that is known
+abbrev pub row_in : Next → Option (String Global × ℕ)
+row_in (Row row) = Some row
+row_in Wants = None
+row_in End = None
+
+-- of the rows that were left, if they are known, the next one was taken; or none was, since it isn't known, or there is none
+abbrev pub Gives : Option (List (List ℕ × ℕ)) → Next → Option (List (List ℕ × ℕ)) → Type 0
+Gives None next new = Unit {0}
+Gives (Some rows) (Row row) new = (rest : List (List ℕ × ℕ)) × (rows ≡ row_of row ∷ rest) × (new ≡ Some rest)
+Gives (Some rows) Wants new = new ≡ Some rows
+Gives (Some rows) End new = (rows ≡ []) × (new ≡ Some [])
+
+-- the same of one line, or it was passed over: of known rows none is
+abbrev pub Meets : Option (List (List ℕ × ℕ)) → Option Next → Option (List (List ℕ × ℕ)) → Type 0
+Meets old None new = IsSome old → ⊥
+Meets old (Some next) new = Gives old next new

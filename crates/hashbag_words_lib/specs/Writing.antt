@@ -1,0 +1,53 @@
+-- The bytes that are written of rows.
+use Rattle.std.specs.Prelude.{ℕ, ◌-◌, ◌^◌, Bool, true, false, List, [], ◌∷◌, ◌++◌, decimal}
+use Rattle.std.specs.Fmt.{format_spec, styled_decimal}
+use Rattle.json.specs.Print.{print}
+use Rattle.json.specs.Token.{Token, begin_array, end_array, string, number}
+use Rattle.hashbag_words_lib.specs.Rows.{row}
+use Rattle.hashbag_words_lib.specs.declared.writing.Format.{Format}
+use Rattle.hashbag_words_lib.specs.declared.writing.Format.TheVariants.{Tsv, Json, Uniq}
+
+-- the count as `{:7}` prints it, a space, the token, and a line feed
+abbrev pub uniq_text : List ℕ × ℕ → List ℕ
+uniq_text r = styled_decimal (format_spec 32 0 0 7 (2 ^ 64 - 1)) r.1 ++ 32 ∷ (r.0 ++ 10 ∷ [])
+
+-- an array of the token and the count
+abbrev pub pair_tokens : List ℕ × ℕ → List Token
+pair_tokens r = begin_array ∷ string r.0 ∷ number (decimal r.1) ∷ end_array ∷ []
+
+-- the same as a text, without a space
+abbrev pub pair_text : List ℕ × ℕ → List ℕ
+pair_text r = print (pair_tokens r)
+
+-- the text of a row
+abbrev pub row_text : Format → List ℕ × ℕ → List ℕ
+row_text Tsv r = row r.0 r.1 ++ 10 ∷ []
+row_text Json r = pair_text r
+row_text Uniq r = uniq_text r
+
+-- what comes before a row: a comma in JSON, unless it is the first
+abbrev pub comma : Format → Bool → List ℕ
+comma Tsv first = []
+comma Json true = []
+comma Json false = 44 ∷ []
+comma Uniq first = []
+
+-- what comes before all rows, and after them
+abbrev pub head_text : Format → List ℕ
+head_text Tsv = []
+head_text Json = 91 ∷ []
+head_text Uniq = []
+
+abbrev pub end_text : Format → List ℕ
+end_text Tsv = []
+end_text Json = 93 ∷ 10 ∷ []
+end_text Uniq = []
+
+-- the text of rows, of which the first one is the first of all or not
+abbrev pub rows_text : Format → Bool → List (List ℕ × ℕ) → List ℕ
+rows_text format first [] = []
+rows_text format first (r ∷ rows) = (comma format first ++ row_text format r) ++ rows_text format false rows
+
+-- the text of all rows
+abbrev pub text_of : Format → List (List ℕ × ℕ) → List ℕ
+text_of format rows = head_text format ++ (rows_text format true rows ++ end_text format)

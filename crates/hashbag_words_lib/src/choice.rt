@@ -1,0 +1,114 @@
+//! The counts that are shown, and their order.
+ghost use Rattle.std.specs.Prelude.{◌≡◌, ℕ, List, [], length, map, nat_le, if◌then◌else◌, string_bytes, IfOk};
+ghost use Rattle.std.specs.List.Sorted.{IsStrictlySortedBy};
+ghost use Rattle.std.specs.Map.{keys_of};
+ghost use Rattle.std.specs.Str.{chars};
+ghost use Rattle.std.specs.String.{string_cmp, string_eq};
+ghost use Rattle.hashbag.specs.Walks.{IsSetWalkOf, seen};
+ghost use Rattle.hashbag_words_lib.specs.Choice.{shows, AreKept, IsShown};
+ghost use Rattle.hashbag_words_lib.specs.Counted.{HaveTogether};
+
+use crate::shards::{Shard, is_shown};
+use crate::sorting::sort_rows;
+use hashbag::{BagError, HashBag};
+use hashbag_ops::{counts, most_common};
+use std::alloc::Global;
+use std::hash::BuildHasher;
+
+/// In what order counts are shown, and how many of them.
+#[derive(Clone, Copy, Debug, PartialEq, Eq)]
+pub enum Order {
+    /// All tokens, by rising bytes.
+    Rising,
+    /// All tokens, in the order of a walk over the bag, which is no particular order.
+    Open,
+    /// The k most common tokens: by falling counts, and tokens that occur equally often by rising bytes.
+    MostCommon(usize),
+}
+
+/// Which counts are shown, and in what order.
+#[derive(Clone, Copy, Debug, PartialEq, Eq)]
+pub struct Choice {
+    /// Their order.
+    pub order: Order,
+    /// The least count that is shown.
+    pub least: usize,
+    /// The least number of characters of a token that is shown.
+    pub shortest: usize,
+    /// The shard whose tokens are shown, if not all are.
+    pub shard: Option<Shard>,
+}
+
+impl Choice {
+    /// Returns whether a token with this count is shown.
+    pub fn shows(&self, token: &str, count: usize) -> bool
+        ensures { result ≡ shows self.now (token.now, count) }
+    {
+        self.least <= count && is_long(self.shortest, token) && is_shown(self.shard, token)
+    }
+}
+
+// Returns whether a token has at least that many characters.
+fn is_long(shortest: usize, token: &str) -> bool
+    ensures { result ≡ nat_le shortest (length (chars token.now)) }
+{
+    shortest == 0 || shortest <= token.chars().count()
+}
+
+/// Removes all tokens that aren't shown.
+///
+/// # Complexity
+///
+/// Reads each token once, and allocates nothing.
+pub fn keep_shown<S: BuildHasher + Drop>(bag: &mut HashBag<String, S>, choice: Choice)
+    // `texts` lists what the bag had. Each of them that is shown has its count, and nothing else is left.
+    ensures { (texts : List (List ℕ)) → HaveTogether [] bag.old texts → AreKept choice texts bag.new }
+{
+    bag.retain(
+        |token: &String, count: usize| -> usize
+            ensures { result ≡ (if shows choice (string_bytes token.now, count) then count else 0) }
+        {
+            if choice.shows(token.as_str(), count) {
+                count
+            } else {
+                0
+            }
+        },
+    );
+}
+
+// Returns the tokens with their counts, tokens rising.
+fn rising<'a, S: BuildHasher + Drop>(
+    alloc: Global,
+    bag: &'a HashBag<String, S>,
+) -> Result<Vec<(&'a String, usize)>, BagError>
+    ensures walk { IfOk result (λ pairs. IsSetWalkOf string_eq bag.now (map seen pairs.items)) }
+    ensures rising { IfOk result (λ pairs. IsStrictlySortedBy string_cmp (keys_of (map seen pairs.items))) }
+{
+    let pairs = counts(alloc, bag)?;
+    let sorted = sort_rows(alloc, pairs)?;
+    Ok(sorted)
+}
+
+/// Returns the tokens that are shown, with their counts, in this order.
+///
+/// # Errors
+///
+/// `Memory` if an allocation fails.
+///
+/// # Complexity
+///
+/// As [`counts`] or [`most_common`] of `hashbag_ops`; for rising tokens as `counts` and [`sort_rows`].
+pub fn chosen<'a, S: BuildHasher + Drop>(
+    alloc: Global,
+    bag: &'a HashBag<String, S>,
+    order: Order,
+) -> Result<Vec<(&'a String, usize)>, BagError>
+    ensures { IfOk result (λ rows. IsShown order bag.now (map seen rows.items)) }
+{
+    match order {
+        Order::Rising => rising(alloc, bag),
+        Order::Open => counts(alloc, bag),
+        Order::MostCommon(k) => most_common(alloc, bag, k),
+    }
+}

@@ -1,0 +1,279 @@
+//! Counting the tokens of texts that come in blocks, however they are cut.
+//!
+//! A [`TextCounter`] is given bytes, so its clauses hold whatever they come from. In them `text` is what was fed of this text, `before` are
+//! the tokens of earlier texts, and `runs` the runs that were written. `HasCounted`: the bag and `runs` together have all these tokens.
+ghost use Rattle.std.specs.Prelude.{◌≡◌, ℕ, List, [], ◌∷◌, ◌++◌, IfOk, IfErr, OnOk};
+ghost use Rattle.hashbag_words_lib.specs.declared.errors.BadLine.{BadLine};
+ghost use Rattle.hashbag_words_lib.specs.declared.errors.Fault.{Fault};
+ghost use Rattle.hashbag_core.specs.declared.bag.BagError.{BagError};
+ghost use Rattle.hashbag_words_lib.specs.Counted.{fed_of, HasCounted, HasEnded, HaveTogether, IsFirstBad, IsReadingOf, IsWithin, NoLineFeed};
+ghost use Rattle.hashbag_words_lib.specs.Counts.{texts_in};
+ghost use Rattle.hashbag_words_lib.specs.RowText.{bytes_left};
+ghost use Rattle.hashbag_words_lib.specs.Runs.{run_text, IsRunOf};
+ghost use Rattle.hashbag_words_lib.specs.Tokens.{tokens_of};
+ghost use Rattle.std.specs.Str.Lines.{strip_carriage_return};
+
+use crate::counting::add_bytes;
+use crate::errors::Fault;
+use crate::gauge::{Gauge, is_full, is_full_after_line, note_empty};
+use crate::lines::{BadLines, Reading};
+use crate::row_text::RowText;
+use crate::rule::Rule;
+use crate::runs::{empty, run_of};
+use hashbag::{BagError, HashBag};
+use memchr::memchr;
+use std::alloc::Global;
+use std::hash::BuildHasher;
+
+/// What was counted of a text so far.
+///
+/// The lines that have ended are counted. Of the line that hasn't, the bytes are kept.
+#[derive(Drop)]
+pub struct TextCounter<'r, S: BuildHasher + Drop> {
+    alloc: Global,
+    rule: Rule<'r>,
+    bag: HashBag<String, S>,
+    partial: Vec<u8>,
+    reading: Reading,
+    gauge: Option<Gauge>,
+}
+
+/// How much of a block was fed.
+#[derive(Clone, Copy, Debug, PartialEq, Eq)]
+pub enum Fed {
+    /// All of it.
+    Whole,
+    /// Its first bytes, of this number. Then the bag was full.
+    Full(usize),
+}
+
+// Returns the line without a carriage return at its end.
+pub(crate) fn without_return(line: &[u8]) -> &[u8]
+    ensures { result.now ≡ strip_carriage_return line.now }
+{
+    let n = line.len();
+    if n == 0 {
+        return line;
+    }
+    if line[n - 1] != b'\r' {
+        return line;
+    }
+    &line[..n - 1]
+}
+
+// Returns the fault of a failed allocation in the line that hasn't ended.
+pub(crate) fn no_memory(reading: &mut Reading) -> Fault
+    ensures fault { result ≡ Fault.Bag BagError.Memory }
+    ensures bad_lines { reading.new.bad_lines ≡ reading.old.bad_lines }
+{
+    reading.count_line();
+    Fault::Bag(BagError::Memory)
+}
+
+impl<'r, S: BuildHasher + Drop> TextCounter<'r, S> {
+    /// Returns a counter that was given nothing. What it counts is added to this bag.
+    ///
+    /// A gauge, if there is one, says when the bag is full. Then the bag has to be empty, and the gauge new.
+    pub fn new(
+        alloc: Global,
+        bag: HashBag<String, S>,
+        rule: Rule<'r>,
+        bad_lines: BadLines,
+        gauge: Option<Gauge>,
+    ) -> TextCounter<'r, S>
+        // No text was fed so far, and `before` is what the bag has.
+        ensures begins { HasCounted (texts_in bag) [] result [] }
+        ensures rule { result.rule ≡ rule.entry }
+        ensures bad_lines { result.reading.bad_lines ≡ bad_lines }
+    {
+        TextCounter {
+            alloc,
+            rule,
+            bag,
+            partial: Vec::new(alloc),
+            reading: Reading::new(bad_lines),
+            gauge,
+        }
+    }
+
+    /// The bag that is counted in. The tokens of a line that hasn't ended aren't in it.
+    pub fn bag(&self) -> &HashBag<String, S>
+        ensures { result.now ≡ self.now.bag }
+    {
+        &self.bag
+    }
+
+    /// Returns how many lines of the text have ended, and what became of them. After a `Fault` the line that it was found in counts too.
+    pub fn reading(&self) -> Reading
+        ensures { result ≡ self.now.reading }
+    {
+        self.reading
+    }
+
+    // Counts a line that a line feed ends. What is kept comes before these bytes.
+    fn end_line(&mut self, tail: &[u8]) -> Result<(), Fault>
+        requires { NoLineFeed tail.now }
+        ensures counted { OnOk result ((before : _) → (runs : _) → (text : List ℕ) → HasCounted before runs self.old text
+            → HasCounted before runs self.new (text ++ (tail.now ++ 10 ∷ []))) }
+        ensures bad { IfErr result (λ e. (bad : BadLine) → e ≡ Fault.Line bad
+            → (before : _) → (runs : _) → (text : List ℕ) → HasCounted before runs self.old text
+            → (more : List ℕ) → IsFirstBad self.old.rule ((text ++ (tail.now ++ 10 ∷ [])) ++ more) self.new.reading) }
+        ensures rule { self.new.rule ≡ self.old.rule }
+        ensures bad_lines { self.new.reading.bad_lines ≡ self.old.reading.bad_lines }
+    {
+        if self.partial.is_empty() {
+            return add_bytes(
+                self.alloc,
+                &mut self.bag,
+                &self.rule,
+                without_return(tail),
+                &mut self.reading,
+            );
+        }
+        let Ok(()) = self.partial.extend_from_slice(tail) else {
+            return Err(no_memory(&mut self.reading));
+        };
+        let done = add_bytes(
+            self.alloc,
+            &mut self.bag,
+            &self.rule,
+            without_return(&self.partial),
+            &mut self.reading,
+        );
+        self.partial.clear();
+        done
+    }
+
+    // Counts what is kept as the last line, unless it is nothing.
+    fn end_last(&mut self) -> Result<(), Fault>
+        ensures counted { OnOk result ((before : _) → (runs : _) → (text : List ℕ) → HasCounted before runs self.old text
+            → HasEnded self.old.rule before runs self.new text) }
+        ensures ended { OnOk result (self.new.partial.items ≡ []) }
+        ensures bad { IfErr result (λ e. (bad : BadLine) → e ≡ Fault.Line bad
+            → (before : _) → (runs : _) → (text : List ℕ) → HasCounted before runs self.old text
+            → IsFirstBad self.old.rule text self.new.reading) }
+        ensures rule { self.new.rule ≡ self.old.rule }
+        ensures bad_lines { self.new.reading.bad_lines ≡ self.old.reading.bad_lines }
+    {
+        if self.partial.is_empty() {
+            return Ok(());
+        }
+        let done = add_bytes(
+            self.alloc,
+            &mut self.bag,
+            &self.rule,
+            &self.partial,
+            &mut self.reading,
+        );
+        self.partial.clear();
+        done
+    }
+
+    /// Counts what these bytes bring: the lines that they end. The bytes behind the last line feed are kept.
+    ///
+    /// If there is a gauge, the bag is measured after every 16 lines. If it is full, the bytes behind the last of them aren't fed.
+    ///
+    /// # Errors
+    ///
+    /// `Fault::Line` if a line is bad and bad lines aren't skipped; `Fault::Bag` if an allocation fails, or the total would pass the limit of
+    /// the bag. Then the counter is of no use.
+    ///
+    /// # Complexity
+    ///
+    /// Counts each line as [`add_line`](crate::counting::add_line) does. Only a line that isn't whole in the block is copied.
+    pub fn feed(&mut self, block: &[u8]) -> Result<Fed, Fault>
+        // The text is longer by what was fed of the block.
+        ensures counted { IfOk result (λ fed. (before : _) → (runs : _) → (text : List ℕ) → HasCounted before runs self.old text
+            → HasCounted before runs self.new (text ++ fed_of fed block.now)) }
+        ensures within { IfOk result (λ fed. IsWithin fed block.now) }
+
+        // If a bad line is rejected, it is the first one of the text with the block.
+        ensures bad { IfErr result (λ e. (bad : BadLine) → e ≡ Fault.Line bad
+            → (before : _) → (runs : _) → (text : List ℕ) → HasCounted before runs self.old text
+            → IsFirstBad self.old.rule (text ++ block.now) self.new.reading) }
+        ensures rule { self.new.rule ≡ self.old.rule }
+        ensures bad_lines { self.new.reading.bad_lines ≡ self.old.reading.bad_lines }
+    {
+        let mut rest = block;
+        'lines: while let Some(at) = memchr(b'\n', rest) {
+            self.end_line(&rest[..at])?;
+            rest = &rest[at + 1..];
+            if is_full_after_line(&mut self.gauge, &self.bag, at + 1) {
+                return Ok(Fed::Full(block.len() - rest.len()));
+            }
+        }
+        let Ok(()) = self.partial.extend_from_slice(rest) else {
+            return Err(no_memory(&mut self.reading));
+        };
+        Ok(Fed::Whole)
+    }
+
+    /// Ends the text, whose last line is counted if no line feed ended it. Returns how its lines were read. What is fed next is another text.
+    ///
+    /// # Errors
+    ///
+    /// As [`TextCounter::feed`], for the last line.
+    pub fn end_text(&mut self) -> Result<Reading, Fault>
+        // The tokens of the text are added to `before`, and the next text is empty. The result says how its lines were read.
+        ensures counted { OnOk result ((before : _) → (runs : _) → (text : List ℕ) → HasCounted before runs self.old text
+            → HasCounted (before ++ tokens_of self.old.rule text) runs self.new []) }
+        ensures reading { IfOk result (λ reading. (before : _) → (runs : _) → (text : List ℕ) → HasCounted before runs self.old text
+            → IsReadingOf self.old.rule text reading) }
+
+        // If a bad line is rejected, it is the text's first one.
+        ensures bad { IfErr result (λ e. (bad : BadLine) → e ≡ Fault.Line bad
+            → (before : _) → (runs : _) → (text : List ℕ) → HasCounted before runs self.old text
+            → IsFirstBad self.old.rule text self.new.reading) }
+        ensures rule { self.new.rule ≡ self.old.rule }
+        ensures bad_lines { self.new.reading.bad_lines ≡ self.old.reading.bad_lines }
+    {
+        self.end_last()?;
+        let reading = self.reading;
+        self.reading = Reading::new(reading.bad_lines);
+        Ok(reading)
+    }
+
+    /// Returns whether the bag is full. It never is without a gauge.
+    pub fn is_full(&mut self) -> bool
+        // No clause says when it is full.
+        ensures rule { self.new.rule ≡ self.old.rule }
+        ensures bag { self.new.bag ≡ self.old.bag }
+        ensures partial { self.new.partial ≡ self.old.partial }
+        ensures reading { self.new.reading ≡ self.old.reading }
+    {
+        is_full(&mut self.gauge, &self.bag)
+    }
+
+    /// Returns the text of a run of what is in the bag, as [`run_of`] does. Once it is written, [`TextCounter::end_run`] empties the bag.
+    ///
+    /// # Errors
+    ///
+    /// `Memory` if an allocation fails.
+    pub fn run(&self) -> Result<RowText<'_>, BagError>
+        // As of [`run_of`].
+        ensures { IfOk result (λ text. (rows : List (List ℕ × ℕ)) × IsRunOf self.now.bag rows × (bytes_left text ≡ run_text rows)) }
+    {
+        run_of(self.alloc, &self.bag)
+    }
+
+    /// Empties the bag, since the run of what is in it was written. It may be called within a text.
+    pub fn end_run(&mut self)
+        // The rows of the run count as before, now in `runs`.
+        ensures run { (rows : List (List ℕ × ℕ)) → IsRunOf self.old.bag rows
+            → (before : _) → (runs : _) → (text : List ℕ) → HasCounted before runs self.old text
+            → HasCounted before (runs ++ rows ∷ []) self.new text }
+    {
+        empty(&mut self.bag);
+        note_empty(&mut self.gauge);
+    }
+
+    /// Returns the bag. Of a text that hasn't ended, it lacks the line that hasn't.
+    pub fn into_bag(self) -> HashBag<String, S>
+        ensures bag { result ≡ self.entry.bag }
+
+        // The bag and the runs have the tokens of all texts.
+        ensures counted { (before : _) → (runs : _) → HasCounted before runs self.entry [] → HaveTogether runs result before }
+    {
+        self.bag
+    }
+}

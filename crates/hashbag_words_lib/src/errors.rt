@@ -1,0 +1,84 @@
+//! Errors of an input.
+ghost use Rattle.std.specs.Prelude.{◌≡◌};
+
+use hashbag::{BagError, JsonError};
+use std::alloc::AllocError;
+use std::io;
+use thiserror::Error;
+
+/// What is wrong with a line.
+#[derive(Clone, Copy, Debug, PartialEq, Eq, Error)]
+pub enum BadLine {
+    /// The line isn't UTF-8.
+    #[error("not UTF-8")]
+    NotText,
+    /// A line of counts has no tab.
+    #[error("no tab")]
+    NoTab,
+    /// The count isn't a number from 0 to 2^64-1.
+    #[error("no count")]
+    NoCount,
+    /// A backslash isn't followed by `t`, `n`, `r` or a backslash.
+    #[error("bad escape")]
+    BadEscape,
+    /// The last line of a file of counts has no line feed: the file may have been cut off there.
+    #[error("no line feed")]
+    CutOff,
+    /// The rows are to rise, and the token of this one doesn't come after that of the row before.
+    #[error("not in order")]
+    NotInOrder,
+}
+
+/// Why an input wasn't counted to its end.
+#[derive(Debug, Drop, Error)]
+pub enum Fault {
+    /// A line is bad.
+    #[error("{0}")]
+    Line(BadLine),
+    /// The text isn't JSON, or an allocation failed while it was parsed.
+    #[error("{0}")]
+    Text(serde_json::Error),
+    /// The JSON text isn't the tree of a bag, or that bag can't be built.
+    #[error("{0}")]
+    Tree(JsonError),
+    /// The counts of a JSON tree add up to more than its own limit, which is this.
+    #[error("total past its limit, {0}")]
+    PastLimit(u64),
+    /// An insertion failed: an allocation failed, or the total would pass the limit of the bag.
+    #[error("{0}")]
+    Bag(BagError),
+    /// A read failed.
+    #[error("{0}")]
+    Read(io::Error),
+}
+
+impl From<BagError> for Fault {
+    ghost use Rattle.hashbag_words_lib.specs.declared.errors.Fault.{Fault};
+
+    ghost from_gives = { λ refused fault. fault ≡ Fault.Bag refused };
+
+    fn from(refused: BagError) -> Fault {
+        Fault::Bag(refused)
+    }
+}
+
+impl From<AllocError> for Fault {
+    ghost use Rattle.hashbag_words_lib.specs.declared.errors.Fault.{Fault};
+    ghost use Rattle.hashbag_core.specs.declared.bag.BagError.{BagError};
+
+    ghost from_gives = { λ _ fault. fault ≡ Fault.Bag BagError.Memory };
+
+    fn from(_refused: AllocError) -> Fault {
+        Fault::Bag(BagError::Memory)
+    }
+}
+
+impl From<io::Error> for Fault {
+    ghost use Rattle.hashbag_words_lib.specs.declared.errors.Fault.{Fault};
+
+    ghost from_gives = { λ failed fault. fault ≡ Fault.Read failed };
+
+    fn from(failed: io::Error) -> Fault {
+        Fault::Read(failed)
+    }
+}

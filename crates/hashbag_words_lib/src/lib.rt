@@ -1,0 +1,31 @@
+//! Counts of words, lines or matches in text: the pure part of the program `hashbag_words`.
+//!
+//! - [`rule`] decides what of a line is counted, [`counting`] counts a line, and [`counter`] the lines of texts that come in blocks.
+//! - [`row_counter`] adds up files of counts that come in blocks, whose lines [`rows`] reads, and [`merging`] JSON texts.
+//! - [`gauge`] says when a bag is full, [`runs`] has what is then written, and [`sorted_merge`] merges that, which [`row_source`] reads.
+//! - [`choice`] selects the counts that are shown, and [`writing`], [`row_text`] and [`row_parts`] make their text. [`shards`] parts all tokens by a fixed hash.
+#![tactic(auto)]
+
+pub mod choice;
+pub mod counter;
+pub mod counting;
+pub mod errors;
+pub mod gauge;
+pub mod head;
+pub mod lines;
+pub mod merging;
+pub mod row_counter;
+pub mod row_parts;
+pub mod row_source;
+pub mod row_text;
+pub mod rows;
+pub mod rule;
+pub mod runs;
+pub mod shards;
+pub mod shown_rows;
+pub mod shown_text;
+pub mod sorted_merge;
+pub mod sorting;
+pub mod sources;
+pub mod unread;
+pub mod writing;

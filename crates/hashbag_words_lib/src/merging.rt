@@ -1,0 +1,111 @@
+//! Adding a line of counts, or a JSON text.
+ghost use Rattle.std.specs.Prelude.{◌≡◌, IfErr, IfOk, OnErr, OnOk};
+ghost use Rattle.hashbag_words_lib.specs.Counts.{AddsTimes};
+ghost use Rattle.hashbag_words_lib.specs.Merging.{AddsLine, AddsTree};
+ghost use Rattle.hashbag_words_lib.specs.Rows.{IfRow, IsNoRow, IsRead, IsRowOf};
+ghost use Rattle.hashbag_words_lib.specs.Sorted.{row_of};
+ghost use Rattle.hashbag_words_lib.specs.Tokens.{without_mark};
+
+use crate::errors::{BadLine, Fault};
+use crate::rows::{RowForm, read_row, read_uniq_row};
+use hashbag::{HashBag, JsonError};
+use hashbag_ops::merge;
+use serde_json::Value;
+use std::alloc::{AllocError, Global};
+use std::hash::BuildHasher;
+use std::str;
+
+// Returns the token and the count of a line in this form, or what is wrong with it.
+pub(crate) fn read_in_form(
+    alloc: Global,
+    form: RowForm,
+    line: &str,
+) -> Result<Result<(String, usize), BadLine>, AllocError>
+    ensures row { IfOk result (λ read. IfRow form line.now (λ token count. IsRead token count read)) }
+    ensures line { IfOk result (λ read. IfOk read (λ p. IsRowOf form line.now (row_of p))) }
+{
+    match form {
+        RowForm::Tsv => read_row(alloc, line),
+        RowForm::Uniq => read_uniq_row(alloc, line),
+    }
+}
+
+/// Inserts the token of a line of counts as often as its count says.
+///
+/// # Errors
+///
+/// `Fault::Line` if the line is bad; `Fault::Bag` if an allocation fails, or the total would pass the limit of the bag. Then the bag is
+/// unchanged.
+pub fn add_row<S: BuildHasher + Drop>(
+    alloc: Global,
+    bag: &mut HashBag<String, S>,
+    form: RowForm,
+    line: &[u8],
+) -> Result<(), Fault>
+    // The line of a token and a count adds these. Any row that is added is the line's, and a bad line is no row.
+    ensures row { IfRow form line.now (λ token count. OnOk result (AddsTimes bag.old bag.new token count)) }
+    ensures line { OnOk result (AddsLine form line.now bag.old bag.new) }
+    ensures bad { IfErr result (λ e. (bad : BadLine) → e ≡ Fault.Line bad → IsNoRow form line.now) }
+    ensures err { OnErr result (bag.new ≡ bag.old) }
+{
+    let Ok(text) = str::from_utf8(line) else {
+        return Err(Fault::Line(BadLine::NotText));
+    };
+    match read_in_form(alloc, form, text)? {
+        Ok((token, count)) => {
+            bag.insert_many(token, count)?;
+            Ok(())
+        }
+        Err(bad) => Err(Fault::Line(bad)),
+    }
+}
+
+// Returns a line without the byte order mark at its beginning.
+pub(crate) fn past_mark(line: &[u8]) -> &[u8]
+    ensures { result.now ≡ without_mark line.now }
+{
+    if line.starts_with(b"\xef\xbb\xbf") {
+        return &line[3..];
+    }
+    line
+}
+
+// Returns the fault of a tree that isn't read as a bag. If its counts pass a limit of its own, the fault has that.
+fn fault_of(tree: &Value, error: JsonError) -> Fault {
+    match (error, tree.get("limit").and_then(Value::as_u64)) {
+        (JsonError::TooMany(_), Some(limit)) if limit < u64::MAX => Fault::PastLimit(limit),
+        _ => Fault::Tree(error),
+    }
+}
+
+/// Adds the counts of a JSON text, all of them or none. They are first read into a bag of their own, with the hash state `state`.
+///
+/// # Errors
+///
+/// - `Fault::Text` if the text isn't JSON, or can't be allocated.
+/// - `Fault::Tree` if it isn't the tree of a bag, or that bag fails.
+/// - `Fault::PastLimit` if its counts pass its own limit.
+/// - `Fault::Bag` if an allocation fails, or the total would pass the limit of the bag.
+///
+/// Then the bag is unchanged.
+pub fn add_tree<S: BuildHasher + Drop, S2: BuildHasher + Drop>(
+    alloc: Global,
+    state: S2,
+    bag: &mut HashBag<String, S>,
+    text: &str,
+) -> Result<(), Fault>
+    // Each text is in the bag more often by what its pairs in the tree add up to.
+    ensures tree { OnOk result (AddsTree text.now bag.old bag.new) }
+    ensures err { OnErr result (bag.new ≡ bag.old) }
+{
+    let tree = match Value::from_str(alloc, text) {
+        Ok(tree) => tree,
+        Err(error) => return Err(Fault::Text(error)),
+    };
+    let counts = match HashBag::from_value_with_hasher(alloc, state, usize::MAX, &tree) {
+        Ok(counts) => counts,
+        Err(error) => return Err(fault_of(&tree, error)),
+    };
+    merge(bag, counts)?;
+    Ok(())
+}

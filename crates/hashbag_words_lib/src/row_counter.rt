@@ -1,0 +1,282 @@
+//! Adding up files of counts that come in blocks, however they are cut.
+//!
+//! A [`RowCounter`] is given bytes, so its clauses hold whatever they come from. In them `text` is what was fed of this file, `before` are the
+//! rows of earlier files, and `runs` the runs that were written. `HasAdded`: the bag and `runs` together have all these rows.
+ghost use Rattle.std.specs.Prelude.{◌≡◌, ℕ, ◌+◌, ◌-◌, ◌^◌, ◌∷◌, ◌++◌, [], List, min, IfErr, IfOk, OnErr, OnOk};
+ghost use Rattle.hashbag_words_lib.specs.Added.{line_at, AddsRows, HasAdded, HasAddedAll, HasEndedFile, HaveRows, IsFirstNoRow, IsReadAs};
+ghost use Rattle.hashbag_words_lib.specs.Counted.{fed_of, IsWithin, NoLineFeed};
+ghost use Rattle.hashbag_words_lib.specs.Merging.{AddsTree};
+ghost use Rattle.hashbag_words_lib.specs.Reading.{EndsLine};
+ghost use Rattle.hashbag_words_lib.specs.RowText.{bytes_left};
+ghost use Rattle.hashbag_words_lib.specs.Rows.{IsNoRow};
+ghost use Rattle.hashbag_words_lib.specs.Runs.{run_text, IsRunOf};
+
+use crate::counter::{Fed, no_memory, without_return};
+use crate::errors::{BadLine, Fault};
+use crate::gauge::{Gauge, is_full, is_full_after_line, note_empty, note_read};
+use crate::lines::{BadLines, Reading};
+use crate::merging::{add_row, add_tree, past_mark};
+use crate::row_text::RowText;
+use crate::rows::RowForm;
+use crate::runs::{empty, run_of};
+use hashbag::{BagError, HashBag};
+use memchr::memchr;
+use std::alloc::Global;
+use std::hash::BuildHasher;
+
+/// What was added of files of counts so far.
+///
+/// The rows of the lines that have ended are added. Of the line that hasn't, the bytes are kept.
+#[derive(Drop)]
+pub struct RowCounter<S: BuildHasher + Drop> {
+    alloc: Global,
+    form: RowForm,
+    bag: HashBag<String, S>,
+    partial: Vec<u8>,
+    reading: Reading,
+    gauge: Option<Gauge>,
+}
+
+// Returns a line of a file, before which it has `before` lines. Of the first one it is what is behind a byte order mark.
+fn past_mark_at(before: u64, line: &[u8]) -> &[u8]
+    ensures { result.now ≡ line_at before line.now }
+{
+    if before == 0 {
+        return past_mark(line);
+    }
+    line
+}
+
+// Adds the row of a line, without its end. One that is no row is skipped or rejected.
+fn add_line<S: BuildHasher + Drop>(
+    alloc: Global,
+    bag: &mut HashBag<String, S>,
+    form: RowForm,
+    line: &[u8],
+    reading: &mut Reading,
+) -> Result<(), Fault>
+    ensures rows { OnOk result ((rows : List (List ℕ × ℕ)) × IsReadAs form reading.old.bad_lines (line_at reading.old.line line.now) rows
+        × AddsRows bag.old bag.new rows) }
+    ensures bad { IfErr result (λ e. (bad : BadLine) → e ≡ Fault.Line bad
+        → (reading.old.bad_lines ≡ BadLines.Refused) × IsNoRow form (line_at reading.old.line line.now)) }
+    ensures bad_lines { reading.new.bad_lines ≡ reading.old.bad_lines }
+    ensures line { reading.new.line ≡ min (reading.old.line + 1) (2 ^ 64 - 1) }
+{
+    let line = past_mark_at(reading.line, line);
+    reading.count_line();
+    match add_row(alloc, bag, form, line) {
+        Ok(()) => Ok(()),
+        Err(Fault::Line(bad)) => reading.pass_over(bad),
+        Err(fault) => Err(fault),
+    }
+}
+
+impl<S: BuildHasher + Drop> RowCounter<S> {
+    /// Returns a counter that was given nothing. What it adds is added to this bag. Its files have lines of this form.
+    ///
+    /// If there is a gauge, it says when the bag is full. It has to be that of an empty bag.
+    pub fn new(
+        alloc: Global,
+        bag: HashBag<String, S>,
+        form: RowForm,
+        bad_lines: BadLines,
+        gauge: Option<Gauge>,
+    ) -> RowCounter<S>
+        // `before` are any rows that add up to the bag.
+        ensures begins { (before : List (List ℕ × ℕ)) → HaveRows [] bag before → HasAdded before [] result [] }
+        ensures form { result.form ≡ form }
+        ensures bad_lines { result.reading.bad_lines ≡ bad_lines }
+    {
+        RowCounter {
+            alloc,
+            form,
+            bag,
+            partial: Vec::new(alloc),
+            reading: Reading::new(bad_lines),
+            gauge,
+        }
+    }
+
+    /// The bag that is added to. The row of a line that hasn't ended isn't in it.
+    pub fn bag(&self) -> &HashBag<String, S>
+        ensures { result.now ≡ self.now.bag }
+    {
+        &self.bag
+    }
+
+    /// Returns how many lines of the file have ended, and what became of them. After a `Fault` the line that it was found in counts too.
+    pub fn reading(&self) -> Reading
+        ensures { result ≡ self.now.reading }
+    {
+        self.reading
+    }
+
+    // Adds the row of a line that a line feed ends. What is kept comes before these bytes.
+    fn end_line(&mut self, tail: &[u8]) -> Result<(), Fault>
+        requires { NoLineFeed tail.now }
+        ensures added { OnOk result ((before : _) → (runs : _) → (text : List ℕ) → HasAdded before runs self.old text
+            → HasAdded before runs self.new (text ++ (tail.now ++ 10 ∷ []))) }
+        ensures bad { IfErr result (λ e. (bad : BadLine) → e ≡ Fault.Line bad
+            → (before : _) → (runs : _) → (text : List ℕ) → HasAdded before runs self.old text
+            → (more : List ℕ) → IsFirstNoRow self.old.form ((text ++ (tail.now ++ 10 ∷ [])) ++ more) self.new.reading) }
+        ensures form { self.new.form ≡ self.old.form }
+        ensures bad_lines { self.new.reading.bad_lines ≡ self.old.reading.bad_lines }
+    {
+        if self.partial.is_empty() {
+            return add_line(
+                self.alloc,
+                &mut self.bag,
+                self.form,
+                without_return(tail),
+                &mut self.reading,
+            );
+        }
+        let Ok(()) = self.partial.extend_from_slice(tail) else {
+            return Err(no_memory(&mut self.reading));
+        };
+        let done = add_line(
+            self.alloc,
+            &mut self.bag,
+            self.form,
+            without_return(&self.partial),
+            &mut self.reading,
+        );
+        self.partial.clear();
+        done
+    }
+
+    /// Adds what these bytes bring: the rows of the lines that they end. The bytes behind the last line feed are kept.
+    ///
+    /// If there is a gauge, the bag is measured after every 16 lines. If it is full, the bytes behind the last of them aren't fed.
+    ///
+    /// # Errors
+    ///
+    /// `Fault::Line` if a line is no row and bad lines aren't skipped; `Fault::Bag` if an allocation fails, or the total would pass the limit
+    /// of the bag. Then the counter is of no use.
+    ///
+    /// # Complexity
+    ///
+    /// Inserts the token of each line once, as often as its count says. Only a line that isn't whole in the block is copied.
+    pub fn feed(&mut self, block: &[u8]) -> Result<Fed, Fault>
+        // The file is longer by what was fed of the block.
+        ensures added { IfOk result (λ fed. (before : _) → (runs : _) → (text : List ℕ) → HasAdded before runs self.old text
+            → HasAdded before runs self.new (text ++ fed_of fed block.now)) }
+        ensures within { IfOk result (λ fed. IsWithin fed block.now) }
+
+        // If a bad line is rejected, it is the first that is no row of the file with the block.
+        ensures bad { IfErr result (λ e. (bad : BadLine) → e ≡ Fault.Line bad
+            → (before : _) → (runs : _) → (text : List ℕ) → HasAdded before runs self.old text
+            → IsFirstNoRow self.old.form (text ++ block.now) self.new.reading) }
+        ensures form { self.new.form ≡ self.old.form }
+        ensures bad_lines { self.new.reading.bad_lines ≡ self.old.reading.bad_lines }
+    {
+        let mut rest = block;
+        'lines: while let Some(at) = memchr(b'\n', rest) {
+            self.end_line(&rest[..at])?;
+            rest = &rest[at + 1..];
+            if is_full_after_line(&mut self.gauge, &self.bag, at + 1) {
+                return Ok(Fed::Full(block.len() - rest.len()));
+            }
+        }
+        let Ok(()) = self.partial.extend_from_slice(rest) else {
+            return Err(no_memory(&mut self.reading));
+        };
+        Ok(Fed::Whole)
+    }
+
+    // Skips or rejects what is kept, since no line feed ended it.
+    fn end_last(&mut self) -> Result<(), Fault>
+        ensures added { OnOk result ((before : _) → (runs : _) → (text : List ℕ) → HasAdded before runs self.old text
+            → HasAddedAll before runs self.old.reading.bad_lines text self.new) }
+        ensures ended { OnOk result (self.new.partial.items ≡ []) }
+        ensures cut { IfErr result (λ _. (before : _) → (runs : _) → (text : List ℕ) → HasAdded before runs self.old text → EndsLine text → ⊥) }
+        ensures form { self.new.form ≡ self.old.form }
+        ensures bad_lines { self.new.reading.bad_lines ≡ self.old.reading.bad_lines }
+    {
+        if !self.partial.is_empty() {
+            self.reading.count_line();
+            self.reading.pass_over(BadLine::CutOff)?;
+            self.partial.clear();
+        }
+        Ok(())
+    }
+
+    /// Ends the file. A last line that no line feed ended is bad. Returns how its lines were read. What is fed next is another file.
+    ///
+    /// # Errors
+    ///
+    /// `Fault::Line(CutOff)` if no line feed ended the last line, and bad lines aren't skipped.
+    pub fn end_file(&mut self) -> Result<Reading, Fault>
+        // The file's rows are added to `before`, and the next file is empty.
+        ensures added { OnOk result ((before : _) → (runs : _) → (text : List ℕ) → HasAdded before runs self.old text
+            → HasEndedFile before runs self.old.reading.bad_lines text self.new) }
+
+        // It fails only if no line feed ended the last line.
+        ensures cut { IfErr result (λ _. (before : _) → (runs : _) → (text : List ℕ) → HasAdded before runs self.old text → EndsLine text → ⊥) }
+        ensures form { self.new.form ≡ self.old.form }
+        ensures bad_lines { self.new.reading.bad_lines ≡ self.old.reading.bad_lines }
+    {
+        self.end_last()?;
+        let reading = self.reading;
+        self.reading = Reading::new(reading.bad_lines);
+        Ok(reading)
+    }
+
+    /// Adds the counts of a JSON text, as [`add_tree`] does. It may be called between files.
+    ///
+    /// # Errors
+    ///
+    /// As [`add_tree`]. Then the counter is unchanged.
+    pub fn add_tree<S2: BuildHasher + Drop>(&mut self, state: S2, text: &str) -> Result<(), Fault>
+        ensures tree { OnOk result (AddsTree text.now self.old.bag self.new.bag) }
+        ensures err { OnErr result (self.new ≡ self.old) }
+    {
+        add_tree(self.alloc, state, &mut self.bag, text)?;
+        note_read(&mut self.gauge, text.len());
+        Ok(())
+    }
+
+    /// Returns whether the bag is full. It never is without a gauge.
+    pub fn is_full(&mut self) -> bool
+        // No clause says when it is full.
+        ensures form { self.new.form ≡ self.old.form }
+        ensures bag { self.new.bag ≡ self.old.bag }
+        ensures partial { self.new.partial ≡ self.old.partial }
+        ensures reading { self.new.reading ≡ self.old.reading }
+    {
+        is_full(&mut self.gauge, &self.bag)
+    }
+
+    /// Returns the text of a run of what is in the bag, as [`run_of`] does. Once it is written, [`RowCounter::end_run`] empties the bag.
+    ///
+    /// # Errors
+    ///
+    /// `Memory` if an allocation fails.
+    pub fn run(&self) -> Result<RowText<'_>, BagError>
+        // As of [`run_of`].
+        ensures { IfOk result (λ text. (rows : List (List ℕ × ℕ)) × IsRunOf self.now.bag rows × (bytes_left text ≡ run_text rows)) }
+    {
+        run_of(self.alloc, &self.bag)
+    }
+
+    /// Empties the bag, since the run of what is in it was written. It may be called within a file.
+    pub fn end_run(&mut self)
+        // The rows of the run count as before, now in `runs`.
+        ensures run { (rows : List (List ℕ × ℕ)) → IsRunOf self.old.bag rows
+            → (before : _) → (runs : _) → (text : List ℕ) → HasAdded before runs self.old text
+            → HasAdded before (runs ++ rows ∷ []) self.new text }
+    {
+        empty(&mut self.bag);
+        note_empty(&mut self.gauge);
+    }
+
+    /// Returns the bag. Of a file that hasn't ended, it lacks the line that hasn't.
+    pub fn into_bag(self) -> HashBag<String, S>
+        ensures bag { result ≡ self.bag }
+
+        // The bag and the runs have what all files count.
+        ensures added { (before : _) → (runs : _) → HasAdded before runs self [] → HaveRows runs result before }
+    {
+        self.bag
+    }
+}

@@ -1,0 +1,89 @@
+//! The text of rows that come one by one, in parts.
+//!
+//! Nothing is written here: the caller takes what was built, and writes it. So the clauses hold wherever it is written.
+ghost use Rattle.std.specs.Prelude.{◌≡◌, ℕ, [], ◌∷◌, ◌++◌, List, IfOk, OnOk};
+ghost use Rattle.hashbag_words_lib.specs.RowParts.{HasBuilt};
+ghost use Rattle.hashbag_words_lib.specs.Writing.{text_of};
+
+use crate::writing::{Format, push_in};
+use std::alloc::{AllocError, Global};
+use std::io;
+
+/// The text of rows that come one by one, of which the part that wasn't taken is kept.
+#[derive(Drop)]
+pub struct RowParts {
+    format: Format,
+    // Whether no row has come.
+    is_empty: bool,
+    part: Vec<u8>,
+}
+
+impl RowParts {
+    /// Begins the text of rows.
+    ///
+    /// # Errors
+    ///
+    /// An allocation fails.
+    pub fn begin(alloc: Global, format: Format) -> Result<RowParts, AllocError>
+        ensures built { IfOk result (λ parts. HasBuilt parts [] []) }
+        ensures format { IfOk result (λ parts. parts.format ≡ format) }
+    {
+        let mut part = Vec::new(alloc);
+        part.extend_from_slice(format.head())?;
+        Ok(RowParts {
+            format,
+            is_empty: true,
+            part,
+        })
+    }
+
+    /// Appends the row of a token and its count to the part.
+    ///
+    /// # Errors
+    ///
+    /// An allocation fails. Then the part may have some of the row.
+    pub fn push(&mut self, token: &str, count: usize) -> io::Result<()>
+        ensures built { OnOk result ((rows : List (List ℕ × ℕ)) → (taken : List ℕ) → HasBuilt self.old rows taken
+            → HasBuilt self.new (rows ++ (token.now, count) ∷ []) taken) }
+        ensures format { self.new.format ≡ self.old.format }
+    {
+        push_in(self.format, self.is_empty, &mut self.part, token, count)?;
+        self.is_empty = false;
+        Ok(())
+    }
+
+    /// Returns whether no row has come.
+    pub fn is_empty(&self) -> bool
+        ensures { result ≡ self.now.is_empty }
+    {
+        self.is_empty
+    }
+
+    /// Returns the part: what was built and not taken.
+    pub fn part(&self) -> &[u8]
+        ensures { result.now ≡ self.now.part.items }
+    {
+        self.part.as_slice()
+    }
+
+    /// Takes the part: the next one begins.
+    pub fn take(&mut self)
+        ensures built { (rows : List (List ℕ × ℕ)) → (taken : List ℕ) → HasBuilt self.old rows taken
+            → HasBuilt self.new rows (taken ++ self.old.part.items) }
+        ensures format { self.new.format ≡ self.old.format }
+    {
+        self.part.clear();
+    }
+
+    /// Appends the end of the text to the part.
+    ///
+    /// # Errors
+    ///
+    /// An allocation fails.
+    pub fn end(&mut self) -> Result<(), AllocError>
+        ensures { OnOk result ((rows : List (List ℕ × ℕ)) → (taken : List ℕ) → HasBuilt self.old rows taken
+            → taken ++ self.new.part.items ≡ text_of self.old.format rows) }
+    {
+        self.part.extend_from_slice(self.format.end())
+    }
+}

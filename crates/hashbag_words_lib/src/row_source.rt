@@ -1,0 +1,228 @@
+//! The rows of a file of counts, which is given in blocks, however it is cut.
+//!
+//! A [`RowSource`] is given bytes, so its clauses hold whatever they come from. In them `text` is what was given, `more` are bytes that may
+//! still come, and `left_with` has the rows that are then left.
+ghost use Rattle.std.specs.Prelude.{◌≡◌, ℕ, ◌++◌, [], List, length, Some, false, true, IfOk, IsErr, IsSome, IsSomeAnd, OnOk};
+ghost use Rattle.hashbag_words_lib.specs.Runs.{read_as, rows_left};
+ghost use Rattle.hashbag_words_lib.specs.Sorted.{row_of};
+ghost use Rattle.hashbag_words_lib.specs.Sources.{left_with, Gives, Holds, IsAtEnd, MayCome, Meets};
+ghost use Rattle.hashbag_words_lib.specs.Tokens.{without_mark};
+
+use crate::counter::without_return;
+use crate::errors::{BadLine, Fault};
+use crate::lines::{BadLines, Reading};
+use crate::merging::{past_mark, read_in_form};
+use crate::rows::RowForm;
+use crate::unread::Unread;
+use memchr::memchr;
+use std::alloc::{AllocError, Global};
+use std::str;
+
+/// What a text of rows is.
+#[derive(Clone, Copy, Debug, PartialEq, Eq)]
+pub enum Kind {
+    /// A run: rows of `tsv` that were written here. Its first token may begin with a byte order mark.
+    Run,
+    /// A file in this form, with what a bad line of it does. Its first line may begin with a byte order mark, which is no part of it.
+    File(RowForm, BadLines),
+}
+
+/// What comes next in a source of rows.
+#[derive(Drop)]
+pub enum Next {
+    /// A row: its token and its count.
+    Row((String, usize)),
+    /// That isn't known before more bytes are given, or the text is ended.
+    Wants,
+    /// Nothing: the text has ended.
+    End,
+}
+
+/// The rows of a text that is given in blocks.
+///
+/// The bytes that haven't been read are kept: the last block, and of the line that it cuts off what came before.
+#[derive(Drop)]
+pub struct RowSource {
+    pub(crate) form: RowForm,
+    pub(crate) reading: Reading,
+    // Whether a byte order mark at the beginning of the next line is no part of it.
+    pub(crate) may_be_marked: bool,
+    pub(crate) unread: Unread,
+    // Whether no more bytes come.
+    pub(crate) is_ended: bool,
+    alloc: Global,
+}
+
+// A line without a byte order mark at its beginning, if that may be there.
+fn unmarked(line: &[u8], may_be_marked: bool) -> &[u8]
+    ensures plain { may_be_marked ≡ false → result.now ≡ line.now }
+    ensures marked { may_be_marked ≡ true → result.now ≡ without_mark line.now }
+{
+    if may_be_marked {
+        return past_mark(line);
+    }
+    line
+}
+
+// The row of a line. A bad one is passed over or rejected.
+fn read_line(
+    alloc: Global,
+    form: RowForm,
+    line: &[u8],
+    reading: &mut Reading,
+) -> Result<Option<(String, usize)>, Fault>
+    ensures row { form ≡ RowForm.Tsv → reading.old.bad_lines ≡ BadLines.Refused
+        → IfOk result (λ row. IsSomeAnd row (λ r. read_as line.now ≡ Some (row_of r))) }
+    ensures bad_lines { reading.new.bad_lines ≡ reading.old.bad_lines }
+{
+    let Ok(text) = str::from_utf8(line) else {
+        reading.pass_over(BadLine::NotText)?;
+        return Ok(None);
+    };
+    match read_in_form(alloc, form, text)? {
+        Ok(row) => Ok(Some(row)),
+        Err(bad) => {
+            reading.pass_over(bad)?;
+            Ok(None)
+        }
+    }
+}
+
+impl RowSource {
+    // Returns a source of lines of this form that was given nothing.
+    fn of_lines(alloc: Global, form: RowForm, bad_lines: BadLines, may_be_marked: bool) -> RowSource
+        ensures left { (more : List ℕ) → left_with result more ≡ rows_left form bad_lines may_be_marked more }
+        ensures not_ended { result.is_ended ≡ false }
+    {
+        RowSource {
+            form,
+            reading: Reading::new(bad_lines),
+            may_be_marked,
+            unread: Unread::new(alloc),
+            is_ended: false,
+            alloc,
+        }
+    }
+
+    /// Returns a source that was given nothing.
+    pub fn new(alloc: Global, kind: Kind) -> RowSource
+        // Nothing of the text was given, and it hasn't ended.
+        ensures begins { Holds kind [] result }
+        ensures not_ended { result.is_ended ≡ false }
+    {
+        match kind {
+            Kind::Run => RowSource::of_lines(alloc, RowForm::Tsv, BadLines::Refused, false),
+            Kind::File(form, bad_lines) => RowSource::of_lines(alloc, form, bad_lines, true),
+        }
+    }
+
+    /// Returns how many lines were read, and how many of them were skipped.
+    pub fn reading(&self) -> Reading
+        ensures { result ≡ self.now.reading }
+    {
+        self.reading
+    }
+
+    /// Returns how many bytes it keeps: those that were given and haven't been read.
+    pub fn kept(&self) -> usize
+        ensures { result ≡ length self.now.unread }
+    {
+        self.unread.bytes().len()
+    }
+
+    /// Gives the next bytes of the text.
+    ///
+    /// # Errors
+    ///
+    /// An allocation fails.
+    pub fn give(&mut self, block: &[u8]) -> Result<(), AllocError>
+        // The text is longer by the block; the rows left are the same as if the block were still to come.
+        ensures given { OnOk result (self.old.is_ended ≡ false → (kind : _) → (text : List ℕ) → Holds kind text self.old → Holds kind (text ++ block.now) self.new) }
+        ensures left { OnOk result ((more : List ℕ) → left_with self.new more ≡ left_with self.old (block.now ++ more)) }
+        ensures ended { self.new.is_ended ≡ self.old.is_ended }
+    {
+        self.unread.append(self.alloc, block)
+    }
+
+    /// Says that no more bytes come.
+    pub fn end(&mut self)
+        // The text and the rows left are unchanged.
+        ensures given { (kind : _) → (text : List ℕ) → Holds kind text self.old → Holds kind text self.new }
+        ensures left { (more : List ℕ) → left_with self.new more ≡ left_with self.old more }
+        ensures ended { self.new.is_ended ≡ true }
+    {
+        self.is_ended = true;
+    }
+
+    // What comes if no line ends in the bytes that haven't been read; `None` if it was a bad line, which was passed over.
+    fn next_unended(&mut self) -> Result<Option<Next>, Fault>
+        ensures meets { IfOk result (λ met. (more : List ℕ) → MayCome self.old more → Meets (left_with self.old more) met (left_with self.new more)) }
+        ensures ended { self.new.is_ended ≡ self.old.is_ended }
+        ensures wants { IfOk result (λ met. met ≡ Some Next.Wants → self.old.is_ended ≡ false) }
+        ensures end { IfOk result (λ met. met ≡ Some Next.End → IsAtEnd self.new) }
+    {
+        if !self.is_ended {
+            return Ok(Some(Next::Wants));
+        }
+        let n = self.unread.bytes().len();
+        if n == 0 {
+            return Ok(Some(Next::End));
+        }
+        self.reading.count_line();
+        self.reading.pass_over(BadLine::CutOff)?;
+        self.unread.skip(n);
+        Ok(None)
+    }
+
+    // What comes next; `None` if it was a bad line, which was passed over.
+    fn next_line(&mut self) -> Result<Option<Next>, Fault>
+        ensures meets { IfOk result (λ met. (more : List ℕ) → MayCome self.old more → Meets (left_with self.old more) met (left_with self.new more)) }
+        ensures ended { self.new.is_ended ≡ self.old.is_ended }
+        ensures wants { IfOk result (λ met. met ≡ Some Next.Wants → self.old.is_ended ≡ false) }
+        ensures end { IfOk result (λ met. met ≡ Some Next.End → IsAtEnd self.new) }
+    {
+        let bytes = self.unread.bytes();
+        let Some(at) = memchr(b'\n', bytes) else {
+            return self.next_unended();
+        };
+        self.reading.count_line();
+        let line = unmarked(without_return(&bytes[..at]), self.may_be_marked);
+        let read = read_line(self.alloc, self.form, line, &mut self.reading)?;
+        self.unread.skip(at + 1);
+        self.may_be_marked = false;
+        match read {
+            Some(row) => Ok(Some(Next::Row(row))),
+            None => Ok(None),
+        }
+    }
+
+    /// Takes the next row. In any form, and whatever a bad line does, there is none only after the last byte.
+    ///
+    /// # Errors
+    ///
+    /// A line is bad, or has no line feed, and bad lines aren't skipped; or an allocation fails.
+    pub fn next_row(&mut self) -> Result<Next, Fault>
+        // The next of the rows that are left was taken; or none, since none is known or none is left.
+        ensures gives { IfOk result (λ next. (more : List ℕ) → MayCome self.old more → Gives (left_with self.old more) next (left_with self.new more)) }
+        ensures ended { self.new.is_ended ≡ self.old.is_ended }
+
+        // It wants bytes only before the end, and says `End` only once all bytes were read.
+        ensures wants { IfOk result (λ next. next ≡ Next.Wants → self.old.is_ended ≡ false) }
+        ensures end { IfOk result (λ next. next ≡ Next.End → IsAtEnd self.new) }
+    {
+        'lines: for _read in 0..u64::MAX {
+            if let Some(next) = self.next_line()? {
+                return Ok(next);
+            }
+        }
+        Err(Fault::Line(BadLine::CutOff))
+    }
+
+    // Passes over the row that was taken last, since it is bad, or rejects it. If the rows are known, it rejects it.
+    pub(crate) fn pass_over(&mut self, bad: BadLine) -> Result<(), Fault>
+        ensures known { (more : List ℕ) → IsSome (left_with self.old more) → IsErr result }
+        ensures ended { self.new.is_ended ≡ self.old.is_ended }
+    {
+        self.reading.pass_over(bad)
+    }
+}

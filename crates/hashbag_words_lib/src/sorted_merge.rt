@@ -1,0 +1,253 @@
+//! Rows of several sources whose tokens rise become one stream of such rows: each token once, with the sum of its counts.
+//!
+//! A [`Merger`] is given bytes, so its clauses hold whatever they come from. In them `given` is what each source was given so far, and `out`
+//! are the rows that were returned.
+ghost use Rattle.std.specs.Prelude.{◌≡◌, ℕ, ◌+◌, ◌++◌, ◌<◌, ◌^◌, [], None, true, false, List, length, All, slice_index_or, slice_set, string_bytes, IfOk, IfSome, OnOk};
+ghost use Rattle.hashbag_words_lib.specs.Merged.{count_of, texts_of, AreBegun, AreLeft, AreReadAgain, Follows, HasMerged, IsEnded, IsOpen, MayComeTo, TakesRow};
+ghost use Rattle.hashbag_words_lib.specs.Sorted.{count_held, one_of, shown_of, IsMergeOf, IsNoLater, Joins};
+
+use crate::errors::Fault;
+use crate::head::Head;
+use crate::row_source::Next;
+use crate::sources::Source;
+use hashbag::BagError;
+use std::alloc::AllocError;
+
+/// Takes rows, one after the other.
+pub trait Sink {
+    /// What a row changes: the sink before, the bytes of the token and its count, and the sink after it.
+    ghost put_gives: { Self → List ℕ × ℕ → Self → Type 0 };
+
+    /// Takes a row.
+    fn put(&mut self, token: String, count: usize) -> Result<(), Fault>
+        ensures { OnOk result (put_gives self.old (string_bytes token, count) self.new) };
+}
+
+/// What comes next in a merge.
+#[derive(Drop)]
+pub enum Merged {
+    /// A row: its token and its count.
+    Row((String, usize)),
+    /// That isn't known before the source of this place is given more bytes, or is ended.
+    Wants(usize),
+    /// Nothing: all rows are merged.
+    End,
+}
+
+/// Why a merge ends before all rows are merged.
+#[derive(Debug, Drop)]
+pub enum Stop {
+    /// The source of that place failed, or its rows don't rise, or with its next row the counts add up to more than `usize::MAX`.
+    Source(usize, Fault),
+    /// The counts of one token add up to more than `usize::MAX`.
+    TooMany,
+}
+
+// Whether the next row of one source comes before that of another.
+fn is_before(source: &Source, other: &Source) -> bool
+    ensures less { result ≡ true → IsNoLater source.now.head other.now.head }
+    ensures later { result ≡ false → IsNoLater other.now.head source.now.head }
+{
+    match (&source.head, &other.head) {
+        (Some(head), Some(other_head)) => head.is_before(other_head),
+        (Some(_), None) => true,
+        _ => false,
+    }
+}
+
+// A source whose next row is the least.
+fn least(sources: &[Source]) -> usize
+    requires { 0 < length sources.now }
+    ensures within { result < length sources.now }
+    ensures least { All (λ source. IsNoLater (slice_index_or sources.now result source).head source.head) sources.now }
+{
+    let mut best = 0;
+    'sources: for i in 1..sources.len() {
+        if is_before(&sources[i], &sources[best]) {
+            best = i;
+        }
+    }
+    best
+}
+
+// The total with the count of a next row, or `None` if it doesn't fit.
+fn total_with(total: usize, head: &Option<Head>) -> Option<usize>
+    ensures sum { IfSome result (λ sum. sum ≡ total + count_held head.now) }
+    ensures fits { IfSome result (λ sum. sum < 2 ^ 64) }
+{
+    match head {
+        Some(head) => total.checked_add(head.row().1),
+        None => Some(total),
+    }
+}
+
+// Takes the least row of all sources, if the row after it is known, and adds its count to the total.
+fn take_least(sources: &mut Vec<Source>, total: &mut usize) -> Result<Merged, Stop>
+    ensures taken { IfOk result (λ next. (mores : ℕ → List ℕ) → MayComeTo sources.old.items mores → (rows : List (List (List ℕ × ℕ)))
+        → AreLeft sources.old.items mores rows → TakesRow mores rows next sources.new.items) }
+    ensures total { IfOk result (λ next. total.new ≡ total.old + count_of next) }
+    ensures fits { total.new < 2 ^ 64 }
+    ensures many { length sources.new.items ≡ length sources.old.items }
+    ensures ended { (mores : ℕ → List ℕ) → MayComeTo sources.new.items mores → MayComeTo sources.old.items mores }
+    ensures wants { IfOk result (λ next. (i : ℕ) → next ≡ Merged.Wants i → IsOpen sources.new.items i) }
+{
+    let before = *total;
+    if sources.is_empty() {
+        return Ok(Merged::End);
+    }
+    let i = least(sources.as_slice());
+    let source = &mut sources[i];
+    let Some(sum) = total_with(before, &source.head) else {
+        return Err(Stop::Source(i, Fault::Bag(BagError::TooMany)));
+    };
+    match source.take() {
+        Ok(Next::Row(row)) => {
+            *total = sum;
+            Ok(Merged::Row(row))
+        }
+        Ok(Next::Wants) => Ok(Merged::Wants(i)),
+        Ok(Next::End) => Ok(Merged::End),
+        Err(fault) => Err(Stop::Source(i, fault)),
+    }
+}
+
+// Takes a row behind the one that is held. If both have one token, their sum is held; else the row that was held is returned.
+fn join(
+    held: &mut Option<(String, usize)>,
+    row: (String, usize),
+) -> Result<Option<(String, usize)>, Stop>
+    ensures { IfOk result (λ done. Joins held.old row done held.new) }
+{
+    let Some((token, count)) = held.take() else {
+        *held = Some(row);
+        return Ok(None);
+    };
+    if token != row.0 {
+        *held = Some(row);
+        return Ok(Some((token, count)));
+    }
+    match count.checked_add(row.1) {
+        Some(sum) => {
+            *held = Some((token, sum));
+            Ok(None)
+        }
+        None => Err(Stop::TooMany),
+    }
+}
+
+// Returns a row that is done, unless its count is 0.
+fn shown(done: Option<(String, usize)>) -> Option<(String, usize)>
+    ensures { one_of result ≡ shown_of done }
+{
+    let (token, count) = done?;
+    if count == 0 {
+        return None;
+    }
+    Some((token, count))
+}
+
+/// Merges the rows of sources whose tokens rise: gives each token of any of them once, tokens rising, with the sum of its counts, unless
+/// that is 0.
+#[derive(Drop)]
+pub struct Merger {
+    sources: Vec<Source>,
+    // A row whose token may come again.
+    held: Option<(String, usize)>,
+    // What the counts of all rows that were taken add up to.
+    total: usize,
+}
+
+impl Merger {
+    /// Returns the merger of these sources.
+    pub fn new(sources: Vec<Source>) -> Merger
+        // No row was returned so far.
+        ensures begins { (given : _) → AreBegun given sources.items → HasMerged given result [] }
+    {
+        Merger {
+            sources,
+            held: None,
+            total: 0,
+        }
+    }
+
+    /// The sources. A source that failed has read the line that it was found in.
+    pub fn sources(&self) -> &[Source]
+        ensures { result.now ≡ self.now.sources.items }
+    {
+        &self.sources
+    }
+
+    /// Returns how many bytes the source of that place keeps, or 0 if there is no such source.
+    pub fn kept(&self, i: usize) -> usize {
+        match self.sources.get(i) {
+            Some(source) => source.rows.kept(),
+            None => 0,
+        }
+    }
+
+    /// Gives the next bytes of the source of that place.
+    ///
+    /// # Errors
+    ///
+    /// An allocation fails.
+    pub fn give(&mut self, i: usize, block: &[u8]) -> Result<(), AllocError>
+        // What was given to the source of place i is longer by the block.
+        ensures given { OnOk result (IsOpen self.old.sources.items i → (given : _) → (out : List (List ℕ × ℕ)) → HasMerged given self.old out
+            → (text : _) → text ≡ slice_index_or given i text → HasMerged (slice_set given i (text.0, text.1 ++ block.now)) self.new out) }
+        ensures wants { IsOpen self.old.sources.items i → IsOpen self.new.sources.items i }
+    {
+        if i < self.sources.len() {
+            self.sources[i].rows.give(block)?;
+        }
+        Ok(())
+    }
+
+    /// Says that no more bytes come for the source of that place.
+    pub fn end(&mut self, i: usize)
+        // What was given is unchanged, and the source has ended.
+        ensures given { (given : _) → (out : List (List ℕ × ℕ)) → HasMerged given self.old out → HasMerged given self.new out }
+        ensures ended { i < length self.old.sources.items → IsEnded self.new.sources.items i }
+    {
+        if i < self.sources.len() {
+            self.sources[i].rows.end();
+        }
+    }
+
+    /// Returns the next row. It may be called again after `Merged::Wants`, once the source was given more bytes or was ended.
+    ///
+    /// # Errors
+    ///
+    /// `Stop::Source`: a line is bad, a row doesn't come after the one before it (`BadLine::NotInOrder`), the counts add up to more than
+    /// `usize::MAX`, or an allocation fails. Then the merger is of no use.
+    ///
+    /// # Complexity
+    ///
+    /// A row that is taken needs a comparison with the next row of each source.
+    pub fn next_row(&mut self) -> Result<Merged, Stop>
+        // A row comes behind those in `out`; or a source wants bytes; or it is the end, and `out` is the merge of all rows.
+        ensures follows { IfOk result (λ next. (given : _) → (out : List (List ℕ × ℕ)) → HasMerged given self.old out → Follows given out next self.new) }
+
+        // At the end, if the sources are runs that are read again as they were written, `out` is their merge.
+        ensures runs { IfOk result (λ next. next ≡ Merged.End → (runs : List (List (List ℕ × ℕ))) → (out : List (List ℕ × ℕ)) → AreReadAgain runs
+            → HasMerged (texts_of runs) self.old out → IsMergeOf runs out) }
+    {
+        'rows: for _row in 0..u64::MAX {
+            match take_least(&mut self.sources, &mut self.total)? {
+                Merged::Row(row) => {
+                    let done = join(&mut self.held, row)?;
+                    if let Some(row) = shown(done) {
+                        return Ok(Merged::Row(row));
+                    }
+                }
+                Merged::Wants(i) => return Ok(Merged::Wants(i)),
+                Merged::End => {
+                    return match shown(self.held.take()) {
+                        Some(row) => Ok(Merged::Row(row)),
+                        None => Ok(Merged::End),
+                    };
+                }
+            }
+        }
+        Err(Stop::TooMany)
+    }
+}

@@ -1,0 +1,107 @@
+//! Sources of rows whose tokens rise.
+ghost use Rattle.std.specs.Prelude.{◌≡◌, ℕ, List, None, Some, false, string_bytes, IfOk, IfSome};
+ghost use Rattle.std.specs.declared.cmp.Ordering.TheVariants.{Less};
+ghost use Rattle.hashbag_words_lib.specs.Merged.{with_head, OpensWith, Takes};
+ghost use Rattle.hashbag_words_lib.specs.Sorted.{text_cmp};
+ghost use Rattle.hashbag_words_lib.specs.Sources.{left_with, row_in, Gives, Holds, MayCome};
+
+use crate::errors::{BadLine, Fault};
+use crate::head::Head;
+use crate::row_source::{Next, RowSource};
+use std::mem;
+
+// Takes the next row whose token comes after `last`. Rows whose token doesn't are passed over or rejected.
+fn next_above(rows: &mut RowSource, last: &str) -> Result<Next, Fault>
+    ensures gives { IfOk result (λ next. (more : List ℕ) → MayCome rows.old more → Gives (left_with rows.old more) next (left_with rows.new more)) }
+    ensures above { IfOk result (λ next. IfSome (row_in next) (λ r. text_cmp last.now (string_bytes r.0) ≡ Less)) }
+    ensures ended { rows.new.is_ended ≡ rows.old.is_ended }
+    ensures wants { IfOk result (λ next. next ≡ Next.Wants → rows.old.is_ended ≡ false) }
+{
+    'rows: for _row in 0..u64::MAX {
+        match rows.next_row()? {
+            Next::Row(row) => {
+                if last < row.0.as_str() {
+                    return Ok(Next::Row(row));
+                }
+                rows.pass_over(BadLine::NotInOrder)?;
+            }
+            Next::Wants => return Ok(Next::Wants),
+            Next::End => return Ok(Next::End),
+        }
+    }
+    Err(Fault::Line(BadLine::NotInOrder))
+}
+
+/// A source of rows, and the row of it that comes next.
+#[derive(Drop)]
+pub struct Source {
+    pub(crate) rows: RowSource,
+    // `None` after the last one.
+    pub(crate) head: Option<Head>,
+}
+
+/// What opening a source gives.
+#[derive(Drop)]
+pub enum Opened {
+    /// The source. Its first row is known, or it has none.
+    Ready(Source),
+    /// The rows. The first one isn't known before more bytes are given, or the text is ended.
+    Wants(RowSource),
+}
+
+impl Source {
+    /// Takes the first row.
+    ///
+    /// # Errors
+    ///
+    /// The fault of [`RowSource::next_row`], and the rows, of which no clause says what is left.
+    pub fn open(mut rows: RowSource) -> Result<Opened, (Fault, RowSource)>
+        // The first row is known, and no row is lost; or it isn't known before more bytes are given.
+        ensures { IfOk result (λ opened. (kind : _) → (text : List ℕ) → Holds kind text rows → OpensWith kind text opened) }
+    {
+        match rows.next_row() {
+            Ok(Next::Row(row)) => {
+                let head = Some(Head::new(row));
+                Ok(Opened::Ready(Source { rows, head }))
+            }
+            Ok(Next::Wants) => Ok(Opened::Wants(rows)),
+            Ok(Next::End) => Ok(Opened::Ready(Source { rows, head: None })),
+            Err(fault) => Err((fault, rows)),
+        }
+    }
+
+    /// The rows behind the next one.
+    pub fn rows(&self) -> &RowSource
+        ensures { result.now ≡ self.now.rows }
+    {
+        &self.rows
+    }
+
+    /// Takes the row that comes next, if the row after it is known. If that isn't, nothing is taken.
+    ///
+    /// # Errors
+    ///
+    /// The fault of that row. `BadLine::NotInOrder`: the token of the row after it doesn't come after that of the row.
+    pub(crate) fn take(&mut self) -> Result<Next, Fault>
+        // The row that came next was taken, if the one after it is known; or none was left.
+        ensures same { IfOk result (λ next. IfSome (row_in next) (λ row. self.old.head ≡ Some row)) }
+        ensures none { IfOk result (λ next. next ≡ Next.End → self.old.head ≡ None) }
+        ensures taken { IfOk result (λ next. (more : List ℕ) → MayCome self.old.rows more → (rows : List (List ℕ × ℕ))
+            → with_head self.old.head (left_with self.old.rows more) ≡ Some rows → Takes rows next (with_head self.new.head (left_with self.new.rows more))) }
+        ensures ended { self.new.rows.is_ended ≡ self.old.rows.is_ended }
+        ensures wants { IfOk result (λ next. next ≡ Next.Wants → self.old.rows.is_ended ≡ false) }
+    {
+        let Some(head) = &self.head else {
+            return Ok(Next::End);
+        };
+        let next = match next_above(&mut self.rows, head.row().0.as_str())? {
+            Next::Row(row) => Some(Head::new(row)),
+            Next::Wants => return Ok(Next::Wants),
+            Next::End => None,
+        };
+        match mem::replace(&mut self.head, next) {
+            Some(head) => Ok(Next::Row(head.into_row())),
+            None => Ok(Next::End),
+        }
+    }
+}

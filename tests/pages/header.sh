@@ -1,0 +1,169 @@
+#!/usr/bin/env bash
+# bash tests/pages/header.sh [--write]: makes bindings/c/hashbag.h from the functions that crates/hashbag_c exports, and compares it with the file. `--write`
+# writes the file. It also compares the names in the Rust and the Python bindings with the exports: each names all of them, with as many arguments.
+# The last line is 'header: N functions' or says what is wrong.
+#
+# The comment of a function is its doc comment. A parameter `alloc` takes no bytes, so C passes nothing for it; a slice is a pointer and a length.
+set -u
+cd "$(dirname "$0")/../.." || exit 2
+exec python3 - "$@" <<'PYTHON'
+import difflib
+import re
+import sys
+import textwrap
+
+HEADER = "bindings/c/hashbag.h"
+FILES = ["any", "combine", "numbers", "number_batches", "number_joins", "number_orders", "texts", "text_batches", "text_joins", "text_orders"]
+TITLES = {
+    "any": "bags of either kind",
+    "combine": "two bags of one kind",
+    "numbers": "bags of numbers",
+    "number_batches": "bags of numbers, many at once",
+    "number_joins": "joins of bags of numbers",
+    "number_orders": "bags of numbers, in an order",
+    "texts": "bags of byte strings",
+    "text_batches": "bags of byte strings, many at once",
+    "text_joins": "joins of bags of byte strings",
+    "text_orders": "bags of byte strings, in an order",
+}
+TYPES = {"u64": "uint64_t ", "usize": "size_t ", "u8": "uint8_t ", "bool": "bool ", "&mut Handle": "hashbag *", "&mut usize": "size_t *"}
+SLICES = {"&[u8]": "const uint8_t *", "&[u64]": "const uint64_t *", "&[usize]": "const size_t *", "&[isize]": "const ptrdiff_t *"}
+SLICES.update({f"&mut {it[1:]}": text.removeprefix("const ") for it, text in list(SLICES.items())})
+
+HEAD = """\
+/* hashbag: counted hash multisets of numbers and of byte strings. Made by `bash tests/pages/header.sh --write` from crates/hashbag_c.
+ *
+ * A handle is one word. It starts as HASHBAG_NONE, which is empty: it has no bag. `hashbag_numbers_new` and `hashbag_texts_new` put a bag into
+ * it, and `hashbag_free` leaves it empty again. A call on an empty handle, or on one that has a bag of the other kind, changes nothing, and
+ * returns HASHBAG_EMPTY or HASHBAG_KIND, or a count of 0.
+ *
+ * The library is proved for callers that keep to this:
+ *  1. Handles. A handle was HASHBAG_NONE first, and since then only this library wrote it. It isn't copied, so that two have one bag. Two
+ *     handles of one call are two, not one twice.
+ *  2. Memory. A pointer isn't null, not even with the length 0. It is aligned, and there is memory of the length that is given. What a call
+ *     writes overlaps no other argument. `malloc`, `realloc` and `free` are of one allocator, and align to 16.
+ *  3. Threads. A handle stays on the thread that put a bag into it, and has one call at a time, also of calls that only read. There is no call
+ *     from a signal handler, or in the child of a `fork` of a program with threads.
+ */
+#ifndef HASHBAG_H
+#define HASHBAG_H
+
+#include <stdbool.h>
+#include <stddef.h>
+#include <stdint.h>
+
+#ifdef __cplusplus
+extern "C" {
+#endif
+
+typedef struct hashbag {
+    void *at;
+} hashbag;
+
+#define HASHBAG_NONE { NULL }
+
+/* What the calls that can fail return. */
+enum hashbag_error {
+    HASHBAG_OK = 0,
+"""
+FOOT = """
+#ifdef __cplusplus
+}
+#endif
+
+#endif
+"""
+
+
+def read(path):
+    with open(path, encoding="utf-8") as file:
+        return file.read()
+
+
+def fail(text):
+    print(f"header: {text}")
+    sys.exit(1)
+
+
+def comment(lines, width=116):
+    """A comment of C, whose paragraphs are those of a doc comment."""
+    out, paragraphs = [], "\n".join(lines).split("\n\n")
+    for paragraph in paragraphs:
+        paragraph = paragraph.replace("\n", " ")
+        out += [""] if out else []
+        out += textwrap.wrap(paragraph.replace("# Errors", "Errors:"), width, break_on_hyphens=False)
+    # A heading goes on with its paragraph.
+    out = [it for i, it in enumerate(out) if not (it == "" and i and out[i - 1] == "Errors:")]
+    return ("/* " + "\n * ".join(out) + " */\n").replace(" * \n", " *\n")
+
+
+def exports(text):
+    """Name, result, parameters and lines of the doc comment of each function that is exported."""
+    found = re.finditer(r'((?:^///.*\n)+)#\[unsafe\(no_mangle\)\]\npub extern "C" fn (\w+)\(([^)]*)\)(?: -> (\w+))?', text, re.M)
+    for it in found:
+        doc = [re.sub(r"^/// ?", "", line) for line in it[1].rstrip().split("\n")]
+        pairs = [re.sub(r"\s+", " ", pair).strip() for pair in it[3].split(",")]
+        yield it[2], it[4], [tuple(pair.split(": ")) for pair in pairs if pair], doc
+
+
+def declared(name, result, parameters):
+    """The declaration, and how many arguments a caller passes."""
+    words = []
+    for parameter, kind in parameters:
+        if kind == "Global":
+            continue
+        if kind in SLICES:
+            words += [f"{SLICES[kind]}{parameter}", f"size_t {parameter}_len"]
+        elif kind in TYPES:
+            words.append(TYPES[kind] + parameter)
+        else:
+            fail(f"{name}: no type of C for {kind}")
+    text = (TYPES[result] if result else "void ") + name + "("
+    lines = [""]
+    for i, word in enumerate(words):
+        if len(text + lines[-1] + word) > 116:
+            lines.append("")
+        lines[-1] += word + (", " if i + 1 < len(words) else "")
+    return text + ("\n" + " " * len(text)).join(it.rstrip() for it in lines) + ");\n", len(words)
+
+
+def errors():
+    """The numbers of errors with their comments: those of the bag, and those of the handle."""
+    core = read("crates/hashbag_core/src/bag.rt")
+    numbers = dict(re.findall(r"BagError::(\w+) => (\d+),", core))
+    for doc, name in re.findall(r"((?:^    ///.*\n)+)    #\[error[^\n]*\n    (\w+),", core, re.M):
+        word = re.sub(r"(?<!^)(?=[A-Z])", "_", name).upper()
+        yield word, numbers[name], " ".join(it.strip()[4:] for it in doc.rstrip().split("\n"))
+    for doc, name, number in re.findall(r"((?:^///.*\n)+)pub const (\w+): u8 = (\d+);", read("crates/hashbag_c/src/any.rt"), re.M):
+        yield name, number, " ".join(it[4:] for it in doc.rstrip().split("\n"))
+
+
+made, functions = HEAD, {}
+for word, number, text in errors():
+    made += textwrap.indent(comment([text]), "    ") + f"    HASHBAG_{word} = {number},\n"
+made += "};\n"
+for file in FILES:
+    made += f"\n/* ---- {TITLES[file]} */\n"
+    for name, result, parameters, doc in exports(read(f"crates/hashbag_c/src/{file}.rt")):
+        text, functions[name] = declared(name, result, parameters)
+        made += "\n" + comment(doc) + text
+made += FOOT
+
+everywhere = sum(read(f"crates/hashbag_c/src/{it}.rt").count("no_mangle") for it in FILES)
+if everywhere != len(functions):
+    fail(f"{everywhere} functions are exported, and {len(functions)} of them have a doc comment")
+if sys.argv[1:] == ["--write"]:
+    with open(HEADER, "w", encoding="utf-8") as file:
+        file.write(made)
+elif made != read(HEADER):
+    sys.stdout.writelines(difflib.unified_diff(read(HEADER).splitlines(True), made.splitlines(True), HEADER, "the exports"))
+    fail(f"{HEADER} isn't what the exports say: bash tests/pages/header.sh --write")
+
+rust = {name: len([it for it in words.split(",") if it.strip()]) for name, words in re.findall(r"pub fn (hashbag_\w+)\(([^)]*)\)", read("bindings/rust/src/sys.rs"))}
+python = {name: len([it for it in words.split(",") if it.strip()]) for name, words in re.findall(r'"(hashbag_\w+)", \[([^\]]*)\]', read("bindings/python/hashbag/_library.py"))}
+for where, names in (("bindings/rust/src/sys.rs", rust), ("bindings/python/hashbag/_library.py", python)):
+    if names != functions:
+        wrong = sorted(name for name in {*names, *functions} if names.get(name) != functions.get(name))
+        fail(f"{where} doesn't declare these as they are exported: {' '.join(wrong)}")
+print(f"header: {len(functions)} functions")
+PYTHON

@@ -1,0 +1,453 @@
+#!/usr/bin/env bash
+# bash tests/programs/stock.sh [PROGRAM]: runs the subcommands of the program `hashbag_ledger` on databases, and compares what it writes, what it
+# leaves unchanged, and its status with values found by hand. Python's own module of SQLite reads the databases too, and changes them. The
+# pauses of a run that waits are counted by a library that the C compiler `cc` makes. The program is proved and compiled first, unless it is
+# named. The last line is 'stock: ok' or says what is wrong.
+. "$(dirname "$0")/lib.sh"
+begin hashbag_ledger "$@"
+
+# same FILE SUM WHAT: the file has this checksum
+same() {
+  [ "$(sha256sum < "$1")" = "$2" ] || fail "$3"
+}
+
+# sql DATABASE TEXT: what Python's SQLite returns, a row a line, values with bars between them
+sql() {
+  python3 - "$1" "$2" << 'END'
+import sqlite3, sys
+connection = sqlite3.connect(sys.argv[1])
+for row in connection.execute(sys.argv[2]):
+    print("|".join("" if value is None else str(value) for value in row))
+connection.commit()
+connection.close()
+END
+}
+
+# is DATABASE TEXT WANTED WHAT: Python's SQLite returns this
+is() {
+  local found
+  found=$(sql "$1" "$2")
+  [ "$found" = "$(printf -- "$3")" ] || fail "$4: $found"
+}
+
+p=hashbag_ledger
+printf 'article,number\nbolt,10\nnut,40\nwasher,3\n' > stock.csv
+printf 'article,change\nbolt,-4\nnut,+20\nbolt,-7\n"screw, long",12\nwasher,-3\nbolt,-6\n' > monday.csv
+printf 'article,change\nnut,-61\nbolt,5\n' > tuesday.csv
+
+# A stock at the beginning and a file, each a batch; what is refused is said
+ends 1 'monday.csv:4: refused: out 7 of "bolt", 6 there' enter --quiet --db s.db --from stock.csv monday.csv
+has ../out '' "enter writes nothing to standard output"
+ends 0 '' balance --db s.db
+has ../out 'article,number\nnut,60\n"screw, long",12\n' "the balance after the first day"
+ends 1 'tuesday.csv:2: refused: out 61 of "nut", 60 there' enter --quiet --db s.db tuesday.csv
+ends 0 '' balance --db s.db
+has ../out 'article,number\nbolt,5\nnut,60\n"screw, long",12\n' "the balance after the second day"
+ends 0 '' balance --quiet --db s.db nut bolt none nut
+has ../out 'article,number\nbolt,5\nnone,0\nnut,60\n' "the balance of some articles"
+ends 0 '' balance --db s.db -o some.csv --delimiter ';' nut
+has some.csv 'article;number\nnut;60\n' "a balance in a file"
+ends 0 '' verify --db s.db
+has ../out '3 batches, 11 movements, 2 of them refused: the balance and the refusals agree\n' "a stock that agrees"
+
+# The history of an article, and the batches; their times are those of the clock
+ends 0 '' history --db s.db bolt
+sed -E 's/,20[0-9][0-9]-[0-9][0-9]-[0-9][0-9] [0-9][0-9]:[0-9][0-9]:[0-9][0-9],/,TIME,/' ../out > ../plain
+has ../plain 'batch,file,line,time,change,outcome,number\n1,stock.csv,2,TIME,10,entered,10\n2,monday.csv,2,TIME,-4,entered,6\n2,monday.csv,4,TIME,-7,refused,6\n2,monday.csv,7,TIME,-6,entered,0\n3,tuesday.csv,3,TIME,5,entered,5\n' "the history of an article"
+ends 0 '' history --quiet --db s.db none
+has ../out 'batch,file,line,time,change,outcome,number\n' "the history of an article without movements"
+ends 0 '' batches --db s.db
+sed -E 's/,20[0-9][0-9]-[0-9][0-9]-[0-9][0-9] [0-9][0-9]:[0-9][0-9]:[0-9][0-9],/,TIME,/' ../out > ../plain
+sums=($(sha256sum stock.csv monday.csv tuesday.csv | cut -d ' ' -f 1))
+has ../plain "batch,file,sha256,kind,undoes,time,movements,refused\n1,stock.csv,${sums[0]},start,,TIME,3,0\n2,monday.csv,${sums[1]},moves,,TIME,6,1\n3,tuesday.csv,${sums[2]},moves,,TIME,2,1\n" "the batches"
+is s.db "select abs(strftime('%%s', 'now') - strftime('%%s', max(time))) < 600 from batch" '1' "the time of a batch"
+
+# Another program reads the same
+is s.db 'pragma integrity_check' 'ok' "integrity_check"
+is s.db 'select article, number from article order by article' 'bolt|5\nnut|60\nscrew, long|12' "the balance by Python's SQLite"
+is s.db 'select name, value from meta order by name' 'hashbag_ledger|2\nscale|0' "the table meta"
+is s.db 'select movement, there from refusal order by movement' '6|6\n10|60' "the refusals by Python's SQLite"
+is s.db 'select batch, sum(change), count(*) from movement where movement not in (select movement from refusal) group by batch' '1|53|3\n2|19|5\n3|5|1' "the movements by Python's SQLite"
+
+# Once: a file whose bytes were entered before is rejected, under another name too, and nothing else is entered
+cp monday.csv again.csv
+printf 'article,change\nbolt,1\n' > more.csv
+ends 6 "$p: again.csv: entered before, as batch 2 (monday.csv)" enter --quiet --db s.db more.csv again.csv
+cp more.csv twice.csv
+ends 6 "$p: twice.csv: the same bytes as more.csv" enter --quiet --db s.db more.csv twice.csv
+ends 0 '' balance --db s.db bolt
+has ../out 'article,number\nbolt,5\n' "the balance after a file that was entered before"
+ends 1 "$(printf 'again.csv:4: refused: out 7 of "bolt", 1 there\nagain.csv:6: refused: out 3 of "washer", 0 there\nagain.csv:7: refused: out 6 of "bolt", 1 there')" enter --quiet --db s.db --again again.csv
+ends 0 '' balance --db s.db
+has ../out 'article,number\nbolt,1\nnut,80\n"screw, long",24\n' "the balance after --again"
+
+# Strictly nothing is entered; refusals as CSV; standard input
+printf 'article,change\nbolt,1\nnut,-99\n' > much.csv
+ends 1 'much.csv:3: refused: out 99 of "nut", 80 there' enter --quiet --db s.db --strict much.csv
+ends 0 '' balance --db s.db bolt
+has ../out 'article,number\nbolt,1\n' "the balance after a strict run"
+ends 1 '' enter --quiet --db s.db --refused not.csv much.csv
+has not.csv 'file,line,article,asked,there\nmuch.csv,3,nut,99,80\n' "refusals in a file"
+printf 'article,change\nbolt,3\n' | "$program" enter --quiet --db s.db > ../out 2> ../err || fail "standard input"
+is s.db 'select batch, file, movements, refused from batch where batch > 4 order by batch' '5|much.csv|2|1\n6|-|1|0' "the batches of a file and of standard input"
+ends 0 '' balance --db s.db bolt
+has ../out 'article,number\nbolt,5\n' "the balance after standard input"
+ends 0 '' verify --db s.db
+
+# What is wrong with an input is said before anything is entered, and before a database is made
+printf 'article,change\nbolt,1\nnut,x\n' > bad.csv
+printf 'article,change\nbolt,1\n\n' > good.csv
+ends 2 "$p: bad.csv:3: no number: \`x\`" enter --quiet --db s.db good.csv bad.csv
+ends 2 "$p: bad.csv:3: no number: \`x\`" enter --quiet --db none.db good.csv bad.csv
+ends 4 "$p: none.csv: No such file or directory (os error 2)" enter --quiet --db none.db none.csv
+ends 2 "$p: ./s.db: both an input and an output, or two outputs" enter --quiet --db s.db ./s.db
+ends 2 "$p: stock.csv: both an input and an output, or two outputs" enter --quiet --db none.db --from stock.csv --refused stock.csv
+ends 2 "$p: s.db-journal: both an input and an output, or two outputs" enter --quiet --db s.db --refused s.db-journal more.csv
+ends 2 "$p: s.db-wal: both an input and an output, or two outputs" balance --db s.db -o s.db-wal
+ends 2 "$p: ./s.db: both an input and an output, or two outputs" batches --db s.db -o ./s.db
+ends 2 "$p: s.db-shm: both an input and an output, or two outputs" close --db s.db --into s.db-shm
+printf 'article,change\nbolt,9223372036854775808\nnut,x\n' > past_first.csv
+ends 2 "$p: past_first.csv:2: number past 9223372036854775807: \`9223372036854775808\`" enter --quiet --db none.db past_first.csv
+printf 'article,change\nbolt,18446744073709551616\n' > past_all.csv
+ends 2 "$p: past_all.csv:2: number past 9223372036854775807: \`18446744073709551616\`" enter --quiet --db none.db past_all.csv
+printf 'article,change\nbolt,9223372036854775808\n' > past.csv
+ends 2 "$p: past.csv:2: number past 9223372036854775807: \`9223372036854775808\`" enter --quiet --db none.db past.csv
+printf 'article,change\nbolt,9223372036854775807\nnut,1\n' > total.csv
+ends 5 "$p: total.csv:3: total past 9223372036854775807" enter --quiet --db none.db total.csv
+ends 1 'much.csv:3: refused: out 99 of "nut", 0 there' enter --quiet --db none.db --strict much.csv
+[ ! -e none.db ] || fail "a database is made although nothing is entered"
+ends 0 '' balance --db s.db bolt
+has ../out 'article,number\nbolt,5\n' "the balance after bad inputs"
+printf 'article,number\nbolt,-1\n' > minus.csv
+ends 2 "$p: minus.csv:2: no number: \`-1\`" enter --quiet --db none.db --from minus.csv
+printf 'article,change\nbolt,9223372036854775807\nbolt,-9223372036854775807\nnut,9223372036854775806\n' > most.csv
+ends 0 '' enter --quiet --db most.db most.csv
+ends 0 '' balance --db most.db
+has ../out 'article,number\nnut,9223372036854775806\n' "the greatest numbers"
+is most.db 'select change from movement order by movement' '9223372036854775807\n-9223372036854775807\n9223372036854775806' "the greatest numbers in the file"
+
+# Several records on one line, since a lone carriage return ends a record and no line: each movement has its own outcome
+printf 'article,change\ra,5\ra,-9\ra,-2\r' > line.csv
+ends 1 'line.csv:1: refused: out 9 of "a", 5 there' enter --quiet --db line.db line.csv
+is line.db 'select movement, there from refusal' '2|5' "which movement of a line is refused"
+ends 0 '' history --db line.db a
+cut -d , -f 3,5- ../out > ../plain
+has ../plain 'line,change,outcome,number\n1,5,entered,5\n1,-9,refused,5\n1,-2,entered,3\n' "the history of a line of three movements"
+ends 0 '' verify --db line.db
+has ../out '1 batch, 3 movements, 1 of them refused: the balance and the refusals agree\n' "a line of three movements agrees"
+ends 0 '' undo --quiet --db line.db 1
+is line.db 'select change from movement where batch = 2 order by movement' '2\n-5' "the opposite movements of a line"
+ends 0 '' balance --db line.db
+has ../out 'article,number\n' "the balance after a line is undone"
+ends 0 '' verify --db line.db
+printf 'article,change\rb,-1\rb,1\rb,-1\rb,-1\r' > line.csv
+ends 1 "$(printf 'line.csv:1: refused: out 1 of "b", 0 there\nline.csv:1: refused: out 1 of "b", 0 there')" enter --quiet --db line.db line.csv
+is line.db 'select movement, there from refusal where movement > 5 order by movement' '6|0\n9|0' "the first and the last movement of a line are refused"
+ends 0 '' verify --db line.db
+
+# What was entered or undone is said on standard error, each batch on a line, and what isn't there, with a name that is near
+printf 'article,change\nbolt,5\nnut,2\n' > a.csv
+printf 'article,change\nbolt,-3\nbolt,-9\n' > b.csv
+printf 'article,change\n' > sunday.csv
+ends 1 "$(printf 'b.csv:3: refused: out 9 of "bolt", 2 there\na.csv: batch 1, 2 movements\nb.csv: batch 2, 2 movements, 1 refused\nsunday.csv: batch 3, 0 movements')" enter --db said.db a.csv b.csv sunday.csv
+ends 1 'b.csv:2: refused: out 3 of "bolt", 2 there' enter --db said.db --strict --again b.csv
+ends 0 "$p: said.db: none of \"blot\"; is it \"bolt\"?" balance --db said.db nut blot
+has ../out 'article,number\nblot,0\nnut,2\n' "the balance of an article that isn't there"
+ends 0 "$p: said.db: none of \"washer\"" balance --db said.db washer
+ends 0 "$p: said.db: no movement of \"blot\"" history --db said.db blot
+
+# Files without movements, and standard input, may be entered again
+cp sunday.csv monday2.csv
+ends 0 "$(printf 'sunday.csv: batch 4, 0 movements\nmonday2.csv: batch 5, 0 movements')" enter --db said.db sunday.csv monday2.csv
+printf 'article,change\nnut,1\n' > ../line
+input=../line ends 0 '-: batch 6, 1 movement' enter --db said.db
+input=../line ends 0 '-: batch 7, 1 movement' enter --db said.db -
+ends 6 "$p: b.csv: entered before, as batch 2 (b.csv)" enter --db said.db sunday.csv b.csv
+
+# The last batch is undone, or that of a file; each undo says so
+ends 0 '-: batch 8, 1 movement, the opposites of batch 7' undo --db said.db --last
+ends 0 '-: batch 9, 1 movement, the opposites of batch 6' undo --db said.db --last
+ends 0 'b.csv: batch 10, 1 movement, the opposites of batch 2' undo --db said.db b.csv
+ends 1 "$p: said.db: batch 2 was undone by batch 10" undo --db said.db b.csv
+ends 1 'b.csv: batch 11, 2 movements, 1 refused' enter --refused refused.csv --db said.db --again b.csv
+ends 0 'b.csv: batch 12, 1 movement, the opposites of batch 11' undo --db said.db b.csv
+ends 2 "$p: said.db: no batch c.csv" undo --db said.db c.csv
+ends 2 "$p: undo takes a batch, by its number or its file, or --last" undo --db said.db
+ends 2 "$p: undo takes a batch, by its number or its file, or --last" undo --db said.db --last 2
+ends 0 '' verify --db said.db
+
+# From a million movements on a new database is suggested
+sql said.db "update batch set movements = 999988 where batch = 1"
+ends 0 "$(printf 'a.csv: batch 13, 2 movements\n%s: said.db: 1000000 movements, which each call reads: `close` begins a new database with the balance' $p)" enter --db said.db --again a.csv
+
+# A word that is no subcommand, where a database is named
+"$program" entr --db said.db a.csv > ../out 2> ../err
+[ $? = 2 ] && grep -q "entr" ../err && grep -q "enter" ../err || { cat ../err; fail "a misspelt subcommand"; }
+
+# A batch is taken back, or refused whole
+printf 'article,change\nbolt,5\nnut,2\n' > a.csv
+printf 'article,change\nbolt,-3\nbolt,-9\nwasher,4\n' > b.csv
+ends 1 'b.csv:3: refused: out 9 of "bolt", 2 there' enter --quiet --db u.db a.csv b.csv
+cp u.db v.db
+ends 1 'a.csv:2: refused: out 5 of "bolt", 2 there' undo --quiet --db u.db 1
+ends 0 '' balance --db u.db
+has ../out 'article,number\nbolt,2\nnut,2\nwasher,4\n' "the balance after an undo that is refused"
+ends 0 '' undo --quiet --db u.db 2
+ends 0 '' balance --db u.db
+has ../out 'article,number\nbolt,5\nnut,2\n' "the balance after an undo"
+is u.db 'select line, article, change from movement where batch = 3 order by movement' '2|bolt|3\n4|washer|-4' "the opposite movements"
+is u.db 'select batch, file, kind, undoes, movements, refused from batch order by batch' '1|a.csv|moves||2|0\n2|b.csv|moves||3|1\n3|b.csv|undo|2|2|0' "the batch of an undo"
+ends 1 "$p: u.db: batch 2 was undone by batch 3" undo --quiet --db u.db 2
+ends 2 "$p: u.db: no batch 9" undo --quiet --db u.db 9
+ends 0 '' undo --quiet --db u.db 1
+ends 0 '' balance --db u.db
+has ../out 'article,number\n' "the balance after two undos"
+ends 1 'b.csv:2: refused: out 3 of "bolt", 0 there' undo --quiet --db u.db 3
+ends 0 '' verify --db u.db
+has ../out '4 batches, 9 movements, 1 of them refused: the balance and the refusals agree\n' "a stock with undos agrees"
+cp u.db x.db
+sql x.db 'update batch set undoes = null where batch = 3'
+ends 1 'x.db: batch 3: not as it was entered: the scale, its row, or a row of its movements was changed' verify --db x.db
+
+# An undo whose total would be too large names the movement in the file of its batch
+printf 'article,change\nbolt,5\n' > in.csv
+printf 'article,change\nbolt,-2\nbolt,-3\n' > out.csv
+printf 'article,change\nnut,9223372036854775804\n' > full.csv
+ends 0 '' enter --quiet --db full.db in.csv out.csv full.csv
+ends 5 'hashbag_ledger: out.csv:3: total past 9223372036854775807' undo --quiet --db full.db 2
+ends 0 '' balance --db full.db
+has ../out 'article,number\nnut,9223372036854775804\n' "the balance after an undo that is too large"
+
+# A row that another program changed is named
+# changed TEXT WHAT: after this change verify ends with status 1 and says this
+changed() {
+  cp v.db w.db
+  rm -f w.db-wal
+  [ -z "$(sql w.db "$1")" ] || fail "a change returns rows: $1"
+  ends 1 "w.db: $2" verify --db w.db
+}
+changed "update article set number = number + 1 where article = 'nut'" '"nut": 3 kept, 2 by the movements'
+changed "delete from article where article = 'bolt'" '"bolt": 0 kept, 2 by the movements'
+changed "insert into article values ('axe', 1)" '"axe": 1 kept, 0 by the movements'
+changed "insert into article values ('zinc', 1)" '"zinc": 1 kept, 0 by the movements'
+changed "delete from article where article = 'washer'" '"washer": 0 kept, 4 by the movements'
+changed "update refusal set there = 1" 'movement 4: another refusal than by the movements'
+changed "update movement set change = 3 where movement = 2" '"nut": 2 kept, 3 by the movements'
+changed "delete from refusal" 'batch 2: other numbers of movements than it has'
+changed "delete from movement where movement = 2" 'batch 1: other numbers of movements than it has'
+changed "update movement set batch = 7 where movement = 5" 'batch 2: other numbers of movements than it has'
+changed "insert into movement values (9, 3, 1, 'bolt', 1)" 'batch 3: other numbers of movements than it has'
+
+# What no count shows is in the seal of its batch
+# unsealed BATCH TEXT: after this change verify says that this batch isn't as it was entered
+unsealed() {
+  changed "$2" "batch $1: not as it was entered: the scale, its row, or a row of its movements was changed"
+}
+unsealed 1 "update meta set value = 2 where name = 'scale'"
+unsealed 1 "update batch set file = 'c.csv' where batch = 1"
+unsealed 2 "update batch set sha256 = (select sha256 from batch where batch = 1) where batch = 2"
+unsealed 1 "update batch set kind = 'start' where batch = 1"
+unsealed 2 "update batch set undoes = 1 where batch = 2"
+unsealed 1 "update batch set time = '2026-01-02 03:04:05' where batch = 1"
+unsealed 2 "update movement set line = 4 where movement = 4"
+unsealed 2 "update movement set change = -8 where movement = 4"
+unsealed 2 "update movement set article = 'nut' where movement = 4"
+unsealed 1 "update batch set seal = (select seal from batch where batch = 2) where batch = 1"
+cp v.db w.db
+sql w.db 'update movement set line = -1 where movement = 2'
+ends 2 "$p: w.db: a number below 0" history --db w.db nut
+ends 2 "$p: w.db: a number below 0" undo --quiet --db w.db 1
+ends 0 '' history --db w.db washer
+
+# Decimals: the scale is kept, and another is rejected
+printf 'article;change\nsalt;1,5\nsalt;-0,25\n' > kg.csv
+ends 0 '' enter --quiet --db kg.db --scale 2 --mark , --delimiter ';' kg.csv
+ends 0 '' balance --db kg.db --mark , --delimiter ';'
+has ../out 'article;number\nsalt;1,25\n' "a balance with decimals"
+is kg.db "select value from meta where name = 'scale'" '2' "the scale in the file"
+printf 'article,change\nsalt,-2.00\nsalt,0.05\n' > point.csv
+ends 1 'point.csv:2: refused: out 2.00 of "salt", 1.25 there' enter --quiet --db kg.db point.csv
+ends 0 '' history --db kg.db salt
+cut -d , -f 5,7 ../out > ../plain
+has ../plain 'change,number\n1.50,1.50\n-0.25,1.25\n-2.00,1.25\n0.05,1.30\n' "a history with decimals"
+ends 2 "$p: kg.db: numbers have 2 decimals, not 3" enter --quiet --db kg.db --scale 3 more.csv
+ends 2 "$p: kg.db: numbers have 2 decimals, not 1" enter --quiet --db kg.db --scale 1 more.csv
+printf 'article,change\ngold,1.000000001\n' > gold.csv
+ends 0 '' enter --quiet --db gold.db --scale 9 gold.csv
+ends 0 '' balance --db gold.db
+has ../out 'article,number\ngold,1.000000001\n' "a balance with nine decimals"
+printf 'article,change\nsalt,92233720368547758.07\n' > heavy.csv
+ends 5 "$p: heavy.csv:2: total past 92233720368547758.07" enter --quiet --db kg.db heavy.csv
+cp kg.db w.db
+sql w.db "update movement set change = 9223372036854775807 where movement in (1, 4)"
+ends 1 'w.db: movement 4: total past 92233720368547758.07' verify --db w.db
+
+# A new database with the balance as its beginning
+ends 0 '' balance --db s.db
+cp ../out before.csv
+ends 0 '' close --db s.db --into next.db
+ends 0 '' balance --db next.db
+cmp -s ../out before.csv || fail "the balance of a new database"
+is next.db 'select batch, file, kind, movements from batch' '1|s.db|start|3' "the batch at the beginning of a new database"
+ends 0 '' verify --db next.db
+said='has a stock already, so it takes no other at the beginning'
+ends 2 "$p: next.db: $said" close --db s.db --into next.db
+ends 2 "$p: s.db: $said" enter --quiet --db s.db --from stock.csv
+
+# Files that have no stock
+ends 4 "$p: none.db: no such file" balance --db none.db
+[ ! -e none.db ] || fail "a database is made by balance"
+: > empty.db
+ends 2 "$p: empty.db: no stock in it yet" balance --db empty.db
+[ ! -s empty.db ] || fail "an empty file is written by balance"
+ends 0 '' enter --quiet --db empty.db more.csv
+ends 0 '' verify --db empty.db
+mkdir folder.db
+ends 4 "$p: folder.db: unable to open database file" balance --db folder.db
+ends 4 "$p: no/s.db: unable to open database file" enter --quiet --db no/s.db more.csv
+sql other.db 'create table t (a)'
+sum=$(sha256sum < other.db)
+ends 2 "$p: other.db: a database of another program" enter --quiet --db other.db more.csv
+sql meta.db 'create table meta (name text, value integer)'
+ends 2 "$p: meta.db: a database of another program" enter --quiet --db meta.db more.csv
+same other.db "$sum" "a database of another program is written"
+cp v.db later.db
+sql later.db "update meta set value = 3 where name = 'hashbag_ledger'"
+sum=$(sha256sum < later.db)
+ends 2 "$p: later.db: a stock of version 3, which is later than 2" enter --quiet --db later.db more.csv
+same later.db "$sum" "a stock of a later version is written"
+
+# A stock of the first version, whose batches have no seals, goes on as it was
+# as_first DATABASE: gives its tables the form of the first version
+as_first() {
+  sql "$1" 'create table old (batch INTEGER PRIMARY KEY, file TEXT NOT NULL, sha256 TEXT NOT NULL, kind TEXT NOT NULL, undoes INTEGER, time TEXT NOT NULL, movements INTEGER NOT NULL, refused INTEGER NOT NULL) STRICT'
+  sql "$1" 'insert into old select batch, file, sha256, kind, undoes, time, movements, refused from batch'
+  sql "$1" 'drop table batch'
+  sql "$1" 'alter table old rename to batch'
+  sql "$1" "update meta set value = 1 where name = 'hashbag_ledger'"
+}
+cp v.db first.db
+as_first first.db
+ends 0 '' verify --db first.db
+has ../out '2 batches, 5 movements, 1 of them refused: the balance and the refusals agree; its batches have no seals\n' "a stock of the first version agrees"
+ends 0 '' enter --quiet --db first.db more.csv
+ends 0 '' undo --quiet --db first.db 2
+ends 0 '' verify --db first.db
+is first.db 'select batch, kind, undoes, movements from batch where batch > 2' '3|moves||1\n4|undo|2|2' "batches of a stock of the first version"
+ends 0 '' close --db first.db --into sealed.db
+ends 0 '' verify --db sealed.db
+has ../out '1 batch, 2 movements, 0 of them refused: the balance and the refusals agree\n' "a new stock has seals"
+cp v.db nocase.db
+sql nocase.db 'drop table article'
+sql nocase.db 'create table article (article text primary key not null collate nocase, number integer not null)'
+sql nocase.db "insert into article values ('axe', 1), ('Bolt', 2)"
+ends 2 "$p: nocase.db: articles that don't rise in the table article" balance --db nocase.db
+cp v.db early.db
+sql early.db "update meta set value = 0 where name = 'hashbag_ledger'"
+ends 2 "$p: early.db: no version from 1 on in the table meta" balance --db early.db
+sql early.db "update meta set value = 1 where name = 'hashbag_ledger'"
+ends 2 "$p: early.db: another version in the table meta than its tables have" balance --db early.db
+for i in $(seq 1000); do echo "no database, line $i"; done > text.db
+head -c 9000 v.db > cut.db
+for name in text cut; do
+  sum=$(sha256sum < $name.db)
+  "$program" enter --quiet --db $name.db more.csv > ../out 2> ../err
+  [ $? = 2 ] || { cat ../err; fail "not status 2: $name.db"; }
+  grep -q "^$p: $name.db: " ../err || { cat ../err; fail "no message on $name.db"; }
+  same $name.db "$sum" "$name.db is written"
+done
+
+# A file that is in use, and one that may only be read. A library that is loaded before the C library's writes how many microseconds each
+# pause is to take, and doesn't wait.
+cat > ../pauses.c << 'END'
+#include <stdio.h>
+#include <time.h>
+int nanosleep(const struct timespec *pause, struct timespec *rest) {
+  (void)rest;
+  return dprintf(9, "%ld\n", pause->tv_sec * 1000000L + pause->tv_nsec / 1000) < 0 ? -1 : 0;
+}
+END
+cc -shared -fPIC -o ../pauses.so ../pauses.c || fail "no C compiler"
+python3 - s.db ../held ../go << 'END' &
+import os, sqlite3, sys, time
+connection = sqlite3.connect(sys.argv[1], isolation_level=None)
+connection.execute("pragma locking_mode = exclusive")
+connection.execute("begin exclusive")
+open(sys.argv[2], "w").close()
+while not os.path.exists(sys.argv[3]):
+    time.sleep(0.05)
+connection.close()
+END
+while [ ! -e ../held ]; do sleep 0.05; done
+ends 7 "$p: s.db: another process has it open" balance --db s.db --wait 0
+ends 7 "$p: s.db: another process has it open" enter --quiet --db s.db --wait 1 more.csv
+LD_PRELOAD=$PWD/../pauses.so "$program" balance --db s.db --wait 3 > ../out 2> ../err 9> ../pauses
+[ $? = 7 ] || { cat ../err; fail "a file that stays in use"; }
+[ "$(awk '{ all += $1 } END { print all }' ../pauses)" = 3000000 ] || fail "not 3 seconds of pauses: $(sort ../pauses | uniq -c)"
+(sleep 1; : > ../go) &
+ends 0 '' balance --db s.db --wait 30 bolt
+has ../out 'article,number\nbolt,5\n' "the balance after a wait"
+wait
+chmod 755 .. .
+cp v.db read.db
+chmod 444 read.db
+if [ "$(id -u)" != 0 ]; then
+  ends 4 "$p: read.db: unable to open database file" balance --db read.db
+elif command -v setpriv > /dev/null; then
+  cp "$program" ../ledger && chmod 755 ../ledger
+  setpriv --reuid 65534 --regid 65534 --clear-groups ../ledger balance --db read.db > ../out 2> ../err
+  [ $? = 4 ] || fail "a file that may only be read"
+  has ../err "$p: read.db: unable to open database file\n" "the message on a file that may only be read"
+fi
+
+# Two processes at once: both files are entered
+for i in 1 2 3 4 5 6 7 8 9 10; do
+  printf 'article,change\nx%d,1\nx,1\n' "$i" > left.csv
+  printf 'article,change\nx,1\ny%d,1\n' "$i" > right.csv
+  "$program" enter --quiet --db both.db --wait 60 left.csv &
+  one=$!
+  "$program" enter --quiet --db both.db --wait 60 right.csv &
+  two=$!
+  wait $one || fail "the first of two processes"
+  wait $two || fail "the second of two processes"
+done
+ends 0 '' balance --db both.db x x10 y10
+has ../out 'article,number\nx,20\nx10,1\ny10,1\n' "the balance after two processes at a time"
+ends 0 '' verify --db both.db
+has ../out '20 batches, 40 movements, 0 of them refused: the balance and the refusals agree\n' "two processes at a time"
+
+# A file that may not grow: the state is the one before
+for i in $(seq 3000); do echo "article $i,1"; done > ../rows
+(echo article,change; cat ../rows) > long.csv
+(
+  trap '' XFSZ
+  ulimit -f 64
+  "$program" enter --quiet --db s.db long.csv > ../out 2> ../err
+)
+[ $? = 4 ] || { cat ../err; fail "a file that may not grow"; }
+ends 0 '' verify --db s.db
+ends 0 '' balance --db s.db
+cmp -s ../out before.csv || fail "the balance after a failed write"
+ends 0 '' enter --quiet --db s.db long.csv
+is s.db 'select count(*), sum(number) from article' '3003|3109' "the same file once it may grow"
+
+# Without a subcommand a file has any name, and all is as without a database
+cp a.csv enter
+ends 0 '' ./enter
+has ../out 'article,number\nbolt,5\nnut,2\n' "a file that has the name of a subcommand"
+
+# Arguments
+for words in "enter a.csv" "balance" "history --db s.db" "undo --quiet --db s.db" "undo --quiet --db s.db x" "close --db s.db" "verify --db" "balance --db s.db --wrong" \
+  "enter --quiet --db s.db --wait x" "enter --quiet --db s.db --columns a" "enter --quiet --db s.db --start-columns a,b,c" "enter --quiet --db s.db --scale 10"; do
+  # shellcheck disable=SC2086
+  "$program" $words > ../out 2> ../err < /dev/null
+  [ $? = 2 ] && [ ! -s ../out ] && [ -s ../err ] || { cat ../err; fail "bad arguments: $words"; }
+done
+for job in enter balance history batches undo verify close; do
+  ends 0 "" $job --help
+  grep -q -e --db ../out || fail "no --db in the help of $job"
+done
+ends 0 "" --help
+grep -q 'enter --db' ../out || fail "no subcommand in the help"
+
+echo "stock: ok"

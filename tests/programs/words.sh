@@ -1,0 +1,306 @@
+#!/usr/bin/env bash
+# bash tests/programs/words.sh [PROGRAM]: the program `hashbag_words` as mapper, combiner and reducer, and how it ends. The program is proved and
+# compiled first, unless it is named. The last line is 'words: ok' or says what is wrong.
+. "$(dirname "$0")/lib.sh"
+begin hashbag_words "$@"
+
+# is FILE FILE WHAT: both files are the same
+is() {
+  cmp -s "$1" "$2" || { diff "$1" "$2" | head -n 5; fail "$3"; }
+}
+
+# ends STATUS TEXT WORD..: the program ends with this status on these words, and says this on standard error
+ends() {
+  local status=$1 text=$2
+  shift 2
+  "$program" "$@" > out 2> err < /dev/null
+  local found=$?
+  [ $found = "$status" ] || fail "status $found, not $status: $*"
+  [ "$(cat err)" = "$text" ] || { cat err; fail "not '$text': $*"; }
+}
+
+# shows FILE WHAT WORD..: the program ends with status 0 on these words, and writes what this file has
+shows() {
+  local wanted=$1 what=$2
+  shift 2
+  "$program" "$@" > found || fail "status $?: $what"
+  is found "$wanted" "$what"
+}
+
+# 60,000 words of 1,000 kinds in 10,000 lines, and their counts by other programs
+awk 'BEGIN { for (i = 0; i < 10000; i++) { for (j = 0; j < 6; j++) printf "w%d ", (i * i + 7 * j) % 1000; print "" } }' > text
+tr -s ' ' '\n' < text | grep . | sort | uniq -c | awk '{ print $2 "\t" $1 }' | sort > wanted
+
+"$program" text > whole && is whole wanted "the counts of a text"
+mkdir parts counts && split -n l/4 text parts/
+for run in first second; do
+  ls parts | xargs -P 4 -I{} "$program" parts/{} -o counts/{}.tsv && "$program" merge counts/*.tsv > merged && is merged wanted "parts, merged, $run run"
+done
+cat counts/*.tsv | "$program" merge > merged && is merged wanted "counts that were concatenated"
+ls -d counts/* > list && "$program" merge --files-from list > merged && is merged wanted "files from a list"
+ls -d parts/* | "$program" --files-from - > found && is found wanted "files of text from a list on standard input"
+find parts -type f -print0 | "$program" --null --files-from - > found && is found wanted "files of text from names that end in NUL bytes"
+
+# mapper, sort by key, combiner on each half, sort, reducer
+for part in parts/*; do "$program" --unsorted "$part"; done | sort -k1,1 > mapped
+split -n l/2 mapped half. && for half in half.??; do "$program" merge --unsorted "$half"; done | sort -k1,1 | "$program" merge > reduced
+is reduced wanted "mapper, sort, combiner, sort, reducer"
+"$program" --to json text | "$program" merge --from json > merged && is merged wanted "a tree, read again"
+"$program" --to uniq --by lines parts/aa > found && sort parts/aa | uniq -c > sorted && is found sorted "the form of uniq"
+"$program" merge --from uniq found sorted > merged && sort parts/aa | uniq -c | awk '{ n = 2 * $1; sub(/^ *[0-9]* /, ""); print $0 "\t" n }' > doubled
+is merged doubled "what uniq -c writes, read"
+
+# files of counts that are longer than what is read between two reports: 65,536 lines
+seq 100000 299999 | awk '{ print $1 "\t" 2 }' > long.tsv
+"$program" merge long.tsv long.tsv | awk '{ s += $2 } END { print NR, s }' > found && echo 200000 800000 > sum && is found sum "a long file of counts"
+seq 100000 299999 | "$program" --by lines | awk '{ s += $2 } END { print NR, s }' > found && echo 200000 200000 > sum && is found sum "a long text"
+"$program" --to json text > text.json && "$program" merge --from json text.json text.json > merged && awk '{ print $1 "\t" 2 * $2 }' wanted > doubled
+is merged doubled "two trees"
+
+# rows are in the order of the tokens; join wants that of the lines
+printf 'a\tb\na b\na b\n' > tabs && "$program" --by lines tabs > found && printf 'a\\tb\t1\na b\t2\n' > shown && is found shown "tokens with a tab"
+sort -t "$(printf '\t')" -k1,1 found > keyed && join -t "$(printf '\t')" keyed keyed > joined && printf 'a b\t2\t2\na\\tb\t1\t1\n' > shown
+is joined shown "rows, sorted and joined"
+"$program" less whole whole > found && is found /dev/null "counts less the same"
+"$program" common whole merged > found && is found wanted "common counts"
+
+# outputs: whole or not at all, and no input
+"$program" -o none/out text > out 2> err
+[ $? = 4 ] || fail "no status 4 without the folder of an output"
+grep -q '^hashbag_words: none/out: ' err || fail "no name of the output"
+printf 'old\n' > old && cp old kept && printf 'a\t1\nb\n' > bad && ends 2 "hashbag_words: bad:2: no tab" merge bad -o kept
+is kept old "an output after a bad line"
+for how in '' "trap '' XFSZ; "; do
+  if { (eval "$how ulimit -c 0 -f 1; exec \"\$program\" text -o kept") > out 2> err; } 2> kills; then fail "an output on a full disk"; fi
+  is kept old "an output on a full disk"
+done
+[ "$(echo kept.*)" = kept.tmp0 ] || fail "what a signal and a full disk leave"
+rm kept.tmp0
+"$program" text -o kept && is kept wanted "an output over another"
+ln -s kept link && chmod 640 kept && "$program" merge whole -o link && is kept wanted "an output behind a link" && [ -h link ] || fail "the link"
+[ "$(stat -c %a kept)" = 640 ] || fail "the permissions of an output"
+"$program" text -o /dev/stdout > found && is found wanted "an output that is no file of its own"
+cp whole in.tsv && ln in.tsv hard.tsv
+for name in in.tsv ./in.tsv "$PWD/in.tsv" hard.tsv; do
+  ends 2 "hashbag_words: $name: the output is one of the inputs" merge whole in.tsv -o "$name"
+done
+"$program" merge -o in.tsv < in.tsv 2> err && fail "an output that is standard input"
+is in.tsv wanted "an input that is the output, too"
+[ "$(echo ./*.tmp*)" = './*.tmp*' ] || fail "temporary files are left"
+
+ends 2 "hashbag_words: standard input is named twice" less - -
+ends 2 "hashbag_words: standard input is named twice" common - -
+ends 2 "hashbag_words: standard input is named twice" merge - whole -
+printf -- '-\nwhole\n-\n' > list && ends 2 "hashbag_words: standard input is named twice" merge --files-from list
+printf 'whole\n\nwhole\r\n' > list && "$program" merge --files-from list > found && is found doubled "a list with an empty line"
+
+printf 'a\t1\nb 2\n' > bad.tsv
+printf 'a \377\n' > bad.txt
+printf 'a\t18446744073709551615\na\t1\n' > many.tsv
+ends 2 "hashbag_words: bad.tsv:2: no tab" merge bad.tsv
+ends 0 "hashbag_words: bad.tsv: 1 bad line skipped" merge --skip-bad bad.tsv
+ends 2 "hashbag_words: bad.txt:1: not UTF-8" bad.txt
+
+# What is no text in UTF-8 by its first bytes is named, with what makes it that; and NUL bytes are never silent
+printf 'a\n' | gzip > packed.gz
+ends 2 "hashbag_words: packed.gz: gzip; \`zcat\` makes it text" packed.gz
+printf '\377\376a\0\n\0' > wide.txt
+printf '\376\377\0a\0\n' > big.txt
+for name in wide.txt big.txt; do
+  ends 2 "hashbag_words: $name: UTF-16; \`iconv -f UTF-16 -t UTF-8\` makes it UTF-8" $name
+done
+ends 0 "$(printf 'hashbag_words: wide.txt: it has NUL bytes; if it is UTF-16, `iconv -f UTF-16LE -t UTF-8`\nhashbag_words: wide.txt: bytes replaced in 1 line')" --lossy wide.txt
+printf 'a\0 a\0\n' > nul.txt
+ends 0 "hashbag_words: nul.txt: it has NUL bytes; if it is UTF-16, \`iconv -f UTF-16LE -t UTF-8\`" nul.txt
+ends 5 "hashbag_words: many.tsv:2: total past 2^64-1" merge many.tsv
+printf 'dog\t3\ncat\t1' > cut.tsv
+ends 2 "hashbag_words: cut.tsv:2: no line feed" merge cut.tsv
+ends 0 "hashbag_words: cut.tsv: 1 bad line skipped" merge --skip-bad cut.tsv
+printf '\357\273\277cat\t1\ncat\t2\n' > marked.tsv && "$program" merge marked.tsv > found && printf 'cat\t3\n' > shown && is found shown "a byte order mark"
+printf '[["a",18446744073709551615],["b",1]]' > many.json
+printf '{"limit":5,"pairs":[["a",9]]}' > limited.json
+ends 5 "hashbag_words: limited.json: total past its limit, 5" merge --from json limited.json
+printf '{"limit":18446744073709551615,"pairs":[["a",18446744073709551615],["b",1]]}' > most.json
+ends 5 "hashbag_words: most.json: total past 2^64-1" merge --from json most.json
+printf '["a\377"]' > bad.json
+ends 5 "hashbag_words: many.json: total past 2^64-1" merge --from json many.json
+ends 2 "hashbag_words: an argument is not UTF-8" $'\377'
+"$program" merge --from json bad.json > out 2> err
+[ $? = 2 ] || fail "no status 2 for JSON that isn't UTF-8"
+grep -q '^hashbag_words: bad.json: ' err || fail "no name of the JSON"
+awk '$2 >= 100' wanted > some && [ -s some ] && "$program" --least 100 text > found && is found some "counts from the least on"
+"$program" --pattern '[0-9]+' text > found && sed 's/^w//' wanted | sort > numbers && is found numbers "matches of a pattern"
+ends 0 "" count
+ends 1 "" count --fail-empty
+"$program" no_such_file > out 2> err
+[ $? = 4 ] || fail "no status 4 without a file"
+grep -q '^hashbag_words: no_such_file: ' err || fail "no name of the file"
+"$program" --top x text > out 2> err
+[ $? = 2 ] || fail "no status 2 at a bad argument"
+"$program" --help > out || fail "no help"
+"$program" --help > /dev/full 2> err
+[ $? = 4 ] && [ ! -s err ] || fail "a help that can't be written"
+for option in --version -V; do
+  "$program" $option > out && grep -Eqx 'hashbag_words 0\.1\.13-[0-9]+ \(Unicode [0-9.]+\)' out || fail "no version"
+done
+
+# counts that don't fit in the bound: some hundred runs, and some thousand, which are merged in passes
+seq 1 40000 | awk '{ print "W" ($1 * 7919) % 30011, "w" $1 % 97, "\xc3\x89" $1 % 3 }' > big && printf 'a \357\273\277b\n' >> big && mkdir tmp
+sort big | uniq -c > sorted && shows sorted "lines in a bound, and those of sort" --by lines --to uniq --memory 1K --tmp tmp big
+shows sorted "more than one part of the output" --by lines --to uniq big
+"$program" --by lines big -o shown && "$program" merge --to uniq shown -o found && is found sorted "outputs of more than one part"
+"$program" big > big.tsv || fail "no status 0"
+# each of these bytes is six of JSON, and one part of the output ends with the whole token
+(head -c 70000 /dev/zero | tr '\0' '\1' && echo && echo a) > wide && "$program" --by lines --to json wide > found
+python3 -c 'import json; print(json.dumps([["\x01" * 70000, 1], ["a", 1]], separators=(",", ":")))' > shown && is found shown "a wide token as JSON"
+for how in "" "--top 7" "--least 400" "--to json" "--by unicode --fold" "--pattern [0-9]+ --top 50" "--least 50000"; do
+  "$program" big $how > shown || fail "no status 0: $how"
+  for size in 1K 100K 1G; do shows shown "a bound of $size: $how" big $how --memory $size --tmp tmp; done
+done
+for how in "" "--top 3 --to uniq"; do
+  "$program" merge big.tsv whole $how > shown || fail "no status 0: $how"
+  for size in 1K 100K; do shows shown "merged in a bound of $size: $how" merge big.tsv whole $how --memory $size --tmp tmp; done
+done
+shows doubled "two trees in a bound" merge --from json --memory 1K text.json text.json
+TMPDIR=tmp "$program" big --unsorted --memory 20k | sort > found && sort big.tsv > shown && is found shown "a bound, in no order"
+"$program" big --memory 20k -o bounded && is bounded big.tsv "a bound, and an output"
+ends 1 "" --memory 1K --fail-empty --least 50000 big
+printf 'a\t18446744073709551614\nb\t1\nc\t1\n' > most.tsv && ends 5 "hashbag_words: most.tsv:3: total past 2^64-1" merge --memory 1 most.tsv
+(seq 20 | awk '{ print "a" $1 "\t1" }' && printf 'a\t18446744073709551595\nb\t1\n') > most.tsv
+ends 5 "hashbag_words: most.tsv:22: total past 2^64-1" merge --memory 1 most.tsv
+(seq 100 && printf 'a \377\n') > bad.txt && cp old kept && ends 2 "hashbag_words: bad.txt:101: not UTF-8" --memory 1 bad.txt -o kept && is kept old "an output after a bad line and some runs"
+for size in x 1.5M -1 K 99999999999999999999 99999999T 18014398509481984K 17592186044416M 17179869184G 16777216T; do ends 2 "hashbag_words: --memory: $size: no size" "--memory=$size" big; done
+# the greatest number of each unit: a unit is 2^10, 2^20, 2^30 or 2^40, and a size less than 2^64
+for size in 18446744073709551615 18014398509481983k 17592186044415m 17179869183g 16777215t; do ends 0 "" "--memory=$size" --tmp none bad.tsv; done
+"$program" --memory 1K --tmp none big > out 2> err
+[ $? = 4 ] && [ ! -s out ] && grep -q '^hashbag_words: none: ' err || fail "no status 4 without the folder of temporary files"
+# eight words take 1,848 bytes, however often they come: 16 slots, and 32 at the next growth, of 33 bytes each, and 8 texts of 32 and 1. No
+# run is made of less than seven eighths of a bound
+awk 'BEGIN { for (i = 0; i < 20000; i++) print "a b c d e f g h" }' > few && printf '%s\t20000\n' a b c d e f g h > shown
+shows shown "few words in a bound" --memory 2200 --tmp none few
+"$program" --memory 2048 --tmp none few > out 2> err
+[ $? = 4 ] && grep -q '^hashbag_words: none: ' err || fail "no run of few words"
+# 2,000 words count as 331,812 bytes at most: at the 769th, three times 2,048 new slots and 1,024 that wait, of 33 bytes each, since there is
+# room for few more, and 32 bytes and a text of 4 for each word. With 4,096 slots there is room for many more, and they count once
+seq 1000 2999 > many_more && sed 's/$/\t1/' many_more > shown && shows shown "words in a bound, with room for more" --memory 400000 --tmp none many_more
+for how in "--memory 1K" "--memory 200K --to json"; do
+  (trap '' XFSZ; ulimit -f 8; exec "$program" $how --tmp tmp big -o kept) > out 2> err
+  [ $? = 4 ] && grep -Eq '^hashbag_words: (tmp|kept): ' err || fail "no status 4 on a disk that is full of runs"
+  is kept old "an output on a disk that is full of runs"
+done
+mkfifo pipe && { "$program" --memory 1K --tmp tmp < pipe > out & } && exec 7> pipe && seq 5000 >&7
+# it has made runs, and waits for more input
+for i in $(seq 300); do
+  ls -l /proc/$!/fd | grep -q 'tmp/hashbag.*(deleted)' && [ "$(cut -d ' ' -f 3 /proc/$!/stat)" = S ] && waits=$((${waits:-0} + 1)) || waits=0
+  [ "$waits" -lt 5 ] || break
+  sleep 0.1
+done
+[ "$waits" = 5 ] || fail "no run"
+# of 312 runs, each of 16 lines, 8 are left of the first kind, 3 of the second and 1 of the third
+[ "$(ls -l /proc/$!/fd | grep -c 'tmp/hashbag.*(deleted)')" = 12 ] || fail "the runs that are open"
+kill -TERM $! && wait $!
+[ $? = 143 ] && exec 7>&- || fail "the status after a signal"
+[ "$(ls -A tmp)$(echo ./*.tmp*)" = './*.tmp*' ] || fail "temporary files of runs are left"
+
+# files whose rows rise
+shows wanted "sorted files, merged" merge --sorted counts/*.tsv
+seq 100000 299999 | awk '{ print $1 "\t" 4 }' > shown && shows shown "sorted files of many blocks, whose lines go across them" merge --sorted long.tsv long.tsv
+mkdir many && split -n l/70 text many/ && for part in many/*; do "$program" "$part" -o "$part.tsv" && rm "$part"; done
+for how in "" "--top 9" "--least 100" "--to json" "--unsorted"; do
+  "$program" merge $how many/* | sort > shown && "$program" merge --sorted $how many/* | sort > found && is found shown "70 sorted files, merged: $how"
+done
+ls -d many/* > list && shows wanted "sorted files from a list" merge --sorted --files-from list
+"$program" merge --sorted counts/aa.tsv - counts/ac.tsv counts/ad.tsv < counts/ab.tsv > found && is found wanted "sorted files and standard input"
+sort parts/aa | uniq -c > lines && shows lines "the form of uniq, sorted" merge --sorted --from uniq --to uniq lines
+printf 'b\t1\na\t2\nc\t3\n' > falls && ends 2 "hashbag_words: falls:2: not in order" merge --sorted whole falls -o kept && is kept old "an output after a row that falls"
+printf 'b\t1\nb\t2\n' > falls && ends 2 "hashbag_words: falls:2: not in order" merge --sorted falls && [ ! -s out ] || fail "an output of a row that falls"
+ends 0 "hashbag_words: falls: 1 bad line skipped" merge --sorted --skip-bad falls && printf 'b\t1\n' > shown && is out shown "a row that falls, skipped"
+printf 'a\t1\nb 2\nc\t3\n' > mid && printf 'a\t1\nc\t3\n' > shown
+ends 0 "hashbag_words: mid: 1 bad line skipped" merge --sorted --skip-bad mid && is out shown "the rows behind a bad line"
+printf 'b 2\na\t1\n\nc\t3\n' > mid && ends 0 "hashbag_words: mid: 2 bad lines skipped" merge --sorted --skip-bad mid && is out shown "the rows behind two bad lines"
+printf '      1 a\nb\n      3 c\n' > mid && ends 0 "hashbag_words: mid: 1 bad line skipped" merge --sorted --skip-bad --from uniq mid && is out shown "the rows of uniq behind a bad line"
+printf '      1 a\n      0 b\n      3 c\n' > mid && for how in "" --sorted; do ends 0 "" merge $how --from uniq mid && is out shown "a row of uniq that counts nothing: $how"; done
+printf 'a\t1\nb' > cut && ends 2 "hashbag_words: cut:2: no line feed" merge --sorted cut
+printf 'a\t1\nb\t18446744073709551615\n' > past && ends 5 "hashbag_words: past:2: total past 2^64-1" merge --sorted past
+ends 2 "hashbag_words: --sorted: JSON has no lines" merge --sorted --from json text.json
+ends 1 "" merge --sorted --fail-empty /dev/null
+"$program" merge --sorted --memory 1K whole > out 2> err
+[ $? = 2 ] || fail "no status 2 for a bound of sorted files"
+# a failed write of what is merged names where it is written
+(trap '' XFSZ; ulimit -f 8; exec "$program" merge --sorted --tmp tmp big.tsv -o kept) > out 2> err
+[ $? = 4 ] && grep -q '^hashbag_words: tmp: ' err && is kept old "an output on a full disk, of sorted files" || fail "no name of a full disk"
+# the most common tokens of up to 16 files are merged at once, and those of more files through runs
+mkdir split && split -n l/17 whole split/ && sixteen=$(ls -d split/* | head -n 16)
+cat $sixteen | sort -t "$(printf '\t')" -k2,2nr -k1,1 | head -n 3 > shown && shows shown "16 sorted files, without runs" merge --sorted --top 3 --tmp none $sixteen
+"$program" merge --sorted --top 3 --tmp none split/* > out 2> err
+[ $? = 4 ] && grep -q '^hashbag_words: none: ' err || fail "no run of 16 sorted files"
+"$program" merge --sorted whole no_such_file > out 2> err
+[ $? = 4 ] && [ ! -s out ] && grep -q '^hashbag_words: no_such_file: ' err || fail "no name of a sorted file"
+
+# bytes that aren't UTF-8, replaced as Python replaces them
+python3 - << 'END' || fail "no lines of bytes"
+import collections, random
+random.seed(7)
+some = [b"a", b"\x00", b"\x7f", b"\x80", b"\xa9", b"\xc0", b"\xc3", b"\xe2\x82", b"\xe2\x82\xac", b"\xed\xa0", b"\xf0\x9f\x98", b"\xf0\x9f\x98\x80", b"\xf4\x90", b"\xff"]
+lines = [b"".join(random.choices(some, k=random.randint(1, 4))) for _ in range(3000)]
+open("bytes", "wb").write(b"".join(line + b"\n" for line in lines))
+counts = collections.Counter(line.decode("utf-8", "replace").encode() for line in lines)
+open("replaced", "wb").write(b"".join(b"%s\t%d\n" % row for row in sorted(counts.items())))
+open("said", "w").write("hashbag_words: bytes: it has NUL bytes; if it is UTF-16, `iconv -f UTF-16LE -t UTF-8`\n"
+    "hashbag_words: bytes: bytes replaced in %d lines\n" % sum(line.decode("utf-8", "replace").encode() != line for line in lines))
+END
+ends 0 "$(cat said)" --by lines --lossy bytes && is out replaced "bytes that are replaced"
+ends 0 "$(cat said)" --by lines --lossy --memory 1K bytes && is out replaced "bytes that are replaced, in a bound"
+ends 0 "" --lossy text && is out wanted "a text without bytes to replace"
+ends 0 "hashbag_words: bad.txt: bytes replaced in 1 line" --lossy --skip-bad bad.txt
+
+# a text is read by blocks: each end of a line, mark and character is at a border of some of them, and some lines are longer than a block
+python3 - << 'END' || fail "no text of many blocks"
+import collections, random
+random.seed(9)
+some = ["", "\r", "\ufeff", "\ufeffa", "\u20ac", "a\rb", "\0", "\U0001f600 c", "d" * 70000]
+lines = random.choices(some, [9] * 8 + [0.01], k=500000) + ["last\r"]
+open("blocks", "w", newline="").write("".join(line + random.choice(["\n", "\r\n"]) for line in lines[:-1]) + lines[-1])
+text = open("blocks", newline="").read().split("\n")
+found = collections.Counter((line[:-1] if line.endswith("\r") and i < len(text) - 1 else line).removeprefix("\ufeff") for i, line in enumerate(text))
+rows = sorted((line.replace("\r", "\\r").encode(), n, line.encode()) for line, n in found.items())
+open("shown", "wb").writelines(b"%s\t%d\n" % (row[0], row[1]) for row in sorted(rows, key=lambda row: row[2]))
+END
+shows shown "lines across blocks" --by lines blocks && cat blocks | "$program" --by lines > found && is found shown "lines across the reads of a pipe"
+
+# tokens of N characters and more, in each job
+printf 'ä äb\nabc äöü é\n' > lengths
+printf 'äb\t1\nabc\t1\näöü\t1\n' | LC_ALL=C sort > two
+shows two "tokens of two characters" --min-length 2 lengths
+printf 'abc\t1\näöü\t1\n' | LC_ALL=C sort > three
+for how in "" "--memory 1K"; do shows three "tokens of three characters $how" $how --min-length 3 lengths; done
+"$program" lengths > lengths.tsv && for how in "" "--sorted"; do shows three "merged: tokens of three characters $how" merge $how --min-length 3 lengths.tsv; done
+
+# shards: each token is in one of them, by FNV-1a
+python3 - << 'END' || fail "no shards"
+def shard(token, parts):
+    h = 0xcbf29ce484222325
+    for byte in token:
+        h = (h ^ byte) * 0x100000001b3 % 2**64
+    return h % parts
+rows = open("big.tsv", "rb").read().splitlines(True)
+for parts in (1, 3, 8):
+    for i in range(parts):
+        open("shard.%d.%d" % (i + 1, parts), "wb").writelines(row for row in rows if shard(row.split(b"\t")[0], parts) == i)
+END
+for shard in 1.1 1.3 2.3 3.3 1.8 5.8 8.8; do
+  [ -s shard.$shard ] || fail "an empty shard: $shard"
+  for how in "" "--memory 1K"; do shows shard.$shard "shard $shard: $how" big $how --shard "${shard/./\/}"; done
+  for how in "" "--sorted"; do shows shard.$shard "merged: shard $shard: $how" merge $how --shard "${shard/./\/}" big.tsv; done
+done
+"$program" big --top 5 --shard 2/3 > shown && shows shown "the most common of a shard, in a bound" big --top 5 --shard 2/3 --memory 1K
+sort -t "$(printf '\t')" -k2,2nr -k1,1 shard.2.3 | head -n 5 > found && is found shown "the most common of a shard"
+for shard in 0/3 4/3 1 1/ /1 a/b 1/0 -1/2 1/2/3 ' 1/3' '1/ 3' '1/3 '; do ends 2 "hashbag_words: --shard: $shard: not I/N with I from 1 to N" "--shard=$shard" big; done
+# no file is opened before all words have a meaning
+ends 2 "hashbag_words: --shard: 0/3: not I/N with I from 1 to N" --shard 0/3 -o none/out none
+ends 2 "hashbag_words: --memory: x: no size" --memory x -o none/out none
+
+# 200,000 words that have one hash under fixed keys: a state with those keys would take minutes
+seq -f 'tffjdgbfaeakkksgP{_!uf:~%08.0f' 0 199999 > flood
+timeout 20 "$program" flood > found && sed 's/$/\t1/' flood > shown && is found shown "words that flood a table under fixed keys"
+echo "words: ok"
