@@ -63,7 +63,7 @@ size_t hashbag_limit(hashbag *handle);
 /* Sets the limit to `most`, and returns 0. Nothing else changes.
  *
  * Errors:
- * `HASHBAG_BELOW_TOTAL` if `most` is below the total; `HASHBAG_EMPTY`. Nothing changes then. */
+ * `HASHBAG_BELOW_TOTAL` if `most` is below the total, `HASHBAG_EMPTY` if there is no bag. Then nothing changes. */
 uint8_t hashbag_set_limit(hashbag *handle, size_t most);
 
 /* Removes all occurrences. The limit, the keys and the memory of the bag stay. */

@@ -25,7 +25,7 @@ The bag and its errors
 Make
     new with_capacity_and_hasher default_in clone
 Insert
-    insert insert_key ToValue extend entry Entry Entry::value
+    insert set_count insert_key ToValue extend entry Entry Entry::value
 Look up
     contains Key len
 Remove

@@ -62,7 +62,7 @@ reads_in_zsh() {
   for file in "$1"/share/zsh/site-functions/_*; do zsh -n "$file" || fail "the syntax of $file"; done
 }
 
-# offers TEXT NAME WORD..: the completions for bash offer this in place of the last word
+# offers TEXT NAME WORD..: fails unless TEXT is exactly what bash's completion offers for the last word of the command line NAME WORD..
 offers() {
   local text=$1
   shift

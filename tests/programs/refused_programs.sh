@@ -298,7 +298,7 @@ on_counts() {
     prints '' merge --files-from list -o out && on_more_than_fits
 }
 
-# on_more_than_fits: counts in temporary files, and files whose rows rise
+# on_more_than_fits: counts in temporary files, and files whose rows are in ascending order
 on_more_than_fits() {
   rm -rf "$scratch/files" && mkdir "$scratch/files"
   printf 'b a\nc\nb\n' > "$scratch/files/text"

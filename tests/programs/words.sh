@@ -202,7 +202,7 @@ kill -TERM $! && wait $!
 [ $? = 143 ] && exec 7>&- || fail "the status after a signal"
 [ "$(ls -A tmp)$(echo ./*.tmp*)" = './*.tmp*' ] || fail "temporary files of runs are left"
 
-# files whose rows rise
+# files whose rows are in ascending order
 shows wanted "sorted files, merged" merge --sorted counts/*.tsv
 seq 100000 299999 | awk '{ print $1 "\t" 4 }' > shown && shows shown "sorted files of many blocks, whose lines go across them" merge --sorted long.tsv long.tsv
 mkdir many && split -n l/70 text many/ && for part in many/*; do "$program" "$part" -o "$part.tsv" && rm "$part"; done

@@ -190,7 +190,7 @@ impl<T: Value, S> HashBag<T, S> {
     ///
     /// # Errors
     ///
-    /// As of [`HashBag::try_merge`], for the total of the greater counts.
+    /// Same as [`HashBag::try_merge`], for the total of the greater counts.
     pub fn try_keep_most<S2>(&mut self, from: &HashBag<T, S2>) -> Result<(), BagError> {
         self.take_back();
         done(unsafe { sys::hashbag_keep_most(self.at(), from.at()) })
@@ -247,10 +247,10 @@ impl<T: Value, S> HashBag<T, S> {
         SetIter::new(self.lend(self.pairs()))
     }
 
-    /// Returns the `k` most common values with their counts, or all if there are fewer: counts falling.
+    /// Returns the `k` most common values with their counts, or all if there are fewer: counts in descending order.
     ///
-    /// Values that occur equally often are in the order of what the library has: numbers rising, where a negative one is above all others, or
-    /// bytes rising.
+    /// Values that occur equally often are in the order of what the library has: numbers in ascending order, where a negative one is above all others,
+    /// or bytes in ascending order.
     ///
     /// # Panics
     ///
@@ -517,7 +517,7 @@ impl<S> HashBag<u64, S> {
     ///
     /// # Errors
     ///
-    /// As of [`HashBag::try_insert_many`], with how many were inserted before: they stay in the bag.
+    /// Same as [`HashBag::try_insert_many`], with how many were inserted before: they stay in the bag.
     pub fn insert_all(&mut self, values: &[u64]) -> Result<usize, (BagError, usize)> {
         self.take_back();
         let mut inserted = 0;
@@ -532,7 +532,7 @@ impl<S> HashBag<Vec<u8>, S> {
     ///
     /// # Errors
     ///
-    /// As of [`HashBag::try_insert_many`], with how many were inserted before: they stay in the bag.
+    /// Same as [`HashBag::try_insert_many`], with how many were inserted before: they stay in the bag.
     ///
     /// ```
     /// use hashbag::HashBag;
@@ -553,7 +553,7 @@ impl<S> HashBag<Vec<u8>, S> {
     ///
     /// # Errors
     ///
-    /// As of [`HashBag::try_insert_many`], with how many were inserted before: they stay in the bag.
+    /// Same as [`HashBag::try_insert_many`], with how many were inserted before: they stay in the bag.
     pub fn insert_all<B: AsRef<[u8]>>(&mut self, values: &[B]) -> Result<usize, (BagError, usize)> {
         self.take_back();
         let bytes = values.iter().fold(Vec::new(), |mut all, value| {

@@ -22,16 +22,18 @@ IfNumbers (Some (Texts bag)) P = Unit {0}
 abbrev pub BothNumbers : Option Held → Option Held → (Bag ℕ State → Bag ℕ State → Type 0) → Type 0
 BothNumbers a b P = IfNumbers a (λ x. IfNumbers b (λ y. P x y))
 
--- the same of a bag of byte strings
+-- a handle has a bag of byte strings for which P holds
 abbrev pub HasTexts : Option Held → (Bag (List ℕ) Keys → Type 0) → Type 0
 HasTexts None P = ⊥
 HasTexts (Some (Numbers bag)) P = ⊥
 HasTexts (Some (Texts bag)) P = P bag
 
+-- if a handle has a bag of byte strings, P holds for it
 abbrev pub IfTexts : Option Held → (Bag (List ℕ) Keys → Type 0) → Type 0
 IfTexts None P = Unit {0}
 IfTexts (Some (Numbers bag)) P = Unit {0}
 IfTexts (Some (Texts bag)) P = P bag
 
+-- if both handles have bags of byte strings, P holds for these
 abbrev pub BothTexts : Option Held → Option Held → (Bag (List ℕ) Keys → Bag (List ℕ) Keys → Type 0) → Type 0
 BothTexts a b P = IfTexts a (λ x. IfTexts b (λ y. P x y))

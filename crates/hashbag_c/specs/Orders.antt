@@ -12,7 +12,7 @@ use Rattle.hashbag_c.specs.Reads.{ends_from, size_of}
 use Rattle.hashbag_c.specs.declared.state.Keys.{Keys}
 use Rattle.hashbag_c.specs.declared.state.State.{State}
 
--- the first n distinct numbers with their counts, numbers rising, are written, as many as there are or both arrays have places for
+-- the first n distinct numbers with their counts, numbers in ascending order, are written, as many as there are or both arrays have places for
 pub record HasReadSorted (bag : Bag ℕ State) (n : ℕ) (values counts : List ℕ) : Type 0 where
   pub walk : List (ℕ × ℕ)
   pub set_walk : IsSetWalkOf nat_eq bag walk
@@ -29,7 +29,7 @@ pub record HasReadMostCommon (bag : Bag ℕ State) (n : ℕ) (values counts : Li
   pub values_are : take n values ≡ map (λ e. e.0) pairs
   pub counts_are : take n counts ≡ map (λ e. e.1) pairs
 
--- the first n distinct strings, rising, are written one after another, and all if there are places for them
+-- the first n distinct strings, in ascending order, are written one after another, and all if there are places for them
 pub record HasReadSortedTexts (bag : Bag (List ℕ) Keys) (n : ℕ) (bytes ends counts : List ℕ) : Type 0 where
   pub walk : List (List ℕ × ℕ)
   pub set_walk : IsSetWalkOf bytes_eq bag walk

@@ -15,7 +15,7 @@ pub record HasRead (bag : Bag ℕ State) (n : ℕ) (values counts : List ℕ) : 
   pub values_are : take n values ≡ map (λ e. e.0) (take n walk)
   pub counts_are : take n counts ≡ map (λ e. e.1) (take n walk)
 
--- the same of an outer join of two bags
+-- the first n items of an outer join of two bags are written: as many as there are or the three arrays have places for
 pub record HasReadJoin (first second : Bag ℕ State) (n : ℕ) (values firsts seconds : List ℕ) : Type 0 where
   pub join : List (ℕ × ℕ × ℕ)
   pub outer_join : (X Y : List ℕ) → Means first X → Means second Y → IsOuterJoin nat_eq X Y join

@@ -131,7 +131,7 @@ fn set_limit(held: &mut Held, most: usize) -> u8
 ///
 /// # Errors
 ///
-/// `HASHBAG_BELOW_TOTAL` if `most` is below the total; `HASHBAG_EMPTY`. Nothing changes then.
+/// `HASHBAG_BELOW_TOTAL` if `most` is below the total, `HASHBAG_EMPTY` if there is no bag. Then nothing changes.
 #[unsafe(no_mangle)]
 pub extern "C" fn hashbag_set_limit(alloc: Global, handle: &mut Handle, most: usize) -> u8
     ensures numbers { IfNumbers handle.old.held (λ bag. result ≡ 0 → HasNumbers handle.new.held (λ after. after ≡ limited most bag)) }

@@ -26,7 +26,7 @@ fn write_listed(pairs: &[(&u64, usize)], values: &mut [u64], counts: &mut [usize
     most
 }
 
-// Reads the numbers, rising, and returns how many.
+// Reads the numbers, in ascending order, and returns how many.
 fn read_sorted(
     alloc: Global,
     bag: &HashBag<u64, State>,

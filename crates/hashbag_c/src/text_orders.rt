@@ -43,7 +43,7 @@ fn write_listed(
     most
 }
 
-// Reads the strings, rising, and returns how many.
+// Reads the strings, in ascending order, and returns how many.
 fn read_sorted(
     alloc: Global,
     bag: &HashBag<Bytes, Keys>,

@@ -230,7 +230,7 @@ fn recount(
     ensures none { n ≡ 0 → IsOk result }
     ensures err { OnErr result (bag.new ≡ bag.old) }
 {
-    // `limit` is called for its clause `within`.
+    // Does nothing at run time. It gives the proof the contract of `limit`: its clause `within`.
     let _limit = bag.limit();
     if n <= before {
         bag.remove_up_to(Name { bytes: value }, before - n);

@@ -105,7 +105,7 @@ module _ {T : Type 0} {eq : T → T → Bool} (laws : IsEquivalence eq) {cmp : T
   above_all v x [] o e less h = tt
   above_all v x (k ∷ ks) o e less h = (total.trans v x k (e ∙ less) h.0, above_all v x ks o e less h.1)
 
-  -- the first of rising pairs, and what is less than it
+  -- the first of pairs in ascending order, and what is less than it
   at_first : (e : T × ℕ) (es : List (T × ℕ)) → IsStrictlySortedBy cmp (keys_of (e ∷ es)) → tally laws e.0 (e ∷ es) ≡ e.1
   at_first e es up =
       let here : cond (eq e.0 e.0) e.1 0 ≡ e.1 = ap (λ (b : Bool). cond b e.1 0) (laws.refl e.0) in
@@ -129,7 +129,7 @@ module _ {T : Type 0} {eq : T → T → Bool} (laws : IsEquivalence eq) {cmp : T
       let at = same f.0 in
       absurd (omega arith)
 
-  -- rising pairs with the same counts are alike
+  -- pairs in ascending order with the same counts are alike
   pub alike_pairs : (es fs : List (T × ℕ)) → IsStrictlySortedBy cmp (keys_of es) → IsStrictlySortedBy cmp (keys_of fs) → AllByRecursion (λ e. 0 < e.1) es → AllByRecursion (λ e. 0 < e.1) fs
       → ((v : T) → tally laws v es ≡ tally laws v fs) → AllZip Alike es fs
   alike_pairs [] [] up vp p q same = tt

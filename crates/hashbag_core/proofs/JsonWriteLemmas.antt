@@ -77,7 +77,7 @@ module _ {T : Type 0} {eq : T → T → Bool} (laws : IsEquivalence eq) {cmp : T
   all_above p [] up apart = tt
   all_above p (q ∷ ps) up apart = (less p q (up 0 q (omega arith)) apart.0, all_above p ps (λ j d h. up (suc j) d (omega arith)) apart.1)
 
-  -- distinct values that a sort of their pairs left rise
+  -- distinct values whose pairs were sorted are in ascending order
   pub rising_from_sorted : (ps : List (Bor T × ℕ)) → IsSorted by ps → IsDistinct eq (keys_of (map seen ps)) → IsStrictlySortedBy cmp (keys_of (map seen ps))
   unfolding IsStrictlySortedBy
   rising_from_sorted [] up distinct = tt

@@ -18,7 +18,7 @@ pub record Bag (T S : Type 0) : Type 0 where
 abbrev pub Means : {T S : Type 0} → Bag T S → List T → Type 0
 Means bag X = IsPermutation X bag.items
 
--- the same bag with another limit
+-- the bag with the limit `most`, and otherwise unchanged
 abbrev pub limited : {T S : Type 0} → ℕ → Bag T S → Bag T S
 limited most bag = record { items = bag.items; hasher = bag.hasher; tables = bag.tables; most = most }
 
@@ -37,7 +37,7 @@ IsShorterBy n before after = length after.items + n ≡ length before.items
 abbrev pub HasOneValueMore : {T S : Type 0} → (T → T → Bool) → Bag T S → Bag T S → Type 0
 HasOneValueMore eq before after = distinct_count eq after.items ≡ distinct_count eq before.items + 1
 
--- a value is lent with a number, and they are these; or nothing is lent, and there are none
+-- what is lent is what was found: a value with its number, or nothing
 abbrev pub Lends : {T : Type 0} → Option (Bor T × ℕ) → Option (T × ℕ) → Type 0
 Lends lent found = option_map (λ e. (e.0.now, e.1)) lent ≡ found
 

@@ -30,7 +30,7 @@ module _ {T S : Type 0} (eq : T → T → Bool) {F : Type 0} (g : Once F (MutBor
   abbrev pub MayLeave : ℕ → Type 0
   MayLeave n = FnOnceReturnsAtMut g f (count eq v bag.items) tt n
 
-  -- if v is absent, nothing changes; else what f left of the count is the count, of the stored instance
+  -- if v is absent, nothing changes; else what f left is its count, and the stored instance stays
   pub record ChangesCount (after : Bag T S) : Type 0 where
     pub absent : count eq v bag.items ≡ 0 → after ≡ bag
     pub present : 0 < count eq v bag.items → (n : ℕ) × MayLeave n × (length bag.items - count eq v bag.items + n ≤ bag.most) × IsBagOf eq bag (recount eq v n bag.items) after

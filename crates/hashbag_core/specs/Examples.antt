@@ -1,4 +1,4 @@
--- The definitions compute. An item here is a key with a tag, and two items are equal if their keys are: so `(1, 10)` and
+-- Examples, by evaluation. An item here is a key with a tag, and two items are equal if their keys are: so `(1, 10)` and
 -- `(1, 20)` are two instances of one value.
 use Rattle.std.specs.Prelude.{◌≡◌, ℕ, ◌==◌, Bool, List, [], ◌∷◌, Some, None, refl}
 use Rattle.std.proofs.Common.{lit<, sym}
@@ -13,9 +13,11 @@ use Rattle.hashbag_core.specs.Extends.{add_all}
 use Rattle.hashbag_core.specs.Occurrences.{count_named, stored_named, greatest_total, alike, others, count, instance, instance_or_itself, stored, add, less, put, distinct_count, SameCounts}
 use Rattle.hashbag_core.specs.Walks.{IsEach, IsSetWalk, IsWalk}
 
+-- an item: a key with a tag
 abbrev pub Tagged : Type 0
 Tagged = ℕ × ℕ
 
+-- whether two items have the same key
 abbrev pub same_key : Tagged → Tagged → Bool
 same_key a b = a.0 == b.0
 

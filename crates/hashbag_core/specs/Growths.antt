@@ -1,4 +1,4 @@
--- Insertions in turn, of which each growth has the number of slots that follows from the list before it.
+-- Insertions in turn: the list before each growth decides how many slots it makes.
 use Rattle.std.specs.Prelude.{◌≡◌, ℕ, ◌+◌, ◌-◌, ◌<◌, Bool, List, [], ◌∷◌, length}
 use Rattle.hashbag_table.specs.Tables.{limit, room, values, grown_slots}
 use Rattle.hashbag_core.specs.Bag.{Bag}
@@ -8,18 +8,19 @@ use Rattle.hashbag_core.specs.Occurrences.{count, distinct_count}
 
 module _ {T S : Type 0} (eq : T → T → Bool) where
   -- an absent value was inserted without room into a bag of n slots and s distinct values: there are `grown_slots n s` slots now, and
-  -- room for all but s + 1 of those that may be in use
+  -- room is their limit less s + 1
   pub record Grows (before after : Bag T S) : Type 0 where
     pub slots : length after.tables.newer ≡ grown_slots (length before.tables.newer) (distinct_count eq before.items)
     pub room : room after.tables ≡ limit (length after.tables.newer) - distinct_count eq before.items - 1
     pub built : after.tables.built ≡ before.tables.built + length after.tables.newer
 
-  -- as `InTurn`. Each bag on the way has a Live slot for each distinct value of its list, and grows only as `Grows` says
+  -- these pairs were inserted into `before` one after the other, as `InTurn` says, which left `after`. Each bag on the way has a Live slot
+  -- for each distinct value of its list, and grows only as `Grows` says
   abbrev pub GrowsInTurn : List (T × ℕ) → Bag T S → Bag T S → Type 0
   GrowsInTurn [] before after = after ≡ before
   GrowsInTurn (p ∷ pairs) before after = (middle : Bag T S) × Inserts eq p.0 p.1 before middle × (values before.tables ≡ distinct_count eq before.items)
       × (0 < p.1 → count eq p.0 before.items ≡ 0 → room before.tables ≡ 0 → Grows before middle) × GrowsInTurn pairs middle after
 
--- the law: insertions in turn into a bag whose slots hold its list grow so
+-- the law: insertions in turn into a bag whose slots hold its list grow it as `GrowsInTurn` says
 abbrev pub GrowAsListed : {T : Type 0} → Type 0 → (T → T → Bool) → Type 0
 GrowAsListed {T = T} S eq = (pairs : List (T × ℕ)) (before after : Bag T S) → AreHeld eq before.items before.tables → InTurn eq pairs before after → GrowsInTurn eq pairs before after

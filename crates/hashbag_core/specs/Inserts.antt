@@ -67,7 +67,7 @@ module _ {T S : Type 0} (eq : T → T → Bool) where
       pub went : AllZip Goes items pairs
       pub turn : InTurn pairs before after
 
-    -- the items before one were inserted one after the other, and that one failed in the bag that they left
+    -- the items before `refused` were inserted in turn, and `refused` failed in the bag that they left
     pub record InsertsUpTo (Why : Bag T S → A → BagError → Type 0) (it : I) (before after : Bag T S) (e : BagError) : Type 0 where
       pub bag : IsBag eq before.most before.items
       pub items : List A
@@ -79,24 +79,25 @@ module _ {T S : Type 0} (eq : T → T → Bool) where
       pub turn : InTurn pairs before after
       pub why : Why after refused e
 
-  -- inserting an item once, or as often as its number says, may fail
+  -- inserting a value once may fail with e
   abbrev pub RefusesOne : Bag T S → T → BagError → Type 0
   RefusesOne bag v e = IsRefused bag v 1 e
 
+  -- inserting a value as often as its count says may fail with e
   abbrev pub RefusesPair : Bag T S → T × ℕ → BagError → Type 0
   RefusesPair bag p e = IsRefused bag p.0 p.1 e
 
-  -- n clones of v may fail so: with `Memory` only if cloning v may fail, or if inserting n of a clone may
   module _ (is_clone : T → T → Type 0) (is_infallible : T → Type 0) where
+    -- inserting n clones of v may fail with e: with `Memory` only if cloning v may fail, or if inserting n of a clone may
     pub record IsCloneRefused (bag : Bag T S) (v : T) (n : ℕ) (e : BagError) : Type 0 where
       pub why : RefusesClones bag.most bag.items n e
       pub memory : e ≡ Memory → (¬ (is_infallible v)) ⊎ ((x : T) × is_clone v x × IsRefused bag x n e)
 
     module _ {I : Type 0} where
-      -- clones of the lent values before one were inserted in turn, and a clone of that one failed
+      -- clones of lent values were inserted in turn, up to one that failed
       abbrev pub ClonesUpTo : (I → Option (Bor T) → I → Type 0) → I → Bag T S → Bag T S → BagError → Type 0
       ClonesUpTo steps it before after e = InsertsUpTo steps (CloneOnce is_clone) (λ bag v e. IsCloneRefused bag v.now 1 e) it before after e
 
-      -- the same of pairs
+      -- clones of lent values were inserted in turn, each as often as its count says, up to one that failed
       abbrev pub ClonesManyUpTo : (I → Option (Bor T × ℕ) → I → Type 0) → I → Bag T S → Bag T S → BagError → Type 0
       ClonesManyUpTo steps it before after e = InsertsUpTo steps (CloneAsOften is_clone) (λ bag p e. IsCloneRefused bag p.0.now p.1 e) it before after e

@@ -1,7 +1,7 @@
 -- What the joins of two bags give in all, by the plain lists X and Y of their occurrences. The order of X and of Y means
 -- nothing, and the states that hash them don't appear.
 --
--- A join names a value by an instance that occurs in X, or, if X has none, in Y. `Contains` is by the instance itself.
+-- A join names a value by an instance that occurs in X, or, if X has none, in Y. `Contains` compares instances.
 use Rattle.std.specs.Prelude.{◌≡◌, ℕ, ◌-◌, ◌<◌, ◌^◌, ◌==◌, ◌↔◌, ℤ, pos, negsuc, ◌-ℤ◌, Bool, List, ◌++◌, map, filter}
 use Rattle.std.specs.Int.{int_max, int_min}
 use Rattle.std.specs.List.{IsDistinct, Contains}
@@ -9,10 +9,11 @@ use Rattle.std.specs.Map.{keys_of}
 use Rattle.hashbag_core.specs.Occurrences.{count}
 use Rattle.hashbag_core.specs.Walks.{IsEach}
 
--- `isize::MIN` and `isize::MAX`
+-- `isize::MIN`
 abbrev pub least_signed : ℤ
 least_signed = negsuc (2 ^ 63 - 1)
 
+-- `isize::MAX`
 abbrev pub greatest_signed : ℤ
 greatest_signed = pos (2 ^ 63 - 1)
 

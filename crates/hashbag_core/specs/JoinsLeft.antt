@@ -24,9 +24,9 @@ with_no_first es = map (λ e. (e.0, 0, e.1)) es
 abbrev pub subtracted : {T : Type 0} → List (T × ℕ × ℕ) → List (T × ℤ)
 subtracted js = map (λ j. (j.0, saturated (pos j.1 -ℤ pos j.2))) js
 
--- ---- what the other joins are, of the list of an outer join
+-- ---- the other joins, from the list of an outer join
 
--- each value whose first count is above its second, with how much it is
+-- each value whose first count is above its second, with the excess
 abbrev pub exceeding : {T : Type 0} → List (T × ℕ × ℕ) → List (T × ℕ)
 exceeding js = filter (λ e. nat_lt 0 e.1) (map (λ j. (j.0, j.1 - j.2)) js)
 

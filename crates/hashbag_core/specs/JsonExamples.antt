@@ -159,7 +159,7 @@ reading = record { limit = greatest_total; trees = pair (tree_of 7) (tree_of 2) 
 read_in_turn : add_all same [] ((7, 2) ∷ (8, 0) ∷ (7, 1) ∷ []) ≡ 7 ∷ 7 ∷ 7 ∷ []
 read_in_turn = refl
 
--- each value once, with its count, values rising
+-- each value once, with its count, values in ascending order
 tree : IsTree same nat_cmp tree_of (8 ∷ 7 ∷ 8 ∷ []) (list (pair (tree_of 7) (tree_of 1) ∷ pair (tree_of 8) (tree_of 2) ∷ []))
 unfolding IsDistinct IsStrictlySortedBy
 tree =

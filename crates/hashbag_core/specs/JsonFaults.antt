@@ -10,20 +10,22 @@ use Rattle.hashbag_core.specs.Occurrences.{greatest_total}
 use Rattle.hashbag_core.specs.declared.json.JsonError.{JsonError}
 use Rattle.hashbag_core.specs.declared.json.JsonError.TheVariants.{NotAnArray, NotAPair, BadCount, BadItem, TooMany, BadLimit}
 
--- the trees in an array, none if a tree is no array
+-- the trees of the items of an array, as a list
 abbrev pub list_of : Items → List Data
 list_of no_items = []
 list_of (item d ds) = d ∷ list_of ds
 
+-- the trees in an array, none if a tree is no array
 abbrev pub array_of : Data → Option (List Data)
 array_of d = option_map list_of (as_array d)
 
 -- ---- the limit of a tree, and the trees of its pairs
 
--- the names of the two members that an object has
+-- the name of the member that has the limit
 abbrev pub limit_name : List ℕ
 limit_name = codes "limit"
 
+-- the name of the member that has the pairs
 abbrev pub pairs_name : List ℕ
 pairs_name = codes "pairs"
 
@@ -56,23 +58,25 @@ opened (string s) = Err NotAnArray
 opened (array ds) = Ok (greatest_total, list_of ds)
 opened (object ms) = opened_object (pairs_in ms) (limit_in ms)
 
+-- the limit that was read of a tree, 0 if the tree is rejected
 abbrev pub limit_opened : Result (ℕ × List Data) JsonError → ℕ
 limit_opened (Ok p) = p.0
 limit_opened (Err e) = 0
 
--- the limit of a tree that isn't rejected so
+-- the limit of a tree, 0 if `opened` rejects it
 abbrev pub limit_of : Data → ℕ
 limit_of d = limit_opened (opened d)
 
 -- ---- pairs
 
--- the two trees of an array of exactly two
+-- the two trees of a list of exactly two
 abbrev pub two_of : List Data → Option (Data × Data)
 two_of [] = None
 two_of (d ∷ []) = None
 two_of (d ∷ e ∷ []) = Some (d, e)
 two_of (d ∷ e ∷ f ∷ more) = None
 
+-- the two trees of an array of exactly two, none if a tree is no such array
 abbrev pub pair_of : Data → Option (Data × Data)
 pair_of d = option_and_then two_of (array_of d)
 
@@ -89,7 +93,7 @@ pub record IsCountedItem (has_item : Data → Bool) (d : Data) : Type 0 where
   pub is_count : u64_of number ≡ Some count
   pub item : has_item tree ≡ true
 
--- `end` is the greatest total, and `has_item` decides which trees are those of items
+-- `end` is the limit that is read under, and `has_item` decides which trees are those of items
 module _ (end : ℕ) (has_item : Data → Bool) where
   -- the fault of pair i by its item and its count, if the counts before it sum to `total`: the count is judged before the
   -- item, and the item before the total
@@ -97,6 +101,7 @@ module _ (end : ℕ) (has_item : Data → Bool) where
   part_fault i total d None = Some (BadCount i)
   part_fault i total d (Some n) = if has_item d then (if nat_lt end (total + n) then Some (TooMany i) else None) else Some (BadItem i)
 
+  -- the fault of pair i, if the counts before it sum to `total`: `NotAPair` if it is no pair, else that of its item and its count
   abbrev pub pair_fault : ℕ → ℕ → Option (Data × Data) → Option JsonError
   pair_fault i total None = Some (NotAPair i)
   pair_fault i total (Some p) = part_fault i total p.0 (u64_of p.1)
@@ -106,8 +111,8 @@ module _ (end : ℕ) (has_item : Data → Bool) where
   first_fault i total [] = None
   first_fault i total (d ∷ ds) = option_or (pair_fault i total (pair_of d)) (first_fault (i + 1) (total + unwrap_or (pair_count d) 0) ds)
 
-  -- memory may end a reading of these pairs: at one with a count and an item, so that no more than the total can be its fault, and
-  -- no pair before it has one
+  -- memory may end a reading of these pairs: at one with a count and an item, whose only fault can be the total, if no pair before
+  -- it has a fault
   pub record MayEndAmong (ds : List Data) : Type 0 where
     pub before : List Data
     pub pair : Data
@@ -127,6 +132,7 @@ module _ (has_item : Data → Bool) where
 
 -- `most` is the greatest limit that the bag may have: a tree with a greater one is read under `most`
 module _ (most : ℕ) (has_item : Data → Bool) where
+  -- the fault of a tree by what `opened` made of it, under its limit or `most`, whichever is less
   abbrev pub opened_fault : Result (ℕ × List Data) JsonError → Option JsonError
   opened_fault (Err e) = Some e
   opened_fault (Ok p) = first_fault (min most p.0) has_item 0 0 p.1

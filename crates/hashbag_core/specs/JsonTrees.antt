@@ -48,7 +48,7 @@ abbrev pub written : ℕ → Data → Data
 written most p = if most == greatest_total then p else object (member limit_name (number (unsigned most)) (member pairs_name p no_members))
 
 module _ {T : Type 0} (eq : T → T → Bool) (cmp : T → T → Ordering) (tree_of : T → Data) where
-  -- d is the array of the pairs of a set walk of X, items rising
+  -- d is the array of the pairs of a set walk of X, items in ascending order
   pub record IsTree (X : List T) (d : Data) : Type 0 where
     pub pairs : List (T × ℕ)
     pub walk : IsSetWalk eq X pairs

@@ -1,4 +1,4 @@
--- What an insertion by a key leaves of a bag. `names` is the test that the values pass which the key names: one value's equals.
+-- What an insertion by a key leaves of a bag. `names` is a test, which the values that the key names pass: one value's equals.
 use Rattle.std.specs.Prelude.{◌≡◌, ℕ, ◌+◌, ◌<◌, ◌≤◌, Bool, List, length, IsTrue}
 use Rattle.hashbag_core.specs.declared.bag.BagError.{BagError}
 use Rattle.hashbag_core.specs.declared.bag.BagError.TheVariants.{Memory, TooMany, BelowTotal}

@@ -29,7 +29,7 @@ module _ {T : Type 0} (eq : T → T → Bool) where
     pub each : IsEach X values
     pub pieces : W ≡ flat_map (λ v. replicate (count eq v X) v) values
 
-  -- W is a walk of each list that the bag means, and such a list itself. So it is as long as the bag, and its items can be
+  -- W is a walk of every list that the bag means, and one of them. So it is as long as the bag, and its items can be
   -- counted
   pub record IsWalkOf {S : Type 0} (bag : Bag T S) (W : List T) : Type 0 where
     pub walk : (X : List T) → Means bag X → IsWalk X W

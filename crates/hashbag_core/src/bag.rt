@@ -1,13 +1,13 @@
 //! `HashBag`: how often each of several values occurs.
 //!
 //! In clauses `self.old` is the bag before a call, `self.new` the bag after it, and `self.now` one that is only read. `OnOk` and `OnErr`
-//! say what holds on success and on failure; in `IfOk` and `IfErr` it is said of the returned value or error. `×` is "and", `⊎` is "or".
+//! say what holds on success and on failure. `IfOk` and `IfErr` state it of the returned value or error. `×` is "and", `⊎` is "or",
+//! `(x : A) ×` is "there is an x", `(x : A) →` is "for every x". `ensures*` is about a loan that ends; callers don't learn it.
 ghost use Rattle.std.specs.Prelude.{◌≡◌, ◌+◌, ◌-◌, ◌<◌, ◌≤◌, ◌↔◌, [], length, IsTrue, IsOk, IfOk, IfErr, OnOk, OnErr};
-ghost use Rattle.hashbag_table.specs.Tables.{room, KeepsRoom};
-ghost use Rattle.hashbag_core.specs.Bag.{limited, Lends, IsBagOf};
-ghost use Rattle.hashbag_core.specs.Occurrences.{count_named, stored_named, count, recount, distinct_count, IsBag};
+ghost use Rattle.hashbag_table.specs.Tables.{room};
+ghost use Rattle.hashbag_core.specs.Bag.{limited, Lends};
+ghost use Rattle.hashbag_core.specs.Occurrences.{count_named, stored_named, count, distinct_count, IsBag};
 ghost use Rattle.hashbag_core.specs.Inserts.{Inserts, Replaces, IsRefused};
-ghost use Rattle.hashbag_core.specs.Held.{Recounts};
 ghost use Rattle.hashbag_core.specs.declared.bag.BagError.TheVariants.{Memory};
 
 mod capacity;
@@ -297,7 +297,7 @@ impl<T: Eq + Hash + Drop, S: BuildHasher + Drop> HashBag<T, S> {
     ///
     /// # Complexity
     ///
-    /// As of [`HashBag::insert_many`].
+    /// Same as [`HashBag::insert_many`].
     ///
     /// # Examples
     ///
@@ -378,7 +378,7 @@ impl<T: Eq + Hash + Drop, S: BuildHasher + Drop> HashBag<T, S> {
         }
         let before = self.table.add(value, n)?;
         self.len += n;
-        // `held` is called for its clause on what the slots hold, which the proof names.
+        // Does nothing at run time. It gives the proof the contract of `held`: what the slots hold.
         self.table.held();
         Ok(before)
     }
@@ -430,63 +430,7 @@ impl<T: Eq + Hash + Drop, S: BuildHasher + Drop> HashBag<T, S> {
         Ok(before)
     }
 
-    /// Sets the count of a value to `n`, and returns the count before. A present value keeps its stored instance, and the given one is
-    /// dropped; an absent one is inserted. With 0 the value is removed.
-    ///
-    /// # Errors
-    ///
-    /// - `TooMany` exactly if the total, with `n` in the place of the count before, would pass the limit. That is tested first.
-    /// - `Memory` if `n` isn't 0, the value is absent, there is no room, and an allocation fails.
-    ///
-    /// Then the bag is unchanged, and the value is dropped.
-    ///
-    /// # Complexity
-    ///
-    /// It hashes the value twice, and once if it returns `TooMany`. It allocates only if it inserts the value and there is no room. If it
-    /// inserts it, up to 16 slots of an older table are carried, and each value in them is hashed once.
-    ///
-    /// # Examples
-    ///
-    /// ```
-    /// let mut bag = HashBag::new(alloc);
-    /// bag.set_count("apple", 3)?; // 0
-    /// bag.set_count("apple", 1)?; // 3
-    /// bag.set_count("apple", 0)?; // 1
-    /// bag.contains(&"apple"); // 0
-    /// Ok(())
-    /// ```
-    pub fn set_count(&mut self, value: T, n: usize) -> Result<usize, BagError>
-        ensures before { IfOk result (λ before. before ≡ count T.eq value self.old.items) }
-        ensures set { OnOk result (IsBagOf T.eq self.old (recount T.eq value n self.old.items) self.new) }
-
-        // An absent value was inserted `n` times. Of a present one only the slot changed, and room isn't lower.
-        ensures inserted { OnOk result (count T.eq value self.old.items ≡ 0 → Inserts T.eq value n self.old self.new) }
-        ensures slot { OnOk result (0 < count T.eq value self.old.items → Recounts T.eq value n self.old.tables self.new.tables) }
-        ensures room { OnOk result (0 < count T.eq value self.old.items → KeepsRoom 0 self.old.tables self.new.tables) }
-        ensures len { OnOk result (length self.new.items + count T.eq value self.old.items ≡ length self.old.items + n) }
-
-        // When it fails, as under `# Errors`.
-        ensures too_many { (result ≡ Err BagError.TooMany) ↔ (self.old.most < length self.old.items - count T.eq value self.old.items + n) }
-        ensures refused { IfErr result (IsRefused T.eq self.old value n) }
-        ensures err { OnErr result (self.new ≡ self.old) }
-
-        // If the new total fits, it succeeds if there is room or the value is present, or `n` is 0.
-        ensures takes { length self.old.items - count T.eq value self.old.items + n ≤ self.old.most → 0 < room self.old.tables → IsOk result }
-        ensures present { length self.old.items - count T.eq value self.old.items + n ≤ self.old.most → 0 < count T.eq value self.old.items → IsOk result }
-        ensures none { n ≡ 0 → IsOk result }
-    {
-        let before = self.contains(&value);
-        if before == 0 {
-            return self.insert_many(value, n);
-        }
-        if n > self.most - (self.len - before) {
-            return Err(BagError::TooMany);
-        }
-        self.recount(&value, before, n);
-        Ok(before)
-    }
-
-    // Inserts occurrences of a value, if the total can have them.
+    // Inserts occurrences of a value, if the total stays within the limit.
     pub(crate) fn insert_within(&mut self, value: T, n: usize) -> Result<(), BagError>
         ensures inserted { OnOk result (Inserts T.eq value n self.old self.new) }
         ensures refused { IfErr result (IsRefused T.eq self.old value n) }
@@ -510,7 +454,7 @@ impl<T: Eq + Hash + Drop, S: BuildHasher + Drop> HashBag<T, S> {
     {
         self.table.insert_new(value, quantity)?;
         self.len += quantity;
-        // The call is made for what `held` promises of the slots; the proof uses it.
+        // Does nothing at run time. It gives the proof the contract of `held`: what the slots hold.
         self.table.held();
         Ok(())
     }

@@ -10,7 +10,7 @@ use crate::bag::{BagError, FixedState, HashBag};
 use std::fmt::{self, Debug, Formatter, Write};
 use std::hash::{BuildHasher, Hash};
 
-/// The place of a value in a bag: a borrow of the bag, and the given value.
+/// An entry of a bag: a borrow of the bag, and the given value.
 ///
 /// It is occupied if the bag has the value, and else vacant. An entry that is dropped changes nothing.
 pub struct Entry<'a, T: Eq + Hash + Drop, S: BuildHasher + Drop = FixedState> {
@@ -28,7 +28,7 @@ impl<'a, T: Eq + Hash + Drop, S: BuildHasher + Drop> Drop for Entry<'a, T, S> {
 }
 
 impl<T: Eq + Hash + Drop, S: BuildHasher + Drop> HashBag<T, S> {
-    /// Returns the place of a value in the bag. It doesn't allocate, and looks nothing up.
+    /// Returns the entry of a value in the bag. It doesn't allocate, and looks nothing up.
     ///
     /// # Examples
     ///
@@ -64,7 +64,7 @@ impl<'a, T: Eq + Hash + Drop, S: BuildHasher + Drop> Entry<'a, T, S> {
     /// ```
     /// let mut bag = HashBag::new(alloc);
     /// bag.insert("apple")?;
-    /// bag.entry("apple").value(); // "apple"
+    /// *bag.entry("apple").value(); // "apple"
     /// Ok(())
     /// ```
     pub fn value(&self) -> &T

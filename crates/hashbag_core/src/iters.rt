@@ -233,9 +233,8 @@ impl<'a, T> Drain<'a, T> {
     /// ```
     /// let mut bag = HashBag::new(alloc);
     /// bag.insert_many("apple", 2)?;
-    /// let mut drain = bag.drain();
-    /// drain.rest().next(); // Some(("apple", 2))
-    /// drain.next(); // Some(("apple", 2))
+    /// let drain = bag.drain();
+    /// drain.rest().len(); // 1
     /// Ok(())
     /// ```
     pub fn rest(&self) -> SetIter<'_, T>

@@ -152,7 +152,7 @@ impl<'a, T: Eq + Hash + Drop, S: BuildHasher + Drop, S2: BuildHasher + Drop> Ite
         Some((value, 0, count))
     }
 
-    /// Returns the number of values of the first bag that weren't looked up yet, and the sum of it and of that of the second bag.
+    /// Returns how many values of the first bag weren't looked up yet, and how many of both bags.
     fn size_hint(&self) -> (usize, Option<usize>)
         ensures lower { IsWithinCount result.0 (at_most (length self.now)) }
         ensures upper { IfSome result.1 (UpTo (at_most (length self.now))) }
@@ -265,7 +265,7 @@ impl<T: Eq + Hash + Drop, S: BuildHasher + Drop> HashBag<T, S> {
         &'a self,
         other: &'a HashBag<T, S2>,
     ) -> OuterJoin<'a, T, S, S2>
-        // X and Y are the occurrences of both bags, each in any order.
+        // X and Y list the occurrences of both bags. Their order means nothing.
         ensures { (X Y : List T) → Means self.now X → Means other.now Y → IsOuterJoin T.eq X Y result }
     {
         OuterJoin {
@@ -297,7 +297,7 @@ impl<T: Eq + Hash + Drop, S: BuildHasher + Drop> HashBag<T, S> {
         &'a self,
         other: &'a HashBag<T, S2>,
     ) -> Difference<'a, T, S, S2>
-        // X and Y are the occurrences of both bags, each in any order.
+        // X and Y list the occurrences of both bags. Their order means nothing.
         ensures { (X Y : List T) → Means self.now X → Means other.now Y → IsDifference T.eq X Y result }
     {
         Difference {
@@ -328,7 +328,7 @@ impl<T: Eq + Hash + Drop, S: BuildHasher + Drop> HashBag<T, S> {
         &'a self,
         other: &'a HashBag<T, S2>,
     ) -> SignedDifference<'a, T, S, S2>
-        // X and Y are the occurrences of both bags, each in any order.
+        // X and Y list the occurrences of both bags. Their order means nothing.
         ensures { (X Y : List T) → Means self.now X → Means other.now Y → IsSignedDifference T.eq X Y result }
     {
         SignedDifference {
@@ -358,7 +358,7 @@ impl<T: Eq + Hash + Drop, S: BuildHasher + Drop> HashBag<T, S> {
         &'a self,
         other: &'a HashBag<T, S2>,
     ) -> NotIn<'a, T, S, S2>
-        // X and Y are the occurrences of both bags, each in any order.
+        // X and Y list the occurrences of both bags. Their order means nothing.
         ensures { (X Y : List T) → Means self.now X → Means other.now Y → IsNotIn T.eq X Y result }
     {
         NotIn {

@@ -88,7 +88,7 @@ pub enum JsonError {
 }
 
 impl JsonError {
-    /// Returns the number by which programs report the error: 3 to 8 in the order of the names, and 10 for `BadLimit`.
+    /// Returns the number by which programs report the error: 3 to 8 in the order of the variants, and 10 for `BadLimit`.
     ///
     /// # Examples
     ///
@@ -368,7 +368,7 @@ impl<T: JsonItem + Hash + Drop, S: BuildHasher + Drop> HashBag<T, S> {
     ) -> Result<HashBag<T, S>, JsonError>
     where
         S: Default,
-        // As of [`HashBag::from_value_with_hasher`], but the state is the default.
+        // Same as [`HashBag::from_value_with_hasher`], but the state is the default.
         ensures no_fault { OnOk result (fault most T.has_item (view tree.now) ≡ None) }
         ensures read { IfOk result (λ bag. (pairs : List (T × ℕ)) × IsReading T.reads (view tree.now) pairs × IsMadeOf T.eq pairs bag) }
         ensures limit { IfOk result (λ bag. bag.most ≡ min most (limit_of (view tree.now))) }
@@ -398,7 +398,7 @@ impl<T: JsonItem + Hash + Drop, S: BuildHasher + Drop> HashBag<T, S> {
     pub fn from_value(alloc: Global, tree: &Value) -> Result<HashBag<T, S>, JsonError>
     where
         S: Default,
-        // As of [`HashBag::from_value_with_hasher`], but the state is the default, and the limit that of the tree.
+        // Same as [`HashBag::from_value_with_hasher`], but the state is the default, and the limit is that of the tree.
         ensures no_fault { OnOk result (fault greatest_total T.has_item (view tree.now) ≡ None) }
         ensures read { IfOk result (λ bag. (pairs : List (T × ℕ)) × IsReading T.reads (view tree.now) pairs × IsMadeOf T.eq pairs bag) }
         ensures limit { IfOk result (λ bag. bag.most ≡ limit_of (view tree.now)) }

@@ -25,7 +25,7 @@ module _ {T A : Type 0} {eq : T → T → Bool} (laws : IsEquivalence eq) {cmp :
   all_above p [] up apart = tt
   all_above p (q ∷ ps) up apart = (less_at p q (cmp (key q) (key p)) refl (up 0 q (omega arith)) apart.0, all_above p ps (λ j d h. up (suc j) d (omega arith)) apart.1)
 
-  -- distinct keys rise once their items are sorted
+  -- distinct keys are in ascending order once their items are sorted
   pub keys_rise : IsStrictWeakOrder below → (ps : List A) → IsSorted by ps → IsDistinct eq (map key ps) → IsStrictlySortedBy cmp (map key ps)
   unfolding IsStrictlySortedBy
   keys_rise weak [] up distinct = tt

@@ -15,10 +15,11 @@ ArePartsOf D whole part = IsNumeral 10 whole × IsNumeral 10 part × (length par
 abbrev pub units_of : ℕ → List ℕ → List ℕ → ℕ
 units_of D whole part = digits_value 10 whole * 10 ^ D + digits_value 10 part * 10 ^ (D - length part)
 
--- the text before the first mark, and the text after it; a text without a mark is before it
+-- the text before the first mark: all of it if there is no mark
 abbrev pub whole_of : ℕ → List ℕ → List ℕ
 whole_of mark text = before_first (λ c. c == mark) text
 
+-- the text after the first mark: nothing if there is no mark
 abbrev pub part_of : ℕ → List ℕ → List ℕ
 part_of mark text = after_first (λ c. c == mark) text
 
@@ -26,5 +27,6 @@ part_of mark text = after_first (λ c. c == mark) text
 abbrev pub IsDecimal : ℕ → ℕ → List ℕ → Type 0
 IsDecimal mark D text = IsNumeral 10 text ⊎ ((text ≡ whole_of mark text ++ mark ∷ part_of mark text) × ArePartsOf D (whole_of mark text) (part_of mark text))
 
+-- how many units of 10^-D a text is: its part before the first mark, and the decimals after it
 abbrev pub units : ℕ → ℕ → List ℕ → ℕ
 units mark D text = units_of D (whole_of mark text) (part_of mark text)

@@ -1,3 +1,5 @@
+pub mod ArticleLaws
+pub mod Articles
 pub mod Decimals
 pub mod Faults
 pub mod FaultsExamples

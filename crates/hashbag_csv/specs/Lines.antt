@@ -11,6 +11,7 @@ use Rattle.hashbag_csv.specs.declared.scale.Scale.{Scale}
 abbrev pub place_of : Record → List ℕ → ℕ
 place_of header name = position_or_len (bytes_eq name) header
 
+-- the fields of a record at these places
 abbrev pub fields_at : List ℕ → Record → Record
 fields_at places r = map (λ p. get_or r p []) places
 
@@ -18,9 +19,11 @@ fields_at places r = map (λ p. get_or r p []) places
 abbrev pub number_in : Scale → List ℕ → ℕ
 number_in scale text = units (code_of scale.mark) scale.decimals text
 
+-- the line of a record: its fields at the places `keys`, and its number at the place `number`, in units of the scale
 abbrev pub line_of : Scale → List ℕ → ℕ → Record → Record × ℕ
 line_of scale keys number r = (fields_at keys r, number_in scale (get_or r number []))
 
+-- the lines of the records after the first one, which is their header: `keys` and `number` are the names of the columns
 abbrev pub lines_under : Scale → List (List ℕ) → List ℕ → List Record → List (Record × ℕ)
 lines_under scale keys number [] = []
 lines_under scale keys number (header ∷ records) = map (line_of scale (map (place_of header) keys) (place_of header number)) records

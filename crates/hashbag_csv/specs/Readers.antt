@@ -32,6 +32,7 @@ abbrev pub records_after : Config → State → Option (List ℕ) → List Recor
 records_after cfg s None = []
 records_after cfg s (Some text) = records_from cfg (length text + 1) s text
 
+-- the records that a reader of fields between these delimiters has left
 abbrev pub records_left : Delimiter → Reader (Bor (List ℕ)) → List Record
 records_left d r = records_after (config_of d) (reader_state r) (source_of (λ b. Some b.now) r)
 

@@ -9,10 +9,11 @@ use Rattle.hashbag_csv.specs.declared.fault.SheetError.TheVariants.{Line, Memory
 use Rattle.hashbag_csv.specs.declared.sheet.Column.{Column}
 use Rattle.hashbag_csv.specs.declared.sheet.Sheet.{Sheet}
 
--- the record that was read last, and those after it
+-- the record that was read last
 abbrev pub read_last : Sheet → Record
 read_last s = fields_of s.record
 
+-- the records not yet read, without the one read last
 abbrev pub left : Sheet → List Record
 left s = records_left s.delimiter s.reader
 
@@ -30,6 +31,7 @@ IsNameFault name fields (NoColumn shown there) = (k : ℕ) → k < length fields
 IsNameFault name fields (TwoColumns shown) = (i : ℕ) × (j : ℕ) × (i < j) × (j < length fields) × (get_or fields i [] ≡ name) × (get_or fields j [] ≡ name)
 IsNameFault name fields _ = ⊥
 
+-- the error for a header that has not exactly one column of a name; an allocation may fail instead
 abbrev pub IsColumnError : List ℕ → Record → SheetError → Type 0
 IsColumnError name fields (Line line fault) = IsNameFault name fields fault
 IsColumnError name fields Memory = ⊤

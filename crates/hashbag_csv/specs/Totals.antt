@@ -7,11 +7,12 @@ use Rattle.hashbag_csv.specs.declared.fault.Fault.TheVariants.{TotalPastMost}
 use Rattle.hashbag_csv.specs.declared.fault.SheetError.{SheetError}
 use Rattle.hashbag_csv.specs.declared.fault.SheetError.TheVariants.{Line, Memory}
 
--- a line's fault is that a total is too large
+-- whether a line's fault is that a total is too large
 abbrev pub is_total_fault : Fault → Bool
 is_total_fault (TotalPastMost most) = true
 is_total_fault _ = false
 
+-- whether an error is that a total is too large
 abbrev pub is_total : SheetError → Bool
 is_total (Line line fault) = is_total_fault fault
 is_total Memory = false

@@ -1,6 +1,7 @@
 //! Lists of articles with quantities: read from CSV texts, put into bags, taken out of them again, and written.
 #![tactic(auto)]
 
+pub mod article;
 pub mod counts;
 pub mod decimals;
 pub mod delimiter;

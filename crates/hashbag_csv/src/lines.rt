@@ -5,6 +5,7 @@ ghost use Rattle.hashbag_csv.specs.LineColumns.{IsNextLine, key_places, number_p
 ghost use Rattle.hashbag_csv.specs.Lines.{fields_at, number_in, place_of};
 ghost use Rattle.hashbag_csv.specs.Sheets.{left, place, read_last};
 
+use crate::article::Article;
 use crate::fault::SheetError;
 use crate::numbers::scaled_number;
 use crate::scale::Scale;
@@ -48,7 +49,7 @@ fn columns_of<'n>(
 }
 
 // The fields of several columns in the record that was read last.
-fn fields_of(
+pub(crate) fn fields_of(
     alloc: Global,
     sheet: &Sheet<'_>,
     columns: &[Column<'_>],
@@ -103,20 +104,20 @@ impl<'n> LineColumns<'n> {
     /// # Errors
     ///
     /// `Line` if the record is bad, and what is wrong with it. `Memory` if an allocation fails.
-    pub fn read(
+    pub fn read<A: Article + Drop>(
         &self,
         alloc: Global,
         sheet: &mut Sheet<'_>,
         scale: Scale,
-    ) -> Result<Option<(Vec<String>, usize)>, SheetError>
-        // The line is the next of the records that were left; or none was left.
+    ) -> Result<Option<(A, usize)>, SheetError>
+        // `left` are the records not yet read. The line is that of the next one; or none was left.
         ensures { IfOk result (λ next. MatchOption next (left sheet.old ≡ [])
-            (λ line. IsNextLine scale (key_places self.now) (number_place self.now) (left sheet.old) (left sheet.new) line)) }
+            (λ line. IsNextLine A.fields scale (key_places self.now) (number_place self.now) (left sheet.old) (left sheet.new) line)) }
     {
         if !sheet.read()? {
             return Ok(None);
         }
-        let article = fields_of(alloc, sheet, &self.article)?;
+        let article = A::read(alloc, sheet, &self.article)?;
         let number = number_of(alloc, sheet, self.number, scale)?;
         Ok(Some((article, number)))
     }

@@ -172,7 +172,7 @@ pub fn scaled_number(
 ///
 /// # Errors
 ///
-/// As of [`scaled_number`].
+/// Same as [`scaled_number`].
 pub fn number(alloc: Global, line: u64, digits: &str, field: &str) -> Result<usize, SheetError>
     // 46 is the point, and 0 the number of decimals.
     ensures number { IfOk result (λ n. IsDecimal 46 0 digits.now × (units 46 0 digits.now ≡ n)) }

@@ -34,8 +34,12 @@ pub fn bag_of<T: Eq + Hash + Drop, S: BuildHasher + Drop>(
     Ok(bag)
 }
 
-/// Returns the balance of a bag: each article that it has, once, with its count, articles rising. The list names as many of each as
+/// Returns the balance of a bag: each article that it has, once, with its count, articles in ascending order. The list names as many of each as
 /// the bag has, so [`bag_of`] returns an equal bag.
+///
+/// # Errors
+///
+/// An allocation fails.
 ///
 /// # Complexity
 ///

@@ -38,7 +38,7 @@ impl Misplaced {
     }
 }
 
-// The place after a byte, or what is wrong there.
+// Returns the state after a byte, or its fault.
 fn next_place(place: Place, byte: u8, delimiter: u8) -> Result<Place, Misplaced> {
     let ends_field = byte == delimiter || byte == b'\n' || byte == b'\r';
     match place {

@@ -18,7 +18,7 @@ const BYTE_ORDER_MARK: &[u8] = b"\xef\xbb\xbf";
 // A message names at most this many columns.
 const NAMED: usize = 12;
 
-// Returns the word of another delimiter than this one that these bytes have, if they have one.
+// Names the first delimiter other than `own` that is found in these bytes, if there is one.
 fn delimiter_in(bytes: &[u8], own: u8) -> Option<&'static str> {
     for byte in bytes {
         match *byte {
@@ -48,7 +48,7 @@ fn lines_in(bytes: &[u8]) -> u64 {
     lines
 }
 
-// The line on which the record begins that was read from there on: the ends of empty lines before it are passed over.
+// Returns the line where the record read at `position` begins, past empty lines.
 fn line_of(text: &[u8], position: Position) -> u64 {
     let mut line = position.line();
     let rest = text.get(position.byte() as usize..).unwrap_or(&[]);
@@ -268,7 +268,7 @@ impl<'a> Sheet<'a> {
         }
     }
 
-    /// Returns the error that the record that was read last has this fault.
+    /// Returns an error with this fault at the current record, the one read last.
     pub fn bad_line(&self, fault: Fault) -> SheetError
         ensures { (line : ℕ) × (result ≡ SheetError.Line line fault) }
     {

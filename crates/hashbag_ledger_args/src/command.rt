@@ -1,7 +1,7 @@
 //! The arguments and their help.
 use clap::{Arg, ArgAction, Command};
 use hashbag_shell::VERSION;
-use hashbag_shell::options::{Made, with, with_output, with_reading};
+use hashbag_shell::options::{CommandResult, with, with_output, with_reading};
 use std::alloc::Global;
 
 /// The name of the program. Its messages on standard error begin with it.
@@ -29,7 +29,7 @@ Status: 0 all entered, 1 some refused, 2 bad arguments or a bad line (FILE:LINE 
 a read or a write failed, 5 a total of more than 2^64-1. With 2 to 5 the file of -o is unchanged.";
 
 // Adds the inputs.
-fn with_inputs<'a>(alloc: Global, command: Made<'a>) -> Made<'a> {
+fn with_inputs<'a>(alloc: Global, command: CommandResult<'a>) -> CommandResult<'a> {
     let moves = Arg::new(alloc, "MOVES.csv")
         .num_args(0..)
         .action(ArgAction::Append)
@@ -53,7 +53,7 @@ fn with_inputs<'a>(alloc: Global, command: Made<'a>) -> Made<'a> {
 }
 
 // Adds the outputs.
-fn with_outputs<'a>(alloc: Global, command: Made<'a>) -> Made<'a> {
+fn with_outputs<'a>(alloc: Global, command: CommandResult<'a>) -> CommandResult<'a> {
     let help =
         "Where the balance is written, in place of standard output; the old file is replaced once all is written";
     let refused = Arg::new(alloc, "refused")
@@ -72,7 +72,7 @@ fn with_outputs<'a>(alloc: Global, command: Made<'a>) -> Made<'a> {
 /// # Errors
 ///
 /// An allocation fails.
-pub fn command<'a>(alloc: Global) -> Made<'a> {
+pub fn command<'a>(alloc: Global) -> CommandResult<'a> {
     let command = Command::new(alloc, PROGRAM)
         .version(VERSION)
         .about(ABOUT)

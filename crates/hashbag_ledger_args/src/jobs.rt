@@ -2,7 +2,7 @@
 use crate::command::{COLUMNS, PROGRAM, START_COLUMNS};
 use clap::{Arg, ArgAction, Command, value_parser};
 use hashbag_shell::VERSION;
-use hashbag_shell::options::{self, Made, SCALES, with};
+use hashbag_shell::options::{self, CommandResult, SCALES, with};
 use std::alloc::Global;
 
 const ABOUT: &str = "Keeps a stock in a database.";
@@ -37,12 +37,12 @@ pub fn has_job(words: &[String]) -> bool {
 }
 
 // Adds a subcommand.
-fn with_job<'a>(command: Made<'a>, job: Made<'a>) -> Made<'a> {
+fn with_job<'a>(command: CommandResult<'a>, job: CommandResult<'a>) -> CommandResult<'a> {
     command?.subcommand(job?)
 }
 
 // Returns a subcommand on a database.
-fn job<'a>(alloc: Global, name: &'a str, about: &'a str) -> Made<'a> {
+fn job<'a>(alloc: Global, name: &'a str, about: &'a str) -> CommandResult<'a> {
     let db = Arg::new(alloc, "db")
         .long("db")
         .value_name("FILE")
@@ -60,18 +60,18 @@ fn job<'a>(alloc: Global, name: &'a str, about: &'a str) -> Made<'a> {
 }
 
 // Adds how fields are delimited, and numbers written.
-fn with_form<'a>(alloc: Global, command: Made<'a>) -> Made<'a> {
+fn with_form<'a>(alloc: Global, command: CommandResult<'a>) -> CommandResult<'a> {
     options::with_form(alloc, command, "What is between fields")
 }
 
 // Adds where a table is written.
-fn with_output<'a>(alloc: Global, command: Made<'a>) -> Made<'a> {
+fn with_output<'a>(alloc: Global, command: CommandResult<'a>) -> CommandResult<'a> {
     let help = "Where the table is written, in place of standard output";
     options::with_output(alloc, with_form(alloc, command), help)
 }
 
 // Adds the stock at the beginning.
-fn with_start<'a>(alloc: Global, command: Made<'a>) -> Made<'a> {
+fn with_start<'a>(alloc: Global, command: CommandResult<'a>) -> CommandResult<'a> {
     let from = Arg::new(alloc, "from")
         .long("from")
         .value_name("STOCK.csv")
@@ -85,7 +85,7 @@ fn with_start<'a>(alloc: Global, command: Made<'a>) -> Made<'a> {
 }
 
 // Adds the movements.
-fn with_moves<'a>(alloc: Global, command: Made<'a>) -> Made<'a> {
+fn with_moves<'a>(alloc: Global, command: CommandResult<'a>) -> CommandResult<'a> {
     let columns = Arg::new(alloc, "columns")
         .long("columns")
         .value_name("NAMES")
@@ -101,7 +101,7 @@ fn with_moves<'a>(alloc: Global, command: Made<'a>) -> Made<'a> {
 }
 
 // Adds how many decimals numbers have, and what is done with refusals.
-fn with_rules<'a>(alloc: Global, command: Made<'a>) -> Made<'a> {
+fn with_rules<'a>(alloc: Global, command: CommandResult<'a>) -> CommandResult<'a> {
     let scale = Arg::new(alloc, "scale")
         .long("scale")
         .value_name("D")
@@ -115,7 +115,7 @@ fn with_rules<'a>(alloc: Global, command: Made<'a>) -> Made<'a> {
 }
 
 // Adds `--quiet`.
-fn with_quiet<'a>(alloc: Global, command: Made<'a>, help: &'a str) -> Made<'a> {
+fn with_quiet<'a>(alloc: Global, command: CommandResult<'a>, help: &'a str) -> CommandResult<'a> {
     let quiet = Arg::new(alloc, "quiet")
         .long("quiet")
         .action(ArgAction::SetTrue)
@@ -124,7 +124,7 @@ fn with_quiet<'a>(alloc: Global, command: Made<'a>, help: &'a str) -> Made<'a> {
 }
 
 // Adds the flags of `enter`.
-fn with_flags<'a>(alloc: Global, command: Made<'a>) -> Made<'a> {
+fn with_flags<'a>(alloc: Global, command: CommandResult<'a>) -> CommandResult<'a> {
     let strict = Arg::new(alloc, "strict")
         .long("strict")
         .action(ArgAction::SetTrue)
@@ -137,7 +137,7 @@ fn with_flags<'a>(alloc: Global, command: Made<'a>) -> Made<'a> {
     with_quiet(alloc, with(with(command, strict), again), help)
 }
 
-fn enter<'a>(alloc: Global) -> Made<'a> {
+fn enter<'a>(alloc: Global) -> CommandResult<'a> {
     let command = job(
         alloc,
         "enter",
@@ -147,7 +147,7 @@ fn enter<'a>(alloc: Global) -> Made<'a> {
     with_flags(alloc, with_rules(alloc, with_form(alloc, command)))
 }
 
-fn balance<'a>(alloc: Global) -> Made<'a> {
+fn balance<'a>(alloc: Global) -> CommandResult<'a> {
     let articles = Arg::new(alloc, "ARTICLE")
         .num_args(0..)
         .action(ArgAction::Append)
@@ -159,7 +159,7 @@ fn balance<'a>(alloc: Global) -> Made<'a> {
     with_output(alloc, with_quiet(alloc, command, help))
 }
 
-fn history<'a>(alloc: Global) -> Made<'a> {
+fn history<'a>(alloc: Global) -> CommandResult<'a> {
     let article = Arg::new(alloc, "ARTICLE")
         .required(true)
         .action(ArgAction::Set)
@@ -173,7 +173,7 @@ fn history<'a>(alloc: Global) -> Made<'a> {
     with_output(alloc, with_quiet(alloc, with(command, article), help))
 }
 
-fn undo<'a>(alloc: Global) -> Made<'a> {
+fn undo<'a>(alloc: Global) -> CommandResult<'a> {
     let batch = Arg::new(alloc, "BATCH").action(ArgAction::Set).help(
         "The number of the batch, or the name of its file: then the last batch of that file that wasn't undone",
     );
@@ -190,7 +190,7 @@ fn undo<'a>(alloc: Global) -> Made<'a> {
     with_quiet(alloc, with(with(command, batch), last), help)
 }
 
-fn close<'a>(alloc: Global) -> Made<'a> {
+fn close<'a>(alloc: Global) -> CommandResult<'a> {
     let into = Arg::new(alloc, "into")
         .long("into")
         .value_name("NEW")
@@ -206,14 +206,14 @@ fn close<'a>(alloc: Global) -> Made<'a> {
 }
 
 // Adds the subcommands that show a stock.
-fn with_views<'a>(alloc: Global, command: Made<'a>) -> Made<'a> {
+fn with_views<'a>(alloc: Global, command: CommandResult<'a>) -> CommandResult<'a> {
     let command = with_job(with_job(command, balance(alloc)), history(alloc));
     let batches = job(alloc, "batches", "Writes what was entered, and when");
     with_job(command, with_output(alloc, batches))
 }
 
 // Adds the subcommands that follow on those.
-fn with_checks<'a>(alloc: Global, command: Made<'a>) -> Made<'a> {
+fn with_checks<'a>(alloc: Global, command: CommandResult<'a>) -> CommandResult<'a> {
     let verify = job(
         alloc,
         "verify",
@@ -224,7 +224,7 @@ fn with_checks<'a>(alloc: Global, command: Made<'a>) -> Made<'a> {
 }
 
 /// Returns the command with its subcommands.
-pub fn command<'a>(alloc: Global) -> Made<'a> {
+pub fn command<'a>(alloc: Global) -> CommandResult<'a> {
     let command = Command::new(alloc, PROGRAM)
         .version(VERSION)
         .about(ABOUT)

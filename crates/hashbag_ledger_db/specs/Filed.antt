@@ -15,10 +15,11 @@ use Rattle.hashbag_ledger_lib.specs.declared.movements.Movement.{Movement}
 use Rattle.hashbag_ledger_lib.specs.declared.reading.ChangeColumns.TheVariants.{Signed}
 use Rattle.hashbag_ledger_lib.specs.declared.reading.Columns.{Columns}
 
--- a movement as a row has it: nothing that goes out is nothing that comes in
+-- a movement as a row has it: `Out 0` is `In 0`
 abbrev pub plain_movement : Movement (String Global) → Movement (String Global)
 plain_movement m = record { place = m.place; article = m.article; change = plain m.change }
 
+-- an article and its change as a row has them: `Out 0` is `In 0`
 abbrev pub plain_said : List ℕ × Change → List ℕ × Change
 plain_said m = (m.0, plain m.1)
 

@@ -22,7 +22,7 @@ use hashbag_shell::status::{DENIED, DONE};
 use hashbag_shell::trouble::Trouble;
 use hashbag_stock::error::StockError;
 use hashbag_stock::reading::{balance_of, batches_of, time_of};
-use hashbag_stock::tables::{Form, Shape};
+use hashbag_stock::tables::{Contents, Shape};
 use hashbag_stock::writing::NewRows;
 use sqlite::{Alter, Connection};
 use std::alloc::{AllocError, Global};
@@ -45,7 +45,7 @@ struct Before {
     movements: u64,
 }
 
-/// What is written of a call.
+/// What one run of a subcommand writes.
 #[derive(Drop)]
 pub struct Report {
     /// The refusals.
@@ -56,7 +56,7 @@ pub struct Report {
     pub status: u8,
 }
 
-// Returns the failure that the total is past the most with that line of a file.
+// Returns the failure for a line that takes the total past the maximum.
 fn too_large<'a>(alloc: Global, file: &'a str, line: u64, reading: Reading) -> Failure<'a> {
     match write_decimal(alloc, MOST, reading.scale) {
         Ok(most) => {
@@ -71,7 +71,7 @@ fn too_large<'a>(alloc: Global, file: &'a str, line: u64, reading: Reading) -> F
     }
 }
 
-/// Returns the failure that the balance that is kept is too large, which no batch makes it.
+/// Returns the failure for a stored balance past the maximum. No batch can cause it.
 pub fn start_too_many<'a>(db: &'a str) -> Failure<'a> {
     Failure::Stock {
         db,
@@ -119,7 +119,7 @@ fn failure_of<'a>(
     }
 }
 
-// Enters the inputs into the balance that is kept. What is wrong first is the failure.
+// Enters the inputs into the balance that is kept. On failure it returns the first error in input order.
 fn filed_of<'a, S: BuildHasher + Drop>(
     alloc: Global,
     state: S,
@@ -169,20 +169,20 @@ fn entered_twice<'a>(inputs: &[Input<'a>], batches: &[Batch]) -> Result<(), Fail
 }
 
 // Returns what holds of the rows of the stock, and how many decimals a new one is made with.
-fn shape_of<'a>(request: &Job<'a>, form: Form) -> Result<(Shape, Option<u32>), Failure<'a>> {
+fn shape_of<'a>(request: &Job<'a>, form: Contents) -> Result<(Shape, Option<u32>), Failure<'a>> {
     let db = request.db;
     match (form, request.scale) {
-        (Form::Empty, asked) => {
+        (Contents::Empty, asked) => {
             let scale = asked.unwrap_or(0);
             let is_sealed = true;
             Ok((Shape { scale, is_sealed }, Some(scale)))
         }
-        (Form::Stock(shape), Some(asked)) if shape.scale != asked => Err(Failure::OtherScale {
+        (Contents::Stock(shape), Some(asked)) if shape.scale != asked => Err(Failure::OtherScale {
             db,
             kept: shape.scale,
             asked,
         }),
-        (Form::Stock(shape), _) => Ok((shape, None)),
+        (Contents::Stock(shape), _) => Ok((shape, None)),
     }
 }
 
@@ -313,18 +313,18 @@ pub fn filed_anew<'a, S: BuildHasher + Drop>(
     Ok(filed)
 }
 
-// Returns what the inputs do to the stock of an open database. For an empty one that is known already, unless another process made it
-// meanwhile.
+// Returns what the inputs do to the stock of an open database. `anew` is what they do to an empty stock. It is `None` if the file wasn't
+// new; if the file has no tables, that is then found out here. If another process made a stock meanwhile, `anew` isn't used.
 fn ready_in<'a, D: Alter, S: BuildHasher + Drop>(
     alloc: Global,
     state: S,
     request: &Job<'a>,
     inputs: &[Input<'a>],
     conn: &mut Connection<D>,
-    form: Form,
+    form: Contents,
     anew: Option<Filed>,
 ) -> Result<Ready, Failure<'a>> {
-    let Form::Stock(shape) = form else {
+    let Contents::Stock(shape) = form else {
         let filed = match anew {
             Some(filed) => filed,
             None => filed_anew(alloc, state, request, inputs)?,
@@ -344,8 +344,8 @@ fn ready_in<'a, D: Alter, S: BuildHasher + Drop>(
     })
 }
 
-/// Enters the inputs into an open database, and returns what is written of the call. That is made before anything is entered. `anew` is
-/// what they do to an empty stock, if that is known.
+/// Enters the inputs into an open database, and returns what the run of the subcommand writes. The texts are made before anything is
+/// entered. `anew` is what the inputs do to an empty stock. It is `None` if the file wasn't new.
 ///
 /// # Errors
 ///
@@ -356,7 +356,7 @@ pub fn report_in<'a, D: Alter, S: BuildHasher + Drop>(
     request: &Job<'a>,
     inputs: &[Input<'a>],
     conn: &mut Connection<D>,
-    form: Form,
+    form: Contents,
     anew: Option<Filed>,
 ) -> Result<Report, Failure<'a>> {
     let db = request.db;
@@ -377,7 +377,7 @@ pub fn report_in<'a, D: Alter, S: BuildHasher + Drop>(
     })
 }
 
-/// Returns what is written of a call that enters nothing, because of a refusal, and since the stock would be a new one.
+/// Returns what a run of a subcommand writes that enters nothing, because of a refusal, and since the stock would be a new one.
 ///
 /// # Errors
 ///

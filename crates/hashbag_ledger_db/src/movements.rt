@@ -43,7 +43,7 @@ pub fn is_once(input: &Input<'_>) -> bool {
     input.file != "-" && has_rows(input.text.as_slice())
 }
 
-// Makes each change one that a row may have: without a sign at 0.
+// Turns each `Out(0)` into `In(0)`, since a row has no sign at 0.
 fn plain_movements(
     alloc: Global,
     movements: Vec<Movement<String>>,
@@ -82,7 +82,7 @@ fn read<'a>(
         let movements = read_movements(alloc, text, at, request.columns, reading)?;
         return Ok(plain_movements(alloc, movements)?);
     }
-    // It is read as a list of numbers, which have no sign, and then once more for its lines.
+    // The first read rejects signs. The second returns the movements with their lines.
     let (article, number) = request.start_columns;
     read_counts_as(alloc, text, article, number, reading)?;
     let change = ChangeColumns::Signed(number);
@@ -91,7 +91,7 @@ fn read<'a>(
     Ok(plain_movements(alloc, movements)?)
 }
 
-/// Returns the movements of an input. What a stock at the beginning has comes in.
+/// Returns the movements of an input. The opening stock becomes incoming movements.
 ///
 /// # Errors
 ///

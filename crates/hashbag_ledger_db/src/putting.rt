@@ -5,7 +5,7 @@ use hashbag_stock::writing::{NewRows, put_batches};
 use sqlite::{Alter, Connection};
 use std::alloc::AllocError;
 
-/// Returns the failure of an error of a database.
+/// Returns a database's error as a failure.
 pub fn failure_of<'a>(db: &'a str, error: StockError) -> Failure<'a> {
     match error {
         StockError::Memory => Failure::from(AllocError),
@@ -25,7 +25,7 @@ pub fn in_database<'a, T>(db: &'a str, done: Result<T, StockError>) -> Result<T,
     }
 }
 
-/// Writes what a call writes, in one transaction; and first the tables if there is a scale.
+/// Writes what one run of a subcommand writes, in one transaction; and first the tables if there is a scale.
 ///
 /// # Errors
 ///

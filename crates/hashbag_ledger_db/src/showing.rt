@@ -38,7 +38,7 @@ fn number_of(balance: &[(String, usize)], article: &str) -> usize {
     0
 }
 
-// Returns the entries of these articles, rising, each once.
+// Returns the entries of these articles, in ascending order, each once.
 fn chosen_of(
     alloc: Global,
     balance: &[(String, usize)],

@@ -1,4 +1,4 @@
--- The changes of two balances whose articles rise, from the first article on.
+-- The changes of two balances whose articles are in ascending order, from the first article on.
 use Rattle.std.proofs.Common.{◌≡◌, ◌≢◌, ℕ, Bool, true, false, cond, List, [], ◌∷◌, get_or, map, All, Ordering, Less, Equal, Greater, is_eq, String, string_bytes, bytes_eq, Global, Option, None, Some, refl, sym, ◌∙◌, ap, subst, subst₂}
 use Rattle.std.specs.Cmp.Lexicographic.{slice_cmp, nat_list_cmp_total, texts_ties, bytes_decides}
 use Rattle.std.specs.List.{AllByRecursion}
@@ -45,7 +45,7 @@ unfolding IsStrictlySortedBy
 above_all v [] above rises = tt
 above_all v (e ∷ L) above rises = (above, above_later v (string_bytes e.0) (keys_of L) above rises.0)
 
--- a balance rises exactly if its first article comes before the next one, and the others rise
+-- a balance is in ascending order exactly if its first article comes before the next one, and the others are in ascending order
 pub rises_on : (e : String Global × ℕ) (L : List (String Global × ℕ)) → IsBefore (string_bytes e.0) L → Rises L → Rises (e ∷ L)
 unfolding IsStrictlySortedBy
 rises_on e L before rises = (above_all (string_bytes e.0) L before rises, rises)

@@ -68,7 +68,7 @@ module _ (L M : Articles) (same : rows_of L ≡ rows_of M) where
   each_same batch (Done booked) is = is ∙ ap (λ (s : String Global → ℕ). entries_of string_eq s (opposites_of batch)) listed_same
   each_same batch (Refused refusals) is = is ∙ ap (λ (s : String Global → ℕ). refused_of string_eq s (opposites_of batch)) listed_same
 
--- the rows that an undo leaves rise
+-- the rows that an undo leaves are in ascending order
 pub undo_rises : (stock : String Global → ℕ) (batch : List (Movement (String Global))) (u : Undo (String Global)) → IsUndo string_eq string_cmp stock batch u → HasRisingRows u
 undo_rises stock batch (Done booked) is = is.balance.rising
 undo_rises stock batch (Refused refusals) is = tt

@@ -10,7 +10,7 @@ use Rattle.std.specs.Str.{bytes_eq}
 use Rattle.hashbag_ledger_lib.specs.declared.rows.RowChange.{RowChange}
 use Rattle.hashbag_ledger_lib.specs.declared.rows.RowChange.TheVariants.{Put, Remove}
 
--- the articles of a balance rise, by their bytes: each is there at most once
+-- the articles of a balance are in ascending order of their bytes: each is there at most once
 abbrev pub Rises : List (String Global × ℕ) → Type 0
 Rises L = IsStrictlySortedBy string_cmp (keys_of L)
 
@@ -38,7 +38,8 @@ abbrev pub applied : List ℕ → List RowChange → Option ℕ → Option ℕ
 applied v [] was = was
 applied v (c ∷ cs) was = applied v cs (if bytes_eq v (string_bytes (article_of c)) then new_number c else was)
 
--- these changes turn the first balance into the second; their articles rise, and each has another number in the second balance
+-- these changes turn the first balance into the second; their articles are in ascending order, and each has another number in the second
+-- balance
 pub record AreChanges (before after : List (String Global × ℕ)) (cs : List RowChange) : Type 0 where
   pub makes : (v : List ℕ) → applied v cs (number_in v before) ≡ number_in v after
   pub rising : IsStrictlySortedBy string_cmp (map article_of cs)

@@ -3,7 +3,7 @@ use Rattle.std.specs.Prelude.{ℕ, ℤ, List, Option, None, Some, codes}
 use Rattle.hashbag_ledger_lib.specs.declared.once.Kind.{Kind}
 use Rattle.hashbag_ledger_lib.specs.declared.once.Kind.TheVariants.{Start, Moves, Undo}
 
--- its name
+-- the name of a kind of batch
 abbrev pub name_of : Kind → List ℕ
 name_of Start = codes "start"
 name_of Moves = codes "moves"

@@ -7,11 +7,12 @@ use Rattle.hashbag_ledger_lib.specs.declared.movements.Movement.{Movement}
 use Rattle.hashbag_ledger_lib.specs.declared.movements.Place.{Place}
 use Rattle.hashbag_ledger_lib.specs.declared.movements.Refusal.{Refusal}
 
--- how many a change brings in, and how many it takes out
+-- how many a change brings in
 abbrev pub coming : Change → ℕ
 coming (In n) = n
 coming (Out n) = 0
 
+-- how many a change takes out
 abbrev pub going : Change → ℕ
 going (In n) = 0
 going (Out n) = n
@@ -35,10 +36,11 @@ module _ {T : Type 0} (eq : T → T → Bool) where
     pub too_much : before m.article < going m.change
     pub is : r ≡ record { place = m.place; article = m.article; asked = going m.change; there = before m.article }
 
-  -- how many of v movements bring in, and how many they take out, in all
+  -- how many of v these movements bring in, in all
   abbrev pub came : T → List (Movement T) → ℕ
   came v ms = sum_by (λ m. if eq v m.article then coming m.change else 0) ms
 
+  -- how many of v these movements take out, in all
   abbrev pub went : T → List (Movement T) → ℕ
   went v ms = sum_by (λ m. if eq v m.article then going m.change else 0) ms
 
@@ -60,15 +62,16 @@ module _ {T : Type 0} (eq : T → T → Bool) where
     abbrev pub refusal : List (Movement T) → Movement T → Refusal T
     refusal entered m = record { place = m.place; article = m.article; asked = going m.change; there = there entered m.article }
 
-    -- those of the movements ms that are refused, if these were entered before
+    -- the refusals of those of the movements ms that are refused, if these were entered before
     abbrev pub refused_after : List (Movement T) → List (Movement T) → List (Refusal T)
     refused_after entered [] = []
     refused_after entered (m ∷ ms) = if asks_too_much entered m then refusal entered m ∷ refused_after entered ms else refused_after (entered ++ m ∷ []) ms
 
-    -- of all movements, those that are entered, and those that are refused
+    -- of all movements, those that are entered
     abbrev pub entered_of : List (Movement T) → List (Movement T)
     entered_of ms = entered_after [] ms
 
+    -- of all movements, the refusals of those that are refused
     abbrev pub refused_of : List (Movement T) → List (Refusal T)
     refused_of ms = refused_after [] ms
 

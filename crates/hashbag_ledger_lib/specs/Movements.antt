@@ -29,22 +29,25 @@ signed scale (c ∷ digits) = if c == 45 then Out (number_in scale digits) else 
 abbrev pub of_kind : List ℕ → ℕ → Change
 of_kind kind n = if bytes_eq (codes "in") kind then In n else Out n
 
--- the same columns by something else: their places by their names
+-- the columns of a change, with f of each in its place: for example a column's place for its name
 abbrev pub change_by : {C D : Type 0} → (C → D) → ChangeColumns C → ChangeColumns D
 change_by f (Signed change) = Signed (f change)
 change_by f (ByKind kind number) = ByKind (f kind) (f number)
 
+-- the columns of a movement, with f of each in its place: for example a column's place for its name
 abbrev pub columns_by : {C D : Type 0} → (C → D) → Columns C → Columns D
 columns_by f columns = record { article = f columns.article; change = change_by f columns.change }
 
--- the change of a record, and what its movement says
+-- the change of a record
 abbrev pub change_in : Scale → ChangeColumns ℕ → Record → Change
 change_in scale (Signed change) r = signed scale (get_or r change [])
 change_in scale (ByKind kind number) r = of_kind (get_or r kind []) (number_in scale (get_or r number []))
 
+-- what the movement of a record says: its article and its change
 abbrev pub movement_in : Scale → Columns ℕ → Record → List ℕ × Change
 movement_in scale columns r = (get_or r columns.article [], change_in scale columns.change r)
 
+-- the movements of the records after the first one, which is their header: `names` are the names of the columns
 abbrev pub movements_under : Scale → Columns (List ℕ) → List Record → List (List ℕ × Change)
 movements_under scale names [] = []
 movements_under scale names (header ∷ records) = map (movement_in scale (columns_by (place_of header) names)) records
@@ -53,7 +56,7 @@ movements_under scale names (header ∷ records) = map (movement_in scale (colum
 abbrev pub movements_in : Reading → Columns (List ℕ) → List ℕ → List (List ℕ × Change)
 movements_in reading names text = movements_under reading.scale names (records_in reading.delimiter text)
 
--- the next record was read, and is this movement
+-- `before` is a record and then `after`, and m is that record's movement
 abbrev pub IsNextMovement : Scale → Columns ℕ → List Record → List Record → Movement (String Global) → Type 0
 IsNextMovement scale columns before after m = (r : Record) × (before ≡ r ∷ after) × (said m ≡ movement_in scale columns r)
 

@@ -8,7 +8,7 @@ abbrev pub change_at : ℤ → Change
 change_at (pos n) = In n
 change_at (negsuc n) = Out (n + 1)
 
--- nothing that goes out is nothing that comes in
+-- the change as a row has it: `Out 0` is `In 0`
 abbrev pub plain : Change → Change
 plain (In n) = In n
 plain (Out zero) = In 0

@@ -12,6 +12,7 @@ use Rattle.hashbag_ledger_lib.specs.declared.verifying.KeptRefusal.{KeptRefusal}
 abbrev pub row : String Global × ℕ → List ℕ × ℕ
 row e = (string_bytes e.0, e.1)
 
+-- the rows of the articles of a list
 abbrev pub rows_of : List (String Global × ℕ) → List (List ℕ × ℕ)
 rows_of L = map row L
 
@@ -32,6 +33,8 @@ lower_row k c Less = (k.0, k.1, 0)
 lower_row k c Equal = (k.0, k.1, c.1)
 lower_row k c Greater = (c.0, 0, c.1)
 
+-- of a kept row and a counted one at the same place, the article that comes first, with both numbers; a missing row has none, so its number
+-- is 0
 abbrev pub wrong_row : Option (List ℕ × ℕ) → Option (List ℕ × ℕ) → Option (List ℕ × ℕ × ℕ)
 wrong_row (Some k) (Some c) = Some (lower_row k c (slice_cmp nat_cmp k.0 c.0))
 wrong_row (Some k) None = Some (k.0, k.1, 0)

@@ -18,38 +18,38 @@ use Rattle.hashbag_ledger_lib.specs.Numbers.{plain}
 abbrev pub with_number : List ℕ → ℕ → List ℕ
 with_number m n = m ++ to_le_bytes w64 n
 
--- and then a text
+-- a message m and then a text: its length, and its bytes
 abbrev pub with_text : List ℕ → List ℕ → List ℕ
 with_text m text = with_number m (length text) ++ text
 
--- and then a number with a sign that may be missing
+-- a message m and then a number with a sign, or that there is none
 abbrev pub with_option : List ℕ → Option ℤ → List ℕ
 with_option m None = with_number m 0
 with_option m (Some n) = with_number (with_number m 1) (cast_unsigned w64 n)
 
--- and then a change
+-- a message m and then a change
 abbrev pub with_change : List ℕ → Change → List ℕ
 with_change m (In n) = with_number (with_number m 0) n
 with_change m (Out n) = with_number (with_number m 1) n
 
--- and then a movement: its line, its article and its change
+-- a message m and then a movement: its line, its article and its change
 abbrev pub with_movement : List ℕ → Movement (String Global) → List ℕ
 with_movement m x = with_change (with_text (with_number m x.place.line) (string_bytes x.article)) (plain x.change)
 
--- and then these movements in turn
+-- a message m and then these movements in turn
 abbrev pub with_movements : List ℕ → List (Entry (String Global)) → List ℕ
 with_movements m [] = m
 with_movements m (e ∷ es) = with_movements (with_movement m e.movement) es
 
--- and then the scale of the stock, and the number of a batch
+-- a message m and then the scale of the stock, and the number of a batch
 abbrev pub with_head : List ℕ → ℕ → Batch → List ℕ
 with_head m scale b = with_option (with_number m scale) (Some b.number)
 
--- and then where a batch comes from: its file, the digest of that, and its kind
+-- a message m and then where a batch comes from: its file, the digest of that, and its kind
 abbrev pub with_source : List ℕ → Batch → List ℕ
 with_source m b = with_text (with_text (with_text m (string_bytes b.file)) (string_bytes b.sha256)) (string_bytes b.kind)
 
--- and then the rest of its row
+-- a message m and then the rest of the row of a batch: which batch it undoes, its time, and how many movements and refusals it has
 abbrev pub with_counts : List ℕ → Batch → List ℕ
 with_counts m b = with_number (with_number (with_text (with_option m b.undoes) (string_bytes b.time)) b.movements) b.refused
 

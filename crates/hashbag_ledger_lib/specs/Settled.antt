@@ -13,21 +13,21 @@ module _ {T : Type 0} (eq : T → T → Bool) where
   abbrev pub listed : List (T × ℕ) → T → ℕ
   listed L v = quantity eq v L
 
-  -- with the movement at this place the total, which at first is that of the list, would pass the most
+  -- with the movement at this place the total, which at first is that of the list, would pass `most`
   abbrev pub IsPastWithin : ℕ → List (T × ℕ) → List (Movement T) → Place → Type 0
   IsPastWithin most L ms place = IsPast eq (listed L) (numbers L) most ms place
 
-  -- so with `usize::MAX` for the most
+  -- with the movement at this place the total, which at first is that of the list, would pass `usize::MAX`
   abbrev pub IsPastFrom : List (T × ℕ) → List (Movement T) → Place → Type 0
   IsPastFrom L ms place = IsPastWithin greatest_total L ms place
 
-  -- these movements came, in turn, to the stock of a list: what they left, which of them were refused, and none passed the most
+  -- the movements ms came, in turn, to a stock that began as L: they left these items, these were refused, and no total passed `most`
   pub record IsAfter (L : List (T × ℕ)) (ms : List (Movement T)) (refused : List (Refusal T)) (items : List T) (most : ℕ) : Type 0 where
     pub leaves : Leaves eq (listed L) ms (stock_of eq items)
     pub refusals : refused ≡ refused_of eq (listed L) ms
     pub total : length items + sum_by (λ m. going m.change) (entered_of eq (listed L) ms) ≡ numbers L + sum_by (λ m. coming m.change) (entered_of eq (listed L) ms)
     pub fit : (p : Place) → ¬ (IsPastWithin most L ms p)
 
-  -- the same of a bag and the refusals with it
+  -- the movements ms came, in turn, to a stock that began as L: they left this bag, these were refused, and no total passed its limit
   abbrev pub IsLedgerOf : {S : Type 0} → List (T × ℕ) → List (Movement T) → List (Refusal T) → Bag T S → Type 0
   IsLedgerOf L ms refused stock = IsAfter L ms refused stock.items stock.most

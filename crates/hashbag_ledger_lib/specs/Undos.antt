@@ -15,11 +15,12 @@ use Rattle.hashbag_ledger_lib.specs.declared.undoing.Undo.{Undo}
 use Rattle.hashbag_ledger_lib.specs.declared.undoing.Undo.TheVariants.{Done, Refused}
 
 module _ {T : Type 0} where
-  -- what m took out comes in before these, if it took out some; and what it brought in goes out before these, if it did
+  -- these movements, with one before them that brings in what m took out, if it took some out
   abbrev pub coming_back : Movement T → Change → List (Movement T) → List (Movement T)
   coming_back m (In n) later = later
   coming_back m (Out n) later = (record { place = m.place; article = m.article; change = In n }) ∷ later
 
+  -- these movements, with one before them that takes out what m brought in, if it brought some in
   abbrev pub going_back : Movement T → Change → List (Movement T) → List (Movement T)
   going_back m (In n) later = (record { place = m.place; article = m.article; change = Out n }) ∷ later
   going_back m (Out n) later = later
@@ -59,12 +60,12 @@ module _ {T : Type 0} (eq : T → T → Bool) where
       pub counts : (v : T) → listed eq left v + came eq v batch ≡ stock v + went eq v batch
       pub balance : IsBalance eq cmp (λ v. stock v + went eq v batch - came eq v batch) left
 
-    -- it is taken back, or an article would fall below zero
+    -- either the batch is taken back, or it is `Refused`, because an article would fall below zero
     abbrev pub IsUndo : Undo T → Type 0
     IsUndo (Done booked) = TakesBack booked.balance.items
     IsUndo (Refused refusals) = (v : T) × FallsBelowZero stock batch v
 
--- the rows of the balance that an undo leaves rise
+-- the rows of the balance that an undo leaves are in ascending order
 abbrev pub HasRisingRows : Undo (String Global) → Type 0
 HasRisingRows (Done booked) = Rises booked.balance.items
 HasRisingRows (Refused refusals) = Unit {0}

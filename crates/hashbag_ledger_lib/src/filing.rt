@@ -1,4 +1,4 @@
-//! The files of a call, entered in turn into the balance that is kept.
+//! The files of one run of a subcommand, entered in turn into the balance that is kept.
 ghost use Rattle.std.specs.Prelude.{◌≡◌, ◌<◌, ◌^◌, ◌-◌, map, vec_len, IfOk, IfErr, string_cmp};
 ghost use Rattle.std.specs.String.{string_eq};
 ghost use Rattle.hashbag_csv.specs.Quantities.{numbers};
@@ -17,7 +17,7 @@ use crate::rows::{RowChange, changed_rows};
 use std::alloc::{AllocError, Global};
 use std::hash::BuildHasher;
 
-/// What the files of a call leave.
+/// The result of entering the files of one run of a subcommand.
 #[derive(Drop)]
 pub struct Filed {
     /// The balance, and the movements of all files, in turn, each with what became of it.
@@ -47,7 +47,7 @@ pub fn enter_files<S: BuildHasher + Drop>(
     ensures booked { IfOk result (λ f. IsBooked string_eq string_cmp (2 ^ 63 - 1) kept.now (all_of files.items)
         f.booked.balance.items f.booked.entries.items) }
 
-    // If the kept rows rise, the changes turn them into the rows of the new balance.
+    // If the kept rows are in ascending order, the changes turn them into the rows of the new balance.
     ensures changed { IfOk result (λ f. Rises kept.now → AreChanges kept.now f.booked.balance.items f.changed.items) }
     ensures counts { IfOk result (λ f. f.counts.items ≡ map (λ file. vec_len file) files.items) }
 

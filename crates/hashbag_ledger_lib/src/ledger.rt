@@ -20,7 +20,7 @@ use std::hash::{BuildHasher, Hash};
 /// A stock after movements, and the refusals.
 #[derive(Drop)]
 pub struct Entered<T> {
-    /// Each article of which there are some, once, with how many there are, articles rising.
+    /// Each article of which there are some, once, with how many there are, articles in ascending order.
     pub balance: Vec<(T, usize)>,
     /// The refusals, in the order of their movements.
     pub refusals: Vec<Refusal<T>>,
@@ -141,7 +141,7 @@ impl<T: Eq + Hash + Drop, S: BuildHasher + Drop> Ledger<T, S> {
     ///
     /// # Complexity
     ///
-    /// As [`enter`]. A refusal is put into a list, which may allocate.
+    /// Same as [`enter`]. A refusal is put into a list, which may allocate.
     pub fn enter(&mut self, movement: Movement<T>) -> Result<(), LedgerError>
         // It is the ledger of this movement too: entered, or among the refusals.
         ensures entered { OnOk result ((L : List (T × ℕ)) (ms : List (Movement T))
@@ -175,7 +175,8 @@ pub fn end<T: Ord + Hash + Drop, S: BuildHasher + Drop>(
     alloc: Global,
     ledger: Ledger<T, S>,
 ) -> Result<Entered<T>, AllocError>
-    // The balance and the refusals are those of all movements, and what was there and came in is what is there and went out.
+    // For the L and ms of the ledger (head of the file), the balance and the refusals are those of all movements. Of each article, what L had
+    // plus what came in is what the balance has plus what went out.
     ensures balance { IfOk result (λ e. (L : List (T × ℕ)) (ms : List (Movement T)) → IsLedgerOf T.eq L ms ledger.refusals.items ledger.stock
         → IsBalance T.eq T.cmp (in_the_end T.eq (listed T.eq L) ms) e.balance.items) }
     ensures leaves { IfOk result (λ e. (L : List (T × ℕ)) (ms : List (Movement T)) → IsLedgerOf T.eq L ms ledger.refusals.items ledger.stock

@@ -8,7 +8,7 @@ use crate::movements::Change;
 /// The greatest number of a row, and the limit of the total of a stock that is kept: 2^63-1.
 pub const MOST: usize = 9_223_372_036_854_775_807;
 
-/// Returns the change without a sign at 0: nothing that goes out is nothing that comes in.
+/// Turns `Out(0)` into `In(0)`. Any other change stays.
 pub fn plain_change(change: Change) -> Change
     ensures { result ≡ plain change }
 {

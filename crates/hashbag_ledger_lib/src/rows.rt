@@ -28,7 +28,7 @@ fn is_before(article: &str, rows: Balance<'_>) -> bool
     }
 }
 
-/// Returns whether the articles of a balance rise, each once.
+/// Returns whether the articles of a balance are in ascending order, each once.
 pub fn rises(balance: &[(String, usize)]) -> bool
     ensures { IsTrue result ↔ Rises balance.now }
 {

@@ -99,7 +99,7 @@ pub fn take_back<S: BuildHasher + Drop>(
     kept: Vec<(String, usize)>,
     batch: Vec<Movement<String>>,
 ) -> Result<Undo<String>, LedgerError>
-    // The batch is taken back, or an article would fall below zero.
+    // Either the batch is taken back, or it is `Refused`, because an article would fall below zero.
     ensures undo { IfOk result (IsUndo string_eq string_cmp (listed string_eq kept.items) batch.items) }
 
     // If the batch turned `before` into the balance kept, it is taken back, and the balance is `before` again.
@@ -156,11 +156,11 @@ pub fn undo_batch<S: BuildHasher + Drop>(
     kept: &[(String, usize)],
     batch: Vec<Movement<String>>,
 ) -> Result<(Undo<String>, Vec<RowChange>), LedgerError>
-    // The batch is taken back, or an article would fall below zero.
+    // Either the batch is taken back, or it is `Refused`, because an article would fall below zero.
     ensures undo { IfOk result (λ u. IsUndo string_eq string_cmp (listed string_eq kept.now) batch.items u.0) }
     ensures each { IfOk result (λ u. IsUndoOf string_eq kept.now batch.items u.0) }
 
-    // If the kept rows rise, the changes turn them into the rows of the new balance; there are none if it is denied.
+    // If the kept rows are in ascending order, the changes turn them into the rows of the new balance; there are none if it is denied.
     ensures changed { IfOk result (λ u. Rises kept.now → IsChangedBy kept.now u.0 u.1.items) }
     ensures start { (result ≡ Err LedgerError.StartTooMany) → 2 ^ 63 - 1 < numbers kept.now }
 

@@ -1,7 +1,7 @@
 //! The command line.
 use clap::{Arg, Command};
 use hashbag_shell::VERSION;
-use hashbag_shell::options::{Made, with, with_output, with_reading};
+use hashbag_shell::options::{CommandResult, with, with_output, with_reading};
 use std::alloc::Global;
 
 /// The name of the program, with which its lines on standard error begin.
@@ -24,7 +24,7 @@ static ROWS: [&str; 4] = ["missing", "surplus", "differing", "all"];
 static FORMS: [&str; 3] = ["table", "csv", "json"];
 
 // The options that name columns.
-fn with_columns<'a>(alloc: Global, command: Made<'a>) -> Made<'a> {
+fn with_columns<'a>(alloc: Global, command: CommandResult<'a>) -> CommandResult<'a> {
     let key = Arg::new(alloc, "key")
         .long("key")
         .value_name("COLUMNS")
@@ -48,7 +48,7 @@ fn with_columns<'a>(alloc: Global, command: Made<'a>) -> Made<'a> {
 }
 
 // The options that say what is written.
-fn with_writing<'a>(alloc: Global, command: Made<'a>) -> Made<'a> {
+fn with_writing<'a>(alloc: Global, command: CommandResult<'a>) -> CommandResult<'a> {
     let only = Arg::new(alloc, "only")
         .long("only")
         .value_name("ROWS")
@@ -70,7 +70,7 @@ fn with_writing<'a>(alloc: Global, command: Made<'a>) -> Made<'a> {
 /// # Errors
 ///
 /// An allocation fails.
-pub fn command<'a>(alloc: Global) -> Made<'a> {
+pub fn command<'a>(alloc: Global) -> CommandResult<'a> {
     let ordered = Arg::new(alloc, "ORDERED.csv")
         .required(true)
         .help("What was ordered");

@@ -6,6 +6,7 @@ mod request;
 
 use crate::command::{PROGRAM, command};
 use crate::request::Request;
+use hashbag_csv::article::Article;
 use hashbag_csv::fault::in_file;
 use hashbag_match_lib::texts::{match_delivered, read_ordered};
 use hashbag_shell::input::read_file;
@@ -17,14 +18,17 @@ use std::hash::RandomState;
 use std::process::ExitCode;
 
 // Reads both files, one after the other, and matches them. The text of the first is dropped before the second is read.
-fn matched<'a>(rt: &HostRuntime, request: &Request<'a>) -> Result<(Vec<u8>, bool), Trouble<'a>> {
+fn matched<'a, A: Article + Drop>(
+    rt: &HostRuntime,
+    request: &Request<'a>,
+) -> Result<(Vec<u8>, bool), Trouble<'a>> {
     let (alloc, ask) = (rt.alloc(), &request.ask);
     let state = RandomState::new(rt).map_err(|error| Trouble::Random(error))?;
     let text = read_file(rt, request.ordered)?;
     let ordered = in_file(
         alloc,
         request.ordered,
-        read_ordered(alloc, state, &text, ask),
+        read_ordered::<A, _>(alloc, state, &text, ask),
     )?;
     drop(text);
     let text = read_file(rt, request.delivered)?;
@@ -37,7 +41,12 @@ fn answer<'a>(rt: &HostRuntime, words: &'a [String]) -> Result<u8, Trouble<'a>> 
     let given = given_to(rt, command(rt.alloc()), words)?;
     let request = Request::of(rt, &given)?;
     let output = Output::open(rt, request.output)?;
-    let agree = output.finish(rt, matched(rt, &request))?;
+    let made = if request.ask.ordered.keys.len() == 1 {
+        matched::<String>(rt, &request)
+    } else {
+        matched::<Vec<String>>(rt, &request)
+    };
+    let agree = output.finish(rt, made)?;
     Ok(if agree { DONE } else { DENIED })
 }
 

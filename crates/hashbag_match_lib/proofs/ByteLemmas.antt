@@ -1,19 +1,14 @@
 -- Articles by the bytes of their fields.
-use Rattle.std.proofs.Common.{◌≡◌, ℕ, ◌+◌, ◌↔◌, ◌⊎◌, ◌&&◌, Bool, cond, List, [], ◌∷◌, map, IsTrue, String, inl, inr, refl, sym, ◌∙◌, ap, subst}
+use Rattle.std.proofs.Common.{◌≡◌, ℕ, ◌+◌, ◌↔◌, ◌⊎◌, Bool, cond, List, [], ◌∷◌, map, IsTrue, inl, inr, refl, sym, ◌∙◌, ap, subst}
 use Rattle.std.specs.Bool.{Decides}
-use Rattle.std.specs.Cmp.Lexicographic.{pointwise}
-use Rattle.std.specs.Global.{Global}
-use Rattle.std.specs.Map.{keys_of}
-use Rattle.std.specs.Str.{bytes_eq}
-use Rattle.std.specs.String.{string_bytes, string_eq}
 use Rattle.std.proofs.lemmas.Bool.{cases_Bool}
 use Rattle.std.proofs.lemmas.List.Sums.{sum_by-cons}
 use Rattle.std.proofs.lemmas.Slice.Eq.{bytes_eq-Decides, slice_eq-Decides}
+use Rattle.hashbag_csv.specs.Articles.{same_article}
 use Rattle.hashbag_csv.specs.LineColumns.{line_bytes}
 use Rattle.hashbag_csv.specs.Quantities.{quantity}
 use Rattle.hashbag_csv.specs.Readers.{Record}
-use Rattle.hashbag_match_lib.specs.Fields.{Fields, same_fields}
-use Rattle.hashbag_match_lib.specs.Matched.{HaveSameQuantities, same_article}
+use Rattle.hashbag_match_lib.specs.Matched.{HaveSameQuantities}
 
 module _ {T K : Type 0} {eq : T → T → Bool} {eq' : K → K → Bool} (f : T → K) (same : (x y : T) → eq x y ≡ eq' (f x) (f y)) (decides : (x y : K) → Decides (eq' x y) (x ≡ y)) where
   abbrev entry : T × ℕ → K × ℕ
@@ -54,22 +49,13 @@ module _ {T K : Type 0} {eq : T → T → Bool} {eq' : K → K → Bool} (f : T 
 
 -- ---- articles, as the bytes of their fields
 
-strings_same : (xs ys : List (String Global)) → pointwise string_eq xs ys ≡ pointwise bytes_eq (map string_bytes xs) (map string_bytes ys)
-strings_same [] [] = refl
-strings_same [] (y ∷ ys) = refl
-strings_same (x ∷ xs) [] = refl
-strings_same (x ∷ xs) (y ∷ ys) = ap (λ (b : Bool). string_eq x y && b) (strings_same xs ys)
-
-pub fields_same : (x y : Fields) → same_fields x y ≡ same_article (map string_bytes x.items) (map string_bytes y.items)
-fields_same x y = strings_same x.items y.items
-
-pub articles_decide : (x y : Record) → Decides (same_article x y) (x ≡ y)
+articles_decide : (x y : Record) → Decides (same_article x y) (x ≡ y)
 articles_decide x y = slice_eq-Decides bytes_eq-Decides x y (same_article x y) refl
 
 -- lists agree on articles exactly if they do on the bytes of their fields
-pub agree_by_bytes : (L M : List (Record × ℕ)) (F G : List (Fields × ℕ)) (b : Bool) → map line_bytes F ≡ L → map line_bytes G ≡ M
-    → (IsTrue b ↔ ((v : Fields) → quantity same_fields v F ≡ quantity same_fields v G)) → (IsTrue b ↔ HaveSameQuantities L M)
-agree_by_bytes L M F G b first second agree =
-    let same = agree_of (λ (x : Fields). map string_bytes x.items) fields_same articles_decide F G in
+pub agree_by_bytes : {A : Type 0} (eq : A → A → Bool) (fields : A → Record) (same : (x y : A) → eq x y ≡ same_article (fields x) (fields y)) (L M : List (Record × ℕ)) (F G : List (A × ℕ)) (b : Bool)
+    → map (line_bytes fields) F ≡ L → map (line_bytes fields) G ≡ M → (IsTrue b ↔ ((v : A) → quantity eq v F ≡ quantity eq v G)) → (IsTrue b ↔ HaveSameQuantities L M)
+agree_by_bytes eq fields same L M F G b first second agree =
+    let both = agree_of fields same articles_decide F G in
     subst (λ l. IsTrue b ↔ HaveSameQuantities l M) first
-    (subst (λ m. IsTrue b ↔ HaveSameQuantities (map line_bytes F) m) second (λ yes. same.0 (agree.0 yes), λ all. agree.1 (same.1 all)))
+    (subst (λ m. IsTrue b ↔ HaveSameQuantities (map (line_bytes fields) F) m) second (λ yes. both.0 (agree.0 yes), λ all. agree.1 (both.1 all)))

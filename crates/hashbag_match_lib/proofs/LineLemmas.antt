@@ -1,5 +1,5 @@
 -- Lines that are tallied one after the other.
-use Rattle.std.proofs.Common.{◌≡◌, ℕ, Bor, List, [], ◌∷◌, ◌++◌, length, map, refl, sym, ◌∙◌, ap, append_assoc}
+use Rattle.std.proofs.Common.{◌≡◌, ℕ, Bool, Bor, List, [], ◌∷◌, ◌++◌, length, map, refl, sym, ◌∙◌, ap, append_assoc}
 use Rattle.std.proofs.lemmas.List.{append-nil, map-append}
 use Rattle.hashbag_csv.specs.LineColumns.{line_bytes}
 use Rattle.hashbag_csv.specs.Lines.{line_of, lines_under, place_of}
@@ -7,20 +7,21 @@ use Rattle.hashbag_csv.specs.Readers.{Record}
 use Rattle.hashbag_csv.specs.declared.scale.Scale.{Scale}
 use Rattle.hashbag.specs.Bag.{Bag}
 use Rattle.hashbag.proofs.MemberLemmas.{map-map}
-use Rattle.hashbag_match_lib.specs.Fields.{Fields, HasLineMore, IsTallyOfLines}
+use Rattle.hashbag_match_lib.specs.Fields.{HasLineMore, IsTallyOfLines}
 
--- the lines before are those so far
-pub no_lines : {S : Type 0} (K : List (Record × ℕ)) (bag none : Bag Fields S) → IsTallyOfLines K bag none → IsTallyOfLines (K ++ []) bag none
-no_lines K bag none (L, are, is) = (L, are ∙ sym (append-nil K), is)
+module _ {A : Type 0} (eq : A → A → Bool) (fields : A → Record) where
+  -- the lines before are those so far
+  pub no_lines : {S : Type 0} (K : List (Record × ℕ)) (bag none : Bag A S) → IsTallyOfLines eq fields K bag none → IsTallyOfLines eq fields (K ++ []) bag none
+  no_lines K bag none (L, are, is) = (L, are ∙ sym (append-nil K), is)
 
--- one line more
-pub more_lines : {S : Type 0} (K D : List (Record × ℕ)) (article : Fields) (number : ℕ) (bag none bag' none' : Bag Fields S)
-    → HasLineMore article number bag none bag' none' → IsTallyOfLines (K ++ D) bag none → IsTallyOfLines (K ++ (D ++ line_bytes (article, number) ∷ [])) bag' none'
-more_lines K D article number bag none bag' none' more (L, are, is) = (
-  L ++ (article, number) ∷ [],
-  map-append line_bytes L ((article, number) ∷ []) ∙ ap (λ (l : List (Record × ℕ)). l ++ line_bytes (article, number) ∷ []) are ∙ append_assoc K D (line_bytes (article, number) ∷ []),
-  more L is,
-)
+  -- one line more
+  pub more_lines : {S : Type 0} (K D : List (Record × ℕ)) (article : A) (number : ℕ) (bag none bag' none' : Bag A S)
+      → HasLineMore eq article number bag none bag' none' → IsTallyOfLines eq fields (K ++ D) bag none → IsTallyOfLines eq fields (K ++ (D ++ line_bytes fields (article, number) ∷ [])) bag' none'
+  more_lines K D article number bag none bag' none' more (L, are, is) = (
+    L ++ (article, number) ∷ [],
+    map-append (line_bytes fields) L ((article, number) ∷ []) ∙ ap (λ (l : List (Record × ℕ)). l ++ line_bytes fields (article, number) ∷ []) are ∙ append_assoc K D (line_bytes fields (article, number) ∷ []),
+    more L is,
+  )
 
 -- the records that are left, after one was read
 pub record_read : (f : Record → Record × ℕ) (all : List (Record × ℕ)) (D : List (Record × ℕ)) (before after : List Record) (r : Record) (line : Record × ℕ)

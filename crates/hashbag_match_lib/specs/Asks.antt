@@ -10,15 +10,18 @@ use Rattle.hashbag_match_lib.specs.declared.ask.Columns.{Columns}
 abbrev pub Lines : Type 0
 Lines = List (Record × ℕ)
 
+-- the names of the key columns
 abbrev pub names_of : Columns → List (List ℕ)
 names_of c = map (λ k. k.now) c.keys.items
 
+-- the lines of a text, whose columns have these names
 abbrev pub lines_of : Reading → Columns → List ℕ → Lines
 lines_of reading c text = lines_in reading (names_of c) c.number.now text
 
--- what was ordered, and what was delivered
+-- the lines of a text of what was ordered
 abbrev pub ordered_in : Ask → List ℕ → Lines
 ordered_in ask text = lines_of ask.reading ask.ordered text
 
+-- the lines of a text of what was delivered
 abbrev pub delivered_in : Ask → List ℕ → Lines
 delivered_in ask text = lines_of ask.reading ask.delivered text

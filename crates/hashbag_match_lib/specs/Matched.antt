@@ -1,13 +1,9 @@
 -- Two lists, matched by the bytes of their articles.
-use Rattle.std.specs.Prelude.{◌≡◌, Bool, bytes_eq}
-use Rattle.std.specs.Cmp.Lexicographic.{pointwise}
+use Rattle.std.specs.Prelude.{◌≡◌}
+use Rattle.hashbag_csv.specs.Articles.{same_article}
 use Rattle.hashbag_csv.specs.Quantities.{quantity}
 use Rattle.hashbag_csv.specs.Readers.{Record}
 use Rattle.hashbag_match_lib.specs.Asks.{Lines}
-
--- the same fields in the same order
-abbrev pub same_article : Record → Record → Bool
-same_article x y = pointwise bytes_eq x y
 
 -- each article in the same quantity
 abbrev pub HaveSameQuantities : Lines → Lines → Type 0

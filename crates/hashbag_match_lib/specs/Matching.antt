@@ -8,10 +8,11 @@ use Rattle.hashbag_match_lib.specs.declared.matching.Row.{Row}
 use Rattle.hashbag_match_lib.specs.declared.totals.Totals.{Totals}
 
 module _ {T : Type 0} where
-  -- how many were ordered that weren't delivered, and the other way round
+  -- how many were ordered that weren't delivered
   abbrev pub missing_of : Row T → ℕ
   missing_of row = row.ordered - row.delivered
 
+  -- how many were delivered that weren't ordered
   abbrev pub surplus_of : Row T → ℕ
   surplus_of row = row.delivered - row.ordered
 
@@ -30,7 +31,7 @@ module _ {T : Type 0} where
 abbrev pub lent_rows : {T : Type 0} → List (Row (Bor T)) → List (Row T)
 lent_rows rows = map (λ row. record { article = row.article.now; ordered = row.ordered; delivered = row.delivered }) rows
 
--- the rows of the articles that are named: each in one row, with both its numbers, articles rising
+-- the rows of the articles that are named: each in one row, with both its numbers, articles in ascending order
 pub record AreRows {T : Type 0} (eq : T → T → Bool) (cmp : T → T → Ordering) (named ordered delivered : T → ℕ) (rows : List (Row T)) : Type 0 where
   pub rising : IsStrictlySortedBy cmp (map (λ row. row.article) rows)
   pub counts : All (λ row. (row.ordered ≡ ordered row.article) × (row.delivered ≡ delivered row.article) × (0 < named row.article)) rows

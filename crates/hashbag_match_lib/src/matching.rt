@@ -48,7 +48,7 @@ impl<T> Row<T> {
 /// Two lists, matched.
 #[derive(Drop)]
 pub struct Matched<T> {
-    /// A row for each article of either list, articles rising.
+    /// A row for each article of either list, articles in ascending order.
     pub rows: Vec<Row<T>>,
     /// The sums of the rows.
     pub totals: Totals,
@@ -109,7 +109,7 @@ fn push_zeros<'a, T: Ord + Hash + Drop, S: BuildHasher + Drop>(
     Ok(())
 }
 
-/// Returns the rows of two tallies: each article that is named in one row, with its quantity in both, articles rising. The sums of the
+/// Returns the rows of two tallies: each article that is named in one row, with its quantity in both, articles in ascending order. The sums of the
 /// rows are at most the totals of the tallies.
 ///
 /// # Errors
@@ -146,7 +146,7 @@ pub fn rows_of_tallies<'a, T: Ord + Hash + Drop, S: BuildHasher + Drop>(
 ///
 /// # Complexity
 ///
-/// As of [`rows_of_tallies`]. Looks each article up once more to compare the bags.
+/// Same as [`rows_of_tallies`]. Looks each article up once more to compare the bags.
 pub fn match_tallies<'a, T: Ord + Hash + Drop, S: BuildHasher + Drop>(
     alloc: Global,
     ordered: &'a Tally<T, S>,
@@ -164,7 +164,7 @@ pub fn match_tallies<'a, T: Ord + Hash + Drop, S: BuildHasher + Drop>(
         → (IsTrue matched.agree ↔ ((v : T) → quantity T.eq v L ≡ quantity T.eq v M))) }
 {
     let rows = rows_of_tallies(alloc, ordered, delivered)?;
-    // `len` is called for its clause: the sums of the rows fit.
+    // Does nothing at run time. It gives the proof the contract of `len`: the sums of the rows fit.
     let (_ordered, _delivered) = (ordered.counts.len(), delivered.counts.len());
     let totals = totals_of(&rows);
     let agree = ordered.counts == delivered.counts;

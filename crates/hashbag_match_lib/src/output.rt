@@ -4,6 +4,7 @@ ghost use Rattle.hashbag_match_lib.specs.Matching.{missing_of, surplus_of, agree
 
 use crate::matching::{Matched, Row};
 use crate::table::table_of;
+use hashbag_csv::article::Article;
 use hashbag_csv::decimals::write_decimal;
 use hashbag_csv::delimiter::Delimiter;
 use hashbag_csv::records::Records;
@@ -109,9 +110,9 @@ pub fn numbers_of<T>(alloc: Global, row: &Row<T>, scale: Scale) -> Result<Vec<St
 }
 
 // The rows as CSV.
-fn csv_of(
+fn csv_of<A: Article>(
     alloc: Global,
-    rows: &[Row<&Vec<String>>],
+    rows: &[Row<&A>],
     layout: Layout<'_>,
 ) -> Result<Vec<u8>, AllocError> {
     let mut records = Records::empty(alloc, layout.delimiter);
@@ -124,7 +125,7 @@ fn csv_of(
     records.end()?;
     for row in rows {
         if layout.only.shows(row) {
-            for field in row.article {
+            for field in row.article.texts() {
                 records.field(field.as_str())?;
             }
             for number in numbers_of(alloc, row, layout.scale)? {
@@ -140,7 +141,7 @@ fn csv_of(
 #[derive(Drop)]
 struct Object<'k, 'a> {
     keys: &'k [&'k str],
-    article: &'a Vec<String>,
+    article: &'a [String],
     numbers: [usize; 4],
     // The numbers as texts, if they have decimals.
     texts: Option<Vec<String>>,
@@ -174,9 +175,9 @@ impl Serialize for Object<'_, '_> {
 }
 
 // The rows as JSON.
-fn json_of(
+fn json_of<A: Article>(
     alloc: Global,
-    rows: &[Row<&Vec<String>>],
+    rows: &[Row<&A>],
     layout: Layout<'_>,
 ) -> Result<Vec<u8>, AllocError> {
     let mut objects = Vec::new(alloc);
@@ -189,7 +190,7 @@ fn json_of(
             };
             objects.push(Object {
                 keys: layout.keys,
-                article: row.article,
+                article: row.article.texts(),
                 numbers: numbers_in(row),
                 texts,
             })?;
@@ -201,9 +202,9 @@ fn json_of(
 }
 
 /// Returns the text of matched lists.
-pub fn text_of(
+pub fn text_of<A: Article>(
     alloc: Global,
-    matched: &Matched<&Vec<String>>,
+    matched: &Matched<&A>,
     layout: Layout<'_>,
     form: Form,
 ) -> Result<Vec<u8>, AllocError> {

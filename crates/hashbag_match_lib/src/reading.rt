@@ -8,6 +8,7 @@ ghost use Rattle.hashbag_match_lib.specs.Fields.{HasLineMore, IsTallyOfLines};
 
 use crate::tally::{Tally, empty_tally};
 use hashbag::BagError;
+use hashbag_csv::article::Article;
 use hashbag_csv::counts::Reading;
 use hashbag_csv::fault::SheetError;
 use hashbag_csv::lines::LineColumns;
@@ -18,15 +19,15 @@ use std::alloc::Global;
 use std::hash::BuildHasher;
 
 // Adds an article and its number, which the record that was read last has, if the total is at most the greatest of the scale.
-fn add_line<S: BuildHasher + Drop>(
+fn add_line<A: Article + Drop, S: BuildHasher + Drop>(
     alloc: Global,
     sheet: &Sheet<'_>,
-    tally: &mut Tally<Vec<String>, S>,
-    article: Vec<String>,
+    tally: &mut Tally<A, S>,
+    article: A,
     number: usize,
     scale: Scale,
 ) -> Result<(), SheetError>
-    ensures { OnOk result (HasLineMore article number tally.old.counts tally.old.zeros tally.new.counts tally.new.zeros) }
+    ensures { OnOk result (HasLineMore A.eq article number tally.old.counts tally.old.zeros tally.new.counts tally.new.zeros) }
 {
     if number > scale.most.saturating_sub(tally.counts.len()) {
         return Err(sheet.bad_line(total_too_large(alloc, scale)?));
@@ -39,17 +40,17 @@ fn add_line<S: BuildHasher + Drop>(
 }
 
 // Adds the lines that are left of a text.
-fn add_lines<S: BuildHasher + Drop>(
+fn add_lines<A: Article + Drop, S: BuildHasher + Drop>(
     alloc: Global,
     sheet: &mut Sheet<'_>,
     columns: &LineColumns<'_>,
-    tally: &mut Tally<Vec<String>, S>,
+    tally: &mut Tally<A, S>,
     scale: Scale,
 ) -> Result<(), SheetError>
-    ensures { OnOk result ((K : List (Record × ℕ)) → IsTallyOfLines K tally.old.counts tally.old.zeros
-        → IsTallyOfLines (K ++ map (line_of scale (key_places columns.now) (number_place columns.now)) (left sheet.old)) tally.new.counts tally.new.zeros) }
+    ensures { OnOk result ((K : List (Record × ℕ)) → IsTallyOfLines A.eq A.fields K tally.old.counts tally.old.zeros
+        → IsTallyOfLines A.eq A.fields (K ++ map (line_of scale (key_places columns.now) (number_place columns.now)) (left sheet.old)) tally.new.counts tally.new.zeros) }
 {
-    'lines: while let Some((article, number)) = columns.read(alloc, sheet, scale)? {
+    'lines: while let Some((article, number)) = columns.read::<A>(alloc, sheet, scale)? {
         add_line(alloc, sheet, tally, article, number, scale)?;
     }
     Ok(())
@@ -66,16 +67,16 @@ fn add_lines<S: BuildHasher + Drop>(
 ///
 /// Allocates the article of each line: a vector, and a text for each field. Keeps those of new articles, and drops the others. Hashes
 /// the article of each line once, and one that is carried into a larger table once more.
-pub fn read_tally<S: BuildHasher + Copy + Drop>(
+pub fn read_tally<A: Article + Drop, S: BuildHasher + Copy + Drop>(
     alloc: Global,
     state: S,
     text: &[u8],
     keys: &[&str],
     number_column: &str,
     reading: Reading,
-) -> Result<Tally<Vec<String>, S>, SheetError>
+) -> Result<Tally<A, S>, SheetError>
     ensures lines { IfOk result (λ tally.
-        IsTallyOfLines (lines_in reading (map (λ k. k.now) keys.now) number_column.now text.now) tally.counts tally.zeros) }
+        IsTallyOfLines A.eq A.fields (lines_in reading (map (λ k. k.now) keys.now) number_column.now text.now) tally.counts tally.zeros) }
 
     // Nothing waits in either bag.
     ensures carried { IfOk result (λ tally. (tally.counts.tables.waiting ≡ []) × (tally.zeros.tables.waiting ≡ [])) }

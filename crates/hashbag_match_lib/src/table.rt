@@ -6,6 +6,7 @@ ghost use Rattle.hashbag_match_lib.specs.Widths.{AreWidened};
 use crate::matching::{Matched, Row};
 use crate::output::{Layout, numbers_of};
 use crate::totals::Totals;
+use hashbag_csv::article::Article;
 use hashbag_csv::decimals::write_decimal;
 use hashbag_csv::escaped::Escaped;
 use hashbag_csv::scale::Scale;
@@ -29,13 +30,13 @@ fn titles_of(alloc: Global, keys: &[&str]) -> Result<Vec<String>, AllocError> {
 }
 
 // The cells of a row: the fields of its article with control characters escaped, then its numbers.
-fn cells_of(
+fn cells_of<A: Article>(
     alloc: Global,
-    row: &Row<&Vec<String>>,
+    row: &Row<&A>,
     scale: Scale,
 ) -> Result<Vec<String>, AllocError> {
     let mut cells = Vec::new(alloc);
-    for field in row.article {
+    for field in row.article.texts() {
         cells.push(format!(in alloc; "{}", Escaped(field.as_str()))?)?;
     }
     for number in numbers_of(alloc, row, scale)? {
@@ -116,9 +117,9 @@ fn push_totals(
 }
 
 /// Returns the rows in columns, articles at the left, and the sums of all rows below them.
-pub fn table_of(
+pub fn table_of<A: Article>(
     alloc: Global,
-    matched: &Matched<&Vec<String>>,
+    matched: &Matched<&A>,
     layout: Layout<'_>,
 ) -> Result<Vec<u8>, AllocError> {
     let titles = titles_of(alloc, layout.keys)?;

@@ -30,12 +30,14 @@ impl<T: Eq + Hash + Drop, S: BuildHasher + Drop> Tally<T, S> {
         // L are the lines so far.
         ensures added { OnOk result ((L : List (T × ℕ)) → IsTallyOf T.eq L self.old.counts self.old.zeros
             → IsTallyOf T.eq (L ++ (article, number) ∷ []) self.new.counts self.new.zeros) }
+
+        // The limit of a tally's `counts` is `usize::MAX` (`limit` of `IsTallyOf`).
         ensures too_many { (result ≡ Err BagError.TooMany) ↔ (self.old.counts.most < length self.old.counts.items + number) }
         ensures only_memory { length self.old.counts.items + number ≤ self.old.counts.most → IfErr result (λ e. e ≡ BagError.Memory) }
         ensures err { OnErr result (self.new ≡ self.old) }
     {
         if number == 0 {
-            // `len` is called for its clause: what the bag has fits.
+            // Does nothing at run time. It gives the proof the contract of `len`: the total of the bag fits.
             let _len = self.counts.len();
             return match self.zeros.insert(article) {
                 Ok(_) => Ok(()),

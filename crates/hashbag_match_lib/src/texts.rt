@@ -9,6 +9,7 @@ use crate::matching::match_tallies;
 use crate::output::{Layout, text_of};
 use crate::reading::read_tally;
 use crate::tally::Tally;
+use hashbag_csv::article::Article;
 use hashbag_csv::fault::SheetError;
 use std::alloc::{AllocError, Global};
 use std::hash::BuildHasher;
@@ -21,14 +22,14 @@ use std::hash::BuildHasher;
 ///
 /// # Complexity
 ///
-/// As of [`read_tally`].
-pub fn read_ordered<S: BuildHasher + Copy + Drop>(
+/// Same as [`read_tally`].
+pub fn read_ordered<A: Article + Drop, S: BuildHasher + Copy + Drop>(
     alloc: Global,
     state: S,
     text: &[u8],
     ask: &Ask<'_>,
-) -> Result<Tally<Vec<String>, S>, SheetError>
-    ensures { IfOk result (λ tally. IsTallyOfLines (ordered_in ask.now text.now) tally.counts tally.zeros) }
+) -> Result<Tally<A, S>, SheetError>
+    ensures { IfOk result (λ tally. IsTallyOfLines A.eq A.fields (ordered_in ask.now text.now) tally.counts tally.zeros) }
 {
     let columns = &ask.ordered;
     read_tally(
@@ -42,13 +43,13 @@ pub fn read_ordered<S: BuildHasher + Copy + Drop>(
 }
 
 // Reads what was delivered.
-fn read_delivered<S: BuildHasher + Copy + Drop>(
+fn read_delivered<A: Article + Drop, S: BuildHasher + Copy + Drop>(
     alloc: Global,
     state: S,
     text: &[u8],
     ask: &Ask<'_>,
-) -> Result<Tally<Vec<String>, S>, SheetError>
-    ensures { IfOk result (λ tally. IsTallyOfLines (delivered_in ask.now text.now) tally.counts tally.zeros) }
+) -> Result<Tally<A, S>, SheetError>
+    ensures { IfOk result (λ tally. IsTallyOfLines A.eq A.fields (delivered_in ask.now text.now) tally.counts tally.zeros) }
 {
     let columns = &ask.delivered;
     read_tally(
@@ -62,14 +63,14 @@ fn read_delivered<S: BuildHasher + Copy + Drop>(
 }
 
 // Returns what is written of two tallies, and whether they agree.
-fn written<S: BuildHasher + Drop>(
+fn written<A: Article + Drop, S: BuildHasher + Drop>(
     alloc: Global,
-    ordered: &Tally<Vec<String>, S>,
-    delivered: &Tally<Vec<String>, S>,
+    ordered: &Tally<A, S>,
+    delivered: &Tally<A, S>,
     ask: &Ask<'_>,
 ) -> Result<(Vec<u8>, bool), AllocError>
-    ensures agree { IfOk result (λ made. (L M : Lines) → IsTallyOfLines L ordered.now.counts ordered.now.zeros
-        → IsTallyOfLines M delivered.now.counts delivered.now.zeros → (IsTrue made.1 ↔ HaveSameQuantities L M)) }
+    ensures agree { IfOk result (λ made. (L M : Lines) → IsTallyOfLines A.eq A.fields L ordered.now.counts ordered.now.zeros
+        → IsTallyOfLines A.eq A.fields M delivered.now.counts delivered.now.zeros → (IsTrue made.1 ↔ HaveSameQuantities L M)) }
 {
     let matched = match_tallies(alloc, ordered, delivered)?;
     let layout = Layout {
@@ -91,17 +92,17 @@ fn written<S: BuildHasher + Drop>(
 ///
 /// # Complexity
 ///
-/// As of [`read_tally`] and [`match_tallies`].
-pub fn match_delivered<S: BuildHasher + Copy + Drop>(
+/// Same as [`read_tally`] and [`match_tallies`] together.
+pub fn match_delivered<A: Article + Drop, S: BuildHasher + Copy + Drop>(
     alloc: Global,
     state: S,
-    ordered: &Tally<Vec<String>, S>,
+    ordered: &Tally<A, S>,
     text: &[u8],
     ask: &Ask<'_>,
 ) -> Result<(Vec<u8>, bool), SheetError>
     // `first` is any text with the lines that were tallied as ordered.
     ensures agree { IfOk result (λ made. (first : List ℕ)
-        → IsTallyOfLines (ordered_in ask.now first) ordered.now.counts ordered.now.zeros
+        → IsTallyOfLines A.eq A.fields (ordered_in ask.now first) ordered.now.counts ordered.now.zeros
         → (IsTrue made.1 ↔ HaveSameQuantities (ordered_in ask.now first) (delivered_in ask.now text.now))) }
 {
     let delivered = read_delivered(alloc, state, text, ask)?;

@@ -97,7 +97,7 @@ module _ {X : Type 0} {lt : X → X → Bool} (weak : IsStrictWeakOrder lt) wher
   placed x [] up = (x ∷ [], IsPermutation-refl (x ∷ []), (tt, tt))
   placed x (w ∷ ws) up = placed_at x w ws up (placed x ws up.1) (lt x w) refl
 
-  -- each list rises in some order
+  -- each list has a rearrangement in ascending order
   in_order : (xs : List X) → (vs : List X) × IsPermutation xs vs × Rises lt vs
   in_order [] = ([], IsPermutation-refl [], tt)
   in_order (x ∷ xs) =

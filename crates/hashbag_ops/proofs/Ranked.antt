@@ -1,4 +1,4 @@
--- Pairs that are sorted by falling count, and then by rising value.
+-- Pairs in descending order of counts, and with equal counts in ascending order of values.
 use Rattle.std.proofs.Common.{◌≡◌, ℕ, suc, ◌<◌, ◌+◌, Bool, false, List, [], ◌∷◌, length, get_or, map, Ordering, Less, Equal, Greater, is_lt, is_eq, nat_cmp, refl, sym, ◌∙◌, ap, arith}
 use denote.Ref.{Bor}
 use denote.Param.Members.{Mut}
@@ -55,7 +55,7 @@ module _ {T : Type 0} {eq : T → T → Bool} (laws : IsEquivalence eq) {cmp : T
   all_after p [] up apart = tt
   all_after p (q ∷ ps) up apart = (first_at p q (rank cmp q p) refl up.0 apart.0, all_after p ps up.1 apart.1)
 
-  -- pairs of distinct values that rise are each before those after it
+  -- of pairs of distinct values in ascending order, each is before those after it
   pub ranked_from_rising : (ps : List (T × ℕ)) → Rises (comes_first cmp) ps → IsDistinct eq (keys_of ps) → IsStrictlySortedBy (rank cmp) ps
   unfolding IsStrictlySortedBy
   ranked_from_rising [] up distinct = tt

@@ -19,7 +19,7 @@ rank cmp x y = ordering_then (nat_cmp y.1 x.1) (cmp x.0 y.0)
 abbrev pub IsMostCommon : {T S : Type 0} → (T → T → Bool) → (T → T → Ordering) → ℕ → Bag T S → List (T × ℕ) → Type 0
 IsMostCommon {T} eq cmp k bag P = (W : List (T × ℕ)) × IsSetWalkOf eq bag W × IsStrictlySortedBy (rank cmp) W × (P ≡ take k W)
 
--- whether x comes before y in that order
+-- whether x comes before y in the order of `rank`
 abbrev pub comes_first : {T : Type 0} → (T → T → Ordering) → T × ℕ → T × ℕ → Bool
 comes_first cmp x y = is_lt (rank cmp x y)
 
@@ -39,6 +39,7 @@ KeepsFirst {X} lt k H x H' = (P : List X) → IsFirstOf lt k P H → IsFirstOf l
 abbrev pub counted_pair : {T : Type 0} → Reverse ℕ × Bor T → T × ℕ
 counted_pair e = (e.1.now, e.0.0)
 
+-- the order of such pairs: the most common first, and values that are equally common in their own order
 abbrev pub counted_cmp : {T : Type 0} → (T → T → Ordering) → Reverse ℕ × Bor T → Reverse ℕ × Bor T → Ordering
 counted_cmp cmp x y = rank cmp (counted_pair x) (counted_pair y)
 

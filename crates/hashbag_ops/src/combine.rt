@@ -29,7 +29,7 @@ use std::iter::ExactSizeIterator;
 /// # Complexity
 ///
 /// Each distinct value of `from` is hashed once, and again if it is inserted when `into` has no room left. Those of `into` are hashed once
-/// if it gets other slots. If `into` isn't empty and may not have room, memory for the distinct values of both is allocated first. It is at
+/// if it gets other slots. If `into` isn't empty and might lack room, memory for the distinct values of both is allocated first. It is at
 /// most twice as much as is needed. If it isn't used, nothing is written to it before it is freed. If that allocation fails, each distinct
 /// value of `from` is hashed once more, to count those that `into` lacks.
 ///
@@ -108,7 +108,7 @@ fn insert_beside_spare<T: Eq + Hash + Drop, S: BuildHasher + Drop, S2: BuildHash
     ensures slots { length into.old.tables.newer ≤ length into.new.tables.newer }
     ensures unbuilt { HasRoomForLacked T.eq from into.old.items into.old.tables → into.new.tables.built ≡ into.old.tables.built }
 {
-    // `len` is called for its clause `bag`.
+    // Does nothing at run time. It gives the proof the contract of `len`: its clause `bag`.
     let _len = into.len();
     let mut pairs = from.into_iter();
     'pairs: while let Some((value, n)) = pairs.next() {
@@ -157,7 +157,7 @@ fn lacked_by<T: Eq + Hash + Drop, S: BuildHasher + Drop, S2: BuildHasher + Drop>
     if bag.is_empty() {
         return from.set_iter().len();
     }
-    // `limit` is called for its clause `within`.
+    // Does nothing at run time. It gives the proof the contract of `limit`: its clause `within`.
     let _limit = from.limit();
     from.not_in(bag).count()
 }
@@ -175,8 +175,8 @@ fn lacked_by<T: Eq + Hash + Drop, S: BuildHasher + Drop, S2: BuildHasher + Drop>
 ///
 /// # Complexity
 ///
-/// It allocates a copy of `from` while it runs. Each distinct value of `from` is hashed once more than by [`merge`], for that copy; those
-/// of `into` if it grows.
+/// It allocates a copy of `from` while it runs. Each distinct value of `from` is hashed once more than by [`merge`], for that copy; each
+/// of `into` once if it grows.
 ///
 /// # Examples
 ///
@@ -257,7 +257,7 @@ pub fn keep_common<T: Eq + Hash + Drop, S: BuildHasher + Drop, S2: BuildHasher +
 ///
 /// # Complexity
 ///
-/// It hashes each distinct value of the bag with fewer of them once, of `bag` if both have as many. It doesn't allocate and can't fail.
+/// It hashes each distinct value of one bag once: of `other` if that has fewer, else of `bag`. It doesn't allocate and can't fail.
 ///
 /// # Examples
 ///
@@ -311,7 +311,7 @@ pub fn take_away<T: Eq + Hash + Drop, S: BuildHasher + Drop, S2: BuildHasher + D
 ///
 /// # Complexity
 ///
-/// Each distinct value of `from` is hashed at most three times; those of `into` if it grows.
+/// Each distinct value of `from` is hashed at most three times; each of `into` once if it grows.
 ///
 /// # Examples
 ///
@@ -339,7 +339,7 @@ pub fn keep_most<T: Eq + Hash + Drop, S: BuildHasher + Drop, S2: BuildHasher + D
     // If both totals together fit, only an allocation can fail.
     ensures fits { length into.old.items + length from.items ≤ into.old.most → IfErr result (λ e. e ≡ BagError.Memory) }
 
-    // The total is that of every list with the greater counts: all these are equally long.
+    // Z is any list with the greater counts: all of these are equally long.
     ensures too_many { (Z : List T) → IsUnion T.eq into.old.items from.items Z
         → (result ≡ Err BagError.TooMany) ↔ (into.old.most < length Z) }
     ensures only_memory { (Z : List T) → IsUnion T.eq into.old.items from.items Z → length Z ≤ into.old.most

@@ -13,7 +13,7 @@ use std::cmp::{Ordering, Reverse};
 use std::collections::BinaryHeap;
 use std::hash::{BuildHasher, Hash};
 
-/// Returns the distinct values of a bag with their counts, in the order of a walk, which is open.
+/// Returns the distinct values of a bag with their counts, in no particular order.
 ///
 /// # Errors
 ///
@@ -48,7 +48,7 @@ pub fn counts<'a, T: Eq + Hash + Drop, S: BuildHasher + Drop>(
     Ok(list)
 }
 
-/// Returns the distinct values of a bag with their counts, values rising. Bags with the same counts give lists with the same counts,
+/// Returns the distinct values of a bag with their counts, values in ascending order. Bags with the same counts give lists with the same counts,
 /// whatever their history and states.
 ///
 /// # Errors
@@ -66,8 +66,8 @@ pub fn counts<'a, T: Eq + Hash + Drop, S: BuildHasher + Drop>(
 /// words.insert_many("the", 3)?;
 /// words.insert("cat")?;
 /// let pairs = hashbag_ops::sorted(alloc, &words)?;
-/// pairs.first(); // Some(("cat", 1))
-/// pairs.last(); // Some(("the", 3))
+/// pairs.first().map(|pair| *pair.0); // Some("cat")
+/// pairs.last().map(|pair| pair.1); // Some(3)
 /// Ok(())
 /// ```
 pub fn sorted<'a, T: Ord + Hash + Drop, S: BuildHasher + Drop>(
@@ -83,8 +83,8 @@ pub fn sorted<'a, T: Ord + Hash + Drop, S: BuildHasher + Drop>(
     Ok(pairs)
 }
 
-/// Returns the `k` most common values of a bag with their counts, or all if there are fewer: counts falling, and values that occur equally
-/// often rising. They are the first of the one list of all values in that order.
+/// Returns the `k` most common values of a bag with their counts, or all if there are fewer: counts in descending order, and among equal
+/// counts the values in ascending order. They are the first of all values in that order.
 ///
 /// # Errors
 ///
@@ -107,8 +107,8 @@ pub fn sorted<'a, T: Ord + Hash + Drop, S: BuildHasher + Drop>(
 /// words.insert("sat")?;
 /// words.insert("cat")?;
 /// let pairs = hashbag_ops::most_common(alloc, &words, 2)?;
-/// pairs.first(); // Some(("the", 3))
-/// pairs.last(); // Some(("cat", 1))
+/// pairs.first().map(|pair| *pair.0); // Some("the")
+/// pairs.last().map(|pair| *pair.0); // Some("cat")
 /// Ok(())
 /// ```
 pub fn most_common<'a, T: Ord + Hash + Drop, S: BuildHasher + Drop>(
@@ -177,7 +177,7 @@ fn first_ranked<'a, T: Ord + Hash + Drop, S: BuildHasher + Drop>(
     Ok(pairs)
 }
 
-// Returns the heap of them, the last at its top. Room for all is allocated at once.
+// Returns a heap of the first `k` in that order, the last on top. Room for all is allocated at once.
 fn heap_of_first<'a, T: Ord + Hash + Drop, S: BuildHasher + Drop>(
     alloc: Global,
     bag: &'a HashBag<T, S>,

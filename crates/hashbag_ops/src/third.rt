@@ -17,7 +17,7 @@ use std::hash::{BuildHasher, Hash};
 ///
 /// # Complexity
 ///
-/// It clones both bags: each distinct value of `a` is hashed once, each of `b` twice.
+/// It clones both bags. Each distinct value of `a` is hashed once, and again if the sum grows; each of `b` at most four times.
 ///
 /// # Examples
 ///
@@ -62,7 +62,7 @@ pub fn sum<
 ///
 /// # Complexity
 ///
-/// It clones both bags. Each distinct value of `a` is hashed once, each of `b` at most four times.
+/// It clones both bags. Each distinct value of `a` is hashed once, and again if the union grows; each of `b` at most four times.
 ///
 /// # Examples
 ///

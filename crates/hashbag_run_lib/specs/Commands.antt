@@ -54,6 +54,7 @@ command_on bag line = command_after bag (slice_split (λ b. b == 32) line)
 abbrev pub is_bad : List ℕ → Bool
 is_bad line = nat_lt 0 (length line) && (is_none (command_on (codes "a") line) && is_none (command_on (codes "b") line))
 
+-- the lines of an input: what is between line feeds
 abbrev pub lines_of : List ℕ → List (List ℕ)
 lines_of input = slice_split (λ b. b == 10) input
 

@@ -23,7 +23,7 @@ pub record IsReadAs (P : List ℕ → List ℕ → Type 0) (before after : Optio
   pub ended : IsAtEnd after
   pub is : P input text
 
--- such a text was written
+-- a text of which P holds with the bytes that the reader gave was written whole
 pub record ReadsAndWrites (P : List ℕ → List ℕ → Type 0) (before after old new : Option (List ℕ)) : Type 0 where
   pub text : List ℕ
   pub is : IsReadAs P before after text

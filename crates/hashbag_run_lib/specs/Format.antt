@@ -19,12 +19,13 @@ abbrev pub IsBadLineOf : List ℕ → LinesError → Type 0
 IsBadLineOf input (BadLine number) = first_bad input ≡ Some number
 IsBadLineOf input Memory = Unit {0}
 
--- the step of a line, if it names a, and if it names b
+-- the step of a line, if it names a
 abbrev pub step_on_a : Line → Option (Step ℕ)
 step_on_a (A step) = Some step
 step_on_a (B step) = None
 step_on_a Other = None
 
+-- the step of a line, if it names b
 abbrev pub step_on_b : Line → Option (Step ℕ)
 step_on_b (A step) = None
 step_on_b (B step) = Some step

@@ -1,4 +1,4 @@
--- The lines of four joins, each by rising values.
+-- The lines of four joins, each in ascending order of values.
 use Rattle.std.specs.Prelude.{◌≡◌, ℕ, ℤ, List, ◌++◌, IsPermutation}
 use Rattle.std.specs.List.Sorted.{IsNonDecreasingBy}
 use Rattle.hashbag_run_lib.specs.declared.joined.JoinLists.{JoinLists}

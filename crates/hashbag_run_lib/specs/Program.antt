@@ -18,12 +18,13 @@ IsAnswerTo input (Done text) = IsRunOf input (string_bytes text)
 IsAnswerTo input (BadLine text) = NamesBadLine input (string_bytes text)
 IsAnswerTo input NoMemory = Unit {0}
 
--- the text of an outcome, and its status
+-- the text of an outcome
 abbrev pub text_of : Outcome → List ℕ
 text_of (Done text) = string_bytes text
 text_of (BadLine text) = string_bytes text
 text_of NoMemory = no_memory
 
+-- the status of an outcome
 abbrev pub status_of : Outcome → ℕ
 status_of (Done text) = 0
 status_of (BadLine text) = 2

@@ -59,7 +59,7 @@ module _ {T : Type 0} where
     | inr grown ↦ absurd (let one = grown.0 in let full = grown.1 in omega (arith, one, full, enough))
   ]
 
-  -- ---- slots that a closure was asked about
+  -- ---- `retain`: the slots, once its closure has given a count for each
 
   -- how many slots the two counts have of one
   abbrev one_live : Slot T → ℕ

@@ -1,5 +1,4 @@
--- The definitions compute, on the bag of the examples of lists: 1 twice and 2 once, of which a number and a tag are an
--- instance.
+-- Examples, by evaluation, on `bag` of `Examples` of hashbag_core: 1 twice and 2 once, each instance a number with a tag.
 use Rattle.std.specs.Prelude.{◌≡◌, ◌⊎◌, ℕ, ◌<◌, ◌≤◌, ◌^◌, Bool, true, false, List, [], ◌∷◌, length, replicate, slice_index, refl}
 use Rattle.std.proofs.Common.{zero, suc, inl, inr, lit<, arith}
 use Rattle.std.specs.List.{list_any}

@@ -13,6 +13,7 @@ pub record Ran (T S : Type 0) : Type 0 where
   pub replies_before : List (Reply T)
   pub replies_after : List (Reply T)
 
+-- the run of these steps on a bag, from `before` to `after`, with the replies before it and after it
 abbrev pub ran : {T S : Type 0} → Bag T S → Bag T S → List (Step T) → List (Reply T) → List (Reply T) → Ran T S
 ran before after steps replies_before replies_after = record { before = before; after = after; steps = steps; replies_before = replies_before; replies_after = replies_after }
 

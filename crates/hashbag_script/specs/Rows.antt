@@ -57,7 +57,7 @@ module _ {T : Type 0} (eq : T → T → Bool) where
   abbrev pub quota : List (T × ℕ) → T → ℕ
   quota list u = unwrap_or (option_map (λ p. p.1) (find (λ p. eq u p.0) list)) 0
 
-  -- of each value u of X the lesser of its count and `many u`: an item is kept if fewer than that are equal to it later on
+  -- of each value u of X the lesser of its count and `many u`: an item is kept if fewer than `many u` later items are equal to it
   abbrev pub retained : (T → ℕ) → List T → List T
   retained many [] = []
   retained many (x ∷ X) = if nat_lt (count eq x X) (many x) then x ∷ retained many X else retained many X
@@ -66,7 +66,7 @@ module _ {T : Type 0} (eq : T → T → Bool) where
   abbrev pub retain_row : List (T × ℕ) → List T → List T × Reply T
   retain_row list X = (retained (quota list) X, Done)
 
-  -- clear: nothing
+  -- clear: nothing occurs any more
   abbrev pub clear_row : List T → List T × Reply T
   clear_row X = ([], Done)
 
@@ -74,10 +74,11 @@ module _ {T : Type 0} (eq : T → T → Bool) where
   abbrev pub count_row : T → List T → List T × Reply T
   count_row v X = (X, Count (count eq v X))
 
-  -- reserve, and shrink_to_fit: what occurs stays as it is
+  -- reserve: what occurs stays as it is
   abbrev pub reserve_row : ℕ → List T → List T × Reply T
   reserve_row n X = (X, Done)
 
+  -- shrink_to_fit: what occurs stays as it is
   abbrev pub shrink_to_fit_row : List T → List T × Reply T
   shrink_to_fit_row X = (X, Done)
 

@@ -9,6 +9,7 @@ use Rattle.hashbag_core.specs.Bag.{Bag, Means}
 use Rattle.hashbag_core.specs.Occurrences.{greatest_total, count, distinct_count}
 use Rattle.hashbag_script.specs.Rows.{insert_row, replace_row, remove_row, remove_up_to_row, try_take_row, take_all_row, entry_set_row, entry_or_row, retain_row, clear_row, count_row, reserve_row, shrink_to_fit_row, limit_row}
 
+-- a list of steps
 abbrev pub Steps : Type 0 → Type 0
 Steps T = List (Step T)
 
@@ -99,13 +100,15 @@ module _ {T : Type 0} (eq : T → T → Bool) where
   limit_left most X [] = most
   limit_left most X (s ∷ steps) = limit_left (limit_after most X s) (step most X s).0 steps
 
-  -- what the steps leave of an empty list, in a bag for which no limit is set, the limit then, and what they reply on it
+  -- the list that the steps leave of an empty one, in a bag for which no limit is set
   abbrev pub left_by : Steps T → List T
   left_by steps = (run greatest_total [] steps).0
 
+  -- the limit that the steps leave of an empty bag for which no limit is set
   abbrev pub limit_by : Steps T → ℕ
   limit_by steps = limit_left greatest_total [] steps
 
+  -- what the steps reply on an empty bag for which no limit is set
   abbrev pub replies_to : Steps T → List (Reply T)
   replies_to steps = (run greatest_total [] steps).1
 

@@ -16,7 +16,7 @@ abbrev pub answered : {T S : Type 0} → Ran T S → List (Step T)
 answered r = take (length r.replies_after - length r.replies_before) r.steps
 
 module _ {T : Type 0} where
-  -- What a step on one value leaves of the tables, which found the value c times and left it d times. If it was absent and is present, it
+  -- What a step on one value leaves of the tables, if the value's count was c before and is d after. If it was absent and is present, it
   -- arrived, which carries the next 16 slots that waited. If it was absent and is so still, the tables are unchanged. If it was present,
   -- they are as `InPlace` says.
   pub record LeavesValue (c d : ℕ) (InPlace : Type 0) (old new : Tables T) : Type 0 where
@@ -25,7 +25,7 @@ module _ {T : Type 0} where
     pub present : 0 < c → InPlace
 
 module _ {T : Type 0} (eq : T → T → Bool) where
-  -- of v, which was there c times, there are d: its slot alone has the new count, or the count and the tables are unchanged
+  -- v has the count d, and had c: its slot alone has the new count, or the count and the tables are unchanged
   abbrev pub SetsCount : T → ℕ → ℕ → Tables T → Tables T → Type 0
   SetsCount v c d old new = LeavesValue c d (Recounts eq v d old new ⊎ ((d ≡ c) × (new ≡ old))) old new
 
@@ -40,7 +40,7 @@ module _ {T : Type 0} (eq : T → T → Bool) where
 
   -- What a step leaves of the tables, if it turned the list X into Y. One on a value changes them for that value alone. `Retain` changes
   -- counts in place, and `Clear` empties the slots. `Reserve n` makes room for n more values if there isn't that room, and `ShrinkToFit`
-  -- a smaller table if that is enough. Both then leave nothing that waits, or else the tables as they were. The others leave them so, too.
+  -- a smaller table if that is enough. Then nothing waits; else the tables are unchanged. The other steps change none.
   abbrev pub LeavesTables : List T → List T → Step T → Tables T → Tables T → Type 0
   LeavesTables X Y (Insert v) old new = SetsCount v (count eq v X) (count eq v Y) old new
   LeavesTables X Y (InsertMany v n) old new = SetsCount v (count eq v X) (count eq v Y) old new

@@ -86,7 +86,7 @@ fn insert<T: Eq + Hash + Drop, S: BuildHasher + Drop>(
     ensures takes { HasRoomFor T.eq bag.old (insert_row T.eq bag.old.most value n bag.old.items).0 → IsOk result }
     ensures tables { OnOk result (LeavesTablesOf T.eq (Step.InsertMany value n) bag.old bag.new) }
 {
-    // `len` is called for its clause `bag`.
+    // Does nothing at run time. It gives the proof the contract of `len`: its clause `bag`.
     let _len = bag.len();
     match bag.insert_many(value, n) {
         Ok(before) => Ok(Reply::Count(before)),
@@ -109,7 +109,7 @@ fn replace<T: Eq + Hash + Drop, S: BuildHasher + Drop>(
     ensures takes { HasRoomFor T.eq bag.old (replace_row T.eq bag.old.most value bag.old.items).0 → IsOk result }
     ensures tables { OnOk result (LeavesTablesOf T.eq (Step.Replace value) bag.old bag.new) }
 {
-    // `len` is called for its clause `bag`.
+    // Does nothing at run time. It gives the proof the contract of `len`: its clause `bag`.
     let _len = bag.len();
     match bag.replace(value) {
         Ok(before) => Ok(Reply::Count(before)),
@@ -191,7 +191,7 @@ fn entry_or<T: Eq + Hash + Drop, S: BuildHasher + Drop>(
     ensures takes { HasRoomFor T.eq bag.old (entry_or_row T.eq bag.old.most value quantity bag.old.items).0 → IsOk result }
     ensures tables { OnOk result (LeavesTablesOf T.eq (Step.EntryOr value quantity) bag.old bag.new) }
 {
-    // `len` is called for its clause `bag`.
+    // Does nothing at run time. It gives the proof the contract of `len`: its clause `bag`.
     let _len = bag.len();
     match bag.entry(value).or_insert_many(quantity) {
         Ok(count) => Ok(Reply::Count(count)),
@@ -216,7 +216,7 @@ fn retain<T: Eq + Hash + Drop, S: BuildHasher + Drop>(bag: &mut HashBag<T, S>, l
     ensures left { IsBagOf T.eq bag.old (retain_row T.eq list.now bag.old.items).0 bag.new }
     ensures tables { RetainsTables bag.old.tables bag.new.tables }
 {
-    // `len` is called for its clause `bag`.
+    // Does nothing at run time. It gives the proof the contract of `len`: its clause `bag`.
     let _len = bag.len();
     bag.retain(
         |value: &T, _count: usize| -> usize
@@ -257,14 +257,14 @@ fn apply<T: Eq + Hash + Drop, S: BuildHasher + Drop>(
     ensures asked { OnErr result (AsksForMemory T.eq bag.old.most bag.old.items bag.old.tables step) }
     ensures err { OnErr result (bag.new ≡ bag.old) }
 
-    // With room for what it inserts a step that isn't about room can't fail. What it leaves of the tables: of the steps about room only
-    // one that reserves it makes a larger table.
+    // With room for what it inserts a step that isn't about room can't fail. `turns`: what it leaves of the tables. `fewer`: of the steps
+    // about room only `Reserve` makes a larger table.
     ensures takes { is_about_room step ≡ false → HasRoomFor T.eq bag.old (step_of T.eq bag.old.most bag.old.items step).0 → IsOk result }
     ensures turns { OnOk result (LeavesTablesOf T.eq step bag.old bag.new) }
     ensures fewer { OnOk result (is_about_room step ≡ true → is_reserve step ≡ false
         → length bag.new.tables.newer ≤ length bag.old.tables.newer) }
 {
-    // `len` is called for its clause `bag`.
+    // Does nothing at run time. It gives the proof the contract of `len`: its clause `bag`.
     let _len = bag.len();
     match step {
         Step::Insert(value) => insert(bag, value, 1),
@@ -303,7 +303,7 @@ fn apply<T: Eq + Hash + Drop, S: BuildHasher + Drop>(
 ///
 /// # Errors
 ///
-/// `Memory` if an allocation fails. If it is that for all replies, which is the first, nothing changes. Else the run stops at the step that
+/// `Memory` if an allocation fails. If the first one fails, that of the replies, nothing changes. Else the run stops at the step that
 /// failed: the steps before it are done and have their replies, the bag is as that step found it, and the other steps are dropped. A step
 /// can fail so only if it
 ///
@@ -350,21 +350,21 @@ pub fn run<T: Eq + Hash + Drop, S: BuildHasher + Drop>(
     ensures roomy { IfRoomy T.eq bag.old steps.items (OnErr result (IsNotBegun (HasNoRoom replies.old steps)
         (ran bag.old bag.new steps.items replies.old.items replies.new.items))) }
 
-    // Of an empty bag without slots, as far as the run went: the most distinct values on the way bound the slots, and the values that
-    // arrived those that were built.
+    // If the bag was empty and had no slots, as far as the run went: the most distinct values on the way bound the slots, and the values that
+    // arrived bound the slots that were built.
     ensures bounded { IsBoundedRun T.eq (ran bag.old bag.new steps.items replies.old.items replies.new.items) }
 
     // The tables follow from those before by the steps with a reply, in turn, each as `LeavesTables` says.
     ensures tables { AreTablesInTurn T.eq (ran bag.old bag.new steps.items replies.old.items replies.new.items) }
 {
-    // `slots` and `waiting` are called for their clauses on the tables, which the proof names.
+    // Does nothing at run time. It gives the proof the contracts of `slots` and `waiting`: what is known of the tables.
     let _slots = bag.slots();
     let _waiting = bag.waiting();
     replies.reserve(steps.len())?;
     for step in steps {
         let reply = apply(bag, step)?;
         replies.push_reserved(reply);
-        // `slots` and `waiting` are called for their clauses on the tables, which the proof names.
+        // Does nothing at run time. It gives the proof the contracts of `slots` and `waiting`: what is known of the tables.
         let _slots = bag.slots();
         let _waiting = bag.waiting();
     }

@@ -1,5 +1,5 @@
-//! The edge of the programs, once: words and options, files that are read whole, outputs that are written whole or not at all, temporary
-//! files, whether two names are one file, what goes wrong, the exit statuses, and the version.
+//! What the edges of the programs share: words and options, files that are read whole, outputs that are written whole or not at all, and
+//! temporary files. Also whether two names are one file, what goes wrong, the exit statuses, and the version.
 //!
 //! No clause can say what a file has, so `tests/programs/words.sh` tries files: see the page of the program `hashbag_words`.
 #![tactic(auto)]

@@ -3,7 +3,7 @@ use clap::{Arg, ArgMatches, Command};
 use std::alloc::{AllocError, Global};
 
 /// A command, unless an allocation failed.
-pub type Made<'a> = Result<Command<'a>, AllocError>;
+pub type CommandResult<'a> = Result<Command<'a>, AllocError>;
 
 /// The names of the delimiters.
 pub static DELIMITERS: [&str; 4] = [",", ";", "tab", "\\t"];
@@ -15,12 +15,16 @@ pub static SCALES: [&str; 10] = ["0", "1", "2", "3", "4", "5", "6", "7", "8", "9
 pub static MARKS: [&str; 2] = [".", ","];
 
 /// Adds an argument.
-pub fn with<'a>(command: Made<'a>, arg: Arg<'a>) -> Made<'a> {
+pub fn with<'a>(command: CommandResult<'a>, arg: Arg<'a>) -> CommandResult<'a> {
     command?.arg(arg)
 }
 
 /// Adds `--delimiter`, with this help, and `--mark`.
-pub fn with_form<'a>(alloc: Global, command: Made<'a>, help: &'a str) -> Made<'a> {
+pub fn with_form<'a>(
+    alloc: Global,
+    command: CommandResult<'a>,
+    help: &'a str,
+) -> CommandResult<'a> {
     let delimiter = Arg::new(alloc, "delimiter")
         .long("delimiter")
         .value_name("DELIMITER")
@@ -37,7 +41,7 @@ pub fn with_form<'a>(alloc: Global, command: Made<'a>, help: &'a str) -> Made<'a
 }
 
 /// Adds `--scale`, `--mark` and `--delimiter`: how numbers and fields are read and written.
-pub fn with_reading<'a>(alloc: Global, command: Made<'a>) -> Made<'a> {
+pub fn with_reading<'a>(alloc: Global, command: CommandResult<'a>) -> CommandResult<'a> {
     let scale = Arg::new(alloc, "scale")
         .long("scale")
         .value_name("D")
@@ -49,7 +53,11 @@ pub fn with_reading<'a>(alloc: Global, command: Made<'a>) -> Made<'a> {
 }
 
 /// Adds `-o`, with this help.
-pub fn with_output<'a>(alloc: Global, command: Made<'a>, help: &'a str) -> Made<'a> {
+pub fn with_output<'a>(
+    alloc: Global,
+    command: CommandResult<'a>,
+    help: &'a str,
+) -> CommandResult<'a> {
     let output = Arg::new(alloc, "output")
         .short('o')
         .long("output")

@@ -22,7 +22,7 @@ struct Names {
 #[derive(Drop)]
 pub struct OutputFile<F> {
     file: F,
-    // `None`: what is named is no regular file, as a terminal, and is written as it is.
+    // `None` if it isn't a regular file, for example a terminal. It is then written directly.
     names: Option<Names>,
 }
 
@@ -86,7 +86,7 @@ impl<F: Write + OpenFile + Drop> OutputFile<F> {
         }
     }
 
-    // Sees to it that the device has what was written.
+    // Flushes what was written, and syncs a temporary file to the device.
     fn settle(&mut self) -> io::Result<()> {
         self.file.flush()?;
         if self.names.is_some() {
@@ -95,7 +95,7 @@ impl<F: Write + OpenFile + Drop> OutputFile<F> {
         Ok(())
     }
 
-    // Gives what was written the name of the output, unless a write failed.
+    // Renames the temporary file to the output. If a write or the rename fails, removes the temporary file.
     fn end<R: Files<File = F>>(mut self, rt: &R, written: io::Result<()>) -> io::Result<()> {
         let mut ended = match written {
             Ok(()) => self.settle(),
@@ -112,7 +112,7 @@ impl<F: Write + OpenFile + Drop> OutputFile<F> {
         ended
     }
 
-    /// Writes the text, and gives it the name of the output.
+    /// Writes the text, and renames the temporary file to the output.
     ///
     /// # Errors
     ///
@@ -122,7 +122,7 @@ impl<F: Write + OpenFile + Drop> OutputFile<F> {
         self.end(rt, written)
     }
 
-    /// Writes all that `from` has left, and gives it the name of the output.
+    /// Writes all that `from` has left, and renames the temporary file to the output.
     ///
     /// # Errors
     ///

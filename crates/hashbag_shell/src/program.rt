@@ -1,5 +1,5 @@
 //! A program from its words to its status.
-use crate::options::Made;
+use crate::options::CommandResult;
 use crate::status::{BAD_INPUT, DONE, IO_FAILED};
 use crate::trouble::Trouble;
 use clap::error::ErrorKind;
@@ -34,7 +34,7 @@ pub fn printed<'a, R: Print + Eprint>(rt: &R, error: &Error) -> Trouble<'a> {
 /// `Printed` after the help, the version, or what is wrong with the words was printed. `Memory` if an allocation fails.
 pub fn given_to<'a, R: Print + Eprint>(
     rt: &R,
-    command: Made<'a>,
+    command: CommandResult<'a>,
     words: &'a [String],
 ) -> Result<ArgMatches<'a>, Trouble<'a>> {
     match command?.try_get_matches_from(words) {

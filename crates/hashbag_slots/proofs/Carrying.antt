@@ -1,12 +1,12 @@
 -- Slots of the older table that are carried, and pairs that are placed in the newer one.
-use Rattle.std.proofs.Common.{◌≡◌, ℕ, ◌+◌, ◌-◌, ◌<◌, ◌≤◌, Bool, false, List, [], ◌∷◌, ◌++◌, length, take, drop, refl, sym, ap, subst, ◌∙◌, inl, inr, arith, slice_set}
+use Rattle.std.proofs.Common.{◌≡◌, ℕ, zero, suc, ◌+◌, ◌-◌, ◌<◌, ◌≤◌, Bool, false, List, [], ◌∷◌, ◌++◌, length, take, drop, refl, sym, ap, subst, ◌∙◌, inl, inr, arith, slice_set}
 use Rattle.std.proofs.lemmas.Bool.{cases_lt}
 use Rattle.std.proofs.Math.Seq.{take-add}
 use Rattle.std.proofs.lemmas.List.{ext_get_or, drop-drop, length-set, length-drop, take_more, get_or-drop}
 use Rattle.hashbag_slots.specs.declared.slots.Slot.{Slot}
 use Rattle.hashbag_slots.specs.declared.slots.Slot.TheVariants.{Empty, Removed, Moved, Live}
 use Rattle.hashbag_slots.specs.Slots.{is_live, holds, live_count, removed_count, is_removed, slot_at, IsAbsent, IsSet, entries, Places, PlacesAll, carried, Carries, entries_in, AreApart}
-use Rattle.hashbag_slots.specs.Columns.{Columns, CarriesInto}
+use Rattle.hashbag_slots.specs.Columns.{Columns, CarriesInto, IsReached}
 use Rattle.hashbag_slots.proofs.Probing.{false_by}
 use Rattle.hashbag_slots.proofs.Edits.{set_cases, count-set}
 
@@ -105,6 +105,28 @@ module _ {T : Type 0} where
   pub entries_in_one : (at : ℕ) (ss : List (Slot T)) → at < length ss → entries_in at 1 ss ≡ entries (slot_at ss at ∷ [])
   entries_in_one at ss lt = entries_in_more at 0 ss (omega arith) ∙ ap (λ p. entries (slot_at ss p ∷ [])) (let e : at + 0 ≡ at = omega arith in e)
 
+  no_entries_in : (at k : ℕ) (ss : List (Slot T)) → at + k ≤ length ss → ((p : ℕ) → at ≤ p → p < at + k → is_live (slot_at ss p) ≡ false) → entries_in at k ss ≡ []
+  no_entries_in at zero ss within dead = refl
+  no_entries_in at (suc k) ss within dead =
+      let more : suc k ≡ k + 1 = omega arith in
+      ap (λ j. entries_in at j ss) more ∙ entries_in_more at k ss (omega arith)
+      ∙ ap (λ es. es ++ entries (slot_at ss (at + k) ∷ [])) (no_entries_in at k ss (omega arith) (λ p a b. dead p a (omega arith)))
+      ∙ no_entries (slot_at ss (at + k)) (dead (at + k) (omega arith) (omega arith))
+
+  -- to carry slots of which none is Live changes nothing
+  pub CarriesInto-dead : (eq : T → T → Bool) (hash : T → ℕ) (at k : ℕ) (newer older : Columns T) → at + k ≤ length older.slots
+      → ((p : ℕ) → at ≤ p → p < at + k → is_live (slot_at older.slots p) ≡ false) → AreApart eq older.slots newer.slots → IsReached hash newer → CarriesInto eq hash at k newer older newer older
+  CarriesInto-dead eq hash at k newer older within dead apart reached = record {
+    placed = subst (λ es. PlacesAll hash es newer.slots newer.slots) (sym (no_entries_in at k older.slots within dead)) refl;
+    left = record { same_length = refl; inside = λ p a b. sym (carried_same (slot_at older.slots p) (dead p a b)); outside = λ p h. refl };
+    apart = apart;
+    sum = refl;
+    removed = omega arith;
+    slots = refl;
+    reached = reached;
+    older_reached = λ h r. r;
+  }
+
   -- a carry goes on where another one ended
   pub Carries-join : (from at n : ℕ) (old mid new : List (Slot T)) → from ≤ at → Carries from (at - from) old mid → Carries at n mid new → Carries from (at + n - from) old new
   Carries-join from at n old mid new le a b = record {
@@ -144,3 +166,13 @@ module _ {T : Type 0} where
     reached = d.reached;
     older_reached = λ h r. d.older_reached h (c.older_reached h r);
   }
+
+  -- a carry goes on past slots of which none is Live
+  pub CarriesInto-skip : (eq : T → T → Bool) (hash : T → ℕ) (from at to : ℕ) (newer older a b : Columns T) → from ≤ at → at ≤ to → to ≤ length older.slots
+      → ((p : ℕ) → at ≤ p → p < to → is_live (slot_at older.slots p) ≡ false) → CarriesInto eq hash from (at - from) newer older a b → CarriesInto eq hash from (to - from) newer older a b
+  CarriesInto-skip eq hash from at to newer older a b begun le within dead c =
+      let len = c.left.same_length in let end : at + (to - at) - from ≡ to - from = omega arith in
+      subst (λ k. CarriesInto eq hash from k newer older a b) end
+      (CarriesInto-join eq hash from at (to - at) newer older a b a b begun c
+      (CarriesInto-dead eq hash at (to - at) a b (omega arith)
+      (λ p x y. ap is_live (c.left.outside p (inr (omega arith))) ∙ dead p x (omega arith)) c.apart c.reached))

@@ -1,6 +1,6 @@
 -- Reading the columns.
-use Rattle.std.proofs.Common.{◌≡◌, ◌≢◌, ℕ, zero, suc, ◌<◌, ◌≤◌, inl, inr, Bool, true, false, cond, nat_eq, List, [], ◌∷◌, length, Option, Some, None, get_or, refl, sym, ap, subst, ◌∙◌, arith}
-use Rattle.std.proofs.lemmas.Bool.{cases_lt}
+use Rattle.std.proofs.Common.{◌≡◌, ◌≢◌, ℕ, zero, suc, ◌<◌, ◌≤◌, inl, inr, Bool, true, false, cond, leb, nat_eq, List, [], ◌∷◌, length, Option, Some, None, get_or, refl, sym, ap, subst, ◌∙◌, arith}
+use Rattle.std.proofs.lemmas.Bool.{cases_lt, le-leb, lt-leb}
 use Rattle.hashbag_slots.specs.declared.slots.Slot.TheVariants.{Empty, Removed, Moved, Live}
 use Rattle.hashbag_slots.specs.Slots.{path_slot, slot_at, holds, is_live, is_removed, IsNextLive, IsFirstFree}
 use Rattle.hashbag_slots.specs.Columns.{mark_of, IsNextMark, slot_of, slots_of, columns, Agree, IsReached}
@@ -69,6 +69,13 @@ module _ {T : Type 0} (ts : List ℕ) (cs : List (Option (T × ℕ))) (agree : A
 
   pub alive_at : 128 ≤ get_or ts p 0 → is_live (slot_at (slots_of ts cs) p) ≡ true
   alive_at h = let c = agree.filled p h in ap is_live (live_at c.0 c.1)
+
+  -- a slot is Live exactly if its tag is a mark
+  pub live_by_tag : leb 128 (get_or ts p 0) ≡ is_live (slot_at (slots_of ts cs) p)
+  live_by_tag = elim (cases_lt (get_or ts p 0) 128) [
+    | inl low ↦ lt-leb 128 (get_or ts p 0) low ∙ sym (dead_at low)
+    | inr high ↦ le-leb 128 (get_or ts p 0) high ∙ sym (alive_at high)
+  ]
 
   pub low_at : is_live (slot_at (slots_of ts cs) p) ≡ false → get_or ts p 0 < 128
   low_at h = elim (cases_lt (get_or ts p 0) 128) [ inl a ↦ a | inr b ↦ absurd (let z = alive_at b in cc) ]

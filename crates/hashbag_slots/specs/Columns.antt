@@ -6,7 +6,7 @@ use Rattle.hashbag_slots.specs.declared.slots.Slot.TheVariants.{Empty, Removed, 
 use Rattle.hashbag_slots.specs.Cells.{cell_at}
 use Rattle.hashbag_slots.specs.Slots.{path_slot, slot_at, live_count, removed_count, entries_in, KeepsPaths, PlacesAll, Carries, AreApart, IsTable}
 
--- the tag of a Live slot, its mark: 128 and the top seven bits of its value's hash
+-- the tag of a Live slot, its mark: 128 plus the top 7 bits of its value's hash
 abbrev pub mark_of : ℕ → ℕ
 mark_of hash = hash / 2 ^ 57 + 128
 
@@ -22,7 +22,7 @@ IsNextMark ts from p = (from ≤ p) × (p < length ts) × (128 ≤ tag_at ts p) 
 abbrev pub AreMarked : ℕ → List ℕ → ℕ → Type 0
 AreMarked hash ts many = (step : ℕ) → step < many → 128 ≤ tag_at ts (path_slot (length ts) hash step)
 
--- what contracts see of a table: its slots in order. The tags are for `IsReached` alone
+-- what contracts see of a table: its slots in order. The tags are for `IsReached` and `IsUndecided`
 pub record Columns (T : Type 0) : Type 0 where
   pub slots : List (Slot T)
   pub tags : List ℕ
@@ -39,6 +39,7 @@ module _ {T : Type 0} where
   slots_of (t ∷ ts) [] = []
   slots_of (t ∷ ts) (c ∷ cs) = slot_of t c ∷ slots_of ts cs
 
+  -- the table that tags and cells mean, with its tags
   abbrev pub columns : List ℕ → List (Option (T × ℕ)) → Columns T
   columns ts cs = record { slots = slots_of ts cs; tags = ts }
 
@@ -48,14 +49,14 @@ module _ {T : Type 0} where
     pub filled : (p : ℕ) → 128 ≤ tag_at ts p → (e : T × ℕ) × (cell_at cs p ≡ Some e)
     pub marked : (p : ℕ) (e : T × ℕ) → cell_at cs p ≡ Some e → 128 ≤ tag_at ts p
 
-  -- as `Agree`, from the place `from` on. All cells before it are empty, whatever their tags
+  -- from the place `from` on, a cell has a value exactly if the tag is 128 or more. All cells before it are empty, whatever their tags
   pub record AgreeFrom (from : ℕ) (ts : List ℕ) (cs : List (Option (T × ℕ))) : Type 0 where
     pub same_length : length ts ≡ length cs
     pub filled : (p : ℕ) → from ≤ p → 128 ≤ tag_at ts p → (e : T × ℕ) × (cell_at cs p ≡ Some e)
     pub marked : (p : ℕ) (e : T × ℕ) → cell_at cs p ≡ Some e → (from ≤ p) × (128 ≤ tag_at ts p)
 
   -- each Live value of a table is found under this hash: a probe for it meets no Empty slot before its slot, and the
-  -- tag of its slot is the mark of its hash. Callers pass this on as it is
+  -- tag of its slot is the mark of its hash. Each call requires and ensures it
   pub record IsReached (hash : T → ℕ) (table : Columns T) : Type 0 where
     pub paths : KeepsPaths hash table.slots
     pub marks : (p : ℕ) (v : T) (n : ℕ) → slot_at table.slots p ≡ Live v n → tag_at table.tags p ≡ mark_of (hash v)

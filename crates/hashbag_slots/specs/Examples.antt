@@ -1,4 +1,4 @@
--- The definitions compute. Values are numbers here, and so are their hashes: `hash` is the value itself.
+-- Examples, by evaluation. Values are numbers here, and so are their hashes: `hash` is the value itself.
 use Rattle.std.specs.Prelude.{◌≡◌, ℕ, ◌<◌, ◌≤◌, ◌==◌, true, false, List, [], ◌∷◌, ◌++◌, replicate, Some, None, refl}
 use Rattle.std.proofs.Common.{zero, suc, lit<, lit≤, inl, inr, arith}
 use Rattle.hashbag_slots.specs.declared.slots.Slot.{Slot}

@@ -11,20 +11,20 @@ IfFound (Found p) P = P p
 IfFound (Absent p) P = ⊤
 IfFound Open P = ⊤
 
--- if it is known to be absent, P holds of the place into which it is put
+-- if a value is known to be absent, P holds of the place into which it is put
 abbrev pub IfAbsent : FirstGroup → (ℕ → Type 0) → Type 0
 IfAbsent (Found p) P = ⊤
 IfAbsent (Absent p) P = P p
 IfAbsent Open P = ⊤
 
--- if they don't decide, P holds
+-- if the first 16 slots don't decide, P holds
 abbrev pub IfOpen : FirstGroup → Type 0 → Type 0
 IfOpen (Found p) P = ⊤
 IfOpen (Absent p) P = ⊤
 IfOpen Open P = P
 
--- the first 16 slots on the path of a hash can't decide whether a value that passes the test is Live: the table ends before the
--- sixteenth, or no tag of theirs is that of an Empty slot, and none of them holds such a value
+-- the first 16 slots on the path of a hash can't decide whether a value that passes the test is Live: either the table ends before
+-- the sixteenth, or none of them is Empty and none holds such a value
 abbrev pub IsUndecided : {T : Type 0} → (T → Bool) → ℕ → Columns T → Type 0
 IsUndecided test hash table =
     (length table.tags < path_slot (length table.tags) hash 0 + 16)

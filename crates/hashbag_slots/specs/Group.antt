@@ -13,7 +13,7 @@ from_place_on test from p = nat_le from p && test p
 abbrev pub IsMaskOf : (ℕ → Bool) → ℕ → ℕ → ℕ → Type 0
 IsMaskOf test from until bits = (i : ℕ) → bit_at bits i ≡ (if nat_lt (from + i) until then (if test (from + i) then 1 else 0) else 0)
 
--- as `IsMaskOf`, of no place before `at`
+-- bit i is 1 if the place from + i is not before `at`, is below `until`, and passes the test, and 0 otherwise
 abbrev pub IsMaskIn : (ℕ → Bool) → ℕ → ℕ → ℕ → ℕ → Type 0
 IsMaskIn test from at until bits = IsMaskOf (from_place_on test at) from until bits
 
@@ -26,6 +26,6 @@ IsTagMask ts tag from until bits = IsMaskOf (λ p. tag_at ts p == tag) from unti
 abbrev pub IsTagMaskBeforeEmpty : List ℕ → ℕ → ℕ → ℕ → Bool → Type 0
 IsTagMaskBeforeEmpty ts tag from bits ends = (stop : ℕ) × IsFirstPlace (λ p. tag_at ts p == 0) from (from + 16) stop × IsTagMask ts tag from stop bits × (ends ≡ nat_lt stop (from + 16))
 
--- no value that passes the test is Live in the slots from the place `from` on of which bits show that their tag is this one
+-- of the slots from the place `from` on that the bits mark as having this tag, none holds a value that passes the test
 abbrev pub IsAbsentAmong : {T : Type 0} → (T → Bool) → Columns T → ℕ → ℕ → ℕ → Type 0
 IsAbsentAmong test table tag from bits = (until : ℕ) → IsTagMask table.tags tag from until bits → (p : ℕ) → from ≤ p → p < until → tag_at table.tags p ≡ tag → holds test (slot_at table.slots p) ≡ false

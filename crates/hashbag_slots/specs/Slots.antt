@@ -35,9 +35,11 @@ module _ {T : Type 0} where
   holds test Moved = false
   holds test (Live v n) = test v
 
+  -- how many slots are Live
   abbrev pub live_count : List (Slot T) → ℕ
   live_count ss = count_by is_live ss
 
+  -- how many slots are Removed
   abbrev pub removed_count : List (Slot T) → ℕ
   removed_count ss = count_by is_removed ss
 
@@ -137,7 +139,7 @@ module _ {T : Type 0} where
   abbrev pub PlacesAlong : ℕ → T → ℕ → List (Slot T) → List (Slot T) → Type 0
   PlacesAlong hash v n old new = (p : ℕ) × IsFirstFree hash old p × (new ≡ slice_set old p (Live v n))
 
-  -- as `Places`, and the slot is the first on the path of the value's hash that was not Live
+  -- `Places`, and the slot is the first on the path of the value's hash that was not Live
   pub record PlacesFirst (hash : T → ℕ) (v : T) (n : ℕ) (old new : List (Slot T)) : Type 0 where
     pub places : Places v n old new
     pub first : IsFirstFree (hash v) old places.at

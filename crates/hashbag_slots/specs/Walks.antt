@@ -11,11 +11,11 @@ use Rattle.hashbag_slots.specs.Group.{IsMaskOf, IsMaskIn}
 abbrev pub pass_of : ℕ → ℕ
 pass_of p = p / 256 % 3
 
--- what is of the newer table in odd turns, and of the older one in even turns
+-- `newer` in odd turns, `older` in even ones
 abbrev pub of_turn : {X : Type 0} → ℕ → X → X → X
 of_turn turn newer older = if nat_eq (turn % 2) 1 then newer else older
 
--- the places of these tags, of which the first is p, whose slots are Live
+-- the places of the Live tags in this list, which begins at the place p
 abbrev pub marks : ℕ → List ℕ → List ℕ
 marks p [] = []
 marks p (t ∷ ts) = if nat_le 128 t then p ∷ marks (suc p) ts else marks (suc p) ts
@@ -28,16 +28,16 @@ marks_from from ts = marks from (drop from ts)
 abbrev pub in_pass : ℕ → List ℕ → List ℕ
 in_pass pass ps = filter (λ p. nat_eq (pass_of p) pass) ps
 
--- the Live places of a turn from the place `from` on, each with its turn: those of the pass that is half of it
+-- the Live places of a turn from the place `from` on, each with its turn: those of the pass turn / 2
 abbrev pub turn_places : ℕ → ℕ → List ℕ → List ℕ → List (ℕ × ℕ)
 turn_places turn from newer older = map (λ p. (turn, p)) (in_pass (turn / 2) (marks_from from (of_turn turn newer older)))
 
--- those of the last n turns
+-- the Live places of the last n turns, each with its turn
 abbrev pub turns : ℕ → List ℕ → List ℕ → List (ℕ × ℕ)
 turns zero newer older = []
 turns (suc turn) newer older = turn_places turn 0 newer older ++ turns turn newer older
 
--- those that are left to a walk which looks, in this turn, at the place `next` next
+-- the Live places, each with its turn, that are left to a walk which in this turn looks next at the place `next`
 abbrev pub places_left : ℕ → ℕ → List ℕ → List ℕ → List (ℕ × ℕ)
 places_left turn next newer older = turn_places turn next newer older ++ turns turn newer older
 
@@ -45,7 +45,7 @@ places_left turn next newer older = turn_places turn next newer older ++ turns t
 abbrev pub NoneLive : List ℕ → ℕ → ℕ → Type 0
 NoneLive ts pass from = (p : ℕ) → from ≤ p → pass_of p ≡ pass → tag_at ts p < 128
 
--- the next 16 slots of the pass, from the place `from` on, of which one is Live, and a bit for each
+-- the next 16 slots of the pass, from the place `from` on, that have a Live one, and a bit for each
 pub record IsNextGroup (ts : List ℕ) (pass from : ℕ) (group : ℕ × ℕ) : Type 0 where
   pub after : from ≤ group.0
   pub sixteen : group.0 % 16 ≡ 0
@@ -66,7 +66,7 @@ pub record IsCourse (newer older : List ℕ) (c : Course) : Type 0 where
   pub sixteen : c.until % 16 ≡ 0
   pub in_it : (p : ℕ) → c.next ≤ p → p < c.until → pass_of p ≡ c.turn / 2
 
--- the place is the first that was left to a walk in this turn at `next`, and the course is what it leaves
+-- the place is the first that was left to a walk in this turn at `next`, and the course goes on behind it
 pub record IsNextOn (newer older : List ℕ) (turn next place : ℕ) (c : Course) : Type 0 where
   pub within : place < length (of_turn c.turn newer older)
   pub live : 128 ≤ tag_at (of_turn c.turn newer older) place
@@ -75,7 +75,7 @@ pub record IsNextOn (newer older : List ℕ) (turn next place : ℕ) (c : Course
   pub first : places_left turn next newer older ≡ (c.turn, place) ∷ places_left c.turn c.next newer older
   pub course : IsCourse newer older c
 
--- that of a walk which begins: three turns of each table
+-- the course of a new walk: three turns of each table
 abbrev pub first_course : Course
 first_course = record { turn = 5; next = 0; ahead = 0; until = 0 }
 
@@ -84,7 +84,7 @@ module _ {T : Type 0} where
   abbrev pub entry_in : List (Option (T × ℕ)) → List (Option (T × ℕ)) → ℕ × ℕ → Option (T × ℕ)
   entry_in newer older x = cell_at (of_turn x.0 newer older) x.1
 
-  -- the entries that are left to a walk: over the tags of both tables, and then the cells of both
+  -- the entries left to a walk whose tables have the tags ts and us and the cells cs and ds
   abbrev pub entries_left : ℕ → ℕ → List ℕ → List ℕ → List (Option (T × ℕ)) → List (Option (T × ℕ)) → List (T × ℕ)
   entries_left turn next ts us cs ds = filter_map (entry_in cs ds) (places_left turn next ts us)
 

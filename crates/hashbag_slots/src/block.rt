@@ -1,8 +1,7 @@
 //! A block of memory for values that are stored later: how it is allocated, used, and freed.
 //!
-//! The kit's row of places keeps what it knows of each place together with a value of the type, so it needs a value to begin with. A block
-//! is what an allocator returns before that. It becomes a row with the first value, and a row that holds nothing becomes a block again, to
-//! be freed.
+//! `core::slots::Slots` needs a value of `T` to begin with. A `Block` is the memory before that, as an allocator returns it. It becomes a
+//! row with the first value. A row that holds nothing becomes a block again, to be freed.
 ghost use Rattle.core.specs.Prelude.{◌≡◌, ℕ, ◌*◌, ◌^◌, ◌<◌, false, replicate, IfOk, slice_index_or};
 ghost use Rattle.core.specs.Mem.Slots.{slots_ptr, slots_len, slots_filled};
 ghost use denote.RawPtr.{Ptr};
@@ -69,7 +68,7 @@ pub fn release<T, A: Allocator>(alloc: &A, block: Block<T>, deed: Deed<T, A>)
 }
 
 impl<T> Block<T> {
-    /// Returns the block as a row of empty places. In the logic the lent value is the value of each of them; it is not read.
+    /// Returns the block as a row of empty places. `_like` isn't read. It only gives contracts a value for each empty place.
     pub fn into_row(self, _like: &T) -> Places<T>
         ensures { (slots_ptr result ≡ self.ptr) × (slots_len result ≡ self.len) × (slots_filled result ≡ replicate self.len false) }
     {

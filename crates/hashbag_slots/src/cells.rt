@@ -62,8 +62,8 @@ impl<T> Cells<T> {
     ///
     /// # Errors
     ///
-    /// `AllocError` if the allocation fails, or if the cells have more bytes than an allocation can have. No cells don't allocate and can't
-    /// fail.
+    /// `AllocError` if the allocation fails, or if the cells have more bytes than an allocation can have. With `count` 0 it doesn't allocate
+    /// and can't fail.
     pub fn new(alloc: Global, count: usize) -> Result<Cells<T>, AllocError>
         ensures cells { IfOk result (λ c. c ≡ replicate count None) }
         ensures none { count ≡ 0 → IsOk result }

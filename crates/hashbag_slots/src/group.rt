@@ -88,8 +88,8 @@ pub fn lowest(bits: u64, from: usize) -> usize
 
 /// Returns the place of the lowest set bit, and the bits without it. Bit i is of the place `from + i`.
 ///
-/// The clauses say it of a test, if each bit shows whether its place passes it. The place is then the first that does, and the bits that
-/// are left show the places after it.
+/// In clauses, `test` is the condition that the bits stand for. The returned place is the first that passes `test`, and the returned bits
+/// stand for it at the places after that.
 #[inline(always)]
 pub fn take_lowest(bits: u64, from: usize) -> (usize, u64)
     requires some { 0 < bits }
@@ -112,7 +112,7 @@ pub fn match_tag_before_empty(tags: &[u8], from: usize, tag: u8) -> (u64, bool)
 {
     let empty = match_tag(tags, from, EMPTY);
     let equal = match_tag(tags, from, tag);
-    // `empty` less one has the bits below the first Empty tag set, that of this tag not, and above it those of `empty`, which aren't set in
-    // `equal`. If no tag is Empty, all bits are set.
+    // Subtracting 1 sets the bits below the first Empty tag and clears its own. The bits above stay, and `equal` has none of them. Without an
+    // Empty tag all bits are set.
     (equal & empty.wrapping_sub(1), empty != 0)
 }

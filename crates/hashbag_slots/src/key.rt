@@ -9,11 +9,11 @@ ghost use Rattle.std.specs.String.{string_bytes};
 
 use std::hash::Hash;
 
-/// What values are looked up and removed by: a value that is lent, `&T`, or what names one: a `&str` names a `String`, a `&[T]` a `Vec<T>`,
+/// A key, by which values are looked up and removed: a lent value, `&T`, or what names one. A `&str` names a `String`, a `&[T]` a `Vec<T>`,
 /// and a `&T` a `Box<T>`.
 ///
-/// A key is hashed as the values that it names, so their slots are on its path. It names one value: all that are equal to one that it
-/// names, and no other.
+/// A key is hashed as the values that it names, so their slots are on its path. All values that a key names are equal. It names every value
+/// equal to them.
 pub trait Key<T: Eq + Hash>: Copy + Hash {
     // What `names` returns.
     ghost names: { Self → T → Bool };

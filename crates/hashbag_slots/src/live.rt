@@ -100,7 +100,7 @@ fn live_group(tags: &[u8], pass: usize, from: usize) -> Option<(usize, u64)>
     None
 }
 
-// As `next_on_course`, if no bit is set: from the place `from` of a turn on.
+// Does what `next_on_course` does if no bit of its course is set, from the place `from` of a turn on.
 #[inline(always)]
 fn seek(newer: &[u8], older: &[u8], turn: usize, from: usize) -> Option<(usize, Course)>
     requires newer { length newer.now % 16 ≡ 0 }
@@ -139,7 +139,7 @@ pub fn next_on_course(newer: &[u8], older: &[u8], course: Course) -> Option<(usi
     requires older { length older.now % 16 ≡ 0 }
     requires course { IsCourse newer.now older.now course }
 
-    // It is the first of the places that are left, and the walk has those after it left; or none is.
+    // It is the first of the places that are left, and leaves those after it. `None`: no place is left.
     ensures some { IfSome result (λ r. IsNextOn newer.now older.now course.turn course.next r.0 r.1) }
     ensures none { IfNone result (places_left course.turn course.next newer.now older.now ≡ []) }
 {
@@ -193,7 +193,7 @@ pub fn drop_live<T: Drop>(tags: &[u8], cells: &mut Cells<(T, usize)>)
     }
 }
 
-/// As [`drop_live`], of a table with `live` Live slots. It does nothing if none is Live.
+/// Does the same as [`drop_live`] for a table with `live` Live slots. It does nothing if none is Live.
 #[inline(always)]
 pub fn drop_if_live<T: Drop>(tags: &[u8], cells: &mut Cells<(T, usize)>, live: usize)
     requires sixteens { length tags.now % 16 ≡ 0 }

@@ -108,7 +108,7 @@ fn find_probing<T: Eq + Hash, S: BuildHasher, Q: Key<T>>(
     None
 }
 
-// Returns the place of an equal value among at most 16 slots from a place on. Their bits show whether the tag is the value's mark.
+// Returns the place of an equal value among at most 16 slots from `from` on. Bit i of `bits` says whether the tag at `from + i` is the mark.
 #[inline(always)]
 fn find_marked<T: Eq + Hash, Q: Key<T>>(
     tags: &[u8],
@@ -127,7 +127,7 @@ fn find_marked<T: Eq + Hash, Q: Key<T>>(
 {
     let mut ahead = bits;
     'marks: while ahead != 0 {
-        // The bit is cleared only if the comparison fails.
+        // The bit is cleared late, so that a hit doesn't pay for it.
         let place = lowest(ahead, from);
         if is_named(cells, place, key) {
             return Some(place);
@@ -138,8 +138,7 @@ fn find_marked<T: Eq + Hash, Q: Key<T>>(
     None
 }
 
-/// Returns whether an Empty slot is known between the first slot of a hash's path and a later place, so that a probe ends before that
-/// place.
+/// Returns whether it found an Empty slot between the first slot of a hash's path and a later place, at which a probe ends.
 ///
 /// It reads sixteen tags at once, from the place backwards, and may miss an Empty slot that is less than sixteen after the first slot.
 #[inline(always)]
@@ -201,7 +200,8 @@ pub fn probe_first_group<T: Eq + Hash, S: BuildHasher, Q: Key<T>>(
     FirstGroup::Open
 }
 
-// Returns the place of the Live slot with an equal value if that slot is the first on the path of a hash. `None` shows nothing.
+// Returns the place of the Live slot with an equal value if that slot is the first on the path of a hash. `None` doesn't mean
+// that the value is absent.
 #[inline(always)]
 fn find_at_home<T: Eq + Hash, Q: Key<T>>(
     tags: &[u8],
@@ -227,10 +227,11 @@ fn find_at_home<T: Eq + Hash, Q: Key<T>>(
 /// Returns the place of the Live slot with an equal value, if there is one, from the value's hash. It probes until it finds the value or an
 /// Empty slot, or has read all slots, past Removed and Moved ones.
 ///
-/// Most values are in the first slot of their path. In a large table, whose cells aren't in the cache, that one is read by itself, so that its
-/// cell is read without waiting for what the other tags are; in a small one a guess that fails costs more. Of the first 16 slots only those
-/// before the first Empty one are read: none after it holds the value, and a cell there, whose tag is the mark by chance, would be read for
-/// nothing.
+/// Most values are in their home slot, the first one of their path. In a large table, whose cells aren't in the cache, the home slot is
+/// tried first. Its cell then loads without waiting for the other tags. In a small table a wrong guess costs more than it saves.
+///
+/// Of the first 16 slots only those before the first Empty one are read. No slot after that holds the value, so a cell there with the same
+/// mark would be read for nothing.
 #[inline(always)]
 pub fn find_place<T: Eq + Hash, S: BuildHasher, Q: Key<T>>(
     tags: &[u8],
@@ -272,8 +273,8 @@ pub fn find_place<T: Eq + Hash, S: BuildHasher, Q: Key<T>>(
 
 /// Returns the first place on the path of a hash whose slot is not Live.
 ///
-/// It reads slot by slot at first, and then sixteen at once. Most values find room at once; and sixteen tags can't be read while one of
-/// them is still being written, as it is if neighbours are placed one after the other.
+/// It reads slot by slot at first, and then sixteen at once. Most values find room at once. A 16-byte load stalls while a store to one of its
+/// bytes is pending, as that of a neighbour placed just before.
 #[inline(always)]
 pub fn first_free(tags: &[u8], hash: u64) -> usize
     requires count { IsSlotCount (length tags.now) }
@@ -294,7 +295,7 @@ pub fn first_free(tags: &[u8], hash: u64) -> usize
     first_free_from(tags, hash, step)
 }
 
-// As `first_free`, after the first `passed` slots of the path.
+// Returns the same as `first_free`. The first `passed` slots of the path must be Live, and are passed over.
 #[inline(never)]
 fn first_free_from(tags: &[u8], hash: u64, passed: usize) -> usize
     requires count { IsSlotCount (length tags.now) }

@@ -1,4 +1,4 @@
-//! A row of cells in which a value was put before: those of a row of places.
+//! Allocated cells, after the first write.
 ghost use Rattle.std.specs.Prelude.{◌≡◌, ◌<◌, length, slice_set, Some, None};
 ghost use Rattle.hashbag_slots.specs.Cells.{cell_at, IsFilled, IsBlank, filled_values};
 ghost use Rattle.core.specs.Mem.Slots.{slots_items, slots_filled, slots_ptr, slots_len};
@@ -8,7 +8,7 @@ use core::slots::Slots as Places;
 use std::alloc::Global;
 use std::marker::Model;
 
-/// Cells in a row of places. Contracts see the list of them: each cell's value, or `None` if it is empty.
+/// Cells in one allocation. Contracts see the list of them: each cell's value, or `None` if it is empty.
 pub struct Row<T> {
     row: Places<T>,
     deed: Deed<T, Global>,

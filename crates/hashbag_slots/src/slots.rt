@@ -7,7 +7,7 @@
 //! no other slot changed.
 //!
 //! Costs are counted in hashes and in probes; a probe reads a value's path, sixteen slots at once. A call hashes nothing and doesn't
-//! allocate unless its comment says so. The order of slots is what the contracts say.
+//! allocate unless its comment says so. Contracts say in which slot a value is.
 ghost use Rattle.std.specs.Prelude.{◌≡◌, ℕ, ◌+◌, ◌<◌, ◌≤◌, ◌^◌, length, true, false, IfSome, IfNone, IfOk, IfErr, IsOk, OnErr, replicate, slice_set, ◌∷◌, ◌++◌, [], None, Some};
 ghost use Rattle.std.specs.List.Sorted.{IsPermutation};
 ghost use Rattle.std.specs.Map.{lookup_entry};
@@ -54,8 +54,8 @@ pub fn hash_of<Q: Hash + Copy, S: BuildHasher>(state: &S, key: Q) -> u64
 
 /// A table of slots. No two Live slots have equal values.
 ///
-/// Contracts see its slots in the order of their places. `IsReached` says that values are found under a hash, and nothing else shows how
-/// the table is kept. A caller only requires and ensures it. A table that is dropped drops each of its values once.
+/// Contracts see its slots in the order of their places, and their tags. `IsReached`, which says that values are found under a hash,
+/// depends on the tags. Each call requires and ensures it. A table that is dropped drops each of its values once.
 pub struct Slots<T: Eq> {
     tags: Vec<u8>,
     cells: Cells<(T, usize)>,
@@ -184,7 +184,7 @@ impl<T: Eq> Slots<T> {
         self.cells.put(place, (value, n));
     }
 
-    /// Adds `n` to the count of the value at a place. The slot is Live, and the sum fits.
+    /// Adds `n` to the count of the value at a place. The slot is Live, and the sum fits. In this repository only tests call it.
     #[inline(always)]
     pub fn add_at(&mut self, place: usize, n: usize)
         requires live { is_live (slot_at self.old.slots place) ≡ true }
@@ -196,8 +196,8 @@ impl<T: Eq> Slots<T> {
         self.cells.put(place, (value, count + n));
     }
 
-    /// Stores another equal instance of the value at a place, which keeps its count, and returns the former one. It hashes nothing: equal
-    /// values have one hash.
+    /// Replaces the value at a place by an equal instance, keeps its count, and returns the former instance. It hashes nothing: equal values
+    /// have one hash.
     pub fn put_at(&mut self, place: usize, value: T) -> T
         requires equal { holds (T.eq value) (slot_at self.old.slots place) ≡ true }
         ensures given { slot_at self.old.slots place ≡ Slot.Live result (count_in (slot_at self.old.slots place)) }
@@ -336,6 +336,8 @@ impl<T: Eq + Hash> Slots<T> {
         requires absent { IsAbsent (T.eq value) self.old.slots }
         requires room { live_count self.old.slots < length self.old.slots }
         requires reached { IsReached (hash_under T.hash_input S.BuildHasher S.Hasher.Hasher state.now) self.old }
+
+        // `first` also says in which slot.
         ensures placed { Places value n self.old.slots self.new.slots }
         ensures first { PlacesAlong hash value n self.old.slots self.new.slots }
         ensures reached { IsReached (hash_under T.hash_input S.BuildHasher S.Hasher.Hasher state.now) self.new }
@@ -344,8 +346,8 @@ impl<T: Eq + Hash> Slots<T> {
         self.place_at(place, state, hash, value, n);
     }
 
-    /// Places a value as [`Slots::place_hashed`] does, if the caller has found the slot: `place` is the first on the path of `hash` that is not
-    /// Live.
+    /// Places an absent value with the count `n` at `place`, which the caller has found: the first place on the path of `hash`, the value's
+    /// hash under the state, whose slot isn't Live. It hashes and probes nothing.
     #[inline(always)]
     pub fn place_at<S: BuildHasher>(
         &mut self,
@@ -360,6 +362,8 @@ impl<T: Eq + Hash> Slots<T> {
         requires absent { IsAbsent (T.eq value) self.old.slots }
         requires free { IsFirstFree hash self.old.slots place }
         requires reached { IsReached (hash_under T.hash_input S.BuildHasher S.Hasher.Hasher state.now) self.old }
+
+        // That slot alone changed; `placed` says so without the place.
         ensures placed { Places value n self.old.slots self.new.slots }
         ensures after { self.new.slots ≡ slice_set self.old.slots place (Slot.Live value n) }
         ensures reached { IsReached (hash_under T.hash_input S.BuildHasher S.Hasher.Hasher state.now) self.new }

@@ -5,7 +5,7 @@
 //! | 0 | Empty |
 //! | 1 | Removed |
 //! | 2 | Moved |
-//! | 128 and the top seven bits of the hash: its mark | Live |
+//! | 128 plus the top 7 bits of the hash: its mark | Live |
 ghost use Rattle.std.specs.Prelude.{◌≡◌, ◌≤◌, length, IfOk, IsOk, replicate};
 ghost use Rattle.hashbag_slots.specs.Columns.{mark_of};
 
@@ -23,7 +23,7 @@ pub const MOVED: u8 = 2;
 /// The least tag of a Live slot.
 pub const LEAST_MARK: u8 = 128;
 
-/// Returns the tag of a Live slot whose value has this hash: 128 and the hash's top seven bits, which are above those that choose the
+/// Returns the tag of a Live slot whose value has this hash: 128 plus the top 7 bits of the hash, which are above those that choose the
 /// place.
 #[inline(always)]
 pub fn mark_of(hash: u64) -> u8

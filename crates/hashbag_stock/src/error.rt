@@ -1,9 +1,9 @@
-//! Why a database gives or takes no stock.
+//! Why a stock can't be read or written.
 use sqlite::ErrorCode;
 use std::alloc::{AllocError, AllocFailed};
 use thiserror::Error;
 
-/// Why a database gives or takes no stock.
+/// Why a stock can't be read or written.
 #[derive(Debug, Drop, Error)]
 pub enum StockError {
     /// The database has tables, and none of them is of a stock.

@@ -54,11 +54,11 @@ impl FromRow for (String, usize) {
     }
 }
 
-/// Returns the balance that is kept, articles rising.
+/// Returns the balance that is kept, articles in ascending order.
 ///
 /// # Errors
 ///
-/// `Damaged` if the rows don't rise, as in a table whose column has another collation, or if a number is below 0. Else what fails.
+/// `Damaged` if the rows aren't in ascending order, as in a table whose column has another collation, or if a number is below 0. Else what fails.
 pub fn balance_of<S: Alter>(
     alloc: Global,
     conn: &mut Connection<S>,
@@ -135,7 +135,7 @@ impl FromRow for Movement<String> {
 ///
 /// # Errors
 ///
-/// As [`batches_of`].
+/// Same as [`batches_of`].
 pub fn entered_of<S: Alter>(
     alloc: Global,
     conn: &mut Connection<S>,
@@ -159,7 +159,7 @@ impl FromRow for KeptMovement {
 ///
 /// # Errors
 ///
-/// As [`batches_of`].
+/// Same as [`batches_of`].
 pub fn movements_of<S: Alter>(
     alloc: Global,
     conn: &mut Connection<S>,
@@ -181,7 +181,7 @@ impl FromRow for KeptRefusal {
 ///
 /// # Errors
 ///
-/// As [`batches_of`].
+/// Same as [`batches_of`].
 pub fn refusals_of<S: Alter>(
     alloc: Global,
     conn: &mut Connection<S>,
@@ -214,7 +214,7 @@ pub struct Kept {
     pub movements: Vec<KeptMovement>,
     /// All refusals, in turn.
     pub refusals: Vec<KeptRefusal>,
-    /// The balance, articles rising.
+    /// The balance, articles in ascending order.
     pub balance: Vec<(String, usize)>,
     /// All batches, in turn.
     pub batches: Vec<Batch>,
@@ -224,7 +224,7 @@ pub struct Kept {
 ///
 /// # Errors
 ///
-/// As [`balance_of`] and [`batches_of`].
+/// Same as [`balance_of`] and [`batches_of`].
 pub fn everything_of<S: Alter>(
     alloc: Global,
     conn: &mut Connection<S>,
@@ -243,7 +243,7 @@ pub fn everything_of<S: Alter>(
 ///
 /// # Errors
 ///
-/// As [`batches_of`].
+/// Same as [`batches_of`].
 pub fn history_of<S: Alter>(
     alloc: Global,
     conn: &mut Connection<S>,

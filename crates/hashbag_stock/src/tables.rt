@@ -42,7 +42,7 @@ pub struct Shape {
 
 /// What a database has.
 #[derive(Clone, Copy, PartialEq, Eq, Debug)]
-pub enum Form {
+pub enum Contents {
     /// No table.
     Empty,
     /// The tables of a stock.
@@ -54,12 +54,12 @@ pub enum Form {
 /// # Errors
 ///
 /// `Foreign` or `Later` for the tables of something else, `Damaged` for a version or a scale that no stock has, or what fails.
-pub fn form_of<S: Alter>(conn: &mut Connection<S>) -> Result<Form, StockError> {
+pub fn form_of<S: Alter>(conn: &mut Connection<S>) -> Result<Contents, StockError> {
     let tables: i64 = conn
         .query_row("SELECT count(*) FROM sqlite_schema", &[])?
         .get(0)?;
     if tables == 0 {
-        return Ok(Form::Empty);
+        return Ok(Contents::Empty);
     }
     let version = match meta_of(conn, "hashbag_ledger") {
         Ok(Some(version)) => version,
@@ -80,7 +80,7 @@ pub fn form_of<S: Alter>(conn: &mut Connection<S>) -> Result<Form, StockError> {
         return Err(StockError::Damaged("another version in the table meta than its tables have"));
     }
     match meta_of(conn, "scale")? {
-        Some(scale) if 0 <= scale && scale <= 9 => Ok(Form::Stock(Shape {
+        Some(scale) if 0 <= scale && scale <= 9 => Ok(Contents::Stock(Shape {
             scale: scale as u32,
             is_sealed,
         })),

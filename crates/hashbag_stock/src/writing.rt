@@ -13,7 +13,7 @@ use hashbag_ledger_lib::sealing::cut;
 use sqlite::types::ValueRef;
 use sqlite::{Alter, Connection, Transaction, params};
 
-/// What a call writes.
+/// What one run of a subcommand writes.
 #[derive(Clone, Copy)]
 pub struct NewRows<'a> {
     /// Whether the stock has seals. A new one has them.
@@ -241,7 +241,7 @@ fn write_batches<S: Alter>(
     Ok(())
 }
 
-// Writes what a call writes, and first the tables of a stock whose numbers have this many decimals, if it is new.
+// Writes what one run of a subcommand writes, and first the tables of a stock whose numbers have this many decimals, if it is new.
 fn write_all<S: Alter>(
     transaction: &mut Transaction<'_, S>,
     new_scale: Option<u32>,
@@ -255,7 +255,7 @@ fn write_all<S: Alter>(
     write_rows(transaction, new.changed)
 }
 
-/// Writes the batches of a call, and what becomes of the rows of the balance, in one transaction. With `new_scale` the tables of a stock
+/// Writes the batches of one run, and what becomes of the rows of the balance, in one transaction. With `new_scale` the tables of a stock
 /// are created first, in the same transaction.
 ///
 /// # Errors

@@ -8,7 +8,7 @@ use Rattle.hashbag_table.specs.Table.{Table, IsMapOf, ChangesSlot}
 use Rattle.hashbag_table.specs.Tables.{room, Arrives, KeepsRoom}
 
 module _ {T S : Type 0} (eq : T → T → Bool) where
-  -- v arrived at the map `before`, or changed in it, and `after` is what is left: the entries are `now`. Then: how many there are; the
+  -- v arrived at the map `before`, or changed in it, and `after` is the map then: its entries are `now`. So: how many there are; the
   -- slot of v, if v was present, is changed so; the slots, if v was absent; and how many slots and how much room there are
   pub record Puts (v : T) (now : List (T × ℕ)) (change : Slot T → Slot T) (before after : Table T S) : Type 0 where
     pub map : IsMapOf eq before now after
@@ -26,11 +26,11 @@ module _ {T S : Type 0} (eq : T → T → Bool) where
   abbrev pub Stores : T → ℕ → Table T S → Table T S → Type 0
   Stores v n before after = Puts v (with_instance eq v n before.entries) (λ _. Live v n) before after
 
-  -- n of some value came that a key names
+  -- n of a value that a key names came
   abbrev pub AddsNamed : (T → Bool) → ℕ → Table T S → Table T S → Type 0
   AddsNamed names n before after = (v : T) × IsTrue (names v) × Adds v n before after
 
-  -- it may fail only if v is absent and there is no room, and then nothing is changed
+  -- an insertion of v may fail only if v is absent and there is no room, and then nothing is changed
   pub record FailsIfFull {A E : Type 0} (v : T) (before after : Table T S) (result : Result A E) : Type 0 where
     pub absent : OnErr result (entry_of eq v before.entries ≡ None)
     pub err : OnErr result (after ≡ before)

@@ -25,7 +25,7 @@ module _ {T : Type 0} where
     pub same_length : length new ≡ length old
     pub each : (p : ℕ) → (a : ℕ) × (slot_at new p ≡ slot_kept a (slot_at old p))
 
-  -- so it is with the slots of the newer table and with those that wait, and no table is built
+  -- each slot of the newer table, and each that waits, is at its own place what some number leaves of it; and no table is built
   pub record RetainsTables (old new : Tables T) : Type 0 where
     pub newer : RetainsSlots old.newer new.newer
     pub waiting : RetainsSlots old.waiting new.waiting

@@ -1,4 +1,4 @@
--- The definitions compute. Values are numbers here.
+-- Examples, by evaluation. Values are numbers here.
 use Rattle.std.specs.Prelude.{◌≡◌, ℕ, ◌<◌, ◌≤◌, ◌^◌, List, [], ◌∷◌, ◌++◌, replicate, Some, None, refl}
 use Rattle.std.proofs.Common.{suc, lit<, inl, inr, arith}
 use Rattle.std.proofs.lemmas.Bool.{cases_lt}

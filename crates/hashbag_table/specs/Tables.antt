@@ -10,7 +10,7 @@ use Rattle.hashbag_table.specs.declared.table.Spot.TheVariants.{Newer, Waiting}
 use Rattle.hashbag_table.specs.Entries.{IsCounted}
 
 -- the slots of the newer table in place order; those of the older one that wait to be carried; how many slots the older one has; and how
--- many slots all tables had that were ever the newer one
+-- many slots all newer tables so far had
 pub record Tables (T : Type 0) : Type 0 where
   pub newer : List (Slot T)
   pub waiting : List (Slot T)
@@ -32,8 +32,8 @@ pub record IsLeast (n k m : ℕ) : Type 0 where
   pub enough : k ≤ limit m
   pub least : (other : ℕ) → IsSlotCount other → n ≤ other → k ≤ limit other → m ≤ other
 
--- m slots are enough after n slots with s values: there is room, each insertion's 16 slots carry all before it is spent, and
--- the former table is no larger
+-- m slots are enough after n slots with s values: there is room, insertions carry all, 16 slots each, before the room is
+-- used up, and the former table is no larger
 pub record Roomy (n s m : ℕ) : Type 0 where
   pub some : s < limit m
   pub carries : n ≤ 16 * (limit m - s)
@@ -122,12 +122,12 @@ module _ {T : Type 0} where
   abbrev pub fresh : Tables T → List (Slot T)
   fresh t = replicate (grown_slots (length t.newer) (values t)) Empty
 
-  -- if there was room, no table was built, and if there was none, the one that is the newer now
+  -- if there was room, no table was built; else the one that is the newer now was
   pub record Builds (old new : Tables T) : Type 0 where
     pub with_room : 0 < room old → new.built ≡ old.built
     pub grown : room old ≡ 0 → new.built ≡ old.built + length new.newer
 
-  -- what an absent value finds in the place of the tables that were: carried as far as it carries, and with room
+  -- the tables after the carry or the growth that an absent value causes, before it is placed: with room
   pub record IsReady (old new : Tables T) : Type 0 where
     pub with_room : 0 < room old → Carried 16 old.newer old.waiting new.newer new.waiting
     pub grown : room old ≡ 0 → Carried 16 (fresh old) old.newer new.newer new.waiting × (old.waiting ≡ [])
@@ -166,7 +166,7 @@ module _ {T : Type 0} where
   abbrev pub ReservesOrStays : ℕ → ℕ → Tables T → Tables T → Type 0
   ReservesOrStays n k old new = ((n ≤ room old) × (new ≡ old)) ⊎ ((room old < n) × Packs (length old.newer) (k + n) old new)
 
-  -- no more than k values need: the newer table is no larger than the least one for them and the tables stay, or it was larger
+  -- no more slots than k values need: the newer table is at most the least one for them and the tables stay, or it was larger
   -- and that one took their place
   abbrev pub ShrinksOrStays : ℕ → Tables T → Tables T → Type 0
   ShrinksOrStays k old new = (((m : ℕ) → IsLeast 0 k m → length old.newer ≤ m) × (new ≡ old)) ⊎ ((length new.newer < length old.newer) × Packs 0 k old new)
@@ -201,7 +201,7 @@ module _ {T : Type 0} where
     pub held : HoldsIn test old spot
     pub after : Writes spot (change (slot_in old spot)) old new
 
--- one entry of a map is replaced by others
+-- the entry e of a map is replaced by the entries `now`
 pub record Swaps {T : Type 0} (es new : List (T × ℕ)) (e : T × ℕ) (now : List (T × ℕ)) : Type 0 where
   pub rest : List (T × ℕ)
   pub before : IsPermutation es (e ∷ rest)

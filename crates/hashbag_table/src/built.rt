@@ -12,7 +12,7 @@ struct Sum {
     more: usize,
 }
 
-/// How many slots were built: a whole number without end, that has no bytes. Contracts see it as that number.
+/// How many slots were built. An unbounded number that takes no memory. Contracts see it as that number.
 #[derive(Drop)]
 pub struct Built {
     sum: Snapshot<Sum>,

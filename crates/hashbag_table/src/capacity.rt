@@ -55,7 +55,7 @@ fn is_sparse(count: usize, live: usize) -> bool
     8 * live <= 3 * count
 }
 
-/// Returns the number of slots of a new table, after one of `count` slots with `live` values: 16 if there were none, `count` if at most
+/// Returns the number of slots of a new table, after one of `count` slots with `live` values: 16 if `count` is 0, `count` if at most
 /// three eighths are Live, else twice as many.
 ///
 /// # Errors

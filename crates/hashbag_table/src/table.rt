@@ -57,15 +57,16 @@ pub enum Spot {
 #[derive(Drop)]
 pub struct Table<T: Eq + Hash + Drop, S: BuildHasher + Drop> {
     newer: Slots<T>,
-    // The former table, of which the first `looked` slots were carried. It has no slots if none waits.
+    // The former table. It has no slots if none waits.
     older: Slots<T>,
+    // The number of slots of the older table that were carried: its first ones.
     looked: usize,
     hasher: S,
     // The allocator of the table and of its copies.
     alloc: Global,
-    // The slots of all tables that were the newer one, for contracts alone.
+    // How many slots were ever built: those of all tables that were the newer one. For contracts only.
     built: Built,
-    // What a drain borrows.
+    // A drain borrows this empty field, so the table stays borrowed while it lives.
     lent: [usize; 0],
 }
 
@@ -99,7 +100,7 @@ impl<T: Eq + Hash + Drop, S: BuildHasher + Drop> Table<T, S> {
         self.newer.slots()
     }
 
-    /// Does nothing, at no cost. It is called for its clauses: the entries are the Live slots of both tables, and they are a map.
+    /// Does nothing at run time. It gives a proof its contract: the entries are the Live slots of both tables, and they are a map.
     #[inline(always)]
     pub fn held(&self)
         ensures held { self.now.entries ≡ entries_of self.now.tables.newer self.now.tables.waiting }
@@ -130,7 +131,7 @@ impl<T: Eq + Hash + Drop, S: BuildHasher + Drop> Table<T, S> {
         ensures len { result ≡ length self.now.entries }
         ensures counted { IsCounted T.eq self.now.entries }
     {
-        // `slots` is called for its clauses, which the proof names: how many slots there can be.
+        // Does nothing at run time. It gives the proof the contract of `slots`: how many there can be.
         let _slots = self.newer.slots();
         self.newer.live() + self.older.live()
     }
@@ -146,7 +147,7 @@ impl<T: Eq + Hash + Drop, S: BuildHasher + Drop> Table<T, S> {
     pub fn capacity(&self) -> usize
         ensures { result ≡ length self.now.entries + room self.now.tables }
     {
-        // `slots` is called for its clauses.
+        // Does nothing at run time. It gives the proof the contract of `slots`.
         let _slots = self.newer.slots();
         self.set_len() + self.room()
     }
@@ -199,7 +200,7 @@ impl<T: Eq + Hash + Drop, S: BuildHasher + Drop> Table<T, S> {
         self.insert_hashed(hash, value, count)
     }
 
-    // As `insert_new`, of a value with its hash.
+    // Inserts an absent value as `insert_new` does, with its hash under the state. It hashes only the values that it carries.
     fn insert_hashed(&mut self, hash: u64, value: T, count: usize) -> Result<(), AllocError>
         requires hashed { hash ≡ hash_under T.hash_input S.BuildHasher S.Hasher.Hasher self.old.hasher value }
         requires absent { entry_of T.eq value self.old.entries ≡ None }

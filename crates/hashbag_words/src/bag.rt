@@ -5,8 +5,8 @@ ghost use Rattle.hashbag_words_lib.specs.Counted.{IsWithin};
 use crate::failure::Failure;
 use hashbag::{BagError, HashBag};
 use hashbag_words_lib::counter::{Fed, TextCounter};
-use hashbag_words_lib::errors::Fault;
-use hashbag_words_lib::lines::Reading;
+use hashbag_words_lib::errors::InputFault;
+use hashbag_words_lib::lines::LinesRead;
 use hashbag_words_lib::row_counter::RowCounter;
 use hashbag_words_lib::row_text::RowText;
 use std::hash::RandomState;
@@ -17,14 +17,14 @@ pub type Bag = HashBag<String, RandomState>;
 /// Counts what inputs have, which are fed in blocks. Its bag may be emptied into runs.
 pub trait Counter {
     /// Counts what a block brings, as far as the bag has room.
-    fn feed(&mut self, block: &[u8]) -> Result<Fed, Fault>
+    fn feed(&mut self, block: &[u8]) -> Result<Fed, InputFault>
         ensures within { IfOk result (λ fed. IsWithin fed block.now) };
 
     /// Ends an input. Returns how its lines were read.
-    fn end(&mut self) -> Result<Reading, Fault>;
+    fn end(&mut self) -> Result<LinesRead, InputFault>;
 
     /// Returns how the lines of the present input were read.
-    fn reading(&self) -> Reading;
+    fn reading(&self) -> LinesRead;
 
     /// The bag.
     fn bag(&self) -> &Bag;
@@ -40,15 +40,15 @@ pub trait Counter {
 }
 
 impl Counter for TextCounter<'_, RandomState> {
-    fn feed(&mut self, block: &[u8]) -> Result<Fed, Fault> {
+    fn feed(&mut self, block: &[u8]) -> Result<Fed, InputFault> {
         TextCounter::feed(self, block)
     }
 
-    fn end(&mut self) -> Result<Reading, Fault> {
+    fn end(&mut self) -> Result<LinesRead, InputFault> {
         self.end_text()
     }
 
-    fn reading(&self) -> Reading {
+    fn reading(&self) -> LinesRead {
         TextCounter::reading(self)
     }
 
@@ -70,15 +70,15 @@ impl Counter for TextCounter<'_, RandomState> {
 }
 
 impl Counter for RowCounter<RandomState> {
-    fn feed(&mut self, block: &[u8]) -> Result<Fed, Fault> {
+    fn feed(&mut self, block: &[u8]) -> Result<Fed, InputFault> {
         RowCounter::feed(self, block)
     }
 
-    fn end(&mut self) -> Result<Reading, Fault> {
+    fn end(&mut self) -> Result<LinesRead, InputFault> {
         self.end_file()
     }
 
-    fn reading(&self) -> Reading {
+    fn reading(&self) -> LinesRead {
         RowCounter::reading(self)
     }
 

@@ -2,7 +2,7 @@
 use crate::input::plural;
 use hashbag::{BagError, JsonError};
 use hashbag_shell::status::{BAD_INPUT, IO_FAILED, NO_MEMORY, TOTAL_TOO_LARGE};
-use hashbag_words_lib::errors::{BadLine, Fault};
+use hashbag_words_lib::errors::{BadLine, InputFault};
 use std::alloc::AllocError;
 use std::io;
 use thiserror::Error;
@@ -93,21 +93,21 @@ impl<'a> Failure<'a> {
     }
 
     /// Returns the failure for a fault of the input `name`, of which `line` lines were read.
-    pub fn of_input(name: &'a str, line: u64, fault: Fault) -> Failure<'a> {
+    pub fn of_input(name: &'a str, line: u64, fault: InputFault) -> Failure<'a> {
         match fault {
-            Fault::Line(bad) => Failure::Line { name, line, bad },
-            Fault::Text(error) if error.is_memory() => Failure::NoMemory { name, line },
-            Fault::Text(error) => Failure::Text { name, error },
-            Fault::Tree(JsonError::Memory) => Failure::NoMemory { name, line },
-            Fault::Tree(JsonError::TooMany(_)) => Failure::too_many(name, line),
-            Fault::Tree(error) => Failure::Tree { name, error },
-            Fault::PastLimit(limit) => Failure::PastLimit { name, limit },
-            Fault::Bag(BagError::Memory) => Failure::NoMemory {
+            InputFault::Line(bad) => Failure::Line { name, line, bad },
+            InputFault::Text(error) if error.is_memory() => Failure::NoMemory { name, line },
+            InputFault::Text(error) => Failure::Text { name, error },
+            InputFault::Tree(JsonError::Memory) => Failure::NoMemory { name, line },
+            InputFault::Tree(JsonError::TooMany(_)) => Failure::too_many(name, line),
+            InputFault::Tree(error) => Failure::Tree { name, error },
+            InputFault::PastLimit(limit) => Failure::PastLimit { name, limit },
+            InputFault::Bag(BagError::Memory) => Failure::NoMemory {
                 name,
                 line: line.saturating_sub(1),
             },
-            Fault::Bag(_) => Failure::too_many(name, line),
-            Fault::Read(error) => Failure::of_file(name, error),
+            InputFault::Bag(_) => Failure::too_many(name, line),
+            InputFault::Read(error) => Failure::of_file(name, error),
         }
     }
 

@@ -6,9 +6,9 @@ use crate::progress::Progress;
 use crate::runs::Runs;
 use hashbag_words_args::settings::{Ask, Settings};
 use hashbag_words_lib::counter::Fed;
-use hashbag_words_lib::errors::Fault;
+use hashbag_words_lib::errors::InputFault;
 use hashbag_words_lib::gauge::Gauge;
-use hashbag_words_lib::lines::Reading;
+use hashbag_words_lib::lines::LinesRead;
 use hashbag_words_lib::row_counter::RowCounter;
 use hashbag_words_lib::rows::RowForm;
 use memchr::memchr;
@@ -18,10 +18,10 @@ use std::{io, mem};
 // How many bytes of an input are read at once.
 const BLOCK: usize = 1 << 16;
 
-/// When a bag is full, and where its counts then go.
+/// The memory bound: its gauge, and the runs written when the bag is full.
 #[derive(Drop)]
 pub struct Bound<'s, 'a> {
-    /// How full an empty bag is.
+    /// A new gauge. Each counter starts with a copy.
     pub gauge: Gauge,
     /// The runs that were made.
     pub runs: Runs<'s, 'a>,
@@ -42,7 +42,7 @@ pub struct Inputs<'s, 'a, 'm> {
     pub bound: Option<Bound<'s, 'a>>,
 }
 
-// Returns what a text is that begins with these bytes, if it isn't UTF-8, and what makes it that.
+// Returns the format these first bytes show, if it isn't UTF-8, and a command that converts it.
 fn kind_of(block: &[u8]) -> Option<&'static str> {
     if block.starts_with(b"\x1f\x8b") {
         return Some("gzip; `zcat` makes it text");
@@ -64,7 +64,7 @@ fn read_whole<'a>(rt: &HostRuntime, name: &'a str) -> Result<String, Failure<'a>
 
 impl<'s, 'a, 'm> Inputs<'s, 'a, 'm> {
     // Reports how many lines of an input were skipped, and how many weren't UTF-8.
-    fn report(&self, name: &str, reading: &Reading) {
+    fn report(&self, name: &str, reading: &LinesRead) {
         if reading.skipped > 0 {
             let skipped = reading.skipped;
             let s = plural(&skipped);
@@ -79,7 +79,7 @@ impl<'s, 'a, 'm> Inputs<'s, 'a, 'm> {
         }
     }
 
-    // Returns why the text of this name, which begins with this block, isn't counted: another form than UTF-8, unless bytes are replaced.
+    // Returns the error for an input of this name whose first block shows such a format, unless bytes are replaced.
     fn other_kind(&self, name: &'a str, block: &[u8]) -> Option<Failure<'a>> {
         match self.settings.ask {
             Ask::Count(tokens, _) if tokens.lossy => None,
@@ -140,7 +140,7 @@ impl<'s, 'a, 'm> Inputs<'s, 'a, 'm> {
         Ok(())
     }
 
-    // Counts what the input of this name has. It is read by such blocks.
+    // Counts what the input of this name has. `block` is the read buffer.
     fn count_named<C: Counter>(
         &mut self,
         counter: &mut C,
@@ -178,7 +178,7 @@ impl<'s, 'a, 'm> Inputs<'s, 'a, 'm> {
     ///
     /// # Errors
     ///
-    /// What is wrong with an input or one of its lines, or a failed allocation. Then something of what was before it was counted.
+    /// What is wrong with an input or one of its lines, or a failed allocation. What came before the error may be counted.
     pub fn count_all<C: Counter>(
         &mut self,
         counter: &mut C,

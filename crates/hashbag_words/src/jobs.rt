@@ -3,7 +3,7 @@ use crate::bag::{Bag, empty};
 use crate::failure::Failure;
 use crate::inputs::{Bound, Inputs};
 use crate::names::check;
-use crate::output::{Made, Output, rows_of};
+use crate::output::{Output, Rendered, rows_of};
 use crate::progress::Progress;
 use crate::runs::Runs;
 use crate::shown::{show, show_sorted};
@@ -85,12 +85,12 @@ fn bound_of<'s, 'a>(
     Some(Bound { gauge, runs })
 }
 
-// Reads the inputs of a job. What they count is then in the bag, and in the runs that were made; what is merged line by line is returned.
+// Reads the inputs of a job. Returns `Some` with the output if files were merged line by line. Else the counts are in the bag and the runs.
 fn take_in<'a>(
     inputs: &mut Inputs<'_, 'a, '_>,
     folder: &'a str,
     bag: &mut Bag,
-) -> Result<Option<Made<'static>>, Failure<'a>> {
+) -> Result<Option<Rendered<'static>>, Failure<'a>> {
     match inputs.settings.ask {
         Ask::Count(tokens, _) => count(inputs, tokens, bag)?,
         Ask::Merge(rows, _) => inputs.add_all(rows, bag, inputs.names)?,
@@ -117,7 +117,7 @@ fn merged<'a>(
     folder: &'a str,
     mut runs: Runs<'_, 'a>,
     bag: &Bag,
-) -> Result<Option<Made<'static>>, Failure<'a>> {
+) -> Result<Option<Rendered<'static>>, Failure<'a>> {
     if runs.is_empty() {
         return Ok(None);
     }
@@ -128,14 +128,15 @@ fn merged<'a>(
     Ok(Some(made))
 }
 
-// Reads the inputs. Returns what is to be written if it is merged, or else `None`: then the bag has the tokens that are shown.
+// Reads the inputs. Returns `Some` with the output if files were merged line by line, or if runs were written, which are then merged with
+// the bag. Else the bag has the tokens that are shown.
 fn read<'a>(
     rt: &HostRuntime,
     settings: &Settings<'a, '_>,
     names: &[&'a str],
     folder: &'a str,
     bag: &mut Bag,
-) -> Result<Option<Made<'static>>, Failure<'a>> {
+) -> Result<Option<Rendered<'static>>, Failure<'a>> {
     let bound = bound_of(rt, settings, folder);
     let progress = Progress::new(rt, settings.progress);
     let mut inputs = Inputs {
@@ -161,7 +162,7 @@ fn read<'a>(
 fn write_made<'a>(
     rt: &HostRuntime,
     output: Output<'a>,
-    made: Made<'_>,
+    made: Rendered<'_>,
 ) -> Result<bool, Failure<'a>> {
     let is_empty = made.is_empty();
     output.write(rt, made)?;

@@ -2,11 +2,11 @@
 #![tactic(auto)]
 
 mod bag;
-mod batch;
 mod failure;
 mod input;
 mod inputs;
 mod jobs;
+mod merge_inputs;
 mod names;
 mod output;
 mod progress;

@@ -65,7 +65,7 @@ pub fn inputs_of<'a>(
     Ok(names)
 }
 
-/// Returns the folder of temporary files, unless the command line names one.
+/// Returns the default folder of temporary files. The caller prefers the one of `--tmp`.
 ///
 /// # Errors
 ///

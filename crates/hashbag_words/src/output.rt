@@ -10,7 +10,7 @@ use std::io::{self, Read, Write};
 
 /// What is to be written, and whether it shows nothing.
 #[derive(Drop)]
-pub enum Made<'b> {
+pub enum Rendered<'b> {
     /// Rows of a bag.
     Rows(RowText<'b>),
     /// A text in memory.
@@ -19,13 +19,13 @@ pub enum Made<'b> {
     File(File, bool),
 }
 
-impl Made<'_> {
+impl Rendered<'_> {
     /// Whether it shows nothing.
     pub fn is_empty(&self) -> bool {
         match self {
-            Made::Rows(rows) => rows.is_empty(),
-            Made::Text(_, is_empty) => *is_empty,
-            Made::File(_, is_empty) => *is_empty,
+            Rendered::Rows(rows) => rows.is_empty(),
+            Rendered::Text(_, is_empty) => *is_empty,
+            Rendered::File(_, is_empty) => *is_empty,
         }
     }
 }
@@ -60,11 +60,11 @@ impl<'a> Output<'a> {
     /// # Errors
     ///
     /// `File` if a write fails. Then a named file is unchanged. No allocation is left to fail.
-    pub fn write(self, rt: &HostRuntime, made: Made<'_>) -> Result<(), Failure<'a>> {
+    pub fn write(self, rt: &HostRuntime, made: Rendered<'_>) -> Result<(), Failure<'a>> {
         match made {
-            Made::Rows(mut rows) => self.copy(rt, &mut rows),
-            Made::Text(text, _) => self.copy(rt, &mut text.as_slice()),
-            Made::File(mut file, _) => self.copy(rt, &mut file),
+            Rendered::Rows(mut rows) => self.copy(rt, &mut rows),
+            Rendered::Text(text, _) => self.copy(rt, &mut text.as_slice()),
+            Rendered::File(mut file, _) => self.copy(rt, &mut file),
         }
     }
 
@@ -100,9 +100,9 @@ pub fn rows_of<'a, 'b>(
     rt: &HostRuntime,
     settings: &Settings<'a, '_>,
     bag: &'b Bag,
-) -> Result<Made<'b>, Failure<'a>> {
+) -> Result<Rendered<'b>, Failure<'a>> {
     match shown_text(rt.alloc(), bag, settings.choice, settings.format) {
-        Ok(rows) => Ok(Made::Rows(rows)),
+        Ok(rows) => Ok(Rendered::Rows(rows)),
         Err(_) => Err(Failure::NoMemoryLeft),
     }
 }

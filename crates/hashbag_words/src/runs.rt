@@ -1,10 +1,10 @@
-//! Runs: counts of parts of the input in temporary files, tokens rising.
-use crate::batch::{Batch, target_failure};
+//! Runs: counts of parts of the input in temporary files, tokens in ascending order.
 use crate::failure::Failure;
+use crate::merge_inputs::{MergeInputs, target_failure};
 use hashbag::BagError;
 use hashbag_shell::temporary_file::create_unnamed;
 use hashbag_words_lib::choice::{Choice, Order};
-use hashbag_words_lib::errors::Fault;
+use hashbag_words_lib::errors::InputFault;
 use hashbag_words_lib::row_parts::RowParts;
 use hashbag_words_lib::row_text::RowText;
 use hashbag_words_lib::shown_rows::ShownRows;
@@ -32,7 +32,7 @@ struct Run {
 pub struct Runs<'s, 'a> {
     rt: &'s HostRuntime,
     folder: &'a str,
-    // The levels don't rise, and fewer than `FAN` runs are of one level.
+    // The levels are in descending order, and fewer than `FAN` runs are of one level.
     runs: Vec<Run>,
 }
 
@@ -99,7 +99,7 @@ impl<'s, 'a> Runs<'s, 'a> {
 
     // Takes the runs of that level, which are the last ones, and merges them.
     fn merged(&mut self, level: u32) -> Result<File, Failure<'a>> {
-        let mut batch = Batch::new(self.rt)?;
+        let mut batch = MergeInputs::new(self.rt)?;
         for _run in 0..FAN {
             match self.runs.pop() {
                 Some(run) if run.level == level => batch.push_run(self.folder, run.file)?,
@@ -110,9 +110,9 @@ impl<'s, 'a> Runs<'s, 'a> {
     }
 
     /// Returns all runs as sources of one merge.
-    pub fn into_batch(self) -> Result<Batch<'s, 'a>, Failure<'a>> {
+    pub fn into_batch(self) -> Result<MergeInputs<'s, 'a>, Failure<'a>> {
         let Runs { rt, folder, runs } = self;
-        let mut batch = Batch::new(rt)?;
+        let mut batch = MergeInputs::new(rt)?;
         for run in runs {
             batch.push_run(folder, run.file)?;
         }
@@ -122,7 +122,7 @@ impl<'s, 'a> Runs<'s, 'a> {
 
 /// How merged rows are written, and which.
 #[derive(Clone, Copy)]
-pub struct Shape {
+pub struct RowLayout {
     /// How they are written.
     pub format: Format,
     /// Which are.
@@ -130,7 +130,7 @@ pub struct Shape {
 }
 
 // The rows of a run: all of them.
-const RUN: Shape = Shape {
+const RUN: RowLayout = RowLayout {
     format: Format::Tsv,
     choice: Choice {
         order: Order::Rising,
@@ -153,7 +153,7 @@ fn put_row(
     file: &mut File,
     token: String,
     count: usize,
-) -> Result<(), Fault> {
+) -> Result<(), InputFault> {
     rows.put(token, count)?;
     if rows.sink.part().len() >= BUFFER {
         write_part(&mut rows.sink, file)?;
@@ -173,8 +173,8 @@ fn end_rows(mut parts: RowParts, mut file: File) -> io::Result<(File, bool)> {
 pub fn merge_to_file<'a>(
     rt: &HostRuntime,
     folder: &'a str,
-    batch: &mut Batch<'_, 'a>,
-    shape: Shape,
+    batch: &mut MergeInputs<'_, 'a>,
+    shape: RowLayout,
 ) -> Result<(File, bool), Failure<'a>> {
     let mut file = temporary(rt, folder)?;
     let mut rows = ShownRows {
@@ -197,7 +197,7 @@ pub fn merge_to_file<'a>(
 pub fn merge_to_run<'a>(
     rt: &HostRuntime,
     folder: &'a str,
-    batch: &mut Batch<'_, 'a>,
+    batch: &mut MergeInputs<'_, 'a>,
 ) -> Result<File, Failure<'a>> {
     let (file, _is_empty) = merge_to_file(rt, folder, batch, RUN)?;
     Ok(file)

@@ -1,12 +1,12 @@
 //! What is shown of sources that are merged.
-use crate::batch::{Batch, target_failure};
 use crate::failure::Failure;
-use crate::output::Made;
-use crate::runs::{FAN, Runs, Shape, merge_to_file, merge_to_run};
+use crate::merge_inputs::{MergeInputs, target_failure};
+use crate::output::Rendered;
+use crate::runs::{FAN, RowLayout, Runs, merge_to_file, merge_to_run};
 use hashbag_words_args::settings::Settings;
 use hashbag_words_lib::choice::Order;
 use hashbag_words_lib::row_parts::RowParts;
-use hashbag_words_lib::row_source::Kind;
+use hashbag_words_lib::row_source::SourceKind;
 use hashbag_words_lib::rows::RowForm;
 use hashbag_words_lib::shown_rows::{ShownRows, TopRows};
 use hashbag_words_lib::sorted_merge::Sink;
@@ -30,9 +30,9 @@ fn show_top<'a>(
     rt: &HostRuntime,
     settings: &Settings<'a, '_>,
     folder: &'a str,
-    batch: &mut Batch<'_, 'a>,
+    batch: &mut MergeInputs<'_, 'a>,
     most: usize,
-) -> Result<Made<'static>, Failure<'a>> {
+) -> Result<Rendered<'static>, Failure<'a>> {
     let mut top = ShownRows {
         sink: TopRows::new(rt.alloc(), most),
         choice: settings.choice,
@@ -47,7 +47,7 @@ fn show_top<'a>(
         }
     }
     match text_of(rt, settings.format, top.sink) {
-        Ok((text, is_empty)) => Ok(Made::Text(text, is_empty)),
+        Ok((text, is_empty)) => Ok(Rendered::Text(text, is_empty)),
         Err(_) => Err(Failure::NoMemoryLeft),
     }
 }
@@ -57,34 +57,35 @@ pub fn show<'a>(
     rt: &HostRuntime,
     settings: &Settings<'a, '_>,
     folder: &'a str,
-    mut batch: Batch<'_, 'a>,
-) -> Result<Made<'static>, Failure<'a>> {
+    mut batch: MergeInputs<'_, 'a>,
+) -> Result<Rendered<'static>, Failure<'a>> {
     if let Order::MostCommon(most) = settings.choice.order {
         return show_top(rt, settings, folder, &mut batch, most);
     }
-    let shape = Shape {
+    let shape = RowLayout {
         format: settings.format,
         choice: settings.choice,
     };
     let (file, is_empty) = merge_to_file(rt, folder, &mut batch, shape)?;
-    Ok(Made::File(file, is_empty))
+    Ok(Rendered::File(file, is_empty))
 }
 
-/// Merges the files of counts of these names, whose lines have this form and whose tokens rise. If there are more than `FAN`, each `FAN` of them become a run first.
+/// Merges the files of counts of these names, whose lines have this form and whose tokens are in ascending order. If there are more than
+/// `FAN`, each `FAN` of them become a run first.
 pub fn show_sorted<'a>(
     rt: &HostRuntime,
     settings: &Settings<'a, '_>,
     form: RowForm,
     folder: &'a str,
     names: &[&'a str],
-) -> Result<Made<'static>, Failure<'a>> {
-    let kind = Kind::File(form, settings.bad_lines);
+) -> Result<Rendered<'static>, Failure<'a>> {
+    let kind = SourceKind::File(form, settings.bad_lines);
     let mut runs = Runs::new(rt, folder);
-    let mut batch = Batch::new(rt)?;
+    let mut batch = MergeInputs::new(rt)?;
     for (i, name) in names.iter().enumerate() {
         if i > 0 && i % FAN == 0 {
             runs.add(merge_to_run(rt, folder, &mut batch)?)?;
-            batch = Batch::new(rt)?;
+            batch = MergeInputs::new(rt)?;
         }
         batch.push_file(*name, kind)?;
     }

@@ -26,20 +26,20 @@ pub fn is_job(word: &str) -> bool {
 }
 
 // A command, or why it can't be made.
-type Made<'a> = Result<Command<'a>, AllocError>;
+type CommandResult<'a> = Result<Command<'a>, AllocError>;
 
 // Adds an argument, if both were made.
-fn with<'a>(command: Made<'a>, arg: Result<Arg<'a>, AllocError>) -> Made<'a> {
+fn with<'a>(command: CommandResult<'a>, arg: Result<Arg<'a>, AllocError>) -> CommandResult<'a> {
     command?.arg(arg?)
 }
 
 // Adds a subcommand, if both were made.
-fn with_job<'a>(command: Made<'a>, job: Made<'a>) -> Made<'a> {
+fn with_job<'a>(command: CommandResult<'a>, job: CommandResult<'a>) -> CommandResult<'a> {
     command?.subcommand(job?)
 }
 
 // Adds how inputs are read: options of every job.
-fn with_input<'a>(alloc: Global, command: Made<'a>) -> Made<'a> {
+fn with_input<'a>(alloc: Global, command: CommandResult<'a>) -> CommandResult<'a> {
     let skip_bad = arg!(in alloc; --"skip-bad" "Skip bad lines, and say how many there were");
     let progress =
         arg!(in alloc; --progress "Report on standard error, each second, how far it is");
@@ -47,7 +47,7 @@ fn with_input<'a>(alloc: Global, command: Made<'a>) -> Made<'a> {
 }
 
 // Adds which counts are shown, and in which order.
-fn with_choice<'a>(alloc: Global, command: Made<'a>) -> Made<'a> {
+fn with_choice<'a>(alloc: Global, command: CommandResult<'a>) -> CommandResult<'a> {
     let top = arg!(in alloc; --top <K> "Show the K most common alone, the most common first")
         .value_parser(value_parser!(usize))
         .conflicts_with("unsorted");
@@ -65,7 +65,7 @@ fn with_choice<'a>(alloc: Global, command: Made<'a>) -> Made<'a> {
 }
 
 // Adds how counts are written, and where.
-fn with_form<'a>(alloc: Global, command: Made<'a>) -> Made<'a> {
+fn with_form<'a>(alloc: Global, command: CommandResult<'a>) -> CommandResult<'a> {
     let to = arg!(in alloc; --to <FORM> "How they are written")
         .value_parser(["tsv", "json", "uniq"].as_slice())
         .default_value("tsv");
@@ -75,7 +75,7 @@ fn with_form<'a>(alloc: Global, command: Made<'a>) -> Made<'a> {
 }
 
 // Adds how counts are shown: options of every job.
-fn with_output<'a>(alloc: Global, command: Made<'a>) -> Made<'a> {
+fn with_output<'a>(alloc: Global, command: CommandResult<'a>) -> CommandResult<'a> {
     let command = with_form(alloc, with_choice(alloc, command));
     let shard =
         arg!(in alloc; --shard <"I/N"> "Show the tokens of the I-th of N parts alone: each token is in one, by a fixed hash");
@@ -91,7 +91,7 @@ fn form_read<'a>(alloc: Global) -> Arg<'a> {
 }
 
 // Adds the options of a job that may count more than the memory holds.
-fn with_memory<'a>(alloc: Global, command: Made<'a>) -> Made<'a> {
+fn with_memory<'a>(alloc: Global, command: CommandResult<'a>) -> CommandResult<'a> {
     let memory =
         arg!(in alloc; --memory <SIZE> "Take about that much memory, as `64M` or `2G`, and temporary files beyond it");
     let tmp = arg!(in alloc; --tmp <DIR> "Where temporary files are: $TMPDIR or /tmp by default");
@@ -99,7 +99,7 @@ fn with_memory<'a>(alloc: Global, command: Made<'a>) -> Made<'a> {
 }
 
 // Adds the file that has the names of the inputs: an option of every job that reads any number of files.
-fn with_list<'a>(alloc: Global, command: Made<'a>) -> Made<'a> {
+fn with_list<'a>(alloc: Global, command: CommandResult<'a>) -> CommandResult<'a> {
     let list =
         arg!(in alloc; --"files-from" <FILE> "Read the names of the inputs there, one a line; `-`: from standard input");
     let null =
@@ -108,7 +108,7 @@ fn with_list<'a>(alloc: Global, command: Made<'a>) -> Made<'a> {
 }
 
 // Adds what is counted.
-fn with_tokens<'a>(alloc: Global, command: Made<'a>) -> Made<'a> {
+fn with_tokens<'a>(alloc: Global, command: CommandResult<'a>) -> CommandResult<'a> {
     let by =
         arg!(in alloc; --by <WHAT> "What is counted: what is between white space, the words by the rules of Unicode, or whole lines")
             .value_parser(["words", "unicode", "lines"].as_slice())
@@ -118,7 +118,7 @@ fn with_tokens<'a>(alloc: Global, command: Made<'a>) -> Made<'a> {
     with(with(command, by), Ok(pattern))
 }
 
-fn count<'a>(alloc: Global) -> Made<'a> {
+fn count<'a>(alloc: Global) -> CommandResult<'a> {
     let files =
         arg!(in alloc; files: [FILE] ... "What is read: standard input where there is none, or for `-`");
     let fold = arg!(in alloc; --fold "Count upper and lower case as one");
@@ -131,7 +131,7 @@ fn count<'a>(alloc: Global) -> Made<'a> {
     with_output(alloc, with_input(alloc, command))
 }
 
-fn merge<'a>(alloc: Global) -> Made<'a> {
+fn merge<'a>(alloc: Global) -> CommandResult<'a> {
     let files =
         arg!(in alloc; files: [FILE] ... "Files of counts: standard input where there is none, or for `-`");
     let sorted =
@@ -145,7 +145,7 @@ fn merge<'a>(alloc: Global) -> Made<'a> {
 }
 
 // Returns a job on two files of counts.
-fn pair<'a>(alloc: Global, name: &'a str, about: &'a str) -> Made<'a> {
+fn pair<'a>(alloc: Global, name: &'a str, about: &'a str) -> CommandResult<'a> {
     let first = arg!(in alloc; first: <A> "Counts");
     let second = arg!(in alloc; second: <B> "Other counts");
     let command = Ok(Command::new(alloc, name).about(about));

@@ -66,7 +66,7 @@ pub enum Ask<'a, 'm> {
     Count(Tokens<'a>, Many<'a, 'm>),
     /// Adds up files of counts, whose lines have this form; `None` is JSON.
     Merge(Option<RowForm>, Many<'a, 'm>),
-    /// Merges files of counts whose rows rise, line by line.
+    /// Merges files of counts whose rows are in ascending order, line by line.
     MergeSorted(RowForm, Many<'a, 'm>),
     /// Subtracts the counts of the second file from those of the first.
     Less(Pair<'a>),

@@ -10,14 +10,14 @@ use Rattle.hashbag.specs.Occurrences.{count}
 use Rattle.hashbag_words_lib.specs.Added.{line_at, Added, AddsRows, AreReadAs, AreRowsOf, HaveRows, IsFirstNoRow, IsReadAs}
 use Rattle.hashbag_words_lib.specs.Counted.{NoLineFeed}
 use Rattle.hashbag_words_lib.specs.Counts.{texts_in, AddsTimes}
-use Rattle.hashbag_words_lib.specs.Reading.{EndsLine}
+use Rattle.hashbag_words_lib.specs.LineEnds.{EndsLine}
 use Rattle.hashbag_words_lib.specs.Rows.{IsNoRow}
 use Rattle.hashbag_words_lib.specs.Runs.{unmarked}
 use Rattle.hashbag_words_lib.specs.Sorted.{of_row, times_in}
 use Rattle.hashbag_words_lib.specs.Tokens.{without_mark}
 use Rattle.hashbag_words_lib.specs.declared.lines.BadLines.{BadLines}
 use Rattle.hashbag_words_lib.specs.declared.lines.BadLines.TheVariants.{Refused, Skipped}
-use Rattle.hashbag_words_lib.specs.declared.lines.Reading.{Reading}
+use Rattle.hashbag_words_lib.specs.declared.lines.LinesRead.{LinesRead}
 use Rattle.hashbag_words_lib.specs.declared.rows.RowForm.{RowForm}
 use Rattle.hashbag_words_lib.proofs.CountedLemmas.{ended_lines, ended_with, ends_push, nil_first}
 use Rattle.hashbag_words_lib.proofs.LineLemmas.{lines-append}
@@ -104,7 +104,7 @@ module _ {S : Type 0} where
   -- ---- the counter
 
   -- nothing was given
-  pub Added-nothing : (form : RowForm) (before : List (List ℕ × ℕ)) (runs : List (List (List ℕ × ℕ))) (bag : Bag (String Global) S) (partial : List ℕ) (reading : Reading) → HaveRows runs bag before → partial ≡ []
+  pub Added-nothing : (form : RowForm) (before : List (List ℕ × ℕ)) (runs : List (List (List ℕ × ℕ))) (bag : Bag (String Global) S) (partial : List ℕ) (reading : LinesRead) → HaveRows runs bag before → partial ≡ []
       → reading.line ≡ 0 → Added form before runs bag partial reading []
   Added-nothing form before runs bag partial reading counts empty none = record {
     ended = [];
@@ -118,7 +118,7 @@ module _ {S : Type 0} where
   }
 
   -- a line has ended, and was read with what was kept of it
-  Added-line : (form : RowForm) (before : List (List ℕ × ℕ)) (runs : List (List (List ℕ × ℕ))) (old new : Bag (String Global) S) (partial rest line kept : List ℕ) (first after : Reading) (more : List (List ℕ × ℕ)) (text : List ℕ) → NoLineFeed rest
+  Added-line : (form : RowForm) (before : List (List ℕ × ℕ)) (runs : List (List (List ℕ × ℕ))) (old new : Bag (String Global) S) (partial rest line kept : List ℕ) (first after : LinesRead) (more : List (List ℕ × ℕ)) (text : List ℕ) → NoLineFeed rest
       → line ≡ strip_carriage_return (partial ++ rest) → kept ≡ [] → IsReadAs form first.bad_lines (line_at first.line line) more → AddsRows old new more
       → after.bad_lines ≡ first.bad_lines → after.line ≡ min (first.line + 1) (2 ^ 64 - 1)
       → Added form before runs old partial first text → Added form before runs new kept after (text ++ (rest ++ 10 ∷ []))
@@ -146,7 +146,7 @@ module _ {S : Type 0} where
       }
 
   -- the same, where that may have been an error
-  pub Added-line-ok : {X E : Type 0} (r : Result X E) (form : RowForm) (old new : Bag (String Global) S) (partial rest line kept : List ℕ) (first after : Reading) → NoLineFeed rest
+  pub Added-line-ok : {X E : Type 0} (r : Result X E) (form : RowForm) (old new : Bag (String Global) S) (partial rest line kept : List ℕ) (first after : LinesRead) → NoLineFeed rest
       → line ≡ strip_carriage_return (partial ++ rest) → kept ≡ []
       → OnOk r ((rows : List (List ℕ × ℕ)) × IsReadAs form first.bad_lines (line_at first.line line) rows × AddsRows old new rows)
       → after.bad_lines ≡ first.bad_lines → after.line ≡ min (first.line + 1) (2 ^ 64 - 1)
@@ -156,7 +156,7 @@ module _ {S : Type 0} where
   Added-line-ok (Err e) form old new partial rest line kept first after none is empty one same next = tt
 
   -- the line that ended is no row, and bad lines are rejected
-  pub Added-bad : (form : RowForm) (before : List (List ℕ × ℕ)) (runs : List (List (List ℕ × ℕ))) (bag : Bag (String Global) S) (partial rest line : List ℕ) (first after : Reading) (text more : List ℕ) → NoLineFeed rest
+  pub Added-bad : (form : RowForm) (before : List (List ℕ × ℕ)) (runs : List (List (List ℕ × ℕ))) (bag : Bag (String Global) S) (partial rest line : List ℕ) (first after : LinesRead) (text more : List ℕ) → NoLineFeed rest
       → line ≡ strip_carriage_return (partial ++ rest) → (first.bad_lines ≡ Refused) × IsNoRow form (line_at first.line line) → after.bad_lines ≡ first.bad_lines → after.line ≡ min (first.line + 1) (2 ^ 64 - 1)
       → Added form before runs bag partial first text → IsFirstNoRow form ((text ++ (rest ++ 10 ∷ [])) ++ more) after
   Added-bad form before runs bag partial rest line first after text more none is bad same next h =
@@ -184,7 +184,7 @@ module _ {S : Type 0} where
       }
 
   -- bytes were kept
-  pub Added-rest : (form : RowForm) (before : List (List ℕ × ℕ)) (runs : List (List (List ℕ × ℕ))) (bag : Bag (String Global) S) (partial rest : List ℕ) (reading : Reading) (text : List ℕ) → NoLineFeed rest
+  pub Added-rest : (form : RowForm) (before : List (List ℕ × ℕ)) (runs : List (List (List ℕ × ℕ))) (bag : Bag (String Global) S) (partial rest : List ℕ) (reading : LinesRead) (text : List ℕ) → NoLineFeed rest
       → Added form before runs bag partial reading text → Added form before runs bag (partial ++ rest) reading (text ++ rest)
   Added-rest form before runs bag partial rest reading text none h = record {
     ended = h.ended;
@@ -198,7 +198,7 @@ module _ {S : Type 0} where
   }
 
   -- the bag became a run
-  pub Added-run : (form : RowForm) (before : List (List ℕ × ℕ)) (runs : List (List (List ℕ × ℕ))) (run : List (List ℕ × ℕ)) (old new : Bag (String Global) S) (partial : List ℕ) (reading : Reading) (text : List ℕ) → new.items ≡ []
+  pub Added-run : (form : RowForm) (before : List (List ℕ × ℕ)) (runs : List (List (List ℕ × ℕ))) (run : List (List ℕ × ℕ)) (old new : Bag (String Global) S) (partial : List ℕ) (reading : LinesRead) (text : List ℕ) → new.items ≡ []
       → ((text : List ℕ) → times_in text run ≡ count bytes_eq text (texts_in old)) → Added form before runs old partial reading text → Added form before (runs ++ run ∷ []) new partial reading text
   Added-run form before runs run old new partial reading text none is h = record {
     ended = h.ended;
@@ -212,14 +212,14 @@ module _ {S : Type 0} where
   }
 
   -- no file was begun
-  pub Added-none : (form : RowForm) (before : List (List ℕ × ℕ)) (runs : List (List (List ℕ × ℕ))) (bag : Bag (String Global) S) (partial : List ℕ) (reading : Reading) → Added form before runs bag partial reading [] → HaveRows runs bag before
+  pub Added-none : (form : RowForm) (before : List (List ℕ × ℕ)) (runs : List (List (List ℕ × ℕ))) (bag : Bag (String Global) S) (partial : List ℕ) (reading : LinesRead) → Added form before runs bag partial reading [] → HaveRows runs bag before
   Added-none form before runs bag partial reading h =
       let none : lines h.ended ≡ [] = ap lines (nil_first h.ended partial h.cut) in
       let rows : h.rows ≡ [] = subst (λ (l : List (List ℕ)). AreReadAs form reading.bad_lines (unmarked l) h.rows) none h.read in
       subst (HaveRows runs bag) (ap (λ (l : List (List ℕ × ℕ)). before ++ l) rows ∙ append-nil before) h.counts
 
   -- the file ends, and what was kept was skipped
-  pub Added-all : (form : RowForm) (before : List (List ℕ × ℕ)) (runs : List (List (List ℕ × ℕ))) (bag : Bag (String Global) S) (partial : List ℕ) (reading : Reading) (text : List ℕ) → (reading.bad_lines ≡ Refused → partial ≡ [])
+  pub Added-all : (form : RowForm) (before : List (List ℕ × ℕ)) (runs : List (List (List ℕ × ℕ))) (bag : Bag (String Global) S) (partial : List ℕ) (reading : LinesRead) (text : List ℕ) → (reading.bad_lines ≡ Refused → partial ≡ [])
       → Added form before runs bag partial reading text → (rows : List (List ℕ × ℕ)) × AreRowsOf form reading.bad_lines text rows × HaveRows runs bag (before ++ rows)
   Added-all form before runs bag partial reading text whole h = (
     h.rows,
@@ -236,7 +236,7 @@ module _ {S : Type 0} where
   )
 
   -- what is kept is no line that has ended
-  pub Added-cut : (form : RowForm) (before : List (List ℕ × ℕ)) (runs : List (List (List ℕ × ℕ))) (bag : Bag (String Global) S) (partial : List ℕ) (reading : Reading) (text : List ℕ) → 0 < length partial
+  pub Added-cut : (form : RowForm) (before : List (List ℕ × ℕ)) (runs : List (List (List ℕ × ℕ))) (bag : Bag (String Global) S) (partial : List ℕ) (reading : LinesRead) (text : List ℕ) → 0 < length partial
       → Added form before runs bag partial reading text → EndsLine text → ⊥
   Added-cut form before runs bag partial reading text some h ends = not_ended h.ended partial some h.unended (subst EndsLine h.cut ends)
     where

@@ -12,14 +12,14 @@ use Rattle.hashbag.specs.EqualityLaws.{count_append}
 use Rattle.hashbag.specs.Occurrences.{count}
 use Rattle.hashbag_words_lib.specs.Counts.{texts_in, AddsTexts}
 use Rattle.hashbag_words_lib.specs.Counted.{how_many, Counted, HaveTogether, IsFirstBad, IsReadingOf, NoLineFeed, NoneIsBad}
-use Rattle.hashbag_words_lib.specs.Reading.{EndsLine}
+use Rattle.hashbag_words_lib.specs.LineEnds.{EndsLine}
 use Rattle.hashbag_words_lib.specs.Sorted.{times_in}
 use Rattle.hashbag_words_lib.specs.Tokens.{is_bad, is_replaced, tokens_of, tokens_of_lines}
 use Rattle.hashbag_words_lib.specs.declared.errors.BadLine.{BadLine}
-use Rattle.hashbag_words_lib.specs.declared.errors.Fault.{Fault}
-use Rattle.hashbag_words_lib.specs.declared.errors.Fault.TheVariants.{Line}
+use Rattle.hashbag_words_lib.specs.declared.errors.InputFault.{InputFault}
+use Rattle.hashbag_words_lib.specs.declared.errors.InputFault.TheVariants.{Line}
 use Rattle.hashbag_words_lib.specs.declared.lines.BadLines.TheVariants.{Refused}
-use Rattle.hashbag_words_lib.specs.declared.lines.Reading.{Reading}
+use Rattle.hashbag_words_lib.specs.declared.lines.LinesRead.{LinesRead}
 use Rattle.hashbag_words_lib.specs.declared.rule.Rule.{Rule}
 use Rattle.hashbag_words_lib.proofs.LineLemmas.{lines-cut, lines-append}
 use Rattle.hashbag_words_lib.proofs.ReadLemmas.{tokens_of_lines-append}
@@ -128,16 +128,16 @@ Eaten-below P Q block rest front left cut h =
 -- ---- how a line was read
 
 -- what follows from what a clause says of a bad line
-pub told : {X : Type 0} {P Q : Type 0} (r : Result X Fault) → (P → Q) → IfErr r (λ e. (bad : BadLine) → e ≡ Line bad → P) → IfErr r (λ e. (bad : BadLine) → e ≡ Line bad → Q)
+pub told : {X : Type 0} {P Q : Type 0} (r : Result X InputFault) → (P → Q) → IfErr r (λ e. (bad : BadLine) → e ≡ Line bad → P) → IfErr r (λ e. (bad : BadLine) → e ≡ Line bad → Q)
 told (Ok x) f h = tt
 told (Err e) f h = λ bad is. f (h bad is)
 
-pub told_same : {X : Type 0} {Q : Type 0} (r : Result X Fault) (given : Fault) → IsErrAnd r (λ e. e ≡ given) → ((bad : BadLine) → given ≡ Line bad → Q) → IfErr r (λ e. (bad : BadLine) → e ≡ Line bad → Q)
+pub told_same : {X : Type 0} {Q : Type 0} (r : Result X InputFault) (given : InputFault) → IsErrAnd r (λ e. e ≡ given) → ((bad : BadLine) → given ≡ Line bad → Q) → IfErr r (λ e. (bad : BadLine) → e ≡ Line bad → Q)
 told_same (Ok x) given same h = tt
 told_same (Err e) given same h = λ bad is. h bad (sym same ∙ is)
 
 -- what a line that was read does to the reading
-pub record Read (rule : Rule) (before after : Reading) (bytes : List ℕ) : Type 0 where
+pub record Read (rule : Rule) (before after : LinesRead) (bytes : List ℕ) : Type 0 where
   pub passed : before.bad_lines ≡ Refused → is_bad rule bytes ≡ false
   pub kept : is_bad rule bytes ≡ false → after.skipped ≡ before.skipped
   pub skipped : is_bad rule bytes ≡ true → after.skipped ≡ min (before.skipped + 1) (2 ^ 64 - 1)
@@ -147,7 +147,7 @@ pub record Read (rule : Rule) (before after : Reading) (bytes : List ℕ) : Type
   pub line : after.line ≡ min (before.line + 1) (2 ^ 64 - 1)
 
 -- the same from clauses one by one
-pub read_ok : {X E : Type 0} (r : Result X E) (rule : Rule) (before after : Reading) (line : List ℕ) → OnOk r (before.bad_lines ≡ Refused → is_bad rule line ≡ false)
+pub read_ok : {X E : Type 0} (r : Result X E) (rule : Rule) (before after : LinesRead) (line : List ℕ) → OnOk r (before.bad_lines ≡ Refused → is_bad rule line ≡ false)
     → (is_bad rule line ≡ false → after.skipped ≡ before.skipped) → (is_bad rule line ≡ true → OnOk r (after.skipped ≡ min (before.skipped + 1) (2 ^ 64 - 1)))
     → (is_replaced rule line ≡ false → after.replaced ≡ before.replaced) → (is_replaced rule line ≡ true → OnOk r (after.replaced ≡ min (before.replaced + 1) (2 ^ 64 - 1)))
     → after.bad_lines ≡ before.bad_lines → after.line ≡ min (before.line + 1) (2 ^ 64 - 1) → OnOk r (Read rule before after line)
@@ -172,7 +172,7 @@ count_more test old new front line false is same more so_far =
     next ∙ so_far ∙ ap (λ (n : ℕ). min n (2 ^ 64 - 1)) (omega (arith, both, none))
 
 -- one line more of a text was read
-lines_read : (rule : Rule) (ended whole line : List ℕ) (before after : Reading) → lines whole ≡ lines ended ++ line ∷ [] → Read rule before after line → IsReadingOf rule ended before → IsReadingOf rule whole after
+lines_read : (rule : Rule) (ended whole line : List ℕ) (before after : LinesRead) → lines whole ≡ lines ended ++ line ∷ [] → Read rule before after line → IsReadingOf rule ended before → IsReadingOf rule whole after
 lines_read rule ended whole line before after both read h =
     let many : length (lines whole) ≡ length (lines ended) + length (line ∷ []) = ap length both ∙ length-append (lines ended) (line ∷ []) in
     let next : after.line ≡ min (before.line + 1) (2 ^ 64 - 1) = read.line in
@@ -189,7 +189,7 @@ lines_read rule ended whole line before after both read h =
     }
 
 -- nothing was read
-nothing_read : (rule : Rule) (reading : Reading) → (reading.line ≡ 0) × (reading.skipped ≡ 0) × (reading.replaced ≡ 0) → IsReadingOf rule [] reading
+nothing_read : (rule : Rule) (reading : LinesRead) → (reading.line ≡ 0) × (reading.skipped ≡ 0) × (reading.replaced ≡ 0) → IsReadingOf rule [] reading
 nothing_read rule reading none = record {
   line = none.0 ∙ omega arith;
   skipped = none.1 ∙ omega arith;
@@ -242,11 +242,11 @@ module _ {S : Type 0} where
   -- ---- the counter
 
   -- how the ended lines were read
-  so_read : (rule : Rule) (before : List (List ℕ)) (runs : List (List (List ℕ × ℕ))) (bag : Bag (String Global) S) (partial : List ℕ) (reading : Reading) (text : List ℕ) (h : Counted rule before runs bag partial reading text) → IsReadingOf rule h.ended reading
+  so_read : (rule : Rule) (before : List (List ℕ)) (runs : List (List (List ℕ × ℕ))) (bag : Bag (String Global) S) (partial : List ℕ) (reading : LinesRead) (text : List ℕ) (h : Counted rule before runs bag partial reading text) → IsReadingOf rule h.ended reading
   so_read rule before runs bag partial reading text h = record { line = h.line; skipped = h.skipped; replaced = h.replaced; passed = h.passed }
 
   -- nothing was given
-  pub Counted-nothing : (rule : Rule) (before : List (List ℕ)) (runs : List (List (List ℕ × ℕ))) (bag : Bag (String Global) S) (partial : List ℕ) (reading : Reading) → HaveTogether runs bag before → partial ≡ []
+  pub Counted-nothing : (rule : Rule) (before : List (List ℕ)) (runs : List (List (List ℕ × ℕ))) (bag : Bag (String Global) S) (partial : List ℕ) (reading : LinesRead) → HaveTogether runs bag before → partial ≡ []
       → (reading.line ≡ 0) × (reading.skipped ≡ 0) × (reading.replaced ≡ 0) → Counted rule before runs bag partial reading []
   Counted-nothing rule before runs bag partial reading counts empty none =
       let read = nothing_read rule reading none in
@@ -263,7 +263,7 @@ module _ {S : Type 0} where
       }
 
   -- a line has ended, and was counted with what was kept of it
-  Counted-line : (rule : Rule) (before : List (List ℕ)) (runs : List (List (List ℕ × ℕ))) (old new : Bag (String Global) S) (partial rest line kept : List ℕ) (first after : Reading) (text : List ℕ) → NoLineFeed rest
+  Counted-line : (rule : Rule) (before : List (List ℕ)) (runs : List (List (List ℕ × ℕ))) (old new : Bag (String Global) S) (partial rest line kept : List ℕ) (first after : LinesRead) (text : List ℕ) → NoLineFeed rest
       → line ≡ strip_carriage_return (partial ++ rest) → kept ≡ [] → AddsTexts old new (tokens_of_lines rule (line ∷ [])) → Read rule first after line
       → Counted rule before runs old partial first text → Counted rule before runs new kept after (text ++ (rest ++ 10 ∷ []))
   Counted-line rule before runs old new partial rest line kept first after text none is empty adds read h =
@@ -285,7 +285,7 @@ module _ {S : Type 0} where
       }
 
   -- the same, where that may have been an error
-  pub Counted-line-ok : {X E : Type 0} (r : Result X E) (rule : Rule) (old new : Bag (String Global) S) (partial rest line kept : List ℕ) (first after : Reading) → NoLineFeed rest
+  pub Counted-line-ok : {X E : Type 0} (r : Result X E) (rule : Rule) (old new : Bag (String Global) S) (partial rest line kept : List ℕ) (first after : LinesRead) → NoLineFeed rest
       → line ≡ strip_carriage_return (partial ++ rest) → kept ≡ [] → OnOk r (AddsTexts old new (tokens_of_lines rule (line ∷ []))) → OnOk r (Read rule first after line)
       → OnOk r ((before : List (List ℕ)) (runs : List (List (List ℕ × ℕ))) (text : List ℕ) → Counted rule before runs old partial first text → Counted rule before runs new kept after (text ++ (rest ++ 10 ∷ [])))
   Counted-line-ok (Ok x) rule old new partial rest line kept first after none is empty adds read =
@@ -293,7 +293,7 @@ module _ {S : Type 0} where
   Counted-line-ok (Err e) rule old new partial rest line kept first after none is empty adds read = tt
 
   -- the line that ended is bad, and is rejected
-  pub Counted-bad : (rule : Rule) (before : List (List ℕ)) (runs : List (List (List ℕ × ℕ))) (bag : Bag (String Global) S) (partial rest line : List ℕ) (first after : Reading) (text more : List ℕ) → NoLineFeed rest
+  pub Counted-bad : (rule : Rule) (before : List (List ℕ)) (runs : List (List (List ℕ × ℕ))) (bag : Bag (String Global) S) (partial rest line : List ℕ) (first after : LinesRead) (text more : List ℕ) → NoLineFeed rest
       → line ≡ strip_carriage_return (partial ++ rest) → (first.bad_lines ≡ Refused) × (is_bad rule line ≡ true) → after.bad_lines ≡ first.bad_lines → after.line ≡ min (first.line + 1) (2 ^ 64 - 1)
       → Counted rule before runs bag partial first text → IsFirstBad rule ((text ++ (rest ++ 10 ∷ [])) ++ more) after
   Counted-bad rule before runs bag partial rest line first after text more none is bad same next h =
@@ -315,7 +315,7 @@ module _ {S : Type 0} where
       }
 
   -- the last line is bad, and is rejected
-  pub Counted-bad-last : (rule : Rule) (before : List (List ℕ)) (runs : List (List (List ℕ × ℕ))) (bag : Bag (String Global) S) (partial line : List ℕ) (first after : Reading) (text : List ℕ) → 0 < length partial
+  pub Counted-bad-last : (rule : Rule) (before : List (List ℕ)) (runs : List (List (List ℕ × ℕ))) (bag : Bag (String Global) S) (partial line : List ℕ) (first after : LinesRead) (text : List ℕ) → 0 < length partial
       → line ≡ partial → (first.bad_lines ≡ Refused) × (is_bad rule line ≡ true) → after.bad_lines ≡ first.bad_lines → after.line ≡ min (first.line + 1) (2 ^ 64 - 1)
       → Counted rule before runs bag partial first text → IsFirstBad rule text after
   Counted-bad-last rule before runs bag partial line first after text some is bad same next h =
@@ -332,7 +332,7 @@ module _ {S : Type 0} where
       }
 
   -- bytes were kept
-  pub Counted-rest : (rule : Rule) (before : List (List ℕ)) (runs : List (List (List ℕ × ℕ))) (bag : Bag (String Global) S) (partial rest : List ℕ) (reading : Reading) (text : List ℕ) → NoLineFeed rest
+  pub Counted-rest : (rule : Rule) (before : List (List ℕ)) (runs : List (List (List ℕ × ℕ))) (bag : Bag (String Global) S) (partial rest : List ℕ) (reading : LinesRead) (text : List ℕ) → NoLineFeed rest
       → Counted rule before runs bag partial reading text → Counted rule before runs bag (partial ++ rest) reading (text ++ rest)
   Counted-rest rule before runs bag partial rest reading text none h = record {
     ended = h.ended;
@@ -347,7 +347,7 @@ module _ {S : Type 0} where
   }
 
   -- the bag became a run
-  pub Counted-run : (rule : Rule) (before : List (List ℕ)) (runs : List (List (List ℕ × ℕ))) (rows : List (List ℕ × ℕ)) (old new : Bag (String Global) S) (partial : List ℕ) (reading : Reading) (text : List ℕ) → new.items ≡ []
+  pub Counted-run : (rule : Rule) (before : List (List ℕ)) (runs : List (List (List ℕ × ℕ))) (rows : List (List ℕ × ℕ)) (old new : Bag (String Global) S) (partial : List ℕ) (reading : LinesRead) (text : List ℕ) → new.items ≡ []
       → ((text : List ℕ) → times_in text rows ≡ count bytes_eq text (texts_in old)) → Counted rule before runs old partial reading text → Counted rule before (runs ++ rows ∷ []) new partial reading text
   Counted-run rule before runs rows old new partial reading text none is h = record {
     ended = h.ended;
@@ -362,12 +362,12 @@ module _ {S : Type 0} where
   }
 
   -- no text was begun
-  pub Counted-none : (rule : Rule) (before : List (List ℕ)) (runs : List (List (List ℕ × ℕ))) (bag : Bag (String Global) S) (partial : List ℕ) (reading : Reading) → Counted rule before runs bag partial reading [] → HaveTogether runs bag before
+  pub Counted-none : (rule : Rule) (before : List (List ℕ)) (runs : List (List (List ℕ × ℕ))) (bag : Bag (String Global) S) (partial : List ℕ) (reading : LinesRead) → Counted rule before runs bag partial reading [] → HaveTogether runs bag before
   Counted-none rule before runs bag partial reading h =
       subst (HaveTogether runs bag) (ap (λ (l : List ℕ). before ++ tokens_of rule l) (nil_first h.ended partial h.cut) ∙ append-nil before) h.counts
 
   -- the text ends, and nothing is kept
-  pub ended_whole : (rule : Rule) (before : List (List ℕ)) (runs : List (List (List ℕ × ℕ))) (bag : Bag (String Global) S) (partial : List ℕ) (reading : Reading) (text : List ℕ) → partial ≡ []
+  pub ended_whole : (rule : Rule) (before : List (List ℕ)) (runs : List (List (List ℕ × ℕ))) (bag : Bag (String Global) S) (partial : List ℕ) (reading : LinesRead) (text : List ℕ) → partial ≡ []
       → Counted rule before runs bag partial reading text → HaveTogether runs bag (before ++ tokens_of rule text) × IsReadingOf rule text reading
   ended_whole rule before runs bag partial reading text none h =
       let all : h.ended ≡ text = sym (h.cut ∙ ap (λ (l : List ℕ). h.ended ++ l) none ∙ append-nil h.ended) in (
@@ -376,7 +376,7 @@ module _ {S : Type 0} where
       )
 
   -- the text ends, and what is kept is counted as its last line
-  pub ended_last : (rule : Rule) (before : List (List ℕ)) (runs : List (List (List ℕ × ℕ))) (old new : Bag (String Global) S) (partial line : List ℕ) (first after : Reading) (text : List ℕ) → 0 < length partial → line ≡ partial
+  pub ended_last : (rule : Rule) (before : List (List ℕ)) (runs : List (List (List ℕ × ℕ))) (old new : Bag (String Global) S) (partial line : List ℕ) (first after : LinesRead) (text : List ℕ) → 0 < length partial → line ≡ partial
       → AddsTexts old new (tokens_of_lines rule (line ∷ [])) → Read rule first after line
       → Counted rule before runs old partial first text → HaveTogether runs new (before ++ tokens_of rule text) × IsReadingOf rule text after
   ended_last rule before runs old new partial line first after text some same adds read h =
@@ -386,7 +386,7 @@ module _ {S : Type 0} where
       )
 
   -- the same, where that may have been an error
-  pub ended_last-ok : {X E : Type 0} (r : Result X E) (rule : Rule) (old new : Bag (String Global) S) (partial line : List ℕ) (first after : Reading) → 0 < length partial → line ≡ partial
+  pub ended_last-ok : {X E : Type 0} (r : Result X E) (rule : Rule) (old new : Bag (String Global) S) (partial line : List ℕ) (first after : LinesRead) → 0 < length partial → line ≡ partial
       → OnOk r (AddsTexts old new (tokens_of_lines rule (line ∷ []))) → OnOk r (Read rule first after line)
       → OnOk r ((before : List (List ℕ)) (runs : List (List (List ℕ × ℕ))) (text : List ℕ) → Counted rule before runs old partial first text → HaveTogether runs new (before ++ tokens_of rule text) × IsReadingOf rule text after)
   ended_last-ok (Ok x) rule old new partial line first after some same adds read = λ before runs text h. ended_last rule before runs old new partial line first after text some same adds read h

@@ -7,7 +7,7 @@ use Rattle.std.proofs.lemmas.List.{get_or-append_right}
 use Rattle.std.proofs.lemmas.List.Elements.{All-nil, All-cons, All-get_or}
 use Rattle.std.proofs.lemmas.List.Splits.{slice_split_at, length-slice_split}
 use Rattle.hashbag_words_lib.specs.Counted.{NoLineFeed}
-use Rattle.hashbag_words_lib.specs.Reading.{EndsLine}
+use Rattle.hashbag_words_lib.specs.LineEnds.{EndsLine}
 
 -- the bytes before the first line feed and those after it, or there is no line feed
 abbrev Cut : List ℕ → Type 0

@@ -8,7 +8,7 @@ use Rattle.hashbag_words_lib.specs.Merged.{all_with, texts_of, with_head, AreBeg
 use Rattle.hashbag_words_lib.specs.Runs.{rows_in, run_text}
 use Rattle.hashbag_words_lib.specs.Sorted.{row_of, shown_of, IsMergeOf, IsNoLater, IsNotBelow, Joins, SoFar}
 use Rattle.hashbag_words_lib.specs.Sources.{left_with, rows_of, MayCome}
-use Rattle.hashbag_words_lib.specs.declared.row_source.Kind.{Kind}
+use Rattle.hashbag_words_lib.specs.declared.row_source.SourceKind.{SourceKind}
 use Rattle.hashbag_words_lib.specs.declared.row_source.Next.TheVariants.{Row, End}
 use Rattle.hashbag_words_lib.specs.declared.sorted_merge.Merged.TheVariants.{Row as MergedRow, End as MergedEnd}
 use Rattle.hashbag_words_lib.specs.declared.sources.Source.{Source}
@@ -122,7 +122,7 @@ module _ (sources : List Source) (mores : ℕ → List ℕ) (rows : List (List (
 -- ---- the merge so far
 
 -- no row was taken
-pub so_far_begins : (given : List (Kind × List ℕ)) (sources : List Source) → AreBegun given sources → IsSoFar given sources None 0 []
+pub so_far_begins : (given : List (SourceKind × List ℕ)) (sources : List Source) → AreBegun given sources → IsSoFar given sources None 0 []
 so_far_begins given sources begun = record {
   many = begun.many;
   fits = omega arith;
@@ -139,14 +139,14 @@ so_far_begins given sources begun = record {
   );
 }
   where
-    nothing : Kind × List ℕ
-    nothing = (Kind.Run, [])
+    nothing : SourceKind × List ℕ
+    nothing = (SourceKind.Run, [])
 
     first : (i : ℕ) → i < length given → (source : Source) (mores : ℕ → List ℕ) (inputs : List (List (List ℕ × ℕ))) → MayCome (get_or sources i source).rows (mores i) → AreInputs given mores inputs
         → all_with (get_or sources i source) (mores i) ≡ Some (get_or inputs i [])
     first i low source mores inputs may are = begun.each i low nothing source (mores i) may (get_or inputs i []) (are.each i low nothing)
 
-module _ (given : List (Kind × List ℕ)) (sources new : List Source) (out : List (List ℕ × ℕ)) (held : Option (String Global × ℕ)) (before : ℕ) (so : IsSoFar given sources held before out)
+module _ (given : List (SourceKind × List ℕ)) (sources new : List Source) (out : List (List ℕ × ℕ)) (held : Option (String Global × ℕ)) (before : ℕ) (so : IsSoFar given sources held before out)
     (may : (mores : ℕ → List ℕ) → MayComeTo new mores → MayComeTo sources mores) (many : length new ≡ length sources) where
   -- a row was taken, and perhaps one came out
   pub so_far_row : (row : String Global × ℕ) (done next : Option (String Global × ℕ)) (total : ℕ) → total ≡ before + row.1 → total < 2 ^ 64 → Joins held row done next
@@ -192,7 +192,7 @@ module _ (given : List (Kind × List ℕ)) (sources new : List Source) (out : Li
       so_far_done inputs old.0 out held before so.fits took.0 old.2
 
 -- the same of what is held, the total and the rows under other names
-pub so_far_as : (given : List (Kind × List ℕ)) (sources : List Source) (held same_held : Option (String Global × ℕ)) (total same_total : ℕ) (out same_out : List (List ℕ × ℕ)) → same_held ≡ held → same_total ≡ total → same_out ≡ out
+pub so_far_as : (given : List (SourceKind × List ℕ)) (sources : List Source) (held same_held : Option (String Global × ℕ)) (total same_total : ℕ) (out same_out : List (List ℕ × ℕ)) → same_held ≡ held → same_total ≡ total → same_out ≡ out
     → IsSoFar given sources held total out → IsSoFar given sources same_held same_total same_out
 so_far_as given sources held same_held total same_total out same_out h t o so =
     subst (λ (x : Option (String Global × ℕ)). IsSoFar given sources x same_total same_out) (sym h)
@@ -210,10 +210,10 @@ block_here i block mores = ap (λ (b : Bool). cond b (block ++ mores i) (mores i
 block_other : (i : ℕ) (block : List ℕ) (mores : ℕ → List ℕ) (k : ℕ) → (k ≡ i → ⊥) → with_block i block mores k ≡ mores k
 block_other i block mores k other = ap (λ (b : Bool). cond b (block ++ mores k) (mores k)) (ne_eqb k i other)
 
-module _ (given : List (Kind × List ℕ)) (sources : List Source) (out : List (List ℕ × ℕ)) (held : Option (String Global × ℕ)) (total : ℕ) (so : IsSoFar given sources held total out)
+module _ (given : List (SourceKind × List ℕ)) (sources : List Source) (out : List (List ℕ × ℕ)) (held : Option (String Global × ℕ)) (total : ℕ) (so : IsSoFar given sources held total out)
     (i : ℕ) (new source : Source) (within : i < length sources) (here : source ≡ get_or sources i source) where
   -- a block is given to an open source
-  pub so_far_given : (block : List ℕ) (text : Kind × List ℕ) → source.rows.is_ended ≡ false → ((more : List ℕ) → all_with new more ≡ all_with source (block ++ more)) → text ≡ get_or given i text
+  pub so_far_given : (block : List ℕ) (text : SourceKind × List ℕ) → source.rows.is_ended ≡ false → ((more : List ℕ) → all_with new more ≡ all_with source (block ++ more)) → text ≡ get_or given i text
       → IsSoFar (set given i (text.0, text.1 ++ block)) (set sources i new) held total out
   so_far_given block text waits gives is = record {
     many = length-set given i whole ∙ so.many ∙ sym (length-set sources i new);
@@ -235,24 +235,24 @@ module _ (given : List (Kind × List ℕ)) (sources : List Source) (out : List (
         );
   }
     where
-      whole : Kind × List ℕ
+      whole : SourceKind × List ℕ
       whole = (text.0, text.1 ++ block)
 
       low : i < length given
       low = let many : length given ≡ length sources = so.many in omega arith
 
-      at : (mores : ℕ → List ℕ) (inputs : List (List (List ℕ × ℕ))) → AreInputs (set given i whole) mores inputs → (k : ℕ) → k < length given → (d : Kind × List ℕ) → (k ≡ i) ⊎ (k ≡ i → ⊥)
+      at : (mores : ℕ → List ℕ) (inputs : List (List (List ℕ × ℕ))) → AreInputs (set given i whole) mores inputs → (k : ℕ) → k < length given → (d : SourceKind × List ℕ) → (k ≡ i) ⊎ (k ≡ i → ⊥)
           → rows_of (get_or given k d).0 ((get_or given k d).1 ++ with_block i block mores k) ≡ Some (get_or inputs k [])
       at mores inputs are k lt d (inl same) =
           subst (λ (j : ℕ). rows_of (get_or given j d).0 ((get_or given j d).1 ++ with_block i block mores j) ≡ Some (get_or inputs j [])) (sym same)
-          (ap (λ (w : Kind × List ℕ). rows_of w.0 (w.1 ++ with_block i block mores i)) (same_at given i d text low is)
+          (ap (λ (w : SourceKind × List ℕ). rows_of w.0 (w.1 ++ with_block i block mores i)) (same_at given i d text low is)
           ∙ ap (λ (m : List ℕ). rows_of text.0 (text.1 ++ m)) (block_here i block mores)
           ∙ ap (rows_of text.0) (sym (append_assoc text.1 block (mores i)))
-          ∙ subst (λ (w : Kind × List ℕ). rows_of w.0 (w.1 ++ mores i) ≡ Some (get_or inputs i [])) (get_or-set_same given i whole d low)
+          ∙ subst (λ (w : SourceKind × List ℕ). rows_of w.0 (w.1 ++ mores i) ≡ Some (get_or inputs i [])) (get_or-set_same given i whole d low)
           (are.each i (subst (λ (n : ℕ). i < n) (sym (length-set given i whole)) low) d))
       at mores inputs are k lt d (inr other) =
           ap (λ (m : List ℕ). rows_of (get_or given k d).0 ((get_or given k d).1 ++ m)) (block_other i block mores k other)
-          ∙ subst (λ (w : Kind × List ℕ). rows_of w.0 (w.1 ++ mores k) ≡ Some (get_or inputs k [])) (get_or-set_other given i k whole d other)
+          ∙ subst (λ (w : SourceKind × List ℕ). rows_of w.0 (w.1 ++ mores k) ≡ Some (get_or inputs k [])) (get_or-set_other given i k whole d other)
           (are.each k (subst (λ (n : ℕ). k < n) (sym (length-set given i whole)) lt) d)
 
   -- a source is ended
@@ -278,9 +278,9 @@ runs_merged runs sources out again whole = whole (λ i. []) runs (λ i lt source
   each = λ i lt d.
       let low : i < length runs = subst (λ (n : ℕ). i < n) (length-map runs text) lt in
       let rows = get_or runs i [] in
-      subst (λ (w : Kind × List ℕ). rows_of w.0 (w.1 ++ []) ≡ Some rows) (sym (get_or-map text runs i [] d low))
+      subst (λ (w : SourceKind × List ℕ). rows_of w.0 (w.1 ++ []) ≡ Some rows) (sym (get_or-map text runs i [] d low))
       (ap (λ (l : List ℕ). Some (rows_in l)) (append-nil (run_text rows)) ∙ ap (λ (r : List (List ℕ × ℕ)). Some r) (again i [] low));
 })
   where
-    text : List (List ℕ × ℕ) → Kind × List ℕ
-    text rows = (Kind.Run, run_text rows)
+    text : List (List ℕ × ℕ) → SourceKind × List ℕ
+    text rows = (SourceKind.Run, run_text rows)

@@ -112,7 +112,7 @@ rows_again (p ∷ pairs) fits =
     upper : (a b c n : ℕ) → c ≡ a + b → c < n → b < n
     upper a b c n e lt = omega arith
 
--- what is shown of a bag, tokens rising, is a run of it
+-- what is shown of a bag, tokens in ascending order, is a run of it
 pub is_run : {S : Type 0} (bag : Bag (String Global) S) (pairs : List (String Global × ℕ)) → IsSetWalkOf string_eq bag pairs → IsStrictlySortedBy string_cmp (keys_of pairs) → IsRunOf bag (map row_of pairs)
 is_run bag pairs walk up = record {
   rises = rows_rise pairs up;

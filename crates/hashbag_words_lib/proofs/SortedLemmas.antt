@@ -1,4 +1,4 @@
--- Rows whose tokens rise, one more at the end or at the front.
+-- Rows whose tokens are in ascending order, one more at the end or at the front.
 use Rattle.std.proofs.Common.{◌≡◌, ◌≢◌, ◌⊎◌, inl, inr, ℕ, zero, suc, ◌+◌, ◌<◌, Bool, false, List, [], ◌∷◌, ◌++◌, length, get_or, Ordering, Less, Equal, Greater, is_eq, is_gt, is_lt, String, string_bytes, bytes_eq, Global, Option, None, Some, refl, sym, ◌∙◌, ap, subst, subst₂, arith}
 use Rattle.std.specs.Cmp.Lexicographic.{nat_list_cmp_total, texts_ties}
 use Rattle.std.specs.List.{AllByRecursion}

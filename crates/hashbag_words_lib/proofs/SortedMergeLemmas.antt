@@ -1,4 +1,4 @@
--- The merge of rows that rise, one row after the other.
+-- The merge of rows that are in ascending order, one row after the other.
 use Rattle.std.proofs.Common.{◌≡◌, ◌⊎◌, ℕ, ◌+◌, ◌<◌, ◌^◌, Bool, true, false, cond, List, [], ◌∷◌, ◌++◌, length, get_or, set, sum_by, All, Less, String, string_bytes, string_eq, bytes_eq, Global, Option, None, Some, refl, sym, ◌∙◌, ap, subst, subst₂, arith, inl, inr, eq-eqb, ne_eqb, length-set}
 use Rattle.std.specs.Cmp.Lexicographic.{bytes_decides}
 use Rattle.std.proofs.lemmas.Bool.{cases_eq}
@@ -36,7 +36,7 @@ module _ (old new : List (List (List ℕ × ℕ))) (row : List ℕ × ℕ) (took
       let is : sum_by f new ≡ sum_by f (set old took.at took.rest) = ap (sum_by f) took.is in
       omega (arith, one, was, is)
 
-  -- a source that rises without its first row rises with it
+  -- a source in ascending order without its first row is so with it
   pub risen_left : All Rises new → All Rises old
   risen_left risen = All-from_get_or Rises old [] (λ k lt. by_place k lt (cases_eq k took.at))
     where

@@ -7,14 +7,14 @@ use Rattle.hashbag.specs.Bag.{Bag}
 use Rattle.hashbag.specs.Occurrences.{count}
 use Rattle.hashbag_words_lib.specs.Counted.{NoLineFeed}
 use Rattle.hashbag_words_lib.specs.Counts.{texts_in}
-use Rattle.hashbag_words_lib.specs.Reading.{EndsLine}
+use Rattle.hashbag_words_lib.specs.LineEnds.{EndsLine}
 use Rattle.hashbag_words_lib.specs.Rows.{IsNoRow, IsRowOf}
 use Rattle.hashbag_words_lib.specs.Runs.{unmarked}
 use Rattle.hashbag_words_lib.specs.Sorted.{times_in}
 use Rattle.hashbag_words_lib.specs.Tokens.{without_mark}
 use Rattle.hashbag_words_lib.specs.declared.lines.BadLines.{BadLines}
 use Rattle.hashbag_words_lib.specs.declared.lines.BadLines.TheVariants.{Refused, Skipped}
-use Rattle.hashbag_words_lib.specs.declared.lines.Reading.{Reading}
+use Rattle.hashbag_words_lib.specs.declared.lines.LinesRead.{LinesRead}
 use Rattle.hashbag_words_lib.specs.declared.row_counter.RowCounter.{RowCounter}
 use Rattle.hashbag_words_lib.specs.declared.rows.RowForm.{RowForm}
 
@@ -24,7 +24,7 @@ IsReadAs form bad_lines line [] = (bad_lines ≡ Skipped) × IsNoRow form line
 IsReadAs form bad_lines line (row ∷ []) = IsRowOf form line row
 IsReadAs form bad_lines line (row ∷ other ∷ rows) = ⊥
 
--- so are these lines, in turn
+-- these lines are read as these rows, in turn; a line that is no row is skipped, if bad lines are
 abbrev pub AreReadAs : RowForm → BadLines → List (List ℕ) → List (List ℕ × ℕ) → Type 0
 AreReadAs form bad_lines [] rows = rows ≡ []
 AreReadAs form bad_lines (line ∷ lines) rows =
@@ -43,7 +43,7 @@ abbrev pub HaveRows : {S : Type 0} → List (List (List ℕ × ℕ)) → Bag (St
 HaveRows runs bag rows = (text : List ℕ) → count bytes_eq text (texts_in bag) + sum_by (times_in text) runs ≡ times_in text rows
 
 -- the text is its ended lines, whose rows are in the bag and the runs with those from before the text, and then the bytes that are kept
-pub record Added {S : Type 0} (form : RowForm) (before : List (List ℕ × ℕ)) (runs : List (List (List ℕ × ℕ))) (bag : Bag (String Global) S) (partial : List ℕ) (reading : Reading) (text : List ℕ) : Type 0 where
+pub record Added {S : Type 0} (form : RowForm) (before : List (List ℕ × ℕ)) (runs : List (List (List ℕ × ℕ))) (bag : Bag (String Global) S) (partial : List ℕ) (reading : LinesRead) (text : List ℕ) : Type 0 where
   pub ended : List ℕ
   pub cut : text ≡ ended ++ partial
   pub ends : EndsLine ended
@@ -72,13 +72,14 @@ abbrev pub HasAddedAll : {S H : Type 0} → List (List ℕ × ℕ) → List (Lis
 HasAddedAll before runs bad_lines text counter =
     (rows : List (List ℕ × ℕ)) × AreRowsOf counter.form bad_lines text rows × HaveRows runs counter.bag (before ++ rows)
 
--- the same, and what is given next is another file
+-- the counter has added the rows from before, and then those of this whole file, and what is given next is another file; these runs were
+-- made of what it added
 abbrev pub HasEndedFile : {S H : Type 0} → List (List ℕ × ℕ) → List (List (List ℕ × ℕ)) → BadLines → List ℕ → RowCounter S H → Type 0
 HasEndedFile before runs bad_lines text counter =
     (rows : List (List ℕ × ℕ)) × AreRowsOf counter.form bad_lines text rows × HasAdded (before ++ rows) runs counter []
 
 -- the line that was read last is the first of the text that is no row, and bad lines are rejected
-pub record IsFirstNoRow (form : RowForm) (text : List ℕ) (reading : Reading) : Type 0 where
+pub record IsFirstNoRow (form : RowForm) (text : List ℕ) (reading : LinesRead) : Type 0 where
   pub front : List (List ℕ)
   pub bad : List ℕ
   pub rest : List (List ℕ)

@@ -6,14 +6,14 @@ use Rattle.std.specs.Str.Lines.{lines}
 use Rattle.hashbag.specs.Bag.{Bag}
 use Rattle.hashbag.specs.Occurrences.{count}
 use Rattle.hashbag_words_lib.specs.Counts.{texts_in}
-use Rattle.hashbag_words_lib.specs.Reading.{EndsLine}
+use Rattle.hashbag_words_lib.specs.LineEnds.{EndsLine}
 use Rattle.hashbag_words_lib.specs.Sorted.{times_in}
 use Rattle.hashbag_words_lib.specs.Tokens.{is_bad, is_replaced, tokens_of}
 use Rattle.hashbag_words_lib.specs.declared.counter.Fed.{Fed}
 use Rattle.hashbag_words_lib.specs.declared.counter.Fed.TheVariants.{Whole, Full}
 use Rattle.hashbag_words_lib.specs.declared.counter.TextCounter.{TextCounter}
 use Rattle.hashbag_words_lib.specs.declared.lines.BadLines.TheVariants.{Refused}
-use Rattle.hashbag_words_lib.specs.declared.lines.Reading.{Reading}
+use Rattle.hashbag_words_lib.specs.declared.lines.LinesRead.{LinesRead}
 use Rattle.hashbag_words_lib.specs.declared.rule.Rule.{Rule}
 
 -- no byte is a line feed
@@ -29,7 +29,7 @@ abbrev pub NoneIsBad : Rule → List (List ℕ) → Type 0
 NoneIsBad rule texts = All (λ line. is_bad rule line ≡ false) texts
 
 -- the line that was read last is the first bad one of the text, and bad lines are rejected
-pub record IsFirstBad (rule : Rule) (text : List ℕ) (reading : Reading) : Type 0 where
+pub record IsFirstBad (rule : Rule) (text : List ℕ) (reading : LinesRead) : Type 0 where
   pub front : List (List ℕ)
   pub bad : List ℕ
   pub rest : List (List ℕ)
@@ -44,7 +44,7 @@ abbrev pub HaveTogether : {S : Type 0} → List (List (List ℕ × ℕ)) → Bag
 HaveTogether runs bag tokens = (text : List ℕ) → count bytes_eq text (texts_in bag) + sum_by (times_in text) runs ≡ count bytes_eq text tokens
 
 -- the text is its ended lines, whose tokens are in the bag and the runs with those from before the text, and then the bytes that are kept
-pub record Counted {S : Type 0} (rule : Rule) (before : List (List ℕ)) (runs : List (List (List ℕ × ℕ))) (bag : Bag (String Global) S) (partial : List ℕ) (reading : Reading) (text : List ℕ) : Type 0 where
+pub record Counted {S : Type 0} (rule : Rule) (before : List (List ℕ)) (runs : List (List (List ℕ × ℕ))) (bag : Bag (String Global) S) (partial : List ℕ) (reading : LinesRead) (text : List ℕ) : Type 0 where
   pub ended : List ℕ
   pub cut : text ≡ ended ++ partial
   pub ends : EndsLine ended
@@ -60,7 +60,7 @@ abbrev pub HasCounted : {S H : Type 0} → List (List ℕ) → List (List (List 
 HasCounted before runs counter text = Counted counter.rule before runs counter.bag counter.partial.items counter.reading text
 
 -- how the lines of a whole text were read
-pub record IsReadingOf (rule : Rule) (text : List ℕ) (reading : Reading) : Type 0 where
+pub record IsReadingOf (rule : Rule) (text : List ℕ) (reading : LinesRead) : Type 0 where
   pub line : reading.line ≡ min (length (lines text)) (2 ^ 64 - 1)
   pub skipped : reading.skipped ≡ min (how_many (is_bad rule) (lines text)) (2 ^ 64 - 1)
   pub replaced : reading.replaced ≡ min (how_many (is_replaced rule) (lines text)) (2 ^ 64 - 1)

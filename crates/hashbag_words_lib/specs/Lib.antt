@@ -6,7 +6,7 @@ pub mod Examples
 pub mod Merged
 pub mod Merging
 pub mod Prefix
-pub mod Reading
+pub mod LineEnds
 pub mod RowParts
 pub mod RowText
 pub mod Rows

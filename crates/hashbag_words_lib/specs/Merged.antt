@@ -4,8 +4,8 @@ use Rattle.std.specs.Global.{Global}
 use Rattle.hashbag_words_lib.specs.Runs.{rows_in, run_text}
 use Rattle.hashbag_words_lib.specs.Sorted.{row_of, IsAbove, IsMergeOf, SoFar, TakesLeast}
 use Rattle.hashbag_words_lib.specs.Sources.{left_with, rows_of, Holds, MayCome}
-use Rattle.hashbag_words_lib.specs.declared.row_source.Kind.{Kind}
-use Rattle.hashbag_words_lib.specs.declared.row_source.Kind.TheVariants.{Run}
+use Rattle.hashbag_words_lib.specs.declared.row_source.SourceKind.{SourceKind}
+use Rattle.hashbag_words_lib.specs.declared.row_source.SourceKind.TheVariants.{Run}
 use Rattle.hashbag_words_lib.specs.declared.row_source.Next.{Next}
 use Rattle.hashbag_words_lib.specs.declared.row_source.Next.TheVariants.{Row, Wants, End}
 use Rattle.hashbag_words_lib.specs.declared.sorted_merge.Merged.{Merged}
@@ -27,12 +27,12 @@ abbrev pub all_with : Source → List ℕ → Option (List (List ℕ × ℕ))
 all_with source more = with_head source.head (left_with source.rows more)
 
 -- the source was given this text so far, and has all of its rows left: whatever comes next, they are the rows of the whole
-abbrev pub HoldsAll : Kind → List ℕ → Source → Type 0
+abbrev pub HoldsAll : SourceKind → List ℕ → Source → Type 0
 HoldsAll kind text source =
     (more : List ℕ) → MayCome source.rows more → (rows : List (List ℕ × ℕ)) → rows_of kind (text ++ more) ≡ Some rows → all_with source more ≡ Some rows
 
 -- what was opened was given this text so far, and has all of its rows left
-abbrev pub OpensWith : Kind → List ℕ → Opened → Type 0
+abbrev pub OpensWith : SourceKind → List ℕ → Opened → Type 0
 OpensWith kind text (Ready source) = HoldsAll kind text source
 OpensWith kind text (OpenedWants rows) = Holds kind text rows × (rows.is_ended ≡ false)
 
@@ -76,39 +76,39 @@ IsEnded sources i = (source : Source) → (slice_index_or sources i source).rows
 -- ---- a merger
 
 -- these are the rows of the texts, each with these bytes behind what was given of it
-pub record AreInputs (given : List (Kind × List ℕ)) (mores : ℕ → List ℕ) (inputs : List (List (List ℕ × ℕ))) : Type 0 where
+pub record AreInputs (given : List (SourceKind × List ℕ)) (mores : ℕ → List ℕ) (inputs : List (List (List ℕ × ℕ))) : Type 0 where
   pub many : length inputs ≡ length given
-  pub each : (i : ℕ) → i < length given → (text : Kind × List ℕ) → let whole = slice_index_or given i text in rows_of whole.0 (whole.1 ++ mores i) ≡ Some (slice_index_or inputs i [])
+  pub each : (i : ℕ) → i < length given → (text : SourceKind × List ℕ) → let whole = slice_index_or given i text in rows_of whole.0 (whole.1 ++ mores i) ≡ Some (slice_index_or inputs i [])
 
 -- the sources were given these texts so far, and none of their rows was taken
-pub record AreBegun (given : List (Kind × List ℕ)) (sources : List Source) : Type 0 where
+pub record AreBegun (given : List (SourceKind × List ℕ)) (sources : List Source) : Type 0 where
   pub many : length given ≡ length sources
-  pub each : (i : ℕ) → i < length given → (text : Kind × List ℕ) → (source : Source) → let part = slice_index_or given i text in HoldsAll part.0 part.1 (slice_index_or sources i source)
+  pub each : (i : ℕ) → i < length given → (text : SourceKind × List ℕ) → (source : Source) → let part = slice_index_or given i text in HoldsAll part.0 part.1 (slice_index_or sources i source)
 
--- these texts were given so far, and these rows came out: whatever comes next, the merge of the whole is so far
-pub record IsSoFar (given : List (Kind × List ℕ)) (sources : List Source) (held : Option (String Global × ℕ)) (total : ℕ) (out : List (List ℕ × ℕ)) : Type 0 where
+-- these texts were given so far, and these rows came out: whatever comes next, the merge of the whole has come as far as `SoFar` says
+pub record IsSoFar (given : List (SourceKind × List ℕ)) (sources : List Source) (held : Option (String Global × ℕ)) (total : ℕ) (out : List (List ℕ × ℕ)) : Type 0 where
   pub many : length given ≡ length sources
   pub fits : total < 2 ^ 64
   pub so_far : (mores : ℕ → List ℕ) (inputs : List (List (List ℕ × ℕ))) → MayComeTo sources mores → AreInputs given mores inputs
       → ((left : List (List (List ℕ × ℕ))) × AreLeft sources mores left × SoFar inputs left out held total)
 
 -- the merger was given these texts so far, and gave these rows
-abbrev pub HasMerged : List (Kind × List ℕ) → Merger → List (List ℕ × ℕ) → Type 0
+abbrev pub HasMerged : List (SourceKind × List ℕ) → Merger → List (List ℕ × ℕ) → Type 0
 HasMerged given merger out = IsSoFar given merger.sources.items merger.held merger.total out
 
 -- the rows that came out are the merge of the rows of the texts, whatever may come next
-abbrev pub IsWhole : List (Kind × List ℕ) → Merger → List (List ℕ × ℕ) → Type 0
+abbrev pub IsWhole : List (SourceKind × List ℕ) → Merger → List (List ℕ × ℕ) → Type 0
 IsWhole given merger out =
     (mores : ℕ → List ℕ) (inputs : List (List (List ℕ × ℕ))) → MayComeTo merger.sources.items mores → AreInputs given mores inputs → IsMergeOf inputs out
 
 -- what the merger gave next: one row more, which comes behind; or nothing, since a source is to be given more bytes, or all is merged
-abbrev pub Follows : List (Kind × List ℕ) → List (List ℕ × ℕ) → Merged → Merger → Type 0
+abbrev pub Follows : List (SourceKind × List ℕ) → List (List ℕ × ℕ) → Merged → Merger → Type 0
 Follows given out (MergedRow row) new = HasMerged given new (out ++ row_of row ∷ [])
 Follows given out (MergedWants i) new = HasMerged given new out × IsOpen new.sources.items i
 Follows given out MergedEnd new = HasMerged given new out × IsWhole given new out
 
 -- the texts of runs
-abbrev pub texts_of : List (List (List ℕ × ℕ)) → List (Kind × List ℕ)
+abbrev pub texts_of : List (List (List ℕ × ℕ)) → List (SourceKind × List ℕ)
 texts_of runs = map (λ rows. (Run, run_text rows)) runs
 
 -- each run is read again as it was written

@@ -39,7 +39,7 @@ HasWord from p = IsWordAt from p.0 (string_bytes p.1.0.now)
 abbrev pub Starts : ℕ → ℕ → ℕ × (Bor (String Global) × ℕ) → Type 0
 Starts from number p = lead 0 from (string_bytes p.1.0.now) ≡ number
 
--- each row has its eight bytes from this place on before it, and these rise
+-- each row has its eight bytes from this place on before it, and these are in ascending order
 abbrev pub AreRising : ℕ → List (ℕ × (Bor (String Global) × ℕ)) → Type 0
 AreRising from rows = All (HasWord from) rows × IsNonDecreasingBy number_of rows
 
@@ -52,7 +52,7 @@ pub record SortsFrom (from : ℕ) (rows sorted_rows : List (ℕ × (Bor (String 
   pub permutation : IsPermutation (map bare_row rows) (map bare_row sorted_rows)
   pub sorted : (number : ℕ) → All (Starts from number) rows → IsSorted row_cmp (map bare_row sorted_rows)
 
--- the same of rows that were sorted by their eight bytes from there on
+-- the rows only moved, and are sorted if their tokens agreed before this place and they were sorted by their eight bytes from there on
 pub record SortsRuns (from : ℕ) (rows sorted_rows : List (ℕ × (Bor (String Global) × ℕ))) : Type 0 where
   pub permutation : IsPermutation (map bare_row rows) (map bare_row sorted_rows)
   pub sorted : (number : ℕ) → AreRising from rows → All (Starts from number) rows → IsSorted row_cmp (map bare_row sorted_rows)

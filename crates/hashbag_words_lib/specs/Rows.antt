@@ -44,7 +44,7 @@ IfRow form line P = (token : List ℕ) (count : ℕ) → IsUtf8 token → count 
 abbrev pub IsNoRow : RowForm → List ℕ → Type 0
 IsNoRow form line = IsUtf8 line → IfRow form line (λ _ _. ⊥)
 
--- the bytes that are written so, given whether a backslash was just read; none if a backslash is followed by no letter
+-- the bytes of which these are the escaped form, given whether a backslash was just read; none if a backslash is followed by no letter
 abbrev pub unescaped : Bool → List ℕ → Option (List ℕ)
 unescaped false [] = Some []
 unescaped true [] = None
@@ -66,7 +66,7 @@ pub record IsLineOf (line token : List ℕ) (count : ℕ) : Type 0 where
   pub means : unescaped false written ≡ Some token
   pub number : IsNumber digits count
 
--- the same of a line that `uniq -c` may have written: spaces, the count, a space, and the token
+-- this line, as `uniq -c` may have written it, is read as that token and count: spaces, the count, a space, and the token
 pub record IsUniqLineOf (line token : List ℕ) (count : ℕ) : Type 0 where
   pub spaces : List ℕ
   pub digits : List ℕ
@@ -80,7 +80,7 @@ abbrev pub IsRowOf : RowForm → List ℕ → List ℕ × ℕ → Type 0
 IsRowOf Tsv line r = IsLineOf line r.0 r.1
 IsRowOf Uniq line r = IsUniqLineOf line r.0 r.1
 
--- the token that is written so, if these bytes of it have been read, and those are to come; none if they have been found bad
+-- the token, if `token` is what was read of it and `rest` the escaped bytes that are to come; none if what was read is bad
 abbrev pub resumed : List ℕ → Option Bool → List ℕ → Option (List ℕ)
 resumed token None rest = None
 resumed token (Some is_marked) rest = option_map (λ more. token ++ more) (unescaped is_marked rest)

@@ -46,7 +46,7 @@ rows_left Uniq bad_lines marked bytes = None
 abbrev pub run_text : List (List ℕ × ℕ) → List ℕ
 run_text rows = flat_map (λ r. row r.0 r.1 ++ 10 ∷ []) rows
 
--- these rows are a run of a bag: they rise, count each text as often as the bag has it, and are read again as they were written
+-- these rows are a run of a bag: they are in ascending order, count each text as often as the bag has it, and are read again as they were written
 pub record IsRunOf {S : Type 0} (bag : Bag (String Global) S) (rows : List (List ℕ × ℕ)) : Type 0 where
   pub rises : Rises rows
   pub counts : (text : List ℕ) → times_in text rows ≡ count bytes_eq text (texts_in bag)

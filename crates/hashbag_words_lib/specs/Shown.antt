@@ -19,8 +19,8 @@ pub record HasShown (choice : Choice) (texts : List (List ℕ)) (rows : List (Li
   pub once : IsDistinct bytes_eq (keys_of rows)
   pub counts : (text : List ℕ) → times_in text rows ≡ shown_count choice text (count bytes_eq text texts)
 
--- these rows are shown, in that order: tokens rising, or as they come; or the first k of them, the most common first and tokens rising among
--- those that are as common
+-- these rows are shown, in that order: tokens in ascending order, or as they come; or the first k of them, the most common first, and tokens that
+-- are equally common in ascending order
 abbrev pub AreShown : Order → Choice → List (List ℕ) → List (List ℕ × ℕ) → Type 0
 AreShown Rising choice texts rows = HasShown choice texts rows × Rises rows
 AreShown Open choice texts rows = HasShown choice texts rows

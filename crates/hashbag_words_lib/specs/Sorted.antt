@@ -1,4 +1,4 @@
--- Rows whose tokens rise, and their merge.
+-- Rows whose tokens are in ascending order, and their merge.
 use Rattle.std.specs.Prelude.{◌≡◌, ◌≢◌, ℕ, ◌+◌, ◌<◌, ◌^◌, ◌==◌, ◌⊎◌, true, false, List, [], ◌∷◌, length, sum_by, All, slice_set, slice_index_or, if◌then◌else◌, String, string_bytes, string_eq, Option, None, Some}
 use Rattle.std.specs.Cmp.Lexicographic.{slice_cmp}
 use Rattle.std.specs.Global.{Global}
@@ -38,8 +38,8 @@ Rises rows = IsStrictlySortedBy text_cmp (keys_of rows)
 abbrev pub AllBelow : List ℕ → List (List ℕ × ℕ) → Type 0
 AllBelow text rows = AllByRecursion (λ key. text_cmp key text ≡ Less) (keys_of rows)
 
--- these rows are the merge of those of some sources, whose tokens rise: its tokens rise, and it has of each text what all sources count of it
--- together, unless that is 0
+-- these rows are the merge of those of some sources, whose tokens are in ascending order: its tokens are in ascending order too, and it has of each
+-- text what all sources count of it together, unless that is 0
 pub record IsMergeOf (sources : List (List (List ℕ × ℕ))) (merged : List (List ℕ × ℕ)) : Type 0 where
   pub risen : All Rises sources
   pub rises : Rises merged
@@ -110,8 +110,8 @@ abbrev pub HoldsFirst : List (List (List ℕ × ℕ)) → Option (String Global 
 HoldsFirst left None = Unit {0}
 HoldsFirst left (Some row) = All (IsNotBelow (string_bytes row.0)) left
 
--- a merge of these inputs is so far: the rows `out` came out, one is held or none, these are left, and the counts of the rows that were taken add
--- up to the total
+-- how far a merge of these inputs has come: the rows `out` came out, one is held or none, these are left, and the counts of the rows that were
+-- taken add up to the total
 pub record SoFar (inputs left : List (List (List ℕ × ℕ))) (out : List (List ℕ × ℕ)) (held : Option (String Global × ℕ)) (total : ℕ) : Type 0 where
   pub risen : All Rises left → All Rises inputs
   pub rises : Rises out

@@ -3,14 +3,14 @@ use Rattle.std.specs.Prelude.{◌≡◌, ℕ, true, List, [], ◌∷◌, ◌++�
 use Rattle.std.specs.Global.{Global}
 use Rattle.hashbag_words_lib.specs.Runs.{rows_in, rows_left}
 use Rattle.hashbag_words_lib.specs.Sorted.{row_of}
-use Rattle.hashbag_words_lib.specs.declared.row_source.Kind.{Kind}
-use Rattle.hashbag_words_lib.specs.declared.row_source.Kind.TheVariants.{Run, File}
+use Rattle.hashbag_words_lib.specs.declared.row_source.SourceKind.{SourceKind}
+use Rattle.hashbag_words_lib.specs.declared.row_source.SourceKind.TheVariants.{Run, File}
 use Rattle.hashbag_words_lib.specs.declared.row_source.Next.{Next}
 use Rattle.hashbag_words_lib.specs.declared.row_source.Next.TheVariants.{Row, Wants, End}
 use Rattle.hashbag_words_lib.specs.declared.row_source.RowSource.{RowSource}
 
 -- the rows of a whole text of this kind, if they are known
-abbrev pub rows_of : Kind → List ℕ → Option (List (List ℕ × ℕ))
+abbrev pub rows_of : SourceKind → List ℕ → Option (List (List ℕ × ℕ))
 rows_of Run text = Some (rows_in text)
 rows_of (File form bad_lines) text = rows_left form bad_lines true text
 
@@ -27,7 +27,7 @@ abbrev pub IsAtEnd : RowSource → Type 0
 IsAtEnd source = (source.unread ≡ []) × (source.is_ended ≡ true)
 
 -- the source was given this text so far, and has all of its rows left: whatever comes next, they are the rows of the whole
-abbrev pub Holds : Kind → List ℕ → RowSource → Type 0
+abbrev pub Holds : SourceKind → List ℕ → RowSource → Type 0
 Holds kind text source =
     (more : List ℕ) → MayCome source more → (rows : List (List ℕ × ℕ)) → rows_of kind (text ++ more) ≡ Some rows → left_with source more ≡ Some rows
 
@@ -44,7 +44,7 @@ Gives (Some rows) (Row row) new = (rest : List (List ℕ × ℕ)) × (rows ≡ r
 Gives (Some rows) Wants new = new ≡ Some rows
 Gives (Some rows) End new = (rows ≡ []) × (new ≡ Some [])
 
--- the same of one line, or it was passed over: of known rows none is
+-- one line gave what comes next, as `Gives` says; or it was passed over, which no line of known rows is
 abbrev pub Meets : Option (List (List ℕ × ℕ)) → Option Next → Option (List (List ℕ × ℕ)) → Type 0
 Meets old None new = IsSome old → ⊥
 Meets old (Some next) new = Gives old next new

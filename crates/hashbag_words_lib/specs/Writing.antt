@@ -15,7 +15,7 @@ uniq_text r = styled_decimal (format_spec 32 0 0 7 (2 ^ 64 - 1)) r.1 ++ 32 ∷ (
 abbrev pub pair_tokens : List ℕ × ℕ → List Token
 pair_tokens r = begin_array ∷ string r.0 ∷ number (decimal r.1) ∷ end_array ∷ []
 
--- the same as a text, without a space
+-- the text of an array of the token and the count, without a space
 abbrev pub pair_text : List ℕ × ℕ → List ℕ
 pair_text r = print (pair_tokens r)
 
@@ -32,12 +32,13 @@ comma Json true = []
 comma Json false = 44 ∷ []
 comma Uniq first = []
 
--- what comes before all rows, and after them
+-- what comes before all rows
 abbrev pub head_text : Format → List ℕ
 head_text Tsv = []
 head_text Json = 91 ∷ []
 head_text Uniq = []
 
+-- what comes after all rows
 abbrev pub end_text : Format → List ℕ
 end_text Tsv = []
 end_text Json = 93 ∷ 10 ∷ []

@@ -18,11 +18,11 @@ use std::hash::BuildHasher;
 /// In what order counts are shown, and how many of them.
 #[derive(Clone, Copy, Debug, PartialEq, Eq)]
 pub enum Order {
-    /// All tokens, by rising bytes.
+    /// All tokens, in ascending order of their bytes.
     Rising,
     /// All tokens, in the order of a walk over the bag, which is no particular order.
     Open,
-    /// The k most common tokens: by falling counts, and tokens that occur equally often by rising bytes.
+    /// The k most common tokens: in descending order of counts, and tokens with equal counts in ascending order of their bytes.
     MostCommon(usize),
 }
 
@@ -77,7 +77,7 @@ pub fn keep_shown<S: BuildHasher + Drop>(bag: &mut HashBag<String, S>, choice: C
     );
 }
 
-// Returns the tokens with their counts, tokens rising.
+// Returns the tokens with their counts, in ascending order of tokens.
 fn rising<'a, S: BuildHasher + Drop>(
     alloc: Global,
     bag: &'a HashBag<String, S>,
@@ -98,7 +98,7 @@ fn rising<'a, S: BuildHasher + Drop>(
 ///
 /// # Complexity
 ///
-/// As [`counts`] or [`most_common`] of `hashbag_ops`; for rising tokens as `counts` and [`sort_rows`].
+/// Same as [`counts`] or [`most_common`] of `hashbag_ops`; for tokens in ascending order same as `counts` and [`sort_rows`] together.
 pub fn chosen<'a, S: BuildHasher + Drop>(
     alloc: Global,
     bag: &'a HashBag<String, S>,

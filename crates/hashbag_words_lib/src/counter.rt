@@ -1,10 +1,11 @@
 //! Counting the tokens of texts that come in blocks, however they are cut.
 //!
 //! A [`TextCounter`] is given bytes, so its clauses hold whatever they come from. In them `text` is what was fed of this text, `before` are
-//! the tokens of earlier texts, and `runs` the runs that were written. `HasCounted`: the bag and `runs` together have all these tokens.
+//! the tokens of earlier texts, and `runs` the runs that were written. A run is a bag's counts, written to a file to free memory.
+//! `HasCounted`: the bag and `runs` together have all these tokens.
 ghost use Rattle.std.specs.Prelude.{◌≡◌, ℕ, List, [], ◌∷◌, ◌++◌, IfOk, IfErr, OnOk};
 ghost use Rattle.hashbag_words_lib.specs.declared.errors.BadLine.{BadLine};
-ghost use Rattle.hashbag_words_lib.specs.declared.errors.Fault.{Fault};
+ghost use Rattle.hashbag_words_lib.specs.declared.errors.InputFault.{InputFault};
 ghost use Rattle.hashbag_core.specs.declared.bag.BagError.{BagError};
 ghost use Rattle.hashbag_words_lib.specs.Counted.{fed_of, HasCounted, HasEnded, HaveTogether, IsFirstBad, IsReadingOf, IsWithin, NoLineFeed};
 ghost use Rattle.hashbag_words_lib.specs.Counts.{texts_in};
@@ -14,9 +15,9 @@ ghost use Rattle.hashbag_words_lib.specs.Tokens.{tokens_of};
 ghost use Rattle.std.specs.Str.Lines.{strip_carriage_return};
 
 use crate::counting::add_bytes;
-use crate::errors::Fault;
+use crate::errors::InputFault;
 use crate::gauge::{Gauge, is_full, is_full_after_line, note_empty};
-use crate::lines::{BadLines, Reading};
+use crate::lines::{BadLines, LinesRead};
 use crate::row_text::RowText;
 use crate::rule::Rule;
 use crate::runs::{empty, run_of};
@@ -34,7 +35,7 @@ pub struct TextCounter<'r, S: BuildHasher + Drop> {
     rule: Rule<'r>,
     bag: HashBag<String, S>,
     partial: Vec<u8>,
-    reading: Reading,
+    reading: LinesRead,
     gauge: Option<Gauge>,
 }
 
@@ -62,12 +63,12 @@ pub(crate) fn without_return(line: &[u8]) -> &[u8]
 }
 
 // Returns the fault of a failed allocation in the line that hasn't ended.
-pub(crate) fn no_memory(reading: &mut Reading) -> Fault
-    ensures fault { result ≡ Fault.Bag BagError.Memory }
+pub(crate) fn no_memory(reading: &mut LinesRead) -> InputFault
+    ensures fault { result ≡ InputFault.Bag BagError.Memory }
     ensures bad_lines { reading.new.bad_lines ≡ reading.old.bad_lines }
 {
     reading.count_line();
-    Fault::Bag(BagError::Memory)
+    InputFault::Bag(BagError::Memory)
 }
 
 impl<'r, S: BuildHasher + Drop> TextCounter<'r, S> {
@@ -91,7 +92,7 @@ impl<'r, S: BuildHasher + Drop> TextCounter<'r, S> {
             rule,
             bag,
             partial: Vec::new(alloc),
-            reading: Reading::new(bad_lines),
+            reading: LinesRead::new(bad_lines),
             gauge,
         }
     }
@@ -103,19 +104,19 @@ impl<'r, S: BuildHasher + Drop> TextCounter<'r, S> {
         &self.bag
     }
 
-    /// Returns how many lines of the text have ended, and what became of them. After a `Fault` the line that it was found in counts too.
-    pub fn reading(&self) -> Reading
+    /// Returns how many lines of the text have ended, and what became of them. After a `InputFault` the line that it was found in counts too.
+    pub fn reading(&self) -> LinesRead
         ensures { result ≡ self.now.reading }
     {
         self.reading
     }
 
-    // Counts a line that a line feed ends. What is kept comes before these bytes.
-    fn end_line(&mut self, tail: &[u8]) -> Result<(), Fault>
+    // Counts `partial` followed by `tail` as one line, which a line feed ends.
+    fn end_line(&mut self, tail: &[u8]) -> Result<(), InputFault>
         requires { NoLineFeed tail.now }
         ensures counted { OnOk result ((before : _) → (runs : _) → (text : List ℕ) → HasCounted before runs self.old text
             → HasCounted before runs self.new (text ++ (tail.now ++ 10 ∷ []))) }
-        ensures bad { IfErr result (λ e. (bad : BadLine) → e ≡ Fault.Line bad
+        ensures bad { IfErr result (λ e. (bad : BadLine) → e ≡ InputFault.Line bad
             → (before : _) → (runs : _) → (text : List ℕ) → HasCounted before runs self.old text
             → (more : List ℕ) → IsFirstBad self.old.rule ((text ++ (tail.now ++ 10 ∷ [])) ++ more) self.new.reading) }
         ensures rule { self.new.rule ≡ self.old.rule }
@@ -144,12 +145,12 @@ impl<'r, S: BuildHasher + Drop> TextCounter<'r, S> {
         done
     }
 
-    // Counts what is kept as the last line, unless it is nothing.
-    fn end_last(&mut self) -> Result<(), Fault>
+    // Counts `partial` as the last line, unless it is empty.
+    fn end_last(&mut self) -> Result<(), InputFault>
         ensures counted { OnOk result ((before : _) → (runs : _) → (text : List ℕ) → HasCounted before runs self.old text
             → HasEnded self.old.rule before runs self.new text) }
         ensures ended { OnOk result (self.new.partial.items ≡ []) }
-        ensures bad { IfErr result (λ e. (bad : BadLine) → e ≡ Fault.Line bad
+        ensures bad { IfErr result (λ e. (bad : BadLine) → e ≡ InputFault.Line bad
             → (before : _) → (runs : _) → (text : List ℕ) → HasCounted before runs self.old text
             → IsFirstBad self.old.rule text self.new.reading) }
         ensures rule { self.new.rule ≡ self.old.rule }
@@ -169,26 +170,29 @@ impl<'r, S: BuildHasher + Drop> TextCounter<'r, S> {
         done
     }
 
-    /// Counts what these bytes bring: the lines that they end. The bytes behind the last line feed are kept.
+    /// Counts the lines that end in these bytes. The bytes after the last line feed are kept.
     ///
-    /// If there is a gauge, the bag is measured after every 16 lines. If it is full, the bytes behind the last of them aren't fed.
+    /// Returns `Fed::Whole`; or, if the bag was full when measured, `Fed::Full(n)`: only the first `n` bytes, to the end of the line after
+    /// which it was measured, were fed. If there is a gauge, the bag is measured after every 16 lines.
     ///
     /// # Errors
     ///
-    /// `Fault::Line` if a line is bad and bad lines aren't skipped; `Fault::Bag` if an allocation fails, or the total would pass the limit of
+    /// `InputFault::Line` if a line is bad and bad lines aren't skipped; `InputFault::Bag` if an allocation fails, or the total would pass the limit of
     /// the bag. Then the counter is of no use.
     ///
     /// # Complexity
     ///
     /// Counts each line as [`add_line`](crate::counting::add_line) does. Only a line that isn't whole in the block is copied.
-    pub fn feed(&mut self, block: &[u8]) -> Result<Fed, Fault>
-        // The text is longer by what was fed of the block.
+    pub fn feed(&mut self, block: &[u8]) -> Result<Fed, InputFault>
+        // If the tokens of `text` were counted before, now those of `text` and of what was fed are (`before`, `runs`: see the head).
         ensures counted { IfOk result (λ fed. (before : _) → (runs : _) → (text : List ℕ) → HasCounted before runs self.old text
             → HasCounted before runs self.new (text ++ fed_of fed block.now)) }
+
+        // `Full(n)`: n is above 0 and within the block.
         ensures within { IfOk result (λ fed. IsWithin fed block.now) }
 
-        // If a bad line is rejected, it is the first one of the text with the block.
-        ensures bad { IfErr result (λ e. (bad : BadLine) → e ≡ Fault.Line bad
+        // A rejected line is the first bad one of `text` and the block together.
+        ensures bad { IfErr result (λ e. (bad : BadLine) → e ≡ InputFault.Line bad
             → (before : _) → (runs : _) → (text : List ℕ) → HasCounted before runs self.old text
             → IsFirstBad self.old.rule (text ++ block.now) self.new.reading) }
         ensures rule { self.new.rule ≡ self.old.rule }
@@ -212,8 +216,8 @@ impl<'r, S: BuildHasher + Drop> TextCounter<'r, S> {
     ///
     /// # Errors
     ///
-    /// As [`TextCounter::feed`], for the last line.
-    pub fn end_text(&mut self) -> Result<Reading, Fault>
+    /// Same as [`TextCounter::feed`], for the last line.
+    pub fn end_text(&mut self) -> Result<LinesRead, InputFault>
         // The tokens of the text are added to `before`, and the next text is empty. The result says how its lines were read.
         ensures counted { OnOk result ((before : _) → (runs : _) → (text : List ℕ) → HasCounted before runs self.old text
             → HasCounted (before ++ tokens_of self.old.rule text) runs self.new []) }
@@ -221,7 +225,7 @@ impl<'r, S: BuildHasher + Drop> TextCounter<'r, S> {
             → IsReadingOf self.old.rule text reading) }
 
         // If a bad line is rejected, it is the text's first one.
-        ensures bad { IfErr result (λ e. (bad : BadLine) → e ≡ Fault.Line bad
+        ensures bad { IfErr result (λ e. (bad : BadLine) → e ≡ InputFault.Line bad
             → (before : _) → (runs : _) → (text : List ℕ) → HasCounted before runs self.old text
             → IsFirstBad self.old.rule text self.new.reading) }
         ensures rule { self.new.rule ≡ self.old.rule }
@@ -229,7 +233,7 @@ impl<'r, S: BuildHasher + Drop> TextCounter<'r, S> {
     {
         self.end_last()?;
         let reading = self.reading;
-        self.reading = Reading::new(reading.bad_lines);
+        self.reading = LinesRead::new(reading.bad_lines);
         Ok(reading)
     }
 
@@ -250,7 +254,7 @@ impl<'r, S: BuildHasher + Drop> TextCounter<'r, S> {
     ///
     /// `Memory` if an allocation fails.
     pub fn run(&self) -> Result<RowText<'_>, BagError>
-        // As of [`run_of`].
+        // Same as [`run_of`].
         ensures { IfOk result (λ text. (rows : List (List ℕ × ℕ)) × IsRunOf self.now.bag rows × (bytes_left text ≡ run_text rows)) }
     {
         run_of(self.alloc, &self.bag)

@@ -8,8 +8,8 @@ ghost use Rattle.hashbag_words_lib.specs.Counts.{AddsTexts, AddsPieces};
 ghost use Rattle.regex.specs.Strings.{regex_pattern};
 ghost use Rattle.hashbag_words_lib.specs.Tokens.{is_bad, is_replaced, matches_in, nonempty, spaced_words, token_of, tokens_of_line, tokens_of_lines, without_mark};
 
-use crate::errors::{BadLine, Fault};
-use crate::lines::{BadLines, Reading};
+use crate::errors::{BadLine, InputFault};
+use crate::lines::{BadLines, LinesRead};
 use crate::rule::{Pieces, Rule};
 use caseless::default_case_fold_str;
 use hashbag::{BagError, HashBag};
@@ -190,12 +190,12 @@ fn add_other<S: BuildHasher + Drop>(
     bag: &mut HashBag<String, S>,
     rule: &Rule<'_>,
     line: &[u8],
-    reading: &mut Reading,
-) -> Result<(), Fault>
+    reading: &mut LinesRead,
+) -> Result<(), InputFault>
     requires { is_utf8 line.now ≡ false }
     ensures counts { OnOk result (AddsTexts bag.old bag.new (tokens_of_lines rule.now (line.now ∷ []))) }
     ensures passed { OnOk result (reading.old.bad_lines ≡ BadLines.Refused → is_bad rule.now line.now ≡ false) }
-    ensures bad { IfErr result (λ e. (bad : BadLine) → e ≡ Fault.Line bad
+    ensures bad { IfErr result (λ e. (bad : BadLine) → e ≡ InputFault.Line bad
         → (reading.old.bad_lines ≡ BadLines.Refused) × (is_bad rule.now line.now ≡ true)) }
     ensures kept { is_bad rule.now line.now ≡ false → reading.new.skipped ≡ reading.old.skipped }
     ensures skipped { is_bad rule.now line.now ≡ true → OnOk result (reading.new.skipped ≡ min (reading.old.skipped + 1) (2 ^ 64 - 1)) }
@@ -218,13 +218,13 @@ pub(crate) fn add_bytes<S: BuildHasher + Drop>(
     bag: &mut HashBag<String, S>,
     rule: &Rule<'_>,
     line: &[u8],
-    reading: &mut Reading,
-) -> Result<(), Fault>
+    reading: &mut LinesRead,
+) -> Result<(), InputFault>
     ensures counts { OnOk result (AddsTexts bag.old bag.new (tokens_of_lines rule.now (line.now ∷ []))) }
 
     // If bad lines are rejected, a bad line fails, and no other one does so.
     ensures passed { OnOk result (reading.old.bad_lines ≡ BadLines.Refused → is_bad rule.now line.now ≡ false) }
-    ensures bad { IfErr result (λ e. (bad : BadLine) → e ≡ Fault.Line bad
+    ensures bad { IfErr result (λ e. (bad : BadLine) → e ≡ InputFault.Line bad
         → (reading.old.bad_lines ≡ BadLines.Refused) × (is_bad rule.now line.now ≡ true)) }
 
     // A bad line that is skipped raises `skipped`, and one whose bytes are replaced `replaced`, up to `u64::MAX`.

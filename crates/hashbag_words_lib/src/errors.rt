@@ -24,14 +24,14 @@ pub enum BadLine {
     /// The last line of a file of counts has no line feed: the file may have been cut off there.
     #[error("no line feed")]
     CutOff,
-    /// The rows are to rise, and the token of this one doesn't come after that of the row before.
+    /// The rows must be in ascending order of tokens, and this row's token doesn't come after that of the row before.
     #[error("not in order")]
     NotInOrder,
 }
 
 /// Why an input wasn't counted to its end.
 #[derive(Debug, Drop, Error)]
-pub enum Fault {
+pub enum InputFault {
     /// A line is bad.
     #[error("{0}")]
     Line(BadLine),
@@ -52,33 +52,33 @@ pub enum Fault {
     Read(io::Error),
 }
 
-impl From<BagError> for Fault {
-    ghost use Rattle.hashbag_words_lib.specs.declared.errors.Fault.{Fault};
+impl From<BagError> for InputFault {
+    ghost use Rattle.hashbag_words_lib.specs.declared.errors.InputFault.{InputFault};
 
-    ghost from_gives = { λ refused fault. fault ≡ Fault.Bag refused };
+    ghost from_gives = { λ refused fault. fault ≡ InputFault.Bag refused };
 
-    fn from(refused: BagError) -> Fault {
-        Fault::Bag(refused)
+    fn from(refused: BagError) -> InputFault {
+        InputFault::Bag(refused)
     }
 }
 
-impl From<AllocError> for Fault {
-    ghost use Rattle.hashbag_words_lib.specs.declared.errors.Fault.{Fault};
+impl From<AllocError> for InputFault {
+    ghost use Rattle.hashbag_words_lib.specs.declared.errors.InputFault.{InputFault};
     ghost use Rattle.hashbag_core.specs.declared.bag.BagError.{BagError};
 
-    ghost from_gives = { λ _ fault. fault ≡ Fault.Bag BagError.Memory };
+    ghost from_gives = { λ _ fault. fault ≡ InputFault.Bag BagError.Memory };
 
-    fn from(_refused: AllocError) -> Fault {
-        Fault::Bag(BagError::Memory)
+    fn from(_refused: AllocError) -> InputFault {
+        InputFault::Bag(BagError::Memory)
     }
 }
 
-impl From<io::Error> for Fault {
-    ghost use Rattle.hashbag_words_lib.specs.declared.errors.Fault.{Fault};
+impl From<io::Error> for InputFault {
+    ghost use Rattle.hashbag_words_lib.specs.declared.errors.InputFault.{InputFault};
 
-    ghost from_gives = { λ failed fault. fault ≡ Fault.Read failed };
+    ghost from_gives = { λ failed fault. fault ≡ InputFault.Read failed };
 
-    fn from(failed: io::Error) -> Fault {
-        Fault::Read(failed)
+    fn from(failed: io::Error) -> InputFault {
+        InputFault::Read(failed)
     }
 }

@@ -69,8 +69,8 @@ impl Gauge {
 
     /// Returns whether the bag is full after `read` more bytes of the input.
     ///
-    /// The bytes read count as texts until their bound reaches `most`. Then all texts of the bag are measured, and the bag is full if it takes
-    /// seven eighths of `most`. So it isn't measured often.
+    /// Every byte read is taken as text until the estimate reaches `most`. Then all texts of the bag are measured, and the bag is full if it
+    /// takes seven eighths of `most`. So the texts aren't measured often.
     pub fn is_full<S: BuildHasher + Drop>(
         &mut self,
         bag: &HashBag<String, S>,

@@ -1,7 +1,7 @@
 //! How the lines of an input are read.
 ghost use Rattle.std.specs.Prelude.{◌≡◌, ◌+◌, ◌-◌, ◌^◌, min, Err, IsOk, IfErr, OnOk};
 
-use crate::errors::{BadLine, Fault};
+use crate::errors::{BadLine, InputFault};
 
 /// What a bad line does.
 #[derive(Clone, Copy, Debug, PartialEq, Eq)]
@@ -14,7 +14,7 @@ pub enum BadLines {
 
 /// How an input is read, and how many lines were read.
 #[derive(Clone, Copy, Debug, PartialEq, Eq)]
-pub struct Reading {
+pub struct LinesRead {
     /// What a bad line does.
     pub bad_lines: BadLines,
     /// The number of the last line that was read: 0 before the first line, at most 2^64-1.
@@ -25,13 +25,13 @@ pub struct Reading {
     pub replaced: u64,
 }
 
-impl Reading {
+impl LinesRead {
     /// Returns the reading of an input before its first line.
-    pub fn new(bad_lines: BadLines) -> Reading
+    pub fn new(bad_lines: BadLines) -> LinesRead
         ensures bad_lines { result.bad_lines ≡ bad_lines }
         ensures unread { (result.line ≡ 0) × (result.skipped ≡ 0) × (result.replaced ≡ 0) }
     {
-        Reading {
+        LinesRead {
             bad_lines,
             line: 0,
             skipped: 0,
@@ -60,8 +60,8 @@ impl Reading {
     }
 
     // Skips a bad line, or rejects it.
-    pub(crate) fn pass_over(&mut self, bad: BadLine) -> Result<(), Fault>
-        ensures rejected { self.old.bad_lines ≡ BadLines.Refused → result ≡ Err (Fault.Line bad) }
+    pub(crate) fn pass_over(&mut self, bad: BadLine) -> Result<(), InputFault>
+        ensures rejected { self.old.bad_lines ≡ BadLines.Refused → result ≡ Err (InputFault.Line bad) }
         ensures only_rejected { IfErr result (λ _. self.old.bad_lines ≡ BadLines.Refused) }
         ensures passed { self.old.bad_lines ≡ BadLines.Skipped → IsOk result }
         ensures only_passed { OnOk result (self.old.bad_lines ≡ BadLines.Skipped) }
@@ -71,7 +71,7 @@ impl Reading {
         ensures bad_lines { self.new.bad_lines ≡ self.old.bad_lines }
     {
         match self.bad_lines {
-            BadLines::Refused => Err(Fault::Line(bad)),
+            BadLines::Refused => Err(InputFault::Line(bad)),
             BadLines::Skipped => {
                 self.skipped = self.skipped.saturating_add(1);
                 Ok(())

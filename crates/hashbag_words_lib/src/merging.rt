@@ -6,7 +6,7 @@ ghost use Rattle.hashbag_words_lib.specs.Rows.{IfRow, IsNoRow, IsRead, IsRowOf};
 ghost use Rattle.hashbag_words_lib.specs.Sorted.{row_of};
 ghost use Rattle.hashbag_words_lib.specs.Tokens.{without_mark};
 
-use crate::errors::{BadLine, Fault};
+use crate::errors::{BadLine, InputFault};
 use crate::rows::{RowForm, read_row, read_uniq_row};
 use hashbag::{HashBag, JsonError};
 use hashbag_ops::merge;
@@ -34,29 +34,29 @@ pub(crate) fn read_in_form(
 ///
 /// # Errors
 ///
-/// `Fault::Line` if the line is bad; `Fault::Bag` if an allocation fails, or the total would pass the limit of the bag. Then the bag is
+/// `InputFault::Line` if the line is bad; `InputFault::Bag` if an allocation fails, or the total would pass the limit of the bag. Then the bag is
 /// unchanged.
 pub fn add_row<S: BuildHasher + Drop>(
     alloc: Global,
     bag: &mut HashBag<String, S>,
     form: RowForm,
     line: &[u8],
-) -> Result<(), Fault>
+) -> Result<(), InputFault>
     // The line of a token and a count adds these. Any row that is added is the line's, and a bad line is no row.
     ensures row { IfRow form line.now (λ token count. OnOk result (AddsTimes bag.old bag.new token count)) }
     ensures line { OnOk result (AddsLine form line.now bag.old bag.new) }
-    ensures bad { IfErr result (λ e. (bad : BadLine) → e ≡ Fault.Line bad → IsNoRow form line.now) }
+    ensures bad { IfErr result (λ e. (bad : BadLine) → e ≡ InputFault.Line bad → IsNoRow form line.now) }
     ensures err { OnErr result (bag.new ≡ bag.old) }
 {
     let Ok(text) = str::from_utf8(line) else {
-        return Err(Fault::Line(BadLine::NotText));
+        return Err(InputFault::Line(BadLine::NotText));
     };
     match read_in_form(alloc, form, text)? {
         Ok((token, count)) => {
             bag.insert_many(token, count)?;
             Ok(())
         }
-        Err(bad) => Err(Fault::Line(bad)),
+        Err(bad) => Err(InputFault::Line(bad)),
     }
 }
 
@@ -71,10 +71,10 @@ pub(crate) fn past_mark(line: &[u8]) -> &[u8]
 }
 
 // Returns the fault of a tree that isn't read as a bag. If its counts pass a limit of its own, the fault has that.
-fn fault_of(tree: &Value, error: JsonError) -> Fault {
+fn fault_of(tree: &Value, error: JsonError) -> InputFault {
     match (error, tree.get("limit").and_then(Value::as_u64)) {
-        (JsonError::TooMany(_), Some(limit)) if limit < u64::MAX => Fault::PastLimit(limit),
-        _ => Fault::Tree(error),
+        (JsonError::TooMany(_), Some(limit)) if limit < u64::MAX => InputFault::PastLimit(limit),
+        _ => InputFault::Tree(error),
     }
 }
 
@@ -82,10 +82,10 @@ fn fault_of(tree: &Value, error: JsonError) -> Fault {
 ///
 /// # Errors
 ///
-/// - `Fault::Text` if the text isn't JSON, or can't be allocated.
-/// - `Fault::Tree` if it isn't the tree of a bag, or that bag fails.
-/// - `Fault::PastLimit` if its counts pass its own limit.
-/// - `Fault::Bag` if an allocation fails, or the total would pass the limit of the bag.
+/// - `InputFault::Text` if the text isn't JSON, or can't be allocated.
+/// - `InputFault::Tree` if it isn't the tree of a bag, or that bag fails.
+/// - `InputFault::PastLimit` if its counts pass its own limit.
+/// - `InputFault::Bag` if an allocation fails, or the total would pass the limit of the bag.
 ///
 /// Then the bag is unchanged.
 pub fn add_tree<S: BuildHasher + Drop, S2: BuildHasher + Drop>(
@@ -93,14 +93,14 @@ pub fn add_tree<S: BuildHasher + Drop, S2: BuildHasher + Drop>(
     state: S2,
     bag: &mut HashBag<String, S>,
     text: &str,
-) -> Result<(), Fault>
+) -> Result<(), InputFault>
     // Each text is in the bag more often by what its pairs in the tree add up to.
     ensures tree { OnOk result (AddsTree text.now bag.old bag.new) }
     ensures err { OnErr result (bag.new ≡ bag.old) }
 {
     let tree = match Value::from_str(alloc, text) {
         Ok(tree) => tree,
-        Err(error) => return Err(Fault::Text(error)),
+        Err(error) => return Err(InputFault::Text(error)),
     };
     let counts = match HashBag::from_value_with_hasher(alloc, state, usize::MAX, &tree) {
         Ok(counts) => counts,

@@ -1,20 +1,21 @@
 //! Adding up files of counts that come in blocks, however they are cut.
 //!
 //! A [`RowCounter`] is given bytes, so its clauses hold whatever they come from. In them `text` is what was fed of this file, `before` are the
-//! rows of earlier files, and `runs` the runs that were written. `HasAdded`: the bag and `runs` together have all these rows.
+//! rows of earlier files, and `runs` the runs that were written. A run is a bag's counts, written to a file to free memory.
+//! `HasAdded`: the bag and `runs` together have all these rows.
 ghost use Rattle.std.specs.Prelude.{◌≡◌, ℕ, ◌+◌, ◌-◌, ◌^◌, ◌∷◌, ◌++◌, [], List, min, IfErr, IfOk, OnErr, OnOk};
 ghost use Rattle.hashbag_words_lib.specs.Added.{line_at, AddsRows, HasAdded, HasAddedAll, HasEndedFile, HaveRows, IsFirstNoRow, IsReadAs};
 ghost use Rattle.hashbag_words_lib.specs.Counted.{fed_of, IsWithin, NoLineFeed};
 ghost use Rattle.hashbag_words_lib.specs.Merging.{AddsTree};
-ghost use Rattle.hashbag_words_lib.specs.Reading.{EndsLine};
+ghost use Rattle.hashbag_words_lib.specs.LineEnds.{EndsLine};
 ghost use Rattle.hashbag_words_lib.specs.RowText.{bytes_left};
 ghost use Rattle.hashbag_words_lib.specs.Rows.{IsNoRow};
 ghost use Rattle.hashbag_words_lib.specs.Runs.{run_text, IsRunOf};
 
 use crate::counter::{Fed, no_memory, without_return};
-use crate::errors::{BadLine, Fault};
+use crate::errors::{BadLine, InputFault};
 use crate::gauge::{Gauge, is_full, is_full_after_line, note_empty, note_read};
-use crate::lines::{BadLines, Reading};
+use crate::lines::{BadLines, LinesRead};
 use crate::merging::{add_row, add_tree, past_mark};
 use crate::row_text::RowText;
 use crate::rows::RowForm;
@@ -33,11 +34,11 @@ pub struct RowCounter<S: BuildHasher + Drop> {
     form: RowForm,
     bag: HashBag<String, S>,
     partial: Vec<u8>,
-    reading: Reading,
+    reading: LinesRead,
     gauge: Option<Gauge>,
 }
 
-// Returns a line of a file, before which it has `before` lines. Of the first one it is what is behind a byte order mark.
+// Returns a line of a file that has `before` lines before it. Of the first line, returns what follows a byte order mark, if one is there.
 fn past_mark_at(before: u64, line: &[u8]) -> &[u8]
     ensures { result.now ≡ line_at before line.now }
 {
@@ -53,11 +54,11 @@ fn add_line<S: BuildHasher + Drop>(
     bag: &mut HashBag<String, S>,
     form: RowForm,
     line: &[u8],
-    reading: &mut Reading,
-) -> Result<(), Fault>
+    reading: &mut LinesRead,
+) -> Result<(), InputFault>
     ensures rows { OnOk result ((rows : List (List ℕ × ℕ)) × IsReadAs form reading.old.bad_lines (line_at reading.old.line line.now) rows
         × AddsRows bag.old bag.new rows) }
-    ensures bad { IfErr result (λ e. (bad : BadLine) → e ≡ Fault.Line bad
+    ensures bad { IfErr result (λ e. (bad : BadLine) → e ≡ InputFault.Line bad
         → (reading.old.bad_lines ≡ BadLines.Refused) × IsNoRow form (line_at reading.old.line line.now)) }
     ensures bad_lines { reading.new.bad_lines ≡ reading.old.bad_lines }
     ensures line { reading.new.line ≡ min (reading.old.line + 1) (2 ^ 64 - 1) }
@@ -66,7 +67,7 @@ fn add_line<S: BuildHasher + Drop>(
     reading.count_line();
     match add_row(alloc, bag, form, line) {
         Ok(()) => Ok(()),
-        Err(Fault::Line(bad)) => reading.pass_over(bad),
+        Err(InputFault::Line(bad)) => reading.pass_over(bad),
         Err(fault) => Err(fault),
     }
 }
@@ -92,7 +93,7 @@ impl<S: BuildHasher + Drop> RowCounter<S> {
             form,
             bag,
             partial: Vec::new(alloc),
-            reading: Reading::new(bad_lines),
+            reading: LinesRead::new(bad_lines),
             gauge,
         }
     }
@@ -104,19 +105,19 @@ impl<S: BuildHasher + Drop> RowCounter<S> {
         &self.bag
     }
 
-    /// Returns how many lines of the file have ended, and what became of them. After a `Fault` the line that it was found in counts too.
-    pub fn reading(&self) -> Reading
+    /// Returns how many lines of the file have ended, and what became of them. After a `InputFault` the line that it was found in counts too.
+    pub fn reading(&self) -> LinesRead
         ensures { result ≡ self.now.reading }
     {
         self.reading
     }
 
-    // Adds the row of a line that a line feed ends. What is kept comes before these bytes.
-    fn end_line(&mut self, tail: &[u8]) -> Result<(), Fault>
+    // Adds the row of `partial` followed by `tail` as one line, which a line feed ends.
+    fn end_line(&mut self, tail: &[u8]) -> Result<(), InputFault>
         requires { NoLineFeed tail.now }
         ensures added { OnOk result ((before : _) → (runs : _) → (text : List ℕ) → HasAdded before runs self.old text
             → HasAdded before runs self.new (text ++ (tail.now ++ 10 ∷ []))) }
-        ensures bad { IfErr result (λ e. (bad : BadLine) → e ≡ Fault.Line bad
+        ensures bad { IfErr result (λ e. (bad : BadLine) → e ≡ InputFault.Line bad
             → (before : _) → (runs : _) → (text : List ℕ) → HasAdded before runs self.old text
             → (more : List ℕ) → IsFirstNoRow self.old.form ((text ++ (tail.now ++ 10 ∷ [])) ++ more) self.new.reading) }
         ensures form { self.new.form ≡ self.old.form }
@@ -145,26 +146,29 @@ impl<S: BuildHasher + Drop> RowCounter<S> {
         done
     }
 
-    /// Adds what these bytes bring: the rows of the lines that they end. The bytes behind the last line feed are kept.
+    /// Adds the rows of the lines that end in these bytes. The bytes after the last line feed are kept.
     ///
-    /// If there is a gauge, the bag is measured after every 16 lines. If it is full, the bytes behind the last of them aren't fed.
+    /// Returns `Fed::Whole`; or, if the bag was full when measured, `Fed::Full(n)`: only the first `n` bytes, to the end of the line after
+    /// which it was measured, were fed. If there is a gauge, the bag is measured after every 16 lines.
     ///
     /// # Errors
     ///
-    /// `Fault::Line` if a line is no row and bad lines aren't skipped; `Fault::Bag` if an allocation fails, or the total would pass the limit
+    /// `InputFault::Line` if a line is no row and bad lines aren't skipped; `InputFault::Bag` if an allocation fails, or the total would pass the limit
     /// of the bag. Then the counter is of no use.
     ///
     /// # Complexity
     ///
     /// Inserts the token of each line once, as often as its count says. Only a line that isn't whole in the block is copied.
-    pub fn feed(&mut self, block: &[u8]) -> Result<Fed, Fault>
-        // The file is longer by what was fed of the block.
+    pub fn feed(&mut self, block: &[u8]) -> Result<Fed, InputFault>
+        // If the rows of `text` were added before, now those of `text` and of what was fed are (`before`, `runs`: see the head).
         ensures added { IfOk result (λ fed. (before : _) → (runs : _) → (text : List ℕ) → HasAdded before runs self.old text
             → HasAdded before runs self.new (text ++ fed_of fed block.now)) }
+
+        // `Full(n)`: n is above 0 and within the block.
         ensures within { IfOk result (λ fed. IsWithin fed block.now) }
 
-        // If a bad line is rejected, it is the first that is no row of the file with the block.
-        ensures bad { IfErr result (λ e. (bad : BadLine) → e ≡ Fault.Line bad
+        // A rejected line is the first, of `text` and the block together, that isn't a row.
+        ensures bad { IfErr result (λ e. (bad : BadLine) → e ≡ InputFault.Line bad
             → (before : _) → (runs : _) → (text : List ℕ) → HasAdded before runs self.old text
             → IsFirstNoRow self.old.form (text ++ block.now) self.new.reading) }
         ensures form { self.new.form ≡ self.old.form }
@@ -184,8 +188,8 @@ impl<S: BuildHasher + Drop> RowCounter<S> {
         Ok(Fed::Whole)
     }
 
-    // Skips or rejects what is kept, since no line feed ended it.
-    fn end_last(&mut self) -> Result<(), Fault>
+    // Skips or rejects `partial`, unless it is empty, since no line feed ended it.
+    fn end_last(&mut self) -> Result<(), InputFault>
         ensures added { OnOk result ((before : _) → (runs : _) → (text : List ℕ) → HasAdded before runs self.old text
             → HasAddedAll before runs self.old.reading.bad_lines text self.new) }
         ensures ended { OnOk result (self.new.partial.items ≡ []) }
@@ -205,8 +209,8 @@ impl<S: BuildHasher + Drop> RowCounter<S> {
     ///
     /// # Errors
     ///
-    /// `Fault::Line(CutOff)` if no line feed ended the last line, and bad lines aren't skipped.
-    pub fn end_file(&mut self) -> Result<Reading, Fault>
+    /// `InputFault::Line(CutOff)` if no line feed ended the last line, and bad lines aren't skipped.
+    pub fn end_file(&mut self) -> Result<LinesRead, InputFault>
         // The file's rows are added to `before`, and the next file is empty.
         ensures added { OnOk result ((before : _) → (runs : _) → (text : List ℕ) → HasAdded before runs self.old text
             → HasEndedFile before runs self.old.reading.bad_lines text self.new) }
@@ -218,7 +222,7 @@ impl<S: BuildHasher + Drop> RowCounter<S> {
     {
         self.end_last()?;
         let reading = self.reading;
-        self.reading = Reading::new(reading.bad_lines);
+        self.reading = LinesRead::new(reading.bad_lines);
         Ok(reading)
     }
 
@@ -226,8 +230,12 @@ impl<S: BuildHasher + Drop> RowCounter<S> {
     ///
     /// # Errors
     ///
-    /// As [`add_tree`]. Then the counter is unchanged.
-    pub fn add_tree<S2: BuildHasher + Drop>(&mut self, state: S2, text: &str) -> Result<(), Fault>
+    /// Same as [`add_tree`]. Then the counter is unchanged.
+    pub fn add_tree<S2: BuildHasher + Drop>(
+        &mut self,
+        state: S2,
+        text: &str,
+    ) -> Result<(), InputFault>
         ensures tree { OnOk result (AddsTree text.now self.old.bag self.new.bag) }
         ensures err { OnErr result (self.new ≡ self.old) }
     {
@@ -253,7 +261,7 @@ impl<S: BuildHasher + Drop> RowCounter<S> {
     ///
     /// `Memory` if an allocation fails.
     pub fn run(&self) -> Result<RowText<'_>, BagError>
-        // As of [`run_of`].
+        // Same as [`run_of`].
         ensures { IfOk result (λ text. (rows : List (List ℕ × ℕ)) × IsRunOf self.now.bag rows × (bytes_left text ≡ run_text rows)) }
     {
         run_of(self.alloc, &self.bag)

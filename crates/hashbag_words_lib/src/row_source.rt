@@ -9,8 +9,8 @@ ghost use Rattle.hashbag_words_lib.specs.Sources.{left_with, Gives, Holds, IsAtE
 ghost use Rattle.hashbag_words_lib.specs.Tokens.{without_mark};
 
 use crate::counter::without_return;
-use crate::errors::{BadLine, Fault};
-use crate::lines::{BadLines, Reading};
+use crate::errors::{BadLine, InputFault};
+use crate::lines::{BadLines, LinesRead};
 use crate::merging::{past_mark, read_in_form};
 use crate::rows::RowForm;
 use crate::unread::Unread;
@@ -20,7 +20,7 @@ use std::str;
 
 /// What a text of rows is.
 #[derive(Clone, Copy, Debug, PartialEq, Eq)]
-pub enum Kind {
+pub enum SourceKind {
     /// A run: rows of `tsv` that were written here. Its first token may begin with a byte order mark.
     Run,
     /// A file in this form, with what a bad line of it does. Its first line may begin with a byte order mark, which is no part of it.
@@ -44,7 +44,7 @@ pub enum Next {
 #[derive(Drop)]
 pub struct RowSource {
     pub(crate) form: RowForm,
-    pub(crate) reading: Reading,
+    pub(crate) reading: LinesRead,
     // Whether a byte order mark at the beginning of the next line is no part of it.
     pub(crate) may_be_marked: bool,
     pub(crate) unread: Unread,
@@ -69,8 +69,8 @@ fn read_line(
     alloc: Global,
     form: RowForm,
     line: &[u8],
-    reading: &mut Reading,
-) -> Result<Option<(String, usize)>, Fault>
+    reading: &mut LinesRead,
+) -> Result<Option<(String, usize)>, InputFault>
     ensures row { form ≡ RowForm.Tsv → reading.old.bad_lines ≡ BadLines.Refused
         → IfOk result (λ row. IsSomeAnd row (λ r. read_as line.now ≡ Some (row_of r))) }
     ensures bad_lines { reading.new.bad_lines ≡ reading.old.bad_lines }
@@ -96,7 +96,7 @@ impl RowSource {
     {
         RowSource {
             form,
-            reading: Reading::new(bad_lines),
+            reading: LinesRead::new(bad_lines),
             may_be_marked,
             unread: Unread::new(alloc),
             is_ended: false,
@@ -105,19 +105,19 @@ impl RowSource {
     }
 
     /// Returns a source that was given nothing.
-    pub fn new(alloc: Global, kind: Kind) -> RowSource
+    pub fn new(alloc: Global, kind: SourceKind) -> RowSource
         // Nothing of the text was given, and it hasn't ended.
         ensures begins { Holds kind [] result }
         ensures not_ended { result.is_ended ≡ false }
     {
         match kind {
-            Kind::Run => RowSource::of_lines(alloc, RowForm::Tsv, BadLines::Refused, false),
-            Kind::File(form, bad_lines) => RowSource::of_lines(alloc, form, bad_lines, true),
+            SourceKind::Run => RowSource::of_lines(alloc, RowForm::Tsv, BadLines::Refused, false),
+            SourceKind::File(form, bad_lines) => RowSource::of_lines(alloc, form, bad_lines, true),
         }
     }
 
     /// Returns how many lines were read, and how many of them were skipped.
-    pub fn reading(&self) -> Reading
+    pub fn reading(&self) -> LinesRead
         ensures { result ≡ self.now.reading }
     {
         self.reading
@@ -155,7 +155,7 @@ impl RowSource {
     }
 
     // What comes if no line ends in the bytes that haven't been read; `None` if it was a bad line, which was passed over.
-    fn next_unended(&mut self) -> Result<Option<Next>, Fault>
+    fn next_unended(&mut self) -> Result<Option<Next>, InputFault>
         ensures meets { IfOk result (λ met. (more : List ℕ) → MayCome self.old more → Meets (left_with self.old more) met (left_with self.new more)) }
         ensures ended { self.new.is_ended ≡ self.old.is_ended }
         ensures wants { IfOk result (λ met. met ≡ Some Next.Wants → self.old.is_ended ≡ false) }
@@ -175,7 +175,7 @@ impl RowSource {
     }
 
     // What comes next; `None` if it was a bad line, which was passed over.
-    fn next_line(&mut self) -> Result<Option<Next>, Fault>
+    fn next_line(&mut self) -> Result<Option<Next>, InputFault>
         ensures meets { IfOk result (λ met. (more : List ℕ) → MayCome self.old more → Meets (left_with self.old more) met (left_with self.new more)) }
         ensures ended { self.new.is_ended ≡ self.old.is_ended }
         ensures wants { IfOk result (λ met. met ≡ Some Next.Wants → self.old.is_ended ≡ false) }
@@ -201,7 +201,7 @@ impl RowSource {
     /// # Errors
     ///
     /// A line is bad, or has no line feed, and bad lines aren't skipped; or an allocation fails.
-    pub fn next_row(&mut self) -> Result<Next, Fault>
+    pub fn next_row(&mut self) -> Result<Next, InputFault>
         // The next of the rows that are left was taken; or none, since none is known or none is left.
         ensures gives { IfOk result (λ next. (more : List ℕ) → MayCome self.old more → Gives (left_with self.old more) next (left_with self.new more)) }
         ensures ended { self.new.is_ended ≡ self.old.is_ended }
@@ -215,11 +215,12 @@ impl RowSource {
                 return Ok(next);
             }
         }
-        Err(Fault::Line(BadLine::CutOff))
+        Err(InputFault::Line(BadLine::CutOff))
     }
 
-    // Passes over the row that was taken last, since it is bad, or rejects it. If the rows are known, it rejects it.
-    pub(crate) fn pass_over(&mut self, bad: BadLine) -> Result<(), Fault>
+    // The row taken last is bad: skips it if bad lines are skipped, else returns an error. Where `left_with` is `Some` (form `tsv`, bad lines
+    // rejected) it always returns the error.
+    pub(crate) fn pass_over(&mut self, bad: BadLine) -> Result<(), InputFault>
         ensures known { (more : List ℕ) → IsSome (left_with self.old more) → IsErr result }
         ensures ended { self.new.is_ended ≡ self.old.is_ended }
     {

@@ -79,7 +79,7 @@ impl<'a> RowText<'a> {
         self.rows.is_empty()
     }
 
-    // Appends to the part rows until it is full, or there are no more, and then the end of the text.
+    // Appends rows to the part until it is full. After the last row, appends the end of the text.
     fn build(&mut self) -> io::Result<()>
         ensures text { self.new.part.items ++ left_in self.new ≡ self.old.part.items ++ left_in self.old }
         ensures read { self.new.read ≡ self.old.read }

@@ -111,7 +111,7 @@ pub fn push_row(text: &mut Vec<u8>, token: &str, count: usize) -> io::Result<()>
 }
 
 // Reads the next byte of an escaped token. Returns whether it is a backslash that escapes the byte after it, or `None` if the byte before
-// it was such a backslash and this one is no letter.
+// it was such a backslash and this one is no escape letter.
 fn take_byte(token: &mut Vec<u8>, is_marked: bool, byte: u8) -> Result<Option<bool>, AllocError>
     ensures { IfOk result (λ marked. (rest : List ℕ)
         → resumed token.old.items (Some is_marked) (byte ∷ rest) ≡ resumed token.new.items marked rest) }
@@ -148,7 +148,7 @@ fn unescape(alloc: Global, written: &[u8]) -> Result<Option<Vec<u8>>, AllocError
     Ok(Some(token))
 }
 
-// Returns the token that is written like this, or `None` if there is none. Few tokens have a backslash. The others are written as they are.
+// Returns the token with this written form, or `None` if there is none. Few tokens have a backslash. The others are written as they are.
 fn read_token(alloc: Global, written: &str) -> Result<Option<String>, AllocError>
     ensures token { IfOk result (λ token. IfSome token (λ t. unescaped false written.now ≡ Some (string_bytes t))) }
     ensures no_token { IfOk result (λ token. IfNone token ((t : List ℕ) → IsUtf8 t → unescaped false written.now ≢ Some t)) }
@@ -171,7 +171,7 @@ fn read_token(alloc: Global, written: &str) -> Result<Option<String>, AllocError
 ///
 /// An allocation fails.
 pub fn read_row(alloc: Global, line: &str) -> Result<Result<(String, usize), BadLine>, AllocError>
-    // The line of a token and a count is read as these. If a row is read, it is the line's.
+    // A line of a token and a count is read as that row. A row that is returned is the line's.
     ensures row { IfOk result (λ read. IfRow RowForm.Tsv line.now (λ token count. IsRead token count read)) }
     ensures line { IfOk result (λ read. IfOk read (λ p. IsLineOf line.now (string_bytes p.0) p.1)) }
 {
@@ -210,7 +210,7 @@ pub fn read_uniq_row(
     alloc: Global,
     line: &str,
 ) -> Result<Result<(String, usize), BadLine>, AllocError>
-    // The line of a token and a count is read as these. If a row is read, it is the line's.
+    // A line of a token and a count is read as that row. A row that is returned is the line's.
     ensures row { IfOk result (λ read. IfRow RowForm.Uniq line.now (λ token count. IsRead token count read)) }
     ensures line { IfOk result (λ read. IfOk read (λ p. IsUniqLineOf line.now (string_bytes p.0) p.1)) }
 {

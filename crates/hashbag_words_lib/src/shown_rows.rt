@@ -3,7 +3,7 @@ ghost use Rattle.std.specs.Prelude.{◌≡◌, vec_len};
 ghost use Rattle.std.specs.BinaryHeap.{heap_len};
 
 use crate::choice::Choice;
-use crate::errors::Fault;
+use crate::errors::InputFault;
 use crate::row_parts::RowParts;
 use crate::sorted_merge::Sink;
 use std::alloc::{AllocError, Global};
@@ -18,7 +18,7 @@ impl Sink for RowParts {
     ghost put_gives = { λ old row new. (new.format ≡ old.format) × ((rows : List (List ℕ × ℕ)) → (taken : List ℕ) → HasBuilt old rows taken
         → HasBuilt new (rows ++ row ∷ []) taken) };
 
-    fn put(&mut self, token: String, count: usize) -> Result<(), Fault> {
+    fn put(&mut self, token: String, count: usize) -> Result<(), InputFault> {
         self.push(token.as_str(), count)?;
         Ok(())
     }
@@ -41,7 +41,7 @@ impl<K: Sink> Sink for ShownRows<K> {
     ghost put_gives = { λ old row new. (new.choice ≡ old.choice) × (shows old.choice row ≡ true → K.put_gives old.sink row new.sink)
         × (shows old.choice row ≡ false → new.sink ≡ old.sink) };
 
-    fn put(&mut self, token: String, count: usize) -> Result<(), Fault> {
+    fn put(&mut self, token: String, count: usize) -> Result<(), InputFault> {
         if !self.choice.shows(token.as_str(), count) {
             return Ok(());
         }
@@ -49,7 +49,8 @@ impl<K: Sink> Sink for ShownRows<K> {
     }
 }
 
-/// Keeps the most common of the rows that come: counts falling, then tokens rising. It has one row more in memory than it keeps.
+/// Keeps the most common of the rows that come: counts in descending order, then tokens in ascending order. It has one row more in memory
+/// than it keeps.
 #[derive(Drop)]
 pub struct TopRows {
     // The last in that order is at the top of the heap.
@@ -84,7 +85,7 @@ impl Sink for TopRows {
     // No more rows are kept than the most.
     ghost put_gives = { λ old _ new. (new.most ≡ old.most) × (heap_len old.kept ≤ old.most → heap_len new.kept ≤ new.most) };
 
-    fn put(&mut self, token: String, count: usize) -> Result<(), Fault> {
+    fn put(&mut self, token: String, count: usize) -> Result<(), InputFault> {
         self.kept
             .push((Reverse(count), token))
             .map_err(AllocError::from)?;

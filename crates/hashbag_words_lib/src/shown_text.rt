@@ -19,7 +19,7 @@ use std::hash::BuildHasher;
 ///
 /// # Complexity
 ///
-/// As [`chosen`] and [`RowText::new`].
+/// Same as [`chosen`] and [`RowText::new`] together.
 pub fn shown_text<'b, S: BuildHasher + Drop>(
     alloc: Global,
     bag: &'b HashBag<String, S>,

@@ -1,4 +1,5 @@
-//! Rows of several sources whose tokens rise become one stream of such rows: each token once, with the sum of its counts.
+//! Merges the rows of several sources, each with its tokens in ascending order, into one such stream: each token once, with the sum of its
+//! counts.
 //!
 //! A [`Merger`] is given bytes, so its clauses hold whatever they come from. In them `given` is what each source was given so far, and `out`
 //! are the rows that were returned.
@@ -6,7 +7,7 @@ ghost use Rattle.std.specs.Prelude.{◌≡◌, ℕ, ◌+◌, ◌++◌, ◌<◌, 
 ghost use Rattle.hashbag_words_lib.specs.Merged.{count_of, texts_of, AreBegun, AreLeft, AreReadAgain, Follows, HasMerged, IsEnded, IsOpen, MayComeTo, TakesRow};
 ghost use Rattle.hashbag_words_lib.specs.Sorted.{count_held, one_of, shown_of, IsMergeOf, IsNoLater, Joins};
 
-use crate::errors::Fault;
+use crate::errors::InputFault;
 use crate::head::Head;
 use crate::row_source::Next;
 use crate::sources::Source;
@@ -19,7 +20,7 @@ pub trait Sink {
     ghost put_gives: { Self → List ℕ × ℕ → Self → Type 0 };
 
     /// Takes a row.
-    fn put(&mut self, token: String, count: usize) -> Result<(), Fault>
+    fn put(&mut self, token: String, count: usize) -> Result<(), InputFault>
         ensures { OnOk result (put_gives self.old (string_bytes token, count) self.new) };
 }
 
@@ -37,8 +38,8 @@ pub enum Merged {
 /// Why a merge ends before all rows are merged.
 #[derive(Debug, Drop)]
 pub enum Stop {
-    /// The source of that place failed, or its rows don't rise, or with its next row the counts add up to more than `usize::MAX`.
-    Source(usize, Fault),
+    /// The source of that place failed, or its rows aren't in ascending order, or with its next row the counts add up to more than `usize::MAX`.
+    Source(usize, InputFault),
     /// The counts of one token add up to more than `usize::MAX`.
     TooMany,
 }
@@ -98,7 +99,7 @@ fn take_least(sources: &mut Vec<Source>, total: &mut usize) -> Result<Merged, St
     let i = least(sources.as_slice());
     let source = &mut sources[i];
     let Some(sum) = total_with(before, &source.head) else {
-        return Err(Stop::Source(i, Fault::Bag(BagError::TooMany)));
+        return Err(Stop::Source(i, InputFault::Bag(BagError::TooMany)));
     };
     match source.take() {
         Ok(Next::Row(row)) => {
@@ -146,8 +147,8 @@ fn shown(done: Option<(String, usize)>) -> Option<(String, usize)>
     Some((token, count))
 }
 
-/// Merges the rows of sources whose tokens rise: gives each token of any of them once, tokens rising, with the sum of its counts, unless
-/// that is 0.
+/// Merges the rows of sources whose tokens are in ascending order: gives each token of any of them once, in ascending order, with the sum of its
+/// counts, unless that is 0.
 #[derive(Drop)]
 pub struct Merger {
     sources: Vec<Source>,

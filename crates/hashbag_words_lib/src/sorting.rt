@@ -1,15 +1,15 @@
 //! Sorting rows by their tokens.
 //!
 //! The tokens lie apart in memory, and each is expensive to read. So a row is sorted by a number that it has in the list: eight bytes of its
-//! token. Rows whose eight bytes are the same are a run, which is sorted by the next eight bytes, and so on. Each round reads each token
-//! of a run once, however many rows it has.
+//! token. Rows whose eight bytes are the same are a block, which is sorted by the next eight bytes, and so on. Each round reads each token
+//! of a block once, however many rows it has.
 ghost use Rattle.std.specs.Prelude.{◌≡◌, ℕ, ◌+◌, ◌*◌, ◌<◌, ◌≤◌, ◌^◌, length, take, drop, map, slice_index, All, IfOk};
 ghost use Rattle.std.specs.List.Sorted.{IsNonDecreasingBy, IsPermutation, IsSorted};
 ghost use Rattle.hashbag_words_lib.specs.Prefix.{lead, row_cmp, bare_row, number_of, HasWord, IsPrefixOf, IsWordAt, SortsFrom, SortsRuns};
 
 use std::alloc::{AllocError, Global};
 
-// How often a run is split or read further before it is sorted by whole tokens. A split halves a run, or parts off a run of one number.
+// How often a block is split or read further before it is sorted by whole tokens. A split halves a block, or parts off one of one number.
 const MOST_STEPS: usize = 128;
 
 // Returns the byte at this place, and 0 past the end.
@@ -31,7 +31,7 @@ fn whole_word(bytes: &[u8], from: usize) -> u64
     number
 }
 
-// Returns the same with 0 for each byte past the end.
+// Returns the eight bytes from this place on as a number, the first highest, with 0 for each byte past the end.
 fn padded_word(bytes: &[u8], from: usize) -> u64
     requires { from < 2 ^ 63 }
     ensures { result ≡ lead 0 8 (drop from bytes.now) }
@@ -95,7 +95,7 @@ fn sort_from(rows: &mut [(u64, (&String, usize))], from: usize, steps: usize)
     sort_runs(rows, from, steps);
 }
 
-// Sorts rows whose tokens agree before this place, and whose numbers rise: those are the eight bytes from there on.
+// Sorts rows whose tokens agree before this place, and whose numbers are in ascending order: those are the eight bytes from there on.
 #[cycle(sorts)]
 fn sort_runs(rows: &mut [(u64, (&String, usize))], from: usize, steps: usize)
     requires { from + 8 * steps < 2 ^ 63 }
@@ -123,7 +123,7 @@ fn sort_runs(rows: &mut [(u64, (&String, usize))], from: usize, steps: usize)
     sort_cut(rows, least, from, steps - 1);
 }
 
-// Sorts the rows whose number is below `least`, and those after them. Otherwise as `sort_runs`.
+// Splits the rows at `least`, and sorts each part as `sort_runs` does: those whose number is below it, and the others.
 #[cycle(sorts)]
 fn sort_cut(rows: &mut [(u64, (&String, usize))], least: u64, from: usize, steps: usize)
     requires { from + 8 * steps < 2 ^ 63 }
@@ -134,7 +134,7 @@ fn sort_cut(rows: &mut [(u64, (&String, usize))], least: u64, from: usize, steps
     sort_rest(rows, cut, from, steps);
 }
 
-// Sorts the first rows, as `sort_runs`.
+// Sorts the first `cut` rows as `sort_runs` does.
 #[cycle(sorts)]
 fn sort_first(rows: &mut [(u64, (&String, usize))], cut: usize, from: usize, steps: usize)
     requires cut { cut ≤ length rows.old }
@@ -145,7 +145,7 @@ fn sort_first(rows: &mut [(u64, (&String, usize))], cut: usize, from: usize, ste
     sort_runs(&mut rows[..cut], from, steps);
 }
 
-// Sorts the rows after the first, as `sort_runs`.
+// Sorts the rows after the first `cut` as `sort_runs` does.
 #[cycle(sorts)]
 fn sort_rest(rows: &mut [(u64, (&String, usize))], cut: usize, from: usize, steps: usize)
     requires cut { cut ≤ length rows.old }
@@ -184,7 +184,7 @@ fn without_numbers<'a>(
     Ok(made)
 }
 
-/// Returns the rows, tokens rising, and of one token the lesser count first.
+/// Returns the rows, tokens in ascending order, and of one token the lesser count first.
 ///
 /// # Errors
 ///
@@ -193,7 +193,7 @@ fn without_numbers<'a>(
 /// # Complexity
 ///
 /// It allocates two lists, each at once. It compares numbers of eight bytes as often as a sort of the rows does, and reads each token once
-/// for each eight bytes that another token has too. What is the same in many tokens for hundreds of bytes is sorted by whole tokens.
+/// for each eight bytes that another token has too. Tokens that share hundreds of bytes are compared whole.
 pub fn sort_rows<'a>(
     alloc: Global,
     rows: Vec<(&'a String, usize)>,

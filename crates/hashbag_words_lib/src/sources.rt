@@ -1,17 +1,17 @@
-//! Sources of rows whose tokens rise.
+//! Sources of rows whose tokens are in ascending order.
 ghost use Rattle.std.specs.Prelude.{◌≡◌, ℕ, List, None, Some, false, string_bytes, IfOk, IfSome};
 ghost use Rattle.std.specs.declared.cmp.Ordering.TheVariants.{Less};
 ghost use Rattle.hashbag_words_lib.specs.Merged.{with_head, OpensWith, Takes};
 ghost use Rattle.hashbag_words_lib.specs.Sorted.{text_cmp};
 ghost use Rattle.hashbag_words_lib.specs.Sources.{left_with, row_in, Gives, Holds, MayCome};
 
-use crate::errors::{BadLine, Fault};
+use crate::errors::{BadLine, InputFault};
 use crate::head::Head;
 use crate::row_source::{Next, RowSource};
 use std::mem;
 
 // Takes the next row whose token comes after `last`. Rows whose token doesn't are passed over or rejected.
-fn next_above(rows: &mut RowSource, last: &str) -> Result<Next, Fault>
+fn next_above(rows: &mut RowSource, last: &str) -> Result<Next, InputFault>
     ensures gives { IfOk result (λ next. (more : List ℕ) → MayCome rows.old more → Gives (left_with rows.old more) next (left_with rows.new more)) }
     ensures above { IfOk result (λ next. IfSome (row_in next) (λ r. text_cmp last.now (string_bytes r.0) ≡ Less)) }
     ensures ended { rows.new.is_ended ≡ rows.old.is_ended }
@@ -29,7 +29,7 @@ fn next_above(rows: &mut RowSource, last: &str) -> Result<Next, Fault>
             Next::End => return Ok(Next::End),
         }
     }
-    Err(Fault::Line(BadLine::NotInOrder))
+    Err(InputFault::Line(BadLine::NotInOrder))
 }
 
 /// A source of rows, and the row of it that comes next.
@@ -55,7 +55,7 @@ impl Source {
     /// # Errors
     ///
     /// The fault of [`RowSource::next_row`], and the rows, of which no clause says what is left.
-    pub fn open(mut rows: RowSource) -> Result<Opened, (Fault, RowSource)>
+    pub fn open(mut rows: RowSource) -> Result<Opened, (InputFault, RowSource)>
         // The first row is known, and no row is lost; or it isn't known before more bytes are given.
         ensures { IfOk result (λ opened. (kind : _) → (text : List ℕ) → Holds kind text rows → OpensWith kind text opened) }
     {
@@ -82,7 +82,7 @@ impl Source {
     /// # Errors
     ///
     /// The fault of that row. `BadLine::NotInOrder`: the token of the row after it doesn't come after that of the row.
-    pub(crate) fn take(&mut self) -> Result<Next, Fault>
+    pub(crate) fn take(&mut self) -> Result<Next, InputFault>
         // The row that came next was taken, if the one after it is known; or none was left.
         ensures same { IfOk result (λ next. IfSome (row_in next) (λ row. self.old.head ≡ Some row)) }
         ensures none { IfOk result (λ next. next ≡ Next.End → self.old.head ≡ None) }

@@ -7,7 +7,7 @@ use std::alloc::Global;
 /// in the first half of the newer table, and what searches behind that value passes many slots.
 pub const FIRST: u64 = 2;
 
-/// A bag of `n` values from `from` on, which were inserted in rising order. If `n` is 1 above three quarters of a power of two, the bag has
+/// A bag of `n` values from `from` on, which were inserted in ascending order. If `n` is 1 above three quarters of a power of two, the bag has
 /// just grown: nearly all of its values are still in the older table.
 pub fn risen(alloc: Global, from: u64, n: u64) -> Result<HashBag<u64>, BagError> {
     let mut bag = HashBag::new(alloc);

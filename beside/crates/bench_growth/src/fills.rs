@@ -5,7 +5,7 @@ use hashbag::{BagError, FixedState, HashBag};
 use std::alloc::Global;
 use std::mem;
 
-// `n` values in falling order.
+// `n` values in descending order.
 fn fallen(alloc: Global, n: u64) -> Result<HashBag<u64>, BagError> {
     let mut bag = HashBag::new(alloc);
     for place in 0..n {

@@ -53,7 +53,7 @@ fn equals(bag: &HashBag<u64>) -> Result<u64, BagError> {
     Ok((*bag == clone) as u64 + (clone == *bag) as u64)
 }
 
-// The sum of the values in rising order, each times its place.
+// The sum of the values in ascending order, each times its place.
 fn sum_by_places(alloc: Global, bag: &HashBag<u64>) -> Result<u64, BagError> {
     let mut sum = 0u64;
     let mut place = 0u64;

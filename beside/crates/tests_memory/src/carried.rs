@@ -28,7 +28,7 @@ fn in_a_carry(alloc: Global, refusals: &mut Refusals) -> Result<Option<Bag>, Wro
     Ok(Some(bag))
 }
 
-// The bag has these tables, and its 25 values once each.
+// Checks that the bag has these tables, and its 25 values once each.
 fn stands(bag: &Bag, tables: (usize, usize, usize), wrong: &'static str) -> Result<(), Wrong> {
     check(tables_of(bag) == tables, wrong)?;
     check((bag.len(), bag.set_len()) == (25, 25), wrong)?;
@@ -38,7 +38,7 @@ fn stands(bag: &Bag, tables: (usize, usize, usize), wrong: &'static str) -> Resu
     Ok(())
 }
 
-/// The tree is written, or an allocation failed: the bag stays as it is.
+/// Checks that the tree is written, or an allocation failed, and that the bag stays as it is.
 pub fn written(alloc: Global, refusals: &mut Refusals) -> Result<(), Wrong> {
     let Some(bag) = in_a_carry(alloc, refusals)? else {
         return Ok(());
@@ -52,7 +52,7 @@ pub fn written(alloc: Global, refusals: &mut Refusals) -> Result<(), Wrong> {
     stands(&bag, TABLES, "in a carry: to_value")
 }
 
-// The joins with an empty bag are collected, or an allocation failed.
+// Checks that the joins with an empty bag are collected, or an allocation failed.
 fn joined_with<'a>(
     alloc: Global,
     bag: &'a Bag,
@@ -71,7 +71,7 @@ fn joined_with<'a>(
     check(lengths == [25, 25, 25, 25], "in a carry: a join")
 }
 
-/// The joins with an empty bag are collected, or an allocation failed: the bag stays as it is.
+/// Checks that the joins with an empty bag are collected, or an allocation failed, and that the bag stays as it is.
 pub fn joined(alloc: Global, refusals: &mut Refusals) -> Result<(), Wrong> {
     let Some(bag) = in_a_carry(alloc, refusals)? else {
         return Ok(());
@@ -101,7 +101,7 @@ fn tables_after(replies: &[Reply<u64>]) -> (usize, usize, usize) {
     }
 }
 
-/// Room is reserved in a bag by a run of its own, or an allocation failed: if its step has no reply it stays as it is.
+/// Reserves room in a bag by a run of its own. Checks that if its step has no reply, since an allocation failed, the bag stays as it is.
 pub fn run_alone(alloc: Global, refusals: &mut Refusals) -> Result<(), Wrong> {
     let Some(mut bag) = in_a_carry(alloc, refusals)? else {
         return Ok(());
@@ -122,7 +122,7 @@ pub fn run_alone(alloc: Global, refusals: &mut Refusals) -> Result<(), Wrong> {
     )
 }
 
-// What two bags are after a run with these replies.
+// Checks what two bags are after a run with these replies.
 fn are_after(
     bags: (&Bag, &Bag),
     first: &[Reply<u64>],
@@ -173,7 +173,7 @@ fn run_on_both(
     }
 }
 
-/// Room is reserved in each of two bags by a run, or an allocation failed: one whose step has no reply stays as it is.
+/// Reserves room in each of two bags by a run. Checks that a bag whose step has no reply, since an allocation failed, stays as it is.
 pub fn runs(alloc: Global, refusals: &mut Refusals) -> Result<(), Wrong> {
     let Some(mut a) = in_a_carry(alloc, refusals)? else {
         return Ok(());

@@ -5,7 +5,7 @@ use hashbag::BagError;
 #[derive(Clone, Copy, Debug)]
 pub struct Wrong(pub &'static str);
 
-/// Returns what is wrong, unless it is so.
+/// Checks a condition. If it is false, returns `wrong`.
 pub fn check(is_so: bool, wrong: &'static str) -> Result<(), Wrong> {
     if is_so { Ok(()) } else { Err(Wrong(wrong)) }
 }

@@ -31,7 +31,7 @@ impl Values {
         Counted { key, values: self }
     }
 
-    /// Each value that was made was dropped once.
+    /// Checks that each value that was made was dropped once.
     pub fn are_gone(&self) -> Result<(), Wrong> {
         check(
             self.made.get() == self.dropped.get(),

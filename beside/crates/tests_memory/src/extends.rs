@@ -33,7 +33,7 @@ fn fill(bag: &mut HashBag<u64>, refusals: &mut Refusals) -> Result<bool, Wrong> 
     Err(Wrong("a filled bag: never room for just two"))
 }
 
-// After an extend by the new values: all of them are there, or the two for which there was room.
+// Checks that after an extend by the new values all of them are there, or the two for which there was room.
 fn has_new(
     bag: &HashBag<u64>,
     is_done: bool,
@@ -50,7 +50,7 @@ fn has_new(
     check(bag.len() == total, wrong)
 }
 
-// The slots, those that wait, and the room of a filled bag after such an extend.
+// Checks the slots, those that wait, and the room of a filled bag after an extend by the new values.
 fn has_tables(bag: &HashBag<u64>, is_done: bool) -> Result<(), Wrong> {
     let wanted = if is_done { (32, 0, 9) } else { (16, 0, 0) };
     check(tables_of(bag) == wanted, "an extend: the slots")
@@ -120,7 +120,7 @@ fn from_counts(alloc: Global, refusals: &mut Refusals) -> Result<(), Wrong> {
     }
 }
 
-// The clone is equal, or there is none.
+// Checks that the clone is equal, or there is none.
 fn cloned(bag: &HashBag<u64>, refusals: &mut Refusals) -> Result<(), Wrong> {
     match refusals.answer(bag.clone())? {
         Some(clone) => check(clone == *bag, "clone: it is equal"),
@@ -128,7 +128,7 @@ fn cloned(bag: &HashBag<u64>, refusals: &mut Refusals) -> Result<(), Wrong> {
     }
 }
 
-// The bag is as it was after a clone.
+// Checks that the bag is as it was after a clone.
 fn clone(alloc: Global, refusals: &mut Refusals) -> Result<(), Wrong> {
     let Some(bag) = filled(alloc, refusals)? else {
         return Ok(());

@@ -25,7 +25,7 @@ fn count<'a>(bag: &Bag<'a>, values: &'a Values, key: u64) -> usize {
     bag.contains(&values.value(key))
 }
 
-// The bag has the values from 1 to `last` once each, and no other.
+// Checks that the bag has the values from 1 to `last` once each, and no other.
 fn has_first<'a>(
     bag: &Bag<'a>,
     values: &'a Values,
@@ -65,7 +65,7 @@ fn remove<'a>(bag: &mut Bag<'a>, values: &'a Values, key: u64) -> usize {
     bag.remove(&values.value(key))
 }
 
-// The bag has these tables.
+// Checks that the bag has these tables.
 fn has_tables<'a>(
     bag: &Bag<'a>,
     tables: (usize, usize, usize),
@@ -401,7 +401,7 @@ fn cloned_in_a_carry(alloc: Global, values: &Values, refusals: &mut Refusals) ->
     has_first(&bag, values, 25, "a carry: the values after a clone")
 }
 
-// The clone is equal, and has no slots that wait; or there is none.
+// Checks that the clone is equal, and has no slots that wait; or there is none.
 fn cloned<'a>(bag: &Bag<'a>, refusals: &mut Refusals) -> Result<(), Wrong> {
     match refusals.answer(bag.clone())? {
         Some(clone) => check(

@@ -46,7 +46,7 @@ pub fn run_without_room(
     )
 }
 
-// The bag of such a run has what this number of replies says.
+// Checks that the bag of such a run has what this number of replies says.
 fn is_after<'a>(
     bag: &Bag<'a>,
     values: &'a Values,
@@ -85,7 +85,7 @@ pub fn runs_without_room(
     run_both(alloc, values, (a, first), (b, second), refusals)
 }
 
-// Each bag is as its replies say.
+// Checks that each bag is as its replies say.
 fn run_both<'a>(
     alloc: Global,
     values: &'a Values,
@@ -100,7 +100,7 @@ fn run_both<'a>(
     are_after((&a, &b), values, (in_a.len(), in_b.len()), done)
 }
 
-// Two bags are as these numbers of replies say.
+// Checks that two bags are as these numbers of replies say.
 fn are_after<'a>(
     bags: (&Bag<'a>, &Bag<'a>),
     values: &'a Values,

@@ -74,7 +74,7 @@ fn is_at(
     Ok(())
 }
 
-// Each bag is as its replies say. The second has replies only once the first has all.
+// Checks that each bag is as its replies say. The second has replies only once the first has all.
 fn are_at(
     a: &HashBag<u64>,
     b: &HashBag<u64>,

@@ -86,7 +86,7 @@ fn thirteen<S: BuildHasher + Drop>(
     Ok(bag)
 }
 
-// The bag has the 13 values from 0 on, twice each, and no other.
+// Checks that the bag has the 13 values from 0 on, twice each, and no other.
 fn has_two_each<S: BuildHasher + Drop>(
     bag: &HashBag<u64, S>,
     wrong: &'static str,

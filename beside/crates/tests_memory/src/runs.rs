@@ -70,7 +70,7 @@ const TABLES_AFTER: [(usize, usize, usize); 17] = [
     (16, 0, 11),
 ];
 
-// A bag is what the first steps leave, as many as the number says.
+// Checks that the bag has the counts and the slots that the first `number` steps leave.
 fn is_after(bag: &HashBag<u64>, number: usize) -> Result<(), Wrong> {
     if number >= AFTER.len() {
         return Err(Wrong("run: more replies than steps"));
@@ -79,7 +79,7 @@ fn is_after(bag: &HashBag<u64>, number: usize) -> Result<(), Wrong> {
     check(tables_of(bag) == TABLES_AFTER[number], "run: the slots")
 }
 
-// What a run leaves is what the steps with replies leave.
+// Checks that a run leaves what the steps with replies leave.
 fn runs_of(alloc: Global, steps: Vec<Step<u64>>, refusals: &mut Refusals) -> Result<(), Wrong> {
     let mut bag: HashBag<u64> = HashBag::new(alloc);
     let mut replies: Vec<Reply<u64>> = Vec::new(alloc);

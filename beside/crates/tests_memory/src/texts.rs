@@ -11,7 +11,7 @@ fn names(alloc: Global) -> Result<(String, String), AllocError> {
     ))
 }
 
-// After an extend by Einar, Harald and Einar: all are there, or those before the one that failed.
+// Checks that after an extend by Einar, Harald and Einar all are there, or those before the one that failed.
 fn has_names(bag: &HashBag<String>, counts: (usize, usize), is_done: bool) -> Result<(), Wrong> {
     if is_done {
         check(counts == (2, 1), "names: the counts")?;
@@ -48,7 +48,7 @@ fn extend_and_clone(
     clone_of(&bag, names, refusals)
 }
 
-// A clone is equal, if there is one, and its source stays as it was.
+// Checks that a clone is equal, if there is one, and its source stays as it was.
 fn clone_of(
     bag: &HashBag<String>,
     names: &(String, String),

@@ -16,7 +16,7 @@ fn tree_of(alloc: Global, text: &str, refusals: &mut Refusals) -> Option<Value> 
     }
 }
 
-// The bag is written, or an allocation failed.
+// Checks that the bag is written, or an allocation failed.
 fn written(
     alloc: Global,
     bag: &HashBag<String, FixedState>,
@@ -64,7 +64,7 @@ const PAIRS: [(&str, Option<JsonError>); 2] = [
     ("[[\"b\",2],[5,1]]", Some(JsonError::BadItem(1))),
 ];
 
-// A tree that is read is a bag of one value, or it has this fault, or an allocation failed.
+// Checks that a tree that is read is a bag of one value, or it has this fault, or an allocation failed.
 fn is_read(
     alloc: Global,
     tree: &Value,

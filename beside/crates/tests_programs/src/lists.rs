@@ -193,7 +193,7 @@ fn say_row(said: &mut String, article: &[String], number: usize) -> Result<(), A
     write!(said, "{number}]")
 }
 
-// Each article of a tally with its number, articles rising.
+// Each article of a tally with its number, articles in ascending order.
 fn said_of_tally(alloc: Global, tally: &ListTally, none: &ListTally) -> Result<String, AllocError> {
     let mut said = String::new(alloc);
     for row in &rows_of_tallies(alloc, tally, none)? {
@@ -535,7 +535,7 @@ fn status_of(alloc: Global, text: &[u8], decimals: u32) -> u8 {
         delimiter: Delimiter::Comma,
         scale: scale_of(decimals, "."),
     };
-    let tally = read_tally(
+    let tally = read_tally::<String, _>(
         alloc,
         FixedState::new(),
         text,

@@ -262,7 +262,7 @@ fn form_of(word: &str) -> Form {
     }
 }
 
-// What a row wants is written under this hash state.
+// Checks that what a row wants is written under this hash state.
 fn is_written<S: BuildHasher + Copy + Drop>(
     alloc: Global,
     state: S,

@@ -32,7 +32,7 @@ fn state_of(rt: &HostRuntime, folder: &str) -> Result<String, Fail> {
     Ok(state)
 }
 
-// The folder is in this state.
+// Checks that the folder is in this state.
 fn is_state(rt: &HostRuntime, folder: &str, wanted: &str) -> Result<(), Fail> {
     let state = state_of(rt, folder)?;
     if state.as_str() == wanted {

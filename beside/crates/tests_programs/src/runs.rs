@@ -151,7 +151,7 @@ fn answers_steps(rt: HostRuntime) -> Result<(), Fail> {
     Ok(())
 }
 
-// Runs on two bags: replies of a and then of b, each join of what they leave by rising values, and the trees.
+// Runs on two bags: replies of a and then of b, each join of what they leave in ascending order of values, and the trees.
 const TWO_BAG_RUNS: [(&str, &str); 7] = [
     (TWO_BAGS, TWO_BAGS_OUTPUT),
     (

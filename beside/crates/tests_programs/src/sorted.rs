@@ -1,13 +1,13 @@
-//! The merge of files whose rows rise. What is wanted was added up by hand.
+//! The merge of files whose rows are in ascending order. What is wanted was added up by hand.
 use crate::texts::is_text;
 use hashbag::HashBag;
 use hashbag_words_lib::choice::{Choice, Order};
 use hashbag_words_lib::counter::{Fed, TextCounter};
-use hashbag_words_lib::errors::Fault;
+use hashbag_words_lib::errors::InputFault;
 use hashbag_words_lib::gauge::Gauge;
 use hashbag_words_lib::lines::BadLines;
 use hashbag_words_lib::row_parts::RowParts;
-use hashbag_words_lib::row_source::{Kind, RowSource};
+use hashbag_words_lib::row_source::{SourceKind, RowSource};
 use hashbag_words_lib::rows::RowForm;
 use hashbag_words_lib::rule::{Pieces, Rule};
 use hashbag_words_lib::shown_rows::{ShownRows, TopRows};
@@ -63,22 +63,22 @@ const SORTED_UNIQ: [(&str, bool, &str); 4] = [
 ];
 
 // What stopped at that line of that source.
-fn stopped(alloc: Global, source: usize, line: u64, fault: &Fault) -> Result<String, Fail> {
+fn stopped(alloc: Global, source: usize, line: u64, fault: &InputFault) -> Result<String, Fail> {
     Ok(match fault {
-        Fault::Line(bad) => format!(in alloc; "{source}: {line}: {bad}")?,
-        Fault::Bag(_) => format!(in alloc; "{source}: {line}: total")?,
+        InputFault::Line(bad) => format!(in alloc; "{source}: {line}: {bad}")?,
+        InputFault::Bag(_) => format!(in alloc; "{source}: {line}: total")?,
         _ => format!(in alloc; "{source}: {line}: other")?,
     })
 }
 
 // Returns the kind of a file.
-fn file_of(form: RowForm, skips: bool) -> Kind {
+fn file_of(form: RowForm, skips: bool) -> SourceKind {
     let bad_lines = if skips {
         BadLines::Skipped
     } else {
         BadLines::Refused
     };
-    Kind::File(form, bad_lines)
+    SourceKind::File(form, bad_lines)
 }
 
 // Takes the next block of at most `most` bytes.
@@ -92,10 +92,10 @@ fn next_block<'a>(rest: &mut &'a [u8], most: usize) -> &'a [u8] {
 // Opens a source, which is given such blocks. If it fails, its line and what is wrong with it.
 fn opened(
     alloc: Global,
-    kind: Kind,
+    kind: SourceKind,
     rest: &mut &[u8],
     most: usize,
-) -> Result<Result<Source, (u64, Fault)>, Fail> {
+) -> Result<Result<Source, (u64, InputFault)>, Fail> {
     let mut rows = RowSource::new(alloc, kind);
     for _ in 0..u64::MAX {
         rows = match Source::open(rows) {
@@ -122,7 +122,7 @@ struct Texts<'a> {
 // Opens the texts. Of the first one that fails, what stopped.
 fn texts_of<'a>(
     alloc: Global,
-    kind: Kind,
+    kind: SourceKind,
     texts: &[&'a [u8]],
     most: usize,
 ) -> Result<Result<Texts<'a>, String>, Fail> {
@@ -179,7 +179,7 @@ impl Texts<'_> {
 // Merges files, split at bars. Where that stops, what stopped.
 fn merge_files<K: Sink>(
     alloc: Global,
-    kind: Kind,
+    kind: SourceKind,
     files: &str,
     most: usize,
     sink: &mut K,
@@ -201,7 +201,7 @@ fn ended(alloc: Global, rows: &mut RowParts) -> Result<String, Fail> {
 }
 
 // The merged rows as text, or what stopped.
-fn merged(alloc: Global, kind: Kind, files: &str, most: usize) -> Result<String, Fail> {
+fn merged(alloc: Global, kind: SourceKind, files: &str, most: usize) -> Result<String, Fail> {
     let mut rows = RowParts::begin(alloc, Format::Tsv)?;
     match merge_files(alloc, kind, files, most, &mut rows)? {
         Some(text) => Ok(text),
@@ -281,7 +281,7 @@ fn said_of(alloc: Global, rows: TopRows) -> Result<String, Fail> {
 
 // Merges runs into a sink.
 fn merge_runs<K: Sink>(alloc: Global, runs: &[&[u8]], sink: &mut K) -> Result<(), Fail> {
-    let Ok(mut texts) = texts_of(alloc, Kind::Run, runs, 3)? else {
+    let Ok(mut texts) = texts_of(alloc, SourceKind::Run, runs, 3)? else {
         return Err(Fail::new("runs aren't opened"));
     };
     match texts.merge_into(alloc, sink)? {

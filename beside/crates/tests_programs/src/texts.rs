@@ -1,7 +1,7 @@
 //! What is written is compared with the text that is wanted.
 use std::test::Fail;
 
-/// The text is this one.
+/// Checks that the text is this one.
 pub fn is_text(found: &str, wanted: &str) -> Result<(), Fail> {
     if found == wanted {
         return Ok(());
@@ -9,7 +9,7 @@ pub fn is_text(found: &str, wanted: &str) -> Result<(), Fail> {
     Err(Fail::new(format_args!("{found:?}, not {wanted:?}")))
 }
 
-/// The bytes are this text.
+/// Checks that the bytes are this text.
 pub fn are_text(found: &[u8], wanted: &str) -> Result<(), Fail> {
     is_text(str::from_utf8(found)?, wanted)
 }

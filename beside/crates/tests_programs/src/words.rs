@@ -4,8 +4,8 @@ use crate::texts::is_text;
 use hashbag::{FixedState, HashBag};
 use hashbag_words_lib::choice::{Order, chosen};
 use hashbag_words_lib::counter::{Fed, TextCounter};
-use hashbag_words_lib::errors::Fault;
-use hashbag_words_lib::lines::{BadLines, Reading};
+use hashbag_words_lib::errors::InputFault;
+use hashbag_words_lib::lines::{BadLines, LinesRead};
 use hashbag_words_lib::merging::add_tree;
 use hashbag_words_lib::row_counter::RowCounter;
 use hashbag_words_lib::row_text::RowText;
@@ -140,7 +140,7 @@ fn counts_of_text(rt: HostRuntime) -> Result<(), Fail> {
 }
 
 // Adds a file, whose first byte is a block of its own.
-fn add_file<S: BuildHasher + Drop>(counter: &mut RowCounter<S>, file: &[u8]) -> Result<(), Fault> {
+fn add_file<S: BuildHasher + Drop>(counter: &mut RowCounter<S>, file: &[u8]) -> Result<(), InputFault> {
     let (first, rest) = file.split_at(file.len().min(1));
     counter.feed(first)?;
     counter.feed(rest)?;
@@ -267,7 +267,7 @@ fn counter_of(alloc: Global, how: &str) -> TextCounter<'static, FixedState> {
 fn feed_all(
     counter: &mut TextCounter<'static, FixedState>,
     blocks: &[&[u8]],
-) -> Result<Reading, Fault> {
+) -> Result<LinesRead, InputFault> {
     for block in blocks {
         counter.feed(*block)?;
     }

@@ -210,7 +210,7 @@ impl<T: Eq + Hash + Drop, S: BuildHasher + Drop> HashBag<T, S> {
         ensures enough { (m : ℕ) → NeedsSlots T.eq self.old m → length self.old.tables.newer ≤ m → IsOk result × (self.new ≡ self.old) }
     {
         self.table.shrink_to_fit()?;
-        // `waiting` is called for its clauses on what waits if there are no slots, which the proof names.
+        // Does nothing at run time. It gives the proof the contract of `waiting`: what waits if there are no slots.
         let _waiting = self.table.waiting();
         Ok(())
     }

@@ -137,7 +137,7 @@ impl<T: Eq + Hash + Drop, S: BuildHasher + Drop> HashBag<T, S> {
         ensures all { OnOk result (InsertsAll T.eq I.next_gives Once items self.old self.new) }
         ensures refused { IfErr result (InsertsUpTo T.eq I.next_gives Once (RefusesOne T.eq) items self.old self.new) }
     {
-        // `len` is called for its clause `bag`.
+        // Does nothing at run time. It gives the proof the contract of `len`: its clause `bag`.
         let _len = self.len();
         for item in items {
             self.insert_within(item, 1)?;
@@ -175,7 +175,7 @@ impl<T: Eq + Hash + Drop, S: BuildHasher + Drop> HashBag<T, S> {
         ensures all { OnOk result (InsertsAll T.eq I.next_gives AsItIs pairs self.old self.new) }
         ensures refused { IfErr result (InsertsUpTo T.eq I.next_gives AsItIs (RefusesPair T.eq) pairs self.old self.new) }
     {
-        // `len` is called for its clause `bag`.
+        // Does nothing at run time. It gives the proof the contract of `len`: its clause `bag`.
         let _len = self.len();
         for (value, n) in pairs {
             self.insert_within(value, n)?;
@@ -217,7 +217,7 @@ impl<T: Eq + Hash + Drop, S: BuildHasher + Drop> HashBag<T, S> {
         ensures all { OnOk result (InsertsAll T.eq I.next_gives (CloneOnce T.is_clone) items self.old self.new) }
         ensures refused { IfErr result (ClonesUpTo T.eq T.is_clone T.is_infallible I.next_gives items self.old self.new) }
     {
-        // `len` is called for its clause `bag`.
+        // Does nothing at run time. It gives the proof the contract of `len`: its clause `bag`.
         let _len = self.len();
         for item in items {
             self.insert_clone(item, 1)?;
@@ -259,7 +259,7 @@ impl<T: Eq + Hash + Drop, S: BuildHasher + Drop> HashBag<T, S> {
         ensures all { OnOk result (InsertsAll T.eq I.next_gives (CloneAsOften T.is_clone) pairs self.old self.new) }
         ensures refused { IfErr result (ClonesManyUpTo T.eq T.is_clone T.is_infallible I.next_gives pairs self.old self.new) }
     {
-        // `len` is called for its clause `bag`.
+        // Does nothing at run time. It gives the proof the contract of `len`: its clause `bag`.
         let _len = self.len();
         for (value, n) in pairs {
             self.insert_clone(value, n)?;

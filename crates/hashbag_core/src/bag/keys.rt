@@ -28,7 +28,7 @@ impl<T: Eq + Hash + Drop, S: BuildHasher + Drop> HashBag<T, S> {
     ///
     /// # Complexity
     ///
-    /// As of [`HashBag::insert_many_key`].
+    /// Same as [`HashBag::insert_many_key`].
     ///
     /// # Examples
     ///
@@ -107,7 +107,7 @@ impl<T: Eq + Hash + Drop, S: BuildHasher + Drop> HashBag<T, S> {
         }
         let before = self.table.add_key(key, n)?;
         self.len += n;
-        // `held` is called for its clause on what the slots hold, which the proof names.
+        // Does nothing at run time. It gives the proof the contract of `held`: what the slots hold.
         self.table.held();
         Ok(before)
     }
@@ -142,7 +142,7 @@ impl<T: Eq + Hash + Drop, S: BuildHasher + Drop> HashBag<T, S> {
         ensures all { OnOk result (InsertsAll T.eq I.next_gives (NamedOnce Q.names) keys self.old self.new) }
         ensures refused { IfErr result (InsertsUpTo T.eq I.next_gives (NamedOnce Q.names) (RefusesKey Q.names) keys self.old self.new) }
     {
-        // `len` is called for its clause `bag`.
+        // Does nothing at run time. It gives the proof the contract of `len`: its clause `bag`.
         let _len = self.len();
         for key in keys {
             self.insert_key(key)?;

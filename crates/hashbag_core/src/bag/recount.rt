@@ -1,13 +1,14 @@
-//! How the count of a present value is set.
-ghost use Rattle.std.specs.Prelude.{◌≡◌, ◌+◌, ◌-◌, ◌<◌, ◌≤◌, length};
+//! How the count of a value is set.
+ghost use Rattle.std.specs.Prelude.{◌≡◌, ◌+◌, ◌-◌, ◌<◌, ◌≤◌, ◌↔◌, length, IfOk, IfErr, IsOk, OnErr, OnOk};
 ghost use Rattle.std.specs.List.Sorted.{IsPermutation};
 ghost use Rattle.hashbag_table.specs.Entries.{count_of, IsCounted};
-ghost use Rattle.hashbag_table.specs.Tables.{KeepsRoom};
+ghost use Rattle.hashbag_table.specs.Tables.{room, KeepsRoom};
 ghost use Rattle.hashbag_core.specs.Bag.{occurrences};
 ghost use Rattle.hashbag_core.specs.Occurrences.{count, recount};
+ghost use Rattle.hashbag_core.specs.Inserts.{Inserts, IsRefused};
 ghost use Rattle.hashbag_core.specs.Held.{Recounts};
 
-use crate::bag::HashBag;
+use crate::bag::{BagError, HashBag};
 use hashbag_table::Table;
 use std::hash::{BuildHasher, Hash};
 
@@ -34,6 +35,62 @@ fn set_or_remove<T: Eq + Hash + Drop, S: BuildHasher + Drop>(
 
 impl<T: Eq + Hash + Drop, S: BuildHasher + Drop> HashBag<T, S> {
     ghost use Rattle.hashbag_core.specs.Bag.{IsBagOf};
+
+    /// Sets the count of a value to `n`, and returns the count before. A present value keeps its stored instance, and the given one is
+    /// dropped; an absent one is inserted. With 0 the value is removed.
+    ///
+    /// # Errors
+    ///
+    /// - `TooMany` exactly if the total, with `n` in the place of the count before, would pass the limit. That is tested first.
+    /// - `Memory` if `n` isn't 0, the value is absent, there is no room, and an allocation fails.
+    ///
+    /// Then the bag is unchanged, and the value is dropped.
+    ///
+    /// # Complexity
+    ///
+    /// It hashes the value twice, and once if it returns `TooMany`. It allocates only if it inserts the value and there is no room. If it
+    /// inserts it, up to 16 slots of an older table are carried, and each value in them is hashed once.
+    ///
+    /// # Examples
+    ///
+    /// ```
+    /// let mut bag = HashBag::new(alloc);
+    /// bag.set_count("apple", 3)?; // 0
+    /// bag.set_count("apple", 1)?; // 3
+    /// bag.set_count("apple", 0)?; // 1
+    /// bag.contains(&"apple"); // 0
+    /// Ok(())
+    /// ```
+    pub fn set_count(&mut self, value: T, n: usize) -> Result<usize, BagError>
+        ensures before { IfOk result (λ before. before ≡ count T.eq value self.old.items) }
+        ensures set { OnOk result (IsBagOf T.eq self.old (recount T.eq value n self.old.items) self.new) }
+
+        // An absent value was inserted `n` times. Of a present one only the slot changed, and room isn't lower.
+        ensures inserted { OnOk result (count T.eq value self.old.items ≡ 0 → Inserts T.eq value n self.old self.new) }
+        ensures slot { OnOk result (0 < count T.eq value self.old.items → Recounts T.eq value n self.old.tables self.new.tables) }
+        ensures room { OnOk result (0 < count T.eq value self.old.items → KeepsRoom 0 self.old.tables self.new.tables) }
+        ensures len { OnOk result (length self.new.items + count T.eq value self.old.items ≡ length self.old.items + n) }
+
+        // When it fails, as under `# Errors`.
+        ensures too_many { (result ≡ Err BagError.TooMany) ↔ (self.old.most < length self.old.items - count T.eq value self.old.items + n) }
+        ensures refused { IfErr result (IsRefused T.eq self.old value n) }
+        ensures err { OnErr result (self.new ≡ self.old) }
+
+        // If the new total fits, it succeeds if there is room or the value is present, or `n` is 0.
+        ensures takes { length self.old.items - count T.eq value self.old.items + n ≤ self.old.most → 0 < room self.old.tables → IsOk result }
+        ensures present { length self.old.items - count T.eq value self.old.items + n ≤ self.old.most → 0 < count T.eq value self.old.items → IsOk result }
+        ensures none { n ≡ 0 → IsOk result }
+    {
+        let before = self.contains(&value);
+        if before == 0 {
+            return self.insert_many(value, n);
+        }
+        if n > self.most - (self.len - before) {
+            return Err(BagError::TooMany);
+        }
+        self.recount(&value, before, n);
+        Ok(before)
+    }
 
     // Sets the count of a present value, whose count is `before`, or removes it if the new count is 0.
     pub(crate) fn recount(&mut self, value: &T, before: usize, n: usize)

@@ -15,7 +15,7 @@ impl<T: Eq + Hash + Drop, S: BuildHasher + Drop> HashBag<T, S> {
 
     /// Allocates the slots that [`HashBag::reserve`] would build for `n` more distinct values, and leaves them unused.
     ///
-    /// They are the least table of slots that has room for all distinct values, and is not smaller than the newer one. A caller that
+    /// They are the least table with room for these and the present values that is not smaller than the newer one. A caller that
     /// needs them later calls [`HashBag::use_spare`], which can't fail. One that doesn't drops them.
     ///
     /// # Errors
@@ -43,8 +43,8 @@ impl<T: Eq + Hash + Drop, S: BuildHasher + Drop> HashBag<T, S> {
 
     /// Moves all values into spare slots, which replace the bag's own. These are freed, and what occurs stays.
     ///
-    /// The caller ensures that the distinct values have room in them. After [`HashBag::spare`] they have it until more than `n` absent
-    /// values are inserted.
+    /// The caller ensures that the distinct values have room in them. A spare from `HashBag::spare(n)` has that room until more than `n`
+    /// absent values are inserted.
     ///
     /// # Complexity
     ///
@@ -61,6 +61,7 @@ impl<T: Eq + Hash + Drop, S: BuildHasher + Drop> HashBag<T, S> {
     /// Ok(())
     /// ```
     pub fn use_spare(&mut self, spare: Spare<T>)
+        // In clauses a spare is the number of its slots.
         requires enough { distinct_count T.eq self.old.items ≤ limit spare }
         ensures items { IsBagOf T.eq self.old self.old.items self.new }
         ensures len { length self.new.items ≡ length self.old.items }

@@ -85,8 +85,8 @@ impl<T: Eq + Hash + Drop, S: BuildHasher + Drop> HashBag<T, S> {
     /// Removes one occurrence of a value. Returns the value itself in `Ok` if it was the last one. Else it returns in `Err` the stored
     /// instance, which stays in the bag, with the count before, or `Err(None)` if the value is absent.
     ///
-    /// What the bag is once the loan of the instance is over is proved here, but the proof of a caller doesn't learn it: it learns what was
-    /// removed. [`HashBag::take_one`] says what the bag is. It lends nothing, so it can be called in a loop.
+    /// A caller's proof learns what was removed. What the bag is after the loan of the instance is proved too, but a caller's proof doesn't
+    /// learn it. [`HashBag::take_one`] says what the bag is. It lends nothing, so it can be called in a loop.
     ///
     /// # Complexity
     ///
@@ -111,7 +111,7 @@ impl<T: Eq + Hash + Drop, S: BuildHasher + Drop> HashBag<T, S> {
         HashBag::taken_or_lent(self.take_one(key), self, key)
     }
 
-    // What was taken, or else the stored instance, of which some are left, with how many there were.
+    // Returns what was taken, or else the instance that stays, with the count before.
     fn taken_or_lent<'a, Q: Key<T>>(
         taken: Result<T, usize>,
         bag: &'a HashBag<T, S>,

@@ -43,7 +43,7 @@ fn tree_with_limit(alloc: Global, limit: usize, pairs: Value) -> Result<Value, B
 }
 
 impl<T: JsonItem + Hash + Drop, S: BuildHasher + Drop> HashBag<T, S> {
-    // Returns the distinct values with their counts, values rising. Room for all of them is allocated at once.
+    // Returns the distinct values with their counts, values in ascending order. Room for all of them is allocated at once.
     fn sorted_pairs(&self, alloc: Global) -> Result<Vec<(&T, usize)>, BagError>
     where
         T: Ord,
@@ -61,7 +61,7 @@ impl<T: JsonItem + Hash + Drop, S: BuildHasher + Drop> HashBag<T, S> {
         Ok(pairs)
     }
 
-    // Returns the array of pairs, items rising.
+    // Returns the array of pairs, items in ascending order.
     fn pairs_value(&self, alloc: Global) -> Result<Value, BagError>
     where
         T: Ord,
@@ -78,7 +78,7 @@ impl<T: JsonItem + Hash + Drop, S: BuildHasher + Drop> HashBag<T, S> {
         Ok(Value::Array(list))
     }
 
-    /// Returns the tree of the bag: an array with an array `[item, count]` for each distinct value, items rising. If the limit isn't
+    /// Returns the tree of the bag: an array with an array `[item, count]` for each distinct value, items in ascending order. If the limit isn't
     /// `usize::MAX`, it is an object with two members: `limit`, and `pairs`, which is that array.
     ///
     /// Equal bags with the same limit have equal trees, whatever their instances, states and history. The tree is read back as an equal bag

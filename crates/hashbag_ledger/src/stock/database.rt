@@ -4,7 +4,7 @@ use hashbag_ledger_args::job::Job;
 use hashbag_ledger_db::failure::Failure;
 use hashbag_ledger_db::putting::{failure_of, in_database};
 use hashbag_stock::error::StockError;
-use hashbag_stock::tables::{Form, Shape, form_of};
+use hashbag_stock::tables::{Contents, Shape, form_of};
 use sqlite::{Connection, Error, ErrorCode, File, FileStore};
 use std::io::ErrorKind;
 use std::time::Duration;
@@ -26,7 +26,7 @@ fn is_blank(rt: &HostRuntime, name: &str) -> bool {
     }
 }
 
-/// Returns whether there is no database of this name: its file has no byte, or doesn't exist, and so has its log.
+/// Returns whether there is no database of this name: neither its file nor its log exists with a byte in it.
 ///
 /// # Errors
 ///
@@ -75,7 +75,7 @@ pub fn open_or_make<'a>(
     rt: &HostRuntime,
     db: &'a str,
     wait: usize,
-) -> Result<(Db, Form), Failure<'a>> {
+) -> Result<(Db, Contents), Failure<'a>> {
     let mut conn = open_at(rt, db, wait)?;
     match in_database(db, form_of(&mut conn)) {
         Ok(form) => Ok((conn, form)),
@@ -101,8 +101,8 @@ pub fn open<'a>(rt: &HostRuntime, request: &Job<'a>) -> Result<(Db, Shape), Fail
     }
     let (conn, form) = open_or_make(rt, db, request.wait)?;
     match form {
-        Form::Stock(shape) => Ok((conn, shape)),
-        Form::Empty => {
+        Contents::Stock(shape) => Ok((conn, shape)),
+        Contents::Empty => {
             close(conn);
             Err(Failure::NoStock { db })
         }

@@ -11,9 +11,9 @@ use hashbag_ledger_db::failure::Failure;
 use hashbag_shell::output::Output;
 use hashbag_shell::status::DONE;
 use hashbag_stock::reading::balance_of;
-use hashbag_stock::tables::Form;
+use hashbag_stock::tables::Contents;
 
-// Enters the inputs, and returns what is written of the call. If they are to be entered strictly into a new stock and some
+// Enters the inputs, and returns what this run writes. If they are to be entered strictly into a new stock and some
 // movement is refused, no file is made.
 fn report_of<'a>(rt: &HostRuntime, request: &Job<'a>) -> Result<Report, Failure<'a>> {
     let (alloc, db) = (rt.alloc(), request.db);
@@ -97,8 +97,8 @@ fn begin<'a>(
     let inputs = [beginning_of(alloc, request, scale, balance)?];
     let (mut conn, form) = open_or_make(rt, request.into, request.wait)?;
     let begun = match form {
-        Form::Empty => begin_in(alloc, state, request, scale, inputs.as_slice(), &mut conn),
-        Form::Stock(_) => Err(Failure::HasStock { db: request.into }),
+        Contents::Empty => begin_in(alloc, state, request, scale, inputs.as_slice(), &mut conn),
+        Contents::Stock(_) => Err(Failure::HasStock { db: request.into }),
     };
     ended(conn, begun)
 }

@@ -12,7 +12,7 @@ pub fn random_state<'a>(rt: &HostRuntime) -> Result<RandomState, Failure<'a>> {
     }
 }
 
-/// Writes a text to standard error, unless nothing is to be said. What was done is done: if it can't be written, nothing is wrong.
+/// Writes a text to standard error, unless nothing is to be said. A failed write is ignored: the work is already committed.
 pub fn say(rt: &HostRuntime, quiet: bool, text: &str) {
     if !quiet {
         let _ = write_text(&mut rt.stderr(), text.as_bytes());

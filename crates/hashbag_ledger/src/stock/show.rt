@@ -34,7 +34,7 @@ pub fn balance<'a>(rt: &HostRuntime, request: &Job<'a>) -> Result<u8, Failure<'a
 ///
 /// # Errors
 ///
-/// As of [`balance`].
+/// Same as [`balance`].
 pub fn history<'a>(rt: &HostRuntime, request: &Job<'a>) -> Result<u8, Failure<'a>> {
     let state = random_state(rt)?;
     let (mut conn, shape) = open(rt, request)?;
@@ -46,7 +46,7 @@ pub fn history<'a>(rt: &HostRuntime, request: &Job<'a>) -> Result<u8, Failure<'a
 ///
 /// # Errors
 ///
-/// As of [`balance`].
+/// Same as [`balance`].
 pub fn batches<'a>(rt: &HostRuntime, request: &Job<'a>) -> Result<u8, Failure<'a>> {
     let (mut conn, shape) = open(rt, request)?;
     let shown = batches_in(rt.alloc(), request, shape, &mut conn);

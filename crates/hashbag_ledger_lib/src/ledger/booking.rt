@@ -22,7 +22,7 @@ use std::hash::BuildHasher;
 /// The balance that movements leave, and what became of each of them.
 #[derive(Drop)]
 pub struct Booked<T> {
-    /// Each article of which there are some, once, with how many there are, articles rising.
+    /// Each article of which there are some, once, with how many there are, articles in ascending order.
     pub balance: Vec<(T, usize)>,
     /// The movements, in turn, each with what became of it.
     pub entries: Vec<Entry<T>>,
@@ -102,7 +102,7 @@ pub fn book_all<S: BuildHasher + Drop>(
 ///
 /// # Complexity
 ///
-/// As [`book_all`]. Hashes each article of the balance once.
+/// Same as [`book_all`]. Hashes each article of the balance once.
 pub fn book_batch<S: BuildHasher + Drop>(
     alloc: Global,
     state: S,

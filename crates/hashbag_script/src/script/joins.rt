@@ -81,8 +81,8 @@ fn not_in_of<'a, T>(
 /// let mut delivered = HashBag::new(alloc);
 /// delivered.insert("apple")?;
 /// let joins = script::joins_of(alloc, &ordered, &delivered)?;
-/// joins.outer.as_slice(); // [("apple", 3, 1)]
-/// joins.difference.as_slice(); // [("apple", 2)]
+/// joins.outer.len(); // 1
+/// joins.difference.first().map(|join| join.1); // Some(2)
 /// Ok(())
 /// ```
 pub fn joins_of<'a, T: Eq + Hash + Drop, S: BuildHasher + Drop, S2: BuildHasher + Drop>(
@@ -90,7 +90,7 @@ pub fn joins_of<'a, T: Eq + Hash + Drop, S: BuildHasher + Drop, S2: BuildHasher 
     a: &'a HashBag<T, S>,
     b: &'a HashBag<T, S2>,
 ) -> Result<Joins<'a, T>, BagError>
-    // X and Y are the occurrences of both bags, each in any order. Each list is that join of them.
+    // X and Y list the occurrences of both bags. Their order means nothing. Each returned list is that join of them.
     ensures outer { IfOk result (λ joins. (X Y : List T) → Means a.now X → Means b.now Y
         → IsOuterJoin T.eq X Y (map (λ j. (j.0.now, j.1, j.2)) joins.outer.items)) }
     ensures difference { IfOk result (λ joins. (X Y : List T) → Means a.now X → Means b.now Y

@@ -13,8 +13,8 @@ use std::hash::{BuildHasher, Hash};
 ///
 /// # Errors
 ///
-/// `Memory` if an allocation fails. If it is that for the replies of both, which comes first, nothing changes. Else the two runs are as
-/// [`run`] does them, and only the steps that can stop it can stop them. If the first one is stopped, the second bag and its replies are
+/// `Memory` if an allocation fails. If the first one fails, that of the replies of both, nothing changes. Else both runs are
+/// done as [`run`] does one, and the same steps can stop them. If the first one is stopped, the second bag and its replies are
 /// unchanged. If the second one is stopped, the first run was done. So the replies show how far each run was done.
 ///
 /// # Examples
@@ -64,7 +64,7 @@ pub fn run_pair<T: Eq + Hash + Drop, S: BuildHasher + Drop, S2: BuildHasher + Dr
     ensures first_bounded { IsBoundedRun T.eq (ran a.old a.new steps_a.items replies_a.old.items replies_a.new.items) }
     ensures second_bounded { IsBoundedRun T.eq (ran b.old b.new steps_b.items replies_b.old.items replies_b.new.items) }
 {
-    // `waiting` is called for its clause that an older table is smaller, which the proof names.
+    // Does nothing at run time. It gives the proof the contract of `waiting`: an older table is smaller.
     let _waiting_a = a.waiting();
     let _waiting_b = b.waiting();
     replies_a.reserve(steps_a.len())?;

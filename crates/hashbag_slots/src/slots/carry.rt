@@ -1,9 +1,11 @@
-//! The carry of an older table's values into a newer one, slot by slot.
+//! The carry of an older table's values into a newer one, sixteen slots at once.
 ghost use Rattle.std.specs.Prelude.{◌≡◌, ℕ, ◌+◌, ◌<◌, ◌≤◌, length};
+ghost use Rattle.hashbag_slots.specs.Group.{IsMaskOf};
 ghost use Rattle.hashbag_slots.specs.Hashing.{hash_under};
 ghost use Rattle.hashbag_slots.specs.Slots.{is_live, live_count, slot_at, IsSet, AreApart};
 ghost use Rattle.hashbag_slots.specs.Columns.{IsReached, CarriesInto};
 
+use crate::group::{GROUP_WIDTH, match_live, take_lowest};
 use crate::slots::Slots;
 use crate::tags::{LEAST_MARK, MOVED};
 use std::hash::{BuildHasher, Hash};
@@ -17,6 +19,15 @@ impl<T: Eq> Slots<T> {
         ensures distinct { IsSet T.eq self.now.slots }
     {
         self.tags[place] >= LEAST_MARK
+    }
+
+    // Returns a bit for each of the 16 slots from a place on, the lowest for the first: whether it is Live.
+    #[inline(always)]
+    fn live_among(&self, from: usize) -> u64
+        requires { from + 16 ≤ length self.now.slots }
+        ensures { IsMaskOf (λ p. is_live (slot_at self.now.slots p)) from (from + 16) result }
+    {
+        match_live(self.tags.as_slice(), from)
     }
 }
 
@@ -33,6 +44,26 @@ impl<T: Eq + Hash> Slots<T> {
         if older.is_live_at(at) {
             let (value, n) = older.take_leaving(at, MOVED);
             self.place(state, value, n);
+        }
+    }
+
+    // Carries what is in 16 slots of the older table, from a place on. It reads their tags at once: which of them are Live can't be predicted,
+    // so a test of each slot would cost more.
+    #[inline(always)]
+    fn carry_group<S: BuildHasher>(&mut self, state: &S, older: &mut Slots<T>, from: usize)
+        requires within { from + 16 ≤ length older.old.slots }
+        requires apart { AreApart T.eq older.old.slots self.old.slots }
+        requires room { live_count self.old.slots + live_count older.old.slots ≤ length self.old.slots }
+        requires reached { IsReached (hash_under T.hash_input S.BuildHasher S.Hasher.Hasher state.now) self.old }
+        ensures { CarriesInto T.eq (hash_under T.hash_input S.BuildHasher S.Hasher.Hasher state.now) from 16 self.old older.old self.new older.new }
+    {
+        // Does nothing at run time. It gives the proof the contract of `slots`: how many there can be.
+        let _slots = older.slots();
+        let mut ahead = older.live_among(from);
+        'marks: while ahead != 0 {
+            let (place, rest) = take_lowest(ahead, from);
+            self.carry_slot(state, older, place);
+            ahead = rest;
         }
     }
 
@@ -56,13 +87,18 @@ impl<T: Eq + Hash> Slots<T> {
         requires reached { IsReached (hash_under T.hash_input S.BuildHasher S.Hasher.Hasher state.now) self.old }
         ensures { CarriesInto T.eq (hash_under T.hash_input S.BuildHasher S.Hasher.Hasher state.now) from many self.old older.old self.new older.new }
     {
-        // `slots` is called for its clauses: how many slots there can be, and that no value is in two of them.
+        // Does nothing at run time. It gives the proof the contract of `slots`: how many there can be, and that no value is in two of them.
         let _slots = older.slots();
         let end = from + many;
         let mut at = from;
         'places: while at < end {
-            self.carry_slot(state, older, at);
-            at += 1;
+            if at + GROUP_WIDTH <= end {
+                self.carry_group(state, older, at);
+                at += GROUP_WIDTH;
+            } else {
+                self.carry_slot(state, older, at);
+                at += 1;
+            }
         }
     }
 }

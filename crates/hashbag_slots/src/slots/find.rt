@@ -17,7 +17,7 @@ impl<T: Eq + Hash> Slots<T> {
     ///
     /// # Complexity
     ///
-    /// It hashes the key once, under a state under which the table's values are found, and probes once, past Removed and Moved slots.
+    /// It hashes the key once, under the state that hashed the table's values, and probes once, past Removed and Moved slots.
     #[inline(always)]
     pub fn find<S: BuildHasher, Q: Key<T>>(&self, state: &S, key: Q) -> Option<usize>
         requires reached { IsReached (hash_under T.hash_input S.BuildHasher S.Hasher.Hasher state.now) self.now }
@@ -48,7 +48,7 @@ impl<T: Eq + Hash> Slots<T> {
         find_place(self.tags.as_slice(), &self.cells, state, hash, key)
     }
 
-    /// Finds as [`Slots::find_hashed`] does, if none of the first `from` slots is Live.
+    /// None of the first `from` slots may be Live. Finds as [`Slots::find_hashed`] does.
     #[inline(always)]
     pub fn find_uncarried<S: BuildHasher, Q: Key<T>>(
         &self,

@@ -39,7 +39,7 @@ fn carry_next<T: Eq + Hash + Drop, S: BuildHasher>(
     if count == 0 {
         return 0;
     }
-    // `slots` is called for its clauses: how many slots there can be, and that no value is in two of them.
+    // Does nothing at run time. It gives the proof the contract of `slots`: how many there can be, and that no value is in two of them.
     let _slots = newer.slots();
     let many = (count - looked).min(most);
     newer.carry_from(hasher, older, looked, many);
@@ -94,9 +94,8 @@ impl<T: Eq + Hash + Drop, S: BuildHasher + Drop> Table<T, S> {
         );
     }
 
-    // Makes a table of slots the newer one. No other function gives an existing table new slots. The former newer one waits, but for its
-    // first `many` slots, which are carried; the older one, of which none waits, is freed. The slots of the new one count as built. It
-    // doesn't allocate.
+    // Makes `newer` the newer slots. No other method gives an existing `Table` new slots. The former newer ones wait, but for the first
+    // `many`, which are carried. The older ones, of which none waits, are freed. The new ones count as built. It doesn't allocate.
     fn adopt(&mut self, newer: Slots<T>, many: usize)
         requires none_waits { self.old.tables.waiting ≡ [] }
         requires may { MayAdopt T.eq (hash_under T.hash_input S.BuildHasher S.Hasher.Hasher self.old.hasher) newer self.old.tables.newer many }
@@ -151,8 +150,8 @@ impl<T: Eq + Hash + Drop, S: BuildHasher + Drop> Table<T, S> {
         self.grow()
     }
 
-    // Makes a table of Empty slots in which all values have room the newer one, moves every value into it, and frees the others. It hashes
-    // each value once, and doesn't allocate.
+    // Moves every value into `newer`, which is Empty and has room for all, and makes it the newer table. Frees the others. It hashes each
+    // value once, and doesn't allocate.
     pub(super) fn move_all_into(&mut self, newer: Slots<T>)
         requires empty { newer.slots ≡ replicate (length newer.slots) Slot.Empty }
         requires reached { (hash : T → ℕ) → IsReached hash newer }

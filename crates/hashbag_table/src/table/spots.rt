@@ -78,7 +78,7 @@ impl<T: Eq + Hash + Drop, S: BuildHasher + Drop> Table<T, S> {
         }
     }
 
-    // Returns the spot of the value that a key with this hash names, if the newer table doesn't have it.
+    // The newer table must not have the value that a key with this hash names. Returns its spot in the older one.
     #[inline(always)]
     fn waiting_spot<Q: Key<T>>(&self, hash: u64, key: Q) -> Option<Spot>
         requires hashed { hash ≡ hash_under Q.hash_input S.BuildHasher S.Hasher.Hasher self.now.hasher key }
@@ -107,8 +107,8 @@ impl<T: Eq + Hash + Drop, S: BuildHasher + Drop> Table<T, S> {
         self.waiting_spot(hash, key)
     }
 
-    // Returns the spot of the value that a key names, if the first group of its path in the newer table didn't show it. If that has shown
-    // that the value is absent there, the newer table isn't probed again.
+    // Returns the spot of the value that a key names, after the first group of its path in the newer table, which showed `first`. If `first`
+    // is `Absent`, the newer table isn't probed again.
     #[inline(always)]
     pub(super) fn spot_after_first_group<Q: Key<T>>(
         &self,
@@ -151,7 +151,7 @@ impl<T: Eq + Hash + Drop, S: BuildHasher + Drop> Table<T, S> {
         ensures hasher { self.new.hasher ≡ self.old.hasher }
         ensures counted { IsCounted T.eq self.new.entries }
     {
-        // `slots` is called for its clauses, which the proof names: how many slots there can be.
+        // Does nothing at run time. It gives the proof the contract of `slots`: how many there can be.
         let _slots = self.older.slots();
         if let Spot::Newer(place) = spot {
             self.newer.set_at(place, n);
@@ -171,7 +171,7 @@ impl<T: Eq + Hash + Drop, S: BuildHasher + Drop> Table<T, S> {
         ensures hasher { self.new.hasher ≡ self.old.hasher }
         ensures counted { IsCounted T.eq self.new.entries }
     {
-        // `slots` is called for its clauses.
+        // Does nothing at run time. It gives the proof the contract of `slots`.
         let _slots = self.older.slots();
         match spot {
             Spot::Newer(place) => {
@@ -191,7 +191,7 @@ impl<T: Eq + Hash + Drop, S: BuildHasher + Drop> Table<T, S> {
         requires live { is_live (slot_in self.now.tables spot) ≡ true }
         ensures count { IfEntry self.now.tables spot (λ e. result ≡ e.1) }
     {
-        // `slots` is called for its clauses.
+        // Does nothing at run time. It gives the proof the contract of `slots`.
         let _slots = self.older.slots();
         match spot {
             Spot::Newer(place) => {
@@ -230,7 +230,7 @@ impl<T: Eq + Hash + Drop, S: BuildHasher + Drop> Table<T, S> {
         ensures hasher { self.new.hasher ≡ self.old.hasher }
         ensures counted { IsCounted T.eq self.new.entries }
     {
-        // `slots` is called for its clauses.
+        // Does nothing at run time. It gives the proof the contract of `slots`.
         let _slots = self.older.slots();
         match spot {
             Spot::Newer(place) => {

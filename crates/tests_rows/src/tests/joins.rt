@@ -9,8 +9,8 @@ use tests_kit::calls::{bag_of, bag_of_counts};
 use tests_kit::texts::{counts, debug_of, halves, is_text, values};
 use tests_kit::{IdentityState, OneState, ParityState, rows_of};
 
-// A join, two bags, and the items of the join, values rising. The values in brackets are inserted one after another; else each value is
-// inserted as often as its number. Bags of 25 values are in the middle of a carry.
+// A join, two bags, and the items of the join, values in ascending order. The values in brackets are inserted one after another; else each
+// value is inserted as often as its number. Bags of 25 values are in the middle of a carry.
 const ROWS: &str = "
     difference | [] | [] | []
     difference | [] | [1] | []
@@ -97,7 +97,7 @@ fn quarters(row: &str) -> Result<(&str, &str, &str, &str), Fail> {
     Ok((first, second, third, fourth))
 }
 
-// The text of some items, rising.
+// The text of some items, in ascending order.
 fn rising<T: Ord + Debug + Copy>(alloc: Global, items: Vec<T>) -> Result<String, Fail> {
     let mut items = items;
     items.sort_unstable();

@@ -368,7 +368,7 @@ const CLONE: &str = "
     set_len = 25
     counts [0..=26] = [0, 1, 1, 1, 1, 1, 1, 1, 1, 1, 1, 1, 1, 1, 1, 1, 1, 1, 1, 1, 1, 1, 1, 1, 1, 1, 0]";
 
-// A clone of a bag in a carry has no table that waits, and is equal.
+// Checks that a clone of a bag in a carry has no table that waits, and is equal.
 fn is_cloned<S: BuildHasher + Default + Copy>(alloc: Global, state: S) -> Result<(), Fail> {
     let mut bag = HashBag::with_hasher(alloc, state);
     make_calls(alloc, &mut bag, CARRYING)?;

@@ -127,7 +127,7 @@ fn clone_of<'a, S: BuildHasher + Clone + Drop>(
     bag.clone()
 }
 
-// A clone of a bag makes one clone of each distinct value, also of those that wait.
+// Checks that a clone of a bag makes one clone of each distinct value, also of those that wait.
 fn makes_one_of_each<'a, S: BuildHasher + Clone + Drop>(
     bag: &HashBag<Watched<'a>, S>,
     size: u64,

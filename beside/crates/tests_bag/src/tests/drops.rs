@@ -34,7 +34,7 @@ fn carrying<'a, S: BuildHasher + Drop>(
     Ok(bag)
 }
 
-// The given value is dropped if an equal one stays, and the stored one if it is replaced.
+// Checks that the given value is dropped if an equal one stays, and the stored one if it is replaced.
 fn equal_values<'a, S: BuildHasher + Drop>(
     rt: &impl Abort,
     bag: &mut HashBag<Counted<'a>, S>,
@@ -100,7 +100,7 @@ fn clear<S: BuildHasher + Drop>(bag: &mut HashBag<Counted<'_>, S>) {
     bag.clear();
 }
 
-// All values move, and none is dropped; then those of even keys go.
+// Checks that no value is dropped when all move, and that `retain` then drops those of even keys.
 fn moved_and_retained<'a, S: BuildHasher + Drop>(
     rt: &impl Abort,
     bag: &mut HashBag<Counted<'a>, S>,
@@ -172,7 +172,7 @@ fn finish_carry<S: BuildHasher + Drop>(bag: &mut HashBag<Counted<'_>, S>) {
     bag.finish_carry();
 }
 
-// A carry that is ended drops nothing, and the bag drops each value then.
+// Checks that a carry that is ended drops nothing, and the bag drops each value then.
 fn carry_ended<S: BuildHasher + Drop>(
     rt: &impl Abort,
     alloc: Global,

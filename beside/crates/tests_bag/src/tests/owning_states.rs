@@ -90,7 +90,7 @@ fn empties(bag: &mut HashBag<u64, Owning<'_>>) -> usize {
     drained
 }
 
-// The tables of a bag are built anew and emptied, and then it is dropped. A copy keeps its state.
+// Builds the tables of a bag anew, empties the bag, and drops it. Checks that a copy keeps its state.
 fn is_used_up(
     rt: &impl Abort,
     alloc: Global,
@@ -106,7 +106,7 @@ fn is_used_up(
     Ok(())
 }
 
-// A clone of a bag fails: the bag is unchanged.
+// Makes a clone of a bag fail, and checks that the bag is unchanged.
 fn clone_fails(
     rt: &impl Abort,
     alloc: Global,
@@ -133,7 +133,7 @@ fn copy_of<'a>(
     Ok(copy)
 }
 
-// The bag has all values, also after a clone of it failed.
+// Checks that the bag has all values, also after a clone of it failed.
 fn is_whole(
     rt: &impl Abort,
     alloc: Global,

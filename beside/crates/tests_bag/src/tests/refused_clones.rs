@@ -160,7 +160,7 @@ fn state_of<'a, S: BuildHasher + Drop>(
     Ok(format!(in alloc; "{len} of {set_len} in {tables:?}")?)
 }
 
-// The keys from 1 to 25 are found.
+// Checks that the bag has each key from 1 to 25 once.
 fn has_all<'a, S: BuildHasher + Drop>(
     bag: &HashBag<Costly<'a>, S>,
     lives: &'a Lives,
@@ -234,7 +234,7 @@ fn is_extended<S: BuildHasher + Drop>(
     )
 }
 
-// If a clone of the bag fails there is none, and all clones of values that were made are dropped.
+// Clones the bag. Checks that the clone is equal, or fails with `Memory`, and that all clones of values that were made are then dropped.
 fn clones_live<'a, S: BuildHasher + Clone + Drop>(
     rt: &impl Abort,
     bag: &HashBag<Costly<'a>, S>,
@@ -254,7 +254,7 @@ fn clones_live<'a, S: BuildHasher + Clone + Drop>(
     assert_eq!(rt; lives.alive.get(), 25, "after clone {refused}");
 }
 
-// The bag is as before a clone, which may fail.
+// Checks that the bag is as before a clone, which may fail.
 fn stays_as_before<'a, S: BuildHasher + Clone + Drop>(
     rt: &impl Abort,
     alloc: Global,
@@ -268,7 +268,7 @@ fn stays_as_before<'a, S: BuildHasher + Clone + Drop>(
     is_text_of("a source", state.as_str(), "25 of 25 in (64, 16, 23)")
 }
 
-// So it is, and it drops its values.
+// Checks that a bag is as before a clone, which may fail, and that the bag then drops its values.
 fn is_cloned<S: BuildHasher + Clone + Drop>(
     rt: &impl Abort,
     alloc: Global,

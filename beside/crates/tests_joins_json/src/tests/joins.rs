@@ -155,7 +155,7 @@ fn text_of_counts(alloc: Global, pairs: &[(u64, usize)]) -> Result<String, Fail>
     Ok(text)
 }
 
-// The text of a bag's counts, values rising.
+// The text of a bag's counts, values in ascending order.
 fn counts_of<S: BuildHasher + Drop>(alloc: Global, bag: &HashBag<u64, S>) -> Result<String, Fail> {
     let mut pairs: Vec<(u64, usize)> = Vec::new(alloc);
     for (value, count) in bag.set_iter() {
@@ -181,7 +181,7 @@ fn state_of<S: BuildHasher + Drop>(alloc: Global, bag: &HashBag<u64, S>) -> Resu
     Ok(format!(in alloc; "{counts}in {slots} {waiting} {room}")?)
 }
 
-// A bag of 25 values is in the middle of a carry.
+// Checks that a bag of 25 values is in the middle of a carry.
 fn carries(values: usize, state: &str) -> Result<(), Fail> {
     if values < 25 || state.ends_with("in 64 16 23") {
         return Ok(());
@@ -189,7 +189,7 @@ fn carries(values: usize, state: &str) -> Result<(), Fail> {
     Err(Fail::new(format_args!("no carry, but {state}")))
 }
 
-// A bag is as it was, and takes a value in.
+// Checks that a bag is as it was, and takes a value in.
 fn is_as_before<S: BuildHasher + Drop>(
     alloc: Global,
     bag: &mut HashBag<u64, S>,
@@ -210,7 +210,7 @@ fn state_in_a_carry<S: BuildHasher + Drop>(
     Ok(state)
 }
 
-// The first steps of a join give what is wanted.
+// Checks that the first steps of a join give what is wanted.
 fn gives<S: BuildHasher + Drop, S2: BuildHasher + Drop>(
     alloc: Global,
     join: (&str, &str),
@@ -222,7 +222,7 @@ fn gives<S: BuildHasher + Drop, S2: BuildHasher + Drop>(
     has_steps(got.as_str(), join.1, steps)
 }
 
-// A join that is dropped after some steps leaves both bags as they were.
+// Checks that a join that is dropped after some steps leaves both bags as they were.
 fn leaves_both<S: BuildHasher + Drop, S2: BuildHasher + Drop>(
     alloc: Global,
     join: (&str, &str),

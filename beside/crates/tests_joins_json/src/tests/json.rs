@@ -65,7 +65,7 @@ fn are_equal<T: JsonItem + Hash + Drop, S: BuildHasher + Drop>(
     a == b
 }
 
-// What a bag is written as is read back as an equal bag with the same limit.
+// Checks that what a bag is written as is read back as an equal bag with the same limit.
 fn is_read_again<T: JsonItem + Ord + Hash + Drop, S: BuildHasher + Default + Drop>(
     alloc: Global,
     bag: &HashBag<T, S>,
@@ -83,7 +83,7 @@ fn is_read_again<T: JsonItem + Ord + Hash + Drop, S: BuildHasher + Default + Dro
     )
 }
 
-// A bag of values inserted so often is written so, and read back as an equal one.
+// Inserts each value as often as its number says. Checks that the bag is written as `wanted`, and read back as an equal one.
 fn inserted_are_written<T: JsonItem + Ord + Hash + Drop, S: BuildHasher + Default + Drop>(
     alloc: Global,
     pairs: Vec<(T, usize)>,
@@ -144,7 +144,7 @@ fn long_tree(alloc: Global, pair: &str, pairs: usize) -> Result<Value, Fail> {
     tree_of(alloc, text.as_str())
 }
 
-// Room for one value is made, and not for as many as there are pairs.
+// Checks that room was made for one value, and not for as many as there are pairs.
 fn has_little_room<S: BuildHasher + Drop>(rt: &impl Abort, bag: &HashBag<u64, S>) {
     let room = bag.capacity();
     assert!(rt; room < 100, "room for {room} values");
@@ -175,7 +175,7 @@ fn long_trees_of_one_value(rt: HostRuntime) -> Result<(), Fail> {
     is_read_as_one_value::<IdentityState>(&rt, rt.alloc(), &tree)
 }
 
-// Each error has a row.
+// Checks that each error has a row.
 fn are_as_many(rows: &[Row], errors: usize) -> Result<(), Fail> {
     if rows.len() == errors {
         return Ok(());
@@ -183,7 +183,7 @@ fn are_as_many(rows: &[Row], errors: usize) -> Result<(), Fail> {
     Err(Fail::new(format_args!("{} rows of {errors} errors", rows.len())))
 }
 
-// The row of an error, its number and its text.
+// Checks that an error, its number and its text are those of the row.
 fn is_told<E: Debug + Display>(
     alloc: Global,
     error: &E,

@@ -52,7 +52,7 @@ fn remove_up_to<S: BuildHasher + Drop>(
     bag.remove_up_to(&letter, quantity)
 }
 
-// The items of an outer join up to the first letter that the first bag doesn't have, and those from there on, each rising.
+// The items of an outer join up to the first letter that the first bag doesn't have, and those from there on, each in ascending order.
 fn joined<S: BuildHasher + Drop>(
     alloc: Global,
     a: &HashBag<char, S>,

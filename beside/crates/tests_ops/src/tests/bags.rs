@@ -38,7 +38,7 @@ fn listed<S: BuildHasher + Drop>(
     Ok(pairs)
 }
 
-/// The text of a bag's counts, values rising.
+/// The text of a bag's counts, values in ascending order.
 pub fn counts_of<S: BuildHasher + Drop>(
     alloc: Global,
     bag: &HashBag<u64, S>,

@@ -51,7 +51,7 @@ fn listed<S: BuildHasher + Drop>(
     Ok(items)
 }
 
-// The same as a text, rising.
+// The items of a bag in ascending order, as a text.
 fn text_of<S: BuildHasher + Drop>(alloc: Global, bag: &HashBag<Tagged, S>) -> Result<String, Fail> {
     let mut items = listed(alloc, bag)?;
     items.sort_unstable();

@@ -12,7 +12,7 @@ use tests_kit::states::CountingState;
 use tests_kit::texts::{count, debug_of, halves, is_text};
 use tests_kit::{IdentityState, OneState, ParityState, rows_of};
 
-// `-` for all pairs, values rising, or how many of the commonest; the bag; the pairs.
+// `-` for all pairs, values in ascending order, or how many of the commonest; the bag; the pairs.
 const ROWS: &str = "
     - | |
     - | 5:2 | 5:2
@@ -70,7 +70,7 @@ const GREATEST: &str = "
     4:18446744073709551610 2:5 | 18446744073709551610
     1:18446744073709551615 | 18446744073709551615";
 
-// The text of all pairs, values rising.
+// The text of all pairs, values in ascending order.
 fn rising<T: Ord + Hash + Debug + Drop, S: BuildHasher + Drop>(
     alloc: Global,
     bag: &HashBag<T, S>,

@@ -134,7 +134,7 @@ fn state_of<S: BuildHasher + Default + Drop>(
     ))
 }
 
-// If a call failed, the tables are as they were; the limit is so always.
+// Checks that the limit is as it was, and the tables too if the call returned `TooMany`.
 fn is_within(got: &str, before: &(String, String), after: &(String, String)) -> Result<(), Fail> {
     is_text(after.0.as_str(), before.0.as_str())?;
     if got == "TooMany" {

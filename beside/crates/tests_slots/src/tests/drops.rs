@@ -17,7 +17,7 @@ fn has_dropped(rt: &impl Abort, call: &str, drops: &Cell<usize>, wanted: usize) 
     assert_eq!(rt; drops.get(), wanted, "after {call}");
 }
 
-// Returns a table of `many` values, which count their drops. Their path goes past the last slot.
+// Returns a table of `many` values, which count their drops. They all hash to 15, the last of 16 slots, so their path goes on at slot 0.
 fn values<'a>(
     rt: &impl Abort,
     alloc: Global,

@@ -87,7 +87,7 @@ impl<T: Eq + Hash + Drop, S: BuildHasher + Drop> Held<T, S> {
         self.slots.probe_first_group(&self.state, hash, value)
     }
 
-    /// As `place`, if the first 16 slots of the path show whether the value is absent.
+    /// Places a value as `place` does, if the first 16 slots of the path show whether it is absent.
     pub fn place_sought(&mut self, value: T, n: usize) -> Option<bool> {
         if n == 0 {
             return None;

@@ -91,7 +91,7 @@ fn compare_lens<S: BuildHasher + Drop>(
     is_same(alloc, place, &got, &want)
 }
 
-// The joins are these.
+// Checks that the joins are these.
 fn are_joins(
     alloc: Global,
     place: &str,

@@ -13,7 +13,7 @@ use tests_kit::{IdentityState, OneState, ParityState};
 // So many distinct values leave 16 slots that wait.
 const VALUES: usize = 25;
 
-// The values that the walks give, rising.
+// The values that the walks give, in ascending order.
 const ALL: &str =
     "[1, 2, 3, 4, 5, 6, 7, 8, 9, 10, 11, 12, 13, 14, 15, 16, 17, 18, 19, 20, 21, 22, 23, 24, 25]";
 
@@ -155,7 +155,7 @@ fn is_sum(rt: &impl Abort, sum: u64, taken: usize) {
     assert!(rt; taken < VALUES || sum == 325, "{sum} in all");
 }
 
-// A walk over the occurrences leaves the bag as it was.
+// Checks that a walk over the occurrences leaves the bag as it was.
 fn items_after<S: BuildHasher + Default + Copy>(
     rt: &impl Abort,
     alloc: Global,
@@ -167,7 +167,7 @@ fn items_after<S: BuildHasher + Default + Copy>(
     make_calls(alloc, &mut bag, AS_BEFORE)
 }
 
-// A walk over the values leaves the bag as it was.
+// Checks that a walk over the values leaves the bag as it was.
 fn values_after<S: BuildHasher + Default + Copy>(
     rt: &impl Abort,
     alloc: Global,
@@ -179,7 +179,7 @@ fn values_after<S: BuildHasher + Default + Copy>(
     make_calls(alloc, &mut bag, AS_BEFORE)
 }
 
-// A drain empties the bag.
+// Checks that a drain empties the bag.
 fn drain_after<S: BuildHasher + Default + Copy>(
     rt: &impl Abort,
     alloc: Global,

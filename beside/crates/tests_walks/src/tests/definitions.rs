@@ -163,7 +163,7 @@ pub fn joins_one_by_one<'a, S: BuildHasher + Drop, S2: BuildHasher + Drop>(
     })
 }
 
-// Values with a number each, rising.
+// Values with a number each, in ascending order.
 fn text_of_pairs<N: Ord + Copy + Debug>(
     alloc: Global,
     pairs: &[(&Tagged, N)],
@@ -176,7 +176,7 @@ fn text_of_pairs<N: Ord + Copy + Debug>(
     format!(in alloc; "{rising:?}")
 }
 
-// Values with two counts each, rising, and how many of the first bag come before any other.
+// Values with two counts each, in ascending order, and how many of the first bag come before any other.
 fn text_of_outer(alloc: Global, outer: &[(&Tagged, usize, usize)]) -> Result<String, AllocError> {
     let mut rising = Vec::new(alloc);
     let mut first = 0usize;

@@ -165,7 +165,7 @@ where
     has_left(rt, &walk, items.saturating_sub(taken));
 }
 
-// Each walk that borrows the bag, dropped after each number of its items, leaves it as before.
+// Checks that each walk that borrows the bag, dropped after each number of its items, leaves it as before.
 fn borrowed_walks_dropped<S: BuildHasher + Drop>(
     rt: &impl Abort,
     alloc: Global,
@@ -280,7 +280,7 @@ fn gives_the_same(rt: &impl Abort, walk: Iter<u64>, again: Iter<u64>) {
     }
 }
 
-// A clone that was taken after some items gives the same ones as the walk that it was taken of.
+// Checks that a clone that was taken after some items gives the same ones as the walk that it was taken of.
 fn clones_go_on<S: BuildHasher + Drop>(
     rt: &impl Abort,
     bag: &HashBag<u64, S>,

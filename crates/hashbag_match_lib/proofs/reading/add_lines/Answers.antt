@@ -9,7 +9,7 @@ use Rattle.hashbag_match_lib.proofs.LineLemmas.{more_lines, no_lines, record_rea
 use Rattle.hashbag_match_lib.proofs.reading.add_lines.Goals as goal
 
 pub lines-init : goal.lines-init
-lines-init g c = ([], refl, λ K before. no_lines K _ _ before)
+lines-init g c = ([], refl, λ K before. no_lines g.A.PartialEq.eq g.A.Article.fields K _ _ before)
 
 -- one line more
 pub lines-preserved : goal.lines-preserved
@@ -17,9 +17,9 @@ lines-preserved g c =
     let (D, all, so_far) = c.lines.invariant in
     let (r, next, same) = rw c.in-Some.is at c.in_ok-article.ensures in
     let f = line_of c.args.scale (key_places c.args.columns.now) (number_place c.args.columns.now) in (
-      D ++ line_bytes (c.in-Some.article, c.in-Some.number) ∷ [],
-      record_read f _ D (left c.lines.sheet) (left c.read.new.sheet) r (line_bytes (c.in-Some.article, c.in-Some.number)) all next same,
-      λ K before. more_lines K D c.in-Some.article c.in-Some.number c.lines.tally.counts c.lines.tally.zeros c.add_line.new.tally.counts c.add_line.new.tally.zeros c.in_ok-add_line.ensures (so_far K before),
+      D ++ line_bytes g.A.Article.fields (c.in-Some.article, c.in-Some.number) ∷ [],
+      record_read f _ D (left c.lines.sheet) (left c.read.new.sheet) r (line_bytes g.A.Article.fields (c.in-Some.article, c.in-Some.number)) all next same,
+      λ K before. more_lines g.A.PartialEq.eq g.A.Article.fields K D c.in-Some.article c.in-Some.number c.lines.tally.counts c.lines.tally.zeros c.add_line.new.tally.counts c.add_line.new.tally.zeros c.in_ok-add_line.ensures (so_far K before),
     )
 
 -- a record less is left
@@ -36,4 +36,4 @@ returns g c =
     let none = rw c.in_default.is at c.in_ok-article.ensures in
     let f = line_of c.args.scale (key_places c.args.columns.now) (number_place c.args.columns.now) in
     let done = all ∙ ap (λ (l : List Record). D ++ map f l) none ∙ append-nil D in
-    λ K before. subst (λ (l : List (Record × ℕ)). IsTallyOfLines (K ++ l) c.lines.tally.counts c.lines.tally.zeros) (sym done) (so_far K before)
+    λ K before. subst (λ (l : List (Record × ℕ)). IsTallyOfLines g.A.PartialEq.eq g.A.Article.fields (K ++ l) c.lines.tally.counts c.lines.tally.zeros) (sym done) (so_far K before)

@@ -10,7 +10,7 @@ use Rattle.hashbag_match_lib.proofs.reading.add_lines.Given as goal
 abbrev pub invariant-lines : goal.invariant-lines
 invariant-lines g l = (D : List (Record × ℕ))
     × (map (line_of l.scale (key_places l.columns) (number_place l.columns)) (left l.fn.sheet) ≡ D ++ map (line_of l.scale (key_places l.columns) (number_place l.columns)) (left l.sheet))
-    × ((K : List (Record × ℕ)) → IsTallyOfLines K l.fn.tally.counts l.fn.tally.zeros → IsTallyOfLines (K ++ D) l.tally.counts l.tally.zeros)
+    × ((K : List (Record × ℕ)) → IsTallyOfLines g.A.PartialEq.eq g.A.Article.fields K l.fn.tally.counts l.fn.tally.zeros → IsTallyOfLines g.A.PartialEq.eq g.A.Article.fields (K ++ D) l.tally.counts l.tally.zeros)
 
 -- a record less is left
 abbrev pub decreases-lines : goal.decreases-lines

@@ -149,7 +149,7 @@ returns-in_err-reply-clause-roomy g c = λ X means roomy. absurd (not_refused g 
 pub returns-in_err-reserve-clause-stopped : goal.returns-in_err-reserve-clause-stopped
 returns-in_err-reserve-clause-stopped g c = search rules
 
--- ---- what the steps with replies leave of no slots
+-- ---- clause `bounded`: how many slots there are after the steps with replies, if the run began without slots
 
 pub returns-clause-bounded : goal.returns-clause-bounded
 returns-clause-bounded g c = λ empty none.

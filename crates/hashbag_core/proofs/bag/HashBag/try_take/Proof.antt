@@ -3,8 +3,8 @@
 -- The body is two calls: `taken_or_lent(self.take_one(key), self, key)`. The walk is in the borrow checker's own rules,
 -- and follows what Rattle writes where it covers such a clause. The bag is lent again to `take_one` for a lifetime that is
 -- made for the call, and comes back. Then it is shared for all the time that the caller's loan has left, which says its
--- last value. That stays in the local of `self` until the function returns, and the clause is made of it. The key is a
--- `Copy` value: each call is passed a copy, and its own is let go at the end.
+-- last value. That stays in the local of `self` until the function returns, and the clause is made of it. The key is
+-- `Copy`: both calls are passed copies, and the function's own copy is dropped at the end.
 --
 -- What stands where, from the top:
 --
@@ -14,9 +14,9 @@
 -- 2. What the walk owes of `self` (`owe`): nothing while the bag is lent, and then its last value. `key` is the key as a parameter.
 -- 3. The locals before and after each statement, from `entry` to `leaving`. Each has six rows: the result, `self`, `key`, what
 --    was taken, the bag lent again, the bag shared.
--- 4. The statements as steps on the values that these locals show: `lends`, `shortens`, `takes`, `comes`, `shares`, `answers`,
---    `lands`, `drops`, `lets_key`, `owes`. `Φ-10` down to `Φ-0` chain them from the end, so that `Φ-0` is what is to be shown of the
---    values.
+-- 4. Each statement as a step on the values in these locals: `lends`, `shortens`, `takes`, `comes`, `shares`, `answers`, `lands`,
+--    `drops`, `lets_key`, `owes`. `Φ-10` down to `Φ-0` chain them, last statement first, like weakest preconditions: `Φ-0` is
+--    what has to be proved of the values at entry.
 -- 5. The code from each statement on, from `lends-s` to `lends-t`.
 -- 6. The walk itself, for any lifetimes `κs` and shares `qs` of their tokens. First the tables of lifetimes: eight places, of the bag's
 --    loan, of T, of S, of the hasher, of the key, the static one, the one made for the call, and what it has in common with those

@@ -1,10 +1,10 @@
-//! Sources of rows that rise, which are merged at once.
+//! Sources of rows that are in ascending order, which are merged at once.
 use crate::failure::Failure;
 use crate::input::{Input, plural, read_block, said};
 use crate::runs::BUFFER;
 use hashbag::BagError;
-use hashbag_words_lib::errors::Fault;
-use hashbag_words_lib::row_source::{Kind, RowSource};
+use hashbag_words_lib::errors::InputFault;
+use hashbag_words_lib::row_source::{RowSource, SourceKind};
 use hashbag_words_lib::sorted_merge::{Merged, Merger, Stop};
 use hashbag_words_lib::sources::{Opened, Source};
 use std::fs::File;
@@ -17,9 +17,9 @@ struct Named<'a> {
     file: Input,
 }
 
-/// Sources of rows that rise, each with its file.
+/// Sources of rows that are in ascending order, each with its file.
 #[derive(Drop)]
-pub struct Batch<'s, 'a> {
+pub struct MergeInputs<'s, 'a> {
     rt: &'s HostRuntime,
     sources: Vec<Source>,
     files: Vec<Named<'a>>,
@@ -28,16 +28,16 @@ pub struct Batch<'s, 'a> {
 }
 
 /// Returns why merged rows weren't taken. They go into a file of that folder.
-pub fn target_failure<'a>(folder: &'a str, fault: Fault) -> Failure<'a> {
+pub fn target_failure<'a>(folder: &'a str, fault: InputFault) -> Failure<'a> {
     match fault {
-        Fault::Read(error) => Failure::of_file(folder, error),
-        Fault::Bag(BagError::TooMany) => Failure::TooManyInAll { name: folder },
+        InputFault::Read(error) => Failure::of_file(folder, error),
+        InputFault::Bag(BagError::TooMany) => Failure::TooManyInAll { name: folder },
         _ => Failure::NoMemoryLeft,
     }
 }
 
-// Reads the next blocks of a file, and gives them to a source that has no row yet: at least as many bytes as it keeps of a line. So the line is
-// searched for its end few times, however long it is.
+// Gives a source that has no row yet the next blocks of a file: at least as many bytes as it holds of a line. So the line is searched for its
+// end few times, however long it is.
 fn begin<'a>(
     file: &mut Named<'a>,
     block: &mut [u8],
@@ -92,15 +92,15 @@ fn feed<'a>(
     Ok(())
 }
 
-impl<'s, 'a> Batch<'s, 'a> {
+impl<'s, 'a> MergeInputs<'s, 'a> {
     /// Returns no sources.
     ///
     /// # Errors
     ///
     /// An allocation fails.
-    pub fn new(rt: &'s HostRuntime) -> Result<Batch<'s, 'a>, Failure<'a>> {
+    pub fn new(rt: &'s HostRuntime) -> Result<MergeInputs<'s, 'a>, Failure<'a>> {
         let alloc = rt.alloc();
-        Ok(Batch {
+        Ok(MergeInputs {
             rt,
             sources: Vec::new(alloc),
             files: Vec::new(alloc),
@@ -109,7 +109,7 @@ impl<'s, 'a> Batch<'s, 'a> {
     }
 
     // Reads a file as far as its first row.
-    fn open(&mut self, file: &mut Named<'a>, kind: Kind) -> Result<Source, Failure<'a>> {
+    fn open(&mut self, file: &mut Named<'a>, kind: SourceKind) -> Result<Source, Failure<'a>> {
         let mut rows = RowSource::new(self.rt.alloc(), kind);
         for _ in 0..u64::MAX {
             rows = match Source::open(rows) {
@@ -125,7 +125,7 @@ impl<'s, 'a> Batch<'s, 'a> {
     }
 
     // Adds a source.
-    fn push(&mut self, name: &'a str, file: Input, kind: Kind) -> Result<(), Failure<'a>> {
+    fn push(&mut self, name: &'a str, file: Input, kind: SourceKind) -> Result<(), Failure<'a>> {
         let mut file = Named { name, file };
         let source = self.open(&mut file, kind)?;
         if self.sources.push(source).is_err() || self.files.push(file).is_err() {
@@ -136,11 +136,11 @@ impl<'s, 'a> Batch<'s, 'a> {
 
     /// Adds a run, which is in a temporary file of that folder.
     pub fn push_run(&mut self, folder: &'a str, file: File) -> Result<(), Failure<'a>> {
-        self.push(folder, Input::File(file), Kind::Run)
+        self.push(folder, Input::File(file), SourceKind::Run)
     }
 
     /// Adds the file of counts of that name.
-    pub fn push_file(&mut self, name: &'a str, kind: Kind) -> Result<(), Failure<'a>> {
+    pub fn push_file(&mut self, name: &'a str, kind: SourceKind) -> Result<(), Failure<'a>> {
         match Input::open(self.rt, name) {
             Ok(file) => self.push(said(name), file, kind),
             Err(error) => Err(Failure::of_file(said(name), error)),

@@ -1,0 +1,76 @@
+//! What an article is kept as.
+ghost use Rattle.std.specs.Prelude.{◌≡◌, [], ◌∷◌, map, IfOk};
+ghost use Rattle.std.specs.String.{string_bytes};
+ghost use Rattle.hashbag_csv.specs.Articles.{same_article};
+ghost use Rattle.hashbag_csv.specs.Lines.{fields_at};
+ghost use Rattle.hashbag_csv.specs.Readers.{Record};
+ghost use Rattle.hashbag_csv.specs.Sheets.{place, read_last};
+ghost use Rattle.hashbag_csv.specs.ArticleLaws.{one_same, all_same};
+
+use crate::fault::SheetError;
+use crate::lines::fields_of;
+use crate::sheet::{Column, Sheet};
+use std::alloc::Global;
+use std::hash::Hash;
+use std::slice;
+
+/// The fields of an article, which `==` compares: those of the key columns, in their order. A `String` is the field of one column, and
+/// needs half the memory and time of a `Vec<String>`, which has the fields of any number of columns.
+pub trait Article: Ord + Hash + Sized {
+    /// Its fields, as bytes.
+    ghost fields: { Self → Record };
+
+    /// Returns the article that the record has which was read last, from its fields in these columns.
+    ///
+    /// # Errors
+    ///
+    /// `Line` if a field isn't UTF-8. `Memory` if an allocation fails; of a `String` also if there isn't one column.
+    fn read(alloc: Global, sheet: &Sheet<'_>, columns: &[Column<'_>]) -> Result<Self, SheetError>
+        ensures { IfOk result (λ article. fields article ≡ fields_at (map place columns.now) (read_last sheet.now)) };
+
+    /// Returns its fields.
+    fn texts(&self) -> &[String]
+        ensures { map string_bytes result.now ≡ fields self.now };
+
+    // `==` compares the fields.
+    ghost same: { (x y : Self) → Self.eq x y ≡ same_article (fields x) (fields y) };
+}
+
+impl Article for String {
+    ghost fields = { λ s. string_bytes s ∷ [] };
+
+    ghost same = { λ x y. one_same x y };
+
+    fn read(
+        alloc: Global,
+        sheet: &Sheet<'_>,
+        columns: &[Column<'_>],
+    ) -> Result<String, SheetError> {
+        let [column] = columns else {
+            return Err(SheetError::Memory);
+        };
+        Ok(String::from_str(alloc, sheet.field(*column)?)?)
+    }
+
+    fn texts(&self) -> &[String] {
+        slice::from_ref(self)
+    }
+}
+
+impl Article for Vec<String> {
+    ghost fields = { λ v. map string_bytes v.items };
+
+    ghost same = { λ x y. all_same x.items y.items };
+
+    fn read(
+        alloc: Global,
+        sheet: &Sheet<'_>,
+        columns: &[Column<'_>],
+    ) -> Result<Vec<String>, SheetError> {
+        fields_of(alloc, sheet, columns)
+    }
+
+    fn texts(&self) -> &[String] {
+        self.as_slice()
+    }
+}
