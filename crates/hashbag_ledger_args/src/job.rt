@@ -1,4 +1,6 @@
 //! What is asked of a database, by a subcommand's arguments.
+ghost use Rattle.hashbag_ledger_args.specs.Readings.{IsReadingOf};
+
 use crate::columns::{columns_of, start_columns_of};
 use crate::command::{COLUMNS, START_COLUMNS};
 use clap::ArgMatches;
@@ -113,7 +115,9 @@ impl<'a> Job<'a> {
     }
 
     /// Returns how texts are read and written with this many decimals. No number is past the greatest of a database.
-    pub fn reading(&self, decimals: u32) -> Reading {
+    pub fn reading(&self, decimals: u32) -> Reading
+        ensures { IsReadingOf self.now decimals result }
+    {
         Reading {
             delimiter: self.delimiter,
             scale: Scale::new(decimals, self.mark)

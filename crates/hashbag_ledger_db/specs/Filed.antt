@@ -1,12 +1,15 @@
 -- What the inputs of a call do to the balance that is kept.
-use Rattle.std.specs.Prelude.{◌≡◌, ℕ, ◌^◌, ◌-◌, if◌then◌else◌, List, [], ◌∷◌, map, All, Contains, String, string_cmp}
+use Rattle.std.specs.Prelude.{◌≡◌, ℕ, ◌^◌, ◌-◌, nat_lt, if◌then◌else◌, Bool, List, [], length, map, vec_len, String, string_cmp}
 use Rattle.std.specs.Global.{Global, Vec}
 use Rattle.std.specs.String.{string_eq}
 use Rattle.hashbag_csv.specs.declared.counts.Reading.{Reading}
+use Rattle.hashbag_ledger_args.specs.Readings.{IsReadingOf, asked_decimals}
 use Rattle.hashbag_ledger_args.specs.declared.job.Job.{Job}
+use Rattle.hashbag_ledger_db.specs.declared.entering.Ready.{Ready}
 use Rattle.hashbag_ledger_db.specs.declared.movements.Input.{Input}
 use Rattle.hashbag_ledger_lib.specs.Batches.{all_of}
-use Rattle.hashbag_ledger_lib.specs.Entries.{IsBooked}
+use Rattle.hashbag_ledger_lib.specs.Changes.{AreChanges, Rises}
+use Rattle.hashbag_ledger_lib.specs.Entries.{IsBooked, refusals_in}
 use Rattle.hashbag_ledger_lib.specs.Movements.{columns_by, movements_in, said}
 use Rattle.hashbag_ledger_lib.specs.Numbers.{plain}
 use Rattle.hashbag_ledger_lib.specs.declared.filing.Filed.{Filed}
@@ -14,6 +17,8 @@ use Rattle.hashbag_ledger_lib.specs.declared.movements.Change.{Change}
 use Rattle.hashbag_ledger_lib.specs.declared.movements.Movement.{Movement}
 use Rattle.hashbag_ledger_lib.specs.declared.reading.ChangeColumns.TheVariants.{Signed}
 use Rattle.hashbag_ledger_lib.specs.declared.reading.Columns.{Columns}
+use Rattle.hashbag_stock.specs.declared.tables.Contents.{Contents}
+use Rattle.hashbag_stock.specs.declared.tables.Contents.TheVariants.{Empty, Stock}
 
 -- a movement as a row has it: `Out 0` is `In 0`
 abbrev pub plain_movement : Movement (String Global) → Movement (String Global)
@@ -35,8 +40,40 @@ rows_in job reading input = map plain_said (movements_in reading (names_of job i
 abbrev pub AreMovementsOf : Job → Reading → List Input → List (Vec (Movement (String Global))) → Type 0
 AreMovementsOf job reading inputs files = map (λ f. map said f.items) files ≡ map (rows_in job reading) inputs
 
--- all movements of all inputs were booked, in turn, on the balance that is kept
+-- all movements of all inputs were booked, in turn, on the balance that is kept: what becomes of its rows, and how many each input has
 pub record IsFiledOf (job : Job) (reading : Reading) (inputs : List Input) (kept : List (String Global × ℕ)) (filed : Filed) : Type 0 where
   pub files : List (Vec (Movement (String Global)))
   pub read : AreMovementsOf job reading inputs files
   pub booked : IsBooked string_eq string_cmp (2 ^ 63 - 1) kept (all_of files) filed.booked.balance.items filed.booked.entries.items
+  pub changed : Rises kept → AreChanges kept filed.booked.balance.items filed.changed.items
+  pub counts : filed.counts.items ≡ map (λ f. vec_len f) files
+
+-- they were read as the job says, with n decimals
+pub record IsFiledAs (job : Job) (n : ℕ) (inputs : List Input) (kept : List (String Global × ℕ)) (filed : Filed) : Type 0 where
+  pub reading : Reading
+  pub is : IsReadingOf job n reading
+  pub all : IsFiledOf job reading inputs kept filed
+
+-- on an empty stock, with as many decimals as the job asks for
+abbrev pub IsFiledAnew : Job → List Input → Filed → Type 0
+IsFiledAnew job inputs filed = IsFiledAs job (asked_decimals job) inputs [] filed
+
+-- the decimals of a stock: a new one has as many as the job asks for
+abbrev pub decimals_in : Contents → Job → ℕ
+decimals_in Empty job = asked_decimals job
+decimals_in (Stock shape) job = shape.scale
+
+-- on the balance that was read of the database, and with its decimals
+pub record IsFiledIn (job : Job) (form : Contents) (inputs : List Input) (ready : Ready) : Type 0 where
+  pub is : ready.before.form ≡ form
+  pub empty : form ≡ Empty → ready.before.balance.items ≡ []
+  pub rising : Rises ready.before.balance.items
+  pub all : IsFiledAs job (decimals_in form job) inputs ready.before.balance.items ready.filed
+
+-- whether a movement was refused
+abbrev pub has_refusal : Filed → Bool
+has_refusal filed = nat_lt 0 (length (refusals_in filed.booked.entries.items))
+
+-- the status of a run: 1 after a refusal, else 0
+abbrev pub status_after : Filed → ℕ
+status_after filed = if has_refusal filed then 1 else 0

@@ -1,11 +1,13 @@
 //! Files that are entered into a stock, in an open database.
-ghost use Rattle.std.specs.Prelude.{◌≡◌, None, IfOk};
-ghost use Rattle.hashbag_ledger_db.specs.Filed.{AreMovementsOf, IsFiledOf};
+ghost use Rattle.std.specs.Prelude.{◌≡◌, [], None, IfOk, IfSome, IsSomeAnd};
+ghost use Rattle.hashbag_stock.specs.declared.tables.Shape.{Shape};
+ghost use Rattle.hashbag_ledger_db.specs.Filed.{AreMovementsOf, IsFiledOf, IsFiledAs, IsFiledAnew, IsFiledIn, has_refusal, status_after};
 
+use crate::before::{Before, before_in, entered_twice};
 use crate::failure::Failure;
-use crate::movements::{Input, is_once, movements_of};
+use crate::movements::{Input, movements_of};
 use crate::putting::{in_database, put};
-use crate::said::{entered_text, movements_in};
+use crate::said::entered_text;
 use hashbag_csv::counts::Reading;
 use hashbag_csv::decimals::write_decimal;
 use hashbag_csv::fault::{Fault, SheetError, in_file};
@@ -15,34 +17,26 @@ use hashbag_ledger_lib::filing::{Filed, enter_files, refusals_of};
 use hashbag_ledger_lib::ledger::booking::count_refused;
 use hashbag_ledger_lib::movements::Movement;
 use hashbag_ledger_lib::numbers::MOST;
-use hashbag_ledger_lib::once::{Batch, Kind, entered_before, next_number};
+use hashbag_ledger_lib::once::Kind;
 use hashbag_ledger_lib::output::{balance_text, refusals_table, refusals_text};
 use hashbag_ledger_lib::sealing::{Draft, digest_of, sealed_rows};
 use hashbag_shell::status::{DENIED, DONE};
 use hashbag_shell::trouble::Trouble;
 use hashbag_stock::error::StockError;
-use hashbag_stock::reading::{balance_of, batches_of, time_of};
+use hashbag_stock::reading::time_of;
 use hashbag_stock::tables::{Contents, Shape};
 use hashbag_stock::writing::NewRows;
 use sqlite::{Alter, Connection};
 use std::alloc::{AllocError, Global};
 use std::hash::BuildHasher;
 
-// What the inputs leave, the number of the first of their batches, and how many movements there were before.
+/// What the inputs do to what the database has.
 #[derive(Drop)]
-struct Ready {
-    filed: Filed,
-    number: i64,
-    movements: u64,
-}
-
-// What the database has before the inputs are entered.
-#[derive(Drop)]
-struct Before {
-    balance: Vec<(String, usize)>,
-    // The number of the next batch.
-    number: i64,
-    movements: u64,
+pub struct Ready {
+    /// What it has before.
+    pub before: Before,
+    /// What the inputs do to its balance.
+    pub filed: Filed,
 }
 
 /// What one run of a subcommand writes.
@@ -54,6 +48,8 @@ pub struct Report {
     pub said: String,
     /// The status with which the program ends.
     pub status: u8,
+    /// What the inputs do, of which the above is written. `None` if no database was opened.
+    pub ready: Option<Ready>,
 }
 
 // Returns the failure for a line that takes the total past the maximum.
@@ -141,33 +137,6 @@ fn filed_of<'a, S: BuildHasher + Drop>(
     }
 }
 
-// Returns the failure that a file was entered before, or that two of the files have the same bytes. Standard input and files without
-// movements are entered as often as one likes.
-fn entered_twice<'a>(inputs: &[Input<'a>], batches: &[Batch]) -> Result<(), Failure<'a>> {
-    for i in 0..inputs.len() {
-        let input = &inputs[i];
-        if !is_once(input) {
-            continue;
-        }
-        if let Some(batch) = entered_before(batches, input.sha256.as_str()) {
-            return Err(Failure::EnteredBefore {
-                file: input.file,
-                number: batch.number,
-                name: batch.file.clone()?,
-            });
-        }
-        for other in &inputs[..i] {
-            if other.sha256.as_str() == input.sha256.as_str() {
-                return Err(Failure::SameBytes {
-                    file: input.file,
-                    other: other.file,
-                });
-            }
-        }
-    }
-    Ok(())
-}
-
 // Returns what holds of the rows of the stock, and how many decimals a new one is made with.
 fn shape_of<'a>(request: &Job<'a>, form: Contents) -> Result<(Shape, Option<u32>), Failure<'a>> {
     let db = request.db;
@@ -226,8 +195,8 @@ fn write<'a, D: Alter>(
     ready: &Ready,
 ) -> Result<String, Failure<'a>> {
     let time = in_database(db, time_of(conn))?;
-    let filed = &ready.filed;
-    let drafts = drafts_of(alloc, inputs, &filed.counts, ready.number, time.as_str())?;
+    let (before, filed) = (&ready.before, &ready.filed);
+    let drafts = drafts_of(alloc, inputs, &filed.counts, before.number(), time.as_str())?;
     let entries = &filed.booked.entries;
     let batches = sealed_rows(alloc, shape.scale, &drafts, entries)?;
     let new = NewRows {
@@ -236,7 +205,7 @@ fn write<'a, D: Alter>(
         entries,
         changed: &filed.changed,
     };
-    let said = entered_text(alloc, db, ready.movements, &batches)?;
+    let said = entered_text(alloc, db, before.movements(), &batches)?;
     put(db, conn, new_scale, &new)?;
     Ok(said)
 }
@@ -266,32 +235,18 @@ fn text_of<'a>(
     }
 }
 
-// Returns what an open database has, if the inputs may be entered into it.
-fn before_in<'a, D: Alter>(
-    alloc: Global,
-    request: &Job<'a>,
-    inputs: &[Input<'a>],
-    conn: &mut Connection<D>,
-    shape: Shape,
-) -> Result<Before, Failure<'a>> {
-    let db = request.db;
-    if request.from.is_some() {
-        return Err(Failure::HasStock { db });
-    }
-    let batches = in_database(db, batches_of(alloc, conn, shape))?;
-    if !request.again {
-        entered_twice(inputs, &batches)?;
-    }
-    Ok(Before {
-        balance: in_database(db, balance_of(alloc, conn))?,
-        number: next_number(&batches),
-        movements: movements_in(&batches),
-    })
+/// Returns whether there is a refusal.
+pub fn is_refused(filed: &Filed) -> bool
+    ensures { result ≡ has_refusal filed.now }
+{
+    count_refused(&filed.booked.entries) > 0
 }
 
-/// Returns whether there is a refusal.
-pub fn is_refused(filed: &Filed) -> bool {
-    count_refused(&filed.booked.entries) > 0
+// Returns the status of a run that books this.
+fn status_of(filed: &Filed) -> u8
+    ensures { result ≡ status_after filed.now }
+{
+    if is_refused(filed) { DENIED } else { DONE }
 }
 
 /// Returns what the inputs do to an empty stock: what is wrong with one is found before the file of the database is made.
@@ -304,13 +259,41 @@ pub fn filed_anew<'a, S: BuildHasher + Drop>(
     state: S,
     request: &Job<'a>,
     inputs: &[Input<'a>],
-) -> Result<Filed, Failure<'a>> {
+) -> Result<Filed, Failure<'a>>
+    // All movements of all inputs are booked, read as the job says.
+    ensures { IfOk result (IsFiledAnew request.now inputs.now) }
+{
     let reading = request.reading(request.scale.unwrap_or(0));
     let filed = filed_of(alloc, state, request, inputs, reading, &[])?;
     if !request.again {
         entered_twice(inputs, &[])?;
     }
     Ok(filed)
+}
+
+// Returns what the inputs do to the balance that the database has.
+fn filed_in<'a, S: BuildHasher + Drop>(
+    alloc: Global,
+    state: S,
+    request: &Job<'a>,
+    inputs: &[Input<'a>],
+    before: &Before,
+    form: Contents,
+    anew: Option<Filed>,
+) -> Result<Filed, Failure<'a>>
+    ensures empty { form ≡ Contents.Empty → IfSome anew (IsFiledAnew request.now inputs.now)
+        → IfOk result (IsFiledAnew request.now inputs.now) }
+    ensures stock { (shape : Shape) → form ≡ Contents.Stock shape
+        → IfOk result (IsFiledAs request.now shape.scale inputs.now before.now.balance.items) }
+{
+    match (form, anew) {
+        (Contents::Empty, Some(filed)) => Ok(filed),
+        (Contents::Empty, None) => filed_anew(alloc, state, request, inputs),
+        (Contents::Stock(shape), _) => {
+            let reading = request.reading(shape.scale);
+            filed_of(alloc, state, request, inputs, reading, before.balance())
+        }
+    }
 }
 
 // Returns what the inputs do to the stock of an open database. `anew` is what they do to an empty stock. It is `None` if the file wasn't
@@ -323,25 +306,13 @@ fn ready_in<'a, D: Alter, S: BuildHasher + Drop>(
     conn: &mut Connection<D>,
     form: Contents,
     anew: Option<Filed>,
-) -> Result<Ready, Failure<'a>> {
-    let Contents::Stock(shape) = form else {
-        let filed = match anew {
-            Some(filed) => filed,
-            None => filed_anew(alloc, state, request, inputs)?,
-        };
-        return Ok(Ready {
-            filed,
-            number: 1,
-            movements: 0,
-        });
-    };
-    let before = before_in(alloc, request, inputs, conn, shape)?;
-    let reading = request.reading(shape.scale);
-    Ok(Ready {
-        filed: filed_of(alloc, state, request, inputs, reading, &before.balance)?,
-        number: before.number,
-        movements: before.movements,
-    })
+) -> Result<Ready, Failure<'a>>
+    ensures { IfSome anew (IsFiledAnew request.now inputs.now)
+        → IfOk result (IsFiledIn request.now form inputs.now) }
+{
+    let before = before_in(alloc, request, inputs, conn, form)?;
+    let filed = filed_in(alloc, state, request, inputs, &before, form, anew)?;
+    Ok(Ready { before, filed })
 }
 
 /// Enters the inputs into an open database, and returns what the run of the subcommand writes. The texts are made before anything is
@@ -358,14 +329,22 @@ pub fn report_in<'a, D: Alter, S: BuildHasher + Drop>(
     conn: &mut Connection<D>,
     form: Contents,
     anew: Option<Filed>,
-) -> Result<Report, Failure<'a>> {
+) -> Result<Report, Failure<'a>>
+    // If `anew` is what the inputs do to an empty stock, as `filed_anew` returns it, then `ready` is what they do to the balance that was
+    // read: all movements of all inputs are booked on it.
+    ensures filed { IfSome anew (IsFiledAnew request.now inputs.now)
+        → IfOk result (λ report. IsSomeAnd report.ready (IsFiledIn request.now form inputs.now)) }
+
+    // It is 1 exactly if a movement is refused.
+    ensures status { IfOk result (λ report. IsSomeAnd report.ready (λ ready.
+        report.status ≡ status_after ready.filed)) }
+{
     let db = request.db;
     let (shape, new_scale) = shape_of(request, form)?;
     let ready = ready_in(alloc, state, request, inputs, conn, form, anew)?;
     let reading = request.reading(shape.scale);
     let refusals = text_of(alloc, request, inputs, reading, &ready.filed)?;
-    let denied = is_refused(&ready.filed);
-    let said = if request.strict && denied {
+    let said = if request.strict && is_refused(&ready.filed) {
         String::new(alloc)
     } else {
         write(alloc, conn, db, shape, new_scale, inputs, &ready)?
@@ -373,7 +352,8 @@ pub fn report_in<'a, D: Alter, S: BuildHasher + Drop>(
     Ok(Report {
         refusals,
         said,
-        status: if denied { DENIED } else { DONE },
+        status: status_of(&ready.filed),
+        ready: Some(ready),
     })
 }
 
@@ -393,6 +373,7 @@ pub fn denied_report(
         refusals: text_of(alloc, request, inputs, reading, filed)?,
         said: String::new(alloc),
         status: DENIED,
+        ready: None,
     })
 }
 
@@ -435,9 +416,8 @@ pub fn begin_in<'a, D: Alter, S: BuildHasher + Drop>(
         is_sealed: true,
     };
     let ready = Ready {
+        before: before_in(alloc, request, inputs, conn, Contents::Empty)?,
         filed: filed_of(alloc, state, request, inputs, request.reading(scale), &[])?,
-        number: 1,
-        movements: 0,
     };
     write(
         alloc,

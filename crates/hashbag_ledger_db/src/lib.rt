@@ -2,6 +2,7 @@
 //! opened here.
 #![tactic(auto)]
 
+pub mod before;
 pub mod entering;
 pub mod failure;
 pub mod movements;

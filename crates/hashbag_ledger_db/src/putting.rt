@@ -1,4 +1,6 @@
 //! What is written into a database, and the errors of databases.
+ghost use Rattle.std.specs.Prelude.{◌≡◌, Ok, IfOk};
+
 use crate::failure::Failure;
 use hashbag_stock::error::StockError;
 use hashbag_stock::writing::{NewRows, put_batches};
@@ -18,7 +20,9 @@ pub fn failure_of<'a>(db: &'a str, error: StockError) -> Failure<'a> {
 /// # Errors
 ///
 /// Why it wasn't done.
-pub fn in_database<'a, T>(db: &'a str, done: Result<T, StockError>) -> Result<T, Failure<'a>> {
+pub fn in_database<'a, T>(db: &'a str, done: Result<T, StockError>) -> Result<T, Failure<'a>>
+    ensures { IfOk result (λ value. done ≡ Ok value) }
+{
     match done {
         Ok(value) => Ok(value),
         Err(error) => Err(failure_of(db, error)),

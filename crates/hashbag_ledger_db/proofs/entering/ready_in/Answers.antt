@@ -1,0 +1,11 @@
+use Rattle.hashbag_ledger_db.proofs.FormLemmas.{filed_by_form}
+use Rattle.hashbag_ledger_db.proofs.entering.ready_in.Goals as goal
+
+pub returns : goal.returns
+returns g c known = record {
+  is = c.in_ok-before.ensures.form;
+  empty = c.in_ok-before.ensures.empty;
+  rising = c.in_ok-before.ensures.rising;
+  all = filed_by_form c.args.request.now c.args.form c.args.inputs.now c.in_ok-before.before.balance.items c.in_ok-filed.filed c.in_ok-before.ensures.empty
+      (λ e. c.in_ok-filed.ensures.empty e known) c.in_ok-filed.ensures.stock;
+}

@@ -1,0 +1,117 @@
+//! What a database has before the inputs of a job are entered. Only [`before_in`] makes a `Before`, so it is what was read.
+ghost use Rattle.std.specs.Prelude.{◌≡◌, [], IfOk};
+ghost use Rattle.hashbag_ledger_lib.specs.Changes.{Rises};
+
+use crate::failure::Failure;
+use crate::movements::{Input, is_once};
+use crate::putting::in_database;
+use crate::said::movements_in;
+use hashbag_ledger_args::job::Job;
+use hashbag_ledger_lib::once::{Batch, entered_before, next_number};
+use hashbag_stock::reading::{balance_of, batches_of};
+use hashbag_stock::tables::Contents;
+use sqlite::{Alter, Connection};
+use std::alloc::Global;
+
+/// What a database has before the inputs are entered.
+#[derive(Drop)]
+pub struct Before {
+    form: Contents,
+    balance: Vec<(String, usize)>,
+    // The number of the next batch.
+    number: i64,
+    movements: u64,
+}
+
+impl Before {
+    /// Returns the balance, articles in ascending order.
+    pub fn balance(&self) -> &[(String, usize)]
+        ensures { result.now ≡ self.now.balance.items }
+    {
+        self.balance.as_slice()
+    }
+
+    /// Returns the number of the next batch.
+    pub fn number(&self) -> i64
+        ensures { result ≡ self.now.number }
+    {
+        self.number
+    }
+
+    /// Returns how many movements there are.
+    pub fn movements(&self) -> u64
+        ensures { result ≡ self.now.movements }
+    {
+        self.movements
+    }
+}
+
+// Returns the failure that a file was entered before, or that two of the files have the same bytes. Standard input and files without
+// movements are entered as often as one likes.
+pub(crate) fn entered_twice<'a>(
+    inputs: &[Input<'a>],
+    batches: &[Batch],
+) -> Result<(), Failure<'a>> {
+    for i in 0..inputs.len() {
+        let input = &inputs[i];
+        if !is_once(input) {
+            continue;
+        }
+        if let Some(batch) = entered_before(batches, input.sha256.as_str()) {
+            return Err(Failure::EnteredBefore {
+                file: input.file,
+                number: batch.number,
+                name: batch.file.clone()?,
+            });
+        }
+        for other in &inputs[..i] {
+            if other.sha256.as_str() == input.sha256.as_str() {
+                return Err(Failure::SameBytes {
+                    file: input.file,
+                    other: other.file,
+                });
+            }
+        }
+    }
+    Ok(())
+}
+
+/// Returns what an open database has, if the inputs may be entered into it.
+///
+/// # Errors
+///
+/// Why they may not, or why it can't be read.
+pub fn before_in<'a, D: Alter>(
+    alloc: Global,
+    request: &Job<'a>,
+    inputs: &[Input<'a>],
+    conn: &mut Connection<D>,
+    form: Contents,
+) -> Result<Before, Failure<'a>>
+    ensures form { IfOk result (λ before. before.form ≡ form) }
+    ensures empty { form ≡ Contents.Empty → IfOk result (λ before. before.balance.items ≡ []) }
+    ensures rising { IfOk result (λ before. Rises before.balance.items) }
+{
+    let Contents::Stock(shape) = form else {
+        return Ok(Before {
+            form,
+            balance: Vec::new(alloc),
+            number: 1,
+            movements: 0,
+        });
+    };
+    let db = request.db;
+    if request.from.is_some() {
+        return Err(Failure::HasStock { db });
+    }
+    let batches = in_database(db, batches_of(alloc, conn, shape))?;
+    if !request.again {
+        entered_twice(inputs, &batches)?;
+    }
+    Ok(Before {
+        form,
+        balance: in_database(db, balance_of(alloc, conn))?,
+        number: next_number(&batches),
+        movements: movements_in(&batches),
+    })
+}
