@@ -7,7 +7,7 @@ use hashbag_words_lib::errors::InputFault;
 use hashbag_words_lib::gauge::Gauge;
 use hashbag_words_lib::lines::BadLines;
 use hashbag_words_lib::row_parts::RowParts;
-use hashbag_words_lib::row_source::{SourceKind, RowSource};
+use hashbag_words_lib::row_source::{RowSource, SourceKind};
 use hashbag_words_lib::rows::RowForm;
 use hashbag_words_lib::rule::{Pieces, Rule};
 use hashbag_words_lib::shown_rows::{ShownRows, TopRows};

@@ -140,7 +140,10 @@ fn counts_of_text(rt: HostRuntime) -> Result<(), Fail> {
 }
 
 // Adds a file, whose first byte is a block of its own.
-fn add_file<S: BuildHasher + Drop>(counter: &mut RowCounter<S>, file: &[u8]) -> Result<(), InputFault> {
+fn add_file<S: BuildHasher + Drop>(
+    counter: &mut RowCounter<S>,
+    file: &[u8],
+) -> Result<(), InputFault> {
     let (first, rest) = file.split_at(file.len().min(1));
     counter.feed(first)?;
     counter.feed(rest)?;
