@@ -40,6 +40,37 @@ printf 'sku\tbatch\tqty\nbolt\ty\t3\n' > qty.csv
 ends 1 "" lots.csv qty.csv --delimiter tab --key article,lot --delivered-key sku,batch --delivered-number qty --to csv
 has ../out 'article\tlot\tordered\tdelivered\tmissing\tsurplus\nbolt\tx\t1\t0\t1\t0\nbolt\ty\t2\t3\t0\t1\n' "two key columns"
 
+# Lists without numbers: each line counts as one, also if there is a column of numbers
+printf 'article\nbolt\nnut\n\nbolt\n' > names.csv
+printf 'sku,number\nnut,7\nbolt,none\ntube,\n' > boxes.csv
+ends 1 "" names.csv boxes.csv --each-line --delivered-key sku --to csv
+has ../out 'article,ordered,delivered,missing,surplus\nbolt,2,1,1,0\nnut,1,1,0,0\ntube,0,1,0,1\n' "lists without numbers"
+ends 0 "" names.csv names.csv --each-line --mark , --to json
+has ../out '[{"article":"bolt","ordered":2,"delivered":2,"missing":0,"surplus":0},{"article":"nut","ordered":1,"delivered":1,"missing":0,"surplus":0}]\n' "a list without numbers as JSON"
+ends 2 'hashbag_match: names.csv:1: no column `number`; there are: `article`' names.csv boxes.csv
+
+# Spaces and tabs at both ends of key fields are removed: nothing else is, neither in between nor from the names of columns
+printf 'article ,lot,number\n bolt  M4\t,L1,1\nbolt  M4, L1,2\n"nut\n",\t,4\n' > spaced.csv
+printf 'article ,lot,number\nbolt  M4,L1,3\n"nut\n ",,4\n' > plain.csv
+ends 0 "" spaced.csv plain.csv --trim --key 'article ,lot' --to csv
+has ../out 'article ,lot,ordered,delivered,missing,surplus\nbolt  M4,L1,3,3,0,0\n"nut\n",,4,4,0,0\n' "trimmed fields"
+ends 1 "" spaced.csv plain.csv --key 'article ,lot' --to csv --only missing
+has ../out 'article ,lot,ordered,delivered,missing,surplus\n bolt  M4\t,L1,1,0,1,0\nbolt  M4, L1,2,0,2,0\n"nut\n",\t,4,0,4,0\n' "fields as they are"
+ends 0 "" spaced.csv spaced.csv --trim --each-line --key lot --to json
+has ../out '[{"lot":"","ordered":1,"delivered":1,"missing":0,"surplus":0},{"lot":"L1","ordered":2,"delivered":2,"missing":0,"surplus":0}]\n' "a trimmed column"
+ends 2 'hashbag_match: spaced.csv:1: no column `article`; there are: `article `, `lot`, `number`' spaced.csv plain.csv --trim
+
+# Upper and lower case as one, by full case folding, which makes ss of a sharp s; not in the names of columns
+printf 'Sku,number\nStra\303\237e,1\n STRASSE,2\n\316\243\317\202,1\n' > cased.csv
+printf 'Sku,number\nstrasse,3\n\317\203\316\243,1\n' > lower.csv
+ends 0 "" cased.csv lower.csv --key Sku --fold --trim --to csv
+has ../out 'Sku,ordered,delivered,missing,surplus\nstrasse,3,3,0,0\n\317\203\317\203,1,1,0,0\n' "folded fields"
+ends 1 "" cased.csv lower.csv --key Sku --fold --only surplus --to csv
+has ../out 'Sku,ordered,delivered,missing,surplus\nstrasse,1,3,0,2\n' "folded fields that aren't trimmed"
+ends 1 "" cased.csv lower.csv --key Sku --trim --only surplus --to csv
+has ../out 'Sku,ordered,delivered,missing,surplus\nstrasse,0,3,0,3\n\317\203\316\243,0,1,0,1\n' "trimmed fields that aren't folded"
+ends 2 'hashbag_match: cased.csv:1: no column `sku`; there are: `Sku`, `number`' cased.csv lower.csv --key sku --fold
+
 # Outputs: whole or not at all, and no input
 printf 'old\n' > kept
 ends 2 "hashbag_match: open.csv:3: quote never closed" a.csv open.csv -o kept
@@ -57,7 +88,7 @@ ends 4 "hashbag_match: none.csv: No such file or directory (os error 2)" a.csv n
 ends 4 "hashbag_match: /dev/full: No space left on device (os error 28)" a.csv b.csv -o /dev/full
 "$program" a.csv b.csv > /dev/full 2> ../err
 [ $? = 4 ] || fail "a full disk at standard output"
-files a.csv after.csv b.csv hard.csv kept kilos.csv lots.csv menge.csv open.csv qty.csv stray.csv
+files a.csv after.csv b.csv boxes.csv cased.csv hard.csv kept kilos.csv lots.csv lower.csv menge.csv names.csv open.csv plain.csv qty.csv spaced.csv stray.csv
 
 # A file that can be opened but not read is no end of a file; nobody reads the output any more
 mkdir folder
@@ -76,7 +107,8 @@ exec 7>&-
 # Totals and arguments
 printf 'article,number\nbolt,18446744073709551615\nnut,1\n' > many.csv
 ends 5 "hashbag_match: many.csv:3: total past 18446744073709551615" a.csv many.csv
-for words in "" "a.csv" "- -" "a.csv b.csv --scale 10" "a.csv b.csv --delimiter x" "a.csv b.csv --key article,article" "a.csv b.csv --only some" "a.csv b.csv --none"; do
+for words in "" "a.csv" "- -" "a.csv b.csv --scale 10" "a.csv b.csv --delimiter x" "a.csv b.csv --key article,article" "a.csv b.csv --only some" "a.csv b.csv --none" \
+  "a.csv b.csv --each-line --number number" "a.csv b.csv --each-line --delivered-number number" "a.csv b.csv --scale 0 --each-line"; do
   # shellcheck disable=SC2086
   "$program" $words > ../out 2> ../err < /dev/null
   [ $? = 2 ] && [ ! -s ../out ] && [ -s ../err ] || fail "bad arguments: $words"
@@ -86,7 +118,7 @@ for option in --version -V; do
   grep -Eqx 'hashbag_match 0\.1\.13-[0-9]+' ../out || fail "no version"
 done
 ends 0 "" --help
-for name in --key --number --delivered-key --delivered-number --delimiter --scale --mark --only --to --output; do
+for name in --key --number --delivered-key --delivered-number --each-line --trim --fold --delimiter --scale --mark --only --to --output; do
   grep -q -e "$name" ../out || fail "no $name in the help"
 done
 echo "match: ok"

@@ -4,3 +4,4 @@ pub mod NumberLemmas
 pub mod QuantityLemmas
 pub mod ReaderLemmas
 pub mod SortedLemmas
+pub mod TrimLemmas

@@ -1,10 +1,11 @@
 -- The definition of the lines of a text computes.
-use Rattle.std.specs.Prelude.{◌≡◌, ℕ, ◌^◌, ◌-◌, List, [], ◌∷◌, codes, refl}
+use Rattle.std.specs.Prelude.{◌≡◌, ℕ, ◌^◌, ◌-◌, true, false, List, [], ◌∷◌, Some, None, codes, refl}
 use Rattle.std.proofs.Common.{arith}
 use Rattle.csv.proofs.OnLiterals.{csv_on_literals}
 use Rattle.hashbag_csv.specs.Lines.{lines_in}
 use Rattle.hashbag_csv.specs.declared.counts.Reading.{Reading}
 use Rattle.hashbag_csv.specs.declared.delimiter.Delimiter.TheVariants.{Comma, Semicolon}
+use Rattle.hashbag_csv.specs.declared.key_form.KeyForm.{KeyForm}
 use Rattle.hashbag_csv.specs.declared.scale.Mark.TheVariants.{Point, Comma as comma_mark}
 
 abbrev whole : Reading
@@ -13,26 +14,46 @@ whole = record { delimiter = Comma; scale = record { decimals = 0; mark = Point;
 abbrev hundredths : Reading
 hundredths = record { delimiter = Semicolon; scale = record { decimals = 2; mark = comma_mark; most = 2 ^ 64 - 1; few = omega arith } }
 
+abbrev as_is : KeyForm
+as_is = record { trim = false; fold = false }
+
+abbrev trimming : KeyForm
+trimming = record { trim = true; fold = false }
+
 -- each line, in turn; columns in any order
-each : lines_in whole (codes "article" ∷ []) (codes "number") (codes "number,note,article\n5,x,nut\n7,y,nut\n") ≡ (codes "nut" ∷ [], 5) ∷ (codes "nut" ∷ [], 7) ∷ []
+each : lines_in whole as_is (codes "article" ∷ []) (Some (codes "number")) (codes "number,note,article\n5,x,nut\n7,y,nut\n") ≡ (codes "nut" ∷ [], 5) ∷ (codes "nut" ∷ [], 7) ∷ []
 unfolding csv_on_literals
 each = refl
 
 -- a line feed in quotes ends no line, and two quotes are one; an empty line is none
-quoted : lines_in whole (codes "a" ∷ codes "b" ∷ []) (codes "n") (codes "a,b,n\r\n\"x\ny\",\"\"\"\",1\r\n\r\n") ≡ (codes "x\ny" ∷ codes "\"" ∷ [], 1) ∷ []
+quoted : lines_in whole as_is (codes "a" ∷ codes "b" ∷ []) (Some (codes "n")) (codes "a,b,n\r\n\"x\ny\",\"\"\"\",1\r\n\r\n") ≡ (codes "x\ny" ∷ codes "\"" ∷ [], 1) ∷ []
 unfolding csv_on_literals
 quoted = refl
 
 -- decimals, and another delimiter; the last line needs no end
-decimals : lines_in hundredths (codes "a" ∷ []) (codes "n") (codes "a;n\nx;1,5") ≡ (codes "x" ∷ [], 150) ∷ []
+decimals : lines_in hundredths as_is (codes "a" ∷ []) (Some (codes "n")) (codes "a;n\nx;1,5") ≡ (codes "x" ∷ [], 150) ∷ []
 unfolding csv_on_literals
 decimals = refl
 
 -- a header alone, and nothing
-header : lines_in whole (codes "a" ∷ []) (codes "n") (codes "a,n\n") ≡ []
+header : lines_in whole as_is (codes "a" ∷ []) (Some (codes "n")) (codes "a,n\n") ≡ []
 unfolding csv_on_literals
 header = refl
 
-nothing : lines_in whole (codes "a" ∷ []) (codes "n") (codes "") ≡ []
+nothing : lines_in whole as_is (codes "a" ∷ []) (Some (codes "n")) (codes "") ≡ []
 unfolding csv_on_literals
 nothing = refl
+
+-- without a column of numbers each line counts as one, which is 100 hundredths
+named : lines_in whole as_is (codes "a" ∷ []) None (codes "a,n\nx,7\ny,no number\nx,\n") ≡ (codes "x" ∷ [], 1) ∷ (codes "y" ∷ [], 1) ∷ (codes "x" ∷ [], 1) ∷ []
+unfolding csv_on_literals
+named = refl
+
+one : lines_in hundredths as_is (codes "a" ∷ []) None (codes "a\nx\n") ≡ (codes "x" ∷ [], 100) ∷ []
+unfolding csv_on_literals
+one = refl
+
+-- fields of key columns alone are trimmed, not the names of columns
+trims : lines_in whole trimming (codes "a" ∷ codes " b" ∷ []) (Some (codes "n")) (codes "a, b,n\nx\t, y,1\n\"x \",y  ,2\n") ≡ (codes "x" ∷ codes "y" ∷ [], 1) ∷ (codes "x" ∷ codes "y" ∷ [], 2) ∷ []
+unfolding csv_on_literals
+trims = refl

@@ -8,7 +8,8 @@ ghost use Rattle.hashbag_csv.specs.Sheets.{place, read_last};
 ghost use Rattle.hashbag_csv.specs.ArticleLaws.{one_same, all_same};
 
 use crate::fault::SheetError;
-use crate::lines::fields_of;
+use crate::key_form::KeyForm;
+use crate::lines::{fields_of, key_field};
 use crate::sheet::{Column, Sheet};
 use std::alloc::Global;
 use std::hash::Hash;
@@ -20,13 +21,18 @@ pub trait Article: Ord + Hash + Sized {
     /// Its fields, as bytes.
     ghost fields: { Self → Record };
 
-    /// Returns the article that the record has which was read last, from its fields in these columns.
+    /// Returns the article that the record has which was read last, from its fields in these columns, in this form.
     ///
     /// # Errors
     ///
     /// `Line` if a field isn't UTF-8. `Memory` if an allocation fails; of a `String` also if there isn't one column.
-    fn read(alloc: Global, sheet: &Sheet<'_>, columns: &[Column<'_>]) -> Result<Self, SheetError>
-        ensures { IfOk result (λ article. fields article ≡ fields_at (map place columns.now) (read_last sheet.now)) };
+    fn read(
+        alloc: Global,
+        sheet: &Sheet<'_>,
+        columns: &[Column<'_>],
+        form: KeyForm,
+    ) -> Result<Self, SheetError>
+        ensures { IfOk result (λ article. fields article ≡ fields_at form (map place columns.now) (read_last sheet.now)) };
 
     /// Returns its fields.
     fn texts(&self) -> &[String]
@@ -45,11 +51,12 @@ impl Article for String {
         alloc: Global,
         sheet: &Sheet<'_>,
         columns: &[Column<'_>],
+        form: KeyForm,
     ) -> Result<String, SheetError> {
         let [column] = columns else {
             return Err(SheetError::Memory);
         };
-        Ok(String::from_str(alloc, sheet.field(*column)?)?)
+        key_field(alloc, sheet, *column, form)
     }
 
     fn texts(&self) -> &[String] {
@@ -66,8 +73,9 @@ impl Article for Vec<String> {
         alloc: Global,
         sheet: &Sheet<'_>,
         columns: &[Column<'_>],
+        form: KeyForm,
     ) -> Result<Vec<String>, SheetError> {
-        fields_of(alloc, sheet, columns)
+        fields_of(alloc, sheet, columns, form)
     }
 
     fn texts(&self) -> &[String] {

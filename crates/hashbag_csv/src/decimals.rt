@@ -21,7 +21,7 @@ fn number_of(digits: &str) -> Option<usize>
 }
 
 // How many units one is.
-fn unit_of(decimals: u32) -> usize
+pub(crate) fn unit_of(decimals: u32) -> usize
     requires { decimals ≤ 9 }
     ensures { result ≡ 10 ^ decimals }
 {

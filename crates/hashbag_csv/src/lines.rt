@@ -1,22 +1,27 @@
 //! The lines of a sheet: an article, which is the fields of its key columns, and a number.
-ghost use Rattle.std.specs.Prelude.{◌≡◌, ◌∷◌, ℕ, [], map, get_or, IfOk, MatchOption, OnOk};
+ghost use Rattle.std.specs.Prelude.{◌≡◌, ◌∷◌, ℕ, [], map, get_or, option_map, IfOk, MatchOption, OnOk};
 ghost use Rattle.std.specs.String.{string_bytes};
-ghost use Rattle.hashbag_csv.specs.LineColumns.{IsNextLine, key_places, number_place};
-ghost use Rattle.hashbag_csv.specs.Lines.{fields_at, number_in, place_of};
+ghost use Rattle.hashbag_csv.specs.KeyForms.{field_in, trimmed_if};
+ghost use Rattle.hashbag_csv.specs.LineColumns.{IsNextLine, form_of, key_places, line_by, number_place};
+ghost use Rattle.hashbag_csv.specs.Lines.{fields_at, number_at, place_of};
 ghost use Rattle.hashbag_csv.specs.Sheets.{left, place, read_last};
 
 use crate::article::Article;
+use crate::decimals::unit_of;
 use crate::fault::SheetError;
+use crate::key_form::KeyForm;
 use crate::numbers::scaled_number;
 use crate::scale::Scale;
 use crate::sheet::{Column, Sheet};
+use caseless::default_case_fold_str;
 use std::alloc::{AllocError, Global};
 
-/// The columns of a line: those of the article's fields, and that of its number.
+/// The columns of a line: those of the article's fields, and that of its number. Without the latter each line counts as one.
 #[derive(Drop)]
 pub struct LineColumns<'n> {
     article: Vec<Column<'n>>,
-    number: Column<'n>,
+    number: Option<Column<'n>>,
+    form: KeyForm,
 }
 
 /// Returns the column of this name in the header, which must be the record that was read last.
@@ -48,39 +53,83 @@ fn columns_of<'n>(
     Ok(columns)
 }
 
-// The fields of several columns in the record that was read last.
+// The column of this name, if there is a name, in the header, which must be the record that was read last.
+fn number_column_of<'n>(
+    sheet: &Sheet<'_>,
+    name: Option<&'n str>,
+) -> Result<Option<Column<'n>>, SheetError>
+    ensures { IfOk result (λ column. option_map place column ≡ option_map (λ n. place_of (read_last sheet.now) n.now) name.entry) }
+{
+    match name {
+        Some(name) => Ok(Some(column_of(sheet, name)?)),
+        None => Ok(None),
+    }
+}
+
+// The text of this column in the record that was read last, trimmed if that is asked for.
+fn text_of<'s>(sheet: &'s Sheet<'_>, column: Column<'_>, trim: bool) -> Result<&'s str, SheetError>
+    ensures { IfOk result (λ text. text.now ≡ trimmed_if trim (get_or (read_last sheet.now) (place column.entry) [])) }
+{
+    if trim {
+        return sheet.trimmed_field(column);
+    }
+    sheet.field(column)
+}
+
+// The field of this column in the record that was read last, in this form.
+pub(crate) fn key_field(
+    alloc: Global,
+    sheet: &Sheet<'_>,
+    column: Column<'_>,
+    form: KeyForm,
+) -> Result<String, SheetError>
+    ensures { IfOk result (λ field. string_bytes field ≡ field_in form (get_or (read_last sheet.now) (place column.entry) [])) }
+{
+    let text = text_of(sheet, column, form.trim)?;
+    if form.fold {
+        return Ok(default_case_fold_str(alloc, text)?);
+    }
+    Ok(String::from_str(alloc, text)?)
+}
+
+// The fields of several columns in the record that was read last, in this form.
 pub(crate) fn fields_of(
     alloc: Global,
     sheet: &Sheet<'_>,
     columns: &[Column<'_>],
+    form: KeyForm,
 ) -> Result<Vec<String>, SheetError>
-    ensures { IfOk result (λ fields. map string_bytes fields.items ≡ fields_at (map place columns.now) (read_last sheet.now)) }
+    ensures { IfOk result (λ fields. map string_bytes fields.items ≡ fields_at form (map place columns.now) (read_last sheet.now)) }
 {
     let mut fields = Vec::new(alloc);
     for column in columns {
-        let field = sheet.field(*column)?;
-        fields
-            .push(String::from_str(alloc, field)?)
-            .map_err(AllocError::from)?;
+        let field = key_field(alloc, sheet, *column, form)?;
+        fields.push(field).map_err(AllocError::from)?;
     }
     Ok(fields)
 }
 
-// The number in this column of the record that was read last, in units of the scale.
+// The number in this column of the record that was read last, in units of the scale. Without a column it is one.
 fn number_of(
     alloc: Global,
     sheet: &Sheet<'_>,
-    column: Column<'_>,
+    column: Option<Column<'_>>,
     scale: Scale,
 ) -> Result<usize, SheetError>
-    ensures { IfOk result (λ n. n ≡ number_in scale (get_or (read_last sheet.now) (place column.entry) [])) }
+    ensures { IfOk result (λ n. n ≡ number_at scale (option_map place column.entry) (read_last sheet.now)) }
 {
-    let digits = sheet.field(column)?;
-    scaled_number(alloc, sheet.line(), digits, digits, scale)
+    match column {
+        Some(column) => {
+            let digits = sheet.field(column)?;
+            scaled_number(alloc, sheet.line(), digits, digits, scale)
+        }
+        None => Ok(unit_of(scale.decimals)),
+    }
 }
 
 impl<'n> LineColumns<'n> {
-    /// Returns the columns of these names in the header, which must be the record that was read last.
+    /// Returns the columns of these names in the header, which must be the record that was read last. Articles will have their fields in this
+    /// form. If `number` is `None`, each line counts as one.
     ///
     /// # Errors
     ///
@@ -89,14 +138,20 @@ impl<'n> LineColumns<'n> {
         alloc: Global,
         sheet: &Sheet<'_>,
         keys: &[&'n str],
-        number: &'n str,
+        number: Option<&'n str>,
+        form: KeyForm,
     ) -> Result<LineColumns<'n>, SheetError>
         ensures keys { IfOk result (λ columns. key_places columns ≡ map (λ n. place_of (read_last sheet.now) n.now) keys.now) }
-        ensures number { IfOk result (λ columns. number_place columns ≡ place_of (read_last sheet.now) number.now) }
+        ensures number { IfOk result (λ columns. number_place columns ≡ option_map (λ n. place_of (read_last sheet.now) n.now) number.entry) }
+        ensures form { IfOk result (λ columns. form_of columns ≡ form) }
     {
         let article = columns_of(alloc, sheet, keys)?;
-        let number = column_of(sheet, number)?;
-        Ok(LineColumns { article, number })
+        let number = number_column_of(sheet, number)?;
+        Ok(LineColumns {
+            article,
+            number,
+            form,
+        })
     }
 
     /// Reads the next record, and returns its article and its number in units of the scale, or `None` if no record is left.
@@ -112,12 +167,12 @@ impl<'n> LineColumns<'n> {
     ) -> Result<Option<(A, usize)>, SheetError>
         // `left` are the records not yet read. The line is that of the next one; or none was left.
         ensures { IfOk result (λ next. MatchOption next (left sheet.old ≡ [])
-            (λ line. IsNextLine A.fields scale (key_places self.now) (number_place self.now) (left sheet.old) (left sheet.new) line)) }
+            (λ line. IsNextLine A.fields (line_by scale self.now) (left sheet.old) (left sheet.new) line)) }
     {
         if !sheet.read()? {
             return Ok(None);
         }
-        let article = A::read(alloc, sheet, &self.article)?;
+        let article = A::read(alloc, sheet, &self.article, self.form)?;
         let number = number_of(alloc, sheet, self.number, scale)?;
         Ok(Some((article, number)))
     }

@@ -7,6 +7,7 @@ use crate::delimiter::Delimiter;
 use crate::escaped::shown;
 use crate::fault::{Fault, SheetError};
 use crate::quotes::misplaced_quote;
+use crate::trims::trim;
 use csv::{ByteRecord, Error, ErrorKind, Position, Reader, ReaderBuilder};
 use std::alloc::{AllocError, Global};
 use std::fmt::Write;
@@ -86,6 +87,7 @@ pub struct Sheet<'a> {
 
 impl<'a> Sheet<'a> {
     ghost use Rattle.std.specs.Prelude.{ℕ, ◌∷◌, [], get_or, IfErr, IfOk, IsTrue, IsUtf8, ◌↔◌};
+    ghost use Rattle.hashbag_csv.specs.KeyForms.{trimmed};
     ghost use Rattle.hashbag_csv.specs.Readers.{IsNext, records_in};
     ghost use Rattle.hashbag_csv.specs.Sheets.{IsColumnError, IsOnlyAt, left, place, read_last};
 
@@ -255,17 +257,31 @@ impl<'a> Sheet<'a> {
         }
     }
 
-    /// Returns the text of a column in the record that was read last.
-    pub fn field(&self, column: Column<'_>) -> Result<&str, SheetError>
-        ensures { IfOk result (λ text. text.now ≡ get_or (read_last self.now) (place column.entry) []) }
+    // The text of these bytes, which are from the field of this column in the record that was read last.
+    fn text_of<'s>(&'s self, column: Column<'_>, bytes: &'s [u8]) -> Result<&'s str, SheetError>
+        ensures { IfOk result (λ text. text.now ≡ bytes.now) }
     {
-        match str::from_utf8(self.bytes_at(column.place)) {
+        match str::from_utf8(bytes) {
             Ok(text) => Ok(text),
             Err(_) => {
                 let fault = Fault::NotText(shown(self.alloc, column.name)?);
                 Err(self.bad_line(fault))
             }
         }
+    }
+
+    /// Returns the text of a column in the record that was read last.
+    pub fn field(&self, column: Column<'_>) -> Result<&str, SheetError>
+        ensures { IfOk result (λ text. text.now ≡ get_or (read_last self.now) (place column.entry) []) }
+    {
+        self.text_of(column, self.bytes_at(column.place))
+    }
+
+    /// Returns the text of a column in the record that was read last, without the spaces and tabs at both ends.
+    pub fn trimmed_field(&self, column: Column<'_>) -> Result<&str, SheetError>
+        ensures { IfOk result (λ text. text.now ≡ trimmed (get_or (read_last self.now) (place column.entry) [])) }
+    {
+        self.text_of(column, trim(self.bytes_at(column.place)))
     }
 
     /// Returns an error with this fault at the current record, the one read last.

@@ -1,5 +1,5 @@
 //! The command line.
-use clap::{Arg, Command};
+use clap::{Arg, ArgAction, Command};
 use hashbag_shell::VERSION;
 use hashbag_shell::options::{CommandResult, with, with_output, with_reading};
 use std::alloc::Global;
@@ -15,6 +15,7 @@ Both files are CSV with a header; their columns are found by name. An article ma
 
 Example: hashbag_match --only differing ordered.csv delivered.csv
          hashbag_match --key sku,lot --number qty --delivered-number Menge --scale 2 ordered.csv delivered.csv
+         hashbag_match --each-line --trim --fold ordered.csv delivered.csv
 
 Status: 0 they agree, 1 they differ, 2 bad arguments or a bad line (FILE:LINE is said), 3 no memory, 4 a file can't be opened, or a
 read or a write failed, 5 the numbers of a file add up to more than 2^64-1.";
@@ -44,7 +45,33 @@ fn with_columns<'a>(alloc: Global, command: CommandResult<'a>) -> CommandResult<
         .value_name("COLUMN")
         .help("The name of the column of numbers in DELIVERED.csv, if it is another");
     let command = with(with(command, key), number);
-    with(with(command, delivered_key), delivered_number)
+    let command = with(with(command, delivered_key), delivered_number);
+    with_key_form(alloc, with_lines(alloc, command))
+}
+
+// Adds `--each-line`, which no option about numbers may be given with.
+fn with_lines<'a>(alloc: Global, command: CommandResult<'a>) -> CommandResult<'a> {
+    let each_line = Arg::new(alloc, "each-line")
+        .long("each-line")
+        .action(ArgAction::SetTrue)
+        .help("Read no column of numbers: each line counts as one")
+        .conflicts_with("number")?
+        .conflicts_with("delivered-number")?
+        .conflicts_with("scale")?;
+    with(command, each_line)
+}
+
+// Adds what the fields of an article are compared and shown as.
+fn with_key_form<'a>(alloc: Global, command: CommandResult<'a>) -> CommandResult<'a> {
+    let trim = Arg::new(alloc, "trim")
+        .long("trim")
+        .action(ArgAction::SetTrue)
+        .help("Remove the spaces and tabs at both ends of the fields of an article");
+    let fold = Arg::new(alloc, "fold")
+        .long("fold")
+        .action(ArgAction::SetTrue)
+        .help("Read upper and lower case in the fields of an article as one");
+    with(with(command, trim), fold)
 }
 
 // The options that say what is written.

@@ -1,6 +1,7 @@
 //! The words of the command line as values.
 use clap::ArgMatches;
 use hashbag_csv::counts::Reading;
+use hashbag_csv::key_form::KeyForm;
 use hashbag_match_lib::ask::{Ask, Columns};
 use hashbag_match_lib::output::{Form, Only};
 use hashbag_shell::one_file::is_one_file;
@@ -22,22 +23,34 @@ pub struct Request<'a> {
     pub ask: Ask<'a>,
 }
 
+// The column of numbers, which has this name, or `None` if each line counts as one.
+fn number_column<'a>(given: &ArgMatches<'a>, name: &'a str) -> Option<&'a str> {
+    if given.get_flag("each-line") {
+        return None;
+    }
+    Some(name)
+}
+
 // What the words ask for.
 fn ask_of<'a>(alloc: Global, given: &ArgMatches<'a>) -> Result<Ask<'a>, AllocError> {
     let key = word(given, "key", "article");
     let number = word(given, "number", "number");
     Ok(Ask {
-        ordered: Columns::named(alloc, key, number)?,
+        ordered: Columns::named(alloc, key, number_column(given, number))?,
         delivered: Columns::named(
             alloc,
             word(given, "delivered-key", key),
-            word(given, "delivered-number", number),
+            number_column(given, word(given, "delivered-number", number)),
         )?,
         reading: Reading::named(
             word(given, "delimiter", ","),
             word(given, "scale", "0"),
             word(given, "mark", "."),
         ),
+        key_form: KeyForm {
+            trim: given.get_flag("trim"),
+            fold: given.get_flag("fold"),
+        },
         only: Only::named(word(given, "only", "all")),
         form: Form::named(word(given, "to", "table")),
     })

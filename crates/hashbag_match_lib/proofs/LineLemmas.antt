@@ -1,9 +1,11 @@
 -- Lines that are tallied one after the other.
-use Rattle.std.proofs.Common.{◌≡◌, ℕ, Bool, Bor, List, [], ◌∷◌, ◌++◌, length, map, refl, sym, ◌∙◌, ap, append_assoc}
+use Rattle.std.proofs.Common.{◌≡◌, ℕ, Bool, Bor, List, [], ◌∷◌, ◌++◌, length, map, Option, Some, None, refl, sym, ◌∙◌, ap, append_assoc}
+use Rattle.std.specs.Prelude.{option_copied, option_map}
 use Rattle.std.proofs.lemmas.List.{append-nil, map-append}
 use Rattle.hashbag_csv.specs.LineColumns.{line_bytes}
 use Rattle.hashbag_csv.specs.Lines.{line_of, lines_under, place_of}
 use Rattle.hashbag_csv.specs.Readers.{Record}
+use Rattle.hashbag_csv.specs.declared.key_form.KeyForm.{KeyForm}
 use Rattle.hashbag_csv.specs.declared.scale.Scale.{Scale}
 use Rattle.hashbag.specs.Bag.{Bag}
 use Rattle.hashbag.proofs.MemberLemmas.{map-map}
@@ -29,9 +31,15 @@ pub record_read : (f : Record → Record × ℕ) (all : List (Record × ℕ)) (D
 record_read f all D before after r line is next same =
     is ∙ ap (λ (l : List Record). D ++ map f l) next ∙ ap (λ (x : Record × ℕ). D ++ x ∷ map f after) (sym same) ∙ sym (append_assoc D (line ∷ []) (map f after))
 
+map_copied : (f : List ℕ → ℕ) (o : Option (Bor (List ℕ))) → option_map f (option_copied o) ≡ option_map (λ n. f n.now) o
+map_copied f None = refl
+map_copied f (Some n) = refl
+
 -- the lines below the header, by the places of the columns
-pub all_lines : (scale : Scale) (keys : List (Bor (List ℕ))) (number : List ℕ) (all : List Record) (header : Record) (records : List Record) (places : List ℕ) (place : ℕ)
-    → all ≡ header ∷ records → places ≡ map (λ k. place_of header k.now) keys → place ≡ place_of header number
-    → map (line_of scale places place) records ≡ lines_under scale (map (λ k. k.now) keys) number all
-all_lines scale keys number all header records places place is keys_are number_is =
-    (λ i. map (line_of scale ((keys_are ∙ sym (map-map (λ k. k.now) (place_of header) keys)) i) (number_is i)) records) ∙ ap (lines_under scale (map (λ k. k.now) keys) number) (sym is)
+pub all_lines : (scale : Scale) (form : KeyForm) (keys : List (Bor (List ℕ))) (number : Option (Bor (List ℕ))) (all : List Record) (header : Record) (records : List Record)
+    (own : KeyForm) (places : List ℕ) (place : Option ℕ)
+    → all ≡ header ∷ records → own ≡ form → places ≡ map (λ k. place_of header k.now) keys → place ≡ option_map (λ n. place_of header n.now) number
+    → map (line_of scale own places place) records ≡ lines_under scale form (map (λ k. k.now) keys) (option_copied number) all
+all_lines scale form keys number all header records own places place is form_is keys_are number_is =
+    (λ i. map (line_of scale (form_is i) ((keys_are ∙ sym (map-map (λ k. k.now) (place_of header) keys)) i) ((number_is ∙ sym (map_copied (place_of header) number)) i)) records)
+    ∙ ap (lines_under scale form (map (λ k. k.now) keys) (option_copied number)) (sym is)

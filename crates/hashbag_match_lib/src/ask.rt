@@ -3,6 +3,7 @@ use crate::keys::{names_in, repeated};
 use crate::output::{Form, Only, is_reserved};
 use hashbag_csv::counts::Reading;
 use hashbag_csv::escaped::Escaped;
+use hashbag_csv::key_form::KeyForm;
 use std::alloc::{AllocError, Global};
 use thiserror::Error;
 
@@ -11,13 +12,17 @@ use thiserror::Error;
 pub struct Columns<'a> {
     /// Those of an article.
     pub keys: Vec<&'a str>,
-    /// That of numbers.
-    pub number: &'a str,
+    /// That of numbers, or `None` if each line counts as one.
+    pub number: Option<&'a str>,
 }
 
 impl<'a> Columns<'a> {
     /// Returns the columns of these names; those of an article have commas between them.
-    pub fn named(alloc: Global, keys: &'a str, number: &'a str) -> Result<Columns<'a>, AllocError> {
+    pub fn named(
+        alloc: Global,
+        keys: &'a str,
+        number: Option<&'a str>,
+    ) -> Result<Columns<'a>, AllocError> {
         let keys = names_in(alloc, keys)?;
         Ok(Columns { keys, number })
     }
@@ -32,6 +37,8 @@ pub struct Ask<'a> {
     pub delivered: Columns<'a>,
     /// How both texts are read, and how numbers and CSV are written.
     pub reading: Reading,
+    /// What the fields of the key columns of both are compared and shown as.
+    pub key_form: KeyForm,
     /// Which rows are written.
     pub only: Only,
     /// How they are written.

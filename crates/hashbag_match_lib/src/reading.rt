@@ -1,7 +1,7 @@
 //! Tallies of CSV texts.
-ghost use Rattle.std.specs.Prelude.{◌≡◌, ◌++◌, ℕ, List, [], map, IfOk, OnOk};
-ghost use Rattle.hashbag_csv.specs.LineColumns.{key_places, number_place};
-ghost use Rattle.hashbag_csv.specs.Lines.{line_of, lines_in};
+ghost use Rattle.std.specs.Prelude.{◌≡◌, ◌++◌, ℕ, List, [], map, option_copied, IfOk, OnOk};
+ghost use Rattle.hashbag_csv.specs.LineColumns.{line_by};
+ghost use Rattle.hashbag_csv.specs.Lines.{lines_in};
 ghost use Rattle.hashbag_csv.specs.Readers.{Record};
 ghost use Rattle.hashbag_csv.specs.Sheets.{left};
 ghost use Rattle.hashbag_match_lib.specs.Fields.{HasLineMore, IsTallyOfLines};
@@ -11,6 +11,7 @@ use hashbag::BagError;
 use hashbag_csv::article::Article;
 use hashbag_csv::counts::Reading;
 use hashbag_csv::fault::SheetError;
+use hashbag_csv::key_form::KeyForm;
 use hashbag_csv::lines::LineColumns;
 use hashbag_csv::numbers::total_too_large;
 use hashbag_csv::scale::Scale;
@@ -48,7 +49,7 @@ fn add_lines<A: Article + Drop, S: BuildHasher + Drop>(
     scale: Scale,
 ) -> Result<(), SheetError>
     ensures { OnOk result ((K : List (Record × ℕ)) → IsTallyOfLines A.eq A.fields K tally.old.counts tally.old.zeros
-        → IsTallyOfLines A.eq A.fields (K ++ map (line_of scale (key_places columns.now) (number_place columns.now)) (left sheet.old)) tally.new.counts tally.new.zeros) }
+        → IsTallyOfLines A.eq A.fields (K ++ map (line_by scale columns.now) (left sheet.old)) tally.new.counts tally.new.zeros) }
 {
     'lines: while let Some((article, number)) = columns.read::<A>(alloc, sheet, scale)? {
         add_line(alloc, sheet, tally, article, number, scale)?;
@@ -56,8 +57,9 @@ fn add_lines<A: Article + Drop, S: BuildHasher + Drop>(
     Ok(())
 }
 
-/// Returns the tally of the lines of a text, under this hash state. An article is the fields of the columns that `keys` names, and may
-/// be on more than one line; its numbers add up. Numbers are in units of the scale, and all together are at most its greatest number.
+/// Returns the tally of the lines of a text, under this hash state. An article is the fields of the columns that `keys` names, in this form,
+/// and may be on more than one line; its numbers add up. Numbers are in units of the scale, and all together are at most its greatest number.
+/// If `number_column` is `None`, each line counts as one.
 ///
 /// # Errors
 ///
@@ -72,17 +74,18 @@ pub fn read_tally<A: Article + Drop, S: BuildHasher + Copy + Drop>(
     state: S,
     text: &[u8],
     keys: &[&str],
-    number_column: &str,
+    number_column: Option<&str>,
     reading: Reading,
+    key_form: KeyForm,
 ) -> Result<Tally<A, S>, SheetError>
-    ensures lines { IfOk result (λ tally.
-        IsTallyOfLines A.eq A.fields (lines_in reading (map (λ k. k.now) keys.now) number_column.now text.now) tally.counts tally.zeros) }
+    ensures lines { IfOk result (λ tally. IsTallyOfLines A.eq A.fields
+        (lines_in reading key_form (map (λ k. k.now) keys.now) (option_copied number_column.entry) text.now) tally.counts tally.zeros) }
 
     // Nothing waits in either bag.
     ensures carried { IfOk result (λ tally. (tally.counts.tables.waiting ≡ []) × (tally.zeros.tables.waiting ≡ [])) }
 {
     let mut sheet = Sheet::open_with(alloc, text, reading.delimiter)?;
-    let columns = LineColumns::named(alloc, &sheet, keys, number_column)?;
+    let columns = LineColumns::named(alloc, &sheet, keys, number_column, key_form)?;
     let mut tally = empty_tally(alloc, state);
     add_lines(alloc, &mut sheet, &columns, &mut tally, reading.scale)?;
     tally.finish_carry();

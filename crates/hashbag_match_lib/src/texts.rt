@@ -39,6 +39,7 @@ pub fn read_ordered<A: Article + Drop, S: BuildHasher + Copy + Drop>(
         &columns.keys,
         columns.number,
         ask.reading,
+        ask.key_form,
     )
 }
 
@@ -59,6 +60,7 @@ fn read_delivered<A: Article + Drop, S: BuildHasher + Copy + Drop>(
         &columns.keys,
         columns.number,
         ask.reading,
+        ask.key_form,
     )
 }
 

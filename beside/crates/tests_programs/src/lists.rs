@@ -5,6 +5,7 @@ use hashbag_csv::counts::{Reading, read_counts_as};
 use hashbag_csv::decimals::{read_decimal, write_decimal};
 use hashbag_csv::delimiter::Delimiter;
 use hashbag_csv::fault::in_file;
+use hashbag_csv::key_form::KeyForm;
 use hashbag_csv::scale::{Mark, Scale};
 use hashbag_match_lib::keys::{names_in, repeated};
 use hashbag_match_lib::matching::rows_of_tallies;
@@ -181,6 +182,12 @@ const TEXTS: [(&[u8], &str); 52] = [
     (b"article,number\nbolt,x\nbo\xfft,1\n", "2: no number: `x`"),
 ];
 
+// Fields as they are.
+const AS_THEY_ARE: KeyForm = KeyForm {
+    trim: false,
+    fold: false,
+};
+
 type ListTally = Tally<Vec<String>, FixedState>;
 
 // Adds an article with its number to what is said.
@@ -202,18 +209,30 @@ fn said_of_tally(alloc: Global, tally: &ListTally, none: &ListTally) -> Result<S
     Ok(said)
 }
 
-// What a text says that is read so.
+// What a text says that is read so. Without a column of numbers each line counts as one.
+pub(crate) fn said_of_lines(
+    alloc: Global,
+    text: &[u8],
+    keys: &[&str],
+    number: Option<&str>,
+    reading: Reading,
+    form: KeyForm,
+) -> Result<String, AllocError> {
+    let state = FixedState::new();
+    match read_tally(alloc, state, text, keys, number, reading, form) {
+        Ok(tally) => said_of_tally(alloc, &tally, &empty_tally(alloc, state)),
+        Err(error) => format!(in alloc; "{error}"),
+    }
+}
+
+// What a text says that is read so, with its numbers, and its fields as they are.
 fn said_of(
     alloc: Global,
     text: &[u8],
     keys: &[&str],
     reading: Reading,
 ) -> Result<String, AllocError> {
-    let state = FixedState::new();
-    match read_tally(alloc, state, text, keys, "number", reading) {
-        Ok(tally) => said_of_tally(alloc, &tally, &empty_tally(alloc, state)),
-        Err(error) => format!(in alloc; "{error}"),
-    }
+    said_of_lines(alloc, text, keys, Some("number"), reading, AS_THEY_ARE)
 }
 
 // What a text says that is read so, its key columns in one text.
@@ -540,8 +559,9 @@ fn status_of(alloc: Global, text: &[u8], decimals: u32) -> u8 {
         FixedState::new(),
         text,
         &["article"],
-        "number",
+        Some("number"),
         reading,
+        AS_THEY_ARE,
     );
     match in_file(alloc, "ordered.csv", tally) {
         Ok(_) => 0,

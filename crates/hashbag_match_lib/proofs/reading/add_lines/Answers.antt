@@ -1,7 +1,6 @@
 use Rattle.std.proofs.Common.{◌++◌, ◌∷◌, [], ◌∙◌, refl, sym, ap, subst, length, map, arith, List, ℕ}
 use Rattle.std.proofs.lemmas.List.{append-nil}
-use Rattle.hashbag_csv.specs.LineColumns.{key_places, line_bytes, number_place}
-use Rattle.hashbag_csv.specs.Lines.{line_of}
+use Rattle.hashbag_csv.specs.LineColumns.{line_by, line_bytes}
 use Rattle.hashbag_csv.specs.Readers.{Record}
 use Rattle.hashbag_csv.specs.Sheets.{left}
 use Rattle.hashbag_match_lib.specs.Fields.{IsTallyOfLines}
@@ -16,7 +15,7 @@ pub lines-preserved : goal.lines-preserved
 lines-preserved g c =
     let (D, all, so_far) = c.lines.invariant in
     let (r, next, same) = rw c.in-Some.is at c.in_ok-article.ensures in
-    let f = line_of c.args.scale (key_places c.args.columns.now) (number_place c.args.columns.now) in (
+    let f = line_by c.args.scale c.args.columns.now in (
       D ++ line_bytes g.A.Article.fields (c.in-Some.article, c.in-Some.number) ∷ [],
       record_read f _ D (left c.lines.sheet) (left c.read.new.sheet) r (line_bytes g.A.Article.fields (c.in-Some.article, c.in-Some.number)) all next same,
       λ K before. more_lines g.A.PartialEq.eq g.A.Article.fields K D c.in-Some.article c.in-Some.number c.lines.tally.counts c.lines.tally.zeros c.add_line.new.tally.counts c.add_line.new.tally.zeros c.in_ok-add_line.ensures (so_far K before),
@@ -34,6 +33,6 @@ pub returns : goal.returns
 returns g c =
     let (D, all, so_far) = c.lines.invariant in
     let none = rw c.in_default.is at c.in_ok-article.ensures in
-    let f = line_of c.args.scale (key_places c.args.columns.now) (number_place c.args.columns.now) in
+    let f = line_by c.args.scale c.args.columns.now in
     let done = all ∙ ap (λ (l : List Record). D ++ map f l) none ∙ append-nil D in
     λ K before. subst (λ (l : List (Record × ℕ)). IsTallyOfLines g.A.PartialEq.eq g.A.Article.fields (K ++ l) c.lines.tally.counts c.lines.tally.zeros) (sym done) (so_far K before)

@@ -1,5 +1,5 @@
 use Rattle.std.proofs.Common.{[], ◌∷◌, ◌++◌, ◌∙◌, refl, sym, ap, map}
-use Rattle.hashbag_csv.specs.LineColumns.{key_places, number_place}
+use Rattle.hashbag_csv.specs.LineColumns.{form_of, key_places, number_place}
 use Rattle.hashbag_csv.specs.Sheets.{left, read_last}
 use Rattle.hashbag_match_lib.proofs.LineLemmas.{all_lines}
 use Rattle.hashbag_match_lib.proofs.reading.read_tally.Goals as goal
@@ -11,6 +11,7 @@ returns-clause-lines g c =
     let columns = c.in_ok-columns.columns in
     let sheet = c.in_ok-sheet.sheet in (
       L,
-      are ∙ all_lines c.args.reading.scale c.args.keys.now c.args.number_column.now _ (read_last sheet) (left sheet) (key_places columns) (number_place columns) c.in_ok-sheet.ensures c.in_ok-columns.ensures.keys c.in_ok-columns.ensures.number,
+      are ∙ all_lines c.args.reading.scale c.args.key_form c.args.keys.now c.args.number_column _ (read_last sheet) (left sheet) (form_of columns) (key_places columns) (number_place columns)
+          c.in_ok-sheet.ensures c.in_ok-columns.ensures.form c.in_ok-columns.ensures.keys c.in_ok-columns.ensures.number,
       c.finish_carry.ensures.same L is,
     )

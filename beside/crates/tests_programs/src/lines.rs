@@ -1,0 +1,122 @@
+//! Lists that are read without numbers, and fields that are trimmed and folded. What is wanted was found by hand.
+use crate::lists::said_of_lines;
+use hashbag_csv::counts::Reading;
+use hashbag_csv::delimiter::Delimiter;
+use hashbag_csv::key_form::KeyForm;
+use hashbag_csv::scale::{Mark, Scale};
+use std::test::Fail;
+
+// Texts without numbers, their decimals, and what they say.
+const EACH_LINE: [(&[u8], u32, &str); 6] = [
+    (b"article\n", 0, ""),
+    (b"article\nnut\nbolt\n\nnut", 0, "[bolt 1][nut 2]"),
+    (b"article\nnut\nnut\n", 2, "[nut 200]"),
+    (b"article\nnut\n", 9, "[nut 1000000000]"),
+    (
+        b"box,article,number\nx,nut,7\nx,nut,many\nx,bolt,\n",
+        0,
+        "[bolt 1][nut 2]",
+    ),
+    (b"article\nnut,7\n", 0, "2: 1 fields wanted, 2 found"),
+];
+
+#[test]
+fn each_line_counts_as_one(rt: HostRuntime) -> Result<(), Fail> {
+    let form = KeyForm {
+        trim: false,
+        fold: false,
+    };
+    for (text, decimals, wanted) in &EACH_LINE {
+        let reading = Reading {
+            delimiter: Delimiter::Comma,
+            scale: Scale::new(*decimals, Mark::Point).unwrap_or(Scale::whole()),
+        };
+        let said = said_of_lines(rt.alloc(), text, &["article"], None, reading, form)?;
+        assert_eq!(rt; said.as_str(), *wanted);
+    }
+    Ok(())
+}
+
+#[test]
+fn total_of_lines_is_bounded(rt: HostRuntime) -> Result<(), Fail> {
+    let form = KeyForm {
+        trim: false,
+        fold: false,
+    };
+    let reading = Reading {
+        delimiter: Delimiter::Comma,
+        scale: Scale::whole().at_most(2),
+    };
+    let text = b"article\na\nb\n";
+    let said = said_of_lines(rt.alloc(), text, &["article"], None, reading, form)?;
+    assert_eq!(rt; said.as_str(), "[a 1][b 1]");
+    let text = b"article\na\nb\na\n";
+    let said = said_of_lines(rt.alloc(), text, &["article"], None, reading, form)?;
+    assert_eq!(rt; said.as_str(), "4: total past 2");
+    Ok(())
+}
+
+// A text, whether its fields are trimmed and folded, and what it says.
+const FORMS: [(&[u8], bool, bool, &str); 12] = [
+    (b"k,number\n a ,1\na,2\n", false, false, "[ a  1][a 2]"),
+    (b"k,number\n a ,1\na,2\n\t a\t\t,4\n", true, false, "[a 7]"),
+    (b"k,number\n \t ,1\n,2\n", true, false, "[ 3]"),
+    (
+        b"k,number\na  b,1\n a  b,2\na b,4\n",
+        true,
+        false,
+        "[a  b 3][a b 4]",
+    ),
+    (
+        b"k,number\n\"\na\n\",1\na,2\n\"a\r\",4\n",
+        true,
+        false,
+        "[\na\n 1][a 2][a\r 4]",
+    ),
+    (
+        b"k,number\n\xc2\xa0a,1\na,2\n",
+        true,
+        false,
+        "[a 2][\u{a0}a 1]",
+    ),
+    (b"k,number\n A ,1\na,2\nA,4\n", false, true, "[ a  1][a 6]"),
+    (b"k,number\n A ,1\na,2\nA,4\n", true, true, "[a 7]"),
+    (
+        b"k,number\nStra\xc3\x9fe,1\nSTRASSE,2\n",
+        false,
+        true,
+        "[strasse 3]",
+    ),
+    (
+        b"k,number\n\xce\xa3,1\n\xcf\x83,2\n\xcf\x82,4\n",
+        false,
+        true,
+        "[\u{3c3} 7]",
+    ),
+    (
+        b"k,number\nA,1\n\xff,2\n",
+        true,
+        true,
+        "3: column `k` is not UTF-8; if it is Windows-1252, `iconv -f CP1252 -t UTF-8`",
+    ),
+    (
+        b"K,number\nA,1\n",
+        true,
+        true,
+        "1: no column `k`; there are: `K`, `number`",
+    ),
+];
+
+#[test]
+fn fields_are_trimmed_and_folded(rt: HostRuntime) -> Result<(), Fail> {
+    for (text, trim, fold, wanted) in &FORMS {
+        let form = KeyForm {
+            trim: *trim,
+            fold: *fold,
+        };
+        let number = Some("number");
+        let said = said_of_lines(rt.alloc(), text, &["k"], number, Reading::plain(), form)?;
+        assert_eq!(rt; said.as_str(), *wanted);
+    }
+    Ok(())
+}
