@@ -268,6 +268,31 @@ open("shown", "wb").writelines(b"%s\t%d\n" % (row[0], row[1]) for row in sorted(
 END
 shows shown "lines across blocks" --by lines blocks && cat blocks | "$program" --by lines > found && is found shown "lines across the reads of a pipe"
 
+# fields: between blanks as awk finds them, and between characters as Python does
+printf '  b\ta \303\244\303\266 \ncd e\n\n \t\nb\tb  \303\244\303\266\tb\nb\302\240a\n' > fields
+printf ',x,\n\nx y,x\na,,b\n,\n' > commas && tr ',' '\t' < commas > tabs
+for n in 1 2 3 4 9; do
+  awk -v n=$n 'NF >= n { print $n }' fields | sort | uniq -c > shown
+  for how in "" "--memory 1K"; do shows shown "field $n: $how" $how --to uniq --field $n fields; done
+  python3 -c 'import sys; print(*[it[int(sys.argv[1])] for it in (line.split(",") for line in open("commas").read().splitlines()) if len(it) > int(sys.argv[1])], sep="\n")' $((n - 1)) |
+    if [ $n -lt 4 ]; then sort | uniq -c; else cat > /dev/null; fi > shown
+  for how in "" "--memory 1K"; do
+    shows shown "field $n between commas: $how" $how --to uniq --field $n --delimiter , commas
+    shows shown "field $n between tabs: $how" $how --to uniq --field $n --delimiter '\t' tabs
+  done
+done
+"$program" --field 1 --delimiter '	' tabs > shown && shows shown "a tab as it is" --field 1 --delimiter '\t' tabs
+printf 'a B\na b\n' > fields && printf 'b\t2\n' > shown && shows shown "fields, folded" --fold --field 2 fields
+awk '{ print $5 }' text | sort | uniq -c > shown && for how in "" "--memory 1K"; do shows shown "the fifth field: $how" $how --to uniq --field 5 text; done
+ends 2 "hashbag_words: --field: 0: the first field is 1" --field 0 -o none/out none
+for delimiter in '' ',,' é '\n' '\t\t' tab; do
+  ends 2 "hashbag_words: --delimiter: $delimiter: not one ASCII character or \\t" --field 1 --delimiter "$delimiter" -o none/out none
+done
+for how in "--field x" "--field -1" "--field 1 --by lines" "--field 1 --pattern a" "--delimiter ," "merge --field 1"; do
+  "$program" $how text > out 2> err
+  [ $? = 2 ] && [ ! -s out ] || fail "no status 2: $how"
+done
+
 # tokens of N characters and more, in each job
 printf 'ä äb\nabc äöü é\n' > lengths
 printf 'äb\t1\nabc\t1\näöü\t1\n' | LC_ALL=C sort > two
@@ -275,6 +300,40 @@ shows two "tokens of two characters" --min-length 2 lengths
 printf 'abc\t1\näöü\t1\n' | LC_ALL=C sort > three
 for how in "" "--memory 1K"; do shows three "tokens of three characters $how" $how --min-length 3 lengths; done
 "$program" lengths > lengths.tsv && for how in "" "--sorted"; do shows three "merged: tokens of three characters $how" merge $how --min-length 3 lengths.tsv; done
+
+# tokens that aren't shown, in each job: the lines of a file, of which no other one is shown more or less often
+printf 'w1\n\nw22\r\nw333\nw4444\nw5 \nW6' > stop && awk '$1 != "w1" && $1 != "w22" && $1 != "w333"' wanted > others
+for how in "" "--memory 1K" "--fold"; do
+  if [ "$how" = --fold ]; then grep -v '^w6	' others; else cat others; fi > shown && shows shown "other tokens: $how" $how --except stop text
+  sort -t "$(printf '\t')" -k2,2nr -k1,1 shown | head -n 5 > top && shows top "the most common of the others: $how" $how --top 5 --except stop text
+done
+for how in "" "--sorted" "--memory 1K"; do
+  shows others "merged: other tokens: $how" merge $how --except stop whole
+  sort -t "$(printf '\t')" -k2,2nr -k1,1 others | head -n 5 > top && shows top "merged: the most common of the others: $how" merge $how --top 5 --except stop whole
+done
+shows others "the counts of other tokens, less none" less --except stop whole /dev/null
+shows others "the lesser counts of other tokens" common --except stop whole whole
+"$program" --except - text < stop > found && is found others "other tokens than those of standard input"
+printf 'STRASSE\nnot\n' > stop && printf 'Straße\nNot\nno\n\n' > words && printf '\t1\nno\t1\n' > shown && shows shown "other tokens, folded" --by lines --fold --except stop words
+printf 'no\n\n' > stop && printf 'Not\t1\nStraße\t1\n' > shown && shows shown "other tokens than the empty one" --by lines --except stop words
+cp words same && ends 1 "" --fail-empty --by lines --except same words
+# that file is read before all others, and is none of them
+cp stop linked && ln -f linked hard && for name in stop ./stop "$PWD/stop"; do
+  ends 2 "hashbag_words: --except: $name: it is one of the inputs" --except "$name" text stop
+  ends 2 "hashbag_words: --except: $name: it is the output" --except "$name" -o stop text
+done
+ends 2 "hashbag_words: --except: hard: it is one of the inputs" merge --except hard whole linked
+ends 2 "hashbag_words: --except: stop: it is one of the inputs" less --except stop whole stop
+"$program" --except stop - < stop > out 2> err
+[ $? = 2 ] && [ "$(cat err)" = "hashbag_words: --except: stop: it is one of the inputs" ] || fail "tokens that are standard input, too"
+for how in "--except - -" "--except - --files-from -" "common --except - - whole"; do ends 2 "hashbag_words: standard input is named twice" $how; done
+printf 'a\nb\377\n' > bad.txt
+for how in "" "--lossy" "--skip-bad" "merge" "merge --sorted"; do
+  ends 2 "hashbag_words: bad.txt:2: not UTF-8" $how --except bad.txt none -o kept && is kept old "an output after a bad line of --except"
+done
+ends 2 "hashbag_words: packed.gz: gzip; \`zcat\` makes it text" --except packed.gz none
+"$program" --except no_such_file none > out 2> err
+[ $? = 4 ] && [ ! -s out ] && grep -q '^hashbag_words: no_such_file: ' err || fail "no name of a file of tokens"
 
 # shards: each token is in one of them, by FNV-1a
 python3 - << 'END' || fail "no shards"

@@ -78,6 +78,12 @@ pub enum Failure<'a> {
     OutputIsInput {
         name: &'a str,
     },
+    /// The file of tokens that aren't shown is one of the inputs, or the output.
+    #[error("--except: {name}: it is {what}")]
+    Except {
+        name: &'a str,
+        what: &'static str,
+    },
     /// The system gave no random keys for the hash state.
     #[error("no random numbers: {0}")]
     NotRandom(io::Error),
@@ -124,7 +130,7 @@ impl<'a> Failure<'a> {
         match self {
             Failure::Line { .. } | Failure::Text { .. } | Failure::Tree { .. } => BAD_INPUT,
             Failure::Pattern(_) | Failure::ReadTwice | Failure::Kind { .. } => BAD_INPUT,
-            Failure::OutputIsInput { .. } => BAD_INPUT,
+            Failure::OutputIsInput { .. } | Failure::Except { .. } => BAD_INPUT,
             Failure::NoMemory { .. } | Failure::NoMemoryLeft => NO_MEMORY,
             Failure::File { error, .. } if error.kind() == io::ErrorKind::InvalidData => BAD_INPUT,
             Failure::File { .. } | Failure::NotRandom(_) => IO_FAILED,

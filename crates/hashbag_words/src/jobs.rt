@@ -11,9 +11,10 @@ use hashbag::HashBag;
 use hashbag_ops::{keep_common, take_away};
 use hashbag_shell::status::{DENIED, DONE};
 use hashbag_words_args::settings::{Ask, By, Pair, Settings, Tokens};
-use hashbag_words_lib::choice::keep_shown;
+use hashbag_words_lib::choice::{Choice, keep_shown};
 use hashbag_words_lib::counter::TextCounter;
 use hashbag_words_lib::gauge::Gauge;
+use hashbag_words_lib::lines::BadLines;
 use hashbag_words_lib::rule::{Pieces, Rule};
 use hashbag_words_lib::runs::run_of;
 use regex::Regex;
@@ -51,6 +52,7 @@ fn count<'a>(
         By::Words => count_by(inputs, rule(Pieces::Words), bag),
         By::UnicodeWords => count_by(inputs, rule(Pieces::UnicodeWords), bag),
         By::Lines => count_by(inputs, rule(Pieces::Lines), bag),
+        By::Field(index, separator) => count_by(inputs, rule(Pieces::Field(index, separator)), bag),
         By::Pattern(text) => {
             let pattern = match Regex::new(inputs.rt.alloc(), text) {
                 Ok(pattern) => pattern,
@@ -204,6 +206,47 @@ fn read_and_write<'a>(
     }
 }
 
+// Returns the lines of a file.
+fn lines_of<'a>(
+    inputs: &mut Inputs<'_, 'a, '_>,
+    name: &'a str,
+    fold: bool,
+) -> Result<Bag, Failure<'a>> {
+    let (rt, lossy) = (inputs.rt, false);
+    let rule = |pieces| Rule {
+        pieces,
+        fold,
+        lossy,
+    };
+    let lines = rule(Pieces::Lines);
+    let mut counter = TextCounter::new(rt.alloc(), empty(rt)?, lines, BadLines::Refused, None);
+    inputs.count_all(&mut counter, &[name])?;
+    let mut bag = counter.into_bag();
+    bag.finish_carry();
+    Ok(bag)
+}
+
+// Returns the tokens that aren't shown: the lines of a file, if one is named.
+fn excepted<'s, 'a>(
+    rt: &'s HostRuntime,
+    settings: &'s Settings<'a, '_>,
+    names: &'s [&'a str],
+) -> Result<Option<Bag>, Failure<'a>> {
+    let Some(name) = settings.except else {
+        return Ok(None);
+    };
+    let progress = Progress::new(rt, false);
+    let bound = None;
+    let mut inputs = Inputs {
+        rt,
+        settings,
+        names,
+        progress,
+        bound,
+    };
+    Ok(Some(lines_of(&mut inputs, name, settings.ask.folds())?))
+}
+
 /// Does the job and returns the exit status. Temporary files are in this folder.
 ///
 /// # Errors
@@ -216,8 +259,17 @@ pub fn run<'a>(
     folder: &'a str,
 ) -> Result<u8, Failure<'a>> {
     check(rt, settings, names)?;
+    let except = excepted(rt, settings, names)?;
+    let choice = Choice {
+        except: except.as_ref(),
+        ..settings.choice
+    };
+    let settings = Settings {
+        choice,
+        ..*settings
+    };
     let mut bag = empty(rt)?;
-    let written = read_and_write(rt, settings, names, folder, &mut bag);
+    let written = read_and_write(rt, &settings, names, folder, &mut bag);
     // The program ends soon, and the system then takes all memory back at once.
     mem::forget(bag);
     Ok(if written? && settings.fail_empty {

@@ -1,4 +1,4 @@
-//! Counts the words, lines or matches of a pattern in text, and adds up files of counts.
+//! Counts the words, lines, fields or matches of a pattern in text, and adds up files of counts.
 #![tactic(auto)]
 
 mod bag;

@@ -77,17 +77,45 @@ pub fn temporary_folder<'a>(rt: &HostRuntime) -> Result<String, Failure<'a>> {
     }
 }
 
-/// Checks that standard input is read at most once, and that the output isn't one of the inputs.
+// Checks that the file of tokens that aren't shown is neither the output nor one of the inputs.
+fn check_except<'a>(
+    rt: &HostRuntime,
+    settings: &Settings<'a, '_>,
+    names: &[&'a str],
+) -> Result<(), Failure<'a>> {
+    let Some(name) = settings.except else {
+        return Ok(());
+    };
+    if let Some(output) = settings.output
+        && is_one_file(rt, name, output)
+    {
+        let what = "the output";
+        return Err(Failure::Except { name, what });
+    }
+    for input in names {
+        if is_one_file(rt, name, input) {
+            let what = "one of the inputs";
+            return Err(Failure::Except { name, what });
+        }
+    }
+    Ok(())
+}
+
+/// Checks that standard input is read at most once, that the output isn't one of the inputs, and that the file of tokens that aren't shown is none
+/// of them.
 ///
 /// # Errors
 ///
-/// `ReadTwice` or `OutputIsInput`.
+/// `ReadTwice`, `OutputIsInput` or `Except`.
 pub fn check<'a>(
     rt: &HostRuntime,
     settings: &Settings<'a, '_>,
     names: &[&'a str],
 ) -> Result<(), Failure<'a>> {
     let mut reads = u64::from(settings.ask.files_from() == Some("-"));
+    if settings.except == Some("-") {
+        reads = reads.saturating_add(1);
+    }
     for name in names {
         if *name == "-" {
             reads = reads.saturating_add(1);
@@ -101,5 +129,5 @@ pub fn check<'a>(
     if reads > 1 {
         return Err(Failure::ReadTwice);
     }
-    Ok(())
+    check_except(rt, settings, names)
 }

@@ -5,6 +5,7 @@ use hashbag::BagError;
 use hashbag_shell::temporary_file::create_unnamed;
 use hashbag_words_lib::choice::{Choice, Order};
 use hashbag_words_lib::errors::InputFault;
+use hashbag_words_lib::levels::Levels;
 use hashbag_words_lib::row_parts::RowParts;
 use hashbag_words_lib::row_text::RowText;
 use hashbag_words_lib::shown_rows::ShownRows;
@@ -17,23 +18,12 @@ use std::process;
 /// How many bytes are read or written at once.
 pub const BUFFER: usize = 1 << 16;
 
-/// How many runs, or files, are merged at once.
-pub const FAN: usize = 16;
-
-// A run, and how often its rows have been merged.
-#[derive(Drop)]
-struct Run {
-    file: File,
-    level: u32,
-}
-
 /// The runs that were made.
 #[derive(Drop)]
 pub struct Runs<'s, 'a> {
     rt: &'s HostRuntime,
     folder: &'a str,
-    // The levels are in descending order, and fewer than `FAN` runs are of one level.
-    runs: Vec<Run>,
+    kept: Levels<File>,
 }
 
 // Creates a temporary file in that folder.
@@ -49,16 +39,29 @@ fn written(mut file: File, text: &mut RowText<'_>) -> io::Result<File> {
     Ok(file)
 }
 
+// Returns runs as sources of one merge.
+fn batch_of<'s, 'a>(
+    rt: &'s HostRuntime,
+    folder: &'a str,
+    files: Vec<File>,
+) -> Result<MergeInputs<'s, 'a>, Failure<'a>> {
+    let mut batch = MergeInputs::new(rt)?;
+    for file in files {
+        batch.push_run(folder, file)?;
+    }
+    Ok(batch)
+}
+
 impl<'s, 'a> Runs<'s, 'a> {
     /// Returns no runs. The temporary files of later ones are in that folder.
     pub fn new(rt: &'s HostRuntime, folder: &'a str) -> Runs<'s, 'a> {
-        let runs = Vec::new(rt.alloc());
-        Runs { rt, folder, runs }
+        let kept = Levels::new(rt.alloc());
+        Runs { rt, folder, kept }
     }
 
     /// Returns whether there are none.
     pub fn is_empty(&self) -> bool {
-        self.runs.is_empty()
+        self.kept.is_empty()
     }
 
     /// Writes a run of this text into a temporary file.
@@ -75,68 +78,41 @@ impl<'s, 'a> Runs<'s, 'a> {
     pub fn add(&mut self, file: File) -> Result<(), Failure<'a>> {
         let mut file = file;
         for level in 0..u32::MAX {
-            if self.runs.push(Run { file, level }).is_err() {
-                return Err(Failure::NoMemoryLeft);
-            }
-            if self.of_level(level) < FAN {
+            self.kept.push(file, level)?;
+            let Some(files) = self.kept.take_full()? else {
                 break;
-            }
-            file = self.merged(level)?;
+            };
+            let mut batch = batch_of(self.rt, self.folder, files)?;
+            file = merge_to_run(self.rt, self.folder, &mut batch)?;
         }
         Ok(())
     }
 
-    // Returns how many runs are of that level.
-    fn of_level(&self, level: u32) -> usize {
-        let mut n = 0usize;
-        for run in &self.runs {
-            if run.level == level {
-                n = n.saturating_add(1);
-            }
-        }
-        n
-    }
-
-    // Takes the runs of that level, which are the last ones, and merges them.
-    fn merged(&mut self, level: u32) -> Result<File, Failure<'a>> {
-        let mut batch = MergeInputs::new(self.rt)?;
-        for _run in 0..FAN {
-            match self.runs.pop() {
-                Some(run) if run.level == level => batch.push_run(self.folder, run.file)?,
-                _ => break,
-            }
-        }
-        merge_to_run(self.rt, self.folder, &mut batch)
-    }
-
     /// Returns all runs as sources of one merge.
     pub fn into_batch(self) -> Result<MergeInputs<'s, 'a>, Failure<'a>> {
-        let Runs { rt, folder, runs } = self;
-        let mut batch = MergeInputs::new(rt)?;
-        for run in runs {
-            batch.push_run(folder, run.file)?;
-        }
-        Ok(batch)
+        let Runs { rt, folder, kept } = self;
+        batch_of(rt, folder, kept.into_runs())
     }
 }
 
 /// How merged rows are written, and which.
 #[derive(Clone, Copy)]
-pub struct RowLayout {
+pub struct RowLayout<'e> {
     /// How they are written.
     pub format: Format,
     /// Which are.
-    pub choice: Choice,
+    pub choice: Choice<'e>,
 }
 
 // The rows of a run: all of them.
-const RUN: RowLayout = RowLayout {
+const RUN: RowLayout<'static> = RowLayout {
     format: Format::Tsv,
     choice: Choice {
         order: Order::Rising,
         least: 0,
         shortest: 0,
         shard: None,
+        except: None,
     },
 };
 
@@ -149,7 +125,7 @@ fn write_part(parts: &mut RowParts, file: &mut File) -> io::Result<()> {
 
 // Puts a row, and writes what was built if that is as much as is written at once.
 fn put_row(
-    rows: &mut ShownRows<RowParts>,
+    rows: &mut ShownRows<'_, RowParts>,
     file: &mut File,
     token: String,
     count: usize,
@@ -174,7 +150,7 @@ pub fn merge_to_file<'a>(
     rt: &HostRuntime,
     folder: &'a str,
     batch: &mut MergeInputs<'_, 'a>,
-    shape: RowLayout,
+    shape: RowLayout<'_>,
 ) -> Result<(File, bool), Failure<'a>> {
     let mut file = temporary(rt, folder)?;
     let mut rows = ShownRows {

@@ -2,9 +2,10 @@
 use crate::failure::Failure;
 use crate::merge_inputs::{MergeInputs, target_failure};
 use crate::output::Rendered;
-use crate::runs::{FAN, RowLayout, Runs, merge_to_file, merge_to_run};
+use crate::runs::{RowLayout, Runs, merge_to_file, merge_to_run};
 use hashbag_words_args::settings::Settings;
 use hashbag_words_lib::choice::Order;
+use hashbag_words_lib::levels::FAN;
 use hashbag_words_lib::row_parts::RowParts;
 use hashbag_words_lib::row_source::SourceKind;
 use hashbag_words_lib::rows::RowForm;

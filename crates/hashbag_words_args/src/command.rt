@@ -2,7 +2,8 @@
 use clap::{Arg, Command, arg, value_parser};
 use std::alloc::{AllocError, Global};
 
-const ABOUT: &str = "Counts words, lines or matches of a pattern, and adds up files of counts";
+const ABOUT: &str =
+    "Counts words, lines, fields or matches of a pattern, and adds up files of counts";
 
 const AFTER: &str = "\
 Where no command is named it is `count`, so these count words, and show the ten most common, upper and lower case as one:
@@ -60,8 +61,10 @@ fn with_choice<'a>(alloc: Global, command: CommandResult<'a>) -> CommandResult<'
         arg!(in alloc; --"min-length" <N> "Show tokens of N characters or more alone").value_parser(
             value_parser!(usize),
         );
+    let except = arg!(in alloc; --except <FILE> "Show no token that is a line of this file");
     let command = with(with(command, top), Ok(unsorted));
-    with(with(command, Ok(least)), Ok(shortest))
+    let command = with(with(command, Ok(least)), Ok(shortest));
+    with(command, Ok(except))
 }
 
 // Adds how counts are written, and where.
@@ -107,6 +110,20 @@ fn with_list<'a>(alloc: Global, command: CommandResult<'a>) -> CommandResult<'a>
     with(with(command, list.conflicts_with("files")), Ok(null))
 }
 
+// Adds the fields that are counted.
+fn with_fields<'a>(alloc: Global, command: CommandResult<'a>) -> CommandResult<'a> {
+    let field =
+        arg!(in alloc; --field <N> "Count the N-th field of each line, from 1: what is between spaces and tabs")
+            .value_parser(value_parser!(usize))
+            .conflicts_with("by")?
+            .conflicts_with("pattern")?;
+    let delimiter =
+        arg!(in alloc; --delimiter <CHAR> "What is between fields instead, each time: an ASCII character, or `\\t`").requires_arg(
+            "field",
+        );
+    with(with(command, Ok(field)), delimiter)
+}
+
 // Adds what is counted.
 fn with_tokens<'a>(alloc: Global, command: CommandResult<'a>) -> CommandResult<'a> {
     let by =
@@ -115,7 +132,7 @@ fn with_tokens<'a>(alloc: Global, command: CommandResult<'a>) -> CommandResult<'
             .default_value("words")
             .conflicts_with("pattern");
     let pattern = arg!(in alloc; --pattern <REGEX> "Count what matches it, within a line");
-    with(with(command, by), Ok(pattern))
+    with_fields(alloc, with(with(command, by), Ok(pattern)))
 }
 
 fn count<'a>(alloc: Global) -> CommandResult<'a> {

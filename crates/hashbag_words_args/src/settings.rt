@@ -5,6 +5,7 @@ use hashbag_shell::trouble::Trouble;
 use hashbag_words_lib::choice::{Choice, Order};
 use hashbag_words_lib::lines::BadLines;
 use hashbag_words_lib::rows::RowForm;
+use hashbag_words_lib::rule::Separator;
 use hashbag_words_lib::shards::Shard;
 use hashbag_words_lib::writing::Format;
 use std::alloc::Global;
@@ -20,6 +21,8 @@ pub enum By<'a> {
     Lines,
     /// The matches of this pattern.
     Pattern(&'a str),
+    /// The field with this index, from 0.
+    Field(usize, Separator),
 }
 
 /// How text is counted.
@@ -85,6 +88,14 @@ impl<'a, 'm> Ask<'a, 'm> {
         }
     }
 
+    /// Returns whether upper and lower case are counted as one.
+    pub fn folds(&self) -> bool {
+        match self {
+            Ask::Count(tokens, _) => tokens.fold,
+            Ask::Merge(..) | Ask::MergeSorted(..) | Ask::Less(_) | Ask::Common(_) => false,
+        }
+    }
+
     /// Returns the file that has the names of the inputs, if there is one.
     pub fn files_from(&self) -> Option<&'a str> {
         self.many()?.files_from
@@ -92,7 +103,7 @@ impl<'a, 'm> Ask<'a, 'm> {
 }
 
 /// What the arguments ask for.
-#[derive(Drop)]
+#[derive(Clone, Copy)]
 pub struct Settings<'a, 'm> {
     /// The job.
     pub ask: Ask<'a, 'm>,
@@ -100,8 +111,10 @@ pub struct Settings<'a, 'm> {
     pub bad_lines: BadLines,
     /// Whether progress is reported.
     pub progress: bool,
-    /// Which counts are shown, and in what order.
-    pub choice: Choice,
+    /// Which counts are shown, and in what order. The tokens of `except` aren't in it before that file is read.
+    pub choice: Choice<'m>,
+    /// The file that has the tokens that aren't shown, if there is one.
+    pub except: Option<&'a str>,
     /// How counts are written.
     pub format: Format,
     /// The file to which they are written; `None` is standard output.
@@ -110,16 +123,60 @@ pub struct Settings<'a, 'm> {
     pub fail_empty: bool,
 }
 
-// What is counted.
-fn by_of<'a>(given: &ArgMatches<'a>) -> By<'a> {
-    if let Some(pattern) = given.get_str("pattern") {
-        return By::Pattern(pattern);
+// Returns the ASCII character that a text is, or the tab if the text is `\t`.
+fn delimiter_named(text: &str) -> Option<char> {
+    if text == "\\t" {
+        return Some('\t');
     }
-    match given.get_str("by") {
+    let mut chars = text.chars();
+    match (chars.next(), chars.next()) {
+        (Some(c), None) if c.is_ascii() => Some(c),
+        _ => None,
+    }
+}
+
+// Returns what separates fields.
+fn separator_of<'a>(alloc: Global, given: &ArgMatches<'a>) -> Result<Separator, Trouble<'a>> {
+    let Some(text) = given.get_str("delimiter") else {
+        return Ok(Separator::Blanks);
+    };
+    match delimiter_named(text) {
+        Some(c) => Ok(Separator::Char(c)),
+        None => {
+            let what = format!(in alloc; "--delimiter: {text}: not one ASCII character or \\t")?;
+            Err(Trouble::Words(what))
+        }
+    }
+}
+
+// Returns the field with this number, from 1.
+fn field_of<'a>(
+    alloc: Global,
+    given: &ArgMatches<'a>,
+    number: usize,
+) -> Result<By<'a>, Trouble<'a>> {
+    match number.checked_sub(1) {
+        Some(index) => Ok(By::Field(index, separator_of(alloc, given)?)),
+        None => {
+            let what = format!(in alloc; "--field: 0: the first field is 1")?;
+            Err(Trouble::Words(what))
+        }
+    }
+}
+
+// What is counted.
+fn by_of<'a>(alloc: Global, given: &ArgMatches<'a>) -> Result<By<'a>, Trouble<'a>> {
+    if let Some(pattern) = given.get_str("pattern") {
+        return Ok(By::Pattern(pattern));
+    }
+    if let Some(number) = given.get_one::<usize>("field") {
+        return field_of(alloc, given, number);
+    }
+    Ok(match given.get_str("by") {
         Some("unicode") => By::UnicodeWords,
         Some("lines") => By::Lines,
         _ => By::Words,
-    }
+    })
 }
 
 fn order_of(given: &ArgMatches<'_>) -> Order {
@@ -142,7 +199,7 @@ fn shard_of<'a>(alloc: Global, text: &str) -> Result<Shard, Trouble<'a>> {
 }
 
 // Returns which counts are shown, and in what order.
-fn choice_of<'a>(alloc: Global, given: &ArgMatches<'a>) -> Result<Choice, Trouble<'a>> {
+fn choice_of<'a, 'e>(alloc: Global, given: &ArgMatches<'a>) -> Result<Choice<'e>, Trouble<'a>> {
     let shard = match given.get_str("shard") {
         Some(text) => Some(shard_of(alloc, text)?),
         None => None,
@@ -152,6 +209,7 @@ fn choice_of<'a>(alloc: Global, given: &ArgMatches<'a>) -> Result<Choice, Troubl
         least: given.get_one::<usize>("least").unwrap_or(0),
         shortest: given.get_one::<usize>("min-length").unwrap_or(0),
         shard,
+        except: None,
     })
 }
 
@@ -186,12 +244,12 @@ fn rows_of(given: &ArgMatches<'_>) -> Option<RowForm> {
     }
 }
 
-fn tokens_of<'a>(given: &ArgMatches<'a>) -> Tokens<'a> {
-    Tokens {
-        by: by_of(given),
+fn tokens_of<'a>(alloc: Global, given: &ArgMatches<'a>) -> Result<Tokens<'a>, Trouble<'a>> {
+    Ok(Tokens {
+        by: by_of(alloc, given)?,
         fold: given.get_flag("fold"),
         lossy: given.get_flag("lossy"),
-    }
+    })
 }
 
 fn many_of<'a, 'm>(alloc: Global, given: &'m ArgMatches<'a>) -> Result<Many<'a, 'm>, Trouble<'a>> {
@@ -229,7 +287,7 @@ fn ask_of<'a, 'm>(
         "merge" => Ok(Ask::Merge(rows_of(given), many_of(alloc, given)?)),
         "less" => Ok(Ask::Less(pair_of(given))),
         "common" => Ok(Ask::Common(pair_of(given))),
-        _ => Ok(Ask::Count(tokens_of(given), many_of(alloc, given)?)),
+        _ => Ok(Ask::Count(tokens_of(alloc, given)?, many_of(alloc, given)?)),
     }
 }
 
@@ -238,7 +296,8 @@ impl<'a, 'm> Settings<'a, 'm> {
     ///
     /// # Errors
     ///
-    /// `Words` if the word of `--memory` or `--shard` has no meaning, or if JSON is to be merged line by line. `Memory` if an allocation fails.
+    /// `Words` if the word of `--memory`, `--shard`, `--field` or `--delimiter` has no meaning, or if JSON is to be merged line by line. `Memory` if
+    /// an allocation fails.
     pub fn of(
         alloc: Global,
         name: &str,
@@ -254,6 +313,7 @@ impl<'a, 'm> Settings<'a, 'm> {
             bad_lines,
             progress: given.get_flag("progress"),
             choice: choice_of(alloc, given)?,
+            except: given.get_str("except"),
             format: format_of(given),
             output: given.get_str("output"),
             fail_empty: given.get_flag("fail-empty"),

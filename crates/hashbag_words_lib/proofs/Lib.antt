@@ -2,6 +2,7 @@ pub mod AddedLemmas
 pub mod CountLemmas
 pub mod CountedLemmas
 pub mod DepthLemmas
+pub mod FieldLemmas
 pub mod LineLemmas
 pub mod MatchLemmas
 pub mod MergedLemmas

@@ -1,6 +1,6 @@
 -- What holds of each string holds of all bytes: how often they are in lists of strings, and in rows of strings.
-use Rattle.std.proofs.Common.{◌≡◌, ◌⊎◌, ℕ, ◌+◌, Bool, true, false, cond, List, [], ◌∷◌, map, sum_by, String, string_bytes, string_eq, bytes_eq, Global, refl, sym, ◌∙◌, ap, subst, arith, inl, inr}
-use Rattle.std.specs.Cmp.Lexicographic.{bytes_decides}
+use Rattle.std.proofs.Common.{◌≡◌, ◌⊎◌, ℕ, ◌+◌, Bool, true, false, cond, List, [], ◌∷◌, map, sum_by, count_by, String, string_bytes, string_eq, bytes_eq, Global, refl, sym, ◌∙◌, ap, subst, arith, inl, inr}
+use Rattle.std.specs.Cmp.Lexicographic.{bytes_decides, nat_list_eq_equiv}
 use Rattle.std.proofs.lemmas.List.Sums.{sum_by-cons}
 use Rattle.hashbag.specs.Occurrences.{count}
 use Rattle.hashbag_words_lib.specs.Choice.{shows, shown_count}
@@ -24,6 +24,15 @@ times_by text pairs = times_in text (map row_of pairs)
 
 pub times_of-string : (v : String Global) (strings : List (String Global)) → times_of (string_bytes v) strings ≡ count string_eq v strings
 times_of-string v strings = sum_of_map (λ text. cond (bytes_eq (string_bytes v) text) 1 0) string_bytes strings
+
+-- strings with these bytes, as they are counted by a key
+pub times_of-named : (text : List ℕ) (strings : List (String Global)) → count_by (λ v. bytes_eq (string_bytes v) text) strings ≡ times_of text strings
+times_of-named text [] = refl
+times_of-named text (v ∷ strings) =
+    sum_by-cons (λ w. cond (bytes_eq (string_bytes w) text) 1 0) v strings
+    ∙ ap (λ (b : Bool). cond b 1 0 + count_by (λ w. bytes_eq (string_bytes w) text) strings) (nat_list_eq_equiv.symm (string_bytes v) text)
+    ∙ ap (λ (n : ℕ). cond (bytes_eq text (string_bytes v)) 1 0 + n) (times_of-named text strings)
+    ∙ sym (sum_by-cons (λ bytes. cond (bytes_eq text bytes) 1 0) (string_bytes v) (map string_bytes strings))
 
 times_by-once : (text : List ℕ) (strings : List (String Global)) → times_by text (map once strings) ≡ times_of text strings
 times_by-once text strings =

@@ -28,7 +28,7 @@ second_of_both : (a b : Bool) → (a && b) ≡ true → b ≡ true
 second_of_both true b e = e
 second_of_both false b e = absurd (cc)
 
-scalars_left : (cs es : List ℕ) → scalars (cs ++ es) ≡ true → scalars es ≡ true
+pub scalars_left : (cs es : List ℕ) → scalars (cs ++ es) ≡ true → scalars es ≡ true
 scalars_left [] es e = e
 scalars_left (c ∷ cs) es e = scalars_left cs es (second_of_both (scalar c) (scalars (cs ++ es)) e)
 
@@ -60,13 +60,13 @@ word_first w word some (e ∷ es) white =
 -- ---- a step of the iterator
 
 -- the characters of what is left, behind a gap and behind a word
-record Ahead (bs : List ℕ) (cs : List ℕ) (rest : List ℕ) : Type 0 where
-  after : List ℕ
-  chars_are : chars bs ≡ cs ++ after
-  rest_is : encodes after ≡ rest
-  are_scalar : scalars after ≡ true
+pub record Ahead (bs : List ℕ) (cs : List ℕ) (rest : List ℕ) : Type 0 where
+  pub after : List ℕ
+  pub chars_are : chars bs ≡ cs ++ after
+  pub rest_is : encodes after ≡ rest
+  pub are_scalar : scalars after ≡ true
 
-ahead : (bs cs rest : List ℕ) → IsUtf8 bs → bs ≡ encodes cs ++ rest → Ahead bs cs rest
+pub ahead : (bs cs rest : List ℕ) → IsUtf8 bs → bs ≡ encodes cs ++ rest → Ahead bs cs rest
 ahead bs cs rest text e =
     let left = characters_left cs text.0 rest (text.1.1 ∙ e) in
     record {

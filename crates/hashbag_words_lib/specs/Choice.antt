@@ -1,5 +1,6 @@
 -- Which counts of a bag are shown, and in what order.
-use Rattle.std.specs.Prelude.{◌≡◌, ℕ, Bool, List, length, take, nat_le, ◌&&◌, if◌then◌else◌, String}
+use Rattle.std.specs.Prelude.{◌≡◌, ℕ, Bool, false, not, List, length, take, nat_le, nat_lt, ◌&&◌, if◌then◌else◌, Option, None, Some, String}
+use Rattle.std.specs.Borrow.{Bor}
 use Rattle.std.specs.List.Sorted.{IsStrictlySortedBy}
 use Rattle.std.specs.Map.{keys_of}
 use Rattle.std.specs.String.{string_cmp, string_eq}
@@ -23,9 +24,16 @@ IsShown Open bag pairs = IsSetWalkOf string_eq bag pairs
 IsShown (MostCommon k) bag pairs =
     (W : List (String Global × ℕ)) × IsSetWalkOf string_eq bag W × IsStrictlySortedBy (rank string_cmp) W × (pairs ≡ take k W)
 
--- a row is shown: its count and its token's length in characters aren't below the least ones, and the token is in the shard, if there is one
+-- a text isn't shown, whatever its count: it is in the bag of those that aren't, if there is one
+abbrev pub is_excepted : {S : Type 0} → Option (Bor (Bag (String Global) S)) → List ℕ → Bool
+is_excepted None text = false
+is_excepted (Some bag) text = nat_lt 0 (count bytes_eq text (texts_in bag.now))
+
+-- a row is shown: its count and its token's length in characters aren't below the least ones, the token is in the shard, if there is one, and it
+-- isn't excepted
 abbrev pub shows : Choice → List ℕ × ℕ → Bool
-shows choice row = nat_le choice.least row.1 && nat_le choice.shortest (length (chars row.0)) && is_shown choice.shard row.0
+shows choice row =
+    nat_le choice.least row.1 && nat_le choice.shortest (length (chars row.0)) && is_shown choice.shard row.0 && not (is_excepted choice.except row.0)
 
 -- how often a text is shown that occurs n times: n times, or not at all
 abbrev pub shown_count : Choice → List ℕ → ℕ → ℕ

@@ -1,13 +1,18 @@
 -- What the definitions say of small lists.
-use Rattle.std.specs.Prelude.{◌≡◌, ℕ, ◌==◌, List, [], ◌∷◌, map, refl, String, string_bytes}
+use Rattle.std.specs.Prelude.{◌≡◌, ℕ, ◌==◌, Bool, true, false, not, ◌&&◌, nat_le, List, [], ◌∷◌, length, map, None, refl, String, string_bytes}
 use Rattle.std.specs.Global.{Global}
-use Rattle.std.specs.Str.{bytes_eq}
+use Rattle.std.specs.Str.{bytes_eq, chars}
 use Rattle.std.proofs.Common.{ap, sym, ◌∙◌}
 use Rattle.std.proofs.lemmas.Bool.{false≢true}
 use Rattle.hashbag.specs.Bag.{Bag}
 use Rattle.hashbag.specs.Occurrences.{count}
+use Rattle.hashbag_words_lib.specs.Choice.{is_excepted, shows}
+use Rattle.hashbag_words_lib.specs.Fields.{fields_of}
 use Rattle.hashbag_words_lib.specs.Runs.{IsRunOf}
+use Rattle.hashbag_words_lib.specs.Shards.{is_shown}
 use Rattle.hashbag_words_lib.specs.Sorted.{times_in}
+use Rattle.hashbag_words_lib.specs.declared.choice.Choice.{Choice}
+use Rattle.hashbag_words_lib.specs.declared.rule.Separator.TheVariants.{Blanks, Char}
 
 -- the byte 255, which is no text, and the number 1
 abbrev pub no_text : List (List ℕ × ℕ)
@@ -20,3 +25,33 @@ no_text_counts = refl
 pub no_text_is_no_run : {S : Type 0} (bag : Bag (String Global) S) → bag.items ≡ [] → IsRunOf bag no_text → ⊥
 no_text_is_no_run bag none h =
     false≢true (sym (ap (λ (n : ℕ). n == 1) (h.counts (255 ∷ []) ∙ ap (λ (items : List (String Global)). count bytes_eq (255 ∷ []) (map string_bytes items)) none)))
+
+-- between blanks no field is empty; between commas the first one here is
+fields_between_blanks : fields_of Blanks (32 ∷ 97 ∷ 9 ∷ 32 ∷ 98 ∷ 99 ∷ 32 ∷ []) ≡ (97 ∷ []) ∷ (98 ∷ 99 ∷ []) ∷ []
+unfolding chars lib.Utf8.encode
+fields_between_blanks = refl
+
+fields_between_commas : fields_of (Char 44) (44 ∷ 97 ∷ 32 ∷ []) ≡ [] ∷ (97 ∷ 32 ∷ []) ∷ []
+unfolding chars lib.Utf8.encode
+fields_between_commas = refl
+
+none_of : (a b c : Bool) → (a && b && c && false) ≡ false
+none_of true true true = refl
+none_of true true false = refl
+none_of true false c = refl
+none_of false b c = refl
+
+-- a text that is excepted is never shown, and any other one is shown as if none were
+pub excepted_is_not_shown : (choice : Choice) (row : List ℕ × ℕ) → is_excepted choice.except row.0 ≡ true → shows choice row ≡ false
+excepted_is_not_shown choice row is =
+    let a = nat_le choice.least row.1 in
+    let b = nat_le choice.shortest (length (chars row.0)) in
+    let c = is_shown choice.shard row.0 in
+    ap (λ (e : Bool). a && b && c && not e) is ∙ none_of a b c
+
+pub others_are_shown : (choice : Choice) (row : List ℕ × ℕ) → is_excepted choice.except row.0 ≡ false → shows choice row ≡ shows (record choice { except = None }) row
+others_are_shown choice row is =
+    let a = nat_le choice.least row.1 in
+    let b = nat_le choice.shortest (length (chars row.0)) in
+    let c = is_shown choice.shard row.0 in
+    ap (λ (e : Bool). a && b && c && not e) is

@@ -3,6 +3,8 @@ pub mod Choice
 pub mod Counted
 pub mod Counts
 pub mod Examples
+pub mod Fields
+pub mod Levels
 pub mod Merged
 pub mod Merging
 pub mod Prefix

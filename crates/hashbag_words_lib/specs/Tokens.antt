@@ -1,7 +1,8 @@
 -- The tokens of a line and of an input: what is counted.
-use Rattle.std.specs.Prelude.{ℕ, Bool, false, not, List, [], ◌∷◌, nat_eq, nat_lt, length, drop, map, filter, flat_map, chars, encode_utf8_all, if◌then◌else◌, slice_range}
+use Rattle.std.specs.Prelude.{ℕ, Bool, false, not, List, [], ◌∷◌, nat_eq, nat_lt, length, drop, map, filter, flat_map, chars, encode_utf8_all, if◌then◌else◌, slice_get, slice_range}
 use Rattle.std.specs.Char.{is_whitespace}
 use Rattle.std.specs.List.{slice_split, starts_with}
+use Rattle.std.specs.Option.{option_to_list}
 use Rattle.std.specs.Str.{is_utf8}
 use Rattle.std.specs.Str.Lines.{lines}
 use Rattle.std.specs.Str.Lossy.{utf8_lossy}
@@ -9,8 +10,9 @@ use Rattle.caseless.specs.Caseless.{default_case_fold}
 use Rattle.regex.specs.Patterns.{Re, find_all_str, span}
 use Rattle.regex.specs.Strings.{regex_pattern}
 use Rattle.unicode_segmentation.specs.Word.{words}
+use Rattle.hashbag_words_lib.specs.Fields.{fields_of}
 use Rattle.hashbag_words_lib.specs.declared.rule.Pieces.{Pieces}
-use Rattle.hashbag_words_lib.specs.declared.rule.Pieces.TheVariants.{Words, UnicodeWords, Lines, Matches}
+use Rattle.hashbag_words_lib.specs.declared.rule.Pieces.TheVariants.{Words, UnicodeWords, Lines, Matches, Field}
 use Rattle.hashbag_words_lib.specs.declared.rule.Rule.{Rule}
 
 -- a line without the byte order mark at its beginning, if it has one
@@ -35,6 +37,7 @@ pieces_of Words line = spaced_words line
 pieces_of UnicodeWords line = words line
 pieces_of Lines line = line ∷ []
 pieces_of (Matches pattern) line = nonempty (matches_in (regex_pattern pattern.now) line)
+pieces_of (Field index separator) line = option_to_list (slice_get (fields_of separator line) index)
 
 -- the token that a piece is counted as
 abbrev pub token_of : Bool → List ℕ → List ℕ

@@ -5,7 +5,7 @@ ghost use Rattle.std.specs.Map.{keys_of};
 ghost use Rattle.std.specs.Str.{chars};
 ghost use Rattle.std.specs.String.{string_cmp, string_eq};
 ghost use Rattle.hashbag.specs.Walks.{IsSetWalkOf, seen};
-ghost use Rattle.hashbag_words_lib.specs.Choice.{shows, AreKept, IsShown};
+ghost use Rattle.hashbag_words_lib.specs.Choice.{is_excepted, shows, AreKept, IsShown};
 ghost use Rattle.hashbag_words_lib.specs.Counted.{HaveTogether};
 
 use crate::shards::{Shard, is_shown};
@@ -13,7 +13,7 @@ use crate::sorting::sort_rows;
 use hashbag::{BagError, HashBag};
 use hashbag_ops::{counts, most_common};
 use std::alloc::Global;
-use std::hash::BuildHasher;
+use std::hash::{BuildHasher, RandomState};
 
 /// In what order counts are shown, and how many of them.
 #[derive(Clone, Copy, Debug, PartialEq, Eq)]
@@ -27,8 +27,8 @@ pub enum Order {
 }
 
 /// Which counts are shown, and in what order.
-#[derive(Clone, Copy, Debug, PartialEq, Eq)]
-pub struct Choice {
+#[derive(Clone, Copy)]
+pub struct Choice<'e> {
     /// Their order.
     pub order: Order,
     /// The least count that is shown.
@@ -37,14 +37,19 @@ pub struct Choice {
     pub shortest: usize,
     /// The shard whose tokens are shown, if not all are.
     pub shard: Option<Shard>,
+    /// The tokens that aren't shown, if there are any.
+    pub except: Option<&'e HashBag<String, RandomState>>,
 }
 
-impl Choice {
+impl Choice<'_> {
     /// Returns whether a token with this count is shown.
     pub fn shows(&self, token: &str, count: usize) -> bool
         ensures { result ≡ shows self.now (token.now, count) }
     {
-        self.least <= count && is_long(self.shortest, token) && is_shown(self.shard, token)
+        self.least <= count
+            && is_long(self.shortest, token)
+            && is_shown(self.shard, token)
+            && !is_excepted(self.except, token)
     }
 }
 
@@ -55,18 +60,28 @@ fn is_long(shortest: usize, token: &str) -> bool
     shortest == 0 || shortest <= token.chars().count()
 }
 
+// Returns whether a token is one of those that aren't shown.
+fn is_excepted(except: Option<&HashBag<String, RandomState>>, token: &str) -> bool
+    ensures { result ≡ is_excepted except.entry token.now }
+{
+    match except {
+        Some(bag) => bag.contains(token) > 0,
+        None => false,
+    }
+}
+
 /// Removes all tokens that aren't shown.
 ///
 /// # Complexity
 ///
 /// Reads each token once, and allocates nothing.
-pub fn keep_shown<S: BuildHasher + Drop>(bag: &mut HashBag<String, S>, choice: Choice)
+pub fn keep_shown<S: BuildHasher + Drop>(bag: &mut HashBag<String, S>, choice: Choice<'_>)
     // `texts` lists what the bag had. Each of them that is shown has its count, and nothing else is left.
-    ensures { (texts : List (List ℕ)) → HaveTogether [] bag.old texts → AreKept choice texts bag.new }
+    ensures { (texts : List (List ℕ)) → HaveTogether [] bag.old texts → AreKept choice.entry texts bag.new }
 {
     bag.retain(
         |token: &String, count: usize| -> usize
-            ensures { result ≡ (if shows choice (string_bytes token.now, count) then count else 0) }
+            ensures { result ≡ (if shows choice.entry (string_bytes token.now, count) then count else 0) }
         {
             if choice.shows(token.as_str(), count) {
                 count

@@ -1,16 +1,19 @@
 //! Counting the tokens of lines.
-ghost use Rattle.std.specs.Prelude.{◌≡◌, ◌+◌, ◌-◌, ◌^◌, ◌∷◌, [], map, min, true, false, IfErr, OnOk};
+ghost use Rattle.std.specs.Prelude.{◌≡◌, ◌+◌, ◌-◌, ◌^◌, ◌∷◌, [], map, min, slice_get, true, false, IfErr, OnOk};
 ghost use Rattle.std.specs.Iterator.{IsFinite};
+ghost use Rattle.std.specs.Option.{option_to_list};
 ghost use Rattle.std.specs.Str.{is_utf8};
 ghost use Rattle.std.specs.Str.Lossy.{utf8_lossy};
 ghost use Rattle.unicode_segmentation.specs.Word.{words};
 ghost use Rattle.hashbag_words_lib.specs.Counts.{AddsTexts, AddsPieces};
+ghost use Rattle.hashbag_words_lib.specs.Fields.{fields_of};
 ghost use Rattle.regex.specs.Strings.{regex_pattern};
 ghost use Rattle.hashbag_words_lib.specs.Tokens.{is_bad, is_replaced, matches_in, nonempty, spaced_words, token_of, tokens_of_line, tokens_of_lines, without_mark};
 
 use crate::errors::{BadLine, InputFault};
+use crate::fields::field_at;
 use crate::lines::{BadLines, LinesRead};
-use crate::rule::{Pieces, Rule};
+use crate::rule::{Pieces, Rule, Separator};
 use caseless::default_case_fold_str;
 use hashbag::{BagError, HashBag};
 use regex::Regex;
@@ -131,6 +134,23 @@ fn add_matches<S: BuildHasher + Drop>(
     Ok(())
 }
 
+// Counts the field with this index, if there is one.
+fn add_field<S: BuildHasher + Drop>(
+    alloc: Global,
+    bag: &mut HashBag<String, S>,
+    fold: bool,
+    index: usize,
+    separator: Separator,
+    line: &str,
+) -> Result<(), BagError>
+    ensures { OnOk result (AddsTexts bag.old bag.new (map (token_of fold) (option_to_list (slice_get (fields_of separator line.now) index)))) }
+{
+    match field_at(line, separator, index) {
+        Some(field) => add_piece(alloc, bag, fold, field),
+        None => Ok(()),
+    }
+}
+
 // Returns the line without a byte order mark at its beginning.
 pub(crate) fn past_mark(line: &str) -> &str
     ensures { result.now ≡ without_mark line.now }
@@ -168,6 +188,7 @@ pub fn add_line<S: BuildHasher + Drop>(
         Pieces::UnicodeWords => add_unicode_words(alloc, bag, rule.fold, line),
         Pieces::Lines => add_piece(alloc, bag, rule.fold, line),
         Pieces::Matches(pattern) => add_matches(alloc, bag, rule.fold, pattern, line),
+        Pieces::Field(index, separator) => add_field(alloc, bag, rule.fold, index, separator, line),
     }
 }
 

@@ -1,8 +1,10 @@
-//! Counts of words, lines or matches in text: the pure part of the program `hashbag_words`.
+//! Counts of words, lines, fields or matches in text: the pure part of the program `hashbag_words`.
 //!
-//! - [`rule`] decides what of a line is counted, [`counting`] counts a line, and [`counter`] the lines of texts that come in blocks.
+//! - [`rule`] decides what of a line is counted, [`fields`] finds its fields, [`counting`] counts a line, and [`counter`] the lines of texts that
+//!   come in blocks.
 //! - [`row_counter`] adds up files of counts that come in blocks, whose lines [`rows`] reads, and [`merging`] JSON texts.
-//! - [`gauge`] says when a bag is full, [`runs`] has what is then written, and [`sorted_merge`] merges that, which [`row_source`] reads.
+//! - [`gauge`] says when a bag is full, [`runs`] has what is then written, [`levels`] which of that is merged, and [`sorted_merge`] merges it, which
+//!   [`row_source`] reads.
 //! - [`choice`] selects the counts that are shown, and [`writing`], [`row_text`] and [`row_parts`] make their text. [`shards`] parts all tokens by a fixed hash.
 #![tactic(auto)]
 
@@ -10,8 +12,10 @@ pub mod choice;
 pub mod counter;
 pub mod counting;
 pub mod errors;
+pub mod fields;
 pub mod gauge;
 pub mod head;
+pub mod levels;
 pub mod lines;
 pub mod merging;
 pub mod row_counter;

@@ -1,6 +1,15 @@
 //! What of a line is counted.
 use regex::Regex;
 
+/// What separates the fields of a line.
+#[derive(Clone, Copy, Debug, PartialEq, Eq)]
+pub enum Separator {
+    /// Runs of spaces and tabs. So no field is empty, and spaces and tabs at the beginning of a line are ignored.
+    Blanks,
+    /// This character, each time it occurs. So a field may be empty.
+    Char(char),
+}
+
 /// What a line is cut into.
 #[derive(Clone, Copy)]
 pub enum Pieces<'r> {
@@ -12,6 +21,8 @@ pub enum Pieces<'r> {
     Lines,
     /// The matches of a pattern, from left to right. An empty match is no piece.
     Matches(&'r Regex),
+    /// The field with this index, from 0. A line with fewer fields has no piece.
+    Field(usize, Separator),
 }
 
 /// What of a line is counted.

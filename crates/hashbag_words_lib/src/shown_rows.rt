@@ -26,14 +26,14 @@ impl Sink for RowParts {
 
 /// Puts the rows that are shown into a sink, and no other.
 #[derive(Drop)]
-pub struct ShownRows<K> {
+pub struct ShownRows<'e, K> {
     /// The sink.
     pub sink: K,
     /// Which rows are shown.
-    pub choice: Choice,
+    pub choice: Choice<'e>,
 }
 
-impl<K: Sink> Sink for ShownRows<K> {
+impl<K: Sink> Sink for ShownRows<'_, K> {
     ghost use Rattle.std.specs.Prelude.{◌≡◌, true, false};
     ghost use Rattle.hashbag_words_lib.specs.Choice.{shows};
 

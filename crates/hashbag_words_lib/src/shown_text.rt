@@ -23,11 +23,11 @@ use std::hash::BuildHasher;
 pub fn shown_text<'b, S: BuildHasher + Drop>(
     alloc: Global,
     bag: &'b HashBag<String, S>,
-    choice: Choice,
+    choice: Choice<'_>,
     format: Format,
 ) -> Result<RowText<'b>, BagError>
     // If the bag has what is shown of `texts`, the text is what is written of these.
-    ensures { IfOk result (λ text. (texts : List (List ℕ)) → AreKept choice texts bag.now → IsShownText choice format texts (bytes_left text)) }
+    ensures { IfOk result (λ text. (texts : List (List ℕ)) → AreKept choice.entry texts bag.now → IsShownText choice.entry format texts (bytes_left text)) }
 {
     let rows = chosen(alloc, bag, choice.order)?;
     let text = RowText::new(alloc, format, rows)?;

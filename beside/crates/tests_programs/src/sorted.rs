@@ -312,20 +312,21 @@ const TOPS: [(usize, usize, &str); 4] = [
     (9, 2, "c9 a4 b4 "),
 ];
 
-// A sink that is put the rows that count `least` or more.
-fn shown_in<K>(sink: K, least: usize) -> ShownRows<K> {
-    let choice = Choice {
+// The choice of rows that count `least` or more, except those of a bag.
+fn choice_of<'e>(least: usize, except: Option<&'e HashBag<String, RandomState>>) -> Choice<'e> {
+    Choice {
         order: Order::Rising,
         least,
         shortest: 0,
         shard: None,
-    };
-    ShownRows { sink, choice }
+        except,
+    }
 }
 
 // Those rows of two files.
-fn top_of(alloc: Global, most: usize, least: usize) -> Result<String, Fail> {
-    let mut top = shown_in(TopRows::new(alloc, most), least);
+fn top_of(alloc: Global, most: usize, choice: Choice<'_>) -> Result<String, Fail> {
+    let sink = TopRows::new(alloc, most);
+    let mut top = ShownRows { sink, choice };
     let files = "a\t4\nc\t2\ne\t1\n|b\t4\nc\t7\nf\t1\n";
     let kind = file_of(RowForm::Tsv, false);
     if merge_files(alloc, kind, files, 4, &mut top)?.is_some() {
@@ -338,9 +339,23 @@ fn top_of(alloc: Global, most: usize, least: usize) -> Result<String, Fail> {
 fn the_commonest_rows(rt: HostRuntime) -> Result<(), Fail> {
     let alloc = rt.alloc();
     for (most, least, wanted) in &TOPS {
-        is_text(&top_of(alloc, *most, *least)?, wanted)?;
+        is_text(&top_of(alloc, *most, choice_of(*least, None))?, wanted)?;
     }
     Ok(())
+}
+
+// The commonest rows whose tokens aren't in a bag.
+#[test]
+fn the_other_rows(rt: HostRuntime) -> Result<(), Fail> {
+    let alloc = rt.alloc();
+    let mut bag = HashBag::with_hasher(alloc, RandomState::new(&rt)?);
+    is_text(&top_of(alloc, 2, choice_of(0, Some(&bag)))?, &"c9 a4 ")?;
+    bag.insert_key("c")?;
+    bag.insert_many_key("a", 2)?;
+    bag.insert_key("F")?;
+    is_text(&top_of(alloc, 2, choice_of(0, Some(&bag)))?, &"b4 e1 ")?;
+    is_text(&top_of(alloc, 9, choice_of(0, Some(&bag)))?, &"b4 e1 f1 ")?;
+    is_text(&top_of(alloc, 9, choice_of(2, Some(&bag)))?, &"b4 ")
 }
 
 // A format, rows, and what is written of them.
@@ -414,7 +429,9 @@ fn run_of_part(alloc: Global, counter: &mut Counter, part: &str) -> Result<Strin
 
 // The rows of two runs with a count of 2 or more.
 fn twice_in(alloc: Global, first: &[u8], second: &[u8]) -> Result<String, Fail> {
-    let mut rows = shown_in(RowParts::begin(alloc, Format::Tsv)?, 2);
+    let sink = RowParts::begin(alloc, Format::Tsv)?;
+    let choice = choice_of(2, None);
+    let mut rows = ShownRows { sink, choice };
     merge_runs(alloc, &[first, second], &mut rows)?;
     ended(alloc, &mut rows.sink)
 }

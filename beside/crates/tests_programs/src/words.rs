@@ -10,7 +10,7 @@ use hashbag_words_lib::merging::add_tree;
 use hashbag_words_lib::row_counter::RowCounter;
 use hashbag_words_lib::row_text::RowText;
 use hashbag_words_lib::rows::RowForm;
-use hashbag_words_lib::rule::{Pieces, Rule};
+use hashbag_words_lib::rule::{Pieces, Rule, Separator};
 use hashbag_words_lib::shards::Shard;
 use hashbag_words_lib::writing::Format;
 use regex::Regex;
@@ -90,6 +90,43 @@ const UNIQ_MERGES: [(&[u8], bool, &str); 9] = [
     (b"      0 a\n      1 b\n0 b\n", false, "b\t1\n"),
 ];
 
+// What separates fields, the index of one, the input, and the counts as TSV: those of `awk '{ print $N }'` if it is blanks, and else of `cut -f N`, of
+// the lines that have the field.
+const FIELDS: [(Separator, usize, &str, &str); 12] = [
+    (Separator::Blanks, 0, "b a\na\n\n", "a\t1\nb\t1\n"),
+    (Separator::Blanks, 1, "b a\na\n\n", "a\t1\n"),
+    (
+        Separator::Blanks,
+        1,
+        "\u{feff} a  \t b \r\n\tb\tb",
+        "b\t2\n",
+    ),
+    (Separator::Blanks, 2, "a b \na b\t\n", ""),
+    (Separator::Blanks, 0, " \t \n", ""),
+    (
+        Separator::Blanks,
+        0,
+        "\u{a0}é\u{2003}b c\n",
+        "\u{a0}é\u{2003}b\t1\n",
+    ),
+    (
+        Separator::Char(','),
+        0,
+        "a,b\n,b\nab\n\n",
+        "\t2\na\t1\nab\t1\n",
+    ),
+    (
+        Separator::Char(','),
+        1,
+        "a,b\na,,c\nab\na,\n",
+        "\t2\nb\t1\n",
+    ),
+    (Separator::Char('\t'), 2, "a b\t\t c \t", " c \t1\n"),
+    (Separator::Char('\t'), 3, "a b\t\t c \t\nb", "\t1\n"),
+    (Separator::Char(' '), 1, "a  b\n", "\t1\n"),
+    (Separator::Char('é'), 1, "aéb\n", "b\t1\n"),
+];
+
 fn written<S: BuildHasher + Drop>(
     alloc: Global,
     bag: &HashBag<String, S>,
@@ -114,7 +151,17 @@ fn counted<S: BuildHasher + Drop>(
         "lines" => Pieces::Lines,
         _ => Pieces::Matches(&pattern),
     };
-    let fold = by == "fold";
+    counted_by(alloc, state, pieces, by == "fold", input)
+}
+
+// The counts of the pieces of an input.
+fn counted_by<S: BuildHasher + Drop>(
+    alloc: Global,
+    state: S,
+    pieces: Pieces<'_>,
+    fold: bool,
+    input: &str,
+) -> Result<String, Fail> {
     let lossy = false;
     let rule = Rule {
         pieces,
@@ -137,6 +184,30 @@ fn counts_of_text(rt: HostRuntime) -> Result<(), Fail> {
         is_text(&counted(alloc, state, by, input)?, wanted)?;
     }
     Ok(())
+}
+
+#[test]
+fn fields_of_text(rt: HostRuntime) -> Result<(), Fail> {
+    let alloc = rt.alloc();
+    let state = RandomState::new(&rt)?;
+    for (separator, index, input, wanted) in &FIELDS {
+        let pieces = Pieces::Field(*index, *separator);
+        is_text(
+            &counted_by(alloc, FixedState::new(), pieces, false, input)?,
+            wanted,
+        )?;
+        is_text(&counted_by(alloc, state, pieces, false, input)?, wanted)?;
+    }
+    is_text(
+        &counted_by(
+            alloc,
+            state,
+            Pieces::Field(1, Separator::Blanks),
+            true,
+            "a Straße\nb STRASSE\n",
+        )?,
+        &"strasse\t2\n",
+    )
 }
 
 // Adds a file, whose first byte is a block of its own.

@@ -3,7 +3,7 @@ use Rattle.hashbag.specs.Bag.{Bag}
 use Rattle.hashbag_words_lib.specs.Counts.{AddsTexts}
 use Rattle.hashbag_words_lib.specs.Tokens.{pieces_of, token_of, tokens_of_line, without_mark}
 use Rattle.hashbag_words_lib.specs.declared.rule.Pieces.{Pieces}
-use Rattle.hashbag_words_lib.specs.declared.rule.Pieces.TheVariants.{Words, UnicodeWords, Matches}
+use Rattle.hashbag_words_lib.specs.declared.rule.Pieces.TheVariants.{Words, UnicodeWords, Matches, Field}
 use Rattle.hashbag_words_lib.specs.declared.rule.Rule.{Rule}
 use Rattle.hashbag_words_lib.proofs.counting.add_line.Goals as goal
 
@@ -25,3 +25,7 @@ returns-in-UnicodeWords g c =
 pub returns-in-Matches : goal.returns-in-Matches
 returns-in-Matches g c =
     by_rule c.add_matches.result c.args.bag.now c.add_matches.new.bag c.args.rule.now (Matches c.in-Matches.pattern) c.args.line.now c.past_mark-line.result.now c.in-Matches.is c.past_mark-line.ensures c.add_matches.ensures
+
+pub returns-in-Field : goal.returns-in-Field
+returns-in-Field g c =
+    by_rule c.add_field.result c.args.bag.now c.add_field.new.bag c.args.rule.now (Field c.in-Field.index c.in-Field.separator) c.args.line.now c.past_mark-line.result.now c.in-Field.is c.past_mark-line.ensures c.add_field.ensures

@@ -1,0 +1,21 @@
+-- The runs that are kept, and their levels.
+use Rattle.std.specs.Prelude.{ℕ, Bool, false, nat_eq, ◌-◌, List, length, replicate, Option, None, Some}
+use Rattle.std.specs.List.{ends_with, slice_get}
+use Rattle.hashbag_words_lib.specs.declared.levels.Levels.{Levels}
+
+-- the runs that are kept, in the order in which they were added
+abbrev pub runs_in : {R : Type 0} → Levels R → List R
+runs_in kept = kept.runs.items
+
+-- the level of each
+abbrev pub levels_in : {R : Type 0} → Levels R → List ℕ
+levels_in kept = kept.levels.items
+
+-- sixteen levels at the end are this one, if there is one
+abbrev pub end_with : List ℕ → Option ℕ → Bool
+end_with levels None = false
+end_with levels (Some level) = ends_with nat_eq levels (replicate 16 level)
+
+-- the last sixteen levels are the same
+abbrev pub is_full : List ℕ → Bool
+is_full levels = end_with levels (slice_get levels (length levels - 1))

@@ -1,0 +1,87 @@
+//! Which runs are merged with which. A run that is made of a bag has level 0, and `FAN` runs of one level are merged into one of the next. So each
+//! row is merged few times, and few runs are kept. Nothing is known here of what a run is, so the clauses hold of files.
+ghost use Rattle.std.specs.Prelude.{◌≡◌, ◌↔◌, ◌≤◌, ◌++◌, ◌∷◌, [], length, true, false, None, IfOk, MatchOption, OnOk};
+ghost use Rattle.hashbag_words_lib.specs.Levels.{is_full, levels_in, runs_in};
+
+use std::alloc::{AllocError, Global};
+
+/// How many runs, or files, are merged at once.
+pub const FAN: usize = 16;
+
+/// Runs that are kept, each with its level. The levels are in descending order, and fewer than `FAN` runs are of one level.
+#[derive(Drop)]
+pub struct Levels<R> {
+    runs: Vec<R>,
+    levels: Vec<u32>,
+}
+
+impl<R: Drop> Levels<R> {
+    /// Returns no runs.
+    pub fn new(alloc: Global) -> Levels<R>
+        ensures { runs_in result ≡ [] }
+    {
+        Levels {
+            runs: Vec::new(alloc),
+            levels: Vec::new(alloc),
+        }
+    }
+
+    /// Returns whether there are no runs.
+    pub fn is_empty(&self) -> bool
+        ensures { (result ≡ true) ↔ (runs_in self.now ≡ []) }
+    {
+        self.runs.is_empty()
+    }
+
+    /// Adds a run of that level.
+    ///
+    /// # Errors
+    ///
+    /// An allocation fails.
+    pub fn push(&mut self, run: R, level: u32) -> Result<(), AllocError>
+        ensures { OnOk result (runs_in self.new ≡ runs_in self.old ++ run ∷ []) }
+    {
+        self.levels.push(level)?;
+        self.runs.push(run).map_err(AllocError::from)
+    }
+
+    // Returns whether the last `FAN` runs are of one level.
+    fn is_full(&self) -> bool
+        ensures { result ≡ is_full (levels_in self.now) }
+    {
+        match self.levels.last() {
+            Some(level) => self.levels.ends_with(&[*level; FAN]),
+            None => false,
+        }
+    }
+
+    /// Takes the last `FAN` runs, if they are of one level. They are to be merged into a run of the next level.
+    ///
+    /// # Errors
+    ///
+    /// An allocation fails.
+    pub fn take_full(&mut self) -> Result<Option<Vec<R>>, AllocError>
+        // What is taken is no longer kept, and no other run is taken.
+        ensures taken { IfOk result (λ full. MatchOption full (runs_in self.new ≡ runs_in self.old)
+            (λ runs. (runs_in self.old ≡ runs_in self.new ++ runs.items) × (length runs.items ≡ 16))) }
+
+        // Nothing is taken only if there are fewer runs, or the last ones are of different levels.
+        ensures few { IfOk result (λ full. full ≡ None → 16 ≤ length (runs_in self.old) → is_full (levels_in self.old) ≡ false) }
+    {
+        if self.runs.len() < FAN || !self.is_full() {
+            return Ok(None);
+        }
+        let at = self.runs.len() - FAN;
+        let runs = self.runs.split_off(at)?;
+        self.levels.truncate(at);
+        Ok(Some(runs))
+    }
+
+    /// Returns all runs.
+    pub fn into_runs(self) -> Vec<R>
+        ensures { result.items ≡ runs_in self }
+    {
+        let Levels { runs, .. } = self;
+        runs
+    }
+}
