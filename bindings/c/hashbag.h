@@ -4,12 +4,15 @@
  * it, and `hashbag_free` leaves it empty again. A call on an empty handle, or on one that has a bag of the other kind, changes nothing, and
  * returns HASHBAG_EMPTY or HASHBAG_KIND, or a count of 0.
  *
+ * A walk is a handle of its own, `hashbag_walk`, which starts as HASHBAG_NONE too. `hashbag_numbers_walk` and `hashbag_texts_walk` copy the pairs of a
+ * bag into it, `hashbag_numbers_next` and `hashbag_texts_next` write the next ones, and `hashbag_walk_free` leaves it empty again.
+ *
  * The library is proved for callers that keep to this:
  *  1. Handles. A handle was HASHBAG_NONE first, and since then only this library wrote it. It isn't copied, so that two have one bag. Two
  *     handles of one call are two, not one twice.
  *  2. Memory. A pointer isn't null, not even with the length 0. It is aligned, and there is memory of the length that is given. What a call
  *     writes overlaps no other argument. `malloc`, `realloc` and `free` are of one allocator, and align to 16.
- *  3. Threads. A handle stays on the thread that put a bag into it, and has one call at a time, also of calls that only read. There is no call
+ *  3. Threads. A handle stays on the thread that put a bag or a walk into it, and has one call at a time, also of calls that only read. There is no call
  *     from a signal handler, or in the child of a `fork` of a program with threads.
  */
 #ifndef HASHBAG_H
@@ -27,6 +30,10 @@ typedef struct hashbag {
     void *at;
 } hashbag;
 
+typedef struct hashbag_walk {
+    void *at;
+} hashbag_walk;
+
 #define HASHBAG_NONE { NULL }
 
 /* What the calls that can fail return. */
@@ -36,14 +43,31 @@ enum hashbag_error {
     HASHBAG_MEMORY = 1,
     /* The total would pass the bag's limit. */
     HASHBAG_TOO_MANY = 2,
+    /* The tree is no array and no object, or an object without a member `pairs` that is an array, or one with a member
+     * besides `limit` and `pairs`. */
+    HASHBAG_JSON_NOT_AN_ARRAY = 3,
+    /* The pair is no array of exactly two. */
+    HASHBAG_JSON_NOT_A_PAIR = 4,
+    /* The second part of the pair is no whole number from 0 to `SIZE_MAX`. A float isn't one, not even 1.0. */
+    HASHBAG_JSON_BAD_COUNT = 5,
+    /* The first part of the pair isn't the tree of an item. */
+    HASHBAG_JSON_BAD_ITEM = 6,
+    /* The total would pass the limit with the pair. */
+    HASHBAG_JSON_TOO_MANY = 7,
     /* The limit would be below the total. */
     HASHBAG_BELOW_TOTAL = 9,
+    /* The member `limit` of an object is absent, or no whole number from 0 to `SIZE_MAX`. A float isn't one, not even 1.0. */
+    HASHBAG_JSON_BAD_LIMIT = 10,
     /* The handle has no bag. */
     HASHBAG_EMPTY = 20,
     /* The handle has a bag of the other kind. */
     HASHBAG_KIND = 21,
     /* The ends of byte strings aren't ascending, or pass the bytes. */
     HASHBAG_ENDS = 22,
+    /* The text is longer than the buffer. */
+    HASHBAG_SHORT = 23,
+    /* The text isn't JSON, or isn't UTF-8. */
+    HASHBAG_NOT_JSON = 24,
 };
 
 /* ---- bags of either kind */
@@ -240,6 +264,42 @@ uint8_t hashbag_numbers_sorted(hashbag *handle, uint64_t *values, size_t values_
 uint8_t hashbag_numbers_most_common(hashbag *handle, uint64_t *values, size_t values_len, size_t *counts,
                                     size_t counts_len, size_t *n);
 
+/* ---- bags of numbers as JSON */
+
+/* Writes a bag of numbers as a JSON text at the beginning of `bytes`, writes the length of the text into `len`, and
+ * returns 0. The text is `[[5,2],[7,1]]`: each distinct number with its count, numbers in ascending order, without
+ * spaces. A bag with a limit below `SIZE_MAX` is `{"limit":9,"pairs":[[5,2],[7,1]]}`. Bags with the same counts and
+ * the same limit have the same text. It makes the whole text in memory of its own first.
+ *
+ * Errors:
+ * `HASHBAG_SHORT` if the text is longer than `bytes`: `len` is its length then, and nothing else is written.
+ * `HASHBAG_MEMORY` if an allocation fails; `HASHBAG_EMPTY`; `HASHBAG_KIND`. Nothing is written then. The bag is
+ * unchanged in any case. */
+uint8_t hashbag_numbers_to_json(hashbag *handle, uint8_t *bytes, size_t bytes_len, size_t *len);
+
+/* Puts into the handle the bag of numbers that a JSON text is, and returns 0. The bag that the handle had is freed.
+ * Its limit is that of the text or `most`, whichever is less. The text has one of the forms that
+ * `hashbag_numbers_to_json` writes, with spaces too. Equal numbers add up, and a pair with the count 0 is checked and
+ * adds nothing.
+ *
+ * Its numbers are hashed under fixed keys, alike in every run. Use `hashbag_numbers_from_json_keyed` if strangers
+ * wrote the text.
+ *
+ * Errors:
+ * `HASHBAG_NOT_JSON` if the text isn't JSON or isn't UTF-8: `at` is then how many of its bytes had been read when that
+ * was found. The first fault of a JSON text is returned by a number that begins with `HASHBAG_JSON_`; `at` is the pair
+ * at fault, counted from 0, if it is one. `HASHBAG_MEMORY` if an allocation fails. The handle is unchanged then, and
+ * `at` unless it is said here. */
+uint8_t hashbag_numbers_from_json(hashbag *handle, size_t most, const uint8_t *text, size_t text_len, size_t *at);
+
+/* Does the same with two keys of the caller, which are best drawn at random: whoever knows them can find numbers that
+ * collide.
+ *
+ * Errors:
+ * As of `hashbag_numbers_from_json`. */
+uint8_t hashbag_numbers_from_json_keyed(hashbag *handle, size_t most, uint64_t key0, uint64_t key1,
+                                        const uint8_t *text, size_t text_len, size_t *at);
+
 /* ---- bags of byte strings */
 
 /* Puts into the handle an empty bag of byte strings, whose total is at most `most`, and returns 0. The bag that the
@@ -372,6 +432,89 @@ uint8_t hashbag_texts_sorted(hashbag *handle, uint8_t *bytes, size_t bytes_len, 
  * unchanged in any case. */
 uint8_t hashbag_texts_most_common(hashbag *handle, uint8_t *bytes, size_t bytes_len, size_t *ends, size_t ends_len,
                                   size_t *counts, size_t counts_len, size_t *n);
+
+/* ---- bags of byte strings as JSON */
+
+/* Writes a bag of byte strings as a JSON text at the beginning of `bytes`, writes the length of the text into `len`,
+ * and returns 0. The text is `[["cat",2],["dog",1]]`: each distinct string with its count, strings in ascending order
+ * by their bytes, without spaces. A string that isn't UTF-8 is an array of its bytes, as `[255,0]`. A bag with a limit
+ * below `SIZE_MAX` is `{"limit":9,"pairs":[["cat",2],["dog",1]]}`. Bags with the same counts and the same limit have
+ * the same text. It makes the whole text in memory of its own first.
+ *
+ * Errors:
+ * `HASHBAG_SHORT` if the text is longer than `bytes`: `len` is its length then, and nothing else is written.
+ * `HASHBAG_MEMORY` if an allocation fails; `HASHBAG_EMPTY`; `HASHBAG_KIND`. Nothing is written then. The bag is
+ * unchanged in any case. */
+uint8_t hashbag_texts_to_json(hashbag *handle, uint8_t *bytes, size_t bytes_len, size_t *len);
+
+/* Puts into the handle the bag of byte strings that a JSON text is, and returns 0. The bag that the handle had is
+ * freed. Its limit is that of the text or `most`, whichever is less. The text has one of the forms that
+ * `hashbag_texts_to_json` writes, with spaces too; an array of bytes may also be UTF-8. Equal strings add up, and a
+ * pair with the count 0 is checked and adds nothing.
+ *
+ * Its strings are hashed by SipHash under fixed keys, alike in every run. Use `hashbag_texts_from_json_keyed` if
+ * strangers wrote the text.
+ *
+ * Errors:
+ * `HASHBAG_NOT_JSON` if the text isn't JSON or isn't UTF-8: `at` is then how many of its bytes had been read when that
+ * was found. The first fault of a JSON text is returned by a number that begins with `HASHBAG_JSON_`; `at` is the pair
+ * at fault, counted from 0, if it is one. `HASHBAG_MEMORY` if an allocation fails. The handle is unchanged then, and
+ * `at` unless it is said here. */
+uint8_t hashbag_texts_from_json(hashbag *handle, size_t most, const uint8_t *text, size_t text_len, size_t *at);
+
+/* Does the same with two keys of SipHash, which the caller draws at random: then nobody can choose byte strings that
+ * collide.
+ *
+ * Errors:
+ * As of `hashbag_texts_from_json`. */
+uint8_t hashbag_texts_from_json_keyed(hashbag *handle, size_t most, uint64_t key0, uint64_t key1,
+                                      const uint8_t *text, size_t text_len, size_t *at);
+
+/* ---- walks of either kind */
+
+/* Returns how many distinct values are left of a walk. It is 0 at the end, and for an empty walk. */
+size_t hashbag_walk_left(hashbag_walk *walk);
+
+/* Frees what is left of a walk, and leaves an empty walk. An empty walk stays empty. */
+void hashbag_walk_free(hashbag_walk *walk);
+
+/* ---- walks over bags of numbers */
+
+/* Begins a walk over a bag of numbers, and returns 0. The walk has a copy of all distinct numbers with their counts,
+ * in no particular order, so the bag may change or be freed meanwhile. A walk that was there is freed. It makes two
+ * allocations at most, one of all pairs.
+ *
+ * Errors:
+ * `HASHBAG_MEMORY` if an allocation fails; `HASHBAG_EMPTY`; `HASHBAG_KIND`. Nothing changes then. */
+uint8_t hashbag_numbers_walk(hashbag *handle, hashbag_walk *walk);
+
+/* Writes the next numbers of a walk and their counts into two arrays, as many as both have places for, and returns how
+ * many. The next call goes on after them: the parts of all calls together are all distinct numbers, each once. It
+ * returns 0 at the end, or if the walk isn't one over numbers. It doesn't allocate. */
+size_t hashbag_numbers_next(hashbag_walk *walk, uint64_t *values, size_t values_len, size_t *counts,
+                            size_t counts_len);
+
+/* ---- walks over bags of byte strings */
+
+/* Begins a walk over a bag of byte strings, and returns 0. The walk has a copy of all distinct strings with their
+ * counts, in no particular order, so the bag may change or be freed meanwhile. A walk that was there is freed. It
+ * makes an allocation for each string, one for their list, and one for the walk.
+ *
+ * Errors:
+ * `HASHBAG_MEMORY` if an allocation fails; `HASHBAG_EMPTY`; `HASHBAG_KIND`. Nothing changes then. */
+uint8_t hashbag_texts_walk(hashbag *handle, hashbag_walk *walk);
+
+/* Writes the next byte strings of a walk and their counts, as `hashbag_texts_read` does: as many as there are places
+ * for. Returns how many. The next call goes on after them: the parts of all calls together are all distinct strings,
+ * each once. It returns 0 at the end, or if the walk isn't one over byte strings. It also returns 0 if the next string
+ * is longer than `bytes`: `hashbag_walk_left` isn't 0 then, and `hashbag_texts_next_len` returns how many bytes it
+ * needs. It doesn't allocate. */
+size_t hashbag_texts_next(hashbag_walk *walk, uint8_t *bytes, size_t bytes_len, size_t *ends, size_t ends_len,
+                          size_t *counts, size_t counts_len);
+
+/* Returns how many bytes the next byte string of a walk has, which `hashbag_texts_next` needs places for to write it.
+ * It is 0 at the end, or if the walk isn't one over byte strings. */
+size_t hashbag_texts_next_len(hashbag_walk *walk);
 
 #ifdef __cplusplus
 }

@@ -43,6 +43,8 @@ static void wrong_handles(void) {
     CHECK(hashbag_numbers_most_common(&empty, &value, 1, counts, 1, &word) == HASHBAG_EMPTY && hashbag_numbers_most_common(&texts, &value, 1, counts, 1, &word) == HASHBAG_KIND);
     CHECK(hashbag_texts_sorted(&empty, &byte, 1, ends, 1, counts, 1, &word) == HASHBAG_EMPTY && hashbag_texts_sorted(&numbers, &byte, 1, ends, 1, counts, 1, &word) == HASHBAG_KIND);
     CHECK(hashbag_texts_most_common(&empty, &byte, 1, ends, 1, counts, 1, &word) == HASHBAG_EMPTY && hashbag_texts_most_common(&numbers, &byte, 1, ends, 1, counts, 1, &word) == HASHBAG_KIND);
+    CHECK(hashbag_numbers_to_json(&empty, &byte, 1, &word) == HASHBAG_EMPTY && hashbag_numbers_to_json(&texts, &byte, 1, &word) == HASHBAG_KIND);
+    CHECK(hashbag_texts_to_json(&empty, &byte, 1, &word) == HASHBAG_EMPTY && hashbag_texts_to_json(&numbers, &byte, 1, &word) == HASHBAG_KIND);
     CHECK(word == 77);
     CHECK(hashbag_numbers_insert_all(&empty, &value, 1, &word) == HASHBAG_EMPTY && word == 0);
     CHECK(hashbag_numbers_insert_all(&texts, &value, 1, &word) == HASHBAG_KIND && word == 0);
@@ -71,6 +73,12 @@ static void wrong_handles(void) {
     CHECK(!hashbag_equal(&numbers, &texts) && !hashbag_equal(&empty, &texts) && !hashbag_equal(&numbers, &empty));
     hashbag other = HASHBAG_NONE;
     CHECK(hashbag_equal(&empty, &other));
+    hashbag_walk walk = HASHBAG_NONE;
+    CHECK(hashbag_numbers_walk(&empty, &walk) == HASHBAG_EMPTY && hashbag_numbers_walk(&texts, &walk) == HASHBAG_KIND);
+    CHECK(hashbag_texts_walk(&empty, &walk) == HASHBAG_EMPTY && hashbag_texts_walk(&numbers, &walk) == HASHBAG_KIND && walk.at == NULL);
+    CHECK(hashbag_numbers_next(&walk, &value, 1, counts, 1) == 0 && hashbag_texts_next(&walk, &byte, 1, ends, 1, counts, 1) == 0);
+    CHECK(hashbag_walk_left(&walk) == 0 && hashbag_texts_next_len(&walk) == 0);
+    hashbag_walk_free(&walk);
     hashbag_clear(&empty);
     hashbag_free(&empty);
     hashbag_free(&numbers);
@@ -354,6 +362,193 @@ static void combined_texts(void) {
     hashbag_free(&a), hashbag_free(&b), hashbag_free(&made);
 }
 
+/* Walks in small parts, over bags that change or are freed meanwhile. */
+static void number_walks(void) {
+    enum { VALUES = 1000 };
+    static char seen[VALUES];
+    hashbag bag = HASHBAG_NONE;
+    hashbag_walk walk = HASHBAG_NONE;
+    size_t before, ends[1], counts[7], read = 0, n;
+    uint64_t values[7];
+    uint8_t byte;
+    CHECK(hashbag_numbers_new(&bag, SIZE_MAX) == HASHBAG_OK);
+    for (uint64_t v = 0; v < VALUES; v++) CHECK(hashbag_numbers_insert(&bag, v, v + 1, &before) == HASHBAG_OK);
+    CHECK(hashbag_numbers_walk(&bag, &walk) == HASHBAG_OK && hashbag_walk_left(&walk) == VALUES && hashbag_set_len(&bag) == VALUES);
+    hashbag_free(&bag);
+    CHECK(hashbag_numbers_next(&walk, values, 0, counts, 7) == 0 && hashbag_numbers_next(&walk, values, 7, counts, 0) == 0 && hashbag_walk_left(&walk) == VALUES);
+    while ((n = hashbag_numbers_next(&walk, values, 7, counts, draw(7) + 1)) > 0) {
+        for (size_t i = 0; i < n; i++) {
+            CHECK(values[i] < VALUES && counts[i] == values[i] + 1 && !seen[values[i]]);
+            seen[values[i]] = 1;
+        }
+        read += n;
+        CHECK(hashbag_walk_left(&walk) == VALUES - read);
+    }
+    CHECK(read == VALUES && hashbag_numbers_next(&walk, values, 7, counts, 7) == 0);
+    CHECK(hashbag_numbers_new(&bag, 9) == HASHBAG_OK && hashbag_numbers_insert(&bag, 5, 2, &before) == HASHBAG_OK);
+    CHECK(hashbag_numbers_walk(&bag, &walk) == HASHBAG_OK && hashbag_numbers_walk(&bag, &walk) == HASHBAG_OK && hashbag_walk_left(&walk) == 1);
+    CHECK(hashbag_texts_next(&walk, &byte, 1, ends, 1, counts, 1) == 0 && hashbag_texts_next_len(&walk) == 0);
+    CHECK(hashbag_texts_walk(&bag, &walk) == HASHBAG_KIND && hashbag_walk_left(&walk) == 1);
+    hashbag_clear(&bag);
+    CHECK(hashbag_numbers_next(&walk, values, 7, counts, 7) == 1 && values[0] == 5 && counts[0] == 2);
+    CHECK(hashbag_numbers_walk(&bag, &walk) == HASHBAG_OK && hashbag_walk_left(&walk) == 0 && hashbag_numbers_next(&walk, values, 7, counts, 7) == 0);
+    hashbag_free(&bag), hashbag_walk_free(&walk), hashbag_walk_free(&walk);
+    CHECK(walk.at == NULL && hashbag_walk_left(&walk) == 0);
+}
+
+static void text_walks(void) {
+    enum { VALUES = 500 };
+    static char seen[VALUES];
+    hashbag bag = HASHBAG_NONE;
+    hashbag_walk walk = HASHBAG_NONE;
+    size_t before, ends[5], counts[5], read = 0, n;
+    uint64_t value;
+    uint8_t bytes[24];
+    char text[24];
+    CHECK(hashbag_texts_new_keyed(&bag, SIZE_MAX, 1, 2) == HASHBAG_OK);
+    for (size_t v = 0; v < VALUES; v++) {
+        size_t len = (size_t)sprintf(text, "%zu%s", v, v % 3 ? "" : " times three");
+        CHECK(hashbag_texts_insert(&bag, (uint8_t *)text, len, v + 1, &before) == HASHBAG_OK);
+    }
+    CHECK(hashbag_texts_walk(&bag, &walk) == HASHBAG_OK && hashbag_walk_left(&walk) == VALUES);
+    hashbag_free(&bag);
+    while (hashbag_walk_left(&walk) > 0) {
+        size_t next = hashbag_texts_next_len(&walk), size = next + draw(3);
+        if (next > 0) CHECK(hashbag_texts_next(&walk, bytes, next - 1, ends, 5, counts, 5) == 0 && hashbag_walk_left(&walk) == VALUES - read);
+        n = hashbag_texts_next(&walk, bytes, size, ends, 5, counts, draw(5) + 1);
+        CHECK(n > 0 && ends[0] == next && ends[n - 1] <= size);
+        for (size_t i = 0, from = 0; i < n; from = ends[i++]) {
+            size_t v = counts[i] - 1, len = (size_t)sprintf(text, "%zu%s", v, v % 3 ? "" : " times three");
+            CHECK(v < VALUES && !seen[v] && len == ends[i] - from && !memcmp(text, bytes + from, len));
+            seen[v] = 1;
+        }
+        read += n;
+    }
+    CHECK(read == VALUES && hashbag_texts_next(&walk, bytes, 24, ends, 5, counts, 5) == 0 && hashbag_texts_next_len(&walk) == 0);
+    CHECK(hashbag_texts_new(&bag, 9) == HASHBAG_OK && hashbag_texts_insert(&bag, TEXT(""), 3, &before) == HASHBAG_OK && hashbag_texts_walk(&bag, &walk) == HASHBAG_OK);
+    CHECK(hashbag_texts_next_len(&walk) == 0 && hashbag_walk_left(&walk) == 1 && hashbag_numbers_next(&walk, &value, 1, counts, 1) == 0);
+    CHECK(hashbag_texts_next(&walk, bytes, 0, ends, 1, counts, 1) == 1 && ends[0] == 0 && counts[0] == 3 && hashbag_walk_left(&walk) == 0);
+    CHECK(hashbag_texts_insert(&bag, TEXT("left"), 1, &before) == HASHBAG_OK && hashbag_texts_walk(&bag, &walk) == HASHBAG_OK && hashbag_walk_left(&walk) == 2);
+    hashbag_free(&bag), hashbag_walk_free(&walk);
+}
+
+/* What a JSON text is read as: its error and the place of it, or its counts. */
+struct text {
+    const char *text;
+    uint8_t code;
+    size_t at;
+};
+
+static const struct text BAD_NUMBERS[] = {
+    {"5", HASHBAG_JSON_NOT_AN_ARRAY, 77},
+    {"{\"limit\":5,\"pairs\":[],\"x\":1}", HASHBAG_JSON_NOT_AN_ARRAY, 77},
+    {"{\"limit\":5}", HASHBAG_JSON_NOT_AN_ARRAY, 77},
+    {"{\"pairs\":[]}", HASHBAG_JSON_BAD_LIMIT, 77},
+    {"[[5,2],[7]]", HASHBAG_JSON_NOT_A_PAIR, 1},
+    {"[[5,2],[7,1],[8,-1]]", HASHBAG_JSON_BAD_COUNT, 2},
+    {"[[5,1.0]]", HASHBAG_JSON_BAD_COUNT, 0},
+    {"[[5,2],[-7,1]]", HASHBAG_JSON_BAD_ITEM, 1},
+    {"[[\"5\",1]]", HASHBAG_JSON_BAD_ITEM, 0},
+    {"[[5,2],[5,98],[6,0],[7,1]]", HASHBAG_JSON_TOO_MANY, 3},
+    {"{\"limit\":3,\"pairs\":[[5,2],[7,2]]}", HASHBAG_JSON_TOO_MANY, 1},
+};
+static const struct text BAD_TEXTS[] = {
+    {"[[5,1]]", HASHBAG_JSON_BAD_ITEM, 0},
+    {"[[\"a\",1],[[97,256],1]]", HASHBAG_JSON_BAD_ITEM, 1},
+    {"[[\"a\",1],[[97,-1],1]]", HASHBAG_JSON_BAD_ITEM, 1},
+    {"[[\"a\",1],[[\"a\"],1]]", HASHBAG_JSON_BAD_ITEM, 1},
+    {"[[\"a\",1],[\"b\",100]]", HASHBAG_JSON_TOO_MANY, 1},
+};
+/* The place of these is where the JSON ends, or behind the byte that is wrong. */
+static const struct text NO_JSON[] = {
+    {"", HASHBAG_NOT_JSON, 0},
+    {"[[5,2]", HASHBAG_NOT_JSON, 6},
+    {"[[5,2]]]", HASHBAG_NOT_JSON, 8},
+    {"[\n[5,2],\n[5,\"\xff\"]]", HASHBAG_NOT_JSON, 14},
+};
+
+static void json_errors(void) {
+    hashbag bag = HASHBAG_NONE;
+    size_t at;
+    CHECK(hashbag_numbers_new(&bag, 8) == HASHBAG_OK);
+    for (size_t i = 0; i < sizeof BAD_NUMBERS / sizeof *BAD_NUMBERS; i++) {
+        const struct text *it = &BAD_NUMBERS[i];
+        at = 77;
+        CHECK(hashbag_numbers_from_json(&bag, 100, TEXT(it->text), &at) == it->code && at == it->at && hashbag_limit(&bag) == 8);
+        at = 77;
+        CHECK(hashbag_numbers_from_json_keyed(&bag, 100, 1, 2, TEXT(it->text), &at) == it->code && at == it->at && hashbag_limit(&bag) == 8);
+    }
+    for (size_t i = 0; i < sizeof BAD_TEXTS / sizeof *BAD_TEXTS; i++) {
+        const struct text *it = &BAD_TEXTS[i];
+        at = 77;
+        CHECK(hashbag_texts_from_json(&bag, 100, TEXT(it->text), &at) == it->code && at == it->at && hashbag_limit(&bag) == 8);
+        at = 77;
+        CHECK(hashbag_texts_from_json_keyed(&bag, 100, 1, 2, TEXT(it->text), &at) == it->code && at == it->at && hashbag_limit(&bag) == 8);
+    }
+    for (size_t i = 0; i < sizeof NO_JSON / sizeof *NO_JSON; i++) {
+        const struct text *it = &NO_JSON[i];
+        at = 77;
+        CHECK(hashbag_numbers_from_json(&bag, 100, TEXT(it->text), &at) == it->code && at == it->at && hashbag_limit(&bag) == 8);
+        at = 77;
+        CHECK(hashbag_texts_from_json(&bag, 100, TEXT(it->text), &at) == it->code && at == it->at && hashbag_limit(&bag) == 8);
+    }
+    hashbag_free(&bag);
+}
+
+static void json_numbers(void) {
+    hashbag bag = HASHBAG_NONE, back = HASHBAG_NONE;
+    size_t before, len = 77, at = 77, n;
+    static uint8_t text[60000];
+    CHECK(hashbag_numbers_new(&bag, SIZE_MAX) == HASHBAG_OK && hashbag_numbers_to_json(&bag, text, 2, &len) == HASHBAG_OK && len == 2 && !memcmp(text, "[]", 2));
+    CHECK(hashbag_numbers_insert(&bag, UINT64_MAX, 1, &before) == HASHBAG_OK && hashbag_numbers_insert(&bag, 5, 2, &before) == HASHBAG_OK);
+    static const char PAIRS[] = "[[5,2],[18446744073709551615,1]]", LIMITED[] = "{\"limit\":9,\"pairs\":[[5,2],[18446744073709551615,1]]}";
+    memset(text, '#', sizeof text);
+    CHECK(hashbag_numbers_to_json(&bag, text, 31, &len) == HASHBAG_SHORT && len == 32 && text[0] == '#');
+    CHECK(hashbag_numbers_to_json(&bag, text, 0, &len) == HASHBAG_SHORT && len == 32 && text[0] == '#');
+    CHECK(hashbag_numbers_to_json(&bag, text, 32, &len) == HASHBAG_OK && len == 32 && !memcmp(text, PAIRS, 32) && text[32] == '#');
+    CHECK(hashbag_set_limit(&bag, 9) == HASHBAG_OK && hashbag_numbers_to_json(&bag, text, 100, &len) == HASHBAG_OK && len == 52 && !memcmp(text, LIMITED, 52));
+    CHECK(hashbag_numbers_from_json(&back, SIZE_MAX, text, len, &at) == HASHBAG_OK && hashbag_equal(&bag, &back) && hashbag_limit(&back) == 9 && at == 77);
+    CHECK(hashbag_numbers_from_json(&back, 5, text, len, &at) == HASHBAG_OK && hashbag_equal(&bag, &back) && hashbag_limit(&back) == 5 && at == 77);
+    CHECK(hashbag_numbers_from_json(&back, 2, text, len, &at) == HASHBAG_JSON_TOO_MANY && at == 1 && hashbag_limit(&back) == 5);
+    CHECK(hashbag_numbers_from_json(&back, SIZE_MAX, TEXT(" [ [7, 1],[8,0],\n[7,2] ] "), &at) == HASHBAG_OK && hashbag_numbers_contains(&back, 7) == 3);
+    CHECK(hashbag_len(&back) == 3 && hashbag_set_len(&back) == 1 && hashbag_limit(&back) == SIZE_MAX);
+    for (int round = 0; round < 50; round++) {
+        static char wanted[60000];
+        static uint64_t values[1000];
+        static size_t counts[1000];
+        CHECK(hashbag_numbers_new_keyed(&bag, SIZE_MAX, draw(9), draw(9)) == HASHBAG_OK);
+        for (int i = 0; i < 900; i++) CHECK(hashbag_numbers_insert(&bag, draw(2) ? draw(300) : scattered(draw(300)), draw(4), &before) == HASHBAG_OK);
+        CHECK(hashbag_numbers_sorted(&bag, values, 1000, counts, 1000, &n) == HASHBAG_OK);
+        size_t size = (size_t)sprintf(wanted, "[");
+        for (size_t i = 0; i < n; i++) size += (size_t)sprintf(wanted + size, "%s[%llu,%zu]", i ? "," : "", (unsigned long long)values[i], counts[i]);
+        size += (size_t)sprintf(wanted + size, "]");
+        CHECK(hashbag_numbers_to_json(&bag, text, sizeof text, &len) == HASHBAG_OK && len == size && !memcmp(text, wanted, size));
+        CHECK(hashbag_numbers_from_json_keyed(&back, SIZE_MAX, draw(9), draw(9), text, len, &at) == HASHBAG_OK && hashbag_equal(&bag, &back));
+    }
+    hashbag_free(&bag), hashbag_free(&back);
+}
+
+static void json_texts(void) {
+    hashbag bag = HASHBAG_NONE, back = HASHBAG_NONE;
+    size_t before, len = 77, at = 77;
+    uint8_t text[200];
+    CHECK(hashbag_texts_new(&bag, SIZE_MAX) == HASHBAG_OK && hashbag_texts_insert(&bag, TEXT("a\"b\\\n\x01\xc3\xa9/"), 2, &before) == HASHBAG_OK);
+    CHECK(hashbag_texts_insert(&bag, TEXT("\xff\x01"), 1, &before) == HASHBAG_OK && hashbag_texts_insert(&bag, TEXT(""), 3, &before) == HASHBAG_OK);
+    static const char PAIRS[] = "[[\"\",3],[\"a\\\"b\\\\\\n\\u0001\xc3\xa9/\",2],[[255,1],1]]";
+    CHECK(hashbag_texts_to_json(&bag, text, sizeof text, &len) == HASHBAG_OK && len == strlen(PAIRS) && !memcmp(text, PAIRS, len));
+    memset(text, '#', sizeof text);
+    CHECK(hashbag_texts_to_json(&bag, text, len - 1, &before) == HASHBAG_SHORT && before == len && text[0] == '#');
+    CHECK(hashbag_texts_to_json(&bag, text, len, &before) == HASHBAG_OK && before == len && text[len] == '#');
+    CHECK(hashbag_texts_from_json(&back, SIZE_MAX, text, len, &at) == HASHBAG_OK && hashbag_equal(&bag, &back) && hashbag_limit(&back) == SIZE_MAX && at == 77);
+    CHECK(hashbag_set_limit(&bag, 6) == HASHBAG_OK && hashbag_texts_to_json(&bag, text, sizeof text, &len) == HASHBAG_OK);
+    CHECK(hashbag_texts_from_json_keyed(&back, SIZE_MAX, 1, 2, text, len, &at) == HASHBAG_OK && hashbag_equal(&bag, &back) && hashbag_limit(&back) == 6);
+    CHECK(hashbag_texts_from_json(&back, SIZE_MAX, TEXT("[[\"\\u0061\",1],[[97],2],[[],1],[\"\\ud83d\\ude00\",1]]"), &at) == HASHBAG_OK);
+    CHECK(hashbag_texts_contains(&back, TEXT("a")) == 3 && hashbag_texts_contains(&back, TEXT("")) == 1 && hashbag_texts_contains(&back, TEXT("\xf0\x9f\x98\x80")) == 1);
+    /* A bag of the other kind is freed, and the handle gets one of this kind. */
+    CHECK(hashbag_numbers_from_json(&back, SIZE_MAX, TEXT("[[5,2]]"), &at) == HASHBAG_OK && hashbag_numbers_contains(&back, 5) == 2);
+    hashbag_free(&bag), hashbag_free(&back);
+}
+
 int main(void) {
     wrong_handles();
     numbers();
@@ -363,6 +558,11 @@ int main(void) {
     combined_numbers();
     signed_bounds();
     combined_texts();
+    number_walks();
+    text_walks();
+    json_errors();
+    json_numbers();
+    json_texts();
     puts("test_calls: ok");
     return 0;
 }

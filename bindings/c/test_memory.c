@@ -88,6 +88,48 @@ static void copies(hashbag *bag) {
     hashbag_free(&copy);
 }
 
+/* A bag as JSON, and back over another one. A call that fails leaves its buffer or its handle as it was. */
+static void json(hashbag *bag, int is_texts) {
+    hashbag back = HASHBAG_NONE;
+    static uint8_t text[400];
+    size_t len = 999, at = 999, total = hashbag_len(bag);
+    memset(text, '#', sizeof text);
+    uint8_t code = is_texts ? hashbag_texts_to_json(bag, text, 400, &len) : hashbag_numbers_to_json(bag, text, 400, &len);
+    if (fails(code)) CHECK(len == 999 && text[0] == '#');
+    CHECK(hashbag_len(bag) == total);
+    if (code != HASHBAG_OK) return;
+    fails(hashbag_numbers_new(&back, 7));
+    size_t limit = hashbag_limit(&back);
+    long hits_before = hits;
+    code = is_texts ? hashbag_texts_from_json(&back, SIZE_MAX, text, len, &at) : hashbag_numbers_from_json(&back, SIZE_MAX, text, len, &at);
+    if (fails(code)) CHECK(code == HASHBAG_MEMORY && at == 999 && hashbag_limit(&back) == limit);
+    else {
+        CHECK(at == 999 && hashbag_equal(bag, &back));
+        /* An insertion that was refused one table may go on with a smaller one. */
+        refused += (int)(hits - hits_before);
+    }
+    hashbag_free(&back);
+}
+
+static void numbers_as_json(void) {
+    hashbag bag = HASHBAG_NONE;
+    size_t before;
+    fails(hashbag_numbers_new(&bag, 50));
+    for (uint64_t i = 0; i < 9; i++) fails(bag.at ? hashbag_numbers_insert(&bag, i * i, i % 3 + 1, &before) : HASHBAG_OK);
+    json(&bag, 0);
+    hashbag_free(&bag);
+}
+
+static void texts_as_json(void) {
+    hashbag bag = HASHBAG_NONE;
+    size_t before;
+    const char *texts[4] = {"", "a\"\n", "\xff\xfe", "\xc3\xa9"};
+    fails(hashbag_texts_new(&bag, 50));
+    for (size_t i = 0; i < 4; i++) fails(bag.at ? hashbag_texts_insert(&bag, (const uint8_t *)texts[i], strlen(texts[i]), i + 1, &before) : HASHBAG_OK);
+    json(&bag, 1);
+    hashbag_free(&bag);
+}
+
 static void numbers(void) {
     hashbag bag = HASHBAG_NONE;
     size_t before, total = 0, done;
@@ -112,6 +154,14 @@ static void numbers(void) {
     n = 999;
     if (fails(hashbag_numbers_most_common(&bag, listed, 10, counts, 10, &n))) CHECK(n == 999);
     else CHECK(n == 10);
+    CHECK(hashbag_len(&bag) == total + done);
+    hashbag_walk walk = HASHBAG_NONE;
+    if (fails(hashbag_numbers_walk(&bag, &walk))) CHECK(walk.at == NULL);
+    else CHECK(hashbag_numbers_next(&walk, listed, 9, counts, 10) == 9);
+    size_t unread = hashbag_walk_left(&walk);
+    if (fails(hashbag_numbers_walk(&bag, &walk))) CHECK(hashbag_walk_left(&walk) == unread);
+    else CHECK(hashbag_walk_left(&walk) == hashbag_set_len(&bag));
+    hashbag_walk_free(&walk);
     CHECK(hashbag_len(&bag) == total + done);
     copies(&bag);
     hashbag_free(&bag);
@@ -146,6 +196,14 @@ static void texts(void) {
     if (fails(hashbag_texts_most_common(&bag, bytes, 2000, listed, 10, counts, 10, &n))) CHECK(n == 999);
     else CHECK(n == 10);
     CHECK(hashbag_len(&bag) == total);
+    hashbag_walk walk = HASHBAG_NONE;
+    if (fails(hashbag_texts_walk(&bag, &walk))) CHECK(walk.at == NULL);
+    else CHECK(hashbag_texts_next(&walk, bytes, 2000, listed, 9, counts, 10) == 9);
+    size_t unread = hashbag_walk_left(&walk);
+    if (fails(hashbag_texts_walk(&bag, &walk))) CHECK(hashbag_walk_left(&walk) == unread);
+    else CHECK(hashbag_walk_left(&walk) == hashbag_set_len(&bag));
+    hashbag_walk_free(&walk);
+    CHECK(hashbag_len(&bag) == total);
     copies(&bag);
     hashbag_free(&bag);
 }
@@ -156,6 +214,8 @@ static int runs(long n) {
     left = n;
     numbers();
     texts();
+    numbers_as_json();
+    texts_as_json();
     CHECK(live == 0);
     return refused;
 }

@@ -13,7 +13,8 @@ import sys
 import textwrap
 
 HEADER = "bindings/c/hashbag.h"
-FILES = ["any", "combine", "numbers", "number_batches", "number_joins", "number_orders", "texts", "text_batches", "text_joins", "text_orders"]
+FILES = ["any", "combine", "numbers", "number_batches", "number_joins", "number_orders", "number_json", "texts", "text_batches", "text_joins", "text_orders", "text_json"]
+FILES += ["walks", "number_walks", "text_walks"]
 TITLES = {
     "any": "bags of either kind",
     "combine": "two bags of one kind",
@@ -21,12 +22,17 @@ TITLES = {
     "number_batches": "bags of numbers, many at once",
     "number_joins": "joins of bags of numbers",
     "number_orders": "bags of numbers, in an order",
+    "number_json": "bags of numbers as JSON",
     "texts": "bags of byte strings",
     "text_batches": "bags of byte strings, many at once",
     "text_joins": "joins of bags of byte strings",
     "text_orders": "bags of byte strings, in an order",
+    "walks": "walks of either kind",
+    "number_walks": "walks over bags of numbers",
+    "text_walks": "walks over bags of byte strings",
+    "text_json": "bags of byte strings as JSON",
 }
-TYPES = {"u64": "uint64_t ", "usize": "size_t ", "u8": "uint8_t ", "bool": "bool ", "&mut Handle": "hashbag *", "&mut usize": "size_t *"}
+TYPES = {"u64": "uint64_t ", "usize": "size_t ", "u8": "uint8_t ", "bool": "bool ", "&mut Handle": "hashbag *", "&mut Walk": "hashbag_walk *", "&mut usize": "size_t *"}
 SLICES = {"&[u8]": "const uint8_t *", "&[u64]": "const uint64_t *", "&[usize]": "const size_t *", "&[isize]": "const ptrdiff_t *"}
 SLICES.update({f"&mut {it[1:]}": text.removeprefix("const ") for it, text in list(SLICES.items())})
 
@@ -37,12 +43,15 @@ HEAD = """\
  * it, and `hashbag_free` leaves it empty again. A call on an empty handle, or on one that has a bag of the other kind, changes nothing, and
  * returns HASHBAG_EMPTY or HASHBAG_KIND, or a count of 0.
  *
+ * A walk is a handle of its own, `hashbag_walk`, which starts as HASHBAG_NONE too. `hashbag_numbers_walk` and `hashbag_texts_walk` copy the pairs of a
+ * bag into it, `hashbag_numbers_next` and `hashbag_texts_next` write the next ones, and `hashbag_walk_free` leaves it empty again.
+ *
  * The library is proved for callers that keep to this:
  *  1. Handles. A handle was HASHBAG_NONE first, and since then only this library wrote it. It isn't copied, so that two have one bag. Two
  *     handles of one call are two, not one twice.
  *  2. Memory. A pointer isn't null, not even with the length 0. It is aligned, and there is memory of the length that is given. What a call
  *     writes overlaps no other argument. `malloc`, `realloc` and `free` are of one allocator, and align to 16.
- *  3. Threads. A handle stays on the thread that put a bag into it, and has one call at a time, also of calls that only read. There is no call
+ *  3. Threads. A handle stays on the thread that put a bag or a walk into it, and has one call at a time, also of calls that only read. There is no call
  *     from a signal handler, or in the child of a `fork` of a program with threads.
  */
 #ifndef HASHBAG_H
@@ -59,6 +68,10 @@ extern "C" {
 typedef struct hashbag {
     void *at;
 } hashbag;
+
+typedef struct hashbag_walk {
+    void *at;
+} hashbag_walk;
 
 #define HASHBAG_NONE { NULL }
 
@@ -127,13 +140,20 @@ def declared(name, result, parameters):
     return text + ("\n" + " " * len(text)).join(it.rstrip() for it in lines) + ");\n", len(words)
 
 
+def variants(path, error, prefix):
+    """The variants of an enum of errors, each with its number and its comment."""
+    text = read(path)
+    numbers = dict(re.findall(error + r"::(\w+)(?:\(_\))? => (\d+),", text))
+    body = text[text.index(f"pub enum {error} {{") :].split("\n}")[0]
+    for doc, name in re.findall(r"((?:^    ///.*\n)+)    #\[error[^\n]*\n    (\w+)", body, re.M):
+        word = prefix + re.sub(r"(?<!^)(?=[A-Z])", "_", name).upper()
+        yield word, numbers[name], " ".join(it.strip()[4:] for it in doc.rstrip().split("\n")).replace("`usize::MAX`", "`SIZE_MAX`")
+
+
 def errors():
-    """The numbers of errors with their comments: those of the bag, and those of the handle."""
-    core = read("crates/hashbag_core/src/bag.rt")
-    numbers = dict(re.findall(r"BagError::(\w+) => (\d+),", core))
-    for doc, name in re.findall(r"((?:^    ///.*\n)+)    #\[error[^\n]*\n    (\w+),", core, re.M):
-        word = re.sub(r"(?<!^)(?=[A-Z])", "_", name).upper()
-        yield word, numbers[name], " ".join(it.strip()[4:] for it in doc.rstrip().split("\n"))
+    """The numbers of errors with their comments: those of the bag, of a JSON text, and of the handle. A failed allocation has one number."""
+    found = [*variants("crates/hashbag_core/src/bag.rt", "BagError", ""), *variants("crates/hashbag_core/src/json.rt", "JsonError", "JSON_")]
+    yield from sorted((it for it in found if it[0] != "JSON_MEMORY"), key=lambda it: int(it[1]))
     for doc, name, number in re.findall(r"((?:^///.*\n)+)pub const (\w+): u8 = (\d+);", read("crates/hashbag_c/src/any.rt"), re.M):
         yield name, number, " ".join(it[4:] for it in doc.rstrip().split("\n"))
 

@@ -30,7 +30,7 @@ from ._library import remove as _remove
 from ._library import set_count as _set_count
 from ._library import take_all as _take_all
 
-__all__ = ["BagError", "HashBag", "NO_LIMIT", "is_fast"]
+__all__ = ["BagError", "HashBag", "JsonError", "NO_LIMIT", "is_fast"]
 
 #: Whether calls on one key go by `_fast.c`, and not by ctypes.
 is_fast: bool = _is_fast
@@ -50,6 +50,21 @@ class BagError(Exception):
     def __init__(self, number: int) -> None:
         super().__init__(self.TEXTS.get(number, f"error {number}"))
         self.number = number
+
+
+class JsonError(BagError, ValueError):
+    """Why a text can't be read as a bag. `place` is the number of the pair at fault, counted from 0, or of a text that isn't JSON how many of its bytes
+    had been read; it is None if there is no place."""
+
+    TEXTS = {3: "not an array", 4: "not a pair", 5: "bad count", 6: "bad item", 7: "total past its end", 10: "bad limit", 24: "not JSON"}
+
+    def __init__(self, number: int, place: int) -> None:
+        super().__init__(number)
+        self.place = None if number in (3, 10) else place
+
+    def __str__(self) -> str:
+        where = "" if self.place is None else f"after {self.place} bytes: " if self.number == 24 else f"pair {self.place}: "
+        return where + super().__str__()
 
 
 def _done(number: int) -> None:
@@ -339,6 +354,37 @@ class HashBag(Generic[K]):
             return []
         keys, counts = _read(*self._sizes(), 1, lambda *places: call(self._at(), other._at(), *places))
         return self._decoded(keys, counts)
+
+    # ---- JSON
+
+    def to_json(self) -> str:
+        """Returns the bag as JSON: a list of [key, count], keys in ascending order by their bytes.
+
+        A bag with a limit is an object with the members `limit` and `pairs`. A key that isn't UTF-8 is a list of its bytes.
+        """
+        n, size = self._sizes()
+        places, code = size + 32 * n + 64, 23
+        while code == 23:
+            text = bytearray(places)
+            code = _library.hashbag_texts_to_json(self._at(), ctypes.addressof(ctypes.c_char.from_buffer(text)), places, self._out)
+            places = self._size.value
+        _done(code)
+        return bytes(memoryview(text)[:places]).decode()
+
+    @classmethod
+    def from_json(cls, text: str | bytes, *, limit: int = NO_LIMIT, decode: Callable[[bytes], Any] | None = bytes.decode) -> HashBag[Any]:
+        """Returns the bag that a text says which `to_json` can have written. Its limit is the lesser of `limit` and the one in the text.
+
+        Raises JsonError if the text isn't that of a bag. A list of bytes that aren't UTF-8 is a key, which only `decode=None` can show.
+        """
+        made: HashBag[Any] = cls(decode=decode)
+        raw = text.encode() if isinstance(text, str) else bytes(text)
+        code = _library.hashbag_texts_from_json_keyed(made._at(), _count(limit), secrets.randbits(64), secrets.randbits(64), raw, len(raw), made._out)
+        if code == 1:
+            raise MemoryError
+        if code:
+            raise JsonError(code, made._size.value)
+        return made
 
     def __repr__(self) -> str:
         shown = ", ".join(f"{key!r}: {n}" for key, n in self.most_common(10))

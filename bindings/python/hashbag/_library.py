@@ -53,6 +53,9 @@ for _name, _arguments, _result in (
     ("hashbag_numbers_signed_difference", [HANDLE, HANDLE, ARRAY, SIZE, ARRAY, SIZE], SIZE),
     ("hashbag_numbers_sorted", [HANDLE, ARRAY, SIZE, ARRAY, SIZE, ARRAY], BYTE),
     ("hashbag_numbers_most_common", [HANDLE, ARRAY, SIZE, ARRAY, SIZE, ARRAY], BYTE),
+    ("hashbag_numbers_to_json", [HANDLE, ARRAY, SIZE, ARRAY], BYTE),
+    ("hashbag_numbers_from_json", [HANDLE, SIZE, BYTES, SIZE, ARRAY], BYTE),
+    ("hashbag_numbers_from_json_keyed", [HANDLE, SIZE, WORD, WORD, BYTES, SIZE, ARRAY], BYTE),
     ("hashbag_texts_new", [HANDLE, SIZE], BYTE),
     ("hashbag_texts_new_keyed", [HANDLE, SIZE, WORD, WORD], BYTE),
     ("hashbag_texts_insert", [HANDLE, BYTES, SIZE, SIZE, ARRAY], BYTE),
@@ -70,6 +73,16 @@ for _name, _arguments, _result in (
     ("hashbag_texts_signed_difference", [HANDLE, HANDLE, ARRAY, SIZE, ARRAY, SIZE, ARRAY, SIZE], SIZE),
     ("hashbag_texts_sorted", [HANDLE, ARRAY, SIZE, ARRAY, SIZE, ARRAY, SIZE, ARRAY], BYTE),
     ("hashbag_texts_most_common", [HANDLE, ARRAY, SIZE, ARRAY, SIZE, ARRAY, SIZE, ARRAY], BYTE),
+    ("hashbag_walk_left", [HANDLE], SIZE),
+    ("hashbag_walk_free", [HANDLE], None),
+    ("hashbag_numbers_walk", [HANDLE, HANDLE], BYTE),
+    ("hashbag_numbers_next", [HANDLE, ARRAY, SIZE, ARRAY, SIZE], SIZE),
+    ("hashbag_texts_walk", [HANDLE, HANDLE], BYTE),
+    ("hashbag_texts_next", [HANDLE, ARRAY, SIZE, ARRAY, SIZE, ARRAY, SIZE], SIZE),
+    ("hashbag_texts_next_len", [HANDLE], SIZE),
+    ("hashbag_texts_to_json", [HANDLE, ARRAY, SIZE, ARRAY], BYTE),
+    ("hashbag_texts_from_json", [HANDLE, SIZE, BYTES, SIZE, ARRAY], BYTE),
+    ("hashbag_texts_from_json_keyed", [HANDLE, SIZE, WORD, WORD, BYTES, SIZE, ARRAY], BYTE),
 ):
     _function = getattr(library, _name)
     _function.argtypes, _function.restype = _arguments, _result

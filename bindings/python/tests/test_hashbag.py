@@ -1,12 +1,13 @@
 """Tests of the Python binding, by unittest. Expected values are those of `collections.Counter`, or were found by hand."""
 
 import copy
+import json
 import random
 import threading
 import unittest
 from collections import Counter
 
-from hashbag import NO_LIMIT, BagError, HashBag
+from hashbag import NO_LIMIT, BagError, HashBag, JsonError
 
 
 class OneBag(unittest.TestCase):
@@ -201,6 +202,50 @@ class TwoBags(unittest.TestCase):
         self.assertEqual(self.a, HashBag("baaa", limit=4))
         self.assertNotEqual(self.a, self.b)
         self.assertNotEqual(self.a, {"a": 3, "b": 1})
+
+
+class Json(unittest.TestCase):
+    def test_is_that_of_python(self):
+        random.seed(2)
+        for _ in range(30):
+            words = ["".join(chr(random.choice([*range(0x300), 0x2028, 0xFFFF, 0x1F600])) for _ in range(random.randrange(6))) for _ in range(200)]
+            counter = Counter(words)
+            bag = HashBag(words)
+            pairs = sorted(([key, n] for key, n in counter.items()), key=lambda pair: pair[0].encode())
+            self.assertEqual(bag.to_json(), json.dumps(pairs, ensure_ascii=False, separators=(",", ":")))
+            self.assertEqual(HashBag.from_json(json.dumps(pairs, indent=1)), bag)
+            self.assertEqual(HashBag.from_json(bag.to_json().encode()), bag)
+
+    def test_limit(self):
+        bag = HashBag("aab", limit=7)
+        self.assertEqual(bag.to_json(), '{"limit":7,"pairs":[["a",2],["b",1]]}')
+        self.assertEqual([HashBag.from_json(bag.to_json(), limit=most).limit for most in (NO_LIMIT, 3)], [7, 3])
+        self.assertEqual(HashBag.from_json("[]").limit, NO_LIMIT)
+
+    def test_bytes(self):
+        bag = HashBag([b"\xff\x00", b"a", b"a"], decode=None)
+        self.assertEqual(bag.to_json(), '[["a",2],[[255,0],1]]')
+        self.assertEqual(HashBag.from_json(bag.to_json(), decode=None), bag)
+        self.assertEqual(HashBag.from_json('[[[97],1],["a",1]]').items(), [("a", 2)])
+
+    def test_a_long_text(self):
+        bag = HashBag({"\x01" * 5000: 1})
+        self.assertEqual(bag.to_json(), '[["' + "\\u0001" * 5000 + '",1]]')
+
+    def test_errors(self):
+        for text, number, place, said in (
+            ("5", 3, None, "not an array"),
+            ('[["a",1],[7]]', 4, 1, "pair 1: not a pair"),
+            ('[["a",-1]]', 5, 0, "pair 0: bad count"),
+            ('[["a",1],[5,1]]', 6, 1, "pair 1: bad item"),
+            ('[["a",9],["b",1]]', 7, 1, "pair 1: total past its end"),
+            ('{"pairs":[]}', 10, None, "bad limit"),
+            ('[["a",9]', 24, 8, "after 8 bytes: not JSON"),
+            (b'[["\xff",9]]', 24, 4, "after 4 bytes: not JSON"),
+        ):
+            with self.assertRaises(JsonError) as raised:
+                HashBag.from_json(text, limit=9)
+            self.assertEqual((raised.exception.number, raised.exception.place, str(raised.exception)), (number, place, said))
 
 
 class RandomCalls(unittest.TestCase):

@@ -30,12 +30,14 @@ mod error;
 mod impls;
 mod iters;
 mod joins;
+mod json;
 mod sys;
 mod value;
 
 pub use entry::Entry;
 pub use error::BagError;
 pub use iters::{Drain, IntoIter, Iter, SetIter};
+pub use json::{JsonError, JsonValue};
 pub use value::{Bytes, Value};
 
 use error::{done, panics};

@@ -10,6 +10,13 @@ impl Handle {
     pub const NONE: Handle = Handle { at: std::ptr::null_mut() };
 }
 
+/// A walk: one word, which is null or was written by the library.
+#[allow(dead_code)]
+#[repr(C)]
+pub struct Walk {
+    at: *mut u8,
+}
+
 #[rustfmt::skip]
 extern "C" {
     pub fn hashbag_free(handle: *mut Handle);
@@ -45,6 +52,10 @@ extern "C" {
     #[allow(dead_code)]
     pub fn hashbag_numbers_sorted(handle: *mut Handle, values: *mut u64, values_len: usize, counts: *mut usize, counts_len: usize, n: *mut usize) -> u8;
     pub fn hashbag_numbers_most_common(handle: *mut Handle, values: *mut u64, values_len: usize, counts: *mut usize, counts_len: usize, n: *mut usize) -> u8;
+    pub fn hashbag_numbers_to_json(handle: *mut Handle, bytes: *mut u8, bytes_len: usize, len: *mut usize) -> u8;
+    #[allow(dead_code)]
+    pub fn hashbag_numbers_from_json(handle: *mut Handle, most: usize, text: *const u8, text_len: usize, at: *mut usize) -> u8;
+    pub fn hashbag_numbers_from_json_keyed(handle: *mut Handle, most: usize, key0: u64, key1: u64, text: *const u8, text_len: usize, at: *mut usize) -> u8;
     #[allow(dead_code)]
     pub fn hashbag_texts_new(handle: *mut Handle, most: usize) -> u8;
     pub fn hashbag_texts_new_keyed(handle: *mut Handle, most: usize, key0: u64, key1: u64) -> u8;
@@ -65,4 +76,22 @@ extern "C" {
     #[allow(dead_code)]
     pub fn hashbag_texts_sorted(handle: *mut Handle, bytes: *mut u8, bytes_len: usize, ends: *mut usize, ends_len: usize, counts: *mut usize, counts_len: usize, n: *mut usize) -> u8;
     pub fn hashbag_texts_most_common(handle: *mut Handle, bytes: *mut u8, bytes_len: usize, ends: *mut usize, ends_len: usize, counts: *mut usize, counts_len: usize, n: *mut usize) -> u8;
+    #[allow(dead_code)]
+    pub fn hashbag_walk_left(walk: *mut Walk) -> usize;
+    #[allow(dead_code)]
+    pub fn hashbag_walk_free(walk: *mut Walk);
+    #[allow(dead_code)]
+    pub fn hashbag_numbers_walk(handle: *mut Handle, walk: *mut Walk) -> u8;
+    #[allow(dead_code)]
+    pub fn hashbag_numbers_next(walk: *mut Walk, values: *mut u64, values_len: usize, counts: *mut usize, counts_len: usize) -> usize;
+    #[allow(dead_code)]
+    pub fn hashbag_texts_walk(handle: *mut Handle, walk: *mut Walk) -> u8;
+    #[allow(dead_code)]
+    pub fn hashbag_texts_next(walk: *mut Walk, bytes: *mut u8, bytes_len: usize, ends: *mut usize, ends_len: usize, counts: *mut usize, counts_len: usize) -> usize;
+    #[allow(dead_code)]
+    pub fn hashbag_texts_next_len(walk: *mut Walk) -> usize;
+    pub fn hashbag_texts_to_json(handle: *mut Handle, bytes: *mut u8, bytes_len: usize, len: *mut usize) -> u8;
+    #[allow(dead_code)]
+    pub fn hashbag_texts_from_json(handle: *mut Handle, most: usize, text: *const u8, text_len: usize, at: *mut usize) -> u8;
+    pub fn hashbag_texts_from_json_keyed(handle: *mut Handle, most: usize, key0: u64, key1: u64, text: *const u8, text_len: usize, at: *mut usize) -> u8;
 }

@@ -1,5 +1,5 @@
 //! Random calls on a bag, compared with a map of counts. The expected values are the map's.
-use hashbag::{BagError, HashBag, Value};
+use hashbag::{BagError, HashBag, JsonError, Value};
 use std::collections::BTreeMap;
 
 // A sequence of numbers that repeats in each run.
@@ -275,4 +275,38 @@ fn lent_values_live_as_long_as_the_bag_is_lent() {
     for (n, (text, count)) in first.iter().enumerate() {
         assert_eq!((text.as_str(), *count), (n.to_string().as_str(), 1));
     }
+}
+
+#[test]
+fn json_is_read_back() {
+    let mut draw = Draw(23);
+    for _ in 0..50 {
+        let numbers: HashBag<u64> = (0..draw.below(300)).map(|n| (n % 90).wrapping_mul(0x9e37_79b9_7f4a_7c15)).collect();
+        assert_eq!(HashBag::from_json(&numbers.to_json(), usize::MAX, std::hash::RandomState::new()).as_ref(), Ok(&numbers));
+        let texts: HashBag<String> = (0..draw.below(300)).map(|n| "\u{1}\"ö".repeat(n as usize % 40)).collect();
+        assert_eq!(HashBag::from_json(&texts.to_json(), usize::MAX, std::hash::RandomState::new()).as_ref(), Ok(&texts));
+        let bytes: HashBag<Vec<u8>> = (0..draw.below(300)).map(|n| vec![n as u8; n as usize % 5]).collect();
+        assert_eq!(HashBag::from_json(&bytes.to_json(), usize::MAX, std::hash::RandomState::new()).as_ref(), Ok(&bytes));
+    }
+}
+
+#[test]
+fn json_errors() {
+    let read = |text| HashBag::<String>::from_json(text, 9, std::hash::RandomState::new()).err();
+    let cases = [
+        ("[", JsonError::NotJson(1)),
+        ("5", JsonError::NotAnArray),
+        (r#"[["a",1],[7]]"#, JsonError::NotAPair(1)),
+        (r#"[["a",-1]]"#, JsonError::BadCount(0)),
+        (r#"[[5,1]]"#, JsonError::BadItem(0)),
+        (r#"[["a",9],["b",1]]"#, JsonError::TooMany(1)),
+        (r#"{"pairs":[]}"#, JsonError::BadLimit),
+        (r#"[["a",1],[[255],1]]"#, JsonError::NotText),
+    ];
+    for (text, error) in cases {
+        assert_eq!(read(text), Some(error), "{text}");
+    }
+    assert_eq!(read("[[[97],1]]"), None);
+    let bag: HashBag<String> = HashBag::from_json(r#"{"limit":3,"pairs":[["a",1]]}"#, 9, std::hash::RandomState::new()).unwrap();
+    assert_eq!((bag.limit(), bag.contains("a")), (3, 1));
 }

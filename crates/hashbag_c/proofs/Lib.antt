@@ -1,8 +1,13 @@
 pub mod AsBox
+pub mod AsLeftBox
+pub mod ByteTreeLemmas
 pub mod HandleSteps
+pub mod JsonTextLemmas
 pub mod ListedLemmas
 pub mod PieceLemmas
 pub mod RawBoxWords
 pub mod ReadLemmas
 pub mod TakeLemmas
 pub mod TextReadLemmas
+pub mod WalkSteps
+pub mod WalkedLemmas

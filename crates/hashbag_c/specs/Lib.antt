@@ -1,7 +1,11 @@
 pub mod Own
+pub mod ByteTreeLaws
+pub mod ByteTrees
 pub mod Calls
 pub mod Differences
+pub mod Json
 pub mod Orders
 pub mod Pieces
 pub mod Reads
 pub mod Whole
+pub mod Walked

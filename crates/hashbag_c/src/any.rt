@@ -23,6 +23,12 @@ pub const KIND: u8 = 21;
 /// The ends of byte strings aren't ascending, or pass the bytes.
 pub const ENDS: u8 = 22;
 
+/// The text is longer than the buffer.
+pub const SHORT: u8 = 23;
+
+/// The text isn't JSON, or isn't UTF-8.
+pub const NOT_JSON: u8 = 24;
+
 /// Frees the bag, and leaves an empty handle. An empty handle stays empty.
 #[unsafe(no_mangle)]
 pub extern "C" fn hashbag_free(alloc: Global, handle: &mut Handle)

@@ -5,17 +5,25 @@
 #![tactic(auto)]
 
 pub mod any;
+pub mod byte_trees;
 pub mod bytes;
 pub mod combine;
 pub mod handle;
 pub mod held;
+pub mod json;
 pub mod number_batches;
 pub mod number_joins;
+pub mod number_json;
 pub mod number_orders;
+pub mod number_walks;
 pub mod numbers;
 pub mod raw_box;
 pub mod state;
 pub mod text_batches;
 pub mod text_joins;
+pub mod text_json;
 pub mod text_orders;
+pub mod text_walks;
 pub mod texts;
+pub mod walk;
+pub mod walks;
