@@ -8,10 +8,10 @@
  * bag into it, `hashbag_numbers_next` and `hashbag_texts_next` write the next ones, and `hashbag_walk_free` leaves it empty again.
  *
  * The library is proved for callers that keep to this:
- *  1. Handles. A handle was HASHBAG_NONE first, and since then only this library wrote it. It isn't copied, so that two have one bag. Two
- *     handles of one call are two, not one twice.
+ *  1. Handles. A handle was HASHBAG_NONE first, and since then only this library wrote it. It is never copied: no two handles have one bag. A
+ *     call with two handles gets two different ones.
  *  2. Memory. A pointer isn't null, not even with the length 0. It is aligned, and there is memory of the length that is given. What a call
- *     writes overlaps no other argument. `malloc`, `realloc` and `free` are of one allocator, and align to 16.
+ *     writes overlaps no other argument. Who replaces `malloc` replaces `realloc` and `free` too, and aligns to 16.
  *  3. Threads. A handle stays on the thread that put a bag or a walk into it, and has one call at a time, also of calls that only read. There is no call
  *     from a signal handler, or in the child of a `fork` of a program with threads.
  */
@@ -62,7 +62,7 @@ enum hashbag_error {
     HASHBAG_EMPTY = 20,
     /* The handle has a bag of the other kind. */
     HASHBAG_KIND = 21,
-    /* The ends of byte strings aren't ascending, or pass the bytes. */
+    /* The ends of byte strings aren't ascending, or one is past the last byte. */
     HASHBAG_ENDS = 22,
     /* The text is longer than the buffer. */
     HASHBAG_SHORT = 23,
@@ -174,7 +174,7 @@ uint8_t hashbag_numbers_new(hashbag *handle, size_t most);
  * `HASHBAG_MEMORY` if an allocation fails. Nothing changes then. */
 uint8_t hashbag_numbers_new_keyed(hashbag *handle, size_t most, uint64_t key0, uint64_t key1);
 
-/* Inserts `n` occurrences of a number, writes the count before, and returns 0.
+/* Inserts `n` occurrences of a number, writes the count before, and returns 0. With 0 nothing changes.
  *
  * Errors:
  * `HASHBAG_TOO_MANY` if the total would pass the limit; `HASHBAG_MEMORY` if the number is absent, there is no room,
@@ -204,8 +204,18 @@ uint8_t hashbag_numbers_set_count(hashbag *handle, uint64_t value, size_t n, siz
  * that is all.
  *
  * Errors:
- * As of `hashbag_numbers_insert`. The numbers before the one that fails stay in the bag. */
+ * Those of `hashbag_numbers_insert`. The numbers before the one that fails stay in the bag. */
 uint8_t hashbag_numbers_insert_all(hashbag *handle, const uint64_t *values, size_t values_len, size_t *done);
+
+/* Keeps of each number at most as many as a list says, `most[i]` of `values[i]`, and returns 0. Of a number that is
+ * listed twice the first place counts. A number that isn't listed is removed. If the arrays differ in length, the rest
+ * of the longer one is ignored.
+ *
+ * Errors:
+ * `HASHBAG_MEMORY` if an allocation fails, since it makes a bag of the listed numbers; `HASHBAG_EMPTY`;
+ * `HASHBAG_KIND`. Nothing changes then. */
+uint8_t hashbag_numbers_retain(hashbag *handle, const uint64_t *values, size_t values_len, const size_t *most,
+                               size_t most_len);
 
 /* Writes distinct numbers and their counts into two arrays, as many as both have places for, and returns how many.
  * With `hashbag_set_len` places in each these are all, in no particular order. It returns 0 if the handle has no bag
@@ -214,8 +224,8 @@ size_t hashbag_numbers_read(hashbag *handle, uint64_t *values, size_t values_len
 
 /* Writes each number of two bags once, with its count in the first and in the second, 0 in the bag that lacks it:
  * those of the first bag first. It writes as many as the three arrays have places for, and returns how many. With as
- * many places as both bags have distinct numbers these are all. They must be two handles, not one twice. It returns 0
- * if one of them has no bag of numbers. */
+ * many places as both bags together have distinct numbers these are all. They must be two handles, not one twice. It
+ * returns 0 if one of them has no bag of numbers. */
 size_t hashbag_numbers_outer_join(hashbag *a, hashbag *b, uint64_t *values, size_t values_len, size_t *firsts,
                                   size_t firsts_len, size_t *seconds, size_t seconds_len);
 
@@ -236,17 +246,17 @@ size_t hashbag_numbers_not_in(hashbag *a, hashbag *b, uint64_t *values, size_t v
 
 /* Writes each number of two bags once, with its count in the first less its count in the second: those of the first
  * bag first. A difference above `PTRDIFF_MAX` or below `PTRDIFF_MIN` is written as that bound. It writes as many as
- * both arrays have places for, and returns how many. With as many places as both bags have distinct numbers these are
- * all. They must be two handles, not one twice. It returns 0 if one of them has no bag of numbers. It doesn't
- * allocate. */
+ * both arrays have places for, and returns how many. With as many places as both bags together have distinct numbers
+ * these are all. They must be two handles, not one twice. It returns 0 if one of them has no bag of numbers. It
+ * doesn't allocate. */
 size_t hashbag_numbers_signed_difference(hashbag *a, hashbag *b, uint64_t *values, size_t values_len,
                                          ptrdiff_t *differences, size_t differences_len);
 
 /* ---- bags of numbers, in an order */
 
-/* Writes the distinct numbers, rising, and their counts into two arrays, as many as both have places for. Writes how
- * many into `n`, and returns 0. With `hashbag_set_len` places in each these are all. It makes one allocation, a list
- * of all distinct numbers, and sorts it.
+/* Writes the distinct numbers in ascending order, and their counts, into two arrays, as many as both have places for.
+ * Writes how many into `n`, and returns 0. With `hashbag_set_len` places in each these are all. It makes one
+ * allocation, a list of all distinct numbers, and sorts it.
  *
  * Errors:
  * `HASHBAG_MEMORY` if the allocation fails; `HASHBAG_EMPTY`; `HASHBAG_KIND`. Nothing is written then. The bag is
@@ -254,9 +264,10 @@ size_t hashbag_numbers_signed_difference(hashbag *a, hashbag *b, uint64_t *value
 uint8_t hashbag_numbers_sorted(hashbag *handle, uint64_t *values, size_t values_len, size_t *counts,
                                size_t counts_len, size_t *n);
 
-/* Writes the most common numbers and their counts into two arrays, as many as both have places for, or all if there
- * are fewer: counts falling, and numbers that occur equally often rising. Writes how many into `n`, and returns 0. It
- * reads each distinct number once, and makes two allocations at most, each of as many pairs as it writes.
+/* Writes the k most common numbers and their counts into two arrays: k is the lesser of their lengths. They are in
+ * descending order of counts, and in ascending order if they occur equally often. Writes how many into `n`, and
+ * returns 0. It reads each distinct number once, and makes two allocations at most, each of as many pairs as it
+ * writes.
  *
  * Errors:
  * `HASHBAG_MEMORY` if an allocation fails; `HASHBAG_EMPTY`; `HASHBAG_KIND`. Nothing is written then. The bag is
@@ -267,9 +278,9 @@ uint8_t hashbag_numbers_most_common(hashbag *handle, uint64_t *values, size_t va
 /* ---- bags of numbers as JSON */
 
 /* Writes a bag of numbers as a JSON text at the beginning of `bytes`, writes the length of the text into `len`, and
- * returns 0. The text is `[[5,2],[7,1]]`: each distinct number with its count, numbers in ascending order, without
- * spaces. A bag with a limit below `SIZE_MAX` is `{"limit":9,"pairs":[[5,2],[7,1]]}`. Bags with the same counts and
- * the same limit have the same text. It makes the whole text in memory of its own first.
+ * returns 0. No NUL follows. The text is `[[5,2],[7,1]]`: each distinct number with its count, numbers in ascending
+ * order, without spaces. A bag with a limit below `SIZE_MAX` is `{"limit":9,"pairs":[[5,2],[7,1]]}`. Bags with the
+ * same counts and the same limit have the same text. It makes the whole text in memory of its own first.
  *
  * Errors:
  * `HASHBAG_SHORT` if the text is longer than `bytes`: `len` is its length then, and nothing else is written.
@@ -288,15 +299,15 @@ uint8_t hashbag_numbers_to_json(hashbag *handle, uint8_t *bytes, size_t bytes_le
  * Errors:
  * `HASHBAG_NOT_JSON` if the text isn't JSON or isn't UTF-8: `at` is then how many of its bytes had been read when that
  * was found. The first fault of a JSON text is returned by a number that begins with `HASHBAG_JSON_`; `at` is the pair
- * at fault, counted from 0, if it is one. `HASHBAG_MEMORY` if an allocation fails. The handle is unchanged then, and
- * `at` unless it is said here. */
+ * at fault, counted from 0, if it is one. `HASHBAG_MEMORY` if an allocation fails. Then the handle is unchanged, and
+ * `at` too except in the two cases above. */
 uint8_t hashbag_numbers_from_json(hashbag *handle, size_t most, const uint8_t *text, size_t text_len, size_t *at);
 
 /* Does the same with two keys of the caller, which are best drawn at random: whoever knows them can find numbers that
  * collide.
  *
  * Errors:
- * As of `hashbag_numbers_from_json`. */
+ * Those of `hashbag_numbers_from_json`. */
 uint8_t hashbag_numbers_from_json_keyed(hashbag *handle, size_t most, uint64_t key0, uint64_t key1,
                                         const uint8_t *text, size_t text_len, size_t *at);
 
@@ -319,8 +330,8 @@ uint8_t hashbag_texts_new(hashbag *handle, size_t most);
  * `HASHBAG_MEMORY` if an allocation fails. Nothing changes then. */
 uint8_t hashbag_texts_new_keyed(hashbag *handle, size_t most, uint64_t key0, uint64_t key1);
 
-/* Inserts `n` occurrences of a byte string, writes the count before, and returns 0. The bytes are copied if the string
- * is absent.
+/* Inserts `n` occurrences of a byte string, writes the count before, and returns 0. With 0 nothing changes. The bytes
+ * are copied if the string is absent.
  *
  * Errors:
  * `HASHBAG_TOO_MANY` if the total would pass the limit; `HASHBAG_MEMORY` if the string is absent and an allocation
@@ -348,13 +359,13 @@ uint8_t hashbag_texts_set_count(hashbag *handle, const uint8_t *value, size_t va
 
 /* ---- bags of byte strings, many at once */
 
-/* Inserts byte strings that lie one after another in `bytes`, each once, in turn, until one fails. Each begins where
- * the one before it ends, and ends before the place that `ends` has. Writes how many were inserted, and returns 0 if
+/* Inserts byte strings that lie one after another in `bytes`, each once, in turn, until one fails. The first is
+ * `bytes[0..ends[0]]`, and that of i is `bytes[ends[i - 1]..ends[i]]`. Writes how many were inserted, and returns 0 if
  * that is all.
  *
  * Errors:
- * As of `hashbag_texts_insert`; `HASHBAG_ENDS` if an end is below the one before it, or above `bytes_len`. The strings
- * before the one that fails stay in the bag. */
+ * Those of `hashbag_texts_insert`; `HASHBAG_ENDS` if an end is below the one before it, or above `bytes_len`. The
+ * strings before the one that fails stay in the bag. */
 uint8_t hashbag_texts_insert_all(hashbag *handle, const uint8_t *bytes, size_t bytes_len, const size_t *ends,
                                  size_t ends_len, size_t *done);
 
@@ -362,17 +373,29 @@ uint8_t hashbag_texts_insert_all(hashbag *handle, const uint8_t *bytes, size_t b
  * separators, and some may be empty. Writes how many were inserted, and returns 0 if that is all.
  *
  * Errors:
- * As of `hashbag_texts_insert`. The pieces before the one that fails stay in the bag. */
+ * Those of `hashbag_texts_insert`. The pieces before the one that fails stay in the bag. */
 uint8_t hashbag_texts_insert_split(hashbag *handle, const uint8_t *bytes, size_t bytes_len, uint8_t separator,
                                    size_t *done);
+
+/* Keeps of each byte string at most as many as a list says, and returns 0. The strings lie one after another in
+ * `bytes`, as `hashbag_texts_insert_all` has it; `most[i]` is the greatest count for the one that ends at `ends[i]`.
+ * Of a string that is listed twice the first place counts. A string that isn't listed is removed. If `ends` and `most`
+ * differ in length, the rest of the longer one is ignored.
+ *
+ * Errors:
+ * `HASHBAG_ENDS` if an end is below the one before it, or above `bytes_len`; `HASHBAG_MEMORY` if an allocation fails,
+ * since it makes a bag of the listed strings; `HASHBAG_EMPTY`; `HASHBAG_KIND`. Nothing changes then. */
+uint8_t hashbag_texts_retain(hashbag *handle, const uint8_t *bytes, size_t bytes_len, const size_t *ends,
+                             size_t ends_len, const size_t *most, size_t most_len);
 
 /* Returns how many bytes the distinct byte strings have in all, which `hashbag_texts_read` needs places for. It is 0
  * if the handle has no bag of byte strings. */
 size_t hashbag_texts_bytes(hashbag *handle);
 
-/* Writes distinct byte strings one after another into `bytes`, where each ends into `ends`, and their counts, as many
- * as there are places for, and returns how many. With `hashbag_texts_bytes` and `hashbag_set_len` places these are
- * all, in no particular order. It returns 0 if the handle has no bag of byte strings. */
+/* Writes distinct byte strings one after another into `bytes`, where each ends into `ends`, and their counts, and
+ * returns how many. It stops before the first string for which there is no place. With `hashbag_texts_bytes` and
+ * `hashbag_set_len` places these are all, in no particular order. It returns 0 if the handle has no bag of byte
+ * strings. */
 size_t hashbag_texts_read(hashbag *handle, uint8_t *bytes, size_t bytes_len, size_t *ends, size_t ends_len,
                           size_t *counts, size_t counts_len);
 
@@ -403,17 +426,17 @@ size_t hashbag_texts_not_in(hashbag *a, hashbag *b, uint8_t *bytes, size_t bytes
 /* Writes the byte strings of two bags, each once, as `hashbag_texts_read` does, with its count in the first less its
  * count in the second: those of the first bag first. A difference above `PTRDIFF_MAX` or below `PTRDIFF_MIN` is
  * written as that bound. It writes as many as there are places for, and returns how many. With as many places as both
- * bags have distinct strings, and bytes in all, these are all. They must be two handles, not one twice. It returns 0
- * if one of them has no bag of byte strings. It doesn't allocate. */
+ * bags together have distinct strings, and bytes in all, these are all. They must be two handles, not one twice. It
+ * returns 0 if one of them has no bag of byte strings. It doesn't allocate. */
 size_t hashbag_texts_signed_difference(hashbag *a, hashbag *b, uint8_t *bytes, size_t bytes_len, size_t *ends,
                                        size_t ends_len, ptrdiff_t *differences, size_t differences_len);
 
 /* ---- bags of byte strings, in an order */
 
-/* Writes the distinct byte strings, rising byte by byte, and their counts, as `hashbag_texts_read` does: one string
- * after another, as many as there are places for. Writes how many into `n`, and returns 0. With `hashbag_set_len` ends
- * and counts, and `hashbag_texts_bytes` bytes, these are all. It makes one allocation, a list of all distinct strings,
- * and sorts it.
+/* Writes the distinct byte strings in ascending order, by unsigned bytes, and their counts, as `hashbag_texts_read`
+ * does. Writes how many into `n`, and returns 0, also if not all have places. With `hashbag_set_len` ends and counts,
+ * and `hashbag_texts_bytes` bytes, these are all. It makes one allocation, a list of all distinct strings, and sorts
+ * it.
  *
  * Errors:
  * `HASHBAG_MEMORY` if the allocation fails; `HASHBAG_EMPTY`; `HASHBAG_KIND`. Nothing is written then. The bag is
@@ -421,11 +444,10 @@ size_t hashbag_texts_signed_difference(hashbag *a, hashbag *b, uint8_t *bytes, s
 uint8_t hashbag_texts_sorted(hashbag *handle, uint8_t *bytes, size_t bytes_len, size_t *ends, size_t ends_len,
                              size_t *counts, size_t counts_len, size_t *n);
 
-/* Writes the most common byte strings and their counts, as `hashbag_texts_read` does: one string after another. These
- * are as many as `ends` and `counts` both have places for, or all if there are fewer: counts falling, and strings that
- * occur equally often rising byte by byte. Writes how many into `n`, and returns 0. If `bytes` has no place for the
- * next string, it ends before that one; with `hashbag_texts_bytes` bytes it doesn't. It reads each distinct string
- * once, and makes two allocations at most, each of as many pairs as it may write.
+/* Writes the k most common byte strings and their counts, as `hashbag_texts_read` does: in descending order of counts,
+ * and in ascending order, by unsigned bytes, if they occur equally often. k is the lesser of `ends_len` and
+ * `counts_len`. Writes how many into `n`, and returns 0. With `hashbag_texts_bytes` bytes all fit. It reads each
+ * distinct string once, and makes two allocations at most, each of as many pairs as it may write.
  *
  * Errors:
  * `HASHBAG_MEMORY` if an allocation fails; `HASHBAG_EMPTY`; `HASHBAG_KIND`. Nothing is written then. The bag is
@@ -436,10 +458,10 @@ uint8_t hashbag_texts_most_common(hashbag *handle, uint8_t *bytes, size_t bytes_
 /* ---- bags of byte strings as JSON */
 
 /* Writes a bag of byte strings as a JSON text at the beginning of `bytes`, writes the length of the text into `len`,
- * and returns 0. The text is `[["cat",2],["dog",1]]`: each distinct string with its count, strings in ascending order
- * by their bytes, without spaces. A string that isn't UTF-8 is an array of its bytes, as `[255,0]`. A bag with a limit
- * below `SIZE_MAX` is `{"limit":9,"pairs":[["cat",2],["dog",1]]}`. Bags with the same counts and the same limit have
- * the same text. It makes the whole text in memory of its own first.
+ * and returns 0. No NUL follows. The text is `[["cat",2],["dog",1]]`: each distinct string with its count, strings in
+ * ascending order by their bytes, without spaces. A string that isn't UTF-8 is an array of its bytes, as `[255,0]`. A
+ * bag with a limit below `SIZE_MAX` is `{"limit":9,"pairs":[["cat",2],["dog",1]]}`. Bags with the same counts and the
+ * same limit have the same text. It makes the whole text in memory of its own first.
  *
  * Errors:
  * `HASHBAG_SHORT` if the text is longer than `bytes`: `len` is its length then, and nothing else is written.
@@ -458,15 +480,15 @@ uint8_t hashbag_texts_to_json(hashbag *handle, uint8_t *bytes, size_t bytes_len,
  * Errors:
  * `HASHBAG_NOT_JSON` if the text isn't JSON or isn't UTF-8: `at` is then how many of its bytes had been read when that
  * was found. The first fault of a JSON text is returned by a number that begins with `HASHBAG_JSON_`; `at` is the pair
- * at fault, counted from 0, if it is one. `HASHBAG_MEMORY` if an allocation fails. The handle is unchanged then, and
- * `at` unless it is said here. */
+ * at fault, counted from 0, if it is one. `HASHBAG_MEMORY` if an allocation fails. Then the handle is unchanged, and
+ * `at` too except in the two cases above. */
 uint8_t hashbag_texts_from_json(hashbag *handle, size_t most, const uint8_t *text, size_t text_len, size_t *at);
 
 /* Does the same with two keys of SipHash, which the caller draws at random: then nobody can choose byte strings that
  * collide.
  *
  * Errors:
- * As of `hashbag_texts_from_json`. */
+ * Those of `hashbag_texts_from_json`. */
 uint8_t hashbag_texts_from_json_keyed(hashbag *handle, size_t most, uint64_t key0, uint64_t key1,
                                       const uint8_t *text, size_t text_len, size_t *at);
 

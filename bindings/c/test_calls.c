@@ -50,6 +50,8 @@ static void wrong_handles(void) {
     CHECK(hashbag_numbers_insert_all(&texts, &value, 1, &word) == HASHBAG_KIND && word == 0);
     CHECK(hashbag_texts_insert_all(&empty, TEXT("a"), ends, 1, &word) == HASHBAG_EMPTY && hashbag_texts_insert_all(&numbers, TEXT("a"), ends, 1, &word) == HASHBAG_KIND);
     CHECK(hashbag_texts_insert_split(&empty, TEXT("a"), ',', &word) == HASHBAG_EMPTY && hashbag_texts_insert_split(&numbers, TEXT("a"), ',', &word) == HASHBAG_KIND);
+    CHECK(hashbag_numbers_retain(&empty, &value, 1, ends, 1) == HASHBAG_EMPTY && hashbag_numbers_retain(&texts, &value, 1, ends, 1) == HASHBAG_KIND);
+    CHECK(hashbag_texts_retain(&empty, TEXT("a"), ends, 1, ends, 1) == HASHBAG_EMPTY && hashbag_texts_retain(&numbers, TEXT("a"), ends, 1, ends, 1) == HASHBAG_KIND);
     CHECK(hashbag_set_limit(&empty, 1) == HASHBAG_EMPTY && hashbag_reserve(&empty, 1) == HASHBAG_EMPTY && hashbag_shrink_to_fit(&empty) == HASHBAG_EMPTY);
     CHECK(hashbag_clone(&empty, &texts) == HASHBAG_EMPTY && hashbag_limit(&texts) == 9);
     CHECK(hashbag_merge(&empty, &numbers) == HASHBAG_EMPTY && hashbag_merge(&texts, &empty) == HASHBAG_EMPTY && hashbag_merge(&numbers, &texts) == HASHBAG_KIND);
@@ -274,6 +276,29 @@ static void ordered_texts(void) {
     CHECK(hashbag_texts_most_common(&bag, bytes, 9, ends, 1, counts, 9, &n) == HASHBAG_OK && n == 1 && bytes[0] == 'b' && ends[0] == 1 && counts[0] == 2);
     CHECK(hashbag_len(&bag) == 4 && hashbag_set_len(&bag) == 3);
     hashbag_free(&bag);
+}
+
+/* What a list keeps: values listed twice, with 0, and not there; more numbers than values; totals of a list above any size. */
+static void retained(void) {
+    hashbag numbers = HASHBAG_NONE, texts = HASHBAG_NONE;
+    size_t done, before;
+    uint64_t held[9] = {1, 1, 1, 2, 2, 2, 2, 2, 3}, values[5] = {2, 9, 2, 1, 3};
+    size_t most[5] = {4, 7, 1, SIZE_MAX, 0}, all[5] = {SIZE_MAX, SIZE_MAX, SIZE_MAX, SIZE_MAX, SIZE_MAX};
+    CHECK(hashbag_numbers_new(&numbers, 10) == HASHBAG_OK && hashbag_numbers_insert_all(&numbers, held, 9, &done) == HASHBAG_OK);
+    CHECK(hashbag_numbers_retain(&numbers, values, 5, all, 5) == HASHBAG_OK && hashbag_len(&numbers) == 9);
+    CHECK(hashbag_numbers_retain(&numbers, values, 5, most, 5) == HASHBAG_OK && hashbag_len(&numbers) == 7 && hashbag_set_len(&numbers) == 2);
+    CHECK(hashbag_numbers_contains(&numbers, 2) == 4 && hashbag_numbers_contains(&numbers, 1) == 3 && hashbag_limit(&numbers) == 10);
+    CHECK(hashbag_numbers_retain(&numbers, values, 5, most, 1) == HASHBAG_OK && hashbag_len(&numbers) == 4 && hashbag_numbers_contains(&numbers, 2) == 4);
+    CHECK(hashbag_numbers_retain(&numbers, values, 0, most, 5) == HASHBAG_OK && hashbag_len(&numbers) == 0);
+    size_t ends[4] = {1, 3, 3, 4}, falling[2] = {2, 1}, past[1] = {5};
+    CHECK(hashbag_texts_new(&texts, SIZE_MAX) == HASHBAG_OK && hashbag_texts_insert_split(&texts, TEXT("a,bc,bc,,a,,d"), ',', &done) == HASHBAG_OK);
+    CHECK(hashbag_texts_retain(&texts, TEXT("abca"), falling, 2, most, 2) == HASHBAG_ENDS && hashbag_texts_retain(&texts, TEXT("abca"), past, 1, most, 1) == HASHBAG_ENDS);
+    CHECK(hashbag_len(&texts) == 7);
+    size_t few[4] = {1, 5, 2, 0};
+    CHECK(hashbag_texts_retain(&texts, TEXT("abca"), ends, 4, few, 4) == HASHBAG_OK && hashbag_len(&texts) == 5 && hashbag_set_len(&texts) == 3);
+    CHECK(hashbag_texts_contains(&texts, TEXT("a")) == 1 && hashbag_texts_contains(&texts, TEXT("bc")) == 2 && hashbag_texts_contains(&texts, TEXT("")) == 2);
+    CHECK(hashbag_texts_insert(&texts, TEXT("d"), 1, &before) == HASHBAG_OK && before == 0);
+    hashbag_free(&numbers), hashbag_free(&texts);
 }
 
 /* Sums, common parts and differences of random bags of numbers, beside arrays of counts. */
@@ -555,6 +580,7 @@ int main(void) {
     texts();
     two_bags_of_texts();
     ordered_texts();
+    retained();
     combined_numbers();
     signed_bounds();
     combined_texts();

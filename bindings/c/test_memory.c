@@ -164,6 +164,9 @@ static void numbers(void) {
     hashbag_walk_free(&walk);
     CHECK(hashbag_len(&bag) == total + done);
     copies(&bag);
+    size_t most[3] = {1, 0, SIZE_MAX};
+    if (fails(hashbag_numbers_retain(&bag, values, 3, most, 3))) CHECK(hashbag_len(&bag) == total + done);
+    else CHECK(hashbag_set_len(&bag) <= 2 && hashbag_len(&bag) <= 2);
     hashbag_free(&bag);
 }
 
@@ -205,6 +208,9 @@ static void texts(void) {
     hashbag_walk_free(&walk);
     CHECK(hashbag_len(&bag) == total);
     copies(&bag);
+    size_t most[3] = {1, 0, SIZE_MAX};
+    if (fails(hashbag_texts_retain(&bag, (const uint8_t *)"aabbcc", 6, ends, 3, most, 3))) CHECK(hashbag_len(&bag) == total);
+    else CHECK(hashbag_set_len(&bag) <= 2 && hashbag_len(&bag) <= 2);
     hashbag_free(&bag);
 }
 

@@ -47,10 +47,10 @@ HEAD = """\
  * bag into it, `hashbag_numbers_next` and `hashbag_texts_next` write the next ones, and `hashbag_walk_free` leaves it empty again.
  *
  * The library is proved for callers that keep to this:
- *  1. Handles. A handle was HASHBAG_NONE first, and since then only this library wrote it. It isn't copied, so that two have one bag. Two
- *     handles of one call are two, not one twice.
+ *  1. Handles. A handle was HASHBAG_NONE first, and since then only this library wrote it. It is never copied: no two handles have one bag. A
+ *     call with two handles gets two different ones.
  *  2. Memory. A pointer isn't null, not even with the length 0. It is aligned, and there is memory of the length that is given. What a call
- *     writes overlaps no other argument. `malloc`, `realloc` and `free` are of one allocator, and align to 16.
+ *     writes overlaps no other argument. Who replaces `malloc` replaces `realloc` and `free` too, and aligns to 16.
  *  3. Threads. A handle stays on the thread that put a bag or a walk into it, and has one call at a time, also of calls that only read. There is no call
  *     from a signal handler, or in the child of a `fork` of a program with threads.
  */

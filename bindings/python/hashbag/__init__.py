@@ -45,7 +45,7 @@ K = TypeVar("K", str, bytes)
 class BagError(Exception):
     """Why a call failed: the total would pass the limit, or the limit be below the total. `number` is the library's."""
 
-    TEXTS = {2: "total past its end", 9: "limit below total"}
+    TEXTS = {2: "the total would pass the limit", 9: "the limit would be below the total"}
 
     def __init__(self, number: int) -> None:
         super().__init__(self.TEXTS.get(number, f"error {number}"))
@@ -56,7 +56,7 @@ class JsonError(BagError, ValueError):
     """Why a text can't be read as a bag. `place` is the number of the pair at fault, counted from 0, or of a text that isn't JSON how many of its bytes
     had been read; it is None if there is no place."""
 
-    TEXTS = {3: "not an array", 4: "not a pair", 5: "bad count", 6: "bad item", 7: "total past its end", 10: "bad limit", 24: "not JSON"}
+    TEXTS = {3: "not an array", 4: "not a pair", 5: "bad count", 6: "bad item", 7: "the total would pass the limit", 10: "bad limit", 24: "not JSON"}
 
     def __init__(self, number: int, place: int) -> None:
         super().__init__(number)
@@ -98,6 +98,14 @@ def _read(n: int, size: int, lists: int, call: Callable[..., int]) -> list[Any]:
     stops = words[0][:n].tolist()
     raw = bytes(memoryview(text)[: stops[-1]]) if stops else b""
     return [[raw[a:b] for a, b in zip([0, *stops], stops)], *(numbers[:n].tolist() for numbers in words[1:])]
+
+
+def _restored(limit: int, decode: Callable[[bytes], Any] | None, keys: list[bytes], counts: list[int]) -> HashBag[Any]:
+    """The bag that was pickled."""
+    made: HashBag[Any] = HashBag(limit=limit, decode=decode)
+    for key, n in zip(keys, counts):
+        made.insert(key, n)
+    return made
 
 
 class HashBag(Generic[K]):
@@ -238,7 +246,10 @@ class HashBag(Generic[K]):
             yield from repeat(key, n)
 
     def most_common(self, n: int | None = None) -> list[tuple[K, int]]:
-        """Returns the n commonest keys with their counts, the commonest first, or all keys. Keys with equal counts rise by their bytes."""
+        """Returns the n most common keys with their counts, or all keys, in descending order of counts. Keys with equal counts are in ascending order.
+
+        Keys are compared by their bytes.
+        """
         distinct, size = self._sizes()
         most = distinct if n is None else min(max(n, 0), distinct)
 
@@ -254,7 +265,7 @@ class HashBag(Generic[K]):
     def update(self, items: Iterable[Any] | Mapping[Any, int] = ()) -> None:
         """Inserts each key of an iterable once, or each of a mapping as often as it says.
 
-        Raises BagError at the first that fails. Those before it stay, but of a HashBag none.
+        Raises BagError at the first that fails. Those before it stay; if `items` is a HashBag, nothing is inserted.
         """
         if isinstance(items, HashBag):
             other = self._other(items)
@@ -271,7 +282,12 @@ class HashBag(Generic[K]):
             _done(_library.hashbag_texts_insert_all(self._at(), joined, len(joined), ends.buffer_info()[0], len(ends), self._out))
 
     def update_split(self, data: bytes, separator: bytes = b"\n") -> int:
-        """Inserts each piece of `data` between separators once, in one call, and returns how many there were."""
+        """Inserts each piece of `data` between separators once, in one call, and returns how many there were. As of `bytes.split`, some may be empty.
+
+        Raises BagError at the first that fails. Those before it stay.
+        """
+        if isinstance(data, str):
+            raise TypeError("the data are bytes, not str")
         if len(separator) != 1:
             raise ValueError("a separator is one byte")
         _done(_library.hashbag_texts_insert_split(self._at(), bytes(data), len(data), separator[0], self._out))
@@ -297,8 +313,16 @@ class HashBag(Generic[K]):
 
     __copy__ = copy
 
+    def __deepcopy__(self, memo: dict[int, Any]) -> HashBag[K]:
+        return self.copy()
+
+    def __reduce__(self) -> tuple[Any, ...]:
+        return _restored, (self.limit, self._decode, *self._pairs())
+
     def _other(self, other: HashBag[K]) -> HashBag[K]:
         """Another bag, or a copy if it is this one: the two handles of a call have to be two. The caller keeps it in a variable during the call."""
+        if not isinstance(other, HashBag):
+            raise TypeError(f"the other one is a HashBag, not {type(other).__name__}")
         return self.copy() if self is other else other
 
     # ---- two bags
@@ -310,31 +334,37 @@ class HashBag(Generic[K]):
         return self is other or _library.hashbag_equal(self._at(), other._at())
 
     def __add__(self, other: HashBag[K]) -> HashBag[K]:
+        if not isinstance(other, HashBag):
+            return NotImplemented
         made = self.copy()
         made.update(other)
         return made
 
     def __sub__(self, other: HashBag[K]) -> HashBag[K]:
+        if not isinstance(other, HashBag):
+            return NotImplemented
         made = self.copy()
         made.subtract(other)
         return made
 
     def __and__(self, other: HashBag[K]) -> HashBag[K]:
+        if not isinstance(other, HashBag):
+            return NotImplemented
         made = self.copy()
         _done(_library.hashbag_keep_common(made._at(), other._at()))
         return made
 
     def __or__(self, other: HashBag[K]) -> HashBag[K]:
+        if not isinstance(other, HashBag):
+            return NotImplemented
         made = self.copy()
         _done(_library.hashbag_keep_most(made._at(), other._at()))
         return made
 
     def outer_join(self, other: HashBag[K]) -> list[tuple[K, int, int]]:
-        """Returns each key of either bag once, with its count here and there, those of this bag first."""
+        """Returns each key of either bag once, with its count here and there, keys of this bag first."""
         decode: Callable[[bytes], Any] = self._decode or bytes
-        # The two handles of a call have to be two.
-        if self is other:
-            return [(decode(text), n, n) for text, n in zip(*self._pairs())]
+        other = self._other(other)
         (n, size), (m, more) = self._sizes(), other._sizes()
         joined = _read(n + m, size + more, 2, lambda *places: _library.hashbag_texts_outer_join(self._at(), other._at(), *places))
         return [(decode(text), first, second) for text, first, second in zip(*joined)]
@@ -349,9 +379,7 @@ class HashBag(Generic[K]):
 
     def _left(self, other: HashBag[K], call: Callable[..., int]) -> list[tuple[K, int]]:
         """What a call on two bags writes of the keys of this one."""
-        # The two handles of a call have to be two. A bag has no key more often than itself.
-        if self is other:
-            return []
+        other = self._other(other)
         keys, counts = _read(*self._sizes(), 1, lambda *places: call(self._at(), other._at(), *places))
         return self._decoded(keys, counts)
 
@@ -373,9 +401,10 @@ class HashBag(Generic[K]):
 
     @classmethod
     def from_json(cls, text: str | bytes, *, limit: int = NO_LIMIT, decode: Callable[[bytes], Any] | None = bytes.decode) -> HashBag[Any]:
-        """Returns the bag that a text says which `to_json` can have written. Its limit is the lesser of `limit` and the one in the text.
+        """Returns the bag that a text is, as `to_json` writes it; spaces are allowed, and equal keys add up.
 
-        Raises JsonError if the text isn't that of a bag. A list of bytes that aren't UTF-8 is a key, which only `decode=None` can show.
+        Its limit is the lesser of `limit` and the text's.
+        Raises JsonError if the text isn't that of a bag. A key that is a list of bytes that aren't UTF-8 can be read only with `decode=None`.
         """
         made: HashBag[Any] = cls(decode=decode)
         raw = text.encode() if isinstance(text, str) else bytes(text)

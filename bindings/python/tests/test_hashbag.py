@@ -2,6 +2,8 @@
 
 import copy
 import json
+import operator
+import pickle
 import random
 import threading
 import unittest
@@ -64,6 +66,13 @@ class OneBag(unittest.TestCase):
             self.assertNotEqual(twin, self.bag)
             self.assertEqual((self.bag["x"], twin.pop("the"), self.bag["the"]), (0, 3, 3))
 
+    def test_deep_copy_and_pickle(self):
+        for bag in (HashBag("abca", limit=9), HashBag([b"\xff", b"", b"\xff"], decode=None)):
+            for made in (copy.deepcopy(bag), pickle.loads(pickle.dumps(bag))):
+                self.assertEqual((made, made.limit, sorted(made.items())), (bag, bag.limit, sorted(bag.items())))
+                made.clear()
+                self.assertEqual(bag.total(), 4 if bag.limit == 9 else 3)
+
     def test_repr(self):
         self.assertEqual(repr(HashBag("aab")), "HashBag({'a': 2, 'b': 1})")
         self.assertEqual(repr(HashBag()), "HashBag({})")
@@ -94,7 +103,7 @@ class Limits(unittest.TestCase):
         bag = HashBag(limit=3)
         with self.assertRaises(BagError) as caught:
             bag.update("abcd")
-        self.assertEqual((caught.exception.number, str(caught.exception), bag.total()), (2, "total past its end", 3))
+        self.assertEqual((caught.exception.number, str(caught.exception), bag.total()), (2, "the total would pass the limit", 3))
         self.assertRaises(BagError, setattr, bag, "limit", 2)
         bag.limit = 4
         self.assertRaises(BagError, bag.__setitem__, "a", 3)
@@ -173,6 +182,13 @@ class TwoBags(unittest.TestCase):
             self.assertEqual(sorted(a.not_in(b)), sorted((key, n) for key, n in c.items() if key not in d))
             self.assertEqual(a == b, c == d)
 
+    def test_only_bags_are_operands(self):
+        bag = HashBag("ab")
+        for call in (operator.add, operator.sub, operator.and_, operator.or_, HashBag.outer_join, HashBag.difference, HashBag.not_in):
+            for other in ({"a": 1}, Counter("a"), 3):
+                self.assertRaises(TypeError, call, bag, other)
+        self.assertEqual(bag, HashBag("ab"))
+
     def test_a_bag_with_itself(self):
         for made, counts in ((self.a + self.a, {"a": 6, "b": 2}), (self.a - self.a, {}), (self.a & self.a, {"a": 3, "b": 1}), (self.a | self.a, {"a": 3, "b": 1})):
             self.assertEqual(dict(made.items()), counts)
@@ -238,7 +254,7 @@ class Json(unittest.TestCase):
             ('[["a",1],[7]]', 4, 1, "pair 1: not a pair"),
             ('[["a",-1]]', 5, 0, "pair 0: bad count"),
             ('[["a",1],[5,1]]', 6, 1, "pair 1: bad item"),
-            ('[["a",9],["b",1]]', 7, 1, "pair 1: total past its end"),
+            ('[["a",9],["b",1]]', 7, 1, "pair 1: the total would pass the limit"),
             ('{"pairs":[]}', 10, None, "bad limit"),
             ('[["a",9]', 24, 8, "after 8 bytes: not JSON"),
             (b'[["\xff",9]]', 24, 4, "after 4 bytes: not JSON"),

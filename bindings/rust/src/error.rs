@@ -16,8 +16,8 @@ impl fmt::Display for BagError {
     fn fmt(&self, f: &mut fmt::Formatter<'_>) -> fmt::Result {
         f.write_str(match self {
             BagError::Memory => "no memory",
-            BagError::TooMany => "total past its end",
-            BagError::BelowTotal => "limit below total",
+            BagError::TooMany => "the total would pass the limit",
+            BagError::BelowTotal => "the limit would be below the total",
         })
     }
 }

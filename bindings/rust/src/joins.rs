@@ -72,7 +72,8 @@ impl<T: Value, S: BuildHasher> HashBag<T, S> {
     /// Gives each value that this bag has more often than the other, with how many more.
     pub fn difference<'a, S2: BuildHasher>(&'a self, other: &'a HashBag<T, S2>) -> impl Iterator<Item = (&'a T, usize)> {
         let pairs = self.left(other, sys::hashbag_numbers_difference, sys::hashbag_texts_difference);
-        self.lend(pairs).iter().map(|pair| (&pair.0, pair.1))
+        // All counts are above 0. As in the original crate, the size hint says at most how many there are.
+        self.lend(pairs).iter().filter(|pair| pair.1 > 0).map(|pair| (&pair.0, pair.1))
     }
 
     /// Gives each value of either bag, with its count in this bag less its count in the other, saturated to an `isize`.
@@ -86,6 +87,7 @@ impl<T: Value, S: BuildHasher> HashBag<T, S> {
     /// Gives each value of this bag that the other lacks, with its count.
     pub fn not_in<'a, S2: BuildHasher>(&'a self, other: &'a HashBag<T, S2>) -> impl Iterator<Item = (&'a T, usize)> {
         let pairs = self.left(other, sys::hashbag_numbers_not_in, sys::hashbag_texts_not_in);
-        self.lend(pairs).iter().map(|pair| (&pair.0, pair.1))
+        // All counts are above 0. As in the original crate, the size hint says at most how many there are.
+        self.lend(pairs).iter().filter(|pair| pair.1 > 0).map(|pair| (&pair.0, pair.1))
     }
 }

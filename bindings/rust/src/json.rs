@@ -58,7 +58,7 @@ impl fmt::Display for JsonError {
             JsonError::NotAPair(pair) => write!(f, "pair {pair}: not a pair"),
             JsonError::BadCount(pair) => write!(f, "pair {pair}: bad count"),
             JsonError::BadItem(pair) => write!(f, "pair {pair}: bad item"),
-            JsonError::TooMany(pair) => write!(f, "pair {pair}: total past its end"),
+            JsonError::TooMany(pair) => write!(f, "pair {pair}: the total would pass the limit"),
             JsonError::BadLimit => f.write_str("bad limit"),
             JsonError::NotText => f.write_str("not UTF-8"),
         }

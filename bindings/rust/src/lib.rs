@@ -18,7 +18,8 @@
 //!   those that they lend until the next call by `&mut self`.
 //! - The state `S` gives the library its two keys. It doesn't hash the values.
 //! - A bag is neither `Send` nor `Sync`.
-//! - A bag has a limit, and there are calls that return a [`BagError`] in the place of a panic.
+//! - A bag has a limit on [`HashBag::len`], at first `usize::MAX`. Where `insert` panics at it, [`HashBag::try_insert_many`] returns a
+//!   [`BagError`]. `cargo doc` has all calls.
 
 use std::borrow::Borrow;
 use std::cell::UnsafeCell;

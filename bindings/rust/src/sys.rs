@@ -43,6 +43,8 @@ extern "C" {
     pub fn hashbag_numbers_take_all(handle: *mut Handle, value: u64) -> usize;
     pub fn hashbag_numbers_set_count(handle: *mut Handle, value: u64, n: usize, before: *mut usize) -> u8;
     pub fn hashbag_numbers_insert_all(handle: *mut Handle, values: *const u64, values_len: usize, done: *mut usize) -> u8;
+    #[allow(dead_code)]
+    pub fn hashbag_numbers_retain(handle: *mut Handle, values: *const u64, values_len: usize, most: *const usize, most_len: usize) -> u8;
     pub fn hashbag_numbers_read(handle: *mut Handle, values: *mut u64, values_len: usize, counts: *mut usize, counts_len: usize) -> usize;
     pub fn hashbag_numbers_outer_join(a: *mut Handle, b: *mut Handle, values: *mut u64, values_len: usize, firsts: *mut usize, firsts_len: usize, seconds: *mut usize, seconds_len: usize) -> usize;
     pub fn hashbag_numbers_difference(a: *mut Handle, b: *mut Handle, values: *mut u64, values_len: usize, counts: *mut usize, counts_len: usize) -> usize;
@@ -66,6 +68,8 @@ extern "C" {
     pub fn hashbag_texts_set_count(handle: *mut Handle, value: *const u8, value_len: usize, n: usize, before: *mut usize) -> u8;
     pub fn hashbag_texts_insert_all(handle: *mut Handle, bytes: *const u8, bytes_len: usize, ends: *const usize, ends_len: usize, done: *mut usize) -> u8;
     pub fn hashbag_texts_insert_split(handle: *mut Handle, bytes: *const u8, bytes_len: usize, separator: u8, done: *mut usize) -> u8;
+    #[allow(dead_code)]
+    pub fn hashbag_texts_retain(handle: *mut Handle, bytes: *const u8, bytes_len: usize, ends: *const usize, ends_len: usize, most: *const usize, most_len: usize) -> u8;
     pub fn hashbag_texts_bytes(handle: *mut Handle) -> usize;
     pub fn hashbag_texts_read(handle: *mut Handle, bytes: *mut u8, bytes_len: usize, ends: *mut usize, ends_len: usize, counts: *mut usize, counts_len: usize) -> usize;
     pub fn hashbag_texts_outer_join(a: *mut Handle, b: *mut Handle, bytes: *mut u8, bytes_len: usize, ends: *mut usize, ends_len: usize, firsts: *mut usize, firsts_len: usize, seconds: *mut usize, seconds_len: usize) -> usize;

@@ -12,10 +12,8 @@ pub trait Bytes {
         0
     }
 
-    /// Calls `f` with the bytes, and returns what it returns.
-    fn with_bytes<R>(&self, f: impl FnOnce(&[u8]) -> R) -> R {
-        f(&[])
-    }
+    /// Calls `f` with the bytes, and returns what it returns. Those of a number aren't used.
+    fn with_bytes<R>(&self, f: impl FnOnce(&[u8]) -> R) -> R;
 }
 
 /// A value. It can be read back from what it is written as.
@@ -65,6 +63,9 @@ macro_rules! numbers {
             fn number(&self) -> u64 {
                 *self as u64
             }
+            fn with_bytes<R>(&self, f: impl FnOnce(&[u8]) -> R) -> R {
+                f(&self.to_le_bytes())
+            }
         }
         impl Value for $kind {
             #[inline]
@@ -81,6 +82,9 @@ impl Bytes for char {
     fn number(&self) -> u64 {
         u64::from(*self)
     }
+    fn with_bytes<R>(&self, f: impl FnOnce(&[u8]) -> R) -> R {
+        f(&self.number().to_le_bytes())
+    }
 }
 
 impl Value for char {
@@ -93,6 +97,9 @@ impl Bytes for bool {
     const IS_NUMBER: bool = true;
     fn number(&self) -> u64 {
         u64::from(*self)
+    }
+    fn with_bytes<R>(&self, f: impl FnOnce(&[u8]) -> R) -> R {
+        f(&self.number().to_le_bytes())
     }
 }
 

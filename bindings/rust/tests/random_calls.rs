@@ -181,7 +181,7 @@ fn errors_change_nothing() {
     assert_eq!(bag.insert_all(&[7, 8]), Err((BagError::TooMany, 1)));
     assert_eq!(bag.contains(&7), 1);
     assert_eq!(bag.try_reserve(usize::MAX), Err(BagError::Memory));
-    assert_eq!(BagError::TooMany.to_string(), "total past its end");
+    assert_eq!(BagError::TooMany.to_string(), "the total would pass the limit");
 }
 
 fn two_bags<T: Value + Ord + Clone + std::fmt::Debug>(seed: u64, value_of: impl Fn(u64) -> T) {

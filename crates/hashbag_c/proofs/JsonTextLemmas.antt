@@ -5,7 +5,7 @@ use Rattle.serde_json.specs.Data.{Data, number, string, unsigned, object, member
 use Rattle.serde_json.specs.Read.{max_depth}
 use Rattle.serde_json.specs.View.{items_of}
 use Rattle.hashbag_core.specs.JsonFaults.{limit_name, pairs_name}
-use Rattle.hashbag_core.specs.JsonTrees.{pair_tree, written, IsBagTree, IsTreeOfCounts}
+use Rattle.hashbag_core.specs.JsonTrees.{pair_tree, IsBagTree, IsTreeOfCounts}
 use Rattle.hashbag_core.specs.Occurrences.{IsOneInstanceEach}
 use Rattle.hashbag_c.specs.ByteTrees.{numbers_tree, bytes_tree}
 

@@ -5,6 +5,7 @@ pub mod HandleSteps
 pub mod JsonTextLemmas
 pub mod ListedLemmas
 pub mod PieceLemmas
+pub mod QuotaLemmas
 pub mod RawBoxWords
 pub mod ReadLemmas
 pub mod TakeLemmas

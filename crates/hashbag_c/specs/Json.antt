@@ -74,7 +74,7 @@ pub record HasFault (has_item : Data → Bool) (most : ℕ) (text : List ℕ) (e
   pub is_tree : read text ≡ Some tree
   pub first : fault most has_item tree ≡ Some error
 
--- why a text isn't read: it is no JSON or no UTF-8, and a place in it says where about that is found; or its tree has a fault
+-- why a text isn't read: it is no JSON or no UTF-8, and a place in it says about where that was found; or its tree has a fault
 abbrev pub IsCause : (Data → Bool) → ℕ → List ℕ → TextError → Type 0
 IsCause has_item most text Memory = Unit {0}
 IsCause has_item most text (NotJson place) = (place ≤ length text) × (IsUtf8 text → read text ≡ None)

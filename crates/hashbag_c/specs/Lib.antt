@@ -6,6 +6,7 @@ pub mod Differences
 pub mod Json
 pub mod Orders
 pub mod Pieces
+pub mod Quotas
 pub mod Reads
 pub mod Whole
 pub mod Walked

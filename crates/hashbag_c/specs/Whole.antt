@@ -1,12 +1,35 @@
 -- What calls on a whole bag leave, of either kind.
-use Rattle.std.specs.Prelude.{◌≡◌, ℕ, ◌-◌, ◌<◌, ◌≤◌, Bool, [], length}
+use Rattle.std.specs.Prelude.{◌≡◌, ℕ, ◌+◌, ◌-◌, ◌<◌, ◌≤◌, Bool, List, [], length, nat_eq, Option}
+use Rattle.std.specs.Str.{bytes_eq}
 use Rattle.hashbag_table.specs.Tables.{ShrinksOrStays}
-use Rattle.hashbag_core.specs.Bag.{Bag}
+use Rattle.hashbag_core.specs.Bag.{Bag, IsBagOf}
 use Rattle.hashbag_core.specs.Held.{no_slots, HasFewer, NeedsSlots}
 use Rattle.hashbag_core.specs.Keys.{InsertsNamed}
-use Rattle.hashbag_core.specs.Occurrences.{count_named, count, distinct_count, SameCounts}
+use Rattle.hashbag_core.specs.Occurrences.{count_named, count, distinct_count, recount, SameCounts}
+use Rattle.hashbag_c.specs.Calls.{HasNumbers, HasTexts, BothNumbers, BothTexts}
+use Rattle.hashbag_c.specs.declared.held.Held.{Held}
+
+-- n more would pass the limit of a bag
+abbrev pub Overfills : {T S : Type 0} → Bag T S → ℕ → Type 0
+Overfills bag n = bag.most < length bag.items + n
+
+-- nothing occurs any more. The limit and the keys stay
+abbrev pub IsCleared : {T S : Type 0} → Bag T S → Bag T S → Type 0
+IsCleared bag after = (after.items ≡ []) × (after.most ≡ bag.most) × (after.hasher ≡ bag.hasher)
 
 module _ {T S : Type 0} (eq : T → T → Bool) where
+  -- the values of a list were inserted
+  abbrev pub Adds : List T → Bag T S → Bag T S → Type 0
+  Adds xs bag after = (v : T) → count eq v after.items ≡ count eq v bag.items + count eq v xs
+
+  -- the count of a value is n
+  abbrev pub SetsCount : T → ℕ → Bag T S → Bag T S → Type 0
+  SetsCount value n bag after = IsBagOf eq bag (recount eq value n bag.items) after
+
+  -- all that a key names is removed
+  abbrev pub LosesAll : (T → Bool) → Bag T S → Bag T S → Type 0
+  LosesAll names bag after = HasFewer eq names (count_named names bag.items) bag after
+
   -- `copy` has each value as often as `bag`, under its keys and with its limit, in the least number of slots
   pub record IsCopy (bag copy : Bag T S) : Type 0 where
     pub counts : SameCounts eq bag.items copy.items
@@ -30,3 +53,10 @@ module _ {T S : Type 0} (eq : T → T → Bool) where
     pub counts : (v : T) → count eq v after.items ≡ f (count eq v x.items) (count eq v y.items)
     pub limit : after.most ≡ x.most
     pub hasher : after.hasher ≡ x.hasher
+
+-- if two handles have bags of numbers, or of byte strings, the first has one then that combines their counts by f
+abbrev pub CombinesNumbers : (ℕ → ℕ → ℕ) → Option Held → Option Held → Option Held → Type 0
+CombinesNumbers f a b after = BothNumbers a b (λ x y. HasNumbers after (Combines nat_eq f x y))
+
+abbrev pub CombinesTexts : (ℕ → ℕ → ℕ) → Option Held → Option Held → Option Held → Type 0
+CombinesTexts f a b after = BothTexts a b (λ x y. HasTexts after (Combines bytes_eq f x y))

@@ -1,13 +1,14 @@
 //! Calls on a bag of either kind. In clauses `held` is the bag of a handle. `IfNumbers` says what holds if it is one of numbers, and
-//! `HasNumbers` also that it is; so `IfTexts` and `HasTexts` of byte strings.
+//! `HasNumbers` says also that it is one. `IfTexts` and `HasTexts` say the same of byte strings, `NumbersTo` and `TextsTo` what a bag becomes.
+//! The results 1, 2 and 9 are numbers of a `BagError`: of `Memory`, `TooMany` and `BelowTotal`.
 ghost use Rattle.std.specs.Prelude.{◌≡◌, ◌≢◌, ◌+◌, ◌<◌, ◌≤◌, ◌↔◌, ◌⊎◌, false, [], length, nat_eq, None, Some, IfOk, IsTrue};
 ghost use Rattle.std.specs.Str.{bytes_eq};
 ghost use Rattle.hashbag_table.specs.Tables.{room};
 ghost use Rattle.hashbag_core.specs.Bag.{limited, IsBagOf};
 ghost use Rattle.hashbag_core.specs.Equality.{bag_eq};
 ghost use Rattle.hashbag_core.specs.Occurrences.{distinct_count};
-ghost use Rattle.hashbag_c.specs.Calls.{HasNumbers, HasTexts, IfNumbers, IfTexts};
-ghost use Rattle.hashbag_c.specs.Whole.{HasShrunk, IsCopy};
+ghost use Rattle.hashbag_c.specs.Calls.{occurs, BothNumbers, BothTexts, HasNumbers, HasTexts, IfNumbers, IfTexts, NumbersTo, TextsTo};
+ghost use Rattle.hashbag_c.specs.Whole.{HasShrunk, IsCleared, IsCopy};
 
 use crate::handle::Handle;
 use crate::held::Held;
@@ -20,7 +21,7 @@ pub const EMPTY: u8 = 20;
 /// The handle has a bag of the other kind.
 pub const KIND: u8 = 21;
 
-/// The ends of byte strings aren't ascending, or pass the bytes.
+/// The ends of byte strings aren't ascending, or one is past the last byte.
 pub const ENDS: u8 = 22;
 
 /// The text is longer than the buffer.
@@ -116,8 +117,8 @@ pub extern "C" fn hashbag_limit(alloc: Global, handle: &mut Handle) -> usize
 }
 
 fn set_limit(held: &mut Held, most: usize) -> u8
-    ensures numbers { IfNumbers (Some held.old) (λ bag. result ≡ 0 → HasNumbers (Some held.new) (λ after. after ≡ limited most bag)) }
-    ensures texts { IfTexts (Some held.old) (λ bag. result ≡ 0 → HasTexts (Some held.new) (λ after. after ≡ limited most bag)) }
+    ensures numbers { result ≡ 0 → NumbersTo (Some held.old) (Some held.new) (λ bag after. after ≡ limited most bag) }
+    ensures texts { result ≡ 0 → TextsTo (Some held.old) (Some held.new) (λ bag after. after ≡ limited most bag) }
     ensures below_numbers { IfNumbers (Some held.old) (λ bag. (result ≡ 9) ↔ (most < length bag.items)) }
     ensures below_texts { IfTexts (Some held.old) (λ bag. (result ≡ 9) ↔ (most < length bag.items)) }
     ensures only { result ≢ 0 → result ≡ 9 }
@@ -140,8 +141,8 @@ fn set_limit(held: &mut Held, most: usize) -> u8
 /// `HASHBAG_BELOW_TOTAL` if `most` is below the total, `HASHBAG_EMPTY` if there is no bag. Then nothing changes.
 #[unsafe(no_mangle)]
 pub extern "C" fn hashbag_set_limit(alloc: Global, handle: &mut Handle, most: usize) -> u8
-    ensures numbers { IfNumbers handle.old.held (λ bag. result ≡ 0 → HasNumbers handle.new.held (λ after. after ≡ limited most bag)) }
-    ensures texts { IfTexts handle.old.held (λ bag. result ≡ 0 → HasTexts handle.new.held (λ after. after ≡ limited most bag)) }
+    ensures numbers { result ≡ 0 → NumbersTo handle.old.held handle.new.held (λ bag after. after ≡ limited most bag) }
+    ensures texts { result ≡ 0 → TextsTo handle.old.held handle.new.held (λ bag after. after ≡ limited most bag) }
     ensures below_numbers { IfNumbers handle.old.held (λ bag. (result ≡ 9) ↔ (most < length bag.items)) }
     ensures below_texts { IfTexts handle.old.held (λ bag. (result ≡ 9) ↔ (most < length bag.items)) }
     ensures empty { handle.old.held ≡ None → result ≡ EMPTY }
@@ -156,8 +157,8 @@ pub extern "C" fn hashbag_set_limit(alloc: Global, handle: &mut Handle, most: us
 }
 
 fn clear(held: &mut Held)
-    ensures numbers { IfNumbers (Some held.old) (λ bag. HasNumbers (Some held.new) (λ after. (after.items ≡ []) × (after.most ≡ bag.most) × (after.hasher ≡ bag.hasher))) }
-    ensures texts { IfTexts (Some held.old) (λ bag. HasTexts (Some held.new) (λ after. (after.items ≡ []) × (after.most ≡ bag.most) × (after.hasher ≡ bag.hasher))) }
+    ensures numbers { NumbersTo (Some held.old) (Some held.new) IsCleared }
+    ensures texts { TextsTo (Some held.old) (Some held.new) IsCleared }
 {
     match held {
         Held::Numbers(bag) => bag.clear(),
@@ -168,8 +169,8 @@ fn clear(held: &mut Held)
 /// Removes all occurrences. The limit, the keys and the memory of the bag stay.
 #[unsafe(no_mangle)]
 pub extern "C" fn hashbag_clear(alloc: Global, handle: &mut Handle)
-    ensures numbers { IfNumbers handle.old.held (λ bag. HasNumbers handle.new.held (λ after. (after.items ≡ []) × (after.most ≡ bag.most) × (after.hasher ≡ bag.hasher))) }
-    ensures texts { IfTexts handle.old.held (λ bag. HasTexts handle.new.held (λ after. (after.items ≡ []) × (after.most ≡ bag.most) × (after.hasher ≡ bag.hasher))) }
+    ensures numbers { NumbersTo handle.old.held handle.new.held IsCleared }
+    ensures texts { TextsTo handle.old.held handle.new.held IsCleared }
     ensures empty { handle.old.held ≡ None → handle.new.held ≡ None }
 {
     let Some(mut held) = handle.take(alloc) else {
@@ -180,8 +181,8 @@ pub extern "C" fn hashbag_clear(alloc: Global, handle: &mut Handle)
 }
 
 fn reserve(held: &mut Held, n: usize) -> u8
-    ensures numbers { IfNumbers (Some held.old) (λ bag. HasNumbers (Some held.new) (λ after. IsBagOf nat_eq bag bag.items after)) }
-    ensures texts { IfTexts (Some held.old) (λ bag. HasTexts (Some held.new) (λ after. IsBagOf bytes_eq bag bag.items after)) }
+    ensures numbers { NumbersTo (Some held.old) (Some held.new) (λ bag after. IsBagOf nat_eq bag bag.items after) }
+    ensures texts { TextsTo (Some held.old) (Some held.new) (λ bag after. IsBagOf bytes_eq bag bag.items after) }
     ensures room_numbers { result ≡ 0 → IfNumbers (Some held.new) (λ after. n ≤ room after.tables) }
     ensures room_texts { result ≡ 0 → IfTexts (Some held.new) (λ after. n ≤ room after.tables) }
     ensures enough_numbers { IfNumbers (Some held.old) (λ bag. n ≤ room bag.tables → result ≡ 0) }
@@ -206,8 +207,8 @@ fn reserve(held: &mut Held, n: usize) -> u8
 /// `HASHBAG_MEMORY` if an allocation fails; `HASHBAG_EMPTY`. Nothing changes then.
 #[unsafe(no_mangle)]
 pub extern "C" fn hashbag_reserve(alloc: Global, handle: &mut Handle, n: usize) -> u8
-    ensures numbers { IfNumbers handle.old.held (λ bag. HasNumbers handle.new.held (λ after. IsBagOf nat_eq bag bag.items after)) }
-    ensures texts { IfTexts handle.old.held (λ bag. HasTexts handle.new.held (λ after. IsBagOf bytes_eq bag bag.items after)) }
+    ensures numbers { NumbersTo handle.old.held handle.new.held (λ bag after. IsBagOf nat_eq bag bag.items after) }
+    ensures texts { TextsTo handle.old.held handle.new.held (λ bag after. IsBagOf bytes_eq bag bag.items after) }
     ensures room_numbers { result ≡ 0 → IfNumbers handle.new.held (λ after. n ≤ room after.tables) }
     ensures room_texts { result ≡ 0 → IfTexts handle.new.held (λ after. n ≤ room after.tables) }
     ensures enough_numbers { IfNumbers handle.old.held (λ bag. n ≤ room bag.tables → result ≡ 0) }
@@ -225,10 +226,10 @@ pub extern "C" fn hashbag_reserve(alloc: Global, handle: &mut Handle, n: usize) 
 }
 
 fn shrink_to_fit(held: &mut Held) -> u8
-    ensures numbers { IfNumbers (Some held.old) (λ bag. HasNumbers (Some held.new) (λ after. IsBagOf nat_eq bag bag.items after)) }
-    ensures texts { IfTexts (Some held.old) (λ bag. HasTexts (Some held.new) (λ after. IsBagOf bytes_eq bag bag.items after)) }
-    ensures slots_numbers { IfNumbers (Some held.old) (λ bag. result ≡ 0 → HasNumbers (Some held.new) (HasShrunk nat_eq bag)) }
-    ensures slots_texts { IfTexts (Some held.old) (λ bag. result ≡ 0 → HasTexts (Some held.new) (HasShrunk bytes_eq bag)) }
+    ensures numbers { NumbersTo (Some held.old) (Some held.new) (λ bag after. IsBagOf nat_eq bag bag.items after) }
+    ensures texts { TextsTo (Some held.old) (Some held.new) (λ bag after. IsBagOf bytes_eq bag bag.items after) }
+    ensures slots_numbers { result ≡ 0 → NumbersTo (Some held.old) (Some held.new) (HasShrunk nat_eq) }
+    ensures slots_texts { result ≡ 0 → TextsTo (Some held.old) (Some held.new) (HasShrunk bytes_eq) }
     ensures none_numbers { IfNumbers (Some held.old) (λ bag. bag.items ≡ [] → result ≡ 0) }
     ensures none_texts { IfTexts (Some held.old) (λ bag. bag.items ≡ [] → result ≡ 0) }
     ensures memory { result ≢ 0 → result ≡ 1 }
@@ -252,10 +253,10 @@ fn shrink_to_fit(held: &mut Held) -> u8
 /// `HASHBAG_MEMORY` if an allocation fails; `HASHBAG_EMPTY`. Nothing changes then.
 #[unsafe(no_mangle)]
 pub extern "C" fn hashbag_shrink_to_fit(alloc: Global, handle: &mut Handle) -> u8
-    ensures numbers { IfNumbers handle.old.held (λ bag. HasNumbers handle.new.held (λ after. IsBagOf nat_eq bag bag.items after)) }
-    ensures texts { IfTexts handle.old.held (λ bag. HasTexts handle.new.held (λ after. IsBagOf bytes_eq bag bag.items after)) }
-    ensures slots_numbers { IfNumbers handle.old.held (λ bag. result ≡ 0 → HasNumbers handle.new.held (HasShrunk nat_eq bag)) }
-    ensures slots_texts { IfTexts handle.old.held (λ bag. result ≡ 0 → HasTexts handle.new.held (HasShrunk bytes_eq bag)) }
+    ensures numbers { NumbersTo handle.old.held handle.new.held (λ bag after. IsBagOf nat_eq bag bag.items after) }
+    ensures texts { TextsTo handle.old.held handle.new.held (λ bag after. IsBagOf bytes_eq bag bag.items after) }
+    ensures slots_numbers { result ≡ 0 → NumbersTo handle.old.held handle.new.held (HasShrunk nat_eq) }
+    ensures slots_texts { result ≡ 0 → TextsTo handle.old.held handle.new.held (HasShrunk bytes_eq) }
     ensures none_numbers { IfNumbers handle.old.held (λ bag. bag.items ≡ [] → result ≡ 0) }
     ensures none_texts { IfTexts handle.old.held (λ bag. bag.items ≡ [] → result ≡ 0) }
     ensures memory { result ≢ 0 → (result ≡ 1) ⊎ (handle.old.held ≡ None) }
@@ -297,8 +298,8 @@ pub extern "C" fn hashbag_capacity(alloc: Global, handle: &mut Handle) -> usize
 }
 
 fn copied(held: &Held) -> Result<Held, BagError>
-    ensures numbers { IfOk result (λ made. IfNumbers (Some held.now) (λ bag. HasNumbers (Some made) (IsCopy nat_eq bag))) }
-    ensures texts { IfOk result (λ made. IfTexts (Some held.now) (λ bag. HasTexts (Some made) (IsCopy bytes_eq bag))) }
+    ensures numbers { IfOk result (λ made. NumbersTo (Some held.now) (Some made) (IsCopy nat_eq)) }
+    ensures texts { IfOk result (λ made. TextsTo (Some held.now) (Some made) (IsCopy bytes_eq)) }
 {
     match held {
         Held::Numbers(bag) => Ok(Held::Numbers(bag.clone()?)),
@@ -307,8 +308,8 @@ fn copied(held: &Held) -> Result<Held, BagError>
 }
 
 fn put_copy(alloc: Global, held: &Held, copy: &mut Handle) -> u8
-    ensures numbers { IfNumbers (Some held.now) (λ bag. result ≡ 0 → HasNumbers copy.new.held (IsCopy nat_eq bag)) }
-    ensures texts { IfTexts (Some held.now) (λ bag. result ≡ 0 → HasTexts copy.new.held (IsCopy bytes_eq bag)) }
+    ensures numbers { result ≡ 0 → NumbersTo (Some held.now) copy.new.held (IsCopy nat_eq) }
+    ensures texts { result ≡ 0 → TextsTo (Some held.now) copy.new.held (IsCopy bytes_eq) }
     ensures memory { result ≢ 0 → result ≡ 1 }
     ensures err { result ≢ 0 → copy.new.held ≡ copy.old.held }
 {
@@ -332,8 +333,8 @@ fn put_copy(alloc: Global, held: &Held, copy: &mut Handle) -> u8
 /// `HASHBAG_MEMORY` if an allocation fails; `HASHBAG_EMPTY` if `handle` is empty. Nothing changes then.
 #[unsafe(no_mangle)]
 pub extern "C" fn hashbag_clone(alloc: Global, handle: &mut Handle, copy: &mut Handle) -> u8
-    ensures numbers { IfNumbers handle.old.held (λ bag. result ≡ 0 → HasNumbers copy.new.held (IsCopy nat_eq bag)) }
-    ensures texts { IfTexts handle.old.held (λ bag. result ≡ 0 → HasTexts copy.new.held (IsCopy bytes_eq bag)) }
+    ensures numbers { result ≡ 0 → NumbersTo handle.old.held copy.new.held (IsCopy nat_eq) }
+    ensures texts { result ≡ 0 → TextsTo handle.old.held copy.new.held (IsCopy bytes_eq) }
     ensures memory { result ≢ 0 → (result ≡ 1) ⊎ (handle.old.held ≡ None) }
     ensures empty { handle.old.held ≡ None → result ≡ EMPTY }
     ensures unchanged { handle.new.held ≡ handle.old.held }
@@ -348,8 +349,8 @@ pub extern "C" fn hashbag_clone(alloc: Global, handle: &mut Handle, copy: &mut H
 }
 
 fn equal(a: &Held, b: &Held) -> bool
-    ensures numbers { IfNumbers (Some a.now) (λ x. IfNumbers (Some b.now) (λ y. result ≡ bag_eq nat_eq x y)) }
-    ensures texts { IfTexts (Some a.now) (λ x. IfTexts (Some b.now) (λ y. result ≡ bag_eq bytes_eq x y)) }
+    ensures numbers { BothNumbers (Some a.now) (Some b.now) (λ x y. result ≡ bag_eq nat_eq x y) }
+    ensures texts { BothTexts (Some a.now) (Some b.now) (λ x y. result ≡ bag_eq bytes_eq x y) }
     ensures kinds { IfNumbers (Some a.now) (λ _. IfTexts (Some b.now) (λ _. result ≡ false)) }
     ensures other_kinds { IfTexts (Some a.now) (λ _. IfNumbers (Some b.now) (λ _. result ≡ false)) }
 {
@@ -369,8 +370,8 @@ fn equal(a: &Held, b: &Held) -> bool
 /// handles, not one twice.
 #[unsafe(no_mangle)]
 pub extern "C" fn hashbag_equal(alloc: Global, a: &mut Handle, b: &mut Handle) -> bool
-    ensures numbers { IfNumbers a.old.held (λ x. IfNumbers b.old.held (λ y. result ≡ bag_eq nat_eq x y)) }
-    ensures texts { IfTexts a.old.held (λ x. IfTexts b.old.held (λ y. result ≡ bag_eq bytes_eq x y)) }
+    ensures numbers { BothNumbers a.old.held b.old.held (λ x y. result ≡ bag_eq nat_eq x y) }
+    ensures texts { BothTexts a.old.held b.old.held (λ x y. result ≡ bag_eq bytes_eq x y) }
     ensures kinds { IfNumbers a.old.held (λ _. IfTexts b.old.held (λ _. result ≡ false)) }
     ensures other_kinds { IfTexts a.old.held (λ _. IfNumbers b.old.held (λ _. result ≡ false)) }
     ensures empty { a.old.held ≡ None → IsTrue result ↔ (b.old.held ≡ None) }

@@ -2,8 +2,8 @@
 ghost use Rattle.std.specs.Prelude.{◌≡◌, ◌≢◌, ℕ, ◌+◌, ◌-◌, ◌<◌, ◌≤◌, ◌↔◌, ◌⊎◌, List, length, nat_eq, min, max, All, true, None, Some};
 ghost use Rattle.std.specs.Str.{bytes_eq};
 ghost use Rattle.hashbag_ops.specs.Unions.{IsUnion};
-ghost use Rattle.hashbag_c.specs.Calls.{BothNumbers, BothTexts, HasNumbers, HasTexts, IfNumbers, IfTexts};
-ghost use Rattle.hashbag_c.specs.Whole.{Combines};
+ghost use Rattle.hashbag_c.specs.Calls.{BothNumbers, BothTexts, IfNumbers, IfTexts};
+ghost use Rattle.hashbag_c.specs.Whole.{Adds, Combines, CombinesNumbers, CombinesTexts, Overfills};
 
 use crate::any::{EMPTY, KIND};
 use crate::handle::Handle;
@@ -13,10 +13,10 @@ use std::alloc::Global;
 use std::hash::{BuildHasher, Hash};
 
 fn merge(into: &mut Held, from: &Held) -> u8
-    ensures numbers { BothNumbers (Some into.old) (Some from.now) (λ x y. result ≡ 0 → HasNumbers (Some into.new) (Combines nat_eq (λ m n. m + n) x y)) }
-    ensures texts { BothTexts (Some into.old) (Some from.now) (λ x y. result ≡ 0 → HasTexts (Some into.new) (Combines bytes_eq (λ m n. m + n) x y)) }
-    ensures too_many_numbers { BothNumbers (Some into.old) (Some from.now) (λ x y. (result ≡ 2) ↔ (x.most < length x.items + length y.items)) }
-    ensures too_many_texts { BothTexts (Some into.old) (Some from.now) (λ x y. (result ≡ 2) ↔ (x.most < length x.items + length y.items)) }
+    ensures numbers { result ≡ 0 → CombinesNumbers (λ m n. m + n) (Some into.old) (Some from.now) (Some into.new) }
+    ensures texts { result ≡ 0 → CombinesTexts (λ m n. m + n) (Some into.old) (Some from.now) (Some into.new) }
+    ensures too_many_numbers { BothNumbers (Some into.old) (Some from.now) (λ x y. (result ≡ 2) ↔ (Overfills x (length y.items))) }
+    ensures too_many_texts { BothTexts (Some into.old) (Some from.now) (λ x y. (result ≡ 2) ↔ (Overfills x (length y.items))) }
     ensures only_numbers { BothNumbers (Some into.old) (Some from.now) (λ _ _. result ≢ 0 → (result ≡ 1) ⊎ (result ≡ 2)) }
     ensures only_texts { BothTexts (Some into.old) (Some from.now) (λ _ _. result ≢ 0 → (result ≡ 1) ⊎ (result ≡ 2)) }
     ensures kind { IfNumbers (Some into.old) (λ _. IfTexts (Some from.now) (λ _. result ≡ KIND)) }
@@ -48,10 +48,10 @@ fn merge(into: &mut Held, from: &Held) -> u8
 /// empty; `HASHBAG_KIND` if the bags are of different kinds. Nothing changes then.
 #[unsafe(no_mangle)]
 pub extern "C" fn hashbag_merge(alloc: Global, into: &mut Handle, from: &mut Handle) -> u8
-    ensures numbers { BothNumbers into.old.held from.old.held (λ x y. result ≡ 0 → HasNumbers into.new.held (Combines nat_eq (λ m n. m + n) x y)) }
-    ensures texts { BothTexts into.old.held from.old.held (λ x y. result ≡ 0 → HasTexts into.new.held (Combines bytes_eq (λ m n. m + n) x y)) }
-    ensures too_many_numbers { BothNumbers into.old.held from.old.held (λ x y. (result ≡ 2) ↔ (x.most < length x.items + length y.items)) }
-    ensures too_many_texts { BothTexts into.old.held from.old.held (λ x y. (result ≡ 2) ↔ (x.most < length x.items + length y.items)) }
+    ensures numbers { result ≡ 0 → CombinesNumbers (λ m n. m + n) into.old.held from.old.held into.new.held }
+    ensures texts { result ≡ 0 → CombinesTexts (λ m n. m + n) into.old.held from.old.held into.new.held }
+    ensures too_many_numbers { BothNumbers into.old.held from.old.held (λ x y. (result ≡ 2) ↔ (Overfills x (length y.items))) }
+    ensures too_many_texts { BothTexts into.old.held from.old.held (λ x y. (result ≡ 2) ↔ (Overfills x (length y.items))) }
     ensures only_numbers { BothNumbers into.old.held from.old.held (λ _ _. result ≢ 0 → (result ≡ 1) ⊎ (result ≡ 2)) }
     ensures only_texts { BothTexts into.old.held from.old.held (λ _ _. result ≢ 0 → (result ≡ 1) ⊎ (result ≡ 2)) }
     ensures kind { IfNumbers into.old.held (λ _. IfTexts from.old.held (λ _. result ≡ KIND)) }
@@ -75,8 +75,8 @@ pub extern "C" fn hashbag_merge(alloc: Global, into: &mut Handle, from: &mut Han
 }
 
 fn keep_common(held: &mut Held, other: &Held) -> u8
-    ensures numbers { BothNumbers (Some held.old) (Some other.now) (λ x y. HasNumbers (Some held.new) (Combines nat_eq (λ m n. min m n) x y)) }
-    ensures texts { BothTexts (Some held.old) (Some other.now) (λ x y. HasTexts (Some held.new) (Combines bytes_eq (λ m n. min m n) x y)) }
+    ensures numbers { CombinesNumbers (λ m n. min m n) (Some held.old) (Some other.now) (Some held.new) }
+    ensures texts { CombinesTexts (λ m n. min m n) (Some held.old) (Some other.now) (Some held.new) }
     ensures ok_numbers { BothNumbers (Some held.old) (Some other.now) (λ _ _. result ≡ 0) }
     ensures ok_texts { BothTexts (Some held.old) (Some other.now) (λ _ _. result ≡ 0) }
     ensures kind { IfNumbers (Some held.old) (λ _. IfTexts (Some other.now) (λ _. result ≡ KIND)) }
@@ -104,8 +104,8 @@ fn keep_common(held: &mut Held, other: &Held) -> u8
 /// `HASHBAG_EMPTY` if a handle is empty; `HASHBAG_KIND` if the bags are of different kinds. Nothing changes then.
 #[unsafe(no_mangle)]
 pub extern "C" fn hashbag_keep_common(alloc: Global, handle: &mut Handle, other: &mut Handle) -> u8
-    ensures numbers { BothNumbers handle.old.held other.old.held (λ x y. HasNumbers handle.new.held (Combines nat_eq (λ m n. min m n) x y)) }
-    ensures texts { BothTexts handle.old.held other.old.held (λ x y. HasTexts handle.new.held (Combines bytes_eq (λ m n. min m n) x y)) }
+    ensures numbers { CombinesNumbers (λ m n. min m n) handle.old.held other.old.held handle.new.held }
+    ensures texts { CombinesTexts (λ m n. min m n) handle.old.held other.old.held handle.new.held }
     ensures ok_numbers { BothNumbers handle.old.held other.old.held (λ _ _. result ≡ 0) }
     ensures ok_texts { BothTexts handle.old.held other.old.held (λ _ _. result ≡ 0) }
     ensures kind { IfNumbers handle.old.held (λ _. IfTexts other.old.held (λ _. result ≡ KIND)) }
@@ -129,8 +129,8 @@ pub extern "C" fn hashbag_keep_common(alloc: Global, handle: &mut Handle, other:
 }
 
 fn take_away(held: &mut Held, other: &Held) -> u8
-    ensures numbers { BothNumbers (Some held.old) (Some other.now) (λ x y. HasNumbers (Some held.new) (Combines nat_eq (λ m n. m - n) x y)) }
-    ensures texts { BothTexts (Some held.old) (Some other.now) (λ x y. HasTexts (Some held.new) (Combines bytes_eq (λ m n. m - n) x y)) }
+    ensures numbers { CombinesNumbers (λ m n. m - n) (Some held.old) (Some other.now) (Some held.new) }
+    ensures texts { CombinesTexts (λ m n. m - n) (Some held.old) (Some other.now) (Some held.new) }
     ensures ok_numbers { BothNumbers (Some held.old) (Some other.now) (λ _ _. result ≡ 0) }
     ensures ok_texts { BothTexts (Some held.old) (Some other.now) (λ _ _. result ≡ 0) }
     ensures kind { IfNumbers (Some held.old) (λ _. IfTexts (Some other.now) (λ _. result ≡ KIND)) }
@@ -158,8 +158,8 @@ fn take_away(held: &mut Held, other: &Held) -> u8
 /// `HASHBAG_EMPTY` if a handle is empty; `HASHBAG_KIND` if the bags are of different kinds. Nothing changes then.
 #[unsafe(no_mangle)]
 pub extern "C" fn hashbag_take_away(alloc: Global, handle: &mut Handle, other: &mut Handle) -> u8
-    ensures numbers { BothNumbers handle.old.held other.old.held (λ x y. HasNumbers handle.new.held (Combines nat_eq (λ m n. m - n) x y)) }
-    ensures texts { BothTexts handle.old.held other.old.held (λ x y. HasTexts handle.new.held (Combines bytes_eq (λ m n. m - n) x y)) }
+    ensures numbers { CombinesNumbers (λ m n. m - n) handle.old.held other.old.held handle.new.held }
+    ensures texts { CombinesTexts (λ m n. m - n) handle.old.held other.old.held handle.new.held }
     ensures ok_numbers { BothNumbers handle.old.held other.old.held (λ _ _. result ≡ 0) }
     ensures ok_texts { BothTexts handle.old.held other.old.held (λ _ _. result ≡ 0) }
     ensures kind { IfNumbers handle.old.held (λ _. IfTexts other.old.held (λ _. result ≡ KIND)) }
@@ -204,8 +204,8 @@ fn raise<T: Eq + Hash + Clone + Drop, S: BuildHasher + Clone + Drop>(
 }
 
 fn keep_most(into: &mut Held, from: &Held) -> u8
-    ensures numbers { BothNumbers (Some into.old) (Some from.now) (λ x y. result ≡ 0 → HasNumbers (Some into.new) (Combines nat_eq (λ m n. max m n) x y)) }
-    ensures texts { BothTexts (Some into.old) (Some from.now) (λ x y. result ≡ 0 → HasTexts (Some into.new) (Combines bytes_eq (λ m n. max m n) x y)) }
+    ensures numbers { result ≡ 0 → CombinesNumbers (λ m n. max m n) (Some into.old) (Some from.now) (Some into.new) }
+    ensures texts { result ≡ 0 → CombinesTexts (λ m n. max m n) (Some into.old) (Some from.now) (Some into.new) }
     ensures beyond_numbers { BothNumbers (Some into.old) (Some from.now) (λ x y. (Z : List ℕ) → IsUnion nat_eq x.items y.items Z → result ≡ 2 → x.most < length Z) }
     ensures beyond_texts { BothTexts (Some into.old) (Some from.now) (λ x y. (Z : List (List ℕ)) → IsUnion bytes_eq x.items y.items Z → result ≡ 2 → x.most < length Z) }
     ensures only_numbers { BothNumbers (Some into.old) (Some from.now) (λ _ _. result ≢ 0 → (result ≡ 1) ⊎ (result ≡ 2)) }
@@ -235,8 +235,8 @@ fn keep_most(into: &mut Held, from: &Held) -> u8
 /// `HASHBAG_EMPTY` if a handle is empty; `HASHBAG_KIND` if the bags are of different kinds. Nothing changes then.
 #[unsafe(no_mangle)]
 pub extern "C" fn hashbag_keep_most(alloc: Global, into: &mut Handle, from: &mut Handle) -> u8
-    ensures numbers { BothNumbers into.old.held from.old.held (λ x y. result ≡ 0 → HasNumbers into.new.held (Combines nat_eq (λ m n. max m n) x y)) }
-    ensures texts { BothTexts into.old.held from.old.held (λ x y. result ≡ 0 → HasTexts into.new.held (Combines bytes_eq (λ m n. max m n) x y)) }
+    ensures numbers { result ≡ 0 → CombinesNumbers (λ m n. max m n) into.old.held from.old.held into.new.held }
+    ensures texts { result ≡ 0 → CombinesTexts (λ m n. max m n) into.old.held from.old.held into.new.held }
     ensures beyond_numbers { BothNumbers into.old.held from.old.held (λ x y. (Z : List ℕ) → IsUnion nat_eq x.items y.items Z → result ≡ 2 → x.most < length Z) }
     ensures beyond_texts { BothTexts into.old.held from.old.held (λ x y. (Z : List (List ℕ)) → IsUnion bytes_eq x.items y.items Z → result ≡ 2 → x.most < length Z) }
     ensures only_numbers { BothNumbers into.old.held from.old.held (λ _ _. result ≢ 0 → (result ≡ 1) ⊎ (result ≡ 2)) }

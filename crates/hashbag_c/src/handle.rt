@@ -11,7 +11,7 @@ use std::marker::Model;
 use std::mem;
 use std::ptr::null_mut;
 
-/// A handle: what it has, or nothing. C starts it as a word of zeros, which is one that has nothing.
+/// A handle, which has something or nothing. C begins with a word of zeros: a handle that has nothing.
 #[repr(C)]
 pub struct Handle {
     at: *mut u8,

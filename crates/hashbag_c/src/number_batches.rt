@@ -1,8 +1,10 @@
 //! Calls on a bag of numbers that take or give many at once.
-ghost use Rattle.std.specs.Prelude.{◌≡◌, ◌+◌, ◌≤◌, ℕ, length, take, map, min, nat_eq, None, Some, OnOk};
+ghost use Rattle.std.specs.Prelude.{◌≡◌, ◌≢◌, ◌+◌, ◌≤◌, ℕ, length, take, map, min, nat_eq, None, Some, IfOk, OnErr, OnOk};
 ghost use Rattle.hashbag_core.specs.Occurrences.{count};
-ghost use Rattle.hashbag_c.specs.Calls.{HasNumbers, IfNumbers, IfTexts};
+ghost use Rattle.hashbag_c.specs.Calls.{BothNumbers, IfNumbers, IfTexts, NumbersTo};
+ghost use Rattle.hashbag_c.specs.Quotas.{HasQuotas, Retains};
 ghost use Rattle.hashbag_c.specs.Reads.{HasRead, HasReadJoin};
+ghost use Rattle.hashbag_c.specs.Whole.{Adds};
 
 use crate::any::{EMPTY, KIND};
 use crate::handle::Handle;
@@ -17,7 +19,7 @@ fn insert_each(
     values: &[u64],
     done: &mut usize,
 ) -> Result<(), BagError>
-    ensures counts { (v : ℕ) → count nat_eq v bag.new.items ≡ count nat_eq v bag.old.items + count nat_eq v (take done.new values.now) }
+    ensures counts { Adds nat_eq (take done.new values.now) bag.old bag.new }
     ensures len { length bag.new.items ≡ length bag.old.items + done.new }
     ensures all { OnOk result (done.new ≡ length values.now) }
     ensures within { done.new ≤ length values.now }
@@ -31,8 +33,8 @@ fn insert_each(
 }
 
 fn insert_all(held: &mut Held, values: &[u64], done: &mut usize) -> u8
-    ensures counts { IfNumbers (Some held.old) (λ bag. HasNumbers (Some held.new) (λ after. (v : ℕ) → count nat_eq v after.items ≡ count nat_eq v bag.items + count nat_eq v (take done.new values.now))) }
-    ensures len { IfNumbers (Some held.old) (λ bag. HasNumbers (Some held.new) (λ after. length after.items ≡ length bag.items + done.new)) }
+    ensures counts { NumbersTo (Some held.old) (Some held.new) (Adds nat_eq (take done.new values.now)) }
+    ensures len { NumbersTo (Some held.old) (Some held.new) (λ bag after. length after.items ≡ length bag.items + done.new) }
     ensures all { result ≡ 0 → done.new ≡ length values.now }
     ensures within { done.new ≤ length values.now }
     ensures kind { IfTexts (Some held.old) (λ _. (result ≡ KIND) × (held.new ≡ held.old)) }
@@ -53,7 +55,7 @@ fn insert_all(held: &mut Held, values: &[u64], done: &mut usize) -> u8
 ///
 /// # Errors
 ///
-/// As of `hashbag_numbers_insert`. The numbers before the one that fails stay in the bag.
+/// Those of `hashbag_numbers_insert`. The numbers before the one that fails stay in the bag.
 #[unsafe(no_mangle)]
 pub extern "C" fn hashbag_numbers_insert_all(
     alloc: Global,
@@ -61,8 +63,8 @@ pub extern "C" fn hashbag_numbers_insert_all(
     values: &[u64],
     done: &mut usize,
 ) -> u8
-    ensures counts { IfNumbers handle.old.held (λ bag. HasNumbers handle.new.held (λ after. (v : ℕ) → count nat_eq v after.items ≡ count nat_eq v bag.items + count nat_eq v (take done.new values.now))) }
-    ensures len { IfNumbers handle.old.held (λ bag. HasNumbers handle.new.held (λ after. length after.items ≡ length bag.items + done.new)) }
+    ensures counts { NumbersTo handle.old.held handle.new.held (Adds nat_eq (take done.new values.now)) }
+    ensures len { NumbersTo handle.old.held handle.new.held (λ bag after. length after.items ≡ length bag.items + done.new) }
     ensures all { result ≡ 0 → done.new ≡ length values.now }
     ensures within { done.new ≤ length values.now }
     ensures kind { IfTexts handle.old.held (λ _. (result ≡ KIND) × (handle.new.held ≡ handle.old.held)) }
@@ -73,6 +75,80 @@ pub extern "C" fn hashbag_numbers_insert_all(
         return EMPTY;
     };
     let code = insert_all(&mut held, values, done);
+    handle.put(held);
+    code
+}
+
+// Returns a bag that has of each number as many as `bag` and the list allow.
+fn allowed(
+    alloc: Global,
+    bag: &HashBag<u64, State>,
+    values: &[u64],
+    most: &[usize],
+) -> Result<HashBag<u64, State>, BagError>
+    ensures { IfOk result (HasQuotas nat_eq values.now most.now bag.now) }
+{
+    let mut made = HashBag::with_limit(alloc, *bag.hasher(), usize::MAX);
+    for i in (0..values.len().min(most.len())).rev() {
+        made.set_count(values[i], most[i].min(bag.contains(&values[i])))?;
+    }
+    Ok(made)
+}
+
+// Keeps of each number at most as many as the list says.
+fn keep_listed(
+    alloc: Global,
+    bag: &mut HashBag<u64, State>,
+    values: &[u64],
+    most: &[usize],
+) -> Result<(), BagError>
+    ensures retained { OnOk result (Retains nat_eq values.now most.now bag.old bag.new) }
+    ensures err { OnErr result (bag.new ≡ bag.old) }
+{
+    let allowed = allowed(alloc, bag, values, most)?;
+    hashbag_ops::keep_common(bag, &allowed);
+    Ok(())
+}
+
+fn retain(alloc: Global, held: &mut Held, values: &[u64], most: &[usize]) -> u8
+    ensures retained { result ≡ 0 → NumbersTo (Some held.old) (Some held.new) (Retains nat_eq values.now most.now) }
+    ensures only { IfNumbers (Some held.old) (λ _. result ≢ 0 → result ≡ 1) }
+    ensures kind { IfTexts (Some held.old) (λ _. result ≡ KIND) }
+    ensures err { result ≢ 0 → held.new ≡ held.old }
+{
+    match held {
+        Held::Numbers(bag) => match keep_listed(alloc, bag, values, most) {
+            Ok(()) => 0,
+            Err(_) => 1,
+        },
+        Held::Texts(_) => KIND,
+    }
+}
+
+/// Keeps of each number at most as many as a list says, `most[i]` of `values[i]`, and returns 0. Of a number that is listed twice the first
+/// place counts. A number that isn't listed is removed. If the arrays differ in length, the rest of the longer one is ignored.
+///
+/// # Errors
+///
+/// `HASHBAG_MEMORY` if an allocation fails, since it makes a bag of the listed numbers; `HASHBAG_EMPTY`; `HASHBAG_KIND`. Nothing changes
+/// then.
+#[unsafe(no_mangle)]
+pub extern "C" fn hashbag_numbers_retain(
+    alloc: Global,
+    handle: &mut Handle,
+    values: &[u64],
+    most: &[usize],
+) -> u8
+    ensures retained { result ≡ 0 → NumbersTo handle.old.held handle.new.held (Retains nat_eq values.now most.now) }
+    ensures only { IfNumbers handle.old.held (λ _. result ≢ 0 → result ≡ 1) }
+    ensures kind { IfTexts handle.old.held (λ _. result ≡ KIND) }
+    ensures empty { handle.old.held ≡ None → result ≡ EMPTY }
+    ensures err { result ≢ 0 → handle.new.held ≡ handle.old.held }
+{
+    let Some(mut held) = handle.take(alloc) else {
+        return EMPTY;
+    };
+    let code = retain(alloc, &mut held, values, most);
     handle.put(held);
     code
 }
@@ -161,7 +237,7 @@ fn outer_join(
     firsts: &mut [usize],
     seconds: &mut [usize],
 ) -> usize
-    ensures read { IfNumbers (Some a.now) (λ x. IfNumbers (Some b.now) (λ y. HasReadJoin x y result values.new firsts.new seconds.new)) }
+    ensures read { BothNumbers (Some a.now) (Some b.now) (λ x y. HasReadJoin x y result values.new firsts.new seconds.new) }
     ensures kind { IfTexts (Some a.now) (λ _. result ≡ 0) }
     ensures other_kind { IfTexts (Some b.now) (λ _. result ≡ 0) }
 {
@@ -175,7 +251,7 @@ fn outer_join(
 }
 
 /// Writes each number of two bags once, with its count in the first and in the second, 0 in the bag that lacks it: those of the first bag
-/// first. It writes as many as the three arrays have places for, and returns how many. With as many places as both bags have distinct
+/// first. It writes as many as the three arrays have places for, and returns how many. With as many places as both bags together have distinct
 /// numbers these are all. They must be two handles, not one twice. It returns 0 if one of them has no bag of numbers.
 #[unsafe(no_mangle)]
 pub extern "C" fn hashbag_numbers_outer_join(
@@ -186,7 +262,7 @@ pub extern "C" fn hashbag_numbers_outer_join(
     firsts: &mut [usize],
     seconds: &mut [usize],
 ) -> usize
-    ensures read { IfNumbers a.old.held (λ x. IfNumbers b.old.held (λ y. HasReadJoin x y result values.new firsts.new seconds.new)) }
+    ensures read { BothNumbers a.old.held b.old.held (λ x y. HasReadJoin x y result values.new firsts.new seconds.new) }
     ensures kind { IfTexts a.old.held (λ _. result ≡ 0) }
     ensures other_kind { IfTexts b.old.held (λ _. result ≡ 0) }
     ensures empty { a.old.held ≡ None → result ≡ 0 }

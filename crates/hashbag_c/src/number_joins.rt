@@ -1,6 +1,6 @@
 //! Joins of two bags of numbers.
 ghost use Rattle.std.specs.Prelude.{◌≡◌, length, take, map, min, None, Some};
-ghost use Rattle.hashbag_c.specs.Calls.{IfNumbers, IfTexts};
+ghost use Rattle.hashbag_c.specs.Calls.{BothNumbers, IfTexts};
 ghost use Rattle.hashbag_c.specs.Differences.{HasReadDifference, HasReadNotIn, HasReadSignedDifference};
 
 use crate::handle::Handle;
@@ -33,7 +33,7 @@ fn write_difference(
 }
 
 fn read_difference(a: &Held, b: &Held, values: &mut [u64], counts: &mut [usize]) -> usize
-    ensures read { IfNumbers (Some a.now) (λ x. IfNumbers (Some b.now) (λ y. HasReadDifference x y result values.new counts.new)) }
+    ensures read { BothNumbers (Some a.now) (Some b.now) (λ x y. HasReadDifference x y result values.new counts.new) }
     ensures kind { IfTexts (Some a.now) (λ _. result ≡ 0) }
     ensures other_kind { IfTexts (Some b.now) (λ _. result ≡ 0) }
 {
@@ -57,7 +57,7 @@ pub extern "C" fn hashbag_numbers_difference(
     values: &mut [u64],
     counts: &mut [usize],
 ) -> usize
-    ensures read { IfNumbers a.old.held (λ x. IfNumbers b.old.held (λ y. HasReadDifference x y result values.new counts.new)) }
+    ensures read { BothNumbers a.old.held b.old.held (λ x y. HasReadDifference x y result values.new counts.new) }
     ensures kind { IfTexts a.old.held (λ _. result ≡ 0) }
     ensures other_kind { IfTexts b.old.held (λ _. result ≡ 0) }
     ensures empty { a.old.held ≡ None → result ≡ 0 }
@@ -102,7 +102,7 @@ fn write_not_in(
 }
 
 fn read_not_in(a: &Held, b: &Held, values: &mut [u64], counts: &mut [usize]) -> usize
-    ensures read { IfNumbers (Some a.now) (λ x. IfNumbers (Some b.now) (λ y. HasReadNotIn x y result values.new counts.new)) }
+    ensures read { BothNumbers (Some a.now) (Some b.now) (λ x y. HasReadNotIn x y result values.new counts.new) }
     ensures kind { IfTexts (Some a.now) (λ _. result ≡ 0) }
     ensures other_kind { IfTexts (Some b.now) (λ _. result ≡ 0) }
 {
@@ -126,7 +126,7 @@ pub extern "C" fn hashbag_numbers_not_in(
     values: &mut [u64],
     counts: &mut [usize],
 ) -> usize
-    ensures read { IfNumbers a.old.held (λ x. IfNumbers b.old.held (λ y. HasReadNotIn x y result values.new counts.new)) }
+    ensures read { BothNumbers a.old.held b.old.held (λ x y. HasReadNotIn x y result values.new counts.new) }
     ensures kind { IfTexts a.old.held (λ _. result ≡ 0) }
     ensures other_kind { IfTexts b.old.held (λ _. result ≡ 0) }
     ensures empty { a.old.held ≡ None → result ≡ 0 }
@@ -176,7 +176,7 @@ fn read_signed_difference(
     values: &mut [u64],
     differences: &mut [isize],
 ) -> usize
-    ensures read { IfNumbers (Some a.now) (λ x. IfNumbers (Some b.now) (λ y. HasReadSignedDifference x y result values.new differences.new)) }
+    ensures read { BothNumbers (Some a.now) (Some b.now) (λ x y. HasReadSignedDifference x y result values.new differences.new) }
     ensures kind { IfTexts (Some a.now) (λ _. result ≡ 0) }
     ensures other_kind { IfTexts (Some b.now) (λ _. result ≡ 0) }
 {
@@ -193,7 +193,7 @@ fn read_signed_difference(
 
 /// Writes each number of two bags once, with its count in the first less its count in the second: those of the first bag first. A difference
 /// above `PTRDIFF_MAX` or below `PTRDIFF_MIN` is written as that bound. It writes as many as both arrays have places for, and returns how
-/// many. With as many places as both bags have distinct numbers these are all. They must be two handles, not one twice. It returns 0 if one
+/// many. With as many places as both bags together have distinct numbers these are all. They must be two handles, not one twice. It returns 0 if one
 /// of them has no bag of numbers. It doesn't allocate.
 #[unsafe(no_mangle)]
 pub extern "C" fn hashbag_numbers_signed_difference(
@@ -203,7 +203,7 @@ pub extern "C" fn hashbag_numbers_signed_difference(
     values: &mut [u64],
     differences: &mut [isize],
 ) -> usize
-    ensures read { IfNumbers a.old.held (λ x. IfNumbers b.old.held (λ y. HasReadSignedDifference x y result values.new differences.new)) }
+    ensures read { BothNumbers a.old.held b.old.held (λ x y. HasReadSignedDifference x y result values.new differences.new) }
     ensures kind { IfTexts a.old.held (λ _. result ≡ 0) }
     ensures other_kind { IfTexts b.old.held (λ _. result ≡ 0) }
     ensures empty { a.old.held ≡ None → result ≡ 0 }

@@ -48,10 +48,10 @@ fn to_json(alloc: Global, held: &Held, bytes: &mut [u8], len: &mut usize) -> u8
     }
 }
 
-/// Writes a bag of numbers as a JSON text at the beginning of `bytes`, writes the length of the text into `len`, and returns 0. The text is
-/// `[[5,2],[7,1]]`: each distinct number with its count, numbers in ascending order, without spaces. A bag with a limit below `SIZE_MAX` is
-/// `{"limit":9,"pairs":[[5,2],[7,1]]}`. Bags with the same counts and the same limit have the same text. It makes the whole text in memory
-/// of its own first.
+/// Writes a bag of numbers as a JSON text at the beginning of `bytes`, writes the length of the text into `len`, and returns 0. No NUL
+/// follows. The text is `[[5,2],[7,1]]`: each distinct number with its count, numbers in ascending order, without spaces. A bag with a
+/// limit below `SIZE_MAX` is `{"limit":9,"pairs":[[5,2],[7,1]]}`. Bags with the same counts and the same limit have the same text. It makes
+/// the whole text in memory of its own first.
 ///
 /// # Errors
 ///
@@ -117,8 +117,8 @@ fn read_json(
 /// # Errors
 ///
 /// `HASHBAG_NOT_JSON` if the text isn't JSON or isn't UTF-8: `at` is then how many of its bytes had been read when that was found. The
-/// first fault of a JSON text is returned by a number that begins with `HASHBAG_JSON_`; `at` is the pair at fault, counted from 0, if it
-/// is one. `HASHBAG_MEMORY` if an allocation fails. The handle is unchanged then, and `at` unless it is said here.
+/// first fault of a JSON text is returned by a number that begins with `HASHBAG_JSON_`; `at` is the pair at fault, counted from 0, if it is
+/// one. `HASHBAG_MEMORY` if an allocation fails. Then the handle is unchanged, and `at` too except in the two cases above.
 #[unsafe(no_mangle)]
 pub extern "C" fn hashbag_numbers_from_json(
     alloc: Global,
@@ -139,7 +139,7 @@ pub extern "C" fn hashbag_numbers_from_json(
 ///
 /// # Errors
 ///
-/// As of `hashbag_numbers_from_json`.
+/// Those of `hashbag_numbers_from_json`.
 #[unsafe(no_mangle)]
 pub extern "C" fn hashbag_numbers_from_json_keyed(
     alloc: Global,

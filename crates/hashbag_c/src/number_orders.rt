@@ -59,8 +59,9 @@ fn sorted(alloc: Global, held: &Held, values: &mut [u64], counts: &mut [usize], 
     }
 }
 
-/// Writes the distinct numbers, rising, and their counts into two arrays, as many as both have places for. Writes how many into `n`, and
-/// returns 0. With `hashbag_set_len` places in each these are all. It makes one allocation, a list of all distinct numbers, and sorts it.
+/// Writes the distinct numbers in ascending order, and their counts, into two arrays, as many as both have places for. Writes how many into
+/// `n`, and returns 0. With `hashbag_set_len` places in each these are all. It makes one allocation, a list of all distinct numbers, and
+/// sorts it.
 ///
 /// # Errors
 ///
@@ -128,9 +129,9 @@ fn most_common(
     }
 }
 
-/// Writes the most common numbers and their counts into two arrays, as many as both have places for, or all if there are fewer: counts
-/// falling, and numbers that occur equally often rising. Writes how many into `n`, and returns 0. It reads each distinct number once, and
-/// makes two allocations at most, each of as many pairs as it writes.
+/// Writes the k most common numbers and their counts into two arrays: k is the lesser of their lengths. They are in descending order of
+/// counts, and in ascending order if they occur equally often. Writes how many into `n`, and returns 0. It reads each distinct number once,
+/// and makes two allocations at most, each of as many pairs as it writes.
 ///
 /// # Errors
 ///

@@ -6,7 +6,8 @@ ghost use Rattle.hashbag_core.specs.Bag.{IsBagOf};
 ghost use Rattle.hashbag_core.specs.Held.{HasFewer};
 ghost use Rattle.hashbag_core.specs.Inserts.{Inserts};
 ghost use Rattle.hashbag_core.specs.Occurrences.{count, recount};
-ghost use Rattle.hashbag_c.specs.Calls.{HasNumbers, IfNumbers, IfTexts};
+ghost use Rattle.hashbag_c.specs.Calls.{HasNumbers, IfNumbers, IfTexts, NumbersTo};
+ghost use Rattle.hashbag_c.specs.Whole.{LosesAll, Overfills, SetsCount};
 
 use crate::any::{EMPTY, KIND};
 use crate::handle::Handle;
@@ -67,9 +68,9 @@ pub extern "C" fn hashbag_numbers_new_keyed(
 }
 
 fn insert(held: &mut Held, value: u64, n: usize, before: &mut usize) -> u8
-    ensures inserted { IfNumbers (Some held.old) (λ bag. result ≡ 0 → HasNumbers (Some held.new) (λ after. Inserts nat_eq value n bag after)) }
+    ensures inserted { result ≡ 0 → NumbersTo (Some held.old) (Some held.new) (Inserts nat_eq value n) }
     ensures before { IfNumbers (Some held.old) (λ bag. result ≡ 0 → before.new ≡ count nat_eq value bag.items) }
-    ensures too_many { IfNumbers (Some held.old) (λ bag. (result ≡ 2) ↔ (bag.most < length bag.items + n)) }
+    ensures too_many { IfNumbers (Some held.old) (λ bag. (result ≡ 2) ↔ (Overfills bag n)) }
     ensures takes { IfNumbers (Some held.old) (λ bag. length bag.items + n ≤ bag.most → 0 < room bag.tables → result ≡ 0) }
     ensures present { IfNumbers (Some held.old) (λ bag. length bag.items + n ≤ bag.most → 0 < count nat_eq value bag.items → result ≡ 0) }
     ensures only { IfNumbers (Some held.old) (λ bag. result ≢ 0 → (result ≡ 1) ⊎ (result ≡ 2)) }
@@ -88,7 +89,7 @@ fn insert(held: &mut Held, value: u64, n: usize, before: &mut usize) -> u8
     }
 }
 
-/// Inserts `n` occurrences of a number, writes the count before, and returns 0.
+/// Inserts `n` occurrences of a number, writes the count before, and returns 0. With 0 nothing changes.
 ///
 /// # Errors
 ///
@@ -102,9 +103,9 @@ pub extern "C" fn hashbag_numbers_insert(
     n: usize,
     before: &mut usize,
 ) -> u8
-    ensures inserted { IfNumbers handle.old.held (λ bag. result ≡ 0 → HasNumbers handle.new.held (λ after. Inserts nat_eq value n bag after)) }
+    ensures inserted { result ≡ 0 → NumbersTo handle.old.held handle.new.held (Inserts nat_eq value n) }
     ensures before { IfNumbers handle.old.held (λ bag. result ≡ 0 → before.new ≡ count nat_eq value bag.items) }
-    ensures too_many { IfNumbers handle.old.held (λ bag. (result ≡ 2) ↔ (bag.most < length bag.items + n)) }
+    ensures too_many { IfNumbers handle.old.held (λ bag. (result ≡ 2) ↔ (Overfills bag n)) }
     ensures takes { IfNumbers handle.old.held (λ bag. length bag.items + n ≤ bag.most → 0 < room bag.tables → result ≡ 0) }
     ensures present { IfNumbers handle.old.held (λ bag. length bag.items + n ≤ bag.most → 0 < count nat_eq value bag.items → result ≡ 0) }
     ensures only { IfNumbers handle.old.held (λ bag. result ≢ 0 → (result ≡ 1) ⊎ (result ≡ 2)) }
@@ -148,8 +149,8 @@ pub extern "C" fn hashbag_numbers_contains(alloc: Global, handle: &mut Handle, v
 
 fn remove(held: &mut Held, value: u64, n: usize) -> usize
     ensures after { IfNumbers (Some held.old) (λ bag. result ≡ count nat_eq value bag.items - n) }
-    ensures fewer { IfNumbers (Some held.old) (λ bag. HasNumbers (Some held.new) (λ after. HasFewer nat_eq (nat_eq value) n bag after)) }
-    ensures len { IfNumbers (Some held.old) (λ bag. HasNumbers (Some held.new) (λ after. length after.items + count nat_eq value bag.items ≡ length bag.items + result)) }
+    ensures fewer { NumbersTo (Some held.old) (Some held.new) (HasFewer nat_eq (nat_eq value) n) }
+    ensures len { NumbersTo (Some held.old) (Some held.new) (λ bag after. length after.items + count nat_eq value bag.items ≡ length bag.items + result) }
     ensures kind { IfTexts (Some held.old) (λ _. held.new ≡ held.old) }
 {
     match held {
@@ -168,8 +169,8 @@ pub extern "C" fn hashbag_numbers_remove(
     n: usize,
 ) -> usize
     ensures after { IfNumbers handle.old.held (λ bag. result ≡ count nat_eq value bag.items - n) }
-    ensures fewer { IfNumbers handle.old.held (λ bag. HasNumbers handle.new.held (λ after. HasFewer nat_eq (nat_eq value) n bag after)) }
-    ensures len { IfNumbers handle.old.held (λ bag. HasNumbers handle.new.held (λ after. length after.items + count nat_eq value bag.items ≡ length bag.items + result)) }
+    ensures fewer { NumbersTo handle.old.held handle.new.held (HasFewer nat_eq (nat_eq value) n) }
+    ensures len { NumbersTo handle.old.held handle.new.held (λ bag after. length after.items + count nat_eq value bag.items ≡ length bag.items + result) }
     ensures kind { IfTexts handle.old.held (λ _. handle.new.held ≡ handle.old.held) }
     ensures empty { handle.old.held ≡ None → handle.new.held ≡ None }
 {
@@ -195,8 +196,8 @@ fn take_number(bag: &mut HashBag<u64, State>, value: u64) -> usize
 
 fn take_all(held: &mut Held, value: u64) -> usize
     ensures before { IfNumbers (Some held.old) (λ bag. result ≡ count nat_eq value bag.items) }
-    ensures fewer { IfNumbers (Some held.old) (λ bag. HasNumbers (Some held.new) (λ after. HasFewer nat_eq (nat_eq value) (count nat_eq value bag.items) bag after)) }
-    ensures len { IfNumbers (Some held.old) (λ bag. HasNumbers (Some held.new) (λ after. length after.items + result ≡ length bag.items)) }
+    ensures fewer { NumbersTo (Some held.old) (Some held.new) (LosesAll nat_eq (nat_eq value)) }
+    ensures len { NumbersTo (Some held.old) (Some held.new) (λ bag after. length after.items + result ≡ length bag.items) }
     ensures kind { IfTexts (Some held.old) (λ _. (result ≡ 0) × (held.new ≡ held.old)) }
 {
     match held {
@@ -209,8 +210,8 @@ fn take_all(held: &mut Held, value: u64) -> usize
 #[unsafe(no_mangle)]
 pub extern "C" fn hashbag_numbers_take_all(alloc: Global, handle: &mut Handle, value: u64) -> usize
     ensures before { IfNumbers handle.old.held (λ bag. result ≡ count nat_eq value bag.items) }
-    ensures fewer { IfNumbers handle.old.held (λ bag. HasNumbers handle.new.held (λ after. HasFewer nat_eq (nat_eq value) (count nat_eq value bag.items) bag after)) }
-    ensures len { IfNumbers handle.old.held (λ bag. HasNumbers handle.new.held (λ after. length after.items + result ≡ length bag.items)) }
+    ensures fewer { NumbersTo handle.old.held handle.new.held (LosesAll nat_eq (nat_eq value)) }
+    ensures len { NumbersTo handle.old.held handle.new.held (λ bag after. length after.items + result ≡ length bag.items) }
     ensures kind { IfTexts handle.old.held (λ _. (result ≡ 0) × (handle.new.held ≡ handle.old.held)) }
     ensures empty { handle.old.held ≡ None → (result ≡ 0) × (handle.new.held ≡ None) }
 {
@@ -223,7 +224,7 @@ pub extern "C" fn hashbag_numbers_take_all(alloc: Global, handle: &mut Handle, v
 }
 
 fn set_count(held: &mut Held, value: u64, n: usize, before: &mut usize) -> u8
-    ensures set { IfNumbers (Some held.old) (λ bag. result ≡ 0 → HasNumbers (Some held.new) (λ after. IsBagOf nat_eq bag (recount nat_eq value n bag.items) after)) }
+    ensures set { result ≡ 0 → NumbersTo (Some held.old) (Some held.new) (SetsCount nat_eq value n) }
     ensures before { IfNumbers (Some held.old) (λ bag. result ≡ 0 → before.new ≡ count nat_eq value bag.items) }
     ensures too_many { IfNumbers (Some held.old) (λ bag. (result ≡ 2) ↔ (bag.most < length bag.items - count nat_eq value bag.items + n)) }
     ensures only { IfNumbers (Some held.old) (λ bag. result ≢ 0 → (result ≡ 1) ⊎ (result ≡ 2)) }
@@ -256,7 +257,7 @@ pub extern "C" fn hashbag_numbers_set_count(
     n: usize,
     before: &mut usize,
 ) -> u8
-    ensures set { IfNumbers handle.old.held (λ bag. result ≡ 0 → HasNumbers handle.new.held (λ after. IsBagOf nat_eq bag (recount nat_eq value n bag.items) after)) }
+    ensures set { result ≡ 0 → NumbersTo handle.old.held handle.new.held (SetsCount nat_eq value n) }
     ensures before { IfNumbers handle.old.held (λ bag. result ≡ 0 → before.new ≡ count nat_eq value bag.items) }
     ensures too_many { IfNumbers handle.old.held (λ bag. (result ≡ 2) ↔ (bag.most < length bag.items - count nat_eq value bag.items + n)) }
     ensures only { IfNumbers handle.old.held (λ bag. result ≢ 0 → (result ≡ 1) ⊎ (result ≡ 2)) }

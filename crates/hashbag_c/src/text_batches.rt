@@ -1,16 +1,19 @@
 //! Calls on a bag of byte strings that take or give many at once.
-ghost use Rattle.std.specs.Prelude.{◌≡◌, ◌≢◌, ◌+◌, ◌≤◌, ◌++◌, ℕ, List, [], length, slice_range, take, drop, map, flat_map, min, None, Some, IfOk, OnOk};
+ghost use Rattle.std.specs.Prelude.{◌≡◌, ◌≢◌, ◌+◌, ◌≤◌, ◌++◌, ◌⊎◌, ℕ, List, [], ◌∷◌, length, get_or, slice_range, take, drop, map, flat_map, min, None, Some, IfOk, OnErr, OnOk};
 ghost use Rattle.std.specs.Str.{bytes_eq};
 ghost use Rattle.hashbag_core.specs.Occurrences.{count};
-ghost use Rattle.hashbag_c.specs.Calls.{HasTexts, IfNumbers, IfTexts};
+ghost use Rattle.hashbag_c.specs.Calls.{IfNumbers, IfTexts, TextsTo};
 ghost use Rattle.hashbag_c.specs.Pieces.{pieces_from, split_from};
+ghost use Rattle.hashbag_c.specs.Quotas.{HasQuotas, Retains};
 ghost use Rattle.hashbag_c.specs.Reads.{ends_from, size_of, HasReadTexts, HasSize};
+ghost use Rattle.hashbag_c.specs.Whole.{Adds};
 
 use crate::any::{EMPTY, ENDS, KIND};
 use crate::bytes::{Bytes, Name};
 use crate::handle::Handle;
 use crate::held::Held;
 use crate::state::Keys;
+use crate::texts::recount;
 use hashbag_core::{BagError, HashBag, SetIter};
 use std::alloc::Global;
 
@@ -57,7 +60,7 @@ fn insert_each(
     ends: &[usize],
     done: &mut usize,
 ) -> Result<(), PieceError>
-    ensures counts { OnOk result ((v : List ℕ) → count bytes_eq v bag.new.items ≡ count bytes_eq v bag.old.items + count bytes_eq v (pieces_from 0 bytes.now ends.now)) }
+    ensures counts { OnOk result (Adds bytes_eq (pieces_from 0 bytes.now ends.now) bag.old bag.new) }
     ensures len { length bag.new.items ≡ length bag.old.items + done.new }
     ensures all { OnOk result (done.new ≡ length ends.now) }
     ensures within { done.new ≤ length ends.now }
@@ -73,8 +76,8 @@ fn insert_each(
 }
 
 fn insert_all(held: &mut Held, bytes: &[u8], ends: &[usize], done: &mut usize) -> u8
-    ensures counts { IfTexts (Some held.old) (λ bag. result ≡ 0 → HasTexts (Some held.new) (λ after. (v : List ℕ) → count bytes_eq v after.items ≡ count bytes_eq v bag.items + count bytes_eq v (pieces_from 0 bytes.now ends.now))) }
-    ensures len { IfTexts (Some held.old) (λ bag. HasTexts (Some held.new) (λ after. length after.items ≡ length bag.items + done.new)) }
+    ensures counts { result ≡ 0 → TextsTo (Some held.old) (Some held.new) (Adds bytes_eq (pieces_from 0 bytes.now ends.now)) }
+    ensures len { TextsTo (Some held.old) (Some held.new) (λ bag after. length after.items ≡ length bag.items + done.new) }
     ensures all { result ≡ 0 → done.new ≡ length ends.now }
     ensures within { done.new ≤ length ends.now }
     ensures kind { IfNumbers (Some held.old) (λ _. (result ≡ KIND) × (held.new ≡ held.old)) }
@@ -91,12 +94,12 @@ fn insert_all(held: &mut Held, bytes: &[u8], ends: &[usize], done: &mut usize) -
     }
 }
 
-/// Inserts byte strings that lie one after another in `bytes`, each once, in turn, until one fails. Each begins where the one before it
-/// ends, and ends before the place that `ends` has. Writes how many were inserted, and returns 0 if that is all.
+/// Inserts byte strings that lie one after another in `bytes`, each once, in turn, until one fails. The first is `bytes[0..ends[0]]`, and
+/// that of i is `bytes[ends[i - 1]..ends[i]]`. Writes how many were inserted, and returns 0 if that is all.
 ///
 /// # Errors
 ///
-/// As of `hashbag_texts_insert`; `HASHBAG_ENDS` if an end is below the one before it, or above `bytes_len`. The strings before the one
+/// Those of `hashbag_texts_insert`; `HASHBAG_ENDS` if an end is below the one before it, or above `bytes_len`. The strings before the one
 /// that fails stay in the bag.
 #[unsafe(no_mangle)]
 pub extern "C" fn hashbag_texts_insert_all(
@@ -106,8 +109,8 @@ pub extern "C" fn hashbag_texts_insert_all(
     ends: &[usize],
     done: &mut usize,
 ) -> u8
-    ensures counts { IfTexts handle.old.held (λ bag. result ≡ 0 → HasTexts handle.new.held (λ after. (v : List ℕ) → count bytes_eq v after.items ≡ count bytes_eq v bag.items + count bytes_eq v (pieces_from 0 bytes.now ends.now))) }
-    ensures len { IfTexts handle.old.held (λ bag. HasTexts handle.new.held (λ after. length after.items ≡ length bag.items + done.new)) }
+    ensures counts { result ≡ 0 → TextsTo handle.old.held handle.new.held (Adds bytes_eq (pieces_from 0 bytes.now ends.now)) }
+    ensures len { TextsTo handle.old.held handle.new.held (λ bag after. length after.items ≡ length bag.items + done.new) }
     ensures all { result ≡ 0 → done.new ≡ length ends.now }
     ensures within { done.new ≤ length ends.now }
     ensures kind { IfNumbers handle.old.held (λ _. (result ≡ KIND) × (handle.new.held ≡ handle.old.held)) }
@@ -129,7 +132,7 @@ fn insert_pieces(
     separator: u8,
     done: &mut usize,
 ) -> Result<(), BagError>
-    ensures counts { OnOk result ((v : List ℕ) → count bytes_eq v bag.new.items ≡ count bytes_eq v bag.old.items + count bytes_eq v (split_from separator [] bytes.now)) }
+    ensures counts { OnOk result (Adds bytes_eq (split_from separator [] bytes.now) bag.old bag.new) }
     ensures len { length bag.new.items ≡ length bag.old.items + done.new }
 {
     let mut from = 0;
@@ -152,8 +155,8 @@ fn insert_pieces(
 }
 
 fn insert_split(held: &mut Held, bytes: &[u8], separator: u8, done: &mut usize) -> u8
-    ensures counts { IfTexts (Some held.old) (λ bag. result ≡ 0 → HasTexts (Some held.new) (λ after. (v : List ℕ) → count bytes_eq v after.items ≡ count bytes_eq v bag.items + count bytes_eq v (split_from separator [] bytes.now))) }
-    ensures len { IfTexts (Some held.old) (λ bag. HasTexts (Some held.new) (λ after. length after.items ≡ length bag.items + done.new)) }
+    ensures counts { result ≡ 0 → TextsTo (Some held.old) (Some held.new) (Adds bytes_eq (split_from separator [] bytes.now)) }
+    ensures len { TextsTo (Some held.old) (Some held.new) (λ bag after. length after.items ≡ length bag.items + done.new) }
     ensures kind { IfNumbers (Some held.old) (λ _. (result ≡ KIND) × (held.new ≡ held.old)) }
 {
     match held {
@@ -173,7 +176,7 @@ fn insert_split(held: &mut Held, bytes: &[u8], separator: u8, done: &mut usize) 
 ///
 /// # Errors
 ///
-/// As of `hashbag_texts_insert`. The pieces before the one that fails stay in the bag.
+/// Those of `hashbag_texts_insert`. The pieces before the one that fails stay in the bag.
 #[unsafe(no_mangle)]
 pub extern "C" fn hashbag_texts_insert_split(
     alloc: Global,
@@ -182,8 +185,8 @@ pub extern "C" fn hashbag_texts_insert_split(
     separator: u8,
     done: &mut usize,
 ) -> u8
-    ensures counts { IfTexts handle.old.held (λ bag. result ≡ 0 → HasTexts handle.new.held (λ after. (v : List ℕ) → count bytes_eq v after.items ≡ count bytes_eq v bag.items + count bytes_eq v (split_from separator [] bytes.now))) }
-    ensures len { IfTexts handle.old.held (λ bag. HasTexts handle.new.held (λ after. length after.items ≡ length bag.items + done.new)) }
+    ensures counts { result ≡ 0 → TextsTo handle.old.held handle.new.held (Adds bytes_eq (split_from separator [] bytes.now)) }
+    ensures len { TextsTo handle.old.held handle.new.held (λ bag after. length after.items ≡ length bag.items + done.new) }
     ensures kind { IfNumbers handle.old.held (λ _. (result ≡ KIND) × (handle.new.held ≡ handle.old.held)) }
     ensures empty { handle.old.held ≡ None → (result ≡ EMPTY) × (handle.new.held ≡ None) }
 {
@@ -192,6 +195,94 @@ pub extern "C" fn hashbag_texts_insert_split(
         return EMPTY;
     };
     let code = insert_split(&mut held, bytes, separator, done);
+    handle.put(held);
+    code
+}
+
+// Returns where a piece begins.
+fn start(ends: &[usize], i: usize) -> usize
+    requires { i ≤ length ends.now }
+    ensures { result ≡ get_or (0 ∷ ends.now) i 0 }
+{
+    if i == 0 { 0 } else { ends[i - 1] }
+}
+
+// Returns a bag that has of each piece as many as `bag` and the list allow.
+fn allowed(
+    alloc: Global,
+    bag: &HashBag<Bytes, Keys>,
+    bytes: &[u8],
+    ends: &[usize],
+    most: &[usize],
+) -> Result<HashBag<Bytes, Keys>, PieceError>
+    ensures { IfOk result (HasQuotas bytes_eq (pieces_from 0 bytes.now ends.now) most.now bag.now) }
+{
+    let mut made = HashBag::with_limit(alloc, *bag.hasher(), usize::MAX);
+    for i in (0..ends.len().min(most.len())).rev() {
+        let name = piece(bytes, start(ends, i), ends[i])?;
+        let n = most[i].min(bag.contains(name));
+        let before = made.contains(name);
+        recount(&mut made, name.bytes, before, n)?;
+    }
+    Ok(made)
+}
+
+// Keeps of each byte string at most as many as the list says.
+fn keep_listed(
+    alloc: Global,
+    bag: &mut HashBag<Bytes, Keys>,
+    bytes: &[u8],
+    ends: &[usize],
+    most: &[usize],
+) -> Result<(), PieceError>
+    ensures retained { OnOk result (Retains bytes_eq (pieces_from 0 bytes.now ends.now) most.now bag.old bag.new) }
+    ensures err { OnErr result (bag.new ≡ bag.old) }
+{
+    let allowed = allowed(alloc, bag, bytes, ends, most)?;
+    hashbag_ops::keep_common(bag, &allowed);
+    Ok(())
+}
+
+fn retain(alloc: Global, held: &mut Held, bytes: &[u8], ends: &[usize], most: &[usize]) -> u8
+    ensures retained { result ≡ 0 → TextsTo (Some held.old) (Some held.new) (Retains bytes_eq (pieces_from 0 bytes.now ends.now) most.now) }
+    ensures kind { IfNumbers (Some held.old) (λ _. result ≡ KIND) }
+    ensures err { result ≢ 0 → held.new ≡ held.old }
+{
+    match held {
+        Held::Numbers(_) => KIND,
+        Held::Texts(bag) => match keep_listed(alloc, bag, bytes, ends, most) {
+            Ok(()) => 0,
+            Err(error) => error.number(),
+        },
+    }
+}
+
+/// Keeps of each byte string at most as many as a list says, and returns 0. The strings lie one after another in `bytes`, as
+/// `hashbag_texts_insert_all` has it; `most[i]` is the greatest count for the one that ends at `ends[i]`. Of a string that is listed twice
+/// the first place counts. A string that isn't listed is removed. If `ends` and `most` differ in length, the rest of the longer one is
+/// ignored.
+///
+/// # Errors
+///
+/// `HASHBAG_ENDS` if an end is below the one before it, or above `bytes_len`; `HASHBAG_MEMORY` if an allocation fails, since it makes a bag
+/// of the listed strings; `HASHBAG_EMPTY`; `HASHBAG_KIND`. Nothing changes then.
+#[unsafe(no_mangle)]
+pub extern "C" fn hashbag_texts_retain(
+    alloc: Global,
+    handle: &mut Handle,
+    bytes: &[u8],
+    ends: &[usize],
+    most: &[usize],
+) -> u8
+    ensures retained { result ≡ 0 → TextsTo handle.old.held handle.new.held (Retains bytes_eq (pieces_from 0 bytes.now ends.now) most.now) }
+    ensures kind { IfNumbers handle.old.held (λ _. result ≡ KIND) }
+    ensures empty { handle.old.held ≡ None → result ≡ EMPTY }
+    ensures err { result ≢ 0 → handle.new.held ≡ handle.old.held }
+{
+    let Some(mut held) = handle.take(alloc) else {
+        return EMPTY;
+    };
+    let code = retain(alloc, &mut held, bytes, ends, most);
     handle.put(held);
     code
 }
@@ -285,9 +376,9 @@ fn read(held: &Held, bytes: &mut [u8], ends: &mut [usize], counts: &mut [usize])
     }
 }
 
-/// Writes distinct byte strings one after another into `bytes`, where each ends into `ends`, and their counts, as many as there are
-/// places for, and returns how many. With `hashbag_texts_bytes` and `hashbag_set_len` places these are all, in no particular order. It
-/// returns 0 if the handle has no bag of byte strings.
+/// Writes distinct byte strings one after another into `bytes`, where each ends into `ends`, and their counts, and returns how many. It
+/// stops before the first string for which there is no place. With `hashbag_texts_bytes` and `hashbag_set_len` places these are all, in no
+/// particular order. It returns 0 if the handle has no bag of byte strings.
 #[unsafe(no_mangle)]
 pub extern "C" fn hashbag_texts_read(
     alloc: Global,

@@ -1,6 +1,6 @@
 //! Joins of two bags of byte strings.
 ghost use Rattle.std.specs.Prelude.{◌≡◌, ◌≤◌, length, take, map, flat_map, None, Some};
-ghost use Rattle.hashbag_c.specs.Calls.{IfNumbers, IfTexts};
+ghost use Rattle.hashbag_c.specs.Calls.{BothTexts, IfNumbers};
 ghost use Rattle.hashbag_c.specs.Differences.{with_none, HasReadTextDifference, HasReadTextNotIn, HasReadTextSignedDifference};
 ghost use Rattle.hashbag_c.specs.Reads.{ends_from, size_of, with_firsts, HasReadTextJoin};
 
@@ -56,7 +56,7 @@ fn outer_join(
     firsts: &mut [usize],
     seconds: &mut [usize],
 ) -> usize
-    ensures read { IfTexts (Some a.now) (λ x. IfTexts (Some b.now) (λ y. HasReadTextJoin x y result bytes.new ends.new firsts.new seconds.new)) }
+    ensures read { BothTexts (Some a.now) (Some b.now) (λ x y. HasReadTextJoin x y result bytes.new ends.new firsts.new seconds.new) }
     ensures kind { IfNumbers (Some a.now) (λ _. result ≡ 0) }
     ensures other_kind { IfNumbers (Some b.now) (λ _. result ≡ 0) }
 {
@@ -83,7 +83,7 @@ pub extern "C" fn hashbag_texts_outer_join(
     firsts: &mut [usize],
     seconds: &mut [usize],
 ) -> usize
-    ensures read { IfTexts a.old.held (λ x. IfTexts b.old.held (λ y. HasReadTextJoin x y result bytes.new ends.new firsts.new seconds.new)) }
+    ensures read { BothTexts a.old.held b.old.held (λ x y. HasReadTextJoin x y result bytes.new ends.new firsts.new seconds.new) }
     ensures kind { IfNumbers a.old.held (λ _. result ≡ 0) }
     ensures other_kind { IfNumbers b.old.held (λ _. result ≡ 0) }
     ensures empty { a.old.held ≡ None → result ≡ 0 }
@@ -144,7 +144,7 @@ fn read_difference(
     ends: &mut [usize],
     counts: &mut [usize],
 ) -> usize
-    ensures read { IfTexts (Some a.now) (λ x. IfTexts (Some b.now) (λ y. HasReadTextDifference x y result bytes.new ends.new counts.new)) }
+    ensures read { BothTexts (Some a.now) (Some b.now) (λ x y. HasReadTextDifference x y result bytes.new ends.new counts.new) }
     ensures kind { IfNumbers (Some a.now) (λ _. result ≡ 0) }
     ensures other_kind { IfNumbers (Some b.now) (λ _. result ≡ 0) }
 {
@@ -169,7 +169,7 @@ pub extern "C" fn hashbag_texts_difference(
     ends: &mut [usize],
     counts: &mut [usize],
 ) -> usize
-    ensures read { IfTexts a.old.held (λ x. IfTexts b.old.held (λ y. HasReadTextDifference x y result bytes.new ends.new counts.new)) }
+    ensures read { BothTexts a.old.held b.old.held (λ x y. HasReadTextDifference x y result bytes.new ends.new counts.new) }
     ensures kind { IfNumbers a.old.held (λ _. result ≡ 0) }
     ensures other_kind { IfNumbers b.old.held (λ _. result ≡ 0) }
     ensures empty { a.old.held ≡ None → result ≡ 0 }
@@ -230,7 +230,7 @@ fn read_not_in(
     ends: &mut [usize],
     counts: &mut [usize],
 ) -> usize
-    ensures read { IfTexts (Some a.now) (λ x. IfTexts (Some b.now) (λ y. HasReadTextNotIn x y result bytes.new ends.new counts.new)) }
+    ensures read { BothTexts (Some a.now) (Some b.now) (λ x y. HasReadTextNotIn x y result bytes.new ends.new counts.new) }
     ensures kind { IfNumbers (Some a.now) (λ _. result ≡ 0) }
     ensures other_kind { IfNumbers (Some b.now) (λ _. result ≡ 0) }
 {
@@ -255,7 +255,7 @@ pub extern "C" fn hashbag_texts_not_in(
     ends: &mut [usize],
     counts: &mut [usize],
 ) -> usize
-    ensures read { IfTexts a.old.held (λ x. IfTexts b.old.held (λ y. HasReadTextNotIn x y result bytes.new ends.new counts.new)) }
+    ensures read { BothTexts a.old.held b.old.held (λ x y. HasReadTextNotIn x y result bytes.new ends.new counts.new) }
     ensures kind { IfNumbers a.old.held (λ _. result ≡ 0) }
     ensures other_kind { IfNumbers b.old.held (λ _. result ≡ 0) }
     ensures empty { a.old.held ≡ None → result ≡ 0 }
@@ -316,7 +316,7 @@ fn read_signed_difference(
     ends: &mut [usize],
     differences: &mut [isize],
 ) -> usize
-    ensures read { IfTexts (Some a.now) (λ x. IfTexts (Some b.now) (λ y. HasReadTextSignedDifference x y result bytes.new ends.new differences.new)) }
+    ensures read { BothTexts (Some a.now) (Some b.now) (λ x y. HasReadTextSignedDifference x y result bytes.new ends.new differences.new) }
     ensures kind { IfNumbers (Some a.now) (λ _. result ≡ 0) }
     ensures other_kind { IfNumbers (Some b.now) (λ _. result ≡ 0) }
 {
@@ -334,7 +334,7 @@ fn read_signed_difference(
 
 /// Writes the byte strings of two bags, each once, as `hashbag_texts_read` does, with its count in the first less its count in the second:
 /// those of the first bag first. A difference above `PTRDIFF_MAX` or below `PTRDIFF_MIN` is written as that bound. It writes as many as there
-/// are places for, and returns how many. With as many places as both bags have distinct strings, and bytes in all, these are all. They must
+/// are places for, and returns how many. With as many places as both bags together have distinct strings, and bytes in all, these are all. They must
 /// be two handles, not one twice. It returns 0 if one of them has no bag of byte strings. It doesn't allocate.
 #[unsafe(no_mangle)]
 pub extern "C" fn hashbag_texts_signed_difference(
@@ -345,7 +345,7 @@ pub extern "C" fn hashbag_texts_signed_difference(
     ends: &mut [usize],
     differences: &mut [isize],
 ) -> usize
-    ensures read { IfTexts a.old.held (λ x. IfTexts b.old.held (λ y. HasReadTextSignedDifference x y result bytes.new ends.new differences.new)) }
+    ensures read { BothTexts a.old.held b.old.held (λ x y. HasReadTextSignedDifference x y result bytes.new ends.new differences.new) }
     ensures kind { IfNumbers a.old.held (λ _. result ≡ 0) }
     ensures other_kind { IfNumbers b.old.held (λ _. result ≡ 0) }
     ensures empty { a.old.held ≡ None → result ≡ 0 }

@@ -49,11 +49,11 @@ fn to_json(alloc: Global, held: &Held, bytes: &mut [u8], len: &mut usize) -> u8
     }
 }
 
-/// Writes a bag of byte strings as a JSON text at the beginning of `bytes`, writes the length of the text into `len`, and returns 0. The
-/// text is `[["cat",2],["dog",1]]`: each distinct string with its count, strings in ascending order by their bytes, without spaces. A
-/// string that isn't UTF-8 is an array of its bytes, as `[255,0]`. A bag with a limit below `SIZE_MAX` is
-/// `{"limit":9,"pairs":[["cat",2],["dog",1]]}`. Bags with the same counts and the same limit have the same text. It makes the whole text
-/// in memory of its own first.
+/// Writes a bag of byte strings as a JSON text at the beginning of `bytes`, writes the length of the text into `len`, and returns 0. No NUL
+/// follows. The text is `[["cat",2],["dog",1]]`: each distinct string with its count, strings in ascending order by their bytes, without
+/// spaces. A string that isn't UTF-8 is an array of its bytes, as `[255,0]`. A bag with a limit below `SIZE_MAX` is
+/// `{"limit":9,"pairs":[["cat",2],["dog",1]]}`. Bags with the same counts and the same limit have the same text. It makes the whole text in
+/// memory of its own first.
 ///
 /// # Errors
 ///
@@ -119,8 +119,8 @@ fn read_json(
 /// # Errors
 ///
 /// `HASHBAG_NOT_JSON` if the text isn't JSON or isn't UTF-8: `at` is then how many of its bytes had been read when that was found. The
-/// first fault of a JSON text is returned by a number that begins with `HASHBAG_JSON_`; `at` is the pair at fault, counted from 0, if it
-/// is one. `HASHBAG_MEMORY` if an allocation fails. The handle is unchanged then, and `at` unless it is said here.
+/// first fault of a JSON text is returned by a number that begins with `HASHBAG_JSON_`; `at` is the pair at fault, counted from 0, if it is
+/// one. `HASHBAG_MEMORY` if an allocation fails. Then the handle is unchanged, and `at` too except in the two cases above.
 #[unsafe(no_mangle)]
 pub extern "C" fn hashbag_texts_from_json(
     alloc: Global,
@@ -141,7 +141,7 @@ pub extern "C" fn hashbag_texts_from_json(
 ///
 /// # Errors
 ///
-/// As of `hashbag_texts_from_json`.
+/// Those of `hashbag_texts_from_json`.
 #[unsafe(no_mangle)]
 pub extern "C" fn hashbag_texts_from_json_keyed(
     alloc: Global,

@@ -1,4 +1,4 @@
-//! The byte strings of a bag with their counts, in an order.
+//! The byte strings of a bag with their counts, in ascending order or the most common first.
 ghost use Rattle.std.specs.Prelude.{◌≡◌, ◌≢◌, ◌≤◌, length, take, map, flat_map, None, Some, IfErr, IfOk, OnErr};
 ghost use Rattle.hashbag_core.specs.Walks.{seen};
 ghost use Rattle.hashbag_c.specs.Calls.{IfNumbers, IfTexts};
@@ -84,9 +84,9 @@ fn sorted(
     }
 }
 
-/// Writes the distinct byte strings, rising byte by byte, and their counts, as `hashbag_texts_read` does: one string after another, as many as
-/// there are places for. Writes how many into `n`, and returns 0. With `hashbag_set_len` ends and counts, and `hashbag_texts_bytes` bytes,
-/// these are all. It makes one allocation, a list of all distinct strings, and sorts it.
+/// Writes the distinct byte strings in ascending order, by unsigned bytes, and their counts, as `hashbag_texts_read` does. Writes how many
+/// into `n`, and returns 0, also if not all have places. With `hashbag_set_len` ends and counts, and `hashbag_texts_bytes` bytes, these are
+/// all. It makes one allocation, a list of all distinct strings, and sorts it.
 ///
 /// # Errors
 ///
@@ -157,10 +157,10 @@ fn most_common(
     }
 }
 
-/// Writes the most common byte strings and their counts, as `hashbag_texts_read` does: one string after another. These are as many as `ends`
-/// and `counts` both have places for, or all if there are fewer: counts falling, and strings that occur equally often rising byte by byte.
-/// Writes how many into `n`, and returns 0. If `bytes` has no place for the next string, it ends before that one; with `hashbag_texts_bytes`
-/// bytes it doesn't. It reads each distinct string once, and makes two allocations at most, each of as many pairs as it may write.
+/// Writes the k most common byte strings and their counts, as `hashbag_texts_read` does: in descending order of counts, and in ascending
+/// order, by unsigned bytes, if they occur equally often. k is the lesser of `ends_len` and `counts_len`. Writes how many into `n`, and
+/// returns 0. With `hashbag_texts_bytes` bytes all fit. It reads each distinct string once, and makes two allocations at most, each of as
+/// many pairs as it may write.
 ///
 /// # Errors
 ///

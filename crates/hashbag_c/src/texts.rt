@@ -5,8 +5,8 @@ ghost use Rattle.std.specs.Str.{bytes_eq};
 ghost use Rattle.hashbag_core.specs.Held.{HasFewer};
 ghost use Rattle.hashbag_core.specs.Keys.{InsertsNamed};
 ghost use Rattle.hashbag_core.specs.Occurrences.{count_named};
-ghost use Rattle.hashbag_c.specs.Calls.{HasTexts, IfNumbers, IfTexts};
-ghost use Rattle.hashbag_c.specs.Whole.{SetsNamed};
+ghost use Rattle.hashbag_c.specs.Calls.{named, occurs, HasTexts, IfNumbers, IfTexts, TextsTo};
+ghost use Rattle.hashbag_c.specs.Whole.{LosesAll, Overfills, SetsNamed};
 
 use crate::any::{EMPTY, KIND};
 use crate::bytes::{Bytes, Name};
@@ -68,11 +68,11 @@ pub extern "C" fn hashbag_texts_new_keyed(
 }
 
 fn insert(held: &mut Held, value: &[u8], n: usize, before: &mut usize) -> u8
-    ensures inserted { 0 < n → IfTexts (Some held.old) (λ bag. result ≡ 0 → HasTexts (Some held.new) (λ after. InsertsNamed bytes_eq (λ v. bytes_eq v value.now) n bag after)) }
+    ensures inserted { 0 < n → result ≡ 0 → TextsTo (Some held.old) (Some held.new) (InsertsNamed bytes_eq (named value.now) n) }
     ensures none { n ≡ 0 → IfTexts (Some held.old) (λ _. (result ≡ 0) × (held.new ≡ held.old)) }
-    ensures before { IfTexts (Some held.old) (λ bag. result ≡ 0 → before.new ≡ count_named (λ v. bytes_eq v value.now) bag.items) }
-    ensures too_many { IfTexts (Some held.old) (λ bag. (result ≡ 2) ↔ (bag.most < length bag.items + n)) }
-    ensures present { IfTexts (Some held.old) (λ bag. length bag.items + n ≤ bag.most → 0 < count_named (λ v. bytes_eq v value.now) bag.items → result ≡ 0) }
+    ensures before { IfTexts (Some held.old) (λ bag. result ≡ 0 → before.new ≡ occurs value.now bag) }
+    ensures too_many { IfTexts (Some held.old) (λ bag. (result ≡ 2) ↔ (Overfills bag n)) }
+    ensures present { IfTexts (Some held.old) (λ bag. length bag.items + n ≤ bag.most → 0 < occurs value.now bag → result ≡ 0) }
     ensures only { IfTexts (Some held.old) (λ _. result ≢ 0 → (result ≡ 1) ⊎ (result ≡ 2)) }
     ensures kind { IfNumbers (Some held.old) (λ _. result ≡ KIND) }
     ensures err { result ≢ 0 → (held.new ≡ held.old) × (before.new ≡ before.old) }
@@ -89,7 +89,8 @@ fn insert(held: &mut Held, value: &[u8], n: usize, before: &mut usize) -> u8
     }
 }
 
-/// Inserts `n` occurrences of a byte string, writes the count before, and returns 0. The bytes are copied if the string is absent.
+/// Inserts `n` occurrences of a byte string, writes the count before, and returns 0. With 0 nothing changes. The bytes are copied if the
+/// string is absent.
 ///
 /// # Errors
 ///
@@ -103,11 +104,11 @@ pub extern "C" fn hashbag_texts_insert(
     n: usize,
     before: &mut usize,
 ) -> u8
-    ensures inserted { 0 < n → IfTexts handle.old.held (λ bag. result ≡ 0 → HasTexts handle.new.held (λ after. InsertsNamed bytes_eq (λ v. bytes_eq v value.now) n bag after)) }
+    ensures inserted { 0 < n → result ≡ 0 → TextsTo handle.old.held handle.new.held (InsertsNamed bytes_eq (named value.now) n) }
     ensures none { n ≡ 0 → IfTexts handle.old.held (λ _. (result ≡ 0) × (handle.new.held ≡ handle.old.held)) }
-    ensures before { IfTexts handle.old.held (λ bag. result ≡ 0 → before.new ≡ count_named (λ v. bytes_eq v value.now) bag.items) }
-    ensures too_many { IfTexts handle.old.held (λ bag. (result ≡ 2) ↔ (bag.most < length bag.items + n)) }
-    ensures present { IfTexts handle.old.held (λ bag. length bag.items + n ≤ bag.most → 0 < count_named (λ v. bytes_eq v value.now) bag.items → result ≡ 0) }
+    ensures before { IfTexts handle.old.held (λ bag. result ≡ 0 → before.new ≡ occurs value.now bag) }
+    ensures too_many { IfTexts handle.old.held (λ bag. (result ≡ 2) ↔ (Overfills bag n)) }
+    ensures present { IfTexts handle.old.held (λ bag. length bag.items + n ≤ bag.most → 0 < occurs value.now bag → result ≡ 0) }
     ensures only { IfTexts handle.old.held (λ _. result ≢ 0 → (result ≡ 1) ⊎ (result ≡ 2)) }
     ensures kind { IfNumbers handle.old.held (λ _. result ≡ KIND) }
     ensures empty { handle.old.held ≡ None → result ≡ EMPTY }
@@ -122,7 +123,7 @@ pub extern "C" fn hashbag_texts_insert(
 }
 
 fn contains(held: &Held, value: &[u8]) -> usize
-    ensures count { IfTexts (Some held.now) (λ bag. result ≡ count_named (λ v. bytes_eq v value.now) bag.items) }
+    ensures count { IfTexts (Some held.now) (λ bag. result ≡ occurs value.now bag) }
     ensures kind { IfNumbers (Some held.now) (λ _. result ≡ 0) }
 {
     match held {
@@ -134,7 +135,7 @@ fn contains(held: &Held, value: &[u8]) -> usize
 /// Returns the count of a byte string, 0 if it is absent or the handle has no bag of byte strings.
 #[unsafe(no_mangle)]
 pub extern "C" fn hashbag_texts_contains(alloc: Global, handle: &mut Handle, value: &[u8]) -> usize
-    ensures count { IfTexts handle.old.held (λ bag. result ≡ count_named (λ v. bytes_eq v value.now) bag.items) }
+    ensures count { IfTexts handle.old.held (λ bag. result ≡ occurs value.now bag) }
     ensures kind { IfNumbers handle.old.held (λ _. result ≡ 0) }
     ensures empty { handle.old.held ≡ None → result ≡ 0 }
     ensures unchanged { handle.new.held ≡ handle.old.held }
@@ -148,9 +149,9 @@ pub extern "C" fn hashbag_texts_contains(alloc: Global, handle: &mut Handle, val
 }
 
 fn remove(held: &mut Held, value: &[u8], n: usize) -> usize
-    ensures after { IfTexts (Some held.old) (λ bag. result ≡ count_named (λ v. bytes_eq v value.now) bag.items - n) }
-    ensures fewer { IfTexts (Some held.old) (λ bag. HasTexts (Some held.new) (λ after. HasFewer bytes_eq (λ v. bytes_eq v value.now) n bag after)) }
-    ensures len { IfTexts (Some held.old) (λ bag. HasTexts (Some held.new) (λ after. length after.items + count_named (λ v. bytes_eq v value.now) bag.items ≡ length bag.items + result)) }
+    ensures after { IfTexts (Some held.old) (λ bag. result ≡ occurs value.now bag - n) }
+    ensures fewer { TextsTo (Some held.old) (Some held.new) (HasFewer bytes_eq (named value.now) n) }
+    ensures len { TextsTo (Some held.old) (Some held.new) (λ bag after. length after.items + occurs value.now bag ≡ length bag.items + result) }
     ensures kind { IfNumbers (Some held.old) (λ _. held.new ≡ held.old) }
 {
     match held {
@@ -168,9 +169,9 @@ pub extern "C" fn hashbag_texts_remove(
     value: &[u8],
     n: usize,
 ) -> usize
-    ensures after { IfTexts handle.old.held (λ bag. result ≡ count_named (λ v. bytes_eq v value.now) bag.items - n) }
-    ensures fewer { IfTexts handle.old.held (λ bag. HasTexts handle.new.held (λ after. HasFewer bytes_eq (λ v. bytes_eq v value.now) n bag after)) }
-    ensures len { IfTexts handle.old.held (λ bag. HasTexts handle.new.held (λ after. length after.items + count_named (λ v. bytes_eq v value.now) bag.items ≡ length bag.items + result)) }
+    ensures after { IfTexts handle.old.held (λ bag. result ≡ occurs value.now bag - n) }
+    ensures fewer { TextsTo handle.old.held handle.new.held (HasFewer bytes_eq (named value.now) n) }
+    ensures len { TextsTo handle.old.held handle.new.held (λ bag after. length after.items + occurs value.now bag ≡ length bag.items + result) }
     ensures kind { IfNumbers handle.old.held (λ _. handle.new.held ≡ handle.old.held) }
     ensures empty { handle.old.held ≡ None → handle.new.held ≡ None }
 {
@@ -183,9 +184,9 @@ pub extern "C" fn hashbag_texts_remove(
 }
 
 fn take_all(held: &mut Held, value: &[u8]) -> usize
-    ensures before { IfTexts (Some held.old) (λ bag. result ≡ count_named (λ v. bytes_eq v value.now) bag.items) }
-    ensures fewer { IfTexts (Some held.old) (λ bag. HasTexts (Some held.new) (λ after. HasFewer bytes_eq (λ v. bytes_eq v value.now) (count_named (λ v. bytes_eq v value.now) bag.items) bag after)) }
-    ensures len { IfTexts (Some held.old) (λ bag. HasTexts (Some held.new) (λ after. length after.items + result ≡ length bag.items)) }
+    ensures before { IfTexts (Some held.old) (λ bag. result ≡ occurs value.now bag) }
+    ensures fewer { TextsTo (Some held.old) (Some held.new) (LosesAll bytes_eq (named value.now)) }
+    ensures len { TextsTo (Some held.old) (Some held.new) (λ bag after. length after.items + result ≡ length bag.items) }
     ensures kind { IfNumbers (Some held.old) (λ _. (result ≡ 0) × (held.new ≡ held.old)) }
 {
     match held {
@@ -201,9 +202,9 @@ fn take_all(held: &mut Held, value: &[u8]) -> usize
 /// Removes all occurrences of a byte string, and returns how many there were. It is 0 if the handle has no bag of byte strings.
 #[unsafe(no_mangle)]
 pub extern "C" fn hashbag_texts_take_all(alloc: Global, handle: &mut Handle, value: &[u8]) -> usize
-    ensures before { IfTexts handle.old.held (λ bag. result ≡ count_named (λ v. bytes_eq v value.now) bag.items) }
-    ensures fewer { IfTexts handle.old.held (λ bag. HasTexts handle.new.held (λ after. HasFewer bytes_eq (λ v. bytes_eq v value.now) (count_named (λ v. bytes_eq v value.now) bag.items) bag after)) }
-    ensures len { IfTexts handle.old.held (λ bag. HasTexts handle.new.held (λ after. length after.items + result ≡ length bag.items)) }
+    ensures before { IfTexts handle.old.held (λ bag. result ≡ occurs value.now bag) }
+    ensures fewer { TextsTo handle.old.held handle.new.held (LosesAll bytes_eq (named value.now)) }
+    ensures len { TextsTo handle.old.held handle.new.held (λ bag after. length after.items + result ≡ length bag.items) }
     ensures kind { IfNumbers handle.old.held (λ _. (result ≡ 0) × (handle.new.held ≡ handle.old.held)) }
     ensures empty { handle.old.held ≡ None → (result ≡ 0) × (handle.new.held ≡ None) }
 {
@@ -216,14 +217,14 @@ pub extern "C" fn hashbag_texts_take_all(alloc: Global, handle: &mut Handle, val
 }
 
 // Sets the count of a byte string, of which there are `before`.
-fn recount(
+pub(crate) fn recount(
     bag: &mut HashBag<Bytes, Keys>,
     value: &[u8],
     before: usize,
     n: usize,
 ) -> Result<(), BagError>
-    requires { before ≡ count_named (λ v. bytes_eq v value.now) bag.old.items }
-    ensures set { OnOk result (SetsNamed bytes_eq (λ v. bytes_eq v value.now) n bag.old bag.new) }
+    requires { before ≡ occurs value.now bag.old }
+    ensures set { OnOk result (SetsNamed bytes_eq (named value.now) n bag.old bag.new) }
     ensures too_many { (result ≡ Err BagError.TooMany) ↔ (bag.old.most < length bag.old.items + (n - before)) }
     ensures only { IfErr result (λ e. (e ≡ BagError.Memory) ⊎ (e ≡ BagError.TooMany)) }
     ensures present { length bag.old.items + (n - before) ≤ bag.old.most → 0 < before → IsOk result }
@@ -241,10 +242,10 @@ fn recount(
 }
 
 fn set_count(held: &mut Held, value: &[u8], n: usize, before: &mut usize) -> u8
-    ensures set { IfTexts (Some held.old) (λ bag. result ≡ 0 → HasTexts (Some held.new) (SetsNamed bytes_eq (λ v. bytes_eq v value.now) n bag)) }
-    ensures before { IfTexts (Some held.old) (λ bag. result ≡ 0 → before.new ≡ count_named (λ v. bytes_eq v value.now) bag.items) }
-    ensures too_many { IfTexts (Some held.old) (λ bag. (result ≡ 2) ↔ (bag.most < length bag.items + (n - count_named (λ v. bytes_eq v value.now) bag.items))) }
-    ensures present { IfTexts (Some held.old) (λ bag. length bag.items + (n - count_named (λ v. bytes_eq v value.now) bag.items) ≤ bag.most → 0 < count_named (λ v. bytes_eq v value.now) bag.items → result ≡ 0) }
+    ensures set { result ≡ 0 → TextsTo (Some held.old) (Some held.new) (SetsNamed bytes_eq (named value.now) n) }
+    ensures before { IfTexts (Some held.old) (λ bag. result ≡ 0 → before.new ≡ occurs value.now bag) }
+    ensures too_many { IfTexts (Some held.old) (λ bag. (result ≡ 2) ↔ (Overfills bag (n - occurs value.now bag))) }
+    ensures present { IfTexts (Some held.old) (λ bag. length bag.items + (n - occurs value.now bag) ≤ bag.most → 0 < occurs value.now bag → result ≡ 0) }
     ensures none { n ≡ 0 → IfTexts (Some held.old) (λ _. result ≡ 0) }
     ensures only { IfTexts (Some held.old) (λ _. result ≢ 0 → (result ≡ 1) ⊎ (result ≡ 2)) }
     ensures kind { IfNumbers (Some held.old) (λ _. result ≡ KIND) }
@@ -280,10 +281,10 @@ pub extern "C" fn hashbag_texts_set_count(
     n: usize,
     before: &mut usize,
 ) -> u8
-    ensures set { IfTexts handle.old.held (λ bag. result ≡ 0 → HasTexts handle.new.held (SetsNamed bytes_eq (λ v. bytes_eq v value.now) n bag)) }
-    ensures before { IfTexts handle.old.held (λ bag. result ≡ 0 → before.new ≡ count_named (λ v. bytes_eq v value.now) bag.items) }
-    ensures too_many { IfTexts handle.old.held (λ bag. (result ≡ 2) ↔ (bag.most < length bag.items + (n - count_named (λ v. bytes_eq v value.now) bag.items))) }
-    ensures present { IfTexts handle.old.held (λ bag. length bag.items + (n - count_named (λ v. bytes_eq v value.now) bag.items) ≤ bag.most → 0 < count_named (λ v. bytes_eq v value.now) bag.items → result ≡ 0) }
+    ensures set { result ≡ 0 → TextsTo handle.old.held handle.new.held (SetsNamed bytes_eq (named value.now) n) }
+    ensures before { IfTexts handle.old.held (λ bag. result ≡ 0 → before.new ≡ occurs value.now bag) }
+    ensures too_many { IfTexts handle.old.held (λ bag. (result ≡ 2) ↔ (Overfills bag (n - occurs value.now bag))) }
+    ensures present { IfTexts handle.old.held (λ bag. length bag.items + (n - occurs value.now bag) ≤ bag.most → 0 < occurs value.now bag → result ≡ 0) }
     ensures none { n ≡ 0 → IfTexts handle.old.held (λ _. result ≡ 0) }
     ensures only { IfTexts handle.old.held (λ _. result ≢ 0 → (result ≡ 1) ⊎ (result ≡ 2)) }
     ensures kind { IfNumbers handle.old.held (λ _. result ≡ KIND) }

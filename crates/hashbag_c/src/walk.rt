@@ -12,7 +12,7 @@ use std::marker::Model;
 use std::mem;
 use std::ptr::null_mut;
 
-/// A walk: the pairs that are left, or nothing. C starts it as a word of zeros, which is one that has nothing.
+/// A walk, which has the pairs that are left, or nothing. C begins with a word of zeros: a walk that has nothing.
 #[repr(C)]
 pub struct Walk {
     at: *mut u8,

@@ -1,4 +1,4 @@
-use Rattle.std.proofs.Common.{ℕ, nat_eq, arith}
+use Rattle.std.proofs.Common.{nat_eq, arith}
 use Rattle.std.specs.Ordering.{nat_cmp}
 use borrow.Author.Tests.{eqb-true}
 use Rattle.serde_json.specs.View.{view}

@@ -1,4 +1,4 @@
-use Rattle.std.proofs.Common.{◌≡◌, ℕ, List, sym, subst, arith}
+use Rattle.std.proofs.Common.{ℕ, List, sym, subst, arith}
 use Rattle.hashbag_c.specs.Json.{IsTextsJson}
 use Rattle.hashbag_c.proofs.text_json.write_json.Goals as goal
 

@@ -1,5 +1,4 @@
 use Rattle.std.proofs.Common.{◌≡◌, ℕ, List, true, ◌∙◌, subst}
-use Rattle.serde_json.specs.View.{view}
 use Rattle.hashbag_c.specs.ByteTrees.{are_bytes}
 use Rattle.hashbag_c.proofs.ByteTreeLemmas.{as_text, as_list}
 use Rattle.hashbag_c.proofs.byte_trees.BytesJsonItem.to_json.Goals as goal
