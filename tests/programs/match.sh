@@ -31,6 +31,7 @@ printf 'article,number\nflour,1.5\nflour,0.25\n' > kilos.csv
 printf 'Artikel;Menge\nflour;1,70\n' > menge.csv
 ends 2 'hashbag_match: kilos.csv:2: whole numbers only: `1.5`' kilos.csv a.csv
 ends 2 'hashbag_match: kilos.csv:3: more than 1 decimals: `0.25`' kilos.csv a.csv --scale 1
+ends 2 "$(printf "error: invalid value '10' for '--scale <D>'\n  [possible values: 0, 1, 2, 3, 4, 5, 6, 7, 8, 9]\n\nFor more information, try '--help'.")" kilos.csv a.csv --scale 10
 ends 0 "" kilos.csv kilos.csv --scale 2 --to csv
 has ../out 'article,ordered,delivered,missing,surplus\nflour,1.75,1.75,0.00,0.00\n' "decimals"
 ends 0 "" menge.csv menge.csv --delimiter ';' --scale 2 --mark , --key Artikel --number Menge --to csv

@@ -137,6 +137,12 @@ ends 1 "" count --fail-empty
 grep -q '^hashbag_words: no_such_file: ' err || fail "no name of the file"
 "$program" --top x text > out 2> err
 [ $? = 2 ] || fail "no status 2 at a bad argument"
+
+# A tip names what is near to the word that was given, and nothing else
+ends 2 "$(printf "error: unexpected argument '--tpo' found\n\nFor more information, try '--help'.")" --tpo 3 text
+ends 2 "$(printf "error: invalid value 'union' for '--to <FORM>'\n  [possible values: tsv, json, uniq]\n\nFor more information, try '--help'.")" --to union text
+"$program" --feild 3 text > out 2> err
+[ $? = 2 ] && grep -qx "  tip: a similar argument exists: '--field'" err || fail "no tip"
 "$program" --help > out || fail "no help"
 "$program" --help > /dev/full 2> err
 [ $? = 4 ] && [ ! -s err ] || fail "a help that can't be written"

@@ -12,6 +12,7 @@ pub mod output_file;
 pub mod program;
 pub mod status;
 pub mod temporary_file;
+pub mod tips;
 pub mod trouble;
 
 /// The version of this repository and of each program: that of the Rust crate, and behind the hyphen that of the port.
