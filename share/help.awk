@@ -2,6 +2,7 @@
 # A record is a line of fields with a tab after each: the command (none: the program), a kind, and what the kind has:
 #   about TEXT; usage TEXT; command NAME, except `help`; default NAME: the command if none is named
 #   argument, option: SHORT LONG VALUE TEXT DEFAULT VALUES; some are empty, and an argument has a VALUE alone
+#   group HEADING: that of the options that follow
 #   text TEXT: a paragraph; item NAMES TEXT: a line of a list
 #   lead TEXT: what is said of examples, and example LINE for each of them
 #   status NUMBER TEXT; after TEXT: what is said of several statuses
@@ -158,7 +159,16 @@ part != "after" && /^Usage: / {
   part = "usage"
   next
 }
-part != "after" && /^(Commands|Arguments|Options):$/ { part = $0; next }
+part != "after" && /^(Commands|Arguments|Options):$/ {
+  part = $0
+  if (part == "Options:") has_options = 1
+  next
+}
+part != "after" && has_options && /^[A-Z][A-Za-z ]*:$/ {
+  part = "group"
+  put("group", substr($0, 1, length($0) - 1))
+  next
+}
 part == "about" { if ($0 != "") put(abouts++ ? "text" : "about", $0); next }
 /^$/ {
   end_entry()

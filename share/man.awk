@@ -116,9 +116,10 @@ function print_entry(i, names, values, many, parts, k) {
   if (field[i, 5] != "") fill("Default: " value_of(field[i, 5]) ".")
 }
 
-# Prints the records of a kind under a heading.
+# Prints the records of a kind under a heading. Options are in groups.
 function print_kind(command, wanted, title, i) {
   for (i = 1; i <= records; i++) {
+    if (of[i] == command && kind[i] == "group" && wanted == "option") print ".SS " escaped(field[i, 1])
     if (of[i] != command || kind[i] != wanted) continue
     heading(title)
     print_entry(i)

@@ -128,8 +128,8 @@ offers "chair leg count" hashbag_words c
 offers "merge" hashbag_words me
 offers "chair leg" hashbag_words text c
 offers "chair leg" hashbag_words count c
-offers "-h --help -V --version --by -o --output" hashbag_words -
-offers "--by -o --output -h --help" hashbag_words count -
+offers "-h --help -V --version --by -o --output -n --top" hashbag_words -
+offers "--by -o --output -h --help -n --top" hashbag_words count -
 offers "--fold" hashbag_words merge --
 offers "--output" hashbag_words --o
 offers "word line" hashbag_words --by ""
@@ -244,7 +244,7 @@ holds() {
   local page help missing
   page=real/share/man/man1/$(tr ' ' - <<< "$*").1
   if [ "$1" = hashbag_run ]; then help=$(cat "$top/docs/use/hashbag_run.txt"); else help=$("real/bin/$1" "${@:2}" --help); fi
-  missing=$(sed -e '/^[A-Z][a-z]*:$/d' -e '/^  help  /d' -e 's/^\(Usage\|Status\|Exit status\|Example\): //' -e 's/\[default: //' \
+  missing=$(sed -e '/^[A-Z][A-Za-z ]*:$/d' -e '/^  help  /d' -e 's/^\(Usage\|Status\|Exit status\|Example\): //' -e 's/\[default: //' \
     -e 's/\[possible values: //' <<< "$help" | words_of | comm -23 - <(text_of < "$page" | words_of))
   [ -z "$missing" ] || fail "the page of $* hasn't: $(xargs <<< "$missing")"
   for heading in NAME SYNOPSIS DESCRIPTION "EXIT STATUS" EXAMPLES "SEE ALSO"; do

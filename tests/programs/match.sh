@@ -34,7 +34,7 @@ ends 2 'hashbag_match: kilos.csv:3: more than 1 decimals: `0.25`' kilos.csv a.cs
 ends 2 "$(printf "error: invalid value '10' for '--scale <D>'\n  [possible values: 0, 1, 2, 3, 4, 5, 6, 7, 8, 9]\n\nFor more information, try '--help'.")" kilos.csv a.csv --scale 10
 ends 0 "" kilos.csv kilos.csv --scale 2 --to csv
 has ../out 'article,ordered,delivered,missing,surplus\nflour,1.75,1.75,0.00,0.00\n' "decimals"
-ends 0 "" menge.csv menge.csv --delimiter ';' --scale 2 --mark , --key Artikel --number Menge --to csv
+ends 0 "" menge.csv menge.csv -d ';' -s 2 --mark , -k Artikel --number Menge --to csv
 has ../out 'Artikel;ordered;delivered;missing;surplus\nflour;1,70;1,70;0,00;0,00\n' "semicolons and commas"
 printf 'article\tlot\tnumber\nbolt\tx\t1\nbolt\ty\t2\n' > lots.csv
 printf 'sku\tbatch\tqty\nbolt\ty\t3\n' > qty.csv

@@ -143,6 +143,12 @@ ends 2 "$(printf "error: unexpected argument '--tpo' found\n\nFor more informati
 ends 2 "$(printf "error: invalid value 'union' for '--to <FORM>'\n  [possible values: tsv, json, uniq]\n\nFor more information, try '--help'.")" --to union text
 "$program" --feild 3 text > out 2> err
 [ $? = 2 ] && grep -qx "  tip: a similar argument exists: '--field'" err || fail "no tip"
+
+# Short options are the long ones
+shows whole "short options" -b words text
+printf 'b;A\nA;a\n' > fields && printf 'a\t2\n' > shown && shows shown "short options" -i -n 1 -d ';' -f 2 fields
+printf 'A\t2\n' > shown && shows shown "short options" -e '[A-Z]' fields
+printf 'fields\0' | "$program" -0 -b lines --files-from - > found && printf 'A;a\t1\nb;A\t1\n' > shown && is found shown "short options"
 "$program" --help > out || fail "no help"
 "$program" --help > /dev/full 2> err
 [ $? = 4 ] && [ ! -s err ] || fail "a help that can't be written"

@@ -44,6 +44,7 @@ fn with_inputs<'a>(alloc: Global, command: CommandResult<'a>) -> CommandResult<'
         .default_value(START_COLUMNS)
         .help("The columns of the stock at the beginning");
     let columns = Arg::new(alloc, "columns")
+        .short('c')
         .long("columns")
         .value_name("NAMES")
         .default_value(COLUMNS)

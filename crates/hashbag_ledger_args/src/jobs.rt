@@ -87,6 +87,7 @@ fn with_start<'a>(alloc: Global, command: CommandResult<'a>) -> CommandResult<'a
 // Adds the movements.
 fn with_moves<'a>(alloc: Global, command: CommandResult<'a>) -> CommandResult<'a> {
     let columns = Arg::new(alloc, "columns")
+        .short('c')
         .long("columns")
         .value_name("NAMES")
         .default_value(COLUMNS)
@@ -103,6 +104,7 @@ fn with_moves<'a>(alloc: Global, command: CommandResult<'a>) -> CommandResult<'a
 // Adds how many decimals numbers have, and what is done with refusals.
 fn with_rules<'a>(alloc: Global, command: CommandResult<'a>) -> CommandResult<'a> {
     let scale = Arg::new(alloc, "scale")
+        .short('s')
         .long("scale")
         .value_name("D")
         .value_parser(SCALES.as_slice())
@@ -117,6 +119,7 @@ fn with_rules<'a>(alloc: Global, command: CommandResult<'a>) -> CommandResult<'a
 // Adds `--quiet`.
 fn with_quiet<'a>(alloc: Global, command: CommandResult<'a>, help: &'a str) -> CommandResult<'a> {
     let quiet = Arg::new(alloc, "quiet")
+        .short('q')
         .long("quiet")
         .action(ArgAction::SetTrue)
         .help(help);

@@ -1,7 +1,7 @@
 //! The command line.
 use clap::{Arg, ArgAction, Command};
 use hashbag_shell::VERSION;
-use hashbag_shell::options::{CommandResult, with, with_output, with_reading};
+use hashbag_shell::options::{CommandResult, with, with_heading, with_output, with_reading};
 use std::alloc::Global;
 
 /// The name of the program, with which its lines on standard error begin.
@@ -27,6 +27,7 @@ static FORMS: [&str; 3] = ["table", "csv", "json"];
 // The options that name columns.
 fn with_columns<'a>(alloc: Global, command: CommandResult<'a>) -> CommandResult<'a> {
     let key = Arg::new(alloc, "key")
+        .short('k')
         .long("key")
         .value_name("COLUMNS")
         .default_value("article")
@@ -68,6 +69,7 @@ fn with_key_form<'a>(alloc: Global, command: CommandResult<'a>) -> CommandResult
         .action(ArgAction::SetTrue)
         .help("Remove the spaces and tabs at both ends of the fields of an article");
     let fold = Arg::new(alloc, "fold")
+        .short('i')
         .long("fold")
         .action(ArgAction::SetTrue)
         .help("Read upper and lower case in the fields of an article as one");
@@ -108,7 +110,8 @@ pub fn command<'a>(alloc: Global) -> CommandResult<'a> {
         .version(VERSION)
         .about(ABOUT)
         .after_help(AFTER);
-    let command = with_reading(alloc, with_columns(alloc, Ok(command)));
-    let command = with_writing(alloc, command);
-    with(with(command, ordered), delivered)
+    let command = with(with(Ok(command), ordered), delivered);
+    let command = with_columns(alloc, with_heading(command, "Columns"));
+    let command = with_reading(alloc, with_heading(command, "Numbers and fields"));
+    with_writing(alloc, with_heading(command, "Output"))
 }

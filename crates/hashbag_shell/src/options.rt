@@ -19,6 +19,11 @@ pub fn with<'a>(command: CommandResult<'a>, arg: Arg<'a>) -> CommandResult<'a> {
     command?.arg(arg)
 }
 
+/// Adds a heading in the help: that of the options that are added next.
+pub fn with_heading<'a>(command: CommandResult<'a>, heading: &'a str) -> CommandResult<'a> {
+    Ok(command?.next_help_heading(heading))
+}
+
 /// Adds `--delimiter`, with this help, and `--mark`.
 pub fn with_form<'a>(
     alloc: Global,
@@ -26,6 +31,7 @@ pub fn with_form<'a>(
     help: &'a str,
 ) -> CommandResult<'a> {
     let delimiter = Arg::new(alloc, "delimiter")
+        .short('d')
         .long("delimiter")
         .value_name("DELIMITER")
         .value_parser(DELIMITERS.as_slice())
@@ -43,6 +49,7 @@ pub fn with_form<'a>(
 /// Adds `--scale`, `--mark` and `--delimiter`: how numbers and fields are read and written.
 pub fn with_reading<'a>(alloc: Global, command: CommandResult<'a>) -> CommandResult<'a> {
     let scale = Arg::new(alloc, "scale")
+        .short('s')
         .long("scale")
         .value_name("D")
         .value_parser(SCALES.as_slice())

@@ -1,5 +1,6 @@
 //! The arguments and their help.
 use clap::{Arg, Command, arg, value_parser};
+use hashbag_shell::options::with_heading;
 use std::alloc::{AllocError, Global};
 
 const ABOUT: &str =
@@ -26,6 +27,9 @@ pub fn is_job(word: &str) -> bool {
     )
 }
 
+// The heading of the options that say what is read.
+const INPUTS: &str = "Inputs";
+
 // A command, or why it can't be made.
 type CommandResult<'a> = Result<Command<'a>, AllocError>;
 
@@ -44,12 +48,13 @@ fn with_input<'a>(alloc: Global, command: CommandResult<'a>) -> CommandResult<'a
     let skip_bad = arg!(in alloc; --"skip-bad" "Skip bad lines, and say how many there were");
     let progress =
         arg!(in alloc; --progress "Report on standard error, each second, how far it is");
+    let command = with_heading(command, INPUTS);
     with(with(command, Ok(skip_bad)), Ok(progress))
 }
 
 // Adds which counts are shown, and in which order.
 fn with_choice<'a>(alloc: Global, command: CommandResult<'a>) -> CommandResult<'a> {
-    let top = arg!(in alloc; --top <K> "Show the K most common alone, the most common first")
+    let top = arg!(in alloc; -n --top <K> "Show the K most common alone, the most common first")
         .value_parser(value_parser!(usize))
         .conflicts_with("unsorted");
     let unsorted = arg!(in alloc; --unsorted "Show them in no order, which is faster");
@@ -62,6 +67,7 @@ fn with_choice<'a>(alloc: Global, command: CommandResult<'a>) -> CommandResult<'
             value_parser!(usize),
         );
     let except = arg!(in alloc; --except <FILE> "Show no token that is a line of this file");
+    let command = with_heading(command, "What is shown");
     let command = with(with(command, top), Ok(unsorted));
     let command = with(with(command, Ok(least)), Ok(shortest));
     with(command, Ok(except))
@@ -74,16 +80,17 @@ fn with_form<'a>(alloc: Global, command: CommandResult<'a>) -> CommandResult<'a>
         .default_value("tsv");
     let output =
         arg!(in alloc; -o --output <FILE> "Write there, all or nothing, not to standard output");
+    let command = with_heading(command, "Output");
     with(with(command, Ok(to)), Ok(output))
 }
 
 // Adds how counts are shown: options of every job.
 fn with_output<'a>(alloc: Global, command: CommandResult<'a>) -> CommandResult<'a> {
-    let command = with_form(alloc, with_choice(alloc, command));
     let shard =
         arg!(in alloc; --shard <"I/N"> "Show the tokens of the I-th of N parts alone: each token is in one, by a fixed hash");
     let fail_empty = arg!(in alloc; --"fail-empty" "End with status 1 where nothing is shown");
-    with(with(command, Ok(shard)), Ok(fail_empty))
+    let command = with(with_choice(alloc, command), Ok(shard));
+    with(with_form(alloc, command), Ok(fail_empty))
 }
 
 // Returns the form of the counts that are read: an option of every job that reads counts.
@@ -98,6 +105,7 @@ fn with_memory<'a>(alloc: Global, command: CommandResult<'a>) -> CommandResult<'
     let memory =
         arg!(in alloc; --memory <SIZE> "Take about that much memory, as `64M` or `2G`, and temporary files beyond it");
     let tmp = arg!(in alloc; --tmp <DIR> "Where temporary files are: $TMPDIR or /tmp by default");
+    let command = with_heading(command, "Memory");
     with(with(command, Ok(memory)), Ok(tmp))
 }
 
@@ -106,19 +114,20 @@ fn with_list<'a>(alloc: Global, command: CommandResult<'a>) -> CommandResult<'a>
     let list =
         arg!(in alloc; --"files-from" <FILE> "Read the names of the inputs there, one a line; `-`: from standard input");
     let null =
-        arg!(in alloc; --null "Names in that file end in a NUL byte, as `find -print0` writes them");
+        arg!(in alloc; -'0' --null "Names in that file end in a NUL byte, as `find -print0` writes them");
+    let command = with_heading(command, INPUTS);
     with(with(command, list.conflicts_with("files")), Ok(null))
 }
 
 // Adds the fields that are counted.
 fn with_fields<'a>(alloc: Global, command: CommandResult<'a>) -> CommandResult<'a> {
     let field =
-        arg!(in alloc; --field <N> "Count the N-th field of each line, from 1: what is between spaces and tabs")
+        arg!(in alloc; -f --field <N> "Count the N-th field of each line, from 1: what is between spaces and tabs")
             .value_parser(value_parser!(usize))
             .conflicts_with("by")?
             .conflicts_with("pattern")?;
     let delimiter =
-        arg!(in alloc; --delimiter <CHAR> "What is between fields instead, each time: an ASCII character, or `\\t`").requires_arg(
+        arg!(in alloc; -d --delimiter <CHAR> "What is between fields instead, each time: an ASCII character, or `\\t`").requires_arg(
             "field",
         );
     with(with(command, Ok(field)), delimiter)
@@ -127,22 +136,23 @@ fn with_fields<'a>(alloc: Global, command: CommandResult<'a>) -> CommandResult<'
 // Adds what is counted.
 fn with_tokens<'a>(alloc: Global, command: CommandResult<'a>) -> CommandResult<'a> {
     let by =
-        arg!(in alloc; --by <WHAT> "What is counted: what is between white space, the words by the rules of Unicode, or whole lines")
+        arg!(in alloc; -b --by <WHAT> "What is counted: what is between white space, the words by the rules of Unicode, or whole lines")
             .value_parser(["words", "unicode", "lines"].as_slice())
             .default_value("words")
             .conflicts_with("pattern");
-    let pattern = arg!(in alloc; --pattern <REGEX> "Count what matches it, within a line");
+    let pattern = arg!(in alloc; -e --pattern <REGEX> "Count what matches it, within a line");
     with_fields(alloc, with(with(command, by), Ok(pattern)))
 }
 
 fn count<'a>(alloc: Global) -> CommandResult<'a> {
     let files =
         arg!(in alloc; files: [FILE] ... "What is read: standard input where there is none, or for `-`");
-    let fold = arg!(in alloc; --fold "Count upper and lower case as one");
+    let fold = arg!(in alloc; -i --fold "Count upper and lower case as one");
     let lossy =
         arg!(in alloc; --lossy "Replace bytes that aren't UTF-8 by U+FFFD, and say in how many lines");
     let command = Command::new(alloc, "count").about("Count what is in text");
-    let command = with_tokens(alloc, with(Ok(command), Ok(files)));
+    let command = with_heading(with(Ok(command), Ok(files)), "What is counted");
+    let command = with_tokens(alloc, command);
     let command = with(with(command, Ok(fold)), Ok(lossy));
     let command = with_memory(alloc, with_list(alloc, command));
     with_output(alloc, with_input(alloc, command))
@@ -156,7 +166,8 @@ fn merge<'a>(alloc: Global) -> CommandResult<'a> {
             "memory",
         );
     let command = Command::new(alloc, "merge").about("Add up counts");
-    let command = with(with(Ok(command), Ok(files)), Ok(form_read(alloc)));
+    let command = with_heading(with(Ok(command), Ok(files)), INPUTS);
+    let command = with(command, Ok(form_read(alloc)));
     let command = with_list(alloc, with(command, sorted));
     with_output(alloc, with_input(alloc, with_memory(alloc, command)))
 }
@@ -167,6 +178,7 @@ fn pair<'a>(alloc: Global, name: &'a str, about: &'a str) -> CommandResult<'a> {
     let second = arg!(in alloc; second: <B> "Other counts");
     let command = Ok(Command::new(alloc, name).about(about));
     let command = with(with(command, Ok(first)), Ok(second));
+    let command = with_heading(command, INPUTS);
     let command = with(command, Ok(form_read(alloc)));
     with_output(alloc, with_input(alloc, command))
 }
