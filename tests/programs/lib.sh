@@ -39,7 +39,9 @@ has() {
   printf -- "$2" | cmp -s - "$1" || { cat "$1"; fail "$3"; }
 }
 
-# files NAME..: the folder has these files and no others
+# files NAME..: the folder has these files and no others, hidden ones neither
 files() {
-  [ "$(echo *)" = "$*" ] || fail "not the files $*: $(echo *)"
+  local found
+  found=$(shopt -s dotglob && echo *)
+  [ "$found" = "$*" ] || fail "not the files $*: $found"
 }

@@ -222,7 +222,7 @@ watch() {
 keeps_an_output() {
   local status
   watch "${words[@]}" -o out
-  if [ "$status" = "${1:-0}" ] && printf 'create 666 out.tmp0\nwrite\nsync\nrename out.tmp0 out\n' | cmp -s - "$scratch/calls"; then
+  if [ "$status" = "${1:-0}" ] && printf 'create 666 .hashbag-0.tmp\nwrite\nsync\nrename .hashbag-0.tmp out\n' | cmp -s - "$scratch/calls"; then
     echo "watched files: $name: an output is synced before it gets its name"
     return
   fi

@@ -70,15 +70,37 @@ is joined shown "rows, sorted and joined"
 grep -q '^hashbag_words: none/out: ' err || fail "no name of the output"
 printf 'old\n' > old && cp old kept && printf 'a\t1\nb\n' > bad && ends 2 "hashbag_words: bad:2: no tab" merge bad -o kept
 is kept old "an output after a bad line"
-for how in '' "trap '' XFSZ; "; do
+for how in "trap '' XFSZ; " ''; do
   if { (eval "$how ulimit -c 0 -f 1; exec \"\$program\" text -o kept") > out 2> err; } 2> kills; then fail "an output on a full disk"; fi
   is kept old "an output on a full disk"
 done
-[ "$(echo kept.*)" = kept.tmp0 ] || fail "what a signal and a full disk leave"
-rm kept.tmp0
+[ "$(echo .hashbag-*)" = .hashbag-0.tmp ] || fail "what a signal and a full disk leave"
 "$program" text -o kept && is kept wanted "an output over another"
+[ ! -e .hashbag-0.tmp ] || fail "a file that a killed run left"
 ln -s kept link && chmod 640 kept && "$program" merge whole -o link && is kept wanted "an output behind a link" && [ -h link ] || fail "the link"
 [ "$(stat -c %a kept)" = 640 ] || fail "the permissions of an output"
+
+# A link to nothing is followed, also through another link and a folder. A file in the place of a temporary one that is none stays
+mkdir sub && ln -s sub/end first && ln -s none sub/end && "$program" text -o first && is sub/none wanted "an output behind links to nothing"
+[ -h first ] && [ -h sub/end ] || fail "links to nothing"
+ln -s kept .hashbag-0.tmp && "$program" text -o kept && is kept wanted "an output beside a link" && [ -h .hashbag-0.tmp ] || fail "a link with the name of a temporary file"
+rm .hashbag-0.tmp && mkfifo .hashbag-0.tmp slow_input && "$program" text -o kept && [ -p .hashbag-0.tmp ] || fail "a pipe with the name of a temporary file"
+
+# A second output in the folder leaves the temporary file of the first, which waits for its input
+rm .hashbag-0.tmp
+exec 7<> slow_input
+"$program" slow_input -o slow 7>&- &
+until [ -e .hashbag-0.tmp ]; do kill -0 $! || fail "an output that waits for its input"; done
+"$program" text -o quick && is quick wanted "an output while another is open" && [ -f .hashbag-0.tmp ] || fail "a temporary file in use"
+cat text >&7
+exec 7>&-
+wait $! && is slow wanted "an output that another was written before" || fail "two outputs"
+
+# The owner and the group of an output are kept by who may give them
+chown 1:2 kept 2> err && { "$program" text -o kept && [ "$(stat -c %u:%g kept)" = 1:2 ] || fail "the owner of an output"; }
+for group in $(id -G); do
+  chgrp "$group" kept && "$program" text -o kept && [ "$(stat -c %g kept)" = "$group" ] || fail "the group of an output"
+done
 "$program" text -o /dev/stdout > found && is found wanted "an output that is no file of its own"
 cp whole in.tsv && ln in.tsv hard.tsv
 for name in in.tsv ./in.tsv "$PWD/in.tsv" hard.tsv; do
@@ -86,7 +108,7 @@ for name in in.tsv ./in.tsv "$PWD/in.tsv" hard.tsv; do
 done
 "$program" merge -o in.tsv < in.tsv 2> err && fail "an output that is standard input"
 is in.tsv wanted "an input that is the output, too"
-[ "$(echo ./*.tmp*)" = './*.tmp*' ] || fail "temporary files are left"
+[ "$(echo .hashbag-*)" = '.hashbag-*' ] || fail "temporary files are left"
 
 ends 2 "hashbag_words: standard input is named twice" less - -
 ends 2 "hashbag_words: standard input is named twice" common - -

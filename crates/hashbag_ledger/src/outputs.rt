@@ -3,7 +3,6 @@ use hashbag_ledger_args::arguments::Request;
 use hashbag_shell::one_file::is_one_file;
 use hashbag_shell::output::{Output, write_text};
 use hashbag_shell::trouble::Trouble;
-use std::fs::File;
 
 /// What is to be written.
 #[derive(Drop)]
@@ -19,8 +18,8 @@ pub struct Report {
 /// The outputs that were opened.
 #[derive(Drop)]
 pub struct Outputs<'a> {
-    refusals: Output<'a, File>,
-    balance: Output<'a, File>,
+    refusals: Output<'a>,
+    balance: Output<'a>,
 }
 
 /// Returns whether two names are of one file. If there is no file of a name, the names are compared.
@@ -99,7 +98,7 @@ impl<'a> Outputs<'a> {
 /// Why they can't be written.
 pub fn write_refusals<'a>(
     rt: &HostRuntime,
-    output: Output<'a, File>,
+    output: Output<'a>,
     text: &[u8],
 ) -> Result<(), Trouble<'a>> {
     match output {

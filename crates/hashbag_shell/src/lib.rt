@@ -4,6 +4,7 @@
 //! No clause can say what a file has, so `tests/programs/words.sh` tries files: see the page of the program `hashbag_words`.
 #![tactic(auto)]
 
+pub mod beside;
 pub mod input;
 pub mod one_file;
 pub mod options;

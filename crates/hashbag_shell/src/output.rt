@@ -1,7 +1,7 @@
 //! Where a text is written: to standard output, or to the file of a name.
 use crate::output_file::OutputFile;
 use crate::trouble::Trouble;
-use std::fs::OpenFile;
+use std::fs::File;
 use std::io::{self, Write};
 use std::rt::Files;
 
@@ -18,23 +18,23 @@ pub fn write_text<'a, W: Write>(output: &mut W, text: &[u8]) -> Result<(), Troub
 
 /// An output that has been opened, and not yet written.
 #[derive(Drop)]
-pub enum Output<'a, F> {
+pub enum Output<'a> {
     /// Standard output.
     Standard,
     /// The file of this name, which is written whole or not at all.
-    Named(&'a str, OutputFile<F>),
+    Named(&'a str, OutputFile),
 }
 
-impl<'a, F: Write + OpenFile + Drop> Output<'a, F> {
+impl<'a> Output<'a> {
     /// Opens the file of this name, or standard output if there is none, before there is anything to write.
     ///
     /// # Errors
     ///
     /// `File` if the file can't be opened, `Memory` if an allocation fails. Then no file is changed.
-    pub fn open<R: Files<File = F> + AllocGlobal>(
+    pub fn open<R: Files<File = File> + AllocGlobal>(
         rt: &R,
         name: Option<&'a str>,
-    ) -> Result<Output<'a, F>, Trouble<'a>> {
+    ) -> Result<Output<'a>, Trouble<'a>> {
         let Some(name) = name else {
             return Ok(Output::Standard);
         };
@@ -49,7 +49,7 @@ impl<'a, F: Write + OpenFile + Drop> Output<'a, F> {
     /// # Errors
     ///
     /// `File` or `Write` if a write fails. Then a named file is unchanged.
-    pub fn write<R: Files<File = F> + Print>(self, rt: &R, text: &[u8]) -> Result<(), Trouble<'a>> {
+    pub fn write<R: Files + Print>(self, rt: &R, text: &[u8]) -> Result<(), Trouble<'a>> {
         match self {
             Output::Standard => write_text(&mut io::writer(rt), text),
             Output::Named(name, file) => match file.write_whole(rt, text) {
@@ -60,7 +60,7 @@ impl<'a, F: Write + OpenFile + Drop> Output<'a, F> {
     }
 
     /// Writes nothing: a named file is unchanged.
-    pub fn abandon<R: Files<File = F>>(self, rt: &R) {
+    pub fn abandon<R: Files>(self, rt: &R) {
         if let Output::Named(_, file) = self {
             file.abandon(rt);
         }
@@ -71,7 +71,7 @@ impl<'a, F: Write + OpenFile + Drop> Output<'a, F> {
     /// # Errors
     ///
     /// Why no text was made. Else as [`Output::write`].
-    pub fn finish<R: Files<File = F> + Print, T: Drop>(
+    pub fn finish<R: Files + Print, T: Drop>(
         self,
         rt: &R,
         made: Result<(Vec<u8>, T), Trouble<'a>>,

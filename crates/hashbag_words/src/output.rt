@@ -36,7 +36,7 @@ pub enum Output<'a> {
     /// Standard output.
     Standard,
     /// The file of this name, which is written whole or not at all.
-    Named(&'a str, OutputFile<File>),
+    Named(&'a str, OutputFile),
 }
 
 impl<'a> Output<'a> {

@@ -45,9 +45,9 @@ fn is_state(rt: &HostRuntime, folder: &str, wanted: &str) -> Result<(), Fail> {
 fn two_at_a_time(rt: &HostRuntime, folder: &str, name: &str) -> Result<(), Fail> {
     let first = OutputFile::open(rt, name)?;
     let second = OutputFile::open(rt, name)?;
-    is_state(rt, folder, "old: out out.tmp0 out.tmp1")?;
+    is_state(rt, folder, "old: .hashbag-0.tmp .hashbag-1.tmp out")?;
     first.write_whole(rt, b"new")?;
-    is_state(rt, folder, "new: out out.tmp1")?;
+    is_state(rt, folder, "new: .hashbag-1.tmp out")?;
     second.abandon(rt);
     is_state(rt, folder, "new: out")
 }
