@@ -170,7 +170,7 @@ ends 2 "$(printf "error: invalid value 'union' for '--to <FORM>'\n  [possible va
 shows whole "short options" -b words text
 printf 'b;A\nA;a\n' > fields && printf 'a\t2\n' > shown && shows shown "short options" -i -n 1 -d ';' -f 2 fields
 printf 'A\t2\n' > shown && shows shown "short options" -e '[A-Z]' fields
-printf 'fields\0' | "$program" -0 -b lines --files-from - > found && printf 'A;a\t1\nb;A\t1\n' > shown && is found shown "short options"
+printf 'fields\0' | "$program" -q -0 -b lines --files-from - > found && printf 'A;a\t1\nb;A\t1\n' > shown && is found shown "short options"
 "$program" --help > out || fail "no help"
 "$program" --help > /dev/full 2> err
 [ $? = 4 ] && [ ! -s err ] || fail "a help that can't be written"

@@ -10,6 +10,7 @@ pub mod one_file;
 pub mod options;
 pub mod output;
 pub mod output_file;
+pub mod pace;
 pub mod program;
 pub mod status;
 pub mod temporary_file;

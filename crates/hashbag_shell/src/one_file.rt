@@ -18,7 +18,7 @@ pub fn is_one_file<R: Files>(rt: &R, first: &str, second: &str) -> bool {
     }
 }
 
-// The path behind the name of an input.
-fn path_of(name: &str) -> &str {
+/// Returns the path behind the name of an input.
+pub fn path_of(name: &str) -> &str {
     if name == "-" { "/dev/stdin" } else { name }
 }

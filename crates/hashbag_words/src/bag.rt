@@ -26,9 +26,6 @@ pub trait Counter {
     /// Returns how the lines of the present input were read.
     fn reading(&self) -> LinesRead;
 
-    /// The bag.
-    fn bag(&self) -> &Bag;
-
     /// Returns whether the bag is full.
     fn is_full(&mut self) -> bool;
 
@@ -50,10 +47,6 @@ impl Counter for TextCounter<'_, RandomState> {
 
     fn reading(&self) -> LinesRead {
         TextCounter::reading(self)
-    }
-
-    fn bag(&self) -> &Bag {
-        TextCounter::bag(self)
     }
 
     fn is_full(&mut self) -> bool {
@@ -80,10 +73,6 @@ impl Counter for RowCounter<RandomState> {
 
     fn reading(&self) -> LinesRead {
         RowCounter::reading(self)
-    }
-
-    fn bag(&self) -> &Bag {
-        RowCounter::bag(self)
     }
 
     fn is_full(&mut self) -> bool {

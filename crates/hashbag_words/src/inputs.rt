@@ -64,7 +64,10 @@ fn read_whole<'a>(rt: &HostRuntime, name: &'a str) -> Result<String, Failure<'a>
 
 impl<'s, 'a, 'm> Inputs<'s, 'a, 'm> {
     // Reports how many lines of an input were skipped, and how many weren't UTF-8.
-    fn report(&self, name: &str, reading: &LinesRead) {
+    fn report(&mut self, name: &str, reading: &LinesRead) {
+        if reading.skipped > 0 || reading.replaced > 0 {
+            self.progress.erase(self.rt);
+        }
         if reading.skipped > 0 {
             let skipped = reading.skipped;
             let s = plural(&skipped);
@@ -88,7 +91,8 @@ impl<'s, 'a, 'm> Inputs<'s, 'a, 'm> {
     }
 
     // Reports that a text has NUL bytes, as UTF-16 without a mark has.
-    fn report_nul(&self, name: &str) {
+    fn report_nul(&mut self, name: &str) {
+        self.progress.erase(self.rt);
         let _ = eprintln!(self.rt;
             "hashbag_words: {name}: it has NUL bytes; if it is UTF-16, `iconv -f UTF-16LE -t UTF-8`"
         );
@@ -135,7 +139,6 @@ impl<'s, 'a, 'm> Inputs<'s, 'a, 'm> {
         if counter.is_full() {
             self.make_run(counter)?;
         }
-        self.progress.end_input(reading.line);
         self.report(name, &reading);
         Ok(())
     }
@@ -165,8 +168,7 @@ impl<'s, 'a, 'm> Inputs<'s, 'a, 'm> {
             }
             has_nul = has_nul || memchr(0, &block[..n]).is_some();
             self.feed(counter, said(name), &block[..n])?;
-            let lines = counter.reading().line;
-            self.progress.tell(self.rt, lines, counter.bag());
+            self.progress.tell(self.rt, said(name), n);
         }
         if has_nul {
             self.report_nul(said(name));

@@ -132,15 +132,15 @@ fn merged<'a>(
 
 // Reads the inputs. Returns `Some` with the output if files were merged line by line, or if runs were written, which are then merged with
 // the bag. Else the bag has the tokens that are shown.
-fn read<'a>(
-    rt: &HostRuntime,
-    settings: &Settings<'a, '_>,
-    names: &[&'a str],
+fn read<'s, 'a>(
+    rt: &'s HostRuntime,
+    settings: &'s Settings<'a, '_>,
+    names: &'s [&'a str],
     folder: &'a str,
     bag: &mut Bag,
 ) -> Result<Option<Rendered<'static>>, Failure<'a>> {
     let bound = bound_of(rt, settings, folder);
-    let progress = Progress::new(rt, settings.progress);
+    let progress = Progress::new(rt, settings, names);
     let mut inputs = Inputs {
         rt,
         settings,
@@ -148,7 +148,9 @@ fn read<'a>(
         progress,
         bound,
     };
-    if let Some(made) = take_in(&mut inputs, folder, bag)? {
+    let taken = take_in(&mut inputs, folder, bag);
+    inputs.progress.erase(rt);
+    if let Some(made) = taken? {
         return Ok(Some(made));
     }
     if let Some(bound) = inputs.bound {
@@ -235,7 +237,7 @@ fn excepted<'s, 'a>(
     let Some(name) = settings.except else {
         return Ok(None);
     };
-    let progress = Progress::new(rt, false);
+    let progress = Progress::silent();
     let bound = None;
     let mut inputs = Inputs {
         rt,

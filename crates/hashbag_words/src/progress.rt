@@ -1,60 +1,154 @@
 //! Reports of progress on standard error.
-use crate::bag::Bag;
-use crate::input::plural;
+use hashbag_shell::one_file::path_of;
+use hashbag_shell::pace::share_of;
+use hashbag_words_args::settings::Settings;
+use std::alloc::{AllocError, Global};
+use std::fs;
+use std::io::IsTerminal;
 use std::time::{Duration, Instant};
 
-/// What was reported, and when.
+// How many characters of a name a terminal shows.
+const NAME: usize = 20;
+
+// Puts the cursor of a terminal at the beginning of its line, and erases the line.
+const ERASE: &str = "\r\x1b[K";
+
+/// What was read, and when it was reported.
 #[derive(Drop)]
 pub struct Progress {
-    // When the program began, and when it last reported; `None` if it doesn't report.
+    // When the work began, and when it was last reported; `None` if it isn't reported.
     times: Option<(Instant, Instant)>,
-    // The lines of the inputs that have been read to their end.
-    lines: u64,
+    // Whether a report overwrites the one before, on a terminal. Else each is a line.
+    overwrites: bool,
+    // Whether a terminal shows a report.
+    is_shown: bool,
+    // How many bytes the inputs have, if all are files.
+    whole: Option<u64>,
+    // How many bytes were read.
+    done: u64,
 }
 
-// Returns how many of `n` there were each second.
-fn a_second(n: usize, time: Duration) -> usize {
-    let seconds = time.as_secs().max(1) as usize;
-    n / seconds
+// Returns whether an input is typed on a terminal.
+fn is_typed(rt: &HostRuntime, names: &[&str]) -> bool {
+    names.iter().any(|name| *name == "-") && rt.stdin().is_terminal()
+}
+
+// Returns how many bytes the inputs have. `None` if one of them is no file.
+fn whole_of(rt: &HostRuntime, names: &[&str]) -> Option<u64> {
+    let mut whole = 0u64;
+    for name in names {
+        let found = fs::metadata(rt, path_of(name)).ok()?;
+        if !found.is_file() {
+            return None;
+        }
+        whole = whole.saturating_add(found.len());
+    }
+    Some(whole)
+}
+
+// Returns the end of a path, as much as a line of a terminal has room for. A character that could move the cursor is shown as `?`.
+fn short_name(alloc: Global, name: &str) -> Result<String, AllocError> {
+    let last = name.rsplit_once('/').map_or(name, |parts| parts.1);
+    let mut short = String::new(alloc);
+    for c in last.chars().take(NAME) {
+        short.push(if c.is_control() { '?' } else { c })?;
+    }
+    Ok(short)
+}
+
+// Returns a number of bytes in megabytes.
+fn megabytes(alloc: Global, bytes: u64) -> Result<String, AllocError> {
+    let (whole, tenth) = (bytes / 1_000_000, bytes / 100_000 % 10);
+    format!(in alloc; "{whole}.{tenth} MB")
 }
 
 impl Progress {
-    /// Returns the progress at the start. Nothing is reported if the clock can't be read.
-    pub fn new(rt: &HostRuntime, is_told: bool) -> Progress {
+    /// Returns the progress at the start. It is reported with `--progress`, or if standard error is a terminal and no input is typed, but not
+    /// with `--quiet`. Nothing is reported if the clock can't be read.
+    pub fn new(rt: &HostRuntime, settings: &Settings<'_, '_>, names: &[&str]) -> Progress {
+        let overwrites = rt.stderr().is_terminal();
+        let is_wanted = settings.progress || (overwrites && !is_typed(rt, names));
+        let is_told = is_wanted && !settings.quiet;
         let times = match Instant::now(rt) {
             Ok(now) if is_told => Some((now, now)),
             _ => None,
         };
-        Progress { times, lines: 0 }
+        Progress {
+            times,
+            overwrites,
+            is_shown: false,
+            whole: if is_told { whole_of(rt, names) } else { None },
+            done: 0,
+        }
     }
 
-    /// Adds the lines of an input that has been read to its end.
-    pub fn end_input(&mut self, lines: u64) {
-        self.lines = self.lines.saturating_add(lines);
+    /// Returns the progress of work that isn't reported.
+    pub fn silent() -> Progress {
+        Progress {
+            times: None,
+            overwrites: false,
+            is_shown: false,
+            whole: None,
+            done: 0,
+        }
     }
 
-    /// Reports the progress if the last report is at least a second old. `lines` is how many lines of the present input were read.
-    pub fn tell(&mut self, rt: &HostRuntime, lines: u64, bag: &Bag) {
+    // Returns how much was read, and at which rate. If the whole is known, also how many percent of it, and how many seconds are left.
+    fn text(&self, alloc: Global, seconds: u64) -> Result<String, AllocError> {
+        let done = megabytes(alloc, self.done)?;
+        let rate = megabytes(alloc, self.done / seconds.max(1))?;
+        let Some(whole) = self.whole else {
+            return format!(in alloc; "{done}, {rate}/s");
+        };
+        // A file may have grown.
+        let whole = whole.max(self.done);
+        let left = whole.saturating_sub(self.done);
+        let percent = share_of(100, self.done, whole).unwrap_or(100);
+        let left = share_of(seconds, left, self.done).unwrap_or(0);
+        let whole = megabytes(alloc, whole)?;
+        format!(in alloc; "{done} of {whole}, {percent}%, {rate}/s, {left} s left")
+    }
+
+    // Reports the progress. What can't be written, or for which no memory is left, isn't reported.
+    fn report(&mut self, rt: &HostRuntime, name: &str, seconds: u64) {
+        let alloc = rt.alloc();
+        let Ok(text) = self.text(alloc, seconds) else {
+            return;
+        };
+        if !self.overwrites {
+            let _ = eprintln!(rt; "{name}: {text}");
+            return;
+        }
+        if let Ok(short) = short_name(alloc, name) {
+            let _ = eprint!(rt; "{ERASE}{short}: {text}");
+            self.is_shown = true;
+        }
+    }
+
+    /// Adds bytes that were read of the input of this name. Reports the progress if the last report is at least a second old, on a terminal
+    /// not before two seconds.
+    pub fn tell(&mut self, rt: &HostRuntime, name: &str, bytes: usize) {
+        self.done = self.done.saturating_add(bytes as u64);
         let Some((start, last)) = self.times else {
             return;
         };
         let Ok(now) = Instant::now(rt) else {
             return;
         };
-        if now.duration_since(last) < Duration::from_secs(1) {
+        let passed = now.duration_since(start);
+        let is_early = self.overwrites && passed < Duration::from_secs(2);
+        if is_early || now.duration_since(last) < Duration::from_secs(1) {
             return;
         }
-        let lines = self.lines.saturating_add(lines);
-        // The limit has fallen by what is in runs.
-        let in_runs = usize::MAX.saturating_sub(bag.limit());
-        let tokens = in_runs.saturating_add(bag.len());
-        let speed = a_second(tokens, now.duration_since(start));
-        let distinct = bag.set_len();
-        let of = if in_runs > 0 { " in memory" } else { "" };
-        let (ls, ts) = (plural(&lines), plural(&(tokens as u64)));
-        let _ = eprintln!(rt;
-            "{lines} line{ls}, {tokens} token{ts} ({speed}/s), {distinct} distinct{of}"
-        );
+        self.report(rt, name, passed.as_secs());
         self.times = Some((start, now));
+    }
+
+    /// Erases the report that a terminal shows.
+    pub fn erase(&mut self, rt: &HostRuntime) {
+        if self.is_shown {
+            let _ = eprint!(rt; "{ERASE}");
+            self.is_shown = false;
+        }
     }
 }

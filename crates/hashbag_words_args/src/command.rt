@@ -47,9 +47,13 @@ fn with_job<'a>(command: CommandResult<'a>, job: CommandResult<'a>) -> CommandRe
 fn with_input<'a>(alloc: Global, command: CommandResult<'a>) -> CommandResult<'a> {
     let skip_bad = arg!(in alloc; --"skip-bad" "Skip bad lines, and say how many there were");
     let progress =
-        arg!(in alloc; --progress "Report on standard error, each second, how far it is");
+        arg!(in alloc; --progress "Report on standard error, each second, how far it is, also if that is no terminal");
+    let quiet =
+        arg!(in alloc; -q --quiet "Report no progress, on a terminal either").conflicts_with(
+            "progress",
+        );
     let command = with_heading(command, INPUTS);
-    with(with(command, Ok(skip_bad)), Ok(progress))
+    with(with(with(command, Ok(skip_bad)), Ok(progress)), quiet)
 }
 
 // Adds which counts are shown, and in which order.

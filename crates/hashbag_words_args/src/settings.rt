@@ -109,8 +109,10 @@ pub struct Settings<'a, 'm> {
     pub ask: Ask<'a, 'm>,
     /// What a bad line does.
     pub bad_lines: BadLines,
-    /// Whether progress is reported.
+    /// Whether progress is reported also if standard error is no terminal.
     pub progress: bool,
+    /// Whether no progress is reported.
+    pub quiet: bool,
     /// Which counts are shown, and in what order. The tokens of `except` aren't in it before that file is read.
     pub choice: Choice<'m>,
     /// The file that has the tokens that aren't shown, if there is one.
@@ -312,6 +314,7 @@ impl<'a, 'm> Settings<'a, 'm> {
             ask: ask_of(alloc, name, given)?,
             bad_lines,
             progress: given.get_flag("progress"),
+            quiet: given.get_flag("quiet"),
             choice: choice_of(alloc, given)?,
             except: given.get_str("except"),
             format: format_of(given),
