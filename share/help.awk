@@ -36,6 +36,7 @@ function end_entry(values, value, short, long) {
   sub(/ +$/, "", text)
   if (part == "Commands:") {
     if (shown != "help") put("command", shown)
+    has_commands = 1
   } else if (part == "Arguments:") {
     put("argument", "\t\t" shown "\t" text "\t" value "\t" values)
   } else {
@@ -95,7 +96,7 @@ function put_named(said, many, i, names) {
     split(substr(said, RSTART, RLENGTH), names, "`")
     put("default", names[2])
   }
-  if (match(said, /first word is [a-z, -]+, it is a subcommand/)) {
+  if (!has_commands && match(said, /first word is [a-z, -]+, it is a subcommand/)) {
     said = substr(said, RSTART + 14, RLENGTH - 14 - 20)
     many = split(said, names, /,? or |, /)
     for (i = 1; i <= many; i++) put("command", names[i])

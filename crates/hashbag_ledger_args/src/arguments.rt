@@ -1,6 +1,7 @@
 //! What the arguments ask for.
 use crate::columns::{columns_of, start_columns_of};
 use crate::command::{COLUMNS, START_COLUMNS, command};
+use crate::listing::with_listed;
 use clap::ArgMatches;
 use hashbag_csv::counts::Reading;
 use hashbag_ledger_lib::reading::Columns;
@@ -76,7 +77,7 @@ pub fn parse<'a, R: Print + Eprint + AllocGlobal>(
     words: &'a [String],
 ) -> Result<Request<'a>, Trouble<'a>> {
     let alloc = rt.alloc();
-    let given = given_to(rt, command(alloc), words)?;
+    let given = given_to(rt, with_listed(alloc, command(alloc), words), words)?;
     let columns = columns_of(alloc, word(&given, "columns", COLUMNS))?;
     let start_columns = start_columns_of(alloc, word(&given, "start-columns", START_COLUMNS))?;
     Ok(request_of(alloc, &given, start_columns, columns)?)

@@ -6,3 +6,4 @@ pub mod columns;
 pub mod command;
 pub mod job;
 pub mod jobs;
+mod listing;
