@@ -1,7 +1,6 @@
 //! A stock that is kept in a database: the subcommands with `--db`.
 mod database;
 mod enter;
-mod inputs;
 mod say;
 mod show;
 mod undo;

@@ -1,2 +1,3 @@
 pub mod FiledLemmas
 pub mod FormLemmas
+pub mod InputLemmas

@@ -5,7 +5,7 @@ ghost use Rattle.hashbag_ledger_db.specs.Filed.{AreMovementsOf, IsFiledOf, IsFil
 
 use crate::before::{Before, before_in, entered_twice};
 use crate::failure::Failure;
-use crate::movements::{Input, movements_of};
+use crate::movements::{Input, input_of, movements_of};
 use crate::putting::{in_database, put};
 use crate::said::entered_text;
 use hashbag_csv::counts::Reading;
@@ -19,7 +19,7 @@ use hashbag_ledger_lib::movements::Movement;
 use hashbag_ledger_lib::numbers::MOST;
 use hashbag_ledger_lib::once::Kind;
 use hashbag_ledger_lib::output::{balance_text, refusals_table, refusals_text};
-use hashbag_ledger_lib::sealing::{Draft, digest_of, sealed_rows};
+use hashbag_ledger_lib::sealing::{Draft, sealed_rows};
 use hashbag_shell::status::{DENIED, DONE};
 use hashbag_shell::trouble::Trouble;
 use hashbag_stock::error::StockError;
@@ -367,7 +367,10 @@ pub fn denied_report(
     request: &Job<'_>,
     inputs: &[Input<'_>],
     filed: &Filed,
-) -> Result<Report, AllocError> {
+) -> Result<Report, AllocError>
+    ensures ready { IfOk result (λ report. report.ready ≡ None) }
+    ensures status { IfOk result (λ report. report.status ≡ 1) }
+{
     let reading = request.reading(request.scale.unwrap_or(0));
     Ok(Report {
         refusals: text_of(alloc, request, inputs, reading, filed)?,
@@ -390,12 +393,7 @@ pub fn beginning_of<'a>(
 ) -> Result<Input<'a>, AllocError> {
     let reading = request.reading(scale);
     let text = balance_text(alloc, ("article", "number"), reading, balance)?;
-    Ok(Input {
-        file: request.db,
-        sha256: digest_of(alloc, text.as_slice())?,
-        text,
-        is_start: true,
-    })
+    input_of(alloc, request.db, text, true)
 }
 
 /// Writes the first batch of a new database.

@@ -1,10 +1,11 @@
-//! What the subcommands of `hashbag_ledger` do in an open database, in any store: bytes of files and rows in, rows and texts out. No file is
-//! opened here.
+//! What the subcommands of `hashbag_ledger` do in a database, in any store: bytes of files and rows in, rows and texts out. It opens no file but by
+//! [`files::Files`].
 #![tactic(auto)]
 
 pub mod before;
 pub mod entering;
 pub mod failure;
+pub mod files;
 pub mod movements;
 pub mod putting;
 pub mod said;

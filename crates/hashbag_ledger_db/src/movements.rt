@@ -1,6 +1,7 @@
 //! The movements of the inputs.
 ghost use Rattle.std.specs.Prelude.{◌≡◌, map, IfOk};
 ghost use Rattle.hashbag_ledger_db.specs.Filed.{plain_movement, rows_in};
+ghost use Rattle.hashbag_ledger_db.specs.Inputs.{named, HasSum};
 ghost use Rattle.hashbag_ledger_lib.specs.Movements.{said};
 
 use crate::failure::Failure;
@@ -10,6 +11,7 @@ use hashbag_ledger_args::job::Job;
 use hashbag_ledger_lib::movements::Movement;
 use hashbag_ledger_lib::numbers::plain_change;
 use hashbag_ledger_lib::reading::{ChangeColumns, Columns, read_movements};
+use hashbag_ledger_lib::sealing::digest_of;
 use std::alloc::{AllocError, Global};
 
 /// A file that is to be entered.
@@ -23,6 +25,30 @@ pub struct Input<'a> {
     pub sha256: String,
     /// Whether it is the stock at the beginning.
     pub is_start: bool,
+}
+
+/// Returns the input of this name with these bytes: the stock at the beginning, or a file of movements.
+///
+/// # Errors
+///
+/// An allocation fails.
+pub fn input_of<'a>(
+    alloc: Global,
+    file: &'a str,
+    text: Vec<u8>,
+    is_start: bool,
+) -> Result<Input<'a>, AllocError>
+    ensures named { IfOk result (λ input. named input ≡ (file.now, is_start)) }
+    ensures text { IfOk result (λ input. input.text.items ≡ text.items) }
+    ensures sum { IfOk result HasSum }
+{
+    let sha256 = digest_of(alloc, text.as_slice())?;
+    Ok(Input {
+        file,
+        text,
+        sha256,
+        is_start,
+    })
 }
 
 // Returns whether a text of CSV has a line after its header that isn't empty.

@@ -1,8 +1,12 @@
 //! The file of a database.
+ghost use Rattle.std.specs.Prelude.{⊤};
+
 use crate::outputs::is_same;
 use hashbag_ledger_args::job::Job;
 use hashbag_ledger_db::failure::Failure;
+use hashbag_ledger_db::files::Files;
 use hashbag_ledger_db::putting::{failure_of, in_database};
+use hashbag_shell::input::read_file;
 use hashbag_stock::error::StockError;
 use hashbag_stock::tables::{Contents, Shape, form_of};
 use sqlite::{Connection, Error, ErrorCode, File, FileStore};
@@ -140,4 +144,34 @@ pub fn ended<'a, T>(conn: Db, done: Result<T, Failure<'a>>) -> Result<T, Failure
 /// Closes a database. If its log can't be copied into it, the log stays, and a later process copies it.
 pub fn close(conn: Db) {
     let _ = conn.close();
+}
+
+/// The files of the system.
+#[derive(Drop)]
+pub struct HostFiles<'s> {
+    /// The system.
+    pub rt: &'s HostRuntime,
+}
+
+impl Files<Db> for HostFiles<'_> {
+    // No clause of the system's says what a file has.
+    ghost gives = { λ _ _ _. ⊤ };
+
+    ghost has = { λ _ _ _. ⊤ };
+
+    fn read<'a>(&self, file: &'a str) -> Result<Vec<u8>, Failure<'a>> {
+        Ok(read_file(self.rt, file)?)
+    }
+
+    fn is_new<'a>(&self, db: &'a str) -> Result<bool, Failure<'a>> {
+        is_new(self.rt, db)
+    }
+
+    fn open_or_make<'a>(&self, db: &'a str, wait: usize) -> Result<(Db, Contents), Failure<'a>> {
+        open_or_make(self.rt, db, wait)
+    }
+
+    fn close(&self, conn: Db) {
+        close(conn);
+    }
 }

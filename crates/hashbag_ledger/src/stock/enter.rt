@@ -1,36 +1,15 @@
 //! Files that are entered into a stock.
 use crate::outputs::{is_same, write_refusals};
-use crate::stock::database::{ended, is_new, is_of_database, open, open_or_make, read};
-use crate::stock::inputs::inputs_of;
+use crate::stock::database::{HostFiles, ended, is_of_database, open, open_or_make, read};
 use crate::stock::say::{random_state, say};
 use hashbag_ledger_args::job::Job;
-use hashbag_ledger_db::entering::{
-    Report, begin_in, beginning_of, denied_report, filed_anew, is_refused, report_in,
-};
+use hashbag_ledger_db::entering::{begin_in, beginning_of};
 use hashbag_ledger_db::failure::Failure;
+use hashbag_ledger_db::files::enter_named;
 use hashbag_shell::output::Output;
 use hashbag_shell::status::DONE;
 use hashbag_stock::reading::balance_of;
 use hashbag_stock::tables::Contents;
-
-// Enters the inputs, and returns what this run writes. If they are to be entered strictly into a new stock and some
-// movement is refused, no file is made.
-fn report_of<'a>(rt: &HostRuntime, request: &Job<'a>) -> Result<Report, Failure<'a>> {
-    let (alloc, db) = (rt.alloc(), request.db);
-    let inputs = inputs_of(rt, request)?;
-    let state = random_state(rt)?;
-    let mut anew = None;
-    if is_new(rt, db)? {
-        let filed = filed_anew(alloc, state, request, &inputs)?;
-        if request.strict && is_refused(&filed) {
-            return Ok(denied_report(alloc, request, &inputs, &filed)?);
-        }
-        anew = Some(filed);
-    }
-    let (mut conn, form) = open_or_make(rt, db, request.wait)?;
-    let report = report_in(alloc, state, request, &inputs, &mut conn, form, anew);
-    ended(conn, report)
-}
 
 // Returns a file that is named for two things.
 fn conflict<'a>(rt: &HostRuntime, request: &Job<'a>) -> Result<Option<&'a str>, Failure<'a>> {
@@ -72,8 +51,9 @@ pub fn enter<'a>(rt: &HostRuntime, request: &Job<'a>) -> Result<u8, Failure<'a>>
     if let Some(name) = conflict(rt, request)? {
         return Err(Failure::Conflict(name));
     }
+    let state = random_state(rt)?;
     let output = Output::open(rt, request.refused)?;
-    match report_of(rt, request) {
+    match enter_named(rt.alloc(), state, &HostFiles { rt }, request) {
         Ok(report) => {
             write_refusals(rt, output, report.refusals.as_slice())?;
             say(rt, request.quiet, report.said.as_str());

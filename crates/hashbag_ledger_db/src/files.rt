@@ -1,0 +1,103 @@
+//! The files of a call: inputs, which are read whole, and databases. What of them is entered is decided here, so its clauses hold whatever they are.
+ghost use Rattle.std.specs.Prelude.{◌≡◌, ℕ, List, None, true, IfOk, IfSome};
+ghost use Rattle.hashbag_stock.specs.declared.tables.Contents.{Contents};
+ghost use Rattle.hashbag_ledger_db.specs.Filed.{status_after};
+ghost use Rattle.hashbag_ledger_db.specs.Inputs.{AreInputsOf, IsReadyOf};
+
+use crate::entering::{Report, denied_report, filed_anew, is_refused, report_in};
+use crate::failure::Failure;
+use crate::movements::{Input, input_of};
+use hashbag_ledger_args::job::Job;
+use hashbag_stock::tables::Contents;
+use sqlite::{Alter, Connection};
+use std::alloc::Global;
+use std::hash::BuildHasher;
+
+/// The files that a program has. An open database is a `C`.
+pub trait Files<C> {
+    /// Holds of the name of a file and its bytes.
+    ghost gives: { Self → List ℕ → List ℕ → Type 0 };
+
+    /// Holds of the name of a database and what it has when it is opened.
+    ghost has: { Self → List ℕ → Contents → Type 0 };
+
+    /// Returns the bytes of a file.
+    ///
+    /// # Errors
+    ///
+    /// Why it can't be read.
+    fn read<'a>(&self, file: &'a str) -> Result<Vec<u8>, Failure<'a>>
+        ensures { IfOk result (λ bytes. gives self.now file.now bytes.items) };
+
+    /// Returns whether there is no database of this name.
+    ///
+    /// # Errors
+    ///
+    /// An allocation fails.
+    fn is_new<'a>(&self, db: &'a str) -> Result<bool, Failure<'a>>;
+
+    /// Opens a database, or makes it, and returns what it has. It waits for `wait` seconds at most while another process has it open.
+    ///
+    /// # Errors
+    ///
+    /// Why it gives or takes no stock.
+    fn open_or_make<'a>(&self, db: &'a str, wait: usize) -> Result<(C, Contents), Failure<'a>>
+        ensures { IfOk result (λ opened. has self.now db.now opened.1) };
+
+    /// Closes a database.
+    fn close(&self, conn: C);
+}
+
+// Reads the stock at the beginning, if there is one, and all files of movements.
+fn inputs_of<'a, C, F: Files<C>>(
+    alloc: Global,
+    files: &F,
+    request: &Job<'a>,
+) -> Result<Vec<Input<'a>>, Failure<'a>>
+    ensures { IfOk result (λ inputs. AreInputsOf (F.gives files.now) request.now inputs.items) }
+{
+    let mut inputs = Vec::new(alloc);
+    if let Some(file) = request.from {
+        inputs.push(input_of(alloc, file, files.read(file)?, true)?)?;
+    }
+    for file in &request.files {
+        inputs.push(input_of(alloc, *file, files.read(*file)?, false)?)?;
+    }
+    Ok(inputs)
+}
+
+/// Enters the files that are named into the stock of the database, all or none, and returns what the run of the subcommand writes. If they are
+/// to be entered strictly into a new stock, and there is a refusal, no database is made.
+///
+/// # Errors
+///
+/// Why nothing is entered.
+pub fn enter_named<'a, D: Alter + Drop, F: Files<Connection<D>>, S: BuildHasher + Copy + Drop>(
+    alloc: Global,
+    state: S,
+    files: &F,
+    request: &Job<'a>,
+) -> Result<Report, Failure<'a>>
+    // All movements of all files that are named are booked on the balance that the database had.
+    ensures filed { IfOk result (λ report. IfSome report.ready (IsReadyOf (F.gives files.now) (F.has files.now) request.now)) }
+
+    // The status is 1 exactly if a movement is refused.
+    ensures status { IfOk result (λ report. IfSome report.ready (λ ready. report.status ≡ status_after ready.filed)) }
+
+    // No database is opened only if that was asked for, and a movement is refused.
+    ensures denied { IfOk result (λ report. report.ready ≡ None → (request.now.strict ≡ true) × (report.status ≡ 1)) }
+{
+    let inputs = inputs_of::<Connection<D>, F>(alloc, files, request)?;
+    let mut anew = None;
+    if files.is_new(request.db)? {
+        let filed = filed_anew(alloc, state, request, &inputs)?;
+        if request.strict && is_refused(&filed) {
+            return Ok(denied_report(alloc, request, &inputs, &filed)?);
+        }
+        anew = Some(filed);
+    }
+    let (mut conn, form) = files.open_or_make(request.db, request.wait)?;
+    let report = report_in(alloc, state, request, &inputs, &mut conn, form, anew)?;
+    files.close(conn);
+    Ok(report)
+}
