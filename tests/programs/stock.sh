@@ -176,6 +176,17 @@ ends 2 "$p: undo takes a batch, by its number or its file, or --last" undo --db 
 ends 2 "$p: undo takes a batch, by its number or its file, or --last" undo --db said.db --last 2
 ends 0 '' verify --db said.db
 
+# The movements of a batch, with the balance after each, on which the batches before it count
+ends 1 'monday.csv:4: refused: out 7 of "bolt", 6 there' enter --quiet --db show.db --from stock.csv monday.csv
+ends 0 '' enter --quiet --db show.db more.csv
+ends 0 '' show --db show.db 2
+has ../out 'line,article,change,outcome,number\n2,bolt,-4,entered,6\n3,nut,20,entered,60\n4,bolt,-7,refused,6\n5,"screw, long",12,entered,12\n6,washer,-3,entered,0\n7,bolt,-6,entered,0\n' "the movements of a batch"
+ends 0 '' show --db show.db more.csv
+has ../out 'line,article,change,outcome,number\n2,bolt,1,entered,1\n' "the movements of the batch of a file"
+ends 0 '' show --db show.db -o shown.csv --delimiter ';' 1
+has shown.csv 'line;article;change;outcome;number\n2;bolt;10;entered;10\n3;nut;40;entered;40\n4;washer;3;entered;3\n' "the movements of a batch in a file"
+ends 2 "$p: show.db: no batch 9" show --db show.db 9
+
 # From a million movements on a new database is suggested
 sql said.db "update batch set movements = 999988 where batch = 1"
 ends 0 "$(printf 'a.csv: batch 13, 2 movements\n%s: said.db: 1000000 movements, which each call reads: `close` begins a new database with the balance' $p)" enter --db said.db --again a.csv
@@ -438,12 +449,13 @@ has ../out 'article,number\nbolt,5\nnut,2\n' "a file that has the name of a subc
 
 # Arguments
 for words in "enter a.csv" "balance" "history --db s.db" "undo --quiet --db s.db" "undo --quiet --db s.db x" "close --db s.db" "verify --db" "balance --db s.db --wrong" \
+  "show --db s.db" \
   "enter --quiet --db s.db --wait x" "enter --quiet --db s.db --columns a" "enter --quiet --db s.db --start-columns a,b,c" "enter --quiet --db s.db --scale 10"; do
   # shellcheck disable=SC2086
   "$program" $words > ../out 2> ../err < /dev/null
   [ $? = 2 ] && [ ! -s ../out ] && [ -s ../err ] || { cat ../err; fail "bad arguments: $words"; }
 done
-for job in enter balance history batches undo verify close; do
+for job in enter balance history batches show undo verify close; do
   ends 0 "" $job --help
   grep -q -e --db ../out || fail "no --db in the help of $job"
 done

@@ -21,6 +21,7 @@ fn do_job<'a>(rt: &HostRuntime, name: &str, given: &ArgMatches<'a>) -> Result<u8
         "balance" => show::balance(rt, &request),
         "history" => show::history(rt, &request),
         "batches" => show::batches(rt, &request),
+        "show" => show::show(rt, &request),
         "undo" => undo::undo(rt, &request),
         "close" => enter::close(rt, &request),
         _ => verify::verify(rt, &request),

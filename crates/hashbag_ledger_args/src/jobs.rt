@@ -20,7 +20,14 @@ has a database open.";
 fn is_job(word: &str) -> bool {
     matches!(
         word,
-        "enter" | "balance" | "history" | "batches" | "undo" | "verify" | "close"
+        "enter"
+            | "balance"
+            | "history"
+            | "batches"
+            | "show"
+            | "undo"
+            | "verify"
+            | "close"
     )
 }
 
@@ -176,6 +183,19 @@ fn history<'a>(alloc: Global) -> CommandResult<'a> {
     with_output(alloc, with_quiet(alloc, with(command, article), help))
 }
 
+fn show<'a>(alloc: Global) -> CommandResult<'a> {
+    let batch = Arg::new(alloc, "BATCH")
+        .required(true)
+        .action(ArgAction::Set)
+        .help("The number of the batch, or the name of its file, as of `undo`");
+    let command = job(
+        alloc,
+        "show",
+        "Writes the movements of a batch, with the balance after each",
+    );
+    with_output(alloc, with(command, batch))
+}
+
 fn undo<'a>(alloc: Global) -> CommandResult<'a> {
     let batch = Arg::new(alloc, "BATCH").action(ArgAction::Set).help(
         "The number of the batch, or the name of its file: then the last batch of that file that wasn't undone",
@@ -212,7 +232,7 @@ fn close<'a>(alloc: Global) -> CommandResult<'a> {
 fn with_views<'a>(alloc: Global, command: CommandResult<'a>) -> CommandResult<'a> {
     let command = with_job(with_job(command, balance(alloc)), history(alloc));
     let batches = job(alloc, "batches", "Writes what was entered, and when");
-    with_job(command, with_output(alloc, batches))
+    with_job(with_job(command, with_output(alloc, batches)), show(alloc))
 }
 
 // Adds the subcommands that follow on those.

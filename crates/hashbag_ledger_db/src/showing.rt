@@ -1,16 +1,20 @@
-//! What is shown of a stock: its balance, the history of an article, and the batches.
+//! What is shown of a stock: its balance, the history of an article, the batches, and the movements of one.
+ghost use Rattle.std.specs.Prelude.{◌≡◌, Ok, IfOk};
+
 use crate::entering::start_too_many;
 use crate::failure::Failure;
 use crate::putting::in_database;
 use crate::said::absent_text;
+use crate::undoing::wanted_of;
 use hashbag_csv::escaped::Escaped;
 use hashbag_ledger_args::command::PROGRAM;
 use hashbag_ledger_args::job::Job;
 use hashbag_ledger_lib::entering::LedgerError;
-use hashbag_ledger_lib::ledger::booking::book_batch;
-use hashbag_ledger_lib::listing::{batches_text, history_text};
+use hashbag_ledger_lib::listing::{batches_text, history_text, movements_text};
+use hashbag_ledger_lib::movements::Entry;
 use hashbag_ledger_lib::output::balance_text;
-use hashbag_stock::reading::{balance_of, batches_of, history_of};
+use hashbag_ledger_lib::recalling::{recall, recall_batch};
+use hashbag_stock::reading::{balance_of, batches_of, history_of, movements_until};
 use hashbag_stock::tables::Shape;
 use sqlite::{Alter, Connection};
 use std::alloc::{AllocError, Global};
@@ -85,6 +89,44 @@ fn none_of(alloc: Global, db: &str, article: &str) -> Result<String, AllocError>
     )
 }
 
+// Returns what became of movements of a database.
+fn recalled_in<'a>(
+    db: &'a str,
+    recalled: Result<Vec<Entry<String>>, LedgerError>,
+) -> Result<Vec<Entry<String>>, Failure<'a>>
+    ensures { IfOk result (λ entries. recalled ≡ Ok entries) }
+{
+    match recalled {
+        Ok(entries) => Ok(entries),
+        Err(LedgerError::Memory) => Err(Failure::from(AllocError)),
+        // No movements that were entered make an article too large.
+        Err(_) => Err(start_too_many(db)),
+    }
+}
+
+/// Returns the movements of the batch that is asked for, in an open database.
+///
+/// # Errors
+///
+/// `NoBatch` if there is none, or why they can't be read.
+pub fn show_in<'a, D: Alter, S: BuildHasher + Drop>(
+    alloc: Global,
+    state: S,
+    request: &Job<'a>,
+    shape: Shape,
+    conn: &mut Connection<D>,
+) -> Result<Shown, Failure<'a>> {
+    let db = request.db;
+    let batches = in_database(db, batches_of(alloc, conn, shape))?;
+    let number = wanted_of(request, &batches)?.number;
+    let movements = in_database(db, movements_until(alloc, conn, number))?;
+    let batch = number.unsigned_abs() as usize;
+    let entries = recalled_in(db, recall_batch(alloc, state, movements, batch))?;
+    let table = movements_text(alloc, request.reading(shape.scale), &entries)?;
+    let said = String::new(alloc);
+    Ok(Shown { table, said })
+}
+
 /// Returns the movements of an article in an open database, and whether there are none.
 ///
 /// # Errors
@@ -104,14 +146,8 @@ pub fn history_in<'a, D: Alter, S: BuildHasher + Drop>(
     } else {
         String::new(alloc)
     };
-    let booked = match book_batch(alloc, state, Vec::new(alloc), movements) {
-        Ok(booked) => booked,
-        Err(LedgerError::Memory) => return Err(Failure::from(AllocError)),
-        // No movements that were entered make an article too large.
-        Err(_) => return Err(start_too_many(request.db)),
-    };
-    let reading = request.reading(shape.scale);
-    let table = history_text(alloc, reading, &batches, &booked.entries)?;
+    let entries = recalled_in(request.db, recall(alloc, state, movements))?;
+    let table = history_text(alloc, request.reading(shape.scale), &batches, &entries)?;
     Ok(Shown { table, said })
 }
 

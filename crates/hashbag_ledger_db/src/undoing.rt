@@ -65,8 +65,15 @@ fn batch_of_file<'b>(batches: &'b [Batch], file: &str) -> Option<&'b Batch> {
     found
 }
 
-// Returns the batch that is asked for.
-fn wanted_of<'a, 'b>(request: &Job<'a>, batches: &'b [Batch]) -> Result<&'b Batch, Failure<'a>> {
+/// Returns the batch that is asked for.
+///
+/// # Errors
+///
+/// `NoBatch` if there is none.
+pub(crate) fn wanted_of<'a, 'b>(
+    request: &Job<'a>,
+    batches: &'b [Batch],
+) -> Result<&'b Batch, Failure<'a>> {
     let db = request.db;
     let (wanted, name) = match request.batch {
         None => (last_of(batches), "to undo"),

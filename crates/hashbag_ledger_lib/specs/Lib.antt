@@ -6,6 +6,7 @@ pub mod Ledger
 pub mod Movements
 pub mod MovementsExamples
 pub mod Numbers
+pub mod Recalls
 pub mod Rows
 pub mod Seals
 pub mod SealsExamples

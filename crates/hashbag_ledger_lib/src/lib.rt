@@ -10,6 +10,7 @@ pub mod numbers;
 pub mod once;
 pub mod output;
 pub mod reading;
+pub mod recalling;
 pub mod rows;
 pub mod sealing;
 pub mod undoing;

@@ -1,4 +1,4 @@
-//! The batches and the history of an article, as CSV.
+//! The batches, the history of an article, and the movements of a batch, as CSV.
 use crate::movements::{Change, Entry, Outcome};
 use crate::once::{Batch, batch_of};
 use crate::output::push_record;
@@ -64,6 +64,47 @@ pub fn batches_text(
     records.into_text()
 }
 
+// Returns whether a movement was refused, and how many there are of its article after it.
+fn outcome_of(entry: &Entry<String>) -> (bool, usize) {
+    match entry.outcome {
+        Outcome::Entered { after } => (false, after),
+        Outcome::Refused { there } => (true, there),
+    }
+}
+
+/// Returns the movements of a batch as CSV, with the header `line,article,change,outcome,number`. Outcome and number are those of
+/// [`history_text`].
+///
+/// # Errors
+///
+/// An allocation fails.
+pub fn movements_text(
+    alloc: Global,
+    reading: Reading,
+    entries: &[Entry<String>],
+) -> Result<Vec<u8>, AllocError> {
+    let mut records = Records::empty(alloc, reading.delimiter);
+    let header = ["line", "article", "change", "outcome", "number"];
+    push_record(&mut records, header.as_slice())?;
+    for entry in entries {
+        let movement = &entry.movement;
+        let line = format!(in alloc; "{}", movement.place.line)?;
+        let change = change_text(alloc, movement.change, reading.scale)?;
+        let (is_refused, after) = outcome_of(entry);
+        let outcome = if is_refused { "refused" } else { "entered" };
+        let number = write_decimal(alloc, after, reading.scale)?;
+        let fields = [
+            line.as_str(),
+            movement.article.as_str(),
+            change.as_str(),
+            outcome,
+            number.as_str(),
+        ];
+        push_record(&mut records, fields.as_slice())?;
+    }
+    records.into_text()
+}
+
 /// Returns the movements of an article as CSV, with the header `batch,file,line,time,change,outcome,number`.
 ///
 /// The file of a place is the number of the batch, whose file and time are written. The outcome is `entered` or `refused`; the number is
@@ -90,10 +131,7 @@ pub fn history_text(
             Some(batch) => (batch.file.as_str(), batch.time.as_str()),
             None => ("", ""),
         };
-        let (is_refused, after) = match entry.outcome {
-            Outcome::Entered { after } => (false, after),
-            Outcome::Refused { there } => (true, there),
-        };
+        let (is_refused, after) = outcome_of(entry);
         let outcome = if is_refused { "refused" } else { "entered" };
         let batch = format!(in alloc; "{}", place.file)?;
         let line = format!(in alloc; "{}", place.line)?;

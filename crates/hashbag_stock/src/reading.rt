@@ -194,6 +194,21 @@ pub fn refusals_of<S: Alter>(
     )
 }
 
+/// Returns the movements of this batch and of those before it, in turn. The file of a place is the number of the batch.
+///
+/// # Errors
+///
+/// Same as [`batches_of`].
+pub fn movements_until<S: Alter>(
+    alloc: Global,
+    conn: &mut Connection<S>,
+    batch: i64,
+) -> Result<Vec<Movement<String>>, StockError> {
+    let text =
+        "SELECT batch, line, article, change FROM movement WHERE batch <= ?1 ORDER BY movement";
+    list_of(alloc, conn, text, params![batch])
+}
+
 // Returns the movements of an article, in turn. The file of a place is the number of the batch.
 fn movements_of_article<S: Alter>(
     alloc: Global,

@@ -1,9 +1,9 @@
-//! What is shown of a stock: its balance, the history of an article, and the batches.
+//! What is shown of a stock: its balance, the history of an article, the batches, and the movements of one.
 use crate::stock::database::{ended, is_of_database, open};
 use crate::stock::say::{random_state, say};
 use hashbag_ledger_args::job::Job;
 use hashbag_ledger_db::failure::Failure;
-use hashbag_ledger_db::showing::{Shown, balance_in, batches_in, history_in};
+use hashbag_ledger_db::showing::{Shown, balance_in, batches_in, history_in, show_in};
 use hashbag_shell::output::Output;
 use hashbag_shell::status::DONE;
 
@@ -50,5 +50,17 @@ pub fn history<'a>(rt: &HostRuntime, request: &Job<'a>) -> Result<u8, Failure<'a
 pub fn batches<'a>(rt: &HostRuntime, request: &Job<'a>) -> Result<u8, Failure<'a>> {
     let (mut conn, shape) = open(rt, request)?;
     let shown = batches_in(rt.alloc(), request, shape, &mut conn);
+    write(rt, request, &ended(conn, shown)?)
+}
+
+/// Writes the movements of a batch.
+///
+/// # Errors
+///
+/// Same as [`balance`], and if there is no such batch.
+pub fn show<'a>(rt: &HostRuntime, request: &Job<'a>) -> Result<u8, Failure<'a>> {
+    let state = random_state(rt)?;
+    let (mut conn, shape) = open(rt, request)?;
+    let shown = show_in(rt.alloc(), state, request, shape, &mut conn);
     write(rt, request, &ended(conn, shown)?)
 }
