@@ -187,6 +187,25 @@ ends 0 '' show --db show.db -o shown.csv --delimiter ';' 1
 has shown.csv 'line;article;change;outcome;number\n2;bolt;10;entered;10\n3;nut;40;entered;40\n4;washer;3;entered;3\n' "the movements of a batch in a file"
 ends 2 "$p: show.db: no batch 9" show --db show.db 9
 
+# One movement that is typed is a batch, like one on standard input
+ends 0 '-: batch 1, 1 movement' put --db typed.db bolt 5
+ends 0 '-: batch 2, 1 movement' take --db typed.db bolt 2
+ends 1 "$(printf -- '-:2: refused: out 4 of "bolt", 3 there\n-: batch 3, 1 movement, 1 refused')" take --db typed.db bolt 4
+ends 0 '-: batch 4, 1 movement' take --db typed.db bolt 2
+ends 0 '' put --quiet --db typed.db 'screw, "long"' 1
+ends 0 '' balance --db typed.db
+has ../out 'article,number\nbolt,1\n"screw, ""long""",1\n' "the balance after movements that were typed"
+ends 2 "$p: -:2: no number: \`--1\`" take --db typed.db bolt -- -1
+ends 2 "$p: -:2: no number: \`+-1\`" put --db typed.db bolt -- -1
+ends 2 "$p: -:2: whole numbers only: \`+1.5\`" put --db typed.db bolt 1.5
+is typed.db 'select batch, file, kind, movements, refused from batch order by batch' '1|-|moves|1|0\n2|-|moves|1|0\n3|-|moves|1|1\n4|-|moves|1|0\n5|-|moves|1|0' "the batches of movements that were typed"
+printf 'article,change\nsalt,1.25\n' > salt.csv
+ends 0 '' enter --quiet --db salt.db --scale 2 salt.csv
+ends 0 '' put --quiet --db salt.db --mark , salt 0,5
+ends 0 '' take --quiet --db salt.db salt 1.7
+ends 0 '' balance --db salt.db
+has ../out 'article,number\nsalt,0.05\n' "a number that was typed has the decimals of the database"
+
 # From a million movements on a new database is suggested
 sql said.db "update batch set movements = 999988 where batch = 1"
 ends 0 "$(printf 'a.csv: batch 13, 2 movements\n%s: said.db: 1000000 movements, which each call reads: `close` begins a new database with the balance' $p)" enter --db said.db --again a.csv
@@ -449,13 +468,13 @@ has ../out 'article,number\nbolt,5\nnut,2\n' "a file that has the name of a subc
 
 # Arguments
 for words in "enter a.csv" "balance" "history --db s.db" "undo --quiet --db s.db" "undo --quiet --db s.db x" "close --db s.db" "verify --db" "balance --db s.db --wrong" \
-  "show --db s.db" \
+  "show --db s.db" "take --db s.db bolt" "put --db s.db 5" \
   "enter --quiet --db s.db --wait x" "enter --quiet --db s.db --columns a" "enter --quiet --db s.db --start-columns a,b,c" "enter --quiet --db s.db --scale 10"; do
   # shellcheck disable=SC2086
   "$program" $words > ../out 2> ../err < /dev/null
   [ $? = 2 ] && [ ! -s ../out ] && [ -s ../err ] || { cat ../err; fail "bad arguments: $words"; }
 done
-for job in enter balance history batches show undo verify close; do
+for job in enter take put balance history batches show undo verify close; do
   ends 0 "" $job --help
   grep -q -e --db ../out || fail "no --db in the help of $job"
 done

@@ -18,6 +18,8 @@ fn do_job<'a>(rt: &HostRuntime, name: &str, given: &ArgMatches<'a>) -> Result<u8
     let request = Job::of(rt.alloc(), given)?;
     match name {
         "enter" => enter::enter(rt, &request),
+        "take" => enter::enter_typed(rt, &request, "-"),
+        "put" => enter::enter_typed(rt, &request, "+"),
         "balance" => show::balance(rt, &request),
         "history" => show::history(rt, &request),
         "batches" => show::batches(rt, &request),

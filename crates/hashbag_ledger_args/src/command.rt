@@ -22,8 +22,8 @@ A movement that asks for more than is there at that time is refused, and named w
 The balance is CSV with the columns of the stock, articles rising, and may be the --start of the next run. All is read before
 anything is written, so the balance may replace the stock: hashbag_ledger --start stock.csv monday.csv -o stock.csv
 
-A database keeps a stock: hashbag_ledger enter --db stock.db monday.csv. If the first word is enter, balance, history, batches,
-show, undo, verify or close, it is a subcommand on the database of --db; hashbag_ledger enter --help has its arguments.
+A database keeps a stock: hashbag_ledger enter --db stock.db monday.csv. If the first word is enter, take, put, balance, history,
+batches, show, undo, verify or close, it is a subcommand on the database of --db; hashbag_ledger enter --help has its arguments.
 
 Status: 0 all entered, 1 some refused, 2 bad arguments or a bad line (FILE:LINE is named), 3 no memory, 4 a file can't be opened, or
 a read or a write failed, 5 a total of more than 2^64-1. With 2 to 5 the file of -o is unchanged.";

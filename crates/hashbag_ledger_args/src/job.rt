@@ -44,6 +44,8 @@ pub struct Job<'a> {
     pub again: bool,
     /// The articles that are asked for.
     pub articles: Vec<&'a str>,
+    /// The number of a movement that is typed.
+    pub number: &'a str,
     /// The number of the batch that is asked for, or the name of its file.
     pub batch: Option<&'a str>,
     /// Whether the last batch is asked for.
@@ -107,6 +109,7 @@ impl<'a> Job<'a> {
             strict: given.get_flag("strict"),
             again: given.get_flag("again"),
             articles: words_of(alloc, given, "ARTICLE")?,
+            number: given.get_str("NUMBER").unwrap_or(""),
             batch: given.get_str("BATCH"),
             last: given.get_flag("last"),
             quiet: given.get_flag("quiet"),

@@ -2,7 +2,7 @@
 use crate::command::{COLUMNS, PROGRAM, START_COLUMNS};
 use clap::{Arg, ArgAction, Command, value_parser};
 use hashbag_shell::VERSION;
-use hashbag_shell::options::{self, CommandResult, SCALES, with};
+use hashbag_shell::options::{self, CommandResult, MARKS, SCALES, with};
 use std::alloc::Global;
 
 const ABOUT: &str = "Keeps a stock in a database.";
@@ -21,6 +21,8 @@ fn is_job(word: &str) -> bool {
     matches!(
         word,
         "enter"
+            | "take"
+            | "put"
             | "balance"
             | "history"
             | "batches"
@@ -157,6 +159,27 @@ fn enter<'a>(alloc: Global) -> CommandResult<'a> {
     with_flags(alloc, with_rules(alloc, with_form(alloc, command)))
 }
 
+// Returns a subcommand that enters one movement.
+fn typed<'a>(alloc: Global, name: &'a str, about: &'a str) -> CommandResult<'a> {
+    let article = Arg::new(alloc, "ARTICLE")
+        .required(true)
+        .action(ArgAction::Set)
+        .help("The article");
+    let number = Arg::new(alloc, "NUMBER")
+        .required(true)
+        .action(ArgAction::Set)
+        .help("How many, without a sign, with as many decimals as the database has");
+    let mark = Arg::new(alloc, "mark")
+        .long("mark")
+        .value_name("MARK")
+        .value_parser(MARKS.as_slice())
+        .default_value(".")
+        .help("What is before decimals");
+    let command = with(with(job(alloc, name, about), article), number);
+    let help = "Doesn't say which batch was entered";
+    with_quiet(alloc, with(command, mark), help)
+}
+
 fn balance<'a>(alloc: Global) -> CommandResult<'a> {
     let articles = Arg::new(alloc, "ARTICLE")
         .num_args(0..)
@@ -252,6 +275,12 @@ pub fn command<'a>(alloc: Global) -> CommandResult<'a> {
         .version(VERSION)
         .about(ABOUT)
         .subcommand_required(true);
-    let command = with_job(Ok(command), enter(alloc));
+    let take = typed(
+        alloc,
+        "take",
+        "Removes some of an article: enters one movement",
+    );
+    let put = typed(alloc, "put", "Adds some of an article: enters one movement");
+    let command = with_job(with_job(with_job(Ok(command), enter(alloc)), take), put);
     with_checks(alloc, with_views(alloc, command))
 }

@@ -1,7 +1,8 @@
-//! A balance and refusals as text.
+//! A balance, refusals and a movement that is typed, as text.
 use crate::movements::Refusal;
 use hashbag_csv::counts::Reading;
 use hashbag_csv::decimals::write_decimal;
+use hashbag_csv::delimiter::Delimiter;
 use hashbag_csv::records::Records;
 use hashbag_csv::scale::Scale;
 use std::alloc::{AllocError, Global};
@@ -36,6 +37,25 @@ pub fn balance_text(
         let number = write_decimal(alloc, entry.1, reading.scale)?;
         push_record(&mut records, [entry.0.as_str(), number.as_str()].as_slice())?;
     }
+    records.into_text()
+}
+
+/// Returns one movement as CSV, with the header `article,change`. Its change is the sign, and the number as it was typed.
+///
+/// # Errors
+///
+/// An allocation fails.
+pub fn typed_text(
+    alloc: Global,
+    delimiter: Delimiter,
+    article: &str,
+    sign: &str,
+    number: &str,
+) -> Result<Vec<u8>, AllocError> {
+    let mut records = Records::empty(alloc, delimiter);
+    push_record(&mut records, ["article", "change"].as_slice())?;
+    let change = format!(in alloc; "{sign}{number}")?;
+    push_record(&mut records, [article, change.as_str()].as_slice())?;
     records.into_text()
 }
 

@@ -151,6 +151,8 @@ pub fn close(conn: Db) {
 pub struct HostFiles<'s> {
     /// The system.
     pub rt: &'s HostRuntime,
+    /// What is read in place of each file, if it is typed.
+    pub typed: Option<Vec<u8>>,
 }
 
 impl Files<Db> for HostFiles<'_> {
@@ -160,7 +162,10 @@ impl Files<Db> for HostFiles<'_> {
     ghost has = { λ _ _ _. ⊤ };
 
     fn read<'a>(&self, file: &'a str) -> Result<Vec<u8>, Failure<'a>> {
-        Ok(read_file(self.rt, file)?)
+        match &self.typed {
+            Some(text) => Ok(text.clone()?),
+            None => Ok(read_file(self.rt, file)?),
+        }
     }
 
     fn is_new<'a>(&self, db: &'a str) -> Result<bool, Failure<'a>> {

@@ -6,6 +6,7 @@ use hashbag_ledger_args::job::Job;
 use hashbag_ledger_db::entering::{begin_in, beginning_of};
 use hashbag_ledger_db::failure::Failure;
 use hashbag_ledger_db::files::enter_named;
+use hashbag_ledger_lib::output::typed_text;
 use hashbag_shell::output::Output;
 use hashbag_shell::status::DONE;
 use hashbag_stock::reading::balance_of;
@@ -42,18 +43,20 @@ fn is_input(rt: &HostRuntime, request: &Job<'_>, refused: &str) -> bool {
     request.files.iter().any(|file| is_same(rt, refused, *file))
 }
 
-/// Enters files into the stock, all or none. Writes the refusals, and says which batches were entered.
-///
-/// # Errors
-///
-/// Why nothing is entered.
-pub fn enter<'a>(rt: &HostRuntime, request: &Job<'a>) -> Result<u8, Failure<'a>> {
+// Enters files into the stock, all or none. Writes the refusals, and says which batches were entered. `typed` is what each file has, if it
+// is typed.
+fn enter_from<'a>(
+    rt: &HostRuntime,
+    request: &Job<'a>,
+    typed: Option<Vec<u8>>,
+) -> Result<u8, Failure<'a>> {
     if let Some(name) = conflict(rt, request)? {
         return Err(Failure::Conflict(name));
     }
     let state = random_state(rt)?;
     let output = Output::open(rt, request.refused)?;
-    match enter_named(rt.alloc(), state, &HostFiles { rt }, request) {
+    let files = HostFiles { rt, typed };
+    match enter_named(rt.alloc(), state, &files, request) {
         Ok(report) => {
             write_refusals(rt, output, report.refusals.as_slice())?;
             say(rt, request.quiet, report.said.as_str());
@@ -64,6 +67,27 @@ pub fn enter<'a>(rt: &HostRuntime, request: &Job<'a>) -> Result<u8, Failure<'a>>
             Err(failure)
         }
     }
+}
+
+/// Enters files into the stock, all or none. Writes the refusals, and says which batches were entered.
+///
+/// # Errors
+///
+/// Why nothing is entered.
+pub fn enter<'a>(rt: &HostRuntime, request: &Job<'a>) -> Result<u8, Failure<'a>> {
+    enter_from(rt, request, None)
+}
+
+/// Enters one movement of the article that is asked for, of the number that is typed, with this sign: its text is entered in place of
+/// standard input.
+///
+/// # Errors
+///
+/// Why it isn't entered.
+pub fn enter_typed<'a>(rt: &HostRuntime, request: &Job<'a>, sign: &str) -> Result<u8, Failure<'a>> {
+    let article = request.articles.first().copied().unwrap_or("");
+    let text = typed_text(rt.alloc(), request.delimiter, article, sign, request.number)?;
+    enter_from(rt, request, Some(text))
 }
 
 // Begins a new database with a balance.
