@@ -426,7 +426,7 @@ on_a_stock() {
     fail_kept 0 s.db undo --db s.db 2 && fail_kept 0 new.db close --db s.db --into new.db &&
     refuse_kept 1 s.db take --db s.db nut 41 && refuse_kept 0 new.db put --db new.db nut 1 &&
     shows 0 balance --db s.db nut && shows 0 history --db s.db bolt && shows 0 batches --db s.db && shows 0 verify --db s.db &&
-    shows 0 show --db s.db 2
+    shows 0 show --db s.db 2 && shows 0 balance --db s.db --to table && shows 0 balance --db s.db --to json
 }
 
 for name in "$@"; do

@@ -206,6 +206,18 @@ ends 0 '' take --quiet --db salt.db salt 1.7
 ends 0 '' balance --db salt.db
 has ../out 'article,number\nsalt,0.05\n' "a number that was typed has the decimals of the database"
 
+# The balance in columns, and as JSON
+ends 0 '' balance --db show.db --to table
+has ../out 'ARTICLE      NUMBER\nbolt              1\nnut              60\nscrew, long      12\n' "the balance in columns"
+ends 0 '' balance --db show.db --to json nut
+has ../out '[{"article":"nut","number":60}]\n' "the balance as JSON"
+ends 0 '' balance --db salt.db --to json
+has ../out '[{"article":"salt","number":"0.05"}]\n' "a number with decimals in JSON"
+ends 0 '' put --quiet --db wide.db 茶 1234567
+ends 0 '' put --quiet --db wide.db "$(printf 'a\tb')" 2
+ends 0 '' balance --db wide.db --to table
+has ../out 'ARTICLE   NUMBER\na\\tb           2\n茶       1234567\n' "a wide name and an escaped one in columns"
+
 # From a million movements on a new database is suggested
 sql said.db "update batch set movements = 999988 where batch = 1"
 ends 0 "$(printf 'a.csv: batch 13, 2 movements\n%s: said.db: 1000000 movements, which each call reads: `close` begins a new database with the balance' $p)" enter --db said.db --again a.csv
@@ -468,7 +480,7 @@ has ../out 'article,number\nbolt,5\nnut,2\n' "a file that has the name of a subc
 
 # Arguments
 for words in "enter a.csv" "balance" "history --db s.db" "undo --quiet --db s.db" "undo --quiet --db s.db x" "close --db s.db" "verify --db" "balance --db s.db --wrong" \
-  "show --db s.db" "take --db s.db bolt" "put --db s.db 5" \
+  "show --db s.db" "take --db s.db bolt" "put --db s.db 5" "balance --db s.db --to csw" \
   "enter --quiet --db s.db --wait x" "enter --quiet --db s.db --columns a" "enter --quiet --db s.db --start-columns a,b,c" "enter --quiet --db s.db --scale 10"; do
   # shellcheck disable=SC2086
   "$program" $words > ../out 2> ../err < /dev/null

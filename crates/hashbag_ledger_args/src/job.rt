@@ -7,6 +7,7 @@ use clap::ArgMatches;
 use hashbag_csv::counts::Reading;
 use hashbag_csv::delimiter::Delimiter;
 use hashbag_csv::scale::{Mark, Scale};
+use hashbag_ledger_lib::balance_forms::Form;
 use hashbag_ledger_lib::numbers::MOST;
 use hashbag_ledger_lib::reading::Columns;
 use hashbag_shell::options::word;
@@ -42,6 +43,8 @@ pub struct Job<'a> {
     pub strict: bool,
     /// Whether a file is entered that was entered before.
     pub again: bool,
+    /// How a balance is written.
+    pub form: Form,
     /// The articles that are asked for.
     pub articles: Vec<&'a str>,
     /// The number of a movement that is typed.
@@ -108,6 +111,7 @@ impl<'a> Job<'a> {
             output: given.get_str("output"),
             strict: given.get_flag("strict"),
             again: given.get_flag("again"),
+            form: Form::named(word(given, "to", "csv")),
             articles: words_of(alloc, given, "ARTICLE")?,
             number: given.get_str("NUMBER").unwrap_or(""),
             batch: given.get_str("BATCH"),

@@ -7,6 +7,9 @@ use std::alloc::Global;
 
 const ABOUT: &str = "Keeps a stock in a database.";
 
+// The forms of a balance.
+static FORMS: [&str; 3] = ["csv", "table", "json"];
+
 const AFTER: &str = "\
 The database is a SQLite file; `sqlite3 stock.db` reads it too. Once a batch is entered it is on the disk. A file whose bytes were
 entered before is not entered again, except with --again.
@@ -187,7 +190,14 @@ fn balance<'a>(alloc: Global) -> CommandResult<'a> {
         .help(
             "Articles to be written, each with 0 if there are none; all that there are by default",
         );
-    let command = with(job(alloc, "balance", "Writes the balance"), articles);
+    let form = Arg::new(alloc, "to")
+        .long("to")
+        .value_name("FORM")
+        .value_parser(FORMS.as_slice())
+        .default_value("csv")
+        .help("What is written; numbers with decimals are texts in JSON");
+    let command = job(alloc, "balance", "Writes the balance");
+    let command = with(with(command, articles), form);
     let help = "Doesn't say which of the articles aren't there";
     with_output(alloc, with_quiet(alloc, command, help))
 }

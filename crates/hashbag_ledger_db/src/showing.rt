@@ -9,10 +9,10 @@ use crate::undoing::wanted_of;
 use hashbag_csv::escaped::Escaped;
 use hashbag_ledger_args::command::PROGRAM;
 use hashbag_ledger_args::job::Job;
+use hashbag_ledger_lib::balance_forms::formed_text;
 use hashbag_ledger_lib::entering::LedgerError;
 use hashbag_ledger_lib::listing::{batches_text, history_text, movements_text};
 use hashbag_ledger_lib::movements::Entry;
-use hashbag_ledger_lib::output::balance_text;
 use hashbag_ledger_lib::recalling::{recall, recall_batch};
 use hashbag_stock::reading::{balance_of, batches_of, history_of, movements_until};
 use hashbag_stock::tables::Shape;
@@ -28,9 +28,6 @@ pub struct Shown {
     /// What isn't there.
     pub said: String,
 }
-
-// The columns of a balance.
-const NAMES: (&str, &str) = ("article", "number");
 
 // Returns how many there are of an article.
 fn number_of(balance: &[(String, usize)], article: &str) -> usize {
@@ -77,7 +74,7 @@ pub fn balance_in<'a, D: Alter>(
     } else {
         chosen_of(alloc, &all, &request.articles)?
     };
-    let table = balance_text(alloc, NAMES, request.reading(shape.scale), &shown)?;
+    let table = formed_text(alloc, request.reading(shape.scale), request.form, &shown)?;
     Ok(Shown { table, said })
 }
 

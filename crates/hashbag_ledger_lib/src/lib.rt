@@ -1,6 +1,7 @@
 //! Movements of a stock, and a stock that is kept: what the program `hashbag_ledger` decides, as functions of texts, lists and bags.
 #![tactic(auto)]
 
+pub mod balance_forms;
 pub mod entering;
 pub mod filing;
 pub mod ledger;

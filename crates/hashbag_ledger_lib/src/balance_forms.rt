@@ -1,0 +1,147 @@
+//! A balance in the forms that it is written in.
+use crate::output::balance_text;
+use hashbag_csv::counts::Reading;
+use hashbag_csv::decimals::write_decimal;
+use hashbag_csv::escaped::Escaped;
+use hashbag_csv::scale::Scale;
+use serde::{Described, Serialize, Serializer};
+use std::alloc::{AllocError, Global};
+use unicode_width::UnicodeWidthStr;
+
+/// How a balance is written.
+#[derive(Clone, Copy, PartialEq, Eq, Debug)]
+pub enum Form {
+    /// As CSV, with a header.
+    Csv,
+    /// In columns, with titles, articles at the left and numbers at the right.
+    Table,
+    /// As a JSON array of an object for each article.
+    Json,
+}
+
+impl Form {
+    /// Returns the form of one of the names `csv`, `table` and `json`, and CSV for another name.
+    pub fn named(name: &str) -> Form {
+        match name {
+            "table" => Form::Table,
+            "json" => Form::Json,
+            _ => Form::Csv,
+        }
+    }
+}
+
+// The names of the columns.
+const NAMES: (&str, &str) = ("article", "number");
+
+// The cells of a table: the titles, and then each article, with control characters escaped, and its number.
+fn cells_of(
+    alloc: Global,
+    scale: Scale,
+    balance: &[(String, usize)],
+) -> Result<Vec<(String, String)>, AllocError> {
+    let mut rows = Vec::new(alloc);
+    let titles: (String, String) = (
+        String::from_str(alloc, "ARTICLE")?,
+        String::from_str(alloc, "NUMBER")?,
+    );
+    rows.push(titles)?;
+    for entry in balance {
+        let article = format!(in alloc; "{}", Escaped(entry.0.as_str()))?;
+        let row: (String, String) = (article, write_decimal(alloc, entry.1, scale)?);
+        rows.push(row)?;
+    }
+    Ok(rows)
+}
+
+// The balance in columns.
+fn table_of(
+    alloc: Global,
+    scale: Scale,
+    balance: &[(String, usize)],
+) -> Result<Vec<u8>, AllocError> {
+    let rows = cells_of(alloc, scale, balance)?;
+    let (mut left, mut right) = (0usize, 0usize);
+    for row in &rows {
+        left = left.max(row.0.as_str().width());
+        right = right.max(row.1.len());
+    }
+    let mut table = String::new(alloc);
+    for row in &rows {
+        table.push_str(row.0.as_str())?;
+        let before = left.saturating_sub(row.0.as_str().width());
+        let behind = right.saturating_sub(row.1.len());
+        for _ in 0..before.saturating_add(behind).saturating_add(2) {
+            table.push(' ')?;
+        }
+        table.push_str(row.1.as_str())?;
+        table.push('\n')?;
+    }
+    Ok(table.into_bytes())
+}
+
+// An article and its number as an object.
+#[derive(Drop)]
+struct Object<'a> {
+    article: &'a str,
+    number: usize,
+    // The number as a text, if it has decimals.
+    text: Option<String>,
+}
+
+impl Described for Object<'_> {}
+
+impl Serialize for Object<'_> {
+    fn serialize<S: Serializer>(&self, out: &mut S) -> Result<(), S::Error> {
+        out.begin_map(None)?;
+        out.key(NAMES.0)?;
+        self.article.serialize(out)?;
+        out.key(NAMES.1)?;
+        match &self.text {
+            Some(text) => text.serialize(out)?,
+            None => self.number.serialize(out)?,
+        }
+        out.end_map()
+    }
+}
+
+// The balance as JSON.
+fn json_of(
+    alloc: Global,
+    scale: Scale,
+    balance: &[(String, usize)],
+) -> Result<Vec<u8>, AllocError> {
+    let mut objects = Vec::new(alloc);
+    for entry in balance {
+        let text = if scale.decimals == 0 {
+            None
+        } else {
+            Some(write_decimal(alloc, entry.1, scale)?)
+        };
+        objects.push(Object {
+            article: entry.0.as_str(),
+            number: entry.1,
+            text,
+        })?;
+    }
+    let mut text = serde_json::to_vec(alloc, &objects).map_err(|_| AllocError)?;
+    text.push(b'\n')?;
+    Ok(text)
+}
+
+/// Returns the balance in this form. Numbers with decimals are texts in JSON.
+///
+/// # Errors
+///
+/// An allocation fails.
+pub fn formed_text(
+    alloc: Global,
+    reading: Reading,
+    form: Form,
+    balance: &[(String, usize)],
+) -> Result<Vec<u8>, AllocError> {
+    match form {
+        Form::Csv => balance_text(alloc, NAMES, reading, balance),
+        Form::Table => table_of(alloc, reading.scale, balance),
+        Form::Json => json_of(alloc, reading.scale, balance),
+    }
+}
