@@ -50,6 +50,16 @@ ends 0 "" names.csv names.csv --each-line --mark , --to json
 has ../out '[{"article":"bolt","ordered":2,"delivered":2,"missing":0,"surplus":0},{"article":"nut","ordered":1,"delivered":1,"missing":0,"surplus":0}]\n' "a list without numbers as JSON"
 ends 2 'hashbag_match: names.csv:1: no column `number`; there are: `article`' names.csv boxes.csv
 
+# An empty field of numbers is 0, if that is asked for; one of spaces isn't empty
+printf 'article,number\nbolt,\nnut,""\nbolt,2\n' > blank.csv
+printf 'article,number\nnut, \n' > space.csv
+ends 0 "" blank.csv blank.csv --blank-is-zero --to csv
+has ../out 'article,ordered,delivered,missing,surplus\nbolt,2,2,0,0\nnut,0,0,0,0\n' "empty numbers"
+ends 0 "" blank.csv blank.csv --blank-is-zero --scale 2 --only missing --to json
+has ../out '[]\n' "empty numbers at a scale"
+ends 2 'hashbag_match: blank.csv:2: no number: ``' blank.csv blank.csv
+ends 2 'hashbag_match: space.csv:2: no number: ` `' blank.csv space.csv --blank-is-zero
+
 # Spaces and tabs at both ends of key fields are removed: nothing else is, neither in between nor from the names of columns
 printf 'article ,lot,number\n bolt  M4\t,L1,1\nbolt  M4, L1,2\n"nut\n",\t,4\n' > spaced.csv
 printf 'article ,lot,number\nbolt  M4,L1,3\n"nut\n ",,4\n' > plain.csv
@@ -89,7 +99,7 @@ ends 4 "hashbag_match: none.csv: No such file or directory (os error 2)" a.csv n
 ends 4 "hashbag_match: /dev/full: No space left on device (os error 28)" a.csv b.csv -o /dev/full
 "$program" a.csv b.csv > /dev/full 2> ../err
 [ $? = 4 ] || fail "a full disk at standard output"
-files a.csv after.csv b.csv boxes.csv cased.csv hard.csv kept kilos.csv lots.csv lower.csv menge.csv names.csv open.csv plain.csv qty.csv spaced.csv stray.csv
+files a.csv after.csv b.csv blank.csv boxes.csv cased.csv hard.csv kept kilos.csv lots.csv lower.csv menge.csv names.csv open.csv plain.csv qty.csv space.csv spaced.csv stray.csv
 
 # A file that can be opened but not read is no end of a file; nobody reads the output any more
 mkdir folder
@@ -109,7 +119,7 @@ exec 7>&-
 printf 'article,number\nbolt,18446744073709551615\nnut,1\n' > many.csv
 ends 5 "hashbag_match: many.csv:3: total past 18446744073709551615" a.csv many.csv
 for words in "" "a.csv" "- -" "a.csv b.csv --scale 10" "a.csv b.csv --delimiter x" "a.csv b.csv --key article,article" "a.csv b.csv --only some" "a.csv b.csv --none" \
-  "a.csv b.csv --each-line --number number" "a.csv b.csv --each-line --delivered-number number" "a.csv b.csv --scale 0 --each-line"; do
+  "a.csv b.csv --each-line --number number" "a.csv b.csv --each-line --delivered-number number" "a.csv b.csv --scale 0 --each-line" "a.csv b.csv --each-line --blank-is-zero"; do
   # shellcheck disable=SC2086
   "$program" $words > ../out 2> ../err < /dev/null
   [ $? = 2 ] && [ ! -s ../out ] && [ -s ../err ] || fail "bad arguments: $words"
@@ -119,7 +129,7 @@ for option in --version -V; do
   grep -Eqx 'hashbag_match 0\.1\.13-[0-9]+' ../out || fail "no version"
 done
 ends 0 "" --help
-for name in --key --number --delivered-key --delivered-number --each-line --trim --fold --delimiter --scale --mark --only --to --output; do
+for name in --key --number --delivered-key --delivered-number --each-line --blank-is-zero --trim --fold --delimiter --scale --mark --only --to --output; do
   grep -q -e "$name" ../out || fail "no $name in the help"
 done
 echo "match: ok"

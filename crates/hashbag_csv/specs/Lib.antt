@@ -9,6 +9,7 @@ pub mod LineColumns
 pub mod Lines
 pub mod LinesExamples
 pub mod Marks
+pub mod NumberForms
 pub mod Quantities
 pub mod Readers
 pub mod Sheets

@@ -3,7 +3,7 @@ use Rattle.std.specs.Prelude.{◌≡◌, ℕ, List, ◌∷◌, map, Option, opti
 use Rattle.hashbag_csv.specs.Lines.{line_of}
 use Rattle.hashbag_csv.specs.Readers.{Record}
 use Rattle.hashbag_csv.specs.Sheets.{place}
-use Rattle.hashbag_csv.specs.declared.key_form.KeyForm.{KeyForm}
+use Rattle.hashbag_csv.specs.declared.line_form.LineForm.{LineForm}
 use Rattle.hashbag_csv.specs.declared.lines.LineColumns.{LineColumns}
 use Rattle.hashbag_csv.specs.declared.scale.Scale.{Scale}
 
@@ -15,8 +15,8 @@ key_places c = map place c.article.items
 abbrev pub number_place : LineColumns → Option ℕ
 number_place c = option_map place c.number
 
--- what the fields of the key columns are compared and shown as
-abbrev pub form_of : LineColumns → KeyForm
+-- how the lines are read
+abbrev pub form_of : LineColumns → LineForm
 form_of c = c.form
 
 -- the line of a record, by these columns

@@ -1,5 +1,5 @@
 -- The lines of a CSV text under its header: an article, which is the fields of the key columns, and a number.
-use Rattle.std.specs.Prelude.{ℕ, ◌^◌, List, [], ◌∷◌, map, get_or, bytes_eq, Option, Some, None, option_map}
+use Rattle.std.specs.Prelude.{ℕ, ◌^◌, ◌==◌, ◌&&◌, if◌then◌else◌, List, [], ◌∷◌, length, map, get_or, bytes_eq, Option, Some, None, option_map}
 use Rattle.std.specs.List.{position_or_len}
 use Rattle.hashbag_csv.specs.Decimals.{units}
 use Rattle.hashbag_csv.specs.KeyForms.{field_in}
@@ -7,6 +7,8 @@ use Rattle.hashbag_csv.specs.Marks.{code_of}
 use Rattle.hashbag_csv.specs.Readers.{Record, records_in}
 use Rattle.hashbag_csv.specs.declared.counts.Reading.{Reading}
 use Rattle.hashbag_csv.specs.declared.key_form.KeyForm.{KeyForm}
+use Rattle.hashbag_csv.specs.declared.line_form.LineForm.{LineForm}
+use Rattle.hashbag_csv.specs.declared.number_form.NumberForm.{NumberForm}
 use Rattle.hashbag_csv.specs.declared.scale.Scale.{Scale}
 
 -- the place of a column, by its name in the header
@@ -21,20 +23,24 @@ fields_at form places r = map (λ p. field_in form (get_or r p [])) places
 abbrev pub number_in : Scale → List ℕ → ℕ
 number_in scale text = units (code_of scale.mark) scale.decimals text
 
+-- the number of a field in this form, in units of the scale
+abbrev pub number_by : Scale → NumberForm → List ℕ → ℕ
+number_by scale form field = if form.blank_is_zero && (length field == 0) then 0 else number_in scale field
+
 -- the number of a record, in units of the scale: that at this place; without a place, one
-abbrev pub number_at : Scale → Option ℕ → Record → ℕ
-number_at scale (Some place) r = number_in scale (get_or r place [])
-number_at scale None r = 10 ^ scale.decimals
+abbrev pub number_at : Scale → NumberForm → Option ℕ → Record → ℕ
+number_at scale form (Some place) r = number_by scale form (get_or r place [])
+number_at scale form None r = 10 ^ scale.decimals
 
 -- the line of a record: its fields at the places `keys`, and its number at the place `number`, if there is one
-abbrev pub line_of : Scale → KeyForm → List ℕ → Option ℕ → Record → Record × ℕ
-line_of scale form keys number r = (fields_at form keys r, number_at scale number r)
+abbrev pub line_of : Scale → LineForm → List ℕ → Option ℕ → Record → Record × ℕ
+line_of scale form keys number r = (fields_at form.key keys r, number_at scale form.number number r)
 
 -- the lines of the records after the first one, which is their header: `keys` and `number` are the names of the columns
-abbrev pub lines_under : Scale → KeyForm → List (List ℕ) → Option (List ℕ) → List Record → List (Record × ℕ)
+abbrev pub lines_under : Scale → LineForm → List (List ℕ) → Option (List ℕ) → List Record → List (Record × ℕ)
 lines_under scale form keys number [] = []
 lines_under scale form keys number (header ∷ records) = map (line_of scale form (map (place_of header) keys) (option_map (place_of header) number)) records
 
 -- the lines of a text, whose columns have these names; if no name is given for numbers, each line counts as one
-abbrev pub lines_in : Reading → KeyForm → List (List ℕ) → Option (List ℕ) → List ℕ → List (Record × ℕ)
+abbrev pub lines_in : Reading → LineForm → List (List ℕ) → Option (List ℕ) → List ℕ → List (Record × ℕ)
 lines_in reading form keys number text = lines_under reading.scale form keys number (records_in reading.delimiter text)

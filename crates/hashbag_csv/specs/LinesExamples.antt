@@ -5,7 +5,7 @@ use Rattle.csv.proofs.OnLiterals.{csv_on_literals}
 use Rattle.hashbag_csv.specs.Lines.{lines_in}
 use Rattle.hashbag_csv.specs.declared.counts.Reading.{Reading}
 use Rattle.hashbag_csv.specs.declared.delimiter.Delimiter.TheVariants.{Comma, Semicolon}
-use Rattle.hashbag_csv.specs.declared.key_form.KeyForm.{KeyForm}
+use Rattle.hashbag_csv.specs.declared.line_form.LineForm.{LineForm}
 use Rattle.hashbag_csv.specs.declared.scale.Mark.TheVariants.{Point, Comma as comma_mark}
 
 abbrev whole : Reading
@@ -14,11 +14,14 @@ whole = record { delimiter = Comma; scale = record { decimals = 0; mark = Point;
 abbrev hundredths : Reading
 hundredths = record { delimiter = Semicolon; scale = record { decimals = 2; mark = comma_mark; most = 2 ^ 64 - 1; few = omega arith } }
 
-abbrev as_is : KeyForm
-as_is = record { trim = false; fold = false }
+abbrev as_is : LineForm
+as_is = record { key = record { trim = false; fold = false }; number = record { blank_is_zero = false } }
 
-abbrev trimming : KeyForm
-trimming = record { trim = true; fold = false }
+abbrev trimming : LineForm
+trimming = record as_is { key = record { trim = true; fold = false } }
+
+abbrev with_blanks : LineForm
+with_blanks = record as_is { number = record { blank_is_zero = true } }
 
 -- each line, in turn; columns in any order
 each : lines_in whole as_is (codes "article" ∷ []) (Some (codes "number")) (codes "number,note,article\n5,x,nut\n7,y,nut\n") ≡ (codes "nut" ∷ [], 5) ∷ (codes "nut" ∷ [], 7) ∷ []
@@ -57,3 +60,8 @@ one = refl
 trims : lines_in whole trimming (codes "a" ∷ codes " b" ∷ []) (Some (codes "n")) (codes "a, b,n\nx\t, y,1\n\"x \",y  ,2\n") ≡ (codes "x" ∷ codes "y" ∷ [], 1) ∷ (codes "x" ∷ codes "y" ∷ [], 2) ∷ []
 unfolding csv_on_literals
 trims = refl
+
+-- an empty field of numbers is 0, and its line is a line
+blanks : lines_in hundredths with_blanks (codes "a" ∷ []) (Some (codes "n")) (codes "a;n\nx;\ny;1,5\n") ≡ (codes "x" ∷ [], 0) ∷ (codes "y" ∷ [], 150) ∷ []
+unfolding csv_on_literals
+blanks = refl

@@ -10,7 +10,8 @@ use crate::article::Article;
 use crate::decimals::unit_of;
 use crate::fault::SheetError;
 use crate::key_form::KeyForm;
-use crate::numbers::scaled_number;
+use crate::line_form::LineForm;
+use crate::number_form::{NumberForm, field_number};
 use crate::scale::Scale;
 use crate::sheet::{Column, Sheet};
 use caseless::default_case_fold_str;
@@ -21,7 +22,7 @@ use std::alloc::{AllocError, Global};
 pub struct LineColumns<'n> {
     article: Vec<Column<'n>>,
     number: Option<Column<'n>>,
-    form: KeyForm,
+    form: LineForm,
 }
 
 /// Returns the column of this name in the header, which must be the record that was read last.
@@ -115,21 +116,22 @@ fn number_of(
     sheet: &Sheet<'_>,
     column: Option<Column<'_>>,
     scale: Scale,
+    form: NumberForm,
 ) -> Result<usize, SheetError>
-    ensures { IfOk result (λ n. n ≡ number_at scale (option_map place column.entry) (read_last sheet.now)) }
+    ensures { IfOk result (λ n. n ≡ number_at scale form (option_map place column.entry) (read_last sheet.now)) }
 {
     match column {
         Some(column) => {
-            let digits = sheet.field(column)?;
-            scaled_number(alloc, sheet.line(), digits, digits, scale)
+            let field = sheet.field(column)?;
+            field_number(alloc, sheet.line(), field, scale, form)
         }
         None => Ok(unit_of(scale.decimals)),
     }
 }
 
 impl<'n> LineColumns<'n> {
-    /// Returns the columns of these names in the header, which must be the record that was read last. Articles will have their fields in this
-    /// form. If `number` is `None`, each line counts as one.
+    /// Returns the columns of these names in the header, which must be the record that was read last. Lines will be read in this form. If
+    /// `number` is `None`, each line counts as one.
     ///
     /// # Errors
     ///
@@ -139,7 +141,7 @@ impl<'n> LineColumns<'n> {
         sheet: &Sheet<'_>,
         keys: &[&'n str],
         number: Option<&'n str>,
-        form: KeyForm,
+        form: LineForm,
     ) -> Result<LineColumns<'n>, SheetError>
         ensures keys { IfOk result (λ columns. key_places columns ≡ map (λ n. place_of (read_last sheet.now) n.now) keys.now) }
         ensures number { IfOk result (λ columns. number_place columns ≡ option_map (λ n. place_of (read_last sheet.now) n.now) number.entry) }
@@ -172,8 +174,8 @@ impl<'n> LineColumns<'n> {
         if !sheet.read()? {
             return Ok(None);
         }
-        let article = A::read(alloc, sheet, &self.article, self.form)?;
-        let number = number_of(alloc, sheet, self.number, scale)?;
+        let article = A::read(alloc, sheet, &self.article, self.form.key)?;
+        let number = number_of(alloc, sheet, self.number, scale, self.form.number)?;
         Ok(Some((article, number)))
     }
 }

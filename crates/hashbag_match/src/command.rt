@@ -47,7 +47,8 @@ fn with_columns<'a>(alloc: Global, command: CommandResult<'a>) -> CommandResult<
         .help("The name of the column of numbers in DELIVERED.csv, if it is another");
     let command = with(with(command, key), number);
     let command = with(with(command, delivered_key), delivered_number);
-    with_key_form(alloc, with_lines(alloc, command))
+    let command = with_number_form(alloc, with_lines(alloc, command));
+    with_key_form(alloc, command)
 }
 
 // Adds `--each-line`, which no option about numbers may be given with.
@@ -58,8 +59,18 @@ fn with_lines<'a>(alloc: Global, command: CommandResult<'a>) -> CommandResult<'a
         .help("Read no column of numbers: each line counts as one")
         .conflicts_with("number")?
         .conflicts_with("delivered-number")?
-        .conflicts_with("scale")?;
+        .conflicts_with("scale")?
+        .conflicts_with("blank-is-zero")?;
     with(command, each_line)
+}
+
+// Adds what a field of numbers may be.
+fn with_number_form<'a>(alloc: Global, command: CommandResult<'a>) -> CommandResult<'a> {
+    let blank_is_zero = Arg::new(alloc, "blank-is-zero")
+        .long("blank-is-zero")
+        .action(ArgAction::SetTrue)
+        .help("Read an empty field of numbers as 0");
+    with(command, blank_is_zero)
 }
 
 // Adds what the fields of an article are compared and shown as.

@@ -2,6 +2,8 @@
 use clap::ArgMatches;
 use hashbag_csv::counts::Reading;
 use hashbag_csv::key_form::KeyForm;
+use hashbag_csv::line_form::LineForm;
+use hashbag_csv::number_form::NumberForm;
 use hashbag_match_lib::ask::{Ask, Columns};
 use hashbag_match_lib::output::{Form, Only};
 use hashbag_shell::one_file::is_one_file;
@@ -31,6 +33,19 @@ fn number_column<'a>(given: &ArgMatches<'a>, name: &'a str) -> Option<&'a str> {
     Some(name)
 }
 
+// How lines are read.
+fn line_form_of(given: &ArgMatches<'_>) -> LineForm {
+    LineForm {
+        key: KeyForm {
+            trim: given.get_flag("trim"),
+            fold: given.get_flag("fold"),
+        },
+        number: NumberForm {
+            blank_is_zero: given.get_flag("blank-is-zero"),
+        },
+    }
+}
+
 // What the words ask for.
 fn ask_of<'a>(alloc: Global, given: &ArgMatches<'a>) -> Result<Ask<'a>, AllocError> {
     let key = word(given, "key", "article");
@@ -47,10 +62,7 @@ fn ask_of<'a>(alloc: Global, given: &ArgMatches<'a>) -> Result<Ask<'a>, AllocErr
             word(given, "scale", "0"),
             word(given, "mark", "."),
         ),
-        key_form: KeyForm {
-            trim: given.get_flag("trim"),
-            fold: given.get_flag("fold"),
-        },
+        line_form: line_form_of(given),
         only: Only::named(word(given, "only", "all")),
         form: Form::named(word(given, "to", "table")),
     })

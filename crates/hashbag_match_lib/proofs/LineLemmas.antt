@@ -5,7 +5,7 @@ use Rattle.std.proofs.lemmas.List.{append-nil, map-append}
 use Rattle.hashbag_csv.specs.LineColumns.{line_bytes}
 use Rattle.hashbag_csv.specs.Lines.{line_of, lines_under, place_of}
 use Rattle.hashbag_csv.specs.Readers.{Record}
-use Rattle.hashbag_csv.specs.declared.key_form.KeyForm.{KeyForm}
+use Rattle.hashbag_csv.specs.declared.line_form.LineForm.{LineForm}
 use Rattle.hashbag_csv.specs.declared.scale.Scale.{Scale}
 use Rattle.hashbag.specs.Bag.{Bag}
 use Rattle.hashbag.proofs.MemberLemmas.{map-map}
@@ -36,8 +36,8 @@ map_copied f None = refl
 map_copied f (Some n) = refl
 
 -- the lines below the header, by the places of the columns
-pub all_lines : (scale : Scale) (form : KeyForm) (keys : List (Bor (List ℕ))) (number : Option (Bor (List ℕ))) (all : List Record) (header : Record) (records : List Record)
-    (own : KeyForm) (places : List ℕ) (place : Option ℕ)
+pub all_lines : (scale : Scale) (form : LineForm) (keys : List (Bor (List ℕ))) (number : Option (Bor (List ℕ))) (all : List Record) (header : Record) (records : List Record)
+    (own : LineForm) (places : List ℕ) (place : Option ℕ)
     → all ≡ header ∷ records → own ≡ form → places ≡ map (λ k. place_of header k.now) keys → place ≡ option_map (λ n. place_of header n.now) number
     → map (line_of scale own places place) records ≡ lines_under scale form (map (λ k. k.now) keys) (option_copied number) all
 all_lines scale form keys number all header records own places place is form_is keys_are number_is =

@@ -3,7 +3,7 @@ use Rattle.std.specs.Prelude.{ℕ, List, map, option_copied}
 use Rattle.hashbag_csv.specs.Lines.{lines_in}
 use Rattle.hashbag_csv.specs.Readers.{Record}
 use Rattle.hashbag_csv.specs.declared.counts.Reading.{Reading}
-use Rattle.hashbag_csv.specs.declared.key_form.KeyForm.{KeyForm}
+use Rattle.hashbag_csv.specs.declared.line_form.LineForm.{LineForm}
 use Rattle.hashbag_match_lib.specs.declared.ask.Ask.{Ask}
 use Rattle.hashbag_match_lib.specs.declared.ask.Columns.{Columns}
 
@@ -16,13 +16,13 @@ abbrev pub names_of : Columns → List (List ℕ)
 names_of c = map (λ k. k.now) c.keys.items
 
 -- the lines of a text, whose columns have these names
-abbrev pub lines_of : Reading → KeyForm → Columns → List ℕ → Lines
+abbrev pub lines_of : Reading → LineForm → Columns → List ℕ → Lines
 lines_of reading form c text = lines_in reading form (names_of c) (option_copied c.number) text
 
 -- the lines of a text of what was ordered
 abbrev pub ordered_in : Ask → List ℕ → Lines
-ordered_in ask text = lines_of ask.reading ask.key_form ask.ordered text
+ordered_in ask text = lines_of ask.reading ask.line_form ask.ordered text
 
 -- the lines of a text of what was delivered
 abbrev pub delivered_in : Ask → List ℕ → Lines
-delivered_in ask text = lines_of ask.reading ask.key_form ask.delivered text
+delivered_in ask text = lines_of ask.reading ask.line_form ask.delivered text

@@ -3,7 +3,7 @@ use crate::keys::{names_in, repeated};
 use crate::output::{Form, Only, is_reserved};
 use hashbag_csv::counts::Reading;
 use hashbag_csv::escaped::Escaped;
-use hashbag_csv::key_form::KeyForm;
+use hashbag_csv::line_form::LineForm;
 use std::alloc::{AllocError, Global};
 use thiserror::Error;
 
@@ -37,8 +37,8 @@ pub struct Ask<'a> {
     pub delivered: Columns<'a>,
     /// How both texts are read, and how numbers and CSV are written.
     pub reading: Reading,
-    /// What the fields of the key columns of both are compared and shown as.
-    pub key_form: KeyForm,
+    /// How the lines of both are read.
+    pub line_form: LineForm,
     /// Which rows are written.
     pub only: Only,
     /// How they are written.

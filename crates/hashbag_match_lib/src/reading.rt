@@ -11,7 +11,7 @@ use hashbag::BagError;
 use hashbag_csv::article::Article;
 use hashbag_csv::counts::Reading;
 use hashbag_csv::fault::SheetError;
-use hashbag_csv::key_form::KeyForm;
+use hashbag_csv::line_form::LineForm;
 use hashbag_csv::lines::LineColumns;
 use hashbag_csv::numbers::total_too_large;
 use hashbag_csv::scale::Scale;
@@ -57,9 +57,9 @@ fn add_lines<A: Article + Drop, S: BuildHasher + Drop>(
     Ok(())
 }
 
-/// Returns the tally of the lines of a text, under this hash state. An article is the fields of the columns that `keys` names, in this form,
-/// and may be on more than one line; its numbers add up. Numbers are in units of the scale, and all together are at most its greatest number.
-/// If `number_column` is `None`, each line counts as one.
+/// Returns the tally of the lines of a text, which are read in this form, under this hash state. An article is the fields of the columns that
+/// `keys` names, and may be on more than one line; its numbers add up. Numbers are in units of the scale, and all together are at most its
+/// greatest number. If `number_column` is `None`, each line counts as one.
 ///
 /// # Errors
 ///
@@ -76,16 +76,16 @@ pub fn read_tally<A: Article + Drop, S: BuildHasher + Copy + Drop>(
     keys: &[&str],
     number_column: Option<&str>,
     reading: Reading,
-    key_form: KeyForm,
+    form: LineForm,
 ) -> Result<Tally<A, S>, SheetError>
     ensures lines { IfOk result (λ tally. IsTallyOfLines A.eq A.fields
-        (lines_in reading key_form (map (λ k. k.now) keys.now) (option_copied number_column.entry) text.now) tally.counts tally.zeros) }
+        (lines_in reading form (map (λ k. k.now) keys.now) (option_copied number_column.entry) text.now) tally.counts tally.zeros) }
 
     // Nothing waits in either bag.
     ensures carried { IfOk result (λ tally. (tally.counts.tables.waiting ≡ []) × (tally.zeros.tables.waiting ≡ [])) }
 {
     let mut sheet = Sheet::open_with(alloc, text, reading.delimiter)?;
-    let columns = LineColumns::named(alloc, &sheet, keys, number_column, key_form)?;
+    let columns = LineColumns::named(alloc, &sheet, keys, number_column, form)?;
     let mut tally = empty_tally(alloc, state);
     add_lines(alloc, &mut sheet, &columns, &mut tally, reading.scale)?;
     tally.finish_carry();

@@ -39,7 +39,7 @@ pub fn read_ordered<A: Article + Drop, S: BuildHasher + Copy + Drop>(
         &columns.keys,
         columns.number,
         ask.reading,
-        ask.key_form,
+        ask.line_form,
     )
 }
 
@@ -60,7 +60,7 @@ fn read_delivered<A: Article + Drop, S: BuildHasher + Copy + Drop>(
         &columns.keys,
         columns.number,
         ask.reading,
-        ask.key_form,
+        ask.line_form,
     )
 }
 

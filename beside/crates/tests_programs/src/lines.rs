@@ -3,6 +3,8 @@ use crate::lists::said_of_lines;
 use hashbag_csv::counts::Reading;
 use hashbag_csv::delimiter::Delimiter;
 use hashbag_csv::key_form::KeyForm;
+use hashbag_csv::line_form::LineForm;
+use hashbag_csv::number_form::NumberForm;
 use hashbag_csv::scale::{Mark, Scale};
 use std::test::Fail;
 
@@ -22,10 +24,7 @@ const EACH_LINE: [(&[u8], u32, &str); 6] = [
 
 #[test]
 fn each_line_counts_as_one(rt: HostRuntime) -> Result<(), Fail> {
-    let form = KeyForm {
-        trim: false,
-        fold: false,
-    };
+    let form = LineForm::plain();
     for (text, decimals, wanted) in &EACH_LINE {
         let reading = Reading {
             delimiter: Delimiter::Comma,
@@ -39,10 +38,7 @@ fn each_line_counts_as_one(rt: HostRuntime) -> Result<(), Fail> {
 
 #[test]
 fn total_of_lines_is_bounded(rt: HostRuntime) -> Result<(), Fail> {
-    let form = KeyForm {
-        trim: false,
-        fold: false,
-    };
+    let form = LineForm::plain();
     let reading = Reading {
         delimiter: Delimiter::Comma,
         scale: Scale::whole().at_most(2),
@@ -110,12 +106,44 @@ const FORMS: [(&[u8], bool, bool, &str); 12] = [
 #[test]
 fn fields_are_trimmed_and_folded(rt: HostRuntime) -> Result<(), Fail> {
     for (text, trim, fold, wanted) in &FORMS {
-        let form = KeyForm {
-            trim: *trim,
-            fold: *fold,
+        let form = LineForm {
+            key: KeyForm {
+                trim: *trim,
+                fold: *fold,
+            },
+            number: LineForm::plain().number,
         };
         let number = Some("number");
         let said = said_of_lines(rt.alloc(), text, &["k"], number, Reading::plain(), form)?;
+        assert_eq!(rt; said.as_str(), *wanted);
+    }
+    Ok(())
+}
+
+// A text, its decimals, and what it says if an empty field of numbers is 0.
+const BLANKS: [(&[u8], u32, &str); 6] = [
+    (b"k,number\nnut,\nbolt,2\nbolt,\"\"\n", 0, "[bolt 2][nut 0]"),
+    (b"k,number\nnut,\nnut,1.5\n", 2, "[nut 150]"),
+    (b"number,k\n,\n", 0, "[ 0]"),
+    (b"k,number\nnut, \n", 0, "2: no number: ` `"),
+    (b"k,number\nnut,\nbolt,x\n", 0, "3: no number: `x`"),
+    (b"k,number\nnut\n", 0, "2: 2 fields wanted, 1 found"),
+];
+
+#[test]
+fn blank_is_zero(rt: HostRuntime) -> Result<(), Fail> {
+    for (text, decimals, wanted) in &BLANKS {
+        let form = LineForm {
+            key: LineForm::plain().key,
+            number: NumberForm {
+                blank_is_zero: true,
+            },
+        };
+        let reading = Reading {
+            delimiter: Delimiter::Comma,
+            scale: Scale::new(*decimals, Mark::Point).unwrap_or(Scale::whole()),
+        };
+        let said = said_of_lines(rt.alloc(), text, &["k"], Some("number"), reading, form)?;
         assert_eq!(rt; said.as_str(), *wanted);
     }
     Ok(())

@@ -5,7 +5,7 @@ use hashbag_csv::counts::{Reading, read_counts_as};
 use hashbag_csv::decimals::{read_decimal, write_decimal};
 use hashbag_csv::delimiter::Delimiter;
 use hashbag_csv::fault::in_file;
-use hashbag_csv::key_form::KeyForm;
+use hashbag_csv::line_form::LineForm;
 use hashbag_csv::scale::{Mark, Scale};
 use hashbag_match_lib::keys::{names_in, repeated};
 use hashbag_match_lib::matching::rows_of_tallies;
@@ -182,12 +182,6 @@ const TEXTS: [(&[u8], &str); 52] = [
     (b"article,number\nbolt,x\nbo\xfft,1\n", "2: no number: `x`"),
 ];
 
-// Fields as they are.
-const AS_THEY_ARE: KeyForm = KeyForm {
-    trim: false,
-    fold: false,
-};
-
 type ListTally = Tally<Vec<String>, FixedState>;
 
 // Adds an article with its number to what is said.
@@ -216,7 +210,7 @@ pub(crate) fn said_of_lines(
     keys: &[&str],
     number: Option<&str>,
     reading: Reading,
-    form: KeyForm,
+    form: LineForm,
 ) -> Result<String, AllocError> {
     let state = FixedState::new();
     match read_tally(alloc, state, text, keys, number, reading, form) {
@@ -232,7 +226,8 @@ fn said_of(
     keys: &[&str],
     reading: Reading,
 ) -> Result<String, AllocError> {
-    said_of_lines(alloc, text, keys, Some("number"), reading, AS_THEY_ARE)
+    let form = LineForm::plain();
+    said_of_lines(alloc, text, keys, Some("number"), reading, form)
 }
 
 // What a text says that is read so, its key columns in one text.
@@ -561,7 +556,7 @@ fn status_of(alloc: Global, text: &[u8], decimals: u32) -> u8 {
         &["article"],
         Some("number"),
         reading,
-        AS_THEY_ARE,
+        LineForm::plain(),
     );
     match in_file(alloc, "ordered.csv", tally) {
         Ok(_) => 0,

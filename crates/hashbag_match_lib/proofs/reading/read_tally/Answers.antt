@@ -11,7 +11,7 @@ returns-clause-lines g c =
     let columns = c.in_ok-columns.columns in
     let sheet = c.in_ok-sheet.sheet in (
       L,
-      are ∙ all_lines c.args.reading.scale c.args.key_form c.args.keys.now c.args.number_column _ (read_last sheet) (left sheet) (form_of columns) (key_places columns) (number_place columns)
+      are ∙ all_lines c.args.reading.scale c.args.form c.args.keys.now c.args.number_column _ (read_last sheet) (left sheet) (form_of columns) (key_places columns) (number_place columns)
           c.in_ok-sheet.ensures c.in_ok-columns.ensures.form c.in_ok-columns.ensures.keys c.in_ok-columns.ensures.number,
       c.finish_carry.ensures.same L is,
     )

@@ -1,0 +1,33 @@
+//! How the lines of a list are read.
+ghost use Rattle.std.specs.Prelude.{◌≡◌, false};
+
+use crate::key_form::KeyForm;
+use crate::number_form::NumberForm;
+
+/// How the lines of a list are read.
+#[derive(Clone, Copy, PartialEq, Eq, Debug)]
+pub struct LineForm {
+    /// What the fields of an article are compared and shown as.
+    pub key: KeyForm,
+    /// What a field of numbers may be.
+    pub number: NumberForm,
+}
+
+impl LineForm {
+    /// Returns the form of fields that are compared as they are, and of numbers that are written out.
+    pub fn plain() -> LineForm
+        ensures trim { result.key.trim ≡ false }
+        ensures fold { result.key.fold ≡ false }
+        ensures blank_is_zero { result.number.blank_is_zero ≡ false }
+    {
+        LineForm {
+            key: KeyForm {
+                trim: false,
+                fold: false,
+            },
+            number: NumberForm {
+                blank_is_zero: false,
+            },
+        }
+    }
+}
