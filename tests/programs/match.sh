@@ -60,6 +60,20 @@ has ../out '[]\n' "empty numbers at a scale"
 ends 2 'hashbag_match: blank.csv:2: no number: ``' blank.csv blank.csv
 ends 2 'hashbag_match: space.csv:2: no number: ` `' blank.csv space.csv --blank-is-zero
 
+# Marks between groups of three digits, or none in a number; groups of another length are bad lines
+printf 'article;number\nnut;1.000,5\nnut;12.345.678\nbolt;1000\n' > grouped.csv
+printf 'article;number\nnut;12346678,50\nbolt;1.000,00\n' > ungrouped.csv
+printf 'article;number\nnut;1.000\nbolt;1.00,5\n' > twos.csv
+printf 'article;number\nnut;1 000\nbolt;.100\n' > front.csv
+ends 0 "" grouped.csv ungrouped.csv --delimiter ';' --mark , --scale 2 --group-mark . --to csv
+has ../out 'article;ordered;delivered;missing;surplus\nbolt;1000,00;1000,00;0,00;0,00\nnut;12346678,50;12346678,50;0,00;0,00\n' "numbers in groups"
+ends 2 'hashbag_match: grouped.csv:2: no number: `1.000,5`' grouped.csv ungrouped.csv --delimiter ';' --mark , --scale 2
+ends 2 'hashbag_match: twos.csv:3: groups of three digits wanted: `1.00,5`' twos.csv twos.csv --delimiter ';' --mark , --scale 2 --group-mark .
+ends 2 'hashbag_match: front.csv:2: no number: `1 000`' front.csv front.csv --delimiter ';' --mark , --group-mark .
+ends 2 'hashbag_match: front.csv:3: no number: `.100`' front.csv front.csv --delimiter ';' --mark , --group-mark ' '
+ends 2 'hashbag_match: --group-mark is the mark before decimals' a.csv b.csv --group-mark .
+ends 2 'hashbag_match: --group-mark is the delimiter' a.csv b.csv --group-mark ,
+
 # Spaces and tabs at both ends of key fields are removed: nothing else is, neither in between nor from the names of columns
 printf 'article ,lot,number\n bolt  M4\t,L1,1\nbolt  M4, L1,2\n"nut\n",\t,4\n' > spaced.csv
 printf 'article ,lot,number\nbolt  M4,L1,3\n"nut\n ",,4\n' > plain.csv
@@ -99,7 +113,7 @@ ends 4 "hashbag_match: none.csv: No such file or directory (os error 2)" a.csv n
 ends 4 "hashbag_match: /dev/full: No space left on device (os error 28)" a.csv b.csv -o /dev/full
 "$program" a.csv b.csv > /dev/full 2> ../err
 [ $? = 4 ] || fail "a full disk at standard output"
-files a.csv after.csv b.csv blank.csv boxes.csv cased.csv hard.csv kept kilos.csv lots.csv lower.csv menge.csv names.csv open.csv plain.csv qty.csv space.csv spaced.csv stray.csv
+files a.csv after.csv b.csv blank.csv boxes.csv cased.csv front.csv grouped.csv hard.csv kept kilos.csv lots.csv lower.csv menge.csv names.csv open.csv plain.csv qty.csv space.csv spaced.csv stray.csv twos.csv ungrouped.csv
 
 # A file that can be opened but not read is no end of a file; nobody reads the output any more
 mkdir folder
@@ -119,7 +133,7 @@ exec 7>&-
 printf 'article,number\nbolt,18446744073709551615\nnut,1\n' > many.csv
 ends 5 "hashbag_match: many.csv:3: total past 18446744073709551615" a.csv many.csv
 for words in "" "a.csv" "- -" "a.csv b.csv --scale 10" "a.csv b.csv --delimiter x" "a.csv b.csv --key article,article" "a.csv b.csv --only some" "a.csv b.csv --none" \
-  "a.csv b.csv --each-line --number number" "a.csv b.csv --each-line --delivered-number number" "a.csv b.csv --scale 0 --each-line" "a.csv b.csv --each-line --blank-is-zero"; do
+  "a.csv b.csv --each-line --number number" "a.csv b.csv --each-line --delivered-number number" "a.csv b.csv --scale 0 --each-line" "a.csv b.csv --each-line --blank-is-zero" "a.csv b.csv --each-line --group-mark ." "a.csv b.csv --group-mark 0" "a.csv b.csv --group-mark -"; do
   # shellcheck disable=SC2086
   "$program" $words > ../out 2> ../err < /dev/null
   [ $? = 2 ] && [ ! -s ../out ] && [ -s ../err ] || fail "bad arguments: $words"
@@ -129,7 +143,7 @@ for option in --version -V; do
   grep -Eqx 'hashbag_match 0\.1\.13-[0-9]+' ../out || fail "no version"
 done
 ends 0 "" --help
-for name in --key --number --delivered-key --delivered-number --each-line --blank-is-zero --trim --fold --delimiter --scale --mark --only --to --output; do
+for name in --key --number --delivered-key --delivered-number --each-line --blank-is-zero --group-mark --trim --fold --delimiter --scale --mark --only --to --output; do
   grep -q -e "$name" ../out || fail "no $name in the help"
 done
 echo "match: ok"

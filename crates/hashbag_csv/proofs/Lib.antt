@@ -1,4 +1,5 @@
 pub mod DecimalLemmas
+pub mod GroupLemmas
 pub mod LineLemmas
 pub mod NumberLemmas
 pub mod QuantityLemmas

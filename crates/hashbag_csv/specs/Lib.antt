@@ -3,6 +3,8 @@ pub mod Articles
 pub mod Decimals
 pub mod Faults
 pub mod FaultsExamples
+pub mod Groups
+pub mod GroupsExamples
 pub mod KeyForms
 pub mod KeyFormsExamples
 pub mod LineColumns

@@ -2,6 +2,7 @@
 use Rattle.std.specs.Prelude.{ℕ, ◌^◌, ◌==◌, ◌&&◌, if◌then◌else◌, List, [], ◌∷◌, length, map, get_or, bytes_eq, Option, Some, None, option_map}
 use Rattle.std.specs.List.{position_or_len}
 use Rattle.hashbag_csv.specs.Decimals.{units}
+use Rattle.hashbag_csv.specs.Groups.{ungrouped_if}
 use Rattle.hashbag_csv.specs.KeyForms.{field_in}
 use Rattle.hashbag_csv.specs.Marks.{code_of}
 use Rattle.hashbag_csv.specs.Readers.{Record, records_in}
@@ -25,7 +26,7 @@ number_in scale text = units (code_of scale.mark) scale.decimals text
 
 -- the number of a field in this form, in units of the scale
 abbrev pub number_by : Scale → NumberForm → List ℕ → ℕ
-number_by scale form field = if form.blank_is_zero && (length field == 0) then 0 else number_in scale field
+number_by scale form field = if form.blank_is_zero && (length field == 0) then 0 else number_in scale (ungrouped_if (code_of scale.mark) form.group field)
 
 -- the number of a record, in units of the scale: that at this place; without a place, one
 abbrev pub number_at : Scale → NumberForm → Option ℕ → Record → ℕ

@@ -5,6 +5,7 @@ use Rattle.csv.proofs.OnLiterals.{csv_on_literals}
 use Rattle.hashbag_csv.specs.Lines.{lines_in}
 use Rattle.hashbag_csv.specs.declared.counts.Reading.{Reading}
 use Rattle.hashbag_csv.specs.declared.delimiter.Delimiter.TheVariants.{Comma, Semicolon}
+use Rattle.hashbag_csv.specs.declared.groups.GroupMark.TheVariants.{Point as group_point}
 use Rattle.hashbag_csv.specs.declared.line_form.LineForm.{LineForm}
 use Rattle.hashbag_csv.specs.declared.scale.Mark.TheVariants.{Point, Comma as comma_mark}
 
@@ -15,13 +16,16 @@ abbrev hundredths : Reading
 hundredths = record { delimiter = Semicolon; scale = record { decimals = 2; mark = comma_mark; most = 2 ^ 64 - 1; few = omega arith } }
 
 abbrev as_is : LineForm
-as_is = record { key = record { trim = false; fold = false }; number = record { blank_is_zero = false } }
+as_is = record { key = record { trim = false; fold = false }; number = record { blank_is_zero = false; group = None } }
 
 abbrev trimming : LineForm
 trimming = record as_is { key = record { trim = true; fold = false } }
 
 abbrev with_blanks : LineForm
-with_blanks = record as_is { number = record { blank_is_zero = true } }
+with_blanks = record as_is { number = record { blank_is_zero = true; group = None } }
+
+abbrev with_points : LineForm
+with_points = record as_is { number = record { blank_is_zero = false; group = Some group_point } }
 
 -- each line, in turn; columns in any order
 each : lines_in whole as_is (codes "article" ∷ []) (Some (codes "number")) (codes "number,note,article\n5,x,nut\n7,y,nut\n") ≡ (codes "nut" ∷ [], 5) ∷ (codes "nut" ∷ [], 7) ∷ []
@@ -65,3 +69,8 @@ trims = refl
 blanks : lines_in hundredths with_blanks (codes "a" ∷ []) (Some (codes "n")) (codes "a;n\nx;\ny;1,5\n") ≡ (codes "x" ∷ [], 0) ∷ (codes "y" ∷ [], 150) ∷ []
 unfolding csv_on_literals
 blanks = refl
+
+-- points between groups of three digits
+groups : lines_in hundredths with_points (codes "a" ∷ []) (Some (codes "n")) (codes "a;n\nx;1.234.567,5\ny;1000\n") ≡ (codes "x" ∷ [], 123456750) ∷ (codes "y" ∷ [], 100000) ∷ []
+unfolding csv_on_literals
+groups = refl

@@ -1,9 +1,14 @@
 -- Fields of numbers.
-use Rattle.std.specs.Prelude.{◌≡◌, ℕ, ◌⊎◌, List, [], IsTrue}
+use Rattle.std.specs.Prelude.{◌≡◌, ℕ, ◌⊎◌, Bool, true, false, List, [], IsTrue, Option, ⊤}
 use Rattle.hashbag_csv.specs.Decimals.{IsDecimal}
-use Rattle.hashbag_csv.specs.Faults.{IsErrorOf}
+use Rattle.hashbag_csv.specs.Faults.{IsFaultOf}
+use Rattle.hashbag_csv.specs.Groups.{fits_groups, ungrouped_if}
 use Rattle.hashbag_csv.specs.Marks.{code_of}
+use Rattle.hashbag_csv.specs.declared.fault.Fault.{Fault}
+use Rattle.hashbag_csv.specs.declared.fault.Fault.TheVariants.{BadGroups}
 use Rattle.hashbag_csv.specs.declared.fault.SheetError.{SheetError}
+use Rattle.hashbag_csv.specs.declared.fault.SheetError.TheVariants.{Line, Memory}
+use Rattle.hashbag_csv.specs.declared.groups.GroupMark.{GroupMark}
 use Rattle.hashbag_csv.specs.declared.number_form.NumberForm.{NumberForm}
 use Rattle.hashbag_csv.specs.declared.scale.Scale.{Scale}
 
@@ -11,10 +16,31 @@ use Rattle.hashbag_csv.specs.declared.scale.Scale.{Scale}
 abbrev pub IsBlankZero : NumberForm → List ℕ → Type 0
 IsBlankZero form field = IsTrue form.blank_is_zero × (field ≡ [])
 
+-- a field is a number, whose whole part may be in groups
+abbrev pub IsGroupedNumber : Scale → Option GroupMark → List ℕ → Type 0
+IsGroupedNumber scale group field = let mark = code_of scale.mark in (fits_groups mark group field ≡ true) × IsDecimal mark scale.decimals (ungrouped_if mark group field)
+
 -- a field is a number in this form
 abbrev pub IsNumberField : Scale → NumberForm → List ℕ → Type 0
-IsNumberField scale form field = IsBlankZero form field ⊎ IsDecimal (code_of scale.mark) scale.decimals field
+IsNumberField scale form field = IsBlankZero form field ⊎ IsGroupedNumber scale form.group field
 
--- the error of a field that isn't read; an allocation may fail instead
+-- whether a fault is that digits aren't in groups of three
+abbrev pub is_group_fault : Fault → Bool
+is_group_fault (BadGroups field) = true
+is_group_fault _ = false
+
+-- what is wrong with a field that isn't read: its groups, or the number without them
+abbrev pub IsGroupedFault : Scale → Option GroupMark → List ℕ → Fault → Type 0
+IsGroupedFault scale group field fault =
+    let mark = code_of scale.mark in
+    ((fits_groups mark group field ≡ false) × (is_group_fault fault ≡ true))
+    ⊎ ((fits_groups mark group field ≡ true) × IsFaultOf mark scale.decimals scale.most (ungrouped_if mark group field) fault)
+
+-- the error of such a field in this line; an allocation may fail instead
+abbrev pub IsGroupedError : Scale → Option GroupMark → ℕ → List ℕ → SheetError → Type 0
+IsGroupedError scale group line field (Line at fault) = (at ≡ line) × IsGroupedFault scale group field fault
+IsGroupedError scale group line field Memory = ⊤
+
+-- the same, of a field that isn't 0 because it is empty
 abbrev pub IsErrorOfField : Scale → NumberForm → ℕ → List ℕ → SheetError → Type 0
-IsErrorOfField scale form line field e = ¬ (IsBlankZero form field) × IsErrorOf (code_of scale.mark) scale.decimals scale.most line field e
+IsErrorOfField scale form line field e = ¬ (IsBlankZero form field) × IsGroupedError scale form.group line field e

@@ -51,6 +51,9 @@ pub enum Fault {
     /// A field is a number with decimals, and whole numbers are wanted.
     #[error("whole numbers only: `{0}`")]
     NotWhole(String),
+    /// A mark between groups of digits is in another place than before every third digit.
+    #[error("groups of three digits wanted: `{0}`")]
+    BadGroups(String),
     /// A number has more decimals than are read.
     #[error("more than {most} decimals: `{field}`")]
     TooManyDecimals {

@@ -7,6 +7,7 @@ pub mod decimals;
 pub mod delimiter;
 pub mod escaped;
 pub mod fault;
+pub mod groups;
 pub mod key_form;
 pub mod line_form;
 pub mod lines;

@@ -1,5 +1,5 @@
 //! How the lines of a list are read.
-ghost use Rattle.std.specs.Prelude.{◌≡◌, false};
+ghost use Rattle.std.specs.Prelude.{◌≡◌, None, false};
 
 use crate::key_form::KeyForm;
 use crate::number_form::NumberForm;
@@ -19,6 +19,7 @@ impl LineForm {
         ensures trim { result.key.trim ≡ false }
         ensures fold { result.key.fold ≡ false }
         ensures blank_is_zero { result.number.blank_is_zero ≡ false }
+        ensures group { result.number.group ≡ None }
     {
         LineForm {
             key: KeyForm {
@@ -27,6 +28,7 @@ impl LineForm {
             },
             number: NumberForm {
                 blank_is_zero: false,
+                group: None,
             },
         }
     }

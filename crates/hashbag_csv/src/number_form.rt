@@ -1,9 +1,13 @@
 //! Fields of numbers.
 ghost use Rattle.std.specs.Prelude.{◌≡◌, ◌≤◌, IfErr, IfOk};
-ghost use Rattle.hashbag_csv.specs.Lines.{number_by};
-ghost use Rattle.hashbag_csv.specs.NumberForms.{IsErrorOfField, IsNumberField};
+ghost use Rattle.hashbag_csv.specs.Groups.{ungrouped_if};
+ghost use Rattle.hashbag_csv.specs.Lines.{number_by, number_in};
+ghost use Rattle.hashbag_csv.specs.Marks.{code_of};
+ghost use Rattle.hashbag_csv.specs.NumberForms.{IsErrorOfField, IsGroupedError, IsGroupedNumber, IsNumberField};
 
-use crate::fault::SheetError;
+use crate::escaped::shown;
+use crate::fault::{Fault, SheetError};
+use crate::groups::{GroupMark, ungrouped_text};
 use crate::numbers::scaled_number;
 use crate::scale::Scale;
 use std::alloc::Global;
@@ -13,14 +17,43 @@ use std::alloc::Global;
 pub struct NumberForm {
     /// Whether an empty field is 0.
     pub blank_is_zero: bool,
+    /// What may be before every third digit, counted from the decimal mark.
+    pub group: Option<GroupMark>,
+}
+
+// The number of a field that may have this mark between groups of three digits, in units of this scale.
+fn grouped_number(
+    alloc: Global,
+    line: u64,
+    field: &str,
+    scale: Scale,
+    group: Option<GroupMark>,
+) -> Result<usize, SheetError>
+    ensures number { IfOk result (λ n. IsGroupedNumber scale group field.now
+        × (n ≡ number_in scale (ungrouped_if (code_of scale.mark) group field.now))) }
+    ensures most { IfOk result (λ n. n ≤ scale.most) }
+    ensures fault { IfErr result (λ e. IsGroupedError scale group line field.now e) }
+{
+    let Some(group) = group else {
+        return scaled_number(alloc, line, field, field, scale);
+    };
+    let Some(digits) = ungrouped_text(alloc, field, scale.mark, group)? else {
+        let fault = Fault::BadGroups(shown(alloc, field)?);
+        return Err(SheetError::Line { line, fault });
+    };
+    scaled_number(alloc, line, digits.as_str(), field, scale)
 }
 
 /// Returns the number of a field in this form, in units of this scale.
 ///
 /// # Errors
 ///
-/// `Line` with this line and the fault of [`scaled_number`]; not if the field is empty and that is 0. `Memory` if the message can't be
-/// allocated.
+/// `Line` with this line, unless the field is empty and that is 0:
+///
+/// - `BadGroups` exactly if the whole part has the form's mark in another place than before every third digit, counted from its end;
+/// - else the fault of [`scaled_number`] of the text without these marks.
+///
+/// `Memory` if a text can't be allocated.
 pub fn field_number(
     alloc: Global,
     line: u64,
@@ -38,5 +71,5 @@ pub fn field_number(
     if form.blank_is_zero && field.is_empty() {
         return Ok(0);
     }
-    scaled_number(alloc, line, field, field, scale)
+    grouped_number(alloc, line, field, scale, form.group)
 }

@@ -22,6 +22,8 @@ read or a write failed, 5 the numbers of a file add up to more than 2^64-1.";
 
 static ROWS: [&str; 4] = ["missing", "surplus", "differing", "all"];
 
+static GROUP_MARKS: [&str; 5] = [".", ",", "'", "space", " "];
+
 static FORMS: [&str; 3] = ["table", "csv", "json"];
 
 // The options that name columns.
@@ -60,7 +62,8 @@ fn with_lines<'a>(alloc: Global, command: CommandResult<'a>) -> CommandResult<'a
         .conflicts_with("number")?
         .conflicts_with("delivered-number")?
         .conflicts_with("scale")?
-        .conflicts_with("blank-is-zero")?;
+        .conflicts_with("blank-is-zero")?
+        .conflicts_with("group-mark")?;
     with(command, each_line)
 }
 
@@ -70,7 +73,12 @@ fn with_number_form<'a>(alloc: Global, command: CommandResult<'a>) -> CommandRes
         .long("blank-is-zero")
         .action(ArgAction::SetTrue)
         .help("Read an empty field of numbers as 0");
-    with(command, blank_is_zero)
+    let group_mark = Arg::new(alloc, "group-mark")
+        .long("group-mark")
+        .value_name("MARK")
+        .value_parser(GROUP_MARKS.as_slice())
+        .help("What may be before every third digit, counted from the decimal mark");
+    with(with(command, blank_is_zero), group_mark)
 }
 
 // Adds what the fields of an article are compared and shown as.

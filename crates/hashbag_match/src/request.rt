@@ -1,6 +1,7 @@
 //! The words of the command line as values.
 use clap::ArgMatches;
 use hashbag_csv::counts::Reading;
+use hashbag_csv::groups::GroupMark;
 use hashbag_csv::key_form::KeyForm;
 use hashbag_csv::line_form::LineForm;
 use hashbag_csv::number_form::NumberForm;
@@ -42,6 +43,7 @@ fn line_form_of(given: &ArgMatches<'_>) -> LineForm {
         },
         number: NumberForm {
             blank_is_zero: given.get_flag("blank-is-zero"),
+            group: GroupMark::named(word(given, "group-mark", "")),
         },
     }
 }

@@ -3,6 +3,7 @@ use crate::keys::{names_in, repeated};
 use crate::output::{Form, Only, is_reserved};
 use hashbag_csv::counts::Reading;
 use hashbag_csv::escaped::Escaped;
+use hashbag_csv::groups::GroupMark;
 use hashbag_csv::line_form::LineForm;
 use std::alloc::{AllocError, Global};
 use thiserror::Error;
@@ -45,9 +46,9 @@ pub struct Ask<'a> {
     pub form: Form,
 }
 
-/// Why columns don't fit.
+/// Why what is asked for doesn't fit together.
 #[derive(Clone, Copy, Debug, Error)]
-pub enum BadColumns<'a> {
+pub enum BadAsk<'a> {
     /// A key column is named twice.
     #[error("key column `{}` is named twice", Escaped(.0))]
     Twice(&'a str),
@@ -57,29 +58,49 @@ pub enum BadColumns<'a> {
     /// The lists have a different number of key columns.
     #[error("--key and --delivered-key name a different number of columns")]
     Unequal,
+    /// The mark between groups of digits is that before decimals.
+    #[error("--group-mark is the mark before decimals")]
+    GroupsAsDecimals,
+    /// The mark between groups of digits is between fields, too.
+    #[error("--group-mark is the delimiter")]
+    GroupsAsFields,
 }
 
 // Returns an error if a key column is named twice.
-fn repeated_key<'a>(columns: &Columns<'a>) -> Result<(), BadColumns<'a>> {
+fn repeated_key<'a>(columns: &Columns<'a>) -> Result<(), BadAsk<'a>> {
     match repeated(&columns.keys) {
-        Some(name) => Err(BadColumns::Twice(name)),
+        Some(name) => Err(BadAsk::Twice(name)),
         None => Ok(()),
     }
 }
 
+// Returns an error if the mark between groups of digits is another mark, too.
+fn other_mark<'a>(group: GroupMark, reading: Reading) -> Result<(), BadAsk<'a>> {
+    if char::from(group.byte()) == reading.scale.mark.character() {
+        return Err(BadAsk::GroupsAsDecimals);
+    }
+    if group.byte() == reading.delimiter.byte() {
+        return Err(BadAsk::GroupsAsFields);
+    }
+    Ok(())
+}
+
 impl<'a> Ask<'a> {
-    /// Returns `Ok` if the columns fit.
-    pub fn fits(&self) -> Result<(), BadColumns<'a>> {
+    /// Returns `Ok` if the columns fit, and the mark between groups of digits has no other meaning.
+    pub fn fits(&self) -> Result<(), BadAsk<'a>> {
         repeated_key(&self.ordered)?;
         repeated_key(&self.delivered)?;
         for name in &self.ordered.keys {
             if is_reserved(*name) {
-                return Err(BadColumns::Reserved(*name));
+                return Err(BadAsk::Reserved(*name));
             }
         }
         if self.ordered.keys.len() != self.delivered.keys.len() {
-            return Err(BadColumns::Unequal);
+            return Err(BadAsk::Unequal);
         }
-        Ok(())
+        match self.line_form.number.group {
+            Some(group) => other_mark(group, self.reading),
+            None => Ok(()),
+        }
     }
 }

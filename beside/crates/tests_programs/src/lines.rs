@@ -2,6 +2,7 @@
 use crate::lists::said_of_lines;
 use hashbag_csv::counts::Reading;
 use hashbag_csv::delimiter::Delimiter;
+use hashbag_csv::groups::GroupMark;
 use hashbag_csv::key_form::KeyForm;
 use hashbag_csv::line_form::LineForm;
 use hashbag_csv::number_form::NumberForm;
@@ -137,11 +138,148 @@ fn blank_is_zero(rt: HostRuntime) -> Result<(), Fail> {
             key: LineForm::plain().key,
             number: NumberForm {
                 blank_is_zero: true,
+                group: None,
             },
         };
         let reading = Reading {
             delimiter: Delimiter::Comma,
             scale: Scale::new(*decimals, Mark::Point).unwrap_or(Scale::whole()),
+        };
+        let said = said_of_lines(rt.alloc(), text, &["k"], Some("number"), reading, form)?;
+        assert_eq!(rt; said.as_str(), *wanted);
+    }
+    Ok(())
+}
+
+// A text, its decimals, the mark before them, that between groups of digits, and what it says.
+const GROUPS: [(&[u8], u32, Mark, GroupMark, &str); 16] = [
+    (
+        b"k;number\na;1.000,50\nb;1000,5\nc;100\nd;12.345.678\n",
+        2,
+        Mark::Comma,
+        GroupMark::Point,
+        "[a 100050][b 100050][c 10000][d 1234567800]",
+    ),
+    (
+        b"k;number\na;1'000.5\n",
+        1,
+        Mark::Point,
+        GroupMark::Apostrophe,
+        "[a 10005]",
+    ),
+    (
+        b"k;number\na;1 234 567\n",
+        0,
+        Mark::Point,
+        GroupMark::Space,
+        "[a 1234567]",
+    ),
+    (
+        b"k;number\na;1,000\n",
+        0,
+        Mark::Point,
+        GroupMark::Comma,
+        "[a 1000]",
+    ),
+    (
+        b"k;number\na;1.00,5\n",
+        2,
+        Mark::Comma,
+        GroupMark::Point,
+        "2: groups of three digits wanted: `1.00,5`",
+    ),
+    (
+        b"k;number\na;1..000\n",
+        2,
+        Mark::Comma,
+        GroupMark::Point,
+        "2: groups of three digits wanted: `1..000`",
+    ),
+    (
+        b"k;number\na;.100\n",
+        2,
+        Mark::Comma,
+        GroupMark::Point,
+        "2: groups of three digits wanted: `.100`",
+    ),
+    (
+        b"k;number\na;1000.000\n",
+        2,
+        Mark::Comma,
+        GroupMark::Point,
+        "2: groups of three digits wanted: `1000.000`",
+    ),
+    (
+        b"k;number\na;100.\n",
+        2,
+        Mark::Comma,
+        GroupMark::Point,
+        "2: groups of three digits wanted: `100.`",
+    ),
+    (
+        b"k;number\na;1.00x\n",
+        2,
+        Mark::Comma,
+        GroupMark::Point,
+        "2: groups of three digits wanted: `1.00x`",
+    ),
+    (
+        b"k;number\na;1.000,5.5\n",
+        2,
+        Mark::Comma,
+        GroupMark::Point,
+        "2: no number: `1.000,5.5`",
+    ),
+    (
+        b"k;number\na;1.000,555\n",
+        2,
+        Mark::Comma,
+        GroupMark::Point,
+        "2: more than 2 decimals: `1.000,555`",
+    ),
+    (
+        b"k;number\na;1.000,5\n",
+        0,
+        Mark::Comma,
+        GroupMark::Point,
+        "2: whole numbers only: `1.000,5`",
+    ),
+    (
+        b"k;number\na;18.446.744.073.709.551.616\n",
+        0,
+        Mark::Comma,
+        GroupMark::Point,
+        "2: number past 18446744073709551615: `18.446.744.073.709.551.616`",
+    ),
+    (
+        b"k;number\na;x\n",
+        0,
+        Mark::Comma,
+        GroupMark::Point,
+        "2: no number: `x`",
+    ),
+    (
+        b"k;number\na;\n",
+        0,
+        Mark::Comma,
+        GroupMark::Point,
+        "2: no number: ``",
+    ),
+];
+
+#[test]
+fn digits_are_in_groups(rt: HostRuntime) -> Result<(), Fail> {
+    for (text, decimals, mark, group, wanted) in &GROUPS {
+        let form = LineForm {
+            key: LineForm::plain().key,
+            number: NumberForm {
+                blank_is_zero: false,
+                group: Some(*group),
+            },
+        };
+        let reading = Reading {
+            delimiter: Delimiter::Semicolon,
+            scale: Scale::new(*decimals, *mark).unwrap_or(Scale::whole()),
         };
         let said = said_of_lines(rt.alloc(), text, &["k"], Some("number"), reading, form)?;
         assert_eq!(rt; said.as_str(), *wanted);

@@ -1,0 +1,45 @@
+-- Marks between groups of three digits.
+use Rattle.std.specs.Prelude.{ℕ, ◌%◌, ◌==◌, ◌&&◌, ◌||◌, ◌++◌, not, if◌then◌else◌, Bool, true, List, [], ◌∷◌, length, filter, drop, Option, Some, None}
+use Rattle.std.specs.Char.{is_ascii_digit}
+use Rattle.std.specs.List.{list_all}
+use Rattle.hashbag_csv.specs.Decimals.{whole_of}
+use Rattle.hashbag_csv.specs.declared.groups.GroupMark.{GroupMark}
+use Rattle.hashbag_csv.specs.declared.groups.GroupMark.TheVariants.{Point, Comma, Apostrophe, Space}
+
+-- the code of a mark
+abbrev pub group_code : GroupMark → ℕ
+group_code Point = 46
+group_code Comma = 44
+group_code Apostrophe = 39
+group_code Space = 32
+
+-- a byte before so many others is the mark if three are behind it, seven, eleven .., and else a digit
+abbrev pub fits_place : ℕ → ℕ → ℕ → Bool
+fits_place group c behind = if behind % 4 == 3 then c == group else is_ascii_digit c
+
+-- each byte of a text is so
+abbrev pub marks_fit : ℕ → List ℕ → Bool
+marks_fit group [] = true
+marks_fit group (c ∷ cs) = fits_place group c (length cs) && marks_fit group cs
+
+-- no mark at all, or one before every third digit counted from the end, but for the first
+abbrev pub is_in_groups : ℕ → List ℕ → Bool
+is_in_groups group whole = list_all (λ c. not (c == group)) whole || (not (length whole % 4 == 0) && marks_fit group whole)
+
+-- a text without the mark
+abbrev pub without : ℕ → List ℕ → List ℕ
+without group text = filter (λ c. not (c == group)) text
+
+-- a text without the marks between groups before its first decimal mark
+abbrev pub ungrouped : ℕ → ℕ → List ℕ → List ℕ
+ungrouped group mark text = without group (whole_of mark text) ++ drop (length (whole_of mark text)) text
+
+-- whether the whole part is in groups, if there may be any
+abbrev pub fits_groups : ℕ → Option GroupMark → List ℕ → Bool
+fits_groups mark None text = true
+fits_groups mark (Some group) text = is_in_groups (group_code group) (whole_of mark text)
+
+-- a text without the marks that there may be between its groups
+abbrev pub ungrouped_if : ℕ → Option GroupMark → List ℕ → List ℕ
+ungrouped_if mark None text = text
+ungrouped_if mark (Some group) text = ungrouped (group_code group) mark text

@@ -1,0 +1,133 @@
+//! Marks between groups of three digits.
+ghost use Rattle.std.specs.Prelude.{◌≡◌, ◌∷◌, ◌++◌, ◌==◌, ◌<◌, [], not, false, true, IfOk, MatchOption, OnOk};
+ghost use Rattle.std.specs.List.{list_all};
+ghost use Rattle.std.specs.String.{string_bytes};
+ghost use Rattle.hashbag_csv.specs.Decimals.{whole_of};
+ghost use Rattle.hashbag_csv.specs.Groups.{fits_place, group_code, is_in_groups, marks_fit, ungrouped, without};
+ghost use Rattle.hashbag_csv.specs.Marks.{code_of};
+
+use crate::scale::Mark;
+use std::alloc::{AllocError, Global};
+
+/// What is between groups of three digits.
+#[derive(Clone, Copy, PartialEq, Eq, Debug)]
+pub enum GroupMark {
+    /// `.`
+    Point,
+    /// `,`
+    Comma,
+    /// `'`
+    Apostrophe,
+    /// A space.
+    Space,
+}
+
+impl GroupMark {
+    /// Returns the mark of one of the names `.`, `,`, `'`, `space` and a space, and `None` for another name.
+    pub fn named(name: &str) -> Option<GroupMark> {
+        match name {
+            "." => Some(GroupMark::Point),
+            "," => Some(GroupMark::Comma),
+            "'" => Some(GroupMark::Apostrophe),
+            "space" | " " => Some(GroupMark::Space),
+            _ => None,
+        }
+    }
+
+    /// Returns the mark itself.
+    pub fn byte(self) -> u8
+        ensures byte { result ≡ group_code self }
+        ensures ascii { result < 128 }
+    {
+        match self {
+            GroupMark::Point => b'.',
+            GroupMark::Comma => b',',
+            GroupMark::Apostrophe => b'\'',
+            GroupMark::Space => b' ',
+        }
+    }
+}
+
+// Whether no byte is the mark.
+fn has_none(text: &[u8], group: u8) -> bool
+    ensures { result ≡ list_all (λ c. not (c == group)) text.now }
+{
+    text.iter().all(|byte| *byte != group)
+}
+
+// Whether a byte is the mark, or a digit, as it should be before so many others.
+fn fits(byte: u8, behind: usize, group: u8) -> bool
+    ensures { result ≡ fits_place group byte behind }
+{
+    if behind % 4 == 3 {
+        return byte == group;
+    }
+    byte.is_ascii_digit()
+}
+
+// Appends a byte, unless it is the mark.
+fn push_digit(digits: &mut String, byte: u8, group: u8) -> Result<(), AllocError>
+    requires ascii { byte < 128 }
+    ensures { OnOk result (string_bytes digits.new ≡ string_bytes digits.old ++ without group (byte ∷ [])) }
+{
+    if byte == group {
+        return Ok(());
+    }
+    digits.push(char::from(byte))
+}
+
+// The digits of groups of three, which the mark is between, or `None` if a byte is in another place.
+fn digits_of_groups(alloc: Global, whole: &[u8], group: u8) -> Result<Option<String>, AllocError>
+    requires ascii { group < 128 }
+    ensures { IfOk result (λ r. MatchOption r (marks_fit group whole.now ≡ false)
+        (λ digits. (marks_fit group whole.now ≡ true) × (string_bytes digits ≡ without group whole.now))) }
+{
+    let mut digits = String::new(alloc);
+    let mut rest = whole;
+    'bytes: while let Some((byte, behind)) = rest.split_first() {
+        if !fits(*byte, behind.len(), group) {
+            return Ok(None);
+        }
+        push_digit(&mut digits, *byte, group)?;
+        rest = behind;
+    }
+    Ok(Some(digits))
+}
+
+// A text without the mark, or `None` if it has the mark in another place than between groups of three digits.
+fn digits_of(alloc: Global, whole: &str, group: u8) -> Result<Option<String>, AllocError>
+    requires ascii { group < 128 }
+    ensures { IfOk result (λ r. MatchOption r (is_in_groups group whole.now ≡ false)
+        (λ digits. (is_in_groups group whole.now ≡ true) × (string_bytes digits ≡ without group whole.now))) }
+{
+    if has_none(whole.as_bytes(), group) {
+        return Ok(Some(String::from_str(alloc, whole)?));
+    }
+    if whole.len() % 4 == 0 {
+        return Ok(None);
+    }
+    digits_of_groups(alloc, whole.as_bytes(), group)
+}
+
+/// Returns a number without the marks between the groups of its whole part, or `None` if the whole part has the mark in another place than
+/// before every third digit, counted from its end.
+pub fn ungrouped_text(
+    alloc: Global,
+    text: &str,
+    mark: Mark,
+    group: GroupMark,
+) -> Result<Option<String>, AllocError>
+    ensures { IfOk result (λ r. MatchOption r (is_in_groups (group_code group) (whole_of (code_of mark) text.now) ≡ false)
+        (λ digits. (is_in_groups (group_code group) (whole_of (code_of mark) text.now) ≡ true)
+        × (string_bytes digits ≡ ungrouped (group_code group) (code_of mark) text.now))) }
+{
+    let Some((whole, part)) = text.split_once(mark.character()) else {
+        return digits_of(alloc, text, group.byte());
+    };
+    let Some(mut digits) = digits_of(alloc, whole, group.byte())? else {
+        return Ok(None);
+    };
+    digits.push(mark.character())?;
+    digits.push_str(part)?;
+    Ok(Some(digits))
+}
