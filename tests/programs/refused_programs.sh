@@ -307,6 +307,7 @@ on_more_than_fits() {
   printf 'b\nd\n' > "$scratch/files/stop"
   prints 'a\t1\n' --field 2 text && prints 'a\t1\nc\t1\n' --except stop text &&
     prints 'a\t1\nb\t2\nc\t1\n' --memory 1 text && prints '[["b",2]]\n' --memory 1 --top 1 --to json text &&
+    prints 'a\t1\t25.00\nb\t2\t50.00\nc\t1\t25.00\n' --share text && prints 'b\t2\t50.00\n' --memory 1 --share --top 1 text &&
     prints 'a\\tb\t3\ncat\t3\ndog\t1\n' merge --sorted a b && prints '' merge --sorted a b -o out &&
     printf 'old\n' > "$scratch/files/out" && fail_writes --memory 1 text && fail_writes --memory 1 --top 1 text && fail_writes merge --sorted a b &&
     on_long_lines

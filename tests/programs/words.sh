@@ -335,6 +335,33 @@ printf 'abc\t1\näöü\t1\n' | LC_ALL=C sort > three
 for how in "" "--memory 1K"; do shows three "tokens of three characters $how" $how --min-length 3 lengths; done
 "$program" lengths > lengths.tsv && for how in "" "--sorted"; do shows three "merged: tokens of three characters $how" merge $how --min-length 3 lengths.tsv; done
 
+# shares of all occurrences, whatever is shown: by exact decimals of Python, half up
+python3 - << 'END' || fail "no shares"
+from decimal import ROUND_HALF_UP, Decimal
+
+rows = [line.rstrip("\n").split("\t") for line in open("wanted")]
+total = sum(int(count) for _, count in rows)
+with open("shares", "w") as file:
+    for token, count in rows:
+        print(token, count, (Decimal(100 * int(count)) / total).quantize(Decimal("0.01"), ROUND_HALF_UP), sep="\t", file=file)
+END
+grep -v '^w1	' shares > others && sort -t "$(printf '\t')" -k2,2nr -k1,1 shares | head -n 5 > top && printf 'w1\n' > stop
+for how in "" "--memory 1K"; do
+  shows shares "shares: $how" $how --share text && shows top "shares of the most common: $how" $how --share --top 5 text
+  shows others "shares of the others: $how" $how --share --except stop text
+done
+for how in "" "--sorted" "--memory 1K"; do
+  shows shares "shares of counts: $how" merge $how --share whole && shows top "shares of the most common counts: $how" merge $how --share --top 5 whole
+  shows shares "shares of counts in parts: $how" merge $how --share counts/*.tsv
+done
+for part in 1 2 3; do "$program" --share --shard $part/3 text; done | sort > found && is found shares "shares of shards"
+shows shares "shares of a difference" less --share whole /dev/null && shows shares "shares of lesser counts" common --share whole whole
+printf 'a\t18446744073709551614\nb\t1\n' > greatest && printf 'a\t18446744073709551614\t100.00\nb\t1\t0.00\n' > shown
+for how in "" "--sorted" "--memory 1K"; do shows shown "shares of a total that is as large as may be: $how" merge $how --share greatest; done
+shows /dev/null "shares of nothing" --share /dev/null
+for form in json uniq; do ends 2 "hashbag_words: --share: $form has no column for it; leave out --to $form" --share --to $form -o none/out none; done
+ends 2 "hashbag_words: shares:1: no count" merge shares
+
 # tokens that aren't shown, in each job: the lines of a file, of which no other one is shown more or less often
 printf 'w1\n\nw22\r\nw333\nw4444\nw5 \nW6' > stop && awk '$1 != "w1" && $1 != "w22" && $1 != "w333"' wanted > others
 for how in "" "--memory 1K" "--fold"; do

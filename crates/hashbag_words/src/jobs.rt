@@ -131,7 +131,7 @@ fn merged<'a>(
 }
 
 // Reads the inputs. Returns `Some` with the output if files were merged line by line, or if runs were written, which are then merged with
-// the bag. Else the bag has the tokens that are shown.
+// the bag. Else the bag has what was counted.
 fn read<'s, 'a>(
     rt: &'s HostRuntime,
     settings: &'s Settings<'a, '_>,
@@ -158,7 +158,6 @@ fn read<'s, 'a>(
             return Ok(Some(made));
         }
     }
-    keep_shown(bag, settings.choice);
     Ok(None)
 }
 
@@ -173,14 +172,15 @@ fn write_made<'a>(
     Ok(is_empty)
 }
 
-// Writes what a bag has. Returns whether it shows nothing.
+// Writes what is shown of a bag, and removes all else from it. Returns whether it shows nothing.
 fn write_bag<'a>(
     rt: &HostRuntime,
     settings: &Settings<'a, '_>,
     output: Output<'a>,
-    bag: &Bag,
+    bag: &mut Bag,
 ) -> Result<bool, Failure<'a>> {
-    match rows_of(rt, settings, bag) {
+    let total = keep_shown(bag, settings.choice);
+    match rows_of(rt, settings, bag, total) {
         Ok(rows) => write_made(rt, output, rows),
         Err(failure) => {
             output.abandon(rt);

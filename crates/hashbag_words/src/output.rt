@@ -91,7 +91,7 @@ fn put<W: Write + Drop, R: Read>(mut to: W, from: &mut R) -> io::Result<()> {
     to.flush()
 }
 
-/// Returns what is to be written of a bag.
+/// Returns what is to be written of a bag, which has the tokens that are shown. `total` is how many occurrences it had before.
 ///
 /// # Errors
 ///
@@ -100,8 +100,10 @@ pub fn rows_of<'a, 'b>(
     rt: &HostRuntime,
     settings: &Settings<'a, '_>,
     bag: &'b Bag,
+    total: usize,
 ) -> Result<Rendered<'b>, Failure<'a>> {
-    match shown_text(rt.alloc(), bag, settings.choice, settings.format) {
+    let format = settings.format_with(total);
+    match shown_text(rt.alloc(), bag, settings.choice, format) {
         Ok(rows) => Ok(Rendered::Rows(rows)),
         Err(_) => Err(Failure::NoMemoryLeft),
     }

@@ -83,7 +83,7 @@ impl<'s, 'a> Runs<'s, 'a> {
                 break;
             };
             let mut batch = batch_of(self.rt, self.folder, files)?;
-            file = merge_to_run(self.rt, self.folder, &mut batch)?;
+            file = merge_to_run(self.rt, self.folder, &mut batch)?.file;
         }
         Ok(())
     }
@@ -145,13 +145,24 @@ fn end_rows(mut parts: RowParts, mut file: File) -> io::Result<(File, bool)> {
     Ok((file, parts.is_empty()))
 }
 
-/// Merges sources into a temporary file in that folder. Returns the file, to be read from its beginning, and whether it shows nothing.
+/// What was merged.
+#[derive(Drop)]
+pub struct MergedFile {
+    /// The file of its rows, to be read from its beginning.
+    pub file: File,
+    /// Whether it shows nothing.
+    pub is_empty: bool,
+    /// What all counts add up to, of rows that are shown and of others.
+    pub total: usize,
+}
+
+/// Merges sources into a temporary file in that folder.
 pub fn merge_to_file<'a>(
     rt: &HostRuntime,
     folder: &'a str,
     batch: &mut MergeInputs<'_, 'a>,
     shape: RowLayout<'_>,
-) -> Result<(File, bool), Failure<'a>> {
+) -> Result<MergedFile, Failure<'a>> {
     let mut file = temporary(rt, folder)?;
     let mut rows = ShownRows {
         sink: RowParts::begin(rt.alloc(), shape.format)?,
@@ -166,7 +177,15 @@ pub fn merge_to_file<'a>(
             return Err(target_failure(folder, fault));
         }
     }
-    end_rows(rows.sink, file).map_err(|error| Failure::of_file(folder, error))
+    let total = merger.total();
+    match end_rows(rows.sink, file) {
+        Ok((file, is_empty)) => Ok(MergedFile {
+            file,
+            is_empty,
+            total,
+        }),
+        Err(error) => Err(Failure::of_file(folder, error)),
+    }
 }
 
 /// Merges sources into a run in that folder.
@@ -174,7 +193,6 @@ pub fn merge_to_run<'a>(
     rt: &HostRuntime,
     folder: &'a str,
     batch: &mut MergeInputs<'_, 'a>,
-) -> Result<File, Failure<'a>> {
-    let (file, _is_empty) = merge_to_file(rt, folder, batch, RUN)?;
-    Ok(file)
+) -> Result<MergedFile, Failure<'a>> {
+    merge_to_file(rt, folder, batch, RUN)
 }

@@ -33,6 +33,7 @@ fn show_top<'a>(
     folder: &'a str,
     batch: &mut MergeInputs<'_, 'a>,
     most: usize,
+    format: Format,
 ) -> Result<Rendered<'static>, Failure<'a>> {
     let mut top = ShownRows {
         sink: TopRows::new(rt.alloc(), most),
@@ -47,10 +48,26 @@ fn show_top<'a>(
             return Err(target_failure(folder, fault));
         }
     }
-    match text_of(rt, settings.format, top.sink) {
+    match text_of(rt, format, top.sink) {
         Ok((text, is_empty)) => Ok(Rendered::Text(text, is_empty)),
         Err(_) => Err(Failure::NoMemoryLeft),
     }
+}
+
+// Merges sources, and makes what is shown of them in this form.
+fn show_in<'a>(
+    rt: &HostRuntime,
+    settings: &Settings<'a, '_>,
+    folder: &'a str,
+    mut batch: MergeInputs<'_, 'a>,
+    format: Format,
+) -> Result<Rendered<'static>, Failure<'a>> {
+    let choice = settings.choice;
+    if let Order::MostCommon(most) = choice.order {
+        return show_top(rt, settings, folder, &mut batch, most, format);
+    }
+    let made = merge_to_file(rt, folder, &mut batch, RowLayout { format, choice })?;
+    Ok(Rendered::File(made.file, made.is_empty))
 }
 
 /// Merges sources, and makes what is shown of them. Nothing is written but into temporary files of that folder.
@@ -60,15 +77,20 @@ pub fn show<'a>(
     folder: &'a str,
     mut batch: MergeInputs<'_, 'a>,
 ) -> Result<Rendered<'static>, Failure<'a>> {
-    if let Order::MostCommon(most) = settings.choice.order {
-        return show_top(rt, settings, folder, &mut batch, most);
+    if !settings.share {
+        return show_in(rt, settings, folder, batch, settings.format);
     }
-    let shape = RowLayout {
-        format: settings.format,
-        choice: settings.choice,
-    };
-    let (file, is_empty) = merge_to_file(rt, folder, &mut batch, shape)?;
-    Ok(Rendered::File(file, is_empty))
+    // The total is known when all rows have been merged, so they become one run first.
+    let run = merge_to_run(rt, folder, &mut batch)?;
+    let mut merged = MergeInputs::new(rt)?;
+    merged.push_run(folder, run.file)?;
+    show_in(
+        rt,
+        settings,
+        folder,
+        merged,
+        settings.format_with(run.total),
+    )
 }
 
 /// Merges the files of counts of these names, whose lines have this form and whose tokens are in ascending order. If there are more than
@@ -85,7 +107,7 @@ pub fn show_sorted<'a>(
     let mut batch = MergeInputs::new(rt)?;
     for (i, name) in names.iter().enumerate() {
         if i > 0 && i % FAN == 0 {
-            runs.add(merge_to_run(rt, folder, &mut batch)?)?;
+            runs.add(merge_to_run(rt, folder, &mut batch)?.file)?;
             batch = MergeInputs::new(rt)?;
         }
         batch.push_file(*name, kind)?;
@@ -93,6 +115,6 @@ pub fn show_sorted<'a>(
     if runs.is_empty() {
         return show(rt, settings, folder, batch);
     }
-    runs.add(merge_to_run(rt, folder, &mut batch)?)?;
+    runs.add(merge_to_run(rt, folder, &mut batch)?.file)?;
     show(rt, settings, folder, runs.into_batch()?)
 }

@@ -84,8 +84,10 @@ fn with_form<'a>(alloc: Global, command: CommandResult<'a>) -> CommandResult<'a>
         .default_value("tsv");
     let output =
         arg!(in alloc; -o --output <FILE> "Write there, all or nothing, not to standard output");
+    let share =
+        arg!(in alloc; --share "Write behind each count what percent it is of all counts, shown or not");
     let command = with_heading(command, "Output");
-    with(with(command, Ok(to)), Ok(output))
+    with(with(with(command, Ok(to)), Ok(share)), Ok(output))
 }
 
 // Adds how counts are shown: options of every job.

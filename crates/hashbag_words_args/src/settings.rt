@@ -117,8 +117,10 @@ pub struct Settings<'a, 'm> {
     pub choice: Choice<'m>,
     /// The file that has the tokens that aren't shown, if there is one.
     pub except: Option<&'a str>,
-    /// How counts are written.
+    /// How counts are written, but for shares.
     pub format: Format,
+    /// Whether the share of each count in the total is written too.
+    pub share: bool,
     /// The file to which they are written; `None` is standard output.
     pub output: Option<&'a str>,
     /// Whether the status is 1 if nothing is shown.
@@ -237,6 +239,19 @@ fn format_of(given: &ArgMatches<'_>) -> Format {
     }
 }
 
+// Returns whether shares are written.
+fn share_of<'a>(alloc: Global, given: &ArgMatches<'a>) -> Result<bool, Trouble<'a>> {
+    match given.get_str("to") {
+        Some(form) if form != "tsv" && given.get_flag("share") => {
+            let what = format!(in alloc;
+                "--share: {form} has no column for it; leave out --to {form}"
+            )?;
+            Err(Trouble::Words(what))
+        }
+        _ => Ok(given.get_flag("share")),
+    }
+}
+
 // Returns the form of the counts that are read.
 fn rows_of(given: &ArgMatches<'_>) -> Option<RowForm> {
     match given.get_str("from") {
@@ -298,8 +313,8 @@ impl<'a, 'm> Settings<'a, 'm> {
     ///
     /// # Errors
     ///
-    /// `Words` if the word of `--memory`, `--shard`, `--field` or `--delimiter` has no meaning, or if JSON is to be merged line by line. `Memory` if
-    /// an allocation fails.
+    /// `Words` if the word of `--memory`, `--shard`, `--field` or `--delimiter` has no meaning, if JSON is to be merged line by line, or if shares are
+    /// to be written in a form that has no column for them. `Memory` if an allocation fails.
     pub fn of(
         alloc: Global,
         name: &str,
@@ -318,8 +333,17 @@ impl<'a, 'm> Settings<'a, 'm> {
             choice: choice_of(alloc, given)?,
             except: given.get_str("except"),
             format: format_of(given),
+            share: share_of(alloc, given)?,
             output: given.get_str("output"),
             fail_empty: given.get_flag("fail-empty"),
         })
+    }
+
+    /// Returns how counts are written that add up to this total.
+    pub fn format_with(&self, total: usize) -> Format {
+        if self.share {
+            return Format::Shares(total);
+        }
+        self.format
     }
 }

@@ -1,19 +1,19 @@
 -- Sources that are given bytes, from which rows are taken, and their merge so far.
-use Rattle.std.proofs.Common.{◌≡◌, ◌⊎◌, inl, inr, ℕ, ◌+◌, ◌<◌, ◌^◌, Bool, true, false, cond, eqb, eq-eqb, ne_eqb, List, [], ◌∷◌, ◌++◌, length, get_or, set, All, String, string_bytes, Global, Option, None, Some, refl, sym, ◌∙◌, ap, subst, arith, length-set, append_assoc}
+use Rattle.std.proofs.Common.{◌≡◌, ◌⊎◌, inl, inr, ℕ, ◌+◌, ◌<◌, ◌^◌, Bool, true, false, cond, eqb, eq-eqb, ne_eqb, List, [], ◌∷◌, ◌++◌, length, get_or, set, sum_by, All, String, string_bytes, Global, Option, None, Some, refl, sym, ◌∙◌, ap, subst, arith, length-set, append_assoc}
 use Rattle.std.proofs.lemmas.Bool.{cases_eq, false≢true}
 use Rattle.std.proofs.lemmas.List.{append-nil, length-map, get_or-map, get_or-set_same, get_or-set_other}
 use Rattle.std.proofs.lemmas.List.Elements.{All-from_get_or}
 use Rattle.std.proofs.lemmas.Option.{same_Some}
 use Rattle.hashbag_words_lib.specs.Merged.{all_with, texts_of, with_head, AreBegun, AreInputs, AreLeft, AreReadAgain, IsSoFar, MayComeTo, Takes, TakesRow}
 use Rattle.hashbag_words_lib.specs.Runs.{rows_in, run_text}
-use Rattle.hashbag_words_lib.specs.Sorted.{row_of, shown_of, IsMergeOf, IsNoLater, IsNotBelow, Joins, SoFar}
+use Rattle.hashbag_words_lib.specs.Sorted.{numbers, row_of, shown_of, IsMergeOf, IsNoLater, IsNotBelow, Joins, SoFar}
 use Rattle.hashbag_words_lib.specs.Sources.{left_with, rows_of, MayCome}
 use Rattle.hashbag_words_lib.specs.declared.row_source.SourceKind.{SourceKind}
 use Rattle.hashbag_words_lib.specs.declared.row_source.Next.TheVariants.{Row, End}
 use Rattle.hashbag_words_lib.specs.declared.sorted_merge.Merged.TheVariants.{Row as MergedRow, End as MergedEnd}
 use Rattle.hashbag_words_lib.specs.declared.sources.Source.{Source}
 use Rattle.hashbag_words_lib.proofs.SortedLemmas.{same_at}
-use Rattle.hashbag_words_lib.proofs.SortedMergeLemmas.{so_far_none, so_far_more, so_far_over, so_far_done}
+use Rattle.hashbag_words_lib.proofs.SortedMergeLemmas.{so_far_none, so_far_more, so_far_over, so_far_done, total_done}
 
 -- ---- one source of several changes
 
@@ -190,6 +190,13 @@ module _ (given : List (SourceKind × List ℕ)) (sources new : List Source) (ou
       let old = so.so_far mores inputs (may mores come) are in
       let took = takes mores (may mores come) old.0 old.1 in
       so_far_done inputs old.0 out held before so.fits took.0 old.2
+
+  pub total_whole : ((mores : ℕ → List ℕ) → MayComeTo sources mores → (rows : List (List (List ℕ × ℕ))) → AreLeft sources mores rows → TakesRow mores rows MergedEnd new)
+      → (mores : ℕ → List ℕ) (inputs : List (List (List ℕ × ℕ))) → MayComeTo new mores → AreInputs given mores inputs → before ≡ sum_by numbers inputs
+  total_whole takes mores inputs come are =
+      let old = so.so_far mores inputs (may mores come) are in
+      let took = takes mores (may mores come) old.0 old.1 in
+      total_done inputs old.0 out held before took.0 old.2
 
 -- the same of what is held, the total and the rows under other names
 pub so_far_as : (given : List (SourceKind × List ℕ)) (sources : List Source) (held same_held : Option (String Global × ℕ)) (total same_total : ℕ) (out same_out : List (List ℕ × ℕ)) → same_held ≡ held → same_total ≡ total → same_out ≡ out

@@ -207,6 +207,14 @@ so_far_over inputs rows out held total none so = record {
   numbered = so.numbered;
 }
 
+-- then the total is what all inputs count
+pub total_done : (inputs rows : List (List (List ℕ × ℕ))) (out : List (List ℕ × ℕ)) (held : Option (String Global × ℕ)) (total : ℕ) → All (λ r. r ≡ []) rows
+    → SoFar inputs rows out held total → total ≡ sum_by numbers inputs
+total_done inputs rows out held total none so =
+    let left : sum_by numbers rows ≡ 0 = sum_of_none numbers refl rows none in
+    let before = so.numbered in
+    omega arith
+
 pub so_far_done : (inputs rows : List (List (List ℕ × ℕ))) (out : List (List ℕ × ℕ)) (held : Option (String Global × ℕ)) (total : ℕ) → total < 2 ^ 64 → All (λ r. r ≡ []) rows
     → SoFar inputs rows out held total → IsMergeOf inputs (out ++ shown_of held)
 so_far_done inputs rows out held total fits none so = record {
@@ -217,9 +225,5 @@ so_far_done inputs rows out held total fits none so = record {
       let left : sum_by (times_in text) rows ≡ 0 = sum_of_none (times_in text) refl rows none in
       let before = so.sums text in omega arith;
   shown = shown_all out held so.shown;
-  fits =
-      let left : sum_by numbers rows ≡ 0 = sum_of_none numbers refl rows none in
-      let before = so.numbered in
-      let same : total ≡ sum_by numbers inputs = omega arith in
-      subst (λ (n : ℕ). n < 2 ^ 64) same fits;
+  fits = subst (λ (n : ℕ). n < 2 ^ 64) (total_done inputs rows out held total none so) fits;
 }

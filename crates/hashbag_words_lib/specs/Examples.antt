@@ -1,5 +1,5 @@
 -- What the definitions say of small lists.
-use Rattle.std.specs.Prelude.{◌≡◌, ℕ, ◌==◌, Bool, true, false, not, ◌&&◌, nat_le, List, [], ◌∷◌, length, map, None, refl, String, string_bytes}
+use Rattle.std.specs.Prelude.{◌≡◌, ℕ, ◌==◌, Bool, true, false, not, ◌&&◌, nat_le, List, [], ◌∷◌, ◌++◌, length, map, None, refl, String, string_bytes, decimal}
 use Rattle.std.specs.Global.{Global}
 use Rattle.std.specs.Str.{bytes_eq, chars}
 use Rattle.std.proofs.Common.{ap, sym, ◌∙◌}
@@ -10,6 +10,7 @@ use Rattle.hashbag_words_lib.specs.Choice.{is_excepted, shows}
 use Rattle.hashbag_words_lib.specs.Fields.{fields_of}
 use Rattle.hashbag_words_lib.specs.Runs.{IsRunOf}
 use Rattle.hashbag_words_lib.specs.Shards.{is_shown}
+use Rattle.hashbag_words_lib.specs.Shares.{hundredths_of, two_decimals}
 use Rattle.hashbag_words_lib.specs.Sorted.{times_in}
 use Rattle.hashbag_words_lib.specs.declared.choice.Choice.{Choice}
 use Rattle.hashbag_words_lib.specs.declared.rule.Separator.TheVariants.{Blanks, Char}
@@ -55,3 +56,13 @@ others_are_shown choice row is =
     let b = nat_le choice.shortest (length (chars row.0)) in
     let c = is_shown choice.shard row.0 in
     ap (λ (e : Bool). a && b && c && not e) is
+
+-- one of three, two of three, one of eight; a half of a hundredth is rounded up, and less than that isn't
+shares_are_rounded : (hundredths_of 3 1 ≡ 3333) × (hundredths_of 3 2 ≡ 6667) × (hundredths_of 8 1 ≡ 1250)
+shares_are_rounded = (refl, refl, refl)
+
+shares_are_rounded_half_up : (hundredths_of 20000 1 ≡ 1) × (hundredths_of 20001 1 ≡ 0) × (hundredths_of 7 7 ≡ 10000)
+shares_are_rounded_half_up = (refl, refl, refl)
+
+two_decimals_are_written : two_decimals 3305 ≡ decimal 33 ++ 46 ∷ 48 ∷ 53 ∷ []
+two_decimals_are_written = refl

@@ -14,6 +14,7 @@ pub mod RowText
 pub mod Rows
 pub mod Runs
 pub mod Shards
+pub mod Shares
 pub mod Shown
 pub mod Sorted
 pub mod Sources

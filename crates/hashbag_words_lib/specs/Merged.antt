@@ -1,8 +1,8 @@
 -- What a merger of texts that come in blocks has merged so far.
-use Rattle.std.specs.Prelude.{◌≡◌, ℕ, ◌<◌, ◌^◌, true, false, List, [], ◌∷◌, ◌++◌, length, map, All, slice_index_or, String, string_bytes, Option, None, Some, option_map}
+use Rattle.std.specs.Prelude.{◌≡◌, ℕ, ◌<◌, ◌^◌, true, false, List, [], ◌∷◌, ◌++◌, length, map, All, slice_index_or, sum_by, String, string_bytes, Option, None, Some, option_map}
 use Rattle.std.specs.Global.{Global}
 use Rattle.hashbag_words_lib.specs.Runs.{rows_in, run_text}
-use Rattle.hashbag_words_lib.specs.Sorted.{row_of, IsAbove, IsMergeOf, SoFar, TakesLeast}
+use Rattle.hashbag_words_lib.specs.Sorted.{numbers, row_of, IsAbove, IsMergeOf, SoFar, TakesLeast}
 use Rattle.hashbag_words_lib.specs.Sources.{left_with, rows_of, Holds, MayCome}
 use Rattle.hashbag_words_lib.specs.declared.row_source.SourceKind.{SourceKind}
 use Rattle.hashbag_words_lib.specs.declared.row_source.SourceKind.TheVariants.{Run}
@@ -96,10 +96,10 @@ pub record IsSoFar (given : List (SourceKind × List ℕ)) (sources : List Sourc
 abbrev pub HasMerged : List (SourceKind × List ℕ) → Merger → List (List ℕ × ℕ) → Type 0
 HasMerged given merger out = IsSoFar given merger.sources.items merger.held merger.total out
 
--- the rows that came out are the merge of the rows of the texts, whatever may come next
+-- the rows that came out are the merge of the rows of the texts, whatever may come next, and the total is what these count
 abbrev pub IsWhole : List (SourceKind × List ℕ) → Merger → List (List ℕ × ℕ) → Type 0
 IsWhole given merger out =
-    (mores : ℕ → List ℕ) (inputs : List (List (List ℕ × ℕ))) → MayComeTo merger.sources.items mores → AreInputs given mores inputs → IsMergeOf inputs out
+    (mores : ℕ → List ℕ) (inputs : List (List (List ℕ × ℕ))) → MayComeTo merger.sources.items mores → AreInputs given mores inputs → IsMergeOf inputs out × (merger.total ≡ sum_by numbers inputs)
 
 -- what the merger gave next: one row more, which comes behind; or nothing, since a source is to be given more bytes, or all is merged
 abbrev pub Follows : List (SourceKind × List ℕ) → List (List ℕ × ℕ) → Merged → Merger → Type 0

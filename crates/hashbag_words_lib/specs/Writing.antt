@@ -4,8 +4,13 @@ use Rattle.std.specs.Fmt.{format_spec, styled_decimal}
 use Rattle.json.specs.Print.{print}
 use Rattle.json.specs.Token.{Token, begin_array, end_array, string, number}
 use Rattle.hashbag_words_lib.specs.Rows.{row}
+use Rattle.hashbag_words_lib.specs.Shares.{hundredths_of, two_decimals}
 use Rattle.hashbag_words_lib.specs.declared.writing.Format.{Format}
-use Rattle.hashbag_words_lib.specs.declared.writing.Format.TheVariants.{Tsv, Json, Uniq}
+use Rattle.hashbag_words_lib.specs.declared.writing.Format.TheVariants.{Tsv, Shares, Json, Uniq}
+
+-- the row, a tab, the percent of the total that the count is, and a line feed
+abbrev pub shares_text : ℕ → List ℕ × ℕ → List ℕ
+shares_text total r = row r.0 r.1 ++ 9 ∷ (two_decimals (hundredths_of total r.1) ++ 10 ∷ [])
 
 -- the count as `{:7}` prints it, a space, the token, and a line feed
 abbrev pub uniq_text : List ℕ × ℕ → List ℕ
@@ -22,12 +27,14 @@ pair_text r = print (pair_tokens r)
 -- the text of a row
 abbrev pub row_text : Format → List ℕ × ℕ → List ℕ
 row_text Tsv r = row r.0 r.1 ++ 10 ∷ []
+row_text (Shares total) r = shares_text total r
 row_text Json r = pair_text r
 row_text Uniq r = uniq_text r
 
 -- what comes before a row: a comma in JSON, unless it is the first
 abbrev pub comma : Format → Bool → List ℕ
 comma Tsv first = []
+comma (Shares total) first = []
 comma Json true = []
 comma Json false = 44 ∷ []
 comma Uniq first = []
@@ -35,12 +42,14 @@ comma Uniq first = []
 -- what comes before all rows
 abbrev pub head_text : Format → List ℕ
 head_text Tsv = []
+head_text (Shares total) = []
 head_text Json = 91 ∷ []
 head_text Uniq = []
 
 -- what comes after all rows
 abbrev pub end_text : Format → List ℕ
 end_text Tsv = []
+end_text (Shares total) = []
 end_text Json = 93 ∷ 10 ∷ []
 end_text Uniq = []
 

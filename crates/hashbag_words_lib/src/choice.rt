@@ -70,15 +70,17 @@ fn is_excepted(except: Option<&HashBag<String, RandomState>>, token: &str) -> bo
     }
 }
 
-/// Removes all tokens that aren't shown.
+/// Removes all tokens that aren't shown. Returns how many occurrences there were, of those that are shown and of the others.
 ///
 /// # Complexity
 ///
 /// Reads each token once, and allocates nothing.
-pub fn keep_shown<S: BuildHasher + Drop>(bag: &mut HashBag<String, S>, choice: Choice<'_>)
+pub fn keep_shown<S: BuildHasher + Drop>(bag: &mut HashBag<String, S>, choice: Choice<'_>) -> usize
     // `texts` lists what the bag had. Each of them that is shown has its count, and nothing else is left.
-    ensures { (texts : List (List ℕ)) → HaveTogether [] bag.old texts → AreKept choice.entry texts bag.new }
+    ensures kept { (texts : List (List ℕ)) → HaveTogether [] bag.old texts → AreKept choice.entry texts bag.new }
+    ensures total { (texts : List (List ℕ)) → HaveTogether [] bag.old texts → result ≡ length texts }
 {
+    let total = bag.len();
     bag.retain(
         |token: &String, count: usize| -> usize
             ensures { result ≡ (if shows choice.entry (string_bytes token.now, count) then count else 0) }
@@ -90,6 +92,7 @@ pub fn keep_shown<S: BuildHasher + Drop>(bag: &mut HashBag<String, S>, choice: C
             }
         },
     );
+    total
 }
 
 // Returns the tokens with their counts, in ascending order of tokens.

@@ -5,7 +5,8 @@
 //! - [`row_counter`] adds up files of counts that come in blocks, whose lines [`rows`] reads, and [`merging`] JSON texts.
 //! - [`gauge`] says when a bag is full, [`runs`] has what is then written, [`levels`] which of that is merged, and [`sorted_merge`] merges it, which
 //!   [`row_source`] reads.
-//! - [`choice`] selects the counts that are shown, and [`writing`], [`row_text`] and [`row_parts`] make their text. [`shards`] parts all tokens by a fixed hash.
+//! - [`choice`] selects the counts that are shown, and [`writing`], [`row_text`] and [`row_parts`] make their text. [`shards`] parts all tokens by a fixed hash,
+//!   and [`shares`] writes what percent of a total a count is.
 #![tactic(auto)]
 
 pub mod choice;
@@ -26,6 +27,7 @@ pub mod rows;
 pub mod rule;
 pub mod runs;
 pub mod shards;
+pub mod shares;
 pub mod shown_rows;
 pub mod shown_text;
 pub mod sorted_merge;

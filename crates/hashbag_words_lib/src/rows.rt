@@ -94,6 +94,16 @@ fn push_token(text: &mut Vec<u8>, token: &[u8]) -> Result<(), AllocError>
     Ok(())
 }
 
+// Appends the line of a token and its count, without its end.
+pub(crate) fn push_cells(text: &mut Vec<u8>, token: &str, count: usize) -> Result<(), AllocError>
+    ensures { OnOk result (text.new.items ≡ text.old.items ++ row token.now count) }
+{
+    push_token(text, token.as_bytes())?;
+    let mut digits = Buffer::new();
+    text.push(b'\t')?;
+    text.extend_from_slice(digits.format(count).as_bytes())
+}
+
 /// Appends the line of a token and its count, with a line feed.
 ///
 /// # Errors
@@ -102,10 +112,7 @@ fn push_token(text: &mut Vec<u8>, token: &[u8]) -> Result<(), AllocError>
 pub fn push_row(text: &mut Vec<u8>, token: &str, count: usize) -> io::Result<()>
     ensures { OnOk result (text.new.items ≡ text.old.items ++ (row token.now count ++ 10 ∷ [])) }
 {
-    push_token(text, token.as_bytes())?;
-    let mut digits = Buffer::new();
-    text.push(b'\t')?;
-    text.extend_from_slice(digits.format(count).as_bytes())?;
+    push_cells(text, token, count)?;
     text.push(b'\n')?;
     Ok(())
 }

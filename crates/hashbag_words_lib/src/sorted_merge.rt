@@ -178,6 +178,13 @@ impl Merger {
         &self.sources
     }
 
+    /// Returns what the counts of the rows that were taken add up to. At the end these are all rows of all sources.
+    pub fn total(&self) -> usize
+        ensures { result ≡ self.now.total }
+    {
+        self.total
+    }
+
     /// Returns how many bytes the source of that place keeps, or 0 if there is no such source.
     pub fn kept(&self, i: usize) -> usize {
         match self.sources.get(i) {
@@ -225,7 +232,7 @@ impl Merger {
     ///
     /// A row that is taken needs a comparison with the next row of each source.
     pub fn next_row(&mut self) -> Result<Merged, Stop>
-        // A row comes behind those in `out`; or a source wants bytes; or it is the end, and `out` is the merge of all rows.
+        // A row comes behind those in `out`; or a source wants bytes; or it is the end, `out` is the merge of all rows, and the total theirs.
         ensures follows { IfOk result (λ next. (given : _) → (out : List (List ℕ × ℕ)) → HasMerged given self.old out → Follows given out next self.new) }
 
         // At the end, if the sources are runs that are read again as they were written, `out` is their merge.

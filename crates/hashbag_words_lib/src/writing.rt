@@ -1,8 +1,9 @@
 //! Writing counts.
 ghost use Rattle.std.specs.Prelude.{◌≡◌, ◌++◌, OnOk};
-ghost use Rattle.hashbag_words_lib.specs.Writing.{comma, end_text, head_text, pair_text, pair_tokens, row_text, uniq_text};
+ghost use Rattle.hashbag_words_lib.specs.Writing.{comma, end_text, head_text, pair_text, pair_tokens, row_text, shares_text, uniq_text};
 
-use crate::rows::push_row;
+use crate::rows::{push_cells, push_row};
+use crate::shares::push_share;
 use json::Writer;
 use std::alloc::AllocError;
 use std::io::{self, Write};
@@ -13,6 +14,8 @@ use std::mem;
 pub enum Format {
     /// A line for each token: the token, a tab, the count.
     Tsv,
+    /// The same, then a tab, and the percent of this total that the count is.
+    Shares(usize),
     /// One line: a JSON array of pairs of a token and its count.
     Json,
     /// A line for each token, as `uniq -c` writes it: the count in seven columns, a space, the token.
@@ -39,6 +42,22 @@ impl Format {
             _ => b"",
         }
     }
+}
+
+// Appends a line with the percent of the total.
+fn push_with_share(
+    text: &mut Vec<u8>,
+    total: usize,
+    token: &str,
+    count: usize,
+) -> Result<(), AllocError>
+    ensures { OnOk result (text.new.items ≡ text.old.items ++ shares_text total (token.now, count)) }
+{
+    push_cells(text, token, count)?;
+    text.push(b'\t')?;
+    push_share(text, total, count)?;
+    text.push(b'\n')?;
+    Ok(())
 }
 
 // Appends a line as `uniq -c` writes it.
@@ -86,6 +105,10 @@ pub(crate) fn push_in(
 {
     match format {
         Format::Tsv => push_row(text, token, count),
+        Format::Shares(total) => {
+            push_with_share(text, total, token, count)?;
+            Ok(())
+        }
         Format::Uniq => push_uniq(text, token, count),
         Format::Json => {
             if !is_first {

@@ -1,7 +1,9 @@
-use Rattle.std.proofs.Common.{◌≡◌, ℕ, ◌+◌, min, Bool, true, false, cond, String, Global, string_bytes, string_eq, bytes_eq, refl, ◌∙◌, ap, arith, rules}
-use Rattle.std.specs.Cmp.Lexicographic.{bytes_decides}
+use Rattle.std.proofs.Common.{◌≡◌, ℕ, ◌+◌, min, Bool, true, false, cond, String, Global, string_bytes, string_eq, bytes_eq, refl, sym, ◌∙◌, ap, arith, rules}
+use Rattle.std.specs.Cmp.Lexicographic.{bytes_decides, nat_list_eq_equiv}
+use Rattle.std.proofs.lemmas.List.{length-map}
 use Rattle.std.specs.String.{string_eq_equiv}
 use Rattle.hashbag.specs.Occurrences.{count}
+use Rattle.hashbag_ops.proofs.Lengths.{same_length}
 use Rattle.hashbag_ops.proofs.ByCount.{answers_by_count, count_retained_by}
 use Rattle.hashbag_words_lib.specs.Choice.{shows, shown_count}
 use Rattle.hashbag_words_lib.specs.Counts.{texts_in}
@@ -25,8 +27,8 @@ same_kept : (choice : Choice) (u w : String Global) (n : ℕ) → string_eq u w 
 same_kept choice u w n same = ap (λ bytes. shown_count choice bytes n) ((bytes_decides (string_bytes u) (string_bytes w)).0 same)
 
 -- the closure answers by the choice
-pub returns : goal.returns
-returns g c =
+pub returns-clause-kept : goal.returns-clause-kept
+returns-clause-kept g c =
     let choice = c.args.choice in
     let before = c.args.bag.now in
     let done = c.retain.ensures.retained in
@@ -36,3 +38,11 @@ returns g c =
     (λ v. let n = count string_eq v before.items in count_retained_by string_eq_equiv (kept choice) (same_kept choice) _ _ before c.retain.new.self done answers v ∙ no_more (shows choice (string_bytes v, n)) n)
     text
     ∙ ap (λ (n : ℕ). shown_count choice text n) (no_runs (count bytes_eq text (texts_in before)) _ (together text))
+
+-- lists with the same counts are equally long
+pub returns-clause-total : goal.returns-clause-total
+returns-clause-total g c = λ texts together.
+    let before = c.args.bag.now in
+    c.len-total.ensures.len
+    ∙ sym (length-map before.items string_bytes)
+    ∙ same_length nat_list_eq_equiv (texts_in before) texts (λ text. no_runs (count bytes_eq text (texts_in before)) (count bytes_eq text texts) (together text))

@@ -2,7 +2,7 @@ use Rattle.std.proofs.Common.{◌≡◌, ℕ, ◌+◌, [], ◌∷◌, ◌++◌, 
 use Rattle.std.proofs.lemmas.List.{append-nil}
 use Rattle.hashbag_words_lib.specs.Merged.{count_of, texts_of, TakesRow}
 use Rattle.hashbag_words_lib.specs.Sorted.{one_of, row_of, shown_of, IsMergeOf}
-use Rattle.hashbag_words_lib.proofs.MergedLemmas.{runs_merged, so_far_as, so_far_ends, so_far_row, so_far_same, so_far_whole}
+use Rattle.hashbag_words_lib.proofs.MergedLemmas.{runs_merged, so_far_as, so_far_ends, so_far_row, so_far_same, so_far_whole, total_whole}
 use Rattle.hashbag_words_lib.proofs.sorted_merge.Merger.next_row.Goals as goal
 
 and_none : (n m : ℕ) → m ≡ n + 0 → m ≡ n
@@ -64,9 +64,14 @@ returns-in-None-clause-follows c = λ given out merged.
       so_far_as given new _ c.take.new.self old.total c.take_least.new.total (out ++ shown_of old.held) out c.take.ensures.after total same
           (so_far_ends given old.sources.items new out old.held old.total (c.rows.invariant given out merged) c.take_least.ensures.ended c.take_least.ensures.many
           (λ mores come rows are. subst (λ n. TakesRow mores rows n new) c.in-End.is (c.in_ok-row.ensures.taken mores come rows are))),
-      λ mores inputs come are. subst (IsMergeOf inputs) (sym same)
-          (so_far_whole given old.sources.items new out old.held old.total (c.rows.invariant given out merged) c.take_least.ensures.ended c.take_least.ensures.many
-          (λ more may rows left. subst (λ n. TakesRow more rows n new) c.in-End.is (c.in_ok-row.ensures.taken more may rows left)) mores inputs come are),
+      λ mores inputs come are. (
+        subst (IsMergeOf inputs) (sym same)
+            (so_far_whole given old.sources.items new out old.held old.total (c.rows.invariant given out merged) c.take_least.ensures.ended c.take_least.ensures.many
+            (λ more may rows left. subst (λ n. TakesRow more rows n new) c.in-End.is (c.in_ok-row.ensures.taken more may rows left)) mores inputs come are),
+        total
+            ∙ total_whole given old.sources.items new out old.held old.total (c.rows.invariant given out merged) c.take_least.ensures.ended c.take_least.ensures.many
+            (λ more may rows left. subst (λ n. TakesRow more rows n new) c.in-End.is (c.in_ok-row.ensures.taken more may rows left)) mores inputs come are,
+      ),
     )
 
 pub returns-in-None-clause-runs : goal.returns-in-None-clause-runs
