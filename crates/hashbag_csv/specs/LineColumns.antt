@@ -27,6 +27,6 @@ line_by scale c r = line_of scale (form_of c) (key_places c) (number_place c) r
 abbrev pub line_bytes : {A : Type 0} → (A → Record) → A × ℕ → Record × ℕ
 line_bytes fields line = (fields line.0, line.1)
 
--- `before` is a record and then `after`, and `line` is that record's line, which f computes
+-- `before` is a record followed by `after`, and `line`, as bytes, is f of that record
 abbrev pub IsNextLine : {A : Type 0} → (A → Record) → (Record → Record × ℕ) → List Record → List Record → A × ℕ → Type 0
 IsNextLine fields f before after line = (r : Record) × (before ≡ r ∷ after) × (line_bytes fields line ≡ f r)

@@ -21,7 +21,7 @@ pub trait Article: Ord + Hash + Sized {
     /// Its fields, as bytes.
     ghost fields: { Self → Record };
 
-    /// Returns the article that the record has which was read last, from its fields in these columns, in this form.
+    /// Returns the article of the record that was read last: its fields in these columns, in this form.
     ///
     /// # Errors
     ///

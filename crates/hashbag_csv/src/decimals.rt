@@ -9,7 +9,7 @@ ghost use Rattle.hashbag_csv.specs.Marks.{code_of};
 use crate::scale::Scale;
 use std::alloc::{AllocError, Global};
 
-// The number that digits are, if they are digits alone and it fits.
+// The number that a text is, if it has only digits and the number fits.
 fn number_of(digits: &str) -> Option<usize>
     ensures { MatchOption result (¬ (IsNumeral 10 digits.now × (digits_value 10 digits.now ≤ usize.MAX)))
         (λ n. IsNumeral 10 digits.now × (digits_value 10 digits.now ≡ n)) }

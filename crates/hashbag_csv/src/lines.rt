@@ -77,7 +77,7 @@ fn text_of<'s>(sheet: &'s Sheet<'_>, column: Column<'_>, trim: bool) -> Result<&
     sheet.field(column)
 }
 
-// The field of this column in the record that was read last, in this form.
+// The field of this column, in this form, of the record that was read last.
 pub(crate) fn key_field(
     alloc: Global,
     sheet: &Sheet<'_>,

@@ -3,7 +3,7 @@ use crate::delimiter::Delimiter;
 use csv::{Writer, WriterBuilder};
 use std::alloc::{AllocError, Global};
 
-/// A CSV text that grows by a record after the other.
+/// A CSV text to which records are appended, one after another.
 #[derive(Drop)]
 pub struct Records {
     writer: Writer<Vec<u8>>,

@@ -33,7 +33,7 @@ abbrev pub new_number : RowChange → Option ℕ
 new_number (Put article n) = Some n
 new_number (Remove article) = None
 
--- the number of v after these changes in turn, if it was this one before
+-- the number of v after these changes in turn, if it was `was` before
 abbrev pub applied : List ℕ → List RowChange → Option ℕ → Option ℕ
 applied v [] was = was
 applied v (c ∷ cs) was = applied v cs (if bytes_eq v (string_bytes (article_of c)) then new_number c else was)

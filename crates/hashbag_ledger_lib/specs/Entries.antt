@@ -13,7 +13,7 @@ use Rattle.hashbag_ledger_lib.specs.Ledger.{going, there, asks_too_much, entered
 use Rattle.hashbag_ledger_lib.specs.Settled.{listed, IsAfter, IsPastWithin}
 
 module _ {T : Type 0} where
-  -- the refusal of a movement, if it was refused, before these
+  -- these refusals, with that of the movement in front, if it was refused
   abbrev pub refusal_before : Movement T → Outcome → List (Refusal T) → List (Refusal T)
   refusal_before m (Entered n) later = later
   refusal_before m (Refused n) later = (record { place = m.place; article = m.article; asked = going m.change; there = n }) ∷ later

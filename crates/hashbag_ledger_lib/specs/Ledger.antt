@@ -53,7 +53,7 @@ module _ {T : Type 0} (eq : T → T → Bool) where
     abbrev pub asks_too_much : List (Movement T) → Movement T → Bool
     asks_too_much entered m = nat_lt (there entered m.article) (going m.change)
 
-    -- the movements that are entered once the movements ms have come, if these were entered before
+    -- of `entered`, which were entered before, and of ms, all movements that are then entered
     abbrev pub entered_after : List (Movement T) → List (Movement T) → List (Movement T)
     entered_after entered [] = entered
     entered_after entered (m ∷ ms) = entered_after (if asks_too_much entered m then entered else entered ++ m ∷ []) ms

@@ -20,7 +20,7 @@ use Rattle.hashbag_ledger_lib.specs.Settled.{IsLedgerOf}
 abbrev pub said : Movement (String Global) → List ℕ × Change
 said m = (string_bytes m.article, m.change)
 
--- a number behind `-` goes, another comes, also behind `+`
+-- a number after `-` goes out; one after `+`, or alone, comes in
 abbrev pub signed : Scale → List ℕ → Change
 signed scale [] = In (number_in scale [])
 signed scale (c ∷ digits) = if c == 45 then Out (number_in scale digits) else (if c == 43 then In (number_in scale digits) else In (number_in scale (c ∷ digits)))
@@ -29,7 +29,7 @@ signed scale (c ∷ digits) = if c == 45 then Out (number_in scale digits) else 
 abbrev pub of_kind : List ℕ → ℕ → Change
 of_kind kind n = if bytes_eq (codes "in") kind then In n else Out n
 
--- the columns of a change, with f of each in its place: for example a column's place for its name
+-- f of each column of a change: for example its place, from its name
 abbrev pub change_by : {C D : Type 0} → (C → D) → ChangeColumns C → ChangeColumns D
 change_by f (Signed change) = Signed (f change)
 change_by f (ByKind kind number) = ByKind (f kind) (f number)

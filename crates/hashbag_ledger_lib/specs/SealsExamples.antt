@@ -8,7 +8,7 @@ use Rattle.hashbag_ledger_lib.specs.Seals.{with_text, with_option, with_change}
 text_of_two : with_text [] (104 ∷ 105 ∷ []) ≡ 2 ∷ 0 ∷ 0 ∷ 0 ∷ 0 ∷ 0 ∷ 0 ∷ 0 ∷ 104 ∷ 105 ∷ []
 text_of_two = refl
 
--- no number isn't the number 0
+-- a missing number is sealed otherwise than the number 0
 none_is_no_zero : with_option [] None ≡ 0 ∷ 0 ∷ 0 ∷ 0 ∷ 0 ∷ 0 ∷ 0 ∷ 0 ∷ []
 none_is_no_zero = refl
 

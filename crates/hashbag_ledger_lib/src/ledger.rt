@@ -94,8 +94,8 @@ pub fn stock_at_start<T: Eq + Hash + Drop, S: BuildHasher + Drop>(
 
 /// A stock that begins as a list, and the refusals of the movements so far. No movement is kept.
 ///
-/// The clauses name the list and the movements that have come: [`Ledger::begin`] returns the ledger of a list after no movements, and
-/// [`Ledger::enter`] adds one to the movements of any list and movements that it was the ledger of.
+/// The clauses name the list and the movements that have come. [`Ledger::begin`] returns the ledger of a list after no movements. If it was
+/// the ledger of a list and some movements, [`Ledger::enter`] makes it the ledger of that list and those movements with this one behind them.
 #[derive(Drop)]
 pub struct Ledger<T: Eq + Hash + Drop, S: BuildHasher + Drop> {
     stock: HashBag<T, S>,

@@ -107,8 +107,8 @@ pub fn movements_text(
 
 /// Returns the movements of an article as CSV, with the header `batch,file,line,time,change,outcome,number`.
 ///
-/// The file of a place is the number of the batch, whose file and time are written. The outcome is `entered` or `refused`; the number is
-/// how many there are after the movement.
+/// In these entries `place.file` is the number of the batch; its file and time are written. The outcome is `entered` or `refused`; the
+/// number is how many there are after the movement.
 ///
 /// # Errors
 ///

@@ -1,4 +1,4 @@
-//! Whether a file was entered before.
+//! What a batch is, and whether a file was entered before.
 ghost use Rattle.std.specs.Prelude.{◌≡◌, ◌≢◌, All, Contains, MatchOption, string_bytes};
 ghost use Rattle.hashbag_ledger_lib.specs.Kinds.{name_of, undone_of};
 
@@ -41,7 +41,7 @@ impl Kind {
 pub struct Batch {
     /// Its number, from 1.
     pub number: i64,
-    /// The name of its file, of an undo that of the batch that it undoes.
+    /// The name of its file; if it is an undo, that of the batch that it undoes.
     pub file: String,
     /// The SHA-256 of the bytes of its file, in hexadecimal digits; empty if it has no file.
     pub sha256: String,

@@ -204,7 +204,7 @@ fn enter_record<S: BuildHasher + Drop>(
 ///
 /// # Errors
 ///
-/// `Line` with the first line that is bad, or with whose movement the total would pass the limit, and what is wrong. `Memory` if an
+/// `Line` for the first line that is bad, or whose movement would take the total past the limit, and what is wrong with it. `Memory` if an
 /// allocation fails. Then some of the movements are entered, and no clause says which.
 pub fn enter_movements<S: BuildHasher + Drop>(
     alloc: Global,
@@ -214,7 +214,7 @@ pub fn enter_movements<S: BuildHasher + Drop>(
     names: Columns<&str>,
     reading: Reading,
 ) -> Result<(), SheetError>
-    // The ledger has the movements of the text more, whatever it had before.
+    // The movements of the text are added to those that the ledger had.
     ensures { OnOk result (EntersFile file (movements_in reading (columns_by (λ n. n.now) names.entry) text.now)
         ledger.old.refusals.items ledger.old.stock ledger.new.refusals.items ledger.new.stock) }
 {

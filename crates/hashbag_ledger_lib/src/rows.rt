@@ -42,7 +42,7 @@ pub fn rises(balance: &[(String, usize)]) -> bool
     true
 }
 
-// Returns what becomes of the row of the next article, unless it stays as it is, and the rows after that one in both balances.
+// Returns the change of the next article's row, `None` if it stays, and the rows behind it in both balances.
 fn next_change<'a, 'b>(
     before: Balance<'a>,
     after: Balance<'b>,

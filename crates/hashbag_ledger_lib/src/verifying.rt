@@ -13,7 +13,7 @@ use std::cmp::Ordering;
 /// A movement as the database keeps it.
 #[derive(PartialEq, Eq, Debug, Drop)]
 pub struct KeptMovement {
-    /// The movement; the file of its place is its number.
+    /// The movement. Its `place.file` isn't a file here, but the movement's number.
     pub movement: Movement<String>,
     /// The number of its batch.
     pub batch: u64,
@@ -207,8 +207,8 @@ fn read_batch(
     read
 }
 
-/// Returns the number of the first batch that has other numbers of movements or refusals than its row says; or that of the batch of the
-/// first movement after them, which is then of no batch, or out of turn.
+/// Returns the number of the first batch that has other numbers of movements or refusals than its row says. If all of them are right and a
+/// movement is left over, it returns the number of that one's batch: the movement is of no batch, or out of turn.
 ///
 /// Movements and refusals are in turn.
 pub fn wrong_batch(

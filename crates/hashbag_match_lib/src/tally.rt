@@ -65,7 +65,7 @@ impl<T: Eq + Hash + Drop, S: BuildHasher + Drop> Tally<T, S> {
     }
 }
 
-/// Returns the tally of no lines, whose bags hash by this state. It doesn't allocate.
+/// Returns the tally of no lines. Its bags hash by this state. It doesn't allocate.
 pub fn empty_tally<T: Eq + Hash + Drop, S: BuildHasher + Copy + Drop>(
     alloc: Global,
     state: S,

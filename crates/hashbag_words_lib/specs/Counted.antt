@@ -43,7 +43,8 @@ pub record IsFirstBad (rule : Rule) (text : List ℕ) (reading : LinesRead) : Ty
 abbrev pub HaveTogether : {S : Type 0} → List (List (List ℕ × ℕ)) → Bag (String Global) S → List (List ℕ) → Type 0
 HaveTogether runs bag tokens = (text : List ℕ) → count bytes_eq text (texts_in bag) + sum_by (times_in text) runs ≡ count bytes_eq text tokens
 
--- the text is its ended lines, whose tokens are in the bag and the runs with those from before the text, and then the bytes that are kept
+-- the text is its ended lines and then the bytes that are kept. The bag and the runs have the tokens of those lines and the ones from
+-- before
 pub record Counted {S : Type 0} (rule : Rule) (before : List (List ℕ)) (runs : List (List (List ℕ × ℕ))) (bag : Bag (String Global) S) (partial : List ℕ) (reading : LinesRead) (text : List ℕ) : Type 0 where
   pub ended : List ℕ
   pub cut : text ≡ ended ++ partial

@@ -36,7 +36,8 @@ abbrev pub OpensWith : SourceKind → List ℕ → Opened → Type 0
 OpensWith kind text (Ready source) = HoldsAll kind text source
 OpensWith kind text (OpenedWants rows) = Holds kind text rows × (rows.is_ended ≡ false)
 
--- the next of these rows was taken, and the one after it comes after it; or none was, since that one isn't known, or there is none
+-- the next of these rows was taken, and the row behind it has a greater token; or none was taken, since that row isn't known yet, or no row
+-- is left
 abbrev pub Takes : List (List ℕ × ℕ) → Next → Option (List (List ℕ × ℕ)) → Type 0
 Takes old (Row row) new = (rest : List (List ℕ × ℕ)) × (old ≡ row_of row ∷ rest) × (new ≡ Some rest) × IsAbove (string_bytes row.0) rest
 Takes old Wants new = new ≡ Some old

@@ -15,7 +15,7 @@ fnv_from hash (byte ∷ bytes) = fnv_from (fnv_step hash byte) bytes
 abbrev pub fnv : List ℕ → ℕ
 fnv bytes = fnv_from 14695981039346656037 bytes
 
--- the text is in the shard. So it is in exactly one of those with indices below a number that isn't 0
+-- the text is in the shard. So for each n > 0 it is in exactly one of the shards 0 to n - 1
 abbrev pub is_in : Shard → List ℕ → Bool
 is_in shard text = nat_lt 0 shard.of && nat_eq (fnv text % shard.of) shard.index
 

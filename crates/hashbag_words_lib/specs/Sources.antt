@@ -44,7 +44,8 @@ Gives (Some rows) (Row row) new = (rest : List (List ℕ × ℕ)) × (rows ≡ r
 Gives (Some rows) Wants new = new ≡ Some rows
 Gives (Some rows) End new = (rows ≡ []) × (new ≡ Some [])
 
--- one line gave what comes next, as `Gives` says; or it was passed over, which no line of known rows is
+-- one line gave what comes next, as `Gives` says; or the line was passed over, which is only possible if the rows left aren't known
+-- (`None`)
 abbrev pub Meets : Option (List (List ℕ × ℕ)) → Option Next → Option (List (List ℕ × ℕ)) → Type 0
 Meets old None new = IsSome old → ⊥
 Meets old (Some next) new = Gives old next new

@@ -74,7 +74,7 @@ pub(crate) fn no_memory(reading: &mut LinesRead) -> InputFault
 impl<'r, S: BuildHasher + Drop> TextCounter<'r, S> {
     /// Returns a counter that was given nothing. What it counts is added to this bag.
     ///
-    /// A gauge, if there is one, says when the bag is full. Then the bag has to be empty, and the gauge new.
+    /// A gauge says when the bag is full. If there is one, the bag has to be empty and the gauge new.
     pub fn new(
         alloc: Global,
         bag: HashBag<String, S>,

@@ -1,5 +1,5 @@
-//! Which runs are merged with which. A run that is made of a bag has level 0, and `FAN` runs of one level are merged into one of the next. So each
-//! row is merged few times, and few runs are kept. Nothing is known here of what a run is, so the clauses hold of files.
+//! Which runs are merged with which. A run that is made of a bag has level 0, and `FAN` runs of one level are merged into one of the next.
+//! So each row is merged few times, and few runs are kept. The code is generic in what a run is, so the clauses also hold of runs in files.
 ghost use Rattle.std.specs.Prelude.{◌≡◌, ◌↔◌, ◌≤◌, ◌++◌, ◌∷◌, [], length, true, false, None, IfOk, MatchOption, OnOk};
 ghost use Rattle.hashbag_words_lib.specs.Levels.{is_full, levels_in, runs_in};
 

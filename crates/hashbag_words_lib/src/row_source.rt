@@ -196,7 +196,7 @@ impl RowSource {
         }
     }
 
-    /// Takes the next row. In any form, and whatever a bad line does, there is none only after the last byte.
+    /// Takes the next row. It returns `End` only after the last byte, whatever the form is and whether bad lines are skipped or not.
     ///
     /// # Errors
     ///

@@ -1,15 +1,16 @@
 //! Sorting rows by their tokens.
 //!
-//! The tokens lie apart in memory, and each is expensive to read. So a row is sorted by a number that it has in the list: eight bytes of its
-//! token. Rows whose eight bytes are the same are a block, which is sorted by the next eight bytes, and so on. Each round reads each token
-//! of a block once, however many rows it has.
+//! The tokens lie apart in memory, and each is expensive to read. So the list has a number with each row, eight bytes of its token, by
+//! which it is sorted. Rows whose eight bytes are the same are a block, which is sorted by the next eight bytes, and so on. Each round
+//! reads each token of a block once, however many rows it has.
 ghost use Rattle.std.specs.Prelude.{◌≡◌, ℕ, ◌+◌, ◌*◌, ◌<◌, ◌≤◌, ◌^◌, length, take, drop, map, slice_index, All, IfOk};
 ghost use Rattle.std.specs.List.Sorted.{IsNonDecreasingBy, IsPermutation, IsSorted};
 ghost use Rattle.hashbag_words_lib.specs.Prefix.{lead, row_cmp, bare_row, number_of, HasWord, IsPrefixOf, IsWordAt, SortsFrom, SortsRuns};
 
 use std::alloc::{AllocError, Global};
 
-// How often a block is split or read further before it is sorted by whole tokens. A split halves a block, or parts off one of one number.
+// How often a block is split or read further before it is sorted by whole tokens. A split halves a block, or splits off the rows with its
+// lowest number.
 const MOST_STEPS: usize = 128;
 
 // Returns the byte at this place, and 0 past the end.

@@ -81,7 +81,7 @@ impl Source {
     ///
     /// # Errors
     ///
-    /// The fault of that row. `BadLine::NotInOrder`: the token of the row after it doesn't come after that of the row.
+    /// The fault of that row. `BadLine::NotInOrder`: the next row's token doesn't come after this row's.
     pub(crate) fn take(&mut self) -> Result<Next, InputFault>
         // The row that came next was taken, if the one after it is known; or none was left.
         ensures same { IfOk result (λ next. IfSome (row_in next) (λ row. self.old.head ≡ Some row)) }
