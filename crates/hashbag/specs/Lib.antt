@@ -13,6 +13,7 @@ pub use Rattle.hashbag_core.specs.JoinsLeft
 pub use Rattle.hashbag_core.specs.JsonFaults
 pub use Rattle.hashbag_core.specs.JsonItemLaws
 pub use Rattle.hashbag_core.specs.JsonItems
+pub use Rattle.hashbag_core.specs.JsonTexts
 pub use Rattle.hashbag_core.specs.JsonTrees
 pub use Rattle.hashbag_core.specs.Keys
 pub use Rattle.hashbag_core.specs.Lending

@@ -6,7 +6,7 @@
 
 pub use hashbag_core::{
     BagError, Difference, Drain, Entry, FixedState, HashBag, IntoIter, ItemError, Iter, JsonError,
-    JsonItem, Key, NotIn, OuterJoin, SetIter, SignedDifference, Spare, ToValue, bag, entry, iters,
-    joins, json,
+    JsonItem, JsonText, Key, NotIn, OuterJoin, SetIter, SignedDifference, Spare, ToValue,
+    TryExtendError, bag, entry, iters, joins, json,
 };
 pub use hashbag_script::script;

@@ -64,3 +64,8 @@ pub record HasReadTextSignedDifference (first second : Bag (List ℕ) Keys) (n :
   pub ends_are : take n ends ≡ ends_from 0 (take n (with_none join))
   pub differences_are : take n differences ≡ map (λ j. j.1) (take n join)
   pub all : length join ≤ length ends → length join ≤ length differences → size_of (with_none join) ≤ length bytes → n ≡ length join
+
+-- all strings with their differences are written, if there are places for them, and bytes for the strings
+abbrev pub WritesAllSignedIfTheyFit : List (List ℕ × ℤ) → List ℕ → List ℕ → List ℤ → ℕ → Type 0
+WritesAllSignedIfTheyFit items bytes ends differences written =
+    length items ≤ length ends → length items ≤ length differences → size_of (with_none items) ≤ length bytes → written ≡ length items

@@ -63,3 +63,17 @@ pub record HasSize (bag : Bag (List ℕ) Keys) (size : ℕ) : Type 0 where
   pub walk : List (List ℕ × ℕ)
   pub set_walk : IsSetWalkOf bytes_eq bag walk
   pub size_is : size ≡ min (size_of walk) (2 ^ 64 - 1)
+
+-- the strings of these pairs come first in `bytes`, one after another
+abbrev pub BeginWithStrings : List ℕ → List (List ℕ × ℕ) → Type 0
+BeginWithStrings bytes pairs = take (size_of pairs) bytes ≡ flat_map (λ e. e.0) pairs
+
+-- all pairs are written, if there are places for them, and bytes for their strings
+abbrev pub WritesAllIfTheyFit : List (List ℕ × ℕ) → List ℕ → List ℕ → List ℕ → ℕ → Type 0
+WritesAllIfTheyFit pairs bytes ends counts written =
+    length pairs ≤ length ends → length pairs ≤ length counts → size_of pairs ≤ length bytes → written ≡ length pairs
+
+-- all items of a join are written, if there are places for them, and bytes for their strings
+abbrev pub WritesAllJoinedIfTheyFit : List (List ℕ × ℕ × ℕ) → List ℕ → List ℕ → List ℕ → List ℕ → ℕ → Type 0
+WritesAllJoinedIfTheyFit items bytes ends firsts seconds written =
+    length items ≤ length ends → length items ≤ length firsts → length items ≤ length seconds → size_of (with_firsts items) ≤ length bytes → written ≡ length items

@@ -48,3 +48,11 @@ pub record HasNextTexts (pairs : List (List ℕ × ℕ)) (n : ℕ) (bytes ends c
 abbrev pub next_size : List (List ℕ × ℕ) → ℕ
 next_size [] = 0
 next_size (e ∷ pairs) = length e.0
+
+-- for one pair more than the n that are written there is no place, or no bytes for its string
+abbrev pub HasNoPlaceForOneMore : List (List ℕ × ℕ) → ℕ → List ℕ → List ℕ → List ℕ → Type 0
+HasNoPlaceForOneMore pairs n bytes ends counts = n < length pairs → n < length ends → n < length counts → length bytes < size_of (take (n + 1) pairs)
+
+-- if a walk is over byte strings, the other is so then, and P holds for the pairs that are left of these
+abbrev pub TextPairsTo : Option Left → Option Left → (List (List ℕ × ℕ) → List (List ℕ × ℕ) → Type 0) → Type 0
+TextPairsTo left after P = IfTextPairs left (λ pairs. HasTextPairs after (P pairs))

@@ -6,8 +6,10 @@ use Rattle.hashbag_core.specs.Bag.{Bag, IsBagOf}
 use Rattle.hashbag_core.specs.Held.{no_slots, HasFewer, NeedsSlots}
 use Rattle.hashbag_core.specs.Keys.{InsertsNamed}
 use Rattle.hashbag_core.specs.Occurrences.{count_named, count, distinct_count, recount, SameCounts}
+use Rattle.hashbag_ops.specs.Unions.{IsUnion}
 use Rattle.hashbag_c.specs.Calls.{HasNumbers, HasTexts, BothNumbers, BothTexts}
 use Rattle.hashbag_c.specs.declared.held.Held.{Held}
+use Rattle.hashbag_c.specs.declared.state.Keys.{Keys}
 
 -- n more would pass the limit of a bag
 abbrev pub Overfills : {T S : Type 0} → Bag T S → ℕ → Type 0
@@ -60,3 +62,19 @@ CombinesNumbers f a b after = BothNumbers a b (λ x y. HasNumbers after (Combine
 
 abbrev pub CombinesTexts : (ℕ → ℕ → ℕ) → Option Held → Option Held → Option Held → Type 0
 CombinesTexts f a b after = BothTexts a b (λ x y. HasTexts after (Combines bytes_eq f x y))
+
+-- n more are within the limit of a bag
+abbrev pub CanHold : {T S : Type 0} → Bag T S → ℕ → Type 0
+CanHold bag n = length bag.items + n ≤ bag.most
+
+-- the total changes as the count of one value did, from `was` to `is`
+abbrev pub TotalChangesAs : {T S : Type 0} → ℕ → ℕ → Bag T S → Bag T S → Type 0
+TotalChangesAs was is bag after = length after.items + was ≡ length bag.items + is
+
+-- a call fails like this only if a union of both bags would pass the limit of the first
+abbrev pub UnionPassesLimitIf : {T S : Type 0} → (T → T → Bool) → Bag T S → Bag T S → Type 0 → Type 0
+UnionPassesLimitIf {T} eq x y failed = (Z : List T) → IsUnion eq x.items y.items Z → failed → x.most < length Z
+
+-- a bag is empty, and has this limit and these keys
+abbrev pub IsEmptyWithKeys : {T : Type 0} → ℕ → ℕ → ℕ → Bag T Keys → Type 0
+IsEmptyWithKeys most key0 key1 bag = (bag.items ≡ []) × (bag.most ≡ most) × (bag.hasher.key0 ≡ key0) × (bag.hasher.key1 ≡ key1)

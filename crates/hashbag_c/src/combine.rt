@@ -1,9 +1,9 @@
 //! Calls on two bags of one kind, which change the first by what the second has.
-ghost use Rattle.std.specs.Prelude.{◌≡◌, ◌≢◌, ℕ, ◌+◌, ◌-◌, ◌<◌, ◌≤◌, ◌↔◌, ◌⊎◌, List, length, nat_eq, min, max, All, true, None, Some};
+ghost use Rattle.std.specs.Prelude.{◌≡◌, ◌≢◌, ◌+◌, ◌-◌, ◌<◌, ◌≤◌, ◌↔◌, ◌⊎◌, List, length, nat_eq, min, max, All, true, None, Some};
 ghost use Rattle.std.specs.Str.{bytes_eq};
 ghost use Rattle.hashbag_ops.specs.Unions.{IsUnion};
 ghost use Rattle.hashbag_c.specs.Calls.{BothNumbers, BothTexts, IfNumbers, IfTexts};
-ghost use Rattle.hashbag_c.specs.Whole.{Adds, Combines, CombinesNumbers, CombinesTexts, Overfills};
+ghost use Rattle.hashbag_c.specs.Whole.{Adds, Combines, CombinesNumbers, CombinesTexts, Overfills, UnionPassesLimitIf};
 
 use crate::any::{EMPTY, KIND};
 use crate::handle::Handle;
@@ -206,8 +206,8 @@ fn raise<T: Eq + Hash + Clone + Drop, S: BuildHasher + Clone + Drop>(
 fn keep_most(into: &mut Held, from: &Held) -> u8
     ensures numbers { result ≡ 0 → CombinesNumbers (λ m n. max m n) (Some into.old) (Some from.now) (Some into.new) }
     ensures texts { result ≡ 0 → CombinesTexts (λ m n. max m n) (Some into.old) (Some from.now) (Some into.new) }
-    ensures beyond_numbers { BothNumbers (Some into.old) (Some from.now) (λ x y. (Z : List ℕ) → IsUnion nat_eq x.items y.items Z → result ≡ 2 → x.most < length Z) }
-    ensures beyond_texts { BothTexts (Some into.old) (Some from.now) (λ x y. (Z : List (List ℕ)) → IsUnion bytes_eq x.items y.items Z → result ≡ 2 → x.most < length Z) }
+    ensures beyond_numbers { BothNumbers (Some into.old) (Some from.now) (λ x y. UnionPassesLimitIf nat_eq x y (result ≡ 2)) }
+    ensures beyond_texts { BothTexts (Some into.old) (Some from.now) (λ x y. UnionPassesLimitIf bytes_eq x y (result ≡ 2)) }
     ensures only_numbers { BothNumbers (Some into.old) (Some from.now) (λ _ _. result ≢ 0 → (result ≡ 1) ⊎ (result ≡ 2)) }
     ensures only_texts { BothTexts (Some into.old) (Some from.now) (λ _ _. result ≢ 0 → (result ≡ 1) ⊎ (result ≡ 2)) }
     ensures kind { IfNumbers (Some into.old) (λ _. IfTexts (Some from.now) (λ _. result ≡ KIND)) }
@@ -237,8 +237,8 @@ fn keep_most(into: &mut Held, from: &Held) -> u8
 pub extern "C" fn hashbag_keep_most(alloc: Global, into: &mut Handle, from: &mut Handle) -> u8
     ensures numbers { result ≡ 0 → CombinesNumbers (λ m n. max m n) into.old.held from.old.held into.new.held }
     ensures texts { result ≡ 0 → CombinesTexts (λ m n. max m n) into.old.held from.old.held into.new.held }
-    ensures beyond_numbers { BothNumbers into.old.held from.old.held (λ x y. (Z : List ℕ) → IsUnion nat_eq x.items y.items Z → result ≡ 2 → x.most < length Z) }
-    ensures beyond_texts { BothTexts into.old.held from.old.held (λ x y. (Z : List (List ℕ)) → IsUnion bytes_eq x.items y.items Z → result ≡ 2 → x.most < length Z) }
+    ensures beyond_numbers { BothNumbers into.old.held from.old.held (λ x y. UnionPassesLimitIf nat_eq x y (result ≡ 2)) }
+    ensures beyond_texts { BothTexts into.old.held from.old.held (λ x y. UnionPassesLimitIf bytes_eq x y (result ≡ 2)) }
     ensures only_numbers { BothNumbers into.old.held from.old.held (λ _ _. result ≢ 0 → (result ≡ 1) ⊎ (result ≡ 2)) }
     ensures only_texts { BothTexts into.old.held from.old.held (λ _ _. result ≢ 0 → (result ≡ 1) ⊎ (result ≡ 2)) }
     ensures kind { IfNumbers into.old.held (λ _. IfTexts from.old.held (λ _. result ≡ KIND)) }

@@ -7,7 +7,7 @@ ghost use Rattle.hashbag_core.specs.Held.{HasFewer};
 ghost use Rattle.hashbag_core.specs.Inserts.{Inserts};
 ghost use Rattle.hashbag_core.specs.Occurrences.{count, recount};
 ghost use Rattle.hashbag_c.specs.Calls.{HasNumbers, IfNumbers, IfTexts, NumbersTo};
-ghost use Rattle.hashbag_c.specs.Whole.{LosesAll, Overfills, SetsCount};
+ghost use Rattle.hashbag_c.specs.Whole.{LosesAll, Overfills, SetsCount, TotalChangesAs};
 
 use crate::any::{EMPTY, KIND};
 use crate::handle::Handle;
@@ -150,7 +150,7 @@ pub extern "C" fn hashbag_numbers_contains(alloc: Global, handle: &mut Handle, v
 fn remove(held: &mut Held, value: u64, n: usize) -> usize
     ensures after { IfNumbers (Some held.old) (λ bag. result ≡ count nat_eq value bag.items - n) }
     ensures fewer { NumbersTo (Some held.old) (Some held.new) (HasFewer nat_eq (nat_eq value) n) }
-    ensures len { NumbersTo (Some held.old) (Some held.new) (λ bag after. length after.items + count nat_eq value bag.items ≡ length bag.items + result) }
+    ensures len { NumbersTo (Some held.old) (Some held.new) (λ bag after. TotalChangesAs (count nat_eq value bag.items) result bag after) }
     ensures kind { IfTexts (Some held.old) (λ _. held.new ≡ held.old) }
 {
     match held {
@@ -170,7 +170,7 @@ pub extern "C" fn hashbag_numbers_remove(
 ) -> usize
     ensures after { IfNumbers handle.old.held (λ bag. result ≡ count nat_eq value bag.items - n) }
     ensures fewer { NumbersTo handle.old.held handle.new.held (HasFewer nat_eq (nat_eq value) n) }
-    ensures len { NumbersTo handle.old.held handle.new.held (λ bag after. length after.items + count nat_eq value bag.items ≡ length bag.items + result) }
+    ensures len { NumbersTo handle.old.held handle.new.held (λ bag after. TotalChangesAs (count nat_eq value bag.items) result bag after) }
     ensures kind { IfTexts handle.old.held (λ _. handle.new.held ≡ handle.old.held) }
     ensures empty { handle.old.held ≡ None → handle.new.held ≡ None }
 {

@@ -1,11 +1,11 @@
 //! Calls on a bag of byte strings that take or give many at once.
-ghost use Rattle.std.specs.Prelude.{◌≡◌, ◌≢◌, ◌+◌, ◌≤◌, ◌++◌, ◌⊎◌, ℕ, List, [], ◌∷◌, length, get_or, slice_range, take, drop, map, flat_map, min, None, Some, IfOk, OnErr, OnOk};
+ghost use Rattle.std.specs.Prelude.{◌≡◌, ◌≢◌, ◌+◌, ◌≤◌, ◌++◌, ◌⊎◌, ℕ, List, [], ◌∷◌, length, get_or, slice_range, take, drop, map, min, None, Some, IfOk, OnErr, OnOk};
 ghost use Rattle.std.specs.Str.{bytes_eq};
 ghost use Rattle.hashbag_core.specs.Occurrences.{count};
 ghost use Rattle.hashbag_c.specs.Calls.{IfNumbers, IfTexts, TextsTo};
 ghost use Rattle.hashbag_c.specs.Pieces.{pieces_from, split_from};
 ghost use Rattle.hashbag_c.specs.Quotas.{HasQuotas, Retains};
-ghost use Rattle.hashbag_c.specs.Reads.{ends_from, size_of, HasReadTexts, HasSize};
+ghost use Rattle.hashbag_c.specs.Reads.{ends_from, size_of, HasReadTexts, HasSize, BeginWithStrings, WritesAllIfTheyFit};
 ghost use Rattle.hashbag_c.specs.Whole.{Adds};
 
 use crate::any::{EMPTY, ENDS, KIND};
@@ -341,10 +341,10 @@ fn write_texts(
     counts: &mut [usize],
 ) -> usize
     ensures few { result ≤ length walk.entry }
-    ensures bytes { take (size_of (take result walk.entry)) bytes.new ≡ flat_map (λ e. e.0) (take result walk.entry) }
+    ensures bytes { BeginWithStrings bytes.new (take result walk.entry) }
     ensures ends { take result ends.new ≡ ends_from 0 (take result walk.entry) }
     ensures counts { take result counts.new ≡ map (λ e. e.1) (take result walk.entry) }
-    ensures all { length walk.entry ≤ length ends.old → length walk.entry ≤ length counts.old → size_of walk.entry ≤ length bytes.old → result ≡ length walk.entry }
+    ensures all { WritesAllIfTheyFit walk.entry bytes.old ends.old counts.old result }
 {
     let most = ends.len().min(counts.len());
     let mut from: usize = 0;

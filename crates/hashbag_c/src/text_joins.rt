@@ -1,8 +1,8 @@
 //! Joins of two bags of byte strings.
-ghost use Rattle.std.specs.Prelude.{◌≡◌, ◌≤◌, length, take, map, flat_map, None, Some};
+ghost use Rattle.std.specs.Prelude.{◌≡◌, ◌≤◌, length, take, map, None, Some};
 ghost use Rattle.hashbag_c.specs.Calls.{BothTexts, IfNumbers};
-ghost use Rattle.hashbag_c.specs.Differences.{with_none, HasReadTextDifference, HasReadTextNotIn, HasReadTextSignedDifference};
-ghost use Rattle.hashbag_c.specs.Reads.{ends_from, size_of, with_firsts, HasReadTextJoin};
+ghost use Rattle.hashbag_c.specs.Differences.{with_none, HasReadTextDifference, HasReadTextNotIn, HasReadTextSignedDifference, WritesAllSignedIfTheyFit};
+ghost use Rattle.hashbag_c.specs.Reads.{ends_from, with_firsts, HasReadTextJoin, BeginWithStrings, WritesAllIfTheyFit, WritesAllJoinedIfTheyFit};
 
 use crate::bytes::Bytes;
 use crate::handle::Handle;
@@ -21,11 +21,11 @@ fn write_joined(
     seconds: &mut [usize],
 ) -> usize
     ensures few { result ≤ length walk.entry }
-    ensures bytes { take (size_of (take result (with_firsts walk.entry))) bytes.new ≡ flat_map (λ e. e.0) (take result (with_firsts walk.entry)) }
+    ensures bytes { BeginWithStrings bytes.new (take result (with_firsts walk.entry)) }
     ensures ends { take result ends.new ≡ ends_from 0 (take result (with_firsts walk.entry)) }
     ensures firsts { take result firsts.new ≡ map (λ e. e.1) (take result walk.entry) }
     ensures seconds { take result seconds.new ≡ map (λ e. e.2) (take result walk.entry) }
-    ensures all { length walk.entry ≤ length ends.old → length walk.entry ≤ length firsts.old → length walk.entry ≤ length seconds.old → size_of (with_firsts walk.entry) ≤ length bytes.old → result ≡ length walk.entry }
+    ensures all { WritesAllJoinedIfTheyFit walk.entry bytes.old ends.old firsts.old seconds.old result }
 {
     let most = ends.len().min(firsts.len().min(seconds.len()));
     let mut from: usize = 0;
@@ -112,10 +112,10 @@ fn write_difference(
     counts: &mut [usize],
 ) -> usize
     ensures few { result ≤ length walk.entry }
-    ensures bytes { take (size_of (take result walk.entry)) bytes.new ≡ flat_map (λ e. e.0) (take result walk.entry) }
+    ensures bytes { BeginWithStrings bytes.new (take result walk.entry) }
     ensures ends { take result ends.new ≡ ends_from 0 (take result walk.entry) }
     ensures counts { take result counts.new ≡ map (λ e. e.1) (take result walk.entry) }
-    ensures all { length walk.entry ≤ length ends.old → length walk.entry ≤ length counts.old → size_of walk.entry ≤ length bytes.old → result ≡ length walk.entry }
+    ensures all { WritesAllIfTheyFit walk.entry bytes.old ends.old counts.old result }
 {
     let most = ends.len().min(counts.len());
     let mut from: usize = 0;
@@ -198,10 +198,10 @@ fn write_not_in(
     counts: &mut [usize],
 ) -> usize
     ensures few { result ≤ length walk.entry }
-    ensures bytes { take (size_of (take result walk.entry)) bytes.new ≡ flat_map (λ e. e.0) (take result walk.entry) }
+    ensures bytes { BeginWithStrings bytes.new (take result walk.entry) }
     ensures ends { take result ends.new ≡ ends_from 0 (take result walk.entry) }
     ensures counts { take result counts.new ≡ map (λ e. e.1) (take result walk.entry) }
-    ensures all { length walk.entry ≤ length ends.old → length walk.entry ≤ length counts.old → size_of walk.entry ≤ length bytes.old → result ≡ length walk.entry }
+    ensures all { WritesAllIfTheyFit walk.entry bytes.old ends.old counts.old result }
 {
     let most = ends.len().min(counts.len());
     let mut from: usize = 0;
@@ -284,10 +284,10 @@ fn write_signed_difference(
     differences: &mut [isize],
 ) -> usize
     ensures few { result ≤ length walk.entry }
-    ensures bytes { take (size_of (take result (with_none walk.entry))) bytes.new ≡ flat_map (λ e. e.0) (take result (with_none walk.entry)) }
+    ensures bytes { BeginWithStrings bytes.new (take result (with_none walk.entry)) }
     ensures ends { take result ends.new ≡ ends_from 0 (take result (with_none walk.entry)) }
     ensures differences { take result differences.new ≡ map (λ e. e.1) (take result walk.entry) }
-    ensures all { length walk.entry ≤ length ends.old → length walk.entry ≤ length differences.old → size_of (with_none walk.entry) ≤ length bytes.old → result ≡ length walk.entry }
+    ensures all { WritesAllSignedIfTheyFit walk.entry bytes.old ends.old differences.old result }
 {
     let most = ends.len().min(differences.len());
     let mut from: usize = 0;

@@ -1,9 +1,9 @@
 //! The byte strings of a bag with their counts, in ascending order or the most common first.
-ghost use Rattle.std.specs.Prelude.{◌≡◌, ◌≢◌, ◌≤◌, length, take, map, flat_map, None, Some, IfErr, IfOk, OnErr};
+ghost use Rattle.std.specs.Prelude.{◌≡◌, ◌≢◌, ◌≤◌, length, take, map, None, Some, IfErr, IfOk, OnErr};
 ghost use Rattle.hashbag_core.specs.Walks.{seen};
 ghost use Rattle.hashbag_c.specs.Calls.{IfNumbers, IfTexts};
 ghost use Rattle.hashbag_c.specs.Orders.{HasReadMostCommonTexts, HasReadSortedTexts};
-ghost use Rattle.hashbag_c.specs.Reads.{ends_from, size_of};
+ghost use Rattle.hashbag_c.specs.Reads.{ends_from, BeginWithStrings, WritesAllIfTheyFit};
 
 use crate::any::{EMPTY, KIND};
 use crate::bytes::Bytes;
@@ -22,10 +22,10 @@ fn write_listed(
     counts: &mut [usize],
 ) -> usize
     ensures few { result ≤ length (map seen pairs.now) }
-    ensures bytes { take (size_of (take result (map seen pairs.now))) bytes.new ≡ flat_map (λ e. e.0) (take result (map seen pairs.now)) }
+    ensures bytes { BeginWithStrings bytes.new (take result (map seen pairs.now)) }
     ensures ends { take result ends.new ≡ ends_from 0 (take result (map seen pairs.now)) }
     ensures counts { take result counts.new ≡ map (λ e. e.1) (take result (map seen pairs.now)) }
-    ensures all { length (map seen pairs.now) ≤ length ends.old → length (map seen pairs.now) ≤ length counts.old → size_of (map seen pairs.now) ≤ length bytes.old → result ≡ length (map seen pairs.now) }
+    ensures all { WritesAllIfTheyFit (map seen pairs.now) bytes.old ends.old counts.old result }
 {
     let most = pairs.len().min(ends.len().min(counts.len()));
     let mut from: usize = 0;

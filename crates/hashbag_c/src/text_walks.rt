@@ -1,10 +1,10 @@
 //! A walk over a bag of byte strings that C holds.
-ghost use Rattle.std.specs.Prelude.{◌≡◌, ◌≢◌, ◌+◌, ◌<◌, ◌≤◌, length, take, drop, map, flat_map, None, Some, IfErr, IfOk};
+ghost use Rattle.std.specs.Prelude.{◌≡◌, ◌≢◌, ◌+◌, ◌<◌, ◌≤◌, length, take, drop, map, None, Some, IfErr, IfOk};
 ghost use Rattle.std.specs.Str.{bytes_eq};
 ghost use Rattle.hashbag_core.specs.Walks.{IsSetWalkOf};
 ghost use Rattle.hashbag_c.specs.Calls.{IfNumbers, IfTexts};
-ghost use Rattle.hashbag_c.specs.Reads.{ends_from, size_of};
-ghost use Rattle.hashbag_c.specs.Walked.{next_size, HasNextTexts, HasTextPairs, IfNumberPairs, IfTextPairs};
+ghost use Rattle.hashbag_c.specs.Reads.{ends_from, BeginWithStrings};
+ghost use Rattle.hashbag_c.specs.Walked.{next_size, HasNextTexts, HasTextPairs, IfNumberPairs, IfTextPairs, HasNoPlaceForOneMore, TextPairsTo};
 
 use crate::any::{EMPTY, KIND};
 use crate::bytes::Bytes;
@@ -79,10 +79,10 @@ fn write_next(
     counts: &mut [usize],
 ) -> usize
     ensures few { result ≤ length pairs.old.items }
-    ensures bytes { take (size_of (take result pairs.old.items)) bytes.new ≡ flat_map (λ e. e.0) (take result pairs.old.items) }
+    ensures bytes { BeginWithStrings bytes.new (take result pairs.old.items) }
     ensures ends { take result ends.new ≡ ends_from 0 (take result pairs.old.items) }
     ensures counts { take result counts.new ≡ map (λ e. e.1) (take result pairs.old.items) }
-    ensures most { result < length pairs.old.items → result < length ends.new → result < length counts.new → length bytes.new < size_of (take (result + 1) pairs.old.items) }
+    ensures most { HasNoPlaceForOneMore pairs.old.items result bytes.new ends.new counts.new }
     ensures left { pairs.new.items ≡ drop result pairs.old.items }
 {
     let most = ends.len().min(counts.len());
@@ -107,7 +107,7 @@ fn write_next(
 }
 
 fn next(left: &mut Left, bytes: &mut [u8], ends: &mut [usize], counts: &mut [usize]) -> usize
-    ensures next { IfTextPairs (Some left.old) (λ pairs. HasTextPairs (Some left.new) (HasNextTexts pairs result bytes.new ends.new counts.new)) }
+    ensures next { TextPairsTo (Some left.old) (Some left.new) (λ pairs. HasNextTexts pairs result bytes.new ends.new counts.new) }
     ensures kind { IfNumberPairs (Some left.old) (λ _. (result ≡ 0) × (left.new ≡ left.old)) }
 {
     match left {
@@ -128,7 +128,7 @@ pub extern "C" fn hashbag_texts_next(
     ends: &mut [usize],
     counts: &mut [usize],
 ) -> usize
-    ensures next { IfTextPairs walk.old.left (λ pairs. HasTextPairs walk.new.left (HasNextTexts pairs result bytes.new ends.new counts.new)) }
+    ensures next { TextPairsTo walk.old.left walk.new.left (λ pairs. HasNextTexts pairs result bytes.new ends.new counts.new) }
     ensures kind { IfNumberPairs walk.old.left (λ _. (result ≡ 0) × (walk.new.left ≡ walk.old.left)) }
     ensures empty { walk.old.left ≡ None → (result ≡ 0) × (walk.new.left ≡ None) }
 {

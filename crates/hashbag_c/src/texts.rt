@@ -6,7 +6,7 @@ ghost use Rattle.hashbag_core.specs.Held.{HasFewer};
 ghost use Rattle.hashbag_core.specs.Keys.{InsertsNamed};
 ghost use Rattle.hashbag_core.specs.Occurrences.{count_named};
 ghost use Rattle.hashbag_c.specs.Calls.{named, occurs, HasTexts, IfNumbers, IfTexts, TextsTo};
-ghost use Rattle.hashbag_c.specs.Whole.{LosesAll, Overfills, SetsNamed};
+ghost use Rattle.hashbag_c.specs.Whole.{LosesAll, Overfills, SetsNamed, CanHold, IsEmptyWithKeys, TotalChangesAs};
 
 use crate::any::{EMPTY, KIND};
 use crate::bytes::{Bytes, Name};
@@ -60,7 +60,7 @@ pub extern "C" fn hashbag_texts_new_keyed(
     key0: u64,
     key1: u64,
 ) -> u8
-    ensures made { result ≡ 0 → HasTexts handle.new.held (λ bag. (bag.items ≡ []) × (bag.most ≡ most) × (bag.hasher.key0 ≡ key0) × (bag.hasher.key1 ≡ key1)) }
+    ensures made { result ≡ 0 → HasTexts handle.new.held (IsEmptyWithKeys most key0 key1) }
     ensures memory { result ≢ 0 → result ≡ 1 }
     ensures err { result ≢ 0 → handle.new.held ≡ handle.old.held }
 {
@@ -151,7 +151,7 @@ pub extern "C" fn hashbag_texts_contains(alloc: Global, handle: &mut Handle, val
 fn remove(held: &mut Held, value: &[u8], n: usize) -> usize
     ensures after { IfTexts (Some held.old) (λ bag. result ≡ occurs value.now bag - n) }
     ensures fewer { TextsTo (Some held.old) (Some held.new) (HasFewer bytes_eq (named value.now) n) }
-    ensures len { TextsTo (Some held.old) (Some held.new) (λ bag after. length after.items + occurs value.now bag ≡ length bag.items + result) }
+    ensures len { TextsTo (Some held.old) (Some held.new) (λ bag after. TotalChangesAs (occurs value.now bag) result bag after) }
     ensures kind { IfNumbers (Some held.old) (λ _. held.new ≡ held.old) }
 {
     match held {
@@ -171,7 +171,7 @@ pub extern "C" fn hashbag_texts_remove(
 ) -> usize
     ensures after { IfTexts handle.old.held (λ bag. result ≡ occurs value.now bag - n) }
     ensures fewer { TextsTo handle.old.held handle.new.held (HasFewer bytes_eq (named value.now) n) }
-    ensures len { TextsTo handle.old.held handle.new.held (λ bag after. length after.items + occurs value.now bag ≡ length bag.items + result) }
+    ensures len { TextsTo handle.old.held handle.new.held (λ bag after. TotalChangesAs (occurs value.now bag) result bag after) }
     ensures kind { IfNumbers handle.old.held (λ _. handle.new.held ≡ handle.old.held) }
     ensures empty { handle.old.held ≡ None → handle.new.held ≡ None }
 {
@@ -245,7 +245,7 @@ fn set_count(held: &mut Held, value: &[u8], n: usize, before: &mut usize) -> u8
     ensures set { result ≡ 0 → TextsTo (Some held.old) (Some held.new) (SetsNamed bytes_eq (named value.now) n) }
     ensures before { IfTexts (Some held.old) (λ bag. result ≡ 0 → before.new ≡ occurs value.now bag) }
     ensures too_many { IfTexts (Some held.old) (λ bag. (result ≡ 2) ↔ (Overfills bag (n - occurs value.now bag))) }
-    ensures present { IfTexts (Some held.old) (λ bag. length bag.items + (n - occurs value.now bag) ≤ bag.most → 0 < occurs value.now bag → result ≡ 0) }
+    ensures present { IfTexts (Some held.old) (λ bag. CanHold bag (n - occurs value.now bag) → 0 < occurs value.now bag → result ≡ 0) }
     ensures none { n ≡ 0 → IfTexts (Some held.old) (λ _. result ≡ 0) }
     ensures only { IfTexts (Some held.old) (λ _. result ≢ 0 → (result ≡ 1) ⊎ (result ≡ 2)) }
     ensures kind { IfNumbers (Some held.old) (λ _. result ≡ KIND) }
@@ -284,7 +284,7 @@ pub extern "C" fn hashbag_texts_set_count(
     ensures set { result ≡ 0 → TextsTo handle.old.held handle.new.held (SetsNamed bytes_eq (named value.now) n) }
     ensures before { IfTexts handle.old.held (λ bag. result ≡ 0 → before.new ≡ occurs value.now bag) }
     ensures too_many { IfTexts handle.old.held (λ bag. (result ≡ 2) ↔ (Overfills bag (n - occurs value.now bag))) }
-    ensures present { IfTexts handle.old.held (λ bag. length bag.items + (n - occurs value.now bag) ≤ bag.most → 0 < occurs value.now bag → result ≡ 0) }
+    ensures present { IfTexts handle.old.held (λ bag. CanHold bag (n - occurs value.now bag) → 0 < occurs value.now bag → result ≡ 0) }
     ensures none { n ≡ 0 → IfTexts handle.old.held (λ _. result ≡ 0) }
     ensures only { IfTexts handle.old.held (λ _. result ≢ 0 → (result ≡ 1) ⊎ (result ≡ 2)) }
     ensures kind { IfNumbers handle.old.held (λ _. result ≡ KIND) }

@@ -35,7 +35,7 @@ pub record IsFirstOf {X : Type 0} (lt : X → X → Bool) (k : ℕ) (P H : List 
 abbrev pub KeepsFirst : {X : Type 0} → (X → X → Bool) → ℕ → List X → X → List X → Type 0
 KeepsFirst {X} lt k H x H' = (P : List X) → IsFirstOf lt k P H → IsFirstOf lt k (P ++ x ∷ []) H'
 
--- a count and a value that is lent, as a heap holds them. Compared by themselves, they are in the order of the most common
+-- the value and the count of a heap's item, which is a reversed count and a lent value. Such items are in the order of `rank`
 abbrev pub counted_pair : {T : Type 0} → Reverse ℕ × Bor T → T × ℕ
 counted_pair e = (e.1.now, e.0.0)
 

@@ -56,7 +56,7 @@ pub fn merge<T: Eq + Hash + Drop, S: BuildHasher + Drop, S2: BuildHasher + Drop>
     ensures hasher { into.new.hasher ≡ into.old.hasher }
     ensures err { OnErr result (into.new ≡ into.old) }
 
-    // When it fails, as under `# Errors`.
+    // When it fails, as under `# Errors`. `full` says less than `lacks`, in simpler words.
     ensures too_many { (result ≡ Err BagError.TooMany) ↔ (into.old.most < length into.old.items + length from.items) }
     ensures only_memory { length into.old.items + length from.items ≤ into.old.most → IfErr result (λ e. e ≡ BagError.Memory) }
     ensures full { result ≡ Err BagError.Memory → room into.old.tables < distinct_count T.eq from.items }
@@ -108,7 +108,7 @@ fn insert_beside_spare<T: Eq + Hash + Drop, S: BuildHasher + Drop, S2: BuildHash
     ensures slots { length into.old.tables.newer ≤ length into.new.tables.newer }
     ensures unbuilt { HasRoomForLacked T.eq from into.old.items into.old.tables → into.new.tables.built ≡ into.old.tables.built }
 {
-    // Does nothing at run time. It gives the proof the contract of `len`: its clause `bag`.
+    // Only for the proof: it uses the clause `bag` of `len`.
     let _len = into.len();
     let mut pairs = from.into_iter();
     'pairs: while let Some((value, n)) = pairs.next() {
@@ -157,7 +157,7 @@ fn lacked_by<T: Eq + Hash + Drop, S: BuildHasher + Drop, S2: BuildHasher + Drop>
     if bag.is_empty() {
         return from.set_iter().len();
     }
-    // Does nothing at run time. It gives the proof the contract of `limit`: its clause `within`.
+    // Only for the proof: it uses the clause `within` of `limit`.
     let _limit = from.limit();
     from.not_in(bag).count()
 }

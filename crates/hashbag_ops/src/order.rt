@@ -96,8 +96,8 @@ pub fn sorted<'a, T: Ord + Hash + Drop, S: BuildHasher + Drop>(
 ///
 /// - If `k` is at least n, it allocates a list of all pairs at once, and compares as often as a sort of them does.
 /// - Else it allocates a heap of `k` pairs at once, and then their list; nothing if `k` is 0. It compares each pair once with the last of
-///   the first `k` so far. If the pair replaces that one, it compares up to `3 * log2(k)` times more. To fill and to sort the heap it
-///   compares up to `3 * k * log2(k)` times.
+///   the `k` that it has kept so far. If the pair replaces that one, it compares up to `3 * log2(k)` times more. To fill and to sort the
+///   heap it compares up to `3 * k * log2(k)` times.
 ///
 /// # Examples
 ///
@@ -177,7 +177,7 @@ fn first_ranked<'a, T: Ord + Hash + Drop, S: BuildHasher + Drop>(
     Ok(pairs)
 }
 
-// Returns a heap of the first `k` in that order, the last on top. Room for all is allocated at once.
+// Returns a heap of the first `k` by `rank`, the last of them on top. Room for all is allocated at once.
 fn heap_of_first<'a, T: Ord + Hash + Drop, S: BuildHasher + Drop>(
     alloc: Global,
     bag: &'a HashBag<T, S>,
@@ -194,7 +194,8 @@ fn heap_of_first<'a, T: Ord + Hash + Drop, S: BuildHasher + Drop>(
     Ok(heap)
 }
 
-// Offers a pair to a heap of the first `k`. If the heap has `k` already, the pair replaces the last of them if it comes before it.
+// Offers a pair to a heap of the first `k` by `rank`. If the heap has `k` already, the pair replaces the last of them if it comes before
+// that one.
 fn offer<'a, T: Ord>(
     heap: &mut BinaryHeap<(Reverse<usize>, &'a T)>,
     k: usize,

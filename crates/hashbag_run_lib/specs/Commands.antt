@@ -1,5 +1,5 @@
 -- The program's input: the commands of its lines. A line ends at each byte 10, and a word at each byte 32.
-use Rattle.std.specs.Prelude.{ℕ, ◌+◌, ◌^◌, ◌%◌, ◌==◌, nat_lt, nat_le, if◌then◌else◌, Bool, ◌&&◌, ◌||◌, List, [], ◌∷◌, length, flat_map, filter_map, position, bytes_eq, codes, Option, Some, None, is_none, option_map, option_and_then}
+use Rattle.std.specs.Prelude.{◌≡◌, ℕ, ◌+◌, ◌^◌, ◌%◌, ◌==◌, nat_lt, nat_le, if◌then◌else◌, Bool, ◌&&◌, ◌||◌, List, [], ◌∷◌, ◌++◌, length, map, flat_map, filter_map, position, bytes_eq, codes, Option, Some, None, is_none, option_map, option_and_then, option_to_list}
 use Rattle.std.specs.List.{slice_split, list_any, list_all}
 use Rattle.std.specs.Char.{is_ascii_digit}
 use Rattle.std.specs.Str.Parse.{digits_value}
@@ -83,3 +83,7 @@ command_of (Count v) = (codes "count", v ∷ [])
 command_of (Reserve n) = (codes "reserve", n ∷ [])
 command_of ShrinkToFit = (codes "shrink", [])
 command_of (Limit n) = (codes "limit", n ∷ [])
+
+-- the command of a line on the bag of this name is appended to those of the steps, if the line is one
+abbrev pub AppendsCommand : List ℕ → List ℕ → List (Step ℕ) → List (Step ℕ) → Type 0
+AppendsCommand bag line old new = map command_of new ≡ map command_of old ++ option_to_list (command_on bag line)

@@ -1,6 +1,7 @@
 -- What inputs mean, by computing.
 use Rattle.std.specs.Prelude.{◌≡◌, [], ◌∷◌, ◌++◌, codes, Some, None, refl}
-use Rattle.hashbag_run_lib.specs.Commands.{number_in, command_on, first_bad, commands_of}
+use Rattle.hashbag_run_lib.specs.Commands.{number_in, command_on, first_bad, commands_of, AppendsCommand}
+use Rattle.hashbag_script.specs.declared.script.Step.TheVariants.{Insert}
 
 leading_zeros : number_in (codes "007") ≡ Some 7
 leading_zeros = refl
@@ -52,3 +53,10 @@ empty_input = refl
 
 in_order : commands_of (codes "a") (codes "a insert 5" ++ 10 ∷ codes "b clear" ++ 10 ∷ 10 ∷ codes "a count 5") ≡ (codes "insert", 5 ∷ []) ∷ (codes "count", 5 ∷ []) ∷ []
 in_order = refl
+
+-- a line is a command on one bag alone
+appended : AppendsCommand (codes "a") (codes "a insert 5") [] (Insert 5 ∷ [])
+appended = refl
+
+not_appended : AppendsCommand (codes "b") (codes "a insert 5") [] []
+not_appended = refl

@@ -1,8 +1,8 @@
 //! The program's input: a step on one of two bags in each line.
-ghost use Rattle.std.specs.Prelude.{◌≡◌, ◌+◌, ◌==◌, ◌++◌, map, not, codes, option_map, option_to_list, IfOk, IfErr};
+ghost use Rattle.std.specs.Prelude.{◌≡◌, ◌+◌, ◌==◌, map, not, codes, option_map, IfOk, IfErr, OnOk};
 ghost use Rattle.std.specs.Char.{is_ascii_digit};
 ghost use Rattle.std.specs.List.{list_all, slice_split};
-ghost use Rattle.hashbag_run_lib.specs.Commands.{number_in, numbers_in, command_in, command_on, is_bad, command_of};
+ghost use Rattle.hashbag_run_lib.specs.Commands.{number_in, numbers_in, command_in, command_on, is_bad, command_of, AppendsCommand};
 ghost use Rattle.hashbag_run_lib.specs.Format.{AreStepsOf, IsBadLineOf, step_on_a, step_on_b};
 
 use crate::verbs::step_of;
@@ -133,10 +133,8 @@ pub struct Scripts {
 impl Scripts {
     // Appends the step of a line, if it is one, and returns whether it is one or empty.
     fn push(&mut self, alloc: Global, line: &[u8]) -> Result<bool, AllocError>
-        ensures a { IfOk result (λ _. map command_of self.new.a.items
-            ≡ map command_of self.old.a.items ++ option_to_list (command_on (codes "a") line.now)) }
-        ensures b { IfOk result (λ _. map command_of self.new.b.items
-            ≡ map command_of self.old.b.items ++ option_to_list (command_on (codes "b") line.now)) }
+        ensures a { OnOk result (AppendsCommand (codes "a") line.now self.old.a.items self.new.a.items) }
+        ensures b { OnOk result (AppendsCommand (codes "b") line.now self.old.b.items self.new.b.items) }
         ensures good { IfOk result (λ good. is_bad line.now ≡ not good) }
     {
         match line_of(alloc, line)? {

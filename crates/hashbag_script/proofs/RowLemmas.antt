@@ -12,7 +12,7 @@ use Rattle.hashbag_script.specs.declared.script.Reply.TheVariants.{Count, Left, 
 use Rattle.hashbag_core.specs.Bag.{Bag, IsBagOf}
 use Rattle.hashbag_core.specs.Occurrences.{count, instance_or_itself, stored, add, less, put, IsBag}
 use Rattle.hashbag_script.specs.Rows.{insert_row, replace_row, try_take_row, take_all_row, entry_set_row, entry_or_row, quota}
-use Rattle.hashbag_script.specs.Script.{step, limit_after, AsksForMemory, IsRefusedInsertion, MayShrink}
+use Rattle.hashbag_script.specs.Script.{step, limit_after, AsksForMemory, NeedsMemory, MayShrink}
 use Rattle.hashbag_table.specs.Tables.{Tables, IsLeast}
 use Rattle.std.proofs.lemmas.List.{nil_from_length}
 use Rattle.hashbag_script.proofs.DistinctOrder.{distinct_rearranged}
@@ -146,7 +146,7 @@ module _ {T : Type 0} {eq : T → T → Bool} (laws : IsEquivalence eq) {most : 
   limit_rearranged ShrinkToFit = refl
   limit_rearranged (Limit n) = ap (λ (k : ℕ). cond (nat_lt n k) most n) long
 
-  refused_rearranged : (v : T) (n : ℕ) → IsRefusedInsertion eq most v n Y → IsRefusedInsertion eq most v n X
+  refused_rearranged : (v : T) (n : ℕ) → NeedsMemory eq most v n Y → NeedsMemory eq most v n X
   refused_rearranged v n refused =
       let same = often v in
       let as_long = long in

@@ -58,6 +58,6 @@ module _ {T : Type 0} (eq : T → T → Bool) where
   abbrev pub IsPairCutOff : {S S2 : Type 0} → Type 0 → Ran T S → Ran T S2 → Type 0
   IsPairCutOff NoRoom r q = IsPairNotBegun NoRoom r q ⊎ ((IsCutOff r × IsUntouched q) ⊎ (IsDone r × IsCutOff q))
 
-  -- memory stopped the runs of two bags, or both were done, and what was to come after them was stopped
+  -- memory stopped the runs of two bags; or both were done, and memory stopped what comes after them
   abbrev pub IsCutOffAfter : {S S2 : Type 0} → Type 0 → Ran T S → Ran T S2 → Type 0
   IsCutOffAfter NoRoom r q = IsPairCutOff NoRoom r q ⊎ (IsDone r × IsDone q)

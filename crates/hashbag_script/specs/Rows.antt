@@ -74,14 +74,14 @@ module _ {T : Type 0} (eq : T → T → Bool) where
   abbrev pub count_row : T → List T → List T × Reply T
   count_row v X = (X, Count (count eq v X))
 
-  -- reserve: what occurs stays as it is
+  -- reserve: the occurrences stay as they are
   abbrev pub reserve_row : ℕ → List T → List T × Reply T
   reserve_row n X = (X, Done)
 
-  -- shrink_to_fit: what occurs stays as it is
+  -- shrink_to_fit: the occurrences stay as they are
   abbrev pub shrink_to_fit_row : List T → List T × Reply T
   shrink_to_fit_row X = (X, Done)
 
-  -- set_limit: what occurs stays as it is; the limit can't go below the total
+  -- set_limit: the occurrences stay as they are; the limit can't go below the total
   abbrev pub limit_row : ℕ → List T → List T × Reply T
   limit_row n X = (X, if nat_lt n (length X) then BelowTotal else Done)

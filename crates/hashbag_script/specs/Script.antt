@@ -145,7 +145,7 @@ module _ {T : Type 0} (eq : T → T → Bool) where
   abbrev pub IfRoomy : {S : Type 0} → Bag T S → List (Step T) → Type 0 → Type 0
   IfRoomy bag steps P = (X : List T) → Means bag X → IsRoomy bag.most X steps bag.tables → P
 
-  -- What a run from no slots leaves. With no `Reserve` the slots are bounded by the most distinct values that there were (`peak`). Fewer
+  -- What a run from no slots leaves. With no `Reserve` the greatest number of distinct values at any time (`peak`) bounds the slots. Fewer
   -- slots wait than the newer table has. With no `ShrinkToFit` either, the values that arrived (`arrivals`) bound the slots of all tables
   -- that were built.
   pub record IsBounded (most : ℕ) (steps : List (Step T)) (old new : Tables T) : Type 0 where
@@ -153,8 +153,8 @@ module _ {T : Type 0} (eq : T → T → Bool) where
     pub smaller : 0 < length new.waiting → length new.waiting + 16 ≤ length new.newer
     pub built : list_any is_about_room steps ≡ false → (b : ℕ) × (new.built ≡ old.built + b) × (3 * b ≤ 48 + 16 * arrivals most [] steps)
 
-  -- some occurrences of a value that is absent, with a total that fits
-  pub record IsRefusedInsertion (most : ℕ) (v : T) (n : ℕ) (X : List T) : Type 0 where
+  -- an insertion that can fail only with `Memory`: n > 0 of a value that is absent, with a total that fits
+  pub record NeedsMemory (most : ℕ) (v : T) (n : ℕ) (X : List T) : Type 0 where
     pub absent : count eq v X ≡ 0
     pub some : 0 < n
     pub fits : length X + n ≤ most
@@ -167,15 +167,15 @@ module _ {T : Type 0} (eq : T → T → Bool) where
   -- a step that may allocate: an insertion or a replacement of an absent value whose total fits; `Reserve` of more room than there is; and
   -- `ShrinkToFit` of tables that it may shrink
   abbrev pub AsksForMemory : ℕ → List T → Tables T → Step T → Type 0
-  AsksForMemory most X tables (Insert v) = IsRefusedInsertion most v 1 X
-  AsksForMemory most X tables (InsertMany v n) = IsRefusedInsertion most v n X
-  AsksForMemory most X tables (Replace v) = IsRefusedInsertion most v 1 X
+  AsksForMemory most X tables (Insert v) = NeedsMemory most v 1 X
+  AsksForMemory most X tables (InsertMany v n) = NeedsMemory most v n X
+  AsksForMemory most X tables (Replace v) = NeedsMemory most v 1 X
   AsksForMemory most X tables (Remove v) = ⊥
   AsksForMemory most X tables (RemoveUpTo v q) = ⊥
   AsksForMemory most X tables (TryTake v) = ⊥
   AsksForMemory most X tables (TakeAll v) = ⊥
   AsksForMemory most X tables (EntrySet v n) = ⊥
-  AsksForMemory most X tables (EntryOr v q) = IsRefusedInsertion most v q X
+  AsksForMemory most X tables (EntryOr v q) = NeedsMemory most v q X
   AsksForMemory most X tables (Retain list) = ⊥
   AsksForMemory most X tables Clear = ⊥
   AsksForMemory most X tables (Count v) = ⊥
@@ -184,7 +184,7 @@ module _ {T : Type 0} (eq : T → T → Bool) where
   AsksForMemory most X tables (Limit n) = ⊥
 
   -- a run that a failed allocation stopped: the steps before it have replies, the bag means what they left, and the next step is one that
-  -- may allocate (`AsksForMemory`), with the tables as it found them. If that step isn't about room, there was no room
+  -- may allocate (`AsksForMemory`), with the tables as it found them. Unless that step is `Reserve` or `ShrinkToFit`, room was 0
   pub record IsStopped {S : Type 0} (most : ℕ) (X : List T) (steps : List (Step T)) (before after : List (Reply T)) (bag : Bag T S) : Type 0 where
     pub done : List (Step T)
     pub stopped_at : Step T

@@ -4,7 +4,7 @@ use Rattle.std.specs.List.Sorted.{IsPermutation}
 use Rattle.hashbag_table.specs.Tables.{Tables, values, Arrives, ReservesOrStays, ShrinksOrStays}
 use Rattle.hashbag_table.specs.Retained.{RetainsTables}
 use Rattle.hashbag_core.specs.Bag.{Bag, Means}
-use Rattle.hashbag_core.specs.Held.{AreHeld, Recounts, Restores, no_slots, cleared}
+use Rattle.hashbag_core.specs.Held.{AreHeld, Recounts, StoresOver, no_slots, cleared}
 use Rattle.hashbag_core.specs.Occurrences.{count, distinct_count}
 use Rattle.hashbag_script.specs.declared.script.Step.{Step}
 use Rattle.hashbag_script.specs.declared.script.Step.TheVariants.{Insert, InsertMany, Replace, Remove, RemoveUpTo, TryTake, TakeAll, EntrySet, EntryOr, Retain, Clear, Count, Reserve, ShrinkToFit, Limit}
@@ -31,7 +31,7 @@ module _ {T : Type 0} (eq : T → T → Bool) where
 
   -- v itself is stored: in the slot of the value that is equal to it, if there was one
   abbrev pub StoresValue : T → ℕ → ℕ → Tables T → Tables T → Type 0
-  StoresValue v c d old new = LeavesValue c d (Restores eq v old new) old new
+  StoresValue v c d old new = LeavesValue c d (StoresOver eq v old new) old new
 
   -- what `shrink_to_fit` leaves of the tables of a bag that means X
   pub record Shrinks (X : List T) (old new : Tables T) : Type 0 where
@@ -40,7 +40,7 @@ module _ {T : Type 0} (eq : T → T → Bool) where
 
   -- What a step leaves of the tables, if it turned the list X into Y. One on a value changes them for that value alone. `Retain` changes
   -- counts in place, and `Clear` empties the slots. `Reserve n` makes room for n more values if there isn't that room, and `ShrinkToFit`
-  -- a smaller table if that is enough. Then nothing waits; else the tables are unchanged. The other steps change none.
+  -- builds a smaller table if one is enough. Then nothing waits; else the tables are unchanged. The other steps change none.
   abbrev pub LeavesTables : List T → List T → Step T → Tables T → Tables T → Type 0
   LeavesTables X Y (Insert v) old new = SetsCount v (count eq v X) (count eq v Y) old new
   LeavesTables X Y (InsertMany v n) old new = SetsCount v (count eq v X) (count eq v Y) old new

@@ -4,7 +4,7 @@ ghost use Rattle.hashbag_core.specs.Bag.{Means, IsBagOf, limited};
 ghost use Rattle.hashbag_core.specs.Occurrences.{IsBag};
 ghost use Rattle.hashbag_script.specs.Pairs.{ran, HasNoRoom, IsNotBegun, IsRunCutOff};
 ghost use Rattle.hashbag_script.specs.Rows.{insert_row, replace_row, try_take_row, take_all_row, entry_set_row, entry_or_row, retain_row, limit_row, quota as quota_of};
-ghost use Rattle.hashbag_script.specs.Script.{step as step_of, run as run_of, is_about_room, is_reserve, HasRoomFor, IfRoomy, IsRefusedInsertion, AsksForMemory, limit_after, limit_left};
+ghost use Rattle.hashbag_script.specs.Script.{step as step_of, run as run_of, is_about_room, is_reserve, HasRoomFor, IfRoomy, NeedsMemory, AsksForMemory, limit_after, limit_left};
 ghost use Rattle.hashbag_script.specs.Turns.{LeavesTablesOf, AreTablesInTurn, IsBoundedRun};
 ghost use Rattle.hashbag_table.specs.Retained.{RetainsTables};
 
@@ -81,12 +81,12 @@ fn insert<T: Eq + Hash + Drop, S: BuildHasher + Drop>(
     ensures reply { IfOk result (λ reply. reply ≡ (insert_row T.eq bag.old.most value n bag.old.items).1) }
     ensures left { OnOk result (IsBagOf T.eq bag.old (insert_row T.eq bag.old.most value n bag.old.items).0 bag.new) }
     ensures memory { IfErr result (λ e. e ≡ BagError.Memory) }
-    ensures asked { OnErr result (IsRefusedInsertion T.eq bag.old.most value n bag.old.items) }
+    ensures asked { OnErr result (NeedsMemory T.eq bag.old.most value n bag.old.items) }
     ensures err { OnErr result (bag.new ≡ bag.old) }
     ensures takes { HasRoomFor T.eq bag.old (insert_row T.eq bag.old.most value n bag.old.items).0 → IsOk result }
     ensures tables { OnOk result (LeavesTablesOf T.eq (Step.InsertMany value n) bag.old bag.new) }
 {
-    // Does nothing at run time. It gives the proof the contract of `len`: its clause `bag`.
+    // Only for the proof: it uses the clause `bag` of `len`.
     let _len = bag.len();
     match bag.insert_many(value, n) {
         Ok(before) => Ok(Reply::Count(before)),
@@ -104,12 +104,12 @@ fn replace<T: Eq + Hash + Drop, S: BuildHasher + Drop>(
     ensures reply { IfOk result (λ reply. reply ≡ (replace_row T.eq bag.old.most value bag.old.items).1) }
     ensures left { OnOk result (IsBagOf T.eq bag.old (replace_row T.eq bag.old.most value bag.old.items).0 bag.new) }
     ensures memory { IfErr result (λ e. e ≡ BagError.Memory) }
-    ensures asked { OnErr result (IsRefusedInsertion T.eq bag.old.most value 1 bag.old.items) }
+    ensures asked { OnErr result (NeedsMemory T.eq bag.old.most value 1 bag.old.items) }
     ensures err { OnErr result (bag.new ≡ bag.old) }
     ensures takes { HasRoomFor T.eq bag.old (replace_row T.eq bag.old.most value bag.old.items).0 → IsOk result }
     ensures tables { OnOk result (LeavesTablesOf T.eq (Step.Replace value) bag.old bag.new) }
 {
-    // Does nothing at run time. It gives the proof the contract of `len`: its clause `bag`.
+    // Only for the proof: it uses the clause `bag` of `len`.
     let _len = bag.len();
     match bag.replace(value) {
         Ok(before) => Ok(Reply::Count(before)),
@@ -186,12 +186,12 @@ fn entry_or<T: Eq + Hash + Drop, S: BuildHasher + Drop>(
     ensures reply { IfOk result (λ reply. reply ≡ (entry_or_row T.eq bag.old.most value quantity bag.old.items).1) }
     ensures left { OnOk result (IsBagOf T.eq bag.old (entry_or_row T.eq bag.old.most value quantity bag.old.items).0 bag.new) }
     ensures memory { IfErr result (λ e. e ≡ BagError.Memory) }
-    ensures asked { OnErr result (IsRefusedInsertion T.eq bag.old.most value quantity bag.old.items) }
+    ensures asked { OnErr result (NeedsMemory T.eq bag.old.most value quantity bag.old.items) }
     ensures err { OnErr result (bag.new ≡ bag.old) }
     ensures takes { HasRoomFor T.eq bag.old (entry_or_row T.eq bag.old.most value quantity bag.old.items).0 → IsOk result }
     ensures tables { OnOk result (LeavesTablesOf T.eq (Step.EntryOr value quantity) bag.old bag.new) }
 {
-    // Does nothing at run time. It gives the proof the contract of `len`: its clause `bag`.
+    // Only for the proof: it uses the clause `bag` of `len`.
     let _len = bag.len();
     match bag.entry(value).or_insert_many(quantity) {
         Ok(count) => Ok(Reply::Count(count)),
@@ -216,7 +216,7 @@ fn retain<T: Eq + Hash + Drop, S: BuildHasher + Drop>(bag: &mut HashBag<T, S>, l
     ensures left { IsBagOf T.eq bag.old (retain_row T.eq list.now bag.old.items).0 bag.new }
     ensures tables { RetainsTables bag.old.tables bag.new.tables }
 {
-    // Does nothing at run time. It gives the proof the contract of `len`: its clause `bag`.
+    // Only for the proof: it uses the clause `bag` of `len`.
     let _len = bag.len();
     bag.retain(
         |value: &T, _count: usize| -> usize
@@ -257,14 +257,14 @@ fn apply<T: Eq + Hash + Drop, S: BuildHasher + Drop>(
     ensures asked { OnErr result (AsksForMemory T.eq bag.old.most bag.old.items bag.old.tables step) }
     ensures err { OnErr result (bag.new ≡ bag.old) }
 
-    // With room for what it inserts a step that isn't about room can't fail. `turns`: what it leaves of the tables. `fewer`: of the steps
-    // about room only `Reserve` makes a larger table.
+    // If there is room for what a step inserts, it can't fail, unless it is `Reserve` or `ShrinkToFit`. `turns`: what it leaves of the
+    // tables. `fewer`: `ShrinkToFit` makes no larger table.
     ensures takes { is_about_room step ≡ false → HasRoomFor T.eq bag.old (step_of T.eq bag.old.most bag.old.items step).0 → IsOk result }
     ensures turns { OnOk result (LeavesTablesOf T.eq step bag.old bag.new) }
     ensures fewer { OnOk result (is_about_room step ≡ true → is_reserve step ≡ false
         → length bag.new.tables.newer ≤ length bag.old.tables.newer) }
 {
-    // Does nothing at run time. It gives the proof the contract of `len`: its clause `bag`.
+    // Only for the proof: it uses the clause `bag` of `len`.
     let _len = bag.len();
     match step {
         Step::Insert(value) => insert(bag, value, 1),
@@ -350,21 +350,21 @@ pub fn run<T: Eq + Hash + Drop, S: BuildHasher + Drop>(
     ensures roomy { IfRoomy T.eq bag.old steps.items (OnErr result (IsNotBegun (HasNoRoom replies.old steps)
         (ran bag.old bag.new steps.items replies.old.items replies.new.items))) }
 
-    // If the bag was empty and had no slots, as far as the run went: the most distinct values on the way bound the slots, and the values that
-    // arrived bound the slots that were built.
+    // If the bag was empty and had no slots, as far as the run went: the greatest number of distinct values at any time bounds the slots,
+    // and the values that arrived bound the slots that were built.
     ensures bounded { IsBoundedRun T.eq (ran bag.old bag.new steps.items replies.old.items replies.new.items) }
 
     // The tables follow from those before by the steps with a reply, in turn, each as `LeavesTables` says.
     ensures tables { AreTablesInTurn T.eq (ran bag.old bag.new steps.items replies.old.items replies.new.items) }
 {
-    // Does nothing at run time. It gives the proof the contracts of `slots` and `waiting`: what is known of the tables.
+    // Only for the proof: it uses the contracts of `slots` and `waiting`.
     let _slots = bag.slots();
     let _waiting = bag.waiting();
     replies.reserve(steps.len())?;
     for step in steps {
         let reply = apply(bag, step)?;
         replies.push_reserved(reply);
-        // Does nothing at run time. It gives the proof the contracts of `slots` and `waiting`: what is known of the tables.
+        // Only for the proof: it uses the contracts of `slots` and `waiting`.
         let _slots = bag.slots();
         let _waiting = bag.waiting();
     }

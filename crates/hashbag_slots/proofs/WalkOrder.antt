@@ -15,7 +15,7 @@ use Rattle.hashbag_slots.proofs.Paths.{count_bound}
 use Rattle.hashbag_slots.specs.declared.slots.Slot.{Slot}
 use Rattle.hashbag_slots.specs.Slots.{IsSlotCount, is_live, slot_entry, entries, live_count}
 use Rattle.hashbag_slots.specs.Cells.{cell_at}
-use Rattle.hashbag_slots.specs.Walks.{pass_of, of_turn, marks, marks_from, in_pass, turns, turn_places, entry_in, entries_left, first_course, IsCourse, IsWalk}
+use Rattle.hashbag_slots.specs.Walks.{pass_of, of_turn, live_places, live_places_from, in_pass, turns, turn_places, entry_in, entries_left, first_course, IsCourse, IsWalk}
 use Rattle.hashbag_slots.proofs.Maps.{no_entry}
 use Rattle.hashbag_slots.proofs.Reading.{dead_slot, no_cell, length-slots_of}
 use Rattle.hashbag_slots.proofs.Walking.{is_mark, filter_in, filter_out, length-entries_live}
@@ -110,13 +110,13 @@ module _ {T : Type 0} where
 
   -- the cells of the Live places are the entries: of a table's last slots, from the place m on
   entries_at : (all : List (Option (T × ℕ))) (m : ℕ) (ts : List ℕ) (cs : List (Option (T × ℕ))) → length ts ≡ length cs → ((i : ℕ) → get_or all (m + i) None ≡ get_or cs i None)
-      → ((i : ℕ) → get_or ts i 0 < 128 → get_or cs i None ≡ None) → filter_map (cell_at all) (marks m ts) ≡ entries (slots_of ts cs)
+      → ((i : ℕ) → get_or ts i 0 < 128 → get_or cs i None ≡ None) → filter_map (cell_at all) (live_places m ts) ≡ entries (slots_of ts cs)
   entries_at all m [] cs long at low = refl
   entries_at all m (t ∷ ts) [] long at low = absurd (omega arith)
   entries_at all m (t ∷ ts) (c ∷ cs) long at low =
-      let rest : filter_map (cell_at all) (marks (suc m) ts) ≡ entries (slots_of ts cs) = entries_at all (suc m) ts cs (omega arith) (λ i. let e : suc m + i ≡ m + suc i = omega arith in ap (λ k. get_or all k None) e ∙ at (suc i)) (λ i. low (suc i)) in
+      let rest : filter_map (cell_at all) (live_places (suc m) ts) ≡ entries (slots_of ts cs) = entries_at all (suc m) ts cs (omega arith) (λ i. let e : suc m + i ≡ m + suc i = omega arith in ap (λ k. get_or all k None) e ∙ at (suc i)) (λ i. low (suc i)) in
       let here : get_or all m None ≡ c = let e : m ≡ m + 0 = omega arith in ap (λ k. get_or all k None) e ∙ at 0 in
-      let l = marks (suc m) ts in
+      let l = live_places (suc m) ts in
       elim (cases_lt t 128) [
         | inl lt ↦
             let none : c ≡ None = low 0 lt in
@@ -125,7 +125,7 @@ module _ {T : Type 0} where
             ap (λ b. filter_map (cell_at all) (cond b (m ∷ l) l)) (le-leb 128 t ge) ∙ (λ i. cons_option (here i) (rest i)) ∙ sym (ap (λ o. cons_option o (entries (slots_of ts cs))) (entry_of t c))
       ]
 
-  entries_of_cells : (ts : List ℕ) (cs : List (Option (T × ℕ))) → Agree ts cs → filter_map (cell_at cs) (marks_from 0 ts) ≡ entries (slots_of ts cs)
+  entries_of_cells : (ts : List ℕ) (cs : List (Option (T × ℕ))) → Agree ts cs → filter_map (cell_at cs) (live_places_from 0 ts) ≡ entries (slots_of ts cs)
   entries_of_cells ts cs agree = entries_at cs 0 ts cs agree.same_length (λ i. let e : 0 + i ≡ i = omega arith in ap (λ k. get_or cs k None) e) (λ i low. no_cell ts cs agree i low)
 
   module _ (ts us : List ℕ) (cs ds : List (Option (T × ℕ))) where
@@ -134,11 +134,11 @@ module _ {T : Type 0} where
     of_places turn (p ∷ ps) = ap (cons_option (cell_at (of_turn turn cs ds) p)) (of_places turn ps)
 
     abbrev pass : ℕ → List ℕ → List (Option (T × ℕ)) → List (T × ℕ)
-    pass r vs es = of_pass (cell_at es) r (marks_from 0 vs)
+    pass r vs es = of_pass (cell_at es) r (live_places_from 0 vs)
 
     turn_first : (turn : ℕ) → filter_map (entry_in cs ds) (turns (suc turn) ts us) ≡ pass (turn / 2) (of_turn turn ts us) (of_turn turn cs ds) ++ filter_map (entry_in cs ds) (turns turn ts us)
     turn_first turn =
-        filter_map-append (entry_in cs ds) (turn_places turn 0 ts us) (turns turn ts us) ∙ ap (λ l. l ++ filter_map (entry_in cs ds) (turns turn ts us)) (of_places turn (in_pass (turn / 2) (marks_from 0 (of_turn turn ts us))))
+        filter_map-append (entry_in cs ds) (turn_places turn 0 ts us) (turns turn ts us) ∙ ap (λ l. l ++ filter_map (entry_in cs ds) (turns turn ts us)) (of_places turn (in_pass (turn / 2) (live_places_from 0 (of_turn turn ts us))))
 
     by_turns : entries_left 5 0 ts us cs ds ≡ pass 2 ts cs ++ (pass 2 us ds ++ (pass 1 ts cs ++ (pass 1 us ds ++ (pass 0 ts cs ++ (pass 0 us ds ++ [])))))
     by_turns =
@@ -146,7 +146,7 @@ module _ {T : Type 0} where
 
     pub walk_all : Agree ts cs → Agree us ds → IsPermutation (entries (slots_of ts cs) ++ entries (slots_of us ds)) (entries_left 5 0 ts us cs ds)
     walk_all agree older_agree =
-        let ms = marks_from 0 ts in let ns = marks_from 0 us in
+        let ms = live_places_from 0 ts in let ns = live_places_from 0 us in
         let first : IsPermutation (entries (slots_of ts cs)) (three (cell_at cs) ms) = subst (λ l. IsPermutation l (three (cell_at cs) ms)) (entries_of_cells ts cs agree) (all_passes (cell_at cs) ms) in
         let second : IsPermutation (entries (slots_of us ds)) (three (cell_at ds) ns) = subst (λ l. IsPermutation l (three (cell_at ds) ns)) (entries_of_cells us ds older_agree) (all_passes (cell_at ds) ns) in
         let last : IsPermutation (pass 0 ts cs ++ pass 0 us ds) (pass 0 ts cs ++ (pass 0 us ds ++ [])) = subst (λ l. IsPermutation (pass 0 ts cs ++ pass 0 us ds) (pass 0 ts cs ++ l)) (sym (append-nil (pass 0 us ds))) (IsPermutation-refl (pass 0 ts cs ++ pass 0 us ds)) in
@@ -163,13 +163,13 @@ module _ {T : Type 0} where
 
     pub first_on_course : IsCourse ts us first_course
     first_on_course = record {
-      told = λ i. bit_at-zero i ∙ sym (ap (λ b. cond b (cond (from_place_on (is_mark (of_turn 5 ts us)) 0 (0 - 16 + i)) 1 0) 0) (le-ltb (0 - 16 + i) 0 (omega arith)));
+      mask = λ i. bit_at-zero i ∙ sym (ap (λ b. cond b (cond (from_place_on (is_mark (of_turn 5 ts us)) 0 (0 - 16 + i)) 1 0) 0) (le-ltb (0 - 16 + i) 0 (omega arith)));
       whole = λ some. absurd (omega arith);
       from = omega arith;
       near = omega arith;
       within = omega arith;
       sixteen = refl;
-      in_it = λ p a b. absurd (omega arith);
+      on_pass = λ p a b. absurd (omega arith);
     }
 
     module _ (eq : T → T → Bool) (live removed older_live older_removed : ℕ) (first : IsColumns eq ts cs live removed) (second : IsColumns eq us ds older_live older_removed) where

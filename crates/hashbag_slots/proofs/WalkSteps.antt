@@ -9,7 +9,7 @@ use Rattle.hashbag_slots.specs.declared.live.Course.{Course}
 use Rattle.hashbag_slots.specs.Cells.{cell_at}
 use Rattle.hashbag_slots.specs.Columns.{Agree, tag_at}
 use Rattle.hashbag_slots.specs.Group.{from_place_on}
-use Rattle.hashbag_slots.specs.Walks.{pass_of, of_turn, marks, marks_from, in_pass, turns, turn_places, places_left, entry_in, entries_left, IsCourse, IsNextOn, IsWalk}
+use Rattle.hashbag_slots.specs.Walks.{pass_of, of_turn, live_places, live_places_from, in_pass, turns, turn_places, places_left, entry_in, entries_left, IsCourse, IsNextOn, IsWalk}
 use Rattle.hashbag_slots.proofs.GroupLemmas.{from_place_on-behind, from_place_on-before, tells_same}
 use Rattle.hashbag_slots.proofs.Walking.{is_mark, filter_out, of_turn-odd, of_turn-even}
 
@@ -56,12 +56,12 @@ tail_same pass m xs ys h true = ap (λ l. cond (nat_eq (pass_of m) pass) (m ∷ 
 tail_same pass m xs ys h false = h
 
 -- a pass that is not the slot's
-set_elsewhere : (ts : List ℕ) (m i pass : ℕ) → pass_of (m + i) ≢ pass → in_pass pass (marks m (slice_set ts i 1)) ≡ in_pass pass (marks m ts)
+set_elsewhere : (ts : List ℕ) (m i pass : ℕ) → pass_of (m + i) ≢ pass → in_pass pass (live_places m (slice_set ts i 1)) ≡ in_pass pass (live_places m ts)
 set_elsewhere [] m i pass not = refl
-set_elsewhere (t ∷ ts) m zero pass not = let e : m ≡ m + 0 = omega arith in head_same pass m (marks (suc m) ts) (λ is. not (sym (ap pass_of e) ∙ is)) (leb 128 t)
+set_elsewhere (t ∷ ts) m zero pass not = let e : m ≡ m + 0 = omega arith in head_same pass m (live_places (suc m) ts) (λ is. not (sym (ap pass_of e) ∙ is)) (leb 128 t)
 set_elsewhere (t ∷ ts) m (suc i) pass not =
     let e : suc m + i ≡ m + suc i = omega arith in
-    tail_same pass m (marks (suc m) (slice_set ts i 1)) (marks (suc m) ts) (set_elsewhere ts (suc m) i pass (λ is. not (sym (ap pass_of e) ∙ is))) (leb 128 t)
+    tail_same pass m (live_places (suc m) (slice_set ts i 1)) (live_places (suc m) ts) (set_elsewhere ts (suc m) i pass (λ is. not (sym (ap pass_of e) ∙ is))) (leb 128 t)
 
 weaken : {X : Type 0} (P Q : X → Type 0) → ((x : X) → P x → Q x) → (xs : List X) → All P xs → All Q xs
 weaken P Q f xs h = λ k d lt. f (get_or xs k d) (h k d lt)
@@ -70,9 +70,9 @@ above_both : (l : List ℕ) (m : ℕ) → All (λ q. m ≤ q) l → (b : Bool) �
 above_both l m rest true = All-cons (λ q. m ≤ q) m l (omega arith) rest
 above_both l m rest false = rest
 
-marks_above : (ts : List ℕ) (m : ℕ) → All (λ q. m ≤ q) (marks m ts)
+marks_above : (ts : List ℕ) (m : ℕ) → All (λ q. m ≤ q) (live_places m ts)
 marks_above [] m = λ k d lt. absurd (omega arith)
-marks_above (t ∷ ts) m = above_both (marks (suc m) ts) m (weaken (λ q. suc m ≤ q) (λ q. m ≤ q) (λ q le. omega arith) (marks (suc m) ts) (marks_above ts (suc m))) (leb 128 t)
+marks_above (t ∷ ts) m = above_both (live_places (suc m) ts) m (weaken (λ q. suc m ≤ q) (λ q. m ≤ q) (λ q le. omega arith) (live_places (suc m) ts) (marks_above ts (suc m))) (leb 128 t)
 
 filter_map_same : {X Y : Type 0} (f g : X → Option Y) (xs : List X) → All (λ x. f x ≡ g x) xs → filter_map f xs ≡ filter_map g xs
 filter_map_same f g [] h = refl
@@ -94,14 +94,14 @@ edit_even turn change x y even s = elim (eqb_tells (s % 2) 1) [
   | inr other ↦ inr (let not : s % 2 ≢ 1 = other.1 in omega arith, of_turn-even s x (change y) other.1 ∙ ap change (sym (of_turn-even s x y other.1)))
 ]
 
-module _ (turn p : ℕ) (in_it : pass_of p ≡ turn / 2) (ts us vs ws : List ℕ) (tags : IsEdit turn (λ l. slice_set l p 1) ts us vs ws) where
+module _ (turn p : ℕ) (on_pass : pass_of p ≡ turn / 2) (ts us vs ws : List ℕ) (tags : IsEdit turn (λ l. slice_set l p 1) ts us vs ws) where
   turn_same : (s : ℕ) → s < turn → turn_places s 0 vs ws ≡ turn_places s 0 ts us
   turn_same s less = elim (tags s) [
-    | inl e ↦ ap (λ l. map (λ q. (s, q)) (in_pass (s / 2) (marks_from 0 l))) e
+    | inl e ↦ ap (λ l. map (λ q. (s, q)) (in_pass (s / 2) (live_places_from 0 l))) e
     | inr e ↦
         let even : s % 2 ≡ turn % 2 = e.0 in let z : 0 + p ≡ p = omega arith in
-        ap (λ l. map (λ q. (s, q)) (in_pass (s / 2) (marks_from 0 l))) e.1
-        ∙ ap (map (λ q. (s, q))) (set_elsewhere (of_turn s ts us) 0 p (s / 2) (λ is. let same : turn / 2 ≡ s / 2 = sym in_it ∙ sym (ap pass_of z) ∙ is in omega arith))
+        ap (λ l. map (λ q. (s, q)) (in_pass (s / 2) (live_places_from 0 l))) e.1
+        ∙ ap (map (λ q. (s, q))) (set_elsewhere (of_turn s ts us) 0 p (s / 2) (λ is. let same : turn / 2 ≡ s / 2 = sym on_pass ∙ sym (ap pass_of z) ∙ is in omega arith))
   ]
 
   turns_same : (s : ℕ) → s ≤ turn → turns s vs ws ≡ turns s ts us
@@ -112,10 +112,10 @@ module _ (turn p : ℕ) (in_it : pass_of p ≡ turn / 2) (ts us vs ws : List ℕ
   places_same = λ i. here i ++ turns_same turn (omega arith) i where
     here : turn_places turn (p + 1) vs ws ≡ turn_places turn (p + 1) ts us
     here = elim (tags turn) [
-      | inl e ↦ ap (λ l. map (λ q. (turn, q)) (in_pass (turn / 2) (marks_from (p + 1) l))) e
+      | inl e ↦ ap (λ l. map (λ q. (turn, q)) (in_pass (turn / 2) (live_places_from (p + 1) l))) e
       | inr e ↦
-          ap (λ l. map (λ q. (turn, q)) (in_pass (turn / 2) (marks_from (p + 1) l))) e.1
-          ∙ ap (λ l. map (λ q. (turn, q)) (in_pass (turn / 2) (marks (p + 1) l))) (drop-set-lt (p + 1) (of_turn turn ts us) p 1 (omega arith))
+          ap (λ l. map (λ q. (turn, q)) (in_pass (turn / 2) (live_places_from (p + 1) l))) e.1
+          ∙ ap (λ l. map (λ q. (turn, q)) (in_pass (turn / 2) (live_places (p + 1) l))) (drop-set-lt (p + 1) (of_turn turn ts us) p 1 (omega arith))
     ]
 
   -- the place does not come again
@@ -124,9 +124,9 @@ module _ (turn p : ℕ) (in_it : pass_of p ≡ turn / 2) (ts us vs ws : List ℕ
 
   turn_others : (s : ℕ) → s < turn → All IsOther (turn_places s 0 ts us)
   turn_others s less =
-      let f : ℕ → Bool = λ q. nat_eq (pass_of q) (s / 2) in let ms = marks_from 0 (of_turn s ts us) in
+      let f : ℕ → Bool = λ q. nat_eq (pass_of q) (s / 2) in let ms = live_places_from 0 (of_turn s ts us) in
       All-map IsOther (λ q. (s, q)) (filter f ms) (weaken (λ q. f q ≡ true) (λ q. IsOther (s, q)) (λ q h. elim (eqb_tells (s % 2) (turn % 2)) [
-        | inl same ↦ inr (λ e. let a : pass_of q ≡ s / 2 = eqb-true (pass_of q) (s / 2) h in let b : turn / 2 ≡ s / 2 = sym in_it ∙ sym (ap pass_of e) ∙ a in let even : s % 2 ≡ turn % 2 = same.1 in omega arith)
+        | inl same ↦ inr (λ e. let a : pass_of q ≡ s / 2 = eqb-true (pass_of q) (s / 2) h in let b : turn / 2 ≡ s / 2 = sym on_pass ∙ sym (ap pass_of e) ∙ a in let even : s % 2 ≡ turn % 2 = same.1 in omega arith)
         | inr other ↦ inl other.1
       ]) (filter f ms) (filter_passes f ms))
 
@@ -136,7 +136,7 @@ module _ (turn p : ℕ) (in_it : pass_of p ≡ turn / 2) (ts us vs ws : List ℕ
 
   others : All IsOther (places_left turn (p + 1) ts us)
   others =
-      let f : ℕ → Bool = λ q. nat_eq (pass_of q) (turn / 2) in let l = drop (p + 1) (of_turn turn ts us) in let ms = marks (p + 1) l in
+      let f : ℕ → Bool = λ q. nat_eq (pass_of q) (turn / 2) in let l = drop (p + 1) (of_turn turn ts us) in let ms = live_places (p + 1) l in
       All-append IsOther (turn_places turn (p + 1) ts us) (turns turn ts us)
       (All-map IsOther (λ q. (turn, q)) (filter f ms) (weaken (λ q. p + 1 ≤ q) (λ q. IsOther (turn, q)) (λ q le. inr (λ e. omega arith)) (filter f ms) (All-filter f (λ q. p + 1 ≤ q) ms (marks_above l (p + 1)))))
       (turns_others turn (omega arith))
@@ -155,16 +155,16 @@ module _ (turn p : ℕ) (in_it : pass_of p ≡ turn / 2) (ts us vs ws : List ℕ
 
   pub course_goes_on : (next ahead until : ℕ) → next ≡ p + 1 → (let c : Course = record { turn = turn; next = next; ahead = ahead; until = until } in IsCourse ts us c → IsCourse vs ws c)
   course_goes_on next ahead until behind on = record {
-    told = tells_same (from_place_on (is_mark (of_turn turn ts us)) next) (from_place_on (is_mark (of_turn turn vs ws)) next) (until - 16) until ahead (λ q le. elim (cases_lt q next) [
+    mask = tells_same (from_place_on (is_mark (of_turn turn ts us)) next) (from_place_on (is_mark (of_turn turn vs ws)) next) (until - 16) until ahead (λ q le. elim (cases_lt q next) [
       | inl before ↦ from_place_on-before (is_mark (of_turn turn ts us)) next q before ∙ sym (from_place_on-before (is_mark (of_turn turn vs ws)) next q before)
       | inr beyond ↦ from_place_on-behind (is_mark (of_turn turn ts us)) next q beyond ∙ ap (leb 128) (sym (tag_same q (omega arith))) ∙ sym (from_place_on-behind (is_mark (of_turn turn vs ws)) next q beyond)
-    ]) on.told;
+    ]) on.mask;
     whole = on.whole;
     from = on.from;
     near = on.near;
     within = let w = on.within in let l = length_same in omega (arith, w, l);
     sixteen = on.sixteen;
-    in_it = on.in_it;
+    on_pass = on.on_pass;
   }
 
   module _ {T : Type 0} (cs ds es fs : List (Option (T × ℕ))) (cells : IsEdit turn (λ l. slice_set l p None) cs ds es fs) where

@@ -12,7 +12,7 @@ use Rattle.hashbag_slots.specs.declared.slots.Slot.{Slot}
 use Rattle.hashbag_slots.specs.declared.slots.Slot.TheVariants.{Empty, Removed, Moved, Live}
 use Rattle.hashbag_slots.specs.Columns.{tag_at}
 use Rattle.hashbag_slots.specs.Group.{IsMaskOf, from_place_on}
-use Rattle.hashbag_slots.specs.Walks.{pass_of, of_turn, marks, marks_from, in_pass, turns, places_left, NoneLive, IsNextOn}
+use Rattle.hashbag_slots.specs.Walks.{pass_of, of_turn, live_places, live_places_from, in_pass, turns, places_left, NoneLive, IsNextOn}
 use Rattle.hashbag_slots.specs.Slots.{is_live, live_count, entries}
 
 -- an item that was given is one fewer to come
@@ -40,7 +40,7 @@ module _ {T : Type 0} where
 abbrev pub is_mark : List ℕ → ℕ → Bool
 is_mark ts p = leb 128 (tag_at ts p)
 
-marks_at : (ts : List ℕ) (m n : ℕ) → marks m (drop n ts) ≡ cond (leb 128 (get_or ts n 0)) (m ∷ marks (suc m) (drop (suc n) ts)) (marks (suc m) (drop (suc n) ts))
+marks_at : (ts : List ℕ) (m n : ℕ) → live_places m (drop n ts) ≡ cond (leb 128 (get_or ts n 0)) (m ∷ live_places (suc m) (drop (suc n) ts)) (live_places (suc m) (drop (suc n) ts))
 marks_at [] m zero = refl
 marks_at [] m (suc n) = refl
 marks_at (t ∷ ts) m zero = refl
@@ -81,9 +81,9 @@ pub other_pass : (at p pass : ℕ) → (at + 16) % 256 ≡ 0 → pass_of at ≡ 
 other_pass at p pass ends here a b is = omega arith
 
 module _ (ts : List ℕ) (pass : ℕ) where
-  skip_one : (n : ℕ) → (pass_of n ≡ pass → tag_at ts n < 128) → in_pass pass (marks_from n ts) ≡ in_pass pass (marks_from (suc n) ts)
+  skip_one : (n : ℕ) → (pass_of n ≡ pass → tag_at ts n < 128) → in_pass pass (live_places_from n ts) ≡ in_pass pass (live_places_from (suc n) ts)
   skip_one n low =
-      let rest = marks_from (suc n) ts in let f : ℕ → Bool = λ p. nat_eq (pass_of p) pass in
+      let rest = live_places_from (suc n) ts in let f : ℕ → Bool = λ p. nat_eq (pass_of p) pass in
       ap (in_pass pass) (marks_at ts n n) ∙ elim (cases_lt (tag_at ts n) 128) [
         | inl lt ↦ ap (λ b. in_pass pass (cond b (n ∷ rest) rest)) (lt-leb 128 (tag_at ts n) lt)
         | inr ge ↦ ap (λ b. in_pass pass (cond b (n ∷ rest) rest)) (le-leb 128 (tag_at ts n) ge) ∙ elim (eqb_tells (pass_of n) pass) [
@@ -93,31 +93,31 @@ module _ (ts : List ℕ) (pass : ℕ) where
       ]
 
   -- slots that are not of the pass or not Live are passed
-  pub skip : (k from : ℕ) → ((q : ℕ) → from ≤ q → q < from + k → pass_of q ≡ pass → tag_at ts q < 128) → in_pass pass (marks_from from ts) ≡ in_pass pass (marks_from (from + k) ts)
-  skip zero from low = let e : from ≡ from + 0 = omega arith in ap (λ n. in_pass pass (marks_from n ts)) e
+  pub skip : (k from : ℕ) → ((q : ℕ) → from ≤ q → q < from + k → pass_of q ≡ pass → tag_at ts q < 128) → in_pass pass (live_places_from from ts) ≡ in_pass pass (live_places_from (from + k) ts)
+  skip zero from low = let e : from ≡ from + 0 = omega arith in ap (λ n. in_pass pass (live_places_from n ts)) e
   skip (suc k) from low =
       let e : suc from + k ≡ from + suc k = omega arith in
-      skip_one from (low from (omega arith) (omega arith)) ∙ skip k (suc from) (λ q a b. low q (omega arith) (omega arith)) ∙ ap (λ n. in_pass pass (marks_from n ts)) e
+      skip_one from (low from (omega arith) (omega arith)) ∙ skip k (suc from) (λ q a b. low q (omega arith) (omega arith)) ∙ ap (λ n. in_pass pass (live_places_from n ts)) e
 
   -- a Live slot of the pass comes
-  pub comes : (p : ℕ) → 128 ≤ tag_at ts p → pass_of p ≡ pass → in_pass pass (marks_from p ts) ≡ p ∷ in_pass pass (marks_from (p + 1) ts)
+  pub comes : (p : ℕ) → 128 ≤ tag_at ts p → pass_of p ≡ pass → in_pass pass (live_places_from p ts) ≡ p ∷ in_pass pass (live_places_from (p + 1) ts)
   comes p live is =
-      let rest = marks_from (suc p) ts in let f : ℕ → Bool = λ q. nat_eq (pass_of q) pass in let e : suc p ≡ p + 1 = omega arith in
+      let rest = live_places_from (suc p) ts in let f : ℕ → Bool = λ q. nat_eq (pass_of q) pass in let e : suc p ≡ p + 1 = omega arith in
       ap (in_pass pass) (marks_at ts p p) ∙ ap (λ b. in_pass pass (cond b (p ∷ rest) rest)) (le-leb 128 (tag_at ts p) live) ∙ elim (eqb_tells (pass_of p) pass) [
         | inl same ↦ filter_in f p rest same.0
         | inr other ↦ absurd (other.1 is)
-      ] ∙ ap (λ n. p ∷ in_pass pass (marks_from n ts)) e
+      ] ∙ ap (λ n. p ∷ in_pass pass (live_places_from n ts)) e
 
-  pub none_comes : (from : ℕ) → NoneLive ts pass from → in_pass pass (marks_from from ts) ≡ []
+  pub none_comes : (from : ℕ) → NoneLive ts pass from → in_pass pass (live_places_from from ts) ≡ []
   none_comes from none =
-      skip (length ts) from (λ q a b. none q a) ∙ ap (λ us. in_pass pass (marks (from + length ts) us)) (drop_all (from + length ts) ts (omega arith))
+      skip (length ts) from (λ q a b. none q a) ∙ ap (λ us. in_pass pass (live_places (from + length ts) us)) (drop_all (from + length ts) ts (omega arith))
 
 module _ (newer older : List ℕ) where
   -- what is left of a turn from `from` on is what is left of it from `to` on, where no slot between is Live
   pub left_skip : (turn from to : ℕ) → from ≤ to → ((q : ℕ) → from ≤ q → q < to → pass_of q ≡ turn / 2 → tag_at (of_turn turn newer older) q < 128) → places_left turn from newer older ≡ places_left turn to newer older
   left_skip turn from to le low =
       let e : from + (to - from) ≡ to = omega arith in
-      ap (λ ps. map (λ p. (turn, p)) ps ++ turns turn newer older) (skip (of_turn turn newer older) (turn / 2) (to - from) from (λ q a b. low q a (omega arith)) ∙ ap (λ n. in_pass (turn / 2) (marks_from n (of_turn turn newer older))) e)
+      ap (λ ps. map (λ p. (turn, p)) ps ++ turns turn newer older) (skip (of_turn turn newer older) (turn / 2) (to - from) from (λ q a b. low q a (omega arith)) ∙ ap (λ n. in_pass (turn / 2) (live_places_from n (of_turn turn newer older))) e)
 
   pub left_comes : (turn p : ℕ) → 128 ≤ tag_at (of_turn turn newer older) p → pass_of p ≡ turn / 2 → places_left turn p newer older ≡ (turn, p) ∷ places_left turn (p + 1) newer older
   left_comes turn p live is = ap (λ ps. map (λ p. (turn, p)) ps ++ turns turn newer older) (comes (of_turn turn newer older) (turn / 2) p live is)
@@ -142,20 +142,20 @@ module _ (newer older : List ℕ) where
       record {
         within = omega arith;
         live = live;
-        in_it = here;
+        on_pass = here;
         behind = refl;
         first = left_skip turn next place low (λ q a b i. leb-false 128 (tag_at ts q) (first.before q a b)) ∙ left_comes turn place live here;
         course = record {
-          told = subst (λ b. IsMaskOf (from_place_on (is_mark ts) (place + 1)) b (base + 16) rest) back tells;
+          mask = subst (λ b. IsMaskOf (from_place_on (is_mark ts) (place + 1)) b (base + 16) rest) back tells;
           whole = λ some. omega arith;
           from = omega arith;
           near = omega arith;
           within = within;
           sixteen = omega arith;
-          in_it = λ p a b. same_pass base p sixteen (omega arith) b ∙ is;
+          on_pass = λ p a b. same_pass base p sixteen (omega arith) b ∙ is;
         };
       }
 
   -- from an earlier place on, where no slot between is Live
   pub next_on_earlier : (earlier turn next from place : ℕ) (c : Course) → places_left earlier next newer older ≡ places_left turn from newer older → IsNextOn newer older turn from place c → IsNextOn newer older earlier next place c
-  next_on_earlier earlier turn next from place c same on = record { within = on.within; live = on.live; in_it = on.in_it; behind = on.behind; first = same ∙ on.first; course = on.course }
+  next_on_earlier earlier turn next from place c same on = record { within = on.within; live = on.live; on_pass = on.on_pass; behind = on.behind; first = same ∙ on.first; course = on.course }

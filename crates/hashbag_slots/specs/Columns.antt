@@ -1,5 +1,5 @@
--- A table of slots as it is kept: a tag for each slot, which is a byte, and a row of cells. How the two mean slots, and
--- what a probe rests on.
+-- A table of slots as it is kept: a tag for each slot, which is a byte, and a row of cells. Which slots the two stand for, and what a probe
+-- relies on.
 use Rattle.std.specs.Prelude.{◌≡◌, ℕ, ◌+◌, ◌/◌, ◌^◌, ◌<◌, ◌≤◌, Bool, true, List, [], ◌∷◌, length, Option, Some, None, if◌then◌else◌, nat_eq, slice_index_or}
 use Rattle.hashbag_slots.specs.declared.slots.Slot.{Slot}
 use Rattle.hashbag_slots.specs.declared.slots.Slot.TheVariants.{Empty, Removed, Moved, Live}
@@ -28,18 +28,18 @@ pub record Columns (T : Type 0) : Type 0 where
   pub tags : List ℕ
 
 module _ {T : Type 0} where
-  -- the slot that a tag and a cell mean. Where the cell is empty, 1 is Removed, 2 is Moved, and any other tag is Empty
+  -- the slot that a tag and a cell stand for. If the cell is empty, 1 is Removed, 2 is Moved, and any other tag is Empty
   abbrev pub slot_of : ℕ → Option (T × ℕ) → Slot T
   slot_of tag None = if nat_eq tag 1 then Removed else if nat_eq tag 2 then Moved else Empty
   slot_of tag (Some e) = Live e.0 e.1
 
-  -- the slots that tags and cells mean, place by place
+  -- the slots that tags and cells stand for, place by place
   abbrev pub slots_of : List ℕ → List (Option (T × ℕ)) → List (Slot T)
   slots_of [] cs = []
   slots_of (t ∷ ts) [] = []
   slots_of (t ∷ ts) (c ∷ cs) = slot_of t c ∷ slots_of ts cs
 
-  -- the table that tags and cells mean, with its tags
+  -- the table that tags and cells stand for, with its tags
   abbrev pub columns : List ℕ → List (Option (T × ℕ)) → Columns T
   columns ts cs = record { slots = slots_of ts cs; tags = ts }
 
@@ -61,8 +61,8 @@ module _ {T : Type 0} where
     pub paths : KeepsPaths hash table.slots
     pub marks : (p : ℕ) (v : T) (n : ℕ) → slot_at table.slots p ≡ Live v n → tag_at table.tags p ≡ mark_of (hash v)
 
-  -- `many` slots of an older table, from the place `from` on, are carried into a newer one: each Live value goes there in turn,
-  -- into the first slot on its path that was not Live, and becomes Moved here
+  -- `many` slots of an older table, from the place `from` on, are carried into a newer one: each Live value is placed in the newer one in
+  -- turn, in the first slot on its path that was not Live, and its slot in the older one becomes Moved
   pub record CarriesInto (eq : T → T → Bool) (hash : T → ℕ) (from many : ℕ) (newer older newer' older' : Columns T) : Type 0 where
     pub placed : PlacesAll hash (entries_in from many older.slots) newer.slots newer'.slots
     pub left : Carries from many older.slots older'.slots

@@ -14,15 +14,15 @@ abbrev pub IsMaskOf : (ℕ → Bool) → ℕ → ℕ → ℕ → Type 0
 IsMaskOf test from until bits = (i : ℕ) → bit_at bits i ≡ (if nat_lt (from + i) until then (if test (from + i) then 1 else 0) else 0)
 
 -- bit i is 1 if the place from + i is not before `at`, is below `until`, and passes the test, and 0 otherwise
-abbrev pub IsMaskIn : (ℕ → Bool) → ℕ → ℕ → ℕ → ℕ → Type 0
-IsMaskIn test from at until bits = IsMaskOf (from_place_on test at) from until bits
+abbrev pub IsMaskFrom : (ℕ → Bool) → ℕ → ℕ → ℕ → ℕ → Type 0
+IsMaskFrom test from at until bits = IsMaskOf (from_place_on test at) from until bits
 
 -- bits show which tags from the place `from` to before `until` are this one
 abbrev pub IsTagMask : List ℕ → ℕ → ℕ → ℕ → ℕ → Type 0
 IsTagMask ts tag from until bits = IsMaskOf (λ p. tag_at ts p == tag) from until bits
 
--- bits show which of the 16 tags from the place `from` on that come before the first Empty one are this one, and `ends` whether one
--- of the 16 is Empty
+-- of the 16 tags from the place `from` on: bit i is 1 if the tag at from + i is this one and none up to it is Empty. `ends`: one of the 16
+-- is Empty
 abbrev pub IsTagMaskBeforeEmpty : List ℕ → ℕ → ℕ → ℕ → Bool → Type 0
 IsTagMaskBeforeEmpty ts tag from bits ends = (stop : ℕ) × IsFirstPlace (λ p. tag_at ts p == 0) from (from + 16) stop × IsTagMask ts tag from stop bits × (ends ≡ nat_lt stop (from + 16))
 

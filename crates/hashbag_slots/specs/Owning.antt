@@ -20,6 +20,6 @@ FitsBlock R n = n * bytes_of R < 2 ^ 63
 abbrev pub block_owns : RattleType → Ptr → ℕ → Fml
 block_owns R p n = fsep (flt (n * bytes_of R) (2 ^ 63)) (room_for (block_of R n) p)
 
--- the deed, which the allocator's t names: the right to free a block for n values at the address p
+-- the deed: the right to free a block for n values at the address p, for which the allocator has the token t
 abbrev pub deed_owns : (Ty → Ptr → Fml) → RattleType → Ptr → ℕ → Fml
 deed_owns t R p n = t (block_of R n) p

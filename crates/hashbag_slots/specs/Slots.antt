@@ -91,7 +91,7 @@ module _ {T : Type 0} where
     pub path : (v : T) (count step : ℕ) → step < n → slot_at ss (path_slot n (hash v) step) ≡ Live v count
         → (before : ℕ) → before < step → slot_at ss (path_slot n (hash v) before) ≢ Empty
 
-  -- the path rule of a table: no Empty slot lies between where a Live value's probe begins and its slot
+  -- `IsPathRule` for a whole table
   abbrev pub KeepsPaths : (T → ℕ) → List (Slot T) → Type 0
   KeepsPaths hash ss = IsPathRule (length ss) hash ss
 
@@ -114,7 +114,7 @@ module _ {T : Type 0} where
   recounted n Moved = Moved
   recounted n (Live v m) = Live v n
 
-  -- a slot with more at its count, if it is Live
+  -- a slot with n added to its count, if it is Live
   abbrev pub raised : ℕ → Slot T → Slot T
   raised n Empty = Empty
   raised n Removed = Removed

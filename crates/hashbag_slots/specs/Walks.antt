@@ -5,7 +5,7 @@ use Rattle.std.specs.List.{filter, filter_map}
 use Rattle.hashbag_slots.specs.declared.live.Course.{Course}
 use Rattle.hashbag_slots.specs.Cells.{cell_at}
 use Rattle.hashbag_slots.specs.Columns.{Agree, tag_at}
-use Rattle.hashbag_slots.specs.Group.{IsMaskOf, IsMaskIn}
+use Rattle.hashbag_slots.specs.Group.{IsMaskOf, IsMaskFrom}
 
 -- the pass in which a walk comes to a place: every third block of 256 slots is of one pass
 abbrev pub pass_of : ℕ → ℕ
@@ -16,13 +16,13 @@ abbrev pub of_turn : {X : Type 0} → ℕ → X → X → X
 of_turn turn newer older = if nat_eq (turn % 2) 1 then newer else older
 
 -- the places of the Live tags in this list, which begins at the place p
-abbrev pub marks : ℕ → List ℕ → List ℕ
-marks p [] = []
-marks p (t ∷ ts) = if nat_le 128 t then p ∷ marks (suc p) ts else marks (suc p) ts
+abbrev pub live_places : ℕ → List ℕ → List ℕ
+live_places p [] = []
+live_places p (t ∷ ts) = if nat_le 128 t then p ∷ live_places (suc p) ts else live_places (suc p) ts
 
 -- the Live places from the place `from` on
-abbrev pub marks_from : ℕ → List ℕ → List ℕ
-marks_from from ts = marks from (drop from ts)
+abbrev pub live_places_from : ℕ → List ℕ → List ℕ
+live_places_from from ts = live_places from (drop from ts)
 
 -- of these places, those of a pass
 abbrev pub in_pass : ℕ → List ℕ → List ℕ
@@ -30,7 +30,7 @@ in_pass pass ps = filter (λ p. nat_eq (pass_of p) pass) ps
 
 -- the Live places of a turn from the place `from` on, each with its turn: those of the pass turn / 2
 abbrev pub turn_places : ℕ → ℕ → List ℕ → List ℕ → List (ℕ × ℕ)
-turn_places turn from newer older = map (λ p. (turn, p)) (in_pass (turn / 2) (marks_from from (of_turn turn newer older)))
+turn_places turn from newer older = map (λ p. (turn, p)) (in_pass (turn / 2) (live_places_from from (of_turn turn newer older)))
 
 -- the Live places of the last n turns, each with its turn
 abbrev pub turns : ℕ → List ℕ → List ℕ → List (ℕ × ℕ)
@@ -51,26 +51,26 @@ pub record IsNextGroup (ts : List ℕ) (pass from : ℕ) (group : ℕ × ℕ) : 
   pub sixteen : group.0 % 16 ≡ 0
   pub within : group.0 + 16 ≤ length ts
   pub fits : group.0 + 16 < 2 ^ 64
-  pub in_it : pass_of group.0 ≡ pass
+  pub on_pass : pass_of group.0 ≡ pass
   pub some : 0 < group.1
-  pub told : IsMaskOf (λ p. nat_le 128 (tag_at ts p)) group.0 (group.0 + 16) group.1
+  pub mask : IsMaskOf (λ p. nat_le 128 (tag_at ts p)) group.0 (group.0 + 16) group.1
   pub none : (p : ℕ) → from ≤ p → p < group.0 → pass_of p ≡ pass → tag_at ts p < 128
 
 -- the bits of a course show which of the 16 slots below `until`, all of them of its pass, are Live and not before `next`
 pub record IsCourse (newer older : List ℕ) (c : Course) : Type 0 where
-  pub told : IsMaskIn (λ p. nat_le 128 (tag_at (of_turn c.turn newer older) p)) (c.until - 16) c.next c.until c.ahead
+  pub mask : IsMaskFrom (λ p. nat_le 128 (tag_at (of_turn c.turn newer older) p)) (c.until - 16) c.next c.until c.ahead
   pub whole : 0 < c.ahead → 16 ≤ c.until
   pub from : c.next ≤ c.until
   pub near : c.until ≤ c.next + 16
   pub within : c.until ≤ length (of_turn c.turn newer older)
   pub sixteen : c.until % 16 ≡ 0
-  pub in_it : (p : ℕ) → c.next ≤ p → p < c.until → pass_of p ≡ c.turn / 2
+  pub on_pass : (p : ℕ) → c.next ≤ p → p < c.until → pass_of p ≡ c.turn / 2
 
--- the place is the first that was left to a walk in this turn at `next`, and the course goes on behind it
+-- a walk that is at `next` in this turn gives `place` next, and goes on with the course c
 pub record IsNextOn (newer older : List ℕ) (turn next place : ℕ) (c : Course) : Type 0 where
   pub within : place < length (of_turn c.turn newer older)
   pub live : 128 ≤ tag_at (of_turn c.turn newer older) place
-  pub in_it : pass_of place ≡ c.turn / 2
+  pub on_pass : pass_of place ≡ c.turn / 2
   pub behind : c.next ≡ place + 1
   pub first : places_left turn next newer older ≡ (c.turn, place) ∷ places_left c.turn c.next newer older
   pub course : IsCourse newer older c

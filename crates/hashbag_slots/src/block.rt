@@ -7,7 +7,7 @@ ghost use Rattle.core.specs.Mem.Slots.{slots_ptr, slots_len, slots_filled};
 ghost use denote.RawPtr.{Ptr};
 ghost use Rattle.hashbag_slots.specs.Owning.{block_owns, deed_owns, FitsBlock};
 
-use core::slots::Slots as Places;
+use core::slots::Slots as Memory;
 use std::alloc::{AllocError, Allocator};
 use std::marker::{Model, PhantomData};
 use std::mem::{align_of, size_of};
@@ -68,16 +68,16 @@ pub fn release<T, A: Allocator>(alloc: &A, block: Block<T>, deed: Deed<T, A>)
 }
 
 impl<T> Block<T> {
-    /// Returns the block as a row of empty places. `_like` isn't read. It only gives contracts a value for each empty place.
-    pub fn into_row(self, _like: &T) -> Places<T>
+    /// Returns the block as a row of empty places. `_like` isn't read: in contracts each empty place has this value.
+    pub fn into_row(self, _like: &T) -> Memory<T>
         ensures { (slots_ptr result ≡ self.ptr) × (slots_len result ≡ self.len) × (slots_filled result ≡ replicate self.len false) }
     {
         let Block { ptr, len } = self;
-        unsafe { Places::from_raw_parts(ptr, len) }
+        unsafe { Memory::from_raw_parts(ptr, len) }
     }
 
     /// Returns the block of a row that holds nothing.
-    pub fn from_row(row: Places<T>) -> Block<T>
+    pub fn from_row(row: Memory<T>) -> Block<T>
         requires { (k : ℕ) → k < slots_len row → slice_index_or (slots_filled row) k false ≡ false }
         ensures { (result.ptr ≡ slots_ptr row) × (result.len ≡ slots_len row) }
     {

@@ -13,7 +13,7 @@ use std::alloc::{AllocError, Global};
 use std::marker::Model;
 use std_alloc::room::may_hold;
 
-/// Where cells are: nowhere, in a block that wasn't written yet, or in a row of places. The block becomes a row with the first value.
+/// Where cells are: nowhere, in a block that wasn't written yet, or in a `Row`. The block becomes a row with the first value.
 pub enum Store<T> {
     Nothing,
     Unwritten(Block<T>, Deed<T, Global>),
@@ -39,7 +39,7 @@ impl<T> Model for Cells<T> {
     ghost invariant = { λ c. IsStore c.alloc c.store };
 }
 
-// Puts a value into an empty cell. A block becomes a row of places here.
+// Puts a value into an empty cell. A block becomes a `Row` here.
 fn put_into<T>(store: Store<T>, cell: (usize, T, Global)) -> (Store<T>, ())
     requires within { cell.0 < length (cells_of store) }
     requires empty { cell_at (cells_of store) cell.0 ≡ None }

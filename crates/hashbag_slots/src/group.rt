@@ -3,7 +3,7 @@ ghost use Rattle.std.specs.Prelude.{◌≡◌, ◌==◌, ℕ, ◌+◌, ◌<◌, 
 ghost use Rattle.std.specs.Int.{w64, trailing_zeros};
 ghost use Rattle.std.specs.Slice.Scan.{IsFirstPlace};
 ghost use Rattle.hashbag_slots.specs.Columns.{tag_at};
-ghost use Rattle.hashbag_slots.specs.Group.{IsMaskOf, IsMaskIn, IsTagMask, IsTagMaskBeforeEmpty};
+ghost use Rattle.hashbag_slots.specs.Group.{IsMaskOf, IsMaskFrom, IsTagMask, IsTagMaskBeforeEmpty};
 
 use crate::tags::{EMPTY, LEAST_MARK};
 use std::simd::prelude::*;
@@ -76,27 +76,27 @@ pub fn match_live(tags: &[u8], from: usize) -> u64
 /// Returns the place of the lowest set bit. Bit i is of the place `from + i`.
 #[inline(always)]
 pub fn lowest(bits: u64, from: usize) -> usize
-    requires some { 0 < bits }
+    requires positive { 0 < bits }
     requires fits { from + 64 ≤ 2 ^ 64 }
 
-    // If the bits show which places pass a test, the result is the first of them.
-    ensures first { (test : ℕ → Bool) (at until : ℕ) → from ≤ at → IsMaskIn test from at until bits → IsFirstPlace test at until result }
-    ensures before_until { (test : ℕ → Bool) (at until : ℕ) → IsMaskIn test from at until bits → result < until }
+    // If the bits are a mask of `test` at the places from `at` to before `until`, the result is the first of these that passes it.
+    ensures first { (test : ℕ → Bool) (at until : ℕ) → from ≤ at → IsMaskFrom test from at until bits → IsFirstPlace test at until result }
+    ensures before_until { (test : ℕ → Bool) (at until : ℕ) → IsMaskFrom test from at until bits → result < until }
 {
     from + bits.trailing_zeros() as usize
 }
 
 /// Returns the place of the lowest set bit, and the bits without it. Bit i is of the place `from + i`.
 ///
-/// In clauses, `test` is the condition that the bits stand for. The returned place is the first that passes `test`, and the returned bits
-/// stand for it at the places after that.
+/// In clauses, `test` is any condition that the bits are a mask of, at the places from `at` to before `until`. The returned place is the
+/// first that passes it, and the returned bits are its mask at the places after that.
 #[inline(always)]
 pub fn take_lowest(bits: u64, from: usize) -> (usize, u64)
-    requires some { 0 < bits }
+    requires positive { 0 < bits }
     requires fits { from + 64 ≤ 2 ^ 64 }
-    ensures first { (test : ℕ → Bool) (at until : ℕ) → from ≤ at → IsMaskIn test from at until bits → IsFirstPlace test at until result.0 }
-    ensures before_until { (test : ℕ → Bool) (at until : ℕ) → IsMaskIn test from at until bits → result.0 < until }
-    ensures rest { (test : ℕ → Bool) (at until : ℕ) → IsMaskIn test from at until bits → IsMaskIn test from (result.0 + 1) until result.1 }
+    ensures first { (test : ℕ → Bool) (at until : ℕ) → from ≤ at → IsMaskFrom test from at until bits → IsFirstPlace test at until result.0 }
+    ensures before_until { (test : ℕ → Bool) (at until : ℕ) → IsMaskFrom test from at until bits → result.0 < until }
+    ensures rest { (test : ℕ → Bool) (at until : ℕ) → IsMaskFrom test from at until bits → IsMaskFrom test from (result.0 + 1) until result.1 }
     ensures fewer { result.1 < bits }
 {
     (from + bits.trailing_zeros() as usize, bits & (bits - 1))
@@ -112,7 +112,7 @@ pub fn match_tag_before_empty(tags: &[u8], from: usize, tag: u8) -> (u64, bool)
 {
     let empty = match_tag(tags, from, EMPTY);
     let equal = match_tag(tags, from, tag);
-    // Subtracting 1 sets the bits below the first Empty tag and clears its own. The bits above stay, and `equal` has none of them. Without an
-    // Empty tag all bits are set.
+    // Subtracting 1 sets the bits below the first Empty tag and clears its own. The bits set above it are of other Empty tags, which aren't
+    // `tag`, so `equal` has none of them. Without an Empty tag all bits are set.
     (equal & empty.wrapping_sub(1), empty != 0)
 }

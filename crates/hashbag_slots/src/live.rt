@@ -36,7 +36,7 @@ pub fn next_live(tags: &[u8], from: usize) -> Option<usize>
 /// How many passes a walk makes over each of its tables. Each pass takes every third block of slots.
 const PASSES: usize = 3;
 
-/// The slots of a block. Their cells are some kilobytes, so that a pass doesn't bring those of the other passes into the cache.
+/// The slots of a block. Their cells are some kilobytes, so that a pass brings only cells of its own blocks into the cache.
 const BLOCK: usize = 256;
 
 /// How far a walk over two tables is.
@@ -100,7 +100,7 @@ fn live_group(tags: &[u8], pass: usize, from: usize) -> Option<(usize, u64)>
     None
 }
 
-// Does what `next_on_course` does if no bit of its course is set, from the place `from` of a turn on.
+// Finds the next Live slot from `from` in `turn` on, as `next_on_course` does if its course has no bit left.
 #[inline(always)]
 fn seek(newer: &[u8], older: &[u8], turn: usize, from: usize) -> Option<(usize, Course)>
     requires newer { length newer.now % 16 ≡ 0 }
@@ -132,7 +132,8 @@ fn seek(newer: &[u8], older: &[u8], turn: usize, from: usize) -> Option<(usize, 
     }
 }
 
-/// Returns the place of the next Live slot of a walk, and how far the walk is then. The turn of that shows which table the place is in.
+/// Returns the place of the next Live slot of a walk, and how far the walk is then. The turn of the returned course shows which table the
+/// place is in.
 #[inline(always)]
 pub fn next_on_course(newer: &[u8], older: &[u8], course: Course) -> Option<(usize, Course)>
     requires newer { length newer.now % 16 ≡ 0 }

@@ -1,8 +1,8 @@
 //! Probes along the path of a hash: where a value is, and the first slot that is free for one.
 //!
 //! A path begins at the hash modulo the number of slots, has the slots in turn, and has slot 0 after the last one. A probe reads tags,
-//! sixteen at once, and a cell only if the tag is the mark of its own hash. Under a hash that spreads its values, one in 128 of the other
-//! values on its path has that mark.
+//! sixteen at once, and a cell only if the tag is the mark of its own hash. If hashes are spread evenly, one in 128 of the other values on
+//! the path has the same mark.
 //!
 //! In clauses `hash_under ..` is the hash under the state, `HoldsAt` says that a place has the value that the key names, and `IsAbsent` that
 //! none has. `Agree`: the cells of Live slots have a value, and no others. `IsFirstFree`: it is the first slot on the path that isn't Live.
@@ -119,7 +119,7 @@ fn find_marked<T: Eq + Hash, Q: Key<T>>(
     key: Q,
 ) -> Option<usize>
     requires within { from + 16 ≤ length tags.now }
-    requires told { (until : ℕ) × (until ≤ from + 16) × IsTagMask tags.now mark from until bits }
+    requires mask { (until : ℕ) × (until ≤ from + 16) × IsTagMask tags.now mark from until bits }
     requires mark { 128 ≤ mark }
     requires agree { Agree tags.now cells.now }
     ensures found { IfSome result (HoldsAt (Q.names key) (slots_of tags.now cells.now)) }
@@ -138,7 +138,7 @@ fn find_marked<T: Eq + Hash, Q: Key<T>>(
     None
 }
 
-/// Returns whether it found an Empty slot between the first slot of a hash's path and a later place, at which a probe ends.
+/// Returns whether it found an Empty slot, which ends a probe, between the first slot of a hash's path and a later place.
 ///
 /// It reads sixteen tags at once, from the place backwards, and may miss an Empty slot that is less than sixteen after the first slot.
 #[inline(always)]
@@ -163,7 +163,7 @@ pub fn is_empty_before(tags: &[u8], hash: u64, place: usize) -> bool
     false
 }
 
-/// Returns what the first 16 slots of a key's path show. It also returns `Open` if fewer than 16 slots follow.
+/// Returns what the first 16 slots of a key's path show. It also returns `Open` if the table has no slots, or ends before the sixteenth.
 #[inline(always)]
 pub fn probe_first_group<T: Eq + Hash, S: BuildHasher, Q: Key<T>>(
     tags: &[u8],
@@ -273,8 +273,8 @@ pub fn find_place<T: Eq + Hash, S: BuildHasher, Q: Key<T>>(
 
 /// Returns the first place on the path of a hash whose slot is not Live.
 ///
-/// It reads slot by slot at first, and then sixteen at once. Most values find room at once. A 16-byte load stalls while a store to one of its
-/// bytes is pending, as that of a neighbour placed just before.
+/// It reads the first 16 slots one by one, since most values find room at once. A 16-byte load would also wait for a store just made to one
+/// of its bytes, as when a neighbour was placed. After them it reads sixteen at once.
 #[inline(always)]
 pub fn first_free(tags: &[u8], hash: u64) -> usize
     requires count { IsSlotCount (length tags.now) }

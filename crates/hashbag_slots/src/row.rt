@@ -4,13 +4,13 @@ ghost use Rattle.hashbag_slots.specs.Cells.{cell_at, IsFilled, IsBlank, filled_v
 ghost use Rattle.core.specs.Mem.Slots.{slots_items, slots_filled, slots_ptr, slots_len};
 
 use crate::block::{Block, Deed, release};
-use core::slots::Slots as Places;
+use core::slots::Slots as Memory;
 use std::alloc::Global;
 use std::marker::Model;
 
 /// Cells in one allocation. Contracts see the list of them: each cell's value, or `None` if it is empty.
 pub struct Row<T> {
-    row: Places<T>,
+    row: Memory<T>,
     deed: Deed<T, Global>,
     alloc: Global,
 }
@@ -30,8 +30,8 @@ impl<T> Model for Row<T> {
 }
 
 impl<T> Row<T> {
-    /// Returns the cells of a row of places, whose memory is freed by the deed.
-    pub fn new(row: Places<T>, deed: Deed<T, Global>, alloc: Global) -> Row<T>
+    /// Builds a row from `Memory`, core's memory of optional values, which is freed by the deed.
+    pub fn new(row: Memory<T>, deed: Deed<T, Global>, alloc: Global) -> Row<T>
         requires { (deed.at ≡ slots_ptr row) × (deed.len ≡ slots_len row) × (deed.alloc ≡ alloc) }
         ensures { result ≡ filled_values (slots_items row) (slots_filled row) }
     {

@@ -7,7 +7,9 @@
 //! no other slot changed.
 //!
 //! Costs are counted in hashes and in probes; a probe reads a value's path, sixteen slots at once. A call hashes nothing and doesn't
-//! allocate unless its comment says so. Contracts say in which slot a value is.
+//! allocate unless its comment says so.
+//!
+//! Contracts here also say in which slot a value is. Those of public calls above this crate don't.
 ghost use Rattle.std.specs.Prelude.{◌≡◌, ℕ, ◌+◌, ◌<◌, ◌≤◌, ◌^◌, length, true, false, IfSome, IfNone, IfOk, IfErr, IsOk, OnErr, replicate, slice_set, ◌∷◌, ◌++◌, [], None, Some};
 ghost use Rattle.std.specs.List.Sorted.{IsPermutation};
 ghost use Rattle.std.specs.Map.{lookup_entry};
@@ -152,7 +154,7 @@ impl<T: Eq> Slots<T> {
         Some((&entry.0, entry.1))
     }
 
-    /// Lends the value at a place with its count. The slot is Live: its tag isn't read.
+    /// Lends the value at a place with its count. The slot must be Live; its tag isn't read.
     #[inline(always)]
     pub fn live_at(&self, place: usize) -> (&T, usize)
         requires { is_live (slot_at self.now.slots place) ≡ true }
@@ -172,7 +174,7 @@ impl<T: Eq> Slots<T> {
         next_live(self.tags.as_slice(), from)
     }
 
-    /// Sets the count of the value at a place to `n`. The slot is Live.
+    /// Sets the count of the value at a place to `n`. The slot must be Live.
     #[inline(always)]
     pub fn set_at(&mut self, place: usize, n: usize)
         requires live { is_live (slot_at self.old.slots place) ≡ true }
@@ -184,7 +186,7 @@ impl<T: Eq> Slots<T> {
         self.cells.put(place, (value, n));
     }
 
-    /// Adds `n` to the count of the value at a place. The slot is Live, and the sum fits. In this repository only tests call it.
+    /// Adds `n` to the count of the value at a place. The slot must be Live, and the sum must fit. In this repository only tests call it.
     #[inline(always)]
     pub fn add_at(&mut self, place: usize, n: usize)
         requires live { is_live (slot_at self.old.slots place) ≡ true }
@@ -200,7 +202,7 @@ impl<T: Eq> Slots<T> {
     /// have one hash.
     pub fn put_at(&mut self, place: usize, value: T) -> T
         requires equal { holds (T.eq value) (slot_at self.old.slots place) ≡ true }
-        ensures given { slot_at self.old.slots place ≡ Slot.Live result (count_in (slot_at self.old.slots place)) }
+        ensures former { slot_at self.old.slots place ≡ Slot.Live result (count_in (slot_at self.old.slots place)) }
         ensures after { self.new.slots ≡ slice_set self.old.slots place (Slot.Live value (count_in (slot_at self.old.slots place))) }
         ensures reached { (hash : T → ℕ) → IsAlike T.eq hash → IsReached hash self.old → IsReached hash self.new }
     {
@@ -209,7 +211,7 @@ impl<T: Eq> Slots<T> {
         former
     }
 
-    /// Removes the value at a place, returns it with its count, and leaves Removed there. The slot is Live.
+    /// Removes the value at a place, returns it with its count, and leaves Removed there. The slot must be Live.
     #[inline(always)]
     pub fn take_at(&mut self, place: usize) -> (T, usize)
         requires { is_live (slot_at self.old.slots place) ≡ true }
@@ -220,7 +222,7 @@ impl<T: Eq> Slots<T> {
         self.take_leaving(place, REMOVED)
     }
 
-    // Takes the value at a place out, and leaves the tag of a Removed or a Moved slot there. The slot is Live.
+    // Removes the value at a place, and leaves the tag of a Removed or a Moved slot there. The slot must be Live.
     #[inline(always)]
     fn take_leaving(&mut self, place: usize, tag: u8) -> (T, usize)
         requires live { is_live (slot_at self.old.slots place) ≡ true }
@@ -299,8 +301,8 @@ impl<T: Eq> Slots<T> {
 }
 
 impl<T: Eq + Hash> Slots<T> {
-    /// Places an absent value with the count `n` in the first slot on its path that is not Live. All other slots stay as they are. Not all
-    /// slots are Live.
+    /// Places an absent value with the count `n` in the first slot on its path that is not Live. All other slots stay as they are. At least
+    /// one slot must not be Live.
     ///
     /// # Complexity
     ///
@@ -319,7 +321,7 @@ impl<T: Eq + Hash> Slots<T> {
         self.place_hashed(state, hash, value, n);
     }
 
-    /// Returns the first place on the path of a hash whose slot is not Live. Not all slots are Live.
+    /// Returns the first place on the path of a hash whose slot is not Live. At least one slot must not be Live.
     #[inline(always)]
     pub fn first_free(&self, hash: u64) -> usize
         requires room { live_count self.now.slots < length self.now.slots }

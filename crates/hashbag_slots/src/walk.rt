@@ -3,10 +3,10 @@
 //! A walk knows how many values are left, and after the last one it gives `None` for good. It hashes nothing and doesn't allocate. A whole
 //! walk reads each slot once.
 //!
-//! It makes three passes over each table, one over the newer, one over the older, and so on. A pass takes every third block of 256 slots. So
-//! what was given of both tables at any time has homes that are spread over all blocks. A smaller table that a walk fills is then filled
-//! evenly. In the order of places, its slots would be filled twice over, and values would probe through those that are full already. A block
-//! is large enough that a pass reads its own blocks alone, and not the memory of all.
+//! It makes three passes over each table, one over the newer, one over the older, and so on. A pass takes every third block of 256 slots.
+//! So what was given of both tables at any time has homes that are spread over all blocks. A smaller table that a walk fills is then filled
+//! evenly. In the order of places, the first half of the walk would fill the smaller table from end to end, and the second half would probe
+//! through full slots. A block is large enough that a pass reads its own blocks alone, and not the memory of all.
 ghost use Rattle.std.specs.Prelude.{◌≡◌, ℕ, length, Some, IfSome, ⊤};
 ghost use Rattle.std.specs.Iterator.{YieldsFirst, YieldsFirstBy, item_count, at_most, UpTo};
 ghost use Rattle.std.specs.Iterator.SizeHint.{IsWithinCount};

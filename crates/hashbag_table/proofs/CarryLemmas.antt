@@ -36,8 +36,8 @@ module _ {T : Type 0} (eq : T → T → Bool) (hash : T → ℕ) where
           older_reached = s;
           apart = λ p v n here q lt. absurd (omega arith);
           unmoved = unmoved_blank newer.slots 0 e;
-          looked_within = omega arith;
-          looked_dead = λ p lt. absurd (omega arith);
+          carried_within = omega arith;
+          carried_slots_dead = λ p lt. absurd (omega arith);
           fits = let a = ap live_count e in let b = ap removed_count e in let c = ap live_count f in omega arith;
         };
         counted = subst (λ ss. IsCounted eq (entries ss ++ entries (drop 0 older.slots))) (sym e) (subst (λ ss. IsCounted eq (entries ss)) (sym f) (IsCounted-nil T eq));
@@ -130,63 +130,63 @@ module _ {T : Type 0} where
       let f = ap removed_count put.after in
       omega (arith, e, f)
 
-module _ {T : Type 0} (eq : T → T → Bool) (hash : T → ℕ) (newer older newer1 older1 : Columns T) (looked many : ℕ)
-    (tables : AreTables eq hash newer older looked) (within : looked + many ≤ length older.slots)
-    (placed : PlacesAll hash (entries_in looked many older.slots) newer.slots newer1.slots) (left : Carries looked many older.slots older1.slots) (apart : AreApart eq older1.slots newer1.slots)
+module _ {T : Type 0} (eq : T → T → Bool) (hash : T → ℕ) (newer older newer1 older1 : Columns T) (carried_to many : ℕ)
+    (tables : AreTables eq hash newer older carried_to) (within : carried_to + many ≤ length older.slots)
+    (placed : PlacesAll hash (entries_in carried_to many older.slots) newer.slots newer1.slots) (left : Carries carried_to many older.slots older1.slots) (apart : AreApart eq older1.slots newer1.slots)
     (kept : live_count newer1.slots + live_count older1.slots ≡ live_count newer.slots + live_count older.slots) (removed : removed_count newer1.slots ≤ removed_count newer.slots) (slots : length newer1.slots ≡ length newer.slots)
     (newer_reached : IsReached hash newer1) (older_reached : IsReached hash older1) where
-  dead : (p : ℕ) → p < looked + many → is_live (slot_at older1.slots p) ≡ false
-  dead p lt = elim (cases_lt p looked) [
-    | inl a ↦ ap is_live (left.outside p (inl a)) ∙ tables.looked_dead p a
+  dead : (p : ℕ) → p < carried_to + many → is_live (slot_at older1.slots p) ≡ false
+  dead p lt = elim (cases_lt p carried_to) [
+    | inl a ↦ ap is_live (left.outside p (inl a)) ∙ tables.carried_slots_dead p a
     | inr b ↦ ap is_live (left.inside p b lt) ∙ carried_dead (slot_at older.slots p)
   ]
 
-  pub kept_after : live_count newer1.slots + live_count (drop (looked + many) older1.slots) ≡ live_count newer.slots + live_count (drop looked older.slots)
+  pub kept_after : live_count newer1.slots + live_count (drop (carried_to + many) older1.slots) ≡ live_count newer.slots + live_count (drop carried_to older.slots)
   kept_after =
       let same = left.same_length in
-      let a = live-drop older.slots looked tables.looked_within tables.looked_dead in
-      let b = live-drop older1.slots (looked + many) (omega (arith, within, same)) dead in
+      let a = live-drop older.slots carried_to tables.carried_within tables.carried_slots_dead in
+      let b = live-drop older1.slots (carried_to + many) (omega (arith, within, same)) dead in
       omega (arith, a, b, kept)
 
-  pub tables_after : AreTables eq hash newer1 older1 (looked + many)
+  pub tables_after : AreTables eq hash newer1 older1 (carried_to + many)
   tables_after = record {
     newer_reached = newer_reached;
     older_reached = older_reached;
     apart = apart;
     unmoved = unmoved_filled _ newer.slots newer1.slots (Fills-PlacesAll hash _ newer.slots newer1.slots placed) tables.unmoved;
-    looked_within = let same = left.same_length in omega (arith, within, same);
-    looked_dead = dead;
+    carried_within = let same = left.same_length in omega (arith, within, same);
+    carried_slots_dead = dead;
     fits = let k = kept_after in let f = tables.fits in let l : limit (length newer1.slots) ≡ limit (length newer.slots) = ap limit slots in omega (arith, k, f, l, removed);
   }
 
-  waiting_after : (most : ℕ) → many ≡ min (length older.slots - looked) most → drop (looked + many) older1.slots ≡ drop most (drop looked older.slots)
+  waiting_after : (most : ℕ) → many ≡ min (length older.slots - carried_to) most → drop (carried_to + many) older1.slots ≡ drop most (drop carried_to older.slots)
   waiting_after most least =
-      drop-Carries looked many older.slots older1.slots left
-      ∙ elim (cases_lt (length older.slots - looked) most) [
+      drop-Carries carried_to many older.slots older1.slots left
+      ∙ elim (cases_lt (length older.slots - carried_to) most) [
         | inl a ↦
-            let e : length older.slots ≤ looked + many = omega (arith, least, a) in
-            let f : length older.slots ≤ looked + most = omega (arith, a) in
-            drop_all (looked + many) older.slots e ∙ sym (drop_all (looked + most) older.slots f) ∙ sym (drop-drop most looked older.slots)
+            let e : length older.slots ≤ carried_to + many = omega (arith, least, a) in
+            let f : length older.slots ≤ carried_to + most = omega (arith, a) in
+            drop_all (carried_to + many) older.slots e ∙ sym (drop_all (carried_to + most) older.slots f) ∙ sym (drop-drop most carried_to older.slots)
         | inr b ↦
             let e : many ≡ most = omega (arith, least, b) in
-            ap (λ m. drop (looked + m) older.slots) e ∙ sym (drop-drop most looked older.slots)
+            ap (λ m. drop (carried_to + m) older.slots) e ∙ sym (drop-drop most carried_to older.slots)
       ]
 
-  pub entries_after : IsPermutation (entries_of newer.slots (drop looked older.slots)) (entries_of newer1.slots (drop (looked + many) older1.slots))
+  pub entries_after : IsPermutation (entries_of newer.slots (drop carried_to older.slots)) (entries_of newer1.slots (drop (carried_to + many) older1.slots))
   entries_after =
-      let w = drop looked older.slots in
-      let es = entries_in looked many older.slots in
-      let rest = entries (drop (looked + many) older.slots) in
-      let split : entries w ≡ es ++ rest = ap entries (sym (take-append-drop many w)) ∙ entries-append (take many w) (drop many w) ∙ ap (λ ss. es ++ entries ss) (drop-drop many looked older.slots) in
+      let w = drop carried_to older.slots in
+      let es = entries_in carried_to many older.slots in
+      let rest = entries (drop (carried_to + many) older.slots) in
+      let split : entries w ≡ es ++ rest = ap entries (sym (take-append-drop many w)) ∙ entries-append (take many w) (drop many w) ∙ ap (λ ss. es ++ entries ss) (drop-drop many carried_to older.slots) in
       let moved : IsPermutation (entries newer.slots ++ (es ++ rest)) (entries newer1.slots ++ rest) =
       subst (λ l. IsPermutation l (entries newer1.slots ++ rest)) (append_assoc (entries newer.slots) es rest)
       (IsPermutation-append_left rest _ _ (IsPermutation-trans _ _ _ (IsPermutation-append_comm (entries newer.slots) es) (entries-PlacesAll hash es newer.slots newer1.slots placed))) in
-      subst (λ l. IsPermutation (entries newer.slots ++ l) (entries_of newer1.slots (drop (looked + many) older1.slots))) (sym split)
-      (subst (λ ss. IsPermutation (entries newer.slots ++ (es ++ rest)) (entries newer1.slots ++ entries ss)) (sym (drop-Carries looked many older.slots older1.slots left)) moved)
+      subst (λ l. IsPermutation (entries newer.slots ++ l) (entries_of newer1.slots (drop (carried_to + many) older1.slots))) (sym split)
+      (subst (λ ss. IsPermutation (entries newer.slots ++ (es ++ rest)) (entries newer1.slots ++ entries ss)) (sym (drop-Carries carried_to many older.slots older1.slots left)) moved)
 
-  pub carried_after : (most : ℕ) → many ≡ min (length older.slots - looked) most → Carried most newer.slots (drop looked older.slots) newer1.slots (drop (looked + many) older1.slots)
+  pub carried_after : (most : ℕ) → many ≡ min (length older.slots - carried_to) most → Carried most newer.slots (drop carried_to older.slots) newer1.slots (drop (carried_to + many) older1.slots)
   carried_after most least = record {
-    fills = Fills-carry hash most looked many older.slots newer.slots newer1.slots (omega (arith, least)) placed;
+    fills = Fills-carry hash most carried_to many older.slots newer.slots newer1.slots (omega (arith, least)) placed;
     waits = waiting_after most least;
     entries = entries_after;
     live = kept_after;
@@ -203,8 +203,8 @@ module _ {T : Type 0} (eq : T → T → Bool) (hash : T → ℕ) where
         older_reached = reached;
         apart = λ p v n here q lt. absurd (let w = within_table none.slots p (ap is_live here) in omega arith);
         unmoved = tables.unmoved;
-        looked_within = omega arith;
-        looked_dead = λ p lt. absurd (omega arith);
+        carried_within = omega arith;
+        carried_slots_dead = λ p lt. absurd (omega arith);
         fits = let f = tables.fits in let c : live_count (drop 0 none.slots) ≡ 0 = ap live_count empty in omega arith;
       }
 
@@ -218,11 +218,11 @@ module _ {T : Type 0} (eq : T → T → Bool) (hash : T → ℕ) where
       let a = h.live in let b = h.removed in omega (arith, l, a, b)
 
   -- a carry keeps what holds between two calls
-  pub IsTables-carried : IsEquivalence eq → (newer older newer1 older1 : Columns T) (looked looked1 : ℕ) → IsTables eq hash newer older looked → AreTables eq hash newer1 older1 looked1
-      → Carried 16 newer.slots (drop looked older.slots) newer1.slots (drop looked1 older1.slots) → (length older1.slots ≤ looked1 → length older1.slots ≡ 0) → IsTables eq hash newer1 older1 looked1
-  IsTables-carried laws newer older newer1 older1 looked looked1 before tables h freed =
-      let w = drop looked older.slots in
-      let w1 = drop looked1 older1.slots in
+  pub IsTables-carried : IsEquivalence eq → (newer older newer1 older1 : Columns T) (carried_to carried_to1 : ℕ) → IsTables eq hash newer older carried_to → AreTables eq hash newer1 older1 carried_to1
+      → Carried 16 newer.slots (drop carried_to older.slots) newer1.slots (drop carried_to1 older1.slots) → (length older1.slots ≤ carried_to1 → length older1.slots ≡ 0) → IsTables eq hash newer1 older1 carried_to1
+  IsTables-carried laws newer older newer1 older1 carried_to carried_to1 before tables h freed =
+      let w = drop carried_to older.slots in
+      let w1 = drop carried_to1 older1.slots in
       let r = room_carried 16 newer.slots w newer1.slots w1 h in
       let len : length w1 ≡ length w - 16 = ap length h.waits ∙ length-drop 16 w in
       record {
@@ -237,10 +237,10 @@ module _ {T : Type 0} (eq : T → T → Bool) (hash : T → ℕ) where
       }
 
   -- and so does a carry of all that waits
-  pub IsTables-finished : IsEquivalence eq → (newer older newer1 older1 : Columns T) (looked looked1 k : ℕ) → IsTables eq hash newer older looked → AreTables eq hash newer1 older1 looked1
-      → Carried k newer.slots (drop looked older.slots) newer1.slots (drop looked1 older1.slots) → length (drop looked older.slots) ≤ k → (length older1.slots ≤ looked1 → length older1.slots ≡ 0) → IsTables eq hash newer1 older1 looked1
-  IsTables-finished laws newer older newer1 older1 looked looked1 k before tables h all freed =
-      let none : drop looked1 older1.slots ≡ [] = h.waits ∙ drop_all k (drop looked older.slots) all in
+  pub IsTables-finished : IsEquivalence eq → (newer older newer1 older1 : Columns T) (carried_to carried_to1 k : ℕ) → IsTables eq hash newer older carried_to → AreTables eq hash newer1 older1 carried_to1
+      → Carried k newer.slots (drop carried_to older.slots) newer1.slots (drop carried_to1 older1.slots) → length (drop carried_to older.slots) ≤ k → (length older1.slots ≤ carried_to1 → length older1.slots ≡ 0) → IsTables eq hash newer1 older1 carried_to1
+  IsTables-finished laws newer older newer1 older1 carried_to carried_to1 k before tables h all freed =
+      let none : drop carried_to1 older1.slots ≡ [] = h.waits ∙ drop_all k (drop carried_to older.slots) all in
       record {
         tables = tables;
         counted = counted_rearranged laws _ _ h.entries before.counted;
@@ -279,8 +279,8 @@ IsTables-blank {T = T} eq hash newer older n e f r s =
         older_reached = s;
         apart = λ p v k here q lt. ap (λ ss. holds (eq v) (slot_at ss q)) e ∙ ap (holds (eq v)) (slot_at-replicate n q);
         unmoved = unmoved_blank newer.slots n e;
-        looked_within = omega arith;
-        looked_dead = λ p lt. absurd (omega arith);
+        carried_within = omega arith;
+        carried_slots_dead = λ p lt. absurd (omega arith);
         fits = let a = ap live_count e ∙ live_empty T n in let b = ap removed_count e ∙ removed_empty T n in let c = ap live_count f in omega (arith, a, b, c);
       };
       counted = subst (λ es. IsCounted eq (es ++ entries (drop 0 older.slots))) (sym (ap entries e ∙ entries_empty T n)) (subst (λ ss. IsCounted eq (entries ss)) (sym f) (IsCounted-nil T eq));
@@ -303,10 +303,10 @@ module _ {T : Type 0} where
   entries_fresh ss e = ap entries e ∙ entries_empty T (length ss)
 
 module _ {T : Type 0} (eq : T → T → Bool) (hash : T → ℕ) (newer fresh : Columns T) (many : ℕ) (reached : IsReached hash newer) (may : MayAdopt eq hash fresh newer.slots many) where
-  pub IsTables-adopted : IsEquivalence eq → (newer1 older1 : Columns T) (looked1 : ℕ) → AreTables eq hash newer1 older1 looked1 → Carried many fresh.slots newer.slots newer1.slots (drop looked1 older1.slots)
-      → (length older1.slots ≤ looked1 → length older1.slots ≡ 0) → IsTables eq hash newer1 older1 looked1
-  IsTables-adopted laws newer1 older1 looked1 tables h freed =
-      let w1 = drop looked1 older1.slots in
+  pub IsTables-adopted : IsEquivalence eq → (newer1 older1 : Columns T) (carried_to1 : ℕ) → AreTables eq hash newer1 older1 carried_to1 → Carried many fresh.slots newer.slots newer1.slots (drop carried_to1 older1.slots)
+      → (length older1.slots ≤ carried_to1 → length older1.slots ≡ 0) → IsTables eq hash newer1 older1 carried_to1
+  IsTables-adopted laws newer1 older1 carried_to1 tables h freed =
+      let w1 = drop carried_to1 older1.slots in
       let r = room_carried eq hash many fresh.slots newer.slots newer1.slots w1 h in
       let len : length w1 ≡ length newer.slots - many = ap length h.waits ∙ length-drop many newer.slots in
       record {
@@ -348,28 +348,28 @@ module _ {T : Type 0} (eq : T → T → Bool) (hash : T → ℕ) (newer fresh : 
       let r = room_fresh in let a = roomy.some in let b = roomy.carries in
       carries_after eq hash fresh.slots newer.slots newer1 waiting1 h (omega (arith, r, b)) (omega (arith, r, a))
 
-module _ {T : Type 0} (eq : T → T → Bool) (laws : IsEquivalence eq) (hash : T → ℕ) (newer older newer1 : Columns T) (looked : ℕ) (v : T) (n : ℕ)
-    (before : IsTables eq hash newer older looked) (absent : lookup_entry (eq v) (entries_of newer.slots (drop looked older.slots)) ≡ None) (some : 0 < n)
-    (room : 0 < room_of newer.slots (drop looked older.slots)) (carries : length (drop looked older.slots) ≤ 16 * (room_of newer.slots (drop looked older.slots) - 1)) where
+module _ {T : Type 0} (eq : T → T → Bool) (laws : IsEquivalence eq) (hash : T → ℕ) (newer older newer1 : Columns T) (carried_to : ℕ) (v : T) (n : ℕ)
+    (before : IsTables eq hash newer older carried_to) (absent : lookup_entry (eq v) (entries_of newer.slots (drop carried_to older.slots)) ≡ None) (some : 0 < n)
+    (room : 0 < room_of newer.slots (drop carried_to older.slots)) (carries : length (drop carried_to older.slots) ≤ 16 * (room_of newer.slots (drop carried_to older.slots) - 1)) where
   module _ (put : Places v n newer.slots newer1.slots) (reached : IsReached hash newer1) where
     abbrev pub w : List (Slot T)
-    w = drop looked older.slots
+    w = drop carried_to older.slots
 
     pub entries_settled : IsPermutation ((v, n) ∷ entries_of newer.slots w) (entries_of newer1.slots w)
     entries_settled = IsPermutation-append_left (entries w) _ _ (entries-Places v n newer.slots newer1.slots put)
 
     -- what is Live in the older table waits, and is not the new value
     other : (x : T) (m p : ℕ) → slot_at older.slots p ≡ Live x m → eq x v ≡ false
-    other x m p here = elim (cases_lt p looked) [
-      | inl a ↦ absurd (let d = before.tables.looked_dead p a in let h : is_live (slot_at older.slots p) ≡ true = ap is_live here in cc)
+    other x m p here = elim (cases_lt p carried_to) [
+      | inl a ↦ absurd (let d = before.tables.carried_slots_dead p a in let h : is_live (slot_at older.slots p) ≡ true = ap is_live here in cc)
       | inr b ↦
-          let e : looked + (p - looked) ≡ p = omega arith in
-          let at : slot_at w (p - looked) ≡ Live x m = get_or-drop looked older.slots (p - looked) Empty ∙ ap (slot_at older.slots) e ∙ here in
-          let inside = within_table w (p - looked) (ap is_live at) in
-          laws.symm x v ∙ sym (ap (holds (eq v)) at) ∙ (absent_both eq v newer.slots w absent).1 (p - looked) inside
+          let e : carried_to + (p - carried_to) ≡ p = omega arith in
+          let at : slot_at w (p - carried_to) ≡ Live x m = get_or-drop carried_to older.slots (p - carried_to) Empty ∙ ap (slot_at older.slots) e ∙ here in
+          let inside = within_table w (p - carried_to) (ap is_live at) in
+          laws.symm x v ∙ sym (ap (holds (eq v)) at) ∙ (absent_both eq v newer.slots w absent).1 (p - carried_to) inside
     ]
 
-    pub IsTables-settled : IsTables eq hash newer1 older looked
+    pub IsTables-settled : IsTables eq hash newer1 older carried_to
     IsTables-settled =
         let live = live-Places v n newer.slots newer1.slots put in
         let fewer = removed-Places v n newer.slots newer1.slots put in
@@ -381,8 +381,8 @@ module _ {T : Type 0} (eq : T → T → Bool) (laws : IsEquivalence eq) (hash : 
             older_reached = before.tables.older_reached;
             apart = λ p x m here. IsAbsent-Places (eq x) v n newer.slots newer1.slots (before.tables.apart p x m here) put (other x m p here);
             unmoved = unmoved_filled 1 newer.slots newer1.slots (Fills-Places v n newer.slots newer1.slots put) before.tables.unmoved;
-            looked_within = before.tables.looked_within;
-            looked_dead = before.tables.looked_dead;
+            carried_within = before.tables.carried_within;
+            carried_slots_dead = before.tables.carried_slots_dead;
             fits = let f = before.tables.fits in omega (arith, room, live, fewer, limits, f);
           };
           counted = counted_rearranged laws _ _ entries_settled (IsCounted-cons eq v n (entries_of newer.slots w) absent some before.counted);
@@ -396,8 +396,8 @@ module _ {T : Type 0} (eq : T → T → Bool) (laws : IsEquivalence eq) (hash : 
 
 module _ {T : Type 0} where
   -- where room is 0 nothing waits
-  pub alone_full : (eq : T → T → Bool) (hash : T → ℕ) (newer older : Columns T) (looked : ℕ) → IsTables eq hash newer older looked → room_of newer.slots (drop looked older.slots) ≡ 0 → drop looked older.slots ≡ []
-  alone_full eq hash newer older looked before full = drop_all 0 (drop looked older.slots) (let c = before.carries in omega (arith, c, full))
+  pub alone_full : (eq : T → T → Bool) (hash : T → ℕ) (newer older : Columns T) (carried_to : ℕ) → IsTables eq hash newer older carried_to → room_of newer.slots (drop carried_to older.slots) ≡ 0 → drop carried_to older.slots ≡ []
+  alone_full eq hash newer older carried_to before full = drop_all 0 (drop carried_to older.slots) (let c = before.carries in omega (arith, c, full))
 
   pub live_alone : (newer waiting : List (Slot T)) → waiting ≡ [] → live_count newer ≡ live_count newer + live_count waiting
   live_alone newer waiting e = let z : live_count waiting ≡ 0 = ap live_count e in omega (arith, z)

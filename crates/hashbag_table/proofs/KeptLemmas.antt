@@ -80,21 +80,21 @@ module _ {F T : Type 0} (g : Mut F (Bor T × (ℕ × Unit {0})) ℕ) where
   total_both es fs = sum_by-append (λ e. e.1) es fs
 
   -- the newer table, and then the slots that wait
-  module _ (newer waiting newer1 : Columns T) (looked : ℕ) (f f1 : F) (first : RetainsFrom g 0 f newer.slots newer1.slots f1) where
-    pub asks_waiting : MayAskInTurn g f (entries_of newer.slots (drop looked waiting.slots)) → MayAskInTurn g f1 (entries (drop looked waiting.slots))
+  module _ (newer waiting newer1 : Columns T) (carried_to : ℕ) (f f1 : F) (first : RetainsFrom g 0 f newer.slots newer1.slots f1) where
+    pub asks_waiting : MayAskInTurn g f (entries_of newer.slots (drop carried_to waiting.slots)) → MayAskInTurn g f1 (entries (drop carried_to waiting.slots))
     asks_waiting asks =
         let a = answers_left g f f1 newer.slots newer1.slots first.left in
-        asks_then f f1 (entries newer.slots) (entries (drop looked waiting.slots)) a.0 asks a.1
+        asks_then f f1 (entries newer.slots) (entries (drop carried_to waiting.slots)) a.0 asks a.1
 
-  module _ (eq : T → T → Bool) (newer older newer1 older1 : Columns T) (looked : ℕ) (f f1 f2 : F)
-      (first : RetainsFrom g 0 f newer.slots newer1.slots f1) (second : RetainsFrom g looked f1 older.slots older1.slots f2) where
-    pub length_waiting : length (drop looked older1.slots) ≡ length (drop looked older.slots)
-    length_waiting = let a = length-drop looked older1.slots in let b = length-drop looked older.slots in let same = second.same_length in omega (arith, a, b, same)
+  module _ (eq : T → T → Bool) (newer older newer1 older1 : Columns T) (carried_to : ℕ) (f f1 f2 : F)
+      (first : RetainsFrom g 0 f newer.slots newer1.slots f1) (second : RetainsFrom g carried_to f1 older.slots older1.slots f2) where
+    pub length_waiting : length (drop carried_to older1.slots) ≡ length (drop carried_to older.slots)
+    length_waiting = let a = length-drop carried_to older1.slots in let b = length-drop carried_to older.slots in let same = second.same_length in omega (arith, a, b, same)
 
-    both_left : (answers : List ℕ) × AnswersInTurn g f (entries_of newer.slots (drop looked older.slots)) answers f2
-        × (entries_of newer1.slots (drop looked older1.slots) ≡ kept (entries_of newer.slots (drop looked older.slots)) answers)
+    both_left : (answers : List ℕ) × AnswersInTurn g f (entries_of newer.slots (drop carried_to older.slots)) answers f2
+        × (entries_of newer1.slots (drop carried_to older1.slots) ≡ kept (entries_of newer.slots (drop carried_to older.slots)) answers)
     both_left =
-        let w = drop looked older.slots in let w1 = drop looked older1.slots in
+        let w = drop carried_to older.slots in let w1 = drop carried_to older1.slots in
         let a = answers_left g f f1 newer.slots newer1.slots first.left in
         let b = answers_left g f1 f2 w w1 second.left in (
           a.0 ++ b.0,
@@ -102,11 +102,11 @@ module _ {F T : Type 0} (g : Mut F (Bor T × (ℕ × Unit {0})) ℕ) where
           (λ i. a.2 i ++ b.2 i) ∙ sym (kept_both f f1 (entries newer.slots) (entries w) a.0 b.0 a.1),
         )
 
-    pub retains_both : Retains g f (entries_of newer.slots (drop looked older.slots)) (entries_of newer1.slots (drop looked older1.slots))
+    pub retains_both : Retains g f (entries_of newer.slots (drop carried_to older.slots)) (entries_of newer1.slots (drop carried_to older1.slots))
     retains_both =
         let all = both_left in
         record {
-          walk = entries_of newer.slots (drop looked older.slots);
+          walk = entries_of newer.slots (drop carried_to older.slots);
           order = IsPermutation-refl _;
           answers = all.0;
           last = f2;
@@ -114,47 +114,47 @@ module _ {F T : Type 0} (g : Mut F (Bor T × (ℕ × Unit {0})) ℕ) where
           kept = IsPermutation-same _ _ (sym all.2);
         }
 
-    pub total_left : total (entries newer1.slots) + total (entries (drop looked older1.slots)) ≤ total (entries_of newer.slots (drop looked older.slots))
+    pub total_left : total (entries newer1.slots) + total (entries (drop carried_to older1.slots)) ≤ total (entries_of newer.slots (drop carried_to older.slots))
     total_left =
         let all = both_left in
-        let a = total_kept (entries_of newer.slots (drop looked older.slots)) all.0 in let e = ap (λ l. total l) all.2 in
-        let s = total_both (entries newer1.slots) (entries (drop looked older1.slots)) in omega (arith, a, e, s)
+        let a = total_kept (entries_of newer.slots (drop carried_to older.slots)) all.0 in let e = ap (λ l. total l) all.2 in
+        let s = total_both (entries newer1.slots) (entries (drop carried_to older1.slots)) in omega (arith, a, e, s)
 
-    pub room_left : room_of newer.slots (drop looked older.slots) ≤ room_of newer1.slots (drop looked older1.slots)
+    pub room_left : room_of newer.slots (drop carried_to older.slots) ≤ room_of newer1.slots (drop carried_to older1.slots)
     room_left =
         let a = counts_left g f f1 newer.slots newer1.slots first.left in let x = a.0 in
-        let b = counts_left g f1 f2 (drop looked older.slots) (drop looked older1.slots) second.left in let y = b.1 in
+        let b = counts_left g f1 f2 (drop carried_to older.slots) (drop carried_to older1.slots) second.left in let y = b.1 in
         let l : limit (length newer1.slots) ≡ limit (length newer.slots) = ap limit first.same_length in
         omega (arith, x, y, l)
 
     -- two tables stay two tables
-    module _ (hash : T → ℕ) (before : IsTables eq hash newer older looked) (newer_reached : IsReached hash newer1) (older_reached : IsReached hash older1) where
-      tables_left : AreTables eq hash newer1 older1 looked
+    module _ (hash : T → ℕ) (before : IsTables eq hash newer older carried_to) (newer_reached : IsReached hash newer1) (older_reached : IsReached hash older1) where
+      tables_left : AreTables eq hash newer1 older1 carried_to
       tables_left = record {
         newer_reached = newer_reached;
         older_reached = older_reached;
         apart = λ p v n here.
-            let was = retained_live g looked f1 f2 older.slots older1.slots second p v n here in
+            let was = retained_live g carried_to f1 f2 older.slots older1.slots second p v n here in
             retained_absent g 0 f f1 newer.slots newer1.slots first (eq v) (before.tables.apart p v was.0 was.1);
         unmoved = λ p here. before.tables.unmoved p (retained_moved g 0 f f1 newer.slots newer1.slots first p here);
-        looked_within = let l = before.tables.looked_within in let same = second.same_length in omega (arith, l, same);
-        looked_dead = λ p lt. ap is_live (second.before p lt) ∙ before.tables.looked_dead p lt;
+        carried_within = let l = before.tables.carried_within in let same = second.same_length in omega (arith, l, same);
+        carried_slots_dead = λ p lt. ap is_live (second.before p lt) ∙ before.tables.carried_slots_dead p lt;
         fits =
             let a = counts_left g f f1 newer.slots newer1.slots first.left in let x = a.0 in
-            let b = counts_left g f1 f2 (drop looked older.slots) (drop looked older1.slots) second.left in let y = b.1 in
+            let b = counts_left g f1 f2 (drop carried_to older.slots) (drop carried_to older1.slots) second.left in let y = b.1 in
             let l : limit (length newer1.slots) ≡ limit (length newer.slots) = ap limit first.same_length in
             let t = before.tables.fits in omega (arith, x, y, l, t);
       }
 
-      pub IsTables-left : IsTables eq hash newer1 older1 looked
+      pub IsTables-left : IsTables eq hash newer1 older1 carried_to
       IsTables-left =
           let all = both_left in let len = length_waiting in
           record {
             tables = tables_left;
-            counted = subst (IsCounted eq) (sym all.2) (counted_kept eq (entries_of newer.slots (drop looked older.slots)) all.0 before.counted);
+            counted = subst (IsCounted eq) (sym all.2) (counted_kept eq (entries_of newer.slots (drop carried_to older.slots)) all.0 before.counted);
             carries = let c = before.carries in let r = room_left in omega (arith, c, r, len);
             smaller = elim before.smaller [
-              | inl none ↦ inl (let z : length (drop looked older1.slots) ≡ 0 = len ∙ ap length none in nil_is (drop looked older1.slots) z)
+              | inl none ↦ inl (let z : length (drop carried_to older1.slots) ≡ 0 = len ∙ ap length none in nil_is (drop carried_to older1.slots) z)
               | inr some ↦ inr (let same = first.same_length in omega (arith, len, same, some))
             ];
             freed = λ all. let same = second.same_length in same ∙ before.freed (omega (arith, same, all));

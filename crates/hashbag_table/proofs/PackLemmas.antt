@@ -41,19 +41,19 @@ module _ {T : Type 0} (eq : T → T → Bool) (laws : IsEquivalence eq) where
       (absent_both eq v newer (slice_set former p Removed) (none_distinct v rest (IsDistinct-head eq v (keys_of rest) first.distinct))).0
 
   -- what waits is in another table, and none is left behind
-  pub IsTables-freed : (hash : T → ℕ) (newer older none : Columns T) (looked : ℕ) → IsTables eq hash newer older looked → none.slots ≡ [] → IsReached hash none → IsTables eq hash newer none 0
-  IsTables-freed hash newer older none looked before empty reached =
+  pub IsTables-freed : (hash : T → ℕ) (newer older none : Columns T) (carried_to : ℕ) → IsTables eq hash newer older carried_to → none.slots ≡ [] → IsReached hash none → IsTables eq hash newer none 0
+  IsTables-freed hash newer older none carried_to before empty reached =
       let l = ap length empty in
       let live : live_count (drop 0 none.slots) ≡ 0 = ap live_count empty in
-      let counted = front_counted (entries newer.slots) (entries (drop looked older.slots)) before.counted in
+      let counted = front_counted (entries newer.slots) (entries (drop carried_to older.slots)) before.counted in
       record {
         tables = record {
           newer_reached = before.tables.newer_reached;
           older_reached = reached;
           apart = λ p v n here q lt. absurd (let w = within_table none.slots p (ap is_live here) in omega arith);
           unmoved = before.tables.unmoved;
-          looked_within = omega arith;
-          looked_dead = λ p lt. absurd (omega arith);
+          carried_within = omega arith;
+          carried_slots_dead = λ p lt. absurd (omega arith);
           fits = let f = before.tables.fits in omega (arith, f, live);
         };
         counted = subst (λ ss. IsCounted eq (entries newer.slots ++ entries ss)) (sym empty) (subst (IsCounted eq) (sym (append-nil (entries newer.slots))) counted);
@@ -63,42 +63,42 @@ module _ {T : Type 0} (eq : T → T → Bool) (laws : IsEquivalence eq) where
       }
 
 -- the values that wait move into a table of Empty slots in which all have room
-module _ {T : Type 0} (eq : T → T → Bool) (laws : IsEquivalence eq) (hash : T → ℕ) (newer older blank : Columns T) (looked many : ℕ)
-    (before : IsTables eq hash newer older looked) (empty : blank.slots ≡ replicate (length blank.slots) Empty) (all : looked + many ≡ length older.slots)
-    (enough : length (entries_of newer.slots (drop looked older.slots)) ≤ limit (length blank.slots)) where
+module _ {T : Type 0} (eq : T → T → Bool) (laws : IsEquivalence eq) (hash : T → ℕ) (newer older blank : Columns T) (carried_to many : ℕ)
+    (before : IsTables eq hash newer older carried_to) (empty : blank.slots ≡ replicate (length blank.slots) Empty) (all : carried_to + many ≡ length older.slots)
+    (enough : length (entries_of newer.slots (drop carried_to older.slots)) ≤ limit (length blank.slots)) where
   pub apart_blank : AreApart eq older.slots blank.slots
   apart_blank p v n here q lt = ap (λ ss. holds (eq v) (slot_at ss q)) empty ∙ ap (holds (eq v)) (slot_at-replicate (length blank.slots) q)
 
-  pub all_values : length (entries_of newer.slots (drop looked older.slots)) ≡ live_count newer.slots + live_count (drop looked older.slots)
+  pub all_values : length (entries_of newer.slots (drop carried_to older.slots)) ≡ live_count newer.slots + live_count (drop carried_to older.slots)
   all_values =
-      let w = drop looked older.slots in
+      let w = drop carried_to older.slots in
       let a = length-append (entries newer.slots) (entries w) in let b = length-entries newer.slots in let c = length-entries w in omega (arith, a, b, c)
 
   pub room_blank : live_count blank.slots + live_count older.slots ≤ length blank.slots
   room_blank =
       let a = live_fresh blank.slots empty in
-      let b = live-drop older.slots looked before.tables.looked_within before.tables.looked_dead in
+      let b = live-drop older.slots carried_to before.tables.carried_within before.tables.carried_slots_dead in
       let c = all_values in let d = limit_few (length blank.slots) in omega (arith, a, b, c, d, enough)
 
-  module _ (blank1 : Columns T) (placed : PlacesAll hash (entries_in looked many older.slots) blank.slots blank1.slots) (removed : removed_count blank1.slots ≤ removed_count blank.slots) (slots : length blank1.slots ≡ length blank.slots)
+  module _ (blank1 : Columns T) (placed : PlacesAll hash (entries_in carried_to many older.slots) blank.slots blank1.slots) (removed : removed_count blank1.slots ≤ removed_count blank.slots) (slots : length blank1.slots ≡ length blank.slots)
       (reached : IsReached hash blank1) where
-    moved_in : IsPermutation (entries (drop looked older.slots)) (entries blank1.slots)
+    moved_in : IsPermutation (entries (drop carried_to older.slots)) (entries blank1.slots)
     moved_in =
-        let w = drop looked older.slots in
-        let l = length-drop looked older.slots in
-        let whole : entries_in looked many older.slots ++ entries blank.slots ≡ entries w =
-        ap (λ es. entries_in looked many older.slots ++ es) (entries_fresh blank.slots empty) ∙ append-nil (entries_in looked many older.slots) ∙ ap entries (take_all many w (omega (arith, l, all))) in
-        subst (λ es. IsPermutation es (entries blank1.slots)) whole (entries-PlacesAll hash (entries_in looked many older.slots) blank.slots blank1.slots placed)
+        let w = drop carried_to older.slots in
+        let l = length-drop carried_to older.slots in
+        let whole : entries_in carried_to many older.slots ++ entries blank.slots ≡ entries w =
+        ap (λ es. entries_in carried_to many older.slots ++ es) (entries_fresh blank.slots empty) ∙ append-nil (entries_in carried_to many older.slots) ∙ ap entries (take_all many w (omega (arith, l, all))) in
+        subst (λ es. IsPermutation es (entries blank1.slots)) whole (entries-PlacesAll hash (entries_in carried_to many older.slots) blank.slots blank1.slots placed)
 
     -- the map of both tables is that of the former newer one beside the one that has what waited
-    pub beside : IsPermutation (entries_of newer.slots (drop looked older.slots)) (entries_of blank1.slots newer.slots)
+    pub beside : IsPermutation (entries_of newer.slots (drop carried_to older.slots)) (entries_of blank1.slots newer.slots)
     beside =
-        let w = drop looked older.slots in
+        let w = drop carried_to older.slots in
         IsPermutation-trans _ _ _ (IsPermutation-append_comm (entries newer.slots) (entries w)) (IsPermutation-append_left (entries newer.slots) _ _ moved_in)
 
-    live_beside : live_count blank1.slots ≡ live_count (drop looked older.slots)
+    live_beside : live_count blank1.slots ≡ live_count (drop carried_to older.slots)
     live_beside =
-        let a = length_permutation _ _ moved_in in let b = length-entries blank1.slots in let c = length-entries (drop looked older.slots) in omega (arith, a, b, c)
+        let a = length_permutation _ _ moved_in in let b = length-entries blank1.slots in let c = length-entries (drop carried_to older.slots) in omega (arith, a, b, c)
 
     none_removed : removed_count blank1.slots ≡ 0
     none_removed = let a = removed_fresh blank.slots empty in omega (arith, a, removed)
@@ -127,5 +127,5 @@ module _ {T : Type 0} (eq : T → T → Bool) (laws : IsEquivalence eq) (hash : 
         room = let a = h.removed in let none = none_removed in let r : removed_count new.newer ≡ 0 = omega (arith, a, none) in omega (arith, r);
       }
 
-      pub values_packed : values new ≡ length (entries_of newer.slots (drop looked older.slots))
+      pub values_packed : values new ≡ length (entries_of newer.slots (drop carried_to older.slots))
       values_packed = let a = h.live in let live = live_beside in let sum = all_values in omega (arith, a, live, sum)

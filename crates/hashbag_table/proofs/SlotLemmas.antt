@@ -105,12 +105,12 @@ module _ {T : Type 0} where
       let e : slot_entry (slot_at newer p) ≡ Some (h.0, h.1) = ap slot_entry h.2 in
       e ∙ sym (lookup-append_some test (entries newer) rest (h.0, h.1) (sym is ∙ e))
 
-  pub found_older : (test : T → Bool) (r : Option (T × ℕ)) (newer older : List (Slot T)) (looked : ℕ) → looked ≤ length older → ((p : ℕ) → p < looked → is_live (slot_at older p) ≡ false)
+  pub found_older : (test : T → Bool) (r : Option (T × ℕ)) (newer older : List (Slot T)) (carried_to : ℕ) → carried_to ≤ length older → ((p : ℕ) → p < carried_to → is_live (slot_at older p) ≡ false)
       → None ≡ lookup_entry test (entries newer) → r ≡ lookup_entry test (entries older)
-      → r ≡ lookup_entry test (entries newer ++ entries (drop looked older))
-  found_older test r newer older looked le dead none is =
-      is ∙ ap (lookup_entry test) (sym (entries-drop older looked le dead))
-      ∙ sym (lookup-append_none test (entries newer) (entries (drop looked older)) (sym none))
+      → r ≡ lookup_entry test (entries newer ++ entries (drop carried_to older))
+  found_older test r newer older carried_to le dead none is =
+      is ∙ ap (lookup_entry test) (sym (entries-drop older carried_to le dead))
+      ∙ sym (lookup-append_none test (entries newer) (entries (drop carried_to older)) (sym none))
 
   -- a value that is not looked up is in no slot
   pub absent_slots : (test : T → Bool) (ss : List (Slot T)) → lookup_entry test (entries ss) ≡ None → IsAbsent test ss

@@ -126,25 +126,25 @@ module _ {T : Type 0} (eq : T → T → Bool) (laws : IsEquivalence eq) where
   pub take_swapped : (x : T) (es new : List (T × ℕ)) (e : T × ℕ) → IsCounted eq es → lookup_entry (eq x) es ≡ Some e → Swaps es new e [] → IsPermutation (without eq x es) new
   take_swapped x es new e h found swap = IsPermutation-trans _ _ _ (without_swapped x es swap.rest e h found swap.before) swap.after
 
-module _ {T : Type 0} (eq : T → T → Bool) (hash : T → ℕ) (newer older : Columns T) (looked : ℕ) (before : IsTables eq hash newer older looked) where
+module _ {T : Type 0} (eq : T → T → Bool) (hash : T → ℕ) (newer older : Columns T) (carried_to : ℕ) (before : IsTables eq hash newer older carried_to) where
   -- a Live slot that waits was not looked at
-  pub later : (p : ℕ) → is_live (slot_at older.slots p) ≡ true → looked ≤ p
-  later p h = elim (cases_lt p looked) [
-    | inl a ↦ absurd (let d = before.tables.looked_dead p a in cc)
+  pub later : (p : ℕ) → is_live (slot_at older.slots p) ≡ true → carried_to ≤ p
+  later p h = elim (cases_lt p carried_to) [
+    | inl a ↦ absurd (let d = before.tables.carried_slots_dead p a in cc)
     | inr b ↦ b
   ]
 
-  pub waiting_at : (p : ℕ) → looked ≤ p → slot_at (drop looked older.slots) (p - looked) ≡ slot_at older.slots p
-  waiting_at p le = let e : looked + (p - looked) ≡ p = omega arith in get_or-drop looked older.slots (p - looked) Empty ∙ ap (slot_at older.slots) e
+  pub waiting_at : (p : ℕ) → carried_to ≤ p → slot_at (drop carried_to older.slots) (p - carried_to) ≡ slot_at older.slots p
+  waiting_at p le = let e : carried_to + (p - carried_to) ≡ p = omega arith in get_or-drop carried_to older.slots (p - carried_to) Empty ∙ ap (slot_at older.slots) e
 
   module _ (p : ℕ) (v : T) (m : ℕ) (s : Slot T) (quiet : (x : T) → eq x v ≡ false → holds (eq x) s ≡ false) (used : one_if (is_live s) + one_if (is_removed s) ≡ 1) where
     not_moved : s ≡ Moved → ⊥
     not_moved e = absurd (let z : one_if (is_live {T = T} Moved) + one_if (is_removed {T = T} Moved) ≡ 1 = subst (λ x. one_if (is_live x) + one_if (is_removed x) ≡ 1) e used in omega arith)
 
     pub IsTables-newer : (newer1 : Columns T) → p < length newer.slots → slot_at newer.slots p ≡ Live v m → newer1.slots ≡ slice_set newer.slots p s → IsReached hash newer1
-        → IsCounted eq (entries_of newer1.slots (drop looked older.slots)) → IsTables eq hash newer1 older looked
+        → IsCounted eq (entries_of newer1.slots (drop carried_to older.slots)) → IsTables eq hash newer1 older carried_to
     IsTables-newer newer1 lt was now reached counted =
-        let w = drop looked older.slots in
+        let w = drop carried_to older.slots in
         let len : length newer1.slots ≡ length newer.slots = ap length now ∙ length-set newer.slots p s in
         let a = count-set newer.slots p s lt is_live in let b = count-set newer.slots p s lt is_removed in
         let was_live : one_if (is_live (slot_at newer.slots p)) ≡ 1 = ap (λ x. one_if (is_live x)) was in
@@ -163,8 +163,8 @@ module _ {T : Type 0} (eq : T → T → Bool) (hash : T → ℕ) (newer older : 
                   | inr at ↦ ap (holds (eq x)) at.1 ∙ before.tables.apart q x n here i (omega (arith, len, inside))
                 ];
             unmoved = subst NoneMoved (sym now) (unmoved_set newer.slots p s lt not_moved before.tables.unmoved);
-            looked_within = before.tables.looked_within;
-            looked_dead = before.tables.looked_dead;
+            carried_within = before.tables.carried_within;
+            carried_slots_dead = before.tables.carried_slots_dead;
             fits = let f = before.tables.fits in omega (arith, sum, limits, f);
           };
           counted = counted;
@@ -176,35 +176,35 @@ module _ {T : Type 0} (eq : T → T → Bool) (hash : T → ℕ) (newer older : 
           freed = before.freed;
         }
 
-    pub IsTables-older : (older1 : Columns T) → looked + p < length older.slots → slot_at older.slots (looked + p) ≡ Live v m → older1.slots ≡ slice_set older.slots (looked + p) s → IsReached hash older1
-        → ((x : T) (n : ℕ) → s ≡ Live x n → IsAbsent (eq v) newer.slots → IsAbsent (eq x) newer.slots) → IsCounted eq (entries_of newer.slots (drop looked older1.slots)) → IsTables eq hash newer older1 looked
+    pub IsTables-older : (older1 : Columns T) → carried_to + p < length older.slots → slot_at older.slots (carried_to + p) ≡ Live v m → older1.slots ≡ slice_set older.slots (carried_to + p) s → IsReached hash older1
+        → ((x : T) (n : ℕ) → s ≡ Live x n → IsAbsent (eq v) newer.slots → IsAbsent (eq x) newer.slots) → IsCounted eq (entries_of newer.slots (drop carried_to older1.slots)) → IsTables eq hash newer older1 carried_to
     IsTables-older older1 lt was now reached same counted =
-        let w = drop looked older.slots in
-        let len : length older1.slots ≡ length older.slots = ap length now ∙ length-set older.slots (looked + p) s in
-        let cut : drop looked older1.slots ≡ slice_set w p s = ap (drop looked) now ∙ drop-set-add looked older.slots p s in
-        let there : slot_at w p ≡ Live v m = get_or-drop looked older.slots p Empty ∙ was in
-        let within : p < length w = let l = length-drop looked older.slots in omega (arith, l, lt) in
-        let waits : length (drop looked older1.slots) ≡ length w = ap length cut ∙ length-set w p s in
+        let w = drop carried_to older.slots in
+        let len : length older1.slots ≡ length older.slots = ap length now ∙ length-set older.slots (carried_to + p) s in
+        let cut : drop carried_to older1.slots ≡ slice_set w p s = ap (drop carried_to) now ∙ drop-set-add carried_to older.slots p s in
+        let there : slot_at w p ≡ Live v m = get_or-drop carried_to older.slots p Empty ∙ was in
+        let within : p < length w = let l = length-drop carried_to older.slots in omega (arith, l, lt) in
+        let waits : length (drop carried_to older1.slots) ≡ length w = ap length cut ∙ length-set w p s in
         let a = count-set w p s within is_live in
         let was_live : one_if (is_live (slot_at w p)) ≡ 1 = ap (λ x. one_if (is_live x)) there in
-        let x : live_count (drop looked older1.slots) ≡ live_count (slice_set w p s) = ap live_count cut in
-        let fewer : live_count (drop looked older1.slots) ≤ live_count w = omega (arith, a, was_live, x, used) in
+        let x : live_count (drop carried_to older1.slots) ≡ live_count (slice_set w p s) = ap live_count cut in
+        let fewer : live_count (drop carried_to older1.slots) ≤ live_count w = omega (arith, a, was_live, x, used) in
         record {
           tables = record {
             newer_reached = before.tables.newer_reached;
             older_reached = reached;
             apart = λ q x n here.
-                elim (set_cases older.slots (looked + p) s lt q) [
-                  | inl at ↦ same x n (sym at.1 ∙ ap (λ ss. slot_at ss q) (sym now) ∙ here) (before.tables.apart (looked + p) v m was)
+                elim (set_cases older.slots (carried_to + p) s lt q) [
+                  | inl at ↦ same x n (sym at.1 ∙ ap (λ ss. slot_at ss q) (sym now) ∙ here) (before.tables.apart (carried_to + p) v m was)
                   | inr at ↦ before.tables.apart q x n (sym at.1 ∙ ap (λ ss. slot_at ss q) (sym now) ∙ here)
                 ];
             unmoved = before.tables.unmoved;
-            looked_within = let l = before.tables.looked_within in omega (arith, l, len);
-            looked_dead = λ q below.
+            carried_within = let l = before.tables.carried_within in omega (arith, l, len);
+            carried_slots_dead = λ q below.
                 ap (λ ss. is_live (slot_at ss q)) now
-                ∙ elim (set_cases older.slots (looked + p) s lt q) [
+                ∙ elim (set_cases older.slots (carried_to + p) s lt q) [
                   | inl at ↦ absurd (let e = at.0 in omega (arith, below, e))
-                  | inr at ↦ ap is_live at.1 ∙ before.tables.looked_dead q below
+                  | inr at ↦ ap is_live at.1 ∙ before.tables.carried_slots_dead q below
                 ];
             fits = let f = before.tables.fits in omega (arith, fewer, f);
           };
@@ -231,88 +231,88 @@ is_some None h = absurd (cc)
 is_some (Some x) h = (x, refl)
 
 -- a slot that is Live is given another count, or its value is taken
-module _ {T : Type 0} (eq : T → T → Bool) (laws : IsEquivalence eq) (hash : T → ℕ) (newer older : Columns T) (looked : ℕ) (before : IsTables eq hash newer older looked) (p : ℕ) where
+module _ {T : Type 0} (eq : T → T → Bool) (laws : IsEquivalence eq) (hash : T → ℕ) (newer older : Columns T) (carried_to : ℕ) (before : IsTables eq hash newer older carried_to) (p : ℕ) where
   module _ (k : ℕ) (pos : 0 < k) (newer1 : Columns T) (live : is_live (slot_at newer.slots p) ≡ true)
       (now : newer1.slots ≡ slice_set newer.slots p (recounted k (slot_at newer.slots p))) (reached : IsReached hash newer1) where
-    set_newer_swap : Swaps (entries_of newer.slots (drop looked older.slots)) (entries_of newer1.slots (drop looked older.slots)) ((live_is (slot_at newer.slots p) live).0, (live_is (slot_at newer.slots p) live).1) (((live_is (slot_at newer.slots p) live).0, k) ∷ [])
+    set_newer_swap : Swaps (entries_of newer.slots (drop carried_to older.slots)) (entries_of newer1.slots (drop carried_to older.slots)) ((live_is (slot_at newer.slots p) live).0, (live_is (slot_at newer.slots p) live).1) (((live_is (slot_at newer.slots p) live).0, k) ∷ [])
     set_newer_swap =
         let l = live_is (slot_at newer.slots p) live in
-        let w = drop looked older.slots in
+        let w = drop carried_to older.slots in
         subst (λ ss. Swaps (entries_of newer.slots w) (entries_of ss w) (l.0, l.1) ((l.0, k) ∷ [])) (sym (now ∙ ap (λ s. slice_set newer.slots p (recounted k s)) l.2))
         (swap_newer newer.slots w p l.0 l.1 l.0 k (within_table newer.slots p live) l.2)
 
-    pub set_newer_map : (e : T × ℕ) → slot_entry (slot_at newer.slots p) ≡ Some e → Swaps (entries_of newer.slots (drop looked older.slots)) (entries_of newer1.slots (drop looked older.slots)) e ((e.0, k) ∷ [])
+    pub set_newer_map : (e : T × ℕ) → slot_entry (slot_at newer.slots p) ≡ Some e → Swaps (entries_of newer.slots (drop carried_to older.slots)) (entries_of newer1.slots (drop carried_to older.slots)) e ((e.0, k) ∷ [])
     set_newer_map e h =
         let l = live_is (slot_at newer.slots p) live in
-        let w = drop looked older.slots in
+        let w = drop carried_to older.slots in
         let same : (l.0, l.1) ≡ e = some_same (l.0, l.1) e (sym (ap slot_entry l.2) ∙ h) in
         subst (λ (x : T × ℕ). Swaps (entries_of newer.slots w) (entries_of newer1.slots w) x ((x.0, k) ∷ [])) same set_newer_swap
 
-    pub set_newer_tables : IsTables eq hash newer1 older looked
+    pub set_newer_tables : IsTables eq hash newer1 older carried_to
     set_newer_tables =
         let l = live_is (slot_at newer.slots p) live in
-        IsTables-newer eq hash newer older looked before p l.0 l.1 (Live l.0 k) (λ test h. h) refl newer1 (within_table newer.slots p live) l.2
+        IsTables-newer eq hash newer older carried_to before p l.0 l.1 (Live l.0 k) (λ test h. h) refl newer1 (within_table newer.slots p live) l.2
         (now ∙ ap (λ s. slice_set newer.slots p (recounted k s)) l.2) reached
         (counted_swap eq laws _ _ l.0 l.1 k pos before.counted set_newer_swap)
 
   module _ (v : T) (m : ℕ) (newer1 : Columns T) (was : slot_at newer.slots p ≡ Live v m) (now : newer1.slots ≡ slice_set newer.slots p Removed) (reached : IsReached hash newer1) where
-    pub take_newer_map : Swaps (entries_of newer.slots (drop looked older.slots)) (entries_of newer1.slots (drop looked older.slots)) (v, m) []
+    pub take_newer_map : Swaps (entries_of newer.slots (drop carried_to older.slots)) (entries_of newer1.slots (drop carried_to older.slots)) (v, m) []
     take_newer_map =
-        let w = drop looked older.slots in
+        let w = drop carried_to older.slots in
         subst (λ ss. Swaps (entries_of newer.slots w) (entries_of ss w) (v, m) []) (sym now) (take_newer newer.slots w p v m (within_table newer.slots p (ap is_live was)) was)
 
-    pub take_newer_tables : IsTables eq hash newer1 older looked
+    pub take_newer_tables : IsTables eq hash newer1 older carried_to
     take_newer_tables =
-        IsTables-newer eq hash newer older looked before p v m Removed (λ test h. refl) refl newer1 (within_table newer.slots p (ap is_live was)) was now reached
+        IsTables-newer eq hash newer older carried_to before p v m Removed (λ test h. refl) refl newer1 (within_table newer.slots p (ap is_live was)) was now reached
         (counted_take eq laws _ _ (v, m) before.counted take_newer_map)
 
-  module _ (k : ℕ) (pos : 0 < k) (older1 : Columns T) (live : is_live (slot_at (drop looked older.slots) p) ≡ true)
-      (now : older1.slots ≡ slice_set older.slots (looked + p) (recounted k (slot_at older.slots (looked + p)))) (reached : IsReached hash older1) where
-    pub set_waiting_slots : drop looked older1.slots ≡ slice_set (drop looked older.slots) p (recounted k (slot_at (drop looked older.slots) p))
+  module _ (k : ℕ) (pos : 0 < k) (older1 : Columns T) (live : is_live (slot_at (drop carried_to older.slots) p) ≡ true)
+      (now : older1.slots ≡ slice_set older.slots (carried_to + p) (recounted k (slot_at older.slots (carried_to + p)))) (reached : IsReached hash older1) where
+    pub set_waiting_slots : drop carried_to older1.slots ≡ slice_set (drop carried_to older.slots) p (recounted k (slot_at (drop carried_to older.slots) p))
     set_waiting_slots =
-        ap (drop looked) now ∙ drop-set-add looked older.slots p (recounted k (slot_at older.slots (looked + p)))
-        ∙ ap (λ s. slice_set (drop looked older.slots) p (recounted k s)) (sym (get_or-drop looked older.slots p Empty))
+        ap (drop carried_to) now ∙ drop-set-add carried_to older.slots p (recounted k (slot_at older.slots (carried_to + p)))
+        ∙ ap (λ s. slice_set (drop carried_to older.slots) p (recounted k s)) (sym (get_or-drop carried_to older.slots p Empty))
 
-    set_waiting_swap : Swaps (entries_of newer.slots (drop looked older.slots)) (entries_of newer.slots (drop looked older1.slots)) ((live_is (slot_at (drop looked older.slots) p) live).0, (live_is (slot_at (drop looked older.slots) p) live).1) (((live_is (slot_at (drop looked older.slots) p) live).0, k) ∷ [])
+    set_waiting_swap : Swaps (entries_of newer.slots (drop carried_to older.slots)) (entries_of newer.slots (drop carried_to older1.slots)) ((live_is (slot_at (drop carried_to older.slots) p) live).0, (live_is (slot_at (drop carried_to older.slots) p) live).1) (((live_is (slot_at (drop carried_to older.slots) p) live).0, k) ∷ [])
     set_waiting_swap =
-        let w = drop looked older.slots in
+        let w = drop carried_to older.slots in
         let l = live_is (slot_at w p) live in
         subst (λ ss. Swaps (entries_of newer.slots w) (entries_of newer.slots ss) (l.0, l.1) ((l.0, k) ∷ [])) (sym (set_waiting_slots ∙ ap (λ s. slice_set w p (recounted k s)) l.2))
         (swap_waiting newer.slots w p l.0 l.1 l.0 k (within_table w p live) l.2)
 
-    pub set_waiting_map : (e : T × ℕ) → slot_entry (slot_at (drop looked older.slots) p) ≡ Some e → Swaps (entries_of newer.slots (drop looked older.slots)) (entries_of newer.slots (drop looked older1.slots)) e ((e.0, k) ∷ [])
+    pub set_waiting_map : (e : T × ℕ) → slot_entry (slot_at (drop carried_to older.slots) p) ≡ Some e → Swaps (entries_of newer.slots (drop carried_to older.slots)) (entries_of newer.slots (drop carried_to older1.slots)) e ((e.0, k) ∷ [])
     set_waiting_map e h =
-        let w = drop looked older.slots in
+        let w = drop carried_to older.slots in
         let l = live_is (slot_at w p) live in
         let same : (l.0, l.1) ≡ e = some_same (l.0, l.1) e (sym (ap slot_entry l.2) ∙ h) in
-        subst (λ (x : T × ℕ). Swaps (entries_of newer.slots w) (entries_of newer.slots (drop looked older1.slots)) x ((x.0, k) ∷ [])) same set_waiting_swap
+        subst (λ (x : T × ℕ). Swaps (entries_of newer.slots w) (entries_of newer.slots (drop carried_to older1.slots)) x ((x.0, k) ∷ [])) same set_waiting_swap
 
-    pub set_waiting_tables : IsTables eq hash newer older1 looked
+    pub set_waiting_tables : IsTables eq hash newer older1 carried_to
     set_waiting_tables =
-        let w = drop looked older.slots in
+        let w = drop carried_to older.slots in
         let l = live_is (slot_at w p) live in
-        let inside = within_table w p live in let d = length-drop looked older.slots in
-        let there : slot_at older.slots (looked + p) ≡ Live l.0 l.1 = sym (get_or-drop looked older.slots p Empty) ∙ l.2 in
-        IsTables-older eq hash newer older looked before p l.0 l.1 (Live l.0 k) (λ test h. h) refl older1 (omega (arith, inside, d)) there
-        (now ∙ ap (λ s. slice_set older.slots (looked + p) (recounted k s)) there) reached
+        let inside = within_table w p live in let d = length-drop carried_to older.slots in
+        let there : slot_at older.slots (carried_to + p) ≡ Live l.0 l.1 = sym (get_or-drop carried_to older.slots p Empty) ∙ l.2 in
+        IsTables-older eq hash newer older carried_to before p l.0 l.1 (Live l.0 k) (λ test h. h) refl older1 (omega (arith, inside, d)) there
+        (now ∙ ap (λ s. slice_set older.slots (carried_to + p) (recounted k s)) there) reached
         (λ x n e a. let z : l.0 ≡ x = cc in subst (λ y. IsAbsent (eq y) newer.slots) z a)
         (counted_swap eq laws _ _ l.0 l.1 k pos before.counted set_waiting_swap)
 
-  module _ (v : T) (m : ℕ) (older1 : Columns T) (was : slot_at older.slots (looked + p) ≡ Live v m) (now : older1.slots ≡ slice_set older.slots (looked + p) Removed) (reached : IsReached hash older1) where
-    pub take_waiting_slots : drop looked older1.slots ≡ slice_set (drop looked older.slots) p Removed
-    take_waiting_slots = ap (drop looked) now ∙ drop-set-add looked older.slots p Removed
+  module _ (v : T) (m : ℕ) (older1 : Columns T) (was : slot_at older.slots (carried_to + p) ≡ Live v m) (now : older1.slots ≡ slice_set older.slots (carried_to + p) Removed) (reached : IsReached hash older1) where
+    pub take_waiting_slots : drop carried_to older1.slots ≡ slice_set (drop carried_to older.slots) p Removed
+    take_waiting_slots = ap (drop carried_to) now ∙ drop-set-add carried_to older.slots p Removed
 
-    pub was_waiting : slot_at (drop looked older.slots) p ≡ Live v m
-    was_waiting = get_or-drop looked older.slots p Empty ∙ was
+    pub was_waiting : slot_at (drop carried_to older.slots) p ≡ Live v m
+    was_waiting = get_or-drop carried_to older.slots p Empty ∙ was
 
-    pub take_waiting_map : Swaps (entries_of newer.slots (drop looked older.slots)) (entries_of newer.slots (drop looked older1.slots)) (v, m) []
+    pub take_waiting_map : Swaps (entries_of newer.slots (drop carried_to older.slots)) (entries_of newer.slots (drop carried_to older1.slots)) (v, m) []
     take_waiting_map =
-        let w = drop looked older.slots in
+        let w = drop carried_to older.slots in
         subst (λ ss. Swaps (entries_of newer.slots w) (entries_of newer.slots ss) (v, m) []) (sym take_waiting_slots) (take_waiting newer.slots w p v m (within_table w p (ap is_live was_waiting)) was_waiting)
 
-    pub take_waiting_tables : IsTables eq hash newer older1 looked
+    pub take_waiting_tables : IsTables eq hash newer older1 carried_to
     take_waiting_tables =
-        IsTables-older eq hash newer older looked before p v m Removed (λ test h. refl) refl older1 (within_table older.slots (looked + p) (ap is_live was)) was now reached
+        IsTables-older eq hash newer older carried_to before p v m Removed (λ test h. refl) refl older1 (within_table older.slots (carried_to + p) (ap is_live was)) was now reached
         (λ x n e a. absurd (cc))
         (counted_take eq laws _ _ (v, m) before.counted take_waiting_map)
 
@@ -341,42 +341,42 @@ module _ {T : Type 0} (eq : T → T → Bool) (laws : IsEquivalence eq) (v x : T
     same Moved = refl
     same (Live y n) = sym (laws.congr v x y equal)
 
-  module _ (hash : T → ℕ) (newer older : Columns T) (looked : ℕ) (before : IsTables eq hash newer older looked) (p m : ℕ) where
+  module _ (hash : T → ℕ) (newer older : Columns T) (carried_to : ℕ) (before : IsTables eq hash newer older carried_to) (p m : ℕ) where
     module _ (newer1 : Columns T) (was : slot_at newer.slots p ≡ Live v m) (now : newer1.slots ≡ slice_set newer.slots p (Live x 1)) (reached : IsReached hash newer1) where
-      pub put_newer_map : Swaps (entries_of newer.slots (drop looked older.slots)) (entries_of newer1.slots (drop looked older.slots)) (v, m) ((x, 1) ∷ [])
+      pub put_newer_map : Swaps (entries_of newer.slots (drop carried_to older.slots)) (entries_of newer1.slots (drop carried_to older.slots)) (v, m) ((x, 1) ∷ [])
       put_newer_map =
-          let w = drop looked older.slots in
+          let w = drop carried_to older.slots in
           subst (λ ss. Swaps (entries_of newer.slots w) (entries_of ss w) (v, m) ((x, 1) ∷ [])) (sym now) (swap_newer newer.slots w p v m x 1 (within_table newer.slots p (ap is_live was)) was)
 
-      pub put_newer_at : (e : T × ℕ) → slot_entry (slot_at newer.slots p) ≡ Some e → Swaps (entries_of newer.slots (drop looked older.slots)) (entries_of newer1.slots (drop looked older.slots)) e ((x, 1) ∷ [])
+      pub put_newer_at : (e : T × ℕ) → slot_entry (slot_at newer.slots p) ≡ Some e → Swaps (entries_of newer.slots (drop carried_to older.slots)) (entries_of newer1.slots (drop carried_to older.slots)) e ((x, 1) ∷ [])
       put_newer_at e h =
-          let w = drop looked older.slots in
+          let w = drop carried_to older.slots in
           subst (λ (y : T × ℕ). Swaps (entries_of newer.slots w) (entries_of newer1.slots w) y ((x, 1) ∷ [])) (some_same (v, m) e (sym (ap slot_entry was) ∙ h)) put_newer_map
 
-      pub put_newer_tables : IsTables eq hash newer1 older looked
+      pub put_newer_tables : IsTables eq hash newer1 older carried_to
       put_newer_tables =
-          IsTables-newer eq hash newer older looked before p v m (Live x 1) quiet_put refl newer1 (within_table newer.slots p (ap is_live was)) was now reached
+          IsTables-newer eq hash newer older carried_to before p v m (Live x 1) quiet_put refl newer1 (within_table newer.slots p (ap is_live was)) was now reached
           (counted_put _ _ m before.counted put_newer_map)
 
-    module _ (older1 : Columns T) (was : slot_at older.slots (looked + p) ≡ Live v m) (now : older1.slots ≡ slice_set older.slots (looked + p) (Live x 1)) (reached : IsReached hash older1) where
-      pub put_waiting_slots : drop looked older1.slots ≡ slice_set (drop looked older.slots) p (Live x 1)
-      put_waiting_slots = ap (drop looked) now ∙ drop-set-add looked older.slots p (Live x 1)
+    module _ (older1 : Columns T) (was : slot_at older.slots (carried_to + p) ≡ Live v m) (now : older1.slots ≡ slice_set older.slots (carried_to + p) (Live x 1)) (reached : IsReached hash older1) where
+      pub put_waiting_slots : drop carried_to older1.slots ≡ slice_set (drop carried_to older.slots) p (Live x 1)
+      put_waiting_slots = ap (drop carried_to) now ∙ drop-set-add carried_to older.slots p (Live x 1)
 
-      put_was : slot_at (drop looked older.slots) p ≡ Live v m
-      put_was = get_or-drop looked older.slots p Empty ∙ was
+      put_was : slot_at (drop carried_to older.slots) p ≡ Live v m
+      put_was = get_or-drop carried_to older.slots p Empty ∙ was
 
-      pub put_waiting_map : Swaps (entries_of newer.slots (drop looked older.slots)) (entries_of newer.slots (drop looked older1.slots)) (v, m) ((x, 1) ∷ [])
+      pub put_waiting_map : Swaps (entries_of newer.slots (drop carried_to older.slots)) (entries_of newer.slots (drop carried_to older1.slots)) (v, m) ((x, 1) ∷ [])
       put_waiting_map =
-          let w = drop looked older.slots in
+          let w = drop carried_to older.slots in
           subst (λ ss. Swaps (entries_of newer.slots w) (entries_of newer.slots ss) (v, m) ((x, 1) ∷ [])) (sym put_waiting_slots) (swap_waiting newer.slots w p v m x 1 (within_table w p (ap is_live put_was)) put_was)
 
-      pub put_waiting_at : (e : T × ℕ) → slot_entry (slot_at (drop looked older.slots) p) ≡ Some e → Swaps (entries_of newer.slots (drop looked older.slots)) (entries_of newer.slots (drop looked older1.slots)) e ((x, 1) ∷ [])
+      pub put_waiting_at : (e : T × ℕ) → slot_entry (slot_at (drop carried_to older.slots) p) ≡ Some e → Swaps (entries_of newer.slots (drop carried_to older.slots)) (entries_of newer.slots (drop carried_to older1.slots)) e ((x, 1) ∷ [])
       put_waiting_at e h =
-          subst (λ (y : T × ℕ). Swaps (entries_of newer.slots (drop looked older.slots)) (entries_of newer.slots (drop looked older1.slots)) y ((x, 1) ∷ [])) (some_same (v, m) e (sym (ap slot_entry put_was) ∙ h)) put_waiting_map
+          subst (λ (y : T × ℕ). Swaps (entries_of newer.slots (drop carried_to older.slots)) (entries_of newer.slots (drop carried_to older1.slots)) y ((x, 1) ∷ [])) (some_same (v, m) e (sym (ap slot_entry put_was) ∙ h)) put_waiting_map
 
-      pub put_waiting_tables : IsTables eq hash newer older1 looked
+      pub put_waiting_tables : IsTables eq hash newer older1 carried_to
       put_waiting_tables =
-          IsTables-older eq hash newer older looked before p v m (Live x 1) quiet_put refl older1 (within_table older.slots (looked + p) (ap is_live was)) was now reached
+          IsTables-older eq hash newer older carried_to before p v m (Live x 1) quiet_put refl older1 (within_table older.slots (carried_to + p) (ap is_live was)) was now reached
           (λ y n e a. let z : x ≡ y = cc in subst (λ u. IsAbsent (eq u) newer.slots) z (absent_put newer.slots a))
           (counted_put _ _ m before.counted put_waiting_map)
 

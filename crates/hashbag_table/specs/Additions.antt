@@ -8,8 +8,9 @@ use Rattle.hashbag_table.specs.Table.{Table, IsMapOf, ChangesSlot}
 use Rattle.hashbag_table.specs.Tables.{room, Arrives, KeepsRoom}
 
 module _ {T S : Type 0} (eq : T → T → Bool) where
-  -- v arrived at the map `before`, or changed in it, and `after` is the map then: its entries are `now`. So: how many there are; the
-  -- slot of v, if v was present, is changed so; the slots, if v was absent; and how many slots and how much room there are
+  -- v was inserted into `before`, or its entry was changed, which left `after` with the entries `now`. If v was present, its slot was
+  -- changed by `change`. If v was absent, `new_set` says how many entries there are, and `arrives` what the slots are. `room` and
+  -- `same_room`: how many slots and how much room there are
   pub record Puts (v : T) (now : List (T × ℕ)) (change : Slot T → Slot T) (before after : Table T S) : Type 0 where
     pub map : IsMapOf eq before now after
     pub new_set : entry_of eq v before.entries ≡ None → length after.entries ≡ length before.entries + 1
@@ -26,7 +27,7 @@ module _ {T S : Type 0} (eq : T → T → Bool) where
   abbrev pub Stores : T → ℕ → Table T S → Table T S → Type 0
   Stores v n before after = Puts v (with_instance eq v n before.entries) (λ _. Live v n) before after
 
-  -- n of a value that a key names came
+  -- `Adds`, for n of some value that the key names
   abbrev pub AddsNamed : (T → Bool) → ℕ → Table T S → Table T S → Type 0
   AddsNamed names n before after = (v : T) × IsTrue (names v) × Adds v n before after
 

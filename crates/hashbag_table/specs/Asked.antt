@@ -1,4 +1,4 @@
--- Calls of a closure at the entries of a map, one after another, and what the returned numbers leave of it.
+-- Calls of a closure with the entries of a map, one after another, and what the returned numbers leave of it.
 use Rattle.std.specs.Prelude.{◌≡◌, ℕ, min, nat_lt, if◌then◌else◌, List, [], ◌∷◌, ◌++◌}
 use denote.Ref.{Bor}
 use denote.Param.Members.{Mut}
@@ -12,28 +12,28 @@ kept (e ∷ walk) [] = []
 kept (e ∷ walk) (a ∷ answers) = if nat_lt 0 (min a e.1) then (e.0, min a e.1) ∷ kept walk answers else kept walk answers
 
 module _ {F T : Type 0} (g : Mut F (Bor T × (ℕ × Unit {0})) ℕ) where
-  -- f may be called at a value and its count
+  -- f may be called with a value and its count
   abbrev pub MayAsk : F → T × ℕ → Type 0
   MayAsk f e = (value : Bor T) → value.now ≡ e.0 → Takes g f (value, (e.1, tt))
 
-  -- called at a value and its count, f may return a and be left as f'
+  -- called with a value and its count, f may return a and be left as f'
   pub record MayAnswer (f : F) (e : T × ℕ) (a : ℕ) (f' : F) : Type 0 where
     pub value : Bor T
     pub shows : value.now ≡ e.0
     pub called : Called g f (value, (e.1, tt)) a f'
 
-  -- called at each entry in turn, each time as the call before left it, f may return these numbers and be left as f'
+  -- called with each entry in turn, each time as the call before left it, f may return these numbers and be left as f'
   abbrev pub AnswersInTurn : F → List (T × ℕ) → List ℕ → F → Type 0
   AnswersInTurn f [] [] f' = f ≡ f'
   AnswersInTurn f [] (a ∷ answers) f' = ⊥
   AnswersInTurn f (e ∷ walk) [] f' = ⊥
   AnswersInTurn f (e ∷ walk) (a ∷ answers) f' = (next : F) × MayAnswer f e a next × AnswersInTurn next walk answers f'
 
-  -- f may be called at each entry in turn, whatever it returned before
+  -- f may be called with each entry in turn, whatever it returned before
   pub record MayAskInTurn (f : F) (walk : List (T × ℕ)) : Type 0 where
     pub at : (before after : List (T × ℕ)) (e : T × ℕ) (answers : List ℕ) (f' : F) → walk ≡ before ++ e ∷ after → AnswersInTurn f before answers f' → MayAsk f' e
 
-  -- f was called at each entry of a map once, in some order, and the map has what the returned numbers left
+  -- f was called with each entry of a map once, in some order, and the map has what the returned numbers left
   pub record Retains (f : F) (es left : List (T × ℕ)) : Type 0 where
     pub walk : List (T × ℕ)
     pub order : IsPermutation es walk

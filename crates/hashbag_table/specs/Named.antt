@@ -1,4 +1,4 @@
--- What a key names in a map. `names` is a test, which the values that the key names pass: one value's equals.
+-- What a key names in a map. `names` is a test: a value passes it if the key names it. All values that pass are equal.
 use Rattle.std.specs.Prelude.{ℕ, Bool, List, Option, unwrap_or}
 use Rattle.std.specs.Map.{lookup, lookup_entry}
 

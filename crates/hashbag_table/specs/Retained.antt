@@ -32,21 +32,22 @@ module _ {T : Type 0} where
     pub built : new.built ≡ old.built
 
 module _ {F T : Type 0} (g : Mut F (Bor T × (ℕ × Unit {0})) ℕ) where
-  -- f, called at the slot s if that is Live, may leave the slot t and be left as f'
+  -- f, called with the entry of the slot s if that is Live, may leave the slot t and be left as f'
   abbrev pub LeavesSlot : F → Slot T → Slot T → F → Type 0
   LeavesSlot f Empty t f' = (t ≡ Empty) × (f ≡ f')
   LeavesSlot f Removed t f' = (t ≡ Removed) × (f ≡ f')
   LeavesSlot f Moved t f' = (t ≡ Moved) × (f ≡ f')
   LeavesSlot f (Live v n) t f' = (a : ℕ) × MayAnswer g f (v, n) a f' × (t ≡ slot_left v n a)
 
-  -- f, called at each Live slot in turn, each time as the call before left it, may leave these slots and be left as f'
+  -- f, called with the entry of each Live slot in turn, each time as the call before left it, may leave these slots and be left as f'
   abbrev pub LeavesSlots : F → List (Slot T) → List (Slot T) → F → Type 0
   LeavesSlots f [] [] f' = f ≡ f'
   LeavesSlots f [] (t ∷ ts) f' = ⊥
   LeavesSlots f (s ∷ ss) [] f' = ⊥
   LeavesSlots f (s ∷ ss) (t ∷ ts) f' = (next : F) × LeavesSlot f s t next × LeavesSlots next ss ts f'
 
-  -- f was called at each Live slot from the place `from` on, in the order of places, and left these; those before are as they were
+  -- f was called with the entry of each Live slot from the place `from` on, in the order of places, and left these; those before are as
+  -- they were
   pub record RetainsFrom (from : ℕ) (f : F) (old new : List (Slot T)) (f' : F) : Type 0 where
     pub same_length : length new ≡ length old
     pub before : (p : ℕ) → p < from → slot_at new p ≡ slot_at old p

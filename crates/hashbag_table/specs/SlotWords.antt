@@ -1,4 +1,4 @@
--- Names of slots and spots, and `MOST_VALUES`, for clauses of the crates above. One that needs a single name imports it from here.
+-- Names of slots and spots, and `MOST_VALUES`, to import from one file. `hashbag` re-exports them for the clauses of its callers.
 pub use Rattle.hashbag_slots.specs.declared.slots.Slot.{Slot}
 pub use Rattle.hashbag_slots.specs.declared.slots.Slot.TheVariants.{Empty, Removed, Moved, Live}
 pub use Rattle.hashbag_table.specs.declared.table.Spot.{Spot}

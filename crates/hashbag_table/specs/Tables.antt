@@ -32,8 +32,8 @@ pub record IsLeast (n k m : ℕ) : Type 0 where
   pub enough : k ≤ limit m
   pub least : (other : ℕ) → IsSlotCount other → n ≤ other → k ≤ limit other → m ≤ other
 
--- m slots are enough after n slots with s values: there is room, insertions carry all, 16 slots each, before the room is
--- used up, and the former table is no larger
+-- a table of m slots may follow one of n slots with s values: there is room, insertions carry all, 16 slots each, before the room is used
+-- up, and the former table is no larger
 pub record Roomy (n s m : ℕ) : Type 0 where
   pub some : s < limit m
   pub carries : n ≤ 16 * (limit m - s)
@@ -59,25 +59,25 @@ module _ {T : Type 0} where
   abbrev pub entries_of : List (Slot T) → List (Slot T) → List (T × ℕ)
   entries_of newer waiting = entries newer ++ entries waiting
 
-  -- two tables, of whose older one `looked` slots were carried: values are found in both, none is Live in both, none was
+  -- two tables, of whose older one `carried_to` slots were carried: values are found in both, none is Live in both, none was
   -- carried out of the newer one, what was carried is not Live, and all is within the limit
-  pub record AreTables (eq : T → T → Bool) (hash : T → ℕ) (newer older : Columns T) (looked : ℕ) : Type 0 where
+  pub record AreTables (eq : T → T → Bool) (hash : T → ℕ) (newer older : Columns T) (carried_to : ℕ) : Type 0 where
     pub newer_reached : IsReached hash newer
     pub older_reached : IsReached hash older
     pub apart : AreApart eq older.slots newer.slots
     pub unmoved : NoneMoved newer.slots
-    pub looked_within : looked ≤ length older.slots
-    pub looked_dead : (p : ℕ) → p < looked → is_live (slot_at older.slots p) ≡ false
-    pub fits : live_count newer.slots + removed_count newer.slots + live_count (drop looked older.slots) ≤ limit (length newer.slots)
+    pub carried_within : carried_to ≤ length older.slots
+    pub carried_slots_dead : (p : ℕ) → p < carried_to → is_live (slot_at older.slots p) ≡ false
+    pub fits : live_count newer.slots + removed_count newer.slots + live_count (drop carried_to older.slots) ≤ limit (length newer.slots)
 
   -- what holds between two calls: what waits is at most 16 times the room, and at least 16 fewer than the newer slots; and if
   -- nothing waits, the older table has no slots
-  pub record IsTables (eq : T → T → Bool) (hash : T → ℕ) (newer older : Columns T) (looked : ℕ) : Type 0 where
-    pub tables : AreTables eq hash newer older looked
-    pub counted : IsCounted eq (entries_of newer.slots (drop looked older.slots))
-    pub carries : length (drop looked older.slots) ≤ 16 * room_of newer.slots (drop looked older.slots)
-    pub smaller : (drop looked older.slots ≡ []) ⊎ (16 + length (drop looked older.slots) ≤ length newer.slots)
-    pub freed : length older.slots ≤ looked → length older.slots ≡ 0
+  pub record IsTables (eq : T → T → Bool) (hash : T → ℕ) (newer older : Columns T) (carried_to : ℕ) : Type 0 where
+    pub tables : AreTables eq hash newer older carried_to
+    pub counted : IsCounted eq (entries_of newer.slots (drop carried_to older.slots))
+    pub carries : length (drop carried_to older.slots) ≤ 16 * room_of newer.slots (drop carried_to older.slots)
+    pub smaller : (drop carried_to older.slots ≡ []) ⊎ (16 + length (drop carried_to older.slots) ≤ length newer.slots)
+    pub freed : length older.slots ≤ carried_to → length older.slots ≡ 0
 
   -- a table may take the place of these newer slots, `many` of which are carried at once: values are found in it, all are
   -- within its limit, and those that wait are few enough for its room
@@ -122,7 +122,7 @@ module _ {T : Type 0} where
   abbrev pub fresh : Tables T → List (Slot T)
   fresh t = replicate (grown_slots (length t.newer) (values t)) Empty
 
-  -- if there was room, no table was built; else the one that is the newer now was
+  -- if there was room, no table was built; else one was built, and it is the newer one now
   pub record Builds (old new : Tables T) : Type 0 where
     pub with_room : 0 < room old → new.built ≡ old.built
     pub grown : room old ≡ 0 → new.built ≡ old.built + length new.newer
@@ -135,10 +135,10 @@ module _ {T : Type 0} where
     pub carries : length new.waiting ≤ 16 * (room new - 1)
     pub built : Builds old new
 
-  -- What an inserted absent value leaves. If there was room: the same newer slots but for at most 17, which became Live; what waited,
-  -- without its first 16; room at most 1 lower; and no table built. If there was none: a new table of `grown_slots`, Empty but for at most
-  -- 17 slots, which became Live, and counted as built. The former newer table waits, without its first 16 slots. Room is the limit of the
-  -- new table less all values.
+  -- What an inserted absent value leaves. If there was room: at most 17 newer slots became Live, and the others are the same; the first 16
+  -- waiting slots wait no more; room is at most 1 lower; no table was built. If there was none: a new table of `grown_slots` was built, of
+  -- which at most 17 slots became Live, and the others are Empty. The former newer table waits, without its first 16 slots. Room is the
+  -- limit of the new table less all values.
   pub record Arrives (old new : Tables T) : Type 0 where
     pub with_room : 0 < room old → Settles 17 old.newer old.waiting new
     pub grown : room old ≡ 0 → Settles 17 (fresh old) old.newer new
@@ -161,8 +161,8 @@ module _ {T : Type 0} where
     pub packed : IsPacked new
     pub built : new.built ≡ old.built + length new.newer
 
-  -- room for n more than k values: there was room and the tables stay, or there wasn't and the least table that has it took
-  -- their place
+  -- room for n values more than the k present ones: there was that room, and the tables stay; or there wasn't, and the least table that has
+  -- it took their place
   abbrev pub ReservesOrStays : ℕ → ℕ → Tables T → Tables T → Type 0
   ReservesOrStays n k old new = ((n ≤ room old) × (new ≡ old)) ⊎ ((room old < n) × Packs (length old.newer) (k + n) old new)
 

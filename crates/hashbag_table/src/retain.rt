@@ -8,7 +8,7 @@ ghost use Rattle.hashbag_table.specs.Retained.{LeavesSlot, RetainsFrom};
 
 use hashbag_slots::slots::Slots;
 
-// Calls `f` once for the value at a place, whose slot is Live, and returns the count that is left, as [`retain_slots`].
+// Calls `f` once for the value at a place, whose slot must be Live, and returns the count that is left, as [`retain_slots`].
 #[inline(always)]
 fn retain_at<T: Eq + Drop, F: FnMut(&T, usize) -> usize>(
     slots: &mut Slots<T>,
@@ -39,8 +39,8 @@ fn retain_at<T: Eq + Drop, F: FnMut(&T, usize) -> usize>(
 ///
 /// # Complexity
 ///
-/// It hashes nothing and doesn't allocate. It reads sixteen tags at once, and ends after as many values as the table has. If no slot before
-/// `from` is Live, that is at the last Live one. In a table without values it reads no tag.
+/// It hashes nothing and doesn't allocate. It reads sixteen tags at once. If no slot before `from` is Live, it stops after the last Live
+/// slot, since it knows how many there are. In a table without values it reads no tag.
 pub fn retain_slots<T: Eq + Drop, F: FnMut(&T, usize) -> usize>(
     slots: &mut Slots<T>,
     from: usize,

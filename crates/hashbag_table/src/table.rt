@@ -60,13 +60,13 @@ pub struct Table<T: Eq + Hash + Drop, S: BuildHasher + Drop> {
     // The former table. It has no slots if none waits.
     older: Slots<T>,
     // The number of slots of the older table that were carried: its first ones.
-    looked: usize,
+    carried_to: usize,
     hasher: S,
     // The allocator of the table and of its copies.
     alloc: Global,
     // How many slots were ever built: those of all tables that were the newer one. For contracts only.
     built: Built,
-    // A drain borrows this empty field, so the table stays borrowed while it lives.
+    // A drain borrows this empty field: while the drain lives, the table is borrowed.
     lent: [usize; 0],
 }
 
@@ -78,16 +78,16 @@ impl<T: Eq + Hash + Drop, S: BuildHasher + Drop> Model for Table<T, S> {
 
     ghost Value = { Entries T S };
 
-    ghost view = { λ t. record { entries = entries_of t.newer.slots (drop t.looked t.older.slots); hasher = t.hasher; tables = record { newer = t.newer.slots; waiting = drop t.looked t.older.slots; older = length t.older.slots; built = t.built } } };
+    ghost view = { λ t. record { entries = entries_of t.newer.slots (drop t.carried_to t.older.slots); hasher = t.hasher; tables = record { newer = t.newer.slots; waiting = drop t.carried_to t.older.slots; older = length t.older.slots; built = t.built } } };
 
-    ghost invariant = { λ t. IsTables T.eq (hash_under T.hash_input S.BuildHasher S.Hasher.Hasher t.hasher) t.newer t.older t.looked };
+    ghost invariant = { λ t. IsTables T.eq (hash_under T.hash_input S.BuildHasher S.Hasher.Hasher t.hasher) t.newer t.older t.carried_to };
 }
 
 impl<T: Eq + Hash + Drop, S: BuildHasher + Drop> Table<T, S> {
     ghost use Rattle.std.specs.Prelude.{◌≢◌, IfErr};
     ghost use Rattle.hashbag_table.specs.DrainWalk.{drain_rest, drain_name, follows_drain};
 
-    /// Returns the number of slots of the newer table. Those that aren't Empty are its Live and its Removed ones.
+    /// Returns the number of slots of the newer table. None of them is Moved.
     pub fn slots(&self) -> usize
         ensures slots { result ≡ length self.now.tables.newer }
         ensures count { IsSlotCount result }
@@ -100,13 +100,14 @@ impl<T: Eq + Hash + Drop, S: BuildHasher + Drop> Table<T, S> {
         self.newer.slots()
     }
 
-    /// Does nothing at run time. It gives a proof its contract: the entries are the Live slots of both tables, and they are a map.
+    /// Only for proofs: by its contract the entries are the Live slots of both tables, and they are a map. It does nothing at run time.
     #[inline(always)]
     pub fn held(&self)
         ensures held { self.now.entries ≡ entries_of self.now.tables.newer self.now.tables.waiting }
         ensures counted { IsCounted T.eq self.now.entries }
     {
-        let _looked = self.looked;
+        // By the use of a field the proof learns the table's invariant.
+        let _carried_to = self.carried_to;
     }
 
     /// Returns the number of slots that wait to be carried. If it is 0, the older table has no slots: its memory is freed.
@@ -116,7 +117,7 @@ impl<T: Eq + Hash + Drop, S: BuildHasher + Drop> Table<T, S> {
         ensures smaller { 0 < result → result + 16 ≤ length self.now.tables.newer }
         ensures freed { result ≡ 0 → self.now.tables.older ≡ 0 }
     {
-        self.older.slots() - self.looked
+        self.older.slots() - self.carried_to
     }
 
     /// Returns how many absent values can be inserted before the table grows.
@@ -131,7 +132,7 @@ impl<T: Eq + Hash + Drop, S: BuildHasher + Drop> Table<T, S> {
         ensures len { result ≡ length self.now.entries }
         ensures counted { IsCounted T.eq self.now.entries }
     {
-        // Does nothing at run time. It gives the proof the contract of `slots`: how many there can be.
+        // Only for the proof: it uses the clauses `value` and `bound` of `slots`.
         let _slots = self.newer.slots();
         self.newer.live() + self.older.live()
     }
@@ -147,7 +148,7 @@ impl<T: Eq + Hash + Drop, S: BuildHasher + Drop> Table<T, S> {
     pub fn capacity(&self) -> usize
         ensures { result ≡ length self.now.entries + room self.now.tables }
     {
-        // Does nothing at run time. It gives the proof the contract of `slots`.
+        // Only for the proof: it uses the clauses `value` and `bound` of `slots`.
         let _slots = self.newer.slots();
         self.set_len() + self.room()
     }
@@ -162,14 +163,14 @@ impl<T: Eq + Hash + Drop, S: BuildHasher + Drop> Table<T, S> {
         self.older.slots() == 0 && self.room() > 0
     }
 
-    // Places an absent value in the first slot on its path that is not Live, after a carry or a growth if one was needed. It doesn't
-    // allocate.
+    // Places an absent value at `place`, the first slot on its path that isn't Live. The caller has carried or grown before, if that was
+    // needed. It doesn't allocate.
     #[inline(never)]
     fn place_absent(&mut self, place: usize, hash: u64, value: T, count: usize)
         requires hashed { hash ≡ hash_under T.hash_input S.BuildHasher S.Hasher.Hasher self.old.hasher value }
         requires free { IsFirstFree hash self.old.tables.newer place }
         requires absent { entry_of T.eq value self.old.entries ≡ None }
-        requires some { 0 < count }
+        requires positive { 0 < count }
         requires room { 0 < room self.old.tables }
         requires carries { length self.old.tables.waiting ≤ 16 * (room self.old.tables - 1) }
         ensures placed { Places value count self.old.tables.newer self.new.tables.newer }
@@ -191,7 +192,7 @@ impl<T: Eq + Hash + Drop, S: BuildHasher + Drop> Table<T, S> {
     /// It hashes the value once, and each value that it carries. It allocates only without room.
     pub fn insert_new(&mut self, value: T, count: usize) -> Result<(), AllocError>
         requires absent { entry_of T.eq value self.old.entries ≡ None }
-        requires some { 0 < count }
+        requires positive { 0 < count }
         ensures stored { OnOk result (Stores T.eq value count self.old self.new) }
         ensures counted { IsCounted T.eq self.new.entries }
         ensures fails { FailsIfFull T.eq value self.old self.new result }
@@ -204,7 +205,7 @@ impl<T: Eq + Hash + Drop, S: BuildHasher + Drop> Table<T, S> {
     fn insert_hashed(&mut self, hash: u64, value: T, count: usize) -> Result<(), AllocError>
         requires hashed { hash ≡ hash_under T.hash_input S.BuildHasher S.Hasher.Hasher self.old.hasher value }
         requires absent { entry_of T.eq value self.old.entries ≡ None }
-        requires some { 0 < count }
+        requires positive { 0 < count }
         ensures stored { OnOk result (Stores T.eq value count self.old self.new) }
         ensures counted { IsCounted T.eq self.new.entries }
         ensures fails { FailsIfFull T.eq value self.old self.new result }
@@ -219,7 +220,7 @@ impl<T: Eq + Hash + Drop, S: BuildHasher + Drop> Table<T, S> {
     /// Sets the count of a present value. It hashes the value once and doesn't allocate.
     pub fn set_count(&mut self, value: &T, n: usize)
         requires present { IsSome (entry_of T.eq value.now self.old.entries) }
-        requires some { 0 < n }
+        requires positive { 0 < n }
         ensures set { IsMapOf T.eq self.old (with_count T.eq value.now n self.old.entries) self.new }
         ensures slot { Rewrites (T.eq value.now) (recounted n) self.old.tables self.new.tables }
         ensures room { KeepsRoom 0 self.old.tables self.new.tables }
@@ -281,8 +282,8 @@ impl<T: Eq + Hash + Drop, S: BuildHasher + Drop> Table<T, S> {
         0
     }
 
-    /// Removes one occurrence of the value that a key names. Returns the value itself in `Ok` if it was the last one, and else in `Err` the
-    /// count before, 0 if the value is absent.
+    /// Removes one occurrence of the value that a key names. If it was the last one, returns the stored instance in `Ok`. Else it returns
+    /// the count before in `Err`, which is no failure; 0 means that the value is absent.
     ///
     /// # Complexity
     ///
@@ -309,7 +310,8 @@ impl<T: Eq + Hash + Drop, S: BuildHasher + Drop> Table<T, S> {
         Err(0)
     }
 
-    // The slow path of `add`, of a value that the first group of its path didn't show. It is out of line, so that the fast path is short.
+    // The slow path of `add`: the value isn't in the first group of its path in the newer table. `first` says whether that group proves it
+    // absent there. The function is out of line, so that the fast path is short.
     #[inline(never)]
     fn add_slow(
         &mut self,
@@ -320,7 +322,7 @@ impl<T: Eq + Hash + Drop, S: BuildHasher + Drop> Table<T, S> {
     ) -> Result<usize, AllocError>
         requires hashed { hash ≡ hash_under T.hash_input S.BuildHasher S.Hasher.Hasher self.old.hasher value }
         requires shown { IfAbsent first (λ _. IsAbsent (T.eq value) self.old.tables.newer) }
-        requires some { 0 < n }
+        requires positive { 0 < n }
         requires fits { count_of T.eq value self.old.entries + n < 2 ^ 64 }
         ensures before { IfOk result (λ before. before ≡ count_of T.eq value self.old.entries) }
         ensures added { OnOk result (Adds T.eq value n self.old self.new) }
@@ -349,7 +351,7 @@ impl<T: Eq + Hash + Drop, S: BuildHasher + Drop> Table<T, S> {
     /// It hashes the value once, and each value that it carries.
     #[inline(always)]
     pub fn add(&mut self, value: T, n: usize) -> Result<usize, AllocError>
-        requires some { 0 < n }
+        requires positive { 0 < n }
         requires fits { count_of T.eq value self.old.entries + n < 2 ^ 64 }
         ensures before { IfOk result (λ before. before ≡ count_of T.eq value self.old.entries) }
         ensures added { OnOk result (Adds T.eq value n self.old self.new) }
@@ -414,7 +416,7 @@ impl<T: Eq + Hash + Drop, S: BuildHasher + Drop> Table<T, S> {
     {
         clear_slots(&mut self.newer);
         let _freed = mem::replace(&mut self.older, no_slots(self.alloc));
-        self.looked = 0;
+        self.carried_to = 0;
     }
 
     /// Calls `f` once for each value, with its count, in no particular order, and returns the total of the counts that are left. The value
@@ -437,7 +439,7 @@ impl<T: Eq + Hash + Drop, S: BuildHasher + Drop> Table<T, S> {
         ensures room { KeepsRoom 0 self.old.tables self.new.tables }
     {
         let newer = retain_slots(&mut self.newer, 0, &mut f);
-        let waiting = retain_slots(&mut self.older, self.looked, &mut f);
+        let waiting = retain_slots(&mut self.older, self.carried_to, &mut f);
         newer + waiting
     }
 
@@ -459,7 +461,7 @@ impl<T: Eq + Hash + Drop, S: BuildHasher + Drop> Table<T, S> {
         let Table {
             newer,
             older,
-            looked: _,
+            carried_to: _,
             hasher: _,
             alloc: _,
             built: _,
@@ -474,14 +476,14 @@ impl<T: Eq + Hash + Drop, S: BuildHasher + Drop> Table<T, S> {
     /// walk.
     pub fn drain(&mut self) -> DrainWalk<'_, T>
         // Once the loan is over, the table is empty.
-        ensures* writes_back { sem 𝓛 (follows_drain T.row S.row S.Hasher.row T.Hash S.BuildHasher S.Hasher.Hasher self.entry (drain_name result)) }
+        ensures* ends_empty { sem 𝓛 (follows_drain T.row S.row S.Hasher.row T.Hash S.BuildHasher S.Hasher.Hasher self.entry (drain_name result)) }
         ensures entries { IsPermutation self.old.entries (drain_rest result) }
         ensures counted { IsCounted T.eq self.old.entries }
         ensures fits { length (drain_rest result) < 2 ^ 63 }
     {
         let newer = mem::replace(&mut self.newer, no_slots(self.alloc));
         let older = mem::replace(&mut self.older, no_slots(self.alloc));
-        self.looked = 0;
+        self.carried_to = 0;
         DrainWalk {
             taken: newer.into_walk(older),
             table: &mut self.lent,

@@ -14,7 +14,7 @@ use std::iter::ExactSizeIterator;
 /// Contracts see the list of the entries that are left as `drain_rest`.
 pub struct DrainWalk<'a, T> {
     pub(crate) taken: IntoWalk<T>,
-    // What it borrows of the table, which is nothing. So the table can't be used before the walk is over.
+    // The borrow of the table's empty field `lent`. While it lasts, the table can't be used.
     pub(crate) table: &'a mut [usize; 0],
 }
 

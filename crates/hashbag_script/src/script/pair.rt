@@ -64,7 +64,7 @@ pub fn run_pair<T: Eq + Hash + Drop, S: BuildHasher + Drop, S2: BuildHasher + Dr
     ensures first_bounded { IsBoundedRun T.eq (ran a.old a.new steps_a.items replies_a.old.items replies_a.new.items) }
     ensures second_bounded { IsBoundedRun T.eq (ran b.old b.new steps_b.items replies_b.old.items replies_b.new.items) }
 {
-    // Does nothing at run time. It gives the proof the contract of `waiting`: an older table is smaller.
+    // Only for the proof: it uses the clauses `waiting` and `smaller` of `waiting`.
     let _waiting_a = a.waiting();
     let _waiting_b = b.waiting();
     replies_a.reserve(steps_a.len())?;

@@ -32,7 +32,7 @@ impl<T: Eq> Slots<T> {
 }
 
 impl<T: Eq + Hash> Slots<T> {
-    // Carries what is in one slot of the older table: a Live value is placed here, and becomes Moved there.
+    // Carries what is in one slot of the older table: a Live value is placed here, and its slot there becomes Moved.
     #[inline(always)]
     fn carry_slot<S: BuildHasher>(&mut self, state: &S, older: &mut Slots<T>, at: usize)
         requires within { at < length older.old.slots }
@@ -57,7 +57,7 @@ impl<T: Eq + Hash> Slots<T> {
         requires reached { IsReached (hash_under T.hash_input S.BuildHasher S.Hasher.Hasher state.now) self.old }
         ensures { CarriesInto T.eq (hash_under T.hash_input S.BuildHasher S.Hasher.Hasher state.now) from 16 self.old older.old self.new older.new }
     {
-        // Does nothing at run time. It gives the proof the contract of `slots`: how many there can be.
+        // Only for the proof: it uses the clauses `value` and `bound` of `slots`.
         let _slots = older.slots();
         let mut ahead = older.live_among(from);
         'marks: while ahead != 0 {
@@ -68,8 +68,8 @@ impl<T: Eq + Hash> Slots<T> {
     }
 
     /// Carries `many` slots of an older table, from the place `from` on: each Live value is placed here as by `place`, with its count, and
-    /// its slot there becomes Moved. All other slots of both tables stay as they are. No value is Live in both tables, and all of them fit
-    /// here.
+    /// its slot there becomes Moved. All other slots of both tables stay as they are. No value may be Live in both tables, and all of them
+    /// must fit here.
     ///
     /// # Complexity
     ///
@@ -87,7 +87,7 @@ impl<T: Eq + Hash> Slots<T> {
         requires reached { IsReached (hash_under T.hash_input S.BuildHasher S.Hasher.Hasher state.now) self.old }
         ensures { CarriesInto T.eq (hash_under T.hash_input S.BuildHasher S.Hasher.Hasher state.now) from many self.old older.old self.new older.new }
     {
-        // Does nothing at run time. It gives the proof the contract of `slots`: how many there can be, and that no value is in two of them.
+        // Only for the proof: it uses the clauses `value` and `bound` of `slots`.
         let _slots = older.slots();
         let end = from + many;
         let mut at = from;

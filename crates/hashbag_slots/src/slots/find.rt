@@ -24,7 +24,7 @@ impl<T: Eq + Hash> Slots<T> {
         ensures found { IfSome result (HoldsAt (Q.names key) self.now.slots) }
         ensures absent { IfNone result (IsAbsent (Q.names key) self.now.slots) }
 
-        // So it is the entry that the map has for the key.
+        // The entry at the returned place, `None` without one, is that of the key among all entries.
         ensures map { entry_at self.now.slots result ≡ lookup_entry (Q.names key) (entries self.now.slots) }
     {
         let hash = hash_of(state, key);

@@ -27,7 +27,7 @@ impl<T: Eq + Hash + Drop, S: BuildHasher + Drop> Table<T, S> {
     ) -> Result<usize, AllocError>
         requires hashed { hash ≡ hash_under Q.hash_input S.BuildHasher S.Hasher.Hasher self.old.hasher key }
         requires shown { IfAbsent first (λ _. IsAbsent (Q.names key) self.old.tables.newer) }
-        requires some { 0 < n }
+        requires positive { 0 < n }
         requires fits { named_count (Q.names key) self.old.entries + n < 2 ^ 64 }
         ensures before { IfOk result (λ before. before ≡ named_count (Q.names key) self.old.entries) }
         ensures added { OnOk result (AddsNamed T.eq (Q.names key) n self.old self.new) }
@@ -57,7 +57,7 @@ impl<T: Eq + Hash + Drop, S: BuildHasher + Drop> Table<T, S> {
     /// It hashes the key once, and each value that it carries. A present value allocates nothing.
     #[inline(always)]
     pub fn add_key<Q: ToValue<T>>(&mut self, key: Q, n: usize) -> Result<usize, AllocError>
-        requires some { 0 < n }
+        requires positive { 0 < n }
         requires fits { named_count (Q.names key) self.old.entries + n < 2 ^ 64 }
         ensures before { IfOk result (λ before. before ≡ named_count (Q.names key) self.old.entries) }
         ensures added { OnOk result (AddsNamed T.eq (Q.names key) n self.old self.new) }

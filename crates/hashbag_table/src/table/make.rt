@@ -28,7 +28,7 @@ impl<T: Eq + Hash + Drop, S: BuildHasher + Drop> Table<T, S> {
         Table {
             newer,
             older,
-            looked: 0,
+            carried_to: 0,
             hasher,
             alloc,
             built: Built::first(0),
@@ -59,7 +59,7 @@ impl<T: Eq + Hash + Drop, S: BuildHasher + Drop> Table<T, S> {
         Ok(Table {
             newer,
             older,
-            looked: 0,
+            carried_to: 0,
             hasher,
             alloc,
             built: Built::first(count),

@@ -25,29 +25,29 @@ const CARRIED_AT_ONCE: usize = 16;
 fn carry_next<T: Eq + Hash + Drop, S: BuildHasher>(
     newer: &mut Slots<T>,
     older: &mut Slots<T>,
-    looked: usize,
+    carried_to: usize,
     most: usize,
     hasher: &S,
     alloc: Global,
 ) -> usize
-    requires tables { AreTables T.eq (hash_under T.hash_input S.BuildHasher S.Hasher.Hasher hasher.now) newer.old older.old looked }
+    requires tables { AreTables T.eq (hash_under T.hash_input S.BuildHasher S.Hasher.Hasher hasher.now) newer.old older.old carried_to }
     ensures tables { AreTables T.eq (hash_under T.hash_input S.BuildHasher S.Hasher.Hasher hasher.now) newer.new older.new result }
-    ensures carried { Carried most newer.old.slots (drop looked older.old.slots) newer.new.slots (drop result older.new.slots) }
+    ensures carried { Carried most newer.old.slots (drop carried_to older.old.slots) newer.new.slots (drop result older.new.slots) }
     ensures freed { length older.new.slots ≤ result → length older.new.slots ≡ 0 }
 {
     let count = older.slots();
     if count == 0 {
         return 0;
     }
-    // Does nothing at run time. It gives the proof the contract of `slots`: how many there can be, and that no value is in two of them.
+    // Only for the proof: it uses the contract of `slots`.
     let _slots = newer.slots();
-    let many = (count - looked).min(most);
-    newer.carry_from(hasher, older, looked, many);
-    if looked + many == count {
+    let many = (count - carried_to).min(most);
+    newer.carry_from(hasher, older, carried_to, many);
+    if carried_to + many == count {
         let _freed = mem::replace(older, no_slots(alloc));
         return 0;
     }
-    looked + many
+    carried_to + many
 }
 
 impl<T: Eq + Hash + Drop, S: BuildHasher + Drop> Table<T, S> {
@@ -62,10 +62,10 @@ impl<T: Eq + Hash + Drop, S: BuildHasher + Drop> Table<T, S> {
         ensures entries { IsPermutation self.old.entries self.new.entries }
         ensures hasher { self.new.hasher ≡ self.old.hasher }
     {
-        self.looked = carry_next(
+        self.carried_to = carry_next(
             &mut self.newer,
             &mut self.older,
-            self.looked,
+            self.carried_to,
             CARRIED_AT_ONCE,
             &self.hasher,
             self.alloc,
@@ -83,19 +83,20 @@ impl<T: Eq + Hash + Drop, S: BuildHasher + Drop> Table<T, S> {
         ensures carried { Carried (length self.old.tables.waiting) self.old.tables.newer self.old.tables.waiting self.new.tables.newer self.new.tables.waiting }
         ensures room { KeepsRoom 0 self.old.tables self.new.tables }
     {
-        let waiting = self.older.slots() - self.looked;
-        self.looked = carry_next(
+        let waiting = self.older.slots() - self.carried_to;
+        self.carried_to = carry_next(
             &mut self.newer,
             &mut self.older,
-            self.looked,
+            self.carried_to,
             waiting,
             &self.hasher,
             self.alloc,
         );
     }
 
-    // Makes `newer` the newer slots. No other method gives an existing `Table` new slots. The former newer ones wait, but for the first
-    // `many`, which are carried. The older ones, of which none waits, are freed. The new ones count as built. It doesn't allocate.
+    // Makes `newer` the newer slots. No other method gives an existing `Table` new slots. The slots that were the newer ones wait now,
+    // except the first `many`, which are carried at once. The older ones, of which none waits, are freed. The new ones count as built. It
+    // doesn't allocate.
     fn adopt(&mut self, newer: Slots<T>, many: usize)
         requires none_waits { self.old.tables.waiting ≡ [] }
         requires may { MayAdopt T.eq (hash_under T.hash_input S.BuildHasher S.Hasher.Hasher self.old.hasher) newer self.old.tables.newer many }
@@ -107,7 +108,7 @@ impl<T: Eq + Hash + Drop, S: BuildHasher + Drop> Table<T, S> {
         self.built.raise(newer.slots());
         let former = mem::replace(&mut self.newer, newer);
         let _freed = mem::replace(&mut self.older, former);
-        self.looked = carry_next(
+        self.carried_to = carry_next(
             &mut self.newer,
             &mut self.older,
             0,
@@ -163,10 +164,10 @@ impl<T: Eq + Hash + Drop, S: BuildHasher + Drop> Table<T, S> {
         ensures entries { IsMapOf T.eq self.old self.old.entries self.new }
     {
         let mut newer = newer;
-        let waiting = self.older.slots() - self.looked;
-        newer.carry_from(&self.hasher, &mut self.older, self.looked, waiting);
+        let waiting = self.older.slots() - self.carried_to;
+        newer.carry_from(&self.hasher, &mut self.older, self.carried_to, waiting);
         let _older = mem::replace(&mut self.older, no_slots(self.alloc));
-        self.looked = 0;
+        self.carried_to = 0;
         let many = self.newer.slots();
         self.adopt(newer, many);
     }

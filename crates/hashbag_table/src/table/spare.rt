@@ -30,7 +30,7 @@ impl<T: Eq + Hash + Drop, S: BuildHasher + Drop> Table<T, S> {
         Ok(Spare { blank })
     }
 
-    /// Moves all values into spare slots, which replace those of both tables. These are freed, and the entries stay.
+    /// Moves all values into spare slots. The slots of both tables are freed, and the entries stay.
     ///
     /// # Complexity
     ///

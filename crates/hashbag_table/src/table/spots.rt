@@ -18,7 +18,7 @@ use std::hash::{BuildHasher, Hash};
 // Stores another equal instance at a place, with the count 1, and returns the former one.
 fn store_once<T: Eq>(slots: &mut Slots<T>, place: usize, value: T) -> T
     requires equal { holds (T.eq value) (slot_at slots.old.slots place) ≡ true }
-    ensures given { slot_at slots.old.slots place ≡ Slot.Live result (count_in (slot_at slots.old.slots place)) }
+    ensures former { slot_at slots.old.slots place ≡ Slot.Live result (count_in (slot_at slots.old.slots place)) }
     ensures after { slots.new.slots ≡ slice_set slots.old.slots place (Slot.Live value 1) }
     ensures reached { (hash : T → ℕ) → IsAlike T.eq hash → IsReached hash slots.old → IsReached hash slots.new }
 {
@@ -27,17 +27,17 @@ fn store_once<T: Eq>(slots: &mut Slots<T>, place: usize, value: T) -> T
     former
 }
 
-// Returns the place of the value that a key names in the older table, of which the first `looked` slots were carried.
+// Returns the place of the value that a key names in the older table, of which the first `carried_to` slots were carried.
 #[inline(always)]
 fn find_waiting<T: Eq + Hash, S: BuildHasher, Q: Key<T>>(
     older: &Slots<T>,
-    looked: usize,
+    carried_to: usize,
     state: &S,
     hash: u64,
     key: Q,
 ) -> Option<usize>
-    requires within { looked ≤ length older.now.slots }
-    requires dead { (p : ℕ) → p < looked → is_live (slot_at older.now.slots p) ≡ false }
+    requires within { carried_to ≤ length older.now.slots }
+    requires dead { (p : ℕ) → p < carried_to → is_live (slot_at older.now.slots p) ≡ false }
     requires hashed { hash ≡ hash_under Q.hash_input S.BuildHasher S.Hasher.Hasher state.now key }
     requires reached { IsReached (hash_under T.hash_input S.BuildHasher S.Hasher.Hasher state.now) older.now }
     ensures found { IfSome result (HoldsAt (Q.names key) older.now.slots) }
@@ -46,11 +46,11 @@ fn find_waiting<T: Eq + Hash, S: BuildHasher, Q: Key<T>>(
     if older.slots() == 0 {
         return None;
     }
-    older.find_uncarried(state, hash, key, looked)
+    older.find_uncarried(state, hash, key, carried_to)
 }
 
 impl<T: Eq + Hash + Drop, S: BuildHasher + Drop> Table<T, S> {
-    // Returns the hash of a key under the table's own state, which alone finds the value that the key names.
+    // Returns the hash of a key under the table's own state. A hash under another state wouldn't find the value.
     #[inline(always)]
     pub(super) fn hash<Q: Key<T>>(&self, key: Q) -> u64
         ensures { result ≡ hash_under Q.hash_input S.BuildHasher S.Hasher.Hasher self.now.hasher key }
@@ -72,7 +72,7 @@ impl<T: Eq + Hash + Drop, S: BuildHasher + Drop> Table<T, S> {
         if let Some(place) = self.newer.find_hashed(&self.hasher, hash, key) {
             return Some(self.newer.live_at(place));
         }
-        match find_waiting(&self.older, self.looked, &self.hasher, hash, key) {
+        match find_waiting(&self.older, self.carried_to, &self.hasher, hash, key) {
             Some(place) => Some(self.older.live_at(place)),
             None => None,
         }
@@ -86,8 +86,8 @@ impl<T: Eq + Hash + Drop, S: BuildHasher + Drop> Table<T, S> {
         ensures map { entry_in self.now.tables result ≡ named_entry (Q.names key) self.now.entries }
         ensures held { IfSome result (HoldsIn (Q.names key) self.now.tables) }
     {
-        match find_waiting(&self.older, self.looked, &self.hasher, hash, key) {
-            Some(place) => Some(Spot::Waiting(place - self.looked)),
+        match find_waiting(&self.older, self.carried_to, &self.hasher, hash, key) {
+            Some(place) => Some(Spot::Waiting(place - self.carried_to)),
             None => None,
         }
     }
@@ -145,20 +145,20 @@ impl<T: Eq + Hash + Drop, S: BuildHasher + Drop> Table<T, S> {
     #[inline(always)]
     pub(super) fn set_spot(&mut self, spot: Spot, n: usize)
         requires live { is_live (slot_in self.old.tables spot) ≡ true }
-        requires some { 0 < n }
+        requires positive { 0 < n }
         ensures after { Writes spot (recounted n (slot_in self.old.tables spot)) self.old.tables self.new.tables }
         ensures map { IfEntry self.old.tables spot (λ e. Swaps self.old.entries self.new.entries e ((e.0, n) ∷ [])) }
         ensures hasher { self.new.hasher ≡ self.old.hasher }
         ensures counted { IsCounted T.eq self.new.entries }
     {
-        // Does nothing at run time. It gives the proof the contract of `slots`: how many there can be.
+        // Only for the proof: it uses the clauses `value` and `bound` of `slots`.
         let _slots = self.older.slots();
         if let Spot::Newer(place) = spot {
             self.newer.set_at(place, n);
             return;
         }
         if let Spot::Waiting(place) = spot {
-            self.older.set_at(self.looked + place, n);
+            self.older.set_at(self.carried_to + place, n);
         }
     }
 
@@ -171,7 +171,7 @@ impl<T: Eq + Hash + Drop, S: BuildHasher + Drop> Table<T, S> {
         ensures hasher { self.new.hasher ≡ self.old.hasher }
         ensures counted { IsCounted T.eq self.new.entries }
     {
-        // Does nothing at run time. It gives the proof the contract of `slots`.
+        // Only for the proof: it uses the clauses `value` and `bound` of `slots`.
         let _slots = self.older.slots();
         match spot {
             Spot::Newer(place) => {
@@ -179,7 +179,7 @@ impl<T: Eq + Hash + Drop, S: BuildHasher + Drop> Table<T, S> {
                 return entry;
             }
             Spot::Waiting(place) => {
-                let entry = self.older.take_at(self.looked + place);
+                let entry = self.older.take_at(self.carried_to + place);
                 return entry;
             }
         }
@@ -191,7 +191,7 @@ impl<T: Eq + Hash + Drop, S: BuildHasher + Drop> Table<T, S> {
         requires live { is_live (slot_in self.now.tables spot) ≡ true }
         ensures count { IfEntry self.now.tables spot (λ e. result ≡ e.1) }
     {
-        // Does nothing at run time. It gives the proof the contract of `slots`.
+        // Only for the proof: it uses the clauses `value` and `bound` of `slots`.
         let _slots = self.older.slots();
         match spot {
             Spot::Newer(place) => {
@@ -199,7 +199,7 @@ impl<T: Eq + Hash + Drop, S: BuildHasher + Drop> Table<T, S> {
                 return count;
             }
             Spot::Waiting(place) => {
-                let (_, count) = self.older.live_at(self.looked + place);
+                let (_, count) = self.older.live_at(self.carried_to + place);
                 return count;
             }
         }
@@ -209,7 +209,7 @@ impl<T: Eq + Hash + Drop, S: BuildHasher + Drop> Table<T, S> {
     #[inline(always)]
     pub(super) fn raise_spot(&mut self, spot: Spot, n: usize) -> usize
         requires live { is_live (slot_in self.old.tables spot) ≡ true }
-        requires some { 0 < n }
+        requires positive { 0 < n }
         requires fits { IfEntry self.old.tables spot (λ e. e.1 + n < 2 ^ 64) }
         ensures before { IfEntry self.old.tables spot (λ e. result ≡ e.1) }
         ensures after { Writes spot (recounted (result + n) (slot_in self.old.tables spot)) self.old.tables self.new.tables }
@@ -230,7 +230,7 @@ impl<T: Eq + Hash + Drop, S: BuildHasher + Drop> Table<T, S> {
         ensures hasher { self.new.hasher ≡ self.old.hasher }
         ensures counted { IsCounted T.eq self.new.entries }
     {
-        // Does nothing at run time. It gives the proof the contract of `slots`.
+        // Only for the proof: it uses the clauses `value` and `bound` of `slots`.
         let _slots = self.older.slots();
         match spot {
             Spot::Newer(place) => {
@@ -238,7 +238,7 @@ impl<T: Eq + Hash + Drop, S: BuildHasher + Drop> Table<T, S> {
                 return former;
             }
             Spot::Waiting(place) => {
-                let former = store_once(&mut self.older, self.looked + place, value);
+                let former = store_once(&mut self.older, self.carried_to + place, value);
                 return former;
             }
         }

@@ -23,7 +23,7 @@ pub returns : goal.returns
 returns c =
     let ns = c.args.newer.now in let os = c.args.older.now in let turn = c.args.course.turn in let next = c.args.course.next in let until = c.args.course.until in
     let course = c.requires.course in let near = course.near in let live = is_mark (of_turn turn ns os) in
-    let none = none_told live (until - 16) next until c.args.course.ahead course.told (omega arith) c.if-ahead-ne0.false in
+    let none = none_told live (until - 16) next until c.args.course.ahead course.mask (omega arith) c.if-ahead-ne0.false in
     let same : places_left turn next ns os ≡ places_left turn until ns os = left_skip ns os turn next until course.from (λ q a b is. leb-false _ _ (none q a b)) in
     record {
       some = found_earlier ns os turn next until same c.seek.result c.seek.ensures.some;
@@ -38,11 +38,11 @@ returns-then-ahead-ne0 c =
     let live = is_mark (of_turn turn ns os) in let place = c.take_lowest-place.result.0 in let rest = c.take_lowest-place.result.1 in
     let base : ℕ = until - 16 in let up : base + 16 ≡ until = omega arith in
     let e = c.take_lowest-place.ensures in
-    let below = e.before_until live next until course.told in let first = e.first live next until (omega arith) course.told in let low = first.low in
-    let here : pass_of base ≡ turn / 2 = sym (same_pass base place (omega arith) (omega arith) (omega arith)) ∙ course.in_it place low below in
+    let below = e.before_until live next until course.mask in let first = e.first live next until (omega arith) course.mask in let low = first.low in
+    let here : pass_of base ≡ turn / 2 = sym (same_pass base place (omega arith) (omega arith) (omega arith)) ∙ course.on_pass place low below in
     record {
       some = subst (λ u. IsNextOn ns os turn next place (record { turn = turn; next = place + 1; ahead = rest; until = u })) up
           (next_on ns os turn next base place rest (omega arith) (omega arith) (omega arith) (omega arith) here (omega arith)
-          (subst (λ u. IsFirstPlace live next u place) (sym up) first) (subst (λ u. IsMaskOf (from_place_on live (place + 1)) base u rest) (sym up) (e.rest live next until course.told)));
+          (subst (λ u. IsFirstPlace live next u place) (sym up) first) (subst (λ u. IsMaskOf (from_place_on live (place + 1)) base u rest) (sym up) (e.rest live next until course.mask)));
       none = tt;
     }

@@ -8,7 +8,7 @@ use Rattle.hashbag_slots.proofs.live.seek.Goals as goal
 pub overflow_add-course : goal.overflow_add-course
 overflow_add-course c =
     let live = is_mark c.if-turn-eq1.tags.now in let at = c.in-Some.at in
-    let b = c.take_lowest-place.ensures.before_until live at (at + 16) (tells_fresh live at (at + 16) c.in-Some.ahead c.in-Some.ensures.some.told) in
+    let b = c.take_lowest-place.ensures.before_until live at (at + 16) (tells_fresh live at (at + 16) c.in-Some.ahead c.in-Some.ensures.some.mask) in
     let w = c.in-Some.ensures.some.fits in
     omega arith
 
@@ -20,10 +20,10 @@ returns-in-Some-clause-some c =
       | else-turn-eq1 w ↦ ap (λ t. t.now) w.tags-is ∙ sym (of_turn-even turn ns os w.if-turn-eq1.false)
     ] in
     let group : IsNextGroup (of_turn turn ns os) (turn / 2) c.turns.from (c.in-Some.at, c.in-Some.ahead) = subst (λ ts. IsNextGroup ts (turn / 2) c.turns.from (c.in-Some.at, c.in-Some.ahead)) here c.in-Some.ensures.some in
-    let live = is_mark (of_turn turn ns os) in let at : ℕ = c.in-Some.at in let told = tells_fresh live at (at + 16) c.in-Some.ahead group.told in
+    let live = is_mark (of_turn turn ns os) in let at : ℕ = c.in-Some.at in let told = tells_fresh live at (at + 16) c.in-Some.ahead group.mask in
     let e = c.take_lowest-place.ensures in
     next_on_earlier ns os c.args.turn turn c.args.from at c.take_lowest-place.result.0 _ (c.turns.invariant.0 ∙ left_skip ns os turn c.turns.from at group.after group.none)
-    (next_on ns os turn at at c.take_lowest-place.result.0 c.take_lowest-place.result.1 group.sixteen (omega arith) (omega arith) group.within group.in_it
+    (next_on ns os turn at at c.take_lowest-place.result.0 c.take_lowest-place.result.1 group.sixteen (omega arith) (omega arith) group.within group.on_pass
     (e.before_until live at (at + 16) told) (e.first live at (at + 16) (omega arith) told) (e.rest live at (at + 16) told))
 
 pub returns-then-turn-eq0-clause-none : goal.returns-then-turn-eq0-clause-none

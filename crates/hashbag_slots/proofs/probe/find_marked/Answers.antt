@@ -31,7 +31,7 @@ marks-init g c = (
 pub is_named-requires : goal.is_named-requires
 is_named-requires g c =
     let ts = c.args.tags.now in let least = c.requires.mark in let i = c.marks.invariant in let test : ℕ → Bool = is_marked ts c.args.mark in
-    let told = c.lowest-place.ensures in let until : ℕ = c.requires.told.0 in let tells = i.2 until c.requires.told.2 in
+    let told = c.lowest-place.ensures in let until : ℕ = c.requires.mask.0 in let tells = i.2 until c.requires.mask.2 in
     let tag = eqb-true _ _ ((told.first test i.0 until i.1 tells).hit (told.before_until test i.0 until tells)) in
     c.requires.agree.filled c.lowest-place.result (omega arith)
 
@@ -39,8 +39,8 @@ pub returns-then-is_named-clause-found : goal.returns-then-is_named-clause-found
 returns-then-is_named-clause-found g c =
     let ts = c.args.tags.now in let cs = c.args.cells.now in let place = c.lowest-place.result in let least = c.requires.mark in
     let i = c.marks.invariant in let test : ℕ → Bool = is_marked ts c.args.mark in let told = c.lowest-place.ensures in
-    let until : ℕ = c.requires.told.0 in let tells = i.2 until c.requires.told.2 in
-    let len = length-slots_of ts cs c.requires.agree.same_length in let room = c.requires.within in let near = c.requires.told.1 in
+    let until : ℕ = c.requires.mask.0 in let tells = i.2 until c.requires.mask.2 in
+    let len = length-slots_of ts cs c.requires.agree.same_length in let room = c.requires.within in let near = c.requires.mask.1 in
     let below = told.before_until test i.0 until tells in
     let within : place < length (slots_of ts cs) = omega arith in
     let tag = eqb-true _ _ ((told.first test i.0 until i.1 tells).hit below) in
@@ -51,7 +51,7 @@ pub marks-preserved : goal.marks-preserved
 marks-preserved g c =
     let ts = c.args.tags.now in let cs = c.args.cells.now in let place : ℕ = c.lowest-place.result in let least = c.requires.mark in
     let i = c.marks.invariant in let test : ℕ → Bool = is_marked ts c.args.mark in let told = c.lowest-place.ensures in
-    let until : ℕ = c.requires.told.0 in let tells = i.2 until c.requires.told.2 in
+    let until : ℕ = c.requires.mask.0 in let tells = i.2 until c.requires.mask.2 in
     let first = told.first test i.0 until i.1 tells in let below = told.before_until test i.0 until tells in
     let tag = eqb-true _ _ (first.hit below) in let low = first.low in let start = i.1 in
     let e = c.requires.agree.filled place (omega arith) in

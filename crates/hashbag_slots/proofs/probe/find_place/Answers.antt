@@ -6,8 +6,8 @@ use Rattle.hashbag_slots.proofs.Hashing.{hash_named}
 use Rattle.hashbag_slots.proofs.Strides.{absent_near}
 use Rattle.hashbag_slots.proofs.probe.find_place.Goals as goal
 
-pub find_marked-requires-clause-told : goal.find_marked-requires-clause-told
-find_marked-requires-clause-told g c = let e = c.match_tag_before_empty-marked.ensures in (e.0, e.1.high, e.2)
+pub find_marked-requires-clause-mask : goal.find_marked-requires-clause-mask
+find_marked-requires-clause-mask g c = let e = c.match_tag_before_empty-marked.ensures in (e.0, e.1.high, e.2)
 
 pub returns-then-ends-clause-absent : goal.returns-then-ends-clause-absent
 returns-then-ends-clause-absent g c =

@@ -12,8 +12,8 @@ take-former-requires g c =
     let m = marked_at c.self.inside.tags.items c.self.inside.cells c.self.invariant.agree c.args.place (ap (λ s. is_live (slot_at s.slots c.args.place)) c.self.view_is ∙ ap is_live (holder (g.T.PartialEq.eq c.args.value) (slot_at c.args.self.now.slots c.args.place) c.requires.equal).2) in
     (m.1, m.2)
 
-pub returns-clause-given : goal.returns-clause-given
-returns-clause-given g c =
+pub returns-clause-former : goal.returns-clause-former
+returns-clause-former g c =
     let p : ℕ = c.args.place in let e = c.take-former.result in
     let was : slot_at c.args.self.now.slots p ≡ Live e.0 e.1 = sym (ap (λ s. slot_at s.slots p) c.self.view_is) ∙ live_at c.self.inside.tags.items c.self.inside.cells c.self.invariant.agree p e c.take-former.ensures.value in
     was ∙ ap (Live e.0) (sym (ap count_in was))

@@ -26,17 +26,17 @@ invariant_of-self g c =
     let w = c.self.inside in let ts = w.newer_tags.items in let us = w.older_tags.items in let cs = w.newer in let ds = w.older in let turn = c.in-Some.course.turn in let next = c.in-Some.course.next in let p : ℕ = c.in-Some.place in
     let on : IsNextOn ts us w.course.turn w.course.next p c.in-Some.course = subst (λ l. IsNextOn l us w.course.turn w.course.next p c.in-Some.course) c.as_slice.ensures.value (subst (λ l. IsNextOn c.as_slice.result.now l w.course.turn w.course.next p c.in-Some.course) c.as_slice-2.ensures.value c.in-Some.ensures.some) in
     let cell : cell_at (of_turn turn cs ds) p ≡ Some c.take.result = ap (λ l. cell_at l p) (of_turn-odd turn cs ds c.if-course-eq1.true) ∙ c.take.ensures.value in
-    let same = left_same turn p on.in_it ts us (slice_set ts p 1) us (edit_odd turn (λ l. slice_set l p 1) ts us c.if-course-eq1.true) cs ds (slice_set cs p None) ds (edit_odd turn (λ l. slice_set l p None) cs ds c.if-course-eq1.true) next on.behind in
+    let same = left_same turn p on.on_pass ts us (slice_set ts p 1) us (edit_odd turn (λ l. slice_set l p 1) ts us c.if-course-eq1.true) cs ds (slice_set cs p None) ds (edit_odd turn (λ l. slice_set l p None) cs ds c.if-course-eq1.true) next on.behind in
     let walks = walk_goes_on ts us cs ds w.course.turn w.course.next w.left c.self.invariant.0 p c.in-Some.course on c.take.result cell in let within : p < length ts = subst (λ l. p < length l) (of_turn-odd turn ts us c.if-course-eq1.true) on.within in
     let after : IsWalk (slice_set ts p 1) us (slice_set cs p None) ds turn next (w.left - 1) = record { agree = Agree-empty ts cs walks.agree p within 1 (omega arith); older_agree = walks.older_agree; sixteens = ap (λ n. n % 16) (length-set ts p 1) ∙ walks.sixteens; older_sixteens = walks.older_sixteens; count = walks.count ∙ sym (ap length same) } in
-    (subst (λ l. IsWalk (slice_set ts p 1) us l ds turn next (w.left - 1)) (sym c.take.ensures.after) after, course_goes_on turn p on.in_it ts us (slice_set ts p 1) us (edit_odd turn (λ l. slice_set l p 1) ts us c.if-course-eq1.true) next c.in-Some.course.ahead c.in-Some.course.until on.behind on.course)
+    (subst (λ l. IsWalk (slice_set ts p 1) us l ds turn next (w.left - 1)) (sym c.take.ensures.after) after, course_goes_on turn p on.on_pass ts us (slice_set ts p 1) us (edit_odd turn (λ l. slice_set l p 1) ts us c.if-course-eq1.true) next c.in-Some.course.ahead c.in-Some.course.until on.behind on.course)
 
 pub returns-then-course-eq1-clause-steps : goal.returns-then-course-eq1-clause-steps
 returns-then-course-eq1-clause-steps g c =
     let w = c.self.inside in let ts = w.newer_tags.items in let us = w.older_tags.items in let cs = w.newer in let ds = w.older in let turn = c.in-Some.course.turn in let next = c.in-Some.course.next in let p : ℕ = c.in-Some.place in
     let on : IsNextOn ts us w.course.turn w.course.next p c.in-Some.course = subst (λ l. IsNextOn l us w.course.turn w.course.next p c.in-Some.course) c.as_slice.ensures.value (subst (λ l. IsNextOn c.as_slice.result.now l w.course.turn w.course.next p c.in-Some.course) c.as_slice-2.ensures.value c.in-Some.ensures.some) in
     let cell : cell_at (of_turn turn cs ds) p ≡ Some c.take.result = ap (λ l. cell_at l p) (of_turn-odd turn cs ds c.if-course-eq1.true) ∙ c.take.ensures.value in
-    let same = left_same turn p on.in_it ts us (slice_set ts p 1) us (edit_odd turn (λ l. slice_set l p 1) ts us c.if-course-eq1.true) cs ds (slice_set cs p None) ds (edit_odd turn (λ l. slice_set l p None) cs ds c.if-course-eq1.true) next on.behind in
+    let same = left_same turn p on.on_pass ts us (slice_set ts p 1) us (edit_odd turn (λ l. slice_set l p 1) ts us c.if-course-eq1.true) cs ds (slice_set cs p None) ds (edit_odd turn (λ l. slice_set l p None) cs ds c.if-course-eq1.true) next on.behind in
     let left : entries_left turn next (slice_set ts p 1) us c.take.new.self ds ≡ entries_left turn next ts us cs ds = ap (λ l. entries_left turn next (slice_set ts p 1) us l ds) c.take.ensures.after ∙ same in
     sym c.self.view_is ∙ walk_gives ts us cs ds w.course.turn w.course.next w.left c.self.invariant.0 p c.in-Some.course on c.take.result cell ∙ ap (λ es. c.take.result ∷ es) (sym left)
 
@@ -56,17 +56,17 @@ invariant_of-self-else-course-eq1 g c =
     let w = c.self.inside in let ts = w.newer_tags.items in let us = w.older_tags.items in let cs = w.newer in let ds = w.older in let turn = c.in-Some.course.turn in let next = c.in-Some.course.next in let p : ℕ = c.in-Some.place in
     let on : IsNextOn ts us w.course.turn w.course.next p c.in-Some.course = subst (λ l. IsNextOn l us w.course.turn w.course.next p c.in-Some.course) c.as_slice.ensures.value (subst (λ l. IsNextOn c.as_slice.result.now l w.course.turn w.course.next p c.in-Some.course) c.as_slice-2.ensures.value c.in-Some.ensures.some) in
     let cell : cell_at (of_turn turn cs ds) p ≡ Some c.take-else-course-eq1.result = ap (λ l. cell_at l p) (of_turn-even turn cs ds c.if-course-eq1.false) ∙ c.take-else-course-eq1.ensures.value in
-    let same = left_same turn p on.in_it ts us ts (slice_set us p 1) (edit_even turn (λ l. slice_set l p 1) ts us c.if-course-eq1.false) cs ds cs (slice_set ds p None) (edit_even turn (λ l. slice_set l p None) cs ds c.if-course-eq1.false) next on.behind in
+    let same = left_same turn p on.on_pass ts us ts (slice_set us p 1) (edit_even turn (λ l. slice_set l p 1) ts us c.if-course-eq1.false) cs ds cs (slice_set ds p None) (edit_even turn (λ l. slice_set l p None) cs ds c.if-course-eq1.false) next on.behind in
     let walks = walk_goes_on ts us cs ds w.course.turn w.course.next w.left c.self.invariant.0 p c.in-Some.course on c.take-else-course-eq1.result cell in let within : p < length us = subst (λ l. p < length l) (of_turn-even turn ts us c.if-course-eq1.false) on.within in
     let after : IsWalk ts (slice_set us p 1) cs (slice_set ds p None) turn next (w.left - 1) = record { agree = walks.agree; older_agree = Agree-empty us ds walks.older_agree p within 1 (omega arith); sixteens = walks.sixteens; older_sixteens = ap (λ n. n % 16) (length-set us p 1) ∙ walks.older_sixteens; count = walks.count ∙ sym (ap length same) } in
-    (subst (λ l. IsWalk ts (slice_set us p 1) cs l turn next (w.left - 1)) (sym c.take-else-course-eq1.ensures.after) after, course_goes_on turn p on.in_it ts us ts (slice_set us p 1) (edit_even turn (λ l. slice_set l p 1) ts us c.if-course-eq1.false) next c.in-Some.course.ahead c.in-Some.course.until on.behind on.course)
+    (subst (λ l. IsWalk ts (slice_set us p 1) cs l turn next (w.left - 1)) (sym c.take-else-course-eq1.ensures.after) after, course_goes_on turn p on.on_pass ts us ts (slice_set us p 1) (edit_even turn (λ l. slice_set l p 1) ts us c.if-course-eq1.false) next c.in-Some.course.ahead c.in-Some.course.until on.behind on.course)
 
 pub returns-else-course-eq1-clause-steps : goal.returns-else-course-eq1-clause-steps
 returns-else-course-eq1-clause-steps g c =
     let w = c.self.inside in let ts = w.newer_tags.items in let us = w.older_tags.items in let cs = w.newer in let ds = w.older in let turn = c.in-Some.course.turn in let next = c.in-Some.course.next in let p : ℕ = c.in-Some.place in
     let on : IsNextOn ts us w.course.turn w.course.next p c.in-Some.course = subst (λ l. IsNextOn l us w.course.turn w.course.next p c.in-Some.course) c.as_slice.ensures.value (subst (λ l. IsNextOn c.as_slice.result.now l w.course.turn w.course.next p c.in-Some.course) c.as_slice-2.ensures.value c.in-Some.ensures.some) in
     let cell : cell_at (of_turn turn cs ds) p ≡ Some c.take-else-course-eq1.result = ap (λ l. cell_at l p) (of_turn-even turn cs ds c.if-course-eq1.false) ∙ c.take-else-course-eq1.ensures.value in
-    let same = left_same turn p on.in_it ts us ts (slice_set us p 1) (edit_even turn (λ l. slice_set l p 1) ts us c.if-course-eq1.false) cs ds cs (slice_set ds p None) (edit_even turn (λ l. slice_set l p None) cs ds c.if-course-eq1.false) next on.behind in
+    let same = left_same turn p on.on_pass ts us ts (slice_set us p 1) (edit_even turn (λ l. slice_set l p 1) ts us c.if-course-eq1.false) cs ds cs (slice_set ds p None) (edit_even turn (λ l. slice_set l p None) cs ds c.if-course-eq1.false) next on.behind in
     let left : entries_left turn next ts (slice_set us p 1) cs c.take-else-course-eq1.new.self ≡ entries_left turn next ts us cs ds = ap (λ l. entries_left turn next ts (slice_set us p 1) cs l) c.take-else-course-eq1.ensures.after ∙ same in
     sym c.self.view_is ∙ walk_gives ts us cs ds w.course.turn w.course.next w.left c.self.invariant.0 p c.in-Some.course on c.take-else-course-eq1.result cell ∙ ap (λ es. c.take-else-course-eq1.result ∷ es) (sym left)
 

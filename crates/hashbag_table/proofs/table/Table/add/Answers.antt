@@ -36,7 +36,7 @@ add_slow-requires g c = record {
     | in-Absent+else-can_place_at_once w ↦ subst (λ r. IfAbsent r (λ x. IsAbsent (g.T.PartialEq.eq c.args.value) c.args.self.now.tables.newer)) (w.in-Absent.is ∙ sym w.first-is) c.probe_first_group-first.ensures.absent
     | in_default-first w ↦ subst (λ r. IfAbsent r (λ x. IsAbsent (g.T.PartialEq.eq c.args.value) c.args.self.now.tables.newer)) (sym w.first-is) c.probe_first_group-first.ensures.absent
   ];
-  some = c.requires.some;
+  positive = c.requires.positive;
   fits = c.requires.fits;
 }
 

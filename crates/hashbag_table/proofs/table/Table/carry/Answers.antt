@@ -7,11 +7,11 @@ use Rattle.hashbag_table.proofs.table.Table.carry.Goals as goal
 pub invariant_of-self : goal.invariant_of-self
 invariant_of-self g c =
     let hash = hash_under g.T.Hash.hash_input g.S.BuildHasher g.S.Hasher.Hasher c.self.inside.hasher in
-    IsTables-carried g.T.PartialEq.eq hash g.met.T.Eq.laws c.self.inside.newer c.self.inside.older c.carry_next-self-inside.new.newer c.carry_next-self-inside.new.older c.self.inside.looked c.carry_next-self-inside.result c.self.invariant c.carry_next-self-inside.ensures.tables c.carry_next-self-inside.ensures.carried c.carry_next-self-inside.ensures.freed
+    IsTables-carried g.T.PartialEq.eq hash g.met.T.Eq.laws c.self.inside.newer c.self.inside.older c.carry_next-self-inside.new.newer c.carry_next-self-inside.new.older c.self.inside.carried_to c.carry_next-self-inside.result c.self.invariant c.carry_next-self-inside.ensures.tables c.carry_next-self-inside.ensures.carried c.carry_next-self-inside.ensures.freed
 
 pub returns-clause-carries : goal.returns-clause-carries
 returns-clause-carries g c =
     let hash = hash_under g.T.Hash.hash_input g.S.BuildHasher g.S.Hasher.Hasher c.self.inside.hasher in
-    let w = drop c.self.inside.looked c.self.inside.older.slots in
+    let w = drop c.self.inside.carried_to c.self.inside.older.slots in
     (carries_after g.T.PartialEq.eq hash c.self.inside.newer.slots w c.carry_next-self-inside.new.newer.slots (drop c.carry_next-self-inside.result c.carry_next-self-inside.new.older.slots) c.carry_next-self-inside.ensures.carried c.self.invariant.carries
     (subst (λ t. 0 < room t.tables) (sym c.self.view_is) c.requires.room)).1

@@ -29,8 +29,8 @@ insert_new-requires-clause-absent g c =
     next_is_new g.met.T.Eq.laws g.T.Clone.is_clone c.args.self.now.entries so_far.0 c.next.new.self c.loop-value.table.entries (c.in-Some.value.now, c.in-Some.count) c.in_ok-clone.clone
     c.requires.equal c.walk-value-items.ensures.counted.distinct order so_far.2 c.in_ok-clone.ensures.cases
 
-pub insert_new-requires-clause-some : goal.insert_new-requires-clause-some
-insert_new-requires-clause-some g c =
+pub insert_new-requires-clause-positive : goal.insert_new-requires-clause-positive
+insert_new-requires-clause-positive g c =
     let so_far = c.loop-value.invariant.0 in
     let order = subst (λ (l : List (g.row.T.Denot × ℕ)). IsPermutation c.args.self.now.entries (so_far.0 ++ l)) c.in-Some.ensures.steps so_far.1 in
     next_is_some c.args.self.now.entries so_far.0 c.next.new.self (c.in-Some.value.now, c.in-Some.count) c.walk-value-items.ensures.counted.positive order

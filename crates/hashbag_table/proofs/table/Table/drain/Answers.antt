@@ -31,11 +31,11 @@ returns g c =
     let f = ap (λ (s : _). s.slots) c.replace-older.ensures.after ∙ c.no_slots-2.ensures.slots in
     let all : IsPermutation (entries_of i.newer.slots i.older.slots) c.into_walk.result = subst (λ (s : _). IsPermutation (entries s.slots ++ entries i.older.slots) c.into_walk.result) c.replace-newer.ensures.value
     (subst (λ (s : _). IsPermutation (entries c.replace-newer.result.slots ++ entries s.slots) c.into_walk.result) c.replace-older.ensures.value c.into_walk.ensures.entries) in
-    let same : entries_of i.newer.slots (drop i.looked i.older.slots) ≡ entries_of i.newer.slots i.older.slots =
-    ap (λ es. entries i.newer.slots ++ es) (entries-drop i.older.slots i.looked t.looked_within t.looked_dead) in (
+    let same : entries_of i.newer.slots (drop i.carried_to i.older.slots) ≡ entries_of i.newer.slots i.older.slots =
+    ap (λ es. entries i.newer.slots ++ es) (entries-drop i.older.slots i.carried_to t.carried_within t.carried_slots_dead) in (
       (refl, λ w. none_left i.hasher _ _ i.built e f ∙ ap emptied c.self.view_is),
       record {
-        writes_back = tt;
+        ends_empty = tt;
         entries = subst (λ m. IsPermutation m.entries c.into_walk.result) c.self.view_is (subst (λ es. IsPermutation es c.into_walk.result) (sym same) all);
         counted = subst (λ m. IsCounted g.T.PartialEq.eq m.entries) c.self.view_is c.self.invariant.counted;
         fits = c.into_walk.ensures.fits;

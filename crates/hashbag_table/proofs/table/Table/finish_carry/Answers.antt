@@ -8,20 +8,20 @@ use Rattle.hashbag_table.proofs.EntryLemmas.{counted_rearranged}
 use Rattle.hashbag_table.proofs.table.Table.finish_carry.Goals as goal
 
 pub overflow_sub-waiting : goal.overflow_sub-waiting
-overflow_sub-waiting g c = let w = c.self.invariant.tables.looked_within in let s = c.slots.ensures.value in omega (arith, w, s)
+overflow_sub-waiting g c = let w = c.self.invariant.tables.carried_within in let s = c.slots.ensures.value in omega (arith, w, s)
 
 pub invariant_of-self : goal.invariant_of-self
 invariant_of-self g c =
     let hash = hash_under g.T.Hash.hash_input g.S.BuildHasher g.S.Hasher.Hasher c.self.inside.hasher in
     let i = c.self.inside in
-    let all : length (drop i.looked i.older.slots) ≤ c.slots.result - i.looked = let l = length-drop i.looked i.older.slots in let s = c.slots.ensures.value in omega (arith, l, s) in
-    IsTables-finished g.T.PartialEq.eq hash g.met.T.Eq.laws i.newer i.older c.carry_next-self-inside.new.newer c.carry_next-self-inside.new.older i.looked c.carry_next-self-inside.result (c.slots.result - i.looked) c.self.invariant c.carry_next-self-inside.ensures.tables c.carry_next-self-inside.ensures.carried all c.carry_next-self-inside.ensures.freed
+    let all : length (drop i.carried_to i.older.slots) ≤ c.slots.result - i.carried_to = let l = length-drop i.carried_to i.older.slots in let s = c.slots.ensures.value in omega (arith, l, s) in
+    IsTables-finished g.T.PartialEq.eq hash g.met.T.Eq.laws i.newer i.older c.carry_next-self-inside.new.newer c.carry_next-self-inside.new.older i.carried_to c.carry_next-self-inside.result (c.slots.result - i.carried_to) c.self.invariant c.carry_next-self-inside.ensures.tables c.carry_next-self-inside.ensures.carried all c.carry_next-self-inside.ensures.freed
 
 pub returns : goal.returns
 returns g c =
     let i = c.self.inside in let h = c.carry_next-self-inside.ensures.carried in
-    let w = drop i.looked i.older.slots in let ns = c.carry_next-self-inside.new.newer.slots in let os = c.carry_next-self-inside.new.older.slots in let left = drop c.carry_next-self-inside.result os in
-    let many : c.slots.result - i.looked ≡ length w = let l = length-drop i.looked i.older.slots in let s = c.slots.ensures.value in omega (arith, l, s) in
+    let w = drop i.carried_to i.older.slots in let ns = c.carry_next-self-inside.new.newer.slots in let os = c.carry_next-self-inside.new.older.slots in let left = drop c.carry_next-self-inside.result os in
+    let many : c.slots.result - i.carried_to ≡ length w = let l = length-drop i.carried_to i.older.slots in let s = c.slots.ensures.value in omega (arith, l, s) in
     let after : Tables g.row.T.Denot = record { newer = ns; waiting = left; older = length os; built = i.built } in
     record {
       entries = record {
@@ -29,11 +29,11 @@ returns g c =
         hasher = ap (λ t. t.hasher) c.self.view_is;
         counted = counted_rearranged g.met.T.Eq.laws _ _ h.entries c.self.invariant.counted;
       };
-      waiting = h.waits ∙ drop_all (c.slots.result - i.looked) w (omega (arith, many));
+      waiting = h.waits ∙ drop_all (c.slots.result - i.carried_to) w (omega (arith, many));
       carried = subst (λ t. Carried (length t.tables.waiting) t.tables.newer t.tables.waiting ns left) c.self.view_is (subst (λ k. Carried k i.newer.slots w ns left) many h);
       room = subst (λ t. KeepsRoom 0 t.tables after) c.self.view_is (record {
         slots = h.fills.same_length;
-        room = let r = room_carried g.T.PartialEq.eq (hash_under g.T.Hash.hash_input g.S.BuildHasher g.S.Hasher.Hasher i.hasher) (c.slots.result - i.looked) i.newer.slots w ns left h in omega (arith, r);
+        room = let r = room_carried g.T.PartialEq.eq (hash_under g.T.Hash.hash_input g.S.BuildHasher g.S.Hasher.Hasher i.hasher) (c.slots.result - i.carried_to) i.newer.slots w ns left h in omega (arith, r);
         built = refl;
       });
     }

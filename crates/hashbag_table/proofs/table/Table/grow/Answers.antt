@@ -14,15 +14,15 @@ use Rattle.hashbag_table.proofs.table.Table.grow.Goals as goal
 pub adopt-requires-clause-none_waits : goal.adopt-requires-clause-none_waits
 adopt-requires-clause-none_waits g c =
     let hash = hash_under g.T.Hash.hash_input g.S.BuildHasher g.S.Hasher.Hasher c.self.inside.hasher in
-    let full : room_of c.self.inside.newer.slots (drop c.self.inside.looked c.self.inside.older.slots) ≡ 0 = subst (λ t. room t.tables ≡ 0) (sym c.self.view_is) c.requires.full in
-    subst (λ t. t.tables.waiting ≡ []) c.self.view_is (alone_full g.T.PartialEq.eq hash c.self.inside.newer c.self.inside.older c.self.inside.looked c.self.invariant full)
+    let full : room_of c.self.inside.newer.slots (drop c.self.inside.carried_to c.self.inside.older.slots) ≡ 0 = subst (λ t. room t.tables ≡ 0) (sym c.self.view_is) c.requires.full in
+    subst (λ t. t.tables.waiting ≡ []) c.self.view_is (alone_full g.T.PartialEq.eq hash c.self.inside.newer c.self.inside.older c.self.inside.carried_to c.self.invariant full)
 
 pub adopt-requires-clause-may : goal.adopt-requires-clause-may
 adopt-requires-clause-may g c =
     let hash = hash_under g.T.Hash.hash_input g.S.BuildHasher g.S.Hasher.Hasher c.self.inside.hasher in
     let n = c.self.inside.newer.slots in
-    let full : room_of n (drop c.self.inside.looked c.self.inside.older.slots) ≡ 0 = subst (λ t. room t.tables ≡ 0) (sym c.self.view_is) c.requires.full in
-    let alone = alone_full g.T.PartialEq.eq hash c.self.inside.newer c.self.inside.older c.self.inside.looked c.self.invariant full in
+    let full : room_of n (drop c.self.inside.carried_to c.self.inside.older.slots) ≡ 0 = subst (λ t. room t.tables ≡ 0) (sym c.self.view_is) c.requires.full in
+    let alone = alone_full g.T.PartialEq.eq hash c.self.inside.newer c.self.inside.older c.self.inside.carried_to c.self.invariant full in
     let counted : IsCounted g.T.PartialEq.eq (entries n) = subst (IsCounted g.T.PartialEq.eq) (ap (λ ss. entries n ++ entries ss) alone ∙ append-nil (entries n)) c.self.invariant.counted in
     let f = c.self.invariant.tables.fits in
     let within : live_count n ≤ limit (length n) = omega (arith, f) in
@@ -36,9 +36,9 @@ adopt-requires-clause-may g c =
 pub returns-clause-ready : goal.returns-clause-ready
 returns-clause-ready g c =
     let hash = hash_under g.T.Hash.hash_input g.S.BuildHasher g.S.Hasher.Hasher c.self.inside.hasher in
-    let n = c.self.inside.newer.slots in let w = drop c.self.inside.looked c.self.inside.older.slots in
+    let n = c.self.inside.newer.slots in let w = drop c.self.inside.carried_to c.self.inside.older.slots in
     let full : room_of n w ≡ 0 = subst (λ t. room t.tables ≡ 0) (sym c.self.view_is) c.requires.full in
-    let alone = alone_full g.T.PartialEq.eq hash c.self.inside.newer c.self.inside.older c.self.inside.looked c.self.invariant full in
+    let alone = alone_full g.T.PartialEq.eq hash c.self.inside.newer c.self.inside.older c.self.inside.carried_to c.self.invariant full in
     let live : live_count n ≡ live_count n + live_count w = live_alone n w alone in
     let slots : c.in_ok-newer.newer.slots ≡ replicate (grown_slots (length n) (live_count n + live_count w)) Empty =
     c.in_ok-newer.ensures.slots ∙ ap (λ k. replicate k Empty) (c.in_ok-count.ensures.grown ∙ (λ i. grown_slots (c.slots.ensures.value i) ((c.live.ensures ∙ live) i))) in

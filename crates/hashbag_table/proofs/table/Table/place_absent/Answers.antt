@@ -11,7 +11,7 @@ pub place_at-requires-clause-absent : goal.place_at-requires-clause-absent
 place_at-requires-clause-absent g c =
     let eq = g.T.PartialEq.eq in let v = c.args.value in
     let absent = subst (λ t. entry_of eq v t.entries ≡ None) (sym c.self.view_is) c.requires.absent in
-    (absent_both eq v c.self.inside.newer.slots (drop c.self.inside.looked c.self.inside.older.slots) absent).0
+    (absent_both eq v c.self.inside.newer.slots (drop c.self.inside.carried_to c.self.inside.older.slots) absent).0
 
 pub invariant_of-self : goal.invariant_of-self
 invariant_of-self g c =
@@ -20,7 +20,7 @@ invariant_of-self g c =
     let absent = subst (λ t. entry_of eq v t.entries ≡ None) (sym c.self.view_is) c.requires.absent in
     let has_room = subst (λ t. 0 < room t.tables) (sym c.self.view_is) c.requires.room in
     let carries = subst (λ t. length t.tables.waiting ≤ 16 * (room t.tables - 1)) (sym c.self.view_is) c.requires.carries in
-    IsTables-settled eq g.met.T.Eq.laws hash c.self.inside.newer c.self.inside.older c.place_at.new.self c.self.inside.looked v c.args.count c.self.invariant absent c.requires.some has_room carries c.place_at.ensures.placed c.place_at.ensures.reached
+    IsTables-settled eq g.met.T.Eq.laws hash c.self.inside.newer c.self.inside.older c.place_at.new.self c.self.inside.carried_to v c.args.count c.self.invariant absent c.requires.positive has_room carries c.place_at.ensures.placed c.place_at.ensures.reached
 
 pub returns-clause-entries : goal.returns-clause-entries
 returns-clause-entries g c =
@@ -30,8 +30,8 @@ returns-clause-entries g c =
     let has_room = subst (λ t. 0 < room t.tables) (sym c.self.view_is) c.requires.room in
     let carries = subst (λ t. length t.tables.waiting ≤ 16 * (room t.tables - 1)) (sym c.self.view_is) c.requires.carries in
     record {
-      means = subst (λ t. IsPermutation ((v, c.args.count) ∷ t.entries) (entries_of c.place_at.new.self.slots (drop c.self.inside.looked c.self.inside.older.slots))) c.self.view_is
-          (entries_settled eq g.met.T.Eq.laws hash c.self.inside.newer c.self.inside.older c.place_at.new.self c.self.inside.looked v c.args.count c.self.invariant absent c.requires.some has_room carries c.place_at.ensures.placed c.place_at.ensures.reached);
+      means = subst (λ t. IsPermutation ((v, c.args.count) ∷ t.entries) (entries_of c.place_at.new.self.slots (drop c.self.inside.carried_to c.self.inside.older.slots))) c.self.view_is
+          (entries_settled eq g.met.T.Eq.laws hash c.self.inside.newer c.self.inside.older c.place_at.new.self c.self.inside.carried_to v c.args.count c.self.invariant absent c.requires.positive has_room carries c.place_at.ensures.placed c.place_at.ensures.reached);
       hasher = ap (λ t. t.hasher) c.self.view_is;
       counted = (invariant_of-self g c).counted;
     }

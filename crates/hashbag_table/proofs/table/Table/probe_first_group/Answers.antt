@@ -18,6 +18,6 @@ found names n es Open held is = tt
 
 pub returns-clause-map : goal.returns-clause-map
 returns-clause-map g c =
-    let names = g.Q.Key.names c.args.key in let n = c.self.inside.newer.slots in let w = drop c.self.inside.looked c.self.inside.older.slots in
+    let names = g.Q.Key.names c.args.key in let n = c.self.inside.newer.slots in let w = drop c.self.inside.carried_to c.self.inside.older.slots in
     let is = found names n (entries w) c.probe_first_group.result c.probe_first_group.ensures.found c.probe_first_group.ensures.map in
     subst (λ m. IfFound c.probe_first_group.result (λ p. slot_entry (slot_at m.tables.newer p) ≡ named_entry names m.entries)) c.self.view_is is

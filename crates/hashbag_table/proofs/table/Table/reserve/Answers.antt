@@ -10,7 +10,7 @@ use Rattle.hashbag_table.proofs.table.Table.reserve.Goals as goal
 -- what there is and what there is room for is within the limit of the greatest table
 pub returns-then-n-room-clause-beyond : goal.returns-then-n-room-clause-beyond
 returns-then-n-room-clause-beyond g c some beyond =
-    let n = c.self.inside.newer.slots in let w = drop c.self.inside.looked c.self.inside.older.slots in
+    let n = c.self.inside.newer.slots in let w = drop c.self.inside.carried_to c.self.inside.older.slots in
     let x = length-append (entries n) (entries w) in
     let p = length-entries n in let q = length-entries w in let f = c.self.invariant.tables.fits in
     let a = c.room.ensures ∙ sym (ap (λ t. room t.tables) c.self.view_is) in
@@ -22,7 +22,7 @@ returns-then-n-room-clause-beyond g c some beyond =
 
 pub overflow_sub-values : goal.overflow_sub-values
 overflow_sub-values g c =
-    let n = c.self.inside.newer.slots in let w = drop c.self.inside.looked c.self.inside.older.slots in
+    let n = c.self.inside.newer.slots in let w = drop c.self.inside.carried_to c.self.inside.older.slots in
     let x = length-append (entries n) (entries w) in
     let p = length-entries n in let q = length-entries w in let f = c.self.invariant.tables.fits in
     let l : length c.args.self.now.entries ≡ length (entries_of n w) = sym (ap (λ t. length t.entries) c.self.view_is) in

@@ -9,7 +9,7 @@ use Rattle.hashbag_table.proofs.table.Table.spare.Goals as goal
 -- the values are within the limit of the greatest table
 pub overflow_sub-values : goal.overflow_sub-values
 overflow_sub-values g c =
-    let n = c.self.inside.newer.slots in let w = drop c.self.inside.looked c.self.inside.older.slots in
+    let n = c.self.inside.newer.slots in let w = drop c.self.inside.carried_to c.self.inside.older.slots in
     let x = length-append (entries n) (entries w) in
     let p = length-entries n in let q = length-entries w in let f = c.self.invariant.tables.fits in
     let l : length c.args.self.now.entries ≡ length (entries_of n w) = sym (ap (λ t. length t.entries) c.self.view_is) in
@@ -20,7 +20,7 @@ overflow_sub-values g c =
 
 pub returns-clause-beyond : goal.returns-clause-beyond
 returns-clause-beyond g c beyond =
-    let n = c.self.inside.newer.slots in let w = drop c.self.inside.looked c.self.inside.older.slots in
+    let n = c.self.inside.newer.slots in let w = drop c.self.inside.carried_to c.self.inside.older.slots in
     let x = length-append (entries n) (entries w) in
     let p = length-entries n in let q = length-entries w in let f = c.self.invariant.tables.fits in
     let l : length c.args.self.now.entries ≡ length (entries_of n w) = sym (ap (λ t. length t.entries) c.self.view_is) in
