@@ -50,7 +50,7 @@ def read(path):
 
 
 def type_name(text):
-    """The name that rattle gives a type or trait of an impl: of `&'a Walk<'a, T>` that is RefWalk."""
+    """The name that rattle gives a type or trait of an impl: of `&'a Walk<'a, T>` that is RefWalk, of a parameter `T` Any, of `&T` Ref."""
     refs, text = "", text.strip()
     while text.startswith("&"):
         refs, text = refs + "Ref", re.sub(r"^&\s*('\w+\s*)?(mut\s+)?", "", text)
@@ -59,6 +59,8 @@ def type_name(text):
     given = [it.strip() for it in re.split(r",(?![^<]*>)", given[1])] if given else []
     # An argument that is no parameter is part of the name, as String in RefStrKeyString.
     given = [type_name(it) for it in given if re.fullmatch(r"[A-Z][a-z]\w+(<.*>)?", it)]
+    if re.fullmatch(r"[A-Z]", name):
+        name = "" if refs else "Any"
     is_named_whole = refs or name.startswith(("Key", "ToValue"))
     return refs + name[:1].upper() + name[1:] + "".join(given if is_named_whole else [])
 

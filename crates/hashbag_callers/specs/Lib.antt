@@ -1,3 +1,5 @@
 pub mod Deliveries
 pub mod Ledger
+pub mod Sizes
 pub mod Texts
+pub mod Transfers

@@ -7,6 +7,7 @@ pub mod join_uses;
 pub mod json_uses;
 pub mod ledger;
 pub mod list_uses;
+pub mod own_types;
 pub mod record_uses;
 pub mod reserved;
 pub mod run_uses;

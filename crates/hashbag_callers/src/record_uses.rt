@@ -1,9 +1,9 @@
 //! Callers that read the plain facts out of the records that a bag's clauses name. None of them has a proof of its own.
 ghost use Rattle.std.specs.Prelude.{◌≡◌, ◌+◌, ◌-◌, ◌<◌, ◌≤◌, length, IsOk, IfOk, OnOk, OnErr};
 ghost use Rattle.hashbag.specs.Bag.{IsBagOf};
-ghost use Rattle.hashbag.specs.Held.{Recounts};
 ghost use Rattle.hashbag.specs.Occurrences.{count, less};
 ghost use Rattle.hashbag.specs.Tables.{room};
+ghost use Rattle.hashbag_callers.specs.Transfers.{LowersCount};
 
 use hashbag::{BagError, HashBag};
 use std::hash::{BuildHasher, Hash};
@@ -15,8 +15,7 @@ pub fn take_some<T: Eq + Hash + Drop, S: BuildHasher + Drop>(
     n: usize,
 ) -> usize
     ensures removed { IsBagOf T.eq bag.old (less T.eq value.now n bag.old.items) bag.new }
-    ensures slot { 0 < count T.eq value.now bag.old.items
-        → Recounts T.eq value.now (count T.eq value.now bag.old.items - n) bag.old.tables bag.new.tables }
+    ensures slot { 0 < count T.eq value.now bag.old.items → LowersCount T.eq value.now n bag.old bag.new }
     ensures none { count T.eq value.now bag.old.items ≡ 0 → bag.new ≡ bag.old }
     ensures slots { length bag.new.tables.newer ≡ length bag.old.tables.newer }
     ensures room { room bag.old.tables ≤ room bag.new.tables }

@@ -2,6 +2,7 @@
 ghost use Rattle.std.specs.Prelude.{◌≡◌, ◌+◌, ◌≤◌, [], ◌∷◌, length, OnOk, IfOk};
 ghost use Rattle.hashbag.specs.Bag.{Means};
 ghost use Rattle.hashbag.specs.Occurrences.{count, add};
+ghost use Rattle.hashbag_callers.specs.Transfers.{n_then_one_more};
 
 use hashbag::script::{Reply, Step, run};
 use hashbag::{BagError, HashBag};
@@ -25,8 +26,7 @@ pub fn insert_and_count<T: Eq + Hash + Copy, S: BuildHasher + Drop>(
     value: T,
 ) -> Result<Vec<Reply<T>>, BagError>
     requires { length bag.old.items + 1 ≤ bag.old.most }
-    ensures replies { IfOk result (λ replies. replies.items
-        ≡ Reply.Count (count T.eq value bag.old.items) ∷ Reply.Count (count T.eq value bag.old.items + 1) ∷ []) }
+    ensures replies { IfOk result (λ replies. replies.items ≡ n_then_one_more Reply.Count (count T.eq value bag.old.items)) }
     ensures left { OnOk result (Means bag.new (add T.eq value 1 bag.old.items)) }
 {
     let steps = insert_then_count(alloc, value)?;

@@ -1,4 +1,4 @@
-//! Callers to copy: the words of a text, which are counted and looked up as they are. A `String` is allocated only for each distinct one.
+//! Callers to copy: the words of a text, counted and looked up as `&str`. A `String` is allocated only for each distinct word.
 ghost use Rattle.std.specs.Prelude.{◌≡◌, ◌-◌, length, string_bytes, string_eq, IfOk};
 ghost use Rattle.hashbag.specs.Occurrences.{count};
 ghost use Rattle.hashbag_callers.specs.Texts.{text_count};

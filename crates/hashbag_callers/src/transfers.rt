@@ -1,6 +1,7 @@
 //! Callers to copy: occurrences that move from one bag to another. Together both bags have each value as often as before.
 ghost use Rattle.std.specs.Prelude.{◌≡◌, ◌+◌, ◌<◌, ◌≤◌, ◌↔◌, true, length, OnOk, OnErr};
 ghost use Rattle.hashbag.specs.Occurrences.{count};
+ghost use Rattle.hashbag_callers.specs.Transfers.{count_together};
 
 use hashbag::{BagError, HashBag};
 use std::hash::{BuildHasher, Hash};
@@ -23,7 +24,7 @@ pub fn transfer<T: Eq + Hash + Copy + Drop, S: BuildHasher + Drop, S2: BuildHash
     value: T,
     n: usize,
 ) -> Result<(), TransferError>
-    ensures sum { (w : T) → count T.eq w from.new.items + count T.eq w to.new.items ≡ count T.eq w from.old.items + count T.eq w to.old.items }
+    ensures sum { (w : T) → count_together T.eq w from.new to.new ≡ count_together T.eq w from.old to.old }
     ensures moved { OnOk result (count T.eq value to.new.items ≡ count T.eq value to.old.items + n) }
     ensures too_few { (result ≡ Err TransferError.TooFew) ↔ (count T.eq value from.old.items < n) }
     ensures same_from { OnErr result (from.new ≡ from.old) }
@@ -49,7 +50,7 @@ pub fn transfer_clone<T: Eq + Hash + Clone + Drop, S: BuildHasher + Drop, S2: Bu
     n: usize,
 ) -> Result<(), TransferError>
     requires equal { (y : T) → T.is_clone value.now y → T.eq value.now y ≡ true }
-    ensures sum { (w : T) → count T.eq w from.new.items + count T.eq w to.new.items ≡ count T.eq w from.old.items + count T.eq w to.old.items }
+    ensures sum { (w : T) → count_together T.eq w from.new to.new ≡ count_together T.eq w from.old to.old }
     ensures moved { OnOk result (count T.eq value.now to.new.items ≡ count T.eq value.now to.old.items + n) }
     ensures too_few { (result ≡ Err TransferError.TooFew) ↔ (count T.eq value.now from.old.items < n) }
     ensures same_from { OnErr result (from.new ≡ from.old) }

@@ -1,17 +1,24 @@
 -- Adding the items that come, one after another.
-use Rattle.std.proofs.Common.{◌≡◌, ℕ, ◌+◌, ◌<◌, ◌≤◌, Bool, List, [], ◌∷◌, ◌++◌, length, sum_by, Result, Ok, Err, IfErr, IsErrAnd, refl, sym, subst, arith}
+use Rattle.std.proofs.Common.{◌≡◌, ℕ, ◌+◌, ◌<◌, ◌≤◌, Bool, List, [], ◌∷◌, ◌++◌, length, sum_by, Result, Ok, Err, IfErr, IsOkAnd, IsErrAnd, refl, sym, subst, arith}
 use Rattle.std.specs.Cmp.{IsEquivalence}
 use Rattle.std.specs.List.{AllZip}
 use Rattle.std.proofs.lemmas.List.Sums.{sum_by-cons}
 use Rattle.hashbag_core.specs.declared.bag.BagError.{BagError}
 use Rattle.hashbag_core.specs.declared.bag.BagError.TheVariants.{Memory, TooMany, BelowTotal}
 use Rattle.hashbag_core.specs.Occurrences.{count, add}
-use Rattle.hashbag_core.specs.Extends.{add_all, Refuses, RefusesClones}
+use Rattle.hashbag_core.specs.Bag.{Bag}
+use Rattle.hashbag_core.specs.Extends.{OkOnce, add_all, Refuses, RefusesClones}
+use Rattle.hashbag_core.specs.Inserts.{Inserts}
 
 -- an error that `?` hands on
 pub handed_on : {A E : Type 0} (r : Result A E) (e : E) (Q P : E → Type 0) → ((x : E) → Q x → x ≡ e) → IsErrAnd r Q → P e → IfErr r P
 handed_on (Ok a) e Q P same is p = tt
 handed_on (Err x) e Q P same is p = subst P (sym (same x is)) p
+
+-- the value of a result went in once, as its pair
+pub ok_went : {T S E : Type 0} (eq : T → T → Bool) (item : Result T E) (before after : Bag T S) → IsOkAnd item (λ v. Inserts eq v 1 before after) → (p : T × ℕ) × OkOnce item p × Inserts eq p.0 p.1 before after
+ok_went eq (Ok v) before after went = ((v, 1), refl, went)
+ok_went eq (Err e) before after went = absurd went
 
 -- ---- how many occurrences items bring
 

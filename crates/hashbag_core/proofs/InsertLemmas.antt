@@ -185,7 +185,7 @@ module _ {T S : Type 0} {eq : T → T → Bool} (laws : IsEquivalence eq) where
   all_added {before = before} {after = after} h = left_in_turn h.pairs before after h.bag h.turn
 
   -- of `refused` of extends and collections: the bag means what it had, and the pairs before the item that failed
-  pub some_added : {I A : Type 0} {steps : I → Option A → I → Type 0} {Goes : A → T × ℕ → Type 0} {Why : Bag T S → A → BagError → Type 0} {it : I} {before after : Bag T S} {e : BagError}
+  pub some_added : {I A : Type 0} {steps : I → Option A → I → Type 0} {Goes : A → T × ℕ → Type 0} {X : Type 0} {Why : Bag T S → A → X → Type 0} {it : I} {before after : Bag T S} {e : X}
       → (h : InsertsUpTo eq steps Goes Why it before after e) → IsBagOf eq before (add_all eq before.items h.pairs) after
   some_added {before = before} {after = after} h = left_in_turn h.pairs before after h.bag h.turn
 
@@ -198,7 +198,7 @@ module _ {T S : Type 0} {eq : T → T → Bool} (laws : IsEquivalence eq) where
   all_made {steps = steps} {Goes = Goes} {it = it} {made = made} {after = after} none slots limit h =
       subst (λ (b : Bag T S). InsertsAll eq steps Goes it b after) (empty_before made after none slots limit (all_added h).hasher) h
 
-  pub some_made : {I A : Type 0} {steps : I → Option A → I → Type 0} {Goes : A → T × ℕ → Type 0} {Why : Bag T S → A → BagError → Type 0} {it : I} {made after : Bag T S} {e : BagError}
+  pub some_made : {I A : Type 0} {steps : I → Option A → I → Type 0} {Goes : A → T × ℕ → Type 0} {X : Type 0} {Why : Bag T S → A → X → Type 0} {it : I} {made after : Bag T S} {e : X}
       → made.items ≡ [] → made.tables ≡ no_slots 0 → made.most ≡ greatest_total → InsertsUpTo eq steps Goes Why it made after e → InsertsUpTo eq steps Goes Why it (empty_bag after.hasher) after e
   some_made {steps = steps} {Goes = Goes} {Why = Why} {it = it} {made = made} {after = after} {e = e} none slots limit h =
       subst (λ (b : Bag T S). InsertsUpTo eq steps Goes Why it b after e) (empty_before made after none slots limit (some_added h).hasher) h
@@ -245,7 +245,7 @@ module _ {T S A : Type 0} (eq : T → T → Bool) (Goes : A → T × ℕ → Typ
   all_went items so_far came = record { bag = so_far.bag; items = items; came = came; pairs = so_far.pairs; went = so_far.went; turn = so_far.turn }
 
   -- the next item was refused, and left the bag as it was
-  pub some_went : {I : Type 0} {steps : I → Option A → I → Type 0} {Why : Bag T S → A → BagError → Type 0} {it : I} {before after : Bag T S} {e : BagError} → (now : Bag T S) (items : List A) (x : A) (rest : I)
+  pub some_went : {I X : Type 0} {steps : I → Option A → I → Type 0} {Why : Bag T S → A → X → Type 0} {it : I} {before after : Bag T S} {e : X} → (now : Bag T S) (items : List A) (x : A) (rest : I)
       → SoFar before now items → YieldsThen steps it items (Some x) rest → after ≡ now → Why now x e → InsertsUpTo eq steps Goes Why it before after e
   some_went {steps = steps} {Why = Why} {it = it} {before = before} {e = e} now items x rest so_far came same why =
       subst (λ (b : Bag T S). InsertsUpTo eq steps Goes Why it before b e) (sym same) (record {

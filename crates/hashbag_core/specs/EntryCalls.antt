@@ -35,8 +35,8 @@ module _ {T S : Type 0} (eq : T → T → Bool) {F : Type 0} (g : Once F (MutBor
     pub absent : count eq v bag.items ≡ 0 → after ≡ bag
     pub present : 0 < count eq v bag.items → (n : ℕ) × MayLeave n × (length bag.items - count eq v bag.items + n ≤ bag.most) × IsBagOf eq bag (recount eq v n bag.items) after
 
-  -- v is there, and with what f left of its count the total would pass the bag's limit
-  pub record PassesEnd : Type 0 where
+  -- v is present, and with the count that f left the total would pass the bag's limit
+  pub record PassesLimit : Type 0 where
     pub present : 0 < count eq v bag.items
     pub number : ℕ
     pub left : MayLeave number

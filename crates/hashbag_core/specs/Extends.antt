@@ -1,5 +1,5 @@
 -- Which pair is inserted for each item, and why an insertion may fail. `Inserts` has what is left.
-use Rattle.std.specs.Prelude.{◌≡◌, ℕ, ◌+◌, ◌<◌, ◌≤◌, Bool, List, [], ◌∷◌, length}
+use Rattle.std.specs.Prelude.{◌≡◌, ℕ, ◌+◌, ◌<◌, ◌≤◌, Bool, List, [], ◌∷◌, length, Result, Ok, Err}
 use denote.Ref.{Bor}
 use Rattle.hashbag_core.specs.declared.bag.BagError.{BagError}
 use Rattle.hashbag_core.specs.declared.bag.BagError.TheVariants.{Memory, TooMany, BelowTotal}
@@ -12,6 +12,11 @@ Once x p = p ≡ (x, 1)
 -- the pair of a value and a number that is inserted for a pair: the pair as it is
 abbrev pub AsItIs : {T : Type 0} → T × ℕ → T × ℕ → Type 0
 AsItIs e p = p ≡ e
+
+-- the pair that is inserted for a result: its value, once. For an error none is
+abbrev pub OkOnce : {T E : Type 0} → Result T E → T × ℕ → Type 0
+OkOnce (Ok x) p = p ≡ (x, 1)
+OkOnce (Err e) p = ⊥
 
 -- the pair that is inserted for a lent value: a clone of it, once
 abbrev pub CloneOnce : {T : Type 0} → (T → T → Type 0) → Bor T → T × ℕ → Type 0

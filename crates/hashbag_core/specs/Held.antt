@@ -32,8 +32,8 @@ module _ {T : Type 0} (eq : T → T → Bool) where
   Recounts v n old new = Rewrites (eq v) (left_in n) old new
 
   -- v itself is stored, once, in the slot of the value that is equal to it, and no other slot is changed
-  abbrev pub Restores : T → Tables T → Tables T → Type 0
-  Restores v old new = Rewrites (eq v) (λ _. Live v 1) old new
+  abbrev pub StoresOver : T → Tables T → Tables T → Type 0
+  StoresOver v old new = Rewrites (eq v) (λ _. Live v 1) old new
 
 module _ {T S : Type 0} (eq : T → T → Bool) where
   -- the slot of v alone is changed, and has the count that v has in `after`
@@ -49,7 +49,7 @@ abbrev pub BuildsSlots : {T S : Type 0} → ℕ → Bag T S → Bag T S → Type
 BuildsSlots m before after = after.tables.built ≡ before.tables.built + m
 
 -- `after` is `before` without n occurrences of the value that a key names, or without all if they are fewer. The fields say its list; the
--- slot of the value, if it was present; that nothing changed, if it was absent; as many slots, and no less room
+-- slot of the value, if it was present; that nothing changed, if it was absent; and that there are as many slots and no less room
 pub record HasFewer {T S : Type 0} (eq : T → T → Bool) (names : T → Bool) (n : ℕ) (before after : Bag T S) : Type 0 where
   pub left : IsBagOf eq before (less_named names n before.items) after
   pub slot : 0 < count_named names before.items → Rewrites names (left_in (count_named names before.items - n)) before.tables after.tables

@@ -1,14 +1,16 @@
 -- What one insertion leaves of a whole bag, and what insertions in turn leave.
-use Rattle.std.specs.Prelude.{◌≡◌, ℕ, ◌+◌, ◌<◌, ◌≤◌, ◌⊎◌, Bool, List, [], ◌∷◌, length, Option, Some}
+use Rattle.std.specs.Prelude.{◌≡◌, ℕ, ◌+◌, ◌<◌, ◌≤◌, ◌⊎◌, Bool, List, [], ◌∷◌, length, Option, Some, Result, Ok, Err}
 use denote.Ref.{Bor}
 use Rattle.std.specs.List.{AllZip}
 use Rattle.std.specs.Iterator.{Drains, YieldsThen}
 use Rattle.hashbag_table.specs.Tables.{room, Arrives, KeepsRoom}
 use Rattle.hashbag_core.specs.declared.bag.BagError.{BagError}
 use Rattle.hashbag_core.specs.declared.bag.BagError.TheVariants.{Memory}
+use Rattle.hashbag_core.specs.declared.bag.extends.TryExtendError.{TryExtendError}
+use Rattle.hashbag_core.specs.declared.bag.extends.TryExtendError.TheVariants.{Item, Insertion}
 use Rattle.hashbag_core.specs.Bag.{Bag, IsBagOf, HasOneValueMore, limited}
 use Rattle.hashbag_core.specs.Extends.{CloneOnce, CloneAsOften, Refuses, RefusesClones}
-use Rattle.hashbag_core.specs.Held.{AreHeld, Recounts, Restores, no_slots}
+use Rattle.hashbag_core.specs.Held.{AreHeld, Recounts, StoresOver, no_slots}
 use Rattle.hashbag_core.specs.Occurrences.{greatest_total, count, add, put, distinct_count, IsBag}
 
 -- an empty bag of no slots under this state, for which no limit is set
@@ -38,7 +40,7 @@ module _ {T S : Type 0} (eq : T → T → Bool) where
     pub len : length after.items + count eq v before.items ≡ length before.items + 1
     pub new_set : count eq v before.items ≡ 0 → HasOneValueMore eq before after
     pub arrives : count eq v before.items ≡ 0 → Arrives before.tables after.tables
-    pub slot : 0 < count eq v before.items → Restores eq v before.tables after.tables
+    pub slot : 0 < count eq v before.items → StoresOver eq v before.tables after.tables
     pub less_room : 0 < room before.tables → KeepsRoom 1 before.tables after.tables
     pub same_room : 0 < count eq v before.items → KeepsRoom 0 before.tables after.tables
 
@@ -58,7 +60,7 @@ module _ {T S : Type 0} (eq : T → T → Bool) where
   IsMadeOf pairs bag = InTurn pairs (limited bag.most (empty_bag bag.hasher)) bag
 
   module _ {I A : Type 0} (steps : I → Option A → I → Type 0) (Goes : A → T × ℕ → Type 0) where
-    -- all items that an iterator gave were inserted one after the other
+    -- all items that an iterator gave (`came`) were inserted one after the other, each as a pair (`went`)
     pub record InsertsAll (it : I) (before after : Bag T S) : Type 0 where
       pub bag : IsBag eq before.most before.items
       pub items : List A
@@ -68,7 +70,7 @@ module _ {T S : Type 0} (eq : T → T → Bool) where
       pub turn : InTurn pairs before after
 
     -- the items before `refused` were inserted in turn, and `refused` failed in the bag that they left
-    pub record InsertsUpTo (Why : Bag T S → A → BagError → Type 0) (it : I) (before after : Bag T S) (e : BagError) : Type 0 where
+    pub record InsertsUpTo {X : Type 0} (Why : Bag T S → A → X → Type 0) (it : I) (before after : Bag T S) (e : X) : Type 0 where
       pub bag : IsBag eq before.most before.items
       pub items : List A
       pub refused : A
@@ -86,6 +88,13 @@ module _ {T S : Type 0} (eq : T → T → Bool) where
   -- inserting a value as often as its count says may fail with e
   abbrev pub RefusesPair : Bag T S → T × ℕ → BagError → Type 0
   RefusesPair bag p e = IsRefused bag p.0 p.1 e
+
+  -- an extend by results may fail at one with this error: at an error with that, at a value if inserting it once may fail
+  abbrev pub EndsTry : {E : Type 0} → Bag T S → Result T E → TryExtendError E → Type 0
+  EndsTry bag (Err x) (Item e) = e ≡ x
+  EndsTry bag (Err x) (Insertion e) = ⊥
+  EndsTry bag (Ok v) (Item e) = ⊥
+  EndsTry bag (Ok v) (Insertion e) = RefusesOne bag v e
 
   module _ (is_clone : T → T → Type 0) (is_infallible : T → Type 0) where
     -- inserting n clones of v may fail with e: with `Memory` only if cloning v may fail, or if inserting n of a clone may

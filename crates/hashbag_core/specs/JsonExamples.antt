@@ -89,7 +89,7 @@ just_enough : fault_of (pair (tree_of 1) (tree_of 9) ∷ pair (tree_of 2) (tree_
 unfolding first_fault
 just_enough = refl
 
--- memory may end a reading at the pair with which the total passes its end, for its item
+-- reading may fail with `Memory` at a pair that passes the limit, since its item is allocated first
 may_end : MayEnd 9 has_item (list (pair (tree_of 1) (tree_of 9) ∷ pair (tree_of 2) (tree_of 1) ∷ []))
 unfolding first_fault
 may_end = record {
@@ -134,7 +134,7 @@ negative_limit = refl
 no_limit : fault 9 has_item (object (member pairs_name (list []) no_members)) ≡ Some BadLimit
 no_limit = refl
 
--- and after a member that is missing, or one too many
+-- a missing or an extra member is returned before a bad limit
 no_pairs : fault 9 has_item (object (member limit_name (tree_of 1) no_members)) ≡ Some NotAnArray
 no_pairs = refl
 

@@ -93,7 +93,7 @@ pub record IsCountedItem (has_item : Data → Bool) (d : Data) : Type 0 where
   pub is_count : u64_of number ≡ Some count
   pub item : has_item tree ≡ true
 
--- `end` is the limit that is read under, and `has_item` decides which trees are those of items
+-- `end` is the limit under which the pairs are read, and `has_item` decides which trees are those of items
 module _ (end : ℕ) (has_item : Data → Bool) where
   -- the fault of pair i by its item and its count, if the counts before it sum to `total`: the count is judged before the
   -- item, and the item before the total
@@ -111,8 +111,8 @@ module _ (end : ℕ) (has_item : Data → Bool) where
   first_fault i total [] = None
   first_fault i total (d ∷ ds) = option_or (pair_fault i total (pair_of d)) (first_fault (i + 1) (total + unwrap_or (pair_count d) 0) ds)
 
-  -- memory may end a reading of these pairs: at one with a count and an item, whose only fault can be the total, if no pair before
-  -- it has a fault
+  -- reading these pairs may fail with `Memory`: at a pair that has a count and an item, if no pair before it has a fault. That pair's own
+  -- count may be too great for the limit
   pub record MayEndAmong (ds : List Data) : Type 0 where
     pub before : List Data
     pub pair : Data
@@ -141,7 +141,7 @@ module _ (most : ℕ) (has_item : Data → Bool) where
   abbrev pub fault : Data → Option JsonError
   fault d = opened_fault (opened d)
 
-  -- memory may end a reading of d
+  -- reading d may fail with `Memory`
   pub record MayEnd (d : Data) : Type 0 where
     pub limit : ℕ
     pub trees : List Data

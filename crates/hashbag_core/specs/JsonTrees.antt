@@ -32,7 +32,7 @@ module _ {T : Type 0} (reads : Data → T → Type 0) where
     pub each : AllZip IsPair trees pairs
 
 module _ {T : Type 0} (eq : T → T → Bool) (reads : Data → T → Type 0) where
-  -- whatever pairs d is read as, added up they have the counts of X
+  -- if d can be read as some pairs, these add up to the counts of X
   abbrev pub ReadsBack : List T → Data → Type 0
   ReadsBack X d = (pairs : List (T × ℕ)) → IsReading reads d pairs → SameCounts eq (add_all eq [] pairs) X
 

@@ -16,6 +16,7 @@ pub mod JsonExamples
 pub mod JsonFaults
 pub mod JsonItemLaws
 pub mod JsonItems
+pub mod JsonTexts
 pub mod JsonTrees
 pub mod Keys
 pub mod Lending

@@ -29,17 +29,15 @@ module _ {T : Type 0} (eq : T → T → Bool) where
     pub each : IsEach X values
     pub pieces : W ≡ flat_map (λ v. replicate (count eq v X) v) values
 
-  -- W is a walk of every list that the bag means, and one of them. So it is as long as the bag, and its items can be
-  -- counted
+  -- W is a walk of every list that the bag means, and is itself such a list. So it is as long as the bag, and its length fits a `usize`
   pub record IsWalkOf {S : Type 0} (bag : Bag T S) (W : List T) : Type 0 where
     pub walk : (X : List T) → Means bag X → IsWalk X W
     pub means : Means bag W
     pub len : length W ≡ length bag.items
     pub fits : length bag.items ≤ greatest_total
 
-  -- W is a set walk of each list that the bag means, and such a list itself once its counts are written out. So the counts
-  -- add up to the length of the bag, there are as many entries as distinct values and no more than occurrences, and all of
-  -- these can be counted
+  -- W is a set walk of each list that the bag means, and such a list itself once its counts are written out. So the counts add up to the
+  -- length of the bag, there are as many entries as distinct values and no more than occurrences, and each of these numbers fits a `usize`
   pub record IsSetWalkOf {S : Type 0} (bag : Bag T S) (W : List (T × ℕ)) : Type 0 where
     pub walk : (X : List T) → Means bag X → IsSetWalk X W
     pub means : Means bag (occurrences W)

@@ -20,6 +20,7 @@ mod retain;
 mod spare;
 mod take;
 
+pub use extends::TryExtendError;
 use hashbag_table::{Key, Table};
 use std::alloc::AllocError;
 use std::hash::{BuildHasher, BuildHasherDefault, FoldHasher, Hash};
@@ -33,7 +34,7 @@ pub enum BagError {
     #[error("no memory")]
     Memory,
     /// The total would pass the bag's limit.
-    #[error("total past its end")]
+    #[error("total past its limit")]
     TooMany,
     /// The limit would be below the total.
     #[error("limit below total")]
@@ -290,7 +291,7 @@ impl<T: Eq + Hash + Drop, S: BuildHasher + Drop> HashBag<T, S> {
     ///
     /// # Errors
     ///
-    /// - `TooMany` if the total would pass the limit. That is tested first.
+    /// - `TooMany` exactly if the total would pass the limit. That is tested first.
     /// - `Memory` if the value is absent, there is no room, and an allocation fails.
     ///
     /// Then the bag is unchanged, and the value is dropped.
@@ -378,7 +379,7 @@ impl<T: Eq + Hash + Drop, S: BuildHasher + Drop> HashBag<T, S> {
         }
         let before = self.table.add(value, n)?;
         self.len += n;
-        // Does nothing at run time. It gives the proof the contract of `held`: what the slots hold.
+        // Only for the proof: it uses the clause `held` of `Table::held`.
         self.table.held();
         Ok(before)
     }
@@ -388,7 +389,7 @@ impl<T: Eq + Hash + Drop, S: BuildHasher + Drop> HashBag<T, S> {
     ///
     /// # Errors
     ///
-    /// - `TooMany` exactly if the total would pass the limit. That is tested first, and can't be if the value is present.
+    /// - `TooMany` exactly if the total would pass the limit. That is tested first, and can't happen if the value is present.
     /// - `Memory` if the value is absent, there is no room, and an allocation fails.
     ///
     /// Then the bag is unchanged, and the value is dropped.
@@ -443,7 +444,7 @@ impl<T: Eq + Hash + Drop, S: BuildHasher + Drop> HashBag<T, S> {
     // Inserts one or more occurrences of an absent value.
     pub(crate) fn insert_new(&mut self, value: T, quantity: usize) -> Result<(), BagError>
         requires absent { count T.eq value self.old.items ≡ 0 }
-        requires some { 0 < quantity }
+        requires positive { 0 < quantity }
         requires fits { length self.old.items + quantity ≤ self.old.most }
         ensures inserted { OnOk result (Inserts T.eq value quantity self.old self.new) }
         ensures memory { IfErr result (λ e. e ≡ BagError.Memory) }
@@ -454,7 +455,7 @@ impl<T: Eq + Hash + Drop, S: BuildHasher + Drop> HashBag<T, S> {
     {
         self.table.insert_new(value, quantity)?;
         self.len += quantity;
-        // Does nothing at run time. It gives the proof the contract of `held`: what the slots hold.
+        // Only for the proof: it uses the clause `held` of `Table::held`.
         self.table.held();
         Ok(())
     }

@@ -1,4 +1,5 @@
-//! `Entry`: the place of a value in a bag. In clauses `self.entry` is the entry at the call, and `self.exit.0` the bag that it leaves.
+//! `Entry`: the place of a value in a bag. In clauses `.entry` is the receiver as it was passed: in `HashBag::entry` the bag, else the
+//! `Entry`. `self.exit.0` is the bag that the call leaves.
 ghost use Rattle.std.specs.Prelude.{◌≡◌, ◌+◌, ◌<◌, ◌≤◌, ◌↔◌, ℕ, length, IsOk, IfOk, IfErr, OnErr};
 ghost use Rattle.hashbag_table.specs.Tables.{room, KeepsRoom};
 ghost use Rattle.hashbag_core.specs.Held.{RecountsAs};
@@ -50,7 +51,7 @@ impl<T: Eq + Hash + Drop, S: BuildHasher + Drop> HashBag<T, S> {
 }
 
 impl<'a, T: Eq + Hash + Drop, S: BuildHasher + Drop> Entry<'a, T, S> {
-    ghost use Rattle.hashbag_core.specs.EntryCalls.{entry_count, IsOccupied, IsVacant, KeepsOthers, ChangesCount, PassesEnd};
+    ghost use Rattle.hashbag_core.specs.EntryCalls.{entry_count, IsOccupied, IsVacant, KeepsOthers, ChangesCount, PassesLimit};
     ghost use Rattle.hashbag_core.specs.Lending.{rests_if_refused};
 
     /// Returns the stored instance if the entry is occupied, else the given value.
@@ -107,9 +108,10 @@ impl<'a, T: Eq + Hash + Drop, S: BuildHasher + Drop> Entry<'a, T, S> {
         ensures same_bag { IfOk result (λ e. e.bag.ghost_name ≡ self.entry.bag.ghost_name) }
         ensures same_value { IfOk result (λ e. e.value ≡ self.entry.value) }
 
-        // A vacant entry is unchanged. Of an occupied one `f` left the new count; or it left one that passes the limit, and the call failed.
+        // A vacant entry is unchanged. An occupied one has the count that `f` left. If the call failed, the total with that count would
+        // pass the limit.
         ensures changes { IfOk result (λ e. ChangesCount T.eq F.FnOnce f self.entry.value self.entry.bag.now e.bag.now) }
-        ensures passes { IfErr result (λ e. (e ≡ BagError.TooMany) × PassesEnd T.eq F.FnOnce f self.entry.value self.entry.bag.now) }
+        ensures passes { IfErr result (λ e. (e ≡ BagError.TooMany) × PassesLimit T.eq F.FnOnce f self.entry.value self.entry.bag.now) }
 
         // The other values have as many occurrences together as before.
         ensures len { IfOk result (λ e. KeepsOthers T.eq self.entry.value self.entry.bag.now e.bag.now) }

@@ -409,7 +409,7 @@ impl<T: Eq + Hash + Drop, S: BuildHasher + Drop> HashBag<T, S> {
     /// ```
     pub fn drain(&mut self) -> Drain<'_, T>
         // Once the loan is over, the bag has no occurrences and no slots, and the same state and limit.
-        ensures* writes_back { sem 𝓛 (follows_drain T.row S.row S.Hasher.row T.Hash S.BuildHasher S.Hasher.Hasher self.entry (drain_name result)) }
+        ensures* ends_empty { sem 𝓛 (follows_drain T.row S.row S.Hasher.row T.Hash S.BuildHasher S.Hasher.Hasher self.entry (drain_name result)) }
 
         // The walk gives each value that was in the bag once, with its count.
         ensures set_walk { IsSetWalkOf T.eq self.old (drain_rest result) }

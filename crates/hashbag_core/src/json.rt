@@ -12,12 +12,14 @@ ghost use Rattle.hashbag_core.specs.JsonTrees.{IsPair, IsReading};
 ghost use Rattle.hashbag_core.specs.Occurrences.{greatest_total, IsBag};
 
 mod items;
+mod texts;
 mod trees;
 
 use crate::bag::{BagError, HashBag};
 use serde_json::{Map, Value};
 use std::alloc::{AllocError, Global};
 use std::hash::{BuildHasher, Hash};
+pub use texts::JsonText;
 use thiserror::Error;
 
 /// Why a tree can't be read as an item.
@@ -77,7 +79,7 @@ pub enum JsonError {
     #[error("pair {0}: bad item")]
     BadItem(usize),
     /// The total would pass the limit with the pair.
-    #[error("pair {0}: total past its end")]
+    #[error("pair {0}: total past its limit")]
     TooMany(usize),
     /// An allocation failed.
     #[error("no memory")]
@@ -119,7 +121,7 @@ impl JsonError {
 /// Values that are written as JSON trees and read back.
 ///
 /// An implementation defines for contracts which values are items, which tree an item has, which trees have an item, and when a tree is
-/// read as an item. It proves that these agree with `==` and with one another.
+/// read as an item. It proves that these agree with `==` and with one another. For a type that is written as a string, [`JsonText`] asks for less.
 pub trait JsonItem: Eq + Sized {
     /// Holds of the values of the type.
     ghost is_item: { Self → Type 0 };
@@ -166,7 +168,7 @@ pub trait JsonItem: Eq + Sized {
     /// Ok(())
     /// ```
     fn from_json(alloc: Global, v: &Value) -> Result<Self, ItemError>
-        // The result is an item, as which the tree is read.
+        // The tree is read as the result, which is an item.
         ensures item { IfOk result (λ x. is_item x × reads (view v.now) x) }
         ensures not_an_item { (result ≡ Err ItemError.NotAnItem) ↔ (has_item (view v.now) ≡ false) };
 
@@ -311,7 +313,7 @@ impl<T: JsonItem + Hash + Drop, S: BuildHasher + Drop> HashBag<T, S> {
     /// - Of the first pair with a fault: `NotAPair` if it is no array of two; `BadCount`; `BadItem`; `TooMany` if the total would pass the
     ///   limit.
     ///
-    /// `Memory` if an allocation fails before such a pair or for its item. Then there is no bag.
+    /// `Memory` if an allocation fails before the first fault is found. Then there is no bag.
     ///
     /// # Examples
     ///

@@ -8,9 +8,9 @@ pub mod iters;
 pub mod joins;
 pub mod json;
 
-pub use bag::{BagError, FixedState, HashBag};
+pub use bag::{BagError, FixedState, HashBag, TryExtendError};
 pub use entry::Entry;
 pub use hashbag_table::{Key, Spare, ToValue};
 pub use iters::{Drain, IntoIter, Iter, SetIter};
 pub use joins::{Difference, NotIn, OuterJoin, SignedDifference};
-pub use json::{ItemError, JsonError, JsonItem};
+pub use json::{ItemError, JsonError, JsonItem, JsonText};

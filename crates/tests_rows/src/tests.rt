@@ -11,4 +11,5 @@ mod own_bytes;
 mod replies;
 mod tables;
 mod trees;
+mod tries;
 mod walks;

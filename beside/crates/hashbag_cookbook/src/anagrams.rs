@@ -1,40 +1,34 @@
 //! Groups the words of a text that have the same letters.
 use anyhow::Result;
 use hashbag::HashBag;
+use hashbag_ops::sorted;
 use std::alloc::Global;
+use std::collections::BTreeMap;
 use std::io::Write;
 
 const TEXT: &str = "listen stale part silent dog least trap enlist";
 
-#[derive(Drop)]
-struct Group {
-    letters: HashBag<char>,
-    words: String,
-}
-
-// Adds a word to the group that has its letters, or else to a new one.
-fn add(alloc: Global, groups: &mut Vec<Group>, word: &str) -> Result<()> {
-    let letters: HashBag<char> = HashBag::from_iter(alloc, word.chars())?;
-    for group in groups.iter_mut() {
-        if group.letters == letters {
-            write!(group.words, " {word}")?;
-            return Ok(());
-        }
+// Each letter of a word with its count, in ascending order. A bag can't be the key of a map, but this list can: equal bags have equal lists.
+fn letters_of(alloc: Global, word: &str) -> Result<Vec<(char, usize)>> {
+    let bag: HashBag<char> = HashBag::from_iter(alloc, word.chars())?;
+    let mut letters = Vec::new(alloc);
+    for (letter, count) in sorted(alloc, &bag)? {
+        letters.push((*letter, count))?;
     }
-    let words = word.to_string(alloc)?;
-    groups.push(Group { letters, words })?;
-    Ok(())
+    Ok(letters)
 }
 
-/// Writes a line for each group, in the order of their first words.
+/// Writes a line for each group, in the order of their letters.
 pub fn show<W: Write>(alloc: Global, out: &mut W) -> Result<()> {
     writeln!(out, "anagrams")?;
-    let mut groups = Vec::new(alloc);
+    let mut groups = BTreeMap::new(alloc);
     for word in TEXT.split_whitespace() {
-        add(alloc, &mut groups, word)?;
+        let letters = letters_of(alloc, word)?;
+        let group = groups.entry(letters)?.or_insert(String::new(alloc));
+        write!(group, " {word}")?;
     }
-    for group in &groups {
-        writeln!(out, "{}", group.words)?;
+    for group in groups.values() {
+        writeln!(out, "{}", group.trim_start())?;
     }
     Ok(())
 }

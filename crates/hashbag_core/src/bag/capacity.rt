@@ -75,7 +75,7 @@ impl<T: Eq + Hash + Drop, S: BuildHasher + Drop> HashBag<T, S> {
     pub fn waiting(&self) -> usize
         ensures waiting { result ≡ length self.now.tables.waiting }
 
-        // If each insertion that there is room for carries 16 of them, all are carried.
+        // The insertions that there is room for carry all waiting slots, 16 each.
         ensures carries { result ≤ 16 * room self.now.tables }
 
         // If there are some, they are at least 16 fewer than the newer slots; if none, the older table has no slots.
@@ -85,8 +85,8 @@ impl<T: Eq + Hash + Drop, S: BuildHasher + Drop> HashBag<T, S> {
         self.table.waiting()
     }
 
-    /// Carries all slots of the older table that aren't carried yet, so that a look-up then probes one table alone. What occurs stays, and
-    /// no room is lost.
+    /// Carries all slots of the older table that aren't carried yet, so that a look-up then probes one table alone. The occurrences stay,
+    /// and no room is lost.
     ///
     /// Otherwise only insertions of absent values carry. So a bag that is filled once and then only looked up is faster after this call. If
     /// no slot waits to be carried, the call does nothing.
@@ -138,7 +138,7 @@ impl<T: Eq + Hash + Drop, S: BuildHasher + Drop> HashBag<T, S> {
         self.table.room()
     }
 
-    /// Makes room for `n` more distinct values: the next `n` insertions of absent values don't allocate slots. What occurs stays.
+    /// Makes room for `n` more distinct values: the next `n` insertions of absent values don't allocate slots. The occurrences stay.
     ///
     /// # Errors
     ///
@@ -176,7 +176,7 @@ impl<T: Eq + Hash + Drop, S: BuildHasher + Drop> HashBag<T, S> {
         Ok(())
     }
 
-    /// Frees slots that the bag doesn't need. What occurs stays, and an empty bag is left with no slots.
+    /// Frees slots that the bag doesn't need. The occurrences stay, and an empty bag is left with no slots.
     ///
     /// # Errors
     ///
@@ -210,7 +210,7 @@ impl<T: Eq + Hash + Drop, S: BuildHasher + Drop> HashBag<T, S> {
         ensures enough { (m : ℕ) → NeedsSlots T.eq self.old m → length self.old.tables.newer ≤ m → IsOk result × (self.new ≡ self.old) }
     {
         self.table.shrink_to_fit()?;
-        // Does nothing at run time. It gives the proof the contract of `waiting`: what waits if there are no slots.
+        // Only for the proof: it uses the clauses `waiting`, `smaller` and `freed` of `Table::waiting`.
         let _waiting = self.table.waiting();
         Ok(())
     }

@@ -1,16 +1,30 @@
 //! Bags built from the items of an iterator, and bags to which these are added.
-ghost use Rattle.std.specs.Prelude.{◌≡◌, ◌<◌, [], OnOk, IfOk, IfErr, OnErr};
+ghost use Rattle.std.specs.Prelude.{◌≡◌, ◌<◌, [], OnOk, IfOk, IfErr, OnErr, IsOkAnd};
 ghost use Rattle.std.specs.Iterator.{IsFinite};
 ghost use Rattle.hashbag_core.specs.Bag.{Bag};
 ghost use Rattle.hashbag_core.specs.Occurrences.{greatest_total};
 ghost use Rattle.hashbag_core.specs.Held.{no_slots};
-ghost use Rattle.hashbag_core.specs.Extends.{Once, AsItIs, CloneOnce, CloneAsOften};
-ghost use Rattle.hashbag_core.specs.Inserts.{empty_bag, Inserts, InsertsAll, InsertsUpTo, RefusesOne, RefusesPair};
+ghost use Rattle.hashbag_core.specs.Extends.{Once, AsItIs, OkOnce, CloneOnce, CloneAsOften};
+ghost use Rattle.hashbag_core.specs.Inserts.{empty_bag, Inserts, InsertsAll, InsertsUpTo, RefusesOne, RefusesPair, EndsTry};
 ghost use Rattle.hashbag_core.specs.Inserts.{IsCloneRefused, ClonesUpTo, ClonesManyUpTo};
 
 use crate::bag::{BagError, HashBag};
 use std::alloc::Global;
+use std::fmt::Display;
 use std::hash::{BuildHasher, Hash};
+use thiserror::Error;
+
+/// Why an extend by results failed: an item was an error, or an insertion failed.
+#[derive(Clone, Debug, PartialEq, Eq, Drop, Error)]
+#[error_bound(E: Display)]
+pub enum TryExtendError<E> {
+    /// The error of the item.
+    #[error("{0}")]
+    Item(E),
+    /// The error of the insertion.
+    #[error("{0}")]
+    Insertion(BagError),
+}
 
 impl<T: Eq + Hash + Drop, S: BuildHasher + Drop> HashBag<T, S> {
     /// Returns an empty bag without slots, under the default state. It doesn't allocate.
@@ -62,7 +76,7 @@ impl<T: Eq + Hash + Drop, S: BuildHasher + Drop> HashBag<T, S> {
         ensures hasher { IfOk result (λ bag. S.is_default bag.hasher) }
         ensures limit { IfOk result (λ bag. bag.most ≡ greatest_total) }
 
-        // If it fails, an item failed, after those before it were inserted into some bag.
+        // If it fails, an item failed in the bag that the items before it had made, which is dropped.
         ensures refused { IfErr result (λ e. (bag : Bag T S) × InsertsUpTo T.eq I.next_gives Once (RefusesOne T.eq) items (empty_bag bag.hasher) bag e) }
     {
         let mut bag = HashBag::default_in(alloc);
@@ -98,11 +112,46 @@ impl<T: Eq + Hash + Drop, S: BuildHasher + Drop> HashBag<T, S> {
         ensures hasher { IfOk result (λ bag. S.is_default bag.hasher) }
         ensures limit { IfOk result (λ bag. bag.most ≡ greatest_total) }
 
-        // If it fails, a pair failed, after those before it were inserted into some bag.
+        // If it fails, a pair failed in the bag that the pairs before it had made, which is dropped.
         ensures refused { IfErr result (λ e. (bag : Bag T S) × InsertsUpTo T.eq I.next_gives AsItIs (RefusesPair T.eq) pairs (empty_bag bag.hasher) bag e) }
     {
         let mut bag = HashBag::default_in(alloc);
         bag.extend_many(pairs)?;
+        Ok(bag)
+    }
+
+    /// Builds a bag of the values of results, under the default state: an empty bag that is extended by [`HashBag::try_extend`].
+    ///
+    /// # Errors
+    ///
+    /// Those of [`HashBag::try_extend`]. Then there is no bag.
+    ///
+    /// # Examples
+    ///
+    /// ```
+    /// let numbers: HashBag<u64> = HashBag::try_from_iter(alloc, "3 5 3".split(' ').map(|s| s.parse::<u64>()))?;
+    /// numbers.contains(&3); // 2
+    /// Ok(())
+    /// ```
+    pub fn try_from_iter<E, I: Iterator<Item = Result<T, E>> + Drop>(
+        alloc: Global,
+        items: I,
+    ) -> Result<HashBag<T, S>, TryExtendError<E>>
+    where
+        S: Default,
+        requires can { I.can_next items }
+        requires ends { IsFinite (I.remaining items) }
+        ensures all { IfOk result (λ bag. InsertsAll T.eq I.next_gives OkOnce items (empty_bag bag.hasher) bag) }
+
+        // The state is the default, and no limit is set.
+        ensures hasher { IfOk result (λ bag. S.is_default bag.hasher) }
+        ensures limit { IfOk result (λ bag. bag.most ≡ greatest_total) }
+
+        // If it fails, an item was that error, or failed in the bag that the values before it had made, which is dropped.
+        ensures refused { IfErr result (λ e. (bag : Bag T S) × InsertsUpTo T.eq I.next_gives OkOnce (EndsTry T.eq) items (empty_bag bag.hasher) bag e) }
+    {
+        let mut bag = HashBag::default_in(alloc);
+        bag.try_extend(items)?;
         Ok(bag)
     }
 
@@ -137,10 +186,52 @@ impl<T: Eq + Hash + Drop, S: BuildHasher + Drop> HashBag<T, S> {
         ensures all { OnOk result (InsertsAll T.eq I.next_gives Once items self.old self.new) }
         ensures refused { IfErr result (InsertsUpTo T.eq I.next_gives Once (RefusesOne T.eq) items self.old self.new) }
     {
-        // Does nothing at run time. It gives the proof the contract of `len`: its clause `bag`.
+        // Only for the proof: it uses the clause `bag` of `len`.
         let _len = self.len();
         for item in items {
             self.insert_within(item, 1)?;
+        }
+        Ok(())
+    }
+
+    /// Inserts the value of each result in turn, as [`HashBag::insert`] does, until the iterator ends, an item is an error, or an insertion
+    /// fails. The caller ensures that the items end.
+    ///
+    /// # Errors
+    ///
+    /// - `Item(error)` at the first item that is `Err(error)`.
+    /// - `Insertion(error)` if an insertion fails as in [`HashBag::extend`].
+    ///
+    /// The values of the items before that one stay in the bag. The iterator is dropped with the items after it.
+    ///
+    /// # Complexity
+    ///
+    /// Same as [`HashBag::extend`].
+    ///
+    /// # Examples
+    ///
+    /// ```
+    /// let mut numbers = HashBag::new(alloc);
+    /// numbers.try_extend("3 5 x 3".split(' ').map(|s| s.parse::<u64>())).is_err(); // true
+    /// numbers.contains(&3); // 1
+    /// numbers.len(); // 2
+    /// Ok(())
+    /// ```
+    pub fn try_extend<E, I: Iterator<Item = Result<T, E>> + Drop>(
+        &mut self,
+        items: I,
+    ) -> Result<(), TryExtendError<E>>
+        requires can { I.can_next items }
+        requires ends { IsFinite (I.remaining items) }
+
+        // No item was an error, and all values were inserted in turn. Or those before an item that was the error, or failed.
+        ensures all { OnOk result (InsertsAll T.eq I.next_gives OkOnce items self.old self.new) }
+        ensures refused { IfErr result (InsertsUpTo T.eq I.next_gives OkOnce (EndsTry T.eq) items self.old self.new) }
+    {
+        // Only for the proof: it uses the clause `bag` of `len`.
+        let _len = self.len();
+        for item in items {
+            self.insert_result(item)?;
         }
         Ok(())
     }
@@ -149,7 +240,7 @@ impl<T: Eq + Hash + Drop, S: BuildHasher + Drop> HashBag<T, S> {
     ///
     /// # Errors
     ///
-    /// Those of [`HashBag::extend`], of a pair in the place of an item.
+    /// Those of [`HashBag::extend`], with a pair instead of an item.
     ///
     /// # Complexity
     ///
@@ -175,7 +266,7 @@ impl<T: Eq + Hash + Drop, S: BuildHasher + Drop> HashBag<T, S> {
         ensures all { OnOk result (InsertsAll T.eq I.next_gives AsItIs pairs self.old self.new) }
         ensures refused { IfErr result (InsertsUpTo T.eq I.next_gives AsItIs (RefusesPair T.eq) pairs self.old self.new) }
     {
-        // Does nothing at run time. It gives the proof the contract of `len`: its clause `bag`.
+        // Only for the proof: it uses the clause `bag` of `len`.
         let _len = self.len();
         for (value, n) in pairs {
             self.insert_within(value, n)?;
@@ -217,7 +308,7 @@ impl<T: Eq + Hash + Drop, S: BuildHasher + Drop> HashBag<T, S> {
         ensures all { OnOk result (InsertsAll T.eq I.next_gives (CloneOnce T.is_clone) items self.old self.new) }
         ensures refused { IfErr result (ClonesUpTo T.eq T.is_clone T.is_infallible I.next_gives items self.old self.new) }
     {
-        // Does nothing at run time. It gives the proof the contract of `len`: its clause `bag`.
+        // Only for the proof: it uses the clause `bag` of `len`.
         let _len = self.len();
         for item in items {
             self.insert_clone(item, 1)?;
@@ -229,11 +320,11 @@ impl<T: Eq + Hash + Drop, S: BuildHasher + Drop> HashBag<T, S> {
     ///
     /// # Errors
     ///
-    /// Those of [`HashBag::extend_refs`], of a pair in the place of an item.
+    /// Those of [`HashBag::extend_refs`], with a pair instead of an item.
     ///
     /// # Complexity
     ///
-    /// It clones and hashes each value once, but that of a pair with 0. The insertions carry and allocate as [`HashBag::insert_many`] does.
+    /// It clones and hashes each value once, except in a pair with 0. The insertions carry and allocate as [`HashBag::insert_many`] does.
     ///
     /// # Examples
     ///
@@ -259,12 +350,27 @@ impl<T: Eq + Hash + Drop, S: BuildHasher + Drop> HashBag<T, S> {
         ensures all { OnOk result (InsertsAll T.eq I.next_gives (CloneAsOften T.is_clone) pairs self.old self.new) }
         ensures refused { IfErr result (ClonesManyUpTo T.eq T.is_clone T.is_infallible I.next_gives pairs self.old self.new) }
     {
-        // Does nothing at run time. It gives the proof the contract of `len`: its clause `bag`.
+        // Only for the proof: it uses the clause `bag` of `len`.
         let _len = self.len();
         for (value, n) in pairs {
             self.insert_clone(value, n)?;
         }
         Ok(())
+    }
+
+    // Inserts the value of a result once. If that is an error, it is returned.
+    fn insert_result<E>(&mut self, item: Result<T, E>) -> Result<(), TryExtendError<E>>
+        ensures inserted { OnOk result (IsOkAnd item (λ v. Inserts T.eq v 1 self.old self.new)) }
+        ensures refused { IfErr result (EndsTry T.eq self.old item) }
+        ensures err { OnErr result (self.new ≡ self.old) }
+    {
+        match item {
+            Ok(value) => match self.insert_within(value, 1) {
+                Ok(()) => Ok(()),
+                Err(error) => Err(TryExtendError::Insertion(error)),
+            },
+            Err(error) => Err(TryExtendError::Item(error)),
+        }
     }
 
     // Inserts occurrences of a clone, if the total can have them. It clones nothing for 0.

@@ -21,7 +21,7 @@ impl<T: Eq + Hash + Drop, S: BuildHasher + Drop> HashBag<T, S> {
     ///
     /// # Errors
     ///
-    /// - `TooMany` if the total would pass the limit. That is tested first.
+    /// - `TooMany` exactly if the total would pass the limit. That is tested first.
     /// - `Memory` if the value is absent, and an allocation for the value or for slots fails.
     ///
     /// Then the bag is unchanged.
@@ -107,7 +107,7 @@ impl<T: Eq + Hash + Drop, S: BuildHasher + Drop> HashBag<T, S> {
         }
         let before = self.table.add_key(key, n)?;
         self.len += n;
-        // Does nothing at run time. It gives the proof the contract of `held`: what the slots hold.
+        // Only for the proof: it uses the clause `held` of `Table::held`.
         self.table.held();
         Ok(before)
     }
@@ -142,7 +142,7 @@ impl<T: Eq + Hash + Drop, S: BuildHasher + Drop> HashBag<T, S> {
         ensures all { OnOk result (InsertsAll T.eq I.next_gives (NamedOnce Q.names) keys self.old self.new) }
         ensures refused { IfErr result (InsertsUpTo T.eq I.next_gives (NamedOnce Q.names) (RefusesKey Q.names) keys self.old self.new) }
     {
-        // Does nothing at run time. It gives the proof the contract of `len`: its clause `bag`.
+        // Only for the proof: it uses the clause `bag` of `len`.
         let _len = self.len();
         for key in keys {
             self.insert_key(key)?;

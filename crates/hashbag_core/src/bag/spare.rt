@@ -15,8 +15,8 @@ impl<T: Eq + Hash + Drop, S: BuildHasher + Drop> HashBag<T, S> {
 
     /// Allocates the slots that [`HashBag::reserve`] would build for `n` more distinct values, and leaves them unused.
     ///
-    /// They are the least table with room for these and the present values that is not smaller than the newer one. A caller that
-    /// needs them later calls [`HashBag::use_spare`], which can't fail. One that doesn't drops them.
+    /// They are the least table, not smaller than the newer one, that has room for the present values and `n` more. A caller that needs
+    /// them later calls [`HashBag::use_spare`], which can't fail. One that doesn't drops them.
     ///
     /// # Errors
     ///
@@ -41,7 +41,7 @@ impl<T: Eq + Hash + Drop, S: BuildHasher + Drop> HashBag<T, S> {
         Ok(spare)
     }
 
-    /// Moves all values into spare slots, which replace the bag's own. These are freed, and what occurs stays.
+    /// Moves all values into spare slots. The slots that the bag had are freed, and the occurrences stay.
     ///
     /// The caller ensures that the distinct values have room in them. A spare from `HashBag::spare(n)` has that room until more than `n`
     /// absent values are inserted.

@@ -34,7 +34,7 @@ impl<T: Eq + Hash + Drop, S: BuildHasher + Drop> HashBag<T, S> {
     pub fn remove<Q: Key<T>>(&mut self, key: Q) -> usize
         ensures before { result ≡ count_named (Q.names key) self.old.items }
 
-        // If the value was present, only its slot changed; else nothing did. Room isn't lower.
+        // One occurrence is gone, if there was one: only the value's slot changed. If there was none, nothing changed. Room isn't lower.
         ensures fewer { HasFewer T.eq (Q.names key) 1 self.old self.new }
 
         // The total is lower by what was removed.
@@ -62,7 +62,7 @@ impl<T: Eq + Hash + Drop, S: BuildHasher + Drop> HashBag<T, S> {
     pub fn remove_up_to<Q: Key<T>>(&mut self, key: Q, quantity: usize) -> usize
         ensures after { result ≡ count_named (Q.names key) self.old.items - quantity }
 
-        // If the value was present, only its slot changed; else nothing did. Room isn't lower.
+        // `quantity` occurrences are gone, or all: only the value's slot changed. If there was none, nothing changed. Room isn't lower.
         ensures fewer { HasFewer T.eq (Q.names key) quantity self.old self.new }
 
         // The total is lower by what was removed.
@@ -82,11 +82,11 @@ impl<T: Eq + Hash + Drop, S: BuildHasher + Drop> HashBag<T, S> {
         before
     }
 
-    /// Removes one occurrence of a value. Returns the value itself in `Ok` if it was the last one. Else it returns in `Err` the stored
+    /// Removes one occurrence of a value. If it was the last one, returns the stored instance in `Ok`. Else it returns in `Err` the stored
     /// instance, which stays in the bag, with the count before, or `Err(None)` if the value is absent.
     ///
-    /// A caller's proof learns what was removed. What the bag is after the loan of the instance is proved too, but a caller's proof doesn't
-    /// learn it. [`HashBag::take_one`] says what the bag is. It lends nothing, so it can be called in a loop.
+    /// A caller's proof learns only what was removed; from [`HashBag::take_one`] it also learns what the bag then is. That call lends
+    /// nothing, so it can be made in a loop.
     ///
     /// # Complexity
     ///
@@ -131,7 +131,7 @@ impl<T: Eq + Hash + Drop, S: BuildHasher + Drop> HashBag<T, S> {
         }
     }
 
-    /// Removes one occurrence of a value. Returns the value itself in `Ok` if it was the last one. Else it returns in `Err` the count
+    /// Removes one occurrence of a value. If it was the last one, returns the stored instance in `Ok`. Else it returns in `Err` the count
     /// before, which is 0 if the value is absent: then nothing is removed.
     ///
     /// It is [`HashBag::try_take`] without the loan of the instance that stays, so its contract says what the bag is after the call.
@@ -151,7 +151,7 @@ impl<T: Eq + Hash + Drop, S: BuildHasher + Drop> HashBag<T, S> {
     /// Ok(())
     /// ```
     pub fn take_one<Q: Key<T>>(&mut self, key: Q) -> Result<T, usize>
-        // If the value was present, only its slot changed; else nothing did. Room isn't lower.
+        // One occurrence is gone, if there was one: only the value's slot changed. If there was none, nothing changed. Room isn't lower.
         ensures fewer { HasFewer T.eq (Q.names key) 1 self.old self.new }
 
         // The total is lower by what was removed.
@@ -192,7 +192,7 @@ impl<T: Eq + Hash + Drop, S: BuildHasher + Drop> HashBag<T, S> {
     pub fn take_all<Q: Key<T>>(&mut self, key: Q) -> Option<(T, usize)>
         ensures taken { result ≡ stored_named (Q.names key) self.old.items }
 
-        // If the value was present, only its slot changed; else nothing did. Room isn't lower.
+        // All occurrences are gone: only the value's slot changed. If there was none, nothing changed. Room isn't lower.
         ensures fewer { HasFewer T.eq (Q.names key) (count_named (Q.names key) self.old.items) self.old self.new }
 
         // The total is lower by the returned count.

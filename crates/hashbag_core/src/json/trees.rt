@@ -100,7 +100,7 @@ impl<T: JsonItem + Hash + Drop, S: BuildHasher + Drop> HashBag<T, S> {
     pub fn to_value(&self, alloc: Global) -> Result<Value, BagError>
     where
         T: Ord,
-        // Of every list with the counts of the bag.
+        // It is the tree of every bag with these counts and this limit.
         ensures tree { IfOk result (λ v. IsTreeOfCounts T.eq T.cmp T.tree_of self.now.items self.now.most (view v)) }
         ensures items { OnOk result (All T.is_item self.now.items) }
 

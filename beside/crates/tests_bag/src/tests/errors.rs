@@ -15,7 +15,7 @@ fn errors_as_text_and_number(rt: HostRuntime) -> Result<(), Fail> {
     let memory = report_of(rt.alloc(), BagError::Memory)?;
     is_text_of("refused", memory.as_str(), "Memory is 1: no memory")?;
     let many = report_of(rt.alloc(), BagError::TooMany)?;
-    is_text_of("full", many.as_str(), "TooMany is 2: total past its end")?;
+    is_text_of("full", many.as_str(), "TooMany is 2: total past its limit")?;
     let below = report_of(rt.alloc(), BagError::BelowTotal)?;
     is_text_of("low", below.as_str(), "BelowTotal is 9: limit below total")?;
     Ok(())

@@ -21,7 +21,7 @@ const JSON_ERRORS: &str = "
     NotAPair(0) | 4 | pair 0: not a pair
     BadCount(1) | 5 | pair 1: bad count
     BadItem(2) | 6 | pair 2: bad item
-    TooMany(3) | 7 | pair 3: total past its end
+    TooMany(3) | 7 | pair 3: total past its limit
     Memory | 8 | no memory
     BadLimit | 10 | bad limit";
 

@@ -19,7 +19,7 @@ pub returns : goal.returns
 returns g c = (
   (refl, λ w. ap emptied c.self.view_is),
   record {
-    writes_back = tt;
+    ends_empty = tt;
     set_walk = rw (← c.self.view_is) (set_walk_of_bag g.met.T.Eq.laws _ _ _ _ _ c.self.invariant c.drain.ensures.entries);
   },
 )

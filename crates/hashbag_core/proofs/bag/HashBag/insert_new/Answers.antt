@@ -27,5 +27,5 @@ returns-in_err-insert_new-clause-takes g c = λ some. absurd (false≢true (c.in
 pub returns-clause-inserted : goal.returns-clause-inserted
 returns-clause-inserted g c =
     let none : count g.T.PartialEq.eq c.args.value (occurrences c.self.inside.table.entries) ≡ 0 = rw (← c.self.view_is) at c.requires.absent in
-    rw (← c.self.view_is) (inserts_stored g.met.T.Eq.laws c.args.value c.args.quantity c.self.inside.len c.self.inside.table c.insert_new.new.self c.requires.some none c.self.invariant (invariant_of-self-2 g c) c.in_ok-insert_new.ensures.stored
+    rw (← c.self.view_is) (inserts_stored g.met.T.Eq.laws c.args.value c.args.quantity c.self.inside.len c.self.inside.table c.insert_new.new.self c.requires.positive none c.self.invariant (invariant_of-self-2 g c) c.in_ok-insert_new.ensures.stored
     (held_by g.T.PartialEq.eq _ _ c.held.ensures.held c.insert_new.ensures.counted))

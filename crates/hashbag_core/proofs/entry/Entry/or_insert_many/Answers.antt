@@ -13,8 +13,8 @@ returns-then-before-gt0-clause-occupied g c = λ _. (cc (c.contains-before.ensur
 pub returns-then-before-gt0-clause-none : goal.returns-then-before-gt0-clause-none
 returns-then-before-gt0-clause-none g c = λ _. (refl, refl)
 
-pub insert_new-requires-clause-some : goal.insert_new-requires-clause-some
-insert_new-requires-clause-some g c = omega arith
+pub insert_new-requires-clause-positive : goal.insert_new-requires-clause-positive
+insert_new-requires-clause-positive g c = omega arith
 
 pub returns-in_err-insert_new-clause-none : goal.returns-in_err-insert_new-clause-none
 returns-in_err-insert_new-clause-none g c = λ none. absurd (omega (arith, none))

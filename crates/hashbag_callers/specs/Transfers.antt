@@ -1,0 +1,17 @@
+-- What transfers, removals and runs say of counts.
+use Rattle.std.specs.Prelude.{ℕ, ◌+◌, ◌-◌, Bool, List, [], ◌∷◌}
+use Rattle.hashbag.specs.Bag.{Bag}
+use Rattle.hashbag.specs.Held.{Recounts}
+use Rattle.hashbag.specs.Occurrences.{count}
+
+-- how often a value occurs in two bags together
+abbrev pub count_together : {T S S2 : Type 0} → (T → T → Bool) → T → Bag T S → Bag T S2 → ℕ
+count_together eq v a b = count eq v a.items + count eq v b.items
+
+-- in the slots the count of a value is less by n, or 0
+abbrev pub LowersCount : {T S : Type 0} → (T → T → Bool) → T → ℕ → Bag T S → Bag T S → Type 0
+LowersCount eq v n old new = Recounts eq v (count eq v old.items - n) old.tables new.tables
+
+-- a reply with n, and then one with one more
+abbrev pub n_then_one_more : {R : Type 0} → (ℕ → R) → ℕ → List R
+n_then_one_more reply n = reply n ∷ reply (n + 1) ∷ []
