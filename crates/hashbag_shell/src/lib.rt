@@ -14,6 +14,7 @@ pub mod pace;
 pub mod program;
 pub mod status;
 pub mod temporary_file;
+pub mod text;
 pub mod tips;
 pub mod trouble;
 

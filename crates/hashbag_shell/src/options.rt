@@ -1,5 +1,6 @@
 //! Options that several programs have.
 use clap::{Arg, ArgMatches, Command};
+use hashbag_text::encoding::{Encoding, NAMES};
 use std::alloc::{AllocError, Global};
 
 /// A command, unless an allocation failed.
@@ -57,6 +58,20 @@ pub fn with_reading<'a>(alloc: Global, command: CommandResult<'a>) -> CommandRes
         .help("How many decimals numbers may have; all D are written");
     let help = "What is between fields, also of CSV that is written";
     with_form(alloc, with(command, scale), help)
+}
+
+/// Returns an argument of this name that takes an encoding, with this help.
+pub fn encoding_arg<'a>(alloc: Global, name: &'a str, help: &'a str) -> Arg<'a> {
+    Arg::new(alloc, name)
+        .long(name)
+        .value_name("NAME")
+        .value_parser(NAMES.as_slice())
+        .help(help)
+}
+
+/// Returns the encoding that is given to this argument, and `None` for UTF-8.
+pub fn encoding<'a>(given: &ArgMatches<'a>, name: &str) -> Option<Encoding> {
+    Encoding::named(word(given, name, "UTF-8"))
 }
 
 /// Adds `-o`, with this help.

@@ -1,0 +1,3 @@
+pub mod StateLemmas
+pub mod TextLemmas
+pub mod UnitLemmas

@@ -1,0 +1,4 @@
+pub mod Decoders
+pub mod Encodings
+pub mod EncodingsExamples
+pub mod States

@@ -1,0 +1,40 @@
+//! The encodings, by their names.
+
+/// The names of all encodings, UTF-8 first.
+pub static NAMES: [&str; 6] = [
+    "UTF-8",
+    "UTF-16",
+    "UTF-16LE",
+    "UTF-16BE",
+    "Latin-1",
+    "Windows-1252",
+];
+
+/// An encoding other than UTF-8.
+#[derive(Clone, Copy, PartialEq, Eq, Debug)]
+pub enum Encoding {
+    /// UTF-16 whose first two bytes are its byte order mark.
+    Utf16,
+    /// UTF-16, the lesser byte of each unit first. A byte order mark is text.
+    Utf16Le,
+    /// UTF-16, the greater byte of each unit first. A byte order mark is text.
+    Utf16Be,
+    /// ISO-8859-1: each byte is the character of its number.
+    Latin1,
+    /// Windows-1252: as Latin-1, but for 27 characters from 0x80 to 0x9F. Five bytes there are no character.
+    Windows1252,
+}
+
+impl Encoding {
+    /// Returns the encoding of this name of [`NAMES`], and `None` for UTF-8.
+    pub fn named(name: &str) -> Option<Encoding> {
+        match name {
+            "UTF-16" => Some(Encoding::Utf16),
+            "UTF-16LE" => Some(Encoding::Utf16Le),
+            "UTF-16BE" => Some(Encoding::Utf16Be),
+            "Latin-1" => Some(Encoding::Latin1),
+            "Windows-1252" => Some(Encoding::Windows1252),
+            _ => None,
+        }
+    }
+}

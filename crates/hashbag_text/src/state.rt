@@ -1,0 +1,89 @@
+//! What is known of bytes so far.
+ghost use Rattle.std.specs.Prelude.{◌≡◌, ◌∷◌, [], ℕ, List, None, Some, IfOk, OnErr, OnOk};
+ghost use Rattle.hashbag_text.specs.Encodings.{decoded, yields};
+ghost use Rattle.hashbag_text.specs.States.{left};
+
+use crate::encoding::Encoding;
+use crate::fault::Fault;
+use crate::high::High;
+use crate::utf16::{ByteOrder, after_unit};
+use crate::windows_1252::windows_1252;
+
+/// The encoding, and the bytes that aren't a character yet.
+#[derive(Clone, Copy)]
+pub enum State {
+    /// UTF-16 before its mark, of which there may be the first byte.
+    Mark(Option<u8>),
+    /// UTF-16 in this order. There may be the first unit of a pair, and behind it the first byte of a unit.
+    Units(ByteOrder, Option<High>, Option<u8>),
+    /// Latin-1.
+    Latin1,
+    /// Windows-1252.
+    Windows1252,
+}
+
+impl State {
+    /// Returns the state before any byte.
+    pub fn new(encoding: Encoding) -> State
+        ensures { (bytes : List ℕ) → left result bytes ≡ decoded encoding bytes }
+    {
+        match encoding {
+            Encoding::Utf16 => State::Mark(None),
+            Encoding::Utf16Le => State::Units(ByteOrder::Little, None, None),
+            Encoding::Utf16Be => State::Units(ByteOrder::Big, None, None),
+            Encoding::Latin1 => State::Latin1,
+            Encoding::Windows1252 => State::Windows1252,
+        }
+    }
+
+    /// Returns the state after one more byte, and the character that this byte ends.
+    ///
+    /// # Errors
+    ///
+    /// What is wrong with it.
+    pub fn after(self, byte: u8) -> Result<(State, Option<char>), Fault>
+        // Whatever bytes come behind it, the text is that character, and then what is left.
+        ensures character { IfOk result (λ r. (bytes : List ℕ) → left self (byte ∷ bytes) ≡ yields r.1 (left r.0 bytes)) }
+
+        // Whatever bytes come behind it, there is no text.
+        ensures fault { OnErr result ((bytes : List ℕ) → left self (byte ∷ bytes) ≡ None) }
+    {
+        match self {
+            State::Mark(None) => Ok((State::Mark(Some(byte)), None)),
+            State::Mark(Some(first)) => match ByteOrder::of_mark(first, byte) {
+                Some(order) => Ok((State::Units(order, None, None), None)),
+                None => Err(Fault::NoMark),
+            },
+            State::Units(order, high, None) => { Ok((State::Units(order, high, Some(byte)), None)) }
+            State::Units(order, high, Some(first)) => {
+                let (high, c) = after_unit(high, order.unit(first, byte))?;
+                Ok((State::Units(order, high, None), c))
+            }
+            State::Latin1 => Ok((self, Some(char::from(byte)))),
+            State::Windows1252 => match windows_1252(byte) {
+                Some(c) => Ok((self, Some(c))),
+                None => Err(Fault::NoCharacter(byte)),
+            },
+        }
+    }
+
+    /// Checks that no byte is left.
+    ///
+    /// # Errors
+    ///
+    /// What is missing.
+    pub fn end(self) -> Result<(), Fault>
+        ensures whole { OnOk result (left self [] ≡ Some []) }
+        ensures fault { OnErr result (left self [] ≡ None) }
+    {
+        match self {
+            State::Mark(None) => Ok(()),
+            State::Mark(Some(_)) => Err(Fault::NoMark),
+            State::Units(_, _, Some(_)) => Err(Fault::OddByte),
+            State::Units(_, Some(_), None) => Err(Fault::LoneSurrogate),
+            State::Units(_, None, None) => Ok(()),
+            State::Latin1 => Ok(()),
+            State::Windows1252 => Ok(()),
+        }
+    }
+}
