@@ -41,6 +41,51 @@ printf 'sku\tbatch\tqty\nbolt\ty\t3\n' > qty.csv
 ends 1 "" lots.csv qty.csv --delimiter tab --key article,lot --delivered-key sku,batch --delivered-number qty --to csv
 has ../out 'article\tlot\tordered\tdelivered\tmissing\tsurplus\nbolt\tx\t1\t0\t1\t0\nbolt\ty\t2\t3\t0\t1\n' "two key columns"
 
+# Excel's "Unicode text" is UTF-16 with a mark, between tabs, and its CSV is Windows-1252, here between semicolons
+printf 'Stück\tMenge\r\n„Größe“\t2\r\n€\t3\r\n' > text.utf8
+printf 'Stück;Menge\r\n€;3\r\n„Größe“;2\r\n' > list.utf8
+{ printf '\377\376'; iconv -f UTF-8 -t UTF-16LE text.utf8; } > text.txt
+iconv -f UTF-8 -t CP1252 list.utf8 > list.csv
+iconv -f UTF-8 -t UTF-16 text.utf8 > iconv.txt
+rows='[{"Stück":"„Größe“","ordered":2,"delivered":2,"missing":0,"surplus":0},{"Stück":"€","ordered":3,"delivered":3,"missing":0,"surplus":0}]\n'
+columns="-k Stück --number Menge --to json"
+{ printf '\376\377'; iconv -f UTF-8 -t UTF-16BE text.utf8; } > big.txt
+for file in text.txt iconv.txt big.txt; do
+  ends 0 "" $file $file -d tab --encoding UTF-16 $columns
+  has ../out "$rows" "UTF-16 with a mark: $file"
+done
+iconv -f UTF-8 -t UTF-16LE text.utf8 > little.txt
+ends 0 "" little.txt big.txt -d tab --encoding UTF-16LE --delivered-encoding UTF-16BE $columns
+has ../out "$rows" "UTF-16 by the names of its orders, with a mark and without one"
+input=text.utf8 ends 0 "" - little.txt -d tab --encoding UTF-8 --delivered-encoding UTF-16LE $columns
+has ../out "$rows" "UTF-8 on standard input, and UTF-16LE"
+ends 0 "" list.csv list.csv -d ';' --encoding Windows-1252 $columns
+has ../out "$rows" "Windows-1252"
+tr '\t' ';' < text.utf8 > semicolons.csv
+ends 0 "" semicolons.csv list.csv -d ';' --delivered-encoding Windows-1252 $columns
+has ../out "$rows" "UTF-8 and Windows-1252"
+ends 0 "" list.csv semicolons.csv -d ';' --encoding Windows-1252 --delivered-encoding UTF-8 $columns
+has ../out "$rows" "Windows-1252 and UTF-8"
+ends 2 'hashbag_match: text.txt:1: UTF-16; `--encoding UTF-16` reads it' text.txt text.txt
+printf 'article,number\n\344,1\n' > latin.csv
+ends 2 'hashbag_match: latin.csv:2: column `article` is not UTF-8; if it is Windows-1252, `--encoding Windows-1252`' latin.csv latin.csv
+ends 0 "" latin.csv latin.csv --encoding Latin-1
+printf 'article,number\nbolt,1\n\220,1\n' > undefined.csv
+ends 2 "hashbag_match: undefined.csv:3: not Windows-1252: byte 0x90" a.csv undefined.csv --encoding Windows-1252
+ends 2 "hashbag_match: undefined.csv:3: not Windows-1252: byte 0x90" undefined.csv a.csv --max-errors 0 --encoding Windows-1252
+ends 2 "hashbag_match: a.csv:1: not UTF-16: no byte order mark; UTF-16LE and UTF-16BE need none" a.csv a.csv --encoding UTF-16
+has ../out "" "something is written of what isn't UTF-16"
+# half a pair, and half a unit, in the third line
+printf 'a\0\n\0\n\0\075\330b\0' > half.txt
+ends 2 "hashbag_match: half.txt:3: not UTF-16: half a surrogate pair" half.txt half.txt --encoding UTF-16LE
+printf 'a\0\n\0\n\0b' > odd.txt
+ends 2 "hashbag_match: odd.txt:3: not UTF-16: an odd number of bytes" a.csv odd.txt --delivered-encoding UTF-16LE
+for how in "--encoding UTF-7" "--encoding utf-8" "--delivered-encoding latin1"; do
+  "$program" a.csv a.csv $how > ../out 2> ../err
+  [ $? = 2 ] && [ ! -s ../out ] && grep -q 'possible values: UTF-8, UTF-16, UTF-16LE, UTF-16BE, Latin-1, Windows-1252' ../err || fail "an encoding without a name: $how"
+done
+rm big.txt half.txt iconv.txt latin.csv list.csv list.utf8 little.txt odd.txt semicolons.csv text.txt text.utf8 undefined.csv
+
 # Lists without numbers: each line counts as one, also if there is a column of numbers
 printf 'article\nbolt\nnut\n\nbolt\n' > names.csv
 printf 'sku,number\nnut,7\nbolt,none\ntube,\n' > boxes.csv
@@ -59,6 +104,63 @@ ends 0 "" blank.csv blank.csv --blank-is-zero --scale 2 --only missing --to json
 has ../out '[]\n' "empty numbers at a scale"
 ends 2 'hashbag_match: blank.csv:2: no number: ``' blank.csv blank.csv
 ends 2 'hashbag_match: space.csv:2: no number: ` `' blank.csv space.csv --blank-is-zero
+
+# Fields that are missing at the end of a record are empty, if that is asked for; more fields than the header has are a bad line
+printf 'article,number,note\nnut,1\nbolt\n' > short.csv
+printf 'article,number,note\nnut,1,x,y\n' > long.csv
+ends 0 "" short.csv short.csv --allow-short --blank-is-zero --to csv
+has ../out 'article,ordered,delivered,missing,surplus\nbolt,0,0,0,0\nnut,1,1,0,0\n' "short records"
+ends 2 'hashbag_match: short.csv:2: 3 fields wanted, 2 found' short.csv short.csv --blank-is-zero
+ends 2 'hashbag_match: short.csv:3: no number: ``' short.csv short.csv --allow-short
+ends 2 'hashbag_match: long.csv:2: 3 fields wanted, 4 found' short.csv long.csv --allow-short --blank-is-zero
+ends 0 "" short.csv short.csv --allow-short --each-line --key note --to csv
+has ../out 'note,ordered,delivered,missing,surplus\n,2,2,0,0\n' "missing key fields"
+
+# All bad lines are named, up to as many as are asked for, of the first file that has one; a total that is too large is named alone
+printf 'article,number\nbolt,x\nnut,1\ntube\nbolt,2,3\n"pin" b,1\nnut,-1\n' > bads.csv
+line2='hashbag_match: bads.csv:2: no number: `x`'
+line4='hashbag_match: bads.csv:4: 2 fields wanted, 1 found'
+line5='hashbag_match: bads.csv:5: 2 fields wanted, 3 found'
+line6='hashbag_match: bads.csv:6: text after a closing quote'
+line7='hashbag_match: bads.csv:7: no number: `-1`'
+ends 2 "$line2" bads.csv bads.csv
+ends 2 "$line2" bads.csv bads.csv --max-errors 1
+ends 2 "$line2"$'\n'"$line4" bads.csv bads.csv --max-errors 2
+ends 2 "$line2"$'\n'"$line4"$'\n'"$line5"$'\n'"$line6"$'\n'"$line7" a.csv bads.csv --max-errors 0
+has ../out "" "something is written after bad lines"
+ends 2 "$line4"$'\n'"$line5"$'\n'"$line6" bads.csv a.csv --max-errors 10 --each-line
+ends 2 "hashbag_match: open.csv:3: quote never closed" open.csv a.csv --max-errors 10
+ends 2 'hashbag_match: names.csv:1: no column `number`; there are: `article`' names.csv boxes.csv --max-errors 10
+
+# Columns that are carried along have the text of the first line with the article, first of those that were ordered
+printf 'article,number,price,text\nbolt,2,1.50,"big, M4"\nnut,0,0.10,\nbolt,3,9.99,other\n' > prices.csv
+printf 'article,number,text\nbolt,5,later\nnut,0,later\ntube,1,new\ntube,0,newer\n' > texts.csv
+printf 'article,number,text\nbolt,1,x\nnut,1,\377\n' > latin.csv
+ends 1 "" prices.csv texts.csv --carry text,price --to csv
+has ../out 'article,text,price,ordered,delivered,missing,surplus\nbolt,"big, M4",1.50,5,5,0,0\nnut,,0.10,0,0,0,0\ntube,new,,0,1,0,1\n' "columns that are carried along"
+ends 1 "" prices.csv texts.csv --carry price,text --to json --only surplus --key article --scale 1
+has ../out '[{"article":"tube","price":"","text":"new","ordered":"0.0","delivered":"1.0","missing":"0.0","surplus":"1.0"}]\n' "columns that are carried along in JSON"
+ends 1 "" prices.csv texts.csv --carry text --only differing
+has ../out 'ARTICLE  TEXT  ORDERED  DELIVERED  MISSING  SURPLUS\ntube     new         0          1        0        1\n1 article differs: 0 missing, 1 surplus\n' "columns that are carried along in a table"
+ends 0 "" latin.csv latin.csv --to csv
+ends 2 'hashbag_match: latin.csv:3: column `text` is not UTF-8; if it is Windows-1252, `--encoding Windows-1252`' latin.csv texts.csv --carry text
+ends 2 'hashbag_match: texts.csv:1: no column `price`; there are: `article`, `number`, `text`' texts.csv prices.csv --carry price
+ends 2 'hashbag_match: carried column `text` is named twice, or is a key column' prices.csv texts.csv --carry text,text
+ends 2 'hashbag_match: carried column `article` is named twice, or is a key column' prices.csv texts.csv --carry article
+ends 2 "hashbag_match: a carried column can't have the name \`missing\`, which is a column of the output" prices.csv texts.csv --carry missing
+
+# Articles that differ only in case, white space at the ends, or normal form are named, and the status is as without
+printf 'article,number\nBolt,1\nbolt ,2\nnut,1\nCaf\303\251,1\n' > near.csv
+printf 'article,number\nbolt,1\nnut,1\nCafe\314\201,1\n' > nearer.csv
+near=' differ only in case, white space at the ends, or normal form'
+ends 1 "$(printf 'hashbag_match: `Cafe\314\201` and `Caf\303\251`%s\nhashbag_match: `Bolt` and `bolt`%s\nhashbag_match: `Bolt` and `bolt `%s' "$near" "$near" "$near")" near.csv nearer.csv
+ends 1 "" near.csv nearer.csv --quiet --only missing --to csv
+has ../out 'article,ordered,delivered,missing,surplus\nBolt,1,0,1,0\nCaf\303\251,1,0,1,0\nbolt ,2,0,2,0\n' "near articles"
+ends 1 "$(printf 'hashbag_match: `cafe\314\201` and `caf\303\251`%s' "$near")" near.csv nearer.csv --fold --trim
+for i in 1 2 3 4 5 6 7 8 9 10 11 12; do printf 'a%d,1\nA%d,1\n' "$i" "$i"; done | sed '1i article,number' > pairs.csv
+"$program" pairs.csv pairs.csv > ../out 2> ../err
+[ $? = 0 ] && [ "$(wc -l < ../err)" = 10 ] || { cat ../err; fail "not ten pairs"; }
+ends 0 "" pairs.csv pairs.csv -q
 
 # Marks between groups of three digits, or none in a number; groups of another length are bad lines
 printf 'article;number\nnut;1.000,5\nnut;12.345.678\nbolt;1000\n' > grouped.csv
@@ -79,7 +181,7 @@ printf 'article ,lot,number\n bolt  M4\t,L1,1\nbolt  M4, L1,2\n"nut\n",\t,4\n' >
 printf 'article ,lot,number\nbolt  M4,L1,3\n"nut\n ",,4\n' > plain.csv
 ends 0 "" spaced.csv plain.csv --trim --key 'article ,lot' --to csv
 has ../out 'article ,lot,ordered,delivered,missing,surplus\nbolt  M4,L1,3,3,0,0\n"nut\n",,4,4,0,0\n' "trimmed fields"
-ends 1 "" spaced.csv plain.csv --key 'article ,lot' --to csv --only missing
+ends 1 "" spaced.csv plain.csv --key 'article ,lot' --to csv --only missing -q
 has ../out 'article ,lot,ordered,delivered,missing,surplus\n bolt  M4\t,L1,1,0,1,0\nbolt  M4, L1,2,0,2,0\n"nut\n",\t,4,0,4,0\n' "fields as they are"
 ends 0 "" spaced.csv spaced.csv --trim --each-line --key lot --to json
 has ../out '[{"lot":"","ordered":1,"delivered":1,"missing":0,"surplus":0},{"lot":"L1","ordered":2,"delivered":2,"missing":0,"surplus":0}]\n' "a trimmed column"
@@ -90,9 +192,9 @@ printf 'Sku,number\nStra\303\237e,1\n STRASSE,2\n\316\243\317\202,1\n' > cased.c
 printf 'Sku,number\nstrasse,3\n\317\203\316\243,1\n' > lower.csv
 ends 0 "" cased.csv lower.csv --key Sku --fold --trim --to csv
 has ../out 'Sku,ordered,delivered,missing,surplus\nstrasse,3,3,0,0\n\317\203\317\203,1,1,0,0\n' "folded fields"
-ends 1 "" cased.csv lower.csv --key Sku --fold --only surplus --to csv
+ends 1 "" cased.csv lower.csv --key Sku --fold --only surplus --to csv -q
 has ../out 'Sku,ordered,delivered,missing,surplus\nstrasse,1,3,0,2\n' "folded fields that aren't trimmed"
-ends 1 "" cased.csv lower.csv --key Sku --trim --only surplus --to csv
+ends 1 "" cased.csv lower.csv --key Sku --trim --only surplus --to csv -q
 has ../out 'Sku,ordered,delivered,missing,surplus\nstrasse,0,3,0,3\n\317\203\316\243,0,1,0,1\n' "trimmed fields that aren't folded"
 ends 2 'hashbag_match: cased.csv:1: no column `sku`; there are: `Sku`, `number`' cased.csv lower.csv --key sku --fold
 
@@ -113,7 +215,7 @@ ends 4 "hashbag_match: none.csv: No such file or directory (os error 2)" a.csv n
 ends 4 "hashbag_match: /dev/full: No space left on device (os error 28)" a.csv b.csv -o /dev/full
 "$program" a.csv b.csv > /dev/full 2> ../err
 [ $? = 4 ] || fail "a full disk at standard output"
-files a.csv after.csv b.csv blank.csv boxes.csv cased.csv front.csv grouped.csv hard.csv kept kilos.csv lots.csv lower.csv menge.csv names.csv open.csv plain.csv qty.csv space.csv spaced.csv stray.csv twos.csv ungrouped.csv
+files a.csv after.csv b.csv bads.csv blank.csv boxes.csv cased.csv front.csv grouped.csv hard.csv kept kilos.csv latin.csv long.csv lots.csv lower.csv menge.csv names.csv near.csv nearer.csv open.csv pairs.csv plain.csv prices.csv qty.csv short.csv space.csv spaced.csv stray.csv texts.csv twos.csv ungrouped.csv
 
 # A file that can be opened but not read is no end of a file; nobody reads the output any more
 mkdir folder
@@ -133,7 +235,8 @@ exec 7>&-
 printf 'article,number\nbolt,18446744073709551615\nnut,1\n' > many.csv
 ends 5 "hashbag_match: many.csv:3: total past 18446744073709551615" a.csv many.csv
 for words in "" "a.csv" "- -" "a.csv b.csv --scale 10" "a.csv b.csv --delimiter x" "a.csv b.csv --key article,article" "a.csv b.csv --only some" "a.csv b.csv --none" \
-  "a.csv b.csv --each-line --number number" "a.csv b.csv --each-line --delivered-number number" "a.csv b.csv --scale 0 --each-line" "a.csv b.csv --each-line --blank-is-zero" "a.csv b.csv --each-line --group-mark ." "a.csv b.csv --group-mark 0" "a.csv b.csv --group-mark -"; do
+  "a.csv b.csv --each-line --number number" "a.csv b.csv --each-line --delivered-number number" "a.csv b.csv --scale 0 --each-line" "a.csv b.csv --each-line --blank-is-zero" "a.csv b.csv --each-line --group-mark ." "a.csv b.csv --group-mark 0" "a.csv b.csv --group-mark -" \
+  "a.csv b.csv --max-errors x" "a.csv b.csv --max-errors -1"; do
   # shellcheck disable=SC2086
   "$program" $words > ../out 2> ../err < /dev/null
   [ $? = 2 ] && [ ! -s ../out ] && [ -s ../err ] || fail "bad arguments: $words"
@@ -143,7 +246,7 @@ for option in --version -V; do
   grep -Eqx 'hashbag_match 0\.1\.13-[0-9]+' ../out || fail "no version"
 done
 ends 0 "" --help
-for name in --key --number --delivered-key --delivered-number --each-line --blank-is-zero --group-mark --trim --fold --delimiter --scale --mark --only --to --output; do
+for name in --key --number --delivered-key --delivered-number --each-line --blank-is-zero --group-mark --allow-short --trim --fold --delimiter --scale --mark --encoding --delivered-encoding --only --to --carry --max-errors --quiet --output; do
   grep -q -e "$name" ../out || fail "no $name in the help"
 done
 echo "match: ok"

@@ -1,4 +1,7 @@
+pub mod AlikeLemmas
+pub mod BadLineLemmas
 pub mod DecimalLemmas
+pub mod FirstLemmas
 pub mod GroupLemmas
 pub mod LineLemmas
 pub mod NumberLemmas

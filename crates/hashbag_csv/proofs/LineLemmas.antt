@@ -1,6 +1,5 @@
 -- Columns and fields by their places.
-use Rattle.std.proofs.Common.{◌≡◌, ◌<◌, ℕ, Bool, true, false, List, [], get_or, length, bytes_eq, refl, sym, ◌∙◌, arith}
-use Rattle.std.proofs.lemmas.Bool.{cases_Bool}
+use Rattle.std.proofs.Common.{◌≡◌, ◌≢◌, ◌<◌, ℕ, Bool, true, false, List, [], get_or, length, bytes_eq, refl, sym, arith}
 use Rattle.std.proofs.lemmas.List.Sums.{position_or_len_is}
 use Rattle.std.proofs.lemmas.Slice.Eq.{bytes_eq-Decides}
 use Rattle.hashbag_csv.specs.Lines.{place_of}
@@ -18,3 +17,11 @@ only_place name fields p (below, is, only) =
     sym (position_or_len_is (bytes_eq name) fields p [] (omega (arith, below))
     (λ k less. fails _ (λ yes. let here = only k (omega (arith, less, below)) (sym ((same (get_or fields k [])).0 yes)) in absurd (omega (arith, less, here))))
     (λ low. (same (get_or fields p [])).1 (sym is)))
+
+-- the place of a name that no column has
+pub no_place : (name : List ℕ) (fields : Record) → ((k : ℕ) → k < length fields → get_or fields k [] ≢ name) → length fields ≡ place_of fields name
+no_place name fields none =
+    let same = λ (f : List ℕ). bytes_eq-Decides name f in
+    sym (position_or_len_is (bytes_eq name) fields (length fields) [] (omega arith)
+    (λ k less. fails _ (λ yes. none k less (sym ((same (get_or fields k [])).0 yes))))
+    (λ low. absurd (omega (arith, low))))

@@ -1,7 +1,7 @@
 -- Numbers with decimals, in units of the last one.
-use Rattle.std.specs.Prelude.{◌≡◌, ℕ, ◌+◌, ◌-◌, ◌*◌, ◌^◌, ◌≤◌, ◌==◌, ◌++◌, ◌∷◌, ◌⊎◌, List, length}
+use Rattle.std.specs.Prelude.{◌≡◌, ℕ, ◌+◌, ◌-◌, ◌*◌, ◌^◌, ◌≤◌, ◌==◌, ◌++◌, ◌∷◌, ◌⊎◌, List, length, Option, MatchOption}
 use Rattle.std.specs.List.{before_first, after_first}
-use Rattle.std.specs.Str.Parse.{IsNumeral, digits_value}
+use Rattle.std.specs.Str.Parse.{AllDigits, IsNumeral, digits_value}
 
 -- the most decimals that a scale has
 abbrev pub most_decimals : ℕ
@@ -30,3 +30,11 @@ IsDecimal mark D text = IsNumeral 10 text ⊎ ((text ≡ whole_of mark text ++ m
 -- how many units of 10^-D a text is: its part before the first mark, and the decimals after it
 abbrev pub units : ℕ → ℕ → List ℕ → ℕ
 units mark D text = units_of D (whole_of mark text) (part_of mark text)
+
+-- a number is read: its value, exactly if what is asked of the text holds and the value fits in 64 bits, and nothing otherwise
+abbrev pub IsSomeIfFits : Option ℕ → Type 0 → ℕ → Type 0
+IsSomeIfFits read P value = MatchOption read (¬ (P × (value ≤ 2 ^ 64 - 1))) (λ n. P × (value ≡ n))
+
+-- a number as digits, this many: zeros come first if it has fewer
+abbrev pub IsPadded : ℕ → ℕ → List ℕ → Type 0
+IsPadded number width digits = AllDigits 10 digits × (length digits ≡ width) × (digits_value 10 digits ≡ number)

@@ -1,5 +1,6 @@
 -- Which error a text has that isn't read as a number.
-use Rattle.std.specs.Prelude.{◌≡◌, ℕ, ◌<◌, ◌==◌, ◌&&◌, ◌⊎◌, ◌++◌, ◌∷◌, if◌then◌else◌, Bool, true, false, List, [], length, IsTrue, ⊤}
+use Rattle.std.specs.Prelude.{◌≡◌, ℕ, ◌<◌, ◌==◌, ◌&&◌, ◌⊎◌, ◌++◌, ◌∷◌, if◌then◌else◌, Bool, true, false, List, [], length, IsTrue, ⊤, Option, MatchOption}
+use Rattle.std.specs.Borrow.{Bor}
 use Rattle.std.specs.Char.{is_ascii_digit}
 use Rattle.std.specs.String.{string_bytes}
 use Rattle.std.specs.Str.Parse.{IsNumeral}
@@ -42,3 +43,11 @@ IsFaultOf mark D most text _ = ⊥
 abbrev pub IsErrorOf : ℕ → ℕ → ℕ → ℕ → List ℕ → SheetError → Type 0
 IsErrorOf mark D most line text (Line at fault) = (at ≡ line) × IsFaultOf mark D most text fault
 IsErrorOf mark D most line text Memory = ⊤
+
+-- a text is cut at its first mark, into what is before and after it; or it has no mark
+abbrev pub IsCutAtMark : ℕ → List ℕ → Option (Bor (List ℕ) × Bor (List ℕ)) → Type 0
+IsCutAtMark mark text cut = MatchOption cut (¬ (HasMark mark text)) (λ x. HasMark mark text × (x.0.now ≡ whole_of mark text) × (x.1.now ≡ part_of mark text))
+
+-- how many digits a text that is digits, the mark, and digits, has after the mark; or it is another text
+abbrev pub IsNumberOfDecimals : ℕ → List ℕ → Option ℕ → Type 0
+IsNumberOfDecimals mark text decimals = MatchOption decimals (¬ (HasParts mark text)) (λ n. HasParts mark text × (n ≡ length (part_of mark text)))

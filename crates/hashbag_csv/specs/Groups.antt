@@ -1,6 +1,7 @@
 -- Marks between groups of three digits.
-use Rattle.std.specs.Prelude.{ℕ, ◌%◌, ◌==◌, ◌&&◌, ◌||◌, ◌++◌, not, if◌then◌else◌, Bool, true, List, [], ◌∷◌, length, filter, drop, Option, Some, None}
+use Rattle.std.specs.Prelude.{◌≡◌, ℕ, ◌%◌, ◌==◌, ◌&&◌, ◌||◌, ◌++◌, not, if◌then◌else◌, Bool, true, false, List, [], ◌∷◌, length, filter, drop, String, string_bytes, Option, Some, None, MatchOption}
 use Rattle.std.specs.Char.{is_ascii_digit}
+use Rattle.std.specs.Global.{Global}
 use Rattle.std.specs.List.{list_all}
 use Rattle.hashbag_csv.specs.Decimals.{whole_of}
 use Rattle.hashbag_csv.specs.declared.groups.GroupMark.{GroupMark}
@@ -13,7 +14,7 @@ group_code Comma = 44
 group_code Apostrophe = 39
 group_code Space = 32
 
--- a byte before so many others is the mark if three are behind it, seven, eleven .., and else a digit
+-- a byte with `behind` bytes after it is the mark if these are three, seven, eleven .., and else a digit
 abbrev pub fits_place : ℕ → ℕ → ℕ → Bool
 fits_place group c behind = if behind % 4 == 3 then c == group else is_ascii_digit c
 
@@ -43,3 +44,11 @@ fits_groups mark (Some group) text = is_in_groups (group_code group) (whole_of m
 abbrev pub ungrouped_if : ℕ → Option GroupMark → List ℕ → List ℕ
 ungrouped_if mark None text = text
 ungrouped_if mark (Some group) text = ungrouped (group_code group) mark text
+
+-- a text with these bytes, if a test passes, and no text otherwise
+abbrev pub IsTextIf : Bool → List ℕ → Option (String Global) → Type 0
+IsTextIf test bytes made = MatchOption made (test ≡ false) (λ text. (test ≡ true) × (string_bytes text ≡ bytes))
+
+-- a text without the marks between its groups, if they are in their places, and no text otherwise
+abbrev pub IsUngrouped : ℕ → GroupMark → List ℕ → Option (String Global) → Type 0
+IsUngrouped mark group text made = IsTextIf (fits_groups mark (Some group) text) (ungrouped_if mark (Some group) text) made

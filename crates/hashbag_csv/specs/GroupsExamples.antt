@@ -1,6 +1,6 @@
 -- The definitions of groups compute.
-use Rattle.std.specs.Prelude.{◌≡◌, true, false, codes, refl}
-use Rattle.hashbag_csv.specs.Groups.{is_in_groups, ungrouped}
+use Rattle.std.specs.Prelude.{◌≡◌, true, false, None, codes, refl}
+use Rattle.hashbag_csv.specs.Groups.{is_in_groups, ungrouped, without, IsTextIf}
 
 -- one to three digits first, or no mark
 thousands : is_in_groups 46 (codes "12.345.678") ≡ true
@@ -40,3 +40,7 @@ after = refl
 
 whole : ungrouped 39 46 (codes "1'000") ≡ codes "1000"
 whole = refl
+
+-- no text is made of what isn't in groups
+not_made : IsTextIf (is_in_groups 46 (codes "1.00")) (without 46 (codes "1.00")) None
+not_made = refl

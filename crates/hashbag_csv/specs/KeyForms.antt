@@ -1,4 +1,4 @@
--- What the fields of an article are compared and shown as.
+-- In which form the fields of an article are compared, and shown.
 use Rattle.std.specs.Prelude.{ℕ, ◌==◌, ◌||◌, if◌then◌else◌, Bool, List, [], ◌∷◌, reverse, chars, encode_utf8_all}
 use Rattle.caseless.specs.Caseless.{default_case_fold}
 use Rattle.hashbag_csv.specs.declared.key_form.KeyForm.{KeyForm}

@@ -1,8 +1,11 @@
+pub mod Alike
 pub mod ArticleLaws
 pub mod Articles
+pub mod BadLines
 pub mod Decimals
 pub mod Faults
 pub mod FaultsExamples
+pub mod FirstLines
 pub mod Groups
 pub mod GroupsExamples
 pub mod KeyForms
@@ -14,5 +17,6 @@ pub mod Marks
 pub mod NumberForms
 pub mod Quantities
 pub mod Readers
+pub mod Scales
 pub mod Sheets
 pub mod Totals

@@ -1,11 +1,14 @@
 -- The columns of a line, and a line that was read.
-use Rattle.std.specs.Prelude.{◌≡◌, ℕ, List, ◌∷◌, map, Option, option_map}
+use Rattle.std.specs.Prelude.{◌≡◌, ℕ, List, [], ◌∷◌, map, Option, MatchOption, option_map}
+use Rattle.hashbag_csv.specs.BadLines.{HasNumber, IsLineError, IsSaidOf}
 use Rattle.hashbag_csv.specs.Lines.{line_of}
 use Rattle.hashbag_csv.specs.Readers.{Record}
-use Rattle.hashbag_csv.specs.Sheets.{place}
+use Rattle.hashbag_csv.specs.Sheets.{ReadsOne, fits_sheet, is_short_allowed, left, place, read_last, width_of}
+use Rattle.hashbag_csv.specs.declared.fault.SheetError.{SheetError}
 use Rattle.hashbag_csv.specs.declared.line_form.LineForm.{LineForm}
 use Rattle.hashbag_csv.specs.declared.lines.LineColumns.{LineColumns}
 use Rattle.hashbag_csv.specs.declared.scale.Scale.{Scale}
+use Rattle.hashbag_csv.specs.declared.sheet.Sheet.{Sheet}
 
 -- the places of the key columns in a record
 abbrev pub key_places : LineColumns → List ℕ
@@ -30,3 +33,23 @@ line_bytes fields line = (fields line.0, line.1)
 -- `before` is a record followed by `after`, and `line`, as bytes, is f of that record
 abbrev pub IsNextLine : {A : Type 0} → (A → Record) → (Record → Record × ℕ) → List Record → List Record → A × ℕ → Type 0
 IsNextLine fields f before after line = (r : Record) × (before ≡ r ∷ after) × (line_bytes fields line ≡ f r)
+
+-- the next record was read, as a line, or none was left
+abbrev pub ReadsNextLine : {A : Type 0} → (A → Record) → (Record → Record × ℕ) → Sheet → Option (A × ℕ) → Sheet → Type 0
+ReadsNextLine fields f old next new = MatchOption next (left old ≡ []) (λ line. IsNextLine fields f (left old) (left new) line)
+
+-- a record has a number where these columns have one
+abbrev pub HasNumberBy : Scale → LineColumns → Record → Type 0
+HasNumberBy scale c r = HasNumber scale (form_of c).number (number_place c) r
+
+-- the error of the record that was read, which isn't read as a line
+abbrev pub IsLineErrorBy : Scale → LineColumns → Sheet → Sheet → SheetError → Type 0
+IsLineErrorBy scale c old new e = IsLineError scale (form_of c).number (number_place c) (fits_sheet old (read_last new)) (read_last new) e
+
+-- what is said of a record of a sheet
+abbrev pub IsSaidBy : Scale → LineColumns → Sheet → Record → Option SheetError → Type 0
+IsSaidBy scale c sheet = IsSaidOf scale (form_of c).number (number_place c) (is_short_allowed sheet) (width_of sheet)
+
+-- the next record was read, and this is said of it; or none was left
+abbrev pub SaysOfNext : Scale → LineColumns → Sheet → Option (Option SheetError) → Sheet → Type 0
+SaysOfNext scale c old next new = MatchOption next (left old ≡ []) (λ said. ReadsOne old new × IsSaidBy scale c old (read_last new) said)

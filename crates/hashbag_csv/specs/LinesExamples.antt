@@ -1,8 +1,9 @@
 -- The definition of the lines of a text computes.
-use Rattle.std.specs.Prelude.{◌≡◌, ℕ, ◌^◌, ◌-◌, true, false, List, [], ◌∷◌, Some, None, codes, refl}
+use Rattle.std.specs.Prelude.{◌≡◌, ◌^◌, ◌-◌, true, false, [], ◌∷◌, Some, None, codes, refl}
 use Rattle.std.proofs.Common.{arith}
 use Rattle.csv.proofs.OnLiterals.{csv_on_literals}
 use Rattle.hashbag_csv.specs.Lines.{lines_in}
+use Rattle.hashbag_csv.specs.NumberForms.{grouped_number_in}
 use Rattle.hashbag_csv.specs.declared.counts.Reading.{Reading}
 use Rattle.hashbag_csv.specs.declared.delimiter.Delimiter.TheVariants.{Comma, Semicolon}
 use Rattle.hashbag_csv.specs.declared.groups.GroupMark.TheVariants.{Point as group_point}
@@ -16,7 +17,7 @@ abbrev hundredths : Reading
 hundredths = record { delimiter = Semicolon; scale = record { decimals = 2; mark = comma_mark; most = 2 ^ 64 - 1; few = omega arith } }
 
 abbrev as_is : LineForm
-as_is = record { key = record { trim = false; fold = false }; number = record { blank_is_zero = false; group = None } }
+as_is = record { key = record { trim = false; fold = false }; number = record { blank_is_zero = false; group = None }; allows_short = false }
 
 abbrev trimming : LineForm
 trimming = record as_is { key = record { trim = true; fold = false } }
@@ -74,3 +75,7 @@ blanks = refl
 groups : lines_in hundredths with_points (codes "a" ∷ []) (Some (codes "n")) (codes "a;n\nx;1.234.567,5\ny;1000\n") ≡ (codes "x" ∷ [], 123456750) ∷ (codes "y" ∷ [], 100000) ∷ []
 unfolding csv_on_literals
 groups = refl
+
+-- a number without the marks between its groups, in hundredths
+in_groups : grouped_number_in (hundredths.scale) (Some group_point) (codes "1.000,5") ≡ 100050
+in_groups = refl

@@ -3,6 +3,7 @@ use Rattle.std.specs.Prelude.{◌≡◌, ℕ, ◌⊎◌, Bool, true, false, List
 use Rattle.hashbag_csv.specs.Decimals.{IsDecimal}
 use Rattle.hashbag_csv.specs.Faults.{IsFaultOf}
 use Rattle.hashbag_csv.specs.Groups.{fits_groups, ungrouped_if}
+use Rattle.hashbag_csv.specs.Lines.{number_in}
 use Rattle.hashbag_csv.specs.Marks.{code_of}
 use Rattle.hashbag_csv.specs.declared.fault.Fault.{Fault}
 use Rattle.hashbag_csv.specs.declared.fault.Fault.TheVariants.{BadGroups}
@@ -44,3 +45,7 @@ IsGroupedError scale group line field Memory = ⊤
 -- the same, of a field that isn't 0 because it is empty
 abbrev pub IsErrorOfField : Scale → NumberForm → ℕ → List ℕ → SheetError → Type 0
 IsErrorOfField scale form line field e = ¬ (IsBlankZero form field) × IsGroupedError scale form.group line field e
+
+-- the number of a field without its marks between groups, in units of the scale
+abbrev pub grouped_number_in : Scale → Option GroupMark → List ℕ → ℕ
+grouped_number_in scale group field = number_in scale (ungrouped_if (code_of scale.mark) group field)

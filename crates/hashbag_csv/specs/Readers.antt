@@ -36,9 +36,9 @@ records_after cfg s (Some text) = records_from cfg (length text + 1) s text
 abbrev pub records_left : Delimiter → Reader (Bor (List ℕ)) → List Record
 records_left d r = records_after (config_of d) (reader_state r) (source_of (λ b. Some b.now) r)
 
--- the reader doesn't trim, takes no record as a header, and rejects records of another length
+-- the reader doesn't trim, takes no record as a header, and accepts records of any length
 abbrev pub IsReader : Delimiter → Reader (Bor (List ℕ)) → Type 0
-IsReader d r = (reader_config r ≡ config_of d) × (reader_trim r ≡ trim.None) × (is_flexible r ≡ false) × (names_headers r ≡ false)
+IsReader d r = (reader_config r ≡ config_of d) × (reader_trim r ≡ trim.None) × (is_flexible r ≡ true) × (names_headers r ≡ false)
     × (took_first r ≡ false → reader_headers r ≡ None)
 
 -- a read: `fields` are the next record, or no record was left

@@ -1,9 +1,9 @@
 -- What a sheet has read, and what it has left.
-use Rattle.std.specs.Prelude.{◌≡◌, ◌≢◌, ◌<◌, ℕ, List, [], length, get_or, ⊤}
+use Rattle.std.specs.Prelude.{◌≡◌, ◌≢◌, ◌<◌, ◌==◌, ◌⊎◌, nat_le, if◌then◌else◌, ℕ, Bool, true, false, List, [], ◌∷◌, length, get_or, All, ⊤}
 use Rattle.csv.specs.Records.{fields_of}
 use Rattle.hashbag_csv.specs.Readers.{Record, records_left}
 use Rattle.hashbag_csv.specs.declared.fault.Fault.{Fault}
-use Rattle.hashbag_csv.specs.declared.fault.Fault.TheVariants.{NoColumn, TwoColumns}
+use Rattle.hashbag_csv.specs.declared.fault.Fault.TheVariants.{Fields, NoColumn, OpenQuote, StrayQuote, TextAfterQuote, TwoColumns}
 use Rattle.hashbag_csv.specs.declared.fault.SheetError.{SheetError}
 use Rattle.hashbag_csv.specs.declared.fault.SheetError.TheVariants.{Line, Memory}
 use Rattle.hashbag_csv.specs.declared.sheet.Column.{Column}
@@ -16,6 +16,10 @@ read_last s = fields_of s.record
 -- the records not yet read, without the one read last
 abbrev pub left : Sheet → List Record
 left s = records_left s.delimiter s.reader
+
+-- the next record was read
+abbrev pub ReadsOne : Sheet → Sheet → Type 0
+ReadsOne old new = left old ≡ read_last new ∷ left new
 
 -- the place of a column in a record
 abbrev pub place : Column → ℕ
@@ -35,3 +39,46 @@ IsNameFault name fields _ = ⊥
 abbrev pub IsColumnError : List ℕ → Record → SheetError → Type 0
 IsColumnError name fields (Line line fault) = IsNameFault name fields fault
 IsColumnError name fields Memory = ⊤
+
+-- how many fields the header has
+abbrev pub width_of : Sheet → ℕ
+width_of s = s.width
+
+-- whether a record may have fewer fields than the header
+abbrev pub is_short_allowed : Sheet → Bool
+is_short_allowed s = s.allows_short
+
+-- both are as before
+abbrev pub KeepsHeader : Sheet → Sheet → Type 0
+KeepsHeader old new = (width_of new ≡ width_of old) × (is_short_allowed new ≡ is_short_allowed old)
+
+-- a record has as many fields as the header, which has `width`, or fewer if that is allowed
+abbrev pub fits_header : Bool → ℕ → Record → Bool
+fits_header short width r = if short then nat_le (length r) width else length r == width
+
+-- the same of a sheet's header
+abbrev pub fits_sheet : Sheet → Record → Bool
+fits_sheet s r = fits_header s.allows_short s.width r
+
+-- each record after the header fits it
+abbrev pub FitHeader : Bool → List Record → Type 0
+FitHeader short [] = ⊤
+FitHeader short (header ∷ records) = All (λ r. fits_header short (length header) r ≡ true) records
+
+-- whether a fault is that a record has another number of fields
+abbrev pub is_fields_fault : Fault → Bool
+is_fields_fault (Fields found header) = true
+is_fields_fault _ = false
+
+-- whether a fault is that a quote is out of place
+abbrev pub is_quote_fault : Fault → Bool
+is_quote_fault OpenQuote = true
+is_quote_fault TextAfterQuote = true
+is_quote_fault StrayQuote = true
+is_quote_fault _ = false
+
+-- the error of a record that isn't read, and that fits the header or doesn't: a quote is out of place, or it doesn't fit. An allocation may
+-- fail instead
+abbrev pub IsReadError : Bool → SheetError → Type 0
+IsReadError fits (Line line fault) = (is_quote_fault fault ≡ true) ⊎ ((is_fields_fault fault ≡ true) × (fits ≡ false))
+IsReadError fits Memory = ⊤

@@ -1,7 +1,8 @@
 //! What an article is kept as.
-ghost use Rattle.std.specs.Prelude.{◌≡◌, [], ◌∷◌, map, IfOk};
+ghost use Rattle.std.specs.Prelude.{◌≡◌, [], ◌∷◌, map, IfErr, IfOk};
 ghost use Rattle.std.specs.String.{string_bytes};
 ghost use Rattle.hashbag_csv.specs.Articles.{same_article};
+ghost use Rattle.hashbag_csv.specs.BadLines.{IsTextError};
 ghost use Rattle.hashbag_csv.specs.Lines.{fields_at};
 ghost use Rattle.hashbag_csv.specs.Readers.{Record};
 ghost use Rattle.hashbag_csv.specs.Sheets.{place, read_last};
@@ -32,7 +33,8 @@ pub trait Article: Ord + Hash + Sized {
         columns: &[Column<'_>],
         form: KeyForm,
     ) -> Result<Self, SheetError>
-        ensures { IfOk result (λ article. fields article ≡ fields_at form (map place columns.now) (read_last sheet.now)) };
+        ensures fields { IfOk result (λ article. fields article ≡ fields_at form (map place columns.now) (read_last sheet.now)) }
+        ensures fault { IfErr result (λ e. IsTextError e) };
 
     /// Returns its fields.
     fn texts(&self) -> &[String]

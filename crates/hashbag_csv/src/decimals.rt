@@ -1,18 +1,18 @@
-//! Numbers with decimals: read exactly, and written with all their decimals. `MatchOption` says when a result is `None`, and what is true of
-//! its value else.
-ghost use Rattle.std.specs.Prelude.{◌≡◌, ◌≤◌, ◌<◌, ◌*◌, ◌^◌, length, Some, MatchOption, IfOk};
+//! Numbers with decimals: read exactly, and written with all their decimals. `IsSomeIfFits` says when a result is `None`, and which
+//! number it is else.
+ghost use Rattle.std.specs.Prelude.{◌≡◌, ◌≤◌, ◌<◌, ◌*◌, ◌^◌, Some, IfOk};
 ghost use Rattle.std.specs.String.{string_bytes};
-ghost use Rattle.std.specs.Str.Parse.{AllDigits, IsNumeral, digits_value};
-ghost use Rattle.hashbag_csv.specs.Decimals.{ArePartsOf, IsDecimal, units, units_of};
-ghost use Rattle.hashbag_csv.specs.Marks.{code_of};
+ghost use Rattle.std.specs.Str.Parse.{IsNumeral, digits_value};
+ghost use Rattle.hashbag_csv.specs.Decimals.{ArePartsOf, IsPadded, IsSomeIfFits, units_of};
+ghost use Rattle.hashbag_csv.specs.Lines.{number_in};
+ghost use Rattle.hashbag_csv.specs.Scales.{IsNumberIn};
 
 use crate::scale::Scale;
 use std::alloc::{AllocError, Global};
 
 // The number that a text is, if it has only digits and the number fits.
 fn number_of(digits: &str) -> Option<usize>
-    ensures { MatchOption result (¬ (IsNumeral 10 digits.now × (digits_value 10 digits.now ≤ usize.MAX)))
-        (λ n. IsNumeral 10 digits.now × (digits_value 10 digits.now ≡ n)) }
+    ensures { IsSomeIfFits result (IsNumeral 10 digits.now) (digits_value 10 digits.now) }
 {
     if digits.starts_with('+') {
         return None;
@@ -31,8 +31,7 @@ pub(crate) fn unit_of(decimals: u32) -> usize
 // The units of a whole number.
 fn alone(digits: &str, decimals: u32) -> Option<usize>
     requires { decimals ≤ 9 }
-    ensures { MatchOption result (¬ (IsNumeral 10 digits.now × (digits_value 10 digits.now * 10 ^ decimals ≤ usize.MAX)))
-        (λ n. IsNumeral 10 digits.now × (digits_value 10 digits.now * 10 ^ decimals ≡ n)) }
+    ensures { IsSomeIfFits result (IsNumeral 10 digits.now) (digits_value 10 digits.now * 10 ^ decimals) }
 {
     let Some(number) = number_of(digits) else {
         return None;
@@ -43,8 +42,7 @@ fn alone(digits: &str, decimals: u32) -> Option<usize>
 // The units of a whole part and the decimals after it.
 fn joined(whole: &str, part: &str, decimals: u32) -> Option<usize>
     requires { decimals ≤ 9 }
-    ensures { MatchOption result (¬ (ArePartsOf decimals whole.now part.now × (units_of decimals whole.now part.now ≤ usize.MAX)))
-        (λ n. ArePartsOf decimals whole.now part.now × (units_of decimals whole.now part.now ≡ n)) }
+    ensures { IsSomeIfFits result (ArePartsOf decimals whole.now part.now) (units_of decimals whole.now part.now) }
 {
     if part.len() > decimals as usize {
         return None;
@@ -63,9 +61,7 @@ fn joined(whole: &str, part: &str, decimals: u32) -> Option<usize>
 /// Returns `None` for another text, for more decimals than the scale has, and for a number of more than `usize::MAX` units.
 pub fn read_decimal(text: &str, scale: Scale) -> Option<usize>
     // It is `None` exactly if the text is no such number, or one of more than `usize::MAX` units.
-    ensures { MatchOption result
-        (¬ (IsDecimal (code_of scale.mark) scale.decimals text.now × (units (code_of scale.mark) scale.decimals text.now ≤ usize.MAX)))
-        (λ n. IsDecimal (code_of scale.mark) scale.decimals text.now × (units (code_of scale.mark) scale.decimals text.now ≡ n)) }
+    ensures { IsSomeIfFits result (IsNumberIn scale text.now) (number_in scale text.now) }
 {
     match text.split_once(scale.mark.character()) {
         Some((whole, part)) => joined(whole, part, scale.decimals),
@@ -77,8 +73,7 @@ pub fn read_decimal(text: &str, scale: Scale) -> Option<usize>
 fn padded(alloc: Global, number: usize, width: u32) -> Result<String, AllocError>
     requires fits { number < 10 ^ width }
     requires wide { 0 < width }
-    ensures { IfOk result (λ text. AllDigits 10 (string_bytes text) × (length (string_bytes text) ≡ width)
-        × (digits_value 10 (string_bytes text) ≡ number)) }
+    ensures { IfOk result (λ text. IsPadded number width (string_bytes text)) }
 {
     let digits = format!(in alloc; "{number}")?;
     let missing = (width as usize).saturating_sub(digits.len());
@@ -92,8 +87,7 @@ fn padded(alloc: Global, number: usize, width: u32) -> Result<String, AllocError
 
 /// Writes a number of units with all decimals of the scale. [`read_decimal`] returns the number again.
 pub fn write_decimal(alloc: Global, number: usize, scale: Scale) -> Result<String, AllocError>
-    ensures { IfOk result (λ text. IsDecimal (code_of scale.mark) scale.decimals (string_bytes text)
-        × (units (code_of scale.mark) scale.decimals (string_bytes text) ≡ number)) }
+    ensures { IfOk result (λ text. IsNumberIn scale (string_bytes text) × (number_in scale (string_bytes text) ≡ number)) }
 {
     let unit = unit_of(scale.decimals);
     let mut text = format!(in alloc; "{}", number / unit)?;

@@ -12,7 +12,7 @@ pub enum Fault {
     #[error("no header")]
     NoHeader,
     /// The text is UTF-16, as its mark says.
-    #[error("UTF-16; `iconv -f UTF-16 -t UTF-8` makes it UTF-8")]
+    #[error("UTF-16; `--encoding UTF-16` reads it")]
     Utf16,
     /// The header has no column of this name.
     #[error("no column `{name}`; there are: {there}")]
@@ -43,7 +43,7 @@ pub enum Fault {
         header: u64,
     },
     /// A field isn't UTF-8.
-    #[error("column `{0}` is not UTF-8; if it is Windows-1252, `iconv -f CP1252 -t UTF-8`")]
+    #[error("column `{0}` is not UTF-8; if it is Windows-1252, `--encoding Windows-1252`")]
     NotText(String),
     /// A field is no number.
     #[error("no number: `{0}`")]

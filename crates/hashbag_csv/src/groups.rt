@@ -1,9 +1,8 @@
 //! Marks between groups of three digits.
-ghost use Rattle.std.specs.Prelude.{◌≡◌, ◌∷◌, ◌++◌, ◌==◌, ◌<◌, [], not, false, true, IfOk, MatchOption, OnOk};
+ghost use Rattle.std.specs.Prelude.{◌≡◌, ◌∷◌, ◌++◌, ◌==◌, ◌<◌, [], not, IfOk, OnOk};
 ghost use Rattle.std.specs.List.{list_all};
 ghost use Rattle.std.specs.String.{string_bytes};
-ghost use Rattle.hashbag_csv.specs.Decimals.{whole_of};
-ghost use Rattle.hashbag_csv.specs.Groups.{fits_place, group_code, is_in_groups, marks_fit, ungrouped, without};
+ghost use Rattle.hashbag_csv.specs.Groups.{fits_place, group_code, is_in_groups, marks_fit, without, IsTextIf, IsUngrouped};
 ghost use Rattle.hashbag_csv.specs.Marks.{code_of};
 
 use crate::scale::Mark;
@@ -55,7 +54,7 @@ fn has_none(text: &[u8], group: u8) -> bool
     text.iter().all(|byte| *byte != group)
 }
 
-// Whether a byte is the mark, or a digit, as it should be before so many others.
+// Whether a byte with `behind` bytes after it is what it should be there: the mark, or a digit.
 fn fits(byte: u8, behind: usize, group: u8) -> bool
     ensures { result ≡ fits_place group byte behind }
 {
@@ -79,8 +78,7 @@ fn push_digit(digits: &mut String, byte: u8, group: u8) -> Result<(), AllocError
 // The digits of groups of three, which the mark is between, or `None` if a byte is in another place.
 fn digits_of_groups(alloc: Global, whole: &[u8], group: u8) -> Result<Option<String>, AllocError>
     requires ascii { group < 128 }
-    ensures { IfOk result (λ r. MatchOption r (marks_fit group whole.now ≡ false)
-        (λ digits. (marks_fit group whole.now ≡ true) × (string_bytes digits ≡ without group whole.now))) }
+    ensures { IfOk result (λ digits. IsTextIf (marks_fit group whole.now) (without group whole.now) digits) }
 {
     let mut digits = String::new(alloc);
     let mut rest = whole;
@@ -97,8 +95,7 @@ fn digits_of_groups(alloc: Global, whole: &[u8], group: u8) -> Result<Option<Str
 // A text without the mark, or `None` if it has the mark in another place than between groups of three digits.
 fn digits_of(alloc: Global, whole: &str, group: u8) -> Result<Option<String>, AllocError>
     requires ascii { group < 128 }
-    ensures { IfOk result (λ r. MatchOption r (is_in_groups group whole.now ≡ false)
-        (λ digits. (is_in_groups group whole.now ≡ true) × (string_bytes digits ≡ without group whole.now))) }
+    ensures { IfOk result (λ digits. IsTextIf (is_in_groups group whole.now) (without group whole.now) digits) }
 {
     if has_none(whole.as_bytes(), group) {
         return Ok(Some(String::from_str(alloc, whole)?));
@@ -117,9 +114,7 @@ pub fn ungrouped_text(
     mark: Mark,
     group: GroupMark,
 ) -> Result<Option<String>, AllocError>
-    ensures { IfOk result (λ r. MatchOption r (is_in_groups (group_code group) (whole_of (code_of mark) text.now) ≡ false)
-        (λ digits. (is_in_groups (group_code group) (whole_of (code_of mark) text.now) ≡ true)
-        × (string_bytes digits ≡ ungrouped (group_code group) (code_of mark) text.now))) }
+    ensures { IfOk result (λ digits. IsUngrouped (code_of mark) group text.now digits) }
 {
     let Some((whole, part)) = text.split_once(mark.character()) else {
         return digits_of(alloc, text, group.byte());

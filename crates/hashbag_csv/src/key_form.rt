@@ -1,10 +1,10 @@
-//! What the fields of an article are compared and shown as.
+//! In which form the fields of an article are compared, and shown.
 
-/// What the fields of an article are compared and shown as.
+/// In which form the fields of an article are compared, and shown. Each change is made if its flag is true.
 #[derive(Clone, Copy, PartialEq, Eq, Debug)]
 pub struct KeyForm {
-    /// Without the spaces and tabs at both ends.
+    /// The spaces and tabs at both ends are removed.
     pub trim: bool,
-    /// With their case folded, after that.
+    /// Upper and lower case become one, after that.
     pub fold: bool,
 }

@@ -1,12 +1,15 @@
 //! Lists of articles with quantities: read from CSV texts, put into bags, taken out of them again, and written.
 #![tactic(auto)]
 
+pub mod alike;
 pub mod article;
+pub mod bad_lines;
 pub mod counts;
 pub mod decimals;
 pub mod delimiter;
 pub mod escaped;
 pub mod fault;
+pub mod first_lines;
 pub mod groups;
 pub mod key_form;
 pub mod line_form;

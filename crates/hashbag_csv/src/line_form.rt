@@ -7,10 +7,12 @@ use crate::number_form::NumberForm;
 /// How the lines of a list are read.
 #[derive(Clone, Copy, PartialEq, Eq, Debug)]
 pub struct LineForm {
-    /// What the fields of an article are compared and shown as.
+    /// In which form the fields of an article are compared, and shown.
     pub key: KeyForm,
     /// What a field of numbers may be.
     pub number: NumberForm,
+    /// Whether fields may be missing at the end of a record, which are empty then.
+    pub allows_short: bool,
 }
 
 impl LineForm {
@@ -20,6 +22,7 @@ impl LineForm {
         ensures fold { result.key.fold ≡ false }
         ensures blank_is_zero { result.number.blank_is_zero ≡ false }
         ensures group { result.number.group ≡ None }
+        ensures allows_short { result.allows_short ≡ false }
     {
         LineForm {
             key: KeyForm {
@@ -30,6 +33,7 @@ impl LineForm {
                 blank_is_zero: false,
                 group: None,
             },
+            allows_short: false,
         }
     }
 }

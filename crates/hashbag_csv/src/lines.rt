@@ -1,10 +1,11 @@
 //! The lines of a sheet: an article, which is the fields of its key columns, and a number.
-ghost use Rattle.std.specs.Prelude.{◌≡◌, ◌∷◌, ℕ, [], map, get_or, option_map, IfOk, MatchOption, OnOk};
+ghost use Rattle.std.specs.Prelude.{◌≡◌, ◌≢◌, ◌⊎◌, ◌∷◌, ℕ, [], true, map, get_or, option_map, IfErr, IfOk, IfSome, OnOk};
 ghost use Rattle.std.specs.String.{string_bytes};
+ghost use Rattle.hashbag_csv.specs.BadLines.{HasNumber, IsNumberError, IsTextError};
 ghost use Rattle.hashbag_csv.specs.KeyForms.{field_in, trimmed_if};
-ghost use Rattle.hashbag_csv.specs.LineColumns.{IsNextLine, form_of, key_places, line_by, number_place};
+ghost use Rattle.hashbag_csv.specs.LineColumns.{HasNumberBy, IsLineErrorBy, ReadsNextLine, form_of, key_places, line_by, number_place};
 ghost use Rattle.hashbag_csv.specs.Lines.{fields_at, number_at, place_of};
-ghost use Rattle.hashbag_csv.specs.Sheets.{left, place, read_last};
+ghost use Rattle.hashbag_csv.specs.Sheets.{KeepsHeader, ReadsOne, fits_sheet, place, read_last};
 
 use crate::article::Article;
 use crate::decimals::unit_of;
@@ -39,7 +40,7 @@ pub fn column_of<'n>(sheet: &Sheet<'_>, name: &'n str) -> Result<Column<'n>, She
 }
 
 // The columns of these names in the header, which must be the record that was read last.
-fn columns_of<'n>(
+pub(crate) fn columns_of<'n>(
     alloc: Global,
     sheet: &Sheet<'_>,
     names: &[&'n str],
@@ -69,7 +70,8 @@ fn number_column_of<'n>(
 
 // The text of this column in the record that was read last, trimmed if that is asked for.
 fn text_of<'s>(sheet: &'s Sheet<'_>, column: Column<'_>, trim: bool) -> Result<&'s str, SheetError>
-    ensures { IfOk result (λ text. text.now ≡ trimmed_if trim (get_or (read_last sheet.now) (place column.entry) [])) }
+    ensures value { IfOk result (λ text. text.now ≡ trimmed_if trim (get_or (read_last sheet.now) (place column.entry) [])) }
+    ensures fault { IfErr result (λ e. IsTextError e) }
 {
     if trim {
         return sheet.trimmed_field(column);
@@ -84,7 +86,8 @@ pub(crate) fn key_field(
     column: Column<'_>,
     form: KeyForm,
 ) -> Result<String, SheetError>
-    ensures { IfOk result (λ field. string_bytes field ≡ field_in form (get_or (read_last sheet.now) (place column.entry) [])) }
+    ensures value { IfOk result (λ field. string_bytes field ≡ field_in form (get_or (read_last sheet.now) (place column.entry) [])) }
+    ensures fault { IfErr result (λ e. IsTextError e) }
 {
     let text = text_of(sheet, column, form.trim)?;
     if form.fold {
@@ -100,7 +103,8 @@ pub(crate) fn fields_of(
     columns: &[Column<'_>],
     form: KeyForm,
 ) -> Result<Vec<String>, SheetError>
-    ensures { IfOk result (λ fields. map string_bytes fields.items ≡ fields_at form (map place columns.now) (read_last sheet.now)) }
+    ensures fields { IfOk result (λ fields. map string_bytes fields.items ≡ fields_at form (map place columns.now) (read_last sheet.now)) }
+    ensures fault { IfErr result (λ e. IsTextError e) }
 {
     let mut fields = Vec::new(alloc);
     for column in columns {
@@ -118,7 +122,9 @@ fn number_of(
     scale: Scale,
     form: NumberForm,
 ) -> Result<usize, SheetError>
-    ensures { IfOk result (λ n. n ≡ number_at scale form (option_map place column.entry) (read_last sheet.now)) }
+    ensures number { IfOk result (λ n. n ≡ number_at scale form (option_map place column.entry) (read_last sheet.now)) }
+    ensures reads { OnOk result (HasNumber scale form (option_map place column.entry) (read_last sheet.now)) }
+    ensures fault { IfErr result (λ e. IsTextError e ⊎ IsNumberError scale form (option_map place column.entry) (read_last sheet.now) e) }
 {
     match column {
         Some(column) => {
@@ -168,8 +174,16 @@ impl<'n> LineColumns<'n> {
         scale: Scale,
     ) -> Result<Option<(A, usize)>, SheetError>
         // `left` are the records not yet read. The line is that of the next one; or none was left.
-        ensures { IfOk result (λ next. MatchOption next (left sheet.old ≡ [])
-            (λ line. IsNextLine A.fields (line_by scale self.now) (left sheet.old) (left sheet.new) line)) }
+        ensures line { IfOk result (λ next. ReadsNextLine A.fields (line_by scale self.now) sheet.old next sheet.new) }
+
+        // The next record has as many fields as the header, or fewer if that is allowed.
+        ensures fits { IfOk result (λ next. IfSome next (λ _. ReadsOne sheet.old sheet.new × (fits_sheet sheet.old (read_last sheet.new) ≡ true))) }
+        ensures number { IfOk result (λ next. IfSome next (λ _. HasNumberBy scale self.now (read_last sheet.new))) }
+
+        // What is wrong with the next record, which was read.
+        ensures fault { IfErr result (λ e. IsLineErrorBy scale self.now sheet.old sheet.new e) }
+        ensures reads_on { IfErr result (λ e. e ≢ SheetError.Memory → ReadsOne sheet.old sheet.new) }
+        ensures same { KeepsHeader sheet.old sheet.new }
     {
         if !sheet.read()? {
             return Ok(None);

@@ -1,11 +1,13 @@
 //! Numbers in fields.
-ghost use Rattle.std.specs.Prelude.{◌≡◌, ◌≤◌, ◌↔◌, IfErr, IfOk, IsTrue, MatchOption, false, length};
+ghost use Rattle.std.specs.Prelude.{◌≡◌, ◌≤◌, ◌↔◌, IfErr, IfOk, IsTrue, false};
 ghost use Rattle.std.specs.Char.{is_ascii_digit};
 ghost use Rattle.std.specs.List.{list_all};
 ghost use Rattle.std.specs.Str.Parse.{IsNumeral};
-ghost use Rattle.hashbag_csv.specs.Decimals.{IsDecimal, part_of, units, whole_of};
-ghost use Rattle.hashbag_csv.specs.Faults.{HasGroups, HasMark, HasParts, IsErrorOf, IsFaultOf, IsFraction, is_grouped};
+ghost use Rattle.hashbag_csv.specs.Decimals.{IsDecimal, units};
+ghost use Rattle.hashbag_csv.specs.Faults.{HasGroups, IsCutAtMark, IsErrorOf, IsFaultOf, IsFraction, IsNumberOfDecimals, is_grouped};
+ghost use Rattle.hashbag_csv.specs.Lines.{number_in};
 ghost use Rattle.hashbag_csv.specs.Marks.{code_of};
+ghost use Rattle.hashbag_csv.specs.Scales.{IsNumberIn};
 ghost use Rattle.hashbag_csv.specs.Totals.{IsTotalPast};
 
 use crate::decimals::{read_decimal, write_decimal};
@@ -33,9 +35,7 @@ fn are_digits(text: &str) -> bool
 
 // The text before the first mark, and the text after it.
 fn cut(text: &str, mark: Mark) -> Option<(&str, &str)>
-    ensures { MatchOption result (¬ (HasMark (code_of mark) text.now))
-        (λ x. HasMark (code_of mark) text.now
-        × (x.0.now ≡ whole_of (code_of mark) text.now) × (x.1.now ≡ part_of (code_of mark) text.now)) }
+    ensures { IsCutAtMark (code_of mark) text.now result }
 {
     text.split_once(mark.character())
 }
@@ -43,8 +43,7 @@ fn cut(text: &str, mark: Mark) -> Option<(&str, &str)>
 // The number of decimals of a text that is digits, the mark, and digits.
 #[tactic(auto, unfolding(crate::specs::Faults::HasParts))]
 fn decimals_in(text: &str, mark: Mark) -> Option<usize>
-    ensures { MatchOption result (¬ (HasParts (code_of mark) text.now))
-        (λ n. HasParts (code_of mark) text.now × (n ≡ length (part_of (code_of mark) text.now))) }
+    ensures { IsNumberOfDecimals (code_of mark) text.now result }
 {
     let Some((whole, part)) = cut(text, mark) else {
         return None;
@@ -102,8 +101,7 @@ fn is_fraction(text: &str) -> bool
 // What is wrong with a text that isn't read at this scale.
 #[tactic(auto, using(crate::proofs::NumberLemmas::parts_decimal, crate::proofs::NumberLemmas::past))]
 fn fault_of(alloc: Global, digits: &str, field: &str, scale: Scale) -> Result<Fault, AllocError>
-    requires { ¬ (IsDecimal (code_of scale.mark) scale.decimals digits.now
-        × (units (code_of scale.mark) scale.decimals digits.now ≤ scale.most)) }
+    requires { ¬ (IsNumberIn scale digits.now × (number_in scale digits.now ≤ scale.most)) }
     ensures { IfOk result (λ fault. IsFaultOf (code_of scale.mark) scale.decimals scale.most digits.now fault) }
 {
     let field = shown(alloc, field)?;
@@ -152,8 +150,7 @@ pub fn scaled_number(
     scale: Scale,
 ) -> Result<usize, SheetError>
     // `digits` is a number of n units in the scale, and n is at most its greatest number.
-    ensures number { IfOk result (λ n. IsDecimal (code_of scale.mark) scale.decimals digits.now
-        × (units (code_of scale.mark) scale.decimals digits.now ≡ n)) }
+    ensures number { IfOk result (λ n. IsNumberIn scale digits.now × (number_in scale digits.now ≡ n)) }
     ensures most { IfOk result (λ n. n ≤ scale.most) }
 
     // The error is in this line, and has the fault that the text has; or it is `Memory`.

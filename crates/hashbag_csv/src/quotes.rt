@@ -1,4 +1,7 @@
 //! Quotes that are out of place in a record.
+ghost use Rattle.std.specs.Prelude.{◌≡◌, true};
+ghost use Rattle.hashbag_csv.specs.Sheets.{is_quote_fault};
+
 use crate::fault::Fault;
 
 const QUOTE: u8 = b'"';
@@ -29,7 +32,9 @@ pub enum Misplaced {
 
 impl Misplaced {
     /// Returns the fault of its line.
-    pub fn fault(self) -> Fault {
+    pub fn fault(self) -> Fault
+        ensures { is_quote_fault result ≡ true }
+    {
         match self {
             Misplaced::Open => Fault::OpenQuote,
             Misplaced::Closed => Fault::TextAfterQuote,

@@ -38,6 +38,8 @@ pub struct Scale {
 }
 
 impl Scale {
+    ghost use Rattle.hashbag_csv.specs.Scales.{IsWidestScale};
+
     /// Returns the scale of whole numbers: no decimals, the mark `.`, and `usize::MAX` as the greatest number.
     pub fn whole() -> Scale
         ensures decimals { result.decimals ≡ 0 }
@@ -54,8 +56,7 @@ impl Scale {
     /// Returns the scale with this number of decimals after this mark, or `None` if there are more than 9. The greatest number is
     /// `usize::MAX` units.
     pub fn new(decimals: u32, mark: Mark) -> Option<Scale>
-        ensures { MatchOption result (most_decimals < decimals)
-            (λ scale. (scale.decimals ≡ decimals) × (scale.mark ≡ mark) × (scale.most ≡ usize.MAX)) }
+        ensures { MatchOption result (most_decimals < decimals) (λ scale. IsWidestScale decimals mark scale) }
     {
         if decimals > 9 {
             return None;

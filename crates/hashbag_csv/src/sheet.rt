@@ -8,7 +8,7 @@ use crate::escaped::shown;
 use crate::fault::{Fault, SheetError};
 use crate::quotes::misplaced_quote;
 use crate::trims::trim;
-use csv::{ByteRecord, Error, ErrorKind, Position, Reader, ReaderBuilder};
+use csv::{ByteRecord, Position, Reader, ReaderBuilder};
 use std::alloc::{AllocError, Global};
 use std::fmt::Write;
 use std::str;
@@ -72,8 +72,8 @@ pub struct Column<'n> {
 
 /// A CSV text whose records are read one after the other.
 ///
-/// Its first record is the header, and each other one has as many fields. A byte order mark, the ends of lines as `\n` or `\r\n`,
-/// fields in quotes and empty lines are read as most programs write them. A quote that is out of place is an error.
+/// Its first record is the header, and each other one has as many fields, or fewer if that is allowed. A byte order mark, the ends of lines
+/// as `\n` or `\r\n`, fields in quotes and empty lines are read as most programs write them. A quote that is out of place is an error.
 #[derive(Drop)]
 pub struct Sheet<'a> {
     alloc: Global,
@@ -82,14 +82,19 @@ pub struct Sheet<'a> {
     reader: Reader<&'a [u8]>,
     // The record that was read last, the header at first.
     record: ByteRecord,
+    // How many fields the header has, and whether another record may have fewer.
+    width: usize,
+    allows_short: bool,
     ghost reads: { has_failed reader ≡ false → IsReader delimiter reader },
 }
 
 impl<'a> Sheet<'a> {
-    ghost use Rattle.std.specs.Prelude.{ℕ, ◌∷◌, [], get_or, IfErr, IfOk, IsTrue, IsUtf8, ◌↔◌};
+    ghost use Rattle.std.specs.Prelude.{ℕ, ◌≢◌, ◌∷◌, [], Bool, get_or, length, true, IfErr, IfOk, IfSome, IsTrue, IsUtf8, ◌↔◌};
+    ghost use Rattle.hashbag_csv.specs.BadLines.{IsTextError};
     ghost use Rattle.hashbag_csv.specs.KeyForms.{trimmed};
+    ghost use Rattle.hashbag_csv.specs.Lines.{place_of};
     ghost use Rattle.hashbag_csv.specs.Readers.{IsNext, records_in};
-    ghost use Rattle.hashbag_csv.specs.Sheets.{IsColumnError, IsOnlyAt, left, place, read_last};
+    ghost use Rattle.hashbag_csv.specs.Sheets.{IsColumnError, IsOnlyAt, IsReadError, KeepsHeader, ReadsOne, fits_sheet, is_short_allowed, left, place, read_last, width_of};
 
     /// Opens the sheet of a text with commas between fields, and reads its header.
     pub fn open(alloc: Global, text: &'a [u8]) -> Result<Sheet<'a>, SheetError>
@@ -108,6 +113,21 @@ impl<'a> Sheet<'a> {
         // The header was read last, and the records after it are left.
         ensures { IfOk result (λ sheet. records_in delimiter text.now ≡ read_last sheet ∷ left sheet) }
     {
+        let sheet = Sheet::open_lines(alloc, text, delimiter, false)?;
+        Ok(sheet)
+    }
+
+    /// Opens the sheet of a text with this delimiter between fields, and reads its header. If `allows_short`, a record may have fewer fields.
+    pub fn open_lines(
+        alloc: Global,
+        text: &'a [u8],
+        delimiter: Delimiter,
+        allows_short: bool,
+    ) -> Result<Sheet<'a>, SheetError>
+        // The header was read last, and the records after it are left.
+        ensures records { IfOk result (λ sheet. records_in delimiter text.now ≡ read_last sheet ∷ left sheet) }
+        ensures width { IfOk result (λ sheet. (width_of sheet ≡ length (read_last sheet)) × (is_short_allowed sheet ≡ allows_short)) }
+    {
         if is_utf16(text) {
             let fault = Fault::Utf16;
             return Err(SheetError::Line { line: 1, fault });
@@ -119,11 +139,15 @@ impl<'a> Sheet<'a> {
             delimiter,
             reader: ReaderBuilder::new()
                 .has_headers(false)
+                .flexible(true)
                 .delimiter(delimiter.byte())
                 .from_reader(alloc, text),
             record: ByteRecord::new(alloc),
+            width: 0,
+            allows_short,
         };
-        if sheet.read()? {
+        if sheet.read_next()? {
+            sheet.width = sheet.record.len();
             Ok(sheet)
         } else {
             let fault = Fault::NoHeader;
@@ -134,20 +158,75 @@ impl<'a> Sheet<'a> {
     /// Reads the next record, and returns whether there was one.
     pub fn read(&mut self) -> Result<bool, SheetError>
         // The next of the records that were left was read; or none was left.
-        ensures { IfOk result (λ found. IsNext found (read_last self.new) (left self.old) (left self.new)) }
+        ensures next { IfOk result (λ found. IsNext found (read_last self.new) (left self.old) (left self.new)) }
+
+        // It has as many fields as the header, or fewer if that is allowed. An error on their number is that of another record.
+        ensures fits { IfOk result (λ found. found ≡ true → fits_sheet self.old (read_last self.new) ≡ true) }
+        ensures fault { IfErr result (λ e. IsReadError (fits_sheet self.old (read_last self.new)) e) }
+        ensures reads_on { IfErr result (λ e. e ≢ SheetError.Memory → ReadsOne self.old self.new) }
+        ensures same { KeepsHeader self.old self.new }
     {
-        let read = self.reader.read_byte_record(&mut self.record);
-        if let Some(error) = self.quote_error() {
-            return Err(error);
+        let found = self.read_next()?;
+        if found && !self.fits() {
+            return Err(self.fields_error());
         }
-        match read {
-            Ok(found) => Ok(found),
-            Err(error) => Err(self.error_of(&error)),
+        Ok(found)
+    }
+
+    // Whether the record that was read last has as many fields as the header, or fewer if that is allowed.
+    fn fits(&self) -> bool
+        ensures { result ≡ fits_sheet self.now (read_last self.now) }
+    {
+        let found = self.record.len();
+        if self.allows_short {
+            return found <= self.width;
+        }
+        found == self.width
+    }
+
+    // The error that the record that was read last has another number of fields than the header.
+    fn fields_error(&self) -> SheetError
+        ensures { (fits : Bool) → fits ≡ false → IsReadError fits result }
+    {
+        self.bad_line(Fault::Fields {
+            found: self.record.len() as u64,
+            header: self.width as u64,
+        })
+    }
+
+    // Reads the next record, which may have any number of fields, and returns whether there was one.
+    fn read_next(&mut self) -> Result<bool, SheetError>
+        ensures next { IfOk result (λ found. IsNext found (read_last self.new) (left self.old) (left self.new)) }
+        ensures fault { IfErr result (λ e. (fits : Bool) → IsReadError fits e) }
+        ensures reads_on { IfErr result (λ e. e ≢ SheetError.Memory → ReadsOne self.old self.new) }
+        ensures same { KeepsHeader self.old self.new }
+    {
+        let found = self.take_record()?;
+        if !found {
+            return Ok(false);
+        }
+        match self.quote_error() {
+            Some(error) => Err(error),
+            None => Ok(true),
+        }
+    }
+
+    // Reads the next record, whose quotes may be anywhere, and returns whether there was one. The text is in memory, so no read of it fails.
+    fn take_record(&mut self) -> Result<bool, SheetError>
+        ensures next { IfOk result (λ found. IsNext found (read_last self.new) (left self.old) (left self.new)) }
+        ensures fault { IfErr result (λ e. e ≡ SheetError.Memory) }
+        ensures same { KeepsHeader self.old self.new }
+    {
+        match self.reader.read_byte_record(&mut self.record) {
+            Ok(found) => return Ok(found),
+            Err(_) => return Err(SheetError::Memory),
         }
     }
 
     // The error that a quote of the record that was read last is out of place.
-    fn quote_error(&self) -> Option<SheetError> {
+    fn quote_error(&self) -> Option<SheetError>
+        ensures { IfSome result (λ e. (fits : Bool) → IsReadError fits e) }
+    {
         let start = self.record.position()?;
         let (from, end) = (
             start.byte() as usize,
@@ -160,24 +239,6 @@ impl<'a> Sheet<'a> {
             line: start.line().saturating_add(before),
             fault: misplaced.fault(),
         })
-    }
-
-    // Why a record wasn't read. The text is in memory, so no read of it fails.
-    fn error_of(&self, error: &Error) -> SheetError {
-        match error.kind() {
-            ErrorKind::UnequalLengths {
-                expected_len,
-                len,
-                ..
-            } => SheetError::Line {
-                line: self.line(),
-                fault: Fault::Fields {
-                    found: *len,
-                    header: *expected_len,
-                },
-            },
-            _ => SheetError::Memory,
-        }
     }
 
     /// Returns the line on which the record that was read last begins, from 1.
@@ -257,9 +318,30 @@ impl<'a> Sheet<'a> {
         }
     }
 
+    /// Returns the column of this name in the header, which must be the record that was read last. If the header has none, returns a column
+    /// whose field is empty in each record.
+    pub fn column_or_empty<'n>(&self, name: &'n str) -> Result<Column<'n>, SheetError>
+        ensures { IfOk result (λ column. place column ≡ place_of (read_last self.now) name.now) }
+    {
+        match self.column(name) {
+            Ok(column) => Ok(column),
+            Err(
+                SheetError::Line {
+                    fault: Fault::NoColumn { .. },
+                    ..
+                },
+            ) => {
+                let place = self.record.len();
+                Ok(Column { name, place })
+            }
+            Err(error) => Err(error),
+        }
+    }
+
     // The text of these bytes, which are from the field of this column in the record that was read last.
     fn text_of<'s>(&'s self, column: Column<'_>, bytes: &'s [u8]) -> Result<&'s str, SheetError>
-        ensures { IfOk result (λ text. text.now ≡ bytes.now) }
+        ensures value { IfOk result (λ text. text.now ≡ bytes.now) }
+        ensures fault { IfErr result (λ e. IsTextError e) }
     {
         match str::from_utf8(bytes) {
             Ok(text) => Ok(text),
@@ -272,14 +354,16 @@ impl<'a> Sheet<'a> {
 
     /// Returns the text of a column in the record that was read last.
     pub fn field(&self, column: Column<'_>) -> Result<&str, SheetError>
-        ensures { IfOk result (λ text. text.now ≡ get_or (read_last self.now) (place column.entry) []) }
+        ensures value { IfOk result (λ text. text.now ≡ get_or (read_last self.now) (place column.entry) []) }
+        ensures fault { IfErr result (λ e. IsTextError e) }
     {
         self.text_of(column, self.bytes_at(column.place))
     }
 
     /// Returns the text of a column in the record that was read last, without the spaces and tabs at both ends.
     pub fn trimmed_field(&self, column: Column<'_>) -> Result<&str, SheetError>
-        ensures { IfOk result (λ text. text.now ≡ trimmed (get_or (read_last self.now) (place column.entry) [])) }
+        ensures value { IfOk result (λ text. text.now ≡ trimmed (get_or (read_last self.now) (place column.entry) [])) }
+        ensures fault { IfErr result (λ e. IsTextError e) }
     {
         self.text_of(column, trim(self.bytes_at(column.place)))
     }

@@ -1,7 +1,9 @@
 //! The command line.
-use clap::{Arg, ArgAction, Command};
+use clap::{Arg, ArgAction, Command, value_parser};
 use hashbag_shell::VERSION;
-use hashbag_shell::options::{CommandResult, with, with_heading, with_output, with_reading};
+use hashbag_shell::options::{
+    CommandResult, encoding_arg, with, with_heading, with_output, with_reading,
+};
 use std::alloc::Global;
 
 /// The name of the program, with which its lines on standard error begin.
@@ -16,6 +18,7 @@ Both files are CSV with a header; their columns are found by name. An article ma
 Example: hashbag_match --only differing ordered.csv delivered.csv
          hashbag_match --key sku,lot --number qty --delivered-number Menge --scale 2 ordered.csv delivered.csv
          hashbag_match --each-line --trim --fold ordered.csv delivered.csv
+         hashbag_match --encoding UTF-16 --delimiter tab ordered.txt delivered.txt
 
 Status: 0 they agree, 1 they differ, 2 bad arguments or a bad line (FILE:LINE is said), 3 no memory, 4 a file can't be opened, or a
 read or a write failed, 5 the numbers of a file add up to more than 2^64-1.";
@@ -49,7 +52,8 @@ fn with_columns<'a>(alloc: Global, command: CommandResult<'a>) -> CommandResult<
         .help("The name of the column of numbers in DELIVERED.csv, if it is another");
     let command = with(with(command, key), number);
     let command = with(with(command, delivered_key), delivered_number);
-    let command = with_number_form(alloc, with_lines(alloc, command));
+    let command = with_short(alloc, with_lines(alloc, command));
+    let command = with_number_form(alloc, command);
     with_key_form(alloc, command)
 }
 
@@ -67,6 +71,15 @@ fn with_lines<'a>(alloc: Global, command: CommandResult<'a>) -> CommandResult<'a
     with(command, each_line)
 }
 
+// Adds whether fields may be missing.
+fn with_short<'a>(alloc: Global, command: CommandResult<'a>) -> CommandResult<'a> {
+    let allow_short = Arg::new(alloc, "allow-short")
+        .long("allow-short")
+        .action(ArgAction::SetTrue)
+        .help("Read fields that are missing at the end of a record as empty");
+    with(command, allow_short)
+}
+
 // Adds what a field of numbers may be.
 fn with_number_form<'a>(alloc: Global, command: CommandResult<'a>) -> CommandResult<'a> {
     let blank_is_zero = Arg::new(alloc, "blank-is-zero")
@@ -81,7 +94,7 @@ fn with_number_form<'a>(alloc: Global, command: CommandResult<'a>) -> CommandRes
     with(with(command, blank_is_zero), group_mark)
 }
 
-// Adds what the fields of an article are compared and shown as.
+// Adds the form in which the fields of an article are compared, and shown.
 fn with_key_form<'a>(alloc: Global, command: CommandResult<'a>) -> CommandResult<'a> {
     let trim = Arg::new(alloc, "trim")
         .long("trim")
@@ -93,6 +106,31 @@ fn with_key_form<'a>(alloc: Global, command: CommandResult<'a>) -> CommandResult
         .action(ArgAction::SetTrue)
         .help("Read upper and lower case in the fields of an article as one");
     with(with(command, trim), fold)
+}
+
+// The options that say what is written to standard error.
+fn with_messages<'a>(alloc: Global, command: CommandResult<'a>) -> CommandResult<'a> {
+    let max_errors = Arg::new(alloc, "max-errors")
+        .long("max-errors")
+        .value_name("N")
+        .value_parser(value_parser!(usize))
+        .default_value("1")
+        .help("How many bad lines of a file are named; 0 for all");
+    let quiet = Arg::new(alloc, "quiet")
+        .short('q')
+        .long("quiet")
+        .action(ArgAction::SetTrue)
+        .help("Name no articles that differ only in case, white space or normal form");
+    with(with(command, max_errors), quiet)
+}
+
+// Adds the encodings of the files.
+fn with_encodings<'a>(alloc: Global, command: CommandResult<'a>) -> CommandResult<'a> {
+    let help = "The encoding of both files; what is written is UTF-8";
+    let both = encoding_arg(alloc, "encoding", help).default_value("UTF-8");
+    let help = "The encoding of DELIVERED.csv, if it is another";
+    let delivered = encoding_arg(alloc, "delivered-encoding", help);
+    with(with(command, both), delivered)
 }
 
 // The options that say what is written.
@@ -109,8 +147,13 @@ fn with_writing<'a>(alloc: Global, command: CommandResult<'a>) -> CommandResult<
         .value_parser(FORMS.as_slice())
         .default_value("table")
         .help("How they are written");
+    let carry = Arg::new(alloc, "carry")
+        .long("carry")
+        .value_name("COLUMNS")
+        .help("Columns that are written too, as in the first line with the article");
     let help = "The file that is written, whole or not at all, in place of standard output";
-    with_output(alloc, with(with(command, only), form), help)
+    let command = with(with(with(command, only), form), carry);
+    with_output(alloc, with_messages(alloc, command), help)
 }
 
 /// Returns the command of the program.
@@ -132,5 +175,6 @@ pub fn command<'a>(alloc: Global) -> CommandResult<'a> {
     let command = with(with(Ok(command), ordered), delivered);
     let command = with_columns(alloc, with_heading(command, "Columns"));
     let command = with_reading(alloc, with_heading(command, "Numbers and fields"));
+    let command = with_encodings(alloc, command);
     with_writing(alloc, with_heading(command, "Output"))
 }

@@ -6,10 +6,12 @@ use hashbag_csv::key_form::KeyForm;
 use hashbag_csv::line_form::LineForm;
 use hashbag_csv::number_form::NumberForm;
 use hashbag_match_lib::ask::{Ask, Columns};
+use hashbag_match_lib::keys::names_in;
 use hashbag_match_lib::output::{Form, Only};
 use hashbag_shell::one_file::is_one_file;
-use hashbag_shell::options::word;
+use hashbag_shell::options::{encoding, word};
 use hashbag_shell::trouble::Trouble;
+use hashbag_text::encoding::Encoding;
 use std::alloc::{AllocError, Global};
 use std::rt::Files;
 
@@ -20,10 +22,23 @@ pub struct Request<'a> {
     pub ordered: &'a str,
     /// The file of what was delivered.
     pub delivered: &'a str,
+    /// The encodings of the two files, each `None` for UTF-8.
+    pub encodings: (Option<Encoding>, Option<Encoding>),
     /// The file that is written, or standard output.
     pub output: Option<&'a str>,
+    /// How many bad lines of a file are named.
+    pub max_errors: usize,
     /// What is asked for.
     pub ask: Ask<'a>,
+}
+
+// How many bad lines are named: 0 on the command line means all.
+fn max_errors_of(given: &ArgMatches<'_>) -> usize {
+    match given.get_one::<usize>("max-errors") {
+        Some(0) => usize::MAX,
+        Some(number) => number,
+        None => 1,
+    }
 }
 
 // The column of numbers, which has this name, or `None` if each line counts as one.
@@ -45,6 +60,7 @@ fn line_form_of(given: &ArgMatches<'_>) -> LineForm {
             blank_is_zero: given.get_flag("blank-is-zero"),
             group: GroupMark::named(word(given, "group-mark", "")),
         },
+        allows_short: given.get_flag("allow-short"),
     }
 }
 
@@ -65,9 +81,24 @@ fn ask_of<'a>(alloc: Global, given: &ArgMatches<'a>) -> Result<Ask<'a>, AllocErr
             word(given, "mark", "."),
         ),
         line_form: line_form_of(given),
+        carried: match given.get_str("carry") {
+            Some(names) => names_in(alloc, names)?,
+            None => Vec::new(alloc),
+        },
         only: Only::named(word(given, "only", "all")),
         form: Form::named(word(given, "to", "table")),
+        quiet: given.get_flag("quiet"),
     })
+}
+
+// The encodings of the two files.
+fn encodings_of(given: &ArgMatches<'_>) -> (Option<Encoding>, Option<Encoding>) {
+    let ordered = encoding(given, "encoding");
+    let delivered = match given.get_str("delivered-encoding") {
+        Some(name) => Encoding::named(name),
+        None => ordered,
+    };
+    (ordered, delivered)
 }
 
 impl<'a> Request<'a> {
@@ -83,7 +114,9 @@ impl<'a> Request<'a> {
         let request = Request {
             ordered: given.get_str("ORDERED.csv").unwrap_or("-"),
             delivered: given.get_str("DELIVERED.csv").unwrap_or("-"),
+            encodings: encodings_of(given),
             output: given.get_str("output"),
+            max_errors: max_errors_of(given),
             ask: ask_of(rt.alloc(), given)?,
         };
         request.check(rt)?;

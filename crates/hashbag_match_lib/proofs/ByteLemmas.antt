@@ -8,7 +8,7 @@ use Rattle.hashbag_csv.specs.Articles.{same_article}
 use Rattle.hashbag_csv.specs.LineColumns.{line_bytes}
 use Rattle.hashbag_csv.specs.Quantities.{quantity}
 use Rattle.hashbag_csv.specs.Readers.{Record}
-use Rattle.hashbag_match_lib.specs.Matched.{HaveSameQuantities}
+use Rattle.hashbag_match_lib.specs.Matched.{HaveSameQuantities, IsStatusOf}
 
 module _ {T K : Type 0} {eq : T → T → Bool} {eq' : K → K → Bool} (f : T → K) (same : (x y : T) → eq x y ≡ eq' (f x) (f y)) (decides : (x y : K) → Decides (eq' x y) (x ≡ y)) where
   abbrev entry : T × ℕ → K × ℕ
@@ -59,3 +59,7 @@ agree_by_bytes eq fields same L M F G b first second agree =
     let both = agree_of fields same articles_decide F G in
     subst (λ l. IsTrue b ↔ HaveSameQuantities l M) first
     (subst (λ m. IsTrue b ↔ HaveSameQuantities (map (line_bytes fields) F) m) second (λ yes. both.0 (agree.0 yes), λ all. agree.1 (both.1 all)))
+
+-- the status of a test is that of what the test decides
+pub status_by : {Agrees Agrees' : Type 0} {status : ℕ} → IsStatusOf Agrees status → (Agrees ↔ Agrees') → IsStatusOf Agrees' status
+status_by s same = ((λ zero. same.0 (s.0.0 zero), λ agrees. s.0.1 (same.1 agrees)), s.1)

@@ -1,5 +1,5 @@
 -- Lines that are tallied one after the other.
-use Rattle.std.proofs.Common.{◌≡◌, ℕ, Bool, Bor, List, [], ◌∷◌, ◌++◌, length, map, Option, Some, None, refl, sym, ◌∙◌, ap, append_assoc}
+use Rattle.std.proofs.Common.{◌≡◌, ℕ, Bool, Bor, List, [], ◌∷◌, ◌++◌, length, map, Option, refl, sym, ◌∙◌, ap, append_assoc}
 use Rattle.std.specs.Prelude.{option_copied, option_map}
 use Rattle.std.proofs.lemmas.List.{append-nil, map-append}
 use Rattle.hashbag_csv.specs.LineColumns.{line_bytes}
@@ -7,6 +7,7 @@ use Rattle.hashbag_csv.specs.Lines.{line_of, lines_under, place_of}
 use Rattle.hashbag_csv.specs.Readers.{Record}
 use Rattle.hashbag_csv.specs.declared.line_form.LineForm.{LineForm}
 use Rattle.hashbag_csv.specs.declared.scale.Scale.{Scale}
+use Rattle.hashbag_csv.proofs.BadLineLemmas.{map_copied}
 use Rattle.hashbag.specs.Bag.{Bag}
 use Rattle.hashbag.proofs.MemberLemmas.{map-map}
 use Rattle.hashbag_match_lib.specs.Fields.{HasLineMore, IsTallyOfLines}
@@ -30,10 +31,6 @@ pub record_read : (f : Record → Record × ℕ) (all : List (Record × ℕ)) (D
     → all ≡ D ++ map f before → before ≡ r ∷ after → line ≡ f r → all ≡ (D ++ line ∷ []) ++ map f after
 record_read f all D before after r line is next same =
     is ∙ ap (λ (l : List Record). D ++ map f l) next ∙ ap (λ (x : Record × ℕ). D ++ x ∷ map f after) (sym same) ∙ sym (append_assoc D (line ∷ []) (map f after))
-
-map_copied : (f : List ℕ → ℕ) (o : Option (Bor (List ℕ))) → option_map f (option_copied o) ≡ option_map (λ n. f n.now) o
-map_copied f None = refl
-map_copied f (Some n) = refl
 
 -- the lines below the header, by the places of the columns
 pub all_lines : (scale : Scale) (form : LineForm) (keys : List (Bor (List ℕ))) (number : Option (Bor (List ℕ))) (all : List Record) (header : Record) (records : List Record)

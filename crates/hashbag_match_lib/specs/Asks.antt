@@ -1,5 +1,7 @@
 -- What a request names, and the lines of both texts.
-use Rattle.std.specs.Prelude.{ℕ, List, map, option_copied}
+use Rattle.std.specs.Prelude.{ℕ, List, map, Option, option_copied}
+use Rattle.std.specs.Borrow.{Bor}
+use Rattle.hashbag_csv.specs.FirstLines.{Carried, carried_in}
 use Rattle.hashbag_csv.specs.Lines.{lines_in}
 use Rattle.hashbag_csv.specs.Readers.{Record}
 use Rattle.hashbag_csv.specs.declared.counts.Reading.{Reading}
@@ -26,3 +28,11 @@ ordered_in ask text = lines_of ask.reading ask.line_form ask.ordered text
 -- the lines of a text of what was delivered
 abbrev pub delivered_in : Ask → List ℕ → Lines
 delivered_in ask text = lines_of ask.reading ask.line_form ask.delivered text
+
+-- the lines of a text, by the names of its key columns and of its column of numbers, if there is one
+abbrev pub lines_named : Reading → LineForm → List (Bor (List ℕ)) → Option (Bor (List ℕ)) → List ℕ → Lines
+lines_named reading form keys number text = lines_in reading form (map (λ k. k.now) keys) (option_copied number) text
+
+-- articles with the fields that are carried along, of the lines of a text with these columns
+abbrev pub carried_of : Ask → Columns → List ℕ → List Carried
+carried_of ask c text = carried_in ask.reading.delimiter ask.line_form.key (names_of c) (map (λ k. k.now) ask.carried.items) text

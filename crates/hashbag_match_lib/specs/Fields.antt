@@ -1,9 +1,19 @@
 -- Articles as the fields of their key columns.
-use Rattle.std.specs.Prelude.{◌≡◌, ℕ, Bool, List, [], ◌∷◌, ◌++◌, map}
+use Rattle.std.specs.Prelude.{◌≡◌, ℕ, Bool, List, [], ◌∷◌, ◌++◌, ◌↔◌, map, IsTrue, String}
+use Rattle.std.specs.Borrow.{Bor}
+use Rattle.std.specs.Global.{Global, Vec}
+use Rattle.std.specs.HashMap.{HashMap}
+use Rattle.std.specs.String.{string_bytes}
 use Rattle.hashbag.specs.Bag.{Bag}
+use Rattle.hashbag_csv.specs.FirstLines.{Carried, HasFirsts, first_of}
 use Rattle.hashbag_csv.specs.LineColumns.{line_bytes}
 use Rattle.hashbag_csv.specs.Readers.{Record}
+use Rattle.hashbag_match_lib.specs.Asks.{Lines, delivered_in, ordered_in}
+use Rattle.hashbag_match_lib.specs.Matched.{HaveSameQuantities, IsStatusOf}
 use Rattle.hashbag_match_lib.specs.Tallies.{IsTallyOf}
+use Rattle.hashbag_match_lib.specs.declared.ask.Ask.{Ask}
+use Rattle.hashbag_match_lib.specs.declared.matching.Row.{Row}
+use Rattle.hashbag_match_lib.specs.declared.tally.Tally.{Tally}
 
 module _ {A : Type 0} (eq : A → A → Bool) where
   -- the bags are the tally of these lines, which are given as bytes
@@ -13,3 +23,27 @@ module _ {A : Type 0} (eq : A → A → Bool) where
   -- the bags have a line more
   abbrev pub HasLineMore : {S : Type 0} → A → ℕ → Bag A S → Bag A S → Bag A S → Bag A S → Type 0
   HasLineMore article number bag none bag' none' = (L : List (A × ℕ)) → IsTallyOf eq L bag none → IsTallyOf eq (L ++ (article, number) ∷ []) bag' none'
+
+  -- a tally is that of these lines, which are given as bytes
+  abbrev pub TalliesLines : {S H : Type 0} → (A → Record) → List (Record × ℕ) → Tally A S H → Type 0
+  TalliesLines fields lines tally = IsTallyOfLines fields lines tally.counts tally.zeros
+
+  -- whatever lines the old tally is of, the new one is of those and these
+  abbrev pub TalliesMore : {S H : Type 0} → (A → Record) → List (Record × ℕ) → Tally A S H → Tally A S H → Type 0
+  TalliesMore fields lines old new =
+      (K : List (Record × ℕ)) → IsTallyOfLines fields K old.counts old.zeros → IsTallyOfLines fields (K ++ lines) new.counts new.zeros
+
+  -- the status is 0 exactly if the lines of two tallies, as bytes, name as many of each article; else it is 1
+  abbrev pub IsStatusOfLines : {S H : Type 0} → (A → Record) → Tally A S H → Tally A S H → ℕ → Type 0
+  IsStatusOfLines fields ordered delivered status =
+      (L M : Lines) → IsTallyOfLines fields L ordered.counts ordered.zeros → IsTallyOfLines fields M delivered.counts delivered.zeros → IsStatusOf (HaveSameQuantities L M) status
+
+  -- the status is 0 exactly if the text of what was delivered names as many of each article as any text does whose lines were tallied; else it is 1
+  abbrev pub IsStatusOfTexts : {S H : Type 0} → (A → Record) → Ask → Tally A S H → List ℕ → ℕ → Type 0
+  IsStatusOfTexts fields ask ordered text status =
+      (first : List ℕ) → IsTallyOfLines fields (ordered_in ask first) ordered.counts ordered.zeros → IsStatusOf (HaveSameQuantities (ordered_in ask first) (delivered_in ask text)) status
+
+-- each row has the fields that are carried along with its article, whatever lines the map is of
+abbrev pub CarriesFirsts : {A S : Type 0} → (A → A → Bool) → (A → Record) → HashMap A (Vec (String Global)) S → List (Row (Bor A)) → List (Bor (List (String Global))) → Type 0
+CarriesFirsts eq fields firsts rows carried =
+    (K : List Carried) → HasFirsts eq fields K firsts → map (λ t. map string_bytes t.now) carried ≡ map (λ row. first_of (fields row.article.now) K) rows

@@ -1,5 +1,5 @@
 -- Two lists, matched by the bytes of their articles.
-use Rattle.std.specs.Prelude.{◌≡◌}
+use Rattle.std.specs.Prelude.{◌≡◌, ◌↔◌, ◌⊎◌, ℕ}
 use Rattle.hashbag_csv.specs.Articles.{same_article}
 use Rattle.hashbag_csv.specs.Quantities.{quantity}
 use Rattle.hashbag_csv.specs.Readers.{Record}
@@ -8,3 +8,7 @@ use Rattle.hashbag_match_lib.specs.Asks.{Lines}
 -- each article in the same quantity
 abbrev pub HaveSameQuantities : Lines → Lines → Type 0
 HaveSameQuantities L M = (v : Record) → quantity same_article v L ≡ quantity same_article v M
+
+-- the exit status of a comparison: 0 exactly if this holds, else 1
+abbrev pub IsStatusOf : Type 0 → ℕ → Type 0
+IsStatusOf Agrees status = (status ≡ 0 ↔ Agrees) × (status ≡ 0 ⊎ status ≡ 1)

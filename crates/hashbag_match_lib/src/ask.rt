@@ -40,10 +40,14 @@ pub struct Ask<'a> {
     pub reading: Reading,
     /// How the lines of both are read.
     pub line_form: LineForm,
+    /// The columns whose fields are carried along with an article, by their names. The text of what was delivered may lack some.
+    pub carried: Vec<&'a str>,
     /// Which rows are written.
     pub only: Only,
     /// How they are written.
     pub form: Form,
+    /// Whether articles that are perhaps one aren't named.
+    pub quiet: bool,
 }
 
 /// Why what is asked for doesn't fit together.
@@ -55,6 +59,12 @@ pub enum BadAsk<'a> {
     /// A key column has the name of a column of numbers of the output.
     #[error("a key column can't have the name `{0}`, which is a column of the output")]
     Reserved(&'a str),
+    /// A column that is carried along is named twice, or is a key column.
+    #[error("carried column `{}` is named twice, or is a key column", Escaped(.0))]
+    Carried(&'a str),
+    /// A column that is carried along has the name of a column of numbers of the output.
+    #[error("a carried column can't have the name `{0}`, which is a column of the output")]
+    ReservedCarried(&'a str),
     /// The lists have a different number of key columns.
     #[error("--key and --delivered-key name a different number of columns")]
     Unequal,
@@ -72,6 +82,22 @@ fn repeated_key<'a>(columns: &Columns<'a>) -> Result<(), BadAsk<'a>> {
         Some(name) => Err(BadAsk::Twice(name)),
         None => Ok(()),
     }
+}
+
+// Returns an error if a column that is carried along would be twice in the output.
+fn carried_once<'a>(carried: &Vec<&'a str>, keys: &Vec<&'a str>) -> Result<(), BadAsk<'a>> {
+    if let Some(name) = repeated(carried) {
+        return Err(BadAsk::Carried(name));
+    }
+    for name in carried {
+        if keys.iter().any(|key| *key == *name) {
+            return Err(BadAsk::Carried(*name));
+        }
+        if is_reserved(*name) {
+            return Err(BadAsk::ReservedCarried(*name));
+        }
+    }
+    Ok(())
 }
 
 // Returns an error if the mark between groups of digits is another mark, too.
@@ -98,6 +124,7 @@ impl<'a> Ask<'a> {
         if self.ordered.keys.len() != self.delivered.keys.len() {
             return Err(BadAsk::Unequal);
         }
+        carried_once(&self.carried, &self.ordered.keys)?;
         match self.line_form.number.group {
             Some(group) => other_mark(group, self.reading),
             None => Ok(()),

@@ -2,8 +2,10 @@
 #![tactic(auto)]
 
 pub mod ask;
+pub mod carrying;
 pub mod keys;
 pub mod matching;
+pub mod near;
 pub mod output;
 pub mod reading;
 mod table;

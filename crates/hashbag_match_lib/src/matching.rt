@@ -1,9 +1,7 @@
 //! Rows of what was ordered and what was delivered.
-ghost use Rattle.std.specs.Prelude.{◌≡◌, ℕ, ◌+◌, ◌≤◌, ◌↔◌, ◌++◌, if◌then◌else◌, List, filter, length, map, sum_by, IsTrue, IfOk, OnOk};
-ghost use Rattle.hashbag.specs.Joins.{IsOuterJoin};
-ghost use Rattle.hashbag_csv.specs.Quantities.{quantity, times};
-ghost use Rattle.hashbag_match_lib.specs.Matching.{missing_of, surplus_of, agrees, lent_rows, AreTotals, AreRows};
-ghost use Rattle.hashbag_match_lib.specs.Tallies.{IsTallyOf, in_neither, row_of_join, zero_row};
+ghost use Rattle.std.specs.Prelude.{◌≡◌, ◌+◌, ◌≤◌, if◌then◌else◌, length, sum_by, IfOk, OnOk};
+ghost use Rattle.hashbag_match_lib.specs.Matching.{missing_of, surplus_of, agrees, lent_rows, AreTotals};
+ghost use Rattle.hashbag_match_lib.specs.Tallies.{in_neither, AppendsZeroRows, AreRowsOfJoin, AreRowsOfTallies, SaysWhetherTalliesAgree};
 
 use crate::tally::Tally;
 use crate::totals::{Totals, totals_of};
@@ -62,8 +60,7 @@ fn rows_of<'a, T: Ord + Hash + Drop, S: BuildHasher + Drop>(
     ordered: &'a HashBag<T, S>,
     delivered: &'a HashBag<T, S>,
 ) -> Result<Vec<Row<&'a T>>, AllocError>
-    ensures { IfOk result (λ rows. (J : List (T × ℕ × ℕ)) × IsOuterJoin T.eq ordered.now.items delivered.now.items J
-        × (lent_rows rows.items ≡ map row_of_join J)) }
+    ensures { IfOk result (λ rows. AreRowsOfJoin T.eq ordered.now.items delivered.now.items (lent_rows rows.items)) }
 {
     let mut rows = Vec::new(alloc);
     for (article, first, second) in ordered.outer_join(delivered) {
@@ -93,9 +90,7 @@ fn push_zeros<'a, T: Ord + Hash + Drop, S: BuildHasher + Drop>(
     ordered: &'a Tally<T, S>,
     delivered: &'a Tally<T, S>,
 ) -> Result<(), AllocError>
-    ensures { OnOk result ((J : List (T × ℕ × ℕ)) × IsOuterJoin T.eq ordered.now.zeros.items delivered.now.zeros.items J
-        × (lent_rows rows.new.items ≡ lent_rows rows.old.items
-        ++ map zero_row (filter (λ j. in_neither T.eq ordered.now.counts.items delivered.now.counts.items j.0) J))) }
+    ensures { OnOk result (AppendsZeroRows T.eq ordered.now delivered.now (lent_rows rows.old.items) (lent_rows rows.new.items)) }
 {
     for (article, _, _) in ordered.zeros.outer_join(&delivered.zeros) {
         if is_in_neither(&ordered.counts, &delivered.counts, article) {
@@ -125,10 +120,8 @@ pub fn rows_of_tallies<'a, T: Ord + Hash + Drop, S: BuildHasher + Drop>(
     ordered: &'a Tally<T, S>,
     delivered: &'a Tally<T, S>,
 ) -> Result<Vec<Row<&'a T>>, AllocError>
-    // L and M are the lines of both tallies. Each article that one names has one row, with what each names of it in all.
-    ensures table { IfOk result (λ rows. (L M : List (T × ℕ)) → IsTallyOf T.eq L ordered.now.counts ordered.now.zeros
-        → IsTallyOf T.eq M delivered.now.counts delivered.now.zeros
-        → AreRows T.eq T.cmp (λ v. times T.eq v L + times T.eq v M) (λ v. quantity T.eq v L) (λ v. quantity T.eq v M) (lent_rows rows.items)) }
+    // Each article that a line of either tally names has one row, with what each tally names of it in all.
+    ensures table { IfOk result (λ rows. AreRowsOfTallies T.eq T.cmp ordered.now delivered.now (lent_rows rows.items)) }
     ensures missing { IfOk result (λ rows. sum_by missing_of rows.items ≤ length ordered.now.counts.items) }
     ensures surplus { IfOk result (λ rows. sum_by surplus_of rows.items ≤ length delivered.now.counts.items) }
 {
@@ -152,16 +145,12 @@ pub fn match_tallies<'a, T: Ord + Hash + Drop, S: BuildHasher + Drop>(
     ordered: &'a Tally<T, S>,
     delivered: &'a Tally<T, S>,
 ) -> Result<Matched<&'a T>, AllocError>
-    // L and M are the lines of both tallies. Each article that one names has one row, with what each names of it in all.
-    ensures table { IfOk result (λ matched. (L M : List (T × ℕ)) → IsTallyOf T.eq L ordered.now.counts ordered.now.zeros
-        → IsTallyOf T.eq M delivered.now.counts delivered.now.zeros
-        → AreRows T.eq T.cmp (λ v. times T.eq v L + times T.eq v M) (λ v. quantity T.eq v L) (λ v. quantity T.eq v M) (lent_rows matched.rows.items)) }
+    // Each article that a line of either tally names has one row, with what each tally names of it in all.
+    ensures table { IfOk result (λ matched. AreRowsOfTallies T.eq T.cmp ordered.now delivered.now (lent_rows matched.rows.items)) }
     ensures totals { IfOk result (λ matched. AreTotals matched.rows.items matched.totals) }
 
     // It is true exactly if both name as many of each article.
-    ensures agree { IfOk result (λ matched. (L M : List (T × ℕ)) → IsTallyOf T.eq L ordered.now.counts ordered.now.zeros
-        → IsTallyOf T.eq M delivered.now.counts delivered.now.zeros
-        → (IsTrue matched.agree ↔ ((v : T) → quantity T.eq v L ≡ quantity T.eq v M))) }
+    ensures agree { IfOk result (λ matched. SaysWhetherTalliesAgree T.eq ordered.now delivered.now matched.agree) }
 {
     let rows = rows_of_tallies(alloc, ordered, delivered)?;
     // Does nothing at run time. It gives the proof the contract of `len`: the sums of the rows fit.

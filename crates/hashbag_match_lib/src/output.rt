@@ -79,6 +79,8 @@ impl Form {
 pub struct Layout<'a> {
     /// The names of the key columns.
     pub keys: &'a [&'a str],
+    /// The names of the columns that are carried along.
+    pub carried: &'a [&'a str],
     /// Which rows.
     pub only: Only,
     /// How numbers are written.
@@ -109,25 +111,41 @@ pub fn numbers_of<T>(alloc: Global, row: &Row<T>, scale: Scale) -> Result<Vec<St
     Ok(texts)
 }
 
+/// Returns the fields that are carried along with the row at this place, or none if there are none.
+pub fn fields_along<'c>(carried: &[&'c [String]], place: usize) -> &'c [String] {
+    carried.get(place).copied().unwrap_or(&[])
+}
+
+// Appends fields.
+fn push_fields(records: &mut Records, fields: &[String]) -> Result<(), AllocError> {
+    for field in fields {
+        records.field(field.as_str())?;
+    }
+    Ok(())
+}
+
 // The rows as CSV.
 fn csv_of<A: Article>(
     alloc: Global,
     rows: &[Row<&A>],
+    carried: &[&[String]],
     layout: Layout<'_>,
 ) -> Result<Vec<u8>, AllocError> {
     let mut records = Records::empty(alloc, layout.delimiter);
     for key in layout.keys {
         records.field(*key)?;
     }
+    for name in layout.carried {
+        records.field(*name)?;
+    }
     for name in &NUMBERS {
         records.field(*name)?;
     }
     records.end()?;
-    for row in rows {
+    for (place, row) in rows.iter().enumerate() {
         if layout.only.shows(row) {
-            for field in row.article.texts() {
-                records.field(field.as_str())?;
-            }
+            push_fields(&mut records, row.article.texts())?;
+            push_fields(&mut records, fields_along(carried, place))?;
             for number in numbers_of(alloc, row, layout.scale)? {
                 records.field(number.as_str())?;
             }
@@ -142,6 +160,8 @@ fn csv_of<A: Article>(
 struct Object<'k, 'a> {
     keys: &'k [&'k str],
     article: &'a [String],
+    names: &'k [&'k str],
+    carried: &'a [String],
     numbers: [usize; 4],
     // The numbers as texts, if they have decimals.
     texts: Option<Vec<String>>,
@@ -153,6 +173,10 @@ impl Serialize for Object<'_, '_> {
     fn serialize<S: Serializer>(&self, out: &mut S) -> Result<(), S::Error> {
         out.begin_map(None)?;
         for (name, field) in self.keys.iter().zip(self.article.iter()) {
+            out.key(*name)?;
+            field.serialize(out)?;
+        }
+        for (name, field) in self.names.iter().zip(self.carried.iter()) {
             out.key(*name)?;
             field.serialize(out)?;
         }
@@ -178,10 +202,11 @@ impl Serialize for Object<'_, '_> {
 fn json_of<A: Article>(
     alloc: Global,
     rows: &[Row<&A>],
+    carried: &[&[String]],
     layout: Layout<'_>,
 ) -> Result<Vec<u8>, AllocError> {
     let mut objects = Vec::new(alloc);
-    for row in rows {
+    for (place, row) in rows.iter().enumerate() {
         if layout.only.shows(row) {
             let texts = if layout.scale.decimals == 0 {
                 None
@@ -191,6 +216,8 @@ fn json_of<A: Article>(
             objects.push(Object {
                 keys: layout.keys,
                 article: row.article.texts(),
+                names: layout.carried,
+                carried: fields_along(carried, place),
                 numbers: numbers_in(row),
                 texts,
             })?;
@@ -201,16 +228,17 @@ fn json_of<A: Article>(
     Ok(text)
 }
 
-/// Returns the text of matched lists.
+/// Returns the text of matched lists, with the fields that are carried along with each row.
 pub fn text_of<A: Article>(
     alloc: Global,
     matched: &Matched<&A>,
+    carried: &[&[String]],
     layout: Layout<'_>,
     form: Form,
 ) -> Result<Vec<u8>, AllocError> {
     match form {
-        Form::Table => table_of(alloc, matched, layout),
-        Form::Csv => csv_of(alloc, &matched.rows, layout),
-        Form::Json => json_of(alloc, &matched.rows, layout),
+        Form::Table => table_of(alloc, matched, carried, layout),
+        Form::Csv => csv_of(alloc, &matched.rows, carried, layout),
+        Form::Json => json_of(alloc, &matched.rows, carried, layout),
     }
 }

@@ -1,10 +1,10 @@
 //! Tallies of CSV texts.
-ghost use Rattle.std.specs.Prelude.{◌≡◌, ◌++◌, ℕ, List, [], map, option_copied, IfOk, OnOk};
+ghost use Rattle.std.specs.Prelude.{◌≡◌, [], true, map, All, IfOk, OnOk};
 ghost use Rattle.hashbag_csv.specs.LineColumns.{line_by};
-ghost use Rattle.hashbag_csv.specs.Lines.{lines_in};
-ghost use Rattle.hashbag_csv.specs.Readers.{Record};
-ghost use Rattle.hashbag_csv.specs.Sheets.{left};
-ghost use Rattle.hashbag_match_lib.specs.Fields.{HasLineMore, IsTallyOfLines};
+ghost use Rattle.hashbag_csv.specs.Readers.{records_in};
+ghost use Rattle.hashbag_csv.specs.Sheets.{FitHeader, fits_sheet, left};
+ghost use Rattle.hashbag_match_lib.specs.Asks.{lines_named};
+ghost use Rattle.hashbag_match_lib.specs.Fields.{HasLineMore, TalliesLines, TalliesMore};
 
 use crate::tally::{Tally, empty_tally};
 use hashbag::BagError;
@@ -48,8 +48,8 @@ fn add_lines<A: Article + Drop, S: BuildHasher + Drop>(
     tally: &mut Tally<A, S>,
     scale: Scale,
 ) -> Result<(), SheetError>
-    ensures { OnOk result ((K : List (Record × ℕ)) → IsTallyOfLines A.eq A.fields K tally.old.counts tally.old.zeros
-        → IsTallyOfLines A.eq A.fields (K ++ map (line_by scale columns.now) (left sheet.old)) tally.new.counts tally.new.zeros) }
+    ensures lines { OnOk result (TalliesMore A.eq A.fields (map (line_by scale columns.now) (left sheet.old)) tally.old tally.new) }
+    ensures fits { OnOk result (All (λ r. fits_sheet sheet.old r ≡ true) (left sheet.old)) }
 {
     'lines: while let Some((article, number)) = columns.read::<A>(alloc, sheet, scale)? {
         add_line(alloc, sheet, tally, article, number, scale)?;
@@ -78,13 +78,15 @@ pub fn read_tally<A: Article + Drop, S: BuildHasher + Copy + Drop>(
     reading: Reading,
     form: LineForm,
 ) -> Result<Tally<A, S>, SheetError>
-    ensures lines { IfOk result (λ tally. IsTallyOfLines A.eq A.fields
-        (lines_in reading form (map (λ k. k.now) keys.now) (option_copied number_column.entry) text.now) tally.counts tally.zeros) }
+    ensures lines { IfOk result (λ tally. TalliesLines A.eq A.fields (lines_named reading form keys.now number_column.entry text.now) tally) }
+
+    // Each record has as many fields as the header, or fewer if the form allows it.
+    ensures fits { IfOk result (λ tally. FitHeader form.allows_short (records_in reading.delimiter text.now)) }
 
     // Nothing waits in either bag.
     ensures carried { IfOk result (λ tally. (tally.counts.tables.waiting ≡ []) × (tally.zeros.tables.waiting ≡ [])) }
 {
-    let mut sheet = Sheet::open_with(alloc, text, reading.delimiter)?;
+    let mut sheet = Sheet::open_lines(alloc, text, reading.delimiter, form.allows_short)?;
     let columns = LineColumns::named(alloc, &sheet, keys, number_column, form)?;
     let mut tally = empty_tally(alloc, state);
     add_lines(alloc, &mut sheet, &columns, &mut tally, reading.scale)?;

@@ -4,7 +4,7 @@ ghost use Rattle.std.specs.String.{string_bytes};
 ghost use Rattle.hashbag_match_lib.specs.Widths.{AreWidened};
 
 use crate::matching::{Matched, Row};
-use crate::output::{Layout, numbers_of};
+use crate::output::{Layout, fields_along, numbers_of};
 use crate::totals::Totals;
 use hashbag_csv::article::Article;
 use hashbag_csv::decimals::write_decimal;
@@ -16,29 +16,48 @@ use unicode_width::UnicodeWidthStr;
 // The titles of the columns of numbers.
 static NUMBERS: [&str; 4] = ["ORDERED", "DELIVERED", "MISSING", "SURPLUS"];
 
-// The titles: the names of the key columns in capitals, then those of the numbers.
-fn titles_of(alloc: Global, keys: &[&str]) -> Result<Vec<String>, AllocError> {
-    let mut titles = Vec::new(alloc);
-    for key in keys {
-        let title = format!(in alloc; "{}", Escaped(key.to_uppercase(alloc)?.as_str()))?;
+// Appends names in capitals.
+fn push_names(alloc: Global, titles: &mut Vec<String>, names: &[&str]) -> Result<(), AllocError> {
+    for name in names {
+        let title = format!(in alloc; "{}", Escaped(name.to_uppercase(alloc)?.as_str()))?;
         titles.push(title)?;
     }
+    Ok(())
+}
+
+// The titles: the names of the key columns in capitals, then those of the columns that are carried along, then those of the numbers.
+fn titles_of(alloc: Global, layout: Layout<'_>) -> Result<Vec<String>, AllocError> {
+    let mut titles = Vec::new(alloc);
+    push_names(alloc, &mut titles, layout.keys)?;
+    push_names(alloc, &mut titles, layout.carried)?;
     for title in &NUMBERS {
         titles.push(String::from_str(alloc, *title)?)?;
     }
     Ok(titles)
 }
 
-// The cells of a row: the fields of its article with control characters escaped, then its numbers.
+// Appends fields with control characters escaped.
+fn push_fields(
+    alloc: Global,
+    cells: &mut Vec<String>,
+    fields: &[String],
+) -> Result<(), AllocError> {
+    for field in fields {
+        cells.push(format!(in alloc; "{}", Escaped(field.as_str()))?)?;
+    }
+    Ok(())
+}
+
+// The cells of a row: the fields of its article, and those that are carried along, then its numbers.
 fn cells_of<A: Article>(
     alloc: Global,
     row: &Row<&A>,
+    carried: &[String],
     scale: Scale,
 ) -> Result<Vec<String>, AllocError> {
     let mut cells = Vec::new(alloc);
-    for field in row.article.texts() {
-        cells.push(format!(in alloc; "{}", Escaped(field.as_str()))?)?;
-    }
+    push_fields(alloc, &mut cells, row.article.texts())?;
+    push_fields(alloc, &mut cells, carried)?;
     for number in numbers_of(alloc, row, scale)? {
         cells.push(number)?;
     }
@@ -69,12 +88,12 @@ fn push_spaces(table: &mut String, n: usize) -> Result<(), AllocError> {
     Ok(())
 }
 
-// Appends a line: the first cells, those of the article, at the left of their columns, the others at the right.
+// Appends a line: the first cells, which are fields, at the left of their columns, the others at the right.
 fn push_line(
     table: &mut String,
     cells: &Vec<String>,
     widths: &Vec<usize>,
-    keys: usize,
+    fields: usize,
 ) -> Result<(), AllocError> {
     for (index, cell) in cells.iter().enumerate() {
         let width = widths.get(index).copied().unwrap_or(0);
@@ -82,7 +101,7 @@ fn push_line(
         if index > 0 {
             push_spaces(table, 2)?;
         }
-        if index < keys {
+        if index < fields {
             table.push_str(cell.as_str())?;
             push_spaces(table, spaces)?;
         } else {
@@ -116,25 +135,28 @@ fn push_totals(
     }
 }
 
-/// Returns the rows in columns, articles at the left, and the sums of all rows below them.
+/// Returns the rows in columns, articles and what is carried along at the left, and the sums of all rows below them.
 pub fn table_of<A: Article>(
     alloc: Global,
     matched: &Matched<&A>,
+    carried: &[&[String]],
     layout: Layout<'_>,
 ) -> Result<Vec<u8>, AllocError> {
-    let titles = titles_of(alloc, layout.keys)?;
+    let fields = layout.keys.len().saturating_add(layout.carried.len());
+    let titles = titles_of(alloc, layout)?;
     let mut widths = widened(alloc, &Vec::new(alloc), &titles)?;
-    for row in &matched.rows {
+    for (place, row) in matched.rows.iter().enumerate() {
         if layout.only.shows(row) {
-            widths = widened(alloc, &widths, &cells_of(alloc, row, layout.scale)?)?;
+            let cells = cells_of(alloc, row, fields_along(carried, place), layout.scale)?;
+            widths = widened(alloc, &widths, &cells)?;
         }
     }
     let mut table = String::new(alloc);
-    push_line(&mut table, &titles, &widths, layout.keys.len())?;
-    for row in &matched.rows {
+    push_line(&mut table, &titles, &widths, fields)?;
+    for (place, row) in matched.rows.iter().enumerate() {
         if layout.only.shows(row) {
-            let cells = cells_of(alloc, row, layout.scale)?;
-            push_line(&mut table, &cells, &widths, layout.keys.len())?;
+            let cells = cells_of(alloc, row, fields_along(carried, place), layout.scale)?;
+            push_line(&mut table, &cells, &widths, fields)?;
         }
     }
     push_totals(alloc, &mut table, &matched.totals, layout.scale)?;

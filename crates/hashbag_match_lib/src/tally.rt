@@ -1,6 +1,6 @@
 //! How many of each article lines name, added up as they are read.
-ghost use Rattle.std.specs.Prelude.{◌≡◌, ℕ, ◌+◌, ◌<◌, ◌≤◌, ◌↔◌, [], ◌∷◌, ◌++◌, List, length, IfErr, OnOk, OnErr};
-ghost use Rattle.hashbag_match_lib.specs.Tallies.{IsTallyOf};
+ghost use Rattle.std.specs.Prelude.{◌≡◌, ℕ, ◌+◌, ◌<◌, ◌≤◌, ◌↔◌, [], List, length, IfErr, OnOk, OnErr};
+ghost use Rattle.hashbag_match_lib.specs.Tallies.{IsTallyOf, TalliesOneMore};
 
 use hashbag::{BagError, HashBag};
 use std::alloc::Global;
@@ -27,9 +27,8 @@ impl<T: Eq + Hash + Drop, S: BuildHasher + Drop> Tally<T, S> {
     ///
     /// Hashes the article once. An article that is present is dropped. An absent one is kept, and slots are allocated if there is no room.
     pub fn add(&mut self, article: T, number: usize) -> Result<(), BagError>
-        // L are the lines so far.
-        ensures added { OnOk result ((L : List (T × ℕ)) → IsTallyOf T.eq L self.old.counts self.old.zeros
-            → IsTallyOf T.eq (L ++ (article, number) ∷ []) self.new.counts self.new.zeros) }
+        // It is the tally of this line too.
+        ensures added { OnOk result (TalliesOneMore T.eq self.old self.new (article, number)) }
 
         // The limit of a tally's `counts` is `usize::MAX` (`limit` of `IsTallyOf`).
         ensures too_many { (result ≡ Err BagError.TooMany) ↔ (self.old.counts.most < length self.old.counts.items + number) }

@@ -94,7 +94,7 @@ const FORMS: [(&[u8], bool, bool, &str); 12] = [
         b"k,number\nA,1\n\xff,2\n",
         true,
         true,
-        "3: column `k` is not UTF-8; if it is Windows-1252, `iconv -f CP1252 -t UTF-8`",
+        "3: column `k` is not UTF-8; if it is Windows-1252, `--encoding Windows-1252`",
     ),
     (
         b"K,number\nA,1\n",
@@ -113,6 +113,7 @@ fn fields_are_trimmed_and_folded(rt: HostRuntime) -> Result<(), Fail> {
                 fold: *fold,
             },
             number: LineForm::plain().number,
+            allows_short: false,
         };
         let number = Some("number");
         let said = said_of_lines(rt.alloc(), text, &["k"], number, Reading::plain(), form)?;
@@ -140,6 +141,7 @@ fn blank_is_zero(rt: HostRuntime) -> Result<(), Fail> {
                 blank_is_zero: true,
                 group: None,
             },
+            allows_short: false,
         };
         let reading = Reading {
             delimiter: Delimiter::Comma,
@@ -276,12 +278,63 @@ fn digits_are_in_groups(rt: HostRuntime) -> Result<(), Fail> {
                 blank_is_zero: false,
                 group: Some(*group),
             },
+            allows_short: false,
         };
         let reading = Reading {
             delimiter: Delimiter::Semicolon,
             scale: Scale::new(*decimals, *mark).unwrap_or(Scale::whole()),
         };
         let said = said_of_lines(rt.alloc(), text, &["k"], Some("number"), reading, form)?;
+        assert_eq!(rt; said.as_str(), *wanted);
+    }
+    Ok(())
+}
+
+// A text, its key columns, whether an empty field of numbers is 0, and what it says if records may be short.
+const SHORT: [(&[u8], &[&str], bool, &str); 8] = [
+    (
+        b"k,number,note\na,1\nb,2,x\na,4\n",
+        &["k"],
+        false,
+        "[a 5][b 2]",
+    ),
+    (b"number,k\n1\n2,a\n", &["k"], false, "[ 1][a 2]"),
+    (
+        b"number,k,lot\n1,a\n2\n4,a,\n",
+        &["k", "lot"],
+        false,
+        "[  2][a  5]",
+    ),
+    (b"k,number\na\nb,2\n", &["k"], true, "[a 0][b 2]"),
+    (b"k,number\na,1\nb\n", &["k"], false, "3: no number: ``"),
+    (
+        b"k,number\na,1\nb,2,\n",
+        &["k"],
+        true,
+        "3: 2 fields wanted, 3 found",
+    ),
+    (b"k,number\na,1\n\nb,2\n", &["k"], true, "[a 1][b 2]"),
+    (
+        b"k,number\na,1\n\"b\n",
+        &["k"],
+        true,
+        "3: quote never closed",
+    ),
+];
+
+#[test]
+fn records_may_be_short(rt: HostRuntime) -> Result<(), Fail> {
+    for (text, keys, blank_is_zero, wanted) in &SHORT {
+        let form = LineForm {
+            key: LineForm::plain().key,
+            number: NumberForm {
+                blank_is_zero: *blank_is_zero,
+                group: None,
+            },
+            allows_short: true,
+        };
+        let number = Some("number");
+        let said = said_of_lines(rt.alloc(), text, *keys, number, Reading::plain(), form)?;
         assert_eq!(rt; said.as_str(), *wanted);
     }
     Ok(())

@@ -59,11 +59,11 @@ const TEXTS: [(&[u8], &str); 52] = [
     ),
     (
         b"\xff\xfea\0r\0t\0",
-        "1: UTF-16; `iconv -f UTF-16 -t UTF-8` makes it UTF-8",
+        "1: UTF-16; `--encoding UTF-16` reads it",
     ),
     (
         b"\xfe\xff\0a\0r\0t",
-        "1: UTF-16; `iconv -f UTF-16 -t UTF-8` makes it UTF-8",
+        "1: UTF-16; `--encoding UTF-16` reads it",
     ),
     (
         b"article,number,article\n",
@@ -129,11 +129,11 @@ const TEXTS: [(&[u8], &str); 52] = [
     ),
     (
         b"article,number\nbo\xfft,5\n",
-        "2: column `article` is not UTF-8; if it is Windows-1252, `iconv -f CP1252 -t UTF-8`",
+        "2: column `article` is not UTF-8; if it is Windows-1252, `--encoding Windows-1252`",
     ),
     (
         b"article,number\nbolt,5\nnut,\xff\n",
-        "3: column `number` is not UTF-8; if it is Windows-1252, `iconv -f CP1252 -t UTF-8`",
+        "3: column `number` is not UTF-8; if it is Windows-1252, `--encoding Windows-1252`",
     ),
     (b"article,number,remark\nbolt,5,\xff\n", "[bolt 5]"),
     (b"article,number\nbolt,\n", "2: no number: ``"),

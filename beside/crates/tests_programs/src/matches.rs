@@ -228,7 +228,7 @@ fn text_of_match<S: BuildHasher + Copy + Drop>(
     form: Form,
 ) -> Result<Vec<u8>, BagError> {
     let matched = match_tallies(alloc, ordered, delivered)?;
-    Ok(text_of(alloc, &matched, layout, form)?)
+    Ok(text_of(alloc, &matched, &[], layout, form)?)
 }
 
 // What is written of two lists that are matched under this hash state.
@@ -271,6 +271,7 @@ fn is_written<S: BuildHasher + Copy + Drop>(
     let (ordered, delivered, keys, decimals, only, form, wanted) = *row;
     let layout = Layout {
         keys,
+        carried: &[],
         only: only_of(only),
         scale: Scale::new(decimals, Mark::Point).unwrap_or(Scale::whole()),
         delimiter: Delimiter::Semicolon,

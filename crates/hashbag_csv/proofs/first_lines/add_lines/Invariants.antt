@@ -1,0 +1,16 @@
+use Rattle.std.proofs.Common.{◌≡◌, ◌++◌, List, length, map}
+use Rattle.hashbag_csv.specs.FirstLines.{Carried, HasFirsts, carried_at}
+use Rattle.hashbag_csv.specs.Sheets.{left, place}
+use Rattle.hashbag_csv.proofs.first_lines.add_lines.Given as goal
+
+-- the lines so far are added, after those before
+abbrev pub invariant-lines : goal.invariant-lines
+invariant-lines g l = record {
+  D : List Carried;
+  all : map (carried_at l.form (map place l.keys) (map place l.carried)) (left l.fn.sheet) ≡ D ++ map (carried_at l.form (map place l.keys) (map place l.carried)) (left l.sheet);
+  so_far : (K : List Carried) → HasFirsts g.A.PartialEq.eq g.A.Article.fields K l.fn.firsts → HasFirsts g.A.PartialEq.eq g.A.Article.fields (K ++ D) l.firsts;
+}
+
+-- a record less is left
+abbrev pub decreases-lines : goal.decreases-lines
+decreases-lines g l = length (left l.sheet)

@@ -1,0 +1,14 @@
+-- Scales, and numbers in their units.
+use Rattle.std.specs.Prelude.{◌≡◌, ℕ, ◌-◌, ◌^◌, List}
+use Rattle.hashbag_csv.specs.Decimals.{IsDecimal}
+use Rattle.hashbag_csv.specs.Marks.{code_of}
+use Rattle.hashbag_csv.specs.declared.scale.Mark.{Mark}
+use Rattle.hashbag_csv.specs.declared.scale.Scale.{Scale}
+
+-- a scale has these decimals behind this mark, and the greatest number of all
+abbrev pub IsWidestScale : ℕ → Mark → Scale → Type 0
+IsWidestScale decimals mark scale = (scale.decimals ≡ decimals) × (scale.mark ≡ mark) × (scale.most ≡ 2 ^ 64 - 1)
+
+-- a text is a number, with no more decimals than the scale has
+abbrev pub IsNumberIn : Scale → List ℕ → Type 0
+IsNumberIn scale text = IsDecimal (code_of scale.mark) scale.decimals text

@@ -1,0 +1,5 @@
+use Rattle.hashbag_match_lib.proofs.texts.carry_lines.Goals as goal
+
+-- the names that are passed on are those of the request
+pub returns : goal.returns
+returns g c K before v = rw (c.deref.ensures.value, c.deref-2.ensures.value) at (c.in_ok-add_first_lines.ensures K before v)
