@@ -27,9 +27,14 @@ shows() {
   is found "$wanted" "$what"
 }
 
-# 60,000 words of 1,000 kinds in 10,000 lines, and their counts by other programs
+# counted FILE..: the counts of the words of files, by other programs
+counted() {
+  cat "$@" | tr -s ' ' '\n' | grep . | sort | uniq -c | awk '{ print $2 "\t" $1 }' | sort
+}
+
+# 60,000 words of 1,000 kinds in 10,000 lines, and their counts
 awk 'BEGIN { for (i = 0; i < 10000; i++) { for (j = 0; j < 6; j++) printf "w%d ", (i * i + 7 * j) % 1000; print "" } }' > text
-tr -s ' ' '\n' < text | grep . | sort | uniq -c | awk '{ print $2 "\t" $1 }' | sort > wanted
+counted text > wanted
 
 "$program" text > whole && is whole wanted "the counts of a text"
 mkdir parts counts && split -n l/4 text parts/
@@ -49,6 +54,81 @@ is reduced wanted "mapper, sort, combiner, sort, reducer"
 "$program" --to uniq --by lines parts/aa > found && sort parts/aa | uniq -c > sorted && is found sorted "the form of uniq"
 "$program" merge --from uniq found sorted > merged && sort parts/aa | uniq -c | awk '{ n = 2 * $1; sub(/^ *[0-9]* /, ""); print $0 "\t" n }' > doubled
 is merged doubled "what uniq -c writes, read"
+
+# --encoding: each scalar in UTF-16, with a mark and without one, as iconv writes it, and each byte of the two tables, as Python and iconv read it; a
+# line each. The blocks of 64 KiB cut surrogate pairs; a pipe cuts units too
+python3 - << 'END' || fail "no texts in encodings"
+import collections
+
+
+def count(text, name):
+    found = collections.Counter(line.removesuffix("\r").removeprefix("\ufeff").encode() for line in text.split("\n")[:-1])
+    with open(name, "wb") as file:
+        for token, n in sorted(found.items()):
+            file.write(b"%s\t%d\n" % (token.replace(b"\\", b"\\\\").replace(b"\t", b"\\t").replace(b"\r", b"\\r"), n))
+
+
+scalars = "".join(chr(c) + "\n" for c in range(0x110000) if not 0xD800 <= c < 0xE000)
+open("scalars", "w", encoding="utf-8", newline="").write(scalars)
+count(scalars, "scalars.tsv")
+for name, bad in (("ISO-8859-1", ()), ("CP1252", (0x81, 0x8D, 0x8F, 0x90, 0x9D))):
+    table = b"".join(bytes([b, 10]) for b in range(256) if b not in bad)
+    open(name, "wb").write(table)
+    count(table.decode(name), name + ".tsv")
+END
+# (one of them is NUL, of which the program tells)
+shows scalars.tsv "all scalars" --by lines scalars 2> err && shows scalars.tsv "all scalars in UTF-8" --by lines --encoding UTF-8 scalars 2> err
+for order in LE BE; do
+  iconv -f UTF-8 -t UTF-16$order scalars > wide || fail "no UTF-16$order"
+  shows scalars.tsv "all scalars in UTF-16$order" --by lines --encoding UTF-16$order wide 2> err
+  case $order in LE) printf '\377\376' > marked ;; BE) printf '\376\377' > marked ;; esac
+  cat wide >> marked
+  shows scalars.tsv "all scalars in UTF-16, by its mark: $order" --by lines --encoding UTF-16 marked 2> err
+  # a mark is no part of the first token in UTF-16LE and UTF-16BE either, as at the beginning of any line
+  shows scalars.tsv "all scalars in UTF-16$order, with a mark" --by lines --encoding UTF-16$order marked 2> err
+  for n in 1 2 3 5 131071 300001 400003; do
+    shows scalars.tsv "UTF-16 that a pipe cuts after $n bytes: $order" --by lines --encoding UTF-16 < <(head -c $n marked; sleep 0.1; tail -c +$((n + 1)) marked) 2> err
+  done
+done
+for pair in ISO-8859-1:Latin-1 CP1252:Windows-1252; do
+  iconv -f ${pair%:*} -t UTF-8 ${pair%:*} > text.utf8 || fail "no ${pair%:*}"
+  shows ${pair%:*}.tsv "all bytes of ${pair#*:}, by iconv" --by lines text.utf8 2> err
+  shows ${pair%:*}.tsv "all bytes of ${pair#*:}" --by lines --encoding ${pair#*:} ${pair%:*} 2> err
+done
+for byte in 81 8D 8F 90 9D; do
+  printf "a\nb \x$byte\n" > bytes
+  iconv -f CP1252 -t UTF-8 bytes > found 2> err && fail "iconv reads $byte"
+  for how in "" "--skip-bad"; do ends 2 "hashbag_words: bytes:2: not Windows-1252: byte 0x$byte" $how --encoding Windows-1252 bytes; done
+done
+printf 'a\nb \377\n' > bytes && ends 2 "hashbag_words: bytes:2: not UTF-8" --encoding UTF-8 bytes && ends 2 "hashbag_words: bytes:2: not UTF-8" --encoding UTF-8 text bytes
+printf 'a\tb\0\n' > bytes && ends 0 "hashbag_words: bytes: it has NUL bytes; if it is UTF-16, \`--encoding UTF-16LE\`" --encoding Latin-1 bytes
+shows whole "a text in UTF-8 by name" --encoding UTF-8 text
+iconv -t UTF-16LE text > wide && shows whole "UTF-16 in a bound of memory" --encoding UTF-16LE --memory 1K wide
+: > empty && for name in UTF-16 UTF-16LE Latin-1; do shows empty "an empty text in $name" --encoding $name empty; done
+printf 'a\0\n\0b\0' > wide.txt
+ends 2 "hashbag_words: wide.txt:1: not UTF-16: no byte order mark; UTF-16LE and UTF-16BE need none" --encoding UTF-16 wide.txt
+ends 0 "" --encoding UTF-16LE wide.txt
+printf 'a\0\n\0b\0\n' > wide.txt
+ends 2 "hashbag_words: wide.txt:2: not UTF-16: an odd number of bytes" --encoding UTF-16LE wide.txt
+for half in '\075\330b\0' '\075\330' '\0\336b\0' '\075\330\075\330\0\336'; do
+  printf "a\\0\\n\\0$half" > wide.txt && { printf '\377\376' && cat wide.txt; } > marked.txt && dd conv=swab if=wide.txt of=big.txt 2> err || fail "no half a pair"
+  for pair in UTF-16LE:wide.txt UTF-16:marked.txt UTF-16BE:big.txt; do
+    iconv -f ${pair%:*} -t UTF-8 ${pair#*:} > found 2> err && fail "iconv reads $half: ${pair%:*}"
+    ends 2 "hashbag_words: ${pair#*:}:2: not UTF-16: half a surrogate pair" --encoding ${pair%:*} -o none ${pair#*:}
+    [ ! -e none ] || fail "an output of text that isn't UTF-16"
+  done
+done
+printf '\377' > wide.txt
+ends 2 "hashbag_words: wide.txt:1: not UTF-16: no byte order mark; UTF-16LE and UTF-16BE need none" --encoding UTF-16 wide.txt
+"$program" --encoding utf-7 text > out 2> err
+[ $? = 2 ] && [ ! -s out ] && grep -q 'possible values: UTF-8, UTF-16, UTF-16LE, UTF-16BE, Latin-1, Windows-1252' err || fail "an encoding without a name"
+for how in "--encoding UTF-16 --lossy" "merge --encoding UTF-16" "less --encoding UTF-16 whole" "--encoding"; do
+  "$program" $how whole > out 2> err
+  [ $? = 2 ] && [ ! -s out ] || fail "no status 2: $how"
+done
+printf 'w1\n' > list.txt
+grep -v "$(printf '^w1\t')" wanted > shown && iconv -t UTF-16LE text > wide
+shows shown "the file of --except is UTF-8" --encoding UTF-16LE --except list.txt wide
 
 # files of counts that are longer than what is read between two reports: 65,536 lines
 seq 100000 299999 | awk '{ print $1 "\t" 2 }' > long.tsv
@@ -123,17 +203,46 @@ ends 2 "hashbag_words: bad.tsv:2: no tab" merge bad.tsv
 ends 0 "hashbag_words: bad.tsv: 1 bad line skipped" merge --skip-bad bad.tsv
 ends 2 "hashbag_words: bad.txt:1: not UTF-8" bad.txt
 
+# folders: all files in them, in the order of their paths, but no hidden ones and no links
+mkdir -p tree/b/c tree/.hidden tree/b-c tree/empty && cp parts/aa tree/b/c/one && cp parts/ab tree/b-c/two && cp parts/ac tree/three && cp parts/ad 'tree/b/ four'
+cp text tree/.hidden/text && cp text tree/b/.text && ln -s ../text tree/link && ln -s ../parts tree/links && mkfifo tree/pipe
+for how in "" "--memory 1K"; do shows wanted "a folder: $how" $how -r tree && shows wanted "a folder: $how" $how --recursive tree/; done
+counted parts/a[abc] > shown && shows shown "folders and a file" -r tree/b/c tree/b-c tree/three
+counted parts/a[abd] > shown && shows shown "a folder and standard input" -r tree/b - < parts/ab
+counted parts/a[ad] > shown && (cd tree/b && "$program" -r < /dev/null) > found || fail "no status 0 in a folder"
+is found shown "the folder that it runs in"
+shows wanted "a hidden folder that is named" -r tree/.hidden && ln -s parts named && shows wanted "a link to a folder that is named" -r named
+printf 'tree/b\ntree/three\ntree/b-c\n' > list && shows wanted "folders from a list" -r --files-from list
+shows wanted "a folder of counts" merge -r counts && shows wanted "a folder of counts, sorted" merge --sorted -r counts
+shows /dev/null "an empty folder" -r tree/empty
+cp bad.txt tree/b/c/zz && cp bad.txt tree/b-c/bad && cp bad.txt tree/bad
+ends 2 "hashbag_words: tree/b-c/bad:1: not UTF-8" -r tree && rm tree/b-c/bad
+ends 2 "hashbag_words: tree/b/c/zz:1: not UTF-8" -r tree && rm tree/b/c/zz
+ends 2 "hashbag_words: tree/bad:1: not UTF-8" -r tree && rm tree/bad
+cp parts/ad kept && cp -r tree trees && ends 2 "hashbag_words: trees/three: the output is one of the inputs" -r trees -o trees/three
+ends 2 "hashbag_words: --except: trees/three: it is one of the inputs" -r trees --except trees/three
+printf 'text\ntree\n' > list
+for how in "tree" "text tree -o none/out" "--memory 1K --encoding UTF-16 tree/" "--files-from list" "merge whole tree" "merge --sorted tree" "merge --from json tree"; do
+  case $how in *tree/) folder=tree/ ;; *) folder=tree ;; esac
+  ends 4 "hashbag_words: $folder: a folder; \`-r\` reads the files in it" $how && [ ! -s out ] || fail "an output of a folder: $how"
+done
+for how in "less tree whole" "common whole tree -o none/out"; do ends 4 "hashbag_words: tree: a folder" $how; done
+"$program" -r no_such_folder > out 2> err
+[ $? = 4 ] && [ ! -s out ] && grep -q '^hashbag_words: no_such_folder: ' err || fail "no name of a folder"
+"$program" less -r tree tree > out 2> err
+[ $? = 2 ] && [ ! -s out ] || fail "a folder of a pair"
+
 # What is no text in UTF-8 by its first bytes is named, with what makes it that; and NUL bytes are never silent
 printf 'a\n' | gzip > packed.gz
 ends 2 "hashbag_words: packed.gz: gzip; \`zcat\` makes it text" packed.gz
 printf '\377\376a\0\n\0' > wide.txt
 printf '\376\377\0a\0\n' > big.txt
 for name in wide.txt big.txt; do
-  ends 2 "hashbag_words: $name: UTF-16; \`iconv -f UTF-16 -t UTF-8\` makes it UTF-8" $name
+  ends 2 "hashbag_words: $name: UTF-16; \`--encoding UTF-16\` reads it" $name
 done
-ends 0 "$(printf 'hashbag_words: wide.txt: it has NUL bytes; if it is UTF-16, `iconv -f UTF-16LE -t UTF-8`\nhashbag_words: wide.txt: bytes replaced in 1 line')" --lossy wide.txt
+ends 0 "$(printf 'hashbag_words: wide.txt: it has NUL bytes; if it is UTF-16, `--encoding UTF-16LE`\nhashbag_words: wide.txt: bytes replaced in 1 line')" --lossy wide.txt
 printf 'a\0 a\0\n' > nul.txt
-ends 0 "hashbag_words: nul.txt: it has NUL bytes; if it is UTF-16, \`iconv -f UTF-16LE -t UTF-8\`" nul.txt
+ends 0 "hashbag_words: nul.txt: it has NUL bytes; if it is UTF-16, \`--encoding UTF-16LE\`" nul.txt
 ends 5 "hashbag_words: many.tsv:2: total past 2^64-1" merge many.tsv
 printf 'dog\t3\ncat\t1' > cut.tsv
 ends 2 "hashbag_words: cut.tsv:2: no line feed" merge cut.tsv
@@ -152,6 +261,41 @@ ends 2 "hashbag_words: an argument is not UTF-8" $'\377'
 grep -q '^hashbag_words: bad.json: ' err || fail "no name of the JSON"
 awk '$2 >= 100' wanted > some && [ -s some ] && "$program" --least 100 text > found && is found some "counts from the least on"
 "$program" --pattern '[0-9]+' text > found && sed 's/^w//' wanted | sort > numbers && is found numbers "matches of a pattern"
+# groups of a pattern: of each match what Python's has in the group, if it took part
+printf 'key=1 other=22 key=\nä=é key=1 =3\n\nnone\nx= y= \n' > pairs
+for group in 0 1 2 3; do
+  python3 - "$group" << 'END' > shown || fail "no groups"
+import collections
+import re
+import sys
+
+pattern, group = re.compile(r"([a-zä]*)=(?:([0-9é]+)|( ))?"), int(sys.argv[1])
+found = [m.group(group) for line in open("pairs", encoding="utf-8") for m in pattern.finditer(line.rstrip("\n"))]
+for token, count in sorted(collections.Counter(t for t in found if t).items(), key=lambda row: row[0].encode()):
+    print(token, count, sep="\t")
+END
+  for how in "" "--memory 1K"; do shows shown "group $group: $how" $how --pattern '([a-zä]*)=(?:([0-9é]+)|( ))?' --group $group pairs; done
+done
+sed 's/^w//' wanted | sort > numbers && shows numbers "a group of each match" --pattern 'w([0-9]+)' --group 1 text
+printf 'A b\na C\n' > cases && printf 'a\t2\n' > shown && shows shown "a group, folded" --fold --pattern '([aA]) ?' --group 1 cases
+printf 'a\377b\n' > torn && printf '\357\277\275b\t1\n' > shown && "$program" --lossy --pattern 'a(.*)' --group 1 torn > found 2> err && is found shown "a group with bytes replaced"
+printf 'a\t3\n' > shown && printf 'aaa\n' | "$program" --pattern '(a)|(b)' --group 1 > found && is found shown "a group of several matches"
+printf 'aaa\n' | "$program" --pattern '(a)|(b)' --group 2 > found && is found /dev/null "a group that took no part"
+ends 2 "hashbag_words: --group: 2: the pattern has 1 group" --pattern '(a)' --group 2 text
+ends 2 "hashbag_words: --group: 1: the pattern has 0 groups" --pattern 'a' --group 1 text
+ends 2 "hashbag_words: --group: 18446744073709551615: the pattern has 2 groups" --pattern '(a)(?<n>b)' --group 18446744073709551615 text
+for how in "--group 1" "--group 1 --by lines" "--group 1 --field 2" "--group x --pattern (a)" "--group -1 --pattern (a)" "merge --group 1"; do
+  "$program" $how text > out 2> err
+  [ $? = 2 ] && [ ! -s out ] || fail "no status 2: $how"
+done
+# no file is opened for a pattern that is bad, or hasn't the group
+for how in "-o none/out none" "--files-from none" "--except none none" "-r none"; do
+  ends 2 "hashbag_words: --group: 2: the pattern has 1 group" --pattern '(a)' --group 2 $how
+  for pattern in '(' 'a{2,1}' '(?<n'; do
+    "$program" --pattern "$pattern" $how > out 2> err
+    [ $? = 2 ] && [ ! -s out ] && grep -q '^hashbag_words: --pattern: ' err || fail "a bad pattern: $pattern"
+  done
+done
 ends 0 "" count
 ends 1 "" count --fail-empty
 "$program" no_such_file > out 2> err
@@ -280,7 +424,7 @@ lines = [b"".join(random.choices(some, k=random.randint(1, 4))) for _ in range(3
 open("bytes", "wb").write(b"".join(line + b"\n" for line in lines))
 counts = collections.Counter(line.decode("utf-8", "replace").encode() for line in lines)
 open("replaced", "wb").write(b"".join(b"%s\t%d\n" % row for row in sorted(counts.items())))
-open("said", "w").write("hashbag_words: bytes: it has NUL bytes; if it is UTF-16, `iconv -f UTF-16LE -t UTF-8`\n"
+open("said", "w").write("hashbag_words: bytes: it has NUL bytes; if it is UTF-16, `--encoding UTF-16LE`\n"
     "hashbag_words: bytes: bytes replaced in %d lines\n" % sum(line.decode("utf-8", "replace").encode() != line for line in lines))
 END
 ends 0 "$(cat said)" --by lines --lossy bytes && is out replaced "bytes that are replaced"
@@ -322,10 +466,40 @@ ends 2 "hashbag_words: --field: 0: the first field is 1" --field 0 -o none/out n
 for delimiter in '' ',,' é '\n' '\t\t' tab; do
   ends 2 "hashbag_words: --delimiter: $delimiter: not one ASCII character or \\t" --field 1 --delimiter "$delimiter" -o none/out none
 done
-for how in "--field x" "--field -1" "--field 1 --by lines" "--field 1 --pattern a" "--delimiter ," "merge --field 1"; do
+for how in "--field x" "--field -1" "--field 1 --by lines" "--field 1 --pattern a" "--delimiter ," "--delimiter , --by lines" "--delimiter , --pattern a" "merge --field 1"; do
   "$program" $how text > out 2> err
   [ $? = 2 ] && [ ! -s out ] || fail "no status 2: $how"
 done
+
+# columns of CSV: quoted fields have line feeds, quotes and delimiters; each file has its own header
+printf '\357\273\277id,city,note\n1,Ulm,"a\nb"\r\n2,"Ulm, alt",""\n\n3,,x\n4,"Ulm","city"\n5,"say ""hi""",\n6,"two\nlines",z' > people.csv
+printf 'city,x\nulm,1\nULM,2\nBonn,3\n' > more.csv
+printf '\t1\nUlm\t2\nUlm, alt\t1\nsay "hi"\t1\ntwo\\nlines\t1\n' > shown && shows shown "a column" --column city people.csv
+printf 'Bonn\t1\nULM\t1\nulm\t1\n' > shown && "$program" --column city < more.csv > found && is found shown "a column of standard input"
+printf '\t1\nbonn\t1\nsay "hi"\t1\ntwo\\nlines\t1\nulm\t4\nulm, alt\t1\n' > shown && shows shown "a column of two files, folded" --fold --column city people.csv more.csv
+printf 'ulm\t4\t44.44\n' > shown && shows shown "the share of a column" --fold --column city --top 1 --share people.csv more.csv
+printf 'ulm 2 %034d\n' 0 | tr 0 '#' > shown && COLUMNS=40 "$program" --fold --column city --top 1 --bars more.csv > found && is found shown "a bar of a column"
+printf 'Bonn\n' > except.txt && printf '[["say \\"hi\\"",1],["two\\nlines",1],["ulm, alt",1]]\n' > shown
+shows shown "what is shown of a column" --fold --column city --min-length 4 --except except.txt --to json people.csv more.csv
+printf 'city;id\nULM;7\nBonn, 2;8\n' > others.csv && printf 'Bonn, 2\t1\nULM\t1\n' > shown && shows shown "a column between semicolons" --column city --delimiter ';' others.csv
+printf 'city\tid\nULM\t7\n"Bonn\t2"\t8\n' > tabbed && printf 'Bonn\\t2\t1\nULM\t1\n' > shown && shows shown "a column between tabs" --column city -d '\t' tabbed
+printf 'a,b\n\334,1\n' > latin.csv && printf '1\t1\n' > shown && shows shown "a column next to one that isn't UTF-8" --column b latin.csv
+printf '\303\234\t1\n' > shown && shows shown "a column in Windows-1252" --column a --encoding Windows-1252 latin.csv
+printf 'a,b\n' > header.csv && shows /dev/null "a header alone" --column a header.csv
+ends 2 'hashbag_words: latin.csv:2: column `a` is not UTF-8; if it is Windows-1252, `--encoding Windows-1252`' --column a header.csv latin.csv
+ends 2 'hashbag_words: people.csv:1: no column `town`; there are: `id`, `city`, `note`' --column town people.csv
+ends 2 'hashbag_words: others.csv:1: no column `city`; there are: `city;id`; is the delimiter `;`?' --column city others.csv
+ends 2 "hashbag_words: standard input:1: no header" --column a
+for bad in '1,2\n1,2,3\n:3: 2 fields wanted, 3 found' '1\n:2: 2 fields wanted, 1 found' '1,"2"x\n:2: text after a closing quote' '1,x"y\n:2: quote in a field without quotes' '1,2\n3,"4\n5\n:3: quote never closed'; do
+  printf "a,b\n${bad%%:*}" > bad.csv
+  cp whole held && ends 2 "hashbag_words: bad.csv:${bad#*:}" --column a -o held bad.csv && is held whole "an output after a bad record"
+done
+printf 'a,a\n1,2\n' > bad.csv && ends 2 'hashbag_words: bad.csv:1: more than one column `a`' --column a bad.csv
+for how in "--memory 1K" "--lossy" "--skip-bad" "--by lines" "--field 1" "--pattern a"; do
+  "$program" --column a $how -o none/out none > out 2> err
+  [ $? = 2 ] && [ ! -s out ] && grep -q "cannot be used with" err || fail "no status 2: --column a $how"
+done
+ends 2 "hashbag_words: --delimiter: |: none of , ; and \\t, as --column needs" --column a --delimiter '|' -o none/out none
 
 # tokens of N characters and more, in each job
 printf 'ä äb\nabc äöü é\n' > lengths
@@ -361,6 +535,74 @@ for how in "" "--sorted" "--memory 1K"; do shows shown "shares of a total that i
 shows /dev/null "shares of nothing" --share /dev/null
 for form in json uniq; do ends 2 "hashbag_words: --share: $form has no column for it; leave out --to $form" --share --to $form -o none/out none; done
 ends 2 "hashbag_words: shares:1: no count" merge shares
+
+# bars: of the columns of a terminal, names have those of the widest, but at most a third; counts the digits of the greatest; the longest bar the rest. Python
+# has the widths of characters
+cat > bars.py << 'END'
+import sys
+import unicodedata
+
+
+def columns_of(c):
+    if unicodedata.category(c) in ("Mn", "Me", "Cf"):
+        return 0
+    return 2 if unicodedata.east_asian_width(c) in "WF" else 1
+
+
+def columns(name):
+    return sum(map(columns_of, name))
+
+
+def cut(name, n):
+    if columns(name) <= n:
+        return name
+    while columns(name) > n - 1:
+        name = name[:-1]
+    return name + "…"
+
+
+width, top = int(sys.argv[1]), int(sys.argv[2])
+rows = [line.rstrip("\n").split("\t") for line in open(sys.argv[3], encoding="utf-8")]
+rows = sorted(((token, int(count)) for token, count in rows), key=lambda row: (-row[1], row[0].encode()))[:top]
+names = min(width // 3, max(columns(token) for token, _ in rows))
+greatest = rows[0][1]
+room = width - names - len(str(greatest)) - 2
+for token, count in rows:
+    name = cut(token, names)
+    marks = max(1, (2 * room * count + greatest) // (2 * greatest))
+    print(name + " " * (names - columns(name)), f"{count:{len(str(greatest))}}", "#" * marks)
+END
+unset COLUMNS
+for width in 80 40 41 132 1000; do
+  python3 bars.py $width 700 wanted > bars || fail "no bars"
+  [ "$(awk '{ if (length > most) most = length } END { print most }' bars)" = $width ] || fail "a longest bar that isn't at the edge: $width"
+  for how in "" "--memory 1K" "--fold"; do COLUMNS=$width shows bars "bars in $width columns: $how" $how --bars --top 700 text; done
+  for how in "" "--sorted" "--memory 1K"; do COLUMNS=$width shows bars "bars of counts in $width columns: $how" merge $how --bars --top 700 whole; done
+done
+python3 bars.py 80 3 wanted > bars
+for columns in "" x -1 " 90" 1e2 99999999999999999999; do COLUMNS=$columns shows bars "bars in $columns columns" --bars --top 3 text; done
+shows bars "bars on no terminal" --bars --top 3 text
+shows bars "bars of a difference" less --bars --top 3 whole /dev/null && shows bars "bars of lesser counts" common --bars --top 3 whole whole
+python3 bars.py 40 3 wanted > bars && COLUMNS=1 shows bars "bars in 1 column" --bars --top 3 text
+python3 bars.py 1000 3 wanted > bars && COLUMNS=70000 shows bars "bars in 70,000 columns" --bars --top 3 text
+# one of 1, 3 and 1000; a greatest count of 20 digits; wide and narrow characters, and such as are cut
+printf 'a\t1000\nb\t333\nc\t1\nd\t2\n' > few && python3 bars.py 80 9 few > bars && shows bars "bars of few counts" merge --bars --top 9 few
+printf 'a\t18446744073709551614\nb\t1\n' > greatest && python3 bars.py 80 9 greatest > bars
+for how in "" "--sorted" "--memory 1K"; do shows bars "bars of a total that is as large as may be: $how" merge $how --bars --top 9 greatest; done
+printf '猫\t9\nä\t8\nsämtliche\t7\n猫猫猫猫猫猫猫猫猫猫猫猫猫猫猫\t6\nabcdefghijklmnopqrstuvwxyzab\t5\nabcdefghijklmnopqrstuvwxyz\t4\nabcdefghijklmnopqrstuvwxyza\t3\na猫猫猫猫猫猫猫猫猫猫猫猫猫猫猫\t2\ne\314\201\t1\n' > wide
+for width in 80 60 40; do python3 bars.py $width 9 wide > bars && COLUMNS=$width shows bars "bars of wide tokens in $width columns" merge --bars --top 9 wide; done
+printf '\ta\n\ta\n\033[31mb\n\n' | COLUMNS=40 "$program" --by lines --bars --top 9 > found
+{ printf '␉a     2 %s\n' "$(printf '#%.0s' {1..31})" && printf '       1 %s\n' "$(printf '#%.0s' {1..16})" && printf '�[31mb 1 %s\n' "$(printf '#%.0s' {1..16})"; } > bars
+is found bars "bars of lines with control characters"
+printf 'The cat sat on the mat.\nThe dog didn'"'"'t: the dog lay.\n' > monday && printf 'the 4 %s\ndog 2 %s\ncat 1 %s\n' "$(printf '#%.0s' {1..34})" "$(printf '#%.0s' {1..17})" "$(printf '#%.0s' {1..9})" > bars
+COLUMNS=40 shows bars "the bars of the page" --fold --top 3 --bars monday
+shows /dev/null "bars of nothing" --bars --top 9 /dev/null && shows /dev/null "no bars" --bars --top 0 text
+ends 1 "" --fail-empty --bars --top 0 parts/aa && ends 1 "" --fail-empty --bars --top 9 /dev/null
+for form in json uniq; do ends 2 "hashbag_words: --bars: $form has no column for it; leave out --to $form" --bars --top 3 --to $form -o none/out none; done
+for how in "--bars" "--bars --share --top 3" "--bars --unsorted"; do
+  "$program" $how none > out 2> err
+  [ $? = 2 ] && [ ! -s out ] || fail "no status 2: $how"
+done
 
 # tokens that aren't shown, in each job: the lines of a file, of which no other one is shown more or less often
 printf 'w1\n\nw22\r\nw333\nw4444\nw5 \nW6' > stop && awk '$1 != "w1" && $1 != "w22" && $1 != "w333"' wanted > others

@@ -1,7 +1,9 @@
 //! Errors of the program, with their messages and exit statuses.
 use crate::input::plural;
 use hashbag::{BagError, JsonError};
+use hashbag_csv::fault::SheetError;
 use hashbag_shell::status::{BAD_INPUT, IO_FAILED, NO_MEMORY, TOTAL_TOO_LARGE};
+use hashbag_text::fault::{DecodeError, Fault};
 use hashbag_words_lib::errors::{BadLine, InputFault};
 use std::alloc::AllocError;
 use std::io;
@@ -16,6 +18,19 @@ pub enum Failure<'a> {
         name: &'a str,
         line: u64,
         bad: BadLine,
+    },
+    /// A line of CSV is bad.
+    #[error("{name}:{error}")]
+    Sheet {
+        name: &'a str,
+        error: SheetError,
+    },
+    /// An input isn't text in the encoding that is named.
+    #[error("{name}:{line}: {fault}")]
+    Encoding {
+        name: &'a str,
+        line: u64,
+        fault: Fault,
     },
     /// An input is no UTF-8, by its first bytes.
     #[error("{name}: {kind}")]
@@ -67,9 +82,27 @@ pub enum Failure<'a> {
         name: &'a str,
         error: io::Error,
     },
+    /// An input is a folder.
+    #[error("{name}: a folder{cure}")]
+    IsFolder {
+        name: &'a str,
+        cure: &'static str,
+    },
+    /// A folder can't be read.
+    #[error("{name}: {error}")]
+    Folder {
+        name: String,
+        error: io::Error,
+    },
     /// The pattern isn't a regular expression.
     #[error("--pattern: {0}")]
     Pattern(regex::Error),
+    /// The pattern has fewer groups.
+    #[error("--group: {group}: the pattern has {groups} group{}", plural(.groups))]
+    NoGroup {
+        group: usize,
+        groups: u64,
+    },
     /// Standard input would be read twice.
     #[error("standard input is named twice")]
     ReadTwice,
@@ -117,6 +150,22 @@ impl<'a> Failure<'a> {
         }
     }
 
+    /// Returns the failure for an error of the CSV text of the input `name`.
+    pub fn of_sheet(name: &'a str, error: SheetError) -> Failure<'a> {
+        match error {
+            SheetError::Memory => Failure::NoMemoryLeft,
+            error => Failure::Sheet { name, error },
+        }
+    }
+
+    /// Returns the failure for an input `name` that isn't decoded.
+    pub fn of_decoding(name: &'a str, error: DecodeError) -> Failure<'a> {
+        match error {
+            DecodeError::Line { line, fault } => Failure::Encoding { name, line, fault },
+            DecodeError::Memory => Failure::NoMemoryLeft,
+        }
+    }
+
     /// Returns the failure for an error of the file `name`.
     pub fn of_file(name: &'a str, error: io::Error) -> Failure<'a> {
         if error.kind() == io::ErrorKind::OutOfMemory {
@@ -125,15 +174,27 @@ impl<'a> Failure<'a> {
         Failure::File { name, error }
     }
 
+    /// Returns the failure for an error of the folder `name`.
+    pub fn of_folder(name: String, error: io::Error) -> Failure<'a> {
+        if error.kind() == io::ErrorKind::OutOfMemory {
+            return Failure::NoMemoryLeft;
+        }
+        Failure::Folder { name, error }
+    }
+
     // Returns the exit status.
     fn status(&self) -> u8 {
         match self {
+            Failure::Sheet { error, .. } if error.is_total() => TOTAL_TOO_LARGE,
             Failure::Line { .. } | Failure::Text { .. } | Failure::Tree { .. } => BAD_INPUT,
             Failure::Pattern(_) | Failure::ReadTwice | Failure::Kind { .. } => BAD_INPUT,
+            Failure::Encoding { .. } | Failure::Sheet { .. } => BAD_INPUT,
             Failure::OutputIsInput { .. } | Failure::Except { .. } => BAD_INPUT,
+            Failure::NoGroup { .. } => BAD_INPUT,
             Failure::NoMemory { .. } | Failure::NoMemoryLeft => NO_MEMORY,
             Failure::File { error, .. } if error.kind() == io::ErrorKind::InvalidData => BAD_INPUT,
-            Failure::File { .. } | Failure::NotRandom(_) => IO_FAILED,
+            Failure::File { .. } | Failure::Folder { .. } | Failure::NotRandom(_) => IO_FAILED,
+            Failure::IsFolder { .. } => IO_FAILED,
             Failure::TooMany { .. } | Failure::TooManyInAll { .. } => TOTAL_TOO_LARGE,
             Failure::PastLimit { .. } => TOTAL_TOO_LARGE,
         }

@@ -4,7 +4,12 @@ use crate::failure::Failure;
 use crate::input::{Input, plural, read_block, said};
 use crate::progress::Progress;
 use crate::runs::Runs;
+use hashbag_csv::delimiter::Delimiter;
+use hashbag_text::decoder::Decoder;
+use hashbag_text::encoding::Encoding;
+use hashbag_text::whole::decode;
 use hashbag_words_args::settings::{Ask, Settings};
+use hashbag_words_lib::columns::count_column;
 use hashbag_words_lib::counter::Fed;
 use hashbag_words_lib::errors::InputFault;
 use hashbag_words_lib::gauge::Gauge;
@@ -12,7 +17,9 @@ use hashbag_words_lib::lines::LinesRead;
 use hashbag_words_lib::row_counter::RowCounter;
 use hashbag_words_lib::rows::RowForm;
 use memchr::memchr;
+use regex::Regex;
 use std::hash::RandomState;
+use std::io::Read;
 use std::{io, mem};
 
 // How many bytes of an input are read at once.
@@ -36,6 +43,10 @@ pub struct Inputs<'s, 'a, 'm> {
     pub settings: &'s Settings<'a, 'm>,
     /// The names of all inputs.
     pub names: &'s [&'a str],
+    /// The pattern that is counted by, if there is one.
+    pub pattern: Option<&'s Regex>,
+    /// The encoding of the inputs, `None` for UTF-8.
+    pub encoding: Option<Encoding>,
     /// The reports of progress.
     pub progress: Progress,
     /// The bound of the memory, if there is one.
@@ -48,7 +59,7 @@ fn kind_of(block: &[u8]) -> Option<&'static str> {
         return Some("gzip; `zcat` makes it text");
     }
     if block.starts_with(b"\xff\xfe") || block.starts_with(b"\xfe\xff") {
-        return Some("UTF-16; `iconv -f UTF-16 -t UTF-8` makes it UTF-8");
+        return Some("UTF-16; `--encoding UTF-16` reads it");
     }
     None
 }
@@ -60,6 +71,19 @@ fn read_whole<'a>(rt: &HostRuntime, name: &'a str) -> Result<String, Failure<'a>
         Err(error) => Err(error),
     };
     read.map_err(|error| Failure::of_file(said(name), error))
+}
+
+// Reads all bytes of the input of this name.
+fn read_bytes<'a>(rt: &HostRuntime, name: &'a str) -> Result<Vec<u8>, Failure<'a>> {
+    let mut bytes = Vec::new(rt.alloc());
+    let read = match Input::open(rt, name) {
+        Ok(mut input) => input.read_to_end(&mut bytes),
+        Err(error) => Err(error),
+    };
+    match read {
+        Ok(_) => Ok(bytes),
+        Err(error) => Err(Failure::of_file(said(name), error)),
+    }
 }
 
 impl<'s, 'a, 'm> Inputs<'s, 'a, 'm> {
@@ -94,7 +118,7 @@ impl<'s, 'a, 'm> Inputs<'s, 'a, 'm> {
     fn report_nul(&mut self, name: &str) {
         self.progress.erase(self.rt);
         let _ = eprintln!(self.rt;
-            "hashbag_words: {name}: it has NUL bytes; if it is UTF-16, `iconv -f UTF-16LE -t UTF-8`"
+            "hashbag_words: {name}: it has NUL bytes; if it is UTF-16, `--encoding UTF-16LE`"
         );
     }
 
@@ -128,6 +152,58 @@ impl<'s, 'a, 'm> Inputs<'s, 'a, 'm> {
             }
         }
         Ok(())
+    }
+
+    // Counts the text of a block, which is decoded into this buffer.
+    fn feed_decoded<C: Counter>(
+        &mut self,
+        counter: &mut C,
+        name: &'a str,
+        decoder: &mut Decoder,
+        text: &mut String,
+        block: &[u8],
+    ) -> Result<(), Failure<'a>> {
+        text.clear();
+        let pushed = decoder.push(block, text);
+        self.feed(counter, name, text.as_bytes())?;
+        match pushed {
+            Ok(()) => Ok(()),
+            Err(error) => Err(Failure::of_decoding(name, error)),
+        }
+    }
+
+    // Counts the text of the input of this name, which is in this encoding. `block` is the read buffer.
+    fn count_decoded<C: Counter>(
+        &mut self,
+        counter: &mut C,
+        name: &'a str,
+        encoding: Encoding,
+        block: &mut [u8],
+    ) -> Result<(), Failure<'a>> {
+        let mut input = match Input::open(self.rt, name) {
+            Ok(input) => input,
+            Err(error) => return Err(Failure::of_file(said(name), error)),
+        };
+        let mut decoder = Decoder::new(encoding);
+        let mut text = String::new(self.rt.alloc());
+        let mut has_nul = false;
+        for _ in 0..u64::MAX {
+            let n = match read_block(&mut input, block) {
+                Ok(0) => break,
+                Ok(n) => n,
+                Err(error) => return Err(Failure::of_file(said(name), error)),
+            };
+            self.feed_decoded(counter, said(name), &mut decoder, &mut text, &block[..n])?;
+            has_nul = has_nul || memchr(0, text.as_bytes()).is_some();
+            self.progress.tell(self.rt, said(name), n);
+        }
+        if let Err(error) = decoder.end() {
+            return Err(Failure::of_decoding(said(name), error));
+        }
+        if has_nul {
+            self.report_nul(said(name));
+        }
+        self.end(counter, said(name))
     }
 
     // Ends an input that was counted.
@@ -188,7 +264,53 @@ impl<'s, 'a, 'm> Inputs<'s, 'a, 'm> {
     ) -> Result<(), Failure<'a>> {
         let mut block = vec![in self.rt.alloc(); 0u8; BLOCK]?;
         for name in names {
-            self.count_named(counter, name, block.as_mut_slice())?;
+            match self.encoding {
+                Some(encoding) => {
+                    self.count_decoded(counter, name, encoding, block.as_mut_slice())?;
+                }
+                None => self.count_named(counter, name, block.as_mut_slice())?,
+            }
+        }
+        Ok(())
+    }
+
+    // Returns the text of the input of this name, as UTF-8 if its encoding was named.
+    fn whole_text(&mut self, name: &'a str) -> Result<Vec<u8>, Failure<'a>> {
+        let bytes = read_bytes(self.rt, name)?;
+        self.progress.tell(self.rt, said(name), bytes.len());
+        let Some(encoding) = self.encoding else {
+            return match self.other_kind(said(name), &bytes) {
+                Some(failure) => Err(failure),
+                None => Ok(bytes),
+            };
+        };
+        match decode(self.rt.alloc(), encoding, bytes.as_slice()) {
+            Ok(text) => Ok(text.into_bytes()),
+            Err(error) => Err(Failure::of_decoding(said(name), error)),
+        }
+    }
+
+    /// Counts the fields of a column of all inputs, each with its own header. Each is read whole.
+    ///
+    /// # Errors
+    ///
+    /// What is wrong with an input or one of its records, or a failed allocation. What came before the error may be counted.
+    pub fn count_columns(
+        &mut self,
+        column: &str,
+        delimiter: Delimiter,
+        fold: bool,
+        bag: &mut Bag,
+    ) -> Result<(), Failure<'a>> {
+        for name in self.names {
+            let text = self.whole_text(name)?;
+            let alloc = self.rt.alloc();
+            if let Err(error) = count_column(alloc, bag, fold, &text, column, delimiter) {
+                return Err(Failure::of_sheet(said(name), error));
+            }
+            if self.encoding.is_none() && memchr(0, &text).is_some() {
+                self.report_nul(said(name));
+            }
         }
         Ok(())
     }

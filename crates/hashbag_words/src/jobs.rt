@@ -18,6 +18,7 @@ use hashbag_words_lib::lines::BadLines;
 use hashbag_words_lib::rule::{Pieces, Rule};
 use hashbag_words_lib::runs::run_of;
 use regex::Regex;
+use std::alloc::Global;
 use std::mem;
 
 // Counts what the rule says of the inputs.
@@ -36,30 +37,59 @@ fn count_by<'a>(
     counted
 }
 
+/// Returns the pattern that the arguments name, if they name one.
+///
+/// # Errors
+///
+/// `Pattern` if it is no regular expression, `NoGroup` if it hasn't the group that is to be counted.
+pub fn pattern_of<'a>(alloc: Global, ask: Ask<'_, '_>) -> Result<Option<Regex>, Failure<'a>> {
+    let Ask::Count(tokens, _) = ask else {
+        return Ok(None);
+    };
+    let By::Pattern(text, group) = tokens.by else {
+        return Ok(None);
+    };
+    let pattern = match Regex::new(alloc, text) {
+        Ok(pattern) => pattern,
+        Err(regex::Error::OutOfMemory) => return Err(Failure::NoMemoryLeft),
+        Err(error) => return Err(Failure::Pattern(error)),
+    };
+    let groups = pattern.captures_len().saturating_sub(1);
+    if group > groups {
+        let groups = groups as u64;
+        return Err(Failure::NoGroup { group, groups });
+    }
+    Ok(Some(pattern))
+}
+
+// Returns what is counted of a line. If that is by a pattern, it is this one.
+fn pieces_of<'r>(by: By<'_>, pattern: Option<&'r Regex>) -> Pieces<'r> {
+    match (by, pattern) {
+        (By::Pattern(_, group), Some(pattern)) => match group.checked_sub(1) {
+            Some(index) => Pieces::Groups(pattern, index),
+            None => Pieces::Matches(pattern),
+        },
+        (By::Field(index, separator), _) => Pieces::Field(index, separator),
+        (By::Lines, _) => Pieces::Lines,
+        (By::UnicodeWords, _) => Pieces::UnicodeWords,
+        _ => Pieces::Words,
+    }
+}
+
 // Counts the tokens of the inputs.
 fn count<'a>(
     inputs: &mut Inputs<'_, 'a, '_>,
     tokens: Tokens<'a>,
     bag: &mut Bag,
 ) -> Result<(), Failure<'a>> {
-    let (fold, lossy) = (tokens.fold, tokens.lossy);
-    let rule = |pieces| Rule {
-        pieces,
-        fold,
-        lossy,
+    let rule = Rule {
+        pieces: pieces_of(tokens.by, inputs.pattern),
+        fold: tokens.fold,
+        lossy: tokens.lossy,
     };
     match tokens.by {
-        By::Words => count_by(inputs, rule(Pieces::Words), bag),
-        By::UnicodeWords => count_by(inputs, rule(Pieces::UnicodeWords), bag),
-        By::Lines => count_by(inputs, rule(Pieces::Lines), bag),
-        By::Field(index, separator) => count_by(inputs, rule(Pieces::Field(index, separator)), bag),
-        By::Pattern(text) => {
-            let pattern = match Regex::new(inputs.rt.alloc(), text) {
-                Ok(pattern) => pattern,
-                Err(error) => return Err(Failure::Pattern(error)),
-            };
-            count_by(inputs, rule(Pieces::Matches(&pattern)), bag)
-        }
+        By::Column(name, delimiter) => inputs.count_columns(name, delimiter, tokens.fold, bag),
+        _ => count_by(inputs, rule, bag),
     }
 }
 
@@ -135,6 +165,7 @@ fn merged<'a>(
 fn read<'s, 'a>(
     rt: &'s HostRuntime,
     settings: &'s Settings<'a, '_>,
+    pattern: Option<&'s Regex>,
     names: &'s [&'a str],
     folder: &'a str,
     bag: &mut Bag,
@@ -145,6 +176,8 @@ fn read<'s, 'a>(
         rt,
         settings,
         names,
+        pattern,
+        encoding: settings.ask.encoding(),
         progress,
         bound,
     };
@@ -193,12 +226,13 @@ fn write_bag<'a>(
 fn read_and_write<'a>(
     rt: &HostRuntime,
     settings: &Settings<'a, '_>,
+    pattern: Option<&Regex>,
     names: &[&'a str],
     folder: &'a str,
     bag: &mut Bag,
 ) -> Result<bool, Failure<'a>> {
     let output = Output::open(rt, settings)?;
-    match read(rt, settings, names, folder, bag) {
+    match read(rt, settings, pattern, names, folder, bag) {
         Ok(Some(made)) => write_made(rt, output, made),
         Ok(None) => write_bag(rt, settings, output, bag),
         Err(failure) => {
@@ -243,13 +277,15 @@ fn excepted<'s, 'a>(
         rt,
         settings,
         names,
+        pattern: None,
+        encoding: None,
         progress,
         bound,
     };
     Ok(Some(lines_of(&mut inputs, name, settings.ask.folds())?))
 }
 
-/// Does the job and returns the exit status. Temporary files are in this folder.
+/// Does the job and returns the exit status. `pattern` is that of [`pattern_of`]. Temporary files are in this folder.
 ///
 /// # Errors
 ///
@@ -257,6 +293,7 @@ fn excepted<'s, 'a>(
 pub fn run<'a>(
     rt: &HostRuntime,
     settings: &Settings<'a, '_>,
+    pattern: Option<&Regex>,
     names: &[&'a str],
     folder: &'a str,
 ) -> Result<u8, Failure<'a>> {
@@ -271,7 +308,7 @@ pub fn run<'a>(
         ..*settings
     };
     let mut bag = empty(rt)?;
-    let written = read_and_write(rt, &settings, names, folder, &mut bag);
+    let written = read_and_write(rt, &settings, pattern, names, folder, &mut bag);
     // The program ends soon, and the system then takes all memory back at once.
     mem::forget(bag);
     Ok(if written? && settings.fail_empty {

@@ -3,6 +3,7 @@
 
 mod bag;
 mod failure;
+mod folders;
 mod input;
 mod inputs;
 mod jobs;
@@ -19,6 +20,7 @@ use hashbag_shell::program::{printed, words_of as given_words};
 use hashbag_shell::status::BAD_INPUT;
 use hashbag_words_args::command::{command, is_job};
 use hashbag_words_args::settings::Settings;
+use regex::Regex;
 use std::alloc::{AllocError, Global};
 use std::process::ExitCode;
 use unicode_segmentation::UNICODE_VERSION;
@@ -37,30 +39,82 @@ fn words_of(alloc: Global, given: &Vec<String>) -> Result<Vec<&str>, AllocError>
     Ok(words)
 }
 
-// Does a job, on the inputs of the list if there is one, and returns the exit status.
-fn do_job(rt: &HostRuntime, settings: &Settings<'_, '_>, list: Option<&String>) -> u8 {
-    let Ok(names) = names::inputs_of(rt.alloc(), settings, list) else {
-        return Failure::NoMemoryLeft.report(rt);
-    };
+// Does a job on the inputs of these names, and returns the exit status.
+fn do_named(
+    rt: &HostRuntime,
+    settings: &Settings<'_, '_>,
+    pattern: Option<&Regex>,
+    names: &[&str],
+) -> u8 {
     let folder = match names::temporary_folder(rt) {
         Ok(folder) => folder,
         Err(failure) => return failure.report(rt),
     };
     let tmp = settings.ask.many().and_then(|many| many.tmp);
     let folder = tmp.unwrap_or(folder.as_str());
-    match jobs::run(rt, settings, names.as_slice(), folder) {
+    match jobs::run(rt, settings, pattern, names, folder) {
         Ok(status) => status,
         Err(failure) => failure.report(rt),
     }
 }
 
+// Returns texts as they are lent.
+fn lent(alloc: Global, texts: &Vec<String>) -> Result<Vec<&str>, AllocError> {
+    let mut names = Vec::new(alloc);
+    for text in texts {
+        names.push(text.as_str())?;
+    }
+    Ok(names)
+}
+
+// Does a job on the files in the folders of these names, and returns the exit status.
+fn do_folders(
+    rt: &HostRuntime,
+    settings: &Settings<'_, '_>,
+    pattern: Option<&Regex>,
+    names: &[&str],
+) -> u8 {
+    let files = match folders::files_of(rt, names) {
+        Ok(files) => files,
+        Err(failure) => return failure.report(rt),
+    };
+    let Ok(names) = lent(rt.alloc(), &files) else {
+        return Failure::NoMemoryLeft.report(rt);
+    };
+    do_named(rt, settings, pattern, &names)
+}
+
+// Does a job, on the inputs of the list if there is one, and returns the exit status.
+fn do_job(
+    rt: &HostRuntime,
+    settings: &Settings<'_, '_>,
+    pattern: Option<&Regex>,
+    list: Option<&String>,
+) -> u8 {
+    let Ok(names) = names::inputs_of(rt.alloc(), settings, list) else {
+        return Failure::NoMemoryLeft.report(rt);
+    };
+    if settings.ask.is_recursive() {
+        return do_folders(rt, settings, pattern, &names);
+    }
+    do_named(rt, settings, pattern, &names)
+}
+
 // Reads the list of inputs, if one is named, does the job, and returns the exit status.
-fn do_settings(rt: &HostRuntime, settings: &Settings<'_, '_>) -> u8 {
+fn do_listed(rt: &HostRuntime, settings: &Settings<'_, '_>, pattern: Option<&Regex>) -> u8 {
     let Some(name) = settings.ask.files_from() else {
-        return do_job(rt, settings, None);
+        return do_job(rt, settings, pattern, None);
     };
     match names::read_list(rt, name) {
-        Ok(list) => do_job(rt, settings, Some(&list)),
+        Ok(list) => do_job(rt, settings, pattern, Some(&list)),
+        Err(failure) => failure.report(rt),
+    }
+}
+
+// Compiles the pattern, if there is one, does the job, and returns the exit status. No file is opened for a pattern that is bad.
+fn do_settings(rt: &HostRuntime, settings: &Settings<'_, '_>) -> u8 {
+    match jobs::pattern_of(rt.alloc(), settings.ask) {
+        Ok(pattern) => do_listed(rt, settings, pattern.as_ref()),
         Err(failure) => failure.report(rt),
     }
 }

@@ -1,5 +1,6 @@
 //! The names of the inputs.
 use crate::failure::Failure;
+use crate::folders::is_folder;
 use hashbag_shell::one_file::is_one_file;
 use hashbag_words_args::settings::{Ask, Settings};
 use std::alloc::{AllocError, Global};
@@ -59,6 +60,7 @@ pub fn inputs_of<'a>(
         }
         Ask::Count(_, many) | Ask::Merge(_, many) | Ask::MergeSorted(_, many) => match many.files {
             Some(files) => names.extend_from_slice(files)?,
+            None if many.recursive => names.push(".")?,
             None => names.push("-")?,
         },
     }
@@ -101,12 +103,33 @@ fn check_except<'a>(
     Ok(())
 }
 
-/// Checks that standard input is read at most once, that the output isn't one of the inputs, and that the file of tokens that aren't shown is none
-/// of them.
+// Checks that no input is a folder. Of a recursive job the inputs are files already.
+fn check_folders<'a>(
+    rt: &HostRuntime,
+    settings: &Settings<'a, '_>,
+    names: &[&'a str],
+) -> Result<(), Failure<'a>> {
+    if settings.ask.is_recursive() {
+        return Ok(());
+    }
+    let cure = match settings.ask.many() {
+        Some(_) => "; `-r` reads the files in it",
+        None => "",
+    };
+    for name in names {
+        if is_folder(rt, name) {
+            return Err(Failure::IsFolder { name: *name, cure });
+        }
+    }
+    Ok(())
+}
+
+/// Checks that standard input is read at most once, that the output isn't one of the inputs, that no input is a folder, and that the file of tokens
+/// that aren't shown is none of them.
 ///
 /// # Errors
 ///
-/// `ReadTwice`, `OutputIsInput` or `Except`.
+/// `ReadTwice`, `OutputIsInput`, `IsFolder` or `Except`.
 pub fn check<'a>(
     rt: &HostRuntime,
     settings: &Settings<'a, '_>,
@@ -129,5 +152,6 @@ pub fn check<'a>(
     if reads > 1 {
         return Err(Failure::ReadTwice);
     }
+    check_folders(rt, settings, names)?;
     check_except(rt, settings, names)
 }

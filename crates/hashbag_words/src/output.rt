@@ -3,8 +3,10 @@ use crate::bag::Bag;
 use crate::failure::Failure;
 use hashbag_shell::output_file::OutputFile;
 use hashbag_words_args::settings::Settings;
+use hashbag_words_lib::bars::bars_of;
 use hashbag_words_lib::row_text::RowText;
-use hashbag_words_lib::shown_text::shown_text;
+use hashbag_words_lib::shown_text::{shown_bars, shown_text};
+use std::env;
 use std::fs::File;
 use std::io::{self, Read, Write};
 
@@ -91,6 +93,40 @@ fn put<W: Write + Drop, R: Read>(mut to: W, from: &mut R) -> io::Result<()> {
     to.flush()
 }
 
+// How many columns a terminal has that doesn't say it.
+const COLUMNS: usize = 80;
+
+// Returns how many columns the terminal has.
+fn terminal_width(rt: &HostRuntime) -> usize {
+    match env::var(rt, "COLUMNS") {
+        Ok(text) => text.as_str().parse::<usize>().unwrap_or(COLUMNS),
+        Err(_) => COLUMNS,
+    }
+}
+
+// Returns the text of rows with bars, if no allocation failed.
+fn made_of<'a, E: Drop>(text: Result<Vec<u8>, E>) -> Result<Rendered<'static>, Failure<'a>> {
+    match text {
+        Ok(text) => {
+            let is_empty = text.is_empty();
+            Ok(Rendered::Text(text, is_empty))
+        }
+        Err(_) => Err(Failure::NoMemoryLeft),
+    }
+}
+
+/// Returns rows with bars.
+///
+/// # Errors
+///
+/// `NoMemoryLeft` if an allocation fails.
+pub fn bars<'a>(
+    rt: &HostRuntime,
+    rows: &[(&String, usize)],
+) -> Result<Rendered<'static>, Failure<'a>> {
+    made_of(bars_of(rt.alloc(), terminal_width(rt), rows))
+}
+
 /// Returns what is to be written of a bag, which has the tokens that are shown. `total` is how many occurrences it had before.
 ///
 /// # Errors
@@ -102,6 +138,10 @@ pub fn rows_of<'a, 'b>(
     bag: &'b Bag,
     total: usize,
 ) -> Result<Rendered<'b>, Failure<'a>> {
+    if settings.bars {
+        let width = terminal_width(rt);
+        return made_of(shown_bars(rt.alloc(), bag, settings.choice, width));
+    }
     let format = settings.format_with(total);
     match shown_text(rt.alloc(), bag, settings.choice, format) {
         Ok(rows) => Ok(Rendered::Rows(rows)),

@@ -1,7 +1,7 @@
 //! What is shown of sources that are merged.
 use crate::failure::Failure;
 use crate::merge_inputs::{MergeInputs, target_failure};
-use crate::output::Rendered;
+use crate::output::{Rendered, bars};
 use crate::runs::{RowLayout, Runs, merge_to_file, merge_to_run};
 use hashbag_words_args::settings::Settings;
 use hashbag_words_lib::choice::Order;
@@ -12,6 +12,8 @@ use hashbag_words_lib::rows::RowForm;
 use hashbag_words_lib::shown_rows::{ShownRows, TopRows};
 use hashbag_words_lib::sorted_merge::Sink;
 use hashbag_words_lib::writing::Format;
+use std::alloc::{AllocError, Global};
+use std::cmp::Reverse;
 use std::io;
 
 // Returns the text of rows, and whether it shows nothing. Only an allocation can fail.
@@ -24,6 +26,25 @@ fn text_of(rt: &HostRuntime, format: Format, top: TopRows) -> io::Result<(Vec<u8
     let mut text = Vec::new(rt.alloc());
     text.extend_from_slice(parts.part())?;
     Ok((text, parts.is_empty()))
+}
+
+// Returns rows as those of a bag are.
+fn lent(
+    alloc: Global,
+    rows: &Vec<(Reverse<usize>, String)>,
+) -> Result<Vec<(&String, usize)>, AllocError> {
+    let mut pairs = Vec::new(alloc);
+    for (count, token) in rows {
+        pairs.push((token, count.0))?;
+    }
+    Ok(pairs)
+}
+
+// Returns rows with bars.
+fn bars_of_top<'a>(rt: &HostRuntime, top: TopRows) -> Result<Rendered<'static>, Failure<'a>> {
+    let kept = top.into_rows();
+    let rows = lent(rt.alloc(), &kept)?;
+    bars(rt, &rows)
 }
 
 // Merges sources, and keeps the most common rows.
@@ -47,6 +68,9 @@ fn show_top<'a>(
         if let Err(fault) = top.put(token, count) {
             return Err(target_failure(folder, fault));
         }
+    }
+    if settings.bars {
+        return bars_of_top(rt, top.sink);
     }
     match text_of(rt, format, top.sink) {
         Ok((text, is_empty)) => Ok(Rendered::Text(text, is_empty)),

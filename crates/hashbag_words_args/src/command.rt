@@ -1,6 +1,6 @@
 //! The arguments and their help.
 use clap::{Arg, Command, arg, value_parser};
-use hashbag_shell::options::with_heading;
+use hashbag_shell::options::{encoding_arg, with_heading};
 use std::alloc::{AllocError, Global};
 
 const ABOUT: &str =
@@ -86,8 +86,14 @@ fn with_form<'a>(alloc: Global, command: CommandResult<'a>) -> CommandResult<'a>
         arg!(in alloc; -o --output <FILE> "Write there, all or nothing, not to standard output");
     let share =
         arg!(in alloc; --share "Write behind each count what percent it is of all counts, shown or not");
+    let bars =
+        arg!(in alloc; --bars "Show each count of --top as a bar, for people at a terminal of $COLUMNS columns, or 80")
+            .requires_arg("top")?
+            .conflicts_with("unsorted")?
+            .conflicts_with("share");
     let command = with_heading(command, "Output");
-    with(with(with(command, Ok(to)), Ok(share)), Ok(output))
+    let command = with(with(command, Ok(to)), Ok(share));
+    with(with(command, bars), Ok(output))
 }
 
 // Adds how counts are shown: options of every job.
@@ -121,8 +127,11 @@ fn with_list<'a>(alloc: Global, command: CommandResult<'a>) -> CommandResult<'a>
         arg!(in alloc; --"files-from" <FILE> "Read the names of the inputs there, one a line; `-`: from standard input");
     let null =
         arg!(in alloc; -'0' --null "Names in that file end in a NUL byte, as `find -print0` writes them");
+    let recursive =
+        arg!(in alloc; -r --recursive "Read all files in folders that are named, or in the current one, but nothing hidden, and follow no links in them");
     let command = with_heading(command, INPUTS);
-    with(with(command, list.conflicts_with("files")), Ok(null))
+    let command = with(command, list.conflicts_with("files"));
+    with(with(command, Ok(null)), Ok(recursive))
 }
 
 // Adds the fields that are counted.
@@ -130,13 +139,29 @@ fn with_fields<'a>(alloc: Global, command: CommandResult<'a>) -> CommandResult<'
     let field =
         arg!(in alloc; -f --field <N> "Count the N-th field of each line, from 1: what is between spaces and tabs")
             .value_parser(value_parser!(usize))
+            .group("fields")?
             .conflicts_with("by")?
             .conflicts_with("pattern")?;
     let delimiter =
-        arg!(in alloc; -d --delimiter <CHAR> "What is between fields instead, each time: an ASCII character, or `\\t`").requires_arg(
-            "field",
-        );
-    with(with(command, Ok(field)), delimiter)
+        arg!(in alloc; -d --delimiter <CHAR> "What is between fields instead, each time: an ASCII character, or `\\t`; for --column `,`, `;` or `\\t`")
+            .conflicts_with("by")?
+            .conflicts_with("pattern")?
+            .requires_arg("fields");
+    let command = with_column(alloc, with(command, Ok(field)));
+    with(command, delimiter)
+}
+
+// Adds the column that is counted. Its inputs are read whole, and a bad record is always an error.
+fn with_column<'a>(alloc: Global, command: CommandResult<'a>) -> CommandResult<'a> {
+    let column =
+        arg!(in alloc; --column <NAME> "Count the fields of the column of this name of CSV with a header; each input is read whole into memory")
+            .group("fields")?
+            .conflicts_with("by")?
+            .conflicts_with("pattern")?
+            .conflicts_with("memory")?
+            .conflicts_with("lossy")?
+            .conflicts_with("skip-bad");
+    with(command, column)
 }
 
 // Adds what is counted.
@@ -147,7 +172,14 @@ fn with_tokens<'a>(alloc: Global, command: CommandResult<'a>) -> CommandResult<'
             .default_value("words")
             .conflicts_with("pattern");
     let pattern = arg!(in alloc; -e --pattern <REGEX> "Count what matches it, within a line");
-    with_fields(alloc, with(with(command, by), Ok(pattern)))
+    let group =
+        arg!(in alloc; --group <N> "Count what the N-th group of each match has instead, from 1, if it took part")
+            .value_parser(value_parser!(usize))
+            .conflicts_with("by")?
+            .conflicts_with("field")?
+            .conflicts_with("column")?
+            .requires_arg("pattern");
+    with_fields(alloc, with(with(with(command, by), Ok(pattern)), group))
 }
 
 fn count<'a>(alloc: Global) -> CommandResult<'a> {
@@ -159,7 +191,11 @@ fn count<'a>(alloc: Global) -> CommandResult<'a> {
     let command = Command::new(alloc, "count").about("Count what is in text");
     let command = with_heading(with(Ok(command), Ok(files)), "What is counted");
     let command = with_tokens(alloc, command);
-    let command = with(with(command, Ok(fold)), Ok(lossy));
+    let help = "The encoding of text; what is written is UTF-8";
+    let encoding = encoding_arg(alloc, "encoding", help)
+        .default_value("UTF-8")
+        .conflicts_with("lossy");
+    let command = with(with(with(command, Ok(fold)), Ok(lossy)), encoding);
     let command = with_memory(alloc, with_list(alloc, command));
     with_output(alloc, with_input(alloc, command))
 }

@@ -1,7 +1,10 @@
 //! What the arguments ask for.
 use crate::size::bytes_of;
 use clap::ArgMatches;
+use hashbag_csv::delimiter::Delimiter;
+use hashbag_shell::options::encoding;
 use hashbag_shell::trouble::Trouble;
+use hashbag_text::encoding::Encoding;
 use hashbag_words_lib::choice::{Choice, Order};
 use hashbag_words_lib::lines::BadLines;
 use hashbag_words_lib::rows::RowForm;
@@ -19,10 +22,12 @@ pub enum By<'a> {
     UnicodeWords,
     /// Whole lines.
     Lines,
-    /// The matches of this pattern.
-    Pattern(&'a str),
+    /// The group with this number of the matches of this pattern; 0 is all of the match.
+    Pattern(&'a str, usize),
     /// The field with this index, from 0.
     Field(usize, Separator),
+    /// The field of the column of this name in each record of CSV, with this delimiter.
+    Column(&'a str, Delimiter),
 }
 
 /// How text is counted.
@@ -34,6 +39,8 @@ pub struct Tokens<'a> {
     pub fold: bool,
     /// Whether bytes of a text that aren't UTF-8 are replaced.
     pub lossy: bool,
+    /// The encoding of text, `None` for UTF-8.
+    pub encoding: Option<Encoding>,
 }
 
 /// Any number of inputs, and the memory that their counts may take.
@@ -45,6 +52,8 @@ pub struct Many<'a, 'm> {
     pub files_from: Option<&'a str>,
     /// Whether each of these names ends in a NUL byte, and not in a line feed.
     pub null: bool,
+    /// Whether the files in a folder that is named are inputs.
+    pub recursive: bool,
     /// How many bytes of memory the counts may take, if that is bounded.
     pub memory: Option<usize>,
     /// The folder of temporary files, if it was named.
@@ -96,6 +105,19 @@ impl<'a, 'm> Ask<'a, 'm> {
         }
     }
 
+    /// Returns whether the files in a folder that is named are inputs.
+    pub fn is_recursive(&self) -> bool {
+        self.many().is_some_and(|many| many.recursive)
+    }
+
+    /// Returns the encoding of the inputs, `None` for UTF-8.
+    pub fn encoding(&self) -> Option<Encoding> {
+        match self {
+            Ask::Count(tokens, _) => tokens.encoding,
+            Ask::Merge(..) | Ask::MergeSorted(..) | Ask::Less(_) | Ask::Common(_) => None,
+        }
+    }
+
     /// Returns the file that has the names of the inputs, if there is one.
     pub fn files_from(&self) -> Option<&'a str> {
         self.many()?.files_from
@@ -107,7 +129,7 @@ impl<'a, 'm> Ask<'a, 'm> {
 pub struct Settings<'a, 'm> {
     /// The job.
     pub ask: Ask<'a, 'm>,
-    /// What a bad line does.
+    /// Whether a bad line is an error or is skipped.
     pub bad_lines: BadLines,
     /// Whether progress is reported also if standard error is no terminal.
     pub progress: bool,
@@ -121,6 +143,8 @@ pub struct Settings<'a, 'm> {
     pub format: Format,
     /// Whether the share of each count in the total is written too.
     pub share: bool,
+    /// Whether rows have bars, for people at a terminal. Then their form isn't used.
+    pub bars: bool,
     /// The file to which they are written; `None` is standard output.
     pub output: Option<&'a str>,
     /// Whether the status is 1 if nothing is shown.
@@ -153,6 +177,24 @@ fn separator_of<'a>(alloc: Global, given: &ArgMatches<'a>) -> Result<Separator, 
     }
 }
 
+// Returns what separates the fields of CSV.
+fn csv_delimiter_of<'a>(alloc: Global, given: &ArgMatches<'a>) -> Result<Delimiter, Trouble<'a>> {
+    let Some(text) = given.get_str("delimiter") else {
+        return Ok(Delimiter::Comma);
+    };
+    match delimiter_named(text) {
+        Some(',') => Ok(Delimiter::Comma),
+        Some(';') => Ok(Delimiter::Semicolon),
+        Some('\t') => Ok(Delimiter::Tab),
+        _ => {
+            let what = format!(in alloc;
+                "--delimiter: {text}: none of , ; and \\t, as --column needs"
+            )?;
+            Err(Trouble::Words(what))
+        }
+    }
+}
+
 // Returns the field with this number, from 1.
 fn field_of<'a>(
     alloc: Global,
@@ -171,10 +213,13 @@ fn field_of<'a>(
 // What is counted.
 fn by_of<'a>(alloc: Global, given: &ArgMatches<'a>) -> Result<By<'a>, Trouble<'a>> {
     if let Some(pattern) = given.get_str("pattern") {
-        return Ok(By::Pattern(pattern));
+        return Ok(By::Pattern(pattern, given.get_one::<usize>("group").unwrap_or(0)));
     }
     if let Some(number) = given.get_one::<usize>("field") {
         return field_of(alloc, given, number);
+    }
+    if let Some(name) = given.get_str("column") {
+        return Ok(By::Column(name, csv_delimiter_of(alloc, given)?));
     }
     Ok(match given.get_str("by") {
         Some("unicode") => By::UnicodeWords,
@@ -239,16 +284,16 @@ fn format_of(given: &ArgMatches<'_>) -> Format {
     }
 }
 
-// Returns whether shares are written.
-fn share_of<'a>(alloc: Global, given: &ArgMatches<'a>) -> Result<bool, Trouble<'a>> {
+// Returns whether this option is given, which only lines with columns of `tsv` have.
+fn column_of<'a>(alloc: Global, given: &ArgMatches<'a>, name: &str) -> Result<bool, Trouble<'a>> {
     match given.get_str("to") {
-        Some(form) if form != "tsv" && given.get_flag("share") => {
+        Some(form) if form != "tsv" && given.get_flag(name) => {
             let what = format!(in alloc;
-                "--share: {form} has no column for it; leave out --to {form}"
+                "--{name}: {form} has no column for it; leave out --to {form}"
             )?;
             Err(Trouble::Words(what))
         }
-        _ => Ok(given.get_flag("share")),
+        _ => Ok(given.get_flag(name)),
     }
 }
 
@@ -266,6 +311,7 @@ fn tokens_of<'a>(alloc: Global, given: &ArgMatches<'a>) -> Result<Tokens<'a>, Tr
         by: by_of(alloc, given)?,
         fold: given.get_flag("fold"),
         lossy: given.get_flag("lossy"),
+        encoding: encoding(given, "encoding"),
     })
 }
 
@@ -274,6 +320,7 @@ fn many_of<'a, 'm>(alloc: Global, given: &'m ArgMatches<'a>) -> Result<Many<'a, 
         files: given.get_strs("files"),
         files_from: given.get_str("files-from"),
         null: given.get_flag("null"),
+        recursive: given.get_flag("recursive"),
         memory: memory_of(alloc, given)?,
         tmp: given.get_str("tmp"),
     })
@@ -313,8 +360,8 @@ impl<'a, 'm> Settings<'a, 'm> {
     ///
     /// # Errors
     ///
-    /// `Words` if the word of `--memory`, `--shard`, `--field` or `--delimiter` has no meaning, if JSON is to be merged line by line, or if shares are
-    /// to be written in a form that has no column for them. `Memory` if an allocation fails.
+    /// `Words` if the word of `--memory`, `--shard`, `--field` or `--delimiter` has no meaning, if JSON is to be merged line by line, or if shares or
+    /// bars are to be written in a form that has no column for them. `Memory` if an allocation fails.
     pub fn of(
         alloc: Global,
         name: &str,
@@ -333,7 +380,8 @@ impl<'a, 'm> Settings<'a, 'm> {
             choice: choice_of(alloc, given)?,
             except: given.get_str("except"),
             format: format_of(given),
-            share: share_of(alloc, given)?,
+            share: column_of(alloc, given, "share")?,
+            bars: column_of(alloc, given, "bars")?,
             output: given.get_str("output"),
             fail_empty: given.get_flag("fail-empty"),
         })

@@ -1,8 +1,10 @@
 pub mod AddedLemmas
+pub mod ColumnLemmas
 pub mod CountLemmas
 pub mod CountedLemmas
 pub mod DepthLemmas
 pub mod FieldLemmas
+pub mod GroupLemmas
 pub mod LineLemmas
 pub mod MatchLemmas
 pub mod MergedLemmas

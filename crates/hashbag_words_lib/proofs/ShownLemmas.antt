@@ -11,8 +11,9 @@ use Rattle.hashbag_core.proofs.OccurrenceLemmas.{count_rearranged}
 use Rattle.hashbag.proofs.JsonWriteLemmas.{once_in_walk}
 use Rattle.hashbag_ops.proofs.Sums.{count_written}
 use Rattle.hashbag_ops.specs.Order.{rank}
+use Rattle.hashbag_words_lib.specs.Bars.{bars_text}
 use Rattle.hashbag_words_lib.specs.Choice.{AreKept, IsShown}
-use Rattle.hashbag_words_lib.specs.Shown.{HasShown, AreShown, IsShownText}
+use Rattle.hashbag_words_lib.specs.Shown.{HasShown, AreShown, IsShownBars, IsShownText}
 use Rattle.hashbag_words_lib.specs.Sorted.{row_of, text_cmp}
 use Rattle.hashbag_words_lib.specs.Writing.{text_of}
 use Rattle.hashbag_words_lib.specs.declared.choice.Choice.{Choice}
@@ -60,6 +61,13 @@ module _ {S : Type 0} (choice : Choice) (bag : Bag (String Global) S) (texts : L
 
   pub is_shown_text : (format : Format) (pairs : List (String Global × ℕ)) (bytes : List ℕ) → IsShown choice.order bag pairs → bytes ≡ text_of format (map row_of pairs) → IsShownText choice format texts bytes
   is_shown_text format pairs bytes shown is = record {
+    rows = map row_of pairs;
+    shown = are_shown choice.order pairs shown;
+    is = is;
+  }
+
+  pub is_shown_bars : (width : ℕ) (pairs : List (String Global × ℕ)) (bytes : List ℕ) → IsShown choice.order bag pairs → bytes ≡ bars_text width (map row_of pairs) → IsShownBars choice width texts bytes
+  is_shown_bars width pairs bytes shown is = record {
     rows = map row_of pairs;
     shown = are_shown choice.order pairs shown;
     is = is;

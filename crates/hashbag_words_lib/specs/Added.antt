@@ -9,7 +9,7 @@ use Rattle.hashbag_words_lib.specs.Counted.{NoLineFeed}
 use Rattle.hashbag_words_lib.specs.Counts.{texts_in}
 use Rattle.hashbag_words_lib.specs.LineEnds.{EndsLine}
 use Rattle.hashbag_words_lib.specs.Rows.{IsNoRow, IsRowOf}
-use Rattle.hashbag_words_lib.specs.Runs.{unmarked}
+use Rattle.hashbag_words_lib.specs.Runs.{unmarked, IsRunOf}
 use Rattle.hashbag_words_lib.specs.Sorted.{times_in}
 use Rattle.hashbag_words_lib.specs.Tokens.{without_mark}
 use Rattle.hashbag_words_lib.specs.declared.lines.BadLines.{BadLines}
@@ -89,3 +89,45 @@ pub record IsFirstNoRow (form : RowForm) (text : List ℕ) (reading : LinesRead)
   pub is : IsNoRow form bad
   pub line : reading.line ≡ min (length front + 1) (2 ^ 64 - 1)
   pub refused : reading.bad_lines ≡ Refused
+
+-- the line is read, as the form says, and its rows are in the new bag with those of the old one
+abbrev pub AddsRowsOfLine : {S : Type 0} → Bag (String Global) S → Bag (String Global) S → RowForm → LinesRead → List ℕ → Type 0
+AddsRowsOfLine old new form reading line =
+    (rows : List (List ℕ × ℕ)) × IsReadAs form reading.bad_lines (line_at reading.line line) rows × AddsRows old new rows
+
+-- ---- what a call changes: it holds of whatever rows were added before, whatever runs were made, and whatever text of the file was added so far
+
+-- of the file, the old counter had added what came before these bytes, and the new one has added these too
+abbrev pub AddsBytes : {S H : Type 0} → RowCounter S H → RowCounter S H → List ℕ → Type 0
+AddsBytes old new bytes =
+    (before : List (List ℕ × ℕ)) → (runs : List (List (List ℕ × ℕ))) → (text : List ℕ) → HasAdded before runs old text → HasAdded before runs new (text ++ bytes)
+
+-- the new counter has added the file as a whole
+abbrev pub AddsWholeFile : {S H : Type 0} → RowCounter S H → RowCounter S H → Type 0
+AddsWholeFile old new =
+    (before : List (List ℕ × ℕ)) → (runs : List (List (List ℕ × ℕ))) → (text : List ℕ) → HasAdded before runs old text → HasAddedAll before runs old.reading.bad_lines text new
+
+-- the new counter has the rows of the file among those from before, and is at the beginning of another file
+abbrev pub EndsFile : {S H : Type 0} → RowCounter S H → RowCounter S H → Type 0
+EndsFile old new =
+    (before : List (List ℕ × ℕ)) → (runs : List (List (List ℕ × ℕ))) → (text : List ℕ) → HasAdded before runs old text → HasEndedFile before runs old.reading.bad_lines text new
+
+-- the file ends within a line
+abbrev pub IsCutOff : {S H : Type 0} → RowCounter S H → Type 0
+IsCutOff counter =
+    (before : List (List ℕ × ℕ)) → (runs : List (List (List ℕ × ℕ))) → (text : List ℕ) → HasAdded before runs counter text → EndsLine text → ⊥
+
+-- the line that the new counter read last is the first one, of the file with these bytes behind it, that is no row
+abbrev pub IsFirstNoRowOfFileWith : {S H : Type 0} → RowCounter S H → RowCounter S H → List ℕ → Type 0
+IsFirstNoRowOfFileWith old new bytes =
+    (before : List (List ℕ × ℕ)) → (runs : List (List (List ℕ × ℕ))) → (text : List ℕ) → HasAdded before runs old text → IsFirstNoRow old.form (text ++ bytes) new.reading
+
+-- it is the first one that is no row, with these bytes behind the file, and whatever bytes behind those
+abbrev pub IsFirstNoRowWhateverFollows : {S H : Type 0} → RowCounter S H → RowCounter S H → List ℕ → Type 0
+IsFirstNoRowWhateverFollows old new bytes =
+    (before : List (List ℕ × ℕ)) → (runs : List (List (List ℕ × ℕ))) → (text : List ℕ) → HasAdded before runs old text → (more : List ℕ) → IsFirstNoRow old.form ((text ++ bytes) ++ more) new.reading
+
+-- all that was added still is: what the bag had is in a run more
+abbrev pub KeepsAddedInRun : {S H : Type 0} → RowCounter S H → RowCounter S H → Type 0
+KeepsAddedInRun old new =
+    (rows : List (List ℕ × ℕ)) → IsRunOf old.bag rows → (before : List (List ℕ × ℕ)) → (runs : List (List (List ℕ × ℕ))) → (text : List ℕ) → HasAdded before runs old text → HasAdded before (runs ++ rows ∷ []) new text

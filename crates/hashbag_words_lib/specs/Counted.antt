@@ -1,5 +1,5 @@
 -- What a counter has counted of the texts that it was given, however they were cut.
-use Rattle.std.specs.Prelude.{◌≡◌, ◌≢◌, ℕ, ◌+◌, ◌-◌, ◌^◌, ◌<◌, ◌≤◌, Bool, true, false, List, ◌∷◌, ◌++◌, All, length, take, min, filter, sum_by, String}
+use Rattle.std.specs.Prelude.{◌≡◌, ◌≢◌, ℕ, ◌+◌, ◌-◌, ◌^◌, ◌<◌, ◌≤◌, Bool, true, false, List, [], ◌∷◌, ◌++◌, All, length, take, min, filter, sum_by, String}
 use Rattle.std.specs.Global.{Global}
 use Rattle.std.specs.Str.{bytes_eq}
 use Rattle.std.specs.Str.Lines.{lines}
@@ -7,6 +7,7 @@ use Rattle.hashbag.specs.Bag.{Bag}
 use Rattle.hashbag.specs.Occurrences.{count}
 use Rattle.hashbag_words_lib.specs.Counts.{texts_in}
 use Rattle.hashbag_words_lib.specs.LineEnds.{EndsLine}
+use Rattle.hashbag_words_lib.specs.Runs.{IsRunOf}
 use Rattle.hashbag_words_lib.specs.Sorted.{times_in}
 use Rattle.hashbag_words_lib.specs.Tokens.{is_bad, is_replaced, tokens_of}
 use Rattle.hashbag_words_lib.specs.declared.counter.Fed.{Fed}
@@ -80,3 +81,45 @@ fed_of (Full n) block = take n block
 abbrev pub IsWithin : Fed → List ℕ → Type 0
 IsWithin Whole block = Unit {0}
 IsWithin (Full n) block = (0 < n) × (n ≤ length block)
+
+-- ---- what a call changes: it holds of whatever tokens were counted before, whatever runs were made, and whatever text was counted so far
+
+-- of the text, the old counter had counted what came before these bytes, and the new one has counted these too
+abbrev pub CountsBytes : {S H : Type 0} → TextCounter S H → TextCounter S H → List ℕ → Type 0
+CountsBytes old new bytes =
+    (before : List (List ℕ)) → (runs : List (List (List ℕ × ℕ))) → (text : List ℕ) → HasCounted before runs old text → HasCounted before runs new (text ++ bytes)
+
+-- the new counter has counted the text as a whole
+abbrev pub CountsWholeText : {S H : Type 0} → TextCounter S H → TextCounter S H → Type 0
+CountsWholeText old new =
+    (before : List (List ℕ)) → (runs : List (List (List ℕ × ℕ))) → (text : List ℕ) → HasCounted before runs old text → HasEnded old.rule before runs new text
+
+-- the new counter has the tokens of the text among those from before, and is at the beginning of another text
+abbrev pub EndsText : {S H : Type 0} → TextCounter S H → TextCounter S H → Type 0
+EndsText old new =
+    (before : List (List ℕ)) → (runs : List (List (List ℕ × ℕ))) → (text : List ℕ) → HasCounted before runs old text → HasCounted (before ++ tokens_of old.rule text) runs new []
+
+-- this is how the lines of the text were read
+abbrev pub IsReadingOfText : {S H : Type 0} → TextCounter S H → LinesRead → Type 0
+IsReadingOfText old reading =
+    (before : List (List ℕ)) → (runs : List (List (List ℕ × ℕ))) → (text : List ℕ) → HasCounted before runs old text → IsReadingOf old.rule text reading
+
+-- the line that the new counter read last is the first bad one of the text
+abbrev pub IsFirstBadOfText : {S H : Type 0} → TextCounter S H → TextCounter S H → Type 0
+IsFirstBadOfText old new =
+    (before : List (List ℕ)) → (runs : List (List (List ℕ × ℕ))) → (text : List ℕ) → HasCounted before runs old text → IsFirstBad old.rule text new.reading
+
+-- it is the first bad one of the text with these bytes behind it
+abbrev pub IsFirstBadOfTextWith : {S H : Type 0} → TextCounter S H → TextCounter S H → List ℕ → Type 0
+IsFirstBadOfTextWith old new bytes =
+    (before : List (List ℕ)) → (runs : List (List (List ℕ × ℕ))) → (text : List ℕ) → HasCounted before runs old text → IsFirstBad old.rule (text ++ bytes) new.reading
+
+-- it is the first bad one of the text with these bytes behind it, and whatever bytes behind those
+abbrev pub IsFirstBadWhateverFollows : {S H : Type 0} → TextCounter S H → TextCounter S H → List ℕ → Type 0
+IsFirstBadWhateverFollows old new bytes =
+    (before : List (List ℕ)) → (runs : List (List (List ℕ × ℕ))) → (text : List ℕ) → HasCounted before runs old text → (more : List ℕ) → IsFirstBad old.rule ((text ++ bytes) ++ more) new.reading
+
+-- all that was counted still is: what the bag had is in a run more
+abbrev pub KeepsCountedInRun : {S H : Type 0} → TextCounter S H → TextCounter S H → Type 0
+KeepsCountedInRun old new =
+    (rows : List (List ℕ × ℕ)) → IsRunOf old.bag rows → (before : List (List ℕ)) → (runs : List (List (List ℕ × ℕ))) → (text : List ℕ) → HasCounted before runs old text → HasCounted before (runs ++ rows ∷ []) new text

@@ -1,13 +1,17 @@
 -- What the definitions say of small lists.
 use Rattle.std.specs.Prelude.{◌≡◌, ℕ, ◌==◌, Bool, true, false, not, ◌&&◌, nat_le, List, [], ◌∷◌, ◌++◌, length, map, None, refl, String, string_bytes, decimal}
+use Rattle.std.specs.Fmt.{digits}
 use Rattle.std.specs.Global.{Global}
 use Rattle.std.specs.Str.{bytes_eq, chars}
 use Rattle.std.proofs.Common.{ap, sym, ◌∙◌}
 use Rattle.std.proofs.lemmas.Bool.{false≢true}
 use Rattle.hashbag.specs.Bag.{Bag}
 use Rattle.hashbag.specs.Occurrences.{count}
+use Rattle.hashbag_words_lib.specs.Bars.{marks_of, right_in}
 use Rattle.hashbag_words_lib.specs.Choice.{is_excepted, shows}
+use Rattle.hashbag_words_lib.specs.Columns.{column_under}
 use Rattle.hashbag_words_lib.specs.Fields.{fields_of}
+use Rattle.hashbag_words_lib.specs.Rows.{ReadsByte}
 use Rattle.hashbag_words_lib.specs.Runs.{IsRunOf}
 use Rattle.hashbag_words_lib.specs.Shards.{is_shown}
 use Rattle.hashbag_words_lib.specs.Shares.{hundredths_of, two_decimals}
@@ -35,6 +39,10 @@ fields_between_blanks = refl
 fields_between_commas : fields_of (Char 44) (44 ∷ 97 ∷ 32 ∷ []) ≡ [] ∷ (97 ∷ 32 ∷ []) ∷ []
 unfolding chars lib.Utf8.encode
 fields_between_commas = refl
+
+-- the second column, `b`, below the header `a`, `b`: its name isn't counted, and an empty field is
+fields_of_a_column : column_under (98 ∷ []) (((97 ∷ []) ∷ (98 ∷ []) ∷ []) ∷ ((120 ∷ []) ∷ (98 ∷ []) ∷ []) ∷ ((98 ∷ []) ∷ [] ∷ []) ∷ []) ≡ (98 ∷ []) ∷ [] ∷ []
+fields_of_a_column = refl
 
 none_of : (a b c : Bool) → (a && b && c && false) ≡ false
 none_of true true true = refl
@@ -66,3 +74,18 @@ shares_are_rounded_half_up = (refl, refl, refl)
 
 two_decimals_are_written : two_decimals 3305 ≡ decimal 33 ++ 46 ∷ 48 ∷ 53 ∷ []
 two_decimals_are_written = refl
+
+-- a backslash and an x are no escaped byte
+bad_escape : ReadsByte 120 [] true [] None
+bad_escape rest = refl
+
+-- one of three, two of three, all and none; one of a thousand has a mark, and a half of one is rounded up
+bars_are_shares : (marks_of 40 3 1 ≡ 13) × (marks_of 40 3 2 ≡ 27) × (marks_of 40 3 3 ≡ 40) × (marks_of 40 3 0 ≡ 0)
+bars_are_shares = (refl, refl, refl, refl)
+
+bars_are_rounded_half_up : (marks_of 40 1000 1 ≡ 1) × (marks_of 40 80 3 ≡ 2) × (marks_of 40 81 3 ≡ 1)
+bars_are_rounded_half_up = (refl, refl, refl)
+
+counts_are_at_the_right : (right_in 3 7 ≡ 32 ∷ 32 ∷ 55 ∷ []) × (right_in 3 120 ≡ 49 ∷ 50 ∷ 48 ∷ [])
+unfolding digits
+counts_are_at_the_right = (refl, refl)

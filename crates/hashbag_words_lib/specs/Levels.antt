@@ -1,5 +1,6 @@
 -- The runs that are kept, and their levels.
-use Rattle.std.specs.Prelude.{ℕ, Bool, false, nat_eq, ◌-◌, List, length, replicate, Option, None, Some}
+use Rattle.std.specs.Prelude.{◌≡◌, ℕ, Bool, false, nat_eq, ◌-◌, List, ◌++◌, length, replicate, Option, None, Some, MatchOption}
+use Rattle.std.specs.Global.{Vec}
 use Rattle.std.specs.List.{ends_with, slice_get}
 use Rattle.hashbag_words_lib.specs.declared.levels.Levels.{Levels}
 
@@ -19,3 +20,8 @@ end_with levels (Some level) = ends_with nat_eq levels (replicate 16 level)
 -- the last sixteen levels are the same
 abbrev pub is_full : List ℕ → Bool
 is_full levels = end_with levels (slice_get levels (length levels - 1))
+
+-- the last sixteen runs were taken, or no run was
+abbrev pub TakesSixteen : {R : Type 0} → Levels R → Option (Vec R) → Levels R → Type 0
+TakesSixteen old taken new =
+    MatchOption taken (runs_in new ≡ runs_in old) (λ runs. (runs_in old ≡ runs_in new ++ runs.items) × (length runs.items ≡ 16))

@@ -1,8 +1,11 @@
 pub mod Added
+pub mod Bars
 pub mod Choice
+pub mod Columns
 pub mod Counted
 pub mod Counts
 pub mod Examples
+pub mod Faults
 pub mod Fields
 pub mod Levels
 pub mod Merged

@@ -1,5 +1,5 @@
 -- What a merger of texts that come in blocks has merged so far.
-use Rattle.std.specs.Prelude.{◌≡◌, ℕ, ◌<◌, ◌^◌, true, false, List, [], ◌∷◌, ◌++◌, length, map, All, slice_index_or, sum_by, String, string_bytes, Option, None, Some, option_map}
+use Rattle.std.specs.Prelude.{◌≡◌, ℕ, ◌<◌, ◌^◌, true, false, List, [], ◌∷◌, ◌++◌, length, map, All, slice_index_or, slice_set, sum_by, String, string_bytes, Option, None, Some, option_map}
 use Rattle.std.specs.Global.{Global}
 use Rattle.hashbag_words_lib.specs.Runs.{rows_in, run_text}
 use Rattle.hashbag_words_lib.specs.Sorted.{numbers, row_of, IsAbove, IsMergeOf, SoFar, TakesLeast}
@@ -43,6 +43,11 @@ Takes old (Row row) new = (rest : List (List ℕ × ℕ)) × (old ≡ row_of row
 Takes old Wants new = new ≡ Some old
 Takes old End new = (old ≡ []) × (new ≡ Some [])
 
+-- the row that came next was taken, or none was, as `Takes` says, whatever bytes come
+abbrev pub TakesWhateverComes : Source → Next → Source → Type 0
+TakesWhateverComes old next new =
+    (more : List ℕ) → MayCome old.rows more → (rows : List (List ℕ × ℕ)) → all_with old more ≡ Some rows → Takes rows next (all_with new more)
+
 -- ---- several sources
 
 -- these bytes may come next to each source
@@ -65,6 +70,11 @@ abbrev pub TakesRow : (ℕ → List ℕ) → List (List (List ℕ × ℕ)) → M
 TakesRow mores old (MergedRow row) new = (rows : List (List (List ℕ × ℕ))) × TakesLeast old (row_of row) rows × AreLeft new mores rows
 TakesRow mores old (MergedWants i) new = AreLeft new mores old
 TakesRow mores old MergedEnd new = All (λ rows. rows ≡ []) old × AreLeft new mores old
+
+-- the least row was taken, or none was, as `TakesRow` says, whatever bytes come
+abbrev pub TakesRowWhateverComes : List Source → Merged → List Source → Type 0
+TakesRowWhateverComes old next new =
+    (mores : ℕ → List ℕ) → MayComeTo old mores → (rows : List (List (List ℕ × ℕ))) → AreLeft old mores rows → TakesRow mores rows next new
 
 -- the source of this place has not been ended
 abbrev pub IsOpen : List Source → ℕ → Type 0
@@ -115,3 +125,20 @@ texts_of runs = map (λ rows. (Run, run_text rows)) runs
 -- each run is read again as it was written
 abbrev pub AreReadAgain : List (List (List ℕ × ℕ)) → Type 0
 AreReadAgain runs = All (λ rows. rows_in (run_text rows) ≡ rows) runs
+
+-- ---- what a call of a merger changes: it holds of whatever texts were given so far, and whatever rows came out
+
+-- the text of this place is longer by these bytes
+abbrev pub LengthensText : Merger → Merger → ℕ → List ℕ → Type 0
+LengthensText old new i bytes =
+    (given : List (SourceKind × List ℕ)) → (out : List (List ℕ × ℕ)) → HasMerged given old out → (text : SourceKind × List ℕ) → text ≡ slice_index_or given i text → HasMerged (slice_set given i (text.0, text.1 ++ bytes)) new out
+
+-- what the new merger gave next follows the rows that came out
+abbrev pub FollowsWhatCameOut : Merger → Merged → Merger → Type 0
+FollowsWhatCameOut old next new =
+    (given : List (SourceKind × List ℕ)) → (out : List (List ℕ × ℕ)) → HasMerged given old out → Follows given out next new
+
+-- if the texts are those of runs, which are read again as they were written, the rows that came out are the merge of the runs
+abbrev pub HasMergedItsRuns : Merger → Type 0
+HasMergedItsRuns merger =
+    (runs : List (List (List ℕ × ℕ))) → (out : List (List ℕ × ℕ)) → AreReadAgain runs → HasMerged (texts_of runs) merger out → IsMergeOf runs out

@@ -1,6 +1,6 @@
 -- The text of rows that come one by one, in parts.
 use Rattle.std.specs.Prelude.{◌≡◌, ℕ, Bool, true, false, List, [], ◌∷◌, ◌++◌}
-use Rattle.hashbag_words_lib.specs.Writing.{head_text, rows_text}
+use Rattle.hashbag_words_lib.specs.Writing.{head_text, rows_text, text_of}
 use Rattle.hashbag_words_lib.specs.declared.row_parts.RowParts.{RowParts}
 
 -- whether there are no rows
@@ -11,3 +11,17 @@ is_none (r ∷ rows) = false
 -- what was taken, and the part behind it, are the text of these rows without its end
 abbrev pub HasBuilt : RowParts → List (List ℕ × ℕ) → List ℕ → Type 0
 HasBuilt parts rows taken = (parts.is_empty ≡ is_none rows) × (taken ++ parts.part.items ≡ head_text parts.format ++ rows_text parts.format true rows)
+
+-- ---- what a call changes: it holds of whatever rows came so far, and whatever was taken of their text
+
+-- one row more is in the text
+abbrev pub BuildsRow : RowParts → RowParts → List ℕ × ℕ → Type 0
+BuildsRow old new row = (rows : List (List ℕ × ℕ)) → (taken : List ℕ) → HasBuilt old rows taken → HasBuilt new (rows ++ row ∷ []) taken
+
+-- the part was taken, and the text goes on behind it
+abbrev pub TakesPart : RowParts → RowParts → Type 0
+TakesPart old new = (rows : List (List ℕ × ℕ)) → (taken : List ℕ) → HasBuilt old rows taken → HasBuilt new rows (taken ++ old.part.items)
+
+-- with the last part the text is whole
+abbrev pub EndsRows : RowParts → RowParts → Type 0
+EndsRows old new = (rows : List (List ℕ × ℕ)) → (taken : List ℕ) → HasBuilt old rows taken → taken ++ new.part.items ≡ text_of old.format rows

@@ -88,3 +88,7 @@ resumed token (Some is_marked) rest = option_map (λ more. token ++ more) (unesc
 -- what was read is this token with this count
 abbrev pub IsRead : {E : Type 0} → List ℕ → ℕ → Result (String Global × ℕ) E → Type 0
 IsRead token count read = IsOkAnd read (λ p. (string_bytes p.0 ≡ token) × (p.1 ≡ count))
+
+-- with this byte, the token that was read so far and whether a backslash was just read change as escaped bytes do, whatever bytes are to come
+abbrev pub ReadsByte : ℕ → List ℕ → Bool → List ℕ → Option Bool → Type 0
+ReadsByte byte old is_marked new marked = (rest : List ℕ) → resumed old (Some is_marked) (byte ∷ rest) ≡ resumed new marked rest

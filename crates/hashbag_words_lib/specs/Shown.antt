@@ -1,12 +1,15 @@
 -- What is shown of texts that were counted, and the bytes that are written of it.
-use Rattle.std.specs.Prelude.{◌≡◌, ℕ, List, take}
+use Rattle.std.specs.Prelude.{◌≡◌, ℕ, List, take, String}
+use Rattle.std.specs.Global.{Global}
 use Rattle.std.specs.List.{IsDistinct}
 use Rattle.std.specs.List.Sorted.{IsStrictlySortedBy}
 use Rattle.std.specs.Map.{keys_of}
 use Rattle.std.specs.Str.{bytes_eq}
+use Rattle.hashbag.specs.Bag.{Bag}
 use Rattle.hashbag.specs.Occurrences.{count}
 use Rattle.hashbag_ops.specs.Order.{rank}
-use Rattle.hashbag_words_lib.specs.Choice.{shown_count}
+use Rattle.hashbag_words_lib.specs.Bars.{bars_text}
+use Rattle.hashbag_words_lib.specs.Choice.{shown_count, AreKept}
 use Rattle.hashbag_words_lib.specs.Sorted.{text_cmp, times_in, Rises}
 use Rattle.hashbag_words_lib.specs.Writing.{text_of}
 use Rattle.hashbag_words_lib.specs.declared.choice.Choice.{Choice}
@@ -32,3 +35,17 @@ pub record IsShownText (choice : Choice) (format : Format) (texts : List (List �
   pub rows : List (List ℕ × ℕ)
   pub shown : AreShown choice.order choice texts rows
   pub is : bytes ≡ text_of format rows
+
+-- whatever texts the bag was made of, if it has what is shown of them, the bytes are what is written of them
+abbrev pub IsTextOfKept : {S : Type 0} → Choice → Format → Bag (String Global) S → List ℕ → Type 0
+IsTextOfKept choice format bag bytes = (texts : List (List ℕ)) → AreKept choice texts bag → IsShownText choice format texts bytes
+
+-- the bytes are what is written of these texts with bars, on a terminal of that width
+pub record IsShownBars (choice : Choice) (width : ℕ) (texts : List (List ℕ)) (bytes : List ℕ) : Type 0 where
+  pub rows : List (List ℕ × ℕ)
+  pub shown : AreShown choice.order choice texts rows
+  pub is : bytes ≡ bars_text width rows
+
+-- whatever texts the bag was made of, if it has what is shown of them, the bytes are what is written of them with bars
+abbrev pub AreBarsOfKept : {S : Type 0} → Choice → ℕ → Bag (String Global) S → List ℕ → Type 0
+AreBarsOfKept choice width bag bytes = (texts : List (List ℕ)) → AreKept choice texts bag → IsShownBars choice width texts bytes

@@ -1,7 +1,7 @@
 -- What a source of rows has left, whatever bytes come next.
-use Rattle.std.specs.Prelude.{◌≡◌, ℕ, true, List, [], ◌∷◌, ◌++◌, String, Option, None, Some, IsSome}
+use Rattle.std.specs.Prelude.{◌≡◌, ℕ, true, List, [], ◌∷◌, ◌++◌, String, Option, None, Some, IsSome, IsSomeAnd}
 use Rattle.std.specs.Global.{Global}
-use Rattle.hashbag_words_lib.specs.Runs.{rows_in, rows_left}
+use Rattle.hashbag_words_lib.specs.Runs.{read_as, rows_in, rows_left}
 use Rattle.hashbag_words_lib.specs.Sorted.{row_of}
 use Rattle.hashbag_words_lib.specs.declared.row_source.SourceKind.{SourceKind}
 use Rattle.hashbag_words_lib.specs.declared.row_source.SourceKind.TheVariants.{Run, File}
@@ -49,3 +49,19 @@ Gives (Some rows) End new = (rows ≡ []) × (new ≡ Some [])
 abbrev pub Meets : Option (List (List ℕ × ℕ)) → Option Next → Option (List (List ℕ × ℕ)) → Type 0
 Meets old None new = IsSome old → ⊥
 Meets old (Some next) new = Gives old next new
+
+-- the row was read from this line
+abbrev pub IsRowReadFrom : List ℕ → Option (String Global × ℕ) → Type 0
+IsRowReadFrom line row = IsSomeAnd row (λ r. read_as line ≡ Some (row_of r))
+
+-- whatever text the old source was given, the new one was given that and these bytes behind it
+abbrev pub HoldsMore : RowSource → RowSource → List ℕ → Type 0
+HoldsMore old new bytes = (kind : SourceKind) → (text : List ℕ) → Holds kind text old → Holds kind (text ++ bytes) new
+
+-- one line gave what comes next, as `Meets` says, whatever bytes come
+abbrev pub MeetsWhateverComes : RowSource → Option Next → RowSource → Type 0
+MeetsWhateverComes old met new = (more : List ℕ) → MayCome old more → Meets (left_with old more) met (left_with new more)
+
+-- the next row was taken, or none was, as `Gives` says, whatever bytes come
+abbrev pub GivesWhateverComes : RowSource → Next → RowSource → Type 0
+GivesWhateverComes old next new = (more : List ℕ) → MayCome old more → Gives (left_with old more) next (left_with new more)

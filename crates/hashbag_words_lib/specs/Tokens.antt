@@ -1,5 +1,5 @@
 -- The tokens of a line and of an input: what is counted.
-use Rattle.std.specs.Prelude.{ℕ, Bool, false, not, List, [], ◌∷◌, nat_eq, nat_lt, length, drop, map, filter, flat_map, chars, encode_utf8_all, if◌then◌else◌, slice_get, slice_range}
+use Rattle.std.specs.Prelude.{ℕ, ◌+◌, Bool, false, not, List, [], ◌∷◌, nat_eq, nat_lt, length, drop, map, filter, flat_map, chars, encode_utf8_all, if◌then◌else◌, slice_get, slice_range, Option, None, Some}
 use Rattle.std.specs.Char.{is_whitespace}
 use Rattle.std.specs.List.{slice_split, starts_with}
 use Rattle.std.specs.Option.{option_to_list}
@@ -8,11 +8,13 @@ use Rattle.std.specs.Str.Lines.{lines}
 use Rattle.std.specs.Str.Lossy.{utf8_lossy}
 use Rattle.caseless.specs.Caseless.{default_case_fold}
 use Rattle.regex.specs.Patterns.{Re, find_all_str, span}
-use Rattle.regex.specs.Strings.{regex_pattern}
+use Rattle.regex.specs.Strings.{group_count, regex_pattern}
+use Rattle.regex.specs.Writes.{group_of}
+use Rattle.regex.specs.declared.string.regex.Regex.{Regex}
 use Rattle.unicode_segmentation.specs.Word.{words}
 use Rattle.hashbag_words_lib.specs.Fields.{fields_of}
 use Rattle.hashbag_words_lib.specs.declared.rule.Pieces.{Pieces}
-use Rattle.hashbag_words_lib.specs.declared.rule.Pieces.TheVariants.{Words, UnicodeWords, Lines, Matches, Field}
+use Rattle.hashbag_words_lib.specs.declared.rule.Pieces.TheVariants.{Words, UnicodeWords, Lines, Matches, Groups, Field}
 use Rattle.hashbag_words_lib.specs.declared.rule.Rule.{Rule}
 
 -- a line without the byte order mark at its beginning, if it has one
@@ -31,12 +33,23 @@ spaced_words line = map encode_utf8_all (nonempty (slice_split is_whitespace (ch
 abbrev pub matches_in : Re → List ℕ → List (List ℕ)
 matches_in pattern line = map (λ place. slice_range line place.0 place.1) (map span (find_all_str pattern line))
 
+-- what is between two places of a line, if there are two, and if it is text
+abbrev pub part_of : List ℕ → Option (ℕ × ℕ) → List (List ℕ)
+part_of line None = []
+part_of line (Some place) = filter is_utf8 (slice_range line place.0 place.1 ∷ [])
+
+-- what group n has in each match of a pattern in a line, from left to right, if it took part: with `(a)|b`, group 1 has `a` once in `bab`. A group that
+-- the pattern doesn't have has nothing
+abbrev pub groups_in : Regex → ℕ → List ℕ → List (List ℕ)
+groups_in pattern n line = if nat_lt n (group_count pattern) then flat_map (λ m. part_of line (group_of m n)) (find_all_str (regex_pattern pattern) line) else []
+
 -- what a line is cut into
 abbrev pub pieces_of : Pieces → List ℕ → List (List ℕ)
 pieces_of Words line = spaced_words line
 pieces_of UnicodeWords line = words line
 pieces_of Lines line = line ∷ []
 pieces_of (Matches pattern) line = nonempty (matches_in (regex_pattern pattern.now) line)
+pieces_of (Groups pattern index) line = nonempty (groups_in pattern.now (index + 1) line)
 pieces_of (Field index separator) line = option_to_list (slice_get (fields_of separator line) index)
 
 -- the token that a piece is counted as

@@ -3,15 +3,13 @@
 //! A [`TextCounter`] is given bytes, so its clauses hold whatever they come from. In them `text` is what was fed of this text, `before` are
 //! the tokens of earlier texts, and `runs` the runs that were written. A run is a bag's counts, written to a file to free memory.
 //! `HasCounted`: the bag and `runs` together have all these tokens.
-ghost use Rattle.std.specs.Prelude.{◌≡◌, ℕ, List, [], ◌∷◌, ◌++◌, IfOk, IfErr, OnOk};
-ghost use Rattle.hashbag_words_lib.specs.declared.errors.BadLine.{BadLine};
-ghost use Rattle.hashbag_words_lib.specs.declared.errors.InputFault.{InputFault};
+ghost use Rattle.std.specs.Prelude.{◌≡◌, ℕ, List, [], ◌∷◌, ◌++◌, IfOk, OnOk};
 ghost use Rattle.hashbag_core.specs.declared.bag.BagError.{BagError};
-ghost use Rattle.hashbag_words_lib.specs.Counted.{fed_of, HasCounted, HasEnded, HaveTogether, IsFirstBad, IsReadingOf, IsWithin, NoLineFeed};
+ghost use Rattle.hashbag_words_lib.specs.Counted.{fed_of, CountsBytes, CountsWholeText, EndsText, HasCounted, HaveTogether, IsFirstBadOfText, IsFirstBadOfTextWith, IsFirstBadWhateverFollows, IsReadingOfText, IsWithin, KeepsCountedInRun, NoLineFeed};
 ghost use Rattle.hashbag_words_lib.specs.Counts.{texts_in};
+ghost use Rattle.hashbag_words_lib.specs.Faults.{OnBadLine};
 ghost use Rattle.hashbag_words_lib.specs.RowText.{bytes_left};
 ghost use Rattle.hashbag_words_lib.specs.Runs.{run_text, IsRunOf};
-ghost use Rattle.hashbag_words_lib.specs.Tokens.{tokens_of};
 ghost use Rattle.std.specs.Str.Lines.{strip_carriage_return};
 
 use crate::counting::add_bytes;
@@ -114,11 +112,8 @@ impl<'r, S: BuildHasher + Drop> TextCounter<'r, S> {
     // Counts `partial` followed by `tail` as one line, which a line feed ends.
     fn end_line(&mut self, tail: &[u8]) -> Result<(), InputFault>
         requires { NoLineFeed tail.now }
-        ensures counted { OnOk result ((before : _) → (runs : _) → (text : List ℕ) → HasCounted before runs self.old text
-            → HasCounted before runs self.new (text ++ (tail.now ++ 10 ∷ []))) }
-        ensures bad { IfErr result (λ e. (bad : BadLine) → e ≡ InputFault.Line bad
-            → (before : _) → (runs : _) → (text : List ℕ) → HasCounted before runs self.old text
-            → (more : List ℕ) → IsFirstBad self.old.rule ((text ++ (tail.now ++ 10 ∷ [])) ++ more) self.new.reading) }
+        ensures counted { OnOk result (CountsBytes self.old self.new (tail.now ++ 10 ∷ [])) }
+        ensures bad { OnBadLine result (IsFirstBadWhateverFollows self.old self.new (tail.now ++ 10 ∷ [])) }
         ensures rule { self.new.rule ≡ self.old.rule }
         ensures bad_lines { self.new.reading.bad_lines ≡ self.old.reading.bad_lines }
     {
@@ -147,12 +142,9 @@ impl<'r, S: BuildHasher + Drop> TextCounter<'r, S> {
 
     // Counts `partial` as the last line, unless it is empty.
     fn end_last(&mut self) -> Result<(), InputFault>
-        ensures counted { OnOk result ((before : _) → (runs : _) → (text : List ℕ) → HasCounted before runs self.old text
-            → HasEnded self.old.rule before runs self.new text) }
+        ensures counted { OnOk result (CountsWholeText self.old self.new) }
         ensures ended { OnOk result (self.new.partial.items ≡ []) }
-        ensures bad { IfErr result (λ e. (bad : BadLine) → e ≡ InputFault.Line bad
-            → (before : _) → (runs : _) → (text : List ℕ) → HasCounted before runs self.old text
-            → IsFirstBad self.old.rule text self.new.reading) }
+        ensures bad { OnBadLine result (IsFirstBadOfText self.old self.new) }
         ensures rule { self.new.rule ≡ self.old.rule }
         ensures bad_lines { self.new.reading.bad_lines ≡ self.old.reading.bad_lines }
     {
@@ -185,16 +177,13 @@ impl<'r, S: BuildHasher + Drop> TextCounter<'r, S> {
     /// Counts each line as [`add_line`](crate::counting::add_line) does. Only a line that isn't whole in the block is copied.
     pub fn feed(&mut self, block: &[u8]) -> Result<Fed, InputFault>
         // If the tokens of `text` were counted before, now those of `text` and of what was fed are (`before`, `runs`: see the head).
-        ensures counted { IfOk result (λ fed. (before : _) → (runs : _) → (text : List ℕ) → HasCounted before runs self.old text
-            → HasCounted before runs self.new (text ++ fed_of fed block.now)) }
+        ensures counted { IfOk result (λ fed. CountsBytes self.old self.new (fed_of fed block.now)) }
 
         // `Full(n)`: n is above 0 and within the block.
         ensures within { IfOk result (λ fed. IsWithin fed block.now) }
 
         // A rejected line is the first bad one of `text` and the block together.
-        ensures bad { IfErr result (λ e. (bad : BadLine) → e ≡ InputFault.Line bad
-            → (before : _) → (runs : _) → (text : List ℕ) → HasCounted before runs self.old text
-            → IsFirstBad self.old.rule (text ++ block.now) self.new.reading) }
+        ensures bad { OnBadLine result (IsFirstBadOfTextWith self.old self.new block.now) }
         ensures rule { self.new.rule ≡ self.old.rule }
         ensures bad_lines { self.new.reading.bad_lines ≡ self.old.reading.bad_lines }
     {
@@ -219,15 +208,11 @@ impl<'r, S: BuildHasher + Drop> TextCounter<'r, S> {
     /// Same as [`TextCounter::feed`], for the last line.
     pub fn end_text(&mut self) -> Result<LinesRead, InputFault>
         // The tokens of the text are added to `before`, and the next text is empty. The result says how its lines were read.
-        ensures counted { OnOk result ((before : _) → (runs : _) → (text : List ℕ) → HasCounted before runs self.old text
-            → HasCounted (before ++ tokens_of self.old.rule text) runs self.new []) }
-        ensures reading { IfOk result (λ reading. (before : _) → (runs : _) → (text : List ℕ) → HasCounted before runs self.old text
-            → IsReadingOf self.old.rule text reading) }
+        ensures counted { OnOk result (EndsText self.old self.new) }
+        ensures reading { IfOk result (λ reading. IsReadingOfText self.old reading) }
 
         // If a bad line is rejected, it is the text's first one.
-        ensures bad { IfErr result (λ e. (bad : BadLine) → e ≡ InputFault.Line bad
-            → (before : _) → (runs : _) → (text : List ℕ) → HasCounted before runs self.old text
-            → IsFirstBad self.old.rule text self.new.reading) }
+        ensures bad { OnBadLine result (IsFirstBadOfText self.old self.new) }
         ensures rule { self.new.rule ≡ self.old.rule }
         ensures bad_lines { self.new.reading.bad_lines ≡ self.old.reading.bad_lines }
     {
@@ -263,9 +248,7 @@ impl<'r, S: BuildHasher + Drop> TextCounter<'r, S> {
     /// Empties the bag, since the run of what is in it was written. It may be called within a text.
     pub fn end_run(&mut self)
         // The rows of the run count as before, now in `runs`.
-        ensures run { (rows : List (List ℕ × ℕ)) → IsRunOf self.old.bag rows
-            → (before : _) → (runs : _) → (text : List ℕ) → HasCounted before runs self.old text
-            → HasCounted before (runs ++ rows ∷ []) self.new text }
+        ensures run { KeepsCountedInRun self.old self.new }
     {
         empty(&mut self.bag);
         note_empty(&mut self.gauge);

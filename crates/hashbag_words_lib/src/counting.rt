@@ -1,14 +1,12 @@
 //! Counting the tokens of lines.
-ghost use Rattle.std.specs.Prelude.{◌≡◌, ◌+◌, ◌-◌, ◌^◌, ◌∷◌, [], map, min, slice_get, true, false, IfErr, OnOk};
+ghost use Rattle.std.specs.Prelude.{◌≡◌, ◌+◌, ◌-◌, ◌^◌, ◌∷◌, [], filter, map, min, slice_range, true, false, OnOk};
 ghost use Rattle.std.specs.Iterator.{IsFinite};
-ghost use Rattle.std.specs.Option.{option_to_list};
 ghost use Rattle.std.specs.Str.{is_utf8};
 ghost use Rattle.std.specs.Str.Lossy.{utf8_lossy};
 ghost use Rattle.unicode_segmentation.specs.Word.{words};
 ghost use Rattle.hashbag_words_lib.specs.Counts.{AddsTexts, AddsPieces};
-ghost use Rattle.hashbag_words_lib.specs.Fields.{fields_of};
-ghost use Rattle.regex.specs.Strings.{regex_pattern};
-ghost use Rattle.hashbag_words_lib.specs.Tokens.{is_bad, is_replaced, matches_in, nonempty, spaced_words, token_of, tokens_of_line, tokens_of_lines, without_mark};
+ghost use Rattle.hashbag_words_lib.specs.Faults.{OnBadLine};
+ghost use Rattle.hashbag_words_lib.specs.Tokens.{groups_in, is_bad, is_replaced, nonempty, part_of, pieces_of, spaced_words, token_of, tokens_of_line, tokens_of_lines, without_mark};
 
 use crate::errors::{BadLine, InputFault};
 use crate::fields::field_at;
@@ -47,7 +45,7 @@ fn add_folded<S: BuildHasher + Drop>(
 }
 
 // Counts a piece of a line once.
-fn add_piece<S: BuildHasher + Drop>(
+pub(crate) fn add_piece<S: BuildHasher + Drop>(
     alloc: Global,
     bag: &mut HashBag<String, S>,
     fold: bool,
@@ -125,11 +123,78 @@ fn add_matches<S: BuildHasher + Drop>(
     pattern: &Regex,
     line: &str,
 ) -> Result<(), BagError>
-    ensures { OnOk result (AddsTexts bag.old bag.new (map (token_of fold) (nonempty (matches_in (regex_pattern pattern.now) line.now)))) }
+    ensures { OnOk result (AddsTexts bag.old bag.new (map (token_of fold) (pieces_of (Pieces.Matches pattern.entry) line.now))) }
 {
     let mut matcher = pattern.matcher(alloc)?;
     for found in matcher.find_iter(line) {
         add_match(alloc, bag, fold, found.as_str())?;
+    }
+    Ok(())
+}
+
+// Returns what is between two places of a line.
+fn between(line: &str, start: usize, end: usize) -> &[u8]
+    ensures { result.now ≡ slice_range line.now start end }
+{
+    let bytes = line.as_bytes();
+    let end = end.min(bytes.len());
+    if start > end {
+        return &[];
+    }
+    &bytes[start..end]
+}
+
+// Counts bytes that are UTF-8, unless there are none.
+fn add_text<S: BuildHasher + Drop>(
+    alloc: Global,
+    bag: &mut HashBag<String, S>,
+    fold: bool,
+    bytes: &[u8],
+) -> Result<(), BagError>
+    ensures { OnOk result (AddsTexts bag.old bag.new (map (token_of fold) (nonempty (filter is_utf8 (bytes.now ∷ []))))) }
+{
+    match str::from_utf8(bytes) {
+        Ok(text) => add_match(alloc, bag, fold, text),
+        Err(_) => Ok(()),
+    }
+}
+
+// Counts what is between two places of a line, if there are two. If they are the ends of a group, that is always UTF-8.
+fn add_part<S: BuildHasher + Drop>(
+    alloc: Global,
+    bag: &mut HashBag<String, S>,
+    fold: bool,
+    line: &str,
+    place: Option<(usize, usize)>,
+) -> Result<(), BagError>
+    ensures { OnOk result (AddsTexts bag.old bag.new (map (token_of fold) (nonempty (part_of line.now place)))) }
+{
+    match place {
+        Some((start, end)) => add_text(alloc, bag, fold, between(line, start, end)),
+        None => Ok(()),
+    }
+}
+
+// Counts what a group has in each match of a pattern.
+fn add_groups<S: BuildHasher + Drop>(
+    alloc: Global,
+    bag: &mut HashBag<String, S>,
+    fold: bool,
+    pattern: &Regex,
+    index: usize,
+    line: &str,
+) -> Result<(), BagError>
+    ensures { OnOk result (AddsTexts bag.old bag.new (map (token_of fold) (nonempty (groups_in pattern.now (index + 1) line.now)))) }
+{
+    if index >= pattern.captures_len().saturating_sub(1) {
+        return Ok(());
+    }
+    let group = index + 1;
+    let mut matcher = pattern.matcher(alloc)?;
+    let mut locations = pattern.capture_locations(alloc)?;
+    let mut matches = matcher.captures_iter(line);
+    'matches: while let Some(_) = matches.next_read(&mut locations) {
+        add_part(alloc, bag, fold, line, locations.get(group))?;
     }
     Ok(())
 }
@@ -143,7 +208,7 @@ fn add_field<S: BuildHasher + Drop>(
     separator: Separator,
     line: &str,
 ) -> Result<(), BagError>
-    ensures { OnOk result (AddsTexts bag.old bag.new (map (token_of fold) (option_to_list (slice_get (fields_of separator line.now) index)))) }
+    ensures { OnOk result (AddsTexts bag.old bag.new (map (token_of fold) (pieces_of (Pieces.Field index separator) line.now))) }
 {
     match field_at(line, separator, index) {
         Some(field) => add_piece(alloc, bag, fold, field),
@@ -188,6 +253,7 @@ pub fn add_line<S: BuildHasher + Drop>(
         Pieces::UnicodeWords => add_unicode_words(alloc, bag, rule.fold, line),
         Pieces::Lines => add_piece(alloc, bag, rule.fold, line),
         Pieces::Matches(pattern) => add_matches(alloc, bag, rule.fold, pattern, line),
+        Pieces::Groups(pattern, index) => add_groups(alloc, bag, rule.fold, pattern, index, line),
         Pieces::Field(index, separator) => add_field(alloc, bag, rule.fold, index, separator, line),
     }
 }
@@ -216,8 +282,7 @@ fn add_other<S: BuildHasher + Drop>(
     requires { is_utf8 line.now ≡ false }
     ensures counts { OnOk result (AddsTexts bag.old bag.new (tokens_of_lines rule.now (line.now ∷ []))) }
     ensures passed { OnOk result (reading.old.bad_lines ≡ BadLines.Refused → is_bad rule.now line.now ≡ false) }
-    ensures bad { IfErr result (λ e. (bad : BadLine) → e ≡ InputFault.Line bad
-        → (reading.old.bad_lines ≡ BadLines.Refused) × (is_bad rule.now line.now ≡ true)) }
+    ensures bad { OnBadLine result ((reading.old.bad_lines ≡ BadLines.Refused) × (is_bad rule.now line.now ≡ true)) }
     ensures kept { is_bad rule.now line.now ≡ false → reading.new.skipped ≡ reading.old.skipped }
     ensures skipped { is_bad rule.now line.now ≡ true → OnOk result (reading.new.skipped ≡ min (reading.old.skipped + 1) (2 ^ 64 - 1)) }
     ensures plain { is_replaced rule.now line.now ≡ false → reading.new.replaced ≡ reading.old.replaced }
@@ -245,8 +310,7 @@ pub(crate) fn add_bytes<S: BuildHasher + Drop>(
 
     // If bad lines are rejected, a bad line fails, and no other one does so.
     ensures passed { OnOk result (reading.old.bad_lines ≡ BadLines.Refused → is_bad rule.now line.now ≡ false) }
-    ensures bad { IfErr result (λ e. (bad : BadLine) → e ≡ InputFault.Line bad
-        → (reading.old.bad_lines ≡ BadLines.Refused) × (is_bad rule.now line.now ≡ true)) }
+    ensures bad { OnBadLine result ((reading.old.bad_lines ≡ BadLines.Refused) × (is_bad rule.now line.now ≡ true)) }
 
     // A bad line that is skipped raises `skipped`, and one whose bytes are replaced `replaced`, up to `u64::MAX`.
     ensures kept { is_bad rule.now line.now ≡ false → reading.new.skipped ≡ reading.old.skipped }

@@ -1,7 +1,7 @@
 //! Which runs are merged with which. A run that is made of a bag has level 0, and `FAN` runs of one level are merged into one of the next.
 //! So each row is merged few times, and few runs are kept. The code is generic in what a run is, so the clauses also hold of runs in files.
-ghost use Rattle.std.specs.Prelude.{◌≡◌, ◌↔◌, ◌≤◌, ◌++◌, ◌∷◌, [], length, true, false, None, IfOk, MatchOption, OnOk};
-ghost use Rattle.hashbag_words_lib.specs.Levels.{is_full, levels_in, runs_in};
+ghost use Rattle.std.specs.Prelude.{◌≡◌, ◌↔◌, ◌≤◌, ◌++◌, ◌∷◌, [], length, true, false, None, IfOk, OnOk};
+ghost use Rattle.hashbag_words_lib.specs.Levels.{is_full, levels_in, runs_in, TakesSixteen};
 
 use std::alloc::{AllocError, Global};
 
@@ -62,8 +62,7 @@ impl<R: Drop> Levels<R> {
     /// An allocation fails.
     pub fn take_full(&mut self) -> Result<Option<Vec<R>>, AllocError>
         // What is taken is no longer kept, and no other run is taken.
-        ensures taken { IfOk result (λ full. MatchOption full (runs_in self.new ≡ runs_in self.old)
-            (λ runs. (runs_in self.old ≡ runs_in self.new ++ runs.items) × (length runs.items ≡ 16))) }
+        ensures taken { IfOk result (λ full. TakesSixteen self.old full self.new) }
 
         // Nothing is taken only if there are fewer runs, or the last ones are of different levels.
         ensures few { IfOk result (λ full. full ≡ None → 16 ≤ length (runs_in self.old) → is_full (levels_in self.old) ≡ false) }

@@ -3,7 +3,7 @@ ghost use Rattle.std.specs.Prelude.{◌≡◌, ◌+◌, ◌-◌, ◌^◌, min, E
 
 use crate::errors::{BadLine, InputFault};
 
-/// What a bad line does.
+/// Whether a bad line is an error or is skipped.
 #[derive(Clone, Copy, Debug, PartialEq, Eq)]
 pub enum BadLines {
     /// It is an error.
@@ -15,7 +15,7 @@ pub enum BadLines {
 /// How an input is read, and how many lines were read.
 #[derive(Clone, Copy, Debug, PartialEq, Eq)]
 pub struct LinesRead {
-    /// What a bad line does.
+    /// Whether a bad line is an error or is skipped.
     pub bad_lines: BadLines,
     /// The number of the last line that was read: 0 before the first line, at most 2^64-1.
     pub line: u64,

@@ -1,6 +1,7 @@
 //! Adding a line of counts, or a JSON text.
-ghost use Rattle.std.specs.Prelude.{◌≡◌, IfErr, IfOk, OnErr, OnOk};
+ghost use Rattle.std.specs.Prelude.{◌≡◌, IfOk, OnErr, OnOk};
 ghost use Rattle.hashbag_words_lib.specs.Counts.{AddsTimes};
+ghost use Rattle.hashbag_words_lib.specs.Faults.{OnBadLine};
 ghost use Rattle.hashbag_words_lib.specs.Merging.{AddsLine, AddsTree};
 ghost use Rattle.hashbag_words_lib.specs.Rows.{IfRow, IsNoRow, IsRead, IsRowOf};
 ghost use Rattle.hashbag_words_lib.specs.Sorted.{row_of};
@@ -45,7 +46,7 @@ pub fn add_row<S: BuildHasher + Drop>(
     // The line of a token and a count adds these. Any row that is added is the line's, and a bad line is no row.
     ensures row { IfRow form line.now (λ token count. OnOk result (AddsTimes bag.old bag.new token count)) }
     ensures line { OnOk result (AddsLine form line.now bag.old bag.new) }
-    ensures bad { IfErr result (λ e. (bad : BadLine) → e ≡ InputFault.Line bad → IsNoRow form line.now) }
+    ensures bad { OnBadLine result (IsNoRow form line.now) }
     ensures err { OnErr result (bag.new ≡ bag.old) }
 {
     let Ok(text) = str::from_utf8(line) else {

@@ -3,11 +3,11 @@
 //! A [`RowCounter`] is given bytes, so its clauses hold whatever they come from. In them `text` is what was fed of this file, `before` are the
 //! rows of earlier files, and `runs` the runs that were written. A run is a bag's counts, written to a file to free memory.
 //! `HasAdded`: the bag and `runs` together have all these rows.
-ghost use Rattle.std.specs.Prelude.{◌≡◌, ℕ, ◌+◌, ◌-◌, ◌^◌, ◌∷◌, ◌++◌, [], List, min, IfErr, IfOk, OnErr, OnOk};
-ghost use Rattle.hashbag_words_lib.specs.Added.{line_at, AddsRows, HasAdded, HasAddedAll, HasEndedFile, HaveRows, IsFirstNoRow, IsReadAs};
+ghost use Rattle.std.specs.Prelude.{◌≡◌, ℕ, ◌+◌, ◌-◌, ◌^◌, ◌∷◌, ◌++◌, [], List, min, IfOk, OnErr, OnOk};
+ghost use Rattle.hashbag_words_lib.specs.Added.{line_at, AddsBytes, AddsRowsOfLine, AddsWholeFile, EndsFile, HasAdded, HaveRows, IsCutOff, IsFirstNoRowOfFileWith, IsFirstNoRowWhateverFollows, KeepsAddedInRun};
 ghost use Rattle.hashbag_words_lib.specs.Counted.{fed_of, IsWithin, NoLineFeed};
+ghost use Rattle.hashbag_words_lib.specs.Faults.{OnBadLine};
 ghost use Rattle.hashbag_words_lib.specs.Merging.{AddsTree};
-ghost use Rattle.hashbag_words_lib.specs.LineEnds.{EndsLine};
 ghost use Rattle.hashbag_words_lib.specs.RowText.{bytes_left};
 ghost use Rattle.hashbag_words_lib.specs.Rows.{IsNoRow};
 ghost use Rattle.hashbag_words_lib.specs.Runs.{run_text, IsRunOf};
@@ -56,10 +56,8 @@ fn add_line<S: BuildHasher + Drop>(
     line: &[u8],
     reading: &mut LinesRead,
 ) -> Result<(), InputFault>
-    ensures rows { OnOk result ((rows : List (List ℕ × ℕ)) × IsReadAs form reading.old.bad_lines (line_at reading.old.line line.now) rows
-        × AddsRows bag.old bag.new rows) }
-    ensures bad { IfErr result (λ e. (bad : BadLine) → e ≡ InputFault.Line bad
-        → (reading.old.bad_lines ≡ BadLines.Refused) × IsNoRow form (line_at reading.old.line line.now)) }
+    ensures rows { OnOk result (AddsRowsOfLine bag.old bag.new form reading.old line.now) }
+    ensures bad { OnBadLine result ((reading.old.bad_lines ≡ BadLines.Refused) × IsNoRow form (line_at reading.old.line line.now)) }
     ensures bad_lines { reading.new.bad_lines ≡ reading.old.bad_lines }
     ensures line { reading.new.line ≡ min (reading.old.line + 1) (2 ^ 64 - 1) }
 {
@@ -115,11 +113,8 @@ impl<S: BuildHasher + Drop> RowCounter<S> {
     // Adds the row of `partial` followed by `tail` as one line, which a line feed ends.
     fn end_line(&mut self, tail: &[u8]) -> Result<(), InputFault>
         requires { NoLineFeed tail.now }
-        ensures added { OnOk result ((before : _) → (runs : _) → (text : List ℕ) → HasAdded before runs self.old text
-            → HasAdded before runs self.new (text ++ (tail.now ++ 10 ∷ []))) }
-        ensures bad { IfErr result (λ e. (bad : BadLine) → e ≡ InputFault.Line bad
-            → (before : _) → (runs : _) → (text : List ℕ) → HasAdded before runs self.old text
-            → (more : List ℕ) → IsFirstNoRow self.old.form ((text ++ (tail.now ++ 10 ∷ [])) ++ more) self.new.reading) }
+        ensures added { OnOk result (AddsBytes self.old self.new (tail.now ++ 10 ∷ [])) }
+        ensures bad { OnBadLine result (IsFirstNoRowWhateverFollows self.old self.new (tail.now ++ 10 ∷ [])) }
         ensures form { self.new.form ≡ self.old.form }
         ensures bad_lines { self.new.reading.bad_lines ≡ self.old.reading.bad_lines }
     {
@@ -161,16 +156,13 @@ impl<S: BuildHasher + Drop> RowCounter<S> {
     /// Inserts the token of each line once, as often as its count says. Only a line that isn't whole in the block is copied.
     pub fn feed(&mut self, block: &[u8]) -> Result<Fed, InputFault>
         // If the rows of `text` were added before, now those of `text` and of what was fed are (`before`, `runs`: see the head).
-        ensures added { IfOk result (λ fed. (before : _) → (runs : _) → (text : List ℕ) → HasAdded before runs self.old text
-            → HasAdded before runs self.new (text ++ fed_of fed block.now)) }
+        ensures added { IfOk result (λ fed. AddsBytes self.old self.new (fed_of fed block.now)) }
 
         // `Full(n)`: n is above 0 and within the block.
         ensures within { IfOk result (λ fed. IsWithin fed block.now) }
 
         // A rejected line is the first, of `text` and the block together, that isn't a row.
-        ensures bad { IfErr result (λ e. (bad : BadLine) → e ≡ InputFault.Line bad
-            → (before : _) → (runs : _) → (text : List ℕ) → HasAdded before runs self.old text
-            → IsFirstNoRow self.old.form (text ++ block.now) self.new.reading) }
+        ensures bad { OnBadLine result (IsFirstNoRowOfFileWith self.old self.new block.now) }
         ensures form { self.new.form ≡ self.old.form }
         ensures bad_lines { self.new.reading.bad_lines ≡ self.old.reading.bad_lines }
     {
@@ -190,10 +182,9 @@ impl<S: BuildHasher + Drop> RowCounter<S> {
 
     // Skips or rejects `partial`, unless it is empty, since no line feed ended it.
     fn end_last(&mut self) -> Result<(), InputFault>
-        ensures added { OnOk result ((before : _) → (runs : _) → (text : List ℕ) → HasAdded before runs self.old text
-            → HasAddedAll before runs self.old.reading.bad_lines text self.new) }
+        ensures added { OnOk result (AddsWholeFile self.old self.new) }
         ensures ended { OnOk result (self.new.partial.items ≡ []) }
-        ensures cut { IfErr result (λ _. (before : _) → (runs : _) → (text : List ℕ) → HasAdded before runs self.old text → EndsLine text → ⊥) }
+        ensures cut { OnErr result (IsCutOff self.old) }
         ensures form { self.new.form ≡ self.old.form }
         ensures bad_lines { self.new.reading.bad_lines ≡ self.old.reading.bad_lines }
     {
@@ -212,11 +203,10 @@ impl<S: BuildHasher + Drop> RowCounter<S> {
     /// `InputFault::Line(CutOff)` if no line feed ended the last line, and bad lines aren't skipped.
     pub fn end_file(&mut self) -> Result<LinesRead, InputFault>
         // The file's rows are added to `before`, and the next file is empty.
-        ensures added { OnOk result ((before : _) → (runs : _) → (text : List ℕ) → HasAdded before runs self.old text
-            → HasEndedFile before runs self.old.reading.bad_lines text self.new) }
+        ensures added { OnOk result (EndsFile self.old self.new) }
 
         // It fails only if no line feed ended the last line.
-        ensures cut { IfErr result (λ _. (before : _) → (runs : _) → (text : List ℕ) → HasAdded before runs self.old text → EndsLine text → ⊥) }
+        ensures cut { OnErr result (IsCutOff self.old) }
         ensures form { self.new.form ≡ self.old.form }
         ensures bad_lines { self.new.reading.bad_lines ≡ self.old.reading.bad_lines }
     {
@@ -270,9 +260,7 @@ impl<S: BuildHasher + Drop> RowCounter<S> {
     /// Empties the bag, since the run of what is in it was written. It may be called within a file.
     pub fn end_run(&mut self)
         // The rows of the run count as before, now in `runs`.
-        ensures run { (rows : List (List ℕ × ℕ)) → IsRunOf self.old.bag rows
-            → (before : _) → (runs : _) → (text : List ℕ) → HasAdded before runs self.old text
-            → HasAdded before (runs ++ rows ∷ []) self.new text }
+        ensures run { KeepsAddedInRun self.old self.new }
     {
         empty(&mut self.bag);
         note_empty(&mut self.gauge);

@@ -1,9 +1,8 @@
 //! The text of rows that come one by one, in parts.
 //!
 //! Nothing is written here: the caller takes what was built, and writes it. So the clauses hold wherever it is written.
-ghost use Rattle.std.specs.Prelude.{◌≡◌, ℕ, [], ◌∷◌, ◌++◌, List, IfOk, OnOk};
-ghost use Rattle.hashbag_words_lib.specs.RowParts.{HasBuilt};
-ghost use Rattle.hashbag_words_lib.specs.Writing.{text_of};
+ghost use Rattle.std.specs.Prelude.{◌≡◌, [], IfOk, OnOk};
+ghost use Rattle.hashbag_words_lib.specs.RowParts.{BuildsRow, EndsRows, HasBuilt, TakesPart};
 
 use crate::writing::{Format, push_in};
 use std::alloc::{AllocError, Global};
@@ -43,8 +42,7 @@ impl RowParts {
     ///
     /// An allocation fails. Then the part may have some of the row.
     pub fn push(&mut self, token: &str, count: usize) -> io::Result<()>
-        ensures built { OnOk result ((rows : List (List ℕ × ℕ)) → (taken : List ℕ) → HasBuilt self.old rows taken
-            → HasBuilt self.new (rows ++ (token.now, count) ∷ []) taken) }
+        ensures built { OnOk result (BuildsRow self.old self.new (token.now, count)) }
         ensures format { self.new.format ≡ self.old.format }
     {
         push_in(self.format, self.is_empty, &mut self.part, token, count)?;
@@ -68,8 +66,7 @@ impl RowParts {
 
     /// Takes the part: the next one begins.
     pub fn take(&mut self)
-        ensures built { (rows : List (List ℕ × ℕ)) → (taken : List ℕ) → HasBuilt self.old rows taken
-            → HasBuilt self.new rows (taken ++ self.old.part.items) }
+        ensures built { TakesPart self.old self.new }
         ensures format { self.new.format ≡ self.old.format }
     {
         self.part.clear();
@@ -81,8 +78,7 @@ impl RowParts {
     ///
     /// An allocation fails.
     pub fn end(&mut self) -> Result<(), AllocError>
-        ensures { OnOk result ((rows : List (List ℕ × ℕ)) → (taken : List ℕ) → HasBuilt self.old rows taken
-            → taken ++ self.new.part.items ≡ text_of self.old.format rows) }
+        ensures { OnOk result (EndsRows self.old self.new) }
     {
         self.part.extend_from_slice(self.format.end())
     }

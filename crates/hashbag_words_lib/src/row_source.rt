@@ -2,10 +2,9 @@
 //!
 //! A [`RowSource`] is given bytes, so its clauses hold whatever they come from. In them `text` is what was given, `more` are bytes that may
 //! still come, and `left_with` has the rows that are then left.
-ghost use Rattle.std.specs.Prelude.{◌≡◌, ℕ, ◌++◌, [], List, length, Some, false, true, IfOk, IsErr, IsSome, IsSomeAnd, OnOk};
-ghost use Rattle.hashbag_words_lib.specs.Runs.{read_as, rows_left};
-ghost use Rattle.hashbag_words_lib.specs.Sorted.{row_of};
-ghost use Rattle.hashbag_words_lib.specs.Sources.{left_with, Gives, Holds, IsAtEnd, MayCome, Meets};
+ghost use Rattle.std.specs.Prelude.{◌≡◌, ℕ, ◌++◌, [], List, length, Some, false, true, IfOk, IsErr, IsSome, OnOk};
+ghost use Rattle.hashbag_words_lib.specs.Runs.{rows_left};
+ghost use Rattle.hashbag_words_lib.specs.Sources.{left_with, GivesWhateverComes, Holds, HoldsMore, IsAtEnd, IsRowReadFrom, MeetsWhateverComes};
 ghost use Rattle.hashbag_words_lib.specs.Tokens.{without_mark};
 
 use crate::counter::without_return;
@@ -71,8 +70,7 @@ fn read_line(
     line: &[u8],
     reading: &mut LinesRead,
 ) -> Result<Option<(String, usize)>, InputFault>
-    ensures row { form ≡ RowForm.Tsv → reading.old.bad_lines ≡ BadLines.Refused
-        → IfOk result (λ row. IsSomeAnd row (λ r. read_as line.now ≡ Some (row_of r))) }
+    ensures row { form ≡ RowForm.Tsv → reading.old.bad_lines ≡ BadLines.Refused → IfOk result (λ row. IsRowReadFrom line.now row) }
     ensures bad_lines { reading.new.bad_lines ≡ reading.old.bad_lines }
 {
     let Ok(text) = str::from_utf8(line) else {
@@ -137,7 +135,7 @@ impl RowSource {
     /// An allocation fails.
     pub fn give(&mut self, block: &[u8]) -> Result<(), AllocError>
         // The text is longer by the block; the rows left are the same as if the block were still to come.
-        ensures given { OnOk result (self.old.is_ended ≡ false → (kind : _) → (text : List ℕ) → Holds kind text self.old → Holds kind (text ++ block.now) self.new) }
+        ensures given { OnOk result (self.old.is_ended ≡ false → HoldsMore self.old self.new block.now) }
         ensures left { OnOk result ((more : List ℕ) → left_with self.new more ≡ left_with self.old (block.now ++ more)) }
         ensures ended { self.new.is_ended ≡ self.old.is_ended }
     {
@@ -156,7 +154,7 @@ impl RowSource {
 
     // What comes if no line ends in the bytes that haven't been read; `None` if it was a bad line, which was passed over.
     fn next_unended(&mut self) -> Result<Option<Next>, InputFault>
-        ensures meets { IfOk result (λ met. (more : List ℕ) → MayCome self.old more → Meets (left_with self.old more) met (left_with self.new more)) }
+        ensures meets { IfOk result (λ met. MeetsWhateverComes self.old met self.new) }
         ensures ended { self.new.is_ended ≡ self.old.is_ended }
         ensures wants { IfOk result (λ met. met ≡ Some Next.Wants → self.old.is_ended ≡ false) }
         ensures end { IfOk result (λ met. met ≡ Some Next.End → IsAtEnd self.new) }
@@ -176,7 +174,7 @@ impl RowSource {
 
     // What comes next; `None` if it was a bad line, which was passed over.
     fn next_line(&mut self) -> Result<Option<Next>, InputFault>
-        ensures meets { IfOk result (λ met. (more : List ℕ) → MayCome self.old more → Meets (left_with self.old more) met (left_with self.new more)) }
+        ensures meets { IfOk result (λ met. MeetsWhateverComes self.old met self.new) }
         ensures ended { self.new.is_ended ≡ self.old.is_ended }
         ensures wants { IfOk result (λ met. met ≡ Some Next.Wants → self.old.is_ended ≡ false) }
         ensures end { IfOk result (λ met. met ≡ Some Next.End → IsAtEnd self.new) }
@@ -203,7 +201,7 @@ impl RowSource {
     /// A line is bad, or has no line feed, and bad lines aren't skipped; or an allocation fails.
     pub fn next_row(&mut self) -> Result<Next, InputFault>
         // The next of the rows that are left was taken; or none, since none is known or none is left.
-        ensures gives { IfOk result (λ next. (more : List ℕ) → MayCome self.old more → Gives (left_with self.old more) next (left_with self.new more)) }
+        ensures gives { IfOk result (λ next. GivesWhateverComes self.old next self.new) }
         ensures ended { self.new.is_ended ≡ self.old.is_ended }
 
         // It wants bytes only before the end, and says `End` only once all bytes were read.

@@ -3,7 +3,7 @@
 //! A tab, a line feed, a carriage return and a backslash in a token are written `\t`, `\n`, `\r` and `\\`. So each token is on one
 //! line, which is read as that token again.
 ghost use Rattle.std.specs.Prelude.{◌≡◌, ◌≢◌, ◌∷◌, ◌++◌, ◌<◌, ℕ, [], List, Some, false, length, option_map, slice_index, string_bytes, IfNone, IfOk, IfSome, IsUtf8, OnOk};
-ghost use Rattle.hashbag_words_lib.specs.Rows.{byte_of, escaped, letter_of, resumed, row, shown_as, unescaped, AreSpaces, IfRow, IsLineOf, IsRead, IsUniqLineOf};
+ghost use Rattle.hashbag_words_lib.specs.Rows.{byte_of, escaped, letter_of, row, shown_as, unescaped, AreSpaces, IfRow, IsLineOf, IsRead, IsUniqLineOf, ReadsByte};
 
 use crate::errors::BadLine;
 use itoa::Buffer;
@@ -120,8 +120,7 @@ pub fn push_row(text: &mut Vec<u8>, token: &str, count: usize) -> io::Result<()>
 // Reads the next byte of an escaped token. Returns whether it is a backslash that escapes the byte after it, or `None` if the byte before
 // it was such a backslash and this one is no escape letter.
 fn take_byte(token: &mut Vec<u8>, is_marked: bool, byte: u8) -> Result<Option<bool>, AllocError>
-    ensures { IfOk result (λ marked. (rest : List ℕ)
-        → resumed token.old.items (Some is_marked) (byte ∷ rest) ≡ resumed token.new.items marked rest) }
+    ensures { IfOk result (λ marked. ReadsByte byte token.old.items is_marked token.new.items marked) }
 {
     if is_marked {
         let Some(meant) = meant_by(byte) else {

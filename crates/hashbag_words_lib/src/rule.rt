@@ -21,6 +21,9 @@ pub enum Pieces<'r> {
     Lines,
     /// The matches of a pattern, from left to right. An empty match is no piece.
     Matches(&'r Regex),
+    /// What the group with this index, from 0 after the whole match, has in each match of a pattern, from left to right. A group that took no part or has
+    /// nothing is no piece, nor is one that the pattern doesn't have.
+    Groups(&'r Regex, usize),
     /// The field with this index, from 0. A line with fewer fields has no piece.
     Field(usize, Separator),
 }

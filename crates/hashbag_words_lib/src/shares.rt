@@ -6,7 +6,7 @@ use itoa::Buffer;
 use std::alloc::AllocError;
 
 // Returns a quotient: the nearest number, and the upper one of two that are equally near. By 0 it is 0.
-fn rounded(n: u128, d: u128) -> u128
+pub(crate) fn rounded(n: u128, d: u128) -> u128
     requires { 2 * n + 2 * d < 2 ^ 128 }
     ensures { result ≡ rounded n d }
 {

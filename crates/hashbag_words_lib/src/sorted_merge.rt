@@ -3,9 +3,9 @@
 //!
 //! A [`Merger`] is given bytes, so its clauses hold whatever they come from. In them `given` is what each source was given so far, and `out`
 //! are the rows that were returned.
-ghost use Rattle.std.specs.Prelude.{◌≡◌, ℕ, ◌+◌, ◌++◌, ◌<◌, ◌^◌, [], None, true, false, List, length, All, slice_index_or, slice_set, string_bytes, IfOk, IfSome, OnOk};
-ghost use Rattle.hashbag_words_lib.specs.Merged.{count_of, texts_of, AreBegun, AreLeft, AreReadAgain, Follows, HasMerged, IsEnded, IsOpen, MayComeTo, TakesRow};
-ghost use Rattle.hashbag_words_lib.specs.Sorted.{count_held, one_of, shown_of, IsMergeOf, IsNoLater, Joins};
+ghost use Rattle.std.specs.Prelude.{◌≡◌, ℕ, ◌+◌, ◌<◌, ◌^◌, [], None, true, false, List, length, All, slice_index_or, string_bytes, IfOk, IfSome, OnOk};
+ghost use Rattle.hashbag_words_lib.specs.Merged.{count_of, AreBegun, FollowsWhatCameOut, HasMerged, HasMergedItsRuns, IsEnded, IsOpen, LengthensText, MayComeTo, TakesRowWhateverComes};
+ghost use Rattle.hashbag_words_lib.specs.Sorted.{count_held, one_of, shown_of, IsNoLater, Joins};
 
 use crate::errors::InputFault;
 use crate::head::Head;
@@ -84,8 +84,7 @@ fn total_with(total: usize, head: &Option<Head>) -> Option<usize>
 
 // Takes the least row of all sources, if the row after it is known, and adds its count to the total.
 fn take_least(sources: &mut Vec<Source>, total: &mut usize) -> Result<Merged, Stop>
-    ensures taken { IfOk result (λ next. (mores : ℕ → List ℕ) → MayComeTo sources.old.items mores → (rows : List (List (List ℕ × ℕ)))
-        → AreLeft sources.old.items mores rows → TakesRow mores rows next sources.new.items) }
+    ensures taken { IfOk result (λ next. TakesRowWhateverComes sources.old.items next sources.new.items) }
     ensures total { IfOk result (λ next. total.new ≡ total.old + count_of next) }
     ensures fits { total.new < 2 ^ 64 }
     ensures many { length sources.new.items ≡ length sources.old.items }
@@ -200,8 +199,7 @@ impl Merger {
     /// An allocation fails.
     pub fn give(&mut self, i: usize, block: &[u8]) -> Result<(), AllocError>
         // What was given to the source of place i is longer by the block.
-        ensures given { OnOk result (IsOpen self.old.sources.items i → (given : _) → (out : List (List ℕ × ℕ)) → HasMerged given self.old out
-            → (text : _) → text ≡ slice_index_or given i text → HasMerged (slice_set given i (text.0, text.1 ++ block.now)) self.new out) }
+        ensures given { OnOk result (IsOpen self.old.sources.items i → LengthensText self.old self.new i block.now) }
         ensures wants { IsOpen self.old.sources.items i → IsOpen self.new.sources.items i }
     {
         if i < self.sources.len() {
@@ -233,11 +231,10 @@ impl Merger {
     /// A row that is taken needs a comparison with the next row of each source.
     pub fn next_row(&mut self) -> Result<Merged, Stop>
         // A row comes behind those in `out`; or a source wants bytes; or it is the end, `out` is the merge of all rows, and the total theirs.
-        ensures follows { IfOk result (λ next. (given : _) → (out : List (List ℕ × ℕ)) → HasMerged given self.old out → Follows given out next self.new) }
+        ensures follows { IfOk result (λ next. FollowsWhatCameOut self.old next self.new) }
 
         // At the end, if the sources are runs that are read again as they were written, `out` is their merge.
-        ensures runs { IfOk result (λ next. next ≡ Merged.End → (runs : List (List (List ℕ × ℕ))) → (out : List (List ℕ × ℕ)) → AreReadAgain runs
-            → HasMerged (texts_of runs) self.old out → IsMergeOf runs out) }
+        ensures runs { IfOk result (λ next. next ≡ Merged.End → HasMergedItsRuns self.old) }
     {
         'rows: for _row in 0..u64::MAX {
             match take_least(&mut self.sources, &mut self.total)? {

@@ -1,9 +1,9 @@
 //! Sources of rows whose tokens are in ascending order.
 ghost use Rattle.std.specs.Prelude.{◌≡◌, ℕ, List, None, Some, false, string_bytes, IfOk, IfSome};
 ghost use Rattle.std.specs.declared.cmp.Ordering.TheVariants.{Less};
-ghost use Rattle.hashbag_words_lib.specs.Merged.{with_head, OpensWith, Takes};
+ghost use Rattle.hashbag_words_lib.specs.Merged.{OpensWith, TakesWhateverComes};
 ghost use Rattle.hashbag_words_lib.specs.Sorted.{text_cmp};
-ghost use Rattle.hashbag_words_lib.specs.Sources.{left_with, row_in, Gives, Holds, MayCome};
+ghost use Rattle.hashbag_words_lib.specs.Sources.{row_in, GivesWhateverComes, Holds};
 
 use crate::errors::{BadLine, InputFault};
 use crate::head::Head;
@@ -12,7 +12,7 @@ use std::mem;
 
 // Takes the next row whose token comes after `last`. Rows whose token doesn't are passed over or rejected.
 fn next_above(rows: &mut RowSource, last: &str) -> Result<Next, InputFault>
-    ensures gives { IfOk result (λ next. (more : List ℕ) → MayCome rows.old more → Gives (left_with rows.old more) next (left_with rows.new more)) }
+    ensures gives { IfOk result (λ next. GivesWhateverComes rows.old next rows.new) }
     ensures above { IfOk result (λ next. IfSome (row_in next) (λ r. text_cmp last.now (string_bytes r.0) ≡ Less)) }
     ensures ended { rows.new.is_ended ≡ rows.old.is_ended }
     ensures wants { IfOk result (λ next. next ≡ Next.Wants → rows.old.is_ended ≡ false) }
@@ -86,8 +86,7 @@ impl Source {
         // The row that came next was taken, if the one after it is known; or none was left.
         ensures same { IfOk result (λ next. IfSome (row_in next) (λ row. self.old.head ≡ Some row)) }
         ensures none { IfOk result (λ next. next ≡ Next.End → self.old.head ≡ None) }
-        ensures taken { IfOk result (λ next. (more : List ℕ) → MayCome self.old.rows more → (rows : List (List ℕ × ℕ))
-            → with_head self.old.head (left_with self.old.rows more) ≡ Some rows → Takes rows next (with_head self.new.head (left_with self.new.rows more))) }
+        ensures taken { IfOk result (λ next. TakesWhateverComes self.old next self.new) }
         ensures ended { self.new.rows.is_ended ≡ self.old.rows.is_ended }
         ensures wants { IfOk result (λ next. next ≡ Next.Wants → self.old.rows.is_ended ≡ false) }
     {

@@ -3,7 +3,7 @@ use Rattle.hashbag.specs.Bag.{Bag}
 use Rattle.hashbag_words_lib.specs.Counts.{AddsTexts}
 use Rattle.hashbag_words_lib.specs.Tokens.{pieces_of, token_of, tokens_of_line, without_mark}
 use Rattle.hashbag_words_lib.specs.declared.rule.Pieces.{Pieces}
-use Rattle.hashbag_words_lib.specs.declared.rule.Pieces.TheVariants.{Words, UnicodeWords, Matches, Field}
+use Rattle.hashbag_words_lib.specs.declared.rule.Pieces.TheVariants.{Words, UnicodeWords, Matches, Groups, Field}
 use Rattle.hashbag_words_lib.specs.declared.rule.Rule.{Rule}
 use Rattle.hashbag_words_lib.proofs.counting.add_line.Goals as goal
 
@@ -25,6 +25,10 @@ returns-in-UnicodeWords g c =
 pub returns-in-Matches : goal.returns-in-Matches
 returns-in-Matches g c =
     by_rule c.add_matches.result c.args.bag.now c.add_matches.new.bag c.args.rule.now (Matches c.in-Matches.pattern) c.args.line.now c.past_mark-line.result.now c.in-Matches.is c.past_mark-line.ensures c.add_matches.ensures
+
+pub returns-in-Groups : goal.returns-in-Groups
+returns-in-Groups g c =
+    by_rule c.add_groups.result c.args.bag.now c.add_groups.new.bag c.args.rule.now (Groups c.in-Groups.pattern c.in-Groups.index) c.args.line.now c.past_mark-line.result.now c.in-Groups.is c.past_mark-line.ensures c.add_groups.ensures
 
 pub returns-in-Field : goal.returns-in-Field
 returns-in-Field g c =

@@ -1,0 +1,85 @@
+//! Folders: the files in them.
+use crate::failure::Failure;
+use std::alloc::{AllocError, Global};
+use std::{fs, io};
+
+// Appends a path.
+fn push_path(alloc: Global, paths: &mut Vec<String>, path: &str) -> Result<(), AllocError> {
+    paths.push(String::from_str(alloc, path)?)?;
+    Ok(())
+}
+
+// Moves paths, in ascending order of their bytes.
+fn push_sorted(into: &mut Vec<String>, mut paths: Vec<String>) -> Result<(), AllocError> {
+    paths.sort_unstable();
+    for path in paths {
+        into.push(path)?;
+    }
+    Ok(())
+}
+
+// Puts what a folder has into these lists. What is hidden, a link or neither a folder nor a file isn't read.
+fn list_folder(
+    rt: &HostRuntime,
+    folder: &str,
+    folders: &mut Vec<String>,
+    files: &mut Vec<String>,
+) -> io::Result<()> {
+    for entry in fs::read_dir(rt, folder)? {
+        let entry = entry?;
+        let kind = entry.file_type()?;
+        let is_hidden = entry.file_name().starts_with('.');
+        if kind.is_dir() && !is_hidden {
+            push_path(rt.alloc(), folders, entry.path().as_str())?;
+        }
+        if kind.is_file() && !is_hidden {
+            push_path(rt.alloc(), files, entry.path().as_str())?;
+        }
+    }
+    Ok(())
+}
+
+// Appends the paths of the files in a folder and in the folders in it, in ascending order of their bytes.
+fn walk<'a>(rt: &HostRuntime, top: &str, into: &mut Vec<String>) -> Result<(), Failure<'a>> {
+    let mut files = Vec::new(rt.alloc());
+    let mut folders = Vec::new(rt.alloc());
+    push_path(rt.alloc(), &mut folders, top)?;
+    for _ in 0..u64::MAX {
+        let Some(name) = folders.pop() else {
+            break;
+        };
+        if let Err(error) = list_folder(rt, name.as_str(), &mut folders, &mut files) {
+            return Err(Failure::of_folder(name, error));
+        }
+    }
+    push_sorted(into, files)?;
+    Ok(())
+}
+
+/// Returns whether there is a folder of this name. `-` is standard input.
+pub fn is_folder(rt: &HostRuntime, name: &str) -> bool {
+    if name == "-" {
+        return false;
+    }
+    match fs::metadata(rt, name) {
+        Ok(found) => found.is_dir(),
+        Err(_) => false,
+    }
+}
+
+/// Returns these names, with the files in a folder in its place.
+///
+/// # Errors
+///
+/// `Folder` if a folder can't be read, `NoMemoryLeft` if an allocation fails.
+pub fn files_of<'a>(rt: &HostRuntime, names: &[&str]) -> Result<Vec<String>, Failure<'a>> {
+    let mut files = Vec::new(rt.alloc());
+    for name in names {
+        if is_folder(rt, name) {
+            walk(rt, name, &mut files)?;
+        } else {
+            push_path(rt.alloc(), &mut files, name)?;
+        }
+    }
+    Ok(files)
+}
